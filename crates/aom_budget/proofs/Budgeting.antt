@@ -15,7 +15,7 @@ use Rattle.aom_image.specs.declared.method.Role.TheVariants.{Run, Error, Accept,
 use Rattle.aom_image.specs.declared.method.Thing.{Thing}
 use Rattle.aom_image.specs.declared.method.Thing.TheVariants.{Object}
 use Rattle.aom_classes.specs.Linked.{IsLinked}
-use Rattle.aom_classes.specs.Roles.{destructor_of, main_of, role_of}
+use Rattle.aom_classes.specs.Roles.{main_of, role_of}
 use Rattle.aom_classes.proofs.Facts.{all_there}
 use Rattle.aom_classes.proofs.Playing.{main_found as main_method, role_found as role_method}
 use Rattle.aom_shape.specs.Tables.{at}
@@ -26,7 +26,8 @@ use Rattle.aom_prices.specs.Dispatches.{IsAffordable, main_price, method_price, 
 use Rattle.aom_prices.specs.Layers.{SayTheSame}
 use Rattle.aom_prices.specs.Prices.{Prices, price}
 use Rattle.aom_prices.proofs.Alike.{IsCovered, prices_alike}
-use Rattle.aom_prices.proofs.Methods.{destructor_within, method_is_some}
+use Rattle.aom_prices.proofs.Methods.{destructs_within, method_is_some}
+use Rattle.aom_prices.proofs.Going.{going_alike, found_of}
 use Rattle.aom_prices.proofs.Unique.{law_one}
 use Rattle.aom_budget.specs.Budgets.{BudgetsWithin, CostsWithin, IsBefore, IsOver, class_declares, class_price, declared_by, kind_declares, kind_price, payer_price, role_price}
 use Rattle.aom_budget.specs.Depths.{DepthsWithin}
@@ -67,7 +68,7 @@ covered p t d one other = record {
 -- so the prices by the one are those by the other
 module _ (p : Image) (linked : IsLinked p) (t d : Typing) (one : IsStrongest p t) (other : IsStrongest p d) (c e : Prices) (are : ArePrices p t c) (also : ArePrices p d e) where
   same : SayTheSame p c e
-  same = law_one p d c e (pays_before p d linked other) (prices_alike p t d c one.typed other.typed (covered p t d one other) (covered p d t other one) are) also
+  same = law_one p d c e linked (pays_before p d linked other) (prices_alike p t d c one.typed other.typed (covered p t d one other) (covered p d t other one) are) also
 
   same_role : (k : ℕ) (role : Role) → role_price p c k role ≡ role_price p e k role
   same_role k role = go (role_of p k role) refl
@@ -107,20 +108,6 @@ module _ (p : Image) (prices : List ℕ) (h : ArePriced p prices) where
   price_found : (m : ℕ) → IsSome (method_at p m) → at 0 prices m ≡ min 4294967296 (price whole m)
   price_found m some = sym (h.is m some) ∙ h.told.methods m some
 
-  destruction_found : (x : Thing) → destruction_by p prices x ≡ min 4294967296 (whole.destruction x)
-  destruction_found x = rw (h.told.whole.are.classes x) (go (destructor_of p x) refl)
-    where
-      go : (o : Option ℕ) → destructor_of p x ≡ o → min 4294967296 (1 + price_by prices o) ≡ min 4294967296 (1 + destructor_price whole o)
-      go None e = refl
-      go (Some k) e = omega (arith, price_found k (method_is_some p k (destructor_within p x k e)))
-
-  root_found : (root : Option ℕ) → root_by p prices root ≡ min 4294967296 (root_price whole root)
-  root_found None = refl
-  root_found (Some x) = destruction_found (Object x)
-
-  main_found : (m : ℕ) → main_of p ≡ Some m → main_by p prices ≡ min 4294967296 (main_price p whole)
-  main_found m is = rw is (omega (arith, price_found m (main_there p m is), root_found p.header.root))
-
   role_found : (k : ℕ) (role : Role) → role_by p prices k role ≡ min 4294967296 (role_price p whole k role)
   role_found k role = go (role_of p k role) refl
     where
@@ -128,19 +115,34 @@ module _ (p : Image) (prices : List ℕ) (h : ArePriced p prices) where
       go None e = refl
       go (Some m) e = price_found m (role_there p k m role e)
 
-  kind_found : (k : ℕ) (kind : ClassKind) → kind_by p prices k kind ≡ min 4294967296 (kind_price p whole k kind)
-  kind_found k Plain = refl
-  kind_found k (Active provider budget) = omega (arith, role_found k Run, role_found k Error)
-  kind_found k (Server sessions session budget) = omega (arith, role_found k Accept, role_found session Service, destruction_found (Object session))
-  kind_found k Session = refl
+  module _ (linked : IsLinked p) where
+    destruction_found : (x : Thing) → destruction_by p prices x ≡ min 4294967296 (whole.destruction x)
+    destruction_found x = omega (
+      arith,
+      found_of p linked whole h.told.whole.are.classes x,
+      going_alike 4294967296 p (price_by prices) (destructor_price whole) refl x (λ k runs. omega (arith, price_found k (method_is_some p k (destructs_within p x k runs)))),
+    )
 
-  class_found : (k : ℕ) (class : Option ClassDecl) → class_by p prices k class ≡ min 4294967296 (class_price p whole k class)
-  class_found k None = refl
-  class_found k (Some d) = kind_found k d.kind
+    root_found : (root : Option ℕ) → root_by p prices root ≡ min 4294967296 (root_price whole root)
+    root_found None = refl
+    root_found (Some x) = destruction_found (Object x)
 
-  found : IsLinked p → (payer : Payer) → payer_by p prices payer ≡ min 4294967296 (payer_price p whole payer)
-  found linked Main = let main = some_main p linked in main_found main.0 main.1
-  found linked (Class k) = class_found k (class_at p k)
+    main_found : (m : ℕ) → main_of p ≡ Some m → main_by p prices ≡ min 4294967296 (main_price p whole)
+    main_found m is = rw is (omega (arith, price_found m (main_there p m is), root_found p.header.root))
+
+    kind_found : (k : ℕ) (kind : ClassKind) → kind_by p prices k kind ≡ min 4294967296 (kind_price p whole k kind)
+    kind_found k Plain = refl
+    kind_found k (Active provider budget) = omega (arith, role_found k Run, role_found k Error)
+    kind_found k (Server sessions session budget) = omega (arith, role_found k Accept, role_found session Service, destruction_found (Object session))
+    kind_found k Session = refl
+
+    class_found : (k : ℕ) (class : Option ClassDecl) → class_by p prices k class ≡ min 4294967296 (class_price p whole k class)
+    class_found k None = refl
+    class_found k (Some d) = kind_found k d.kind
+
+    found : (payer : Payer) → payer_by p prices payer ≡ min 4294967296 (payer_price p whole payer)
+    found Main = let main = some_main p linked in main_found main.0 main.1
+    found (Class k) = class_found k (class_at p k)
 
 -- ---- what is declared
 

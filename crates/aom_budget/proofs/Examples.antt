@@ -25,6 +25,7 @@ use Rattle.aom_budget.specs.Calls.{callees, MayCall}
 use Rattle.aom_budget.specs.Depths.{Frames, IsTooDeep}
 use Rattle.aom_budget.specs.Depths.Frames.{alone, calling}
 use Rattle.aom_budget.specs.Figures.{IsWithin, TellsFirst, payer_by}
+use Rattle.aom_budget.specs.Pricing.{destruction_by}
 use Rattle.aom_budget.specs.declared.fault.BudgetFault.TheVariants.{OverBudget}
 use Rattle.aom_budget.specs.declared.fault.Payer.TheVariants.{Class}
 
@@ -68,6 +69,19 @@ trap_calls = refl
 pop_calls_nothing : callees image 3 (holding Null) PopDelete ≡ []
 pop_calls_nothing = refl
 
+-- a server goes with the four sessions that it may have
+destruction_of_a_server : destruction_by image (5 ∷ 7 ∷ 1 ∷ 1 ∷ []) (Object 1) ≡ 32
+unfolding image method class_at kind_in role_of plays role_number
+destruction_of_a_server = refl
+
+destruction_of_a_session : destruction_by image (5 ∷ 7 ∷ 1 ∷ 1 ∷ []) (Object 0) ≡ 6
+unfolding image method class_at kind_in role_of plays role_number
+destruction_of_a_session = refl
+
+destruction_is_kept : destruction_by image (4294967296 ∷ 7 ∷ 1 ∷ 1 ∷ []) (Object 1) ≡ 4294967296
+unfolding image method class_at kind_in role_of plays role_number
+destruction_is_kept = refl
+
 chain : (p : Image) → IsSome (method_at p 0) → ((m : ℕ) → m < 256 → MayCall p (suc m) m) → (n : ℕ) → n ≤ 256 → Frames p n (suc n)
 chain p first calls zero h = alone first
 chain p first calls (suc n) h = calling (calls n (omega (arith, h))) (chain p first calls n (omega (arith, h)))
@@ -95,16 +109,16 @@ unfolding dispatched method class_at role_of plays role_number
 sum_is_kept = refl
 
 server_pays_for_accept : payer_by dispatched (7 ∷ 5 ∷ 3 ∷ 6 ∷ 4 ∷ []) (Class 2) ≡ 6
-unfolding dispatched method class_at role_of plays role_number
+unfolding dispatched method class_at kind_in role_of plays role_number
 server_pays_for_accept = refl
 
 server_pays_for_service : payer_by dispatched (7 ∷ 5 ∷ 8 ∷ 6 ∷ 4 ∷ []) (Class 2) ≡ 8
-unfolding dispatched method class_at role_of plays role_number
+unfolding dispatched method class_at kind_in role_of plays role_number
 server_pays_for_service = refl
 
 -- the end of a session is a step, and its destructor
 server_pays_for_the_end : payer_by dispatched (7 ∷ 5 ∷ 3 ∷ 6 ∷ 8 ∷ []) (Class 2) ≡ 9
-unfolding dispatched method class_at role_of plays role_number
+unfolding dispatched method class_at kind_in role_of plays role_number
 server_pays_for_the_end = refl
 
 sessions_declare_nothing : declared_by dispatched (Class 1) ≡ None

@@ -10,7 +10,7 @@ use Rattle.aom_image.specs.declared.method.Role.TheVariants.{Destruct}
 use Rattle.aom_image.specs.declared.method.Thing.{Thing}
 use Rattle.aom_image.specs.declared.method.Thing.TheVariants.{Object, Message}
 use Rattle.aom_classes.specs.Bodies.{Body, IsLooped}
-use Rattle.aom_classes.specs.Roles.{destructor_of, role_of}
+use Rattle.aom_classes.specs.Roles.{role_of}
 use Rattle.aom_shape.specs.Kinds.{register, field}
 use Rattle.aom_shape.specs.Needs.{Flow, AllTrue}
 use Rattle.aom_roles.specs.States.{unlisted}
@@ -27,10 +27,13 @@ use Rattle.aom_shape.specs.declared.kind.Kind.TheVariants.{Unset, Word, Null, Ow
 use Rattle.aom_verify.specs.Shapes.{Shapes}
 use Rattle.aom_prices.specs.Prices.{Prices, price, kind_price, own, perhaps_price}
 use Rattle.aom_prices.specs.Costs.{AmongFlows, Region, Whole, Round, destructor_price}
-use Rattle.aom_prices.specs.Sweeping.{Afters, IsInnermost, IsSweptFrom, most_within}
+use Rattle.aom_prices.specs.Layers.{Destructs}
+use Rattle.aom_prices.specs.Sweeping.{Afters, IsInnermost, IsSweptFrom, all_going, most_within}
 use Rattle.aom_prices.proofs.At.{IsSweptAt, at_each, from_each}
+use Rattle.aom_prices.proofs.Going.{going_same}
 use Rattle.aom_prices.proofs.Regions.{ends_before, innermost_of_body}
 use Rattle.aom_budget.specs.Calls.{Among, cancel_of, listed, thing_class, object_class, destructors, callees}
+use Rattle.aom_budget.specs.Calls.{destructor_of as class_destructor}
 use Rattle.aom_budget.specs.Pricing.{kept, price_by, destruction_by, kind_by, own_by, null_targets, empty_targets, states_targets, targets_of, most_to, after_in, Found, Agrees, IsPassed}
 use Rattle.aom_prices.proofs.Among.{by_flow}
 use Rattle.aom_image.proofs.Given.{some_given}
@@ -82,21 +85,24 @@ most_same c m r from (f ∷ fs) same = rw (same f.0 (inl refl), most_same c m r 
 
 -- ---- what an instruction costs
 
-pub below_first : (o : Option ℕ) (j : ℕ) (rest : List ℕ) → o ≡ Some j → Among j (listed o ++ rest)
+below_first : (o : Option ℕ) (j : ℕ) (rest : List ℕ) → o ≡ Some j → Among j (listed o ++ rest)
 below_first o j rest e = subst (λ x. Among j (listed x ++ rest)) (sym e) (inl refl)
 
-module _ (p : Image) (prices : List ℕ) (m : ℕ) (c : Prices) (lower : (k : ℕ) → k < m → price c k ≡ at 0 prices k) where
-  module _ (classes : (x : Thing) → c.destruction x ≡ kept (1 + destructor_price c (destructor_of p x))) where
-    thing_same : (x : Thing) → ((j : ℕ) → destructor_of p x ≡ Some j → j < m) → c.destruction x ≡ destruction_by p prices x
-    thing_same x below = classes x ∙ ap (λ n. kept (1 + n)) (go (destructor_of p x) refl)
-      where
-        go : (o : Option ℕ) → destructor_of p x ≡ o → destructor_price c o ≡ price_by prices o
-        go None e = refl
-        go (Some j) e = lower j (below j e)
+below_second : (o : Option ℕ) (j : ℕ) (rest : List ℕ) → Among j rest → Among j (listed o ++ rest)
+below_second None j rest h = h
+below_second (Some k) j rest h = inr h
 
+-- the destructors that run as a thing is destroyed are those that may be called
+pub runs_among : (p : Image) (x : Thing) (j : ℕ) → Destructs p x j → Among j (destructors p (thing_class x))
+runs_among p (Object c) j (inl e) = below_first (role_of p c Destruct) j _ e
+runs_among p (Object c) j (inr w) = below_second (role_of p c Destruct) j _ (subst (λ o. Among j (listed o)) (sym (ap (λ s. class_destructor p s) w.1 ∙ w.2)) (inl refl))
+runs_among p Message j (inl e) = absurd cc
+runs_among p Message j (inr w) = let none : None ≡ Some w.0 = w.1 in absurd cc
+
+module _ (p : Image) (prices : List ℕ) (m : ℕ) (c : Prices) (lower : (k : ℕ) → k < m → price c k ≡ at 0 prices k) where
+  module _ (classes : (x : Thing) → c.destruction x ≡ kept (all_going p (destructor_price c) x)) where
     destruction_same : (x : Thing) → ((j : ℕ) → Among j (destructors p (thing_class x)) → j < m) → c.destruction x ≡ destruction_by p prices x
-    destruction_same (Object y) below = thing_same (Object y) (λ j e. below j (below_first (role_of p y Destruct) j _ e))
-    destruction_same Message below = thing_same Message (λ j e. absurd cc)
+    destruction_same x below = classes x ∙ ap kept (going_same p (destructor_price c) (price_by prices) refl x (λ j runs. lower j (below j (runs_among p x j runs))))
 
     kind_same : (k : Kind) → ((j : ℕ) → Among j (destructors p (object_class k)) → j < m) → kind_price c k ≡ kind_by p prices k
     kind_same Unset below = refl

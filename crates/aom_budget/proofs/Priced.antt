@@ -8,11 +8,8 @@ use Rattle.aom_image.specs.Views.{instr_at, method_at, method_class}
 use Rattle.aom_image.specs.WellFormed.{WellFormed}
 use Rattle.aom_instructions.specs.declared.instr.Instr.{Instr}
 use Rattle.aom_instructions.specs.declared.instr.Instr.TheVariants.{Call, Cancel, Trap, Push, PushOperation, Delete}
-use Rattle.aom_image.specs.declared.method.Role.TheVariants.{Destruct}
 use Rattle.aom_image.specs.declared.method.Thing.{Thing}
-use Rattle.aom_image.specs.declared.method.Thing.TheVariants.{Object}
 use Rattle.aom_classes.specs.Linked.{IsLinked}
-use Rattle.aom_classes.specs.Roles.{destructor_of, role_of}
 use Rattle.aom_classes.proofs.Facts.{of_method}
 use Rattle.aom_shape.specs.Kinds.{register}
 use Rattle.aom_shape.specs.Shape.{Shape}
@@ -26,36 +23,37 @@ use Rattle.aom_verify.specs.Strongest.{IsMethodStrongest, IsStrongest}
 use Rattle.aom_verify.proofs.Typings.{image_strongest, method_within}
 use Rattle.aom_prices.specs.Prices.{Prices}
 use Rattle.aom_prices.specs.Costs.{destructor_price}
-use Rattle.aom_prices.specs.Layers.{PaysBefore, kind_destructor, paid_method}
-use Rattle.aom_prices.specs.Sweeping.{Afters, IsSweptFrom, IsSweptUpTo}
+use Rattle.aom_prices.specs.Layers.{KindDestructs, Pays, PaysBefore}
+use Rattle.aom_prices.specs.Sweeping.{Afters, IsSweptFrom, IsSweptUpTo, all_going}
 use Rattle.aom_prices.proofs.At.{from_each}
+use Rattle.aom_prices.proofs.Going.{going_same}
 use Rattle.aom_prices.proofs.Capping.{law_up_to}
 use Rattle.aom_prices.proofs.Places.{nothing_there}
 use Rattle.aom_budget.specs.Calls.{Among, cancel_of, listed, object_class, destructors, callees, CallsAt}
 use Rattle.aom_budget.specs.Pricing.{kept, Found, Agrees, IsMethodPriced, ArePricedBelow, ArePriced, IsPriceUpTo}
 use Rattle.aom_budget.proofs.Mentioned.{called_lower}
-use Rattle.aom_budget.proofs.Passing.{below_first}
+use Rattle.aom_budget.proofs.Passing.{runs_among}
 use Rattle.aom_image.proofs.Given.{none_given}
 
 -- ---- a method pays for lower ones
 
-kind_called : (p : Image) (k : Kind) (m : ℕ) → kind_destructor p k ≡ Some m → Among m (destructors p (object_class k))
-kind_called p (Own (Object c) a) m e = below_first (role_of p c Destruct) m _ e
-kind_called p (Maybe (Object c) a) m e = below_first (role_of p c Destruct) m _ e
-kind_called p _ m e = absurd cc
+kind_called : (p : Image) (k : Kind) (m : ℕ) → KindDestructs p k m → Among m (destructors p (object_class k))
+kind_called p (Own x a) m runs = runs_among p x m runs
+kind_called p (Maybe x a) m runs = runs_among p x m runs
+kind_called p _ m runs = absurd runs
 
 cancel_called : (o : Option ℕ) (k : ℕ) → o ≡ Some k → Among k (listed o)
 cancel_called None k e = absurd cc
 cancel_called (Some j) k e = let same : k ≡ j = cc in inl same
 
-paid_called : (p : Image) (m : ℕ) (sh : Shape) (i : Instr) (k : ℕ) → paid_method p m sh i ≡ Some k → Among k (callees p m sh i)
-paid_called p m sh (Call target called first c) k e = let same : k ≡ called = cc in inl same
-paid_called p m sh (Trap target called first c) k e = let same : k ≡ called = cc in inl same
-paid_called p m sh (PushOperation a called) k e = let same : k ≡ called = cc in inl same
+paid_called : (p : Image) (m : ℕ) (sh : Shape) (i : Instr) (k : ℕ) → Pays p m sh i k → Among k (callees p m sh i)
+paid_called p m sh (Call target called first c) k e = inl (sym e)
+paid_called p m sh (Trap target called first c) k e = inl (sym e)
+paid_called p m sh (PushOperation a called) k e = inl (sym e)
 paid_called p m sh (Push a) k e = kind_called p (register sh a) k e
 paid_called p m sh (Delete a) k e = kind_called p (register sh a) k e
 paid_called p m sh Cancel k e = cancel_called (cancel_of p (method_class p m)) k e
-paid_called p m sh _ k e = absurd cc
+paid_called p m sh _ k e = absurd e
 
 pub method_there : (p : Image) (m place : ℕ) (i : Instr) → instr_at p m place ≡ Some i → IsSome (method_at p m)
 method_there p m place i stands = let w = of_method p m place i stands in rw w.1 refl
@@ -139,18 +137,14 @@ module _ (p : Image) (prices : List ℕ) (h : Chosen p prices (length p.methods)
   table = record {
     from = λ m place. at 0 (h.found m).from place;
     round = λ m from. at 0 (h.found m).from (suc from) - at 0 (h.found m).after from;
-    destruction = λ x. kept (1 + price_in (destructor_of p x));
+    destruction = λ x. kept (all_going p price_in x);
   }
 
   abbrev afters : Afters
   afters = λ m from. at 0 (h.found m).after from
 
-  destructions : (x : Thing) → table.destruction x ≡ kept (1 + destructor_price table (destructor_of p x))
-  destructions x = ap (λ n. kept (1 + n)) (go (destructor_of p x))
-    where
-      go : (o : Option ℕ) → price_in o ≡ destructor_price table o
-      go None = refl
-      go (Some k) = refl
+  destructions : (x : Thing) → table.destruction x ≡ kept (all_going p (destructor_price table) x)
+  destructions x = ap kept (going_same p price_in (destructor_price table) refl x (λ k runs. refl))
 
   agrees : (m : ℕ) → m < length p.methods → Agrees p prices m (h.states m) 0 (h.found m) typing table afters
   agrees m below = record {

@@ -6,7 +6,6 @@ use Rattle.aom_instructions.specs.declared.instr.Instr.{Instr}
 use Rattle.aom_instructions.specs.declared.instr.Instr.TheVariants.{Call, Cancel, Trap, Push, PushOperation, Delete, Jump, JumpEqual, JumpLess, JumpNull, JumpEmpty, JumpActive, JumpAdded, Next, Return, Leave}
 use Rattle.aom_image.specs.declared.method.Thing.{Thing}
 use Rattle.aom_classes.specs.Bodies.{Body, IsIn}
-use Rattle.aom_classes.specs.Roles.{destructor_of}
 use Rattle.aom_roles.specs.States.{unlisted}
 use Rattle.aom_rules.specs.Requests.{enlisted, inactive, outstanding}
 use Rattle.aom_shape.specs.Kinds.{register, field}
@@ -23,7 +22,7 @@ use Rattle.aom_verify.specs.Sweep.{HasPlaces}
 use Rattle.aom_prices.specs.Prices.{Prices, price}
 use Rattle.aom_prices.specs.Costs.{Region, Whole, Round, ArePrices, destructor_price}
 use Rattle.aom_prices.specs.Layers.{ArePricesUpTo}
-use Rattle.aom_prices.specs.Sweeping.{Afters, IsInnermost, IsSweptFrom, is_past}
+use Rattle.aom_prices.specs.Sweeping.{Afters, IsInnermost, IsSweptFrom, all_going, is_past}
 use Rattle.aom_budget.specs.Calls.{Among, cancel_of}
 use Rattle.aom_budget.specs.Extents.{IsMost, Before}
 use Rattle.aom_budget.specs.declared.pass.Round as rounds
@@ -41,9 +40,9 @@ abbrev pub price_by : List ℕ → Option ℕ → ℕ
 price_by prices None = 0
 price_by prices (Some k) = at 0 prices k
 
--- the destruction of a thing
+-- the destruction of a thing, and of its sessions
 abbrev pub destruction_by : Image → List ℕ → Thing → ℕ
-destruction_by p prices x = kept (1 + price_by prices (destructor_of p x))
+destruction_by p prices x = kept (all_going p (price_by prices) x)
 
 -- that of what a register may have
 abbrev pub kind_by : Image → List ℕ → Kind → ℕ
@@ -149,7 +148,7 @@ pub record Agrees (p : Image) (prices : List ℕ) (m : ℕ) (s : Shapes) (down :
   pub afters : (from to d n : ℕ) → down ≤ to → Body p m from to d n → a m from ≡ at 0 found.after from
   pub rounds : (from : ℕ) → c.round m from ≡ c.from m (suc from) - a m from
   pub lower : (k : ℕ) → k < m → price c k ≡ at 0 prices k
-  pub classes : (x : Thing) → c.destruction x ≡ kept (1 + destructor_price c (destructor_of p x))
+  pub classes : (x : Thing) → c.destruction x ≡ kept (all_going p (destructor_price c) x)
 
 -- each table that agrees is swept, down to that place
 pub record IsPassed (p : Image) (prices : List ℕ) (m : ℕ) (s : Shapes) (down : ℕ) (found : Found) : Type 0 where

@@ -8,6 +8,7 @@
 
 mod accepted;
 mod callees;
+mod destructions;
 mod extents;
 mod fault;
 mod figures;

@@ -8,13 +8,14 @@ ghost use Rattle.aom_verify.specs.Strongest.{IsMethodStrongest};
 ghost use Rattle.aom_verify.specs.Sweep.{HasPlaces};
 ghost use Rattle.aom_budget.specs.Calls.{listed};
 ghost use Rattle.aom_budget.specs.Extents.{IsMost, Before};
-ghost use Rattle.aom_budget.specs.Pricing.{kept, destruction_by, kind_by, own_by, after_in, most_to, most_past, ExitsAt, Follows, IsPassing, IsMethodPriced, found_by, plain_cost, price_by, region_of};
+ghost use Rattle.aom_budget.specs.Pricing.{kept, kind_by, own_by, after_in, most_to, most_past, ExitsAt, Follows, IsPassing, IsMethodPriced, found_by, plain_cost, region_of};
 
 use crate::callees::{cancel_of, class_of};
+use crate::destructions::{destruction, perhaps_cost};
 use crate::sums::{Sums, kept};
 use crate::targets::Targets;
 use aom_classes::Linked;
-use aom_image::{Instr, MethodNumber, Role, Thing};
+use aom_image::{Instr, MethodNumber};
 use aom_shape::{Kind, Shape};
 use aom_verify::{Checked, Sheet};
 use std::alloc::{AllocError, Global};
@@ -287,21 +288,6 @@ impl Pass {
     }
 }
 
-/// What the destruction of a thing costs.
-pub(crate) fn destruction(linked: &Linked, prices: &Sums, thing: Thing) -> u64
-    ensures is { result ≡ destruction_by linked.now prices.now thing }
-    ensures low { result ≤ 4294967296 }
-{
-    let destructor = match thing {
-        Thing::Object(class) => linked.role(class, Role::Destruct),
-        Thing::Message => None,
-    };
-    match destructor {
-        Some(method) => kept(1 + prices.at(method.number() as usize)),
-        None => 1,
-    }
-}
-
 /// What the destruction of what a register may have costs.
 fn kind_cost(linked: &Linked, prices: &Sums, kind: Kind) -> u64
     ensures is { result ≡ kind_by linked.now prices.now kind }
@@ -310,17 +296,6 @@ fn kind_cost(linked: &Linked, prices: &Sums, kind: Kind) -> u64
     match kind {
         Kind::Unset | Kind::Word | Kind::Null => 0,
         Kind::Own(thing, _) | Kind::Maybe(thing, _) => destruction(linked, prices, thing),
-    }
-}
-
-/// What a method costs, if there is one.
-pub(crate) fn perhaps_cost(prices: &Sums, method: Option<MethodNumber>) -> u64
-    ensures is { result ≡ price_by prices.now method }
-    ensures low { result ≤ 4294967296 }
-{
-    match method {
-        Some(method) => prices.at(method.number() as usize),
-        None => 0,
     }
 }
 

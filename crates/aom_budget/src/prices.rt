@@ -3,7 +3,8 @@ ghost use Rattle.std.specs.Prelude.{◌≡◌, ◌≤◌, IfOk};
 ghost use Rattle.aom_budget.specs.Figures.{kind_by, main_by, role_by, root_by};
 ghost use Rattle.aom_budget.specs.Pricing.{ArePriced};
 
-use crate::pass::{destruction, perhaps_cost, price_of};
+use crate::destructions::{destruction, perhaps_cost};
+use crate::pass::price_of;
 use crate::sums::{Sums, kept};
 use crate::table::number_at;
 use aom_classes::Linked;

@@ -22,6 +22,7 @@ use Rattle.aom_prices.specs.Costs.{AmongFlows, Costs, GoesOut, IsPrice, Region, 
 use Rattle.aom_prices.specs.Costs.Costs.{ends, goes, loops, loops_in}
 use Rattle.aom_prices.specs.Laws.{SweptIsPrice}
 use Rattle.aom_prices.specs.Sweeping.{Afters, IsAfter, IsInnermost, after, is_past, most_within}
+use Rattle.aom_prices.proofs.Going.{ruled_of}
 use Rattle.aom_prices.proofs.At.{IsSweptAt, place_of}
 use Rattle.aom_prices.proofs.Paths.{GoesOn, Rounds, ends_or_goes, outside_cost, rounds_of}
 use Rattle.aom_prices.proofs.Regions.{by_kind, here_is_inside, innermost, innermost_first, innermost_of_body, innermost_of_next, innermost_on, innermost_out, next_is_no_loop, no_next_here, no_way_back, one_end, out_of_both, past_is_outside}
@@ -273,7 +274,7 @@ in_code p m d here place i at =
     slice_get_within d.code place i (subst (λ x. slice_get x.code place ≡ Some i) same w.2)
 
 pub law_is_price : SweptIsPrice
-law_is_price p t c a formed linked typed swept = record { methods = methods; classes = swept.classes }
+law_is_price p t c a formed linked typed swept = record { methods = methods; classes = ruled_of p linked c swept.classes }
   where
     methods : (m : ℕ) → IsSome (method_at p m) → IsPrice p t c m (price c m)
     methods m some = some_given (λ o. IsSome o) (method_at p m) some (λ s. cc) (λ d e s.

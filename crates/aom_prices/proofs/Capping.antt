@@ -10,22 +10,22 @@ use Rattle.aom_instructions.specs.declared.instr.Instr.TheVariants.{Loop, Next}
 use Rattle.aom_classes.proofs.Bodies.{linked_is_looped}
 use Rattle.aom_classes.specs.Bodies.{Body, IsLooped}
 use Rattle.aom_classes.specs.Loops.{loop_in, next_in}
-use Rattle.aom_classes.specs.Roles.{destructor_of}
 use Rattle.aom_rules.specs.Rules.{flows}
 use Rattle.aom_shape.specs.Shape.{Shape}
 use Rattle.aom_rules.specs.Typing.{IsTyped, Passes, Typing, shape_at}
 use Rattle.aom_prices.specs.Prices.{Prices, Stands, own, price}
-use Rattle.aom_prices.specs.Costs.{GoesOut, Region, Round, Whole}
+use Rattle.aom_prices.specs.Costs.{GoesOut, Region, Round, Whole, destructor_price}
 use Rattle.aom_prices.specs.Laws.{SweptUpToIsPrice}
-use Rattle.aom_prices.specs.Layers.{PaysBefore, paid_method}
+use Rattle.aom_prices.specs.Layers.{Pays, PaysBefore}
 use Rattle.aom_prices.specs.Sweeping.{Afters, IsAfter, IsInnermost, IsSwept, IsSweptUpTo, after, most_within}
 use Rattle.aom_prices.proofs.At.{place_of}
 use Rattle.aom_prices.proofs.Adding.{in_code, jumps_forward, leads_on, reached_is_some, way_forward}
 use Rattle.aom_prices.proofs.Capped.{Alike, alike_kept, alike_loop, alike_max, alike_plus}
+use Rattle.aom_prices.proofs.Going.{going_alike}
 use Rattle.aom_prices.proofs.Making.{Found, are_prices, found_prices}
-use Rattle.aom_prices.proofs.Methods.{destructor_within, method_is_some, method_there}
+use Rattle.aom_prices.proofs.Methods.{destructs_within, method_is_some, method_there}
 use Rattle.aom_prices.proofs.Regions.{by_kind, ends_after, innermost}
-use Rattle.aom_prices.proofs.Related.{destructor_related, most_related, own_related}
+use Rattle.aom_prices.proofs.Related.{most_related, own_related}
 use Rattle.aom_prices.proofs.Ways.{IsReached, JumpsForward}
 use Rattle.aom_prices.proofs.Among.{each_below}
 
@@ -43,10 +43,10 @@ module _
     (c e : Prices) (a b : Afters) (capped : IsSweptUpTo limit p t c a) (whole : IsSwept p t e b) where
   module _ (m : ℕ) (before : (k : ℕ) → k < m → Alike limit (price c k) (price e k)) where
     -- what an instruction costs itself
-    own_alike : (sh : Shape) (i : Instr) → ((k : ℕ) → paid_method p m sh i ≡ Some k → k < m) → Alike limit (own p m c sh i) (own p m e sh i)
+    own_alike : (sh : Shape) (i : Instr) → ((k : ℕ) → Pays p m sh i k → k < m) → Alike limit (own p m c sh i) (own p m e sh i)
     own_alike sh i below =
         own_related (λ x y. Alike limit x y) refl p c e (λ x y same. alike_plus limit 1 1 x y refl same)
-        (λ x same. omega (arith, capped.classes x, whole.classes x, same)) m sh i (λ k paid. before k (below k paid))
+        (λ x h. omega (arith, capped.classes x, whole.classes x, going_alike limit p (destructor_price c) (destructor_price e) refl x h)) m sh i (λ k paid. before k (below k paid))
 
     -- ---- a place
 
@@ -204,7 +204,7 @@ law_up_to limit p t c a formed linked typed layered capped = record {
     arith,
     capped.classes x,
     exact.swept.classes x,
-    destructor_related (λ y z. Alike limit y z) refl p c exact.prices (destructor_of p x) (λ k e. alike k (destructor_within p x k e)),
+    going_alike limit p (destructor_price c) (destructor_price exact.prices) refl x (λ k runs. alike k (destructs_within p x k runs)),
   );
 }
   where

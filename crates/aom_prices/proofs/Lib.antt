@@ -5,6 +5,7 @@ pub mod At
 pub mod Paths
 pub mod Adding
 pub mod Paying
+pub mod Going
 pub mod Worked
 pub mod Related
 pub mod Moving

@@ -15,7 +15,6 @@ use Rattle.aom_classes.proofs.Bodies.{linked_is_looped}
 use Rattle.aom_classes.specs.Bodies.{Body, IsLooped}
 use Rattle.aom_classes.specs.Linked.{IsLinked}
 use Rattle.aom_classes.specs.Loops.{loop_in, next_in}
-use Rattle.aom_classes.specs.Roles.{destructor_of}
 use Rattle.aom_rules.specs.Rules.{flows}
 use Rattle.aom_shape.specs.Shape.{Shape}
 use Rattle.aom_rules.specs.Typing.{IsTyped, Typing, shape_at}
@@ -24,9 +23,10 @@ use Rattle.aom_prices.specs.Prices.{Prices, Stands, own}
 use Rattle.aom_prices.specs.Costs.{Region, Round, Whole, destructor_price}
 use Rattle.aom_prices.specs.Laws.{PricesAreFound}
 use Rattle.aom_prices.specs.Layers.{HasPrices, PaysBefore}
-use Rattle.aom_prices.specs.Sweeping.{Afters, IsAfter, IsInnermost, IsSwept, after, most_within}
+use Rattle.aom_prices.specs.Sweeping.{Afters, IsAfter, IsInnermost, IsSwept, after, all_going, most_within}
 use Rattle.aom_prices.proofs.At.{IsSweptAt, from_each}
 use Rattle.aom_prices.proofs.Adding.{in_code, jumps_forward, law_is_price, way_forward}
+use Rattle.aom_prices.proofs.Going.{going_same}
 use Rattle.aom_prices.proofs.Methods.{method_within}
 use Rattle.aom_prices.proofs.Moving.{AreSameFrom, most_same, own_same, swept_same}
 use Rattle.aom_prices.proofs.Places.{loop_there, next_there, nothing_there, pays_after, plain_there}
@@ -69,14 +69,10 @@ destructor_cost f None = 0
 destructor_cost f (Some m) = f m 0
 
 abbrev prices_of : Image → (ℕ → ℕ → ℕ) → (ℕ → ℕ → ℕ) → Prices
-prices_of p f g = record { from = f; round = g; destruction = λ x. 1 + destructor_cost f (destructor_of p x) }
+prices_of p f g = record { from = f; round = g; destruction = λ x. all_going p (destructor_cost f) x }
 
-classes_of : (p : Image) (f g : ℕ → ℕ → ℕ) (x : Thing) → (prices_of p f g).destruction x ≡ 1 + destructor_price (prices_of p f g) (destructor_of p x)
-classes_of p f g x = ap (λ n. 1 + n) (go (destructor_of p x))
-  where
-    go : (o : Option ℕ) → destructor_cost f o ≡ destructor_price (prices_of p f g) o
-    go None = refl
-    go (Some m) = refl
+classes_of : (p : Image) (f g : ℕ → ℕ → ℕ) (x : Thing) → (prices_of p f g).destruction x ≡ all_going p (destructor_price (prices_of p f g)) x
+classes_of p f g x = going_same p (destructor_cost f) (destructor_price (prices_of p f g)) refl x (λ k runs. refl)
 
 -- numbers that are found for the methods before one
 record Below (p : Image) (t : Typing) (m : ℕ) : Type 0 where

@@ -1,5 +1,5 @@
 -- Which methods are there, by their numbers.
-use Rattle.std.proofs.Common.{◌≡◌, ◌<◌, ℕ, length, Some, refl, arith}
+use Rattle.std.proofs.Common.{◌≡◌, ◌<◌, ℕ, length, Some, inl, inr, refl, arith}
 use Rattle.aom_image.proofs.Given.{some_given}
 use Rattle.std.specs.Prelude.{IsSome}
 use Rattle.std.proofs.lemmas.Option.{slice_get_within}
@@ -8,10 +8,12 @@ use Rattle.aom_image.specs.Views.{method_at}
 use Rattle.aom_image.specs.declared.method.Method.{Method}
 use Rattle.aom_image.specs.declared.method.Role.TheVariants.{Destruct}
 use Rattle.aom_image.specs.declared.method.Thing.{Thing}
+use Rattle.aom_image.specs.declared.method.Thing.TheVariants.{Object}
 use Rattle.aom_classes.specs.Roles.{destructor_of}
 use Rattle.std.proofs.lemmas.Option.{slice_get_cases}
 use Rattle.std.proofs.Common.{⊎_elim, sym, subst}
 use Rattle.aom_classes.proofs.Playing.{destroyed, role_found}
+use Rattle.aom_prices.specs.Layers.{Destructs}
 
 pub method_within : (p : Image) (m : ℕ) (d : Method) → method_at p m ≡ Some d → m < length p.methods
 unfolding method_at
@@ -22,6 +24,11 @@ method_there p m some = some_given (λ o. IsSome o) (method_at p m) some (λ s. 
 
 pub destructor_within : (p : Image) (x : Thing) (k : ℕ) → destructor_of p x ≡ Some k → k < length p.methods
 destructor_within p x k e = let w = destroyed p x k e in let d = role_found p w.0 k Destruct w.2 in method_within p k d.0 d.1
+
+-- each that runs as a thing is destroyed is there
+pub destructs_within : (p : Image) (x : Thing) (k : ℕ) → Destructs p x k → k < length p.methods
+destructs_within p x k (inl e) = destructor_within p x k e
+destructs_within p x k (inr w) = destructor_within p (Object w.0) k w.2
 
 pub method_is_some : (p : Image) (m : ℕ) → m < length p.methods → IsSome (method_at p m)
 unfolding method_at

@@ -6,7 +6,6 @@ use Rattle.aom_instructions.specs.declared.instr.Instr.{Instr}
 use Rattle.aom_image.specs.declared.method.Thing.{Thing}
 use Rattle.aom_classes.specs.Bodies.{Body, IsLooped}
 use Rattle.aom_classes.specs.Loops.{loop_in, next_in}
-use Rattle.aom_classes.specs.Roles.{destructor_of}
 use Rattle.aom_shape.specs.Needs.{Flow}
 use Rattle.aom_rules.specs.Rules.{flows}
 use Rattle.aom_shape.specs.Shape.{Shape}
@@ -14,10 +13,11 @@ use Rattle.aom_rules.specs.Typing.{Typing}
 use Rattle.aom_prices.proofs.Ways.{JumpsForward}
 use Rattle.aom_prices.specs.Prices.{Prices, Stands, own, price}
 use Rattle.aom_prices.specs.Costs.{AmongFlows, GoesOut, Region, Round, Whole, destructor_price}
-use Rattle.aom_prices.specs.Layers.{PaysBefore, paid_method}
-use Rattle.aom_prices.specs.Sweeping.{Afters, IsAfter, IsInnermost, after, most_within}
+use Rattle.aom_prices.specs.Layers.{Pays, PaysBefore}
+use Rattle.aom_prices.specs.Sweeping.{Afters, IsAfter, IsInnermost, after, all_going, most_within}
 use Rattle.aom_prices.proofs.At.{IsSweptAt}
 use Rattle.aom_prices.proofs.Adding.{way_forward}
+use Rattle.aom_prices.proofs.Going.{going_same}
 use Rattle.aom_prices.proofs.Regions.{ends_before}
 use Rattle.aom_prices.proofs.Related.{most_related, own_related}
 
@@ -26,11 +26,12 @@ use Rattle.aom_prices.proofs.Related.{most_related, own_related}
 -- two tables that say the same of the methods that are paid for
 pub own_same :
     (keep : ℕ → ℕ) (p : Image) (c c' : Prices) →
-    ((x : Thing) → c.destruction x ≡ keep (1 + destructor_price c (destructor_of p x))) →
-    ((x : Thing) → c'.destruction x ≡ keep (1 + destructor_price c' (destructor_of p x))) →
-    (m : ℕ) (sh : Shape) (i : Instr) → ((k : ℕ) → paid_method p m sh i ≡ Some k → price c' k ≡ price c k) → own p m c' sh i ≡ own p m c sh i
+    ((x : Thing) → c.destruction x ≡ keep (all_going p (destructor_price c) x)) →
+    ((x : Thing) → c'.destruction x ≡ keep (all_going p (destructor_price c') x)) →
+    (m : ℕ) (sh : Shape) (i : Instr) → ((k : ℕ) → Pays p m sh i k → price c' k ≡ price c k) → own p m c' sh i ≡ own p m c sh i
 own_same keep p c c' classes classes' =
-    own_related (λ x y. x ≡ y) refl p c' c (λ x y e. ap (λ n. 1 + n) e) (λ x e. classes' x ∙ (ap (λ n. keep (1 + n)) e ∙ sym (classes x)))
+    own_related (λ x y. x ≡ y) refl p c' c (λ x y e. ap (λ n. 1 + n) e)
+    (λ x h. classes' x ∙ (ap keep (going_same p (destructor_price c') (destructor_price c) refl x h) ∙ sym (classes x)))
 
 pub most_same : (p : Image) (c c' : Prices) (m : ℕ) (r : Region) (fs : List Flow) → ((to : ℕ) → AmongFlows to fs → c'.from m to ≡ c.from m to) → most_within c' m r fs ≡ most_within c m r fs
 most_same p c c' m r = most_related (λ x y. x ≡ y) refl p c' c (λ x y z w a b. ap (λ n. max n z) a ∙ ap (λ n. max y n) b) m r
@@ -47,8 +48,8 @@ pub record AreSameFrom (p : Image) (c c' : Prices) (a a' : Afters) (m down : ℕ
 module _
     (keep : ℕ → ℕ) (p : Image) (t : Typing) (c c' : Prices) (a a' : Afters) (m : ℕ) (looped : IsLooped p)
     (forward : JumpsForward p m)
-    (layered : PaysBefore p t) (classes : (x : Thing) → c.destruction x ≡ keep (1 + destructor_price c (destructor_of p x)))
-    (classes' : (x : Thing) → c'.destruction x ≡ keep (1 + destructor_price c' (destructor_of p x)))
+    (layered : PaysBefore p t) (classes : (x : Thing) → c.destruction x ≡ keep (all_going p (destructor_price c) x))
+    (classes' : (x : Thing) → c'.destruction x ≡ keep (all_going p (destructor_price c') x))
     (place : ℕ) (same : AreSameFrom p c c' a a' m place) where
   -- what follows a region that ends later
   after_same : (r : Region) (k : ℕ) → place ≤ k → IsInnermost p m k r → after a' m r ≡ after a m r

@@ -6,6 +6,7 @@ use Rattle.aom_instructions.specs.declared.instr.Instr.TheVariants.{Loop, Next}
 use Rattle.aom_image.specs.declared.method.Thing.{Thing}
 use Rattle.aom_classes.proofs.Bodies.{linked_is_looped}
 use Rattle.aom_classes.specs.Bodies.{Body, IsLooped}
+use Rattle.aom_classes.specs.Linked.{IsLinked}
 use Rattle.aom_classes.specs.Loops.{loop_in, next_in}
 use Rattle.aom_classes.specs.Roles.{destructor_of}
 use Rattle.aom_shape.proofs.Deciding.{thing_is}
@@ -18,6 +19,7 @@ use Rattle.aom_prices.specs.Costs.{AmongFlows, Region, destructor_price}
 use Rattle.aom_prices.specs.Laws.{SweptPays}
 use Rattle.aom_prices.specs.Sweeping.{Afters, IsInnermost, IsSwept, after, is_past}
 use Rattle.aom_prices.proofs.At.{place_of}
+use Rattle.aom_prices.proofs.Going.{perhaps_is, ruled_of}
 use Rattle.aom_prices.proofs.Adding.{by_past, leads_on, reached_is_some, within_most}
 use Rattle.aom_prices.proofs.Regions.{by_kind, innermost}
 use Rattle.aom_prices.proofs.Ways.{IsReached}
@@ -32,7 +34,7 @@ each_paid c m pays here (f ∷ fs) paid = (paid f.0 (inl refl), each_paid c m pa
 at_most : (x y : ℕ) → y ≡ x → x ≤ y
 at_most x y e = omega (arith, e)
 
-module _ (p : Image) (t : Typing) (c : Prices) (a : Afters) (looped : IsLooped p) (typed : IsTyped p t) (swept : IsSwept p t c a) where
+module _ (p : Image) (t : Typing) (c : Prices) (a : Afters) (looped : IsLooped p) (linked : IsLinked p) (typed : IsTyped p t) (swept : IsSwept p t c a) where
   -- what a region goes out to is paid for by what follows it
   out_paid : (m place to : ℕ) (sh : Shape) (i : Instr) (r : Region) → Stands p t m place sh i → AmongFlows to (flows p m place sh i) → IsInnermost p m place r →
       is_past r to ≡ true → c.from m to ≤ after a m r
@@ -117,8 +119,9 @@ module _ (p : Image) (t : Typing) (c : Prices) (a : Afters) (looped : IsLooped p
     rounds = rounds_paid;
     cells = λ x. omega (arith, swept.classes x);
     destructors = destructors_paid;
+    sessions = λ x. omega (arith, ruled_of p linked c swept.classes x, perhaps_is c (destructor_of p x));
     stands_in = λ x y e. omega (arith, ap c.destruction (thing_is x y e));
   }
 
 pub law_pays : SweptPays
-law_pays p t c a formed linked typed swept = priced p t c a (linked_is_looped p formed linked) typed swept
+law_pays p t c a formed linked typed swept = priced p t c a (linked_is_looped p formed linked) linked typed swept

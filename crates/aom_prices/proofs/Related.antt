@@ -6,41 +6,32 @@ use Rattle.aom_image.specs.Views.{method_class}
 use Rattle.aom_instructions.specs.declared.instr.Instr.{Instr}
 use Rattle.aom_instructions.specs.declared.instr.Instr.TheVariants.{Call, Cancel, Delete, Push, PushOperation, Trap}
 use Rattle.aom_image.specs.declared.method.Thing.{Thing}
-use Rattle.aom_classes.specs.Roles.{destructor_of}
 use Rattle.aom_shape.specs.Kinds.{register}
 use Rattle.aom_shape.specs.Needs.{Flow}
 use Rattle.aom_shape.specs.Shape.{Shape}
 use Rattle.aom_shape.specs.declared.kind.Kind.{Kind}
 use Rattle.aom_shape.specs.declared.kind.Kind.TheVariants.{Maybe, Null, Own, Unset, Word}
 use Rattle.aom_prices.specs.Prices.{Prices, cancel_of, kind_price, own, perhaps_price, price}
-use Rattle.aom_prices.specs.Costs.{AmongFlows, Region, destructor_price}
-use Rattle.aom_prices.specs.Layers.{kind_destructor, paid_method}
+use Rattle.aom_prices.specs.Costs.{AmongFlows, Region}
+use Rattle.aom_prices.specs.Layers.{Destructs, KindDestructs, Pays}
 use Rattle.aom_prices.specs.Sweeping.{is_past, most_within}
 
 module _ (R : ℕ → ℕ → Type 0) (none : R 0 0) (p : Image) (c d : Prices) where
-  pub destructor_related : (o : Option ℕ) → ((k : ℕ) → o ≡ Some k → R (price c k) (price d k)) → R (destructor_price c o) (destructor_price d o)
-  destructor_related None h = none
-  destructor_related (Some k) h = h k refl
-
-  -- where sums with 1 are related, and destructions as the prices of their destructors
-  module _ (more : (x y : ℕ) → R x y → R (1 + x) (1 + y))
-      (things : (x : Thing) → R (destructor_price c (destructor_of p x)) (destructor_price d (destructor_of p x)) → R (c.destruction x) (d.destruction x)) where
-    thing_related : (x : Thing) → ((k : ℕ) → destructor_of p x ≡ Some k → R (price c k) (price d k)) → R (c.destruction x) (d.destruction x)
-    thing_related x h = things x (destructor_related (destructor_of p x) h)
-
-    kind_related : (k : Kind) → ((j : ℕ) → kind_destructor p k ≡ Some j → R (price c j) (price d j)) → R (kind_price c k) (kind_price d k)
+  -- where sums with 1 are related, and destructions as the prices of the destructors that run
+  module _ (more : (x y : ℕ) → R x y → R (1 + x) (1 + y)) (things : (x : Thing) → ((k : ℕ) → Destructs p x k → R (price c k) (price d k)) → R (c.destruction x) (d.destruction x)) where
+    kind_related : (k : Kind) → ((j : ℕ) → KindDestructs p k j → R (price c j) (price d j)) → R (kind_price c k) (kind_price d k)
     kind_related Unset h = none
     kind_related Word h = none
     kind_related Null h = none
-    kind_related (Own x g) h = thing_related x h
-    kind_related (Maybe x g) h = thing_related x h
+    kind_related (Own x g) h = things x h
+    kind_related (Maybe x g) h = things x h
 
     perhaps_related : (o : Option ℕ) → ((k : ℕ) → o ≡ Some k → R (price c k) (price d k)) → R (perhaps_price c o) (perhaps_price d o)
     perhaps_related None h = none
     perhaps_related (Some k) h = h k refl
 
     -- what an instruction costs itself
-    pub own_related : (m : ℕ) (sh : Shape) (i : Instr) → ((k : ℕ) → paid_method p m sh i ≡ Some k → R (price c k) (price d k)) → R (own p m c sh i) (own p m d sh i)
+    pub own_related : (m : ℕ) (sh : Shape) (i : Instr) → ((k : ℕ) → Pays p m sh i k → R (price c k) (price d k)) → R (own p m c sh i) (own p m d sh i)
     own_related m sh (Call target k first x) h = more (price c k) (price d k) (h k refl)
     own_related m sh (Trap target k first x) h = more (price c k) (price d k) (h k refl)
     own_related m sh (Push r) h = more (kind_price c (register sh r)) (kind_price d (register sh r)) (kind_related (register sh r) h)

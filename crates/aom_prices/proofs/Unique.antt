@@ -1,20 +1,20 @@
 -- Two tables that say the prices say the same: method by method each path costs the same by both.
-use Rattle.std.proofs.Common.{◌≡◌, ◌<◌, ◌+◌, ℕ, suc, length, refl, sym, arith, subst}
+use Rattle.std.proofs.Common.{◌≡◌, ◌<◌, ◌+◌, ◌∙◌, ℕ, suc, length, refl, sym, arith, subst}
 use Rattle.std.specs.Prelude.{IsSome}
 use Rattle.aom_image.specs.Image.{Image}
 use Rattle.aom_image.specs.Views.{method_at}
 use Rattle.aom_instructions.specs.declared.instr.Instr.{Instr}
-use Rattle.aom_classes.specs.Roles.{destructor_of}
+use Rattle.aom_classes.specs.Linked.{IsLinked}
 use Rattle.aom_shape.specs.Shape.{Shape}
 use Rattle.aom_rules.specs.Typing.{Typing}
 use Rattle.aom_prices.specs.Prices.{Prices, Stands, own, price}
-use Rattle.aom_prices.specs.Costs.{ArePrices, Costs, Region, Whole}
+use Rattle.aom_prices.specs.Costs.{ArePrices, Costs, Region, Whole, destructor_price}
 use Rattle.aom_prices.specs.Costs.Costs.{outside, ends, goes, loops, loops_in}
 use Rattle.aom_prices.specs.Laws.{PricesAreOne}
 use Rattle.aom_prices.specs.Layers.{PaysBefore}
-use Rattle.aom_prices.proofs.Methods.{destructor_within, method_is_some, method_there}
+use Rattle.aom_prices.proofs.Methods.{destructs_within, method_is_some, method_there}
 use Rattle.aom_prices.proofs.Moving.{own_same}
-use Rattle.aom_prices.proofs.Related.{destructor_related}
+use Rattle.aom_prices.proofs.Going.{going_same, found_of}
 use Rattle.aom_prices.proofs.Among.{each_below}
 
 -- a path costs the same by a table that says the same of each instruction
@@ -28,7 +28,7 @@ module _ (p : Image) (t : Typing) (c d : Prices) (m : ℕ) (same : (place : ℕ)
       loops inside at body (costs_same _ (suc place) b round) out_there (costs_same r out e rest)
   costs_same r place k (loops_in {to = to} {b = b} inside at body round) = loops_in inside at body (costs_same _ (suc place) b round)
 
-module _ (p : Image) (t : Typing) (c d : Prices) (layered : PaysBefore p t) (are : ArePrices p t c) (also : ArePrices p t d) where
+module _ (p : Image) (t : Typing) (c d : Prices) (linked : IsLinked p) (layered : PaysBefore p t) (are : ArePrices p t c) (also : ArePrices p t d) where
   method_same : (m : ℕ) → IsSome (method_at p m) → ((k : ℕ) → k < m → price d k ≡ price c k) → price d m ≡ price c m
   method_same m some before =
       let one = are.methods m some in
@@ -38,18 +38,15 @@ module _ (p : Image) (t : Typing) (c d : Prices) (layered : PaysBefore p t) (are
       omega (arith, up, down)
     where
       owned : (place : ℕ) (sh : Shape) (i : Instr) → Stands p t m place sh i → own p m d sh i ≡ own p m c sh i
-      owned place sh i at = own_same (λ n. n) p c d are.classes also.classes m sh i (λ k paid. before k (layered.each m place k sh i at paid))
+      owned place sh i at = own_same (λ n. n) p c d (found_of p linked c are.classes) (found_of p linked d also.classes) m sh i (λ k paid. before k (layered.each m place k sh i at paid))
 
   same_there : (k : ℕ) → k < length p.methods → price c k ≡ price d k
   same_there k lt = sym (each_below (λ j. price d j ≡ price c j) (length p.methods) (λ j less before. method_same j (method_is_some p j less) before) k lt)
 
 pub law_one : PricesAreOne
-law_one p t c d layered are also = record {
-  methods = λ m some. same_there p t c d layered are also m (method_there p m some);
-  classes = λ x. omega (
-    arith,
-    are.classes x,
-    also.classes x,
-    destructor_related (λ y z. y ≡ z) refl p c d (destructor_of p x) (λ k e. same_there p t c d layered are also k (destructor_within p x k e)),
-  );
+law_one p t c d linked layered are also = record {
+  methods = λ m some. same_there p t c d linked layered are also m (method_there p m some);
+  classes = λ x.
+      let same = going_same p (destructor_price c) (destructor_price d) refl x (λ k runs. same_there p t c d linked layered are also k (destructs_within p x k runs)) in
+      found_of p linked c are.classes x ∙ (same ∙ sym (found_of p linked d also.classes x));
 }

@@ -1,9 +1,11 @@
 -- The cases come out as their tables say; and of the worked method each path from each place costs no more than is said, and one just that.
 use Rattle.std.proofs.Common.{◌≡◌, ◌≤◌, ◌+◌, ◌*◌, ◌∙◌, ℕ, zero, suc, Some, None, inl, inr, ⊎_elim, refl, sym, arith, subst}
 use Rattle.std.specs.Prelude.{◌⊎◌}
-use Rattle.aom_image.specs.Views.{class_in, instr_at, instr_in, method_at}
+use Rattle.aom_image.specs.Views.{class_at, class_in, instr_at, instr_in, method_at}
 use Rattle.aom_instructions.specs.declared.instr.Instr.{Instr}
 use Rattle.aom_instructions.specs.declared.instr.Instr.TheVariants.{Jump, JumpEqual, Loop, Next, Print, Return}
+use Rattle.aom_image.specs.declared.method.Thing.TheVariants.{Object}
+use Rattle.aom_roles.specs.Classes.{kind_in}
 use Rattle.aom_classes.specs.Bodies.{Body}
 use Rattle.aom_classes.specs.Loops.{loop_in, next_in}
 use Rattle.aom_classes.specs.Roles.{plays, role_number, role_of}
@@ -11,7 +13,7 @@ use Rattle.aom_rules.specs.Rules.{flows}
 use Rattle.aom_prices.specs.Cases.{PricesBite, a_word, worked, worked_typing}
 use Rattle.aom_prices.specs.Costs.{AmongFlows, Costs, GoesOut, Inside, Region, Round, Whole}
 use Rattle.aom_prices.specs.Costs.Costs.{ends, goes, loops}
-use Rattle.aom_prices.specs.Prices.{Prices, Stands, own}
+use Rattle.aom_prices.specs.Prices.{Prices, Stands, own, price}
 use Rattle.aom_prices.proofs.Paths.{GoesOn, Rounds, ends_or_goes, outside_cost, rounds_of}
 use Rattle.aom_prices.proofs.Regions.{no_next_here}
 use Rattle.std.specs.Prelude.{◌==◌, cond}
@@ -238,7 +240,7 @@ module _ (c : Prices) where
   worked_path = loops tt at_0 outer outer_round outer_exit exit_path
 
 pub law_bites : PricesBite
-unfolding method_at class_in role_of plays role_number
+unfolding class_at kind_in method_at class_in role_of plays role_number
 law_bites = record {
   called = refl;
   destroyed = refl;
@@ -246,5 +248,9 @@ law_bites = record {
   cancelled = refl;
   none_cancelled = refl;
   destructors = refl;
+  served = λ t c are session server.
+      let one : c.destruction (Object 0) ≡ 1 + price c 0 + 0 = are.classes (Object 0) in
+      let all : c.destruction (Object 1) ≡ 1 + price c 1 + 3 * c.destruction (Object 0) = are.classes (Object 1) in
+      (omega (arith, one, session), omega (arith, all, one, session, server));
   worked = λ c. record { met = worked_path c; most = from_0 c };
 }

@@ -4,7 +4,7 @@ use Rattle.aom_image.specs.Image.{Image}
 use Rattle.aom_instructions.specs.declared.instr.Instr.{Instr}
 use Rattle.aom_instructions.specs.declared.instr.Instr.TheVariants.{Call, Cancel, Trap, Push, Delete, PushOperation, Pop, PopOperation, PopDelete, New, Print, Jump, JumpEqual, Loop, Next, Return, Leave, LeaveIf}
 use Rattle.aom_instructions.specs.declared.instr.Target.TheVariants.{This}
-use Rattle.aom_image.specs.declared.class.ClassKind.TheVariants.{Active, Plain}
+use Rattle.aom_image.specs.declared.class.ClassKind.TheVariants.{Active, Plain, Server, Session}
 use Rattle.aom_image.specs.declared.class.Provider.TheVariants as providers
 use Rattle.aom_image.specs.declared.method.Argument.TheVariants as arguments
 use Rattle.aom_image.specs.declared.method.Gives.TheVariants as gives
@@ -19,8 +19,8 @@ use Rattle.aom_shape.specs.declared.kind.Filling.TheVariants.{Perhaps}
 use Rattle.aom_shape.specs.declared.kind.Age.TheVariants.{Fresh, Ready}
 use Rattle.aom_shape.specs.declared.kind.Delivery.TheVariants.{Here}
 use Rattle.aom_shape.specs.declared.kind.Kind.TheVariants.{Word, Null, Own, Maybe}
-use Rattle.aom_prices.specs.Prices.{Prices, own}
-use Rattle.aom_prices.specs.Costs.{IsPrice, destructor_price}
+use Rattle.aom_prices.specs.Prices.{Prices, own, price}
+use Rattle.aom_prices.specs.Costs.{ArePrices, IsPrice, destructor_price}
 
 -- ---- instructions
 
@@ -98,6 +98,14 @@ cancelling = record {
   methods = plain_method roles.Do 0 ∷ plain_method roles.Cancel 1 ∷ plain_method roles.Do 1 ∷ [];
 }
 
+-- class 1 is of servers, with up to 3 sessions of class 0; their destructors are the methods 1 and 0
+abbrev pub serving : Image
+serving = record {
+  header = record { cells = 4; messages = 0; natives = 0; root = None; budget = 100 };
+  classes = record { kind = Session; words = 0; fields = [] } ∷ record { kind = Server 3 0 10; words = 0; fields = [] } ∷ [];
+  methods = plain_method roles.Destruct 0 ∷ plain_method roles.Destruct 1 ∷ [];
+}
+
 -- the image says nothing of these instructions
 abbrev pub own_prices : List Instr → List ℕ
 own_prices is = map (own worked 0 tens four_registers) is
@@ -111,5 +119,7 @@ pub record PricesBite : Type 0 where
   pub cancelled : own cancelling 2 tens four_registers Cancel ≡ 11
   pub none_cancelled : own cancelling 0 tens four_registers Cancel ≡ 1
   pub destructors : map (destructor_price tens) (None ∷ Some 3 ∷ []) ≡ 0 ∷ 30 ∷ []
+  -- a session costs 1 and its destructor, and a server 1, its destructor, and three sessions
+  pub served : (t : Typing) (c : Prices) → ArePrices serving t c → price c 0 ≡ 4 → price c 1 ≡ 20 → (c.destruction (Object 0) ≡ 5) × (c.destruction (Object 1) ≡ 36)
   -- a round of the inner loop costs 3, one of the outer 1 + 5 * 3 + 1, and after both comes the dearer exit, which costs 3
   pub worked : (c : Prices) → IsPrice worked worked_typing c 0 55

@@ -5,6 +5,7 @@ use Rattle.aom_image.specs.Views.{method_at}
 use Rattle.aom_instructions.specs.declared.instr.Instr.{Instr}
 use Rattle.aom_instructions.specs.declared.instr.Instr.TheVariants.{Loop}
 use Rattle.aom_image.specs.declared.method.Thing.{Thing}
+use Rattle.aom_image.specs.declared.method.Thing.TheVariants.{Object}
 use Rattle.aom_classes.specs.Bodies.{Body, IsIn}
 use Rattle.aom_classes.specs.Loops.{loop_in, next_in}
 use Rattle.aom_classes.specs.Roles.{destructor_of}
@@ -12,7 +13,7 @@ use Rattle.aom_shape.specs.Needs.{Flow}
 use Rattle.aom_rules.specs.Rules.{flows}
 use Rattle.aom_shape.specs.Shape.{Shape}
 use Rattle.aom_rules.specs.Typing.{Typing}
-use Rattle.aom_prices.specs.Prices.{Prices, Stands, own, price}
+use Rattle.aom_prices.specs.Prices.{Prices, Stands, own, price, sessions_cost}
 
 -- where a path stays: in the whole method, or in a loop's body
 pub data Region : Type 0 where
@@ -67,4 +68,5 @@ destructor_price c (Some m) = price c m
 -- the table says the price of each method and of each destruction
 pub record ArePrices (p : Image) (t : Typing) (c : Prices) : Type 0 where
   pub methods : (m : ℕ) → IsSome (method_at p m) → IsPrice p t c m (price c m)
-  pub classes : (x : Thing) → c.destruction x ≡ 1 + destructor_price c (destructor_of p x)
+  -- a thing's going, its destructor, and the destruction of each session that a server may have
+  pub classes : (x : Thing) → c.destruction x ≡ 1 + destructor_price c (destructor_of p x) + sessions_cost p (λ k. c.destruction (Object k)) x

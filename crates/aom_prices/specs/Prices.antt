@@ -4,8 +4,12 @@ use Rattle.aom_image.specs.Image.{Image}
 use Rattle.aom_image.specs.Views.{instr_at, method_class}
 use Rattle.aom_instructions.specs.declared.instr.Instr.{Instr}
 use Rattle.aom_instructions.specs.declared.instr.Instr.TheVariants.{Call, Cancel, Trap, Push, PushOperation, Delete, Loop, Next}
+use Rattle.aom_image.specs.declared.class.ClassKind.{ClassKind}
+use Rattle.aom_image.specs.declared.class.ClassKind.TheVariants.{Server}
 use Rattle.aom_image.specs.declared.method.Role.TheVariants as roles
 use Rattle.aom_image.specs.declared.method.Thing.{Thing}
+use Rattle.aom_image.specs.declared.method.Thing.TheVariants.{Object, Message}
+use Rattle.aom_roles.specs.Classes.{kind_at}
 use Rattle.aom_classes.specs.Loops.{loop_in, next_in}
 use Rattle.aom_classes.specs.Roles.{destructor_of, role_of}
 use Rattle.aom_shape.specs.Things.{stands_for}
@@ -46,6 +50,20 @@ abbrev pub perhaps_price : Prices → Option ℕ → ℕ
 perhaps_price c None = 0
 perhaps_price c (Some m) = price c m
 
+-- the most sessions of a server, where one of each class costs so much; objects of other classes have none
+abbrev pub kind_sessions : (ℕ → ℕ) → ClassKind → ℕ
+kind_sessions cost (Server most session budget) = most * cost session
+kind_sessions cost _ = 0
+
+abbrev pub perhaps_sessions : (ℕ → ℕ) → Option ClassKind → ℕ
+perhaps_sessions cost None = 0
+perhaps_sessions cost (Some kind) = kind_sessions cost kind
+
+-- those of a thing
+abbrev pub sessions_cost : Image → (ℕ → ℕ) → Thing → ℕ
+sessions_cost p cost (Object k) = perhaps_sessions cost (kind_at p k)
+sessions_cost p cost Message = 0
+
 -- what an instruction of a method costs itself; what is pushed is paid for then, and costs nothing where it leaves the cleanup stack
 abbrev pub own : Image → (m : ℕ) → Prices → Shape → Instr → ℕ
 own p m c sh (Call target k first x) = 1 + price c k
@@ -78,4 +96,6 @@ pub record IsPriced (p : Image) (t : Typing) (c : Prices) : Type 0 where
   -- a cell pays for its going, and for its destructor
   pub cells : (x : Thing) → 1 ≤ c.destruction x
   pub destructors : (x : Thing) (m : ℕ) → destructor_of p x ≡ Some m → 1 + price c m ≤ c.destruction x
+  -- and a server for each session that it may have
+  pub sessions : (x : Thing) → 1 + perhaps_price c (destructor_of p x) + sessions_cost p (λ k. c.destruction (Object k)) x ≤ c.destruction x
   pub stands_in : (x y : Thing) → stands_for p x y ≡ true → c.destruction x ≤ c.destruction y

@@ -1,9 +1,10 @@
 -- What one pass from a method's last place to its first finds.
-use Rattle.std.specs.Prelude.{ℕ, suc, ◌+◌, ◌-◌, ◌*◌, ◌≡◌, ◌≤◌, ◌⊎◌, max, min, Bool, false, nat_lt, cond, List, [], ◌∷◌, Some, None, IsSome}
+use Rattle.std.specs.Prelude.{ℕ, suc, ◌+◌, ◌-◌, ◌*◌, ◌≡◌, ◌≤◌, ◌⊎◌, max, min, Bool, false, nat_lt, cond, List, [], ◌∷◌, Option, Some, None, IsSome}
 use Rattle.aom_image.specs.Image.{Image}
 use Rattle.aom_instructions.specs.declared.instr.Instr.{Instr}
 use Rattle.aom_instructions.specs.declared.instr.Instr.TheVariants.{Loop, Next}
 use Rattle.aom_image.specs.declared.method.Thing.{Thing}
+use Rattle.aom_image.specs.declared.method.Thing.TheVariants.{Object}
 use Rattle.aom_classes.specs.Bodies.{Body, IsIn}
 use Rattle.aom_classes.specs.Loops.{loop_in, next_in}
 use Rattle.aom_classes.specs.Roles.{destructor_of}
@@ -11,7 +12,7 @@ use Rattle.aom_shape.specs.Needs.{Flow}
 use Rattle.aom_rules.specs.Rules.{flows}
 use Rattle.aom_shape.specs.Shape.{Shape}
 use Rattle.aom_rules.specs.Typing.{Typing, shape_at}
-use Rattle.aom_prices.specs.Prices.{Prices, Stands, own}
+use Rattle.aom_prices.specs.Prices.{Prices, Stands, own, sessions_cost}
 use Rattle.aom_prices.specs.Costs.{Region, Whole, Round, Inside, GoesOut, destructor_price}
 
 -- ---- the innermost loop round a place
@@ -70,10 +71,20 @@ pub record IsSweptFrom (keep : ℕ → ℕ) (p : Image) (t : Typing) (c : Prices
   pub rounds : (from to d n : ℕ) → down ≤ from → Body p m from to d n → IsSome (shape_at t m (suc from)) → c.from m (suc from) ≡ c.round m from + a m from
   pub afters : (from to d n : ℕ) (r : Region) → down ≤ to → Body p m from to d n → IsInnermost p m from r → IsAfter p t c a m from to r
 
+-- ---- destructions
+
+-- what the going of a thing costs and its destructor, by what methods cost
+abbrev pub going : Image → (Option ℕ → ℕ) → Thing → ℕ
+going p cost x = 1 + cost (destructor_of p x)
+
+-- and the going of its sessions, which have none themselves
+abbrev pub all_going : Image → (Option ℕ → ℕ) → Thing → ℕ
+all_going p cost x = going p cost x + sessions_cost p (λ k. going p cost (Object k)) x
+
 -- of all methods and classes
 pub record IsSweptBy (keep : ℕ → ℕ) (p : Image) (t : Typing) (c : Prices) (a : Afters) : Type 0 where
   pub methods : (m : ℕ) → IsSweptFrom keep p t c a m 0
-  pub classes : (x : Thing) → c.destruction x ≡ keep (1 + destructor_price c (destructor_of p x))
+  pub classes : (x : Thing) → c.destruction x ≡ keep (all_going p (destructor_price c) x)
 
 abbrev pub IsSwept : Image → Typing → Prices → Afters → Type 0
 IsSwept p t c a = IsSweptBy (λ n. n) p t c a

@@ -12,7 +12,8 @@ use Rattle.aom_image.specs.declared.method.Method.{Method}
 use Rattle.aom_image.specs.declared.method.Role.{Role}
 use Rattle.aom_image.specs.declared.method.Role.TheVariants.{Destruct, Main}
 use Rattle.aom_image.specs.declared.method.Thing.{Thing}
-use Rattle.aom_image.specs.declared.method.Thing.TheVariants.{Object}
+use Rattle.aom_image.specs.declared.method.Thing.TheVariants.{Object, Message}
+use Rattle.aom_roles.specs.Classes.{kind_in}
 use Rattle.aom_roles.specs.Roles.{role_number}
 use Rattle.aom_classes.specs.Loops.{loop_in, next_in}
 use Rattle.aom_classes.specs.Roles.{destructor_of, main_of, plays, role_of}
@@ -34,7 +35,7 @@ use Rattle.aom_sound.specs.State.{Goes, IsStuck, Outcome}
 use Rattle.aom_sound.specs.World.{boot_state}
 use Rattle.aom_transcript.specs.declared.line.Ending.{Ending}
 use Rattle.aom_transcript.specs.declared.line.Ending.TheVariants.{Stopped}
-use Rattle.aom_prices.specs.Prices.{AllPaid, Prices, Stands, own, price}
+use Rattle.aom_prices.specs.Prices.{AllPaid, Prices, Stands, own, perhaps_price, price, sessions_cost}
 use Rattle.aom_prices.specs.Dispatches.{IsAffordable, main_price}
 use Rattle.aom_classes.proofs.Playing.{destroyed}
 
@@ -148,6 +149,20 @@ destructors_pay x m e = let there = destroyed image x m e in of_method m there.0
         absurd (cc)
     of_method (suc (suc m)) class w = let e : None ≡ Some w.0 = w.1 in cc
 
+-- and no class has sessions
+no_sessions : (x : Thing) → sessions_cost image (λ k. table.destruction (Object k)) x ≡ 0
+unfolding class_at kind_in
+no_sessions (Object zero) = refl
+no_sessions (Object (suc k)) = refl
+no_sessions Message = refl
+
+sessions_pay : (x : Thing) → 1 + perhaps_price table (destructor_of image x) + sessions_cost image (λ k. table.destruction (Object k)) x ≤ 2
+sessions_pay x = omega (arith, go (destructor_of image x) refl, no_sessions x)
+  where
+    go : (o : Option ℕ) → destructor_of image x ≡ o → perhaps_price table o ≤ 1
+    go None e = omega arith
+    go (Some m) e = omega (arith, destructors_pay x m e)
+
 main_costs_18 : main_price image table ≡ 18
 unfolding main_of role_number
 main_costs_18 = refl
@@ -162,6 +177,7 @@ affordable = record {
     rounds = λ m place d x sh it. rounds_pay m place sh (Next d (suc x)) it d x refl;
     cells = λ x. omega arith;
     destructors = destructors_pay;
+    sessions = sessions_pay;
     stands_in = λ x y e. omega arith;
   };
   declared = omega (arith, main_costs_18);
