@@ -7,7 +7,8 @@ import threading
 from house import House
 from keeping import Keeping
 
-TOLD = re.compile(r"rt: (\w+) (proved|NOT PROVED)\b(.*)")
+# of a crate that rt ci has proved here before, and takes as it was built then, it says that it is kept
+TOLD = re.compile(r"rt: (\w+) (proved|is kept|NOT PROVED)\b(.*)")
 
 
 class Following:
@@ -33,7 +34,7 @@ class Following:
         told = TOLD.fullmatch(line)
         if not told:
             return
-        if told[2] == "proved":
+        if told[2] != "NOT PROVED":
             self.proved.add(told[1])
             self.tell_proved(told[1])
             self.hand_on()

@@ -1,213 +1,237 @@
-//! Turns of three objects. A call that the objects are not fit for is left out, so that a wrong turn shows in what is asserted.
-ghost use Rattle.std.specs.Prelude.{◌≡◌, ◌<◌};
+//! Turns of three objects: what is done with them, and what is then told of them. A call that an object is not fit for is
+//! left out, so that a wrong turn shows in what is told.
+ghost use Rattle.std.specs.Prelude.{◌≡◌, ◌≤◌};
 
 use aom_active::ActiveObjects;
 use aom_cells::CellId;
 use aom_requests::{PENDING, State};
+use std::alloc::Global;
+use std::process::Abort;
 use std::test::Fail;
 
-fn enlist(objects: &mut ActiveObjects, number: u32, priority: i32)
-    requires { number < objects.old.table.limit }
+/// What is done with the object of a number.
+#[derive(Clone, Copy)]
+enum Act {
+    /// With its priority.
+    Enlist(i32),
+    Remove,
+    /// With the code of a request of its own.
+    Issue(i32),
+    /// With the time that its timer is due at.
+    SetTimer(u64),
+    Wait,
+    BeginCancel,
+    Abort,
+    EndCancel,
+}
+
+/// Something is done with an object, or asked of one or of all.
+#[derive(Clone, Copy)]
+enum Turn {
+    Does(u32, Act),
+    /// Which object is picked.
+    Picks(Option<u32>),
+    /// Which object's timer is due by a time.
+    Due(u64, Option<u32>),
+    /// When the next timer is due.
+    NextDue(Option<u64>),
+    /// What is told of an object.
+    Is(u32, Option<State>, i32),
+}
+
+/// Does something with an object, if it is fit for it.
+fn carry_out(objects: &mut ActiveObjects, limit: u32, number: u32, act: Act)
+    requires { objects.old.table.limit ≡ limit }
+    ensures { objects.new.table.limit ≡ limit }
+{
+    if number >= limit || number >= 4096 {
+        return;
+    }
+    let id = CellId::new(number);
+    match (act, objects.state(id)) {
+        (Act::Enlist(priority), None) => {
+            if !objects.is_enlisted(id) {
+                objects.enlist(id, priority);
+            }
+        }
+        (Act::Remove, Some(_)) => objects.remove(id),
+        (Act::Issue(code), Some(State::Idle)) => objects.issue_own(id, code),
+        (Act::SetTimer(due), Some(State::Idle)) => objects.issue_timer(id, due),
+        (Act::Wait, Some(State::Issued)) => objects.set_active(id),
+        (Act::BeginCancel, Some(State::Active)) => objects.cancelling(id),
+        (Act::Abort, Some(State::Cancelling)) => objects.abort(id),
+        (Act::EndCancel, Some(State::Aborted)) => objects.cancelled(id),
+        _ => {}
+    }
+}
+
+fn picked(objects: &mut ActiveObjects) -> Option<u32>
     ensures { objects.new.table.limit ≡ objects.old.table.limit }
 {
-    if number < 4096 {
-        let id = CellId::new(number);
-        if !objects.is_enlisted(id) {
-            objects.enlist(id, priority);
-        }
+    match objects.pick() {
+        Some(id) => Some(id.number()),
+        None => None,
     }
 }
 
-fn remove(objects: &mut ActiveObjects, number: u32)
+fn due(objects: &mut ActiveObjects, now: u64) -> Option<u32>
     ensures { objects.new.table.limit ≡ objects.old.table.limit }
 {
-    if number < 4096 {
-        let id = CellId::new(number);
-        if objects.is_enlisted(id) {
-            objects.remove(id);
-        }
+    match objects.due(now) {
+        Some(id) => Some(id.number()),
+        None => None,
     }
 }
 
-fn issue(objects: &mut ActiveObjects, number: u32, code: i32) {
-    if number < 4096 {
-        let id = CellId::new(number);
-        if objects.state(id) == Some(State::Idle) {
-            objects.issue_own(id, code);
-        }
+/// An object has that state, and that status if it is enlisted; its state says too whether it waits, and whether it is busy.
+fn is_told(
+    rt: &impl Abort,
+    objects: &ActiveObjects,
+    number: u32,
+    state: Option<State>,
+    status: i32,
+) {
+    assert!(rt; number < 4096);
+    let id = CellId::new(number);
+    assert_eq!(rt; objects.state(id), state);
+    assert_eq!(rt; objects.is_active(id), state == Some(State::Active));
+    let is_cancelled = state == Some(State::Cancelling) || state == Some(State::Aborted);
+    assert_eq!(rt;
+        objects.is_busy(id),
+        state == Some(State::Active) || is_cancelled
+    );
+    if objects.is_enlisted(id) {
+        assert_eq!(rt; objects.status(id), status, "object {number}");
     }
 }
 
-fn set_timer(objects: &mut ActiveObjects, number: u32, due: u64) {
-    if number < 4096 {
-        let id = CellId::new(number);
-        if objects.state(id) == Some(State::Idle) {
-            objects.issue_timer(id, due);
-        }
+/// One turn, with what is told of it.
+fn take_turn(rt: &impl Abort, objects: &mut ActiveObjects, limit: u32, turn: Turn)
+    requires { objects.old.table.limit ≡ limit }
+    ensures { objects.new.table.limit ≡ limit }
+{
+    match turn {
+        Turn::Does(number, it) => carry_out(objects, limit, number, it),
+        Turn::Picks(number) => assert_eq!(rt; picked(objects), number),
+        Turn::Due(now, number) => assert_eq!(rt; due(objects, now), number),
+        Turn::NextDue(due) => assert_eq!(rt; objects.next_due(), due),
+        Turn::Is(number, state, status) => is_told(rt, objects, number, state, status),
     }
 }
 
-fn wait(objects: &mut ActiveObjects, number: u32) {
-    if number < 4096 {
-        let id = CellId::new(number);
-        if objects.state(id) == Some(State::Issued) {
-            objects.set_active(id);
-        }
+/// The turns of so many objects, one after another.
+fn take_turns(rt: &impl Abort, alloc: Global, limit: u32, turns: &[Turn]) -> Result<(), Fail>
+    requires { limit ≤ 4096 }
+{
+    let mut objects = ActiveObjects::with_limit(alloc, limit as usize)?;
+    for it in turns {
+        take_turn(rt, &mut objects, limit, *it);
     }
-}
-
-fn begin_cancel(objects: &mut ActiveObjects, number: u32) {
-    if number < 4096 {
-        let id = CellId::new(number);
-        if objects.state(id) == Some(State::Active) {
-            objects.cancelling(id);
-        }
-    }
-}
-
-fn abort(objects: &mut ActiveObjects, number: u32) {
-    if number < 4096 {
-        let id = CellId::new(number);
-        if objects.state(id) == Some(State::Cancelling) {
-            objects.abort(id);
-        }
-    }
-}
-
-fn end_cancel(objects: &mut ActiveObjects, number: u32) {
-    if number < 4096 {
-        let id = CellId::new(number);
-        if objects.state(id) == Some(State::Aborted) {
-            objects.cancelled(id);
-        }
-    }
-}
-
-fn state(objects: &ActiveObjects, number: u32) -> Option<State> {
-    if number < 4096 {
-        objects.state(CellId::new(number))
-    } else {
-        None
-    }
-}
-
-fn status(objects: &ActiveObjects, number: u32) -> Option<i32> {
-    if number < 4096 {
-        let id = CellId::new(number);
-        if objects.is_enlisted(id) {
-            return Some(objects.status(id));
-        }
-    }
-    None
-}
-
-fn picked(objects: &mut ActiveObjects) -> Option<u32> {
-    objects.pick().map(|id| id.number())
-}
-
-fn due(objects: &mut ActiveObjects, now: u64) -> Option<u32> {
-    objects.due(now).map(|id| id.number())
+    Ok(())
 }
 
 #[test]
 fn the_highest_is_picked_and_then_the_first(rt: HostRuntime) -> Result<(), Fail> {
-    let mut objects = ActiveObjects::with_limit(rt.alloc(), 8)?;
-    enlist(&mut objects, 5, 0);
-    enlist(&mut objects, 2, 0);
-    enlist(&mut objects, 7, 20);
-    for number in [2, 7, 5] {
-        assert_eq!(rt; state(&objects, number), Some(State::Idle));
-        assert_eq!(rt; status(&objects, number), Some(0));
-        issue(&mut objects, number, 40 + number as i32);
-        assert_eq!(rt; picked(&mut objects), None);
-    }
-    for number in [2, 5, 7] {
-        wait(&mut objects, number);
-        assert!(rt; objects.is_active(CellId::new(2)));
-    }
-    for number in [7, 5, 2] {
-        assert_eq!(rt; picked(&mut objects), Some(number));
-        assert_eq!(rt; state(&objects, number), Some(State::Idle));
-        assert_eq!(rt; status(&objects, number), Some(40 + number as i32));
-    }
-    assert_eq!(rt; picked(&mut objects), None);
-    assert!(rt; !objects.is_busy(CellId::new(2)));
-    Ok(())
+    let turns = [
+        Turn::Does(5, Act::Enlist(0)),
+        Turn::Does(2, Act::Enlist(0)),
+        Turn::Does(7, Act::Enlist(20)),
+        Turn::Is(2, Some(State::Idle), 0),
+        Turn::Does(2, Act::Issue(42)),
+        Turn::Picks(None),
+        Turn::Is(7, Some(State::Idle), 0),
+        Turn::Does(7, Act::Issue(47)),
+        Turn::Picks(None),
+        Turn::Is(5, Some(State::Idle), 0),
+        Turn::Does(5, Act::Issue(45)),
+        Turn::Picks(None),
+        Turn::Does(2, Act::Wait),
+        Turn::Does(5, Act::Wait),
+        Turn::Does(7, Act::Wait),
+        Turn::Is(2, Some(State::Active), 42),
+        Turn::Picks(Some(7)),
+        Turn::Is(7, Some(State::Idle), 47),
+        Turn::Picks(Some(5)),
+        Turn::Is(5, Some(State::Idle), 45),
+        Turn::Picks(Some(2)),
+        Turn::Is(2, Some(State::Idle), 42),
+        Turn::Picks(None),
+    ];
+    take_turns(&rt, rt.alloc(), 8, &turns)
 }
 
 #[test]
 fn timers_are_due_in_order(rt: HostRuntime) -> Result<(), Fail> {
-    let mut objects = ActiveObjects::with_limit(rt.alloc(), 3)?;
-    enlist(&mut objects, 0, 0);
-    enlist(&mut objects, 1, 0);
-    enlist(&mut objects, 2, 0);
-    assert_eq!(rt; objects.next_due(), None);
-    set_timer(&mut objects, 0, 30);
-    set_timer(&mut objects, 1, 10);
-    set_timer(&mut objects, 2, 30);
-    assert_eq!(rt; objects.next_due(), Some(10));
-    assert_eq!(rt; due(&mut objects, 9), None);
-    wait(&mut objects, 2);
-    wait(&mut objects, 1);
-    assert_eq!(rt; status(&objects, 1), Some(PENDING));
-    assert_eq!(rt; due(&mut objects, 40), Some(1));
-    assert_eq!(rt; status(&objects, 1), Some(0));
-    assert_eq!(rt; due(&mut objects, 40), Some(0));
-    assert_eq!(rt; due(&mut objects, 40), Some(2));
-    assert_eq!(rt; due(&mut objects, 40), None);
-    assert_eq!(rt; picked(&mut objects), Some(1));
-    assert_eq!(rt; picked(&mut objects), Some(2));
-    assert_eq!(rt; picked(&mut objects), None);
-    wait(&mut objects, 0);
-    assert_eq!(rt; picked(&mut objects), Some(0));
-    Ok(())
+    let turns = [
+        Turn::Does(0, Act::Enlist(0)),
+        Turn::Does(1, Act::Enlist(0)),
+        Turn::Does(2, Act::Enlist(0)),
+        Turn::NextDue(None),
+        Turn::Does(0, Act::SetTimer(30)),
+        Turn::Does(1, Act::SetTimer(10)),
+        Turn::Does(2, Act::SetTimer(30)),
+        Turn::NextDue(Some(10)),
+        Turn::Due(9, None),
+        Turn::Does(2, Act::Wait),
+        Turn::Does(1, Act::Wait),
+        Turn::Is(1, Some(State::Active), PENDING),
+        Turn::Due(40, Some(1)),
+        Turn::Is(1, Some(State::Active), 0),
+        Turn::Due(40, Some(0)),
+        Turn::Due(40, Some(2)),
+        Turn::Due(40, None),
+        Turn::Picks(Some(1)),
+        Turn::Picks(Some(2)),
+        Turn::Picks(None),
+        Turn::Does(0, Act::Wait),
+        Turn::Picks(Some(0)),
+    ];
+    take_turns(&rt, rt.alloc(), 3, &turns)
 }
 
 #[test]
 fn an_abort_ends_the_timer_and_a_cancel_takes_the_signal(rt: HostRuntime) -> Result<(), Fail> {
-    let mut objects = ActiveObjects::with_limit(rt.alloc(), 4)?;
-    enlist(&mut objects, 3, 0);
-    enlist(&mut objects, 1, 0);
-    for number in [3, 1] {
-        set_timer(&mut objects, number, 50);
-        wait(&mut objects, number);
-    }
-    begin_cancel(&mut objects, 3);
-    assert_eq!(rt; state(&objects, 3), Some(State::Cancelling));
-    assert!(rt; objects.is_busy(CellId::new(3)));
-    assert!(rt; !objects.is_active(CellId::new(3)));
-    abort(&mut objects, 3);
-    assert_eq!(rt; state(&objects, 3), Some(State::Aborted));
-    assert_eq!(rt; status(&objects, 3), Some(-3));
-    assert_eq!(rt; picked(&mut objects), None);
-    end_cancel(&mut objects, 3);
-    assert_eq!(rt; state(&objects, 3), Some(State::Idle));
-    assert_eq!(rt; due(&mut objects, 50), Some(1));
-    begin_cancel(&mut objects, 1);
-    abort(&mut objects, 1);
-    assert_eq!(rt; status(&objects, 1), Some(0));
-    end_cancel(&mut objects, 1);
-    assert_eq!(rt; picked(&mut objects), None);
-    assert_eq!(rt; objects.next_due(), None);
-    Ok(())
+    let turns = [
+        Turn::Does(3, Act::Enlist(0)),
+        Turn::Does(1, Act::Enlist(0)),
+        Turn::Does(3, Act::SetTimer(50)),
+        Turn::Does(3, Act::Wait),
+        Turn::Does(1, Act::SetTimer(50)),
+        Turn::Does(1, Act::Wait),
+        Turn::Does(3, Act::BeginCancel),
+        Turn::Is(3, Some(State::Cancelling), PENDING),
+        Turn::Does(3, Act::Abort),
+        Turn::Is(3, Some(State::Aborted), -3),
+        Turn::Picks(None),
+        Turn::Does(3, Act::EndCancel),
+        Turn::Is(3, Some(State::Idle), -3),
+        Turn::Due(50, Some(1)),
+        Turn::Does(1, Act::BeginCancel),
+        Turn::Does(1, Act::Abort),
+        Turn::Is(1, Some(State::Aborted), 0),
+        Turn::Does(1, Act::EndCancel),
+        Turn::Picks(None),
+        Turn::NextDue(None),
+    ];
+    take_turns(&rt, rt.alloc(), 4, &turns)
 }
 
 #[test]
 fn an_object_that_is_removed_is_neither_due_nor_picked(rt: HostRuntime) -> Result<(), Fail> {
-    let mut objects = ActiveObjects::with_limit(rt.alloc(), 2)?;
-    enlist(&mut objects, 0, 0);
-    enlist(&mut objects, 1, 0);
-    remove(&mut objects, 1);
-    enlist(&mut objects, 1, 3);
-    set_timer(&mut objects, 0, 5);
-    issue(&mut objects, 1, -7);
-    wait(&mut objects, 1);
-    remove(&mut objects, 0);
-    assert_eq!(rt; state(&objects, 0), None);
-    assert_eq!(rt; objects.next_due(), None);
-    remove(&mut objects, 1);
-    assert_eq!(rt; picked(&mut objects), None);
-    assert_eq!(rt; status(&objects, 1), None);
-    assert!(rt; !objects.is_enlisted(CellId::new(0)));
-    Ok(())
+    let turns = [
+        Turn::Does(0, Act::Enlist(0)),
+        Turn::Does(1, Act::Enlist(0)),
+        Turn::Does(1, Act::Remove),
+        Turn::Does(1, Act::Enlist(3)),
+        Turn::Does(0, Act::SetTimer(5)),
+        Turn::Does(1, Act::Issue(-7)),
+        Turn::Does(1, Act::Wait),
+        Turn::Does(0, Act::Remove),
+        Turn::Is(0, None, 0),
+        Turn::NextDue(None),
+        Turn::Does(1, Act::Remove),
+        Turn::Picks(None),
+        Turn::Is(1, None, 0),
+    ];
+    take_turns(&rt, rt.alloc(), 2, &turns)
 }

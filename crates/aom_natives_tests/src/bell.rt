@@ -1,8 +1,8 @@
 //! The native that docs/natives.md writes.
 ghost use Rattle.std.specs.Prelude.{pos, negsuc, ◌≡◌, ◌⊎◌, [], option_to_list};
 
-use crate::asks::{event, poll, start};
-use aom_natives::{Native, Natives};
+use crate::asks::{Ask, ask_alone};
+use aom_natives::Native;
 use std::test::Fail;
 
 /// Answers one request at a time with the word of the latest event.
@@ -71,17 +71,12 @@ impl Native for Bell {
 
 #[test]
 fn a_bell_rings_once_it_was_pressed(rt: HostRuntime) -> Result<(), Fail> {
-    let alloc = rt.alloc();
-    let mut boxes: Vec<Box<dyn Native>> = Vec::with_capacity(alloc, 1)?;
-    boxes.push(Box::new(alloc, Bell::new())?)?;
-    let mut natives = match Natives::adopt(alloc, boxes) {
-        Ok(natives) => natives,
-        Err((error, _boxes)) => return Err(Fail::from(error)),
-    };
-    assert_eq!(rt; start(&rt, &mut natives, 0, 5, 0, 0), 0);
-    assert_eq!(rt; start(&rt, &mut natives, 0, 6, 0, 0), -16);
-    assert_eq!(rt; poll(&rt, &mut natives, 0), None);
-    event(&rt, &mut natives, 0, 3);
-    assert_eq!(rt; poll(&rt, &mut natives, 0), Some((5, 3)));
-    Ok(())
+    let asks = [
+        Ask::Start(5, 0, 0, 0),
+        Ask::Start(6, 0, 0, -16),
+        Ask::Poll(None),
+        Ask::Event(3),
+        Ask::Poll(Some((5, 3))),
+    ];
+    ask_alone(&rt, rt.alloc(), Box::new(rt.alloc(), Bell::new())?, &asks)
 }

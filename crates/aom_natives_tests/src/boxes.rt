@@ -1,8 +1,11 @@
 //! Boxes that come and go, and what they are asked.
-use crate::asks::{call, cancel, close, event, kill, open, poll, start};
+ghost use Rattle.aom_natives.specs.Slots.{AllAgree};
+
+use crate::asks::{Ask, adopt_two, ask_alone, ask_each};
 use crate::probe::Probe;
 use aom_natives::{Counter, Line, Native, Natives};
 use std::cell::Cell;
+use std::process::Abort;
 use std::rc::Rc;
 use std::test::Fail;
 
@@ -10,57 +13,60 @@ use std::test::Fail;
 fn each_call_asks_its_box_once(rt: HostRuntime) -> Result<(), Fail> {
     let alloc = rt.alloc();
     let drops = Rc::new(alloc, Cell::new(0))?;
-    let mut boxes: Vec<Box<dyn Native>> = Vec::with_capacity(alloc, 2)?;
-    boxes.push(Box::new(alloc, Counter::new())?)?;
-    boxes.push(Box::new(
+    let mut natives = adopt_two(
         alloc,
-        Probe::new(Vec::with_capacity(alloc, 8)?, drops.clone()?),
-    )?)?;
-    let mut natives = match Natives::adopt(alloc, boxes) {
-        Ok(natives) => natives,
-        Err((error, _boxes)) => return Err(Fail::from(error)),
-    };
+        Box::new(alloc, Counter::new())?,
+        Probe::boxed(alloc, &drops)?,
+    )?;
+    let asks = [
+        Ask::Open(0, -1),
+        Ask::Open(4, 1),
+        Ask::Event(50),
+        Ask::Call(4, 1, 0, 50),
+        Ask::Call(4, 0, 0, 5),
+        Ask::Start(4, 0, 0, 0),
+        Ask::Poll(Some((4, 50))),
+        Ask::Call(4, 0, 0, 8),
+        Ask::Close(4),
+    ];
+    ask_each(&rt, &mut natives, 1, &asks);
+    ask_each(&rt, &mut natives, 0, &[Ask::Event(1)]);
+    ask_each(&rt, &mut natives, 1, &[Ask::Call(4, 0, 0, 10)]);
     assert_eq!(rt; natives.count(), 2);
-    assert_eq!(rt; open(&rt, &mut natives, 1, 0), -1);
-    assert_eq!(rt; open(&rt, &mut natives, 1, 4), 1);
-    event(&rt, &mut natives, 1, 50);
-    assert_eq!(rt; call(&rt, &mut natives, 1, 4, 1, 0), 50);
-    assert_eq!(rt; call(&rt, &mut natives, 1, 4, 0, 0), 5);
-    assert_eq!(rt; start(&rt, &mut natives, 1, 4, 0, 0), 0);
-    assert_eq!(rt; poll(&rt, &mut natives, 1), Some((4, 50)));
-    assert_eq!(rt; call(&rt, &mut natives, 1, 4, 0, 0), 8);
-    close(&rt, &mut natives, 1, 4);
-    event(&rt, &mut natives, 0, 1);
-    assert_eq!(rt; call(&rt, &mut natives, 1, 4, 0, 0), 10);
     Ok(())
 }
 
 #[test]
 fn every_second_start_is_refused(rt: HostRuntime) -> Result<(), Fail> {
-    let alloc = rt.alloc();
-    let drops = Rc::new(alloc, Cell::new(0))?;
-    let mut boxes: Vec<Box<dyn Native>> = Vec::with_capacity(alloc, 1)?;
-    boxes.push(Box::new(
-        alloc,
-        Probe::new(Vec::with_capacity(alloc, 8)?, drops.clone()?),
-    )?)?;
-    let mut natives = match Natives::adopt(alloc, boxes) {
-        Ok(natives) => natives,
-        Err((error, _boxes)) => return Err(Fail::from(error)),
-    };
-    assert_eq!(rt; start(&rt, &mut natives, 0, 1, 0, 0), 0);
-    assert_eq!(rt; start(&rt, &mut natives, 0, 2, 0, 0), -7);
-    assert_eq!(rt; start(&rt, &mut natives, 0, 2, 0, 0), 0);
-    assert_eq!(rt; start(&rt, &mut natives, 0, 3, 0, 0), -7);
-    assert_eq!(rt; start(&rt, &mut natives, 0, 3, 0, 0), 0);
-    assert_eq!(rt; natives.outstanding(0), [1, 2, 3].as_slice());
-    assert_eq!(rt; poll(&rt, &mut natives, 0), Some((3, 0)));
-    assert_eq!(rt; natives.outstanding(0), [1, 2].as_slice());
-    cancel(&rt, &mut natives, 0, 1);
-    assert_eq!(rt; natives.outstanding(0), [2].as_slice());
-    assert_eq!(rt; poll(&rt, &mut natives, 0), Some((2, 0)));
-    assert_eq!(rt; poll(&rt, &mut natives, 0), None);
-    Ok(())
+    let drops = Rc::new(rt.alloc(), Cell::new(0))?;
+    let asks = [
+        Ask::Start(1, 0, 0, 0),
+        Ask::Start(2, 0, 0, -7),
+        Ask::Start(2, 0, 0, 0),
+        Ask::Start(3, 0, 0, -7),
+        Ask::Start(3, 0, 0, 0),
+        Ask::Outstanding(&[1, 2, 3]),
+        Ask::Poll(Some((3, 0))),
+        Ask::Outstanding(&[1, 2]),
+        Ask::Cancel(1),
+        Ask::Outstanding(&[2]),
+        Ask::Poll(Some((2, 0))),
+        Ask::Poll(None),
+    ];
+    ask_alone(&rt, rt.alloc(), Probe::boxed(rt.alloc(), &drops)?, &asks)
+}
+
+/// Kills the first of two natives, and tells of the second, whose number stays.
+fn kills_the_first(rt: &impl Abort, natives: &mut Natives)
+    requires { AllAgree (λ l. l.ids) (λ l. (⟦<dyn Native as Native>⟧ l.native.vtable).owed l.native.value) natives.old.slots.items }
+{
+    ask_each(rt, natives, 0, &[Ask::Start(30, 0, 0, 0)]);
+    ask_each(rt, natives, 1, &[Ask::Start(30, 0, 0, 0)]);
+    ask_each(rt, natives, 0, &[Ask::Kill(&[30])]);
+    ask_each(rt, natives, 1, &[Ask::Outstanding(&[30])]);
+    assert!(rt; !natives.is_alive(0) && natives.is_alive(1) && !natives.is_alive(2));
+    assert_eq!(rt; natives.count(), 2);
+    assert_eq!(rt; natives.outstanding(0).len(), 0);
 }
 
 #[test]
@@ -68,34 +74,16 @@ fn a_box_is_dropped_once(rt: HostRuntime) -> Result<(), Fail> {
     let alloc = rt.alloc();
     let killed = Rc::new(alloc, Cell::new(0))?;
     let kept = Rc::new(alloc, Cell::new(0))?;
-    let mut boxes: Vec<Box<dyn Native>> = Vec::with_capacity(alloc, 3)?;
-    boxes.push(Box::new(
-        alloc,
-        Probe::new(Vec::with_capacity(alloc, 8)?, kept.clone()?),
-    )?)?;
-    boxes.push(Box::new(
-        alloc,
-        Probe::new(Vec::with_capacity(alloc, 8)?, killed.clone()?),
-    )?)?;
-    boxes.push(Box::new(alloc, Line::new())?)?;
     {
-        let mut natives = match Natives::adopt(alloc, boxes) {
-            Ok(natives) => natives,
-            Err((error, _boxes)) => return Err(Fail::from(error)),
-        };
-        assert_eq!(rt; start(&rt, &mut natives, 1, 30, 0, 0), 0);
-        assert_eq!(rt; start(&rt, &mut natives, 2, 30, 0, 0), 0);
-        assert_eq!(rt; kill(&rt, &mut natives, 1).as_slice(), [30].as_slice());
-        assert_eq!(rt; killed.get(), 1);
-        assert_eq!(rt; kept.get(), 0);
-        assert!(rt; natives.is_alive(0) && !natives.is_alive(1) && natives.is_alive(2));
-        assert!(rt; !natives.is_alive(3));
-        assert_eq!(rt; natives.count(), 3);
-        assert_eq!(rt; natives.outstanding(1).len(), 0);
-        assert_eq!(rt; natives.outstanding(2), [30].as_slice());
+        let mut natives = adopt_two(
+            alloc,
+            Probe::boxed(alloc, &killed)?,
+            Probe::boxed(alloc, &kept)?,
+        )?;
+        kills_the_first(&rt, &mut natives);
+        assert_eq!(rt; (killed.get(), kept.get()), (1, 0));
     }
-    assert_eq!(rt; killed.get(), 1);
-    assert_eq!(rt; kept.get(), 1);
+    assert_eq!(rt; (killed.get(), kept.get()), (1, 1));
     Ok(())
 }
 

@@ -1,7 +1,8 @@
 //! A native of the tests' own: it refuses every second start and completes the last first.
-ghost use Rattle.std.specs.Prelude.{ℕ, ℤ, pos, negsuc, ◌≡◌, ◌⊎◌, List, [], Option};
+ghost use Rattle.std.specs.Prelude.{ℕ, ℤ, pos, negsuc, ◌≡◌, ◌⊎◌, List, [], Option, IfOk};
 
 use aom_natives::Native;
+use std::alloc::{AllocError, Global};
 use std::cell::Cell;
 use std::rc::Rc;
 
@@ -29,7 +30,7 @@ impl Drop for Probe {
 
 impl Probe {
     /// It keeps what it owes in `ids`, which takes no more than it has room for.
-    pub fn new(ids: Vec<u32>, drops: Rc<Cell<u32>>) -> Probe
+    fn new(ids: Vec<u32>, drops: Rc<Cell<u32>>) -> Probe
         requires { ids.items ≡ [] }
         ensures { ⟦<Probe as Native>⟧.owed result ≡ [] }
     {
@@ -40,6 +41,14 @@ impl Probe {
             word: 0,
             drops,
         }
+    }
+
+    /// One with room for eight ids, in a box.
+    pub fn boxed(alloc: Global, drops: &Rc<Cell<u32>>) -> Result<Box<Probe>, AllocError>
+        ensures { IfOk result (λ b. ⟦<Probe as Native>⟧.owed b.value ≡ []) }
+    {
+        let ids = Vec::with_capacity(alloc, 8)?;
+        Ok(Box::new(alloc, Probe::new(ids, drops.clone()?))?)
     }
 
     fn note(&mut self)

@@ -1,97 +1,77 @@
 //! The three types as boxes.
-use crate::asks::{call, cancel, close, event, event_each, kill, open, poll, start, start_each};
-use aom_natives::{Counter, Delay, Line, Native, Natives};
+use crate::asks::{Ask, ask_alone};
+use aom_natives::{Counter, Delay, Line};
 use std::test::Fail;
 
 #[test]
 fn a_counter_adds(rt: HostRuntime) -> Result<(), Fail> {
-    let alloc = rt.alloc();
-    let mut boxes: Vec<Box<dyn Native>> = Vec::with_capacity(alloc, 1)?;
-    boxes.push(Box::new(alloc, Counter::new())?)?;
-    let mut natives = match Natives::adopt(alloc, boxes) {
-        Ok(natives) => natives,
-        Err((error, _boxes)) => return Err(Fail::from(error)),
-    };
-    assert_eq!(rt; open(&rt, &mut natives, 0, 3), 0);
-    assert_eq!(rt; call(&rt, &mut natives, 0, 3, 0, 7), 7);
-    event(&rt, &mut natives, 0, 100);
-    assert_eq!(rt; call(&rt, &mut natives, 0, 3, 1, 7), -5);
-    assert_eq!(rt; start(&rt, &mut natives, 0, 3, 0, 7), -5);
-    close(&rt, &mut natives, 0, 3);
-    assert_eq!(rt; poll(&rt, &mut natives, 0), None);
-    assert_eq!(rt; call(&rt, &mut natives, 0, 3, 0, 2147483647), -2147483642);
-    Ok(())
+    let asks = [
+        Ask::Open(3, 0),
+        Ask::Call(3, 0, 7, 7),
+        Ask::Event(100),
+        Ask::Call(3, 1, 7, -5),
+        Ask::Start(3, 0, 7, -5),
+        Ask::Close(3),
+        Ask::Poll(None),
+        Ask::Call(3, 0, 2147483647, -2147483642),
+    ];
+    ask_alone(
+        &rt,
+        rt.alloc(),
+        Box::new(rt.alloc(), Counter::new())?,
+        &asks,
+    )
 }
 
 #[test]
 fn a_line_answers_with_the_words_of_events(rt: HostRuntime) -> Result<(), Fail> {
-    let alloc = rt.alloc();
-    let mut boxes: Vec<Box<dyn Native>> = Vec::with_capacity(alloc, 1)?;
-    boxes.push(Box::new(alloc, Line::new())?)?;
-    let mut natives = match Natives::adopt(alloc, boxes) {
-        Ok(natives) => natives,
-        Err((error, _boxes)) => return Err(Fail::from(error)),
-    };
-    assert_eq!(rt; open(&rt, &mut natives, 0, 5), 0);
-    start_each(&rt, &mut natives, 0, 3, -1);
-    assert_eq!(rt; poll(&rt, &mut natives, 0), None);
-    event_each(&rt, &mut natives, 2);
-    cancel(&rt, &mut natives, 0, 0);
-    assert_eq!(rt; poll(&rt, &mut natives, 0), Some((1, 0)));
-    assert_eq!(rt; poll(&rt, &mut natives, 0), Some((2, 1)));
-    Ok(())
+    let asks = [
+        Ask::Open(5, 0),
+        Ask::StartEach(0, 3, -1),
+        Ask::Poll(None),
+        Ask::EventEach(2),
+        Ask::Cancel(0),
+        Ask::Poll(Some((1, 0))),
+        Ask::Poll(Some((2, 1))),
+    ];
+    ask_alone(&rt, rt.alloc(), Box::new(rt.alloc(), Line::new())?, &asks)
 }
 
 #[test]
 fn a_line_has_sixteen_places(rt: HostRuntime) -> Result<(), Fail> {
-    let alloc = rt.alloc();
-    let mut boxes: Vec<Box<dyn Native>> = Vec::with_capacity(alloc, 1)?;
-    boxes.push(Box::new(alloc, Line::new())?)?;
-    let mut natives = match Natives::adopt(alloc, boxes) {
-        Ok(natives) => natives,
-        Err((error, _boxes)) => return Err(Fail::from(error)),
-    };
-    start_each(&rt, &mut natives, 0, 16, 0);
-    assert_eq!(rt; start(&rt, &mut natives, 0, 16, 0, 0), -16);
-    event_each(&rt, &mut natives, 17);
-    assert_eq!(rt; call(&rt, &mut natives, 0, 0, 0, 0), -5);
-    assert_eq!(rt; poll(&rt, &mut natives, 0), Some((0, 0)));
-    assert_eq!(rt; kill(&rt, &mut natives, 0).len(), 15);
-    Ok(())
+    let asks = [
+        Ask::StartEach(0, 16, 0),
+        Ask::Start(16, 0, 0, -16),
+        Ask::EventEach(17),
+        Ask::Call(0, 0, 0, -5),
+        Ask::Poll(Some((0, 0))),
+        Ask::Kill(&[1, 2, 3, 4, 5, 6, 7, 8, 9, 10, 11, 12, 13, 14, 15]),
+    ];
+    ask_alone(&rt, rt.alloc(), Box::new(rt.alloc(), Line::new())?, &asks)
 }
 
 #[test]
 fn a_delay_counts_polls(rt: HostRuntime) -> Result<(), Fail> {
-    let alloc = rt.alloc();
-    let mut boxes: Vec<Box<dyn Native>> = Vec::with_capacity(alloc, 1)?;
-    boxes.push(Box::new(alloc, Delay::new())?)?;
-    let mut natives = match Natives::adopt(alloc, boxes) {
-        Ok(natives) => natives,
-        Err((error, _boxes)) => return Err(Fail::from(error)),
-    };
-    assert_eq!(rt; start(&rt, &mut natives, 0, 1, 50, 1), 0);
-    assert_eq!(rt; start(&rt, &mut natives, 0, 2, 60, 0), 0);
-    event(&rt, &mut natives, 0, 1);
-    assert_eq!(rt; poll(&rt, &mut natives, 0), Some((2, 60)));
-    assert_eq!(rt; poll(&rt, &mut natives, 0), None);
-    assert_eq!(rt; natives.outstanding(0), [1].as_slice());
-    assert_eq!(rt; poll(&rt, &mut natives, 0), Some((1, 50)));
-    Ok(())
+    let asks = [
+        Ask::Start(1, 50, 1, 0),
+        Ask::Start(2, 60, 0, 0),
+        Ask::Event(1),
+        Ask::Poll(Some((2, 60))),
+        Ask::Poll(None),
+        Ask::Outstanding(&[1]),
+        Ask::Poll(Some((1, 50))),
+    ];
+    ask_alone(&rt, rt.alloc(), Box::new(rt.alloc(), Delay::new())?, &asks)
 }
 
 #[test]
 fn a_delay_has_sixteen_places(rt: HostRuntime) -> Result<(), Fail> {
-    let alloc = rt.alloc();
-    let mut boxes: Vec<Box<dyn Native>> = Vec::with_capacity(alloc, 1)?;
-    boxes.push(Box::new(alloc, Delay::new())?)?;
-    let mut natives = match Natives::adopt(alloc, boxes) {
-        Ok(natives) => natives,
-        Err((error, _boxes)) => return Err(Fail::from(error)),
-    };
-    start_each(&rt, &mut natives, 0, 16, 2);
-    assert_eq!(rt; start(&rt, &mut natives, 0, 25, 0, 0), -16);
-    assert_eq!(rt; start(&rt, &mut natives, 0, 25, 0, -1), -6);
-    cancel(&rt, &mut natives, 0, 0);
-    assert_eq!(rt; call(&rt, &mut natives, 0, 1, 0, 0), -5);
-    Ok(())
+    let asks = [
+        Ask::StartEach(0, 16, 2),
+        Ask::Start(25, 0, 0, -16),
+        Ask::Start(25, 0, -1, -6),
+        Ask::Cancel(0),
+        Ask::Call(1, 0, 0, -5),
+    ];
+    ask_alone(&rt, rt.alloc(), Box::new(rt.alloc(), Delay::new())?, &asks)
 }
