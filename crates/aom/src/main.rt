@@ -13,6 +13,9 @@ mod output;
 use crate::files::read_file;
 use crate::output::Output;
 use aom_command_line::{RunWords, Words, WordsFault, read_words};
+use aom_explaining::{
+    asm_explained, check_explained, prices_explained, run_explained, tell_explained,
+};
 use aom_main::{
     ExitStatus, Fault, Part, asm_bytes, check_bytes, dis_bytes, dot_bytes, explore_bytes,
     prices_bytes, run_bytes, tell,
@@ -39,14 +42,42 @@ fn serve<W: Write + Drop, E: Sink>(
     mut out: Output<W>,
     errors: &mut E,
 ) -> ExitStatus {
-    let status = match given_words(rt) {
-        Ok(words) => answer(rt, words, &mut out, errors),
-        Err(fault) => refuse(rt, fault, errors),
+    let (status, explain) = match given_words(rt) {
+        Ok(words) => {
+            let explain = asks_to_explain(&words);
+            (answer(rt, words, explain, &mut out, errors), explain)
+        }
+        Err(fault) => (refuse(rt, fault, false, errors), false),
     };
     if out.fails_at_end() {
-        return tell(&Fault::Write, errors);
+        return tell_or_explain(rt, &Fault::Write, explain, errors);
     }
     status
+}
+
+/// Whether a fault is to be explained, also where the words are refused. Behind `--` stand names of files alone.
+fn asks_to_explain(words: &[String]) -> bool {
+    for word in words {
+        match word.as_str() {
+            "--" => return false,
+            "--explain" => return true,
+            _ => {}
+        }
+    }
+    false
+}
+
+/// Tells a fault that has come before any file was looked at, or after all, and explains it where that is asked.
+fn tell_or_explain<E: Sink>(
+    rt: &HostRuntime,
+    fault: &Fault,
+    explain: bool,
+    errors: &mut E,
+) -> ExitStatus {
+    if explain {
+        return tell_explained(rt.alloc(), fault, b"", b"", errors);
+    }
+    tell(fault, errors)
 }
 
 /// The words that the system has handed over. One that is no text is no word of any command.
@@ -66,27 +97,33 @@ fn given_words(rt: &HostRuntime) -> Result<Vec<String>, WordsFault> {
 fn answer<W: Sink, E: Sink>(
     rt: &HostRuntime,
     words: Vec<String>,
+    explain: bool,
     out: &mut W,
     errors: &mut E,
 ) -> ExitStatus {
     match read_words(rt.alloc(), words) {
         Ok(words) => match obey(rt, &words, out, errors) {
             Ok(status) => status,
-            Err(fault) => tell(&fault, errors),
+            Err(fault) => tell_or_explain(rt, &fault, explain, errors),
         },
-        Err(fault) => refuse(rt, fault, errors),
+        Err(fault) => refuse(rt, fault, explain, errors),
     }
 }
 
 /// Tells why the words are refused.
-fn refuse<E: Sink>(rt: &HostRuntime, fault: WordsFault, errors: &mut E) -> ExitStatus {
+fn refuse<E: Sink>(
+    rt: &HostRuntime,
+    fault: WordsFault,
+    explain: bool,
+    errors: &mut E,
+) -> ExitStatus {
     match fault {
         WordsFault::Text(text) => {
             write_text(errors, text.as_bytes());
             ExitStatus::CallRefused
         }
-        WordsFault::Native => tell(&Fault::Native, errors),
-        WordsFault::Memory => tell(&Fault::Memory, errors),
+        WordsFault::Native => tell_or_explain(rt, &Fault::Native, explain, errors),
+        WordsFault::Memory => tell_or_explain(rt, &Fault::Memory, explain, errors),
     }
 }
 
@@ -101,17 +138,23 @@ fn obey<W: Sink, E: Sink>(
 {
     let alloc = rt.alloc();
     match words {
-        Words::Check { image, prices } => {
+        Words::Check {
+            image,
+            prices,
+            explain,
+        } => {
             let image = read_file(rt, image)?;
-            if *prices {
-                return Ok(prices_bytes(alloc, &image, out, errors));
-            }
-            Ok(check_bytes(alloc, &image, out, errors))
+            Ok(match (*prices, *explain) {
+                (false, false) => check_bytes(alloc, &image, out, errors),
+                (false, true) => check_explained(alloc, &image, out, errors),
+                (true, false) => prices_bytes(alloc, &image, out, errors),
+                (true, true) => prices_explained(alloc, &image, out, errors),
+            })
         }
-        Words::Run(run) => {
+        Words::Run { run, explain } => {
             let image = read_file(rt, &run.image)?;
             let script = read_file(rt, &run.script)?;
-            run_beside(alloc, run, &image, &script, out, errors)
+            run_beside(alloc, run, *explain, &image, &script, out, errors)
         }
         Words::Explore { run, first, last } => {
             let image = read_file(rt, &run.image)?;
@@ -121,7 +164,13 @@ fn obey<W: Sink, E: Sink>(
             let kinds = run.natives.as_slice();
             Ok(explore_bytes(alloc, &image, &script, run.limit, kinds, part, out, errors))
         }
-        Words::Asm { text } => Ok(asm_bytes(alloc, &read_file(rt, text)?, out, errors)),
+        Words::Asm { text, explain } => {
+            let text = read_file(rt, text)?;
+            if *explain {
+                return Ok(asm_explained(alloc, &text, out, errors));
+            }
+            Ok(asm_bytes(alloc, &text, out, errors))
+        }
         Words::Dis { image } => Ok(dis_bytes(alloc, &read_file(rt, image)?, out, errors)),
         Words::Dot { image } => Ok(dot_bytes(alloc, &read_file(rt, image)?, out, errors)),
     }
@@ -131,6 +180,7 @@ fn obey<W: Sink, E: Sink>(
 fn run_beside<W: Sink, E: Sink>(
     alloc: Global,
     run: &RunWords,
+    explain: bool,
     image: &[u8],
     script: &[u8],
     out: &mut W,
@@ -145,6 +195,9 @@ fn run_beside<W: Sink, E: Sink>(
             NativeKind::Line => boxes.push(Box::new(alloc, Line::new())?)?,
             NativeKind::Delay => boxes.push(Box::new(alloc, Delay::new())?)?,
         }
+    }
+    if explain {
+        return Ok(run_explained(alloc, image, script, run.limit, boxes, out, errors));
     }
     Ok(run_bytes(alloc, image, script, run.limit, boxes, out, errors))
 }

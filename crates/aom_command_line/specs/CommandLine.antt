@@ -45,13 +45,21 @@ from_rule = number_rule (codes "from") (Signed (pos 1) (pos 4294967295)) (codes 
 abbrev pub to_rule : Rule
 to_rule = number_rule (codes "to") (Signed (pos 1) (pos 4294967295)) (codes "4294967295")
 
--- `--prices`, which stands alone
-abbrev pub prices_rule : Rule
-prices_rule =
-    record (new_rule (codes "prices")) {
-      long = Some (codes "prices");
+-- an option that stands alone
+abbrev pub flag_rule : Text → Rule
+flag_rule id =
+    record (new_rule id) {
+      long = Some id;
       action = Some SetTrue;
     }
+
+-- `--prices`
+abbrev pub prices_rule : Rule
+prices_rule = flag_rule (codes "prices")
+
+-- `--explain`
+abbrev pub explain_rule : Rule
+explain_rule = flag_rule (codes "explain")
 
 -- any number of words at the end
 abbrev pub native_rule : Rule
@@ -61,13 +69,13 @@ native_rule =
       range = Some (record { start_inclusive = 0; end_inclusive = usize_max });
     }
 
--- check [--prices] IMAGE
+-- check [--prices] [--explain] IMAGE
 abbrev pub check_form : App
-check_form = with_rule (with_rule (new_app (codes "check")) prices_rule) (file_rule (codes "IMAGE"))
+check_form = with_rule (with_rule (with_rule (new_app (codes "check")) prices_rule) explain_rule) (file_rule (codes "IMAGE"))
 
--- asm TEXT
+-- asm [--explain] TEXT
 abbrev pub asm_form : App
-asm_form = with_rule (new_app (codes "asm")) (file_rule (codes "TEXT"))
+asm_form = with_rule (with_rule (new_app (codes "asm")) explain_rule) (file_rule (codes "TEXT"))
 
 -- dis IMAGE
 abbrev pub dis_form : App
@@ -81,9 +89,9 @@ dot_form = with_rule (new_app (codes "dot")) (file_rule (codes "IMAGE"))
 abbrev pub with_files : App → App
 with_files command = with_rule (with_rule (with_rule command (file_rule (codes "IMAGE"))) (file_rule (codes "SCRIPT"))) native_rule
 
--- run [--limit N] IMAGE SCRIPT [NATIVE]..
+-- run [--limit N] [--explain] IMAGE SCRIPT [NATIVE]..
 abbrev pub run_form : App
-run_form = with_files (with_rule (new_app (codes "run")) limit_rule)
+run_form = with_files (with_rule (with_rule (new_app (codes "run")) limit_rule) explain_rule)
 
 -- explore [--limit N] [--from N] [--to N] IMAGE SCRIPT [NATIVE]..
 abbrev pub explore_form : App
@@ -151,13 +159,14 @@ pub record AsksRun (rows : List Row) (run : RunWords) : Type 0 where
 -- a command and the words found for it ask this
 abbrev pub Asks : Option (Text × List Row) → Words → Type 0
 Asks None words = ⊥
-Asks (Some met) (Check image prices) =
-    (met.0 ≡ codes "check") × (string_bytes image ≡ word_of (codes "IMAGE") met.1) × IsFlag (one_of (codes "prices") met.1) prices
-Asks (Some met) (Run run) = (met.0 ≡ codes "run") × AsksRun met.1 run
+Asks (Some met) (Check image prices explain) =
+    (met.0 ≡ codes "check") × (string_bytes image ≡ word_of (codes "IMAGE") met.1)
+    × IsFlag (one_of (codes "prices") met.1) prices × IsFlag (one_of (codes "explain") met.1) explain
+Asks (Some met) (Run run explain) = (met.0 ≡ codes "run") × AsksRun met.1 run × IsFlag (one_of (codes "explain") met.1) explain
 Asks (Some met) (Explore run first last) =
     (met.0 ≡ codes "explore") × AsksRun met.1 run
     × IsNumberUpTo 4294967295 (one_of (codes "from") met.1) first × IsNumberUpTo 4294967295 (one_of (codes "to") met.1) last
-Asks (Some met) (Asm text) = (met.0 ≡ codes "asm") × (string_bytes text ≡ word_of (codes "TEXT") met.1)
+Asks (Some met) (Asm text explain) = (met.0 ≡ codes "asm") × (string_bytes text ≡ word_of (codes "TEXT") met.1) × IsFlag (one_of (codes "explain") met.1) explain
 Asks (Some met) (Dis image) = (met.0 ≡ codes "dis") × (string_bytes image ≡ word_of (codes "IMAGE") met.1)
 Asks (Some met) (Dot image) = (met.0 ≡ codes "dot") × (string_bytes image ≡ word_of (codes "IMAGE") met.1)
 
@@ -189,9 +198,9 @@ Says kind faults.Memory = Unit {0}
 
 -- what is known of the limit of runs
 abbrev pub KeepsLimit : Words → Type 0
-KeepsLimit (Check image prices) = Unit {0}
-KeepsLimit (Run run) = (1 ≤ run.limit) × (run.limit ≤ 1000000000)
+KeepsLimit (Check image prices explain) = Unit {0}
+KeepsLimit (Run run explain) = (1 ≤ run.limit) × (run.limit ≤ 1000000000)
 KeepsLimit (Explore run first last) = (1 ≤ run.limit) × (run.limit ≤ 1000000000)
-KeepsLimit (Asm text) = Unit {0}
+KeepsLimit (Asm text explain) = Unit {0}
 KeepsLimit (Dis image) = Unit {0}
 KeepsLimit (Dot image) = Unit {0}

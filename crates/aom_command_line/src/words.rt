@@ -3,7 +3,7 @@ ghost use Rattle.std.specs.Prelude.{◌≡◌, ◌≤◌, IfOk, IfErr, Some, fal
 ghost use Rattle.std.specs.String.{string_bytes};
 ghost use Rattle.clap.specs.declared.builder.command.Command.TheViews.{out-Command as fields_of};
 ghost use Rattle.clap.specs.Words.{all_of, app_of, found_of, kind_of, one_of, rows_of, rule_of, subcommand_of, subcommand_rows_of, takes, with_subcommand};
-ghost use Rattle.aom_command_line.specs.CommandLine.{asm_form, check_form, dis_form, dot_form, explore_form, run_form, form, file_rule, from_rule, limit_rule, native_rule, number_rule, prices_rule, to_rule, texts_of, with_files, word_of, Asks, AsksRun, Declines, DeclinesNatives, DeclinesRun, IsFlag, IsNumberUpTo, KeepsLimit, NamesKinds, Says, texts_in};
+ghost use Rattle.aom_command_line.specs.CommandLine.{asm_form, check_form, dis_form, dot_form, explain_rule, explore_form, run_form, form, file_rule, flag_rule, from_rule, limit_rule, native_rule, number_rule, prices_rule, to_rule, texts_of, with_files, word_of, Asks, AsksRun, Declines, DeclinesNatives, DeclinesRun, IsFlag, IsNumberUpTo, KeepsLimit, NamesKinds, Says, texts_in};
 
 use aom_natives::NativeKind;
 use clap::builder::ValueParser;
@@ -18,8 +18,14 @@ pub enum Words {
         image: String,
         /// Whether what the methods come to and cost is asked for.
         prices: bool,
+        /// Whether a fault is to be explained.
+        explain: bool,
     },
-    Run(RunWords),
+    Run {
+        run: RunWords,
+        /// Whether a fault is to be explained.
+        explain: bool,
+    },
     /// Run again and again, each time with one more allocation request refused.
     Explore {
         run: RunWords,
@@ -30,6 +36,8 @@ pub enum Words {
     },
     Asm {
         text: String,
+        /// Whether a fault is to be explained.
+        explain: bool,
     },
     Dis {
         image: String,
@@ -135,6 +143,7 @@ fn check_command<'a>(alloc: Global) -> Result<Command<'a>, AllocError>
     Command::new(alloc, "check")
         .about("Tells whether an image is accepted")
         .arg(prices_arg(alloc))?
+        .arg(explain_arg(alloc))?
         .arg(file_arg(alloc, "IMAGE", "The file of an image"))
 }
 
@@ -144,6 +153,7 @@ fn asm_command<'a>(alloc: Global) -> Result<Command<'a>, AllocError>
 {
     Command::new(alloc, "asm")
         .about("Writes the image that a text denotes")
+        .arg(explain_arg(alloc))?
         .arg(file_arg(alloc, "TEXT", "The file of an assembly text"))
 }
 
@@ -171,7 +181,8 @@ fn run_command<'a>(alloc: Global) -> Result<Command<'a>, AllocError>
 {
     let command = Command::new(alloc, "run")
         .about("Runs an image under a script and writes the transcript")
-        .arg(limit_arg(alloc))?;
+        .arg(limit_arg(alloc))?
+        .arg(explain_arg(alloc))?;
     with_files(alloc, command)
 }
 
@@ -278,9 +289,32 @@ fn prices_arg<'a>(alloc: Global) -> Arg<'a>
     ensures rule { rule_of result ≡ prices_rule }
     ensures own { result.global ≡ false }
 {
-    Arg::new(alloc, "prices")
-        .long("prices")
-        .help("Tells too what the methods come to and cost, accepted or not")
+    flag_arg(
+        alloc,
+        "prices",
+        "Tells too what the methods come to and cost, accepted or not",
+    )
+}
+
+fn explain_arg<'a>(alloc: Global) -> Arg<'a>
+    ensures rule { rule_of result ≡ explain_rule }
+    ensures own { result.global ≡ false }
+{
+    flag_arg(
+        alloc,
+        "explain",
+        "Tells too what a fault means and what usually mends it",
+    )
+}
+
+/// An option that stands alone.
+fn flag_arg<'a>(alloc: Global, id: &'a str, help: &'a str) -> Arg<'a>
+    ensures rule { rule_of result ≡ flag_rule id.entry.now }
+    ensures own { result.global ≡ false }
+{
+    Arg::new(alloc, id)
+        .long(id)
+        .help(help)
         .action(ArgAction::SetTrue)
 }
 
@@ -316,12 +350,17 @@ fn command_words(alloc: Global, command: &str, own: &ArgMatches) -> Result<Words
     match command {
         "check" => Ok(Words::Check {
             image: word_of(alloc, own, "IMAGE")?,
-            prices: asks_prices(own),
+            prices: is_set(own, "prices"),
+            explain: is_set(own, "explain"),
         }),
-        "run" => Ok(Words::Run(run_words(alloc, own)?)),
+        "run" => Ok(Words::Run {
+            run: run_words(alloc, own)?,
+            explain: is_set(own, "explain"),
+        }),
         "explore" => explore_words(alloc, own),
         "asm" => Ok(Words::Asm {
             text: word_of(alloc, own, "TEXT")?,
+            explain: is_set(own, "explain"),
         }),
         "dis" => Ok(Words::Dis {
             image: word_of(alloc, own, "IMAGE")?,
@@ -387,10 +426,11 @@ fn kinds_of(alloc: Global, words: &[&str]) -> Result<Vec<NativeKind>, WordsFault
     Ok(kinds)
 }
 
-fn asks_prices(own: &ArgMatches) -> bool
-    ensures { IsFlag (one_of (codes "prices") (rows_of (found_of own.now))) result }
+/// Whether an option that stands alone is there.
+fn is_set(own: &ArgMatches, id: &str) -> bool
+    ensures { IsFlag (one_of id.now (rows_of (found_of own.now))) result }
 {
-    own.get_flag("prices")
+    own.get_flag(id)
 }
 
 fn limit_of(own: &ArgMatches) -> u32

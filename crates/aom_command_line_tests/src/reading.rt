@@ -35,7 +35,7 @@ fn words_of(alloc: Global, line: &str) -> Result<Vec<String>, Fail> {
 /// The natives of a command line that runs an image.
 fn named(alloc: Global, line: &str) -> Result<Vec<NativeKind>, Fail> {
     match read_words(alloc, words_of(alloc, line)?) {
-        Ok(Words::Run(run)) => Ok(run.natives),
+        Ok(Words::Run { run, .. }) => Ok(run.natives),
         Ok(Words::Explore { run, .. }) => Ok(run.natives),
         _ => Err(Fail::from("no run")),
     }
@@ -43,14 +43,14 @@ fn named(alloc: Global, line: &str) -> Result<Vec<NativeKind>, Fail> {
 
 fn ask(alloc: Global, line: &str) -> Result<Asked, Fail> {
     Ok(match &read_words(alloc, words_of(alloc, line)?) {
-        Ok(Words::Check { image, prices }) if image.as_str() == "one.image" => {
+        Ok(Words::Check { image, prices, .. }) if image.as_str() == "one.image" => {
             if *prices { Asked::Prices } else { Asked::Check }
         }
-        Ok(Words::Run(run)) if is_one(run) => Asked::Run(run.limit),
+        Ok(Words::Run { run, .. }) if is_one(run) => Asked::Run(run.limit),
         Ok(Words::Explore { run, first, last }) if is_one(run) => {
             Asked::Explore(run.limit, *first, *last)
         }
-        Ok(Words::Asm { text }) if text.as_str() == "one.text" => Asked::Asm,
+        Ok(Words::Asm { text, .. }) if text.as_str() == "one.text" => Asked::Asm,
         Ok(Words::Dis { image }) if image.as_str() == "one.image" => Asked::Dis,
         Ok(Words::Dot { image }) if image.as_str() == "one.image" => Asked::Dot,
         Ok(_) => return Err(Fail::from("another file")),
@@ -59,6 +59,38 @@ fn ask(alloc: Global, line: &str) -> Result<Asked, Fail> {
         Err(WordsFault::Native) => Asked::Native,
         Err(WordsFault::Memory) => Asked::Memory,
     })
+}
+
+/// Whether a command line asks that a fault be explained; nothing where it is refused.
+fn explains(alloc: Global, line: &str) -> Result<Option<bool>, Fail> {
+    Ok(match read_words(alloc, words_of(alloc, line)?) {
+        Ok(Words::Check { explain, .. }) => Some(explain),
+        Ok(Words::Run { explain, .. }) => Some(explain),
+        Ok(Words::Asm { explain, .. }) => Some(explain),
+        Ok(_) => return Err(Fail::from("another command")),
+        Err(_) => None,
+    })
+}
+
+#[test]
+fn a_fault_is_explained_where_that_is_asked(rt: HostRuntime) -> Result<(), Fail> {
+    for (line, expected) in [
+        ("aom check one.image", Some(false)),
+        ("aom check --explain one.image", Some(true)),
+        ("aom check --prices one.image --explain", Some(true)),
+        ("aom check --prices one.image", Some(false)),
+        ("aom run one.image one.script", Some(false)),
+        ("aom run --explain --limit 7 one.image one.script", Some(true)),
+        ("aom run one.image one.script line --explain", Some(true)),
+        ("aom asm one.text", Some(false)),
+        ("aom asm --explain one.text", Some(true)),
+        ("aom explore --explain one.image one.script", None),
+        ("aom dis --explain one.image", None),
+        ("aom check --explain=3 one.image", None),
+    ] {
+        assert_eq!(rt; explains(rt.alloc(), line)?, expected, "{line}");
+    }
+    Ok(())
 }
 
 #[test]

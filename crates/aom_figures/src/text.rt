@@ -23,7 +23,7 @@ fn class_number(index: usize) -> ClassNumber
 
 impl Writer {
     /// Whose dispatch it is.
-    fn payer(&mut self, payer: Payer) -> Result<(), AllocError>
+    pub fn payer(&mut self, payer: Payer) -> Result<(), AllocError>
         ensures { OnOk result (self.new ≡ self.old ++ payer_text payer) }
     {
         match payer {

@@ -5,5 +5,6 @@ pub mod Laws
 pub mod Listing
 pub mod Methods
 pub mod Operands
+pub mod Single
 pub mod Text
 pub mod Words

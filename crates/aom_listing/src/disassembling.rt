@@ -20,7 +20,12 @@ impl Writer {
     }
 
     /// An instruction, with its label where something jumps to it.
-    fn instruction(&mut self, is_target: bool, place: u32, instr: Instr) -> Result<(), AllocError>
+    pub fn instruction(
+        &mut self,
+        is_target: bool,
+        place: u32,
+        instr: Instr,
+    ) -> Result<(), AllocError>
         ensures { OnOk result (self.new ≡ self.old ++ line_of (label_words is_target place ++ words_statement instr)) }
     {
         if is_target {

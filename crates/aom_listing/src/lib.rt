@@ -12,7 +12,9 @@ mod jumps;
 mod laws;
 mod method;
 mod operands;
+mod single;
 mod writer;
 
 pub use disassembling::disassemble;
 pub use laws::listings_split;
+pub use single::{heading_line, line_at};

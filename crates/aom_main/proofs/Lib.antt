@@ -6,3 +6,4 @@ pub mod Tries
 pub mod Meaning
 pub mod Figuring
 pub mod Graphing
+pub mod Untelling

@@ -4,8 +4,8 @@ use Rattle.aom_main.specs.declared.status.ExitStatus.{ExitStatus}
 use Rattle.aom_main.specs.declared.faults.Fault.{Fault}
 use Rattle.aom_main.specs.declared.faults.Fault.TheVariants as faults
 use Rattle.aom_main.specs.Headline.{Sent, Sends, Says, IsSilent, Told, Accepts, CheckAnswers, accepted_text}
-use Rattle.aom_main.specs.Assembly.{Lists, Makes, RefusesBytes, AsmAnswers, DisAnswers}
-use Rattle.aom_main.specs.Assembly.AsmBreaks.{output_fails as bytes_fail}
+use Rattle.aom_main.specs.Assembly.{Lists, Makes, RefusesBytes, RefusesText, AsmAnswers, DisAnswers}
+use Rattle.aom_main.specs.Assembly.AsmBreaks.{output_fails as bytes_fail, wants_memory as text_wants_memory}
 use Rattle.aom_main.specs.Assembly.DisBreaks.{output_fails as text_fails, wants_memory}
 
 -- the output failed, and that is told
@@ -29,3 +29,9 @@ pub unlisted : (bytes : List ℕ) (fault : Fault) (out errors : Sent) (status : 
 unlisted bytes (faults.Load fault) out errors status refuses silent told = subst (DisAnswers bytes out errors) (sym told.0) (record { silent = silent; fault = fault; refuses = refuses; tells = told.1 })
 unlisted bytes faults.Memory out errors status refuses silent told = subst (DisAnswers bytes out errors) (sym told.0) (wants_memory silent told.1)
 unlisted bytes _ out errors status refuses silent told = absurd refuses
+
+-- a text that denotes no image, or want of memory, and that is told
+pub unassembled : (text : List ℕ) (fault : Fault) (out errors : Sent) (status : ExitStatus) → RefusesText text fault → IsSilent out → Told fault status errors → AsmAnswers text out errors status
+unassembled text (faults.Asm fault) out errors status refuses silent told = subst (AsmAnswers text out errors) (sym told.0) (record { silent = silent; fault = fault; refuses = refuses; tells = told.1 })
+unassembled text faults.Memory out errors status refuses silent told = subst (AsmAnswers text out errors) (sym told.0) (text_wants_memory silent told.1)
+unassembled text _ out errors status refuses silent told = absurd refuses

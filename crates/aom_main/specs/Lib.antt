@@ -5,3 +5,4 @@ pub mod Explored
 pub mod Status
 pub mod Prices
 pub mod Drawn
+pub mod Untold

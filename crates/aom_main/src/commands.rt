@@ -5,6 +5,7 @@ ghost use Rattle.aom_script.specs.Script.{denoted};
 ghost use Rattle.aom_main.specs.Acceptable.{IsSpelled};
 ghost use Rattle.aom_main.specs.Assembly.{AsmAnswers, DisAnswers};
 ghost use Rattle.aom_main.specs.Headline.{AcceptedAnswers, Ends, RunAnswers, CheckAnswers, Sends};
+ghost use Rattle.aom_main.specs.Untold.{Untold};
 
 use crate::accepting::accept_bytes;
 use crate::assembling::{assemble_bytes, disassemble_bytes};
@@ -31,66 +32,83 @@ pub fn run_bytes<W: Sink, E: Sink>(
     requires owed { OweNothing (λ b. (⟦<dyn Native as Native>⟧ b.vtable).owed b.value) boxes.items }
     ensures { RunAnswers image.now script.now limit (length boxes.items) (record { before = W.out out.old; now = W.out out.new; failed = W.failed out.new }) (record { before = E.out errors.old; now = E.out errors.new; failed = E.failed errors.new }) result }
 {
+    match try_run(alloc, image, script, limit, boxes, out) {
+        Ok(status) => status,
+        Err(fault) => tell(&fault, errors),
+    }
+}
+
+/// Runs an image as `run_bytes` does, and leaves its fault to be told.
+pub fn try_run<W: Sink>(
+    alloc: Global,
+    image: &[u8],
+    script: &[u8],
+    limit: u32,
+    boxes: Vec<Box<dyn Native>>,
+    out: &mut W,
+) -> Result<ExitStatus, Fault>
+    requires limit { (1 ≤ limit) × (limit ≤ 1000000000) }
+    requires owed { OweNothing (λ b. (⟦<dyn Native as Native>⟧ b.vtable).owed b.value) boxes.items }
+    ensures { Untold (RunAnswers image.now script.now limit (length boxes.items) (record { before = W.out out.old; now = W.out out.new; failed = W.failed out.new })) result }
+{
     match accept_bytes(alloc, image) {
-        Ok(accepted) => run_text(alloc, &accepted, script, limit, boxes, out, errors),
-        Err(refusal) => tell(&refusal, errors),
+        Ok(accepted) => run_text(alloc, &accepted, script, limit, boxes, out),
+        Err(refusal) => Err(refusal),
     }
 }
 
 /// Runs an accepted image under the script that a text is.
-fn run_text<W: Sink, E: Sink>(
+fn run_text<W: Sink>(
     alloc: Global,
     accepted: &Accepted,
     text: &[u8],
     limit: u32,
     boxes: Vec<Box<dyn Native>>,
     out: &mut W,
-    errors: &mut E,
-) -> ExitStatus
+) -> Result<ExitStatus, Fault>
     requires limit { (1 ≤ limit) × (limit ≤ 1000000000) }
     requires owed { OweNothing (λ b. (⟦<dyn Native as Native>⟧ b.vtable).owed b.value) boxes.items }
-    ensures { (bytes : List ℕ) → IsSpelled bytes accepted.now → AcceptedAnswers bytes text.now limit (length boxes.items) (record { before = W.out out.old; now = W.out out.new; failed = W.failed out.new }) (record { before = E.out errors.old; now = E.out errors.new; failed = E.failed errors.new }) result }
+    ensures { (bytes : List ℕ) → IsSpelled bytes accepted.now → Untold (AcceptedAnswers bytes text.now limit (length boxes.items) (record { before = W.out out.old; now = W.out out.new; failed = W.failed out.new })) result }
 {
     accepted.facts();
     match read_script(alloc, text) {
-        Ok(script) => run_script(alloc, accepted, &script, limit, boxes, out, errors),
-        Err(fault) => tell(&Fault::from(fault), errors),
+        Ok(script) => run_script(alloc, accepted, &script, limit, boxes, out),
+        Err(fault) => Err(Fault::from(fault)),
     }
 }
 
 /// Runs an accepted image under a script.
-fn run_script<W: Sink, E: Sink>(
+fn run_script<W: Sink>(
     alloc: Global,
     accepted: &Accepted,
     script: &Script,
     limit: u32,
     boxes: Vec<Box<dyn Native>>,
     out: &mut W,
-    errors: &mut E,
-) -> ExitStatus
+) -> Result<ExitStatus, Fault>
     requires limit { (1 ≤ limit) × (limit ≤ 1000000000) }
     requires owed { OweNothing (λ b. (⟦<dyn Native as Native>⟧ b.vtable).owed b.value) boxes.items }
-    ensures { (bytes text : List ℕ) → IsSpelled bytes accepted.now → denoted text ≡ Ok script.now → AcceptedAnswers bytes text limit (length boxes.items) (record { before = W.out out.old; now = W.out out.new; failed = W.failed out.new }) (record { before = E.out errors.old; now = E.out errors.new; failed = E.failed errors.new }) result }
+    ensures { (bytes text : List ℕ) → IsSpelled bytes accepted.now → denoted text ≡ Ok script.now → Untold (AcceptedAnswers bytes text limit (length boxes.items) (record { before = W.out out.old; now = W.out out.new; failed = W.failed out.new })) result }
 {
     accepted.facts();
     runs_well(accepted);
     match run_accepted(alloc, accepted, script, limit, boxes, out) {
-        Ok(outcome) => end(outcome, errors),
-        Err(fault) => tell(&fault, errors),
+        Ok(outcome) => end(outcome),
+        Err(fault) => Err(fault),
     }
 }
 
-/// The status of a run that ended so.
-fn end<E: Sink>(outcome: Outcome, errors: &mut E) -> ExitStatus
-    ensures { Ends outcome result (record { before = E.out errors.old; now = E.out errors.new; failed = E.failed errors.new }) }
+/// The status of a run that ended so, or that its output has failed.
+fn end(outcome: Outcome) -> Result<ExitStatus, Fault>
+    ensures { Untold (λ errors status. Ends outcome status errors) result }
 {
     match outcome {
-        Outcome::Stopped => ExitStatus::Done,
-        Outcome::Waiting => ExitStatus::Unfinished,
-        Outcome::MainLeft(_) => ExitStatus::Broken,
-        Outcome::Limit => ExitStatus::Unfinished,
-        Outcome::Error(_) => ExitStatus::Broken,
-        Outcome::WriteFault => tell(&Fault::Write, errors),
+        Outcome::Stopped => Ok(ExitStatus::Done),
+        Outcome::Waiting => Ok(ExitStatus::Unfinished),
+        Outcome::MainLeft(_) => Ok(ExitStatus::Broken),
+        Outcome::Limit => Ok(ExitStatus::Unfinished),
+        Outcome::Error(_) => Ok(ExitStatus::Broken),
+        Outcome::WriteFault => Err(Fault::Write),
     }
 }
 
@@ -103,14 +121,23 @@ pub fn check_bytes<W: Sink, E: Sink>(
 ) -> ExitStatus
     ensures { CheckAnswers image.now (record { before = W.out out.old; now = W.out out.new; failed = W.failed out.new }) (record { before = E.out errors.old; now = E.out errors.new; failed = E.failed errors.new }) result }
 {
-    match accept_bytes(alloc, image) {
-        Ok(_accepted) => send(b"accepted\n", out, errors),
+    match try_check(alloc, image, out) {
+        Ok(status) => status,
         Err(fault) => tell(&fault, errors),
     }
 }
 
+/// Checks an image as `check_bytes` does, and leaves its fault to be told.
+pub fn try_check<W: Sink>(alloc: Global, image: &[u8], out: &mut W) -> Result<ExitStatus, Fault>
+    ensures { Untold (CheckAnswers image.now (record { before = W.out out.old; now = W.out out.new; failed = W.failed out.new })) result }
+{
+    match accept_bytes(alloc, image) {
+        Ok(_accepted) => try_send(b"accepted\n", out),
+        Err(fault) => Err(fault),
+    }
+}
+
 /// Writes the bytes of the image that an assembly text denotes.
-#[tactic(auto, using(crate::proofs::Sending::assembled))]
 pub fn asm_bytes<W: Sink, E: Sink>(
     alloc: Global,
     text: &[u8],
@@ -119,9 +146,19 @@ pub fn asm_bytes<W: Sink, E: Sink>(
 ) -> ExitStatus
     ensures { AsmAnswers text.now (record { before = W.out out.old; now = W.out out.new; failed = W.failed out.new }) (record { before = E.out errors.old; now = E.out errors.new; failed = E.failed errors.new }) result }
 {
-    match assemble_bytes(alloc, text) {
-        Ok(bytes) => send(&bytes, out, errors),
+    match try_asm(alloc, text, out) {
+        Ok(status) => status,
         Err(fault) => tell(&fault, errors),
+    }
+}
+
+/// Assembles a text as `asm_bytes` does, and leaves its fault to be told.
+pub fn try_asm<W: Sink>(alloc: Global, text: &[u8], out: &mut W) -> Result<ExitStatus, Fault>
+    ensures { Untold (AsmAnswers text.now (record { before = W.out out.old; now = W.out out.new; failed = W.failed out.new })) result }
+{
+    match assemble_bytes(alloc, text) {
+        Ok(bytes) => try_send(&bytes, out),
+        Err(fault) => Err(fault),
     }
 }
 
@@ -145,9 +182,19 @@ pub fn dis_bytes<W: Sink, E: Sink>(
 pub fn send<W: Sink, E: Sink>(text: &[u8], out: &mut W, errors: &mut E) -> ExitStatus
     ensures { Sends text.now result (record { before = W.out out.old; now = W.out out.new; failed = W.failed out.new }) (record { before = E.out errors.old; now = E.out errors.new; failed = E.failed errors.new }) }
 {
+    match try_send(text, out) {
+        Ok(status) => status,
+        Err(fault) => tell(&fault, errors),
+    }
+}
+
+/// Writes a text to the output. That this fails is left to be told.
+fn try_send<W: Sink>(text: &[u8], out: &mut W) -> Result<ExitStatus, Fault>
+    ensures { Untold (λ errors status. Sends text.now status (record { before = W.out out.old; now = W.out out.new; failed = W.failed out.new }) errors) result }
+{
     write_text(out, text);
     if out.has_failed() {
-        return tell(&Fault::Write, errors);
+        return Err(Fault::Write);
     }
-    ExitStatus::Done
+    Ok(ExitStatus::Done)
 }

@@ -18,9 +18,9 @@ mod pricing;
 mod running;
 mod status;
 
-pub use commands::{asm_bytes, check_bytes, dis_bytes, run_bytes};
+pub use commands::{asm_bytes, check_bytes, dis_bytes, run_bytes, try_asm, try_check, try_run};
 pub use drawing::dot_bytes;
 pub use exploring::{Part, explore_bytes};
 pub use faults::{Fault, tell};
-pub use pricing::prices_bytes;
+pub use pricing::{prices_bytes, try_prices};
 pub use status::ExitStatus;

@@ -6,6 +6,7 @@ ghost use Rattle.aom_classes.specs.Linked.{IsLinked};
 ghost use Rattle.aom_main.specs.Acceptable.{IsSpelled, IsAcceptable, RefusesOrWants};
 ghost use Rattle.aom_main.specs.Headline.{accepted_text};
 ghost use Rattle.aom_main.specs.Prices.{IsEarly, IsPriced, IsWritten, PricesAnswers, Shown};
+ghost use Rattle.aom_main.specs.Untold.{Untold};
 
 use crate::accepting::link_bytes;
 use crate::{ExitStatus, Fault, tell};
@@ -32,23 +33,33 @@ pub fn prices_bytes<W: Sink, E: Sink>(
 ) -> ExitStatus
     ensures { PricesAnswers image.now (record { before = W.out out.old; now = W.out out.new; failed = W.failed out.new }) (record { before = E.out errors.old; now = E.out errors.new; failed = E.failed errors.new }) result }
 {
-    match price_bytes(alloc, image) {
-        Ok(priced) => show(&priced, out, errors),
+    match try_prices(alloc, image, out) {
+        Ok(status) => status,
         Err(fault) => tell(&fault, errors),
     }
 }
 
-/// Writes what is written, and tells why the image is refused, if it is. A failure of the output is told instead.
-fn show<W: Sink, E: Sink>(priced: &Priced, out: &mut W, errors: &mut E) -> ExitStatus
-    ensures { Shown priced.now.text.items priced.now.refusal result (record { before = W.out out.old; now = W.out out.new; failed = W.failed out.new }) (record { before = E.out errors.old; now = E.out errors.new; failed = E.failed errors.new }) }
+/// Writes an image's figures as `prices_bytes` does, and leaves its fault to be told.
+pub fn try_prices<W: Sink>(alloc: Global, image: &[u8], out: &mut W) -> Result<ExitStatus, Fault>
+    ensures { Untold (PricesAnswers image.now (record { before = W.out out.old; now = W.out out.new; failed = W.failed out.new })) result }
+{
+    match price_bytes(alloc, image) {
+        Ok(priced) => show(&priced, out),
+        Err(fault) => Err(fault),
+    }
+}
+
+/// Writes what is written. Why the image is refused, if it is, is left to be told, and before it a failure of the output.
+fn show<W: Sink>(priced: &Priced, out: &mut W) -> Result<ExitStatus, Fault>
+    ensures { Untold (λ errors status. Shown priced.now.text.items priced.now.refusal status (record { before = W.out out.old; now = W.out out.new; failed = W.failed out.new }) errors) result }
 {
     write_text(out, &priced.text);
     if out.has_failed() {
-        return tell(&Fault::Write, errors);
+        return Err(Fault::Write);
     }
     match priced.refusal {
-        Some(fault) => tell(&Fault::Budget(fault), errors),
-        None => ExitStatus::Done,
+        Some(fault) => Err(Fault::Budget(fault)),
+        None => Ok(ExitStatus::Done),
     }
 }
 

@@ -1,10 +1,9 @@
--- The accepted image is the one that the bytes spell. Bytes that are none are told, and so is want of memory.
-use Rattle.std.proofs.Common.{length, refl}
-use Rattle.aom_main.proofs.Telling.{accepted, unaccepted}
+-- What was not told yet is told.
+use Rattle.std.proofs.Common.{refl}
 use Rattle.aom_main.proofs.commands.run_bytes.Goals as goal
 
 pub returns-in-Ok : goal.returns-in-Ok
-returns-in-Ok g c = accepted c.args.image.now c.args.script.now c.args.limit (length c.args.boxes.items) _ _ c.run_text.result (c.run_text.ensures c.args.image.now c.in-Ok.ensures.ok.0)
+returns-in-Ok g c = c.in-Ok.ensures _ refl
 
 pub returns-in-Err : goal.returns-in-Err
-returns-in-Err g c = unaccepted c.args.image.now c.args.script.now c.args.limit (length c.args.boxes.items) c.in-Err.refusal _ _ c.tell.result c.in-Err.ensures.err c.in-Err.ensures.complete refl c.tell.ensures
+returns-in-Err g c = c.in-Err.ensures _ c.tell.result c.tell.ensures

@@ -1,4 +1,4 @@
--- A script is run as what its text denotes. A text that is no script is told, and so is want of memory.
+-- A script is run as what its text denotes. A text that is no script has a fault, and so has want of memory.
 use Rattle.std.proofs.Common.{length, refl}
 use Rattle.aom_main.specs.Acceptable.{IsAcceptable}
 use Rattle.aom_main.specs.Headline.{Accepts}
@@ -12,6 +12,6 @@ pub returns-in-Err : goal.returns-in-Err
 returns-in-Err g c =
     let facts = c.facts.ensures in
     let acceptable : IsAcceptable c.args.accepted.now = record { admitted = facts.admitted; linked = facts.linked; typing = facts.typed.0; typed = facts.typed.1; budgets = facts.budgets; depths = facts.within; heights = facts.high } in
-    λ bytes spelled.
+    λ bytes spelled errors status told.
     let accepts : Accepts bytes = record { image = c.args.accepted.now; spelled = spelled; acceptable = acceptable } in
-    unscripted bytes c.args.text.now c.args.limit (length c.args.boxes.items) c.in-Err.fault c.from.result _ _ c.tell.result accepts c.in-Err.ensures.err refl c.from.ensures c.tell.ensures
+    unscripted bytes c.args.text.now c.args.limit (length c.args.boxes.items) c.in-Err.fault c.from.result _ errors status accepts c.in-Err.ensures.err refl c.from.ensures told

@@ -1,12 +1,9 @@
--- What was written went out whole, or the failure is told.
-use Rattle.std.proofs.Common.{◌∙◌, refl, sym, inl}
-use Rattle.aom_main.proofs.Sending.{cut}
+-- What was not told yet is told.
+use Rattle.std.proofs.Common.{refl}
 use Rattle.aom_main.proofs.commands.send.Goals as goal
 
-pub returns-then-has_failed : goal.returns-then-has_failed
-returns-then-has_failed g c =
-    let written = c.write_text.ensures in
-    cut c.args.text.now _ _ c.tell.result (sym c.has_failed.ensures ∙ c.if-has_failed.true) (record { count = written.prefix.0; part = written.prefix.2; whole = written.whole }) c.tell.ensures
+pub returns-in-Ok : goal.returns-in-Ok
+returns-in-Ok g c = c.in-Ok.ensures _ refl
 
-pub returns : goal.returns
-returns g c = inl (refl, c.write_text.ensures.whole (sym c.has_failed.ensures ∙ c.if-has_failed.false), refl)
+pub returns-in-Err : goal.returns-in-Err
+returns-in-Err g c = c.in-Err.ensures _ c.tell.result c.tell.ensures

@@ -1,0 +1,11 @@
+pub mod Asm
+pub mod Boot
+pub mod Budget
+pub mod Compared
+pub mod Entries
+pub mod Link
+pub mod Load
+pub mod Places
+pub mod Script
+pub mod Verify
+pub mod Word

@@ -1,0 +1,32 @@
+//! What each fault means, in plain words: one table with an entry for each fault number of every kind, and what is said of the
+//! place where a fault is.
+//!
+//! `load_entry` and its like answer just the texts of `specs/`, which docs/reasons.md tells too, word by word. `put_entry` writes
+//! an entry, and `put_line`, `put_method` and `put_compared` what `specs/Places.antt` and `specs/Compared.antt` say of a line of a
+//! text, of an instruction and of a budget. A method and an instruction are written as in a listing. Nothing here knows which
+//! command was refused, nor where a text goes.
+#![tactic(auto)]
+
+mod asm;
+mod boot;
+mod budget;
+mod compared;
+mod entry;
+mod link;
+mod load;
+mod place;
+mod script;
+mod verify;
+mod word;
+
+pub use asm::asm_entry;
+pub use boot::boot_entry;
+pub use budget::budget_entry;
+pub use compared::put_compared;
+pub use entry::{Entry, put_entry};
+pub use link::link_entry;
+pub use load::load_entry;
+pub use place::{put_line, put_method};
+pub use script::script_entry;
+pub use verify::verify_entry;
+pub use word::{file_entry, memory_entry, native_entry, write_entry};

@@ -1,0 +1,63 @@
+-- The text that explains a fault.
+use Rattle.std.specs.Prelude.{ℕ, ◌≡◌, List, [], ◌++◌}
+use Rattle.aom_image.specs.Image.{Image}
+use Rattle.aom_verify.specs.declared.refusal.Refusal.{Refusal}
+use Rattle.aom_verify.specs.declared.refusal.Refusal.TheVariants as refusals
+use Rattle.aom_explain.specs.Asm.{asm_texts}
+use Rattle.aom_explain.specs.Boot.{boot_texts}
+use Rattle.aom_explain.specs.Budget.{budget_texts}
+use Rattle.aom_explain.specs.Compared.{compared_text}
+use Rattle.aom_explain.specs.Entries.{Texts, entry_text}
+use Rattle.aom_explain.specs.Link.{link_texts}
+use Rattle.aom_explain.specs.Load.{load_texts}
+use Rattle.aom_explain.specs.Places.{line_text, method_text}
+use Rattle.aom_explain.specs.Script.{script_texts}
+use Rattle.aom_explain.specs.Verify.{verify_texts}
+use Rattle.aom_explain.specs.Word.{file_texts, memory_texts, native_texts, write_texts}
+use Rattle.aom_main.specs.Acceptable.{IsSpelled}
+use Rattle.aom_main.specs.declared.faults.Fault.{Fault}
+use Rattle.aom_main.specs.declared.faults.Fault.TheVariants.{Load, Asm, Link, Verify, Budget, Script, Boot, Native, File, Write, Memory}
+
+-- what is told of a refusal by its number
+abbrev pub refusal_texts : Refusal → Texts
+refusal_texts refusals.OutOfMemory = memory_texts
+refusal_texts (refusals.Refused method place why) = verify_texts why
+
+-- what is told of a fault by its kind and number
+abbrev pub texts_of : Fault → Texts
+texts_of (Load fault) = load_texts fault
+texts_of (Asm fault) = asm_texts fault.kind
+texts_of (Link fault) = link_texts fault
+texts_of (Verify refusal) = refusal_texts refusal
+texts_of (Budget fault) = budget_texts fault
+texts_of (Script fault) = script_texts fault.kind
+texts_of (Boot fault) = boot_texts fault
+texts_of Native = native_texts
+texts_of File = file_texts
+texts_of Write = write_texts
+texts_of Memory = memory_texts
+
+-- what the listing of an image says of the place of a refusal
+abbrev pub refusal_text : Image → Refusal → List ℕ
+refusal_text p refusals.OutOfMemory = []
+refusal_text p (refusals.Refused method place why) = method_text p method place
+
+-- what is said of the place of another fault, of which a line of the text is told, or what has been compared
+abbrev pub place_text : List ℕ → Fault → List ℕ
+place_text text (Asm fault) = line_text text fault.line
+place_text text (Script fault) = line_text text fault.line
+place_text text (Budget fault) = compared_text fault
+place_text text _ = []
+
+-- the place of a refusal is written behind a text, in the image that the bytes spell
+abbrev pub AddsRefusal : List ℕ → Refusal → List ℕ → List ℕ → Type 0
+AddsRefusal image refusal before after = (p : Image) → IsSpelled image p → after ≡ before ++ refusal_text p refusal
+
+-- the place of a fault is written behind a text
+abbrev pub Adds : (image text : List ℕ) → Fault → List ℕ → List ℕ → Type 0
+Adds image text (Verify refusal) before after = AddsRefusal image refusal before after
+Adds image text fault before after = after ≡ before ++ place_text text fault
+
+-- a text explains a fault: what is told of it by its kind and number, and its place
+abbrev pub Explains : (image text : List ℕ) → Fault → List ℕ → Type 0
+Explains image text fault said = Adds image text fault (entry_text (texts_of fault)) said

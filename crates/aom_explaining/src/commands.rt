@@ -1,0 +1,78 @@
+//! The commands.
+ghost use Rattle.std.specs.Prelude.{◌≤◌, [], length};
+ghost use Rattle.aom_natives.specs.Owed.{OweNothing};
+ghost use Rattle.aom_main.specs.Assembly.{AsmAnswers};
+ghost use Rattle.aom_main.specs.Headline.{CheckAnswers, RunAnswers};
+ghost use Rattle.aom_main.specs.Prices.{PricesAnswers};
+ghost use Rattle.aom_explaining.specs.Explaining.{Explaining};
+
+use crate::telling::tell_explained;
+use aom_main::{ExitStatus, try_asm, try_check, try_prices, try_run};
+use aom_natives::Native;
+use aom_run::Sink;
+use std::alloc::Global;
+
+/// Tells whether an image is accepted, and explains why it is not.
+pub fn check_explained<W: Sink, E: Sink>(
+    alloc: Global,
+    image: &[u8],
+    out: &mut W,
+    errors: &mut E,
+) -> ExitStatus
+    ensures { Explaining (CheckAnswers image.now (record { before = W.out out.old; now = W.out out.new; failed = W.failed out.new })) image.now [] (record { before = E.out errors.old; now = E.out errors.new; failed = E.failed errors.new }) result }
+{
+    match try_check(alloc, image, out) {
+        Ok(status) => status,
+        Err(fault) => tell_explained(alloc, &fault, image, b"", errors),
+    }
+}
+
+/// The same with the image's figures.
+pub fn prices_explained<W: Sink, E: Sink>(
+    alloc: Global,
+    image: &[u8],
+    out: &mut W,
+    errors: &mut E,
+) -> ExitStatus
+    ensures { Explaining (PricesAnswers image.now (record { before = W.out out.old; now = W.out out.new; failed = W.failed out.new })) image.now [] (record { before = E.out errors.old; now = E.out errors.new; failed = E.failed errors.new }) result }
+{
+    match try_prices(alloc, image, out) {
+        Ok(status) => status,
+        Err(fault) => tell_explained(alloc, &fault, image, b"", errors),
+    }
+}
+
+/// Runs an image under a script beside those natives, and explains why it is not run. Lines are counted in the script.
+pub fn run_explained<W: Sink, E: Sink>(
+    alloc: Global,
+    image: &[u8],
+    script: &[u8],
+    limit: u32,
+    boxes: Vec<Box<dyn Native>>,
+    out: &mut W,
+    errors: &mut E,
+) -> ExitStatus
+    requires limit { (1 ≤ limit) × (limit ≤ 1000000000) }
+    requires owed { OweNothing (λ b. (⟦<dyn Native as Native>⟧ b.vtable).owed b.value) boxes.items }
+    ensures { Explaining (RunAnswers image.now script.now limit (length boxes.items) (record { before = W.out out.old; now = W.out out.new; failed = W.failed out.new })) image.now script.now (record { before = E.out errors.old; now = E.out errors.new; failed = E.failed errors.new }) result }
+{
+    match try_run(alloc, image, script, limit, boxes, out) {
+        Ok(status) => status,
+        Err(fault) => tell_explained(alloc, &fault, image, script, errors),
+    }
+}
+
+/// Writes the bytes of the image that an assembly text denotes, and explains why it denotes none.
+pub fn asm_explained<W: Sink, E: Sink>(
+    alloc: Global,
+    text: &[u8],
+    out: &mut W,
+    errors: &mut E,
+) -> ExitStatus
+    ensures { Explaining (AsmAnswers text.now (record { before = W.out out.old; now = W.out out.new; failed = W.failed out.new })) [] text.now (record { before = E.out errors.old; now = E.out errors.new; failed = E.failed errors.new }) result }
+{
+    match try_asm(alloc, text, out) {
+        Ok(status) => status,
+        Err(fault) => tell_explained(alloc, &fault, b"", text, errors),
+    }
+}

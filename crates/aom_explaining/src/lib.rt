@@ -1,0 +1,15 @@
+//! The commands that explain: each answers as it does without, and behind a fault's line says what the fault means.
+//!
+//! `check_explained`, `prices_explained`, `run_explained` and `asm_explained` promise `Explaining` of `specs/Explaining.antt`: the
+//! same status, the same output and the same fault line as the command of `aom_main`, and then the text of `specs/Explained.antt`,
+//! which `aom_explain` writes. Without a fault nothing is explained. Nothing here knows why an image is refused, nor where a sink
+//! leads.
+#![tactic(auto)]
+
+mod commands;
+mod explaining;
+mod telling;
+
+pub use commands::{asm_explained, check_explained, prices_explained, run_explained};
+pub use explaining::{entry_of, explanation};
+pub use telling::tell_explained;
