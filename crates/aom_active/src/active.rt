@@ -1,5 +1,5 @@
 //! The active objects of a machine.
-ghost use Rattle.std.specs.Prelude.{◌≡◌, ◌<◌, ◌≤◌, ℕ, Option, Some, None, IfOk, IfSome, IsTrue, IsFalse, is_some, length};
+ghost use Rattle.std.specs.Prelude.{◌≡◌, ◌<◌, ◌≤◌, ℕ, Option, Some, None, IfOk, IfSome, IsTrue, IsFalse, is_some, length, slice_get};
 ghost use Rattle.aom_requests.specs.Requests.{request_at, IsEnlisted, state_at, status_at, is_pending};
 ghost use Rattle.aom_scheduler.specs.Pending.{first_due, AreInOrder};
 ghost use Rattle.aom_scheduler.specs.Roster.{IsSound};
@@ -13,7 +13,7 @@ ghost use Rattle.aom_active.specs.Meanings.{is_waited_for, is_being_cancelled, i
 use crate::parts::{abort_request, mark, stop_timer};
 use aom_cells::CellId;
 use aom_requests::{Requests, State};
-use aom_scheduler::{Schedule, Timers};
+use aom_scheduler::{Entry, Schedule, Timers};
 use std::alloc::{AllocError, Global};
 use std::marker::Model;
 
@@ -177,6 +177,20 @@ impl ActiveObjects {
         self.requests.wait_for(pick);
         self.schedule.set_waiting(pick);
         Some(pick)
+    }
+
+    /// How many objects are enlisted.
+    pub fn count(&self) -> usize
+        ensures { result ≡ length self.now.roster.entries }
+    {
+        self.schedule.count()
+    }
+
+    /// The object at that place in the order of choice: of a higher priority first, and of the same in the order of enlisting.
+    pub fn entry(&self, place: usize) -> Option<Entry>
+        ensures { result ≡ slice_get self.now.roster.entries place }
+    {
+        self.schedule.entry(place)
     }
 
     /// Whether a request of the object is made, and not completed.

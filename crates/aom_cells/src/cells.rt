@@ -75,6 +75,18 @@ impl Cells {
         CellId::new(number)
     }
 
+    /// The id of the cell of that number, if one lives.
+    pub fn find(&self, number: u32) -> Option<CellId>
+        ensures lives { IsSome result ↔ Lives self.now number }
+        ensures value { IfSome result (λ id. id ≡ number) }
+    {
+        if self.slab.contains(number as usize) {
+            Some(self.living(number))
+        } else {
+            None
+        }
+    }
+
     /// A new cell whose words are 0 and whose fields are null, or none where `limit` cells live.
     pub fn create(&mut self, class: u16) -> Option<CellId>
         ensures variant { IsSome result ↔ (count self.old < self.old.limit) }

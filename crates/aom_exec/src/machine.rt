@@ -5,7 +5,7 @@ ghost use Rattle.aom_sound.specs.World.{AnswersWell, Completion, Cuts, Hears, Ki
 ghost use Rattle.aom_lines.specs.Turn.{Turn as TurnRecord};
 ghost use Rattle.aom_owed.specs.Owed.{owes};
 ghost use Rattle.aom_exec.specs.Agreement.{AgreesInAll};
-ghost use Rattle.aom_parts.specs.Stands.{StandsFor};
+ghost use Rattle.aom_parts.specs.Stands.{Stands, StandsFor};
 ghost use Rattle.aom_exec.specs.Steps.{Stepped, SteppedOn, Wants, progress, rank, timers};
 ghost use Rattle.aom_exec.specs.Turns.{Answers, Completed, NoneDue, Picked, Takes, TakesAll};
 ghost use Rattle.aom_sessions.specs.Sessions.{is_killed};
@@ -271,5 +271,21 @@ impl<'a> Machine<'a> {
         ensures { result ≡ count self.now.parts.cells }
     {
         self.parts.cells.count()
+    }
+
+    /// All that changes in it, to look at.
+    pub fn parts(&self) -> &Parts
+        ensures parts { result.now ≡ self.now.parts }
+        ensures stands { Stands self.now }
+        ensures agrees { AgreesInAll self.now }
+    {
+        &self.parts
+    }
+
+    /// The image that it runs.
+    pub fn accepted(&self) -> &'a Accepted
+        ensures { result.now ≡ self.now.image }
+    {
+        self.accepted
     }
 }

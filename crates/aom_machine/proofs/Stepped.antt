@@ -16,10 +16,10 @@ use Rattle.aom_parts.specs.declared.progress.Progress.{Progress}
 use Rattle.aom_parts.specs.declared.progress.Progress.TheVariants.{Ended, Running, Turned}
 use Rattle.aom_parts.specs.Progress.{progress_of}
 use Rattle.aom_parts.specs.Stands.{Machine as Core, StandsFor as Core_stands}
-use Rattle.aom_exec.specs.Steps.{Quiet, SteppedOn as Core_stepped_on, Steps, progress}
+use Rattle.aom_exec.specs.Steps.{Quiet, Stepped as Core_stepped, SteppedOn as Core_stepped_on, Steps, begins, progress}
 use Rattle.aom_machine.specs.declared.machine.Machine.{Machine}
 use Rattle.aom_machine.specs.Answers.{Asked, MayAsk, MayHear, asked_by, asked_of}
-use Rattle.aom_machine.specs.Calls.{StandsFor, SteppedOn}
+use Rattle.aom_machine.specs.Calls.{StandsFor, SteppedOn, SteppedOnce}
 use Rattle.aom_machine.specs.Standing.{Serves}
 use Rattle.aom_machine.proofs.Asked.{may_ask, serves_after, session_small}
 use Rattle.aom_machine.proofs.Moving.{asks_well, went_on}
@@ -120,3 +120,11 @@ module _ {X : Type 0} {B : X → Type 0} (old : Machine X B) (s : State) (st : S
           countable = subst (λ k. k < 18446744073709551616) (sym asked.count) st.countable;
         },
       )
+
+  -- so it has by one step
+  pub stepped_once : (new : Machine X B) (mid : Core) (heard : ℤ) (progress : Progress) (told now : Turn) → mid.image ≡ old.core.image → mid.parts.heard ≡ heard → Core_stands mid s → new.core.image ≡ mid.image →
+      Asked (λ l. l.ids) old.natives.slots.items (asked_of old.core.image s) heard new.natives.slots.items → Core_stepped mid progress told now new.core → SteppedOnce old heard progress told now new s
+  unfolding stepped_on
+  stepped_once new mid heard progress told now image same_heard stands kept asked steps =
+      let d = stepped_on new mid heard progress told now image same_heard stands kept asked (λ v there. let x = steps v there in (x.0, v, x.1, begins, x.2, x.3, x.4, x.5)) in
+      (d.0, d.2, d.4, d.5, d.6, d.7)

@@ -40,6 +40,14 @@ module _ {X : Type 0} {B : X → Type 0} where
       × (progress ≡ progress_of u)
       × StandsFor new u
 
+  -- one step, which hears that
+  abbrev pub SteppedOnce : Machine X B → ℤ → Progress → Turn → Turn → Machine X B → State → Type 0
+  SteppedOnce old heard progress told now new s =
+      (lines : List Line) × (u : State) × Steps old.core.image told.refused heard s lines u
+      × (now ≡ record told { lines = told.lines ++ lines })
+      × (progress ≡ progress_of u)
+      × StandsFor new u
+
   -- a part of a turn, with its lines, to a state that the machine then stands for
   pub record Takes (old : Machine X B) (s : State) (part : Turning) (told now : Turn) (new : Machine X B) : Type 0 where
     pub between : IsBetween s

@@ -3,7 +3,7 @@ ghost use Rattle.std.specs.Prelude.{ℤ, ◌≡◌, ◌<◌, ◌+◌, ◌↔◌,
 ghost use Rattle.aom_exec.specs.Steps.{rank};
 ghost use Rattle.aom_parts.specs.declared.progress.Progress.TheVariants.{Running};
 ghost use Rattle.aom_machine.specs.Answers.{MayHear, asked_of};
-ghost use Rattle.aom_machine.specs.Calls.{Stands, StandsFor, SteppedOn, natives_of};
+ghost use Rattle.aom_machine.specs.Calls.{Stands, StandsFor, SteppedOn, SteppedOnce, natives_of};
 ghost use Rattle.aom_natives.specs.Owed.{OweNothing};
 ghost use Rattle.aom_natives.specs.Slots.{AllAgree};
 ghost use Rattle.aom_sound.specs.State.{State};
@@ -66,5 +66,20 @@ impl<'a> Machine<'a> {
     {
         self.ask();
         self.core.step_on(turn)
+    }
+
+    /// One step: an instruction, or the going of one cell, with what counts as no step after it. What it asks of a native is asked before.
+    pub fn step(&mut self, turn: &mut Turn) -> Progress
+        requires agree { AllAgree (λ l. l.ids) (λ l. (⟦<dyn Native as Native>⟧ l.native.vtable).owed l.native.value) self.old.natives.slots.items }
+        requires stands { Stands self.old }
+        requires room { length turn.old.lines + 2 < turn.old.room }
+        ensures agree { AllAgree (λ l. l.ids) (λ l. (⟦<dyn Native as Native>⟧ l.native.vtable).owed l.native.value) self.new.natives.slots.items }
+        ensures image { self.new.core.image ≡ self.old.core.image }
+        ensures natives { natives_of self.new ≡ natives_of self.old }
+        ensures steps { (s : State) → StandsFor self.old s → (heard : ℤ) × MayHear (λ l. (⟦<dyn Native as Native>⟧ l.native.vtable).open_may l.native.value) (λ l. (⟦<dyn Native as Native>⟧ l.native.vtable).start_may l.native.value) (λ l. (⟦<dyn Native as Native>⟧ l.native.vtable).call_may l.native.value) self.old.natives.slots.items (asked_of self.old.core.image s) heard × SteppedOnce self.old heard result turn.old turn.new self.new s }
+        ensures falls { result ≡ Running → rank self.new.core < rank self.old.core }
+    {
+        self.ask();
+        self.core.step(turn)
     }
 }

@@ -24,7 +24,7 @@ settled_on p refused b lines s _ v r (settles {u = u} {lines = more} c uncounted
     subst (λ ls. Moving p refused b ls v) (append_assoc lines _ more) (settled_on p refused b (lines ++ written p s) u more v (goes_on c r (is_busy s uncounted) free goes) rest)
 
 -- a step of the machine is no move, or one or more
-steps_on : (p : Image) (refused : List ℕ) (heard : ℤ) (b : State) (lines : List Line) (s : State) (more : List Line) (u : State)
+pub steps_on : (p : Image) (refused : List ℕ) (heard : ℤ) (b : State) (lines : List Line) (s : State) (more : List Line) (u : State)
     → Moving p refused b lines s → Steps p refused heard s more u → Moving p refused b (lines ++ more) u
 steps_on p refused heard b lines s more u r (rests done) = subst (λ ls. Moving p refused b ls s) (sym (append-nil lines)) r
 steps_on p refused heard b lines s _ v r (moves {u = u} {lines = more} c hand free hears goes rest) =

@@ -72,7 +72,7 @@ fn fill(machine: &mut Machine, turn: &mut Turn) -> Progress
 }
 
 /// Writes lines out, as many at once as the page has room for, and stops where the sink fails.
-fn write_lines<W: Sink>(out: &mut W, page: &mut Page, lines: &[Line])
+pub fn write_lines<W: Sink>(out: &mut W, page: &mut Page, lines: &[Line])
     ensures prefix { (n : ℕ) × (W.out out.new ≡ after (W.out out.old) (take n (text_of lines.now))) }
     ensures whole { W.failed out.new ≡ false → W.out out.new ≡ after (W.out out.old) (text_of lines.now) }
 {

@@ -11,6 +11,8 @@ mod runs;
 mod sink;
 mod turns;
 
+pub use dispatches::write_lines;
 pub use outcome::Outcome;
 pub use runs::run;
 pub use sink::{Sink, write_text};
+pub use turns::take_turns;

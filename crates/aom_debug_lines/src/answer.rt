@@ -1,0 +1,40 @@
+//! What a debugger answers.
+
+use aom_debug_marks::Spot;
+use aom_debug_words::DebugFault;
+
+/// How far the request of an enlisted object has come. One whose cancel is at hand is active.
+#[derive(Clone, Copy, PartialEq, Eq, Debug)]
+pub enum Phase {
+    Idle,
+    Issued,
+    Active,
+}
+
+/// A line that a debugger answers.
+#[derive(Clone, Copy, PartialEq, Eq, Debug)]
+pub enum Answer {
+    Done,
+    Fault(DebugFault),
+    /// The instruction that is next.
+    At(Spot),
+    /// A cell of that class goes next.
+    Gone(u16),
+    /// Nothing is at hand, at that time.
+    Between(u64),
+    Ended,
+    /// How many cells live.
+    Cells(usize),
+    /// So many cells of a class live.
+    OfClass(u16, usize),
+    /// Where a trap was set.
+    Trap,
+    /// An object of that class on the cleanup stack.
+    Object(u16),
+    /// A method on the cleanup stack, and the word that it is called on.
+    Operation(u16, i32),
+    /// An enlisted object of a class, with its priority, how far its request has come, and the status of that.
+    Active(u16, i32, Phase, i32),
+    /// An instruction that ran.
+    Ran(Spot),
+}

@@ -1,0 +1,8 @@
+use Rattle.std.proofs.Common.{◌∙◌, ap}
+use Rattle.aom_debug_moves.specs.Moves.{noted}
+use Rattle.aom_debug_moves.proofs.stepping.note_next.Goals as goal
+
+pub returns-in-Some : goal.returns-in-Some
+returns-in-Some g c = λ s st.
+    let told = rw (c.parts-parts.ensures.parts, c.linked.ensures, c.accepted.ensures) at c.in-Some.ensures in
+    c.note.ensures ∙ ap (λ o. noted o c.args.recent.now) (told s st.stands)

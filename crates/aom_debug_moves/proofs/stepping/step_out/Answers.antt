@@ -1,0 +1,27 @@
+-- One step, and its lines.
+use Rattle.aom_debug_moves.proofs.Sending.{breaks_step, far_after, sends_step, stands_after, stepped_of, was_running}
+use Rattle.aom_debug_moves.proofs.stepping.step_out.Goals as goal
+
+pub returns-then-send-clause-stands : goal.returns-then-send-clause-stands
+returns-then-send-clause-stands g c = stands_after c.args.machine.now c.step-progress.new.self c.step-progress.result c.args.turn.now c.step-progress.new.turn c.requires.none (stepped_of c.args.machine.now c.step-progress.new.self c.step-progress.result c.args.turn.now c.step-progress.new.turn c.step-progress.ensures.steps) c.requires.stands
+
+pub returns-then-send-clause-some : goal.returns-then-send-clause-some
+returns-then-send-clause-some g c = (
+  sends_step c.args.machine.now c.step-progress.new.self c.step-progress.result c.args.turn.now c.step-progress.new.turn c.requires.none (stepped_of c.args.machine.now c.step-progress.new.self c.step-progress.result c.args.turn.now c.step-progress.new.turn c.step-progress.ensures.steps) (g.W.Sink.out c.args.out.now) (g.W.Sink.out c.send.new.out) (c.send.ensures.whole c.if-send.true),
+  far_after c.args.machine.now c.step-progress.new.self c.step-progress.result c.args.turn.now c.step-progress.new.turn c.requires.none (stepped_of c.args.machine.now c.step-progress.new.self c.step-progress.result c.args.turn.now c.step-progress.new.turn c.step-progress.ensures.steps) c.requires.stands,
+)
+
+pub returns-then-send-clause-was : goal.returns-then-send-clause-was
+returns-then-send-clause-was g c = was_running c.args.machine.now c.step-progress.new.self c.step-progress.result c.args.turn.now c.step-progress.new.turn c.requires.none (stepped_of c.args.machine.now c.step-progress.new.self c.step-progress.result c.args.turn.now c.step-progress.new.turn c.step-progress.ensures.steps) c.requires.stands
+
+pub returns-else-send-clause-stands : goal.returns-else-send-clause-stands
+returns-else-send-clause-stands g c = stands_after c.args.machine.now c.step-progress.new.self c.step-progress.result c.args.turn.now c.step-progress.new.turn c.requires.none (stepped_of c.args.machine.now c.step-progress.new.self c.step-progress.result c.args.turn.now c.step-progress.new.turn c.step-progress.ensures.steps) c.requires.stands
+
+pub returns-else-send-clause-none : goal.returns-else-send-clause-none
+returns-else-send-clause-none g c = (
+  c.send.ensures.fails c.if-send.false,
+  breaks_step c.args.machine.now c.step-progress.new.self c.step-progress.result c.args.turn.now c.step-progress.new.turn c.requires.none (stepped_of c.args.machine.now c.step-progress.new.self c.step-progress.result c.args.turn.now c.step-progress.new.turn c.step-progress.ensures.steps) (g.W.Sink.out c.args.out.now) (g.W.Sink.out c.send.new.out) c.send.ensures.prefix.0 c.send.ensures.prefix.1,
+)
+
+pub returns-else-send-clause-was : goal.returns-else-send-clause-was
+returns-else-send-clause-was g c = was_running c.args.machine.now c.step-progress.new.self c.step-progress.result c.args.turn.now c.step-progress.new.turn c.requires.none (stepped_of c.args.machine.now c.step-progress.new.self c.step-progress.result c.args.turn.now c.step-progress.new.turn c.step-progress.ensures.steps) c.requires.stands

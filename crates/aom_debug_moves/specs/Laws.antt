@@ -1,0 +1,16 @@
+-- What a debugger's moves are to a run.
+use Rattle.std.specs.Prelude.{ℕ, List}
+use Rattle.aom_image.specs.Image.{Image}
+use Rattle.aom_sound.specs.State.{State}
+use Rattle.aom_sound.specs.World.{Outside, Reaches}
+use Rattle.aom_transcript.specs.declared.line.Line.{Line}
+use Rattle.aom_run.specs.Runs.{Moving}
+use Rattle.aom_debug_moves.specs.Moves.{Arrives, Strides}
+
+-- a step of a debugger is moves, with the same lines
+abbrev pub StridesMove : Type 0
+StridesMove = (p : Image) (refused : List ℕ) (s : State) (lines : List Line) (u : State) → Strides p refused s lines u → Moving p refused s lines u
+
+-- turns until something is at hand are a run, with the same lines
+abbrev pub ArrivesRun : Type 0
+ArrivesRun = (p : Image) (outside : Outside) (s : State) (lines : List Line) (u : State) → Arrives p outside s lines u → Reaches p outside s lines u

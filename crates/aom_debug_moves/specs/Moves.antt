@@ -1,0 +1,39 @@
+-- The moves of a debugger.
+use Rattle.std.specs.Prelude.{◌≡◌, ℕ, ℤ, List, [], ◌∷◌, ◌++◌, Option, Some, None}
+use Rattle.circular_buffer.specs.Buffer.{keep_last}
+use Rattle.aom_debug_marks.specs.declared.spot.Spot.{Spot}
+use Rattle.aom_image.specs.Image.{Image}
+use Rattle.aom_sound.specs.State.{State}
+use Rattle.aom_sound.specs.World.{IsBetween, Outside, Reaches}
+use Rattle.aom_transcript.specs.declared.line.Line.{Line}
+use Rattle.aom_transcript.specs.declared.line.Ending.{Ending}
+use Rattle.aom_exec.specs.Steps.{Steps}
+use Rattle.aom_run.specs.Turns.{LeadTo}
+use Rattle.aom_debug_views.specs.Next.{next_of, pauses, root_is_due, spot_of}
+use Rattle.aom_debug_moves.specs.Sends.{Leads, Then, Where}
+
+-- the latest instructions, once one is noted
+abbrev pub noted : Option Spot → List Spot → List Spot
+noted None spots = spots
+noted (Some spot) spots = keep_last 16 (spots ++ spot ∷ [])
+
+-- a step of the machine, whatever it hears of a native
+abbrev pub StepsOnce : Image → List ℕ → Leads
+StepsOnce p refused s lines u = (heard : ℤ) × Steps p refused heard s lines u
+
+-- a step of a debugger. Where the root's destruction is due it begins first, and an end of a dispatch after which it is not due is no place to stay
+abbrev pub Strides : Image → List ℕ → Leads
+Strides p refused = Then (Where (root_is_due p) (StepsOnce p refused)) (Then (StepsOnce p refused) (Where (pauses p) (StepsOnce p refused)))
+
+-- the instruction that such a step makes is noted
+abbrev pub Notes : Image → List ℕ → State → List Spot → List Spot → Type 0
+Notes p refused s old new = (v : State) × (lines : List Line) × Where (root_is_due p) (StepsOnce p refused) s lines v × (new ≡ noted (spot_of (next_of p v)) old)
+
+-- turns up to a dispatch, a native's end, or the end of the run
+abbrev pub TurnsOnce : Image → Outside → Leads
+TurnsOnce p outside s lines u = (ending : Option Ending) × Reaches p outside s lines u × LeadTo outside ending s lines u
+
+-- such turns one after another, as long as nothing is at hand
+pub data Arrives (p : Image) (outside : Outside) (s : State) : List Line → State → Type 0 where
+  stays : Arrives p outside s [] s
+  turns : {lines more : List Line} {v u : State} → Arrives p outside s lines v → IsBetween v → TurnsOnce p outside v more u → Arrives p outside s (lines ++ more) u

@@ -1,0 +1,9 @@
+//! That a debugger's moves are those of a run.
+ghost use Rattle.aom_debug_moves.specs.Laws.{ArrivesRun, StridesMove};
+
+/// A debugger's step is moves of the checked machine, and what it takes until something is at hand is a run, each with the same lines; so one that goes on
+/// by these tells what a run tells.
+pub fn moves_are_a_run()
+    ensures strides { StridesMove }
+    ensures arrives { ArrivesRun }
+{}

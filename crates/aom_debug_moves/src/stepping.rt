@@ -1,0 +1,146 @@
+//! A step at hand, whose lines go out.
+ghost use Rattle.std.specs.Prelude.{◌≡◌, ◌<◌, ◌≤◌, ◌++◌, ◌∷◌, ℕ, [], Bool, true, false, IfNone, IfSome, Some, length, take};
+ghost use Rattle.aom_transcript.specs.Text.{text_of};
+ghost use Rattle.aom_exec.specs.Steps.{progress, rank};
+ghost use Rattle.aom_parts.specs.declared.progress.Progress.TheVariants.{Running};
+ghost use Rattle.aom_sound.specs.State.{State};
+ghost use Rattle.aom_machine.specs.Calls.{Stands, StandsFor, natives_of};
+ghost use Rattle.aom_debug_views.specs.Next.{next_of, pauses, root_is_due, spot_of};
+ghost use Rattle.aom_natives.specs.Slots.{AllAgree};
+ghost use Rattle.aom_run.specs.Runs.{Moving, after};
+ghost use Rattle.aom_debug_moves.specs.Moves.{Notes, StepsOnce, Strides, noted};
+ghost use Rattle.aom_debug_moves.specs.Sends.{Breaks, IfSo, Sends};
+
+use aom_debug_marks::Recent;
+use aom_debug_views::{is_due, pauses, spot_at};
+use aom_exec::Progress;
+use aom_lines::Turn;
+use aom_machine::Machine;
+use aom_natives::Native;
+use aom_run::{Sink, write_lines};
+use aom_transcript::Page;
+
+/// Sends out what the turn has, and clears it. Answers whether all is out.
+pub fn send<W: Sink>(turn: &mut Turn, page: &mut Page, out: &mut W) -> bool
+    ensures clear { turn.new ≡ record turn.old { lines = [] } }
+    ensures prefix { (n : ℕ) × (W.out out.new ≡ after (W.out out.old) (take n (text_of turn.old.lines))) }
+    ensures whole { result ≡ true → W.out out.new ≡ after (W.out out.old) (text_of turn.old.lines) }
+    ensures fails { result ≡ false → W.failed out.new ≡ true }
+{
+    write_lines(out, page, turn.lines());
+    turn.clear();
+    !out.has_failed()
+}
+
+/// One step of the machine, whose lines go out.
+pub fn step_out<W: Sink>(
+    machine: &mut Machine,
+    turn: &mut Turn,
+    page: &mut Page,
+    out: &mut W,
+) -> Option<Progress>
+    requires agree { AllAgree (λ l. l.ids) (λ l. (⟦<dyn Native as Native>⟧ l.native.vtable).owed l.native.value) machine.old.natives.slots.items }
+    requires stands { Stands machine.old }
+    requires none { turn.old.lines ≡ [] }
+    requires room { 80 ≤ turn.old.room }
+    ensures agree { AllAgree (λ l. l.ids) (λ l. (⟦<dyn Native as Native>⟧ l.native.vtable).owed l.native.value) machine.new.natives.slots.items }
+    ensures image { machine.new.core.image ≡ machine.old.core.image }
+    ensures natives { natives_of machine.new ≡ natives_of machine.old }
+    ensures stands { Stands machine.new }
+    ensures turn { turn.new ≡ turn.old }
+    ensures none { IfNone result ((W.failed out.new ≡ true) × Breaks (Moving machine.old.core.image turn.old.refused) machine.old (W.out out.old) (W.out out.new) machine.new) }
+    ensures some { IfSome result (λ far. Sends (StepsOnce machine.old.core.image turn.old.refused) machine.old (W.out out.old) (W.out out.new) machine.new × (far ≡ progress machine.new.core)) }
+    ensures was { progress machine.new.core ≡ Running → progress machine.old.core ≡ Running }
+    ensures falls { progress machine.new.core ≡ Running → rank machine.new.core < rank machine.old.core }
+{
+    let progress = machine.step(turn);
+    if send(turn, page, out) {
+        Some(progress)
+    } else {
+        None
+    }
+}
+
+/// One such step, if it is asked for.
+fn step_if<W: Sink>(
+    asked: bool,
+    machine: &mut Machine,
+    turn: &mut Turn,
+    page: &mut Page,
+    out: &mut W,
+) -> Option<Progress>
+    requires agree { AllAgree (λ l. l.ids) (λ l. (⟦<dyn Native as Native>⟧ l.native.vtable).owed l.native.value) machine.old.natives.slots.items }
+    requires stands { Stands machine.old }
+    requires none { turn.old.lines ≡ [] }
+    requires room { 80 ≤ turn.old.room }
+    ensures agree { AllAgree (λ l. l.ids) (λ l. (⟦<dyn Native as Native>⟧ l.native.vtable).owed l.native.value) machine.new.natives.slots.items }
+    ensures image { machine.new.core.image ≡ machine.old.core.image }
+    ensures natives { natives_of machine.new ≡ natives_of machine.old }
+    ensures stands { Stands machine.new }
+    ensures turn { turn.new ≡ turn.old }
+    ensures none { IfNone result ((W.failed out.new ≡ true) × Breaks (Moving machine.old.core.image turn.old.refused) machine.old (W.out out.old) (W.out out.new) machine.new) }
+    ensures some { IfSome result (λ far. Sends (IfSo asked (StepsOnce machine.old.core.image turn.old.refused)) machine.old (W.out out.old) (W.out out.new) machine.new × (far ≡ progress machine.new.core)) }
+    ensures was { progress machine.new.core ≡ Running → progress machine.old.core ≡ Running }
+    ensures falls { progress machine.new.core ≡ Running → rank machine.new.core ≤ rank machine.old.core }
+{
+    if asked {
+        step_out(machine, turn, page, out)
+    } else {
+        Some(machine.core.progress())
+    }
+}
+
+/// Notes the instruction that is next, if one is.
+fn note_next(machine: &Machine, recent: &mut Recent)
+    requires { Stands machine.now }
+    ensures { (s : State) → StandsFor machine.now s → recent.new ≡ noted (spot_of (next_of machine.now.core.image s)) recent.old }
+{
+    let parts = machine.core.parts();
+    if let Some(spot) = spot_at(parts, machine.core.accepted().linked()) {
+        recent.note(spot);
+    }
+}
+
+/// Whether the root's destruction is due in each state that the machine stands for.
+fn starts_end(machine: &Machine) -> bool
+    ensures { (s : State) → StandsFor machine.now s → result ≡ root_is_due machine.now.core.image s }
+{
+    is_due(machine.core.parts(), machine.core.accepted().linked())
+}
+
+/// Whether the machine stays at an end after which that is not due.
+fn stays_there(machine: &Machine) -> bool
+    ensures { (s : State) → StandsFor machine.now s → result ≡ pauses machine.now.core.image s }
+{
+    pauses(machine.core.parts(), machine.core.accepted().linked())
+}
+
+/// One step of a debugger: an instruction, which is noted, or the going of a cell. Where the root's destruction is due it begins first.
+pub fn stride<W: Sink>(
+    machine: &mut Machine,
+    recent: &mut Recent,
+    turn: &mut Turn,
+    page: &mut Page,
+    out: &mut W,
+) -> Option<Progress>
+    requires agree { AllAgree (λ l. l.ids) (λ l. (⟦<dyn Native as Native>⟧ l.native.vtable).owed l.native.value) machine.old.natives.slots.items }
+    requires stands { Stands machine.old }
+    requires none { turn.old.lines ≡ [] }
+    requires room { 80 ≤ turn.old.room }
+    ensures agree { AllAgree (λ l. l.ids) (λ l. (⟦<dyn Native as Native>⟧ l.native.vtable).owed l.native.value) machine.new.natives.slots.items }
+    ensures image { machine.new.core.image ≡ machine.old.core.image }
+    ensures natives { natives_of machine.new ≡ natives_of machine.old }
+    ensures stands { Stands machine.new }
+    ensures turn { turn.new ≡ turn.old }
+    ensures none { IfNone result ((W.failed out.new ≡ true) × Breaks (Moving machine.old.core.image turn.old.refused) machine.old (W.out out.old) (W.out out.new) machine.new) }
+    ensures some { IfSome result (λ far. Sends (Strides machine.old.core.image turn.old.refused) machine.old (W.out out.old) (W.out out.new) machine.new × (far ≡ progress machine.new.core)) }
+    ensures notes { IfSome result (λ _. (s : State) → StandsFor machine.old s → Notes machine.old.core.image turn.old.refused s recent.old recent.new) }
+    ensures falls { IfSome result (λ _. progress machine.new.core ≡ Running → rank machine.new.core < rank machine.old.core) }
+{
+    let begins = starts_end(machine);
+    step_if(begins, machine, turn, page, out)?;
+    note_next(machine, recent);
+    step_out(machine, turn, page, out)?;
+    let goes_on = stays_there(machine);
+    step_if(goes_on, machine, turn, page, out)
+}

@@ -1,0 +1,100 @@
+-- What is next in a state of the checked machine, and where the root's destruction is due.
+use Rattle.std.specs.Prelude.{ℕ, pos, Bool, true, false, not, ◌&&◌, List, [], ◌∷◌, length, Option, Some, None, is_some}
+use Rattle.std.specs.Ordering.{int_eq}
+use Rattle.aom_image.specs.Image.{Image}
+use Rattle.aom_image.specs.declared.method.Role.TheVariants.{Destruct, Error as Answers}
+use Rattle.aom_image.specs.declared.method.Thing.{Thing}
+use Rattle.aom_image.specs.declared.method.Thing.TheVariants.{Object as An_object_of, Message}
+use Rattle.aom_classes.specs.Roles.{role_of}
+use Rattle.aom_sound.specs.Places.{Elsewhere, Going, Object, Root, held}
+use Rattle.aom_sound.specs.State.{Answered, Asks, Destroy, Dispatch, Dispatched, Main_left, Object_left, Of_main, Of_object, Of_root, Run, State, Task, Trapped, Unwind}
+use Rattle.aom_transcript.specs.declared.line.Ending.{Ending}
+use Rattle.aom_debug_marks.specs.declared.spot.Spot.{Spot}
+use Rattle.aom_debug_lines.specs.declared.answer.Answer.{Answer}
+use Rattle.aom_debug_lines.specs.declared.answer.Answer.TheVariants.{At, Gone, Between, Ended}
+
+-- ---- destructions
+
+-- the first step of a destruction: of its class's destructor, or else the going of the cell
+abbrev pub begins_by : ℕ → Option ℕ → Answer
+begins_by class None = Gone class
+begins_by class (Some method) = At (record { method = method; place = 0 })
+
+abbrev pub destruction_by : Image → Thing → Answer
+destruction_by p (An_object_of class) = begins_by class (role_of p class Destruct)
+destruction_by p Message = Ended
+
+-- of what a place owns; nothing owned, nothing to destroy
+abbrev pub destruction_of : Image → Option Object → Answer
+destruction_of p None = Ended
+destruction_of p (Some o) = destruction_by p o.thing
+
+-- the going of what a place owns
+abbrev pub gone_by : Thing → Answer
+gone_by (An_object_of class) = Gone class
+gone_by Message = Ended
+
+abbrev pub going_of : Option Object → Answer
+going_of None = Ended
+going_of (Some o) = gone_by o.thing
+
+-- ---- what is next
+
+abbrev pub next_in : Image → State → List Task → Answer
+next_in p s [] = Between s.rest.clock
+next_in p s (Run fr ∷ ts) = At (record { method = fr.method; place = fr.place })
+next_in p s (Destroy ∷ ts) = going_of (held s.cells (Going (length ts)))
+next_in p s (Trapped ∷ ts) = destruction_of p (held s.cells (Elsewhere Root))
+next_in p s (Unwind code ∷ ts) = destruction_of p (held s.cells (Elsewhere Root))
+next_in p s (Dispatched d ∷ ts) = destruction_of p (held s.cells (Elsewhere Root))
+
+abbrev pub next_by : Image → State → Option Ending → Answer
+next_by p s None = next_in p s s.tasks
+next_by p s (Some ending) = Ended
+
+abbrev pub next_of : Image → State → Answer
+next_of p s = next_by p s s.rest.ended
+
+-- the instruction that an answer tells of as next
+abbrev pub spot_of : Answer → Option Spot
+spot_of (At spot) = Some spot
+spot_of _ = None
+
+-- ---- the end of a dispatch in which `stop` was run
+
+-- an object's `error` method, if its class has one
+abbrev pub has_answer : Image → Thing → Bool
+has_answer p (An_object_of class) = is_some (role_of p class Answers)
+has_answer p Message = false
+
+-- with the end of the dispatch all that was at hand is over, and the run goes on
+abbrev pub ends_all : Image → Dispatch → Bool
+ends_all p Of_main = true
+ends_all p (Main_left code) = false
+ends_all p Of_root = false
+ends_all p (Of_object x) = true
+ends_all p (Object_left x code) = int_eq code (pos 0) && not (has_answer p x.object.thing)
+ends_all p (Asks x) = true
+ends_all p (Answered x answer) = int_eq answer (pos 0)
+
+abbrev pub ends_all_in : Image → List Task → Bool
+ends_all_in p (Dispatched d ∷ ts) = ends_all p d
+ends_all_in p _ = false
+
+-- the root's destruction is due
+abbrev pub root_is_due : Image → State → Bool
+root_is_due p s = s.rest.stopped && (is_some (held s.cells (Elsewhere Root)) && ends_all_in p s.tasks)
+
+-- the dispatch is at an end after which the run may go on
+abbrev pub is_last : Dispatch → Bool
+is_last (Main_left code) = false
+is_last Of_root = false
+is_last _ = true
+
+abbrev pub is_last_in : List Task → Bool
+is_last_in (Dispatched d ∷ ts) = is_last d
+is_last_in _ = false
+
+-- the machine stays there, and the root's destruction is not due
+abbrev pub pauses : Image → State → Bool
+pauses p s = not (is_some s.rest.ended) && (s.rest.stopped && (is_last_in s.tasks && not (root_is_due p s)))

@@ -1,0 +1,69 @@
+-- What a line of a debugger's input says.
+use Rattle.std.specs.Prelude.{ℕ, nat_lt, if◌then◌else◌, List, [], ◌∷◌, length, codes, Option, Some, None, option_map, Result, Ok, Err}
+use Rattle.std.specs.Str.{bytes_eq}
+use Rattle.aom_text.specs.Words.{words}
+use Rattle.aom_text.specs.Numbers.{number_of, number_within}
+use Rattle.aom_text.specs.declared.number.Number.{Number}
+use Rattle.aom_debug_words.specs.declared.command.Command.{Command}
+use Rattle.aom_debug_words.specs.declared.command.Command.TheVariants.{Step, Turn, Go, Break, Cells, Owners, Cleanup, Actives, Recent}
+use Rattle.aom_debug_words.specs.declared.fault.DebugFault.{DebugFault}
+use Rattle.aom_debug_words.specs.declared.fault.DebugFault.TheVariants.{BadCommand}
+
+-- ---- names alone
+
+abbrev pub named : List ℕ → Option Command
+named name =
+    if bytes_eq name (codes "turn") then Some Turn
+    else if bytes_eq name (codes "go") then Some Go
+    else if bytes_eq name (codes "cells") then Some Cells
+    else if bytes_eq name (codes "owners") then Some Owners
+    else if bytes_eq name (codes "cleanup") then Some Cleanup
+    else if bytes_eq name (codes "actives") then Some Actives
+    else if bytes_eq name (codes "recent") then Some Recent
+    else None
+
+abbrev pub alone : List ℕ → List (List ℕ) → Option Command
+alone name [] = named name
+alone name (w ∷ ws) = None
+
+-- ---- names with numbers
+
+-- so many steps, from 1 to 1,000,000
+abbrev pub steps_by : Option Number → Option Command
+steps_by None = None
+steps_by (Some n) = option_map Step (number_within 1 1000000 n)
+
+abbrev pub step_says : List (List ℕ) → Option Command
+step_says (steps ∷ []) = steps_by (number_of steps)
+step_says _ = None
+
+-- a method and a place, whether they are any or not
+abbrev pub breaks_at : Option Number → Option Number → Option Command
+breaks_at (Some method) (Some place) = Some (Break method place)
+breaks_at _ _ = None
+
+abbrev pub break_says : List (List ℕ) → Option Command
+break_says (method ∷ place ∷ []) = breaks_at (number_of method) (number_of place)
+break_says _ = None
+
+-- ---- lines
+
+abbrev pub words_say : List ℕ → List (List ℕ) → Option Command
+words_say name others =
+    if bytes_eq name (codes "step") then step_says others
+    else if bytes_eq name (codes "break") then break_says others
+    else alone name others
+
+-- a command, or none that there is
+abbrev pub known : Option Command → Result (Option Command) DebugFault
+known None = Err BadCommand
+known (Some command) = Ok (Some command)
+
+-- a line without words asks nothing
+abbrev pub line_says : List (List ℕ) → Result (Option Command) DebugFault
+line_says [] = Ok None
+line_says (name ∷ others) = known (words_say name others)
+
+-- a line of 256 bytes at most says what its words say
+abbrev pub command_said : List ℕ → Result (Option Command) DebugFault
+command_said line = if nat_lt 256 (length line) then Err BadCommand else line_says (words line)

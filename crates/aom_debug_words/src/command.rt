@@ -1,0 +1,132 @@
+//! What a line of commands says.
+ghost use Rattle.std.specs.Prelude.{◌≡◌};
+ghost use Rattle.aom_text.specs.Numbers.{number_of};
+ghost use Rattle.aom_debug_words.specs.Commands.{break_says, breaks_at, command_said, known, line_says, named, step_says, steps_by, words_say};
+
+use crate::DebugFault;
+use aom_text::{Number, Words};
+
+/// The most bytes of a line, its line feed aside.
+const MOST_BYTES: usize = 256;
+
+/// What is asked of a debugger.
+#[derive(Clone, Copy, PartialEq, Eq, Debug)]
+pub enum Command {
+    /// So many steps, from 1 to 1,000,000.
+    Step(u32),
+    /// To the end of the dispatch at hand, or of the next.
+    Turn,
+    /// Until an instruction with a breakpoint is next, or to the end.
+    Go,
+    /// A breakpoint at the place of a method, which may be none.
+    Break(Number, Number),
+    Cells,
+    Owners,
+    Cleanup,
+    Actives,
+    Recent,
+}
+
+/// What a line says, which is given without its line feed; nothing where it has no word.
+pub fn read_command(line: &[u8]) -> Result<Option<Command>, DebugFault>
+    ensures { result ≡ command_said line.now }
+{
+    if line.len() > MOST_BYTES {
+        return Err(DebugFault::BadCommand);
+    }
+    read_line(Words::of(line))
+}
+
+/// What the words of a line say.
+fn read_line(words: Words) -> Result<Option<Command>, DebugFault>
+    ensures { result ≡ line_says words.entry }
+{
+    let mut words = words;
+    let Some(name) = words.next() else {
+        return Ok(None);
+    };
+    known(read_words(name, words))
+}
+
+/// A command, or none that there is.
+fn known(command: Option<Command>) -> Result<Option<Command>, DebugFault>
+    ensures { result ≡ known command }
+{
+    match command {
+        Some(command) => Ok(Some(command)),
+        None => Err(DebugFault::BadCommand),
+    }
+}
+
+/// What a command's name and the words behind it say.
+fn read_words(name: &[u8], words: Words) -> Option<Command>
+    ensures { result ≡ words_say name.now words.entry }
+{
+    if name == b"step".as_slice() {
+        read_step(words)
+    } else if name == b"break".as_slice() {
+        read_break(words)
+    } else if words.is_empty() {
+        command_named(name)
+    } else {
+        None
+    }
+}
+
+/// The command that is its name alone.
+fn command_named(name: &[u8]) -> Option<Command>
+    ensures { result ≡ named name.now }
+{
+    if name == b"turn".as_slice() {
+        Some(Command::Turn)
+    } else if name == b"go".as_slice() {
+        Some(Command::Go)
+    } else if name == b"cells".as_slice() {
+        Some(Command::Cells)
+    } else if name == b"owners".as_slice() {
+        Some(Command::Owners)
+    } else if name == b"cleanup".as_slice() {
+        Some(Command::Cleanup)
+    } else if name == b"actives".as_slice() {
+        Some(Command::Actives)
+    } else if name == b"recent".as_slice() {
+        Some(Command::Recent)
+    } else {
+        None
+    }
+}
+
+fn read_step(words: Words) -> Option<Command>
+    ensures { result ≡ step_says words.entry }
+{
+    let mut words = words;
+    match words.next() {
+        Some(steps) if words.is_empty() => step_by(steps),
+        _ => None,
+    }
+}
+
+fn step_by(steps: &[u8]) -> Option<Command>
+    ensures { result ≡ steps_by (number_of steps.now) }
+{
+    Some(Command::Step(Number::of(steps)?.within(1, 1_000_000)?))
+}
+
+fn read_break(words: Words) -> Option<Command>
+    ensures { result ≡ break_says words.entry }
+{
+    let mut words = words;
+    match (words.next(), words.next()) {
+        (Some(method), Some(place)) if words.is_empty() => break_at(method, place),
+        _ => None,
+    }
+}
+
+fn break_at(method: &[u8], place: &[u8]) -> Option<Command>
+    ensures { result ≡ breaks_at (number_of method.now) (number_of place.now) }
+{
+    match (Number::of(method), Number::of(place)) {
+        (Some(method), Some(place)) => Some(Command::Break(method, place)),
+        _ => None,
+    }
+}
