@@ -1,8 +1,10 @@
 //! Each command over bytes and pages, and what is told where something fails.
-use crate::pages::{FIRST, FULL_HEAP, LISTING, SHORT, assembles, checks, explores, lists, runs};
+use crate::pages::{
+    FIRST, FULL_HEAP, LISTING, SHORT, Told, assembles, checks, explores, lists, runs,
+};
 use aom_machine::BootFault;
 use aom_main::{ExitStatus, Fault, Part, run_bytes, tell};
-use aom_pages::{Answer, Page};
+use aom_pages::Page;
 use std::alloc::Global;
 use std::test::Fail;
 
@@ -15,39 +17,27 @@ fn changed(alloc: Global, place: usize, byte: u8) -> Result<Vec<u8>, Fail> {
     Ok(bytes)
 }
 
-const FIRST_TEXT: &str = "@0 main\nout 7\nend stopped cells 0\n";
-
 #[test]
-fn the_first_image_is_accepted_and_runs(rt: HostRuntime) -> Result<(), Fail> {
+fn the_first_image_is_accepted_and_runs(rt: HostRuntime) {
     let alloc = rt.alloc();
-    let accepted = Answer::told(alloc, ExitStatus::Done, "accepted\n", "")?;
-    assert_eq!(rt; checks(alloc, &FIRST, 100), accepted);
-    let told = Answer::told(alloc, ExitStatus::Done, FIRST_TEXT, "")?;
-    assert_eq!(rt; runs(alloc, &FIRST, b"", 100), told);
-    Ok(())
+    checks(&rt, alloc, &FIRST, 100, Told::done("accepted\n"));
+    let told = Told::done("@0 main\nout 7\nend stopped cells 0\n");
+    runs(&rt, alloc, &FIRST, b"", 100, told);
 }
 
 #[test]
-fn each_request_is_refused_in_turn(rt: HostRuntime) -> Result<(), Fail> {
+fn each_request_is_refused_in_turn(rt: HostRuntime) {
     let alloc = rt.alloc();
     let all = Part {
         first: 1,
         last: 1_000_000,
     };
     let both = "refuse 1 end stopped cells 0\nrefuse 2 end stopped cells 0\n";
-    let told = Answer::told(alloc, ExitStatus::Done, both, "")?;
-    assert_eq!(rt; explores(alloc, &FULL_HEAP, b"", all, 100), told);
+    explores(&rt, alloc, &FULL_HEAP, b"", all, Told::done(both));
     let second = Part { first: 2, last: 2 };
-    let told = Answer::told(
-        alloc,
-        ExitStatus::Done,
-        "refuse 2 end stopped cells 0\n",
-        "",
-    )?;
-    assert_eq!(rt; explores(alloc, &FULL_HEAP, b"refuse 1", second, 100), told);
-    let none = Answer::told(alloc, ExitStatus::Done, "", "")?;
-    assert_eq!(rt; explores(alloc, &FIRST, b"", all, 100), none);
-    Ok(())
+    let told = Told::done("refuse 2 end stopped cells 0\n");
+    explores(&rt, alloc, &FULL_HEAP, b"refuse 1", second, told);
+    explores(&rt, alloc, &FIRST, b"", all, Told::done(""));
 }
 
 #[test]
@@ -63,30 +53,27 @@ fn other_bytes_are_refused(rt: HostRuntime) -> Result<(), Fail> {
         (other_magic.as_slice(), "load 1\n"),
         (unset_register.as_slice(), "verify 0 1 1\n"),
     ] {
-        let refused = Answer::told(alloc, ExitStatus::ImageRefused, "", line)?;
-        assert_eq!(rt; checks(alloc, bytes, 100), refused);
-        assert_eq!(rt; runs(alloc, bytes, b"x", 100), refused);
+        checks(&rt, alloc, bytes, 100, Told::image_refused(line));
+        runs(&rt, alloc, bytes, b"x", 100, Told::image_refused(line));
     }
     Ok(())
 }
 
 #[test]
-fn a_text_is_assembled_and_an_image_listed(rt: HostRuntime) -> Result<(), Fail> {
+fn a_text_is_assembled_and_an_image_listed(rt: HostRuntime) {
     let alloc = rt.alloc();
-    let bytes = Answer {
+    let bytes = Told {
         status: ExitStatus::Done,
-        out: Vec::from_slice(alloc, &FIRST)?,
-        errors: Vec::new(alloc),
+        out: &FIRST,
+        errors: b"",
     };
-    assert_eq!(rt; assembles(alloc, SHORT.as_bytes(), 100), bytes);
-    assert_eq!(rt; assembles(alloc, LISTING.as_bytes(), 100), bytes);
-    let listing = Answer::told(alloc, ExitStatus::Done, LISTING, "")?;
-    assert_eq!(rt; lists(alloc, &FIRST, 200), listing);
-    Ok(())
+    assembles(&rt, alloc, SHORT, 100, bytes);
+    assembles(&rt, alloc, LISTING, 100, bytes);
+    lists(&rt, alloc, &FIRST, 200, Told::done(LISTING));
 }
 
 #[test]
-fn a_text_is_refused_with_its_line(rt: HostRuntime) -> Result<(), Fail> {
+fn a_text_is_refused_with_its_line(rt: HostRuntime) {
     let alloc = rt.alloc();
     for (text, line) in [
         ("# \x7f", "asm 1 1\n"),
@@ -97,63 +84,60 @@ fn a_text_is_refused_with_its_line(rt: HostRuntime) -> Result<(), Fail> {
         ("", "asm 1 6\n"),
         ("\nimage version 3 budget 4", "asm 2 7\n"),
     ] {
-        let refused = Answer::told(alloc, ExitStatus::ImageRefused, "", line)?;
-        assert_eq!(rt; assembles(alloc, text.as_bytes(), 100), refused);
+        assembles(&rt, alloc, text, 100, Told::image_refused(line));
     }
-    let cut = Answer::told(alloc, ExitStatus::Fault, "AOIM", "write\n")?;
-    assert_eq!(rt; assembles(alloc, SHORT.as_bytes(), 4), cut);
-    let refused = Answer::told(alloc, ExitStatus::ImageRefused, "", "load 3\n")?;
-    assert_eq!(rt; lists(alloc, &FIRST[..79], 100), refused);
-    let cut = Answer::told(alloc, ExitStatus::Fault, "image", "write\n")?;
-    assert_eq!(rt; lists(alloc, &FIRST, 5), cut);
-    Ok(())
+    assembles(&rt, alloc, SHORT, 4, Told::cut("AOIM"));
+    lists(
+        &rt,
+        alloc,
+        &FIRST[..79],
+        100,
+        Told::image_refused("load 3\n"),
+    );
+    lists(&rt, alloc, &FIRST, 5, Told::cut("image"));
 }
 
 #[test]
-fn a_full_heap_gives_null(rt: HostRuntime) -> Result<(), Fail> {
-    let alloc = rt.alloc();
-    let text = "@0 main\nout 1\ngone 0\nend stopped cells 0\n";
-    let told = Answer::told(alloc, ExitStatus::Done, text, "")?;
-    assert_eq!(rt; runs(alloc, &FULL_HEAP, b"\n", 100), told);
-    Ok(())
+fn a_full_heap_gives_null(rt: HostRuntime) {
+    let told = Told::done("@0 main\nout 1\ngone 0\nend stopped cells 0\n");
+    runs(&rt, rt.alloc(), &FULL_HEAP, b"\n", 100, told);
 }
 
 #[test]
 fn a_run_may_end_waiting(rt: HostRuntime) -> Result<(), Fail> {
-    let alloc = rt.alloc();
-    let prints_twice = changed(alloc, 64, 0x13)?;
-    let text = "@0 main\nout 7\nout 7\nend waiting cells 0\n";
-    let told = Answer::told(alloc, ExitStatus::Unfinished, text, "")?;
-    assert_eq!(rt; runs(alloc, &prints_twice, b"", 100), told);
+    let prints_twice = changed(rt.alloc(), 64, 0x13)?;
+    let told = Told::unfinished("@0 main\nout 7\nout 7\nend waiting cells 0\n");
+    runs(&rt, rt.alloc(), &prints_twice, b"", 100, told);
     Ok(())
 }
 
 #[test]
-fn a_script_may_be_refused(rt: HostRuntime) -> Result<(), Fail> {
-    let alloc = rt.alloc();
+fn a_script_may_be_refused(rt: HostRuntime) {
     for (script, line) in [
-        ("x".as_bytes(), "script 1 2\n"),
-        (b"\n\n \x01\n", "script 3 1\n"),
-        (b"refuse 1\nrefuse", "script 2 2\n"),
-        (b"refuse x", "script 1 3\n"),
-        (b"refuse 1\n\nrefuse 0", "script 3 5\n"),
+        ("x", "script 1 2\n"),
+        ("\n\n \x01\n", "script 3 1\n"),
+        ("refuse 1\nrefuse", "script 2 2\n"),
+        ("refuse x", "script 1 3\n"),
+        ("refuse 1\n\nrefuse 0", "script 3 5\n"),
+        ("5 kill 0\n4 kill 0", "script 2 4\n"),
     ] {
-        let refused = Answer::told(alloc, ExitStatus::CallRefused, "", line)?;
-        assert_eq!(rt; runs(alloc, &FIRST, script, 100), refused);
+        runs(
+            &rt,
+            rt.alloc(),
+            &FIRST,
+            script.as_bytes(),
+            100,
+            Told::call_refused(line),
+        );
     }
-    Ok(())
 }
 
 #[test]
-fn the_output_may_fail(rt: HostRuntime) -> Result<(), Fail> {
-    let alloc = rt.alloc();
+fn the_output_may_fail(rt: HostRuntime) {
     for (room, text) in [(0, ""), (10, "@0 main\nou"), (20, "@0 main\nout 7\nend st")] {
-        let cut = Answer::told(alloc, ExitStatus::Fault, text, "write\n")?;
-        assert_eq!(rt; runs(alloc, &FIRST, b"", room), cut);
+        runs(&rt, rt.alloc(), &FIRST, b"", room, Told::cut(text));
     }
-    let cut = Answer::told(alloc, ExitStatus::Fault, "accep", "write\n")?;
-    assert_eq!(rt; checks(alloc, &FIRST, 5), cut);
-    Ok(())
+    checks(&rt, rt.alloc(), &FIRST, 5, Told::cut("accep"));
 }
 
 #[test]

@@ -1,7 +1,8 @@
-//! What the tests share: two images and their texts, and what a command answered and wrote.
+//! What the tests share: two images and their texts, and what a command has to answer and to write.
 use aom_main::{ExitStatus, Part, asm_bytes, check_bytes, dis_bytes, explore_bytes, run_bytes};
-use aom_pages::{Answer, Page};
+use aom_pages::Page;
 use std::alloc::Global;
+use std::process::Abort;
 
 /// A main that prints 7 and stops.
 pub const FIRST: [u8; 80] = [
@@ -21,8 +22,77 @@ pub const FULL_HEAP: [u8; 156] = [
     0, 0x30, 0, 0, 0, 0, 0, 0, 0, 0x22, 0, 0, 0, 0, 0, 0, 0,
 ];
 
+/// What a command has to answer and to write.
+#[derive(Clone, Copy)]
+pub struct Told<'a> {
+    pub status: ExitStatus,
+    pub out: &'a [u8],
+    pub errors: &'a [u8],
+}
+
+impl<'a> Told<'a> {
+    /// It is done, and has written that.
+    pub fn done(out: &'a str) -> Told<'a> {
+        Told {
+            status: ExitStatus::Done,
+            out: out.as_bytes(),
+            errors: b"",
+        }
+    }
+
+    /// The run waits for what will not come.
+    pub fn unfinished(out: &'a str) -> Told<'a> {
+        Told {
+            status: ExitStatus::Unfinished,
+            out: out.as_bytes(),
+            errors: b"",
+        }
+    }
+
+    /// The output took that, and no more.
+    pub fn cut(out: &'a str) -> Told<'a> {
+        Told {
+            status: ExitStatus::Fault,
+            out: out.as_bytes(),
+            errors: b"write\n",
+        }
+    }
+
+    /// The image or its text is refused with that line.
+    pub fn image_refused(line: &'a str) -> Told<'a> {
+        Told {
+            status: ExitStatus::ImageRefused,
+            out: b"",
+            errors: line.as_bytes(),
+        }
+    }
+
+    /// The script or the natives are refused with that line.
+    pub fn call_refused(line: &'a str) -> Told<'a> {
+        Told {
+            status: ExitStatus::CallRefused,
+            out: b"",
+            errors: line.as_bytes(),
+        }
+    }
+}
+
+/// A command has answered and written that.
+pub fn is_told(rt: &impl Abort, status: ExitStatus, out: &Page, errors: &Page, told: Told<'_>) {
+    assert_eq!(rt; errors.text.as_slice(), told.errors);
+    assert_eq!(rt; out.text.as_slice(), told.out);
+    assert_eq!(rt; status, told.status);
+}
+
 /// Runs an image, with so much room for the output.
-pub fn runs(alloc: Global, image: &[u8], script: &[u8], room: usize) -> Answer<ExitStatus> {
+pub fn runs(
+    rt: &impl Abort,
+    alloc: Global,
+    image: &[u8],
+    script: &[u8],
+    room: usize,
+    told: Told<'_>,
+) {
     let mut out = Page::new(alloc, room);
     let mut errors = Page::new(alloc, 100);
     let boxes = Vec::new(alloc);
@@ -35,18 +105,19 @@ pub fn runs(alloc: Global, image: &[u8], script: &[u8], room: usize) -> Answer<E
         &mut out,
         &mut errors,
     );
-    Answer::of(status, out, errors)
+    is_told(rt, status, &out, &errors, told);
 }
 
-/// Explores a part of an image's requests, with so much room for the output.
+/// Explores a part of an image's requests.
 pub fn explores(
+    rt: &impl Abort,
     alloc: Global,
     image: &[u8],
     script: &[u8],
     part: Part,
-    room: usize,
-) -> Answer<ExitStatus> {
-    let mut out = Page::new(alloc, room);
+    told: Told<'_>,
+) {
+    let mut out = Page::new(alloc, 100);
     let mut errors = Page::new(alloc, 100);
     let status = explore_bytes(
         alloc,
@@ -58,31 +129,31 @@ pub fn explores(
         &mut out,
         &mut errors,
     );
-    Answer::of(status, out, errors)
+    is_told(rt, status, &out, &errors, told);
 }
 
 /// Checks an image, with so much room for the output.
-pub fn checks(alloc: Global, image: &[u8], room: usize) -> Answer<ExitStatus> {
+pub fn checks(rt: &impl Abort, alloc: Global, image: &[u8], room: usize, told: Told<'_>) {
     let mut out = Page::new(alloc, room);
     let mut errors = Page::new(alloc, 100);
     let status = check_bytes(alloc, image, &mut out, &mut errors);
-    Answer::of(status, out, errors)
+    is_told(rt, status, &out, &errors, told);
 }
 
 /// Assembles a text, with so much room for the output.
-pub fn assembles(alloc: Global, text: &[u8], room: usize) -> Answer<ExitStatus> {
+pub fn assembles(rt: &impl Abort, alloc: Global, text: &str, room: usize, told: Told<'_>) {
     let mut out = Page::new(alloc, room);
     let mut errors = Page::new(alloc, 100);
-    let status = asm_bytes(alloc, text, &mut out, &mut errors);
-    Answer::of(status, out, errors)
+    let status = asm_bytes(alloc, text.as_bytes(), &mut out, &mut errors);
+    is_told(rt, status, &out, &errors, told);
 }
 
 /// Lists an image, with so much room for the output.
-pub fn lists(alloc: Global, image: &[u8], room: usize) -> Answer<ExitStatus> {
+pub fn lists(rt: &impl Abort, alloc: Global, image: &[u8], room: usize, told: Told<'_>) {
     let mut out = Page::new(alloc, room);
     let mut errors = Page::new(alloc, 100);
     let status = dis_bytes(alloc, image, &mut out, &mut errors);
-    Answer::of(status, out, errors)
+    is_told(rt, status, &out, &errors, told);
 }
 
 /// The first image as a text, with what may be left out left out.

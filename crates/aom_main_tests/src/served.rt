@@ -1,43 +1,65 @@
 //! Programs of objects that a native serves, from their texts to their transcripts, beside the three types that there are.
+ghost use Rattle.std.specs.Prelude.{◌≡◌, []};
 ghost use Rattle.aom_natives.specs.Owed.{OweNothing};
 
-use crate::pages::{FIRST, assembles, runs};
-use aom_main::{ExitStatus, run_bytes};
+use crate::pages::{Told, is_told};
+use aom_main::{ExitStatus, asm_bytes, run_bytes};
 use aom_natives::{Counter, Delay, Line, Native};
-use aom_pages::{Answer, Page};
+use aom_pages::Page;
 use std::alloc::Global;
+use std::process::Abort;
 use std::test::Fail;
 
 /// Runs the image of a text under a script, beside these natives.
 pub fn serves(
+    rt: &impl Abort,
     alloc: Global,
+    boxes: Vec<Box<dyn Native>>,
     text: &str,
     script: &str,
-    boxes: Vec<Box<dyn Native>>,
-) -> Result<Answer<ExitStatus>, Fail>
+    told: Told<'_>,
+)
     requires { OweNothing (λ b. (⟦<dyn Native as Native>⟧ b.vtable).owed b.value) boxes.items }
 {
-    let image = assembles(alloc, text.as_bytes(), 1 << 12);
-    if image.status != ExitStatus::Done {
-        return Err(Fail::from("a text that denotes no image"));
-    }
+    let image = assembled(rt, alloc, text);
     let mut out = Page::new(alloc, 1 << 10);
     let mut errors = Page::new(alloc, 100);
     let status = run_bytes(
         alloc,
-        image.out.as_slice(),
+        image.text.as_slice(),
         script.as_bytes(),
         1_000_000,
         boxes,
         &mut out,
         &mut errors,
     );
-    Ok(Answer::of(status, out, errors))
+    is_told(rt, status, &out, &errors, told);
 }
 
-/// What is told of a run that waits for what will not come.
-pub fn waits(alloc: Global, transcript: &str) -> Result<Answer<ExitStatus>, Fail> {
-    Ok(Answer::told(alloc, ExitStatus::Unfinished, transcript, "")?)
+/// The image of a text.
+fn assembled(rt: &impl Abort, alloc: Global, text: &str) -> Page {
+    let mut image = Page::new(alloc, 1 << 12);
+    let mut errors = Page::new(alloc, 100);
+    let status = asm_bytes(alloc, text.as_bytes(), &mut image, &mut errors);
+    assert!(rt; status == ExitStatus::Done, "a text that denotes no image");
+    image
+}
+
+/// Runs the image of a text under a script, beside one native.
+pub fn serves_beside(
+    rt: &impl Abort,
+    alloc: Global,
+    native: Box<dyn Native>,
+    text: &str,
+    script: &str,
+    told: Told<'_>,
+) -> Result<(), Fail>
+    requires { (⟦<dyn Native as Native>⟧ native.vtable).owed native.value ≡ [] }
+{
+    let mut boxes = Vec::with_capacity(alloc, 1)?;
+    boxes.push(native)?;
+    serves(rt, alloc, boxes, text, script, told);
+    Ok(())
 }
 
 /// An object that begins a request with the function 0 and the word 0, and prints with what it was completed.
@@ -67,85 +89,54 @@ method main main leaves;newl r0 P;push r0;call c0 pn;pop r0;put f0 r0;ret;end
 
 #[test]
 fn what_a_sensor_owes_ends_with_it(rt: HostRuntime) -> Result<(), Fail> {
-    let alloc = rt.alloc();
-    let mut boxes: Vec<Box<dyn Native>> = Vec::with_capacity(alloc, 1)?;
-    boxes.push(Box::new(alloc, Line::new())?)?;
-    let told = waits(
-        alloc,
+    let native = Box::new(rt.alloc(), Line::new())?;
+    let told = Told::unfinished(
         "@0 main\nkilled 0\n@5 run 0 -15\nout -15\n@6 run 0 -15\nout -15\n@7 run 0 -15\nout -15\n@8 run 0 -15\nout -15\nend waiting cells 3\n",
-    )?;
-    assert_eq!(rt; serves(alloc, TWO_SENSORS, "5 kill 0", boxes)?, told);
-    Ok(())
+    );
+    serves_beside(&rt, rt.alloc(), native, TWO_SENSORS, "5 kill 0", told)
 }
 
 #[test]
-fn an_image_needs_the_natives_that_it_names(rt: HostRuntime) -> Result<(), Fail> {
+fn an_image_needs_the_natives_that_it_names(rt: HostRuntime) {
     let alloc = rt.alloc();
     let none: Vec<Box<dyn Native>> = Vec::new(alloc);
-    let refused = Answer::told(alloc, ExitStatus::CallRefused, "", "boot 1\n")?;
-    assert_eq!(rt; serves(alloc, TWO_SENSORS, "5 kill 0", none)?, refused);
-    Ok(())
-}
-
-#[test]
-fn time_does_not_go_back(rt: HostRuntime) -> Result<(), Fail> {
-    let alloc = rt.alloc();
-    let refused = Answer::told(alloc, ExitStatus::CallRefused, "", "script 2 4\n")?;
-    assert_eq!(rt; runs(alloc, &FIRST, b"5 kill 0\n4 kill 0", 100), refused);
-    Ok(())
+    let refused = Told::call_refused("boot 1\n");
+    serves(&rt, alloc, none, TWO_SENSORS, "5 kill 0", refused);
 }
 
 #[test]
 fn a_counter_begins_no_request(rt: HostRuntime) -> Result<(), Fail> {
-    let alloc = rt.alloc();
-    let mut boxes: Vec<Box<dyn Native>> = Vec::with_capacity(alloc, 1)?;
-    boxes.push(Box::new(alloc, Counter::new())?)?;
-    let told = waits(alloc, "@0 main\n@1 run 0 -5\nout -5\nend waiting cells 1\n")?;
-    assert_eq!(rt; serves(alloc, ONE_REQUEST, "", boxes)?, told);
-    Ok(())
+    let native = Box::new(rt.alloc(), Counter::new())?;
+    let told = Told::unfinished("@0 main\n@1 run 0 -5\nout -5\nend waiting cells 1\n");
+    serves_beside(&rt, rt.alloc(), native, ONE_REQUEST, "", told)
 }
 
 #[test]
 fn a_delay_of_nothing_is_over_in_the_next_turn(rt: HostRuntime) -> Result<(), Fail> {
-    let alloc = rt.alloc();
-    let mut boxes: Vec<Box<dyn Native>> = Vec::with_capacity(alloc, 1)?;
-    boxes.push(Box::new(alloc, Delay::new())?)?;
-    let told = waits(alloc, "@0 main\n@1 run 0 0\nout 0\nend waiting cells 1\n")?;
-    assert_eq!(rt; serves(alloc, ONE_REQUEST, "", boxes)?, told);
-    Ok(())
+    let native = Box::new(rt.alloc(), Delay::new())?;
+    let told = Told::unfinished("@0 main\n@1 run 0 0\nout 0\nend waiting cells 1\n");
+    serves_beside(&rt, rt.alloc(), native, ONE_REQUEST, "", told)
 }
 
 #[test]
 fn a_line_completes_nothing_by_itself(rt: HostRuntime) -> Result<(), Fail> {
-    let alloc = rt.alloc();
-    let mut boxes: Vec<Box<dyn Native>> = Vec::with_capacity(alloc, 1)?;
-    boxes.push(Box::new(alloc, Line::new())?)?;
-    let told = waits(alloc, "@0 main\nend waiting cells 1\n")?;
-    assert_eq!(rt; serves(alloc, ONE_REQUEST, "", boxes)?, told);
-    Ok(())
+    let native = Box::new(rt.alloc(), Line::new())?;
+    let told = Told::unfinished("@0 main\nend waiting cells 1\n");
+    serves_beside(&rt, rt.alloc(), native, ONE_REQUEST, "", told)
 }
 
 #[test]
 fn a_line_answers_with_the_word_of_an_event(rt: HostRuntime) -> Result<(), Fail> {
-    let alloc = rt.alloc();
-    let mut boxes: Vec<Box<dyn Native>> = Vec::with_capacity(alloc, 1)?;
-    boxes.push(Box::new(alloc, Line::new())?)?;
-    let told = waits(alloc, "@0 main\n@4 run 0 9\nout 9\nend waiting cells 1\n")?;
-    assert_eq!(rt; serves(alloc, ONE_REQUEST, "4 event 0 9", boxes)?, told);
-    Ok(())
+    let native = Box::new(rt.alloc(), Line::new())?;
+    let told = Told::unfinished("@0 main\n@4 run 0 9\nout 9\nend waiting cells 1\n");
+    serves_beside(&rt, rt.alloc(), native, ONE_REQUEST, "4 event 0 9", told)
 }
 
 #[test]
 fn a_line_is_killed(rt: HostRuntime) -> Result<(), Fail> {
-    let alloc = rt.alloc();
-    let mut boxes: Vec<Box<dyn Native>> = Vec::with_capacity(alloc, 1)?;
-    boxes.push(Box::new(alloc, Line::new())?)?;
-    let told = waits(
-        alloc,
-        "@0 main\nkilled 0\n@4 run 0 -15\nout -15\nend waiting cells 1\n",
-    )?;
-    assert_eq!(rt; serves(alloc, ONE_REQUEST, "4 kill 0", boxes)?, told);
-    Ok(())
+    let native = Box::new(rt.alloc(), Line::new())?;
+    let told = Told::unfinished("@0 main\nkilled 0\n@4 run 0 -15\nout -15\nend waiting cells 1\n");
+    serves_beside(&rt, rt.alloc(), native, ONE_REQUEST, "4 kill 0", told)
 }
 
 /// A native more than the image names lives beside it, and its end has a line; one that is not there has none.
@@ -155,9 +146,9 @@ fn natives_that_no_image_names_live_too(rt: HostRuntime) -> Result<(), Fail> {
     let mut boxes: Vec<Box<dyn Native>> = Vec::with_capacity(alloc, 2)?;
     boxes.push(Box::new(alloc, Line::new())?)?;
     boxes.push(Box::new(alloc, Counter::new())?)?;
-    let told = waits(alloc, "@0 main\nkilled 1\nend waiting cells 1\n")?;
+    let told = Told::unfinished("@0 main\nkilled 1\nend waiting cells 1\n");
     let script = "2 event 1 5\n3 kill 1\n3 kill 1\n4 kill 2\n4 event 15 1";
-    assert_eq!(rt; serves(alloc, ONE_REQUEST, script, boxes)?, told);
+    serves(&rt, alloc, boxes, ONE_REQUEST, script, told);
     Ok(())
 }
 
@@ -174,15 +165,11 @@ method main main leaves;newl r0 N;push r0;call c0 n;pop r0;put f0 r0;ret;end
 
 #[test]
 fn a_killed_native_answers_for_itself_no_more(rt: HostRuntime) -> Result<(), Fail> {
-    let alloc = rt.alloc();
-    let mut boxes: Vec<Box<dyn Native>> = Vec::with_capacity(alloc, 1)?;
-    boxes.push(Box::new(alloc, Line::new())?)?;
-    let told = waits(
-        alloc,
+    let native = Box::new(rt.alloc(), Line::new())?;
+    let told = Told::unfinished(
         "@0 main\nkilled 0\n@5 run 0 -15\nout -15\nout -1\nout -15\n@6 run 0 -15\nout -15\nend waiting cells 1\n",
-    )?;
-    assert_eq!(rt; serves(alloc, ASKS_AGAIN, "5 kill 0", boxes)?, told);
-    Ok(())
+    );
+    serves_beside(&rt, rt.alloc(), native, ASKS_AGAIN, "5 kill 0", told)
 }
 
 /// An object that asks before its session is open, while it is, once it is closed, and once it is open again.
@@ -202,15 +189,11 @@ method main main leaves;newl r0 N;push r0;call c0 n;pop r0;put f0 r0;ret;end
 
 #[test]
 fn without_a_session_nothing_is_asked(rt: HostRuntime) -> Result<(), Fail> {
-    let alloc = rt.alloc();
-    let mut boxes: Vec<Box<dyn Native>> = Vec::with_capacity(alloc, 1)?;
-    boxes.push(Box::new(alloc, Counter::new())?)?;
-    let told = waits(
-        alloc,
+    let native = Box::new(rt.alloc(), Counter::new())?;
+    let told = Told::unfinished(
         "@0 main\nout -1\nout 0\nout 7\nout -1\nout 0\nout 0\nout 14\n@1 run 0 -1\nout -1\nend waiting cells 1\n",
-    )?;
-    assert_eq!(rt; serves(alloc, OPENS_AND_CLOSES, "", boxes)?, told);
-    Ok(())
+    );
+    serves_beside(&rt, rt.alloc(), native, OPENS_AND_CLOSES, "", told)
 }
 
 /// An object that asks for the code 60 after two polls that bring nothing.
@@ -224,23 +207,17 @@ method main main leaves;newl r0 N;push r0;call c0 n;pop r0;put f0 r0;ret;end
 
 #[test]
 fn a_turn_in_which_only_time_passes_polls_too(rt: HostRuntime) -> Result<(), Fail> {
-    let alloc = rt.alloc();
-    let mut boxes: Vec<Box<dyn Native>> = Vec::with_capacity(alloc, 1)?;
-    boxes.push(Box::new(alloc, Delay::new())?)?;
-    let told = waits(alloc, "@0 main\n@9 run 0 60\nout 60\nend waiting cells 1\n")?;
     let script = "5 event 0 0\n9 event 0 0";
-    assert_eq!(rt; serves(alloc, DELAYED, script, boxes)?, told);
-    Ok(())
+    let native = Box::new(rt.alloc(), Delay::new())?;
+    let told = Told::unfinished("@0 main\n@9 run 0 60\nout 60\nend waiting cells 1\n");
+    serves_beside(&rt, rt.alloc(), native, DELAYED, script, told)
 }
 
 #[test]
 fn a_delay_alone_keeps_no_run_going(rt: HostRuntime) -> Result<(), Fail> {
-    let alloc = rt.alloc();
-    let mut boxes: Vec<Box<dyn Native>> = Vec::with_capacity(alloc, 1)?;
-    boxes.push(Box::new(alloc, Delay::new())?)?;
-    let told = waits(alloc, "@0 main\nend waiting cells 1\n")?;
-    assert_eq!(rt; serves(alloc, DELAYED, "5 event 0 0", boxes)?, told);
-    Ok(())
+    let native = Box::new(rt.alloc(), Delay::new())?;
+    let told = Told::unfinished("@0 main\nend waiting cells 1\n");
+    serves_beside(&rt, rt.alloc(), native, DELAYED, "5 event 0 0", told)
 }
 
 /// An object whose request is cancelled by its owner, three microseconds later, before an event comes.
@@ -262,12 +239,9 @@ method main main leaves;newl r0 H;push r0;call c0 hn;pop r0;put f0 r0;ret;end
 
 #[test]
 fn what_is_cancelled_is_not_completed(rt: HostRuntime) -> Result<(), Fail> {
-    let alloc = rt.alloc();
-    let mut boxes: Vec<Box<dyn Native>> = Vec::with_capacity(alloc, 1)?;
-    boxes.push(Box::new(alloc, Line::new())?)?;
-    let told = waits(alloc, "@0 main\n@3 run 1 0\nout -3\nend waiting cells 2\n")?;
-    assert_eq!(rt; serves(alloc, CANCELLED, "5 event 0 9", boxes)?, told);
-    Ok(())
+    let native = Box::new(rt.alloc(), Line::new())?;
+    let told = Told::unfinished("@0 main\n@3 run 1 0\nout -3\nend waiting cells 2\n");
+    serves_beside(&rt, rt.alloc(), native, CANCELLED, "5 event 0 9", told)
 }
 
 /// An object that asks twice, with a main that ends as the text behind it says.
@@ -291,11 +265,8 @@ pub fn counting(alloc: Global, is_stopping: bool) -> Result<String, Fail> {
 
 #[test]
 fn a_counter_answers_with_its_total(rt: HostRuntime) -> Result<(), Fail> {
-    let alloc = rt.alloc();
-    let mut boxes: Vec<Box<dyn Native>> = Vec::with_capacity(alloc, 1)?;
-    boxes.push(Box::new(alloc, Counter::new())?)?;
-    let text = counting(alloc, false)?;
-    let told = waits(alloc, "@0 main\nout 7\nout 14\nend waiting cells 1\n")?;
-    assert_eq!(rt; serves(alloc, text.as_str(), "", boxes)?, told);
-    Ok(())
+    let text = counting(rt.alloc(), false)?;
+    let native = Box::new(rt.alloc(), Counter::new())?;
+    let told = Told::unfinished("@0 main\nout 7\nout 14\nend waiting cells 1\n");
+    serves_beside(&rt, rt.alloc(), native, text.as_str(), "", told)
 }

@@ -1,11 +1,12 @@
 //! What a native is asked in a run.
 ghost use Rattle.std.specs.Prelude.{◌≡◌};
 
-use crate::served::{counting, serves, waits};
-use aom_main::ExitStatus;
+use crate::pages::Told;
+use crate::served::{counting, serves_beside};
 use aom_natives::{Counter, Native};
-use aom_pages::Answer;
+use std::alloc::Global;
 use std::cell::Cell;
+use std::process::Abort;
 use std::rc::Rc;
 use std::test::Fail;
 
@@ -103,20 +104,26 @@ impl<N: Native> Native for Tally<N> {
     }
 }
 
+/// Runs the image that counts under a script beside a counter, which is asked so often.
+fn asks(
+    rt: &impl Abort,
+    alloc: Global,
+    is_stopping: bool,
+    script: &str,
+    told: Told<'_>,
+    wanted: Asked,
+) -> Result<(), Fail> {
+    let asked = Rc::new(alloc, Cell::new(Asked::default()))?;
+    let native = Box::new(alloc, Tally::new(Counter::new(), asked.clone()?))?;
+    let text = counting(alloc, is_stopping)?;
+    serves_beside(rt, alloc, native, text.as_str(), script, told)?;
+    assert_eq!(rt; asked.get(), wanted);
+    Ok(())
+}
+
 #[test]
 fn a_box_is_asked_once_for_each_call(rt: HostRuntime) -> Result<(), Fail> {
-    let alloc = rt.alloc();
-    let asked = Rc::new(alloc, Cell::new(Asked::default()))?;
-    let mut boxes: Vec<Box<dyn Native>> = Vec::with_capacity(alloc, 1)?;
-    boxes.push(Box::new(alloc, Tally::new(Counter::new(), asked.clone()?))?)?;
-    let text = counting(alloc, true)?;
-    let told = Answer::told(
-        alloc,
-        ExitStatus::Done,
-        "@0 main\nout 7\nout 14\ngone 0\nend stopped cells 0\n",
-        "",
-    )?;
-    assert_eq!(rt; serves(alloc, text.as_str(), "", boxes)?, told);
+    let told = Told::done("@0 main\nout 7\nout 14\ngone 0\nend stopped cells 0\n");
     let once = Asked {
         opens: 1,
         calls: 2,
@@ -126,20 +133,13 @@ fn a_box_is_asked_once_for_each_call(rt: HostRuntime) -> Result<(), Fail> {
         words: 0,
         drops: 1,
     };
-    assert_eq!(rt; asked.get(), once);
-    Ok(())
+    asks(&rt, rt.alloc(), true, "", told, once)
 }
 
 /// The turn after main, and the one to which time passes, which is the last.
 #[test]
 fn a_box_is_polled_once_in_each_turn(rt: HostRuntime) -> Result<(), Fail> {
-    let alloc = rt.alloc();
-    let asked = Rc::new(alloc, Cell::new(Asked::default()))?;
-    let mut boxes: Vec<Box<dyn Native>> = Vec::with_capacity(alloc, 1)?;
-    boxes.push(Box::new(alloc, Tally::new(Counter::new(), asked.clone()?))?)?;
-    let text = counting(alloc, false)?;
-    let told = waits(alloc, "@0 main\nout 7\nout 14\nend waiting cells 1\n")?;
-    assert_eq!(rt; serves(alloc, text.as_str(), "5 event 1 3", boxes)?, told);
+    let told = Told::unfinished("@0 main\nout 7\nout 14\nend waiting cells 1\n");
     let twice = Asked {
         opens: 1,
         calls: 2,
@@ -149,23 +149,13 @@ fn a_box_is_polled_once_in_each_turn(rt: HostRuntime) -> Result<(), Fail> {
         words: 0,
         drops: 1,
     };
-    assert_eq!(rt; asked.get(), twice);
-    Ok(())
+    asks(&rt, rt.alloc(), false, "5 event 1 3", told, twice)
 }
 
 #[test]
 fn an_event_reaches_its_box(rt: HostRuntime) -> Result<(), Fail> {
-    let alloc = rt.alloc();
-    let asked = Rc::new(alloc, Cell::new(Asked::default()))?;
-    let mut boxes: Vec<Box<dyn Native>> = Vec::with_capacity(alloc, 1)?;
-    boxes.push(Box::new(alloc, Tally::new(Counter::new(), asked.clone()?))?)?;
-    let text = counting(alloc, false)?;
-    let told = waits(
-        alloc,
-        "@0 main\nout 7\nout 14\nkilled 0\nend waiting cells 1\n",
-    )?;
+    let told = Told::unfinished("@0 main\nout 7\nout 14\nkilled 0\nend waiting cells 1\n");
     let script = "0 event 0 3\n5 event 0 40\n5 event 1 500\n6 kill 0\n7 event 0 6000";
-    assert_eq!(rt; serves(alloc, text.as_str(), script, boxes)?, told);
     let reached = Asked {
         opens: 1,
         calls: 2,
@@ -175,6 +165,5 @@ fn an_event_reaches_its_box(rt: HostRuntime) -> Result<(), Fail> {
         words: 43,
         drops: 1,
     };
-    assert_eq!(rt; asked.get(), reached);
-    Ok(())
+    asks(&rt, rt.alloc(), false, script, told, reached)
 }
