@@ -1,7 +1,7 @@
 -- Turns, and their lines.
 use Rattle.aom_machine.specs.Calls.{natives_of}
 use Rattle.aom_run.specs.Turns.{hearing}
-use Rattle.aom_debug_moves.proofs.Sending.{breaks_turn, sends_turn, stands_turned}
+use Rattle.aom_debug_moves.proofs.Sending.{sends_turn, stands_turned}
 use Rattle.aom_debug_moves.proofs.arriving.turn_out.Goals as goal
 
 pub returns-then-send-clause-stands : goal.returns-then-send-clause-stands

@@ -1,6 +1,5 @@
 -- A step of a debugger: what may come before it, the step, and what may come after it.
-use Rattle.std.proofs.Common.{arith, ap, subst, ◌∙◌, ◌<◌, ◌≤◌}
-use Rattle.aom_exec.specs.Steps.{rank}
+use Rattle.std.proofs.Common.{arith, ap, subst, ◌∙◌}
 use Rattle.aom_lines.specs.Turn.{Turn}
 use Rattle.aom_run.specs.Runs.{Moving}
 use Rattle.aom_run.proofs.Reaching.{moving_both}
