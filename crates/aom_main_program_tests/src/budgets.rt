@@ -1,21 +1,25 @@
 //! Images that declare their price, and images that declare a step less.
 ghost use Rattle.std.specs.Prelude.{◌<◌};
 
-use crate::pages::{assembled, checks, runs};
+use crate::pages::{accepts, assembled, checks, refuses_to_run};
 use crate::programs::{refuses, stops};
 use aom_main::ExitStatus;
-use aom_pages::Answer;
 use std::alloc::Global;
 use std::process::Abort;
 use std::test::Fail;
 
 /// `check` and `run` refuse the image of a text.
-fn is_refused(rt: &impl Abort, alloc: Global, text: &str, line: &str) -> Result<(), Fail> {
-    refuses(rt, alloc, text, line)?;
-    let image = assembled(alloc, text)?;
-    let refused = Answer::told(alloc, ExitStatus::ImageRefused, "", line)?;
-    assert_eq!(rt; runs(alloc, image.as_slice(), b"", 100), refused);
-    Ok(())
+fn is_refused(rt: &impl Abort, alloc: Global, text: &str, line: &str) {
+    let image = assembled(rt, alloc, text);
+    checks(
+        rt,
+        alloc,
+        image.as_slice(),
+        ExitStatus::ImageRefused,
+        "",
+        line,
+    );
+    refuses_to_run(rt, alloc, image.as_slice(), line);
 }
 
 /// An image that declares that price runs and stops; where it declares a step less it is refused.
@@ -29,11 +33,12 @@ fn costs(
     requires { 0 < price }
 {
     let text = format!(in alloc; "image cells 3 budget {price} {rest}")?;
-    stops(rt, alloc, text.as_str(), transcript)?;
+    stops(rt, alloc, text.as_str(), transcript);
     let declared = price - 1;
     let text = format!(in alloc; "image cells 3 budget {declared} {rest}")?;
     let line = format!(in alloc; "budget 1 main price {price} declared {declared}\n")?;
-    is_refused(rt, alloc, text.as_str(), line.as_str())
+    is_refused(rt, alloc, text.as_str(), line.as_str());
+    Ok(())
 }
 
 /// What is pushed is paid for, and a leave that unwinds it costs nothing more.
@@ -104,23 +109,24 @@ fn two_stacks(alloc: Global, budget: u32, pushed: u32) -> Result<String, Fail> {
 fn a_cleanup_stack_has_1024_entries(rt: HostRuntime) -> Result<(), Fail> {
     let deep = two_stacks(rt.alloc(), 2056, 424)?;
     let told = "@0 main\nleave 0\nend stopped cells 0\n";
-    stops(&rt, rt.alloc(), deep.as_str(), told)?;
+    stops(&rt, rt.alloc(), deep.as_str(), told);
     let over = two_stacks(rt.alloc(), 2055, 424)?;
     is_refused(
         &rt,
         rt.alloc(),
         over.as_str(),
         "budget 1 main price 2056 declared 2055\n",
-    )?;
+    );
     let too_deep = two_stacks(rt.alloc(), 2058, 425)?;
-    is_refused(&rt, rt.alloc(), too_deep.as_str(), "budget 3\n")?;
+    is_refused(&rt, rt.alloc(), too_deep.as_str(), "budget 3\n");
     let both = two_stacks(rt.alloc(), 2057, 425)?;
     is_refused(
         &rt,
         rt.alloc(),
         both.as_str(),
         "budget 1 main price 2058 declared 2057\n",
-    )
+    );
+    Ok(())
 }
 
 /// Two active classes, of which the handler of the first may leave and its error method follows then: 3 and 2 steps. No
@@ -144,9 +150,8 @@ method main main leaves;newl r0 A;push r0;call c0 n;pop r0;put f0 r0;ret;end
 #[test]
 fn each_class_keeps_its_budget(rt: HostRuntime) -> Result<(), Fail> {
     let exact = two_classes(rt.alloc(), 21, 5, 1)?;
-    let told = Answer::told(rt.alloc(), ExitStatus::Done, "accepted\n", "")?;
-    let image = assembled(rt.alloc(), exact.as_str())?;
-    assert_eq!(rt; checks(rt.alloc(), image.as_slice(), 100), told);
+    let image = assembled(&rt, rt.alloc(), exact.as_str());
+    accepts(&rt, rt.alloc(), image.as_slice());
     for (main, first, second, line) in [
         // the handler and the error method together
         (21, 4, 1, "budget 1 class 0 price 5 declared 4\n"),
@@ -157,7 +162,7 @@ fn each_class_keeps_its_budget(rt: HostRuntime) -> Result<(), Fail> {
         (1, 2, 0, "budget 1 main price 21 declared 1\n"),
     ] {
         let text = two_classes(rt.alloc(), main, first, second)?;
-        refuses(&rt, rt.alloc(), text.as_str(), line)?;
+        refuses(&rt, rt.alloc(), text.as_str(), line);
     }
     Ok(())
 }

@@ -1,8 +1,7 @@
 //! Worked programs that leave: what is unwound, in which order, and what the trap's method hears.
-use crate::pages::{assembled, checks, runs};
+use crate::pages::{accepts, assembled, runs};
 use crate::programs::{refuses, stops};
 use aom_main::ExitStatus;
-use aom_pages::Answer;
 use std::alloc::Global;
 use std::process::Abort;
 use std::test::Fail;
@@ -42,8 +41,14 @@ fn stops_refused(
         format!(in alloc; "refuse {request}\n")?
     };
     let text = format!(in alloc; "@0 main\n{told}end stopped cells 0\n")?;
-    let answer = Answer::told(alloc, ExitStatus::Done, text.as_str(), "")?;
-    assert_eq!(rt; runs(alloc, image, script.as_bytes(), 1 << 10), answer);
+    runs(
+        rt,
+        alloc,
+        image,
+        script.as_str(),
+        ExitStatus::Done,
+        text.as_str(),
+    );
     Ok(())
 }
 
@@ -51,7 +56,7 @@ fn stops_refused(
 fn each_request_of_a_half_built_object_may_be_refused(rt: HostRuntime) -> Result<(), Fail> {
     let alloc = rt.alloc();
     let text = format!(in alloc; "image cells 3 budget 60;{HALF_BUILT}")?;
-    let image = assembled(alloc, text.as_str())?;
+    let image = assembled(&rt, alloc, text.as_str());
     for (request, told) in [
         (0, "out 0\ngone 0\ngone 0\ngone 1\n"),
         (1, "leave -4\nout -4\n"),
@@ -62,7 +67,7 @@ fn each_request_of_a_half_built_object_may_be_refused(rt: HostRuntime) -> Result
         stops_refused(&rt, alloc, image.as_slice(), request, told)?;
     }
     let text = format!(in alloc; "image cells 2 budget 60;{HALF_BUILT}")?;
-    let full = assembled(alloc, text.as_str())?;
+    let full = assembled(&rt, alloc, text.as_str());
     stops_refused(
         &rt,
         alloc,
@@ -74,7 +79,7 @@ fn each_request_of_a_half_built_object_may_be_refused(rt: HostRuntime) -> Result
 
 #[test]
 fn each_request_under_two_traps_may_be_refused(rt: HostRuntime) -> Result<(), Fail> {
-    let image = assembled(rt.alloc(), NESTED)?;
+    let image = assembled(&rt, rt.alloc(), NESTED);
     for (request, told) in [
         (0, "gone 0\nleave 0\nout 0\ngone 0\nout 0\n"),
         (1, "leave -4\nout -4\n"),
@@ -89,7 +94,7 @@ fn each_request_under_two_traps_may_be_refused(rt: HostRuntime) -> Result<(), Fa
 
 #[test]
 fn what_was_pushed_last_goes_first(rt: HostRuntime) -> Result<(), Fail> {
-    let image = assembled(rt.alloc(), THREE)?;
+    let image = assembled(&rt, rt.alloc(), THREE);
     for (request, told) in [
         (0, "gone 2\ngone 1\ngone 0\nleave -2\nout -2\n"),
         (1, "leave -4\nout -4\n"),
@@ -101,19 +106,19 @@ fn what_was_pushed_last_goes_first(rt: HostRuntime) -> Result<(), Fail> {
     ] {
         stops_refused(&rt, rt.alloc(), image.as_slice(), request, told)?;
     }
-    let accepted = Answer::told(rt.alloc(), ExitStatus::Done, "accepted\n", "")?;
-    assert_eq!(rt; checks(rt.alloc(), image.as_slice(), 100), accepted);
+    accepts(&rt, rt.alloc(), image.as_slice());
     Ok(())
 }
 
 #[test]
 fn a_refused_push_has_its_object(rt: HostRuntime) -> Result<(), Fail> {
     let image = assembled(
+        &rt,
         rt.alloc(),
         "image cells 1 budget 20;class C plain
 method f do leaves;newl r0 C;push r0;popdel;ret;end
 method main main;trap self f r0 r1;print r2;stop;ret;end",
-    )?;
+    );
     stops_refused(
         &rt,
         rt.alloc(),
@@ -127,12 +132,13 @@ method main main;trap self f r0 r1;print r2;stop;ret;end",
 #[test]
 fn operations_run_as_they_are_unwound(rt: HostRuntime) -> Result<(), Fail> {
     let image = assembled(
+        &rt,
         rt.alloc(),
         "image budget 90;method u undo args word;print r0;ret;end
 method f do leaves;const r0 1;pushop r0 u;const r0 2;pushop r0 u;popop;const r0 3;pushop r0 u
 popdel;const r0 4;pushop r0 u;const r0 -7;leave r0;end
 method main main;trap self f r0 r0;print r1;stop;ret;end",
-    )?;
+    );
     let told = "out 3\nout 4\nout 1\nleave -7\nout -7\n";
     stops_refused(&rt, rt.alloc(), image.as_slice(), 0, told)?;
     let told = "out 1\nleave -4\nout -4\n";
@@ -142,23 +148,25 @@ method main main;trap self f r0 r0;print r1;stop;ret;end",
 }
 
 #[test]
-fn main_may_leave(rt: HostRuntime) -> Result<(), Fail> {
+fn main_may_leave(rt: HostRuntime) {
     let image = assembled(
+        &rt,
         rt.alloc(),
         "image budget 2;method main main leaves;const r0 -5;leave r0;end",
-    )?;
-    let left = Answer::told(
+    );
+    let told = "@0 main\nleave -5\nend left -5 cells 0\n";
+    runs(
+        &rt,
         rt.alloc(),
-        ExitStatus::Broken,
-        "@0 main\nleave -5\nend left -5 cells 0\n",
+        image.as_slice(),
         "",
-    )?;
-    assert_eq!(rt; runs(rt.alloc(), image.as_slice(), b"", 100), left);
-    Ok(())
+        ExitStatus::Broken,
+        told,
+    );
 }
 
 #[test]
-fn leave_points_are_checked(rt: HostRuntime) -> Result<(), Fail> {
+fn leave_points_are_checked(rt: HostRuntime) {
     for (text, line) in [
         (
             "image cells 1 budget 20;class C plain;method g do leaves;ret;end
@@ -183,12 +191,12 @@ method main main;new r0 C;jnull r0 L;call r0 m r0;L: stop;ret;end",
             "verify 0 1 6\n",
         ),
     ] {
-        refuses(&rt, rt.alloc(), text, line)?;
+        refuses(&rt, rt.alloc(), text, line);
     }
     stops(
         &rt,
         rt.alloc(),
         "image budget 9;method main main leaves;const r0 1;leaveif r0;print r0;stop;ret;end",
         "@0 main\nout 1\nend stopped cells 0\n",
-    )
+    );
 }

@@ -1,25 +1,34 @@
 //! Worked programs, each from its text to its transcript or its refusal.
 use crate::pages::{assembled, checks, runs};
 use aom_main::ExitStatus;
-use aom_pages::Answer;
 use std::alloc::Global;
 use std::process::Abort;
 use std::test::Fail;
 
 /// Runs the image of a text, which ends as stopped with that transcript.
-pub fn stops(rt: &impl Abort, alloc: Global, text: &str, transcript: &str) -> Result<(), Fail> {
-    let image = assembled(alloc, text)?;
-    let told = Answer::told(alloc, ExitStatus::Done, transcript, "")?;
-    assert_eq!(rt; runs(alloc, image.as_slice(), b"", 1 << 16), told);
-    Ok(())
+pub fn stops(rt: &impl Abort, alloc: Global, text: &str, transcript: &str) {
+    let image = assembled(rt, alloc, text);
+    runs(
+        rt,
+        alloc,
+        image.as_slice(),
+        "",
+        ExitStatus::Done,
+        transcript,
+    );
 }
 
 /// The image of a text is refused.
-pub fn refuses(rt: &impl Abort, alloc: Global, text: &str, line: &str) -> Result<(), Fail> {
-    let image = assembled(alloc, text)?;
-    let refused = Answer::told(alloc, ExitStatus::ImageRefused, "", line)?;
-    assert_eq!(rt; checks(alloc, image.as_slice(), 100), refused);
-    Ok(())
+pub fn refuses(rt: &impl Abort, alloc: Global, text: &str, line: &str) {
+    let image = assembled(rt, alloc, text);
+    checks(
+        rt,
+        alloc,
+        image.as_slice(),
+        ExitStatus::ImageRefused,
+        "",
+        line,
+    );
 }
 
 /// Construction in two phases: a destructor, a construct method with an argument, and main, which keeps the object at
@@ -41,7 +50,7 @@ fn an_object_is_constructed_and_destroyed(rt: HostRuntime) -> Result<(), Fail> {
     for (cells, gone) in [(1, ""), (2, "gone 0\n")] {
         let text = format!(in rt.alloc(); "image cells {cells} budget 19 root P;{TWO_PHASES}")?;
         let told = format!(in rt.alloc(); "@0 main\nout 3\n{gone}gone 1\nend stopped cells 0\n")?;
-        stops(&rt, rt.alloc(), text.as_str(), told.as_str())?;
+        stops(&rt, rt.alloc(), text.as_str(), told.as_str());
     }
     Ok(())
 }
@@ -67,13 +76,14 @@ fn calls_may_be_256_frames_deep(rt: HostRuntime) -> Result<(), Fail> {
         rt.alloc(),
         text.as_str(),
         "@0 main\nend stopped cells 0\n",
-    )?;
+    );
     let text = stack_of_calls(rt.alloc(), 255)?;
-    refuses(&rt, rt.alloc(), text.as_str(), "budget 2\n")
+    refuses(&rt, rt.alloc(), text.as_str(), "budget 2\n");
+    Ok(())
 }
 
 #[test]
-fn a_loop_has_its_rounds(rt: HostRuntime) -> Result<(), Fail> {
+fn a_loop_has_its_rounds(rt: HostRuntime) {
     let text =
         "image budget 10;method main main;const r0 5;loop 0 3;L: print r0;next 0 L;stop;ret;end";
     stops(
@@ -81,11 +91,11 @@ fn a_loop_has_its_rounds(rt: HostRuntime) -> Result<(), Fail> {
         rt.alloc(),
         text,
         "@0 main\nout 5\nout 5\nout 5\nend stopped cells 0\n",
-    )
+    );
 }
 
 #[test]
-fn loops_nest(rt: HostRuntime) -> Result<(), Fail> {
+fn loops_nest(rt: HostRuntime) {
     let text =
         "image budget 100;method main main;const r0 5;loop 0 2;A: loop 1 2;B: print r0;next 1 B;next 0 A;stop;ret;end";
     stops(
@@ -93,7 +103,7 @@ fn loops_nest(rt: HostRuntime) -> Result<(), Fail> {
         rt.alloc(),
         text,
         "@0 main\nout 5\nout 5\nout 5\nout 5\nend stopped cells 0\n",
-    )
+    );
 }
 
 /// Main of a program that prints what its methods give, and an object whose words they write.
@@ -116,13 +126,13 @@ end
 ";
 
 #[test]
-fn methods_take_arguments_and_give_results(rt: HostRuntime) -> Result<(), Fail> {
+fn methods_take_arguments_and_give_results(rt: HostRuntime) {
     stops(
         &rt,
         rt.alloc(),
         COUNTER,
         "@0 main\nout 40\nout 42\nout -3\ngone 0\nend stopped cells 0\n",
-    )
+    );
 }
 
 /// Classes of which one owns another, with the destructor of the owner.
@@ -164,7 +174,7 @@ fn each_rule_refuses_its_smallest_program(rt: HostRuntime) -> Result<(), Fail> {
     ] {
         let main = "method main main;ret;end";
         let text = format!(in rt.alloc(); "{OWNER}{methods}\n{main}")?;
-        refuses(&rt, rt.alloc(), text.as_str(), line)?;
+        refuses(&rt, rt.alloc(), text.as_str(), line);
     }
     Ok(())
 }
@@ -175,13 +185,13 @@ method d destruct of C; const r0 9; print r0; ret; end
 method main main; new r0 C; jnull r0 L; put f0 r0; L: const r1 4; loop 0 3; B: print r1; next 0 B; stop; ret; end";
 
 #[test]
-fn a_root_goes_once_the_run_has_stopped(rt: HostRuntime) -> Result<(), Fail> {
+fn a_root_goes_once_the_run_has_stopped(rt: HostRuntime) {
     stops(
         &rt,
         rt.alloc(),
         ROUNDS,
         "@0 main\nout 4\nout 4\nout 4\nout 9\ngone 0\nend stopped cells 0\n",
-    )
+    );
 }
 
 /// A method with arguments that are words and objects, and with a result, on self and on a field.
@@ -195,13 +205,13 @@ method show do of B; jempty f0 F; call f0 get r0 r3; const r4 5; call self sum r
 method main main; new r0 B; jnull r0 E; new r1 A; jnull r1 P; const r2 7; call r1 an r2; call r0 hold r1; P: put f0 r0; call f0 show; E: stop; ret; end";
 
 #[test]
-fn calls_are_made_on_self_registers_and_fields(rt: HostRuntime) -> Result<(), Fail> {
+fn calls_are_made_on_self_registers_and_fields(rt: HostRuntime) {
     stops(
         &rt,
         rt.alloc(),
         CALLS,
         "@0 main\nout 12\ngone 0\ngone 1\nend stopped cells 0\n",
-    )
+    );
 }
 
 /// Three requests, each with its number and the end of its cell where it is given.
@@ -214,7 +224,7 @@ D: stop; ret; end";
 #[test]
 fn a_refused_request_gives_null(rt: HostRuntime) -> Result<(), Fail> {
     let alloc = rt.alloc();
-    let image = assembled(alloc, REQUESTS)?;
+    let image = assembled(&rt, alloc, REQUESTS);
     let (one, two, three) = ("out 1\ngone 0\n", "out 2\ngone 0\n", "out 3\ngone 0\n");
     for (script, given) in [
         ("", [one, two, three]),
@@ -225,8 +235,14 @@ fn a_refused_request_gives_null(rt: HostRuntime) -> Result<(), Fail> {
     ] {
         let [first, second, third] = given;
         let text = format!(in alloc; "@0 main\n{first}{second}{third}end stopped cells 0\n")?;
-        let told = Answer::told(alloc, ExitStatus::Done, text.as_str(), "")?;
-        assert_eq!(rt; runs(alloc, image.as_slice(), script.as_bytes(), 100), told);
+        runs(
+            &rt,
+            alloc,
+            image.as_slice(),
+            script,
+            ExitStatus::Done,
+            text.as_str(),
+        );
     }
     Ok(())
 }

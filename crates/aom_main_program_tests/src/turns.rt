@@ -4,7 +4,6 @@ ghost use Rattle.std.specs.Prelude.{◌≤◌};
 use crate::pages::{assembled, runs_until};
 use crate::programs::{refuses, stops};
 use aom_main::ExitStatus;
-use aom_pages::Answer;
 use std::alloc::Global;
 use std::process::Abort;
 use std::test::Fail;
@@ -26,16 +25,11 @@ fn runs_to(
     limit: u32,
     status: ExitStatus,
     transcript: &str,
-) -> Result<(), Fail>
+)
     requires { (1 ≤ limit) × (limit ≤ 1000000000) }
 {
-    let image = assembled(alloc, text)?;
-    let told = Answer::told(alloc, status, transcript, "")?;
-    assert_eq!(rt;
-        runs_until(alloc, image.as_slice(), b"", limit, 1 << 16),
-        told
-    );
-    Ok(())
+    let image = assembled(rt, alloc, text);
+    runs_until(rt, alloc, image.as_slice(), "", limit, status, transcript);
 }
 
 /// A handler that cancels the timer of the object that its own owns, at the same time as both are completed.
@@ -56,9 +50,9 @@ method main main leaves;newl r0 H;push r0;call c0 hn;pop r0;put f0 r0;ret;end
 ";
 
 #[test]
-fn a_handler_cancels_what_is_completed(rt: HostRuntime) -> Result<(), Fail> {
+fn a_handler_cancels_what_is_completed(rt: HostRuntime) {
     let told = "@0 main\n@1 run 1 0\nout 1\nend waiting cells 2\n";
-    runs_to(&rt, rt.alloc(), CANCELS, 100, ExitStatus::Unfinished, told)
+    runs_to(&rt, rt.alloc(), CANCELS, 100, ExitStatus::Unfinished, told);
 }
 
 /// The handler of an A that is asked for with the code of a request that is pending.
@@ -74,21 +68,23 @@ method n construct of A;enlist 0;const r0 -2147483647;issue r0 r0;setactive;ret;
 fn the_code_of_a_pending_request_is_another(rt: HostRuntime) -> Result<(), Fail> {
     let text = asks_pending(rt.alloc(), 20)?;
     let told = "@0 main\n@1 run 0 -2\nout -2\ngone 0\nend stopped cells 0\n";
-    stops(&rt, rt.alloc(), text.as_str(), told)
+    stops(&rt, rt.alloc(), text.as_str(), told);
+    Ok(())
 }
 
 #[test]
 fn a_class_keeps_its_budget(rt: HostRuntime) -> Result<(), Fail> {
     let exact = asks_pending(rt.alloc(), 4)?;
     let told = "@0 main\n@1 run 0 -2\nout -2\ngone 0\nend stopped cells 0\n";
-    stops(&rt, rt.alloc(), exact.as_str(), told)?;
+    stops(&rt, rt.alloc(), exact.as_str(), told);
     let over = asks_pending(rt.alloc(), 3)?;
     refuses(
         &rt,
         rt.alloc(),
         over.as_str(),
         "budget 1 class 0 price 4 declared 3\n",
-    )
+    );
+    Ok(())
 }
 
 #[test]
@@ -98,7 +94,8 @@ fn a_request_is_waited_for_before_a_leave(rt: HostRuntime) -> Result<(), Fail> {
 method r run of A;status r0;print r0;stop;ret;end
 method n construct of A leaves;enlist 0;const r0 0;issue r0 r0;leaveif r0;setactive;ret;end\n{MAIN}"
     )?;
-    refuses(&rt, rt.alloc(), text.as_str(), "verify 3 3 13\n")
+    refuses(&rt, rt.alloc(), text.as_str(), "verify 3 3 13\n");
+    Ok(())
 }
 
 /// Two objects whose handlers leave, the first of them with 0.
@@ -116,10 +113,10 @@ method main main leaves;newl r0 P;push r0;call c0 pn;pop r0;put f0 r0;ret;end
 ";
 
 #[test]
-fn a_dispatch_that_leaves_answers_with_its_code(rt: HostRuntime) -> Result<(), Fail> {
+fn a_dispatch_that_leaves_answers_with_its_code(rt: HostRuntime) {
     let told =
         "@0 main\n@1 run 0 0\nout 0\nleave 0\n@2 run 0 0\nout 5\nleave 5\nend error 5 cells 3\n";
-    runs_to(&rt, rt.alloc(), ANSWERED, 100, ExitStatus::Broken, told)
+    runs_to(&rt, rt.alloc(), ANSWERED, 100, ExitStatus::Broken, told);
 }
 
 /// An object that asks again each time.
@@ -138,7 +135,7 @@ method n construct of A;enlist 0;const r0 0;issue r0 r0;setactive;ret;end\n{MAIN
         1,
         ExitStatus::Unfinished,
         one,
-    )?;
+    );
     let three = "@0 main\n@1 run 0 0\n@2 run 0 0\n@3 run 0 0\nend limit cells 1\n";
     runs_to(
         &rt,
@@ -147,7 +144,8 @@ method n construct of A;enlist 0;const r0 0;issue r0 r0;setactive;ret;end\n{MAIN
         3,
         ExitStatus::Unfinished,
         three,
-    )
+    );
+    Ok(())
 }
 
 /// Three objects whose timers are set in another order than they are due.
@@ -166,8 +164,8 @@ method main main leaves;newl r0 P;push r0;call c0 pn;pop r0;put f0 r0;ret;end
 ";
 
 #[test]
-fn timers_go_off_in_the_order_of_their_times(rt: HostRuntime) -> Result<(), Fail> {
+fn timers_go_off_in_the_order_of_their_times(rt: HostRuntime) {
     let told =
         "@0 main\n@10 run 0 0\nout 10\n@20 run 0 0\nout 20\n@30 run 0 0\nout 30\nend waiting cells 4\n";
-    runs_to(&rt, rt.alloc(), TIMED, 100, ExitStatus::Unfinished, told)
+    runs_to(&rt, rt.alloc(), TIMED, 100, ExitStatus::Unfinished, told);
 }
