@@ -80,7 +80,10 @@ fn a_fault_is_explained_where_that_is_asked(rt: HostRuntime) -> Result<(), Fail>
         ("aom check --prices one.image --explain", Some(true)),
         ("aom check --prices one.image", Some(false)),
         ("aom run one.image one.script", Some(false)),
-        ("aom run --explain --limit 7 one.image one.script", Some(true)),
+        (
+            "aom run --explain --limit 7 one.image one.script",
+            Some(true),
+        ),
         ("aom run one.image one.script line --explain", Some(true)),
         ("aom asm one.text", Some(false)),
         ("aom asm --explain one.text", Some(true)),
