@@ -1,0 +1,13 @@
+//! Tests of `aom_explain` and `aom_explaining`, from outside: refused images, texts and scripts, and what is said of them.
+#![tactic(auto)]
+
+#[cfg(test)]
+mod kinds;
+#[cfg(test)]
+mod memory;
+#[cfg(test)]
+mod pages;
+#[cfg(test)]
+mod places;
+#[cfg(test)]
+mod unchanged;
