@@ -7,5 +7,6 @@ pub mod Link
 pub mod Load
 pub mod Places
 pub mod Script
+pub mod Sources
 pub mod Verify
 pub mod Word

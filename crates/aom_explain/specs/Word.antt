@@ -16,6 +16,13 @@ file_texts = record {
   mend = codes "Look at the name, and whether it is a file that may be read.";
 }
 
+abbrev pub text_texts : Texts
+text_texts = record {
+  name = codes "text";
+  meaning = codes "The text that --text names denotes an image, and another one than is named beside it.";
+  mend = codes "Name the text that the image is of, or assemble the text again and name that image.";
+}
+
 abbrev pub write_texts : Texts
 write_texts = record {
   name = codes "write";

@@ -3,8 +3,9 @@
 //!
 //! `load_entry` and its like answer just the texts of `specs/`, which docs/reasons.md tells too, word by word. `put_entry` writes
 //! an entry, and `put_line`, `put_method` and `put_compared` what `specs/Places.antt` and `specs/Compared.antt` say of a line of a
-//! text, of an instruction and of a budget. A method and an instruction are written as in a listing. Nothing here knows which
-//! command was refused, nor where a text goes.
+//! text, of an instruction and of a budget. A method and an instruction are written as in a listing; `put_source` and
+//! `put_declared` write in their place the statements of a text, as `specs/Sources.antt` says. Nothing here knows which command
+//! was refused, nor where a text goes.
 #![tactic(auto)]
 
 mod asm;
@@ -16,6 +17,7 @@ mod link;
 mod load;
 mod place;
 mod script;
+mod source;
 mod verify;
 mod word;
 
@@ -28,5 +30,6 @@ pub use link::link_entry;
 pub use load::load_entry;
 pub use place::{put_line, put_method};
 pub use script::script_entry;
+pub use source::{put_declared, put_source};
 pub use verify::verify_entry;
-pub use word::{file_entry, memory_entry, native_entry, write_entry};
+pub use word::{file_entry, memory_entry, native_entry, text_entry, write_entry};

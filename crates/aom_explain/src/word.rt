@@ -1,6 +1,6 @@
 //! Faults that have no number.
 ghost use Rattle.std.specs.Prelude.{◌≡◌};
-ghost use Rattle.aom_explain.specs.Word.{file_texts, memory_texts, native_texts, write_texts};
+ghost use Rattle.aom_explain.specs.Word.{file_texts, memory_texts, native_texts, text_texts, write_texts};
 
 use crate::Entry;
 
@@ -14,6 +14,12 @@ const FILE: Entry = Entry {
     name: b"file",
     meaning: b"A file that the words name cannot be read.",
     mend: b"Look at the name, and whether it is a file that may be read.",
+};
+
+const TEXT: Entry = Entry {
+    name: b"text",
+    meaning: b"The text that --text names denotes an image, and another one than is named beside it.",
+    mend: b"Name the text that the image is of, or assemble the text again and name that image.",
 };
 
 const WRITE: Entry = Entry {
@@ -40,6 +46,13 @@ pub fn file_entry() -> Entry
     ensures { result ≡ file_texts }
 {
     FILE
+}
+
+/// What is told of a text that the image beside it is not of.
+pub fn text_entry() -> Entry
+    ensures { result ≡ text_texts }
+{
+    TEXT
 }
 
 /// What is told of an output that has failed.
