@@ -14,7 +14,8 @@ use crate::files::read_file;
 use crate::output::Output;
 use aom_command_line::{RunWords, Words, WordsFault, read_words};
 use aom_explaining::{
-    asm_explained, check_explained, prices_explained, run_explained, tell_explained,
+    asm_explained, check_by_text, check_explained, prices_by_text, prices_explained, run_by_text,
+    run_explained, tell_explained,
 };
 use aom_main::{
     ExitStatus, Fault, Part, asm_bytes, check_bytes, dis_bytes, dot_bytes, explore_bytes,
@@ -142,19 +143,29 @@ fn obey<W: Sink, E: Sink>(
             image,
             prices,
             explain,
+            text,
         } => {
+            let text = read_text(rt, text)?;
             let image = read_file(rt, image)?;
-            Ok(match (*prices, *explain) {
-                (false, false) => check_bytes(alloc, &image, out, errors),
-                (false, true) => check_explained(alloc, &image, out, errors),
-                (true, false) => prices_bytes(alloc, &image, out, errors),
-                (true, true) => prices_explained(alloc, &image, out, errors),
+            Ok(match (*prices, *explain, &text) {
+                (false, _, Some(text)) => check_by_text(alloc, &image, text, out, errors),
+                (true, _, Some(text)) => prices_by_text(alloc, &image, text, out, errors),
+                (false, false, None) => check_bytes(alloc, &image, out, errors),
+                (false, true, None) => check_explained(alloc, &image, out, errors),
+                (true, false, None) => prices_bytes(alloc, &image, out, errors),
+                (true, true, None) => prices_explained(alloc, &image, out, errors),
             })
         }
-        Words::Run { run, explain } => {
+        Words::Run { run, explain, text } => {
+            let text = read_text(rt, text)?;
             let image = read_file(rt, &run.image)?;
             let script = read_file(rt, &run.script)?;
-            run_beside(alloc, run, *explain, &image, &script, out, errors)
+            let files = RunFiles {
+                text,
+                image,
+                script,
+            };
+            run_beside(alloc, run, *explain, &files, out, errors)
         }
         Words::Explore { run, first, last } => {
             let image = read_file(rt, &run.image)?;
@@ -176,13 +187,28 @@ fn obey<W: Sink, E: Sink>(
     }
 }
 
+/// The text that is named beside an image, where there is one.
+fn read_text(rt: &HostRuntime, name: &Option<String>) -> Result<Option<Vec<u8>>, Fault> {
+    match name {
+        Some(name) => Ok(Some(read_file(rt, name)?)),
+        None => Ok(None),
+    }
+}
+
+/// The bytes of the files of a run.
+#[derive(Drop)]
+struct RunFiles {
+    text: Option<Vec<u8>>,
+    image: Vec<u8>,
+    script: Vec<u8>,
+}
+
 /// Makes the natives that the words name, and runs an image beside them.
 fn run_beside<W: Sink, E: Sink>(
     alloc: Global,
     run: &RunWords,
     explain: bool,
-    image: &[u8],
-    script: &[u8],
+    files: &RunFiles,
     out: &mut W,
     errors: &mut E,
 ) -> Result<ExitStatus, Fault>
@@ -196,8 +222,11 @@ fn run_beside<W: Sink, E: Sink>(
             NativeKind::Delay => boxes.push(Box::new(alloc, Delay::new())?)?,
         }
     }
-    if explain {
-        return Ok(run_explained(alloc, image, script, run.limit, boxes, out, errors));
-    }
-    Ok(run_bytes(alloc, image, script, run.limit, boxes, out, errors))
+    let limit = run.limit;
+    let (image, script) = (&files.image, &files.script);
+    Ok(match &files.text {
+        Some(text) => run_by_text(alloc, image, text, script, limit, boxes, out, errors),
+        None if explain => run_explained(alloc, image, script, limit, boxes, out, errors),
+        None => run_bytes(alloc, image, script, limit, boxes, out, errors),
+    })
 }

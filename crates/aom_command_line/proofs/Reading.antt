@@ -1,14 +1,13 @@
 -- What `clap` answers of the words of a command line.
-use Rattle.std.proofs.Common.{◌≡◌, ◌≢◌, ◌∙◌, ℕ, ◌+◌, Bool, ◌||◌, true, false, ◌<◌, ◌^◌, ◌⊎◌, List, [], ◌∷◌, ◌++◌, Contains, length, map, take, slice_index_or, Option, Some, None, Result, Ok, Err, option_map, unwrap_or, is_some, codes, refl, sym, ap, ap₂, inl, inr, subst, arith}
+use Rattle.std.proofs.Common.{◌≡◌, ◌≢◌, ◌∙◌, ℕ, ◌+◌, Bool, ◌||◌, true, false, ◌<◌, ◌^◌, ◌⊎◌, List, [], ◌∷◌, ◌++◌, Contains, length, map, take, slice_index_or, Option, Some, None, Result, Ok, Err, option_map, unwrap_or, codes, refl, sym, ap, ap₂, inl, inr, subst, arith}
 use Rattle.std.proofs.lemmas.List.{get_or-map, length-map, map-append, map_more, take-map}
 use Rattle.std.proofs.lemmas.List.Elements.{Contains-get_or}
 use Rattle.std.specs.Borrow.{Bor}
 use Rattle.std.specs.Fmt.{decimal}
 use Rattle.std.specs.Str.Parse.{IsNumeral, ParsesUnsigned, digits_value, without_leading_plus}
 use Rattle.std.proofs.lemmas.Fmt.{parse-decimal}
-use Rattle.clap.specs.Words.{ReadsOne, Row, Text, all_of, first_value, is_simple, matched_of, raw_values, rows_of}
+use Rattle.clap.specs.Words.{ReadsOne, Row, Text, all_of, first_of, first_value, one_of, is_simple, matched_of, raw_values, rows_of}
 use Rattle.clap.specs.declared.parser.matches.Found.{Found}
-use Rattle.clap.specs.declared.parser.matches.MatchedArg.{MatchedArg}
 use Rattle.clap.proofs.OnLiterals.{clap_on_literals}
 use Rattle.clap.proofs.WalkLemmas.{first_value-rows, raw_values-rows}
 use Rattle.clap.specs.declared.error.kind.ErrorKind.{ErrorKind}
@@ -17,7 +16,7 @@ use Rattle.aom_command_line.specs.declared.words.WordsFault.{WordsFault}
 use Rattle.aom_command_line.specs.declared.words.WordsFault.TheVariants as faults
 use Rattle.aom_natives.specs.Kinds.{word_of as word_of_kind}
 use Rattle.aom_natives.specs.declared.kind.NativeKind.{NativeKind}
-use Rattle.aom_command_line.specs.CommandLine.{IsCommand, Declines, DeclinesNatives, DeclinesRun, NamesKinds, NamesNoKinds, Says, form, texts_in, word_of}
+use Rattle.aom_command_line.specs.CommandLine.{IsCommand, IsUnexplained, Declines, AsksText, DeclinesRun, DeclinesText, LacksExplain, NamesKinds, NamesNoKinds, Says, form, texts_in, word_of}
 
 same : {E : Type 0} (v n : ℕ) (r : Result ℕ E) → r ≡ Ok v → r ≡ Ok n → Some v ≡ Some n
 same v n r a b = cc
@@ -48,9 +47,9 @@ chosen f id o d r is empty found = ap (λ (s : Bor Text). s.now) is ∙ read o d
     read (Some s) d e = refl
 
 -- without a command there is none
-pub nothing_met : (met : Option (Text × List Row)) → None ≡ option_map (λ p. p.1) met → true ≡ true → IsCommand met → ⊥
-nothing_met None e taken is = is
-nothing_met (Some m) e taken is = cc
+pub nothing_met : (met : Option (Text × List Row)) → None ≡ option_map (λ p. p.1) met → true ≡ true → IsCommand met → IsUnexplained met
+nothing_met None e taken is = absurd is
+nothing_met (Some m) e taken is = absurd cc
 
 -- an argument for its own command alone leaves a command as it was in this
 pub as_before : (old new added : Bool) → new ≡ (old || added) → added ≡ false → new ≡ old
@@ -68,6 +67,27 @@ declines_run command rows (faults.Text text) runs none = absurd none
 declines_run command rows faults.Native runs none = (runs, none)
 declines_run command rows faults.Memory runs none = none
 
+-- ---- a text beside an image
+
+-- a text that is there, and a flag that is not set
+pub lacks_explain : (rows : List Row) (name : Text) (explain : Bool) → Some name ≡ first_of (codes "text") rows → (one_of (codes "explain") rows ≡ Some (codes "true") → explain ≡ true) → explain ≡ false
+    → LacksExplain rows
+lacks_explain rows name explain there used unset = record { named = λ none. absurd (some_is_none (there ∙ none)); unasked = λ asked. absurd (both (used asked) unset) }
+  where
+    some_is_none : Some name ≡ None → ⊥
+    some_is_none e = cc
+    both : explain ≡ true → explain ≡ false → ⊥
+    both set out = cc
+
+pub no_text : {A : Type 0} (rows : List Row) (explain : Bool) → None ≡ first_of (codes "text") rows → AsksText {A = A} rows explain None
+no_text rows explain none = record { named = none; explained = λ some. absurd (some (sym none)) }
+
+-- a command that explains declines a text without `--explain`
+pub declines_text : (command : Text) (rows : List Row) (fault : WordsFault) → (command ≡ codes "check") ⊎ (command ≡ codes "run") → DeclinesText rows fault → Declines true (Some (command, rows)) fault
+declines_text command rows (faults.Text text) explains lacks = λ is known. (explains, lacks)
+declines_text command rows faults.Native explains none = absurd none
+declines_text command rows faults.Memory explains none = none
+
 -- what `clap` takes, and what it does not
 pub declines : (taken : Bool) (met : Option (Text × List Row)) (fault : WordsFault) → Declines true met fault → Declines taken met fault
 declines taken met (faults.Text text) d = λ is command. d refl command
@@ -75,7 +95,7 @@ declines taken met faults.Native d = d
 declines taken met faults.Memory d = d
 
 pub says : (taken : Bool) (met : Option (Text × List Row)) (kind : ErrorKind) (fault : WordsFault) → Says kind fault → (taken ≡ true → kind ≡ OutOfMemory) → Declines taken met fault
-says taken met kind (faults.Text text) s passes = λ is command. s (passes is)
+says taken met kind (faults.Text text) s passes = λ is command. absurd (s (passes is))
 says taken met kind faults.Native s passes = absurd s
 says taken met kind faults.Memory s passes = s
 

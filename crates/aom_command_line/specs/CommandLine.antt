@@ -1,5 +1,5 @@
 -- The form of a command line as `clap` reads it, and what is asked by one.
-use Rattle.std.specs.Prelude.{ℕ, ◌≡◌, ◌≢◌, ◌≤◌, ◌<◌, ◌⊎◌, String, Bool, true, false, List, [], ◌∷◌, Contains, length, map, Option, Some, None, codes, unwrap_or, pos}
+use Rattle.std.specs.Prelude.{ℕ, ◌≡◌, ◌≢◌, ◌≤◌, ◌<◌, ◌⊎◌, String, Bool, true, false, List, [], ◌∷◌, Contains, length, map, Option, Some, None, codes, option_map, unwrap_or, pos}
 use Rattle.std.specs.Borrow.{Bor}
 use Rattle.std.specs.String.{string_bytes}
 use Rattle.std.specs.Fmt.{decimal}
@@ -61,6 +61,14 @@ prices_rule = flag_rule (codes "prices")
 abbrev pub explain_rule : Rule
 explain_rule = flag_rule (codes "explain")
 
+-- `--text TEXT`, the name of a file
+abbrev pub text_rule : Rule
+text_rule =
+    record (new_rule (codes "text")) {
+      long = Some (codes "text");
+      value_names = 1;
+    }
+
 -- any number of words at the end
 abbrev pub native_rule : Rule
 native_rule =
@@ -69,9 +77,9 @@ native_rule =
       range = Some (record { start_inclusive = 0; end_inclusive = usize_max });
     }
 
--- check [--prices] [--explain] IMAGE
+-- check [--prices] [--explain] [--text TEXT] IMAGE
 abbrev pub check_form : App
-check_form = with_rule (with_rule (with_rule (new_app (codes "check")) prices_rule) explain_rule) (file_rule (codes "IMAGE"))
+check_form = with_rule (with_rule (with_rule (with_rule (new_app (codes "check")) prices_rule) explain_rule) text_rule) (file_rule (codes "IMAGE"))
 
 -- asm [--explain] TEXT
 abbrev pub asm_form : App
@@ -89,9 +97,9 @@ dot_form = with_rule (new_app (codes "dot")) (file_rule (codes "IMAGE"))
 abbrev pub with_files : App → App
 with_files command = with_rule (with_rule (with_rule command (file_rule (codes "IMAGE"))) (file_rule (codes "SCRIPT"))) native_rule
 
--- run [--limit N] [--explain] IMAGE SCRIPT [NATIVE]..
+-- run [--limit N] [--explain] [--text TEXT] IMAGE SCRIPT [NATIVE]..
 abbrev pub run_form : App
-run_form = with_files (with_rule (with_rule (new_app (codes "run")) limit_rule) explain_rule)
+run_form = with_files (with_rule (with_rule (with_rule (new_app (codes "run")) limit_rule) explain_rule) text_rule)
 
 -- explore [--limit N] [--from N] [--to N] IMAGE SCRIPT [NATIVE]..
 abbrev pub explore_form : App
@@ -156,13 +164,29 @@ pub record AsksRun (rows : List Row) (run : RunWords) : Type 0 where
   pub limit : IsNumberUpTo 1000000000 (one_of (codes "limit") rows) run.limit
   pub natives : NamesKinds (all_of (codes "NATIVE") rows) run.natives.items
 
+-- the words found for a command name this text beside its image, and none where nothing is to be explained
+pub record AsksText {A : Type 0} (rows : List Row) (explain : Bool) (text : Option (String A)) : Type 0 where
+  pub named : option_map (λ t. string_bytes t) text ≡ first_of (codes "text") rows
+  pub explained : first_of (codes "text") rows ≢ None → explain ≡ true
+
+-- the words found for a command name a text, and do not ask that a fault be explained
+pub record LacksExplain (rows : List Row) : Type 0 where
+  pub named : first_of (codes "text") rows ≢ None
+  pub unasked : one_of (codes "explain") rows ≢ Some (codes "true")
+
+-- why a text beside an image is refused
+abbrev pub DeclinesText : List Row → WordsFault → Type 0
+DeclinesText rows (faults.Text text) = LacksExplain rows
+DeclinesText rows faults.Native = ⊥
+DeclinesText rows faults.Memory = Unit {0}
+
 -- a command and the words found for it ask this
 abbrev pub Asks : Option (Text × List Row) → Words → Type 0
 Asks None words = ⊥
-Asks (Some met) (Check image prices explain) =
+Asks (Some met) (Check image prices explain text) =
     (met.0 ≡ codes "check") × (string_bytes image ≡ word_of (codes "IMAGE") met.1)
-    × IsFlag (one_of (codes "prices") met.1) prices × IsFlag (one_of (codes "explain") met.1) explain
-Asks (Some met) (Run run explain) = (met.0 ≡ codes "run") × AsksRun met.1 run × IsFlag (one_of (codes "explain") met.1) explain
+    × IsFlag (one_of (codes "prices") met.1) prices × IsFlag (one_of (codes "explain") met.1) explain × AsksText met.1 explain text
+Asks (Some met) (Run run explain text) = (met.0 ≡ codes "run") × AsksRun met.1 run × IsFlag (one_of (codes "explain") met.1) explain × AsksText met.1 explain text
 Asks (Some met) (Explore run first last) =
     (met.0 ≡ codes "explore") × AsksRun met.1 run
     × IsNumberUpTo 4294967295 (one_of (codes "from") met.1) first × IsNumberUpTo 4294967295 (one_of (codes "to") met.1) last
@@ -180,9 +204,14 @@ abbrev pub NamesNoNatives : Option (Text × List Row) → Type 0
 NamesNoNatives None = ⊥
 NamesNoNatives (Some met) = ((met.0 ≡ codes "run") ⊎ (met.0 ≡ codes "explore")) × NamesNoKinds (all_of (codes "NATIVE") met.1)
 
--- why words ask nothing: `clap` does not take them, or they do not name natives where they should, or memory is wanting
+-- it is a command that explains, with a text and without `--explain`
+abbrev pub IsUnexplained : Option (Text × List Row) → Type 0
+IsUnexplained None = ⊥
+IsUnexplained (Some met) = ((met.0 ≡ codes "check") ⊎ (met.0 ≡ codes "run")) × LacksExplain met.1
+
+-- why words ask nothing: `clap` does not take them, or `--text` stands without `--explain`, or they do not name natives where they should, or memory is wanting
 abbrev pub Declines : Bool → Option (Text × List Row) → WordsFault → Type 0
-Declines taken met (faults.Text text) = taken ≡ true → IsCommand met → ⊥
+Declines taken met (faults.Text text) = taken ≡ true → IsCommand met → IsUnexplained met
 Declines taken met faults.Native = NamesNoNatives met
 Declines taken met faults.Memory = Unit {0}
 
@@ -198,8 +227,8 @@ Says kind faults.Memory = Unit {0}
 
 -- what is known of the limit of runs
 abbrev pub KeepsLimit : Words → Type 0
-KeepsLimit (Check image prices explain) = Unit {0}
-KeepsLimit (Run run explain) = (1 ≤ run.limit) × (run.limit ≤ 1000000000)
+KeepsLimit (Check image prices explain text) = Unit {0}
+KeepsLimit (Run run explain text) = (1 ≤ run.limit) × (run.limit ≤ 1000000000)
 KeepsLimit (Explore run first last) = (1 ≤ run.limit) × (run.limit ≤ 1000000000)
 KeepsLimit (Asm text explain) = Unit {0}
 KeepsLimit (Dis image) = Unit {0}

@@ -3,7 +3,7 @@ ghost use Rattle.std.specs.Prelude.{◌≡◌, ◌≤◌, IfOk, IfErr, Some, fal
 ghost use Rattle.std.specs.String.{string_bytes};
 ghost use Rattle.clap.specs.declared.builder.command.Command.TheViews.{out-Command as fields_of};
 ghost use Rattle.clap.specs.Words.{all_of, app_of, found_of, kind_of, one_of, rows_of, rule_of, subcommand_of, subcommand_rows_of, takes, with_subcommand};
-ghost use Rattle.aom_command_line.specs.CommandLine.{asm_form, check_form, dis_form, dot_form, explain_rule, explore_form, run_form, form, file_rule, flag_rule, from_rule, limit_rule, native_rule, number_rule, prices_rule, to_rule, texts_of, with_files, word_of, Asks, AsksRun, Declines, DeclinesNatives, DeclinesRun, IsFlag, IsNumberUpTo, KeepsLimit, NamesKinds, Says, texts_in};
+ghost use Rattle.aom_command_line.specs.CommandLine.{asm_form, check_form, dis_form, dot_form, explain_rule, explore_form, run_form, form, file_rule, flag_rule, from_rule, limit_rule, native_rule, number_rule, prices_rule, text_rule, to_rule, texts_of, with_files, word_of, Asks, AsksRun, AsksText, Declines, DeclinesNatives, DeclinesRun, DeclinesText, IsFlag, IsNumberUpTo, KeepsLimit, NamesKinds, Says, texts_in};
 
 use aom_natives::NativeKind;
 use clap::builder::ValueParser;
@@ -20,11 +20,15 @@ pub enum Words {
         prices: bool,
         /// Whether a fault is to be explained.
         explain: bool,
+        /// The text that the image is of, whose lines an explanation names.
+        text: Option<String>,
     },
     Run {
         run: RunWords,
         /// Whether a fault is to be explained.
         explain: bool,
+        /// The text that the image is of, whose lines an explanation names.
+        text: Option<String>,
     },
     /// Run again and again, each time with one more allocation request refused.
     Explore {
@@ -50,7 +54,7 @@ pub enum Words {
 /// Why a command line is refused.
 #[derive(Debug, Drop)]
 pub enum WordsFault {
-    /// What `clap` has to say: a fault, or the help that was asked for.
+    /// What `clap` has to say, a fault or the help that was asked for; or that `--text` stands without `--explain`.
     Text(String),
     /// No native of that name, or one too many.
     Native,
@@ -144,6 +148,7 @@ fn check_command<'a>(alloc: Global) -> Result<Command<'a>, AllocError>
         .about("Tells whether an image is accepted")
         .arg(prices_arg(alloc))?
         .arg(explain_arg(alloc))?
+        .arg(text_arg(alloc))?
         .arg(file_arg(alloc, "IMAGE", "The file of an image"))
 }
 
@@ -182,7 +187,8 @@ fn run_command<'a>(alloc: Global) -> Result<Command<'a>, AllocError>
     let command = Command::new(alloc, "run")
         .about("Runs an image under a script and writes the transcript")
         .arg(limit_arg(alloc))?
-        .arg(explain_arg(alloc))?;
+        .arg(explain_arg(alloc))?
+        .arg(text_arg(alloc))?;
     with_files(alloc, command)
 }
 
@@ -307,6 +313,15 @@ fn explain_arg<'a>(alloc: Global) -> Arg<'a>
     )
 }
 
+fn text_arg<'a>(alloc: Global) -> Arg<'a>
+    ensures rule { rule_of result ≡ text_rule }
+    ensures own { result.global ≡ false }
+{
+    Arg::new(alloc, "text").long("text").value_name("TEXT").help(
+        "The text that the image is of, whose lines --explain then names",
+    )
+}
+
 /// An option that stands alone.
 fn flag_arg<'a>(alloc: Global, id: &'a str, help: &'a str) -> Arg<'a>
     ensures rule { rule_of result ≡ flag_rule id.entry.now }
@@ -348,15 +363,8 @@ fn command_words(alloc: Global, command: &str, own: &ArgMatches) -> Result<Words
     ensures declines { IfErr result (λ fault. Declines true (Some (command.now, rows_of (found_of own.now))) fault) }
 {
     match command {
-        "check" => Ok(Words::Check {
-            image: word_of(alloc, own, "IMAGE")?,
-            prices: is_set(own, "prices"),
-            explain: is_set(own, "explain"),
-        }),
-        "run" => Ok(Words::Run {
-            run: run_words(alloc, own)?,
-            explain: is_set(own, "explain"),
-        }),
+        "check" => check_words(alloc, own),
+        "run" => running_words(alloc, own),
         "explore" => explore_words(alloc, own),
         "asm" => Ok(Words::Asm {
             text: word_of(alloc, own, "TEXT")?,
@@ -369,6 +377,47 @@ fn command_words(alloc: Global, command: &str, own: &ArgMatches) -> Result<Words
             image: word_of(alloc, own, "IMAGE")?,
         }),
         _ => Err(WordsFault::Text(String::new(alloc))),
+    }
+}
+
+fn check_words(alloc: Global, own: &ArgMatches) -> Result<Words, WordsFault>
+    ensures asks { IfOk result (λ asked. Asks (Some (codes "check", rows_of (found_of own.now))) asked) }
+    ensures declines { IfErr result (λ fault. Declines true (Some (codes "check", rows_of (found_of own.now))) fault) }
+{
+    let explain = is_set(own, "explain");
+    Ok(Words::Check {
+        text: text_of(alloc, own, explain)?,
+        image: word_of(alloc, own, "IMAGE")?,
+        prices: is_set(own, "prices"),
+        explain,
+    })
+}
+
+fn running_words(alloc: Global, own: &ArgMatches) -> Result<Words, WordsFault>
+    ensures asks { IfOk result (λ asked. Asks (Some (codes "run", rows_of (found_of own.now))) asked) }
+    ensures declines { IfErr result (λ fault. Declines true (Some (codes "run", rows_of (found_of own.now))) fault) }
+{
+    let explain = is_set(own, "explain");
+    Ok(Words::Run {
+        text: text_of(alloc, own, explain)?,
+        run: run_words(alloc, own)?,
+        explain,
+    })
+}
+
+/// The text that is named beside an image, which is refused where nothing is to be explained.
+fn text_of(alloc: Global, own: &ArgMatches, explain: bool) -> Result<Option<String>, WordsFault>
+    requires { IsFlag (one_of (codes "explain") (rows_of (found_of own.now))) explain }
+    ensures asks { IfOk result (λ text. AsksText (rows_of (found_of own.now)) explain text) }
+    ensures declines { IfErr result (λ fault. DeclinesText (rows_of (found_of own.now)) fault) }
+{
+    match own.get_str("text") {
+        Some(name) if explain => Ok(Some(String::from_str(alloc, name)?)),
+        Some(_) => Err(WordsFault::Text(String::from_str(
+            alloc,
+            "error: --text asks for --explain\n",
+        )?)),
+        None => Ok(None),
     }
 }
 

@@ -96,6 +96,50 @@ fn a_fault_is_explained_where_that_is_asked(rt: HostRuntime) -> Result<(), Fail>
     Ok(())
 }
 
+/// The text that a command line names beside its image, or none; nothing where the line is refused.
+fn text_beside(alloc: Global, line: &str) -> Result<Option<Option<String>>, Fail> {
+    Ok(match read_words(alloc, words_of(alloc, line)?) {
+        Ok(Words::Check { text, .. }) => Some(text),
+        Ok(Words::Run { text, .. }) => Some(text),
+        Ok(_) => return Err(Fail::from("another command")),
+        Err(_) => None,
+    })
+}
+
+#[test]
+fn a_text_is_named_beside_an_image(rt: HostRuntime) -> Result<(), Fail> {
+    let alloc = rt.alloc();
+    for line in [
+        "aom check --explain --text one.text one.image",
+        "aom check one.image --text=one.text --explain",
+        "aom check --prices --explain --text one.text one.image",
+        "aom run --text one.text --explain one.image one.script line",
+    ] {
+        match text_beside(alloc, line)? {
+            Some(Some(text)) => assert_eq!(rt; text.as_str(), "one.text", "{line}"),
+            _ => return Err(Fail::from("no text is named")),
+        }
+    }
+    for line in [
+        "aom check --explain one.image",
+        "aom run one.image one.script",
+    ] {
+        assert!(rt; matches!(text_beside(alloc, line)?, Some(None)), "{line}");
+    }
+    for line in [
+        "aom check --text one.text one.image",
+        "aom run --text one.text one.image one.script",
+        "aom check --explain --text",
+        "aom check --explain --text one.text",
+        "aom check --explain --text one.text --text one.text one.image",
+        "aom asm --explain --text one.text one.text",
+        "aom explore --text one.text one.image one.script",
+    ] {
+        assert!(rt; text_beside(alloc, line)?.is_none(), "{line}");
+    }
+    Ok(())
+}
+
 #[test]
 fn the_command_line_is_read(rt: HostRuntime) -> Result<(), Fail> {
     for (line, expected) in [

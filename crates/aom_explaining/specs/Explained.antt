@@ -12,6 +12,7 @@ use Rattle.aom_explain.specs.Link.{link_texts}
 use Rattle.aom_explain.specs.Load.{load_texts}
 use Rattle.aom_explain.specs.Places.{line_text, method_text}
 use Rattle.aom_explain.specs.Script.{script_texts}
+use Rattle.aom_explain.specs.Sources.{declared_text, source_text}
 use Rattle.aom_explain.specs.Verify.{verify_texts}
 use Rattle.aom_explain.specs.Word.{file_texts, memory_texts, native_texts, write_texts}
 use Rattle.aom_main.specs.Acceptable.{IsSpelled}
@@ -61,3 +62,20 @@ Adds image text fault before after = after ≡ before ++ place_text text fault
 -- a text explains a fault: what is told of it by its kind and number, and its place
 abbrev pub Explains : (image text : List ℕ) → Fault → List ℕ → Type 0
 Explains image text fault said = Adds image text fault (entry_text (texts_of fault)) said
+
+-- ---- by a text that the image is of
+
+-- where the text has the place of a refusal
+abbrev pub refusal_source : List ℕ → Refusal → List ℕ
+refusal_source text refusals.OutOfMemory = []
+refusal_source text (refusals.Refused method place why) = source_text text method place
+
+-- where a fault is in the text that the image is of, or in the script
+abbrev pub beside_text : (text script : List ℕ) → Fault → List ℕ
+beside_text text script (Verify refusal) = refusal_source text refusal
+beside_text text script (Budget fault) = compared_text fault ++ declared_text text fault
+beside_text text script fault = place_text script fault
+
+-- a text explains a fault by the text that the image is of
+abbrev pub ExplainsByText : (text script : List ℕ) → Fault → List ℕ → Type 0
+ExplainsByText text script fault said = said ≡ entry_text (texts_of fault) ++ beside_text text script fault

@@ -1,25 +1,53 @@
 -- What a command promises that explains its fault.
-use Rattle.std.specs.Prelude.{ℕ, ◌≡◌, List}
+use Rattle.std.specs.Prelude.{ℕ, ◌≡◌, ◌≢◌, List, [], codes}
+use Rattle.aom_explain.specs.Entries.{entry_text}
+use Rattle.aom_explain.specs.Word.{memory_texts, text_texts}
+use Rattle.aom_main.specs.Assembly.{IsFaulty, Makes}
 use Rattle.aom_main.specs.declared.status.ExitStatus.{ExitStatus}
+use Rattle.aom_main.specs.declared.status.ExitStatus.TheVariants.{CallRefused, Fault as Faulty}
 use Rattle.aom_main.specs.declared.faults.Fault.{Fault}
-use Rattle.aom_main.specs.declared.faults.Fault.TheVariants.{Memory}
+use Rattle.aom_main.specs.declared.faults.Fault.TheVariants as faults
 use Rattle.aom_main.specs.Headline.{IsSilent, Says, Sent, Tells, Told}
+use Rattle.aom_transcript.specs.Text.{ended}
 use Rattle.aom_explaining.specs.Explained.{Explains}
+use Rattle.aom_explaining.specs.declared.beside.TextFault.{TextFault}
+use Rattle.aom_explaining.specs.declared.beside.TextFault.TheVariants.{Asm, Other, Memory}
 
--- the explanation of a fault went out, or there was no memory for it, and that is told
-pub data IsExplained (image text : List ℕ) (fault : Fault) (errors : Sent) : Type 0 where
-  explained : (said : List ℕ) → Explains image text fault said → Says said errors → IsExplained image text fault errors
-  wants_memory : Tells Memory errors → IsExplained image text fault errors
+-- ---- explanations
 
--- a fault is told with its status, and explained behind its line
-pub record ToldAndExplained (image text : List ℕ) (fault : Fault) (status : ExitStatus) (errors : Sent) : Type 0 where
+-- a text that explains went out, or there was no memory for it, and that is told
+pub data IsExplained (explains : List ℕ → Type 0) (errors : Sent) : Type 0 where
+  explained : (said : List ℕ) → explains said → Says said errors → IsExplained explains errors
+  wants_memory : Tells faults.Memory errors → IsExplained explains errors
+
+-- a line is told, and what explains it stands behind it
+pub record ToldAndExplained (tells : Sent → Type 0) (explains : List ℕ → Type 0) (errors : Sent) : Type 0 where
   -- the errors as they stood behind the line
   pub line : Sent
   pub begins : line.before ≡ errors.before
-  pub told : Told fault status line
-  pub explained : IsExplained image text fault (record { before = line.now; now = errors.now; failed = errors.failed })
+  pub told : tells line
+  pub explained : IsExplained explains (record { before = line.now; now = errors.now; failed = errors.failed })
 
 -- a command answers as it does without an explanation: it has no fault and says nothing, or its fault is told, which is its answer, and explained behind it
-pub data Explaining (answers : Sent → ExitStatus → Type 0) (image text : List ℕ) (errors : Sent) (status : ExitStatus) : Type 0 where
-  without : IsSilent errors → answers errors status → Explaining answers image text errors status
-  behind : (fault : Fault) → (more : ToldAndExplained image text fault status errors) → answers more.line status → Explaining answers image text errors status
+pub data Explaining (answers : Sent → ExitStatus → Type 0) (explains : Fault → List ℕ → Type 0) (errors : Sent) (status : ExitStatus) : Type 0 where
+  without : IsSilent errors → answers errors status → Explaining answers explains errors status
+  behind : (fault : Fault) → (more : ToldAndExplained (Told fault status) (explains fault) errors) → answers more.line status → Explaining answers explains errors status
+
+-- ---- texts beside images
+
+-- why a text is refused beside an image: it denotes none, or another one than the bytes spell. Want of memory is no reason
+abbrev pub RefusesText : (text image : List ℕ) → TextFault → Type 0
+RefusesText text image (Asm fault) = IsFaulty text fault
+RefusesText text image Other = (bytes : List ℕ) × Makes text bytes × (bytes ≢ image)
+RefusesText text image Memory = Unit {0}
+
+-- how that is told: the first fault of the text with its line, or the line `text`
+abbrev pub TellsText : (text : List ℕ) → TextFault → ExitStatus → Sent → Type 0
+TellsText text (Asm fault) status errors = (status ≡ CallRefused) × ToldAndExplained (Tells (faults.Asm fault)) (Explains [] text (faults.Asm fault)) errors
+TellsText text Other status errors = (status ≡ CallRefused) × ToldAndExplained (Says (ended (codes "text"))) (λ said. said ≡ entry_text text_texts) errors
+TellsText text Memory status errors = (status ≡ Faulty) × ToldAndExplained (Tells faults.Memory) (λ said. said ≡ entry_text memory_texts) errors
+
+-- a command with a text beside its image: the text denotes the image, and the command answers so; or it does not, nothing else is done, and that is told and explained
+pub data Beside (answers : ExitStatus → Type 0) (text image : List ℕ) (out errors : Sent) (status : ExitStatus) : Type 0 where
+  denotes : Makes text image → answers status → Beside answers text image out errors status
+  refused : IsSilent out → (fault : TextFault) → RefusesText text image fault → TellsText text fault status errors → Beside answers text image out errors status

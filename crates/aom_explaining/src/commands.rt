@@ -4,6 +4,7 @@ ghost use Rattle.aom_natives.specs.Owed.{OweNothing};
 ghost use Rattle.aom_main.specs.Assembly.{AsmAnswers};
 ghost use Rattle.aom_main.specs.Headline.{CheckAnswers, RunAnswers};
 ghost use Rattle.aom_main.specs.Prices.{PricesAnswers};
+ghost use Rattle.aom_explaining.specs.Explained.{Explains};
 ghost use Rattle.aom_explaining.specs.Explaining.{Explaining};
 
 use crate::telling::tell_explained;
@@ -19,7 +20,7 @@ pub fn check_explained<W: Sink, E: Sink>(
     out: &mut W,
     errors: &mut E,
 ) -> ExitStatus
-    ensures { Explaining (CheckAnswers image.now (record { before = W.out out.old; now = W.out out.new; failed = W.failed out.new })) image.now [] (record { before = E.out errors.old; now = E.out errors.new; failed = E.failed errors.new }) result }
+    ensures { Explaining (CheckAnswers image.now (record { before = W.out out.old; now = W.out out.new; failed = W.failed out.new })) (Explains image.now []) (record { before = E.out errors.old; now = E.out errors.new; failed = E.failed errors.new }) result }
 {
     match try_check(alloc, image, out) {
         Ok(status) => status,
@@ -34,7 +35,7 @@ pub fn prices_explained<W: Sink, E: Sink>(
     out: &mut W,
     errors: &mut E,
 ) -> ExitStatus
-    ensures { Explaining (PricesAnswers image.now (record { before = W.out out.old; now = W.out out.new; failed = W.failed out.new })) image.now [] (record { before = E.out errors.old; now = E.out errors.new; failed = E.failed errors.new }) result }
+    ensures { Explaining (PricesAnswers image.now (record { before = W.out out.old; now = W.out out.new; failed = W.failed out.new })) (Explains image.now []) (record { before = E.out errors.old; now = E.out errors.new; failed = E.failed errors.new }) result }
 {
     match try_prices(alloc, image, out) {
         Ok(status) => status,
@@ -54,7 +55,7 @@ pub fn run_explained<W: Sink, E: Sink>(
 ) -> ExitStatus
     requires limit { (1 ≤ limit) × (limit ≤ 1000000000) }
     requires owed { OweNothing (λ b. (⟦<dyn Native as Native>⟧ b.vtable).owed b.value) boxes.items }
-    ensures { Explaining (RunAnswers image.now script.now limit (length boxes.items) (record { before = W.out out.old; now = W.out out.new; failed = W.failed out.new })) image.now script.now (record { before = E.out errors.old; now = E.out errors.new; failed = E.failed errors.new }) result }
+    ensures { Explaining (RunAnswers image.now script.now limit (length boxes.items) (record { before = W.out out.old; now = W.out out.new; failed = W.failed out.new })) (Explains image.now script.now) (record { before = E.out errors.old; now = E.out errors.new; failed = E.failed errors.new }) result }
 {
     match try_run(alloc, image, script, limit, boxes, out) {
         Ok(status) => status,
@@ -69,7 +70,7 @@ pub fn asm_explained<W: Sink, E: Sink>(
     out: &mut W,
     errors: &mut E,
 ) -> ExitStatus
-    ensures { Explaining (AsmAnswers text.now (record { before = W.out out.old; now = W.out out.new; failed = W.failed out.new })) [] text.now (record { before = E.out errors.old; now = E.out errors.new; failed = E.failed errors.new }) result }
+    ensures { Explaining (AsmAnswers text.now (record { before = W.out out.old; now = W.out out.new; failed = W.failed out.new })) (Explains [] text.now) (record { before = E.out errors.old; now = E.out errors.new; failed = E.failed errors.new }) result }
 {
     match try_asm(alloc, text, out) {
         Ok(status) => status,

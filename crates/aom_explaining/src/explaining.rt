@@ -1,13 +1,19 @@
 //! The explanation of a fault, in the files of its call.
-ghost use Rattle.std.specs.Prelude.{◌≡◌, IfOk, OnOk};
+ghost use Rattle.std.specs.Prelude.{◌≡◌, ◌++◌, IfOk, OnOk};
+ghost use Rattle.aom_explain.specs.Compared.{compared_text};
+ghost use Rattle.aom_explain.specs.Entries.{entry_text};
+ghost use Rattle.aom_explain.specs.Sources.{declared_text};
+ghost use Rattle.aom_explain.specs.Word.{text_texts};
 ghost use Rattle.aom_main.specs.Acceptable.{IsSpelled};
-ghost use Rattle.aom_explaining.specs.Explained.{Adds, AddsRefusal, Explains, refusal_texts, texts_of};
+ghost use Rattle.aom_explaining.specs.Explained.{Adds, AddsRefusal, Explains, ExplainsByText, beside_text, refusal_source, refusal_texts, texts_of};
 
+use crate::beside::ImageText;
+use aom_budget::BudgetFault;
 use aom_codec::decode;
 use aom_explain::{
     Entry, asm_entry, boot_entry, budget_entry, file_entry, link_entry, load_entry, memory_entry,
-    native_entry, put_compared, put_entry, put_line, put_method, script_entry, verify_entry,
-    write_entry,
+    native_entry, put_compared, put_declared, put_entry, put_line, put_method, put_source,
+    script_entry, text_entry, verify_entry, write_entry,
 };
 use aom_figures::Writer;
 use aom_main::Fault;
@@ -93,5 +99,73 @@ pub fn explanation(
     let mut out = Writer::new(alloc);
     put_entry(&mut out, &entry_of(fault))?;
     put_place(alloc, &mut out, fault, image, text)?;
+    Ok(out.into_text())
+}
+
+/// Writes where the text that the image is of has the place of a refusal.
+fn put_refusal_source(
+    out: &mut Writer,
+    text: &ImageText,
+    refusal: Refusal,
+) -> Result<(), AllocError>
+    ensures { OnOk result (out.new ≡ out.old ++ refusal_source text.now refusal) }
+{
+    match refusal {
+        Refusal::OutOfMemory => Ok(()),
+        Refusal::Refused { method, place, .. } => put_source(out, text.bytes(), method, place),
+    }
+}
+
+/// Writes what has been compared, and where the text that the image is of declares the budget.
+fn put_budget(
+    out: &mut Writer,
+    text: &ImageText,
+    fault: &BudgetFault,
+) -> Result<(), AllocError>
+    ensures { OnOk result (out.new ≡ out.old ++ (compared_text fault.now ++ declared_text text.now fault.now)) }
+{
+    put_compared(out, fault)?;
+    put_declared(out, text.bytes(), fault)
+}
+
+/// Writes what is said of the place of a fault by the text that the image is of.
+fn put_beside(
+    out: &mut Writer,
+    fault: &Fault,
+    text: &ImageText,
+    script: &[u8],
+) -> Result<(), AllocError>
+    ensures { OnOk result (out.new ≡ out.old ++ beside_text text.now script.now fault.now) }
+{
+    match fault {
+        Fault::Asm(fault) => put_line(out, script, fault.line),
+        Fault::Script(fault) => put_line(out, script, fault.line),
+        Fault::Budget(fault) => put_budget(out, text, fault),
+        Fault::Verify(refusal) => put_refusal_source(out, text, *refusal),
+        _ => Ok(()),
+    }
+}
+
+/// The explanation of a fault by the text that the image is of. Lines are counted in the script.
+pub fn explanation_by_text(
+    alloc: Global,
+    fault: &Fault,
+    text: &ImageText,
+    script: &[u8],
+) -> Result<Vec<u8>, AllocError>
+    ensures { IfOk result (λ said. ExplainsByText text.now script.now fault.now said.items) }
+{
+    let mut out = Writer::new(alloc);
+    put_entry(&mut out, &entry_of(fault))?;
+    put_beside(&mut out, fault, text, script)?;
+    Ok(out.into_text())
+}
+
+/// The explanation of a text that the image beside it is not of.
+pub fn other_explanation(alloc: Global) -> Result<Vec<u8>, AllocError>
+    ensures { IfOk result (λ said. said.items ≡ entry_text text_texts) }
+{
+    let mut out = Writer::new(alloc);
+    put_entry(&mut out, &text_entry())?;
     Ok(out.into_text())
 }

@@ -1,0 +1,76 @@
+//! The commands that explain by the text that the image is of.
+ghost use Rattle.std.specs.Prelude.{◌≤◌, [], length};
+ghost use Rattle.aom_natives.specs.Owed.{OweNothing};
+ghost use Rattle.aom_main.specs.Headline.{CheckAnswers, RunAnswers};
+ghost use Rattle.aom_main.specs.Prices.{PricesAnswers};
+ghost use Rattle.aom_explaining.specs.Explained.{ExplainsByText};
+ghost use Rattle.aom_explaining.specs.Explaining.{Beside, Explaining};
+
+use crate::beside::ImageText;
+use crate::telling::{refuse_text, tell_by_text};
+use aom_main::{ExitStatus, try_check, try_prices, try_run};
+use aom_natives::Native;
+use aom_run::Sink;
+use std::alloc::Global;
+
+/// Tells whether an image is accepted, and explains by its text why it is not.
+pub fn check_by_text<W: Sink, E: Sink>(
+    alloc: Global,
+    image: &[u8],
+    text: &[u8],
+    out: &mut W,
+    errors: &mut E,
+) -> ExitStatus
+    ensures { Beside (λ status. Explaining (CheckAnswers image.now (record { before = W.out out.old; now = W.out out.new; failed = W.failed out.new })) (ExplainsByText text.now []) (record { before = E.out errors.old; now = E.out errors.new; failed = E.failed errors.new }) status) text.now image.now (record { before = W.out out.old; now = W.out out.new; failed = W.failed out.new }) (record { before = E.out errors.old; now = E.out errors.new; failed = E.failed errors.new }) result }
+{
+    match ImageText::beside(alloc, text, image) {
+        Err(fault) => refuse_text(alloc, &fault, text, errors),
+        Ok(text) => match try_check(alloc, image, out) {
+            Ok(status) => status,
+            Err(fault) => tell_by_text(alloc, &fault, &text, b"", errors),
+        },
+    }
+}
+
+/// The same with the image's figures.
+pub fn prices_by_text<W: Sink, E: Sink>(
+    alloc: Global,
+    image: &[u8],
+    text: &[u8],
+    out: &mut W,
+    errors: &mut E,
+) -> ExitStatus
+    ensures { Beside (λ status. Explaining (PricesAnswers image.now (record { before = W.out out.old; now = W.out out.new; failed = W.failed out.new })) (ExplainsByText text.now []) (record { before = E.out errors.old; now = E.out errors.new; failed = E.failed errors.new }) status) text.now image.now (record { before = W.out out.old; now = W.out out.new; failed = W.failed out.new }) (record { before = E.out errors.old; now = E.out errors.new; failed = E.failed errors.new }) result }
+{
+    match ImageText::beside(alloc, text, image) {
+        Err(fault) => refuse_text(alloc, &fault, text, errors),
+        Ok(text) => match try_prices(alloc, image, out) {
+            Ok(status) => status,
+            Err(fault) => tell_by_text(alloc, &fault, &text, b"", errors),
+        },
+    }
+}
+
+/// Runs an image under a script beside those natives, and explains by its text why it is not run. Of a script the line is told.
+pub fn run_by_text<W: Sink, E: Sink>(
+    alloc: Global,
+    image: &[u8],
+    text: &[u8],
+    script: &[u8],
+    limit: u32,
+    boxes: Vec<Box<dyn Native>>,
+    out: &mut W,
+    errors: &mut E,
+) -> ExitStatus
+    requires limit { (1 ≤ limit) × (limit ≤ 1000000000) }
+    requires owed { OweNothing (λ b. (⟦<dyn Native as Native>⟧ b.vtable).owed b.value) boxes.items }
+    ensures { Beside (λ status. Explaining (RunAnswers image.now script.now limit (length boxes.items) (record { before = W.out out.old; now = W.out out.new; failed = W.failed out.new })) (ExplainsByText text.now script.now) (record { before = E.out errors.old; now = E.out errors.new; failed = E.failed errors.new }) status) text.now image.now (record { before = W.out out.old; now = W.out out.new; failed = W.failed out.new }) (record { before = E.out errors.old; now = E.out errors.new; failed = E.failed errors.new }) result }
+{
+    match ImageText::beside(alloc, text, image) {
+        Err(fault) => refuse_text(alloc, &fault, text, errors),
+        Ok(text) => match try_run(alloc, image, script, limit, boxes, out) {
+            Ok(status) => status,
+            Err(fault) => tell_by_text(alloc, &fault, &text, script, errors),
+        },
+    }
+}
