@@ -147,33 +147,20 @@ fn obey<W: Sink, E: Sink>(
         } => {
             let text = read_text(rt, text)?;
             let image = read_file(rt, image)?;
-            Ok(match (*prices, *explain, &text) {
-                (false, _, Some(text)) => check_by_text(alloc, &image, text, out, errors),
-                (true, _, Some(text)) => prices_by_text(alloc, &image, text, out, errors),
-                (false, false, None) => check_bytes(alloc, &image, out, errors),
-                (false, true, None) => check_explained(alloc, &image, out, errors),
-                (true, false, None) => prices_bytes(alloc, &image, out, errors),
-                (true, true, None) => prices_explained(alloc, &image, out, errors),
-            })
+            Ok(check_beside(alloc, &image, *prices, *explain, &text, out, errors))
         }
         Words::Run { run, explain, text } => {
             let text = read_text(rt, text)?;
-            let image = read_file(rt, &run.image)?;
-            let script = read_file(rt, &run.script)?;
-            let files = RunFiles {
-                text,
-                image,
-                script,
-            };
-            run_beside(alloc, run, *explain, &files, out, errors)
+            let files = RunFiles::read(rt, run)?;
+            run_beside(alloc, run, *explain, &files, &text, out, errors)
         }
         Words::Explore { run, first, last } => {
-            let image = read_file(rt, &run.image)?;
-            let script = read_file(rt, &run.script)?;
+            let files = RunFiles::read(rt, run)?;
             let (first, last) = (*first, *last);
             let part = Part { first, last };
             let kinds = run.natives.as_slice();
-            Ok(explore_bytes(alloc, &image, &script, run.limit, kinds, part, out, errors))
+            let (image, script) = (&files.image, &files.script);
+            Ok(explore_bytes(alloc, image, script, run.limit, kinds, part, out, errors))
         }
         Words::Asm { text, explain } => {
             let text = read_file(rt, text)?;
@@ -195,12 +182,40 @@ fn read_text(rt: &HostRuntime, name: &Option<String>) -> Result<Option<Vec<u8>>,
     }
 }
 
+/// Checks an image, with its figures or without, and explains where that is asked, by its text where one is named.
+fn check_beside<W: Sink, E: Sink>(
+    alloc: Global,
+    image: &[u8],
+    prices: bool,
+    explain: bool,
+    text: &Option<Vec<u8>>,
+    out: &mut W,
+    errors: &mut E,
+) -> ExitStatus {
+    match (text, prices) {
+        (Some(text), false) => check_by_text(alloc, image, text, out, errors),
+        (Some(text), true) => prices_by_text(alloc, image, text, out, errors),
+        (None, false) if explain => check_explained(alloc, image, out, errors),
+        (None, true) if explain => prices_explained(alloc, image, out, errors),
+        (None, false) => check_bytes(alloc, image, out, errors),
+        (None, true) => prices_bytes(alloc, image, out, errors),
+    }
+}
+
 /// The bytes of the files of a run.
 #[derive(Drop)]
 struct RunFiles {
-    text: Option<Vec<u8>>,
     image: Vec<u8>,
     script: Vec<u8>,
+}
+
+impl RunFiles {
+    fn read(rt: &HostRuntime, run: &RunWords) -> Result<RunFiles, Fault> {
+        Ok(RunFiles {
+            image: read_file(rt, &run.image)?,
+            script: read_file(rt, &run.script)?,
+        })
+    }
 }
 
 /// Makes the natives that the words name, and runs an image beside them.
@@ -209,6 +224,7 @@ fn run_beside<W: Sink, E: Sink>(
     run: &RunWords,
     explain: bool,
     files: &RunFiles,
+    text: &Option<Vec<u8>>,
     out: &mut W,
     errors: &mut E,
 ) -> Result<ExitStatus, Fault>
@@ -224,7 +240,7 @@ fn run_beside<W: Sink, E: Sink>(
     }
     let limit = run.limit;
     let (image, script) = (&files.image, &files.script);
-    Ok(match &files.text {
+    Ok(match text {
         Some(text) => run_by_text(alloc, image, text, script, limit, boxes, out, errors),
         None if explain => run_explained(alloc, image, script, limit, boxes, out, errors),
         None => run_bytes(alloc, image, script, limit, boxes, out, errors),

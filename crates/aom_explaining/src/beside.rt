@@ -37,11 +37,7 @@ impl<'a> Model for ImageText<'a> {
 
 impl<'a> ImageText<'a> {
     /// The text, where it denotes the image that those bytes spell.
-    pub fn beside(
-        alloc: Global,
-        text: &'a [u8],
-        image: &[u8],
-    ) -> Result<ImageText<'a>, TextFault>
+    pub fn beside(alloc: Global, text: &'a [u8], image: &[u8]) -> Result<ImageText<'a>, TextFault>
         ensures text { IfOk result (λ t. t ≡ text.now) }
         ensures makes { IfOk result (λ t. Makes text.now image.now) }
         ensures err { IfErr result (λ fault. RefusesText text.now image.now fault) }

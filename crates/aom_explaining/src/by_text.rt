@@ -7,7 +7,7 @@ ghost use Rattle.aom_explaining.specs.Explained.{ExplainsByText};
 ghost use Rattle.aom_explaining.specs.Explaining.{Beside, Explaining};
 
 use crate::beside::ImageText;
-use crate::telling::{refuse_text, tell_by_text};
+use crate::telling_by_text::{refuse_text, tell_by_text};
 use aom_main::{ExitStatus, try_check, try_prices, try_run};
 use aom_natives::Native;
 use aom_run::Sink;

@@ -117,11 +117,7 @@ fn put_refusal_source(
 }
 
 /// Writes what has been compared, and where the text that the image is of declares the budget.
-fn put_budget(
-    out: &mut Writer,
-    text: &ImageText,
-    fault: &BudgetFault,
-) -> Result<(), AllocError>
+fn put_budget(out: &mut Writer, text: &ImageText, fault: &BudgetFault) -> Result<(), AllocError>
     ensures { OnOk result (out.new ≡ out.old ++ (compared_text fault.now ++ declared_text text.now fault.now)) }
 {
     put_compared(out, fault)?;

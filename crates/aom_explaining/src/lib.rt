@@ -12,6 +12,7 @@ mod by_text;
 mod commands;
 mod explaining;
 mod telling;
+mod telling_by_text;
 
 pub use by_text::{check_by_text, prices_by_text, run_by_text};
 pub use commands::{asm_explained, check_explained, prices_explained, run_explained};

@@ -1,21 +1,17 @@
 //! A fault's line, and its explanation behind it.
-ghost use Rattle.std.specs.Prelude.{◌≡◌, IfErr, IfOk, codes};
+ghost use Rattle.std.specs.Prelude.{IfErr, IfOk};
 ghost use Rattle.aom_main.specs.Headline.{Says, Sent, Tells, Told};
 ghost use Rattle.aom_main.specs.declared.faults.Fault.TheVariants.{Memory};
-ghost use Rattle.aom_transcript.specs.Text.{ended};
-ghost use Rattle.aom_explain.specs.Entries.{entry_text};
-ghost use Rattle.aom_explain.specs.Word.{text_texts};
-ghost use Rattle.aom_explaining.specs.Explained.{Explains, ExplainsByText};
-ghost use Rattle.aom_explaining.specs.Explaining.{TellsText, ToldAndExplained};
+ghost use Rattle.aom_explaining.specs.Explained.{Explains};
+ghost use Rattle.aom_explaining.specs.Explaining.{ToldAndExplained};
 
-use crate::beside::{ImageText, TextFault};
-use crate::explaining::{explanation, explanation_by_text, other_explanation};
+use crate::explaining::explanation;
 use aom_main::{ExitStatus, Fault, tell};
 use aom_run::{Sink, write_text};
 use std::alloc::{AllocError, Global};
 
 /// Says what explains a fault that has been told. That there was no memory for this is told.
-fn explain<E: Sink>(said: Result<Vec<u8>, AllocError>, errors: &mut E)
+pub fn explain<E: Sink>(said: Result<Vec<u8>, AllocError>, errors: &mut E)
     ensures ok { IfOk said.entry (λ text. Says text.items (record { before = E.out errors.old; now = E.out errors.new; failed = E.failed errors.new })) }
     ensures err { IfErr said.entry (λ _. Tells Memory (record { before = E.out errors.old; now = E.out errors.new; failed = E.failed errors.new })) }
 {
@@ -40,49 +36,4 @@ pub fn tell_explained<E: Sink>(
     let status = tell(fault, errors);
     explain(explanation(alloc, fault, image, text), errors);
     status
-}
-
-/// Tells a fault, explains it by the text that the image is of, and answers its status.
-pub fn tell_by_text<E: Sink>(
-    alloc: Global,
-    fault: &Fault,
-    text: &ImageText,
-    script: &[u8],
-    errors: &mut E,
-) -> ExitStatus
-    ensures { ToldAndExplained (Told fault.now result) (ExplainsByText text.now script.now fault.now) (record { before = E.out errors.old; now = E.out errors.new; failed = E.failed errors.new }) }
-{
-    let status = tell(fault, errors);
-    explain(explanation_by_text(alloc, fault, text, script), errors);
-    status
-}
-
-/// Tells why a text is refused beside an image, and explains it.
-pub fn refuse_text<E: Sink>(
-    alloc: Global,
-    fault: &TextFault,
-    text: &[u8],
-    errors: &mut E,
-) -> ExitStatus
-    ensures { TellsText text.now fault.now result (record { before = E.out errors.old; now = E.out errors.new; failed = E.failed errors.new }) }
-{
-    match *fault {
-        TextFault::Asm(fault) => {
-            tell_explained(alloc, &Fault::Asm(fault), b"", text, errors);
-            ExitStatus::CallRefused
-        }
-        TextFault::Other => {
-            tell_other(alloc, errors);
-            ExitStatus::CallRefused
-        }
-        TextFault::Memory => tell_explained(alloc, &Fault::Memory, b"", b"", errors),
-    }
-}
-
-/// Tells that a text denotes another image, and explains it.
-fn tell_other<E: Sink>(alloc: Global, errors: &mut E)
-    ensures { ToldAndExplained (Says (ended (codes "text"))) (λ said. said ≡ entry_text text_texts) (record { before = E.out errors.old; now = E.out errors.new; failed = E.failed errors.new }) }
-{
-    write_text(errors, b"text\n");
-    explain(other_explanation(alloc), errors);
 }

@@ -2,6 +2,8 @@
 #![tactic(auto)]
 
 #[cfg(test)]
+mod by_text;
+#[cfg(test)]
 mod kinds;
 #[cfg(test)]
 mod memory;

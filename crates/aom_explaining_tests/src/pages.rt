@@ -1,5 +1,8 @@
 //! What the tests share: the image of a text, and what a command answered and wrote.
-use aom_explaining::{asm_explained, check_explained, prices_explained, run_explained};
+use aom_explaining::{
+    asm_explained, check_by_text, check_explained, prices_by_text, prices_explained, run_by_text,
+    run_explained,
+};
 use aom_main::{ExitStatus, asm_bytes};
 use aom_pages::{Answer, Page};
 use std::alloc::Global;
@@ -47,5 +50,29 @@ pub fn runs(alloc: Global, image: &[u8], script: &[u8]) -> Answer<ExitStatus> {
     let mut errors = Page::new(alloc, ROOM);
     let boxes = Vec::new(alloc);
     let status = run_explained(alloc, image, script, 10, boxes, &mut out, &mut errors);
+    Answer::of(status, out, errors)
+}
+
+/// Checks an image with its text beside it.
+pub fn checked_by(alloc: Global, image: &[u8], text: &[u8]) -> Answer<ExitStatus> {
+    let mut out = Page::new(alloc, ROOM);
+    let mut errors = Page::new(alloc, ROOM);
+    let status = check_by_text(alloc, image, text, &mut out, &mut errors);
+    Answer::of(status, out, errors)
+}
+
+pub fn priced_by(alloc: Global, image: &[u8], text: &[u8]) -> Answer<ExitStatus> {
+    let mut out = Page::new(alloc, ROOM);
+    let mut errors = Page::new(alloc, ROOM);
+    let status = prices_by_text(alloc, image, text, &mut out, &mut errors);
+    Answer::of(status, out, errors)
+}
+
+/// Runs an image with its text beside it, and no native.
+pub fn runs_by(alloc: Global, image: &[u8], text: &[u8], script: &[u8]) -> Answer<ExitStatus> {
+    let mut out = Page::new(alloc, ROOM);
+    let mut errors = Page::new(alloc, ROOM);
+    let boxes = Vec::new(alloc);
+    let status = run_by_text(alloc, image, text, script, 10, boxes, &mut out, &mut errors);
     Answer::of(status, out, errors)
 }

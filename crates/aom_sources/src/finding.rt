@@ -66,10 +66,8 @@ pub fn class_statement(text: &[u8], number: usize) -> Option<Statement>
     requires { length text.now ≤ 2 ^ 20 }
     ensures { result ≡ class_statement text.now number }
 {
-    match declaration(Keyword::Class, Text::of(text), number) {
-        Some((statement, _)) => Some(statement),
-        None => None,
-    }
+    let (statement, _) = declaration(Keyword::Class, Text::of(text), number)?;
+    Some(statement)
 }
 
 /// The statement that declares the method of that number.
@@ -77,10 +75,8 @@ pub fn method_statement(text: &[u8], number: usize) -> Option<Statement>
     requires { length text.now ≤ 2 ^ 20 }
     ensures { result ≡ method_statement text.now number }
 {
-    match declaration(Keyword::Method, Text::of(text), number) {
-        Some((statement, _)) => Some(statement),
-        None => None,
-    }
+    let (statement, _) = declaration(Keyword::Method, Text::of(text), number)?;
+    Some(statement)
 }
 
 /// The statement that holds the instruction at a place of the method of that number.
@@ -88,8 +84,6 @@ pub fn instruction_statement(text: &[u8], number: usize, place: usize) -> Option
     requires { length text.now ≤ 2 ^ 20 }
     ensures { result ≡ instruction_statement text.now number place }
 {
-    match declaration(Keyword::Method, Text::of(text), number) {
-        Some((_, behind)) => at_place(Keyword::Method, behind, place),
-        None => None,
-    }
+    let (_, behind) = declaration(Keyword::Method, Text::of(text), number)?;
+    at_place(Keyword::Method, behind, place)
 }

@@ -7,5 +7,7 @@
 #![tactic(auto)]
 
 mod finding;
+mod laws;
 
 pub use finding::{class_statement, image_statement, instruction_statement, method_statement};
+pub use laws::statements_declare;

@@ -1,0 +1,60 @@
+//! A fault's line, and its explanation by the text that the image is of.
+ghost use Rattle.std.specs.Prelude.{◌≡◌, codes};
+ghost use Rattle.aom_main.specs.Headline.{Says, Sent, Told};
+ghost use Rattle.aom_transcript.specs.Text.{ended};
+ghost use Rattle.aom_explain.specs.Entries.{entry_text};
+ghost use Rattle.aom_explain.specs.Word.{text_texts};
+ghost use Rattle.aom_explaining.specs.Explained.{ExplainsByText};
+ghost use Rattle.aom_explaining.specs.Explaining.{TellsText, ToldAndExplained};
+
+use crate::beside::{ImageText, TextFault};
+use crate::explaining::{explanation_by_text, other_explanation};
+use crate::telling::{explain, tell_explained};
+use aom_main::{ExitStatus, Fault, tell};
+use aom_run::{Sink, write_text};
+use std::alloc::Global;
+
+/// Tells a fault, explains it by the text that the image is of, and answers its status.
+pub fn tell_by_text<E: Sink>(
+    alloc: Global,
+    fault: &Fault,
+    text: &ImageText,
+    script: &[u8],
+    errors: &mut E,
+) -> ExitStatus
+    ensures { ToldAndExplained (Told fault.now result) (ExplainsByText text.now script.now fault.now) (record { before = E.out errors.old; now = E.out errors.new; failed = E.failed errors.new }) }
+{
+    let status = tell(fault, errors);
+    explain(explanation_by_text(alloc, fault, text, script), errors);
+    status
+}
+
+/// Tells why a text is refused beside an image, and explains it.
+pub fn refuse_text<E: Sink>(
+    alloc: Global,
+    fault: &TextFault,
+    text: &[u8],
+    errors: &mut E,
+) -> ExitStatus
+    ensures { TellsText text.now fault.now result (record { before = E.out errors.old; now = E.out errors.new; failed = E.failed errors.new }) }
+{
+    match *fault {
+        TextFault::Asm(fault) => {
+            tell_explained(alloc, &Fault::Asm(fault), b"", text, errors);
+            ExitStatus::CallRefused
+        }
+        TextFault::Other => {
+            tell_other(alloc, errors);
+            ExitStatus::CallRefused
+        }
+        TextFault::Memory => tell_explained(alloc, &Fault::Memory, b"", b"", errors),
+    }
+}
+
+/// Tells that a text denotes another image, and explains it.
+fn tell_other<E: Sink>(alloc: Global, errors: &mut E)
+    ensures { ToldAndExplained (Says (ended (codes "text"))) (λ said. said ≡ entry_text text_texts) (record { before = E.out errors.old; now = E.out errors.new; failed = E.failed errors.new }) }
+{
+    write_text(errors, b"text\n");
+    explain(other_explanation(alloc), errors);
+}
