@@ -12,8 +12,8 @@ use std::alloc::{AllocError, Global};
 
 /// Says what explains a fault that has been told. That there was no memory for this is told.
 pub fn explain<E: Sink>(said: Result<Vec<u8>, AllocError>, errors: &mut E)
-    ensures ok { IfOk said.entry (λ text. Says text.items (record { before = E.out errors.old; now = E.out errors.new; failed = E.failed errors.new })) }
-    ensures err { IfErr said.entry (λ _. Tells Memory (record { before = E.out errors.old; now = E.out errors.new; failed = E.failed errors.new })) }
+    ensures ok { IfOk said (λ text. Says text.items (record { before = E.out errors.old; now = E.out errors.new; failed = E.failed errors.new })) }
+    ensures err { IfErr said (λ _. Tells Memory (record { before = E.out errors.old; now = E.out errors.new; failed = E.failed errors.new })) }
 {
     match said {
         Ok(said) => write_text(errors, &said),

@@ -1,0 +1,16 @@
+-- The text is refused, or it denotes the image, and the command goes on.
+use Rattle.std.proofs.Common.{refl}
+use Rattle.aom_explaining.specs.Explaining.Beside.{denotes, refused}
+use Rattle.aom_explaining.specs.Explaining.Explaining.{behind, without}
+use Rattle.aom_explaining.proofs.by_text.prices_by_text.Goals as goal
+
+pub returns-in-Err : goal.returns-in-Err
+returns-in-Err g c = refused refl c.in-Err.fault c.in-Err.ensures.err c.refuse_text.ensures
+
+pub returns-in-Ok-try_prices : goal.returns-in-Ok-try_prices
+returns-in-Ok-try_prices g c = denotes c.in-Ok.ensures.makes (without refl (c.in-Ok-try_prices.ensures _ refl))
+
+pub returns-in-Err-try_prices : goal.returns-in-Err-try_prices
+returns-in-Err-try_prices g c =
+    let more = rw c.in-Ok.ensures.text at c.tell_by_text.ensures in
+    denotes c.in-Ok.ensures.makes (behind c.in-Err-try_prices.fault more (c.in-Err-try_prices.ensures more.line c.tell_by_text.result more.told))
