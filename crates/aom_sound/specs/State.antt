@@ -2,6 +2,7 @@
 use Rattle.std.specs.Prelude.{ℕ, suc, ℤ, Bool, cond, ◌+◌, ◌-◌, ◌^◌, min, List, [], ◌∷◌, Option, None}
 use Rattle.aom_image.specs.declared.method.Thing.{Thing}
 use Rattle.aom_image.specs.declared.method.Thing.TheVariants.{Object as An_object_of, Message}
+use Rattle.aom_clients.specs.declared.client.Client.{Client}
 use Rattle.aom_shape.specs.Tables.{at, put_at}
 use Rattle.aom_shape.specs.Things.{Holder, Nobody, Program, Member}
 use Rattle.aom_sound.specs.Places.{Place, Field, Elsewhere, Root, Object, Cell}
@@ -86,6 +87,8 @@ pub record State : Type 0 where
   pub rest : Rest
   -- the natives that are killed
   pub killed : List ℕ
+  -- what each client is at; one past the end is unconnected
+  pub clients : List Client
 
 -- what is left free, and what is heard at hand: the name of a new cell, whether the allocation request is refused, and what the native answers
 pub record Choice : Type 0 where

@@ -48,6 +48,7 @@ boot_state p =
       items = A_mark ∷ [];
       rest = record { clock = 0; requests = 0; steps = 0; dispatches = 0; announced = false; stopped = false; delivered = 0; polled = 0; ended = None };
       killed = [];
+      clients = [];
     }
 
 -- some task is at hand
