@@ -9,7 +9,7 @@ use Rattle.aom_image.specs.declared.method.Gives.{Gives}
 use Rattle.aom_image.specs.declared.method.Gives.TheVariants.{Nothing, Word as A_word, Own as An_own, Maybe as A_maybe, Left}
 use Rattle.aom_rules.specs.Typing.{Typing, IsTyped}
 use Rattle.aom_sound.specs.Places.{Place, Register, Entry, Going, Object, Cell, held, named}
-use Rattle.aom_sound.specs.State.{Inside, Frame, Of_main, Main_left, Of_object, Object_left, Task, Run, Trapped, Destroy, Unwind, Dispatched, Item, An_object, An_operation, A_mark, State, Choice, Goes, word, next}
+use Rattle.aom_sound.specs.State.{Inside, Frame, Of_main, Main_left, Of_object, Object_left, Task, Run, Trapped, Destroy, Unwind, Dispatched, Item, An_object, An_operation, A_mark, State, Choice, Goes, word, next, Closing}
 use Rattle.aom_classes.specs.Roles.{destructor_of}
 use Rattle.aom_sound.specs.Moves.{step, written, announcement}
 use Rattle.aom_sound.specs.WellTyped.{WellTyped}
@@ -27,6 +27,7 @@ IsOver p height code below [] = ⊥
 IsOver p height code below (Run fr ∷ ts) = (is_quiet p fr.method ≡ true) × (fr.height ≡ height) × IsOver p height code below ts
 IsOver p height code below (Trapped ∷ ts) = ⊥
 IsOver p height code below (Destroy ∷ ts) = IsOver p height code below ts
+IsOver p height code below (Closing ∷ ts) = IsOver p height code below ts
 IsOver p height code below (Unwind x ∷ ts) = (x ≡ code) × (ts ≡ below)
 IsOver p height code below (Dispatched d ∷ ts) = ⊥
 
@@ -72,6 +73,7 @@ AreMethods [] = Unit {0}
 AreMethods (Run fr ∷ ts) = AreMethods ts
 AreMethods (Trapped ∷ ts) = ⊥
 AreMethods (Destroy ∷ ts) = ⊥
+AreMethods (Closing ∷ ts) = ⊥
 AreMethods (Unwind code ∷ ts) = ⊥
 AreMethods (Dispatched d ∷ ts) = ⊥
 

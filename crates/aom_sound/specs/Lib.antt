@@ -7,6 +7,8 @@ pub mod Calls
 pub mod Cleanup
 pub mod Enlisted
 pub mod Natives
+pub mod Servers
+pub mod Clients
 pub mod Wanted
 pub mod Effects
 pub mod Moves

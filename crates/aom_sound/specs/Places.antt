@@ -113,9 +113,9 @@ pub record Request : Type 0 where
 
 -- what a client asked of a server: for a session, to serve the message of that name, or to close its session
 pub data Asked : Type 0 where
-  Connects : (client : ℕ) → Asked
-  Sends : (client message : ℕ) → Asked
-  Closes : (client : ℕ) → Asked
+  Connect_of : (client : ℕ) → Asked
+  Message_of : (client message : ℕ) → Asked
+  Close_of : (client : ℕ) → Asked
 
 -- of a message: the client that sent it, whether it holds a slot of the client's session, and whether its completion is told
 pub record Sender : Type 0 where

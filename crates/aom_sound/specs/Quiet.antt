@@ -3,7 +3,7 @@ use Rattle.std.specs.Prelude.{Bool, List, [], false, true, ℤ, ◌∷◌, ◌�
 use Rattle.aom_image.specs.Image.{Image}
 use Rattle.aom_image.specs.Views.{is_quiet}
 use Rattle.aom_rules.specs.Typing.{Typing, IsTyped}
-use Rattle.aom_sound.specs.State.{Frame, Task, Run, Trapped, Destroy, Unwind, Dispatched, Item, A_mark, State, Choice, Goes}
+use Rattle.aom_sound.specs.State.{Frame, Task, Run, Trapped, Destroy, Unwind, Dispatched, Item, A_mark, State, Choice, Goes, Closing}
 use Rattle.aom_sound.specs.Moves.{step}
 use Rattle.aom_sound.specs.Tasks.{TaskLaw, Holds}
 use Rattle.aom_sound.specs.WellTyped.{WellTyped}
@@ -18,6 +18,7 @@ is_clearing [] = false
 is_clearing (Run fr ∷ ts) = is_clearing ts
 is_clearing (Trapped ∷ ts) = is_clearing ts
 is_clearing (Destroy ∷ ts) = true
+is_clearing (Closing ∷ ts) = true
 is_clearing (Unwind code ∷ ts) = true
 is_clearing (Dispatched d ∷ ts) = is_clearing ts
 
