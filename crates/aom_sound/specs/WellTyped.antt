@@ -75,12 +75,17 @@ IsAlone p Static ls = Unit {0}
 IsAlone p AtRoot ls = Unit {0}
 IsAlone p (Inside o from) ls = (states_claim p o ls).cancelled ≡ false
 
+-- the message of a method that serves was there as it began
+abbrev pub HasMessage : Image → Frame → List Layer → Type 0
+HasMessage p fr ls = serves p fr.method ≡ true → claim p (λ r. Null) ls (Elsewhere In_service) ≡ Own Message Ready
+
 -- the frame's registers are as the state says, and its home and its height are its own
 pub record Frames (p : Image) (ls : List Layer) (fr : Frame) (sh : Shape) : Type 0 where
   pub words : (i : ℕ) → WordFits (word fr i) (register sh i)
   pub holder : home_holder fr.home ≡ holder_of p fr.method
   pub height : fr.height ≡ length (items_of ls)
   pub alone : is_cancel (method_role p fr.method) ≡ true → IsAlone p fr.home ls
+  pub message : HasMessage p fr ls
 
 -- what the result goes to owns nothing while the call lasts
 abbrev pub Awaits : Gives → ℕ → Shape → Type 0
@@ -414,10 +419,6 @@ abbrev pub IsAttended : Image → List Cell → Dispatch → Type 0
 IsAttended p cs (Of_server x c stage) = (is_server p x.object.thing ≡ true) × StageFits cs x c stage
 IsAttended p cs _ = Unit {0}
 
--- the message of a method that serves was there as it began
-abbrev pub HasMessage : Image → Frame → List Layer → Type 0
-HasMessage p fr ls = serves p fr.method ≡ true → claim p (λ r. Null) ls (Elsewhere In_service) ≡ Own Message Ready
-
 abbrev pub Stack : Image → Typing → List Cell → Back → List Layer → Type 0
 Stack p t cs back [] = back ≡ Now
 Stack p t cs back (Method fr sh ∷ ls) =
@@ -425,7 +426,6 @@ Stack p t cs back (Method fr sh ∷ ls) =
     × Frames p ls fr sh
     × IsHoused p cs ls fr.home
     × IsApart p fr.home ls
-    × HasMessage p fr ls
     × Stack p t cs (Returns fr.method fr.home) ls
 Stack p t cs back (Mark gv ∷ ls) = Catches p back gv × Stack p t cs (Caught gv) ls
 Stack p t cs back (Dying o ∷ ls) =
@@ -492,7 +492,6 @@ pub record WellTyped (p : Image) (t : Typing) (s : State) : Type 0 where
   pub items : forms s.items ≡ items_of layers
   pub undos : AllUndo p s.items
   pub good : Good p t s.cells layers
-  pub clients : ClientsFit p s.clients s.cells
 
 -- not stuck, and on to a well-typed state
 abbrev pub Keeps : Image → Typing → Outcome → Type 0
