@@ -136,7 +136,7 @@ create p t cs fr sh ls n x ws a k g e free new word = record {
     no_request = ap (λ b. cond b None (requested cs n)) (eq-eqb n n refl)
 
     fits : (r : Place) → Fits p (seen cs') (held cs' r) (claim p (declared p cs') (Method (next (set_word fr a None)) (set_register sh a k) ∷ ls) r)
-    fits r = subst (λ k. Fits p (seen cs') (held cs' r) k) (sym (claim_frame p (declared p cs') fr (next (set_word fr a None)) (set_register sh a k) ls r refl ∙ claim-set_register p (declared p cs') fr sh ls a k r)) (go (same_place (top ls a) r))
+    fits r = subst (λ k. Fits p (seen cs') (held cs' r) k) (sym (claim_frame p (declared p cs') fr (next (set_word fr a None)) (set_register sh a k) ls r refl refl ∙ claim-set_register p (declared p cs') fr sh ls a k r)) (go (same_place (top ls a) r))
       where
         go : (b : Bool) → Fits p (seen cs') (cond b (Some (record { name = n; thing = x })) (held cs r)) (cond b k (claim p (declared p cs') (Method fr sh ∷ ls) r))
         go true = new (seen cs') no_field no_request

@@ -366,7 +366,7 @@ module _ (p : Image) (t : Typing) (c : Choice) (s : State) (fr : Frame) (sh : Sh
       words = words_set fr.words sh a None Null at_hand.good.stack.1.words refl
 
       claims : (r : Place) → claim p (declared p cs) (Method fr' sh' ∷ ls) r ≡ changed (claim p (declared p cs) (Method fr sh ∷ ls)) (top ls a) Null r
-      claims r = claim_frame p (declared p cs) fr fr' sh' ls r refl ∙ claim-set_register p (declared p cs) fr sh ls a Null r
+      claims r = claim_frame p (declared p cs) fr fr' sh' ls r refl refl ∙ claim-set_register p (declared p cs) fr sh ls a Null r
 
       go : (x : Option Object) → held s.cells (top ls a) ≡ x → WellTyped p t (applied p fr (tasks_of ls) s (deletes fr x a))
       go None e = well p t c s fr sh ls at_hand (applied p fr (tasks_of ls) s (deletes fr None a)) (next fr') sh' refl at_hand.items at_hand.undos

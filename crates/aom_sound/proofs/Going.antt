@@ -167,7 +167,7 @@ goes_on : (p : Image) (t : Typing) (s : State) (ls : List Layer) → Stack p t s
 goes_on p t s [] stack fits suits tidy tasks items undos = let clash : Gone ≡ Now = stack in cc
 goes_on p t s (Method fr sh ∷ ls) stack fits suits tidy tasks items undos =
     let f : Fitted p t s.cells (next fr) sh ls = record {
-      fits = λ r. subst (λ k. Fits p (seen s.cells) (held s.cells r) k) (sym (claim_frame p (declared p s.cells) fr (next fr) sh ls r refl)) (fits r);
+      fits = λ r. subst (λ k. Fits p (seen s.cells) (held s.cells r) k) (sym (claim_frame p (declared p s.cells) fr (next fr) sh ls r refl refl)) (fits r);
       suits = suits;
       tidy = tidy;
       frames = record { words = stack.1.words; holder = stack.1.holder; height = stack.1.height; alone = stack.1.alone };

@@ -1,5 +1,6 @@
 pub mod Maps
 pub mod Counts
+pub mod Services
 pub mod Things
 pub mod Items
 pub mod Seats

@@ -1,5 +1,5 @@
 -- What is claimed of each place, from the methods at hand and their abstract states.
-use Rattle.std.specs.Prelude.{ℕ, ℤ, Bool, true, false, cond, ◌==◌, map, List, [], ◌∷◌, Option, Some, None, length, ◌&&◌}
+use Rattle.std.specs.Prelude.{ℕ, ℤ, Bool, true, false, cond, ◌==◌, map, List, [], ◌∷◌, Option, Some, None, length, ◌&&◌, not}
 use Rattle.aom_image.specs.Image.{Image}
 use Rattle.aom_image.specs.declared.method.Gives.{Gives}
 use Rattle.aom_shape.specs.Things.{Program, field_thing}
@@ -17,7 +17,7 @@ use Rattle.aom_image.specs.declared.method.Thing.TheVariants.{Message}
 use Rattle.aom_roles.specs.Shapes.{is_role}
 use Rattle.aom_shape.specs.declared.kind.Delivery.{Delivery}
 use Rattle.aom_shape.specs.declared.kind.Delivery.TheVariants.{Here, Gone}
-use Rattle.aom_sound.specs.Servers.{has_message, has_session, session_thing}
+use Rattle.aom_sound.specs.Servers.{has_message, has_session, session_thing, is_among}
 use Rattle.aom_sound.specs.Places.{Place, Register, Entry, Field, Going, Elsewhere, Other, Root, Session, In_service, Queued, Object, Cell, named, service_of}
 use Rattle.aom_sound.specs.State.{Home, Static, AtRoot, Inside, Frame, Dispatch, Of_root, Seat, Task, Run, Trapped, Destroy, Unwind, Dispatched, Item, An_object, An_operation, A_mark, thing_holder, Closing, Of_server, Serves, Service_left, Parts}
 
@@ -30,8 +30,8 @@ pub data Layer : Type 0 where
   Method : Frame → Shape → Layer
   Mark : (gives : Gives) → Layer
   Dying : Object → Layer
-  -- the sessions with a server that is going go first
-  Ending : Object → Layer
+  -- these sessions with a server that is going go first
+  Ending : Object → (left : List ℕ) → Layer
   Unwinding : (code : ℤ) (entries : List Pushed) → Layer
   Dispatching : Dispatch → (seats : List Seat) → Layer
 
@@ -39,7 +39,7 @@ abbrev pub task_of : Layer → Task
 task_of (Method fr sh) = Run fr
 task_of (Mark gv) = Trapped
 task_of (Dying o) = Destroy
-task_of (Ending o) = Closing
+task_of (Ending o left) = Closing
 task_of (Unwinding code es) = Unwind code
 task_of (Dispatching d seats) = Dispatched d
 
@@ -51,7 +51,7 @@ abbrev pub entries_of : Layer → List Pushed
 entries_of (Method fr sh) = sh.entries
 entries_of (Mark gv) = []
 entries_of (Dying o) = []
-entries_of (Ending o) = []
+entries_of (Ending o left) = []
 entries_of (Unwinding code es) = es
 entries_of (Dispatching d seats) = []
 
@@ -82,7 +82,7 @@ abbrev pub layer_items : Layer → List Form → List Form
 layer_items (Method fr sh) below = objects sh.entries below
 layer_items (Mark gv) below = Mark_form ∷ below
 layer_items (Dying o) below = below
-layer_items (Ending o) below = below
+layer_items (Ending o left) below = below
 layer_items (Unwinding code es) below = objects es below
 layer_items (Dispatching d seats) below = below
 
@@ -99,7 +99,7 @@ abbrev pub register_claim : Layer → ℕ → ℕ → ℕ → Kind → Kind
 register_claim (Method fr sh) depth f i below = cond (depth == f) (register sh i) below
 register_claim (Mark gv) depth f i below = below
 register_claim (Dying o) depth f i below = below
-register_claim (Ending o) depth f i below = below
+register_claim (Ending o left) depth f i below = below
 register_claim (Unwinding code es) depth f i below = below
 register_claim (Dispatching d seats) depth f i below = below
 
@@ -112,7 +112,7 @@ abbrev pub field_claim : Image → Layer → ℕ → ℕ → Kind → Kind
 field_claim p (Method fr sh) n f below = home_claim p fr.home sh n f below
 field_claim p (Mark gv) n f below = below
 field_claim p (Dying o) n f below = cond (o.name == n) Null below
-field_claim p (Ending o) n f below = cond (o.name == n) (filled (field_thing p (thing_holder o.thing) f) Perhaps) below
+field_claim p (Ending o left) n f below = cond (o.name == n) (filled (field_thing p (thing_holder o.thing) f) Perhaps) below
 field_claim p (Unwinding code es) n f below = below
 field_claim p (Dispatching d seats) n f below = below
 
@@ -120,7 +120,7 @@ abbrev pub going_claim : Layer → ℕ → ℕ → Kind → Kind
 going_claim (Method fr sh) depth k below = below
 going_claim (Mark gv) depth k below = below
 going_claim (Dying o) depth k below = cond (depth == k) (Own o.thing Ready) below
-going_claim (Ending o) depth k below = below
+going_claim (Ending o left) depth k below = below
 going_claim (Unwinding code es) depth k below = below
 going_claim (Dispatching d seats) depth k below = below
 
@@ -139,16 +139,11 @@ abbrev pub by_root : Image → Layer → Kind → Kind
 by_root p (Method fr sh) below = root_claim p fr.home sh below
 by_root p (Mark gv) below = below
 by_root p (Dying o) below = below
-by_root p (Ending o) below = below
+by_root p (Ending o left) below = below
 by_root p (Unwinding code es) below = below
 by_root p (Dispatching d seats) below = cond (is_of_root d) Null below
 
--- a session that goes with its server, or is gone
-abbrev pub perhaps : Kind → Kind
-perhaps (Own t a) = Maybe t a
-perhaps k = k
-
--- what a layer claims of the session of a client: none is left of a server whose destructor runs, and none of a client whose close is served
+-- what a layer claims of the session of a client: none of a server is there whose destructor runs or that is past it, and none of a client whose close is served
 abbrev pub by_close : Dispatch → ℕ → ℕ → Kind → Kind
 by_close (Of_server x client Parts) s c below = cond ((x.object.name == s) && (client == c)) Null below
 by_close _ s c below = below
@@ -157,7 +152,7 @@ abbrev pub by_session : Layer → ℕ → ℕ → Kind → Kind
 by_session (Method fr sh) s c below = below
 by_session (Mark gv) s c below = below
 by_session (Dying o) s c below = cond (o.name == s) Null below
-by_session (Ending o) s c below = cond (o.name == s) (perhaps below) below
+by_session (Ending o left) s c below = cond ((o.name == s) && not (is_among c left)) Null below
 by_session (Unwinding code es) s c below = below
 by_session (Dispatching d seats) s c below = by_close d s c below
 
@@ -175,7 +170,7 @@ abbrev pub by_service : Image → Layer → Kind → Kind
 by_service p (Method fr sh) below = cond (serves p fr.method) (delivered sh.delivery) below
 by_service p (Mark gv) below = below
 by_service p (Dying o) below = below
-by_service p (Ending o) below = below
+by_service p (Ending o left) below = below
 by_service p (Unwinding code es) below = below
 by_service p (Dispatching d seats) below = by_stage d below
 

@@ -73,7 +73,7 @@ module _ (p : Image) (o : Object) where
   states_claim (Method fr sh ∷ ls) = cond (works_at o.name fr.home) (known_at p fr sh.states (states_claim ls)) (states_claim ls)
   states_claim (Mark gv ∷ ls) = states_claim ls
   states_claim (Dying x ∷ ls) = cond (x.name == o.name) (resting_in (last_of (thing_kind p o.thing))) (states_claim ls)
-  states_claim (Ending x ∷ ls) = states_claim ls
+  states_claim (Ending x left ∷ ls) = states_claim ls
   states_claim (Unwinding code es ∷ ls) = states_claim ls
   states_claim (Dispatching d seats ∷ ls) = states_claim ls
 
@@ -87,7 +87,7 @@ Unworked n [] = Unit {0}
 Unworked n (Method fr sh ∷ ls) = (works_at n fr.home ≡ false) × Unworked n ls
 Unworked n (Mark gv ∷ ls) = Unworked n ls
 Unworked n (Dying x ∷ ls) = ((x.name == n) ≡ false) × Unworked n ls
-Unworked n (Ending x ∷ ls) = Unworked n ls
+Unworked n (Ending x left ∷ ls) = Unworked n ls
 Unworked n (Unwinding code es ∷ ls) = Unworked n ls
 Unworked n (Dispatching d seats ∷ ls) = Unworked n ls
 

@@ -26,9 +26,13 @@ session_thing p (Some o) = of_class (session_class p o.thing)
 
 -- ---- what a server has
 
+-- the client is among these
+abbrev pub is_among : ℕ → List ℕ → Bool
+is_among c cs = list_any (λ d. d == c) cs
+
 -- the client has a session with it
 abbrev pub has_session : Service → ℕ → Bool
-has_session v c = list_any (λ d. d == c) v.sessions
+has_session v c = is_among c v.sessions
 
 abbrev pub is_message : ℕ → Asked → Bool
 is_message m (Connect_of c) = false

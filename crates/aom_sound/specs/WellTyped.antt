@@ -27,7 +27,7 @@ use Rattle.aom_clients.specs.Nodes.{is_connecting_at, is_leaving, is_open_at}
 use Rattle.aom_clients.specs.Table.{server_of}
 use Rattle.std.specs.List.{list_any}
 use Rattle.aom_sound.specs.Clients.{client_at}
-use Rattle.aom_sound.specs.Servers.{has_session, is_server, session_thing, is_message}
+use Rattle.aom_sound.specs.Servers.{has_session, is_server, session_thing, is_message, is_among}
 use Rattle.aom_sound.specs.Places.{Cell, Elsewhere, Entry, Field, Going, In_service, Object, Other, Place, Queued, Register, Root, Session, Sight, Tidy, held, named, other_cell, requested, same_place, seen, service_of, Asked, Connect_of, Message_of, Close_of}
 use Rattle.aom_sound.specs.State.{Home, Static, AtRoot, Inside, Frame, Dispatch, Of_main, Main_left, Of_root, Of_object, Object_left, Asks, Answered, Seat, Item, An_object, An_operation, A_mark, word, State, Outcome, Goes, IsStuck, home_holder, thing_holder, Of_server, Stage, Accepts, Accepted, Accept_left, Serves, Service_left, Parts}
 use Rattle.aom_sound.specs.Calls.{result_register, called}
@@ -199,7 +199,7 @@ NoneIn n [] = Unit {0}
 NoneIn n (Method fr sh ∷ ls) = NotIn n fr.home × NoneIn n ls
 NoneIn n (Mark gv ∷ ls) = NoneIn n ls
 NoneIn n (Dying o ∷ ls) = NoneIn n ls
-NoneIn n (Ending o ∷ ls) = NoneIn n ls
+NoneIn n (Ending o left ∷ ls) = NoneIn n ls
 NoneIn n (Unwinding code es ∷ ls) = NoneIn n ls
 NoneIn n (Dispatching d seats ∷ ls) = NoSeatIn n seats × NoneIn n ls
 
@@ -218,7 +218,7 @@ Unclaimed p d n ls = (f : ℕ) → claim p (by_field d) ls (Field n f) ≡ d f
 abbrev pub past_going : List Layer → List Layer
 past_going [] = []
 past_going (Dying o ∷ ls) = ls
-past_going (Ending o ∷ ls) = Ending o ∷ ls
+past_going (Ending o left ∷ ls) = Ending o left ∷ ls
 past_going (Method fr sh ∷ ls) = Method fr sh ∷ ls
 past_going (Mark gv ∷ ls) = Mark gv ∷ ls
 past_going (Unwinding code es ∷ ls) = Unwinding code es ∷ ls
@@ -235,7 +235,7 @@ RootUnclaimed [] = Unit {0}
 RootUnclaimed (Method fr sh ∷ ls) = NotAtRoot fr.home × RootUnclaimed ls
 RootUnclaimed (Mark gv ∷ ls) = RootUnclaimed ls
 RootUnclaimed (Dying o ∷ ls) = RootUnclaimed ls
-RootUnclaimed (Ending o ∷ ls) = RootUnclaimed ls
+RootUnclaimed (Ending o left ∷ ls) = RootUnclaimed ls
 RootUnclaimed (Unwinding code es ∷ ls) = RootUnclaimed ls
 RootUnclaimed (Dispatching d seats ∷ ls) = (is_of_root d ≡ false) × RootUnclaimed ls
 
@@ -250,7 +250,7 @@ NoneFrom q [] = Unit {0}
 NoneFrom q (Method fr sh ∷ ls) = NotFrom q fr.home × NoneFrom q ls
 NoneFrom q (Mark gv ∷ ls) = NoneFrom q ls
 NoneFrom q (Dying o ∷ ls) = NoneFrom q ls
-NoneFrom q (Ending o ∷ ls) = NoneFrom q ls
+NoneFrom q (Ending o left ∷ ls) = NoneFrom q ls
 NoneFrom q (Unwinding code es ∷ ls) = NoneFrom q ls
 NoneFrom q (Dispatching d seats ∷ ls) = NoSeatAt q seats × NoneFrom q ls
 
@@ -275,13 +275,16 @@ SomeIn n [] = ⊥
 SomeIn n (Method fr sh ∷ ls) = WorksOn n fr.home ⊎ SomeIn n ls
 SomeIn n (Mark gv ∷ ls) = SomeIn n ls
 SomeIn n (Dying o ∷ ls) = SomeIn n ls
-SomeIn n (Ending o ∷ ls) = SomeIn n ls
+SomeIn n (Ending o left ∷ ls) = SomeIn n ls
 SomeIn n (Unwinding code es ∷ ls) = SomeIn n ls
 SomeIn n (Dispatching d seats ∷ ls) = SomeSits n seats ⊎ SomeIn n ls
 
-abbrev pub SomeInAny : Option ℕ → List Layer → Type 0
-SomeInAny None ls = Unit {0}
-SomeInAny (Some n) ls = SomeIn n ls
+-- it is the root, or a session with a server that belongs to the layers
+abbrev pub IsBelowElsewhere : Other → List Layer → Type 0
+IsBelowElsewhere Root ls = Unit {0}
+IsBelowElsewhere (Session s c) ls = SomeIn s ls
+IsBelowElsewhere In_service ls = ⊥
+IsBelowElsewhere (Queued s m) ls = ⊥
 
 -- the place belongs to the layers
 abbrev pub IsBelow : Place → List Layer → Type 0
@@ -289,7 +292,7 @@ IsBelow (Register f r) ls = f < length (tasks_of ls)
 IsBelow (Entry k) ls = k < length (items_of ls)
 IsBelow (Field n f) ls = SomeIn n ls
 IsBelow (Going k) ls = k < length (tasks_of ls)
-IsBelow (Elsewhere o) ls = SomeInAny (other_cell o) ls
+IsBelow (Elsewhere o) ls = IsBelowElsewhere o ls
 
 -- what holds this is below the frame, and is claimed to be ready
 pub record Holds (p : Image) (cs : List Cell) (ls : List Layer) (o : Object) (from : Place) : Type 0 where
@@ -401,6 +404,12 @@ EndsDispatch p (Asks x) back = IsAsking p back
 EndsDispatch p (Answered x answer) back = IsAtEnd back
 EndsDispatch p (Of_server x c stage) back = EndsStage p x stage back
 
+-- it is a server, and these clients have sessions with it
+pub record EndsSessions (p : Image) (cs : List Cell) (o : Object) (left : List ℕ) : Type 0 where
+  pub server : is_server p o.thing ≡ true
+  pub lives : named cs o.name ≡ Some o
+  pub listed : (c : ℕ) → is_among c left ≡ true → has_session (service_of cs o.name) c ≡ true
+
 -- right below stands the going of that server
 abbrev pub IsOverDying : Object → List Layer → Type 0
 IsOverDying o (Dying x ∷ ls) = x ≡ o
@@ -411,7 +420,7 @@ abbrev pub StageFits : List Cell → Seat → ℕ → Stage → Type 0
 StageFits cs x c Accepts = has_session (service_of cs x.object.name) c ≡ false
 StageFits cs x c Accepted = has_session (service_of cs x.object.name) c ≡ true
 StageFits cs x c (Accept_left code) = has_session (service_of cs x.object.name) c ≡ false
-StageFits cs x c (Serves o) = (has_session (service_of cs x.object.name) c ≡ true) × (held cs (Elsewhere (Session x.object.name c)) ≡ Some o)
+StageFits cs x c (Serves o) = has_session (service_of cs x.object.name) c ≡ true
 StageFits cs x c (Service_left code) = has_session (service_of cs x.object.name) c ≡ true
 StageFits cs x c Parts = has_session (service_of cs x.object.name) c ≡ true
 
@@ -432,7 +441,7 @@ Stack p t cs back (Dying o ∷ ls) =
     ((named cs o.name ≡ Some o) × (held cs (Going (length (tasks_of ls))) ≡ Some o))
     × IsDestructorOf p (length (tasks_of ls)) o back
     × Stack p t cs Gone ls
-Stack p t cs back (Ending o ∷ ls) = (is_server p o.thing ≡ true) × IsUprooting back × IsOverDying o ls × Stack p t cs Now ls
+Stack p t cs back (Ending o left ∷ ls) = EndsSessions p cs o left × IsUprooting back × IsOverDying o ls × Stack p t cs Now ls
 Stack p t cs back (Unwinding code es ∷ ls) = IsUnwound p back × Stack p t cs Leaves ls
 Stack p t cs back (Dispatching d seats ∷ ls) = EndsDispatch p d back × (ls ≡ []) × AllSit cs seats × SitsFirst cs (seat_of d) seats × IsAttended p cs d
 
