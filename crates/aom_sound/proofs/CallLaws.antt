@@ -24,9 +24,9 @@ use Rattle.aom_sound.specs.Calls.{called, given_cells, needs_each, needs_result,
 use Rattle.aom_sound.specs.Claims.{Layer, Mark, Mark_form, Method, tasks_of}
 use Rattle.aom_sound.specs.Laws.{IsCalled, IsWired}
 use Rattle.aom_sound.specs.Moves.{does}
-use Rattle.aom_sound.specs.Places.{Cell, Elsewhere, Field, Object, Place, other_cell}
+use Rattle.aom_sound.specs.Places.{Cell, Elsewhere, Field, Object, Place, Root, Session, In_service, Queued}
 use Rattle.aom_sound.specs.State.{AtRoot, Choice, Frame, Home, Inside, State, Static}
-use Rattle.aom_sound.specs.WellTyped.{Awaits, Caught, EndsWell, IsApart, IsBelow, IsHoused, Returns, Stands, SomeInAny}
+use Rattle.aom_sound.specs.WellTyped.{Awaits, Caught, EndsWell, IsApart, IsBelow, IsHoused, Returns, Stands}
 use Rattle.aom_sound.proofs.Callees.{none_owns_each, only_then}
 use Rattle.aom_sound.specs.Requests.{rests_in, thing_kind, works_at}
 use Rattle.aom_roles.specs.Shapes.{kind_of}
@@ -95,11 +95,10 @@ module _ (p : Image) (t : Typing) (wired : IsWired p) (typed : IsTyped p t) (c :
 -- over a trap's mark
 below_mark : (from : Place) (gv : Gives) (ls : List Layer) → IsBelow from ls → IsBelow from (Mark gv ∷ ls)
 below_mark (Field n f) gv ls b = b
-below_mark (Elsewhere w) gv ls b = go (other_cell w) b
-  where
-    go : (c : Option ℕ) → SomeInAny c ls → SomeInAny c (Mark gv ∷ ls)
-    go None b = tt
-    go (Some n) b = b
+below_mark (Elsewhere Root) gv ls b = tt
+below_mark (Elsewhere (Session n c)) gv ls b = b
+below_mark (Elsewhere In_service) gv ls b = absurd b
+below_mark (Elsewhere (Queued n m)) gv ls b = absurd b
 below_mark _ gv ls b = omega arith
 
 housed_mark : (p : Image) (cs : List Cell) (home : Home) (gv : Gives) (ls : List Layer) → IsHoused p cs ls home → IsHoused p cs (Mark gv ∷ ls) home

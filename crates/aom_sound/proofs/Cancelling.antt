@@ -327,7 +327,7 @@ module _ (p : Image) (t : Typing) (wired : IsWired p) (typed : IsTyped p t) (c :
     caller : Stack p t cs' (Returns m fr.home) over
     caller = (
       stands,
-      record { words = at_hand.good.stack.1.words; holder = at_hand.good.stack.1.holder; height = at_hand.good.stack.1.height; alone = at_hand.good.stack.1.alone },
+      record { words = at_hand.good.stack.1.words; holder = at_hand.good.stack.1.holder; height = at_hand.good.stack.1.height; alone = at_hand.good.stack.1.alone; message = at_hand.good.stack.1.message },
       housed_alike p t s.cells cs' same_cells ls fr.home at_hand.good.stack.2,
       at_hand.good.stack.3,
       stack_alike p t s.cells cs' same_cells (listed_still s.cells fr.home (on_request cancelling request) (on_some cancelling request)) ls _ at_hand.good.stack.4,

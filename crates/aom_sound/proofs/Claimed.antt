@@ -391,7 +391,7 @@ layer_rel R same p (Ending o left) depth items (Elsewhere Root) x y h = h
 layer_rel R same p (Method fr sh) depth items (Elsewhere (Session s c)) x y h = h
 layer_rel R same p (Mark gv) depth items (Elsewhere (Session s c)) x y h = h
 layer_rel R same p (Dying o) depth items (Elsewhere (Session s c)) x y h = cond_rel R same (o.name == s) Null x y h
-layer_rel R same p (Ending o left) depth items (Elsewhere (Session s c)) x y h = cond_rel R same ((o.name == s) && not (is_among c left)) Null x y h
+layer_rel R same p (Ending o left) depth items (Elsewhere (Session s c)) x y h = cond_rel R same (o.name == s) _ x y h
 layer_rel R same p (Unwinding code es) depth items (Elsewhere (Session s c)) x y h = h
 layer_rel R same p (Dispatching d seats) depth items (Elsewhere (Session s c)) x y h = close_rel R same d s c x y h
 layer_rel R same p (Method fr sh) depth items (Elsewhere In_service) x y h = cond_rel R same (serves p fr.method) (delivered sh.delivery) x y h

@@ -32,7 +32,7 @@ use Rattle.aom_sound.proofs.Maps.{at-put_at, front_free}
 use Rattle.aom_sound.proofs.Things.{stands_same}
 use Rattle.aom_sound.proofs.Straight.{At, fits_unowning, free_register, top}
 use Rattle.aom_sound.specs.Calls.{end_needs, is_level, is_register_but, leaves_object, none_owns_but, result_needs, result_source, returned}
-use Rattle.aom_sound.specs.Claims.{Dispatching, Dying, Layer, Mark, Method, Object_form, Unwinding, claim, declared, declared_field, entry_claim, forms, home_claim, items_of, objects, root_claim, tasks_of}
+use Rattle.aom_sound.specs.Claims.{Dispatching, Dying, Layer, Mark, Method, Object_form, Unwinding, claim, declared, declared_field, entry_claim, forms, home_claim, items_of, objects, root_claim, tasks_of, Ending}
 use Rattle.aom_sound.specs.Moves.{does, needs}
 use Rattle.aom_sound.specs.Objects.{is_thing}
 use Rattle.aom_sound.specs.Places.{Cell, Elsewhere, Entry, Field, Going, Object, Place, Register, Root, Sight, held, requested, same_place, seen}
@@ -118,6 +118,7 @@ claim_root p d (Method fr sh ∷ ls) u = go fr.home u.0 ∙ claim_root p d ls u.
     go (Inside o from) n = refl
 claim_root p d (Mark gv ∷ ls) u = claim_root p d ls u
 claim_root p d (Dying o ∷ ls) u = claim_root p d ls u
+claim_root p d (Ending o left ∷ ls) u = claim_root p d ls u
 claim_root p d (Unwinding code es ∷ ls) u = claim_root p d ls u
 claim_root p d (Dispatching x seats ∷ ls) u = ap (λ b. cond b Null (claim p d ls (Elsewhere Root))) u.0 ∙ claim_root p d ls u.1
 

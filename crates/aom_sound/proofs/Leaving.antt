@@ -16,10 +16,10 @@ use Rattle.aom_sound.proofs.Finishing.{ended, none_owns_at, none_owns_from}
 use Rattle.aom_sound.proofs.Straight.{At, Fitted, Law, claim_register, fits_unowning, fitted, settle, stepped, well}
 use Rattle.aom_sound.proofs.Words.{has_word}
 use Rattle.aom_sound.specs.Calls.{none_owns_but}
-use Rattle.aom_sound.specs.Claims.{Dispatching, Dying, Form, Layer, Mark, Method, Unwinding, claim, declared, entry_claim, entry_form, forms, home_claim, items_of, objects, root_claim, tasks_of}
+use Rattle.aom_sound.specs.Claims.{Dispatching, Dying, Form, Layer, Mark, Method, Unwinding, claim, declared, entry_claim, entry_form, forms, home_claim, items_of, objects, root_claim, tasks_of, Ending}
 use Rattle.aom_sound.specs.Cleanup.{above_trap_is_free, has_trap, is_negative, leave_needs, to_trap}
 use Rattle.aom_sound.specs.Places.{Cell, Elsewhere, Entry, Field, Going, Object, Place, Register, Request, Root, Sight, held, named, requested, seen}
-use Rattle.aom_sound.specs.State.{Asks, AtRoot, Choice, Dispatch, Frame, Home, Inside, Run, State, Static, Unwind, next}
+use Rattle.aom_sound.specs.State.{Asks, AtRoot, Choice, Dispatch, Frame, Home, Inside, Run, State, Static, Unwind, next, Of_server, Accepts, Accepted, Accept_left, Serves, Service_left, Parts}
 use Rattle.aom_sound.specs.WellTyped.{AllUndo, EndsDispatch, Fits, IsApart, IsHoused, Leaves, Returns, Stack, WellTyped, past_going}
 use Rattle.aom_sound.specs.Effects.{Leaves, Same, applied, updates}
 use Rattle.aom_sound.specs.Words.{read}
@@ -37,6 +37,7 @@ entries_over [] = []
 entries_over (Method fr sh ∷ ls) = sh.entries ++ entries_over ls
 entries_over (Mark gv ∷ ls) = []
 entries_over (Dying o ∷ ls) = []
+entries_over (Ending o left ∷ ls) = []
 entries_over (Unwinding code es ∷ ls) = []
 entries_over (Dispatching d seats ∷ ls) = []
 
@@ -46,6 +47,7 @@ from_trap [] = []
 from_trap (Method fr sh ∷ ls) = from_trap ls
 from_trap (Mark gv ∷ ls) = Mark gv ∷ ls
 from_trap (Dying o ∷ ls) = Dying o ∷ ls
+from_trap (Ending o left ∷ ls) = Ending o left ∷ ls
 from_trap (Unwinding code es ∷ ls) = Unwinding code es ∷ ls
 from_trap (Dispatching d seats ∷ ls) = Dispatching d seats ∷ ls
 
@@ -79,6 +81,12 @@ join_claims p d code es fs ls (Going k) = refl
 -- what lies under a method that may leave: neither the end of the run nor a dispatch's
 no_end : {A : Type 0} (p : Image) (d : Dispatch) (m : ℕ) (home : Home) → leaves p m ≡ true → EndsDispatch p d (Returns m home) → A
 no_end p (Asks x) m home may e = absurd (true≢false (sym may ∙ e.0))
+no_end p (Of_server x c Accepts) m home may e = absurd e
+no_end p (Of_server x c Accepted) m home may e = absurd e
+no_end p (Of_server x c (Accept_left code)) m home may e = absurd e
+no_end p (Of_server x c (Serves o)) m home may e = absurd e
+no_end p (Of_server x c (Service_left code)) m home may e = absurd e
+no_end p (Of_server x c Parts) m home may e = absurd e
 no_end p _ m home may e = absurd (assumption tt)
 
 not_going : (p : Image) (t : Typing) (cs : List Cell) (ls : List Layer) (m : ℕ) (home : Home) → leaves p m ≡ true → Stack p t cs (Returns m home) ls → past_going ls ≡ ls

@@ -14,16 +14,20 @@ use Rattle.aom_shape.specs.declared.kind.Kind.TheVariants.{Null, Own, Maybe}
 use Rattle.aom_image.specs.Views.{method_role}
 use Rattle.aom_image.specs.declared.method.Role.TheVariants.{Service as Attends}
 use Rattle.aom_image.specs.declared.method.Thing.TheVariants.{Message}
-use Rattle.aom_roles.specs.Shapes.{is_role}
 use Rattle.aom_shape.specs.declared.kind.Delivery.{Delivery}
 use Rattle.aom_shape.specs.declared.kind.Delivery.TheVariants.{Here, Gone}
+use Rattle.aom_image.specs.declared.method.Role.{Role}
 use Rattle.aom_sound.specs.Servers.{has_message, has_session, session_thing, is_among}
 use Rattle.aom_sound.specs.Places.{Place, Register, Entry, Field, Going, Elsewhere, Other, Root, Session, In_service, Queued, Object, Cell, named, service_of}
 use Rattle.aom_sound.specs.State.{Home, Static, AtRoot, Inside, Frame, Dispatch, Of_root, Seat, Task, Run, Trapped, Destroy, Unwind, Dispatched, Item, An_object, An_operation, A_mark, thing_holder, Closing, Of_server, Serves, Service_left, Parts}
 
+abbrev pub is_service : Option Role → Bool
+is_service (Some Attends) = true
+is_service _ = false
+
 -- the method serves messages
 abbrev pub serves : Image → ℕ → Bool
-serves p m = is_role Attends (method_role p m)
+serves p m = is_service (method_role p m)
 
 -- what stands behind a task: a method with its abstract state, a trap's mark, a cell that is going, a leave with the entries that are still to unwind, or a dispatch with the seats from its object's up to the root
 pub data Layer : Type 0 where
@@ -143,18 +147,18 @@ by_root p (Ending o left) below = below
 by_root p (Unwinding code es) below = below
 by_root p (Dispatching d seats) below = cond (is_of_root d) Null below
 
--- what a layer claims of the session of a client: none of a server is there whose destructor runs or that is past it, and none of a client whose close is served
+-- what a layer claims of the session of a client: of a server that is going those that are left are there and no other, and none of a client whose close is served
 abbrev pub by_close : Dispatch → ℕ → ℕ → Kind → Kind
 by_close (Of_server x client Parts) s c below = cond ((x.object.name == s) && (client == c)) Null below
 by_close _ s c below = below
 
-abbrev pub by_session : Layer → ℕ → ℕ → Kind → Kind
-by_session (Method fr sh) s c below = below
-by_session (Mark gv) s c below = below
-by_session (Dying o) s c below = cond (o.name == s) Null below
-by_session (Ending o left) s c below = cond ((o.name == s) && not (is_among c left)) Null below
-by_session (Unwinding code es) s c below = below
-by_session (Dispatching d seats) s c below = by_close d s c below
+abbrev pub by_session : Image → Layer → ℕ → ℕ → Kind → Kind
+by_session p (Method fr sh) s c below = below
+by_session p (Mark gv) s c below = below
+by_session p (Dying o) s c below = cond (o.name == s) Null below
+by_session p (Ending o left) s c below = cond (o.name == s) (cond (is_among c left) (filled (session_thing p (Some o)) Full) Null) below
+by_session p (Unwinding code es) s c below = below
+by_session p (Dispatching d seats) s c below = by_close d s c below
 
 -- of the message that is served: it is there until it is taken, and then the method that serves knows of it
 abbrev pub delivered : Delivery → Kind
@@ -176,7 +180,7 @@ by_service p (Dispatching d seats) below = by_stage d below
 
 abbrev pub other_claim : Image → Layer → Other → Kind → Kind
 other_claim p l Root below = by_root p l below
-other_claim p l (Session s c) below = by_session l s c below
+other_claim p l (Session s c) below = by_session p l s c below
 other_claim p l In_service below = by_service p l below
 other_claim p l (Queued s m) below = below
 
