@@ -12,18 +12,13 @@ use Rattle.aom_shape.specs.declared.kind.Filling.TheVariants.{Perhaps, Full}
 use Rattle.aom_shape.specs.declared.kind.Kind.{Kind}
 use Rattle.aom_shape.specs.declared.kind.Kind.TheVariants.{Null, Own, Maybe}
 use Rattle.aom_image.specs.Views.{method_role}
-use Rattle.aom_image.specs.declared.method.Role.TheVariants.{Service as Attends}
+use Rattle.aom_rules.specs.Requests.{is_service}
 use Rattle.aom_image.specs.declared.method.Thing.TheVariants.{Message}
 use Rattle.aom_shape.specs.declared.kind.Delivery.{Delivery}
 use Rattle.aom_shape.specs.declared.kind.Delivery.TheVariants.{Here, Gone}
-use Rattle.aom_image.specs.declared.method.Role.{Role}
 use Rattle.aom_sound.specs.Servers.{has_message, has_session, session_thing, is_among}
 use Rattle.aom_sound.specs.Places.{Place, Register, Entry, Field, Going, Elsewhere, Other, Root, Session, In_service, Queued, Object, Cell, named, service_of}
 use Rattle.aom_sound.specs.State.{Home, Static, AtRoot, Inside, Frame, Dispatch, Of_root, Seat, Task, Run, Trapped, Destroy, Unwind, Dispatched, Item, An_object, An_operation, A_mark, thing_holder, Closing, Of_server, Serves, Service_left, Parts}
-
-abbrev pub is_service : Option Role → Bool
-is_service (Some Attends) = true
-is_service _ = false
 
 -- the method serves messages
 abbrev pub serves : Image → ℕ → Bool

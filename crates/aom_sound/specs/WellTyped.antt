@@ -75,9 +75,14 @@ IsAlone p Static ls = Unit {0}
 IsAlone p AtRoot ls = Unit {0}
 IsAlone p (Inside o from) ls = (states_claim p o ls).cancelled ≡ false
 
--- the message of a method that serves was there as it began
+-- right below stands the dispatch of a server that serves a message, with its trap
+abbrev pub IsServed : List Layer → Type 0
+IsServed (Mark gv ∷ Dispatching (Of_server x client (Serves o)) seats ∷ ls) = Unit {0}
+IsServed ls = ⊥
+
+-- a method that serves stands right over its dispatch
 abbrev pub HasMessage : Image → Frame → List Layer → Type 0
-HasMessage p fr ls = serves p fr.method ≡ true → claim p (λ r. Null) ls (Elsewhere In_service) ≡ Own Message Ready
+HasMessage p fr ls = serves p fr.method ≡ true → IsServed ls
 
 -- the frame's registers are as the state says, and its home and its height are its own
 pub record Frames (p : Image) (ls : List Layer) (fr : Frame) (sh : Shape) : Type 0 where
