@@ -168,7 +168,7 @@ module _ (p : Image) (t : Typing) (c : Choice) (s : State) (fr : Frame) (sh : Sh
       needed false = tt
 
       goes : (b : Bool) → WellTyped p t (applied p fr (tasks_of ls) s (unless_refused b (Object_pushed a) (sets fr a None (Object_pushed a))))
-      goes true = leave_keeps p t wired (record s { cells = cells; items = An_object ∷ s.items }) no_memory fr' (pushed_shape a) ls items at_hand.undos there n.1.0 n.1.1.0 n.1.1.1.0
+      goes true = leave_keeps p t wired (record s { cells = cells; items = An_object ∷ s.items }) no_memory fr' (pushed_shape a) ls items at_hand.undos there n.1.0 n.1.1.0 n.1.1.1.0 n.1.1.1.1.0
       goes false = well p t c s fr sh ls at_hand _ fr' (pushed_shape a) refl items at_hand.undos (settle p t cells fr' (pushed_shape a) ls there leads.0)
 
   -- ---- the push of an operation
@@ -199,7 +199,7 @@ module _ (p : Image) (t : Typing) (c : Choice) (s : State) (fr : Frame) (sh : Sh
       needed false = tt
 
       goes : (b : Bool) → WellTyped p t (applied p fr (tasks_of ls) s (unless_refused b (Operation_pushed m (read fr (tasks_of ls) s a)) (updates fr (Operation_pushed m (read fr (tasks_of ls) s a)))))
-      goes true = leave_keeps p t wired (record s { items = An_operation m (read fr (tasks_of ls) s a) ∷ s.items }) no_memory (next fr) with_operation ls items undos operation_fitted n.1.0 n.1.1.0 n.1.1.1.0
+      goes true = leave_keeps p t wired (record s { items = An_operation m (read fr (tasks_of ls) s a) ∷ s.items }) no_memory (next fr) with_operation ls items undos operation_fitted n.1.0 n.1.1.0 n.1.1.1.0 n.1.1.1.1.0
       goes false = well p t c s fr sh ls at_hand _ (next fr) with_operation refl items undos (settle p t s.cells (next fr) with_operation ls operation_fitted leads.0)
 
   -- ---- a pop
@@ -343,5 +343,5 @@ module _ (p : Image) (t : Typing) (c : Choice) (s : State) (fr : Frame) (sh : Sh
       needed false = tt
 
       goes : (b : Bool) → WellTyped p t (applied p fr (tasks_of ls) s (unless_refused b Same (sets fr a None (Made c.name x a))))
-      goes true = leave_keeps p t wired s no_memory fr sh ls at_hand.items at_hand.undos g n.1.1.0 n.1.1.1.0 n.1.1.1.1.0
+      goes true = leave_keeps p t wired s no_memory fr sh ls at_hand.items at_hand.undos g n.1.1.0 n.1.1.1.0 n.1.1.1.1.0 n.1.1.1.1.1.0
       goes false = well p t c s fr sh ls at_hand _ fr' (set_register sh a k) refl at_hand.items at_hand.undos (settle p t cells fr' (set_register sh a k) ls makes leads.0)

@@ -8,7 +8,7 @@ use Rattle.aom_instructions.specs.Operands.{IsRegister}
 use Rattle.aom_image.specs.Views.{arguments_of, method_class}
 use Rattle.aom_instructions.specs.Fits.{InstrFits}
 use Rattle.aom_instructions.specs.declared.instr.Instr.{Instr}
-use Rattle.aom_instructions.specs.declared.instr.Instr.TheVariants.{Call, Cancel, Delete, Jump, JumpActive, JumpAdded, JumpEmpty, JumpEqual, JumpLess, JumpNull, Leave, LeaveIf, Loop, Move, New, NewOrLeave, Next, Pop, PopDelete, PopOperation, Push, PushOperation, Return, Take, Trap}
+use Rattle.aom_instructions.specs.declared.instr.Instr.TheVariants.{TakeMessage, Call, Cancel, Delete, Jump, JumpActive, JumpAdded, JumpEmpty, JumpEqual, JumpLess, JumpNull, Leave, LeaveIf, Loop, Move, New, NewOrLeave, Next, Pop, PopDelete, PopOperation, Push, PushOperation, Return, Take, Trap}
 use Rattle.aom_instructions.specs.declared.instr.Target.{Target}
 use Rattle.aom_instructions.specs.declared.limits.Limits.{Limits}
 use Rattle.aom_classes.specs.Jumps.{jump_of}
@@ -45,6 +45,7 @@ module _ (p : Image) where
   abbrev pub SpotFits : Spot → Type 0
   SpotFits (In_register a) = IsRegister a
   SpotFits (In_field f) = Unit {0}
+  SpotFits The_message = Unit {0}
 
   abbrev pub UpdateFits : Update → Type 0
   UpdateFits (Carried from to) = SpotFits to
@@ -124,6 +125,7 @@ module _ (p : Image) (c : Choice) (fr : Frame) (ts : List Task) (s : State) wher
   fits (Next depth to) n = loops (counter fr depth - 1) depth to refl
   fits (Move a b) n = ((refl, tt), λ l f. f.a)
   fits (Take a field) n = ((refl, tt), λ l f. f.a)
+  fits (TakeMessage a) n = ((refl, tt), λ l f. f.a)
   fits (New a x) n = making c.refused a x
   fits (Delete a) n = deleting (held s.cells (here fr ts s a)) a refl
   fits (Call target m first x) n = ((x, refl), λ l f. few_arguments target m first _ n)

@@ -1,6 +1,7 @@
 pub mod Maps
 pub mod Counts
 pub mod Services
+pub mod Attending
 pub mod Things
 pub mod Items
 pub mod Seats

@@ -178,7 +178,7 @@ service_lives p t cs (Method fr sh ∷ ls) back x s h = go (serves p fr.method) 
     go :
         (b : Bool) → serves p fr.method ≡ b → (HasThing (claim p (declared p cs) ls (Elsewhere In_service)) x → HasService (tasks_of ls)) →
         HasThing (cond b (delivered sh.delivery) (claim p (declared p cs) ls (Elsewhere In_service))) x → HasService (tasks_of ls)
-    go true e below h = served_below ls (s.1.message e)
+    go true e below h = served_below ls (s.1.message.0 e)
     go false e below h = below h
 service_lives p t cs (Mark gv ∷ ls) back x s h = service_lives p t cs ls (Caught gv) x s.1 h
 service_lives p t cs (Dying o ∷ ls) back x s h = service_lives p t cs ls Gone x s.2 h

@@ -45,17 +45,20 @@ is_at_rest (Some r) = is_idle r.phase
 abbrev pub needs_gone : List Cell → Object → List Need
 needs_gone cs o = (owns_nothing cs o.name, Orphan) ∷ (is_at_rest (requested cs o.name), ActiveDestroyed) ∷ []
 
--- the going of a cell, with what waits in its queue where it is a server
-abbrev pub gone : Option Object → List Task → State → Outcome
-gone None ts s = IsStuck NullOrDead
-gone (Some o) ts s =
+-- a cell is gone, with what waits in its queue where it is a server
+abbrev pub vanished : Object → List Task → State → State
+vanished o ts s =
     let left = without_queue o.name s.cells in
     let service = service_of s.cells o.name in
-    guarded (needs_gone left o) (record s {
+    record s {
       cells = each_unslotted service.sessions (without (Going (length ts)) left);
       tasks = resumed ts;
       clients = sessions_ended service.sessions (queue_ended service.queue s.clients);
-    })
+    }
+
+abbrev pub gone : Option Object → List Task → State → Outcome
+gone None ts s = IsStuck NullOrDead
+gone (Some o) ts s = guarded (needs_gone (without_queue o.name s.cells) o) (vanished o ts s)
 
 -- ---- the sessions of a server
 

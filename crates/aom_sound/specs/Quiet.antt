@@ -37,7 +37,7 @@ IsCalm p ts = Holds (calm p) ts
 pub record CalmKeeps : Type 0 where
   pub boot : (p : Image) → IsCalm p (boot_state p).tasks
   pub moves : (p : Image) (t : Typing) → IsWired p → IsTyped p t → (c : Choice) (s u : State) → WellTyped p t s → IsCalm p s.tasks → step p c s ≡ Goes u → IsCalm p u.tasks
-  pub turns : (p : Image) (outside : Outside) (heard : Heard) (s u : State) → IsCalm p s.tasks → turn p outside heard s ≡ Goes u → IsCalm p u.tasks
+  pub turns : (p : Image) → IsWired p → (outside : Outside) (heard : Heard) (s u : State) → IsCalm p s.tasks → turn p outside heard s ≡ Goes u → IsCalm p u.tasks
 
 -- where a leave has nothing more to unwind, each cell has exactly one living owner
 abbrev pub CaughtOwned : Type 0
