@@ -1,6 +1,8 @@
 pub mod Maps
 pub mod Counts
 pub mod Services
+pub mod Sifted
+pub mod Queues
 pub mod Attending
 pub mod Things
 pub mod Items

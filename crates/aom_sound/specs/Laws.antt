@@ -25,6 +25,7 @@ use Rattle.aom_sound.specs.Places.{Elsewhere, Root, held, named}
 use Rattle.aom_sound.specs.State.{Dispatch, Frame, Task, Run, Destroy, Unwind, Dispatched, Item, A_mark, State, Choice, Goes}
 use Rattle.aom_sound.specs.Moves.{step, IsOpen}
 use Rattle.aom_sound.specs.WellTyped.{LeavesNone, IsUndo, WellTyped, Keeps}
+use Rattle.aom_sound.specs.Kept.{ClientsFit, IsKept}
 use Rattle.aom_sound.specs.Owned.{Owned}
 use Rattle.aom_sound.specs.Registers.{AllInRange}
 use Rattle.aom_sound.specs.World.{AllSettled, Heard, HearsWell, boot_state, first_ready, has_signal, IsBetween, IsBusy, Reaches, Outside, turn}
@@ -130,11 +131,17 @@ pub record RegistersKeep : Type 0 where
   pub moves : (p : Image) → IsWired p → (c : Choice) (s u : State) → AllInRange s.cells → step p c s ≡ Goes u → AllInRange u.cells
   pub turns : (p : Image) (outside : Outside) (heard : Heard) (s u : State) → AllInRange s.cells → turn p outside heard s ≡ Goes u → AllInRange u.cells
 
--- a turn from a well-typed state between dispatches is not stuck, whatever a native completes that it owes, and leads to a well-typed state
+-- a turn from a well-typed state between dispatches in which clients are kept is not stuck, whatever a native completes that it owes, and leads to a well-typed state
 abbrev pub TurnGoesOn : Type 0
 TurnGoesOn =
-    (p : Image) (t : Typing) (outside : Outside) → IsWired p → IsTyped p t → (heard : Heard) (s : State) → WellTyped p t s → IsBetween s → HearsWell p outside heard s →
+    (p : Image) (t : Typing) (outside : Outside) → IsWired p → IsTyped p t → (heard : Heard) (s : State) → WellTyped p t s → IsBetween s → HearsWell p outside heard s → ClientsFit p s.clients s.cells →
     Keeps p t (turn p outside heard s)
+
+-- clients, and what they have at servers, say the same in each state of a run
+pub record ClientsKeep : Type 0 where
+  pub boot : (p : Image) → IsKept p (boot_state p)
+  pub moves : (p : Image) (t : Typing) → IsWired p → IsTyped p t → (c : Choice) (s u : State) → WellTyped p t s → named s.cells c.name ≡ None → IsKept p s → step p c s ≡ Goes u → IsKept p u
+  pub turns : (p : Image) (t : Typing) (outside : Outside) → IsWired p → IsTyped p t → (heard : Heard) (s u : State) → WellTyped p t s → IsBetween s → HearsWell p outside heard s → IsKept p s → turn p outside heard s ≡ Goes u → IsKept p u
 
 -- between dispatches no request is made that is not waited for, and what signals is ready
 abbrev pub SignalsAreReady : Type 0

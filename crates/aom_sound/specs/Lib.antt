@@ -15,6 +15,7 @@ pub mod Moves
 pub mod Tasks
 pub mod Claims
 pub mod WellTyped
+pub mod Kept
 pub mod Owned
 pub mod Registers
 pub mod Requests

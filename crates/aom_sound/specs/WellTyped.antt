@@ -22,13 +22,8 @@ use Rattle.aom_shape.specs.declared.kind.Kind.TheVariants.{Unset, Word, Null, Ow
 use Rattle.aom_image.specs.declared.method.Thing.{Thing}
 use Rattle.aom_image.specs.declared.method.Thing.TheVariants.{Message}
 use Rattle.aom_shape.specs.declared.kind.Delivery.TheVariants.{Here}
-use Rattle.aom_clients.specs.declared.client.Client.{Client}
-use Rattle.aom_clients.specs.Nodes.{is_connecting_at, is_leaving, is_open_at}
-use Rattle.aom_clients.specs.Table.{server_of}
-use Rattle.std.specs.List.{list_any}
-use Rattle.aom_sound.specs.Clients.{client_at}
-use Rattle.aom_sound.specs.Servers.{has_session, is_server, session_thing, is_message, is_among}
-use Rattle.aom_sound.specs.Places.{Cell, Elsewhere, Entry, Field, Going, In_service, Object, Other, Place, Queued, Register, Root, Session, Sight, Tidy, held, named, other_cell, requested, same_place, seen, service_of, Asked, Connect_of, Message_of, Close_of}
+use Rattle.aom_sound.specs.Servers.{has_session, is_server, session_thing, is_among}
+use Rattle.aom_sound.specs.Places.{Cell, Elsewhere, Entry, Field, Going, In_service, Object, Other, Place, Queued, Register, Root, Session, Sight, Tidy, held, named, other_cell, requested, same_place, seen, service_of}
 use Rattle.aom_sound.specs.State.{Home, Static, AtRoot, Inside, Frame, Dispatch, Of_main, Main_left, Of_root, Of_object, Object_left, Asks, Answered, Seat, Item, An_object, An_operation, A_mark, word, State, Outcome, Goes, IsStuck, home_holder, thing_holder, Of_server, Stage, Accepts, Accepted, Accept_left, Serves, Service_left, Parts}
 use Rattle.aom_sound.specs.Calls.{result_register, called}
 use Rattle.aom_sound.specs.Requests.{AllSuit, Joins, states_claim, thing_kind, works_at}
@@ -473,32 +468,6 @@ AllUndo p [] = Unit {0}
 AllUndo p (An_object ∷ items) = AllUndo p items
 AllUndo p (An_operation m w ∷ items) = IsUndo p m × AllUndo p items
 AllUndo p (A_mark ∷ items) = AllUndo p items
-
--- what waits in the queue of a server is of a client that is at it
-abbrev pub EntryFits : List Client → ℕ → Asked → Type 0
-EntryFits clients n (Connect_of c) = is_connecting_at n (client_at clients c) ≡ true
-EntryFits clients n (Message_of c m) = is_open_at n (client_at clients c) ≡ true
-EntryFits clients n (Close_of c) = is_leaving n (client_at clients c) ≡ true
-
--- no message waits twice
-abbrev pub IsNoOther : Asked → List Asked → Type 0
-IsNoOther (Connect_of c) es = Unit {0}
-IsNoOther (Message_of c m) es = list_any (is_message m) es ≡ false
-IsNoOther (Close_of c) es = Unit {0}
-
-abbrev pub QueueFits : List Client → ℕ → List Asked → Type 0
-QueueFits clients n [] = Unit {0}
-QueueFits clients n (e ∷ es) = (EntryFits clients n e × IsNoOther e es) × QueueFits clients n es
-
--- clients, and what they have at servers, say the same
-pub record ClientsFit (p : Image) (clients : List Client) (cs : List Cell) : Type 0 where
-  pub queues : (n : ℕ) → QueueFits clients n (service_of cs n).queue
-  pub sessions : (n c : ℕ) → has_session (service_of cs n) c ≡ true → server_of (client_at clients c) ≡ Some n
-  pub listed : (n c : ℕ) → server_of (client_at clients c) ≡ Some n → has_session (service_of cs n) c ≡ true
-  -- only servers have any of it
-  pub servers : (o : Object) → named cs o.name ≡ Some o → is_server p o.thing ≡ false → ((service_of cs o.name).queue ≡ []) × ((service_of cs o.name).sessions ≡ [])
-  -- a message in a queue stands at its name
-  pub names : (n m : ℕ) (o : Object) → held cs (Elsewhere (Queued n m)) ≡ Some o → o.name ≡ m
 
 pub record WellTyped (p : Image) (t : Typing) (s : State) : Type 0 where
   pub layers : List Layer
