@@ -3,6 +3,10 @@ pub mod Counts
 pub mod Services
 pub mod Sifted
 pub mod Queues
+pub mod ClientsFit
+pub mod ClientsAsk
+pub mod ClientsLeave
+pub mod ClientsGone
 pub mod Attending
 pub mod Things
 pub mod Items
