@@ -1,5 +1,5 @@
 -- An `error` method enters over the dispatch that asks it.
-use Rattle.std.proofs.Common.{inl, IsTrue, List, None, Option, Some, [], ap, length, refl, subst, suc, sym, true, zero, ℕ, ℤ, ◌∙◌, ◌∷◌, ◌≡◌}
+use Rattle.std.proofs.Common.{false, inl, IsTrue, List, None, Option, Some, [], ap, length, refl, subst, suc, sym, true, zero, ℕ, ℤ, ◌∙◌, ◌∷◌, ◌≡◌}
 use Rattle.std.specs.Prelude.{bit_or, is_some, map}
 use Rattle.aom_image.specs.Image.{Image}
 use Rattle.aom_image.specs.Views.{has, method_class}
@@ -91,7 +91,7 @@ module _ (p : Image) (t : Typing) (wired : IsWired p) (typed : IsTyped p t) (s :
       entering = record {
         served = false;
         message = ap is_service it.2.role;
-        right_over = λ e. absurd (true≢false (sym e ∙ ap is_service it.2.role));
+        right_over = (λ e. absurd (true≢false (sym e ∙ ap is_service it.2.role)), λ served. absurd served);
         claims = claims;
         states = λ y. refl;
         none_in = λ n h. (h, tt);

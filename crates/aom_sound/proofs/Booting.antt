@@ -60,7 +60,7 @@ module _ (p : Image) (m : ℕ) (after : Shape) (w : SaysNoMore after (entry_shap
   good t stands gives = record {
     stack = (
       stands,
-      record { words = λ i. subst (λ k. WordFits None k) (sym (unset i)) tt; holder = sym (ap (λ r. holder_by r (method_class p m)) role); height = refl; alone = λ e. tt; message = λ e. absurd (true≢false (sym e ∙ ap is_service role)) },
+      record { words = λ i. subst (λ k. WordFits None k) (sym (unset i)) tt; holder = sym (ap (λ r. holder_by r (method_class p m)) role); height = refl; alone = λ e. tt; message = (λ e. absurd (true≢false (sym e ∙ ap is_service role)), λ served. absurd served) },
       tt,
       ((refl, tt), (tt, tt)),
       ((gives, tt, ap is_cancel role), (refl, refl, tt, refl, tt)),

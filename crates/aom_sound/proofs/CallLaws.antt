@@ -83,7 +83,7 @@ module _ (p : Image) (t : Typing) (wired : IsWired p) (typed : IsTyped p t) (c :
       let high = same_high p t wired typed c s fr sh ls at_hand m first depth height deep called_so passed home sh' a.1 in (
         all_join (needs_target p fr (tasks_of ls) s target (method_class p m) first (length (arguments_of p m))) _ a.0
             (parts.1.0, all_join (needs_each p fr (tasks_of ls) s (arguments_of p m) first) _ (each_met p t c s fr sh ls at_hand (arguments_of p m) first more.0) (result_met p t wired typed c s fr sh ls at_hand m first depth height deep called_so passed (gives_of p m) x more.1.1.1.0)),
-        enter p t wired typed c s fr sh ls at_hand m first depth height deep called_so passed home sh' (Method fr sh' ∷ ls) a.1 refl (ap length (sym high) ∙ length_forms s.items) (λ d r. refl) (λ o. refl) a.1.housed a.1.apart (caller p t wired typed c s fr sh ls at_hand m first depth height deep called_so passed home sh' (Returns m home) a.1 stands) (does p c fr (tasks_of ls) s (Call target m first x)) refl refl high at_hand.undos,
+        enter p t wired typed c s fr sh ls at_hand m first depth height deep called_so passed home sh' (Method fr sh' ∷ ls) (λ x. x) a.1 refl (ap length (sym high) ∙ length_forms s.items) (λ d r. refl) (λ o. refl) a.1.housed a.1.apart (caller p t wired typed c s fr sh ls at_hand m first depth height deep called_so passed home sh' (Returns m home) a.1 stands) (does p c fr (tasks_of ls) s (Call target m first x)) refl refl high at_hand.undos,
       )
     where
       depth : ℕ
@@ -150,7 +150,7 @@ module _ (p : Image) (t : Typing) (wired : IsWired p) (typed : IsTyped p t) (c :
           all_join (needs_each p fr (tasks_of ls) s (arguments_of p m) first) _ (each_met p t c s fr sh ls at_hand (arguments_of p m) first more.0)
               (all_join (needs_result p fr (tasks_of ls) s gv (given_cells p fr (tasks_of ls) s (over_trap p fr (tasks_of ls) s) m first) x) _ (result_met p t wired typed c s fr sh ls at_hand m first depth height deep called_so passed gv x more.1.1.0) (free, tt)),
         ),
-        enter p t wired typed c s fr sh ls at_hand m first depth height deep called_so passed home sh' over a.1 refl (ap suc (ap length (sym high) ∙ length_forms s.items)) (λ d r. mark_claims p d gv (Method fr sh' ∷ ls) r) (λ o. refl)
+        enter p t wired typed c s fr sh ls at_hand m first depth height deep called_so passed home sh' over (λ x. x) a.1 refl (ap suc (ap length (sym high) ∙ length_forms s.items)) (λ d r. mark_claims p d gv (Method fr sh' ∷ ls) r) (λ o. refl)
             (housed_mark p (given_cells p fr (tasks_of ls) s (over_trap p fr (tasks_of ls) s) m first) home gv (Method fr sh' ∷ ls) a.1.housed) (apart_mark p home gv fr sh' ls a.1.apart (rests_under p m fr sh' home (kind_begun p t wired typed c s fr sh ls at_hand m first depth height deep called_so home sh' a.1.begun) a.1.settles))
             ((refl, trapped.gives, ap is_cancel trapped.role), below) (does p c fr (tasks_of ls) s (Trap target m first x)) refl refl (ap (λ fs. Mark_form ∷ fs) high) at_hand.undos,
       )

@@ -44,7 +44,7 @@ use Rattle.aom_sound.specs.Claims.{serves, delivered, Layer, Method, claim, decl
 use Rattle.aom_sound.specs.Laws.{IsCalled, IsWired}
 use Rattle.aom_sound.specs.Places.{In_service, Cell, Elsewhere, Entry, Field, Going, Object, Place, Register, Root, held, named, requested, same_place, seen}
 use Rattle.aom_sound.specs.State.{AtRoot, Choice, Frame, Home, Inside, Run, State, Static, WrongKind, field_place, frame_of, home_holder, thing_holder, word}
-use Rattle.aom_sound.specs.WellTyped.{AllUndo, Awaits, Back, Fits, Good, Holds, IsApart, IsBelow, IsHoused, IsNoFieldOf, NotIn, Returns, Stack, Stands, Unclaimed, WellTyped, WordFits, WorksOn, by_field}
+use Rattle.aom_sound.specs.WellTyped.{IsServed, AllUndo, Awaits, Back, Fits, Good, Holds, IsApart, IsBelow, IsHoused, IsNoFieldOf, NotIn, Returns, Stack, Stands, Unclaimed, WellTyped, WordFits, WorksOn, by_field}
 use Rattle.aom_sound.proofs.Callees.{apart_from, below_more, filled_ready, fits_fresh, held_own, holder_called, holder_member, holder_static, home_member, member_kind, moved_entries, moved_register, own_for, passed_elsewhere}
 use Rattle.aom_sound.specs.Requests.{AllSuit, Known, Suits, Unworked, known_at, resting_in, rests_in, states_claim, thing_kind, works_at}
 use Rattle.aom_roles.specs.Shapes.{kind_of}
@@ -168,12 +168,12 @@ module _ (p : Image) (t : Typing) (wired : IsWired p) (typed : IsTyped p t) (c :
         inner false e = s x lives e
 
     -- so it is entered, over these layers, which claim what the caller claims
-    pub enter : {ended : ℕ} (home : Home) (sh' : Shape) (over : List Layer) → Entering ended home sh' → length (tasks_of over) ≡ depth → length (items_of over) ≡ height → ((d : Place → Kind) (r : Place) → claim p d over r ≡ claim p d (Method fr sh' ∷ ls) r) → ((o : Object) → states_claim p o over ≡ states_claim p o (Method fr sh' ∷ ls)) → IsHoused p cs over home → IsApart p home over → Stack p t cs (Returns m home) over → (s' : State) → s'.cells ≡ cs → s'.tasks ≡ Run (callee home) ∷ tasks_of over → forms s'.items ≡ items_of over → AllUndo p s'.items → WellTyped p t s'
-    enter home sh' over e at_depth high same same_states housed apart stack s' cells tasks items undos =
+    pub enter : {ended : ℕ} (home : Home) (sh' : Shape) (over : List Layer) → (IsServed over → ⊥) → Entering ended home sh' → length (tasks_of over) ≡ depth → length (items_of over) ≡ height → ((d : Place → Kind) (r : Place) → claim p d over r ≡ claim p d (Method fr sh' ∷ ls) r) → ((o : Object) → states_claim p o over ≡ states_claim p o (Method fr sh' ∷ ls)) → IsHoused p cs over home → IsApart p home over → Stack p t cs (Returns m home) over → (s' : State) → s'.cells ≡ cs → s'.tasks ≡ Run (callee home) ∷ tasks_of over → forms s'.items ≡ items_of over → AllUndo p s'.items → WellTyped p t s'
+    enter home sh' over unserved e at_depth high same same_states housed apart stack s' cells tasks items undos =
         let leads = typed.entry m is_called.there in
         let w = leads.2 in
         let good : Good p t cs (Method (callee home) leads.0 ∷ over) = record {
-          stack = (leads.1, record { words = λ i. word_fits_weaker (at None ws i) (w.registers i) (passed.given i); holder = e.holder; height = sym high; alone = λ cancels. absurd (true≢false (sym cancels ∙ cancels_not)); message = λ serving. absurd (true≢false (sym serving ∙ serves_not)) }, housed, apart, stack);
+          stack = (leads.1, record { words = λ i. word_fits_weaker (at None ws i) (w.registers i) (passed.given i); holder = e.holder; height = sym high; alone = λ cancels. absurd (true≢false (sym cancels ∙ cancels_not)); message = (λ serving. absurd (true≢false (sym serving ∙ serves_not)), λ served. absurd (unserved served)) }, housed, apart, stack);
           fits = λ r. subst (λ k. Fits p (seen cs) (held cs r) k) (sym (as_begun leads.0 w r)) (begins home sh' e leads.0 w r);
           suits = begun_suits home sh' over leads.0 w.states housed same_states e.begun (λ x lives other. subst (λ k. Suits (thing_kind p x.thing) k (requested cs x.name)) (sym (same_states x)) (e.suits x lives other));
           tidy = passed.tidy;

@@ -344,7 +344,7 @@ module _ (p : Image) (t : Typing) (wired : IsWired p) (typed : IsTyped p t) (c :
           holder = holder;
           height = sym (length_forms s.items) ∙ ap length at_hand.items;
           alone = λ cancels. subst (λ h. IsAlone p h over) (sym it.home) alone;
-          message = λ serving. absurd (true≢false (sym serving ∙ ap is_service found.1));
+          message = (λ serving. absurd (true≢false (sym serving ∙ ap is_service role)), λ served. absurd served);
         },
         housed,
         apart_over,

@@ -22,7 +22,7 @@ use Rattle.aom_sound.proofs.Guarded.{goes_same, guarded_goes, guarded_met}
 use Rattle.aom_sound.proofs.Maps.{at-put_at, held_moved, same_place-true, same_place_refl}
 use Rattle.aom_sound.proofs.Straight.{claim_register, fits_unowning}
 use Rattle.aom_sound.specs.Calls.{called, result_register}
-use Rattle.aom_sound.specs.Claims.{Dispatching, Dying, Form, Layer, Mark, Mark_form, Method, Unwinding, declared, forms, items_of, objects, tasks_of}
+use Rattle.aom_sound.specs.Claims.{Ending, Dispatching, Dying, Form, Layer, Mark, Mark_form, Method, Unwinding, declared, forms, items_of, objects, tasks_of}
 use Rattle.aom_sound.specs.Cleanup.{arrival, arrived, code_told, destroyed, has_trap, operation_frame, to_trap, unwound}
 use Rattle.aom_classes.specs.Roles.{destructor_of}
 use Rattle.aom_sound.specs.Destruction.{begun_by}
@@ -31,7 +31,7 @@ use Rattle.aom_sound.specs.Leaves.{AreEntries, AreMethods, Arrives, ArrivesAt, B
 use Rattle.aom_sound.specs.Steps.{Fits as MayHave}
 use Rattle.aom_sound.specs.Moves.{announcement, counted, does, main_left, needs, step, step_instr, step_task, written_task}
 use Rattle.aom_sound.specs.Places.{Cell, Entry, Going, Object, Place, Register, held, moved, named, same_place, seen}
-use Rattle.aom_sound.specs.State.{Answered, Asks, Object_left, Of_object, A_mark, An_object, An_operation, Choice, Dispatch, Dispatched, Frame, Goes, Inside, IsStuck, Item, Main_left, NullOrDead, Of_main, Of_root, Run, State, Task, Trapped, Unwind, frame_of, next, set_word, word}
+use Rattle.aom_sound.specs.State.{Of_server, Accepts, Accepted, Accept_left, Serves, Service_left, Parts, Answered, Asks, Object_left, Of_object, A_mark, An_object, An_operation, Choice, Dispatch, Dispatched, Frame, Goes, Inside, IsStuck, Item, Main_left, NullOrDead, Of_main, Of_root, Run, State, Task, Trapped, Unwind, frame_of, next, set_word, word}
 use Rattle.aom_sound.specs.WellTyped.{AllUndo, Awaits, EndsDispatch, Fits, Good, Keeps, Leaves, Now, Stack, WellTyped}
 use Rattle.aom_sound.specs.Effects.{Leaves, Update, applied}
 use Rattle.aom_sound.specs.Words.{word_or_zero}
@@ -63,6 +63,12 @@ no_dispatch p (Of_object x) e = absurd e
 no_dispatch p (Object_left x c) e = absurd e
 no_dispatch p (Asks x) e = absurd e
 no_dispatch p (Answered x c) e = absurd e
+no_dispatch p (Of_server x c Accepts) e = absurd e
+no_dispatch p (Of_server x c Accepted) e = absurd e
+no_dispatch p (Of_server x c (Accept_left code)) e = absurd e
+no_dispatch p (Of_server x c (Serves o)) e = absurd e
+no_dispatch p (Of_server x c (Service_left code)) e = absurd e
+no_dispatch p (Of_server x c Parts) e = absurd e
 
 -- a leave on top has entries over the mark of its trap
 pub splits : (p : Image) (t : Typing) (s : State) → WellTyped p t s → (code : ℤ) (below : List Task) → s.tasks ≡ Unwind code ∷ below → (entries : List Item) × (items : List Item) × IsLeaving p code below entries items s
@@ -75,6 +81,7 @@ splits p t s w code below at =
     under es (Method fr sh ∷ ls) f stack = absurd stack.0
     under es (Mark gv ∷ ls) f stack = split es (items_of ls) s.items f
     under es (Dying o ∷ ls) f stack = absurd stack.1
+    under es (Ending o left ∷ ls) f stack = absurd stack.1
     under es (Unwinding x fs ∷ ls) f stack = absurd stack.0
     under es (Dispatching d seats ∷ ls) f stack = no_dispatch p d stack.0
 
@@ -306,6 +313,9 @@ module _ (p : Image) (t : Typing) (s u : State) (code : ℤ) (items : List Item)
   below_trap [] gv es good e = cc
   below_trap (Method fr sh ∷ ls) gv es good e = subst (λ v. Arrived (Trapped ∷ Run fr ∷ tasks_of ls) v) (goes_same _ u e) (at_method fr sh ls gv es good)
   below_trap (Dying o ∷ ls) gv es good e = absurd good.stack.1.1.1
+  below_trap (Ending o left ∷ ls) gv es good e = absurd good.stack.1.1.1
+  below_trap (Dispatching (Of_server x c Accepts) seats ∷ ls) gv es good e = subst (λ v. Arrived (Trapped ∷ Dispatched (Of_server x c Accepts) ∷ tasks_of ls) v) (goes_same _ u e) (refl, refl, refl)
+  below_trap (Dispatching (Of_server x c (Serves o)) seats ∷ ls) gv es good e = subst (λ v. Arrived (Trapped ∷ Dispatched (Of_server x c (Serves o)) ∷ tasks_of ls) v) (goes_same _ u e) (refl, refl, refl)
   below_trap (Dispatching Of_main seats ∷ ls) gv es good e = subst (λ v. Arrived (Trapped ∷ Dispatched Of_main ∷ tasks_of ls) v) (goes_same _ u e) (refl, refl, refl)
   below_trap (Dispatching (Of_object x) seats ∷ ls) gv es good e = subst (λ v. Arrived (Trapped ∷ Dispatched (Of_object x) ∷ tasks_of ls) v) (goes_same _ u e) (refl, refl, refl)
   below_trap _ gv es good e = absurd good.stack.1.1.0

@@ -11,7 +11,7 @@ use Rattle.aom_sound.proofs.Steps.{step_keeps}
 use Rattle.aom_sound.specs.Laws.{IsWired}
 use Rattle.aom_sound.specs.Leaves.{HasArrived, IsLeaving, IsOver, LeavesArrive, LeavesMove, StillLeaves, Unwinds, deals, leaves, works}
 use Rattle.aom_sound.specs.Moves.{IsOpen, step}
-use Rattle.aom_sound.specs.State.{A_mark, Choice, Destroy, Goes, Item, Run, State, Task, Unwind}
+use Rattle.aom_sound.specs.State.{Closing, A_mark, Choice, Destroy, Goes, Item, Run, State, Task, Unwind}
 use Rattle.aom_sound.specs.WellTyped.{Keeps, WellTyped}
 use Rattle.aom_sound.specs.World.{IsBetween, IsBusy, Reaches, begins, boot_state, moves, turn, turns, Outside, Heard, HearsWell}
 use Rattle.aom_transcript.specs.declared.line.Line.{Line}
@@ -69,6 +69,7 @@ module _ (p : Image) (t : Typing) (outside : Outside) (wired : IsWired p) (typed
         go : (ts : List Task) → s.tasks ≡ ts → IsOver p (length s.items) code below ts → Course u
         go (Run fr ∷ ts) at o = goes_on s u c w h (λ top. let clash : Run fr ∷ ts ≡ Unwind code ∷ below = sym at ∙ top in cc) e
         go (Destroy ∷ ts) at o = goes_on s u c w h (λ top. let clash : Destroy ∷ ts ≡ Unwind code ∷ below = sym at ∙ top in cc) e
+        go (Closing ∷ ts) at o = goes_on s u c w h (λ top. let clash : Closing ∷ ts ≡ Unwind code ∷ below = sym at ∙ top in cc) e
         go (Unwind x ∷ ts) at o = leave_moves s u c w h.dealt h.rest h.all h.course h.leaving (at ∙ ap (λ y. Unwind y ∷ ts) o.0 ∙ ap (λ l. Unwind code ∷ l) o.1) e
         go _ at o = absurd o
 

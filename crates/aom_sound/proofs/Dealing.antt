@@ -32,7 +32,7 @@ use Rattle.aom_sound.specs.Effects.{applied, deals as deals_effect}
 use Rattle.aom_sound.specs.Laws.{IsWired}
 use Rattle.aom_sound.specs.Places.{In_service, Elsewhere, Entry, Field, Going, Object, Place, Register, Root, Tidy, changed, held, moved, same_place, seen}
 use Rattle.aom_sound.specs.State.{An_object, An_operation, Frame, Item, Run, State, Static, Task, thing_holder, word}
-use Rattle.aom_sound.specs.WellTyped.{AllUndo, Fits, Gone, IsUndo, Returns, Stack, WellTyped, WordFits}
+use Rattle.aom_sound.specs.WellTyped.{IsServed, AllUndo, Fits, Gone, IsUndo, Returns, Stack, WellTyped, WordFits}
 use Rattle.aom_sound.proofs.Suiting.{all_moved}
 use Rattle.aom_sound.specs.Requests.{AllSuit}
 use Rattle.aom_sound.proofs.Attending.{plain_claim}
@@ -57,6 +57,7 @@ pub record Dealing (p : Image) (t : Typing) (s : State) (e : Pushed) (before bel
   pub undos : AllUndo p s.items
   -- below a destruction, and below an operation
   pub under_object : Stack p t s.cells Gone below
+  pub unserved : IsServed below → ⊥
   pub under_operation : (m : ℕ) → IsUndo p m → Stack p t s.cells (Returns m Static) below
 
 module _ (p : Image) (t : Typing) (wired : IsWired p) (typed : IsTyped p t) (s : State) (e : Pushed) (before below : List Layer) (d : Dealing p t s e before below) where
@@ -142,7 +143,7 @@ module _ (p : Image) (t : Typing) (wired : IsWired p) (typed : IsTyped p t) (s :
           good = record {
             stack = (
               leads.1,
-              record { words = λ i. word_fits_weaker (word fr i) (says.registers i) (subst (λ k. WordFits (word fr i) k) (sym (begins_with i)) (its_word i)); holder = sym holder; height = sym (length_forms items) ∙ ap length same; alone = λ e. tt; message = λ e. absurd (true≢false (sym e ∙ ap is_service undo.role)) },
+              record { words = λ i. word_fits_weaker (word fr i) (says.registers i) (subst (λ k. WordFits (word fr i) k) (sym (begins_with i)) (its_word i)); holder = sym holder; height = sym (length_forms items) ∙ ap length same; alone = λ e. tt; message = (λ e. absurd (true≢false (sym e ∙ ap is_service undo.role)), λ served. absurd (d.unserved served)) },
               tt,
               tt,
               d.under_operation m undo,

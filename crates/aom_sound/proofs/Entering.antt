@@ -33,7 +33,7 @@ pub record Entering (p : Image) (t : Typing) (cs : List Cell) (x : Seat) (above 
   -- a message is served
   pub served : Bool
   pub message : serves p m ≡ served
-  pub right_over : serves p m ≡ true → IsServed over
+  pub right_over : (serves p m ≡ true → IsServed over) × (IsServed over → serves p m ≡ true)
   pub claims : (d : Place → Kind) (r : Place) → claim p d over r ≡ with_message served d r
   pub states : (y : Object) → states_claim p y over ≡ resting_in (rests_in p y)
   pub none_in : (n : ℕ) → NoSeatIn n (x ∷ above) → NoneIn n over

@@ -311,6 +311,7 @@ module _ (p : Image) (t : Typing) (c : Choice) (s : State) (fr : Frame) (sh : Sh
             items = known x es e;
             undos = at_hand.undos;
             under_object = waits x es e;
+            unserved = λ x. x;
             under_operation = awaits x es e;
           } in
           let w = deals p t wired typed s x (Method fr sh ∷ ls) (Method fr less ∷ ls) d in

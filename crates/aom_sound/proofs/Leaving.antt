@@ -103,7 +103,7 @@ ended_by_leave p cs fr sh ls code housed apart at_top n here served r h o fits =
   where
     -- the message is where it was
     message : serves p fr.method ≡ true → claim p (declared p cs) ls (Elsewhere In_service) ≡ delivered sh.delivery
-    message serving = served_claim p (declared p cs) ls (served serving) ∙ sym (ap delivered (here serving))
+    message serving = served_claim p (declared p cs) ls (served.0 serving) ∙ sym (ap delivered (here serving))
 
     bare : Shape
     bare = record sh { entries = [] }

@@ -1,5 +1,5 @@
 -- What a move does to what no place tells: it takes its course, and only the end of a dispatch changes it otherwise.
-use Rattle.std.proofs.Common.{List, ap, inl, inr, refl, ◌∙◌, ◌∷◌, ◌≡◌, ℕ}
+use Rattle.std.proofs.Common.{Option, Some, None, List, ap, inl, inr, refl, ◌∙◌, ◌∷◌, ◌≡◌, ℕ}
 use Rattle.std.specs.Prelude.{◌⊎◌}
 use Rattle.aom_image.specs.Image.{Image}
 use Rattle.aom_image.specs.declared.method.Gives.{Gives}

@@ -75,9 +75,9 @@ abbrev pub IsServed : List Layer → Type 0
 IsServed (Mark gv ∷ Dispatching (Of_server x client (Serves o)) seats ∷ ls) = Unit {0}
 IsServed ls = ⊥
 
--- a method that serves stands right over its dispatch
+-- a method that serves stands right over its dispatch, and no other does
 abbrev pub HasMessage : Image → Frame → List Layer → Type 0
-HasMessage p fr ls = serves p fr.method ≡ true → IsServed ls
+HasMessage p fr ls = (serves p fr.method ≡ true → IsServed ls) × (IsServed ls → serves p fr.method ≡ true)
 
 -- the frame's registers are as the state says, and its home and its height are its own
 pub record Frames (p : Image) (ls : List Layer) (fr : Frame) (sh : Shape) : Type 0 where
