@@ -95,7 +95,7 @@ module _ (p : Image) (t : Typing) (wired : IsWired p) (typed : IsTyped p t) (s :
         claims = claims;
         states = λ y. refl;
         none_in = λ n h. (h, tt);
-        some_in = λ n h. inl h;
+        some_in = λ n h. inl (inr h);
         joins = tt;
         past = refl;
         stack = ((it.2.leaves, it.2.gives, ap is_cancel it.2.role), refl, good.stack.2, (good.stack.3.0, above, refl), tt);

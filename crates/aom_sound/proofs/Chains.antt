@@ -81,6 +81,9 @@ module _ (p : Image) (t : Typing) (wired : IsWired p) (s : State) (w : WellTyped
   follow _ o (by_server {w = Root} z q other there held_so ends) e pos = cc
   follow _ o (by_server {w = In_service} z q other there held_so ends) e pos = cc
 
-  -- so what a place owns sits there
-  pub chain : (q : Place) (o : Object) → held s.cells q ≡ Some o → 0 < rank o.thing → (above : List Seat) × AllSit s.cells (record { object = o; place = q } ∷ above)
-  chain q o e pos = let c = follow q o (ends p t wired s w clear q o e) e pos in (c.0, c.1)
+  -- so what a place owns sits there, and nothing that stands lower sits with it
+  pub chain : (q : Place) (o : Object) → held s.cells q ≡ Some o → 0 < rank o.thing →
+      (above : List Seat) × AllSit s.cells (record { object = o; place = q } ∷ above) × ((y : Object) → named s.cells y.name ≡ Some y → rank y.thing < rank o.thing → SomeSits y.name (record { object = o; place = q } ∷ above) → ⊥)
+  chain q o e pos =
+      let c = follow q o (ends p t wired s w clear q o e) e pos in
+      (c.0, c.1, λ y lives lower some. not_among y (record { object = o; place = q } ∷ c.0) lives c.1 (lower, higher_too (rank y.thing) (rank o.thing) c.0 lower c.2) some)

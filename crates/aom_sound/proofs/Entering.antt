@@ -37,7 +37,7 @@ pub record Entering (p : Image) (t : Typing) (cs : List Cell) (x : Seat) (above 
   pub claims : (d : Place → Kind) (r : Place) → claim p d over r ≡ with_message served d r
   pub states : (y : Object) → states_claim p y over ≡ resting_in (rests_in p y)
   pub none_in : (n : ℕ) → NoSeatIn n (x ∷ above) → NoneIn n over
-  pub some_in : (n : ℕ) → SomeSits n (x ∷ above) → SomeIn n over
+  pub some_in : (n : ℕ) → SomeSits n above → SomeIn n over
   pub joins : Joins p x.object over
   pub past : past_going over ≡ over
   pub stack : Stack p t cs (Returns m (Inside x.object x.place)) over
@@ -60,7 +60,7 @@ no_field n (Elsewhere Root) xs none h = tt
 no_field n (Elsewhere (Session m c)) xs none h = ne_eqb n m (λ e. none (subst (λ k. SomeSits k xs) (sym e) h))
 no_field n _ xs none h = absurd h
 
-no_fields : (cs : List Cell) (n : ℕ) (xs : List Seat) → (SomeSits n xs → ⊥) → AllSit cs xs → NoSeatIn n xs
+pub no_fields : (cs : List Cell) (n : ℕ) (xs : List Seat) → (SomeSits n xs → ⊥) → AllSit cs xs → NoSeatIn n xs
 no_fields cs n [] none s = tt
 no_fields cs n (x ∷ xs) none s = (no_field n x.place xs (λ h. none (inr h)) s.0.2, no_fields cs n xs (λ h. none (inr h)) s.1)
 
@@ -75,9 +75,9 @@ module _ (p : Image) (t : Typing) (typed : IsTyped p t) (cs : List Cell) (x : Se
   housed = record { there = e.sits.0.0; lives = e.sits.0.1; below = below x.place e.sits.0.2; ready = ap is_ready_kind (e.claims (λ r. Null) x.place) ∙ with_message_ready e.served x.place }
     where
       below : (q : Place) → SitsIn q above → IsBelow q over
-      below (Field n f) h = e.some_in n (inr h)
+      below (Field n f) h = e.some_in n h
       below (Elsewhere Root) h = tt
-      below (Elsewhere (Session n c)) h = e.some_in n (inr h)
+      below (Elsewhere (Session n c)) h = e.some_in n h
       below _ h = absurd h
 
   apart : IsApart p (Inside x.object x.place) over

@@ -66,4 +66,6 @@ pub mod Entering
 pub mod Asking
 pub mod Signals
 pub mod Chains
+pub mod Picking
+pub mod Parting
 pub mod Turning

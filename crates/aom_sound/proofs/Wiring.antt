@@ -263,10 +263,11 @@ module _ (p : Image) (formed : WellFormed p) (linked : IsLinked p) where
       }
 
   attendant_is : (c m : ℕ) → role_of p c Service ≡ Some m → IsAttendant p c m
-  unfolding role_in class_in arguments_in gives_in
+  unfolding role_in class_in arguments_in gives_in kind_of
   attendant_is c m e =
       let d = role_found p c m Service e in
       let s : IsService (kind_of p d.0.class) d.0 = of_role m d.0 Service d.1 d.3 in record {
+        session = ap (λ k. is_session_in (kind_of p k)) (sym d.2) ∙ s.of;
         there = rw d.1 refl;
         role = ap role_in d.1 ∙ ap (λ r. Some r) d.3;
         class = ap class_in d.1 ∙ d.2;

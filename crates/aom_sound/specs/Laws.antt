@@ -20,7 +20,7 @@ use Rattle.aom_rules.specs.Requests.{is_active_kind, unissued}
 use Rattle.aom_roles.specs.Shapes.{kind_of}
 use Rattle.aom_roles.specs.States.{active, cancel_open, first_of, idle, last_of, states_of}
 use Rattle.aom_rules.specs.Typing.{Typing, IsTyped}
-use Rattle.aom_roles.specs.Classes.{sessions_at}
+use Rattle.aom_roles.specs.Classes.{is_session, sessions_at}
 use Rattle.aom_sound.specs.Places.{Elsewhere, Root, held, named}
 use Rattle.aom_sound.specs.State.{Dispatch, Frame, Task, Run, Destroy, Unwind, Dispatched, Item, A_mark, State, Choice, Goes}
 use Rattle.aom_sound.specs.Moves.{step, IsOpen}
@@ -77,6 +77,7 @@ pub record IsAcceptor (p : Image) (c m session : ℕ) : Type 0 where
 
 -- a method that serves a message: of a session, with the five words
 pub record IsAttendant (p : Image) (c m : ℕ) : Type 0 where
+  pub session : is_session p c ≡ true
   pub there : IsSome (method_at p m)
   pub role : method_role p m ≡ Some Service
   pub class : method_class p m ≡ Some c
