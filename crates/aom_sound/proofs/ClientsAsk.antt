@@ -1,6 +1,6 @@
 -- What a client asks of a server, and what it sends, is kept: by the entry that is queued last.
-use Rattle.std.proofs.Common.{Bool, List, None, Option, Some, [], ap, cond, false, refl, subst, sym, true, ℕ, ℤ, ◌&&◌, ◌==◌, ◌∙◌, ◌∷◌, ◌≡◌}
-use Rattle.std.proofs.lemmas.Bool.{eq-eqb, eqb-true, ne_eqb, true≢false}
+use Rattle.std.proofs.Common.{Bool, List, None, Option, Some, [], ap, arith, cond, false, refl, subst, sym, true, ℕ, ℤ, ◌&&◌, ◌==◌, ◌∙◌, ◌∷◌, ◌≡◌}
+use Rattle.std.proofs.lemmas.Bool.{eq-eqb, eqb-true, le-ltb, ne_eqb, true≢false}
 use Rattle.std.proofs.lemmas.List.Folds.{list_any-append}
 use Rattle.std.specs.List.{list_any}
 use Rattle.std.specs.Prelude.{is_some, nat_lt, ◌++◌, ◌||◌}
@@ -14,6 +14,7 @@ use Rattle.aom_clients.specs.Table.{row, server_of}
 use Rattle.aom_clients.specs.declared.client.Client.{Client}
 use Rattle.aom_clients.specs.declared.client.Client.TheVariants.{Closing, Connecting, Dead, Dying, Gone, Open, Unconnected}
 use Rattle.aom_clients.specs.declared.refusal.Refusal.{Refusal}
+use Rattle.aom_clients.specs.declared.refusal.Refusal.TheVariants.{ServerBusy}
 use Rattle.aom_roles.specs.Classes.{sessions_in, sessions_of}
 use Rattle.aom_roles.specs.Shapes.{kind_of}
 use Rattle.aom_sound.proofs.ClientsFit.{Changes, IsFree, by_server, fit_changed, none_of_free, names_then, servers_then}
@@ -69,7 +70,7 @@ listed_there class (c ∷ cs) x t e = of_request class c cs t x (λ e. listed_th
 takes_some : (k : Option ClassKind) (n : ℕ) → nat_lt n (most_of k) ≡ true → is_some (sessions_in k) ≡ true
 unfolding sessions_in sessions_of
 takes_some (Some (A_server most session budget)) n e = refl
-takes_some _ n e = cc
+takes_some _ n e = absurd (true≢false (sym e ∙ le-ltb n 0 (omega arith)))
 
 pub listed_serves : (p : Image) (class n : ℕ) (x : Thing) → is_of_class class x ≡ true → nat_lt n (most_of (kind_of p (Some class))) ≡ true → is_server p x ≡ true
 listed_serves p class n (An_object_of d) of room = ap (λ k. is_some (sessions_in (kind_of p (Some k)))) (eqb-true d class of) ∙ takes_some (kind_of p (Some class)) n room
@@ -80,7 +81,7 @@ pub asked_none : (r : Option Refusal) (most : ℕ) (x : Listed) (cs : List Cell)
 asked_none (Some refusal) most x cs e = cc
 asked_none None most x cs e = (refl, go (nat_lt (seats_taken (service_of cs x.name)) most) e)
   where
-    go : (b : Bool) → cond b None (Some _) ≡ None → b ≡ true
+    go : (b : Bool) → cond b None (Some ServerBusy) ≡ None → b ≡ true
     go true e = refl
     go false e = cc
 
