@@ -2,7 +2,7 @@
 use Rattle.std.proofs.Common.{refl}
 use Rattle.aom_image.specs.Views.{arguments_in, class_at, class_in, fields_in, gives_in, instr_in, method_at, role_in}
 use Rattle.aom_instructions.specs.declared.instr.Instr.TheVariants.{Call, Trap}
-use Rattle.aom_roles.specs.Classes.{kind_in}
+use Rattle.aom_roles.specs.Classes.{sessions_in, sessions_of, kind_in}
 use Rattle.aom_roles.specs.Shapes.{kind_of}
 use Rattle.aom_shape.specs.Things.{words_in}
 use Rattle.aom_sound.specs.Cases.Calls.{CallBites, CallsBite}
@@ -62,7 +62,7 @@ natives_bite =
     }
 
 pub moves_bite : MovesBite
-unfolding class_at class_in fields_in gives_in instr_in method_at role_in
+unfolding kind_of sessions_in sessions_of class_at class_in fields_in gives_in instr_in method_at role_in
 moves_bite = record { going = refl; unwinding = refl; arrival = refl; traps = refl; standing = refl; later = refl }
 
 pub turns_bite : TurnsBite

@@ -241,7 +241,7 @@ module _ (p : Image) (t : Typing) (wired : IsWired p) (typed : IsTyped p t) (c :
             (subst (λ x. Fits p (seen cs') (held cs' (Field o.name f)) (filled thing x)) (sym (unfilled f)) (subst (λ k. Fits p (seen cs') (held cs' (Field o.name f)) k) own_field (base (Field o.name f))))
         go false e = base (Field n f)
     fits (Elsewhere Root) = subst (λ h. Fits p (seen cs') (held cs' (Elsewhere Root)) (root_claim p h begins.0 (claim p (declared p cs') over (Elsewhere Root)))) (sym it.home) (base (Elsewhere Root))
-    fits (Elsewhere In_service) = subst (λ k. Fits p (seen cs') (held cs' (Elsewhere In_service)) k) (sym (plain_claim (serves p m) begins.0 (claim p (declared p cs') over (Elsewhere In_service)) (ap is_service found.1))) (base (Elsewhere In_service))
+    fits (Elsewhere In_service) = subst (λ k. Fits p (seen cs') (held cs' (Elsewhere In_service)) k) (sym (plain_claim (serves p m) begins.0 (claim p (declared p cs') over (Elsewhere In_service)) (ap is_service role))) (base (Elsewhere In_service))
     fits (Elsewhere w) = base (Elsewhere w)
     fits (Going k) = base (Going k)
 

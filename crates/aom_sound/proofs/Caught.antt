@@ -31,13 +31,14 @@ use Rattle.aom_sound.specs.Leaves.{AreEntries, AreMethods, Arrives, ArrivesAt, B
 use Rattle.aom_sound.specs.Steps.{Fits as MayHave}
 use Rattle.aom_sound.specs.Moves.{announcement, counted, does, main_left, needs, step, step_instr, step_task, written_task}
 use Rattle.aom_sound.specs.Places.{Cell, Entry, Going, Object, Place, Register, held, moved, named, same_place, seen}
-use Rattle.aom_sound.specs.State.{Of_server, Accepts, Accepted, Accept_left, Serves, Service_left, Parts, Answered, Asks, Object_left, Of_object, A_mark, An_object, An_operation, Choice, Dispatch, Dispatched, Frame, Goes, Inside, IsStuck, Item, Main_left, NullOrDead, Of_main, Of_root, Run, State, Task, Trapped, Unwind, frame_of, next, set_word, word}
+use Rattle.aom_sound.specs.State.{Closing, Of_server, Accepts, Accepted, Accept_left, Serves, Service_left, Parts, Answered, Asks, Object_left, Of_object, A_mark, An_object, An_operation, Choice, Dispatch, Dispatched, Frame, Goes, Inside, IsStuck, Item, Main_left, NullOrDead, Of_main, Of_root, Run, State, Task, Trapped, Unwind, frame_of, next, set_word, word}
 use Rattle.aom_sound.specs.WellTyped.{AllUndo, Awaits, EndsDispatch, Fits, Good, Keeps, Leaves, Now, Stack, WellTyped}
 use Rattle.aom_sound.specs.Effects.{Leaves, Update, applied}
 use Rattle.aom_sound.specs.Words.{word_or_zero}
 use Rattle.aom_shape.specs.Needs.{AllTrue}
 use Rattle.aom_transcript.specs.declared.line.Ending.TheVariants.{MainLeft}
 use Rattle.aom_sound.proofs.Steps.{step_keeps}
+use Rattle.aom_sound.specs.Servers.{is_server}
 
 -- ---- the entries of a leave, and its mark
 
@@ -189,9 +190,10 @@ none_on_its_way p t s w ts at =
     fits_unowning p (seen s.cells) _ Null refl
     (subst (λ k. Fits p (seen s.cells) (held s.cells (Going (length ts))) k) (claim_going_above p s.cells w.layers (length ts) (omega (arith, deep))) (w.good.fits (Going (length ts))))
 
-destroyed_over : (d : Option ℕ) (o : Object) (height : ℕ) (under : List Task) → IsDestroyed d o under (begun_by d o height under)
-destroyed_over None o height under = refl
-destroyed_over (Some m) o height under = (frame_of m (Inside o (Going (length under))) height, refl, refl, refl, refl)
+destroyed_over : (x : Bool) (d : Option ℕ) (o : Object) (height : ℕ) (under : List Task) → IsDestroyed x d o under (cond x (Closing ∷ Destroy ∷ under) (begun_by d o height under))
+destroyed_over true d o height under = refl
+destroyed_over false None o height under = refl
+destroyed_over false (Some m) o height under = (frame_of m (Inside o (Going (length under))) height, refl, refl, refl, refl)
 
 module _ (p : Image) (t : Typing) (wired : IsWired p) (s u : State) (w : WellTyped p t s) (code : ℤ) (below : List Task) (at_hand : s.tasks ≡ Unwind code ∷ below) where
   -- what is made of the item on top, with these below it
@@ -203,7 +205,7 @@ module _ (p : Image) (t : Typing) (wired : IsWired p) (s u : State) (w : WellTyp
   of_object rest (Some o) there some =
       let g = Going (length (Unwind code ∷ below)) in
       let free = none_on_its_way p t s w (Unwind code ∷ below) at_hand in
-      (begins_over p wired o (length rest) code below (Unwind code ∷ below) (refl, refl), refl, (o, has_moved s.cells (Entry (length rest)) g o there free refl, destroyed_over (destructor_of p o.thing) o (length rest) (Unwind code ∷ below)))
+      (begins_over p wired o (length rest) code below (Unwind code ∷ below) (refl, refl), refl, (o, has_moved s.cells (Entry (length rest)) g o there free refl, destroyed_over (is_server p o.thing) (destructor_of p o.thing) o (length rest) (Unwind code ∷ below)))
 
   of_whole : (rest : List Item) (b : Bool) → is_some (held s.cells (Entry (length rest))) ≡ b → cond b (Goes (destroyed p (held s.cells (Entry (length rest))) rest (Unwind code ∷ below) (counted p s))) (IsStuck NullOrDead) ≡ Goes u → Dealt An_object rest u
   of_whole rest true some e = subst (λ v. Dealt An_object rest v) (goes_same _ u e) (of_object rest (held s.cells (Entry (length rest))) refl some)

@@ -89,7 +89,7 @@ bare_shape p t cs fr ts items (Method fr' sh ∷ ls) at f h good =
 bare_shape p t cs fr ts items _ at f h good = cc
 
 -- a method's move
-module _ (p : Image) (wired : IsWired p) (c : Choice) (fr : Frame) (sh : Shape) (ts : List Task) (s : State) (code : ℤ) (below : List Task) (h : IsOver p (length s.items) code below (Run fr ∷ ts)) (bare : sh.entries ≡ []) where
+module _ (p : Image) (wired : IsWired p) (c : Choice) (fr : Frame) (sh : Shape) (ts : List Task) (s : State) (at_hand : s.tasks ≡ Run fr ∷ ts) (code : ℤ) (below : List Task) (h : IsOver p (length s.items) code below (Run fr ∷ ts)) (bare : sh.entries ≡ []) where
   abbrev Kept : State → Type 0
   Kept u = IsOver p (length s.items) code below u.tasks × (u.items ≡ s.items)
 
@@ -105,7 +105,7 @@ module _ (p : Image) (wired : IsWired p) (c : Choice) (fr : Frame) (sh : Shape) 
       (subst (λ f. IsOver p (length s.items) code below (Run (next f) ∷ under)) (sym (receives p fr ts (record s { cells = ended_cells p fr s.cells }) g a x caller)) w, refl)
   return_kept g a (Destroy ∷ under) w = (w, refl)
   return_kept g a (Unwind x ∷ under) w = (w, refl)
-  return_kept g a (Closing ∷ under) w = (h, refl)
+  return_kept g a (Closing ∷ under) w = (subst (λ l. IsOver p (length s.items) code below l) (sym at_hand) h, refl)
   return_kept g a _ w = absurd (assumption tt)
 
   -- neither pushed nor taken
@@ -160,7 +160,7 @@ module _ (p : Image) (t : Typing) (wired : IsWired p) (typed : IsTyped p t) (c :
       let stands = bare_shape p t s.cells fr ts s.items w.layers (sym at ∙ w.tasks) w.items h.1 w.good in
       let x = typed.each fr.method fr.place stands.0 stands.1 in
       let is : x.instr ≡ i = same_Some x.instr i (sym x.stands ∙ there) in
-      subst Stays (sym same) (acts_kept p wired c fr stands.0 ts (counted p s) code below h stands.2 i e (subst (λ j. AllTrue (rule_needs p fr.method fr.place stands.0 j)) is x.needs) fits)
+      subst Stays (sym same) (acts_kept p wired c fr stands.0 ts (counted p s) at code below h stands.2 i e (subst (λ j. AllTrue (rule_needs p fr.method fr.place stands.0 j)) is x.needs) fits)
   kept (Vanishes ts o at there owns same) = subst Stays (sym same) (resumes_over p (length s.items) code below ts (subst O at over), refl)
   kept (Empties ts o at there same) = subst Stays (sym same) (empties o (first_session s.cells o.name (service_of s.cells o.name).sessions) ts (subst O at over))
   kept (Clears x ts items o at top there same) = absurd (at_leave x ts at)

@@ -98,7 +98,7 @@ alone_too p fr fr' ls eh em alone e = subst (λ h. IsAlone p h ls) (sym eh) (alo
 
 -- and serves as it does
 message_too : (p : Image) (fr fr' : Frame) (ls : List Layer) → fr'.method ≡ fr.method → HasMessage p fr ls → HasMessage p fr' ls
-message_too p fr fr' ls em message e = message (ap (λ m. serves p m) (sym em) ∙ e)
+message_too p fr fr' ls em message = (λ e. message.0 (ap (λ m. serves p m) (sym em) ∙ e), λ served. ap (λ m. serves p m) em ∙ message.1 served)
 
 -- the home, the method and the states alone count for requests
 pub same_suits : (p : Image) (cs : List Cell) (fr fr' : Frame) (sh sh' : Shape) (ls : List Layer) → fr'.home ≡ fr.home → fr'.method ≡ fr.method → sh'.states ≡ sh.states → AllSuit p cs (Method fr sh ∷ ls) → AllSuit p cs (Method fr' sh' ∷ ls)
