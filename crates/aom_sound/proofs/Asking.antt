@@ -1,5 +1,5 @@
 -- An `error` method enters over the dispatch that asks it.
-use Rattle.std.proofs.Common.{false, inl, IsTrue, List, None, Option, Some, [], ap, length, refl, subst, suc, sym, true, zero, ℕ, ℤ, ◌∙◌, ◌∷◌, ◌≡◌}
+use Rattle.std.proofs.Common.{inr, false, inl, IsTrue, List, None, Option, Some, [], ap, length, refl, subst, suc, sym, true, zero, ℕ, ℤ, ◌∙◌, ◌∷◌, ◌≡◌}
 use Rattle.std.specs.Prelude.{bit_or, is_some, map}
 use Rattle.aom_image.specs.Image.{Image}
 use Rattle.aom_image.specs.Views.{has, method_class}

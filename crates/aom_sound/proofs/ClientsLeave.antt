@@ -120,7 +120,7 @@ module _ (p : Image) (clients : List Client) (cs : List Cell) (tidy : Tidy cs) (
   left x = left_by c x.service
 
   -- what goes is a message that waits, of which clients have nothing
-  empty : (n : ℕ) (x : Cell) → cell_of cs n ≡ Some x → drops x ≡ true → (x.service.queue ≡ []) × (x.service.sessions ≡ [])
+  pub empty : (n : ℕ) (x : Cell) → cell_of cs n ≡ Some x → drops x ≡ true → (x.service.queue ≡ []) × (x.service.sessions ≡ [])
   empty n x e goes = go x.owner refl goes
     where
       lives : cell_of cs x.object.name ≡ Some x
@@ -136,7 +136,7 @@ module _ (p : Image) (clients : List Client) (cs : List Cell) (tidy : Tidy cs) (
       go _ at g = cc
 
   -- so that each queue loses its entries alone, and sessions stay
-  service_left : (n : ℕ) → ((service_of (withdrawn c cs) n).queue ≡ filter (stays c) (service_of cs n).queue) × ((service_of (withdrawn c cs) n).sessions ≡ (service_of cs n).sessions)
+  pub service_left : (n : ℕ) → ((service_of (withdrawn c cs) n).queue ≡ filter (stays c) (service_of cs n).queue) × ((service_of (withdrawn c cs) n).sessions ≡ (service_of cs n).sessions)
   service_left n = go (cell_of cs n) refl
     where
       then : service_of (withdrawn c cs) n ≡ service_of (sifted drops left cs) n

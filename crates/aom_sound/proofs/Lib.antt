@@ -7,6 +7,7 @@ pub mod ClientsFit
 pub mod ClientsAsk
 pub mod ClientsLeave
 pub mod ClientsGone
+pub mod ClientsCommand
 pub mod Attending
 pub mod Things
 pub mod Items
@@ -69,3 +70,4 @@ pub mod Chains
 pub mod Picking
 pub mod Parting
 pub mod Turning
+pub mod ClientsTurn

@@ -1,5 +1,5 @@
 -- A server is picked for a close: the session of its client goes.
-use Rattle.std.proofs.Common.{Bool, List, None, Option, Some, [], ap, arith, cond, false, inl, inr, length, refl, subst, sym, true, ℕ, ⊎_elim, ◌&&◌, ◌==◌, ◌∙◌, ◌∷◌, ◌≡◌}
+use Rattle.std.proofs.Common.{Bool, List, None, Option, Some, [], ap, arith, cond, false, inl, inr, length, refl, subst, sym, true, ℕ, ⊎_elim, ◌&&◌, ◌<◌, ◌==◌, ◌∙◌, ◌∷◌, ◌≡◌}
 use Rattle.std.proofs.lemmas.Bool.{eq-eqb, eqb-true, ne_eqb, true≢false}
 use Rattle.std.specs.Prelude.{is_some, ◌||◌}
 use Rattle.aom_image.specs.Image.{Image}
@@ -11,18 +11,19 @@ use Rattle.aom_sound.proofs.ClientsFit.{leaving_only}
 use Rattle.aom_sound.proofs.Destroying.{begin, goes_fitting, goes_there, no_going}
 use Rattle.aom_sound.proofs.Entering.{no_fields}
 use Rattle.aom_sound.proofs.Maps.{held_moved, named_moved, requested_moved, same_place-true, tidy_moved}
-use Rattle.aom_sound.proofs.Picking.{above, fits_now, held_now, its_session, named_now, no_items, requested_now, session_lives, session_lower, sessions_now, sits, sits_now, suits_now, tidy_now}
+use Rattle.aom_sound.proofs.Owners.{rank}
+use Rattle.aom_sound.proofs.Picking.{above, fits_now, held_now, named_now, no_items, requested_now, session_held, sessions_now, sits, sits_now, suits_now, tidy_now}
 use Rattle.aom_sound.proofs.Services.{service_moved}
 use Rattle.aom_sound.proofs.Suiting.{all_moved}
 use Rattle.aom_sound.specs.Claims.{Dispatching, Layer, claim, declared, forms, tasks_of}
 use Rattle.aom_sound.specs.Clients.{client_at}
 use Rattle.aom_sound.specs.Kept.{ClientsFit, QueueFits}
 use Rattle.aom_sound.specs.Laws.{IsWired}
-use Rattle.aom_sound.specs.Places.{Asked, Cell, Close_of, Elsewhere, Entry, Field, Going, In_service, Object, Place, Queued, Register, Request, Root, Session, changed, held, moved, named, requested, same_place, service_of}
+use Rattle.aom_sound.specs.Places.{Asked, Cell, Close_of, Elsewhere, Entry, Field, Going, In_service, Object, Place, Queued, Register, Request, Root, Session, changed, held, moved, named, requested, same_place, seen, service_of}
 use Rattle.aom_sound.specs.Servers.{has_session, is_server, reserved, taken_first}
 use Rattle.aom_sound.specs.State.{Dispatched, Of_server, Parts, Seat, State}
 use Rattle.aom_sound.specs.Destruction.{begun}
-use Rattle.aom_sound.specs.WellTyped.{AllSit, AllUndo, Keeps, NoSeatIn, SitsIn, SomeSits, WellTyped}
+use Rattle.aom_sound.specs.WellTyped.{AllSit, AllUndo, Fits, Keeps, NoSeatIn, SitsIn, SomeSits, WellTyped}
 use Rattle.aom_sound.specs.World.{parting_with, taken_from}
 
 module _ (p : Image) (t : Typing) (wired : IsWired p) (typed : IsTyped p t) (s : State) (w : WellTyped p t s) (idle_now : s.tasks ≡ []) (fit : ClientsFit p s.clients s.cells)
@@ -40,22 +41,22 @@ module _ (p : Image) (t : Typing) (wired : IsWired p) (typed : IsTyped p t) (s :
   has_now : has_session (service_of s.cells n) client ≡ true
   has_now = fit.listed n client (leaving_only n n (client_at s.clients client) (subst (λ q. QueueFits s.clients n q) queue (fit.queues n)).0.0).2
 
-  session_there : (z : Object) × (held s.cells q ≡ Some z) × _
-  session_there = its_session p t wired typed s w idle_now fit x r there lives asked server client has_now
+  session_there : (z : Object) × (held s.cells q ≡ Some z) × (named s.cells z.name ≡ Some z) × (rank z.thing < rank x.object.thing)
+  session_there = session_held p t wired typed s w idle_now fit x r there lives asked server client has_now
 
-  z : Object
+  abbrev z : Object
   z = session_there.0
 
-  seats : List Seat
+  abbrev seats : List Seat
   seats = x ∷ above p t wired typed s w idle_now fit x r there lives asked server
 
   seated : AllSit cs seats
   seated = sits_now p t wired typed s w idle_now fit x r there lives asked server
 
   not_seated : SomeSits z.name seats → ⊥
-  not_seated = (sits p t wired typed s w idle_now fit x r there lives asked server).2 z (session_lives p t wired typed s w idle_now fit x r there lives asked server client has_now) (session_lower p t wired typed s w idle_now fit x r there lives asked server client has_now)
+  not_seated = (sits p t wired typed s w idle_now fit x r there lives asked server).2 z session_there.2 session_there.3
 
-  below : List Layer
+  abbrev below : List Layer
   below = Dispatching (Of_server x client Parts) seats ∷ []
 
   abbrev g : Place
@@ -74,7 +75,7 @@ module _ (p : Image) (t : Typing) (wired : IsWired p) (typed : IsTyped p t) (s :
   claims (Elsewhere (Queued m k)) = refl
   claims (Going k) = refl
 
-  fits : (r : Place) → _
+  fits : (r : Place) → Fits p (seen cs) (held cs r) (declared p cs r)
   fits = fits_now p t wired typed s w idle_now fit x r there lives asked server (Close_of client) es queue (λ k. refl)
 
   free : held cs g ≡ None
@@ -108,8 +109,8 @@ module _ (p : Image) (t : Typing) (wired : IsWired p) (typed : IsTyped p t) (s :
       (tidy_moved cs q g free (tidy_now p t wired typed s w idle_now fit x r there lives asked server))
       (tt, refl, seats_moved seats not_seated seated, (ap is_some (requested_moved cs q g n ∙ requested_now p t wired typed s w idle_now fit x r there lives asked server n ∙ asked), above p t wired typed s w idle_now fit x r there lives asked server, refl), (server, has_then))
       (goes_there p t cs z q [] below fits z_there (omega arith) claims)
-      (named_moved cs q g z.name ∙ named_now p t wired typed s w idle_now fit x r there lives asked server z.name ∙ session_lives p t wired typed s w idle_now fit x r there lives asked server client has_now)
-      (record { some = λ h. ⊎_elim not_seated (λ y. y) h; unclaimed = λ f. refl; none_in = (no_fields cs z.name seats not_seated seated, tt); unworked = tt })
+      (named_moved cs q g z.name ∙ named_now p t wired typed s w idle_now fit x r there lives asked server z.name ∙ session_there.2)
+      (record { some = λ h. ⊎_elim not_seated (λ y. y) h; unclaimed = λ f. refl; none_in = (no_fields cs z.name seats not_seated seated, tt); unworked = tt; sessions = λ d c. ap (λ b. cond (b && (client == c)) Null (d (Elsewhere (Session z.name c)))) (ne_eqb n z.name (λ same. not_seated (inl same))) })
       (all_moved p cs q g below (suits_now p t wired typed s w idle_now fit x r there lives asked server))
       then (length s.items) (ap length items) refl refl (ap forms items) (subst (λ is. AllUndo p is) (sym items) tt)
     where

@@ -45,8 +45,8 @@ use Rattle.aom_sound.specs.Clients.{client_at}
 use Rattle.aom_sound.specs.Enlisted.{part_of}
 use Rattle.aom_sound.specs.Kept.{ClientsFit, QueueFits}
 use Rattle.aom_sound.specs.Laws.{IsAcceptor, IsAttendant, IsWired}
-use Rattle.aom_sound.specs.Places.{Asked, Cell, Close_of, Connect_of, Elsewhere, Entry, Field, Going, In_service, Message_of, Object, Place, Queued, Register, Request, Root, Service, Session, Sight, Tidy, held, moved, named, requested, seen, service_of, word_field}
-use Rattle.aom_sound.specs.Requests.{AllSuit, Known, Suits, resting_in, rests_in, thing_kind}
+use Rattle.aom_sound.specs.Places.{Asked, Cell, Close_of, Connect_of, Elsewhere, Entry, Field, Going, In_service, Message_of, Object, Idle, Phase, Place, Queued, Register, Request, Root, Service, Session, Sight, Tidy, held, moved, named, requested, seen, service_of, word_field}
+use Rattle.aom_sound.specs.Requests.{AllSuit, Known, Suits, phase_state, resting_in, rests_in, thing_kind}
 use Rattle.aom_sound.specs.Servers.{has_message, has_session, is_message, is_server, message_of, of_class, session_class, queued_thing, reserved, rest_of, session_thing, taken_first}
 use Rattle.aom_sound.specs.State.{A_mark, Accepts, Inside, Of_server, Serves, Seat, State, frame_of, thing_holder}
 use Rattle.aom_sound.specs.WellTyped.{AllSit, Fits, Good, IsServed, Keeps, SitsIn, SomeSits, WellTyped, WordFits}
@@ -69,7 +69,11 @@ sits_same cs cs' places names (x ∷ xs) s = ((places x.place ∙ s.0.0, names x
 -- a server rests idle
 pub suits_serving : (k : Option ClassKind) (r : Request) → is_some (sessions_in k) ≡ true → Suits k (resting_in (states_of k)) (Some r) → Suits k (resting_in idle) (Some r)
 unfolding sessions_in sessions_of states_of
-suits_serving (Some (A_server most y b)) r e s = (s.1, s.1)
+suits_serving (Some (A_server most y b)) r e s = (phase r.phase s.1, s.1)
+  where
+    phase : (q : Phase) → IsTrue (has server_states (phase_state q)) → IsTrue (has idle (phase_state q))
+    phase Idle h = refl
+    phase _ h = cc
 suits_serving _ r e s = cc
 
 -- its class
@@ -124,7 +128,7 @@ module _ (p : Image) (t : Typing) (wired : IsWired p) (typed : IsTyped p t) (s :
       go [] e = refl
       go (i ∷ is) e = cc
 
-  its_class : (c k : ℕ) × (x.object.thing ≡ An_object_of c) × (sessions_at p c ≡ Some k)
+  pub its_class : (c k : ℕ) × (x.object.thing ≡ An_object_of c) × (sessions_at p c ≡ Some k)
   its_class = serving_class p x.object.thing server
 
   -- ---- the cells with the first of its queue taken
@@ -147,7 +151,7 @@ module _ (p : Image) (t : Typing) (wired : IsWired p) (typed : IsTyped p t) (s :
   pub sits : (above : List Seat) × AllSit s.cells (x ∷ above) × ((y : Object) → named s.cells y.name ≡ Some y → rank y.thing < rank x.object.thing → SomeSits y.name (x ∷ above) → ⊥)
   sits = chain p t wired s w idle_now x.place x.object there (subst (λ y. 0 < rank y) (sym its_class.2) (omega arith))
 
-  pub above : List Seat
+  abbrev pub above : List Seat
   above = sits.0
 
   pub sits_now : AllSit cs (x ∷ above)
@@ -202,7 +206,7 @@ module _ (p : Image) (t : Typing) (wired : IsWired p) (typed : IsTyped p t) (s :
     it : IsAcceptor p its_class.0 its_method.0 its_class.1
     it = its_method.2
 
-    over : List Layer
+    abbrev over : List Layer
     over = Mark (An_own (An_object_of its_class.1)) ∷ Dispatching (Of_server x client Accepts) (x ∷ above) ∷ []
 
     claims : (d : Place → Kind) (q : Place) → claim p d (Mark (An_own (An_object_of its_class.1)) ∷ Dispatching (Of_server x client Accepts) (x ∷ above) ∷ []) q ≡ with_message false d q
@@ -276,6 +280,10 @@ module _ (p : Image) (t : Typing) (wired : IsWired p) (typed : IsTyped p t) (s :
     pub session_lower : rank its_session.0.thing < rank x.object.thing
     session_lower = subst (λ y. rank y < rank x.object.thing) (sym session_is) (subst (λ y. suc its_class.1 < rank y) (sym its_class.2) (let lt = (wired.sessions its_class.0 its_class.1 its_class.3).0 in omega (arith, lt)))
 
+    -- it is there, and stands lower than its server
+    pub session_held : (z : Object) × (held s.cells (Elsewhere (Session n client)) ≡ Some z) × (named s.cells z.name ≡ Some z) × (rank z.thing < rank x.object.thing)
+    session_held = (its_session.0, its_session.1, session_lives, session_lower)
+
   -- ---- a message
 
   module _ (client m : ℕ) (es : List Asked) (queue : (service_of s.cells n).queue ≡ Message_of client m ∷ es) where
@@ -292,7 +300,7 @@ module _ (p : Image) (t : Typing) (wired : IsWired p) (typed : IsTyped p t) (s :
     session_there : (z : Object) × (held s.cells (Elsewhere (Session n client)) ≡ Some z) × (stands_for p z.thing (An_object_of its_class.1) ≡ true)
     session_there = its_session client has_now
 
-    z : Object
+    abbrev z : Object
     z = session_there.0
 
     z_thing : z.thing ≡ An_object_of its_class.1
@@ -396,16 +404,16 @@ module _ (p : Image) (t : Typing) (wired : IsWired p) (typed : IsTyped p t) (s :
     service : IsAttendant p its_class.1 its_service.0
     service = its_service.2
 
-    seat : Seat
+    abbrev seat : Seat
     seat = record { object = z; place = Elsewhere (Session n client) }
 
     sits_all : AllSit served (seat ∷ x ∷ above)
     sits_all = ((held_served_so (Elsewhere (Session n client)) ∙ held_now (Elsewhere (Session n client)) ∙ session_there.1, named_served_so z.name ∙ z_lives, inl refl, sits.2 z z_lives (session_lower client has_now)), sits_served (x ∷ above) sits_now)
 
-    words : List (Option ℤ)
+    abbrev words : List (Option ℤ)
     words = message_words cs m
 
-    served_over : List Layer
+    abbrev served_over : List Layer
     served_over = Mark Nothing ∷ Dispatching (Of_server x client (Serves z)) (x ∷ above) ∷ []
 
     served_claims : (d : Place → Kind) (q : Place) → claim p d (Mark Nothing ∷ Dispatching (Of_server x client (Serves z)) (x ∷ above) ∷ []) q ≡ with_message true d q

@@ -53,11 +53,11 @@ use Rattle.aom_transcript.specs.declared.event.TimedEvent.{TimedEvent}
 
 -- ---- the object that is picked
 
-record Found (cs : List Cell) (y : Candidate) : Type 0 where
-  there : held cs y.seat.place ≡ Some y.seat.object
-  lives : named cs y.seat.object.name ≡ Some y.seat.object
-  asked : requested cs y.seat.object.name ≡ Some y.request
-  ready : (is_ready y.request || has_more (service_of cs y.seat.object.name).queue) ≡ true
+pub record Found (cs : List Cell) (y : Candidate) : Type 0 where
+  pub there : held cs y.seat.place ≡ Some y.seat.object
+  pub lives : named cs y.seat.object.name ≡ Some y.seat.object
+  pub asked : requested cs y.seat.object.name ≡ Some y.request
+  pub ready : (is_ready y.request || has_more (service_of cs y.seat.object.name).queue) ≡ true
 
 found_later : (c : Cell) (cs : List Cell) (y : Candidate) → Tidy (c ∷ cs) → Found cs y → Found (c ∷ cs) y
 found_later c cs y tidy f = record {
@@ -101,7 +101,7 @@ module _ (c : Cell) (cs : List Cell) (y : Candidate) (tidy : Tidy (c ∷ cs)) (r
   of_request None here e = among (first_ready cs) refl e
   of_request (Some r) here e = of_ready r here (goes_now c r) refl e
 
-found : (cs : List Cell) → Tidy cs → (y : Candidate) → first_ready cs ≡ Some y → Found cs y
+pub found : (cs : List Cell) → Tidy cs → (y : Candidate) → first_ready cs ≡ Some y → Found cs y
 found [] tidy y e = cc
 found (c ∷ cs) tidy y e = of_request c cs y tidy (λ e. found cs tidy.2 y e) c.request refl e
 
