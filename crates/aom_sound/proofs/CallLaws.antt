@@ -33,12 +33,18 @@ use Rattle.aom_roles.specs.Shapes.{kind_of}
 use Rattle.aom_shape.proofs.Sets.{has_itself}
 use Rattle.aom_roles.specs.States.{idle, states_of}
 use Rattle.aom_sound.proofs.Calling.{answer, awaited, caller, cancels_not, enter, kind_begun, result_free, result_met, same_high}
+use Rattle.aom_sound.proofs.Leaving.{here_is}
 
 -- what the caller finds its own object in is no issued request, where neither before nor at the end there is one
 called_unissued : (target : Target) (class : Option ℕ) (ended : ℕ) (sh : Shape) → unissued sh.states ≡ true → unissued ended ≡ true → unissued (while_called target class ended sh).states ≡ true
 called_unissued This (Some c) ended sh u e = e
 called_unissued This None ended sh u e = u
 called_unissued _ class ended sh u e = u
+
+called_delivery : (target : Target) (class : Option ℕ) (ended : ℕ) (sh : Shape) → (while_called target class ended sh).delivery ≡ sh.delivery
+called_delivery This (Some c) ended sh = refl
+called_delivery This None ended sh = refl
+called_delivery _ class ended sh = refl
 
 -- under a trap it rests
 rests_under :
@@ -74,6 +80,7 @@ module _ (p : Image) (t : Typing) (wired : IsWired p) (typed : IsTyped p t) (c :
           only_then (leaves p m) (leaves p fr.method) more.1.1.1.1.0 l,
           none_owns_each sh'.registers (λ i. a.1.owning i ∙ none_owns_at (arguments_moved (arguments_of p m) first sh).registers i (only_then (leaves p m) _ more.1.1.1.1.1.0 l)),
           called_unissued target (method_class p m) ended (arguments_moved (arguments_of p m) first sh) (only_then (leaves p m) _ more.1.1.1.1.1.1.0 l) called_so.ends,
+          λ serving. called_delivery target (method_class p m) ended (arguments_moved (arguments_of p m) first sh) ∙ here_is _ (only_then (leaves p m) _ more.1.1.1.1.1.1.1.0 l),
         ),
         subst (λ y. Awaits (gives_of p m) y sh') (sym at_x) (awaited p t wired typed c s fr sh ls at_hand m first depth height deep called_so passed (gives_of p m) x sh' a.1.owning more.1.1.1.0),
         subst (λ y. Leads t fr.method (suc fr.place) (brought (gives_of p m) y sh')) (sym at_x) leads.0,

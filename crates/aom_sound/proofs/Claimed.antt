@@ -19,7 +19,7 @@ use Rattle.aom_shape.specs.declared.kind.Kind.{Kind}
 use Rattle.aom_shape.specs.declared.kind.Kind.TheVariants.{Maybe, Null, Own, Unset}
 use Rattle.aom_image.specs.declared.method.Thing.TheVariants.{Message}
 use Rattle.aom_sound.proofs.Services.{service_moved, attended_kept, sessions_kept}
-use Rattle.aom_sound.specs.Servers.{has_message, has_session, is_among, queued_thing, session_thing}
+use Rattle.aom_sound.specs.Servers.{message_thing, has_message, has_session, is_among, session_thing}
 use Rattle.aom_sound.proofs.Seats.{NoFieldHere, NoSeatHere, first_kept, sits_kept}
 use Rattle.aom_sound.proofs.Maps.{at-put_at, held_moved, named_moved, requested_moved, same_place-true, same_place_refl, transfer}
 use Rattle.aom_sound.specs.Claims.{is_of_root, Dispatching, Dying, Form, Layer, Mark, Method, Unwinding, claim, declared, declared_field, entries_of, entry_claim, home_claim, items_of, layer_claim, objects, root_claim, tasks_of, Ending, by_close, by_stage, delivered, serves}
@@ -222,7 +222,7 @@ declared_moved p cs a b = fun_ext go
     go (Elsewhere Root) = refl
     go (Elsewhere (Session n c)) = ap (λ v. cond (has_session v c) (filled (session_thing p (named (moved a b cs) n)) Full) Null) (service_moved cs a b n) ∙ ap (λ o. cond (has_session (service_of cs n) c) (filled (session_thing p o) Full) Null) (named_moved cs a b n)
     go (Elsewhere In_service) = refl
-    go (Elsewhere (Queued n m)) = ap (λ v. cond (has_message v m) (filled (queued_thing p (named (moved a b cs) n)) Full) Null) (service_moved cs a b n) ∙ ap (λ o. cond (has_message (service_of cs n) m) (filled (queued_thing p o) Full) Null) (named_moved cs a b n)
+    go (Elsewhere (Queued n m)) = ap (λ v. cond (has_message v m) (filled (message_thing p (named (moved a b cs) n)) Full) Null) (service_moved cs a b n) ∙ ap (λ o. cond (has_message (service_of cs n) m) (filled (message_thing p o) Full) Null) (named_moved cs a b n)
     go (Going k) = refl
 
 -- a place of the top method, or above it
@@ -429,7 +429,7 @@ declared_ready p cs (Field n f) = go (named cs n)
     go (Some o) = perhaps_ready (field_thing p (thing_holder o.thing) f)
 declared_ready p cs (Elsewhere Root) = perhaps_ready (field_thing p Program 0)
 declared_ready p cs (Elsewhere (Session n c)) = full_ready (has_session (service_of cs n) c) (session_thing p (named cs n))
-declared_ready p cs (Elsewhere (Queued n m)) = full_ready (has_message (service_of cs n) m) (queued_thing p (named cs n))
+declared_ready p cs (Elsewhere (Queued n m)) = full_ready (has_message (service_of cs n) m) (message_thing p (named cs n))
 declared_ready p cs _ = refl
 
 -- declared fields are ready, so that a claim which is ready with nothing declared is ready

@@ -18,9 +18,9 @@ use Rattle.aom_sound.proofs.ClientsCommand.{fit_commanded}
 use Rattle.aom_sound.proofs.ClientsFit.{by_server}
 use Rattle.aom_sound.proofs.Maps.{held_moved, named_moved}
 use Rattle.aom_sound.proofs.Owners.{IsQueuedAt, in_queue, queued_lower}
-use Rattle.aom_sound.proofs.Services.{held_served, named_served, service_here, service_moved, service_there}
+use Rattle.aom_sound.proofs.Services.{held_served, named_served, service_asked, service_bereaved, service_here, service_moved, service_there}
 use Rattle.aom_sound.proofs.Signals.{at_rest}
-use Rattle.aom_sound.proofs.Storing.{Alike, bereaved_alike, rerequested_alike}
+use Rattle.aom_sound.proofs.Storing.{bereaved_alike, rerequested_alike}
 use Rattle.aom_sound.proofs.Straight.{fits_unowning}
 use Rattle.aom_sound.proofs.Turned.{Polled, answers, commanded_kept, dispatched_so, nothing, polled_so}
 use Rattle.aom_sound.proofs.Guarded.{goes_same}
@@ -45,8 +45,13 @@ use Rattle.aom_transcript.specs.declared.event.TimedEvent.{TimedEvent}
 
 -- ---- cells of which clients have the same
 
-pub fit_alike : (p : Image) (clients : List Client) (cs cs' : List Cell) → Alike cs cs' → ClientsFit p clients cs → ClientsFit p clients cs'
-fit_alike p clients cs cs' like fit = record {
+pub record Same (cs cs' : List Cell) : Type 0 where
+  pub service_so : (n : ℕ) → service_of cs' n ≡ service_of cs n
+  pub named_so : (n : ℕ) → named cs' n ≡ named cs n
+  pub held_so : (q : Place) → held cs' q ≡ held cs q
+
+pub fit_same : (p : Image) (clients : List Client) (cs cs' : List Cell) → Same cs cs' → ClientsFit p clients cs → ClientsFit p clients cs'
+fit_same p clients cs cs' like fit = record {
   queues = λ n. subst (λ v. QueueFits clients n v.queue) (sym (like.service_so n)) (fit.queues n);
   sessions = λ n c h. fit.sessions n c (ap (λ v. has_session v c) (sym (like.service_so n)) ∙ h);
   listed = λ n c h. ap (λ v. has_session v c) (like.service_so n) ∙ fit.listed n c h;
@@ -54,6 +59,12 @@ fit_alike p clients cs cs' like fit = record {
   names = λ n m o h. fit.names n m o (sym (like.held_so (Elsewhere (Queued n m))) ∙ h);
   senders = λ n c m h. subst (λ v. is_from c v.sender ≡ true) (sym (like.service_so m)) (fit.senders n c m (ap (λ v. list_any (is_message_of c m) v.queue) (sym (like.service_so n)) ∙ h));
 }
+
+pub same_requested : (cs : List Cell) (o : Object) (r : Option Request) → Same cs (set_request o.name r cs)
+same_requested cs o r = let like = rerequested_alike cs (Inside o (Elsewhere Root)) r in record { service_so = service_asked cs o.name r; named_so = like.named_so; held_so = like.held_so }
+
+pub same_bereaved : (p : Image) (n : ℕ) (cs : List Cell) → Same cs (all_bereaved p n cs)
+same_bereaved p n cs = let like = bereaved_alike p n cs in record { service_so = service_bereaved p n cs; named_so = like.named_so; held_so = like.held_so }
 
 -- what is owned elsewhere, but in no queue
 pub fit_moved : (p : Image) (clients : List Client) (cs : List Cell) (a b : Place) → held cs b ≡ None → ((n m : ℕ) → same_place b (Elsewhere (Queued n m)) ≡ false) → ClientsFit p clients cs → ClientsFit p clients (moved a b cs)
@@ -188,7 +199,7 @@ module _ (p : Image) (t : Typing) (wired : IsWired p) (s : State) (w : WellTyped
         go false e = let d = dispatched_so p s u x e in subst (λ v. IsKept p v) (sym d.2) (record { fit = requested_fit x.object _; stage = tt })
 
         requested_fit : (o : Object) (r : Option Request) → ClientsFit p s.clients (set_request o.name r s.cells)
-        requested_fit o r = fit_alike p s.clients s.cells (set_request o.name r s.cells) (rerequested_alike s.cells (Inside o (Elsewhere Root)) r) kept.fit
+        requested_fit o r = fit_same p s.clients s.cells (set_request o.name r s.cells) (same_requested s.cells o r) kept.fit
 
   -- ---- the others
 
@@ -206,7 +217,7 @@ module _ (p : Image) (t : Typing) (wired : IsWired p) (s : State) (w : WellTyped
 
   requested_kept : (f : Request → Request) (o : Object) (u : State) → u.cells ≡ with_request f o s.cells → u.clients ≡ s.clients → u.tasks ≡ [] → IsKept p u
   requested_kept f o u cells clients tasks = record {
-    fit = subst (λ l. ClientsFit p l u.cells) (sym clients) (subst (λ l. ClientsFit p s.clients l) (sym cells) (fit_alike p s.clients s.cells (with_request f o s.cells) (rerequested_alike s.cells (Inside o (Elsewhere Root)) (on_request f (requested s.cells o.name))) kept.fit));
+    fit = subst (λ l. ClientsFit p l u.cells) (sym clients) (subst (λ l. ClientsFit p s.clients l) (sym cells) (fit_same p s.clients s.cells (with_request f o s.cells) (same_requested s.cells o (on_request f (requested s.cells o.name))) kept.fit));
     stage = stage_idle u.clients u.cells u.tasks tasks;
   }
 
@@ -214,7 +225,7 @@ module _ (p : Image) (t : Typing) (wired : IsWired p) (s : State) (w : WellTyped
   turned_kept Cuts f u e = subst (λ v. IsKept p v) (goes_same _ u e) (same_kept _ refl refl idle_now)
   turned_kept (Completes o) f u e = subst (λ v. IsKept p v) (goes_same _ u e) (requested_kept timed_out o _ refl refl idle_now)
   turned_kept Hears f u e = subst (λ v. IsKept p v) (goes_same _ u e) (same_kept _ refl refl idle_now)
-  turned_kept (Kills n) f u e = subst (λ v. IsKept p v) (goes_same _ u e) (record { fit = fit_alike p s.clients s.cells (all_bereaved p n s.cells) (bereaved_alike p n s.cells) kept.fit; stage = stage_idle s.clients (all_bereaved p n s.cells) s.tasks idle_now })
+  turned_kept (Kills n) f u e = subst (λ v. IsKept p v) (goes_same _ u e) (record { fit = fit_same p s.clients s.cells (all_bereaved p n s.cells) (same_bereaved p n s.cells) kept.fit; stage = stage_idle s.clients (all_bereaved p n s.cells) s.tasks idle_now })
   turned_kept (Polls n answer) f u e = go u (polled_so p s u n answer e)
     where
       go : (u : State) → Polled n s u → IsKept p u

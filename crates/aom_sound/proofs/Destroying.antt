@@ -1,7 +1,7 @@
 -- Destruction begins: from a delete, and as an entry is unwound.
 use Rattle.std.proofs.Common.{Bool, List, None, Option, Some, [], ap, arith, cond, false, inl, inr, length, refl, subst, suc, sym, true, zero, ℕ, ⊎_elim, ◌&&◌, ◌==◌, ◌∙◌, ◌∷◌, ◌≡◌, ◌≤◌}
 use Rattle.std.proofs.lemmas.Bool.{cases_Bool, eq-eqb, eqb-true, ne_eqb, true≢false}
-use Rattle.std.specs.Prelude.{IsSome, is_none, map, replicate}
+use Rattle.std.specs.Prelude.{is_some, IsSome, is_none, map, replicate}
 use Rattle.aom_image.specs.Image.{Image}
 use Rattle.aom_image.specs.Views.{arguments_of, gives_of, is_quiet, leaves, method_at, method_class, method_role}
 use Rattle.aom_instructions.specs.declared.instr.Instr.TheVariants.{Delete}

@@ -276,7 +276,7 @@ leave_is_met p t cs fr top_frame sh ls g may n =
 pub trap_is_there : (p : Image) (t : Typing) (cs : List Cell) (fr : Frame) (sh : Shape) (ls : List Layer) → Fitted p t cs fr sh ls → leaves p fr.method ≡ true → none_owns sh.registers ≡ true → has_trap (tasks_of ls) ≡ true
 trap_is_there p t cs fr sh ls g may n = (leave_is_met p t cs fr fr sh ls g may n).0
 
-here_is : (d : Delivery) → is_here d ≡ true → d ≡ Here
+pub here_is : (d : Delivery) → is_here d ≡ true → d ≡ Here
 here_is Here e = refl
 here_is Gone e = cc
 

@@ -29,7 +29,7 @@ use Rattle.aom_sound.specs.Laws.{EndsEmpty, EndsOwned, IsWired}
 use Rattle.aom_sound.specs.Owned.{AllOwned, Ends, HasRegisters, HasService, IsObjects, Lives, NoneGoes, Owned, at_entry, at_register, at_root, at_service, by_cell, by_server, over}
 use Rattle.aom_sound.specs.Places.{Cell, Elsewhere, Entry, Field, Going, Object, Place, Register, Root, Sight, Tidy, held, named, same_place, seen, service_of, Session, In_service, Queued}
 use Rattle.aom_sound.specs.Registers.{AllInRange, IsInRange}
-use Rattle.aom_sound.specs.Servers.{has_message, has_session, is_among, message_of, of_class, queued_thing, session_class, session_thing}
+use Rattle.aom_sound.specs.Servers.{has_message, has_session, is_among, is_server, message_thing, of_class, session_class, session_thing}
 use Rattle.aom_sound.specs.State.{An_object, AtRoot, Dispatch, Dispatched, Home, Inside, Item, Of_root, Of_server, Parts, Run, Service_left, Serves, State, Static, thing_holder}
 use Rattle.aom_sound.specs.WellTyped.{Back, Caught, Fits, Gone, IsHoused, IsServed, Leaves, Now, Returns, Stack, WellTyped}
 
@@ -150,13 +150,13 @@ session_thing_of p t cs (Ending o left ∷ ls) back n c x s h = go (o.name == n)
 
 -- a message that waits is in the queue of a server that stands
 abbrev pub IsQueuedAt : Image → List Cell → ℕ → ℕ → Thing → Type 0
-IsQueuedAt p cs n m x = (o : Object) × (named cs n ≡ Some o) × (has_message (service_of cs n) m ≡ true) × (queued_thing p (Some o) ≡ Some x)
+IsQueuedAt p cs n m x = (o : Object) × (named cs n ≡ Some o) × (has_message (service_of cs n) m ≡ true) × (message_thing p (Some o) ≡ Some x)
 
 pub queued_thing_of : (p : Image) (cs : List Cell) (ls : List Layer) (n m : ℕ) (x : Thing) → HasThing (claim p (declared p cs) ls (Elsewhere (Queued n m))) x → IsQueuedAt p cs n m x
 queued_thing_of p cs [] n m x h = go (has_message (service_of cs n) m) refl (named cs n) refl h
   where
-    go : (b : Bool) → has_message (service_of cs n) m ≡ b → (o : Option Object) → named cs n ≡ o → HasThing (cond b (filled (queued_thing p o) Full) Null) x → IsQueuedAt p cs n m x
-    go true e (Some o) f h = (o, f, e, filled_thing (queued_thing p (Some o)) Full x h)
+    go : (b : Bool) → has_message (service_of cs n) m ≡ b → (o : Option Object) → named cs n ≡ o → HasThing (cond b (filled (message_thing p o) Full) Null) x → IsQueuedAt p cs n m x
+    go true e (Some o) f h = (o, f, e, filled_thing (message_thing p (Some o)) Full x h)
     go true e None f h = absurd h
     go false e o f h = absurd h
 queued_thing_of p cs (l ∷ ls) n m x h = queued_thing_of p cs ls n m x h
@@ -343,15 +343,15 @@ module _ (p : Image) (wired : IsWired p) where
               let lt = (wired.sessions c k f).0 in
               (subst (λ y. rank y < suc c) same (omega (arith, lt)), serving_class c k f)
 
-  pub queued_lower : (o : Object) (x : Thing) → queued_thing p (Some o) ≡ Some x → (x ≡ Message) × (IsLower x o.thing)
+  pub queued_lower : (o : Object) (x : Thing) → message_thing p (Some o) ≡ Some x → (x ≡ Message) × (IsLower x o.thing)
   unfolding kind_of sessions_in
   queued_lower o x e = of_thing o.thing e
     where
-      of_thing : (y : Thing) → message_of (session_class p y) ≡ Some x → (x ≡ Message) × IsLower x y
+      of_thing : (y : Thing) → cond (is_server p y) (Some Message) None ≡ Some x → (x ≡ Message) × (IsLower x y)
       of_thing Message e = cc
       of_thing (An_object_of c) e = go (sessions_at p c) refl e
         where
-          go : (k : Option ℕ) → sessions_at p c ≡ k → message_of k ≡ Some x → (x ≡ Message) × IsLower x (An_object_of c)
+          go : (k : Option ℕ) → sessions_at p c ≡ k → cond (is_some k) (Some Message) None ≡ Some x → (x ≡ Message) × (IsLower x (An_object_of c))
           go None f e = cc
           go (Some k) f e =
               let same : Message ≡ x = cc in

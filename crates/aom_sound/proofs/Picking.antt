@@ -47,7 +47,7 @@ use Rattle.aom_sound.specs.Kept.{ClientsFit, QueueFits}
 use Rattle.aom_sound.specs.Laws.{IsAcceptor, IsAttendant, IsWired}
 use Rattle.aom_sound.specs.Places.{Asked, Cell, Close_of, Connect_of, Elsewhere, Entry, Field, Going, In_service, Message_of, Object, Idle, Phase, Place, Queued, Register, Request, Root, Service, Session, Sight, Tidy, held, moved, named, requested, seen, service_of, word_field}
 use Rattle.aom_sound.specs.Requests.{AllSuit, Known, Suits, phase_state, resting_in, rests_in, thing_kind}
-use Rattle.aom_sound.specs.Servers.{has_message, has_session, is_message, is_server, message_of, of_class, session_class, queued_thing, reserved, rest_of, session_thing, taken_first}
+use Rattle.aom_sound.specs.Servers.{has_message, has_session, is_message, is_server, of_class, session_class, message_thing, reserved, rest_of, session_thing, taken_first}
 use Rattle.aom_sound.specs.State.{A_mark, Accepts, Inside, Of_server, Serves, Seat, State, frame_of, thing_holder}
 use Rattle.aom_sound.specs.WellTyped.{AllSit, Fits, Good, IsServed, Keeps, SitsIn, SomeSits, WellTyped, WordFits}
 use Rattle.aom_sound.specs.World.{accepting, attended, attending, message_words, serving, taken_from}
@@ -180,7 +180,7 @@ module _ (p : Image) (t : Typing) (wired : IsWired p) (typed : IsTyped p t) (s :
     declared_now (Elsewhere Root) = refl
     declared_now (Elsewhere In_service) = refl
     declared_now (Elsewhere (Session m c)) = ap (λ b. cond b (filled (session_thing p (named cs m)) Full) Null) (sessions_now m c) ∙ ap (λ y. cond (has_session (service_of s.cells m) c) (filled (session_thing p y) Full) Null) (named_now m)
-    declared_now (Elsewhere (Queued m k)) = ap (λ b. cond b (filled (queued_thing p (named cs m)) Full) Null) (messages m k) ∙ ap (λ y. cond (has_message (service_of s.cells m) k) (filled (queued_thing p y) Full) Null) (named_now m)
+    declared_now (Elsewhere (Queued m k)) = ap (λ b. cond b (filled (message_thing p (named cs m)) Full) Null) (messages m k) ∙ ap (λ y. cond (has_message (service_of s.cells m) k) (filled (message_thing p y) Full) Null) (named_now m)
 
     pub fits_now : (q : Place) → Fits p (seen cs) (held cs q) (declared p cs q)
     fits_now q = subst (λ y. Fits p (seen cs) y (declared p cs q)) (sym (held_now q)) (subst (λ k. Fits p (seen cs) (held s.cells q) k) (sym (declared_now q)) (fits_ready p (seen s.cells) (seen cs) (held s.cells q) (declared p s.cells q) (declared_ready p s.cells q) (good.fits q)))
@@ -293,9 +293,8 @@ module _ (p : Image) (t : Typing) (wired : IsWired p) (typed : IsTyped p t) (s :
     has_now : has_session (service_of s.cells n) client ≡ true
     has_now = fit.listed n client (open_server n (client_at s.clients client) at_queue.0.0)
 
-    message_now : queued_thing p (Some x.object) ≡ Some Message
-    unfolding kind_of
-    message_now = ap (λ y. message_of (session_class p y)) its_class.2 ∙ ap message_of its_class.3
+    message_now : message_thing p (Some x.object) ≡ Some Message
+    message_now = ap (λ b. cond b (Some Message) None) server
 
     session_there : (z : Object) × (held s.cells (Elsewhere (Session n client)) ≡ Some z) × (stands_for p z.thing (An_object_of its_class.1) ≡ true)
     session_there = its_session client has_now
@@ -315,7 +314,7 @@ module _ (p : Image) (t : Typing) (wired : IsWired p) (typed : IsTyped p t) (s :
 
     its_message : (y : Object) × (held s.cells (Elsewhere (Queued n m)) ≡ Some y) × (stands_for p y.thing Message ≡ true)
     its_message = own_held p (seen s.cells) (held s.cells (Elsewhere (Queued n m))) Message
-        (subst (λ k. Fits p (seen s.cells) (held s.cells (Elsewhere (Queued n m))) k) (ap (λ b. cond b (filled (queued_thing p (named s.cells n)) Full) Null) waits ∙ ap (λ y. filled (queued_thing p y) Full) lives ∙ ap (λ y. filled y Full) message_now) (good.fits (Elsewhere (Queued n m))))
+        (subst (λ k. Fits p (seen s.cells) (held s.cells (Elsewhere (Queued n m))) k) (ap (λ b. cond b (filled (message_thing p (named s.cells n)) Full) Null) waits ∙ ap (λ y. filled (message_thing p y) Full) lives ∙ ap (λ y. filled y Full) message_now) (good.fits (Elsewhere (Queued n m))))
 
     -- ---- the cells as it is served
 
@@ -362,7 +361,7 @@ module _ (p : Image) (t : Typing) (wired : IsWired p) (typed : IsTyped p t) (s :
         now : held served (Elsewhere (Queued i j)) ≡ cond ((n == i) && (m == j)) None (held cs (Elsewhere (Queued i j)))
         now = held_served_so (Elsewhere (Queued i j))
 
-        kind : declared p served (Elsewhere (Queued i j)) ≡ cond (has_message (service_of cs i) j) (filled (queued_thing p (named cs i)) Full) Null
+        kind : declared p served (Elsewhere (Queued i j)) ≡ cond (has_message (service_of cs i) j) (filled (message_thing p (named cs i)) Full) Null
         kind = ap (λ d. d (Elsewhere (Queued i j))) (declared_moved p cs (Elsewhere (Queued n m)) (Elsewhere In_service))
 
         go : (b : Bool) → ((n == i) && (m == j)) ≡ b → Fits p (seen served) (held served (Elsewhere (Queued i j))) (declared p served (Elsewhere (Queued i j)))
@@ -370,9 +369,9 @@ module _ (p : Image) (t : Typing) (wired : IsWired p) (typed : IsTyped p t) (s :
             let parts = both (n == i) (m == j) e in
             let none : has_message (service_of cs i) j ≡ false = ap (λ k. has_message (service_of cs k) j) (sym (eqb-true n i parts.0)) ∙ ap (λ k. has_message (service_of cs n) k) (sym (eqb-true m j parts.1)) ∙ none_twice in
             subst (λ y. Fits p (seen served) y (declared p served (Elsewhere (Queued i j)))) (sym (now ∙ ap (λ b. cond b None (held cs (Elsewhere (Queued i j)))) e))
-            (subst (λ k. Fits p (seen served) None k) (sym (kind ∙ ap (λ b. cond b (filled (queued_thing p (named cs i)) Full) Null) none)) tt)
+            (subst (λ k. Fits p (seen served) None k) (sym (kind ∙ ap (λ b. cond b (filled (message_thing p (named cs i)) Full) Null) none)) tt)
         go false e = there_still (Elsewhere (Queued i j)) (now ∙ ap (λ b. cond b None (held cs (Elsewhere (Queued i j)))) e)
-            (ap (λ b. cond b (filled (queued_thing p (named cs i)) Full) Null) (messages_other i j e) ∙ ap (λ y. cond (has_message (service_of s.cells i) j) (filled (queued_thing p y) Full) Null) (named_now i))
+            (ap (λ b. cond b (filled (message_thing p (named cs i)) Full) Null) (messages_other i j e) ∙ ap (λ y. cond (has_message (service_of s.cells i) j) (filled (message_thing p y) Full) Null) (named_now i))
 
     named_served_so : (i : ℕ) → named served i ≡ named s.cells i
     named_served_so i = named_moved cs (Elsewhere (Queued n m)) (Elsewhere In_service) i ∙ named_now i

@@ -2,9 +2,9 @@
 use Rattle.std.proofs.Common.{Bool, List, None, Option, Some, [], ap, cond, false, refl, sym, subst, true, ℕ, ℤ, ◌==◌, ◌∙◌, ◌∷◌, ◌≡◌}
 use Rattle.std.proofs.lemmas.Bool.{eqb-true, eq-eqb, false≢true, ne_eqb, true≢false}
 use Rattle.aom_image.specs.Image.{Image}
-use Rattle.aom_sound.specs.WellTyped.{EndsSessions, IsAttended, StageFits}
+use Rattle.aom_sound.specs.WellTyped.{AllSit, SitsFirst, seat_of, EndsSessions, IsAttended, StageFits}
 use Rattle.aom_sound.specs.Servers.{has_session}
-use Rattle.aom_sound.specs.State.{Dispatch, Of_server, Stage, Accepts, Accepted, Accept_left, Serves, Service_left, Parts}
+use Rattle.aom_sound.specs.State.{Seat, Dispatch, Of_server, Stage, Accepts, Accepted, Accept_left, Serves, Service_left, Parts}
 use Rattle.aom_sound.proofs.Maps.{front_free, held_named, same_place-true, without_none}
 use Rattle.aom_sound.specs.Natives.{all_bereaved}
 use Rattle.aom_sound.specs.Places.{Cell, Object, Place, Request, Service, Tidy, held, moved, named, requested, same_place, service_of, set_request, set_service, set_session, set_word_field, unserved, without}
@@ -100,6 +100,32 @@ module _ (p : Image) (cs cs' : List Cell) (service : (n : ℕ) → service_of cs
       go (Service_left code) h = same true h
       go Parts h = same true h
   attended_kept _ h = h
+
+-- where it is so for the server of the dispatch
+pub attended_at : (p : Image) (cs cs' : List Cell) (d : Dispatch) → ((y : Seat) → seat_of d ≡ Some y → service_of cs' y.object.name ≡ service_of cs y.object.name) → IsAttended p cs d → IsAttended p cs' d
+attended_at p cs cs' (Of_server x c stage) service h = (h.0, go stage h.1)
+  where
+    same : (b : Bool) → has_session (service_of cs x.object.name) c ≡ b → has_session (service_of cs' x.object.name) c ≡ b
+    same b e = ap (λ v. has_session v c) (service x refl) ∙ e
+
+    go : (stage : Stage) → StageFits cs x c stage → StageFits cs' x c stage
+    go Accepts h = same false h
+    go Accepted h = same true h
+    go (Accept_left code) h = same false h
+    go (Serves o) h = same true h
+    go (Service_left code) h = same true h
+    go Parts h = same true h
+attended_at p cs cs' _ service h = h
+
+-- the object that is dispatched lives, and is at its place
+pub sits_there : (cs : List Cell) (seats : List Seat) (y : Seat) → AllSit cs seats → SitsFirst cs (Some y) seats → (held cs y.place ≡ Some y.object) × (named cs y.object.name ≡ Some y.object)
+sits_there cs (x ∷ seats) y sits first =
+    let same : x ≡ y = cc in
+    subst (λ (z : Seat). (held cs z.place ≡ Some z.object) × (named cs z.object.name ≡ Some z.object)) same (sits.0.0, sits.0.1)
+sits_there cs [] y sits first = cc
+
+pub sits_lives : (cs : List Cell) (seats : List Seat) (y : Seat) → AllSit cs seats → SitsFirst cs (Some y) seats → named cs y.object.name ≡ Some y.object
+sits_lives cs seats y sits first = (sits_there cs seats y sits first).1
 
 pub sessions_kept : (p : Image) (cs cs' : List Cell) → ((n : ℕ) → named cs' n ≡ named cs n) → ((n : ℕ) → service_of cs' n ≡ service_of cs n) → (o : Object) (left : List ℕ) → EndsSessions p cs o left → EndsSessions p cs' o left
 sessions_kept p cs cs' names service o left h = record {

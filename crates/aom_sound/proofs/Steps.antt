@@ -22,14 +22,14 @@ use Rattle.aom_sound.proofs.Words.{law_binary, law_compare, law_const, law_copy,
 use Rattle.aom_sound.proofs.Leaving.{law_leave, law_leave_if}
 use Rattle.aom_sound.proofs.Moves.{law_move, law_put, law_take}
 use Rattle.aom_sound.proofs.Requesting.{law_abort, law_enlist, law_issue, law_jump_active, law_jump_added, law_set_active, law_status, main_of_none}
-use Rattle.aom_sound.proofs.Returning.{law_answer, law_return, law_return_caught, law_return_dispatch, law_return_unwound}
+use Rattle.aom_sound.proofs.Returning.{law_answer, law_return, law_return_caught, law_return_main, law_return_object, law_return_served, law_return_unwound}
 use Rattle.aom_sound.proofs.Straight.{At, Law, fitted, settle, stepped, well}
 use Rattle.aom_sound.proofs.Unwinding.{unwinds}
 use Rattle.aom_sound.specs.Claims.{Dispatching, Dying, Layer, Mark, Method, Unwinding, forms, items_of, tasks_of}
 use Rattle.aom_sound.specs.Laws.{IsWired}
 use Rattle.aom_sound.specs.Moves.{counted, does, needs, step, step_instr, step_task}
 use Rattle.aom_sound.specs.Places.{named}
-use Rattle.aom_sound.specs.State.{Asks, Choice, Destroy, Dispatch, Dispatched, Frame, IsStuck, Need, Run, State, Task, Trapped, Unwind, guarded, next}
+use Rattle.aom_sound.specs.State.{Of_server, Serves, Of_main, Of_object, Accepts, Asks, Choice, Destroy, Dispatch, Dispatched, Frame, IsStuck, Need, Run, State, Task, Trapped, Unwind, guarded, next}
 use Rattle.aom_sound.specs.WellTyped.{Caught, Good, Keeps, Now, Returns, WellTyped}
 use Rattle.aom_sound.proofs.Layers.{dispatch_layer, going_layer, leave_layer, mark_layer, method_layer}
 use Rattle.aom_sound.proofs.Cancelling.{law_cancel}
@@ -102,7 +102,9 @@ returns p t wired c s fr sh (Dying o ∷ ls) h a = law_destructor p t c s fr sh 
 returns p t wired c s fr sh (Unwinding code es ∷ ls) h a = law_return_unwound p t c s fr sh code es ls h a
 returns p t wired c s fr sh (Mark gv ∷ []) h a = let clash : Caught gv ≡ Now = h.good.stack.4.1 in cc
 returns p t wired c s fr sh (Mark gv ∷ Method fr2 sh2 ∷ ls) h a = law_return_caught p t wired c s fr fr2 sh sh2 gv ls h a
-returns p t wired c s fr sh (Mark gv ∷ Dispatching w seats ∷ ls) h a = law_return_dispatch p t c s fr sh gv w seats ls h a
+returns p t wired c s fr sh (Mark gv ∷ Dispatching Of_main seats ∷ ls) h a = law_return_main p t c s fr sh gv seats ls h a
+returns p t wired c s fr sh (Mark gv ∷ Dispatching (Of_object x) seats ∷ ls) h a = law_return_object p t c s fr sh gv x seats ls h a
+returns p t wired c s fr sh (Mark gv ∷ Dispatching (Of_server x client (Serves o)) seats ∷ ls) h a = law_return_served p t c s fr sh gv x client o seats ls h a
 returns p t wired c s fr sh (Dispatching (Asks x) seats ∷ ls) h a = law_answer p t c s fr sh x seats ls h a
 returns p t wired c s fr sh _ h a = absurd (grind (arith, h.good.stack.4))
 

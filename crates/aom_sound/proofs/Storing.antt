@@ -5,7 +5,7 @@ use Rattle.aom_shape.specs.declared.kind.Kind.TheVariants.{Null, Own}
 use Rattle.aom_shape.specs.declared.kind.Filling.TheVariants.{Full}
 use Rattle.aom_image.specs.declared.method.Thing.TheVariants.{Message}
 use Rattle.aom_sound.proofs.Services.{attended_kept, sessions_kept, service_asked, service_opened, service_stored}
-use Rattle.aom_sound.specs.Servers.{has_message, has_session, queued_thing, session_thing}
+use Rattle.aom_sound.specs.Servers.{message_thing, has_message, has_session, session_thing}
 use Rattle.aom_sound.proofs.Seats.{first_kept}
 use Rattle.std.proofs.Common.{Bool, List, Option, Some, [], ap, cond, false, refl, subst, sym, true, ℕ, ℤ, ◌==◌, ◌∙◌, ◌∷◌, ◌≡◌}
 use Rattle.aom_image.specs.Image.{Image}
@@ -138,7 +138,7 @@ module _ (p : Image) (t : Typing) (cs cs' : List Cell) (alike : Alike cs cs') wh
   declared_alike : (r : Place) → declared p cs' r ≡ declared p cs r
   declared_alike (Field n f) = ap (λ o. declared_field p o f) (alike.named_so n)
   declared_alike (Elsewhere (Session n c)) = ap (λ v. cond (has_session v c) (filled (session_thing p (named cs' n)) Full) Null) (alike.service_so n) ∙ ap (λ o. cond (has_session (service_of cs n) c) (filled (session_thing p o) Full) Null) (alike.named_so n)
-  declared_alike (Elsewhere (Queued n m)) = ap (λ v. cond (has_message v m) (filled (queued_thing p (named cs' n)) Full) Null) (alike.service_so n) ∙ ap (λ o. cond (has_message (service_of cs n) m) (filled (queued_thing p o) Full) Null) (alike.named_so n)
+  declared_alike (Elsewhere (Queued n m)) = ap (λ v. cond (has_message v m) (filled (message_thing p (named cs' n)) Full) Null) (alike.service_so n) ∙ ap (λ o. cond (has_message (service_of cs n) m) (filled (message_thing p o) Full) Null) (alike.named_so n)
   declared_alike _ = refl
 
   pub housed_alike : (ls : List Layer) (home : Home) → IsHoused p cs ls home → IsHoused p cs' ls home

@@ -1,9 +1,9 @@
 -- The tasks of a well-typed state as a stack on which only what can stand on a layer is written: for proofs that split what stands under a method, a going cell or a leave.
-use Rattle.std.proofs.Common.{arith, List, [], ap, refl, sym, ◌∙◌, ◌∷◌, ◌≡◌, ℤ}
+use Rattle.std.proofs.Common.{ℕ, arith, List, [], ap, refl, sym, ◌∙◌, ◌∷◌, ◌≡◌, ℤ}
 use Rattle.aom_image.specs.Image.{Image}
 use Rattle.aom_rules.specs.Typing.{Typing}
 use Rattle.aom_sound.specs.Claims.{Ending, Dispatching, Dying, Layer, Mark, Method, Unwinding, tasks_of}
-use Rattle.aom_sound.specs.Places.{Cell}
+use Rattle.aom_sound.specs.Places.{Object, Cell}
 use Rattle.aom_sound.specs.State.{Closing, Of_server, Parts, Stage, Destroy, Dispatch, Dispatched, Asks, Frame, Of_main, Of_object, Of_root, Run, Seat, State, Task, Trapped, Unwind}
 use Rattle.aom_sound.specs.WellTyped.{IsOverDying, Back, Caught, Gone, Leaves, Now, Returns, Stack, WellTyped}
 

@@ -16,7 +16,7 @@ use Rattle.aom_rules.specs.Requests.{is_service}
 use Rattle.aom_image.specs.declared.method.Thing.TheVariants.{Message}
 use Rattle.aom_shape.specs.declared.kind.Delivery.{Delivery}
 use Rattle.aom_shape.specs.declared.kind.Delivery.TheVariants.{Here, Gone}
-use Rattle.aom_sound.specs.Servers.{has_message, has_session, queued_thing, session_thing, is_among}
+use Rattle.aom_sound.specs.Servers.{message_thing, has_message, has_session, session_thing, is_among}
 use Rattle.aom_sound.specs.Places.{Place, Register, Entry, Field, Going, Elsewhere, Other, Root, Session, In_service, Queued, Object, Cell, named, service_of}
 use Rattle.aom_sound.specs.State.{Home, Static, AtRoot, Inside, Frame, Dispatch, Of_root, Seat, Task, Run, Trapped, Destroy, Unwind, Dispatched, Item, An_object, An_operation, A_mark, thing_holder, Closing, Of_server, Serves, Service_left, Parts}
 
@@ -200,7 +200,7 @@ abbrev pub declared_other : Image → List Cell → Other → Kind
 declared_other p cs Root = filled (field_thing p Program 0) Perhaps
 declared_other p cs (Session s c) = cond (has_session (service_of cs s) c) (filled (session_thing p (named cs s)) Full) Null
 declared_other p cs In_service = Null
-declared_other p cs (Queued s m) = cond (has_message (service_of cs s) m) (filled (queued_thing p (named cs s)) Full) Null
+declared_other p cs (Queued s m) = cond (has_message (service_of cs s) m) (filled (message_thing p (named cs s)) Full) Null
 
 abbrev pub declared : Image → List Cell → Place → Kind
 declared p cs (Register f i) = Null

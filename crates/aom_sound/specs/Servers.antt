@@ -3,7 +3,7 @@ use Rattle.std.specs.Prelude.{ℕ, suc, Bool, true, false, cond, not, is_some, �
 use Rattle.std.specs.List.{list_any}
 use Rattle.aom_image.specs.Image.{Image}
 use Rattle.aom_image.specs.declared.method.Thing.{Thing}
-use Rattle.aom_image.specs.declared.method.Thing.TheVariants.{Object as An_object_of, Message}
+use Rattle.aom_image.specs.declared.method.Thing.TheVariants.{Message, Object as An_object_of}
 use Rattle.aom_roles.specs.Classes.{sessions_in}
 use Rattle.aom_sound.specs.Enlisted.{thing_kind}
 use Rattle.aom_sound.specs.Places.{Asked, Cell, Close_of, Connect_of, Elsewhere, Entry, Field, Going, In_service, Object, Other, Place, Queued, Register, Root, Sender, Message_of, Service, Session, service_of, set_service}
@@ -24,14 +24,10 @@ abbrev pub session_thing : Image → Option Object → Option Thing
 session_thing p None = None
 session_thing p (Some o) = of_class (session_class p o.thing)
 
-abbrev pub message_of : Option ℕ → Option Thing
-message_of None = None
-message_of (Some c) = Some Message
-
--- what waits in its queue is
-abbrev pub queued_thing : Image → Option Object → Option Thing
-queued_thing p None = None
-queued_thing p (Some o) = message_of (session_class p o.thing)
+-- what waits in its queue is a message, and nothing waits at what is no server
+abbrev pub message_thing : Image → Option Object → Option Thing
+message_thing p None = None
+message_thing p (Some o) = cond (is_server p o.thing) (Some Message) None
 
 -- ---- what a server has
 
