@@ -36,7 +36,7 @@ use Rattle.aom_sound.specs.Kept.{ClientsFit, IsKept, QueueFits, TasksKept, is_cl
 use Rattle.aom_sound.specs.Laws.{IsWired}
 use Rattle.aom_sound.specs.Places.{Asked, Cell, Close_of, Connect_of, Elsewhere, Going, In_service, Message_of, Object, Place, Queued, Request, Root, Session, held, moved, named, requested, same_place, seen, service_of, set_request}
 use Rattle.aom_sound.specs.Servers.{has_session, is_from, is_server, reserved, rest_of as rest, taken_first}
-use Rattle.aom_sound.specs.State.{Dispatched, Goes, Inside, Of_server, Parts, Seat, State, Task}
+use Rattle.aom_sound.specs.State.{Closing, Destroy, Dispatched, Goes, Inside, Of_server, Parts, Seat, State, Task}
 use Rattle.aom_sound.specs.WellTyped.{Fits, Good, WellTyped}
 use Rattle.aom_sound.specs.World.{Candidate, Completes, Completion, Cuts, Heard, HearsWell, Hears, IsBetween, Kills, Obeys, Outside, Passes, Picks, Polls, Strays, Timed, Turning, Waits, accepting, attended, attending, by_event, by_timer, delivers, dispatched, first_due, first_ready, has_signal, heard_one, lives, next_event, next_native, next_time, parting_with, picks, picked, polled, polls, serves_first, taken_from, turn, turned, turning, with_request}
 use Rattle.aom_transcript.specs.declared.event.Event.{Event}
@@ -110,7 +110,7 @@ tasks_begun p clients cs o height ts kept = go (is_server p o.thing)
     by None = kept
     by (Some m) = kept
 
-    go : (b : Bool) → TasksKept clients cs (cond b _ (begun_by (destructor_of p o.thing) o height ts))
+    go : (b : Bool) → TasksKept clients cs (cond b (Closing ∷ Destroy ∷ ts) (begun_by (destructor_of p o.thing) o height ts))
     go true = kept
     go false = by (destructor_of p o.thing)
 
@@ -194,12 +194,13 @@ module _ (p : Image) (t : Typing) (wired : IsWired p) (s : State) (w : WellTyped
     picked_kept : picked p x s ≡ Goes u → IsKept p u
     picked_kept e = go (is_server p x.object.thing) e
       where
+        requested_fit : (o : Object) (r : Option Request) → ClientsFit p s.clients (set_request o.name r s.cells)
+        requested_fit o r = fit_same p s.clients s.cells (set_request o.name r s.cells) (same_requested s.cells o r) kept.fit
+
         go : (b : Bool) → cond b (serves_first p x (service_of s.cells n).queue s) (dispatched (part_of p Handles x.object.thing) x s) ≡ Goes u → IsKept p u
         go true e = serves_kept (service_of s.cells n).queue refl e
         go false e = let d = dispatched_so p s u x e in subst (λ v. IsKept p v) (sym d.2) (record { fit = requested_fit x.object _; stage = tt })
 
-        requested_fit : (o : Object) (r : Option Request) → ClientsFit p s.clients (set_request o.name r s.cells)
-        requested_fit o r = fit_same p s.clients s.cells (set_request o.name r s.cells) (same_requested s.cells o r) kept.fit
 
   -- ---- the others
 

@@ -71,3 +71,4 @@ pub mod Picking
 pub mod Parting
 pub mod Turning
 pub mod ClientsTurn
+pub mod ClientsMoves

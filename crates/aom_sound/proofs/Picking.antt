@@ -296,7 +296,7 @@ module _ (p : Image) (t : Typing) (wired : IsWired p) (typed : IsTyped p t) (s :
     message_now : message_thing p (Some x.object) ≡ Some Message
     message_now = ap (λ b. cond b (Some Message) None) server
 
-    session_there : (z : Object) × (held s.cells (Elsewhere (Session n client)) ≡ Some z) × (stands_for p z.thing (An_object_of its_class.1) ≡ true)
+    abbrev session_there : (z : Object) × (held s.cells (Elsewhere (Session n client)) ≡ Some z) × (stands_for p z.thing (An_object_of its_class.1) ≡ true)
     session_there = its_session client has_now
 
     abbrev z : Object
