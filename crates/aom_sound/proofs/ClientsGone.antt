@@ -13,8 +13,9 @@ use Rattle.aom_sound.proofs.Maps.{cond_same, same_place-true, same_place_comm, s
 use Rattle.aom_sound.proofs.Queues.{client_here, client_there, none_passes}
 use Rattle.aom_sound.proofs.Sifted.{a_cell_of, cell_in, cell_lives, cell_name, cell_of, cell_of_sifted, cell_owner, cell_placed, held_cell, held_sifted, kept, named_before, named_cell, object_in, service_cell, service_gone, service_in, service_sifted, sifted, unheld_sifted, unslotted_so}
 use Rattle.aom_sound.specs.Clients.{client_at, each_unslotted, queue_ended, sessions_ended, with_client}
-use Rattle.aom_sound.specs.Kept.{ClientsFit, EntryFits, QueueFits, asked_again, is_connect_of, is_message_of}
+use Rattle.aom_sound.specs.Kept.{ClientsFit, EntryFits, QueueFits, StageKept, asked_again, is_close_of, is_connect_of, is_message_of}
 use Rattle.aom_sound.specs.Places.{Asked, Cell, Close_of, Connect_of, Elsewhere, Message_of, Object, Place, Queued, Sender, Service, Tidy, held, named, same_place, service_of, unserved, without}
+use Rattle.aom_sound.specs.State.{Accept_left, Accepted, Accepts, Parts, Service_left, Serves, Stage}
 use Rattle.aom_sound.specs.Servers.{all_unslotted, has_session, is_from, is_queue_of, is_server, unslotted, without_queue}
 
 -- ---- what the clients are at
@@ -119,6 +120,18 @@ module _ (p : Image) (clients : List Client) (c : ℕ) where
 pub fit_each_unslotted : (p : Image) (clients : List Client) (xs : List ℕ) (cs : List Cell) → ClientsFit p clients cs → ClientsFit p clients (each_unslotted xs cs)
 fit_each_unslotted p clients [] cs fit = fit
 fit_each_unslotted p clients (c ∷ xs) cs fit = fit_each_unslotted p clients xs (all_unslotted c cs) (fit_unslotted p clients c cs fit)
+
+pub queue_unslotted : (xs : List ℕ) (cs : List Cell) (n : ℕ) → (service_of (each_unslotted xs cs) n).queue ≡ (service_of cs n).queue
+queue_unslotted [] cs n = refl
+queue_unslotted (c ∷ xs) cs n = queue_unslotted xs (all_unslotted c cs) n ∙ front cs
+  where
+    front : (cs : List Cell) → (service_of (all_unslotted c cs) n).queue ≡ (service_of cs n).queue
+    front [] = refl
+    front (x ∷ cs) = go (x.object.name == n) (front cs)
+      where
+        go : (b : Bool) → (service_of (all_unslotted c cs) n).queue ≡ (service_of cs n).queue → (cond b (record x.service { sender = unslotted c x.service.sender }) (service_of (all_unslotted c cs) n)).queue ≡ (cond b x.service (service_of cs n)).queue
+        go true e = refl
+        go false e = e
 
 -- what goes with it
 abbrev pub goes_with : ℕ → Place → Cell → Bool
@@ -337,3 +350,18 @@ module _
   -- with it and its queue gone
   pub fit_gone : ClientsFit p then (each_unslotted (service_of cs o.name).sessions (without g (without_queue o.name cs)))
   fit_gone = fit_each_unslotted p then (service_of cs o.name).sessions (without g (without_queue o.name cs)) (subst (λ l. ClientsFit p then l) (sym (gone_so o.name g cs)) fit_left)
+
+  -- a stage of the dispatch of another server stays kept
+  pub stage_gone : (n c : ℕ) (stage : Stage) → (o.name == n) ≡ false → StageKept clients cs n c stage → StageKept then (each_unslotted (service_of cs o.name).sessions (without g (without_queue o.name cs))) n c stage
+  stage_gone n c stage other k = at stage k
+    where
+      queue : (service_of (each_unslotted (service_of cs o.name).sessions (without g (without_queue o.name cs))) n).queue ≡ (service_of cs n).queue
+      queue = queue_unslotted (service_of cs o.name).sessions (without g (without_queue o.name cs)) n ∙ ap (λ l. (service_of l n).queue) (gone_so o.name g cs) ∙ (service_left n other).0
+
+      at : (stage : Stage) → StageKept clients cs n c stage → StageKept then (each_unslotted (service_of cs o.name).sessions (without g (without_queue o.name cs))) n c stage
+      at Accepts k = (ap (λ x. is_connecting_at n x) (with_connect n c other k.0) ∙ k.0, ap (λ q. list_any (is_connect_of c) q) queue ∙ k.1)
+      at (Accept_left code) k = (ap (λ x. is_connecting_at n x) (with_connect n c other k.0) ∙ k.0, ap (λ q. list_any (is_connect_of c) q) queue ∙ k.1)
+      at Parts k = (ap (λ x. is_leaving n x) (with_session n c other (leaving_only n n (client_at clients c) k.0).2) ∙ k.0, ap (λ q. list_any (is_close_of c) q) queue ∙ k.1)
+      at Accepted k = tt
+      at (Serves x) k = tt
+      at (Service_left code) k = tt

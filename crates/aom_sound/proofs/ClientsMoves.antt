@@ -28,7 +28,7 @@ use Rattle.aom_sound.specs.Effects.{Carried, In_field, In_register, Made, Popped
 use Rattle.aom_sound.specs.Enlisted.{begun_cells, cancelled, cancelling, ended_cells, on_request, own_request, rerequested}
 use Rattle.aom_sound.specs.Kept.{ClientsFit, IsKept, QueueFits, StageKept, TasksKept, is_close_of, is_connect_of, is_message_of}
 use Rattle.aom_sound.specs.Natives.{resessioned}
-use Rattle.aom_sound.specs.Places.{Asked, Cell, Elsewhere, Entry, Field, Going, In_service, Object, Place, Queued, Register, Request, Root, Tidy, held, moved, named, same_place, service_of, set_request, set_session, set_word_field, with_new}
+use Rattle.aom_sound.specs.Places.{Asked, Cell, Elsewhere, Entry, Field, Going, In_service, Object, Place, Queued, Register, Request, Root, Tidy, held, moved, named, same_place, service_of, set_request, set_session, set_word_field, unserved, with_new}
 use Rattle.aom_sound.specs.Servers.{has_session, is_from, is_server}
 use Rattle.aom_sound.specs.State.{Accept_left, Accepted, Accepts, AtRoot, Closing, Destroy, Dispatch, Dispatched, Frame, Home, Inside, Of_server, Parts, Run, Seat, Service_left, Serves, Stage, State, Static, Task, Trapped, Unwind, field_place}
 use Rattle.aom_sound.specs.Words.{here, stored}
@@ -57,23 +57,27 @@ fit_steady p clients cs cs' still fit = record {
     servers o plain (inl e) = let none = fit.servers o e plain in (still.queues o.name ∙ none.0, still.sessions o.name ∙ none.1)
     servers o plain (inr e) = (still.queues o.name ∙ ap (λ v. v.queue) (service_unnamed cs o.name e), still.sessions o.name ∙ ap (λ v. v.sessions) (service_unnamed cs o.name e))
 
-stage_steady : (clients : List Client) (cs cs' : List Cell) → Steady cs cs' → (n c : ℕ) (stage : Stage) → StageKept clients cs n c stage → StageKept clients cs' n c stage
-stage_steady clients cs cs' still n c Accepts k = (k.0, ap (λ q. list_any (is_connect_of c) q) (still.queues n) ∙ k.1)
-stage_steady clients cs cs' still n c (Accept_left code) k = (k.0, ap (λ q. list_any (is_connect_of c) q) (still.queues n) ∙ k.1)
-stage_steady clients cs cs' still n c Parts k = (k.0, ap (λ q. list_any (is_close_of c) q) (still.queues n) ∙ k.1)
-stage_steady clients cs cs' still n c Accepted k = tt
-stage_steady clients cs cs' still n c (Serves o) k = tt
-stage_steady clients cs cs' still n c (Service_left code) k = tt
+module _ (clients : List Client) (cs cs' : List Cell) (queues : (n : ℕ) → (service_of cs' n).queue ≡ (service_of cs n).queue) where
+  pub stage_queues : (n c : ℕ) (stage : Stage) → StageKept clients cs n c stage → StageKept clients cs' n c stage
+  stage_queues n c Accepts k = (k.0, ap (λ q. list_any (is_connect_of c) q) (queues n) ∙ k.1)
+  stage_queues n c (Accept_left code) k = (k.0, ap (λ q. list_any (is_connect_of c) q) (queues n) ∙ k.1)
+  stage_queues n c Parts k = (k.0, ap (λ q. list_any (is_close_of c) q) (queues n) ∙ k.1)
+  stage_queues n c Accepted k = tt
+  stage_queues n c (Serves o) k = tt
+  stage_queues n c (Service_left code) k = tt
+
+  pub tasks_queues : (ts : List Task) → TasksKept clients cs ts → TasksKept clients cs' ts
+  tasks_queues [] k = tt
+  tasks_queues (Run fr ∷ ts) k = tasks_queues ts k
+  tasks_queues (Trapped ∷ ts) k = tasks_queues ts k
+  tasks_queues (Destroy ∷ ts) k = tasks_queues ts k
+  tasks_queues (Closing ∷ ts) k = tasks_queues ts k
+  tasks_queues (Unwind code ∷ ts) k = tasks_queues ts k
+  tasks_queues (Dispatched (Of_server x c stage) ∷ ts) k = stage_queues x.object.name c stage k
+  tasks_queues (Dispatched _ ∷ ts) k = tt
 
 pub tasks_steady : (clients : List Client) (cs cs' : List Cell) → Steady cs cs' → (ts : List Task) → TasksKept clients cs ts → TasksKept clients cs' ts
-tasks_steady clients cs cs' still [] k = tt
-tasks_steady clients cs cs' still (Run fr ∷ ts) k = tasks_steady clients cs cs' still ts k
-tasks_steady clients cs cs' still (Trapped ∷ ts) k = tasks_steady clients cs cs' still ts k
-tasks_steady clients cs cs' still (Destroy ∷ ts) k = tasks_steady clients cs cs' still ts k
-tasks_steady clients cs cs' still (Closing ∷ ts) k = tasks_steady clients cs cs' still ts k
-tasks_steady clients cs cs' still (Unwind code ∷ ts) k = tasks_steady clients cs cs' still ts k
-tasks_steady clients cs cs' still (Dispatched (Of_server x c stage) ∷ ts) k = stage_steady clients cs cs' still x.object.name c stage k
-tasks_steady clients cs cs' still (Dispatched _ ∷ ts) k = tt
+tasks_steady clients cs cs' still ts k = tasks_queues clients cs cs' still.queues ts k
 
 pub steady_itself : (cs : List Cell) → Steady cs cs
 steady_itself cs = record { queues = λ n. refl; sessions = λ n. refl; lived = λ o h. inl h; queued = λ n m o h. h; senders = λ c m h. h }
@@ -105,7 +109,7 @@ steady_moved_then cs cs' cs'' a b names = record {
 pub held_elsewhere : (cs : List Cell) (a b r : Place) → same_place b r ≡ false → held (moved a b cs) r ≡ cond (same_place a r) None (held cs r)
 held_elsewhere [] a b r apart = go (same_place a r)
   where
-    go : (x : Bool) → None ≡ cond x None None
+    go : (x : Bool) → held [] r ≡ cond x None (held [] r)
     go true = refl
     go false = refl
 held_elsewhere (c ∷ cs) a b r apart = go (same_place c.owner a) refl (same_place a r) refl (held_elsewhere cs a b r apart)
@@ -143,7 +147,7 @@ steady_new cs name x ws owner apart free = record {
   senders = λ c m h. ap (λ v. is_from c v.sender) (same m (name == m) refl) ∙ h;
 }
   where
-    same : (n : ℕ) (b : Bool) → (name == n) ≡ b → cond b _ (service_of cs n) ≡ service_of cs n
+    same : (n : ℕ) (b : Bool) → (name == n) ≡ b → cond b unserved (service_of cs n) ≡ service_of cs n
     same n true e = sym (ap (λ k. service_of cs k) (sym (eqb-true name n e)) ∙ service_unnamed cs name free)
     same n false e = refl
 

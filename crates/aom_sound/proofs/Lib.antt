@@ -72,3 +72,7 @@ pub mod Parting
 pub mod Turning
 pub mod ClientsTurn
 pub mod ClientsMoves
+pub mod ClientsEffects
+pub mod ClientsFacts
+pub mod ClientsReturn
+pub mod ClientsKeep

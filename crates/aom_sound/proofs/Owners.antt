@@ -41,7 +41,7 @@ HasThing Null x = ⊥
 HasThing (Own c a) x = x ≡ c
 HasThing (Maybe c a) x = x ≡ c
 
-fits_thing : (p : Image) (h : Sight) (o : Object) (k : Kind) → Fits p h (Some o) k → HasThing k o.thing
+pub fits_thing : (p : Image) (h : Sight) (o : Object) (k : Kind) → Fits p h (Some o) k → HasThing k o.thing
 fits_thing p h o (Own c a) f = stands_same p o.thing c f.0
 fits_thing p h o (Maybe c a) f = stands_same p o.thing c f.0
 fits_thing p h o _ f = f
