@@ -7,6 +7,7 @@ use Rattle.std.specs.Prelude.{is_some}
 use Rattle.aom_image.specs.Image.{Image}
 use Rattle.aom_image.specs.Views.{arguments_of, instr_at}
 use Rattle.aom_image.specs.declared.method.Gives.{Gives}
+use Rattle.aom_clients.specs.declared.client.Client.{Client}
 use Rattle.aom_instructions.specs.declared.instr.Instr.{Instr}
 use Rattle.aom_instructions.specs.declared.instr.Instr.TheVariants as instrs
 use Rattle.aom_sound.proofs.ClientsMoves.{Steady, fit_steady, steady_asked, steady_ended, steady_moved, steady_passed, steady_result, steady_update, tasks_queues, tasks_steady}
@@ -22,16 +23,23 @@ use Rattle.aom_sound.specs.Words.{here}
 
 -- ---- the effects that this is of
 
--- a cell that is made has the name that is free
+-- a cell that is made has the name that is free; no message is completed, and no method returns
 module _ (s : State) where
   abbrev pub IsFine : Update → Type 0
   IsFine (Made name class a) = named s.cells name ≡ None
+  IsFine (Replied a) = ⊥
   IsFine _ = Unit {0}
 
   abbrev pub Fine : Effect → Type 0
   Fine (Goes_on ch) = IsFine ch.update
   Fine (Leaves code u) = IsFine u
+  Fine (Returns g a) = ⊥
   Fine _ = Unit {0}
+
+abbrev pub IsUsual : Instr → Type 0
+IsUsual (instrs.Reply a b) = ⊥
+IsUsual (instrs.Return a) = ⊥
+IsUsual _ = Unit {0}
 
 module _ (p : Image) (c : Choice) (fr : Frame) (ts : List Task) (s : State) (free : named s.cells c.name ≡ None) where
   fine_cond : (b : Bool) (x y : Effect) → Fine s x → Fine s y → Fine s (cond b x y)
@@ -66,27 +74,29 @@ module _ (p : Image) (c : Choice) (fr : Frame) (ts : List Task) (s : State) (fre
   fine_makes true x a = tt
   fine_makes false x a = free
 
-  pub fine_effect : (i : Instr) → Fine s (effect p c fr ts s i)
-  fine_effect (instrs.JumpEqual a b to) = fine_cond _ (Jumps to) (updates fr Unchanged) tt tt
-  fine_effect (instrs.JumpLess a b to) = fine_cond _ (Jumps to) (updates fr Unchanged) tt tt
-  fine_effect (instrs.JumpActive to) = fine_cond _ (Jumps to) (updates fr Unchanged) tt tt
-  fine_effect (instrs.JumpAdded to) = fine_cond _ (Jumps to) (updates fr Unchanged) tt tt
-  fine_effect (instrs.JumpNull a to) = fine_unless _ to
-  fine_effect (instrs.JumpEmpty f to) = fine_unless _ to
-  fine_effect (instrs.Next depth to) = fine_round _ depth to
-  fine_effect (instrs.New a x) = fine_makes c.refused x a
-  fine_effect (instrs.Delete a) = fine_deletes _ a
-  fine_effect (instrs.NewOrLeave a x) = fine_cond c.refused _ _ tt free
-  fine_effect (instrs.Push a) = fine_cond c.refused _ _ tt tt
-  fine_effect (instrs.PushOperation a m) = fine_cond c.refused _ _ tt tt
-  fine_effect instrs.PopDelete = fine_deals s.items _
-  fine_effect (instrs.LeaveIf a) = fine_cond _ _ _ tt tt
-  fine_effect instrs.Cancel = fine_cancels _ _
-  fine_effect _ = tt
+  pub fine_effect : (i : Instr) → IsUsual i → Fine s (effect p c fr ts s i)
+  fine_effect (instrs.JumpEqual a b to) usual = fine_cond _ (Jumps to) (updates fr Unchanged) tt tt
+  fine_effect (instrs.JumpLess a b to) usual = fine_cond _ (Jumps to) (updates fr Unchanged) tt tt
+  fine_effect (instrs.JumpActive to) usual = fine_cond _ (Jumps to) (updates fr Unchanged) tt tt
+  fine_effect (instrs.JumpAdded to) usual = fine_cond _ (Jumps to) (updates fr Unchanged) tt tt
+  fine_effect (instrs.JumpNull a to) usual = fine_unless _ to
+  fine_effect (instrs.JumpEmpty f to) usual = fine_unless _ to
+  fine_effect (instrs.Next depth to) usual = fine_round _ depth to
+  fine_effect (instrs.New a x) usual = fine_makes c.refused x a
+  fine_effect (instrs.Delete a) usual = fine_deletes _ a
+  fine_effect (instrs.NewOrLeave a x) usual = fine_cond c.refused _ _ tt free
+  fine_effect (instrs.Push a) usual = fine_cond c.refused _ _ tt tt
+  fine_effect (instrs.PushOperation a m) usual = fine_cond c.refused _ _ tt tt
+  fine_effect instrs.PopDelete usual = fine_deals s.items _
+  fine_effect (instrs.LeaveIf a) usual = fine_cond _ _ _ tt tt
+  fine_effect instrs.Cancel usual = fine_cancels _ _
+  fine_effect (instrs.Reply a b) usual = absurd usual
+  fine_effect (instrs.Return a) usual = absurd usual
+  fine_effect _ usual = tt
 
 -- ---- the effects
 
-tasks_to_trap : (clients : List _) (cs : List Cell) (ts : List Task) → TasksKept clients cs ts → TasksKept clients cs (to_trap ts)
+tasks_to_trap : (clients : List Client) (cs : List Cell) (ts : List Task) → TasksKept clients cs ts → TasksKept clients cs (to_trap ts)
 tasks_to_trap clients cs [] k = k
 tasks_to_trap clients cs (Run fr ∷ ts) k = tasks_to_trap clients cs ts k
 tasks_to_trap clients cs (Trapped ∷ ts) k = k
@@ -95,30 +105,19 @@ tasks_to_trap clients cs (Closing ∷ ts) k = k
 tasks_to_trap clients cs (Unwind code ∷ ts) k = k
 tasks_to_trap clients cs (Dispatched d ∷ ts) k = k
 
--- what is not of these lemmas: that a message is completed, and that a method returns
-abbrev IsOurs : Update → Type 0
-IsOurs (Replied a) = ⊥
-IsOurs _ = Unit {0}
-
-abbrev pub IsPlain : Effect → Type 0
-IsPlain (Goes_on ch) = IsOurs ch.update
-IsPlain (Leaves code u) = IsOurs u
-IsPlain (Returns g a) = ⊥
-IsPlain _ = Unit {0}
-
 module _ (p : Image) (fr : Frame) (ts : List Task) (s : State) (fit : ClientsFit p s.clients s.cells) (stage : TasksKept s.clients s.cells ts) where
-  steady : (u : Update) → IsOurs u → IsFine s u → Steady s.cells (cells_after p fr ts s u)
-  steady (Made name class a) o f = steady_update p fr ts s (Made name class a) f
-  steady (Carried from to) o f = steady_update p fr ts s (Carried from to) tt
-  steady (Written w v) o f = steady_update p fr ts s (Written w v) tt
-  steady (Requested r) o f = steady_update p fr ts s (Requested r) tt
-  steady (Sessioned b) o f = steady_update p fr ts s (Sessioned b) tt
-  steady (Replied a) o f = absurd o
-  steady (Pushed a) o f = steady_update p fr ts s (Pushed a) tt
-  steady (Popped a) o f = steady_update p fr ts s (Popped a) tt
-  steady Unchanged o f = steady_update p fr ts s Unchanged tt
-  steady (Pushed_operation m w) o f = steady_update p fr ts s (Pushed_operation m w) tt
-  steady Popped_operation o f = steady_update p fr ts s Popped_operation tt
+  steady : (u : Update) → IsFine s u → Steady s.cells (cells_after p fr ts s u)
+  steady (Made name class a) f = steady_update p fr ts s (Made name class a) f
+  steady (Carried from to) f = steady_update p fr ts s (Carried from to) tt
+  steady (Written w v) f = steady_update p fr ts s (Written w v) tt
+  steady (Requested r) f = steady_update p fr ts s (Requested r) tt
+  steady (Sessioned b) f = steady_update p fr ts s (Sessioned b) tt
+  steady (Replied a) f = absurd f
+  steady (Pushed a) f = steady_update p fr ts s (Pushed a) tt
+  steady (Popped a) f = steady_update p fr ts s (Popped a) tt
+  steady Unchanged f = steady_update p fr ts s Unchanged tt
+  steady (Pushed_operation m w) f = steady_update p fr ts s (Pushed_operation m w) tt
+  steady Popped_operation f = steady_update p fr ts s Popped_operation tt
 
   -- with those cells, and tasks over these
   kept_by : (u : State) → u.clients ≡ s.clients → Steady s.cells u.cells → (TasksKept s.clients u.cells ts → TasksKept s.clients u.cells u.tasks) → IsKept p u
@@ -127,16 +126,16 @@ module _ (p : Image) (fr : Frame) (ts : List Task) (s : State) (fit : ClientsFit
     stage = subst (λ l. TasksKept l u.cells u.tasks) (sym clients) (over (tasks_steady s.clients s.cells u.cells still ts stage));
   }
 
-  pub effect_kept : (e : Effect) → IsPlain e → Fine s e → IsKept p (applied p fr ts s e)
-  effect_kept (Goes_on ch) o f = kept_by (applied p fr ts s (Goes_on ch)) refl (steady ch.update o f) (λ k. k)
-  effect_kept (Jumps to) o f = kept_by (applied p fr ts s (Jumps to)) refl (steady Unchanged tt tt) (λ k. k)
-  effect_kept (Counts depth rounds) o f = kept_by (applied p fr ts s (Counts depth rounds)) refl (steady Unchanged tt tt) (λ k. k)
-  effect_kept (Repeats depth rounds to) o f = kept_by (applied p fr ts s (Repeats depth rounds to)) refl (steady Unchanged tt tt) (λ k. k)
-  effect_kept (Calls target m first) o f = kept_by (applied p fr ts s (Calls target m first)) refl (steady_passed p fr ts s _ (arguments_of p m) first 0 s.cells) (λ k. k)
-  effect_kept (Sets_trap target m first) o f = kept_by (applied p fr ts s (Sets_trap target m first)) refl (steady_passed p fr ts s _ (arguments_of p m) first 0 s.cells) (λ k. k)
-  effect_kept (Cancels m) o f = kept_by (applied p fr ts s (Cancels m)) refl (steady_asked s.cells fr.home (on_request cancelling (own_request s.cells fr.home))) (λ k. k)
-  effect_kept (Returns g a) o f = absurd o
-  effect_kept (Leaves code u) o f = kept_by (applied p fr ts s (Leaves code u)) refl (steady u o f) (λ k. tasks_to_trap s.clients _ ts k)
-  effect_kept (Destroys x a words) o f = kept_by (applied p fr ts s (Destroys x a words)) refl (steady_moved s.cells (here fr ts s a) (Going (suc (length ts))) (λ n m. refl)) (λ k. tasks_begun p s.clients _ x _ _ k)
-  effect_kept (Destroys_last x) o f = kept_by (applied p fr ts s (Destroys_last x)) refl (steady_moved s.cells (top_place s.items) (Going (suc (length ts))) (λ n m. refl)) (λ k. tasks_begun p s.clients _ x _ _ k)
-  effect_kept (Operates m w) o f = kept_by (applied p fr ts s (Operates m w)) refl (steady Unchanged tt tt) (λ k. k)
+  pub effect_kept : (e : Effect) → Fine s e → IsKept p (applied p fr ts s e)
+  effect_kept (Goes_on ch) f = kept_by (applied p fr ts s (Goes_on ch)) refl (steady ch.update f) (λ k. k)
+  effect_kept (Jumps to) f = kept_by (applied p fr ts s (Jumps to)) refl (steady Unchanged tt) (λ k. k)
+  effect_kept (Counts depth rounds) f = kept_by (applied p fr ts s (Counts depth rounds)) refl (steady Unchanged tt) (λ k. k)
+  effect_kept (Repeats depth rounds to) f = kept_by (applied p fr ts s (Repeats depth rounds to)) refl (steady Unchanged tt) (λ k. k)
+  effect_kept (Calls target m first) f = kept_by (applied p fr ts s (Calls target m first)) refl (steady_passed p fr ts s _ (arguments_of p m) first 0 s.cells) (λ k. k)
+  effect_kept (Sets_trap target m first) f = kept_by (applied p fr ts s (Sets_trap target m first)) refl (steady_passed p fr ts s _ (arguments_of p m) first 0 s.cells) (λ k. k)
+  effect_kept (Cancels m) f = kept_by (applied p fr ts s (Cancels m)) refl (steady_asked s.cells fr.home (on_request cancelling (own_request s.cells fr.home))) (λ k. k)
+  effect_kept (Returns g a) f = absurd f
+  effect_kept (Leaves code u) f = kept_by (applied p fr ts s (Leaves code u)) refl (steady u f) (λ k. tasks_to_trap s.clients _ ts k)
+  effect_kept (Destroys x a words) f = kept_by (applied p fr ts s (Destroys x a words)) refl (steady_moved s.cells (here fr ts s a) (Going (suc (length ts))) (λ n m. refl)) (λ k. tasks_begun p s.clients _ x _ _ k)
+  effect_kept (Destroys_last x) f = kept_by (applied p fr ts s (Destroys_last x)) refl (steady_moved s.cells (top_place s.items) (Going (suc (length ts))) (λ n m. refl)) (λ k. tasks_begun p s.clients _ x _ _ k)
+  effect_kept (Operates m w) f = kept_by (applied p fr ts s (Operates m w)) refl (steady Unchanged tt) (λ k. k)
