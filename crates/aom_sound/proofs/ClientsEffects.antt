@@ -2,8 +2,6 @@
 use Rattle.std.proofs.Common.{Bool, List, None, Option, Some, [], ap, cond, false, inl, inr, length, refl, subst, suc, sym, true, zero, ℕ, ℤ, ◌&&◌, ◌-◌, ◌==◌, ◌∙◌, ◌∷◌, ◌≡◌}
 use Rattle.std.proofs.lemmas.Bool.{eq-eqb, eqb-true, ne_eqb, true≢false}
 use Rattle.std.specs.List.{list_any}
-use Rattle.std.specs.Ordering.{int_eq, int_lt}
-use Rattle.std.specs.Prelude.{is_some}
 use Rattle.aom_image.specs.Image.{Image}
 use Rattle.aom_image.specs.Views.{arguments_of, instr_at}
 use Rattle.aom_image.specs.declared.method.Gives.{Gives}
@@ -13,13 +11,13 @@ use Rattle.aom_instructions.specs.declared.instr.Instr.TheVariants as instrs
 use Rattle.aom_sound.proofs.ClientsMoves.{Steady, fit_steady, steady_asked, steady_ended, steady_moved, steady_passed, steady_result, steady_update, tasks_queues, tasks_steady}
 use Rattle.aom_sound.proofs.ClientsTurn.{tasks_begun}
 use Rattle.aom_sound.specs.Calls.{ended_well, result_register, returned}
-use Rattle.aom_sound.specs.Cleanup.{to_trap, top_place}
+use Rattle.aom_sound.specs.Cleanup.{is_negative, to_trap, top_place}
 use Rattle.aom_sound.specs.Effects.{Calls, Cancels, Carried, Change, Counts, Destroys, Destroys_last, Effect, Goes_on, Jumps, Leaves, Made, Operates, Popped, Popped_operation, Pushed, Pushed_operation, Repeats, Replied, Requested, Returns, Same as Unchanged, Sessioned, Sets_trap, Update, Written, applied, cancels_if, cells_after, deals, deletes, effect, jumps_if, jumps_unless, makes_unless, round, unless_refused, updates}
 use Rattle.aom_sound.specs.Enlisted.{cancelling, ended_cells, on_request, own_request}
 use Rattle.aom_sound.specs.Kept.{ClientsFit, IsKept, TasksKept}
 use Rattle.aom_sound.specs.Places.{Cell, Going, Object, named, service_of}
 use Rattle.aom_sound.specs.State.{A_mark, An_object, An_operation, Choice, Closing, Destroy, Dispatch, Dispatched, Frame, Item, Run, State, Task, Trapped, Unwind}
-use Rattle.aom_sound.specs.Words.{here}
+use Rattle.aom_sound.specs.Words.{here, read}
 
 -- ---- the effects that this is of
 
@@ -88,7 +86,7 @@ module _ (p : Image) (c : Choice) (fr : Frame) (ts : List Task) (s : State) (fre
   fine_effect (instrs.Push a) usual = fine_cond c.refused _ _ tt tt
   fine_effect (instrs.PushOperation a m) usual = fine_cond c.refused _ _ tt tt
   fine_effect instrs.PopDelete usual = fine_deals s.items _
-  fine_effect (instrs.LeaveIf a) usual = fine_cond _ _ _ tt tt
+  fine_effect (instrs.LeaveIf a) usual = fine_cond (is_negative p c fr ts s (read fr ts s a)) (Leaves (read fr ts s a) Unchanged) (updates fr Unchanged) tt tt
   fine_effect instrs.Cancel usual = fine_cancels _ _
   fine_effect (instrs.Reply a b) usual = absurd usual
   fine_effect (instrs.Return a) usual = absurd usual

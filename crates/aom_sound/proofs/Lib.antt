@@ -76,3 +76,4 @@ pub mod ClientsEffects
 pub mod ClientsFacts
 pub mod ClientsReturn
 pub mod ClientsKeep
+pub mod Commanding
