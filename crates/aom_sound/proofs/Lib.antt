@@ -2,6 +2,9 @@ pub mod Maps
 pub mod Counts
 pub mod Services
 pub mod Attending
+pub mod Dropping
+pub mod Unslotting
+pub mod Accepting
 pub mod Things
 pub mod Items
 pub mod Seats
