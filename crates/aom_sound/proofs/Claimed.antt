@@ -23,7 +23,7 @@ use Rattle.aom_sound.specs.Servers.{message_thing, has_message, has_session, is_
 use Rattle.aom_sound.proofs.Seats.{NoFieldHere, NoSeatHere, first_kept, sits_kept}
 use Rattle.aom_sound.proofs.Maps.{at-put_at, held_moved, named_moved, requested_moved, same_place-true, same_place_refl, transfer}
 use Rattle.aom_sound.specs.Claims.{is_of_root, Dispatching, Dying, Form, Layer, Mark, Method, Unwinding, claim, declared, declared_field, entries_of, entry_claim, home_claim, items_of, layer_claim, objects, root_claim, tasks_of, Ending, by_close, by_stage, delivered, serves}
-use Rattle.aom_sound.specs.Places.{Cell, Elsewhere, Entry, Field, Going, Object, Place, Register, Root, Sight, changed, held, moved, named, same_place, Session, In_service, Queued, service_of}
+use Rattle.aom_sound.specs.Places.{Service, Cell, Elsewhere, Entry, Field, Going, Object, Place, Register, Root, Sight, changed, held, moved, named, same_place, Session, In_service, Queued, service_of}
 use Rattle.aom_sound.specs.State.{AtRoot, Dispatch, Frame, Home, Inside, Seat, Static, field_place, home_holder, thing_holder, Of_server, Parts, Serves, Service_left}
 use Rattle.aom_sound.specs.WellTyped.{Back, Caught, Fits, Gone, HasAge, Holds, IsBelow, IsHoused, IsNoFieldOf, Leaves, NoneFrom, NoneIn, NotFrom, NotIn, Returns, Stack, Unclaimed, WordFits, by_field, seat_of, Now}
 use mathlib.Core.Path.{fun_ext}
@@ -314,10 +314,10 @@ stack_moved p t cs a b (Dispatching d seats ∷ ls) back free oa ob s = (
   s.1,
   sits_kept cs (moved a b cs) a b seats (λ r o na nb there lives. (held_moved cs a b r free ∙ ap (λ x. cond x (held cs a) (cond (same_place a r) None (held cs r))) nb ∙ ap (λ x. cond x None (held cs r)) na ∙ there, named_moved cs a b o.name ∙ lives)) (no_seat_outside a d seats ls oa) (no_seat_outside b d seats ls ob) s.2,
   first_kept cs (moved a b cs) a (seat_of d) seats (λ r o na there lives some. ap is_some (requested_moved cs a b o.name) ∙ some) (no_seat_outside a d seats ls oa) s.2 s.3,
-  attended_kept p cs (moved a b cs) (service_moved cs a b) d s.4,
+  attended_kept p cs (moved a b cs) (λ n. ap (λ (v : Service). v.sessions) (service_moved cs a b n)) d s.4,
 )
 stack_moved p t cs a b (Ending o left ∷ ls) back free oa ob s = (
-  sessions_kept p cs (moved a b cs) (named_moved cs a b) (service_moved cs a b) o left s.0,
+  sessions_kept p cs (moved a b cs) (named_moved cs a b) (λ n. ap (λ (v : Service). v.sessions) (service_moved cs a b n)) o left s.0,
   s.1,
   s.2,
   stack_moved p t cs a b ls _ free (outside_less a (Ending o left) ls oa) (outside_less b (Ending o left) ls ob) s.3,

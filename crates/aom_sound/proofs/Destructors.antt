@@ -22,7 +22,7 @@ use Rattle.aom_shape.specs.declared.kind.Filling.TheVariants.{Empty, Perhaps}
 use Rattle.aom_shape.specs.declared.kind.Kind.TheVariants.{Null}
 use Rattle.aom_sound.proofs.Claimed.{claim_register_above}
 use Rattle.aom_sound.proofs.Finishing.{ended_plainly, no_entries, none_left, none_owns_at, return_needs, returnable, same_items}
-use Rattle.aom_sound.proofs.Going.{no_fields, nothing_in}
+use Rattle.aom_sound.proofs.Going.{nothing_left}
 use Rattle.aom_sound.proofs.Straight.{At, Law, fits_unowning}
 use Rattle.aom_sound.specs.Calls.{is_emptied, result_needs}
 use Rattle.aom_sound.specs.Claims.{serves, Dying, Layer, claim, declared, entry_claim, home_claim, items_of, root_claim, tasks_of}

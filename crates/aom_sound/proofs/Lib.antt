@@ -9,6 +9,9 @@ pub mod ClientsLeave
 pub mod ClientsGone
 pub mod ClientsCommand
 pub mod Attending
+pub mod Dropping
+pub mod Unslotting
+pub mod Accepting
 pub mod Things
 pub mod Items
 pub mod Seats

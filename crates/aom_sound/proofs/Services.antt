@@ -3,7 +3,7 @@ use Rattle.std.proofs.Common.{Bool, List, None, Option, Some, [], ap, cond, fals
 use Rattle.std.proofs.lemmas.Bool.{eqb-true, eq-eqb, false≢true, ne_eqb, true≢false}
 use Rattle.aom_image.specs.Image.{Image}
 use Rattle.aom_sound.specs.WellTyped.{AllSit, SitsFirst, seat_of, EndsSessions, IsAttended, StageFits}
-use Rattle.aom_sound.specs.Servers.{has_session}
+use Rattle.aom_sound.specs.Servers.{is_among, has_session}
 use Rattle.aom_sound.specs.State.{Seat, Dispatch, Of_server, Stage, Accepts, Accepted, Accept_left, Serves, Service_left, Parts}
 use Rattle.aom_sound.proofs.Maps.{front_free, held_named, same_place-true, without_none}
 use Rattle.aom_sound.specs.Natives.{all_bereaved}
@@ -85,12 +85,12 @@ service_there (c ∷ cs) m n v other = go (c.object.name == n) (c.object.name ==
 
 -- ---- what a stack says of it
 
-module _ (p : Image) (cs cs' : List Cell) (service : (n : ℕ) → service_of cs' n ≡ service_of cs n) where
+module _ (p : Image) (cs cs' : List Cell) (service : (n : ℕ) → (service_of cs' n).sessions ≡ (service_of cs n).sessions) where
   pub attended_kept : (d : Dispatch) → IsAttended p cs d → IsAttended p cs' d
   attended_kept (Of_server x c stage) h = (h.0, go stage h.1)
     where
       same : (b : Bool) → has_session (service_of cs x.object.name) c ≡ b → has_session (service_of cs' x.object.name) c ≡ b
-      same b e = ap (λ v. has_session v c) (service x.object.name) ∙ e
+      same b e = ap (λ ss. is_among c ss) (service x.object.name) ∙ e
 
       go : (stage : Stage) → StageFits cs x c stage → StageFits cs' x c stage
       go Accepts h = same false h
@@ -127,9 +127,9 @@ sits_there cs [] y sits first = cc
 pub sits_lives : (cs : List Cell) (seats : List Seat) (y : Seat) → AllSit cs seats → SitsFirst cs (Some y) seats → named cs y.object.name ≡ Some y.object
 sits_lives cs seats y sits first = (sits_there cs seats y sits first).1
 
-pub sessions_kept : (p : Image) (cs cs' : List Cell) → ((n : ℕ) → named cs' n ≡ named cs n) → ((n : ℕ) → service_of cs' n ≡ service_of cs n) → (o : Object) (left : List ℕ) → EndsSessions p cs o left → EndsSessions p cs' o left
+pub sessions_kept : (p : Image) (cs cs' : List Cell) → ((n : ℕ) → named cs' n ≡ named cs n) → ((n : ℕ) → (service_of cs' n).sessions ≡ (service_of cs n).sessions) → (o : Object) (left : List ℕ) → EndsSessions p cs o left → EndsSessions p cs' o left
 sessions_kept p cs cs' names service o left h = record {
   server = h.server;
   lives = names o.name ∙ h.lives;
-  listed = λ c e. ap (λ v. has_session v c) (service o.name) ∙ h.listed c e;
+  listed = λ c e. ap (λ ss. is_among c ss) (service o.name) ∙ h.listed c e;
 }

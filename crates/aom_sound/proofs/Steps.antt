@@ -25,7 +25,7 @@ use Rattle.aom_sound.proofs.Requesting.{law_abort, law_enlist, law_issue, law_ju
 use Rattle.aom_sound.proofs.Returning.{law_answer, law_return, law_return_caught, law_return_main, law_return_object, law_return_served, law_return_unwound}
 use Rattle.aom_sound.proofs.Straight.{At, Law, fitted, settle, stepped, well}
 use Rattle.aom_sound.proofs.Unwinding.{unwinds}
-use Rattle.aom_sound.specs.Claims.{Dispatching, Dying, Layer, Mark, Method, Unwinding, forms, items_of, tasks_of}
+use Rattle.aom_sound.specs.Claims.{Ending, Dispatching, Dying, Layer, Mark, Method, Unwinding, forms, items_of, tasks_of}
 use Rattle.aom_sound.specs.Laws.{IsWired}
 use Rattle.aom_sound.specs.Moves.{counted, does, needs, step, step_instr, step_task}
 use Rattle.aom_sound.specs.Places.{named}
@@ -34,6 +34,7 @@ use Rattle.aom_sound.specs.WellTyped.{Caught, Good, Keeps, Now, Returns, WellTyp
 use Rattle.aom_sound.proofs.Layers.{dispatch_layer, going_layer, leave_layer, mark_layer, method_layer}
 use Rattle.aom_sound.proofs.Cancelling.{law_cancel}
 use Rattle.aom_sound.proofs.Serving.{law_connect, law_ask, law_close}
+use Rattle.aom_sound.proofs.Accepting.{law_return_accepted}
 
 -- a state goes on where all needs are met
 kept : (p : Image) (t : Typing) (needs : List Need) (s : State) → AllTrue needs → WellTyped p t s → Keeps p t (guarded needs s)
@@ -106,7 +107,12 @@ returns p t wired c s fr sh (Mark gv ∷ Dispatching Of_main seats ∷ ls) h a =
 returns p t wired c s fr sh (Mark gv ∷ Dispatching (Of_object x) seats ∷ ls) h a = law_return_object p t c s fr sh gv x seats ls h a
 returns p t wired c s fr sh (Mark gv ∷ Dispatching (Of_server x client (Serves o)) seats ∷ ls) h a = law_return_served p t c s fr sh gv x client o seats ls h a
 returns p t wired c s fr sh (Dispatching (Asks x) seats ∷ ls) h a = law_answer p t c s fr sh x seats ls h a
-returns p t wired c s fr sh _ h a = absurd (grind (arith, h.good.stack.4))
+returns p t wired c s fr sh (Mark gv ∷ Dispatching (Of_server x client Accepts) seats ∷ ls) h a = law_return_accepted p t c s fr sh gv x client seats ls h a
+returns p t wired c s fr sh (Mark gv ∷ Dying o ∷ ls) h a = absurd h.good.stack.4.1.1
+returns p t wired c s fr sh (Mark gv ∷ Ending o left ∷ ls) h a = absurd h.good.stack.4.1.1
+returns p t wired c s fr sh (Mark gv ∷ _) h a = absurd h.good.stack.4.1.0
+returns p t wired c s fr sh (Ending o left ∷ ls) h a = absurd h.good.stack.4.1
+returns p t wired c s fr sh (Dispatching d seats ∷ ls) h a = absurd h.good.stack.4.0
 
 -- an instruction of a well-typed state
 pub instruction_keeps : (p : Image) (t : Typing) → IsWired p → IsTyped p t → (c : Choice) (s : State) (fr : Frame) (sh : Shape) (ls : List Layer) → At p t s fr sh ls → named s.cells c.name ≡ None → Keeps p t (step_instr p c fr (tasks_of ls) s (instr_at p fr.method fr.place))

@@ -101,13 +101,6 @@ under p t cs Now (Ending o left ∷ Dying x ∷ ls) s = let b = under p t cs Gon
 under p t cs Gone (Ending o left ∷ Dying x ∷ ls) s = let b = under p t cs Gone ls s.3.2 in (Its_server b.0, ap (λ l. Closing ∷ Destroy ∷ l) b.1)
 under p t cs Gone (Dispatching (Of_server x client Parts) seats ∷ ls) s = (A_close x client, ap (λ l. Dispatched (Of_server x client Parts) ∷ tasks_of l) s.1)
 under p t cs (Caught g) (Dispatching (Of_server x client stage) seats ∷ ls) s = (Server's x client stage, ap (λ l. Dispatched (Of_server x client stage) ∷ tasks_of l) s.1)
-under p t cs back (Ending o left ∷ ls) s = absurd (not_over o ls s.2)
-  where
-    not_over : (o : Object) (ls : List Layer) → IsOverDying o ls → ⊥
-    not_over o ls h = grind arith
-under p t cs (Returns m home) (Dispatching (Of_server x client stage) seats ∷ ls) s = absurd (no_stage p x m home stage s.0)
-under p t cs Gone (Dispatching (Of_server x client stage) seats ∷ ls) s = absurd (grind arith)
-under p t cs Leaves (Dispatching (Of_server x client stage) seats ∷ ls) s = absurd (grind arith)
 under p t cs _ _ s = absurd (grind arith)
 
 pub stacked : (p : Image) (t : Typing) (s : State) → WellTyped p t s → (k : Tower) × (s.tasks ≡ all_listed k)

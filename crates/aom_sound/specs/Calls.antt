@@ -16,7 +16,7 @@ use Rattle.aom_rules.specs.Calls.{is_among}
 use Rattle.aom_shape.specs.Things.{Holder, Nobody, Program, Member, field_thing, stands_for}
 use Rattle.aom_clients.specs.declared.client.Client.{Client}
 use Rattle.aom_sound.specs.Clients.{at_opening, client_at, with_client}
-use Rattle.aom_sound.specs.Servers.{opened, reserved}
+use Rattle.aom_sound.specs.Servers.{without_queue, opened, reserved}
 use Rattle.aom_sound.specs.Places.{Object, Place, Register, Entry, Field, Going, Elsewhere, Cell, held, moved, Session, In_service}
 use Rattle.aom_sound.specs.State.{Home, Static, AtRoot, Inside, Frame, Dispatch, Asks, Answered, Task, Run, Trapped, Destroy, Unwind, Dispatched, Item, An_object, An_operation, A_mark, State, Need, Unbalanced, PopUnder, Orphan, NullOrDead, WrongKind, word, set_word, next, field_place, home_holder, frame_of, Of_server, Of_object, Accepts, Accepted, Serves, MessageLost}
 use Rattle.aom_sound.specs.Destruction.{owns_nothing}
@@ -225,11 +225,11 @@ abbrev pub told_answer : Gives → Frame → ℕ → ℤ
 told_answer A_word fr a = word_or_zero (word fr a)
 told_answer _ fr a = pos 0
 
--- what a method works on is a cell, no field of which owns
+-- what a method works on is a cell, no field of which owns; what waits in its queue is none
 abbrev pub is_emptied : List Cell → Home → Bool
 is_emptied cs Static = false
 is_emptied cs AtRoot = false
-is_emptied cs (Inside o from) = owns_nothing cs o.name
+is_emptied cs (Inside o from) = owns_nothing (without_queue o.name cs) o.name
 
 -- ---- the method that a dispatch runs under its trap
 
