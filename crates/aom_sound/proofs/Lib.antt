@@ -80,3 +80,4 @@ pub mod ClientsFacts
 pub mod ClientsReturn
 pub mod ClientsKeep
 pub mod Commanding
+pub mod Sending
