@@ -26,7 +26,7 @@ use Rattle.aom_sound.specs.State.{State}
 -- ---- what stands where clients are
 
 -- no client has a message of that name there, so that none waits
-none_named : (m : ℕ) (es : List Asked) → ((d : ℕ) → list_any (is_message_of d m) es ≡ false) → list_any (λ e. is_message m e) es ≡ false
+pub none_named : (m : ℕ) (es : List Asked) → ((d : ℕ) → list_any (is_message_of d m) es ≡ false) → list_any (λ e. is_message m e) es ≡ false
 none_named m [] none = refl
 none_named m (Connect_of c ∷ es) none = none_named m es none
 none_named m (Close_of c ∷ es) none = none_named m es none
@@ -40,7 +40,7 @@ module _ (p : Image) (c : ℕ) (s : State) (tidy : Tidy s.cells) (fit : ClientsF
   own = client_at s.clients c
 
   -- a server with which a client has a session stands, and is one
-  server_there : (n : ℕ) → has_session (service_of s.cells n) c ≡ true → (o : Object) × (o.name ≡ n) × (named s.cells o.name ≡ Some o) × (is_server p o.thing ≡ true)
+  pub server_there : (n : ℕ) → has_session (service_of s.cells n) c ≡ true → (o : Object) × (o.name ≡ n) × (named s.cells o.name ≡ Some o) × (is_server p o.thing ≡ true)
   server_there n h = go (named s.cells n) refl
     where
       go : (x : Option Object) → named s.cells n ≡ x → (o : Object) × (o.name ≡ n) × (named s.cells o.name ≡ Some o) × (is_server p o.thing ≡ true)
@@ -58,6 +58,14 @@ module _ (p : Image) (c : ℕ) (s : State) (tidy : Tidy s.cells) (fit : ClientsF
           serves false f =
               let none = (fit.servers o lives f).1 in
               absurd (true≢false (sym h ∙ ap (λ k. has_session (service_of s.cells k) c) (sym name) ∙ ap (λ xs. list_any (λ d. d == c) xs) none))
+
+  -- of a name that is free nothing waits
+  pub nobody : (n name : ℕ) → named s.cells name ≡ None → (d : ℕ) → list_any (is_message_of d name) (service_of s.cells n).queue ≡ false
+  nobody n name free d = go (list_any (is_message_of d name) (service_of s.cells n).queue) refl
+    where
+      go : (b : Bool) → list_any (is_message_of d name) (service_of s.cells n).queue ≡ b → b ≡ false
+      go false e = refl
+      go true e = let none : false ≡ true = sym (ap (λ v. is_from d v.sender) (service_unnamed s.cells name free)) ∙ fit.senders n d name e in cc
 
   -- ---- it connects
 
@@ -107,17 +115,10 @@ module _ (p : Image) (c : ℕ) (s : State) (tidy : Tidy s.cells) (fit : ClientsF
       with_it : ClientsFit p s.clients (message ∷ s.cells)
       with_it = fit_with p s.clients s.cells message free refl refl placed fit
 
-      nobody : (d : ℕ) → list_any (is_message_of d name) (service_of s.cells there.0.name).queue ≡ false
-      nobody d = go (list_any (is_message_of d name) (service_of s.cells there.0.name).queue) refl
-        where
-          go : (b : Bool) → list_any (is_message_of d name) (service_of s.cells there.0.name).queue ≡ b → b ≡ false
-          go false e = refl
-          go true e = let none : false ≡ true = sym (ap (λ v. is_from d v.sender) (service_unnamed s.cells name free)) ∙ fit.senders there.0.name d name e in cc
-
       sent : ClientsFit p s.clients (reserved (asked_last (Message_of c name)) there.0.name (message ∷ s.cells))
       sent = fit_sent p s.clients (message ∷ s.cells) with_it there.0 (ap (λ b. cond b (Some message.object) (named s.cells there.0.name)) other ∙ there.2) there.3 c name
           (ap (λ k. is_open_at there.0.name k) at ∙ eq-eqb server there.0.name (sym there.1))
-          (ap (λ b. list_any (λ e. is_message name e) (cond b message.service (service_of s.cells there.0.name)).queue) other ∙ none_named name (service_of s.cells there.0.name).queue nobody)
+          (ap (λ b. list_any (λ e. is_message name e) (cond b message.service (service_of s.cells there.0.name)).queue) other ∙ none_named name (service_of s.cells there.0.name).queue (nobody there.0.name name free))
           (ap (λ b. is_from c (cond b message.service (service_of s.cells name)).sender) (eq-eqb name name refl) ∙ eq-eqb c c refl)
   fit_sends _ name words free k at = fit
 
@@ -140,6 +141,20 @@ module _ (p : Image) (c : ℕ) (s : State) (tidy : Tidy s.cells) (fit : ClientsF
     goes_still : (to : Client) → server_of to ≡ server_of own → ((n : ℕ) → is_leaving n own ≡ true → is_leaving n to ≡ true) → ClientsFit p (with_client c to s.clients) (withdrawn c s.cells)
     goes_still to session still = fit_withdrawn p s.clients s.cells tidy fit c waiting to session (λ n. queue_leaving s.clients c n to (still n) (service_of s.cells n).queue (fit.queues n))
 
+    -- a server with a session is no message that goes
+    pub server_stays : (o : Object) → named s.cells o.name ≡ Some o → has_session (service_of s.cells o.name) c ≡ true → named (withdrawn c s.cells) o.name ≡ Some o
+    server_stays o lives has =
+        let x = a_cell_of (cell_of s.cells o.name) o (sym (named_cell s.cells o.name) ∙ lives) in
+        go x.0 x.1 x.2 (is_queue x.0.owner && is_from c x.0.service.sender) refl
+      where
+        go : (x : Cell) → cell_of s.cells o.name ≡ Some x → x.object ≡ o → (b : Bool) → (is_queue x.owner && is_from c x.service.sender) ≡ b → named (withdrawn c s.cells) o.name ≡ Some o
+        go x e name true d =
+            let none = (empty p s.clients s.cells tidy fit c waiting o.name x e d).1 in
+            absurd (true≢false (sym has ∙ ap (λ v. has_session v c) (service_cell s.cells o.name ∙ ap service_in e) ∙ ap (λ xs. list_any (λ d. d == c) xs) none))
+        go x e name false d =
+            ap (λ l. named l o.name) (withdrawn_so c s.cells)
+            ∙ named_sifted (λ y. is_queue y.owner && is_from c y.service.sender) (λ y. left_by c y.service) s.cells tidy o.name x e d ∙ ap (λ o. Some o) name
+
     -- with its session open: a close is asked last
     goes_told : (server session slots : ℕ) → own ≡ Open server session slots → (to : Client) → server_of to ≡ Some server → is_leaving server to ≡ true → ClientsFit p (with_client c to s.clients) (reserved (asked_last (Close_of c)) server (withdrawn c s.cells))
     goes_told server session slots at to same leaves = subst (λ n. ClientsFit p (with_client c to s.clients) (reserved (asked_last (Close_of c)) n (withdrawn c s.cells))) there.1
@@ -153,20 +168,8 @@ module _ (p : Image) (c : ℕ) (s : State) (tidy : Tidy s.cells) (fit : ClientsF
         alone : ClientsFit p (with_client c to s.clients) (withdrawn c s.cells)
         alone = goes_alone to (same ∙ sym (ap server_of at)) (λ n. ap (λ k. is_leaving n k) at)
 
-        -- it is no message that goes, since it has a session
         still_there : named (withdrawn c s.cells) there.0.name ≡ Some there.0
-        still_there =
-            let x = a_cell_of (cell_of s.cells there.0.name) there.0 (sym (named_cell s.cells there.0.name) ∙ there.2) in
-            go x.0 x.1 x.2 (is_queue x.0.owner && is_from c x.0.service.sender) refl
-          where
-            go : (x : Cell) → cell_of s.cells there.0.name ≡ Some x → x.object ≡ there.0 → (b : Bool) → (is_queue x.owner && is_from c x.service.sender) ≡ b → named (withdrawn c s.cells) there.0.name ≡ Some there.0
-            go x e name true d =
-                let none = (empty p s.clients s.cells tidy fit c waiting there.0.name x e d).1 in
-                let has : has_session (service_of s.cells there.0.name) c ≡ true = fit.listed there.0.name c (ap server_of at ∙ ap (λ n. Some n) (sym there.1)) in
-                absurd (true≢false (sym has ∙ ap (λ v. has_session v c) (service_cell s.cells there.0.name ∙ ap service_in e) ∙ ap (λ xs. list_any (λ d. d == c) xs) none))
-            go x e name false d =
-                ap (λ l. named l there.0.name) (withdrawn_so c s.cells)
-                ∙ named_sifted (λ y. is_queue y.owner && is_from c y.service.sender) (λ y. left_by c y.service) s.cells tidy there.0.name x e d ∙ ap (λ o. Some o) name
+        still_there = server_stays there.0 there.2 (fit.listed there.0.name c (ap server_of at ∙ ap (λ n. Some n) (sym there.1)))
 
     fit_closes : (k : Client) → own ≡ k → ClientsFit p (leaving p c s (row k).close).clients (leaving p c s (row k).close).cells
     fit_closes Unconnected at = fit

@@ -81,3 +81,5 @@ pub mod ClientsReturn
 pub mod ClientsKeep
 pub mod Commanding
 pub mod Sending
+pub mod Withdrawing
+pub mod Obeying
