@@ -5,6 +5,8 @@ pub mod Attending
 pub mod Dropping
 pub mod Unslotting
 pub mod Accepting
+pub mod Parting
+pub mod Emptying
 pub mod Things
 pub mod Items
 pub mod Seats
