@@ -16,12 +16,13 @@ use Rattle.aom_sound.proofs.Maps.{held_lives, named_moved, tidy_moved}
 use Rattle.aom_sound.proofs.Straight.{fits_unowning}
 use Rattle.aom_sound.specs.Claims.{by_close, by_stage, Dispatching, Layer, claim, declared, forms, items_of, tasks_of, is_of_root}
 use Rattle.aom_sound.specs.Laws.{IsWired}
-use Rattle.aom_sound.specs.Moves.{closed, dispatch_ends, main_ends, main_left, over, uprooted, answered, asking, failed, handled, object_ends}
+use Rattle.aom_sound.specs.Moves.{needs_end, closed, dispatch_ends, main_ends, main_left, over, uprooted, answered, asking, failed, handled, object_ends}
 use Rattle.aom_sound.specs.Places.{Session, In_service, Queued, Elsewhere, Entry, Field, Going, Object, Place, Register, Root, changed, held, moved, seen}
-use Rattle.aom_sound.specs.State.{Of_server, Dispatch, Item, Main_left, Of_main, Of_root, State, Answered, Asks, Object_left, Of_object, Seat}
-use Rattle.aom_sound.specs.WellTyped.{AllUndo, Fits, Good, WellTyped}
+use Rattle.aom_sound.specs.State.{guarded, Of_server, Dispatch, Item, Main_left, Of_main, Of_root, State, Answered, Asks, Object_left, Of_object, Seat}
+use Rattle.aom_sound.specs.WellTyped.{Keeps, AllUndo, Fits, Good, WellTyped}
 use Rattle.aom_sound.proofs.Suiting.{all_moved}
 use Rattle.aom_shape.specs.declared.kind.Kind.{Kind}
+use Rattle.aom_sound.proofs.Parting.{stage_keeps}
 
 -- what holds of the root once it is gone
 pub root_gone : (p : Image) (t : Typing) (s : State) (seats : List Seat) (ls : List Layer) → Good p t s.cells (Dispatching Of_root seats ∷ ls) → held s.cells (Elsewhere Root) ≡ None
@@ -110,7 +111,8 @@ module _ (p : Image) (t : Typing) (s : State) (wired : IsWired p) (typed : IsTyp
       go false = idle p t s (failed answer s) d seats plain refl refl items good
 
   -- each kind of dispatch
-  ends : (d : Dispatch) (seats : List Seat) → Good p t s.cells (Dispatching d seats ∷ []) → WellTyped p t (dispatch_ends p d s)
+  ends : (d : Dispatch) (seats : List Seat) → Good p t s.cells (Dispatching d seats ∷ []) → Keeps p t (guarded (needs_end d s.cells) (dispatch_ends p d s))
+  ends (Of_server x client stage) seats good = stage_keeps p t s x client seats stage items good
   ends Of_root seats good = idle p t s (over s) Of_root seats refl refl refl items good
   ends (Main_left code) seats good = idle p t s (main_left code s) (Main_left code) seats refl refl refl items good
   ends Of_main seats good = closes p t s wired typed Of_main seats refl refl items good s.rest.stopped (held s.cells (Elsewhere Root)) refl
@@ -123,5 +125,5 @@ module _ (p : Image) (t : Typing) (s : State) (wired : IsWired p) (typed : IsTyp
   ends (Asks x) seats good = of_object (Asks x) seats refl refl good
   ends (Answered x answer) seats good = with_answer (Answered x answer) seats answer refl refl good
 
-pub dispatch_keeps : (p : Image) (t : Typing) → IsWired p → IsTyped p t → (s : State) (d : Dispatch) (seats : List Seat) (ls : List Layer) → Good p t s.cells (Dispatching d seats ∷ ls) → forms s.items ≡ items_of ls → WellTyped p t (dispatch_ends p d s)
+pub dispatch_keeps : (p : Image) (t : Typing) → IsWired p → IsTyped p t → (s : State) (d : Dispatch) (seats : List Seat) (ls : List Layer) → Good p t s.cells (Dispatching d seats ∷ ls) → forms s.items ≡ items_of ls → Keeps p t (guarded (needs_end d s.cells) (dispatch_ends p d s))
 dispatch_keeps p t wired typed s d seats ls good items = ends p t s wired typed (no_items s.items (items ∙ ap items_of good.stack.1)) d seats (subst (λ l. Good p t s.cells (Dispatching d seats ∷ l)) good.stack.1 good)

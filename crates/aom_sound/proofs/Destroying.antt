@@ -344,7 +344,7 @@ module _ (p : Image) (t : Typing) (linked : IsWired p) (typed : IsTyped p t) (cs
           }
 
 -- the objects of a server's class may rest as they go
-server_last : (k : Option ClassKind) → is_some (sessions_in k) ≡ true → last_of k ≡ states_of k
+pub server_last : (k : Option ClassKind) → is_some (sessions_in k) ≡ true → last_of k ≡ states_of k
 unfolding last_of states_of sessions_in sessions_of
 server_last (Some (An_active provider budget)) e = cc
 server_last _ e = refl

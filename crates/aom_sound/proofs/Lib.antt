@@ -12,6 +12,8 @@ pub mod Attending
 pub mod Dropping
 pub mod Unslotting
 pub mod Accepting
+pub mod Parting
+pub mod Emptying
 pub mod Things
 pub mod Items
 pub mod Seats
@@ -71,7 +73,7 @@ pub mod Asking
 pub mod Signals
 pub mod Chains
 pub mod Picking
-pub mod Parting
+pub mod PickedClose
 pub mod Turning
 pub mod ClientsTurn
 pub mod ClientsMoves

@@ -30,7 +30,7 @@ use Rattle.aom_sound.proofs.Entering.{Entering, enters}
 use Rattle.aom_sound.proofs.Maps.{same_place_refl}
 use Rattle.aom_sound.proofs.Owners.{later}
 use Rattle.aom_sound.proofs.Owners.{rank}
-use Rattle.aom_sound.proofs.Parting.{parts_well}
+use Rattle.aom_sound.proofs.PickedClose.{parts_well}
 use Rattle.aom_sound.proofs.Picking.{accepts_well, attends_well, plain_message}
 use Rattle.aom_sound.proofs.Signals.{at_rest, signals_are_ready}
 use Rattle.aom_sound.proofs.Storing.{Alike, fits_alike, requested_here, requested_there, rerequested_alike, sits_alike, bereaved_alike, requested_bereaved}

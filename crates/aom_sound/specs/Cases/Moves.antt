@@ -97,12 +97,10 @@ standing_cases =
 -- which is one of those that are done so far
 abbrev pub later_cases : List Case
 later_cases =
-    map (λ i. fails i (WrongKind ∷ [])) (
-    Cancel
-    ∷ TakeMessage 0
-    ∷ Reply 0 1
+    fails Cancel (WrongKind ∷ [])
+    ∷ fails (TakeMessage 0) (NullOrDead ∷ [])
+    ∷ fails (Reply 0 1) (NullOrDead ∷ [])
     ∷ []
-    )
 
 -- each need of a move bites
 pub record MovesBite : Type 0 where
