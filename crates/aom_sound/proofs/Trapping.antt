@@ -14,7 +14,8 @@ use Rattle.aom_shape.specs.declared.kind.Entry.{Entry as Pushed_entry}
 use Rattle.aom_shape.specs.declared.kind.Entry.TheVariants.{Object as Pushed_object, Operation as Operation_entry}
 use Rattle.aom_sound.proofs.Booting.{boot_keeps}
 use Rattle.aom_sound.proofs.Caught.{own_word, told_frame}
-use Rattle.aom_sound.proofs.Course.{well_on}
+use Rattle.aom_sound.proofs.ClientsKeep.{clients_keep}
+use Rattle.aom_sound.proofs.Course.{WellKept, well_on}
 use Rattle.aom_sound.proofs.Guarded.{guarded_goes}
 use Rattle.aom_sound.proofs.Moving.{steps_are_moves}
 use Rattle.aom_sound.proofs.Standing.{stand}
@@ -332,7 +333,7 @@ keeps_trap :
 keeps_trap p t wired typed c s u w unused below items h e =
     by_moved p t s u w (subst (λ o. Keeps p t o) e (step_keeps p t wired typed c s w unused)) below items h (moved p c s below t u w (h.over, h.tasks) (steps_are_moves p c s u e))
 
-module _ (p : Image) (t : Typing) (outside : Outside) (wired : IsWired p) (typed : IsTyped p t) (from : State) (well : WellTyped p t from) (below : List Task) (items : List Item) where
+module _ (p : Image) (t : Typing) (outside : Outside) (wired : IsWired p) (typed : IsTyped p t) (from : State) (well : WellKept p t from) (below : List Task) (items : List Item) where
   abbrev Lasts : State → Type 0
   Lasts s = IsTrapping below items s ⊎ WasPast p outside below items from s
 
@@ -372,7 +373,7 @@ module _ (p : Image) (t : Typing) (outside : Outside) (wired : IsWired p) (typed
 
   lasts : IsTrapping below items from → (lines : List Line) (s : State) → Reaches p outside from lines s → Lasts s
   lasts h _ _ begins = inl h
-  lasts h _ _ (moves {lines = lines} {s = s} {u = u} c before busy choice e) = moved_on lines s u c (well_on p t outside wired typed from well lines s before) before busy choice e (lasts h lines s before)
+  lasts h _ _ (moves {lines = lines} {s = s} {u = u} c before busy choice e) = moved_on lines s u c (well_on p t outside wired typed from well lines s before).0 before busy choice e (lasts h lines s before)
   lasts h _ _ (turns {lines = lines} {s = s} {u = u} heard before between hears e) = turned heard s u between hears e (lasts h lines s before)
 
 pub traps_keep : TrapsKeep
@@ -380,5 +381,5 @@ traps_keep = record {
   stand = stand;
   sets = sets;
   moves = keeps_trap;
-  runs = λ p t outside wired typed before s reached below items h lines u r. lasts p t outside wired typed s (well_on p t outside wired typed (boot_state p) (boot_keeps p t wired typed) before s reached) below items h lines u r;
+  runs = λ p t outside wired typed before s reached below items h lines u r. lasts p t outside wired typed s (well_on p t outside wired typed (boot_state p) (boot_keeps p t wired typed, clients_keep.boot p) before s reached) below items h lines u r;
 }
