@@ -466,7 +466,7 @@ module _ (p : Image) (t : Typing) (c : Choice) (s : State) (fr : Frame) (sh : Sh
   law_return_served a n leads =
       let below = at_hand.good.stack.4.1 in
       return_nothing p t c s fr sh gv (Of_server x client (Serves o)) seats ls at_hand (Of_object x) a n below.0
-          (ap is_none (fits_unowning p (seen s.cells) _ Null refl (taken a (returnable p fr sh a n))), tt) (λ r v. v) tt below.3 tt (λ r entries free. others_fit a r entries free)
+      (ap is_none (fits_unowning p (seen s.cells) _ Null refl (taken a (returnable p fr sh a n))), tt) (λ r v. v) tt below.3 tt (λ r entries free. others_fit a r entries free)
 
 -- over an unwinding an operation is over
 module _ (p : Image) (t : Typing) (c : Choice) (s : State) (fr : Frame) (sh : Shape) (code : ℤ) (es : List Pushed) (ls : List Layer) (at_hand : At p t s fr sh (Unwinding code es ∷ ls)) where

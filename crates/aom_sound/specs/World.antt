@@ -344,8 +344,8 @@ abbrev pub attending : Option ℕ → Seat → ℕ → Object → ℕ → State 
 attending None x client o m s = IsStuck WrongKind
 attending (Some method) x client o m s =
     Goes (serving x client (Serves o)
-      (record (frame_of method (Inside o (Elsewhere (Session x.object.name client))) (length (A_mark ∷ s.items))) { words = message_words s.cells m })
-      (record s { cells = moved (Elsewhere (Queued x.object.name m)) (Elsewhere In_service) s.cells }))
+    (record (frame_of method (Inside o (Elsewhere (Session x.object.name client))) (length (A_mark ∷ s.items))) { words = message_words s.cells m })
+    (record s { cells = moved (Elsewhere (Queued x.object.name m)) (Elsewhere In_service) s.cells }))
 
 -- the message is served by the session of its client
 abbrev pub attended : Image → Seat → ℕ → Option Object → ℕ → State → Outcome
