@@ -1,5 +1,5 @@
 -- The verifier's rules: for each instruction what the abstract state must say, and which ways go on from it.
-use Rattle.std.specs.Prelude.{ℕ, List, [], ◌∷◌, Result}
+use Rattle.std.specs.Prelude.{ℕ, List, [], Result}
 use Rattle.aom_image.specs.Image.{Image}
 use Rattle.aom_roles.specs.States.{unlisted, idle, issued, active, cancel_done}
 use Rattle.aom_instructions.specs.declared.instr.Instr.{Instr}
