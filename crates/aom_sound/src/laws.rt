@@ -1,5 +1,5 @@
 //! The laws, each as the contract of a function that does nothing.
-ghost use Rattle.aom_sound.specs.Laws.{BootKeeps, InstructionKeeps, DestructionKeeps, UnwindingKeeps, TurnKeeps, TurnGoesOn, SignalsAreReady, StepKeeps, EndsOwned, EndsEmpty, RegistersKeep, TypedIsSound, LinkedIsWired};
+ghost use Rattle.aom_sound.specs.Laws.{BootKeeps, InstructionKeeps, DestructionKeeps, UnwindingKeeps, TurnKeeps, TurnGoesOn, SignalsAreReady, StepKeeps, EndsOwned, EndsEmpty, RegistersKeep, ClientsKeep, TypedIsSound, LinkedIsWired};
 ghost use Rattle.aom_sound.specs.Loops.{LoopsKeep};
 ghost use Rattle.aom_sound.specs.Quiet.{CalmKeeps, CaughtOwned};
 ghost use Rattle.aom_sound.specs.Leaves.{LeavesMove, LeavesArrive};
@@ -81,6 +81,11 @@ pub fn calm_keeps()
 /// Only registers that a method has own.
 pub fn registers_keep()
     ensures { RegistersKeep }
+{}
+
+/// Clients, and what they have at servers, say the same.
+pub fn clients_keep()
+    ensures { ClientsKeep }
 {}
 
 /// A leave deals with the last entry over its mark, and its own code arrives.
