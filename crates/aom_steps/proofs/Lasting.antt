@@ -33,7 +33,7 @@ pub record Lasts (depth : ℕ) (cs us : List Cell) : Type 0 where
   pub going : (k : ℕ) → k < depth → held us (Going k) ≡ held cs (Going k)
   pub sessions : (c : Prices) (n : ℕ) → sessions_left c n us ≤ sessions_left c n cs
 
-lasts_below : (m n : ℕ) (cs us : List Cell) → m ≤ n → Lasts n cs us → Lasts m cs us
+pub lasts_below : (m n : ℕ) (cs us : List Cell) → m ≤ n → Lasts n cs us → Lasts m cs us
 lasts_below m n cs us le h = record { going = λ k lt. h.going k (omega (arith, le, lt)); sessions = h.sessions }
 
 module _ (p : Image) (c : Prices) (cs us : List Cell) where
@@ -70,6 +70,16 @@ to_trap_closings p c cs (Destroy ∷ ts) = refl
 to_trap_closings p c cs (Closing ∷ ts) = refl
 to_trap_closings p c cs (Unwind code ∷ ts) = refl
 to_trap_closings p c cs (Dispatched d ∷ ts) = refl
+
+-- what waited goes on
+pub resumed_closings : (p : Image) (c : Prices) (cs : List Cell) (ts : List Task) → closings_left p c cs (resumed ts) ≡ closings_left p c cs ts
+resumed_closings p c cs [] = refl
+resumed_closings p c cs (Run fr ∷ ts) = refl
+resumed_closings p c cs (Trapped ∷ ts) = refl
+resumed_closings p c cs (Destroy ∷ ts) = refl
+resumed_closings p c cs (Closing ∷ ts) = refl
+resumed_closings p c cs (Unwind code ∷ ts) = refl
+resumed_closings p c cs (Dispatched d ∷ ts) = refl
 
 -- ---- changes of the cells
 

@@ -197,3 +197,15 @@ module _ (p : Image) (t : Typing) (c : Prices) (priced : IsPriced p t c) (cs : L
       let free : held cs g ≡ None = fits_unowning p (seen cs) _ Null refl (subst (λ k. Fits p (seen cs) (held cs g) k) (claim_going_above p cs ls depth deep) (good.fits g)) in
       (held_moved cs from g g free ∙ ap (λ b. cond b (held cs from) (cond (same_place from g) None (held cs g))) (same_place_refl g) ∙ there,
       omega (arith, moved_less c (is_session_with o.name) from g cs refl, few_sessions o (held_lives cs from o good.tidy there) server))
+
+-- ---- the first session that is there
+
+pub first_there : (cs : List Cell) (n : ℕ) (clients : List ℕ) (x : Seat) → first_session cs n clients ≡ Some x → (client : ℕ) × (x.place ≡ Elsewhere (Session n client)) × (held cs x.place ≡ Some x.object)
+first_there cs n [] x e = cc
+first_there cs n (k ∷ clients) x e = go (held cs (Elsewhere (Session n k))) refl e
+  where
+    go : (o : Option Object) → held cs (Elsewhere (Session n k)) ≡ o → seat_or o (Elsewhere (Session n k)) (first_session cs n clients) ≡ Some x → (client : ℕ) × (x.place ≡ Elsewhere (Session n client)) × (held cs x.place ≡ Some x.object)
+    go None there e = first_there cs n clients x e
+    go (Some o) there e =
+        let same : record { object = o; place = Elsewhere (Session n k) } ≡ x = cc in
+        subst (λ (y : Seat). (client : ℕ) × (y.place ≡ Elsewhere (Session n client)) × (held cs y.place ≡ Some y.object)) same (k, refl, there)
