@@ -1,5 +1,5 @@
 -- What comes before servers go is no more after a change of the cells, where those that go stay, and no session is made.
-use Rattle.std.proofs.Common.{◌≡◌, ◌≤◌, ◌<◌, ◌+◌, ◌∙◌, ℕ, ℤ, Bool, true, false, cond, List, [], ◌∷◌, length, Option, Some, None, refl, sym, ap, arith}
+use Rattle.std.proofs.Common.{◌≡◌, ◌≤◌, ◌<◌, ◌+◌, ◌∙◌, ℕ, ℤ, Bool, true, false, cond, List, [], ◌∷◌, length, Option, Some, None, refl, sym, ap, arith, suc}
 use Rattle.std.specs.Prelude.{◌==◌, ◌&&◌}
 use Rattle.std.proofs.lemmas.Bool.{ne_eqb}
 use Rattle.aom_image.specs.Image.{Image}
@@ -15,14 +15,14 @@ use Rattle.aom_sound.proofs.Maps.{held_without}
 use Rattle.aom_sound.proofs.Services.{held_served}
 use Rattle.aom_sound.proofs.Storing.{held_set_word, rerequested_alike, resessioned_alike}
 use Rattle.aom_sound.specs.Calls.{passed_cells, result_cells}
-use Rattle.aom_sound.specs.Cleanup.{to_trap}
+use Rattle.aom_sound.specs.Cleanup.{to_trap, top_place}
 use Rattle.aom_sound.specs.Clients.{each_unslotted}
 use Rattle.aom_sound.specs.Effects.{Carried, In_field, In_register, Made, Popped, Popped_operation, Pushed, Pushed_operation, Replied, Requested, Same, Sessioned, Spot, The_message, Update, Written, cells_after, spot_place}
 use Rattle.aom_sound.specs.Enlisted.{cancelled, ended_cells, on_request, own_request, rerequested}
 use Rattle.aom_sound.specs.Natives.{resessioned}
 use Rattle.aom_sound.specs.Places.{Cell, Elsewhere, Entry, Field, Going, In_service, Object, Place, Queued, Register, Request, Root, Service, Session, held, moved, same_place, set_service, without}
 use Rattle.aom_sound.specs.Servers.{all_unslotted, is_queue_of, without_queue}
-use Rattle.aom_sound.specs.State.{AtRoot, Closing, Destroy, Dispatched, Frame, Home, Inside, Run, State, Static, Task, Trapped, Unwind, field_place}
+use Rattle.aom_sound.specs.State.{AtRoot, Closing, Destroy, Dispatched, Frame, Home, Inside, Run, State, Static, Task, Trapped, Unwind, field_place, resumed}
 use Rattle.aom_sound.specs.Words.{here, stored}
 use Rattle.aom_prices.specs.Prices.{Prices}
 use Rattle.aom_steps.specs.Left.{closing_left, closings_left, goes_below, is_session_with, sessions_left}
@@ -59,7 +59,7 @@ module _ (p : Image) (c : Prices) (cs us : List Cell) where
   lasting (Dispatched d ∷ ts) h = lasting ts (lasts_below _ _ cs us (omega arith) h)
   lasting (Closing ∷ ts) h =
       let less = lasts_below (length ts) (length (Closing ∷ ts)) cs us (omega arith) h in
-      omega (arith, lasting ts less, closing_less (goes_below us ts) h.sessions, ap (λ o. closing_left p c cs o) (same_below ts less))
+      omega (arith, lasting ts less, closing_less (goes_below us ts) (h.sessions c), ap (λ o. closing_left p c cs o) (same_below ts less))
 
 -- the methods over the trap end
 pub to_trap_closings : (p : Image) (c : Prices) (cs : List Cell) (ts : List Task) → closings_left p c cs (to_trap ts) ≡ closings_left p c cs ts

@@ -1,7 +1,8 @@
 -- Each effect pays for its step: what a method goes on with, what it calls, destroys or pushes, and where a loop leads.
 use Rattle.std.proofs.Common.{◌≡◌, ◌≤◌, ◌+◌, ◌-◌, ◌*◌, ◌∙◌, ℕ, ℤ, zero, suc, Bool, true, false, cond, inl, inr, List, [], ◌∷◌, length, Option, Some, None, slice_get, refl, sym, ap, arith, subst}
 use Rattle.aom_image.specs.Image.{Image}
-use Rattle.aom_image.specs.Views.{arguments_of, method_at}
+use Rattle.aom_image.specs.declared.method.Thing.TheVariants.{Object as An_object_of}
+use Rattle.aom_image.specs.Views.{arguments_of, method_at, instr_at}
 use Rattle.aom_instructions.specs.declared.instr.Instr.{Instr}
 use Rattle.aom_instructions.specs.declared.instr.Instr.TheVariants.{Next}
 use Rattle.aom_instructions.specs.declared.instr.Target.{Target}
@@ -20,25 +21,28 @@ use Rattle.aom_shape.specs.declared.kind.Kind.{Kind}
 use Rattle.aom_shape.specs.declared.kind.Kind.TheVariants.{Own, Maybe}
 use Rattle.aom_sound.proofs.Straight.{At, kind_fits}
 use Rattle.aom_sound.proofs.Fitting.{straight_by}
-use Rattle.aom_sound.specs.Calls.{below_top}
-use Rattle.aom_sound.specs.Claims.{Layer, tasks_of}
+use Rattle.aom_sound.specs.Calls.{below_top, accepted_cells, ended_well, passed_cells, result_cells, result_register, returned}
+use Rattle.aom_sound.specs.Claims.{Layer, tasks_of, Dispatching, Dying, Ending, Mark, Method, Unwinding}
 use Rattle.aom_sound.specs.Cleanup.{top_place}
-use Rattle.aom_sound.specs.Destruction.{begun, begun_by}
-use Rattle.aom_sound.specs.Effects.{Calls, Cancels, Carried, Counts, Destroys, Destroys_last, Effect, Goes_on, In_field, In_register, Jumps, Leaves, Made, Operates, Popped, Popped_operation, Pushed, Pushed_operation, Repeats, Requested, Returns, Same, Sets_trap, Spot, Update, Written, applied, cells_after, items_after, spot_place, with_words, Sessioned}
-use Rattle.aom_sound.specs.Places.{Entry, Going, Object, Sight, held, seen}
-use Rattle.aom_sound.specs.State.{An_object, An_operation, Choice, Frame, Run, State, Task, Trapped, counter}
+use Rattle.aom_sound.specs.Destruction.{begun, begun_by, destructed}
+use Rattle.aom_sound.specs.Effects.{Calls, Cancels, Carried, Counts, Destroys, Destroys_last, Effect, Goes_on, In_field, In_register, Jumps, Leaves, Made, Operates, Popped, Popped_operation, Pushed, Pushed_operation, Repeats, Requested, Returns, Same, Sets_trap, Spot, Update, Written, applied, cells_after, items_after, spot_place, with_words, Sessioned, Replied, The_message}
+use Rattle.aom_sound.specs.Places.{service_of, Entry, Going, Object, Sight, held, seen, Cell, Elsewhere, Place, Register, Session, moved}
+use Rattle.aom_sound.specs.State.{An_object, An_operation, Choice, Frame, Run, State, Task, Trapped, counter, Accepts, Closing, Destroy, Dispatch, Of_server, Serves}
 use Rattle.aom_sound.specs.Steps.{Fits, Sets}
-use Rattle.aom_sound.specs.WellTyped.{Fits as Holds_of}
+use Rattle.aom_sound.specs.WellTyped.{Caught, Fits as Holds_of, Now, Returns as Comes_back, Stack}
 use Rattle.aom_sound.specs.Words.{here}
 use Rattle.aom_ranks.specs.Within.{loops_worth, total, worth_at}
 use Rattle.aom_ranks.proofs.Rounds.{back, closed_loop, enters, jumps, leaves, straight_on}
 use Rattle.aom_ranks.proofs.Sums.{scaled, scaled_le}
 use Rattle.aom_ranks.proofs.Worths.{passed_less, returned_less, to_trap_less}
-use Rattle.aom_prices.specs.Prices.{IsPriced, Prices, Stands, kind_price, price}
-use Rattle.aom_steps.specs.Left.{is_entry, left, left_worths, method_left, objects_left, operations_left, rounds_left, rounds_price, tasks_left, waiting_left}
+use Rattle.aom_prices.specs.Prices.{IsPriced, Prices, Stands, kind_price, price, perhaps_price, sessions_cost}
+use Rattle.aom_steps.specs.Left.{is_entry, left, left_worths, method_left, objects_left, operations_left, rounds_left, rounds_price, tasks_left, waiting_left, closing_left, closings_left, end_left, sessions_left}
 use Rattle.aom_steps.proofs.Covering.{Affords, Covers, pushes}
-use Rattle.aom_steps.proofs.Pushed.{enters_stack, field_no_entry, leaves_entry, moved_less, none_moves, operations_below, register_passes, rerequested_same, stored_same, resessioned_same}
-use Rattle.aom_sound.specs.Enlisted.{cancelling, on_request, own_request}
+use Rattle.aom_steps.proofs.Pushed.{enters_place, field_no_entry, leaves_place, moved_less, none_moves, operations_below, rerequested_same, stored_same, resessioned_same, enters_place, served_same, without_less}
+use Rattle.aom_sound.specs.Enlisted.{cancelling, on_request, own_request, ended_cells}
+use Rattle.aom_sound.specs.Servers.{is_server, opened}
+use Rattle.aom_steps.proofs.Lasting.{IsApart, going_apart, lasting, lasts_ended, lasts_moved, lasts_passed, lasts_result, lasts_update, to_trap_closings}
+use Rattle.aom_steps.proofs.Sessions.{FewSeats, stands_at_going}
 
 -- ---- what begins, and what ends
 
@@ -265,7 +269,9 @@ module _ (p : Image) (t : Typing) (c : Prices) (linked : IsLinked p) (priced : I
 
   -- what the method could still cost is dropped
   accepted_less : (d : Dispatch) (e i : ℕ) (cs : List Cell) → objects_left c (accepted_cells d (Register e i) cs) ≤ objects_left c cs
-  accepted_less (Of_server x client Accepts) e i cs = omega (arith, served_same c is_entry x.object.name _ (moved (Register e i) (Elsewhere (Session x.object.name client)) cs), moved_less c is_entry (Register e i) (Elsewhere (Session x.object.name client)) cs refl)
+  accepted_less (Of_server x client Accepts) e i cs =
+      let us = moved (Register e i) (Elsewhere (Session x.object.name client)) cs in
+      omega (arith, served_same c is_entry x.object.name (opened client (service_of us x.object.name)) (moved (Register e i) (Elsewhere (Session x.object.name client)) cs), moved_less c is_entry (Register e i) (Elsewhere (Session x.object.name client)) cs refl)
   accepted_less _ e i cs = omega arith
 
   well_ended : (d : Dispatch) → end_left p c (ended_well d) ≤ end_left p c d
@@ -288,7 +294,7 @@ module _ (p : Image) (t : Typing) (c : Prices) (linked : IsLinked p) (priced : I
     over_result over below x = omega (arith, over_ended below, lasting p c ended.cells _ below (lasts_result (length below) p fr over ended g a x below))
 
     returned_closings : (l : List Layer) → Stack p t s.cells Now (Method fr sh ∷ l) → Fewer l
-    returned_closings [] h = let e : Returns fr.method fr.home ≡ Now = h.4 in absurd (cc)
+    returned_closings [] h = let e : Comes_back fr.method fr.home ≡ Now = h.4 in absurd (cc)
     returned_closings (Method caller sh2 ∷ l) h = over_result (Run caller ∷ tasks_of l) (tasks_of l) (result_register (instr_at p caller.method caller.place))
     returned_closings (Dying o ∷ l) h = over_ended (tasks_of l)
     returned_closings (Ending o left ∷ l) h = absurd h.4.1

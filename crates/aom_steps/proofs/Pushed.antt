@@ -157,12 +157,9 @@ module _ (c : Prices) (counts : Place → Bool) where
   withdrawn_same none client [] = refl
   withdrawn_same none client (x ∷ cs) = go (is_queue x.owner) (is_from client x.service.sender) refl (withdrawn_same none client cs)
     where
-      abbrev after : List Cell
-      after = withdrawn client cs
-
       go :
-          (b d : Bool) → is_queue x.owner ≡ b → owned_left c counts after ≡ owned_left c counts cs →
-          owned_left c counts (cond (b && d) after (record x { service = left_by client x.service } ∷ after)) ≡ due c counts x.owner x.object + owned_left c counts cs
+          (b d : Bool) → is_queue x.owner ≡ b → owned_left c counts (withdrawn client cs) ≡ owned_left c counts cs →
+          owned_left c counts (cond (b && d) (withdrawn client cs) (record x { service = left_by client x.service } ∷ withdrawn client cs)) ≡ due c counts x.owner x.object + owned_left c counts cs
       go true true e ih = omega (arith, ih, not_due x.owner x.object (none x.owner e))
       go true false e ih = ap (λ y. due c counts x.owner x.object + y) ih
       go false d e ih = ap (λ y. due c counts x.owner x.object + y) ih

@@ -19,16 +19,17 @@ use Rattle.aom_sound.proofs.Claimed.{claim_going_above}
 use Rattle.aom_sound.proofs.Maps.{held_lives, held_moved, same_place_refl, same_place-true}
 use Rattle.aom_sound.proofs.Parting.{among_others}
 use Rattle.aom_sound.proofs.Straight.{fits_unowning}
-use Rattle.aom_sound.specs.Claims.{Dispatching, Dying, Ending, Layer, Mark, Method, Unwinding, claim, declared, tasks_of}
+use Rattle.aom_sound.specs.Claims.{by_close, Dispatching, Dying, Ending, Layer, Mark, Method, Unwinding, claim, declared, tasks_of}
 use Rattle.aom_sound.specs.Clients.{most_of}
 use Rattle.aom_sound.specs.Enlisted.{thing_kind}
 use Rattle.aom_sound.specs.Places.{Cell, Elsewhere, Entry, Field, Going, In_service, Object, Place, Queued, Register, Root, Session, Sight, Tidy, held, moved, named, same_place, seen, service_of}
 use Rattle.aom_sound.specs.Servers.{has_session, is_among, is_other, is_server, of_class, seats_taken, session_class, session_thing}
-use Rattle.aom_sound.specs.State.{Accept_left, Accepted, Accepts, Dispatch, Of_server, Parts, Serves, Service_left}
-use Rattle.aom_sound.specs.WellTyped.{Back, Caught, Fits, Gone, Good, Leaves, Now, Returns, Stack}
+use Rattle.aom_sound.specs.State.{Seat, Accept_left, Accepted, Accepts, Dispatch, Of_server, Parts, Serves, Service_left}
+use Rattle.aom_sound.specs.WellTyped.{EndsSessions, Back, Caught, Fits, Gone, Good, Leaves, Now, Returns, Stack}
 use Rattle.aom_prices.specs.Prices.{IsPriced, Prices, perhaps_sessions, sessions_cost}
 use Rattle.aom_steps.specs.Left.{due, is_session_with, owned_left, sessions_left}
 use Rattle.aom_steps.proofs.Pushed.{moved_less}
+use Rattle.aom_sound.specs.Destruction.{first_session, seat_or}
 
 -- ---- a session that is there is among those of its server, and of their class
 
@@ -50,29 +51,35 @@ module _ (p : Image) (t : Typing) (cs : List Cell) (n client : ℕ) (o x : Objec
   of_cond true k h f = absurd f
   of_cond false k h f = h f
 
-  of_claim : (back : Back) (ls : List Layer) → Stack p t cs back ls → Has (claim p (declared p cs) ls (Elsewhere (Session n client)))
+  -- a server that goes has those sessions alone that are left
+  of_ending :
+      (y : Object) (left : List ℕ) → EndsSessions p cs y left → (below : Kind) → Has below →
+      Has (cond (y.name == n) (cond (is_among client left) (filled (session_thing p (Some y)) Full) Null) below)
+  of_ending y left ends below has f = go (y.name == n) refl f
+    where
+      ours : y.name ≡ n → (b : Bool) → is_among client left ≡ b → Fits p (seen cs) (Some x) (cond b (filled (session_thing p (Some y)) Full) Null) → HasIt
+      ours e true among f =
+          let one : Some y ≡ Some o = sym ends.lives ∙ ap (λ k. named cs k) e ∙ lives in
+          let same : y ≡ o = cc in
+          (ap (λ k. has_session (service_of cs k) client) (sym e) ∙ ends.listed client among, subst (λ z. Fits p (seen cs) (Some x) (filled (session_thing p (Some z)) Full)) same f)
+      ours e false among f = absurd f
+
+      go : (b : Bool) → (y.name == n) ≡ b → Has (cond b (cond (is_among client left) (filled (session_thing p (Some y)) Full) Null) below)
+      go true e f = ours (eqb-true y.name n e) (is_among client left) refl f
+      go false e f = has f
+
+  of_dispatch : (d : Dispatch) (below : Kind) → Has below → Has (by_close d n client below)
+  of_dispatch (Of_server y c Parts) below has f = of_cond ((y.object.name == n) && (c == client)) below has f
+  of_dispatch _ below has f = has f
+
+  pub of_claim : (back : Back) (ls : List Layer) → Stack p t cs back ls → Has (claim p (declared p cs) ls (Elsewhere (Session n client)))
   of_claim back [] h f = of_declared f
   of_claim back (Method fr sh ∷ ls) h f = of_claim (Returns fr.method fr.home) ls h.4 f
   of_claim back (Mark gv ∷ ls) h f = of_claim (Caught gv) ls h.1 f
   of_claim back (Unwinding code es ∷ ls) h f = of_claim Leaves ls h.1 f
-  of_claim back (Dying y ∷ ls) h f = of_cond (y.name == n) _ (λ g. of_claim Gone ls h.2 g) f
-  of_claim back (Ending y left ∷ ls) h f = go (y.name == n) refl f
-    where
-      ours : y.name ≡ n → (b : Bool) → is_among client left ≡ b → Fits p (seen cs) (Some x) (cond b (filled (session_thing p (Some y)) Full) Null) → HasIt
-      ours e true among f =
-          let one : Some y ≡ Some o = sym h.0.lives ∙ ap (λ k. named cs k) e ∙ lives in
-          let same : y ≡ o = cc in
-          (ap (λ k. has_session (service_of cs k) client) (sym e) ∙ h.0.listed client among, subst (λ z. Fits p (seen cs) (Some x) (filled (session_thing p (Some z)) Full)) same f)
-      ours e false among f = absurd f
-
-      go : (b : Bool) → (y.name == n) ≡ b → Has (cond b (cond (is_among client left) (filled (session_thing p (Some y)) Full) Null) (claim p (declared p cs) ls (Elsewhere (Session n client))))
-      go true e f = ours (eqb-true y.name n e) (is_among client left) refl f
-      go false e f = of_claim Now ls h.3 f
-  of_claim back (Dispatching d seats ∷ ls) h f = by d (subst (λ l. Has (claim p (declared p cs) l (Elsewhere (Session n client)))) (sym h.1) of_declared) f
-    where
-      by : (d : Dispatch) → Has (claim p (declared p cs) ls (Elsewhere (Session n client))) → Has (claim p (declared p cs) (Dispatching d seats ∷ ls) (Elsewhere (Session n client)))
-      by (Of_server y c Parts) below f = of_cond ((y.object.name == n) && (c == client)) _ below f
-      by _ below f = below f
+  of_claim back (Dying y ∷ ls) h f = of_cond (y.name == n) _ (of_claim Gone ls h.2) f
+  of_claim back (Ending y left ∷ ls) h f = of_ending y left h.0 _ (of_claim Now ls h.3) f
+  of_claim back (Dispatching d seats ∷ ls) h f = of_dispatch d _ (subst (λ l. Has (claim p (declared p cs) l (Elsewhere (Session n client)))) (sym h.1) of_declared) f
 
 -- ---- how many are there
 
@@ -120,36 +127,33 @@ module _ (c : Prices) (n most : ℕ) where
       go false e = there
       go true e = let clash : None ≡ Some x = sym free ∙ ap (λ r. held cs r) (same_place-true y.owner (Elsewhere (Session n k)) e) ∙ there in cc
 
+  -- one cell more
+  with_one :
+      (y : Cell) (cs : List Cell) (xs : List ℕ) → Tidy (y ∷ cs) → Sessions (y ∷ cs) xs → ((zs : List ℕ) → Sessions cs zs → sessions_left c n cs ≤ length zs * most) → (r : Place) → y.owner ≡ r →
+      due c (is_session_with n) r y.object + sessions_left c n cs ≤ length xs * most
+  with_one y cs xs tidy all rest (Elsewhere (Session s client)) e = go (s == n) refl
+    where
+      here : y.owner ≡ Elsewhere (Session n client) → c.destruction y.object.thing + sessions_left c n cs ≤ length xs * most
+      here at =
+          let this = all client y.object (ap (λ b. cond b (Some y.object) (held cs (Elsewhere (Session n client)))) (ap (λ r. same_place r (Elsewhere (Session n client))) at ∙ same_place_refl (Elsewhere (Session n client)))) in
+          let others = rest (filter (is_other client) xs) (one_fewer y cs xs client at tidy.0 all) in
+          let more : (1 + length (filter (is_other client) xs)) * most ≤ length xs * most = mul-le-mul_right most (fewer_parted client xs this.0) in
+          grind (arith, this.1, others, more)
+
+      go : (b : Bool) → (s == n) ≡ b → cond b (c.destruction y.object.thing) 0 + sessions_left c n cs ≤ length xs * most
+      go true same = here (e ∙ ap (λ k. Elsewhere (Session k client)) (eqb-true s n same))
+      go false other = omega (arith, rest xs (others y cs xs tidy.0 all))
+  with_one y cs xs tidy all rest (Register f i) e = omega (arith, rest xs (others y cs xs tidy.0 all))
+  with_one y cs xs tidy all rest (Entry k) e = omega (arith, rest xs (others y cs xs tidy.0 all))
+  with_one y cs xs tidy all rest (Field m f) e = omega (arith, rest xs (others y cs xs tidy.0 all))
+  with_one y cs xs tidy all rest (Going k) e = omega (arith, rest xs (others y cs xs tidy.0 all))
+  with_one y cs xs tidy all rest (Elsewhere Root) e = omega (arith, rest xs (others y cs xs tidy.0 all))
+  with_one y cs xs tidy all rest (Elsewhere In_service) e = omega (arith, rest xs (others y cs xs tidy.0 all))
+  with_one y cs xs tidy all rest (Elsewhere (Queued s m)) e = omega (arith, rest xs (others y cs xs tidy.0 all))
+
   pub counted : (cs : List Cell) (xs : List ℕ) → Tidy cs → Sessions cs xs → sessions_left c n cs ≤ length xs * most
   counted [] xs tidy all = omega arith
-  counted (y ∷ cs) xs tidy all = here y.owner refl
-    where
-      abbrev Counts : Place → Type 0
-      Counts r = due c (is_session_with n) r y.object + sessions_left c n cs ≤ length xs * most
-
-      uncounted : sessions_left c n cs ≤ length xs * most
-      uncounted = counted cs xs tidy.2 (others y cs xs tidy.0 all)
-
-      session : (client : ℕ) → y.owner ≡ Elsewhere (Session n client) → c.destruction y.object.thing + sessions_left c n cs ≤ length xs * most
-      session client at =
-          let this = all client y.object (ap (λ b. cond b (Some y.object) (held cs (Elsewhere (Session n client)))) (ap (λ r. same_place r (Elsewhere (Session n client))) at ∙ same_place_refl (Elsewhere (Session n client)))) in
-          let rest = counted cs (filter (is_other client) xs) tidy.2 (one_fewer y cs xs client at tidy.0 all) in
-          let more : (1 + length (filter (is_other client) xs)) * most ≤ length xs * most = mul-le-mul_right most (fewer_parted client xs this.0) in
-          grind (arith, this.1, rest, more)
-
-      here : (r : Place) → y.owner ≡ r → Counts r
-      here (Register f i) e = uncounted
-      here (Entry k) e = uncounted
-      here (Field m f) e = uncounted
-      here (Going k) e = uncounted
-      here (Elsewhere Root) e = uncounted
-      here (Elsewhere In_service) e = uncounted
-      here (Elsewhere (Queued s m)) e = uncounted
-      here (Elsewhere (Session s client)) e = go (s == n) refl
-        where
-          go : (b : Bool) → (s == n) ≡ b → cond b (c.destruction y.object.thing) 0 + sessions_left c n cs ≤ length xs * most
-          go true same = session client (e ∙ ap (λ k. Elsewhere (Session k client)) (eqb-true s n same))
-          go false other = uncounted
+  counted (y ∷ cs) xs tidy all = with_one y cs xs tidy all (λ zs h. counted cs zs tidy.2 h) y.owner refl
 
 -- ---- what a server pays for
 
@@ -202,10 +206,12 @@ module _ (p : Image) (t : Typing) (c : Prices) (priced : IsPriced p t c) (cs : L
 
 pub first_there : (cs : List Cell) (n : ℕ) (clients : List ℕ) (x : Seat) → first_session cs n clients ≡ Some x → (client : ℕ) × (x.place ≡ Elsewhere (Session n client)) × (held cs x.place ≡ Some x.object)
 first_there cs n [] x e = cc
-first_there cs n (k ∷ clients) x e = go (held cs (Elsewhere (Session n k))) refl e
+first_there cs n (k ∷ clients) x e = go (held cs (Elsewhere (Session n k))) refl e (first_there cs n clients x)
   where
-    go : (o : Option Object) → held cs (Elsewhere (Session n k)) ≡ o → seat_or o (Elsewhere (Session n k)) (first_session cs n clients) ≡ Some x → (client : ℕ) × (x.place ≡ Elsewhere (Session n client)) × (held cs x.place ≡ Some x.object)
-    go None there e = first_there cs n clients x e
-    go (Some o) there e =
+    go :
+        (o : Option Object) → held cs (Elsewhere (Session n k)) ≡ o → seat_or o (Elsewhere (Session n k)) (first_session cs n clients) ≡ Some x →
+        (first_session cs n clients ≡ Some x → (client : ℕ) × (x.place ≡ Elsewhere (Session n client)) × (held cs x.place ≡ Some x.object)) → (client : ℕ) × (x.place ≡ Elsewhere (Session n client)) × (held cs x.place ≡ Some x.object)
+    go None there e later = later e
+    go (Some o) there e later =
         let same : record { object = o; place = Elsewhere (Session n k) } ≡ x = cc in
         subst (λ (y : Seat). (client : ℕ) × (y.place ≡ Elsewhere (Session n client)) × (held cs y.place ≡ Some y.object)) same (k, refl, there)

@@ -1,28 +1,51 @@
 -- What a turn may still cost: the price of the class whose object is dispatched, or nothing more.
-use Rattle.std.proofs.Common.{◌≡◌, ◌≤◌, ◌+◌, ◌∙◌, ℕ, true, false, List, [], ◌∷◌, Option, Some, None, refl, sym, ap, arith, subst}
+use Rattle.std.proofs.Common.{ℤ, ◌≡◌, ◌≤◌, ◌+◌, ◌∙◌, ℕ, true, false, List, [], ◌∷◌, Option, Some, None, refl, sym, ap, arith, subst, Bool, cond, length}
+use Rattle.std.proofs.lemmas.Bool.{true≢false}
 use Rattle.aom_image.specs.Image.{Image}
 use Rattle.aom_image.specs.Views.{method_at}
-use Rattle.aom_image.specs.declared.method.Role.TheVariants.{Error, Run as Handles}
+use Rattle.aom_image.specs.declared.method.Role.TheVariants.{Accept as Accepts_role, Error, Run as Handles, Service as Attends}
 use Rattle.aom_image.specs.declared.method.Thing.{Thing}
 use Rattle.aom_image.specs.declared.method.Thing.TheVariants.{Message, Object as An_object_of}
 use Rattle.aom_rules.specs.Typing.{Typing}
 use Rattle.aom_sound.proofs.Guarded.{goes_same}
-use Rattle.aom_sound.proofs.Turned.{Polled, answers, nothing, polled_so}
-use Rattle.aom_sound.specs.Claims.{Layer, forms, items_of, tasks_of}
+use Rattle.aom_sound.proofs.Turned.{accepts, attends, handles, parts, Polled, answers, nothing, polled_so, Picked, picked_so}
+use Rattle.aom_sound.specs.Claims.{Layer, forms, items_of, tasks_of, declared}
 use Rattle.aom_sound.specs.Counting.{starts}
 use Rattle.aom_sound.specs.Enlisted.{completed_with, on_request, part_of, recorded, taken_up, timed_out}
 use Rattle.aom_sound.specs.Natives.{all_bereaved, bereaved}
-use Rattle.aom_sound.specs.Places.{Cell, Object, Request, requested}
-use Rattle.aom_sound.specs.State.{Goes, Rest, Seat, State}
-use Rattle.aom_sound.specs.WellTyped.{Good, WellTyped}
-use Rattle.aom_sound.specs.World.{Completes, Cuts, Hears, Kills, Passes, Picks, Polls, Turning, Waits, dispatched, heard_one, past_native, turned, turning, with_request, without_native}
-use Rattle.aom_prices.specs.Prices.{Prices, perhaps_price, price}
+use Rattle.aom_sound.specs.Places.{Cell, Object, Request, requested, Elsewhere, Entry, Going, In_service, Place, Queued, Session, Tidy, held, moved, named, seen}
+use Rattle.aom_sound.specs.State.{Goes, Rest, Seat, State, Dispatched, Of_server, Parts}
+use Rattle.aom_sound.specs.WellTyped.{Good, WellTyped, Fits, Now}
+use Rattle.aom_sound.specs.World.{lives, Completes, Cuts, Hears, Kills, Passes, Picks, Polls, Turning, Waits, dispatched, heard_one, past_native, turned, turning, with_request, without_native, Candidate, Completion, Heard, Obeys, Outside, Timed, by_event, by_timer, delivers, first_due, first_ready, has_signal, next_event, next_native, next_time, picks, polls, taken_from}
+use Rattle.aom_prices.specs.Prices.{Prices, perhaps_price, price, IsPriced}
 use Rattle.aom_steps.specs.Laws.{TurnsPay}
-use Rattle.aom_steps.specs.Left.{left, objects_left, operations_left, tasks_left}
+use Rattle.aom_steps.specs.Left.{left, objects_left, operations_left, tasks_left, closings_left, is_entry}
 use Rattle.aom_steps.specs.Payers.{class_of, payer, price_of}
 use Rattle.aom_steps.proofs.Emptied.{none_at_hand}
-use Rattle.aom_steps.proofs.Paying.{fresh_rounds}
-use Rattle.aom_steps.proofs.Pushed.{asked_same, reset_same}
+use Rattle.aom_steps.proofs.Paying.{fresh_rounds, begun_left}
+use Rattle.aom_steps.proofs.Pushed.{asked_same, reset_same, moved_less, served_same, withdrawn_same}
+use Rattle.aom_sound.proofs.Things.{stands_same}
+use Rattle.aom_roles.specs.Classes.{sessions_in}
+use Rattle.aom_classes.specs.Roles.{role_of}
+use Rattle.aom_steps.proofs.Classes.{acceptor_serves, plain_session, run_price, server_price}
+use Rattle.aom_steps.proofs.Sessions.{of_claim}
+use Rattle.aom_roles.specs.Shapes.{kind_of}
+use Rattle.std.specs.Prelude.{is_some, nat_le}
+use Rattle.aom_sound.specs.Servers.{is_queue, is_server, of_class, session_class, withdrawn}
+use Rattle.aom_sound.proofs.Turning.{found}
+use Rattle.aom_shape.specs.Kinds.{filled}
+use Rattle.aom_steps.proofs.Payers.{begun_payer}
+use Rattle.aom_sound.specs.Destruction.{begun}
+use Rattle.aom_sound.proofs.Signals.{at_rest}
+use Rattle.aom_transcript.specs.declared.event.TimedEvent.{TimedEvent}
+use Rattle.aom_clients.specs.declared.refusal.Refusal.{Refusal}
+use Rattle.aom_clients.specs.declared.client.Client.TheVariants.{Open}
+use Rattle.aom_transcript.specs.declared.event.Event.TheVariants.{Kill, Tell}
+use Rattle.aom_classes.specs.Linked.{IsLinked}
+use Rattle.aom_shape.specs.declared.kind.Filling.TheVariants.{Full}
+use Rattle.aom_transcript.specs.declared.event.Event.{Event}
+use Rattle.aom_sound.specs.Clients.{Closes, Command, Connects, Dies, Listed, Sends, client_at, commanded, connecting, leaving, sending, told}
+use Rattle.aom_clients.specs.declared.client.Client.{Client}
 
 -- ---- a turn that dispatches no object
 
@@ -36,9 +59,9 @@ module _ (p : Image) (c : Prices) (s : State) (idle : s.tasks ≡ []) where
   -- other cells, of which as much is left: no server goes
   with_cells : (u : State) → u.tasks ≡ s.tasks → u.items ≡ s.items → objects_left c u.cells ≡ objects_left c s.cells → Passed u
   with_cells u tasks items same =
-      (tasks ∙ idle, ap (λ ts. tasks_left p c ts + closings_left p c u.cells ts + (objects_left c u.cells + operations_left c u.items)) (tasks ∙ idle)
-      ∙ ap (λ n. n + operations_left c u.items) same ∙ ap (λ is. objects_left c s.cells + operations_left c is) items
-      ∙ sym (ap (λ ts. tasks_left p c ts + closings_left p c s.cells ts + (objects_left c s.cells + operations_left c s.items)) idle))
+      let none = ap (λ ts. tasks_left p c ts + closings_left p c u.cells ts) (tasks ∙ idle) in
+      let before = ap (λ ts. tasks_left p c ts + closings_left p c s.cells ts) idle in
+      (tasks ∙ idle, omega (arith, none, before, same, ap (λ l. operations_left c l) items))
 
   completed : (f : Request → Request) (o : Object) (r : Rest) → Passed (record s { cells = with_request f o s.cells; rest = r })
   completed f o r = with_cells (record s { cells = with_request f o s.cells; rest = r }) refl refl (asked_same c is_entry o.name (on_request f (requested s.cells o.name)) s.cells)

@@ -1,19 +1,19 @@
 -- Every move pays for the steps that it is, and so each dispatch keeps within what is declared.
 use Rattle.std.proofs.lemmas.Option.{same_Some}
 use Rattle.std.specs.Ordering.{int_eq}
-use Rattle.std.specs.Prelude.{IsSome, is_none, pos}
-use Rattle.std.proofs.Common.{◌≡◌, ◌<◌, ◌≤◌, ◌+◌, ◌∙◌, ◌^◌, slice_get, ℕ, ℤ, Bool, true, false, cond, List, [], ◌∷◌, length, Option, Some, None, refl, sym, ap, arith, subst}
+use Rattle.std.specs.Prelude.{IsSome, is_none, pos, max}
+use Rattle.std.proofs.Common.{◌≡◌, ◌<◌, ◌≤◌, ◌+◌, ◌∙◌, ◌^◌, slice_get, ℕ, ℤ, Bool, true, false, cond, List, [], ◌∷◌, length, Option, Some, None, refl, sym, ap, arith, subst, suc}
 use Rattle.aom_image.specs.Image.{Image}
 use Rattle.aom_image.specs.Views.{instr_at, method_at}
 use Rattle.aom_image.specs.WellFormed.{ClassFits, KindFits, WellFormed}
 use Rattle.aom_instructions.specs.declared.instr.Instr.{Instr}
 use Rattle.aom_image.specs.declared.method.Thing.TheVariants.{Object as An_object_of}
 use Rattle.aom_image.specs.declared.class.ClassKind.{ClassKind}
-use Rattle.aom_image.specs.declared.class.ClassKind.TheVariants.{Active, Plain, Server, Session}
+use Rattle.aom_image.specs.declared.class.ClassKind.TheVariants.{Active, Plain, Server, Session as A_session}
 use Rattle.aom_image.specs.declared.method.Method.{Method as Method_declared}
 use Rattle.aom_image.specs.declared.class.ClassDecl.{ClassDecl}
 use Rattle.aom_image.specs.declared.method.Role.{Role}
-use Rattle.aom_image.specs.declared.method.Role.TheVariants.{Error, Run as Handles}
+use Rattle.aom_image.specs.declared.method.Role.TheVariants.{Error, Run as Handles, Accept}
 use Rattle.aom_image.specs.Views.{class_at}
 use Rattle.aom_roles.specs.Classes.{kind_in}
 use Rattle.aom_roles.specs.Shapes.{HasShape, IsShaped, is_active_in, kind_of}
@@ -34,34 +34,34 @@ use Rattle.aom_shape.specs.declared.kind.Filling.TheVariants.{Perhaps}
 use Rattle.aom_sound.proofs.Booting.{boot_keeps}
 use Rattle.aom_sound.proofs.Counting.{steps_are_counted}
 use Rattle.aom_sound.proofs.Moving.{acted, steps_are_moves}
-use Rattle.aom_sound.proofs.Course.{well_on}
+use Rattle.aom_sound.proofs.Course.{well_on, WellKept}
 use Rattle.aom_sound.proofs.Straight.{At}
 use Rattle.aom_sound.proofs.Wiring.{linked_is_wired}
 use Rattle.aom_sound.specs.Calls.{called, result_register}
-use Rattle.aom_sound.specs.Claims.{Dispatching, Layer, Method, forms, items_of, tasks_of}
+use Rattle.aom_sound.specs.Claims.{Dispatching, Layer, Method, forms, items_of, tasks_of, declared}
 use Rattle.aom_sound.specs.Cleanup.{ended_by}
 use Rattle.aom_sound.specs.Counting.{ends_object, restarts, starts, steps_of, taken}
-use Rattle.aom_sound.specs.Destruction.{begun}
+use Rattle.aom_sound.specs.Destruction.{begun, first_session, parting, vanished}
 use Rattle.aom_sound.specs.Effects.{effect}
 use Rattle.aom_sound.specs.Laws.{IsWired}
 use Rattle.aom_sound.specs.Enlisted.{part_of}
-use Rattle.aom_sound.specs.Moves.{answered, asking, counted, dispatch_ends, failed, handled, main_ends, object_ends, step, step_instr, step_task}
-use Rattle.aom_sound.specs.Places.{Elsewhere, Entry, Going, Object, Root, held, moved, seen}
-use Rattle.aom_sound.specs.State.{An_object, Answered, Asks, Choice, Destroy, Dispatch, Dispatched, Frame, Goes, Item, Main_left, Object_left, Of_main, Of_object, Of_root, Run, Seat, State, Task, Trapped, Unwind}
-use Rattle.aom_sound.specs.Steps.{Acts, Arrives, Clears, Comes_out, Ends, Move, Rests, Undoes, Vanishes, IsStill}
+use Rattle.aom_sound.specs.Moves.{answered, asking, counted, dispatch_ends, failed, handled, main_ends, object_ends, step, step_instr, step_task, stage_ends}
+use Rattle.aom_sound.specs.Places.{Elsewhere, Entry, Going, In_service, Object, Place, Root, Session, held, moved, same_place, seen, service_of, without}
+use Rattle.aom_sound.specs.State.{An_object, Answered, Asks, Choice, Destroy, Dispatch, Dispatched, Frame, Goes, Item, Main_left, Object_left, Of_main, Of_object, Of_root, Run, Seat, State, Task, Trapped, Unwind, Accept_left, Accepted, Accepts, Closing, Of_server, Parts, Serves, Service_left, Stage}
+use Rattle.aom_sound.specs.Steps.{Acts, Arrives, Clears, Comes_out, Ends, Move, Rests, Undoes, Vanishes, IsStill, Empties}
 use Rattle.aom_sound.specs.WellTyped.{Fits, Good, WellTyped}
 use Rattle.aom_sound.specs.World.{Heard, Reaches, begins, boot_state, main_tasks, moves, turn, turning, turns, Outside}
 use Rattle.aom_transcript.specs.declared.line.Line.{Line}
 use Rattle.aom_ranks.proofs.Worths.{resumed_alike, told_alike}
 use Rattle.aom_prices.specs.Layers.{ArePricesUpTo}
-use Rattle.aom_prices.specs.Prices.{IsPriced, Prices, Stands, perhaps_price, price}
+use Rattle.aom_prices.specs.Prices.{IsPriced, Prices, Stands, perhaps_price, price, sessions_cost}
 use Rattle.aom_prices.specs.Dispatches.{IsAffordable, main_price, method_price, root_price}
 use Rattle.aom_steps.specs.Laws.{BootWithin, KeepsBudget, MovesPay, StepsWithin}
-use Rattle.aom_steps.specs.Left.{WithinBudget, end_left, left, left_worths, objects_left, operations_left, tasks_left, waiting_left}
-use Rattle.aom_steps.specs.Payers.{AffordsObjects, class_budget, declared_of, object_price, payer, price_of}
+use Rattle.aom_steps.specs.Left.{WithinBudget, end_left, left, left_worths, objects_left, operations_left, tasks_left, waiting_left, closing_left, closings_left, is_entry, is_session_with, sessions_left}
+use Rattle.aom_steps.specs.Payers.{AffordsObjects, class_budget, declared_of, object_price, payer, price_of, dispatch_price}
 use Rattle.aom_steps.proofs.Covering.{covers}
-use Rattle.aom_steps.proofs.Paying.{begun_left, fresh_rounds, pays}
-use Rattle.aom_steps.proofs.Pushed.{leaves_entry, moved_less, without_less}
+use Rattle.aom_steps.proofs.Paying.{begun_left, fresh_rounds, pays, destructed_left}
+use Rattle.aom_steps.proofs.Pushed.{leaves_place, moved_less, without_less, each_unslotted_same, queue_less, served_same}
 use Rattle.aom_steps.proofs.Counted.{none_counted, steps_counted}
 use Rattle.aom_steps.proofs.Emptied.{none_at_end}
 use Rattle.aom_steps.proofs.Payers.{payers}
@@ -70,6 +70,14 @@ use Rattle.aom_sound.proofs.Layers.{method_layer}
 use Rattle.aom_sound.proofs.Wiring.{main_of_none}
 use Rattle.aom_image.proofs.Given.{some_given}
 use Rattle.aom_sound.proofs.Layers.{dispatch_layer}
+use Rattle.std.proofs.Math.Nat.{le-max_left, le-max_right}
+use Rattle.aom_sound.specs.Servers.{is_server, parted, without_queue}
+use Rattle.std.proofs.lemmas.Bool.{eq-eqb}
+use Rattle.aom_sound.specs.Clients.{each_unslotted}
+use Rattle.aom_sound.proofs.ClientsKeep.{clients_keep}
+use Rattle.aom_sound.specs.Kept.{IsKept}
+use Rattle.aom_steps.proofs.Lasting.{IsApart, going_apart, lasting, lasts_below, lasts_gone, lasts_moved, resumed_closings}
+use Rattle.aom_steps.proofs.Sessions.{FewSeats, first_there, stands_at_going}
 
 -- ---- every move
 
@@ -351,7 +359,7 @@ module _ (p : Image) (t : Typing) (c : Prices) (outside : Outside) (wired : IsWi
   Within n s = n + left p c s ≤ price_of p c (payer s.tasks)
 
   -- with a move: what was taken is taken still, or steps are counted anew
-  moves_on : (s u : State) (ch : Choice) (n : ℕ) → WellTyped p t s → IsKept p s → step p ch s ≡ Goes u → Within n s → (b : Bool) → restarts p s.tasks ≡ b → Within (cond b 0 (n + steps_of s.tasks)) u
+  moves_on : (s u : State) (ch : Choice) (n : ℕ) → WellKept p t s → step p ch s ≡ Goes u → Within n s → (b : Bool) → restarts p s.tasks ≡ b → Within (cond b 0 (n + steps_of s.tasks)) u
   moves_on s u ch n w goes h true ends =
       let main = payers p ch s u goes ∙ ap (λ b. cond b None (payer s.tasks)) ends in
       omega (arith, restart_left p t c linked typed priced ch s u w.0 w.1 goes ends, ap (λ x. price_of p c x) main)
@@ -391,7 +399,7 @@ declared_fits p formed (Some x) = of_class (slice_get p.classes x) refl
     of_kind d fits (Active provider budget) e = (subst (λ k. KindFits (length p.classes) p.header.natives k) e fits.kind).1
     of_kind d fits Plain e = omega arith
     of_kind d fits (Server most session budget) e = (subst (λ k. KindFits (length p.classes) p.header.natives k) e fits.kind).3
-    of_kind d fits Session e = omega arith
+    of_kind d fits A_session e = omega arith
 
     of_class : (o : Option ClassDecl) → slice_get p.classes x ≡ o → class_budget (kind_in o) < 2 ^ 32
     of_class None e = omega arith
@@ -425,16 +433,16 @@ module _ (limit : ℕ) (p : Image) (t : Typing) (c : Prices) (wired : IsWired p)
   same_dispatch : (x : ℕ) (k : Option ClassKind) → dispatch_price p c x k < limit → dispatch_price p are.whole.prices x k ≡ dispatch_price p c x k
   same_dispatch x None less = refl
   same_dispatch x (Some Plain) less = refl
-  same_dispatch x (Some Session) less = refl
+  same_dispatch x (Some A_session) less = refl
   same_dispatch x (Some (Active provider budget)) less = omega (arith, same_part x Handles (omega (arith, less)), same_part x Error (omega (arith, less)))
   same_dispatch x (Some (Server most session budget)) less =
       let a = perhaps_price c (role_of p x Accept) in
-      let b = perhaps_price c (role_of p session Service) in
+      let b = perhaps_price c (role_of p session Attends) in
       let d = c.destruction (An_object_of session) in
       let accepts = same_part x Accept (omega (arith, less, le-max_left a (max b d))) in
-      let attends = same_part session Service (omega (arith, less, le-max_left b d, le-max_right a (max b d))) in
+      let attends = same_part session Attends (omega (arith, less, le-max_left b d, le-max_right a (max b d))) in
       let parts : are.whole.prices.destruction (An_object_of session) ≡ d = omega (arith, are.classes (An_object_of session), less, le-max_right b d, le-max_right a (max b d)) in
-      ap (λ n. max n (max (perhaps_price are.whole.prices (role_of p session Service)) (are.whole.prices.destruction (An_object_of session)))) accepts
+      ap (λ n. max n (max (perhaps_price are.whole.prices (role_of p session Attends)) (are.whole.prices.destruction (An_object_of session)))) accepts
       ∙ ap (λ n. max a (max n (are.whole.prices.destruction (An_object_of session)))) attends ∙ ap (λ n. max a (max b n)) parts
 
   pub objects_below : ((x : ℕ) → declared_of p (Some x) < limit) → AffordsObjects p c → AffordsObjects p are.whole.prices
