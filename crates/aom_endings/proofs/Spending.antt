@@ -5,6 +5,8 @@ use Rattle.aom_image.specs.Image.{Image}
 use Rattle.aom_image.specs.declared.method.Role.TheVariants.{Run as Handles}
 use Rattle.aom_image.specs.declared.method.Thing.{Thing}
 use Rattle.aom_image.specs.declared.method.Thing.TheVariants.{Message, Object as An_object_of}
+use Rattle.aom_roles.specs.Classes.{sessions_in}
+use Rattle.aom_roles.specs.Shapes.{kind_of}
 use Rattle.aom_sound.proofs.Counting.{dispatches_are_counted}
 use Rattle.aom_sound.proofs.Turned.{Picked, accepts, attends, dispatched_so, handles, parts, picked_rest, picked_so}
 use Rattle.aom_sound.specs.Counting.{restarts}
@@ -38,6 +40,7 @@ class_there p (An_object_of c) m e = refl
 class_there p Message m e = cc
 
 server_there : (p : Image) (t : Thing) → is_server p t ≡ true → is_some (class_of t) ≡ true
+unfolding sessions_in kind_of
 server_there p (An_object_of c) e = refl
 server_there p Message e = cc
 

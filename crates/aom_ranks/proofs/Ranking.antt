@@ -29,9 +29,9 @@ use Rattle.aom_sound.specs.Laws.{IsWired}
 use Rattle.aom_ranks.specs.Laws.{Moves, no_move, one_move}
 use Rattle.aom_sound.specs.WellTyped.{Keeps}
 use Rattle.aom_sound.specs.Moves.{answered, asking, counted, dispatch_ends, failed, handled, main_ends, object_ends, stage_ends, step}
-use Rattle.aom_sound.specs.Places.{Cell, Elsewhere, Entry, Going, In_service, Object, Place, Root, Session, held, moved, service_of, without}
+use Rattle.aom_sound.specs.Places.{Cell, Elsewhere, Entry, Going, In_service, Object, Root, Session, held, moved, service_of, without}
 use Rattle.aom_sound.specs.Servers.{parted, reserved}
-use Rattle.aom_sound.specs.State.{A_mark, Accept_left, Accepted, Accepts, An_object, An_operation, Answered, Asks, Choice, Closing, Destroy, Dispatch, Dispatched, Frame, Goes, Item, Main_left, Object_left, Of_main, Of_object, Of_root, Of_server, Outcome, Parts, Seat, Serves, Service_left, Stage, Run, State, Task, Trapped, Unwind, home_holder, resumed}
+use Rattle.aom_sound.specs.State.{A_mark, Accept_left, Accepted, Accepts, An_object, An_operation, Answered, Asks, Choice, Closing, Destroy, Dispatch, Dispatched, Frame, Goes, Item, Main_left, Object_left, Of_main, Of_object, Of_root, Of_server, Outcome, Parts, Seat, Serves, Service_left, Stage, Run, State, Task, Trapped, Unwind, home_holder}
 use Rattle.aom_sound.specs.WellTyped.{AllUndo, Good, Now, Stack, WellTyped}
 use Rattle.aom_sound.specs.World.{IsBusy}
 use Rattle.aom_ranks.specs.Ranks.{cell_rank, end_rank, frame_rank, is_going, operations, rank, rank_worths, run_rank, standing, tasks_rank, waiting_rank}

@@ -6,7 +6,7 @@ use Rattle.aom_sound.specs.Places.{Cell, Elsewhere, Going, Object, Place, Regist
 use Rattle.aom_sound.specs.State.{A_mark, Accepted, Accepts, Accept_left, An_object, An_operation, Answered, Asks, AtRoot, Dispatch, Home, Inside, Item, Main_left, Object_left, Of_main, Of_object, Of_root, Of_server, Parts, Serves, Service_left, Static, field_place}
 use Rattle.aom_sound.specs.Calls.{accepted_cells, below_top}
 use Rattle.aom_sound.specs.Clients.{each_unslotted}
-use Rattle.aom_sound.specs.Servers.{all_unslotted, is_queue_of, opened, parted, reserved, unslotted, without_queue}
+use Rattle.aom_sound.specs.Servers.{all_unslotted, is_queue_of, opened, reserved, without_queue}
 use Rattle.aom_sound.specs.Words.{stored}
 use Rattle.aom_sound.proofs.Maps.{same_place-true}
 use Rattle.aom_ranks.specs.Ranks.{is_going, standing, operations}
