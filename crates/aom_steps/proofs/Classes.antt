@@ -1,11 +1,11 @@
 -- What a class costs by the methods that it has: one that runs is of active objects, and one that accepts of servers.
-use Rattle.std.proofs.Common.{◌≡◌, ◌<◌, ◌≤◌, ◌+◌, ◌∙◌, ℕ, Bool, true, false, List, Option, Some, None, refl, sym, ap, arith, subst, IfSome}
+use Rattle.std.proofs.Common.{◌≡◌, ◌<◌, ◌≤◌, ◌+◌, ◌∙◌, ℕ, true, false, Option, Some, None, refl, ap, arith, subst, IfSome}
 use Rattle.std.specs.Prelude.{is_some, max}
 use Rattle.std.proofs.Math.Nat.{le-max_left, le-max_right}
 use Rattle.aom_image.specs.Image.{Image}
 use Rattle.aom_image.specs.Views.{method_at, class_at}
 use Rattle.aom_image.specs.declared.class.ClassKind.{ClassKind}
-use Rattle.aom_image.specs.declared.class.ClassKind.TheVariants.{Active, Plain, Server, Session}
+use Rattle.aom_image.specs.declared.class.ClassKind.TheVariants.{Active, Server, Session}
 use Rattle.aom_image.specs.declared.method.Method.{Method as Method_declared}
 use Rattle.aom_image.specs.declared.method.Role.{Role}
 use Rattle.aom_image.specs.declared.method.Role.TheVariants.{Accept, Error, Run as Handles, Service}

@@ -1,13 +1,13 @@
 -- What comes before servers go is no more after a change of the cells, where those that go stay, and no session is made.
-use Rattle.std.proofs.Common.{◌≡◌, ◌≤◌, ◌<◌, ◌+◌, ◌∙◌, ℕ, ℤ, Bool, true, false, cond, List, [], ◌∷◌, length, Option, Some, None, refl, sym, ap, arith, suc}
+use Rattle.std.proofs.Common.{◌≡◌, ◌≤◌, ◌<◌, ◌∙◌, ℕ, ℤ, Bool, true, false, cond, List, [], ◌∷◌, length, Option, Some, None, refl, ap, arith, suc}
 use Rattle.std.specs.Prelude.{◌==◌, ◌&&◌}
 use Rattle.std.proofs.lemmas.Bool.{ne_eqb}
 use Rattle.aom_image.specs.Image.{Image}
-use Rattle.aom_image.specs.Views.{arguments_of, method_role}
+use Rattle.aom_image.specs.Views.{method_role}
 use Rattle.aom_image.specs.declared.method.Argument.{Argument}
 use Rattle.aom_image.specs.declared.method.Argument.TheVariants.{Own as Takes_own, Word as Takes_word}
 use Rattle.aom_image.specs.declared.method.Gives.{Gives}
-use Rattle.aom_image.specs.declared.method.Gives.TheVariants.{Left, Maybe as A_maybe, Nothing, Own as An_own, Word as A_word}
+use Rattle.aom_image.specs.declared.method.Gives.TheVariants.{Maybe as A_maybe, Own as An_own}
 use Rattle.aom_rules.specs.Requests.{is_cancel}
 use Rattle.aom_sound.proofs.ClientsMoves.{held_elsewhere}
 use Rattle.aom_sound.proofs.Dropping.{held_dropped, queue_dropped}
@@ -19,8 +19,7 @@ use Rattle.aom_sound.specs.Cleanup.{to_trap, top_place}
 use Rattle.aom_sound.specs.Clients.{each_unslotted}
 use Rattle.aom_sound.specs.Effects.{Carried, In_field, In_register, Made, Popped, Popped_operation, Pushed, Pushed_operation, Replied, Requested, Same, Sessioned, Spot, The_message, Update, Written, cells_after, spot_place}
 use Rattle.aom_sound.specs.Enlisted.{cancelled, ended_cells, on_request, own_request, rerequested}
-use Rattle.aom_sound.specs.Natives.{resessioned}
-use Rattle.aom_sound.specs.Places.{Cell, Elsewhere, Entry, Field, Going, In_service, Object, Place, Queued, Register, Request, Root, Service, Session, held, moved, same_place, set_service, without}
+use Rattle.aom_sound.specs.Places.{Cell, Entry, Going, Object, Place, Register, Request, Service, held, moved, same_place, set_service, without}
 use Rattle.aom_sound.specs.Servers.{all_unslotted, is_queue_of, without_queue}
 use Rattle.aom_sound.specs.State.{AtRoot, Closing, Destroy, Dispatched, Frame, Home, Inside, Run, State, Static, Task, Trapped, Unwind, field_place, resumed}
 use Rattle.aom_sound.specs.Words.{here, stored}

@@ -309,7 +309,7 @@ module _ (p : Image) (t : Typing) (c : Prices) (linked : IsLinked p) (priced : I
   returns : (g : Gives) (a : ℕ) → 1 ≤ c.from fr.method fr.place → Pays (Returns g a)
   returns g a some =
       let less = returned_less (left_worths p c) (objects_left c) (operations_left c) (λ d i e j cs. moved_less c is_entry (Register d i) (Register e j) cs refl) (operations_below c) (rerequested_same c is_entry) (λ x answer. omega arith) well_ended p t s fr sh g a
-          (λ d e i. accepted_less d e i (ended_cells p fr s.cells)) ls at_hand.good.stack in
+      (λ d e i. accepted_less d e i (ended_cells p fr s.cells)) ls at_hand.good.stack in
       omega (arith, some, less.0, less.1, returned_closings g a ls at_hand.good.stack)
 
   pub pays : (i : Instr) → slice_get d.code fr.place ≡ Some i → Stands p t fr.method fr.place sh i → (e : Effect) → Fits p ch fr ts s i e → Covers c fr sh e → Pays e

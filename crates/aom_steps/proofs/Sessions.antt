@@ -1,7 +1,7 @@
 -- A server pays for the sessions with it that are there: they are no more than it may have, and each is of their class.
 use Rattle.std.proofs.Common.{◌≡◌, ◌≤◌, ◌+◌, ◌*◌, ◌∙◌, ℕ, suc, Bool, true, false, cond, List, [], ◌∷◌, length, Option, Some, None, refl, sym, ap, arith, subst}
 use Rattle.std.specs.Prelude.{filter, is_some, not, ◌==◌, ◌&&◌, ◌||◌}
-use Rattle.std.proofs.lemmas.Bool.{eq-eqb, eqb-true, ne_eqb, true≢false}
+use Rattle.std.proofs.lemmas.Bool.{eqb-true, ne_eqb}
 use Rattle.std.proofs.Math.Nat.{mul-le-mul_right}
 use Rattle.aom_image.specs.Image.{Image}
 use Rattle.aom_image.specs.declared.class.ClassKind.{ClassKind}
@@ -22,12 +22,12 @@ use Rattle.aom_sound.proofs.Straight.{fits_unowning}
 use Rattle.aom_sound.specs.Claims.{by_close, Dispatching, Dying, Ending, Layer, Mark, Method, Unwinding, claim, declared, tasks_of}
 use Rattle.aom_sound.specs.Clients.{most_of}
 use Rattle.aom_sound.specs.Enlisted.{thing_kind}
-use Rattle.aom_sound.specs.Places.{Cell, Elsewhere, Entry, Field, Going, In_service, Object, Place, Queued, Register, Root, Session, Sight, Tidy, held, moved, named, same_place, seen, service_of}
+use Rattle.aom_sound.specs.Places.{Cell, Elsewhere, Entry, Field, Going, In_service, Object, Place, Queued, Register, Root, Session, Tidy, held, moved, named, same_place, seen, service_of}
 use Rattle.aom_sound.specs.Servers.{has_session, is_among, is_other, is_server, of_class, seats_taken, session_class, session_thing}
-use Rattle.aom_sound.specs.State.{Seat, Accept_left, Accepted, Accepts, Dispatch, Of_server, Parts, Serves, Service_left}
+use Rattle.aom_sound.specs.State.{Seat, Dispatch, Of_server, Parts}
 use Rattle.aom_sound.specs.WellTyped.{EndsSessions, Back, Caught, Fits, Gone, Good, Leaves, Now, Returns, Stack}
 use Rattle.aom_prices.specs.Prices.{IsPriced, Prices, perhaps_sessions, sessions_cost}
-use Rattle.aom_steps.specs.Left.{due, is_session_with, owned_left, sessions_left}
+use Rattle.aom_steps.specs.Left.{due, is_session_with, sessions_left}
 use Rattle.aom_steps.proofs.Pushed.{moved_less}
 use Rattle.aom_sound.specs.Destruction.{first_session, seat_or}
 
@@ -198,9 +198,10 @@ module _ (p : Image) (t : Typing) (c : Prices) (priced : IsPriced p t c) (cs : L
       (held (moved from (Going depth) cs) (Going depth) ≡ Some o) × (sessions_left c o.name (moved from (Going depth) cs) ≤ sessions_cost p (λ k. c.destruction (An_object_of k)) o.thing)
   stands_at_going o from depth there deep server =
       let g = Going depth in
-      let free : held cs g ≡ None = fits_unowning p (seen cs) _ Null refl (subst (λ k. Fits p (seen cs) (held cs g) k) (claim_going_above p cs ls depth deep) (good.fits g)) in
-      (held_moved cs from g g free ∙ ap (λ b. cond b (held cs from) (cond (same_place from g) None (held cs g))) (same_place_refl g) ∙ there,
-      omega (arith, moved_less c (is_session_with o.name) from g cs refl, few_sessions o (held_lives cs from o good.tidy there) server))
+      let free : held cs g ≡ None = fits_unowning p (seen cs) _ Null refl (subst (λ k. Fits p (seen cs) (held cs g) k) (claim_going_above p cs ls depth deep) (good.fits g)) in (
+        held_moved cs from g g free ∙ ap (λ b. cond b (held cs from) (cond (same_place from g) None (held cs g))) (same_place_refl g) ∙ there,
+        omega (arith, moved_less c (is_session_with o.name) from g cs refl, few_sessions o (held_lives cs from o good.tidy there) server),
+      )
 
 -- ---- the first session that is there
 

@@ -9,14 +9,14 @@ use Rattle.aom_image.specs.declared.method.Thing.TheVariants.{Message, Object as
 use Rattle.aom_rules.specs.Typing.{Typing}
 use Rattle.aom_sound.proofs.Guarded.{goes_same}
 use Rattle.aom_sound.proofs.Turned.{accepts, attends, handles, parts, Polled, answers, nothing, polled_so, Picked, picked_so}
-use Rattle.aom_sound.specs.Claims.{Layer, forms, items_of, tasks_of, declared}
+use Rattle.aom_sound.specs.Claims.{forms, items_of, declared}
 use Rattle.aom_sound.specs.Counting.{starts}
 use Rattle.aom_sound.specs.Enlisted.{completed_with, on_request, part_of, recorded, taken_up, timed_out}
-use Rattle.aom_sound.specs.Natives.{all_bereaved, bereaved}
-use Rattle.aom_sound.specs.Places.{Cell, Object, Request, requested, Elsewhere, Entry, Going, In_service, Place, Queued, Session, Tidy, held, moved, named, seen}
+use Rattle.aom_sound.specs.Natives.{bereaved}
+use Rattle.aom_sound.specs.Places.{Message_of, service_of, Cell, Object, Request, requested, Elsewhere, Entry, Going, In_service, Place, Queued, Session, Tidy, held, moved, named, seen}
 use Rattle.aom_sound.specs.State.{Goes, Rest, Seat, State, Dispatched, Of_server, Parts}
 use Rattle.aom_sound.specs.WellTyped.{Good, WellTyped, Fits, Now}
-use Rattle.aom_sound.specs.World.{lives, Completes, Cuts, Hears, Kills, Passes, Picks, Polls, Turning, Waits, dispatched, heard_one, past_native, turned, turning, with_request, without_native, Candidate, Completion, Heard, Obeys, Outside, Timed, by_event, by_timer, delivers, first_due, first_ready, has_signal, next_event, next_native, next_time, picks, polls, taken_from}
+use Rattle.aom_sound.specs.World.{lives, Completes, Cuts, Hears, Kills, Passes, Picks, Polls, Turning, Waits, heard_one, past_native, turned, turning, with_request, without_native, Candidate, Completion, Heard, Obeys, Outside, Timed, by_event, by_timer, delivers, first_due, first_ready, has_signal, next_event, next_native, next_time, picks, polls, taken_from}
 use Rattle.aom_prices.specs.Prices.{Prices, perhaps_price, price, IsPriced}
 use Rattle.aom_steps.specs.Laws.{TurnsPay}
 use Rattle.aom_steps.specs.Left.{left, objects_left, operations_left, tasks_left, closings_left, is_entry}
@@ -31,7 +31,7 @@ use Rattle.aom_steps.proofs.Classes.{acceptor_serves, plain_session, run_price, 
 use Rattle.aom_steps.proofs.Sessions.{of_claim}
 use Rattle.aom_roles.specs.Shapes.{kind_of}
 use Rattle.std.specs.Prelude.{is_some, nat_le}
-use Rattle.aom_sound.specs.Servers.{is_queue, is_server, of_class, session_class, withdrawn}
+use Rattle.aom_sound.specs.Servers.{asked_last, is_queue, is_server, of_class, session_class, withdrawn}
 use Rattle.aom_sound.proofs.Turning.{found}
 use Rattle.aom_shape.specs.Kinds.{filled}
 use Rattle.aom_steps.proofs.Payers.{begun_payer}
@@ -87,12 +87,12 @@ module _ (p : Image) (c : Prices) (s : State) (idle : s.tasks ≡ []) where
       unqueued _ e = refl
 
       connects : (refused : Option Refusal) (server : Option Listed) (slots : ℕ) → Passed (connecting p client v refused server slots)
-      connects None (Some y) slots = with_cells _ refl refl (served_same c is_entry y.name _ s.cells)
+      connects None (Some y) slots = with_cells (connecting p client v None (Some y) slots) refl refl (served_same c is_entry y.name _ s.cells)
       connects None None slots = with_cells v refl refl refl
       connects (Some r) server slots = with_cells v refl refl refl
 
       sends : (refused : Option Refusal) (own : Client) (words : List ℤ) → Passed (sending p client v refused own name words)
-      sends None (Open server session slots) words = with_cells _ refl refl (served_same c is_entry server _ s.cells)
+      sends None (Open server session slots) words = with_cells (sending p client v None (Open server session slots) name words) refl refl (omega (arith, served_same c is_entry server (asked_last (Message_of client name) (service_of s.cells server)) s.cells))
       sends _ _ words = with_cells v refl refl refl
 
       told_same : (own : Client) (cs : List Cell) → objects_left c (told p client v own cs) ≡ objects_left c cs
@@ -101,7 +101,7 @@ module _ (p : Image) (c : Prices) (s : State) (idle : s.tasks ≡ []) where
 
       leaves : (to : Option Client) → Passed (leaving p client v to)
       leaves None = with_cells v refl refl refl
-      leaves (Some to) = with_cells _ refl refl (told_same (client_at s.clients client) (withdrawn client s.cells) ∙ withdrawn_same c is_entry unqueued client s.cells)
+      leaves (Some to) = with_cells (leaving p client v (Some to)) refl refl (told_same (client_at s.clients client) (withdrawn client s.cells) ∙ withdrawn_same c is_entry unqueued client s.cells)
 
       by : (command : Command) → Passed (commanded p client v command name)
       by (Connects class slots) = connects _ _ slots
@@ -237,8 +237,14 @@ module _ (p : Image) (t : Typing) (c : Prices) (linked : IsLinked p) (priced : I
     | handles m at ↦ omega (arith, runs x.object.thing m at, fresh_rounds c m (method_at p m), bare, asked_same c is_entry x.object.name (on_request taken_up (requested s.cells x.object.name)) s.cells)
     | accepts client m at ↦ omega (arith, accepts_within x.object.thing m at, fresh_rounds c m (method_at p m), bare, taken_same)
     | attends client message m o here at ↦
-        omega (arith, attends_within x.object.thing o m (session_there client o here) at, fresh_rounds c m (method_at p m), bare, taken_same,
-        moved_less c is_entry (Elsewhere (Queued x.object.name message)) (Elsewhere In_service) (taken_from x.object.name s).cells refl)
+        omega (
+          arith,
+          attends_within x.object.thing o m (session_there client o here) at,
+          fresh_rounds c m (method_at p m),
+          bare,
+          taken_same,
+          moved_less c is_entry (Elsewhere (Queued x.object.name message)) (Elsewhere In_service) (taken_from x.object.name s).cells refl,
+        )
     | parts client o here ↦ parted_pays client o (session_there client o here)
   ]
     where
@@ -262,6 +268,6 @@ picking p t c linked priced s w idle _ there f u e = cc
 
 pub turns_pay : TurnsPay
 turns_pay = record {
-  begins = λ p t c outside heard linked priced s u w idle e f. picking p t c linked priced s w idle (turning outside heard s) (turning_lives s w.good.tidy outside heard) f u e;
+  begins = λ p t c linked priced outside heard s u w idle e f. picking p t c linked priced s w idle (turning outside heard s) (turning_lives s w.good.tidy outside heard) f u e;
   passes = λ p c outside heard s u idle e f. passing p c s idle (turning outside heard s) f u e;
 }

@@ -10,14 +10,12 @@ use Rattle.aom_instructions.specs.declared.instr.Instr.{Instr}
 use Rattle.aom_image.specs.declared.method.Thing.TheVariants.{Object as An_object_of}
 use Rattle.aom_image.specs.declared.class.ClassKind.{ClassKind}
 use Rattle.aom_image.specs.declared.class.ClassKind.TheVariants.{Active, Plain, Server, Session as A_session}
-use Rattle.aom_image.specs.declared.method.Method.{Method as Method_declared}
 use Rattle.aom_image.specs.declared.class.ClassDecl.{ClassDecl}
 use Rattle.aom_image.specs.declared.method.Role.{Role}
-use Rattle.aom_image.specs.declared.method.Role.TheVariants.{Error, Run as Handles, Accept}
+use Rattle.aom_image.specs.declared.method.Role.TheVariants.{Accept, Error, Run as Handles, Service as Attends}
 use Rattle.aom_image.specs.Views.{class_at}
 use Rattle.aom_roles.specs.Classes.{kind_in}
-use Rattle.aom_roles.specs.Shapes.{HasShape, IsShaped, is_active_in, kind_of}
-use Rattle.aom_rules.specs.Requests.{is_active_kind}
+use Rattle.aom_roles.specs.Shapes.{kind_of}
 use Rattle.aom_classes.specs.Roles.{role_of}
 use Rattle.aom_classes.proofs.Facts.{all_there}
 use Rattle.aom_classes.proofs.Playing.{role_found}
@@ -58,7 +56,7 @@ use Rattle.aom_prices.specs.Prices.{IsPriced, Prices, Stands, perhaps_price, pri
 use Rattle.aom_prices.specs.Dispatches.{IsAffordable, main_price, method_price, root_price}
 use Rattle.aom_steps.specs.Laws.{BootWithin, KeepsBudget, MovesPay, StepsWithin}
 use Rattle.aom_steps.specs.Left.{WithinBudget, end_left, left, left_worths, objects_left, operations_left, tasks_left, waiting_left, closing_left, closings_left, is_entry, is_session_with, sessions_left}
-use Rattle.aom_steps.specs.Payers.{AffordsObjects, class_budget, declared_of, object_price, payer, price_of, dispatch_price}
+use Rattle.aom_steps.specs.Payers.{AffordsObjects, class_budget, declared_of, payer, price_of, dispatch_price}
 use Rattle.aom_steps.proofs.Covering.{covers}
 use Rattle.aom_steps.proofs.Paying.{begun_left, fresh_rounds, pays, destructed_left}
 use Rattle.aom_steps.proofs.Pushed.{leaves_place, moved_less, without_less, each_unslotted_same, queue_less, served_same}
@@ -197,7 +195,7 @@ module _ (p : Image) (t : Typing) (c : Prices) (linked : IsLinked p) (typed : Is
       let below = Dispatched Of_root ∷ [] in
       let stands = stands_at_going p t c priced s.cells (Dispatching d seats ∷ []) last few o (Elsewhere Root) 1 there (omega arith) in
       let begins = begun_left p t c priced o (length v.items) below (moved (Elsewhere Root) (Going 1) v.cells)
-          (subst (λ cs. is_server p o.thing ≡ true → (held (moved (Elsewhere Root) (Going 1) cs) (Going 1) ≡ Some o) × (sessions_left c o.name (moved (Elsewhere Root) (Going 1) cs) ≤ sessions_cost p (λ k. c.destruction (An_object_of k)) o.thing)) (sym same) stands) in
+      (subst (λ cs. is_server p o.thing ≡ true → (held (moved (Elsewhere Root) (Going 1) cs) (Going 1) ≡ Some o) × (sessions_left c o.name (moved (Elsewhere Root) (Going 1) cs) ≤ sessions_cost p (λ k. c.destruction (An_object_of k)) o.thing)) (sym same) stands) in
       let pushed = ap (λ cs. objects_left c cs) same in
       let operations = ap (λ is. operations_left c is) alike in
       omega (arith, begins, moved_less c is_entry (Elsewhere Root) (Going 1) v.cells refl, root_pays o p.header.root f, pushed, operations)
@@ -298,7 +296,7 @@ module _ (p : Image) (t : Typing) (c : Prices) (linked : IsLinked p) (typed : Is
       by (Run fr ∷ ts) u u at refl (acts w.layers w.tasks w.items w.good fr ts (sym w.tasks ∙ at) i u there (subst (λ l. step_task p ch (counted p s) l ≡ Goes u) at goes))
   move_pays u goes (Vanishes ts o at there owns same) goes_on = by (Destroy ∷ ts) u _ at same (vanishes ts o)
   move_pays u goes (Empties ts o at there same) goes_on = by (Closing ∷ Destroy ∷ ts) u _ at same (omega (arith, empties ts o (first_session s.cells o.name (service_of s.cells o.name).sessions) at there refl))
-  move_pays u goes (Clears code ts items o at top there same) goes_on = by (Unwind code ∷ ts) u _ at same (omega (arith, clears code ts items o top there))
+  move_pays u goes (Clears code ts items o at top there same) goes_on = by (Unwind code ∷ ts) u _ at same (omega (arith, clears code ts items o at top there))
   move_pays u goes (Undoes code ts items m x at top same) goes_on =
       let paid : operations_left c s.items ≡ price c m + operations_left c items = ap (λ l. operations_left c l) top in
       by (Unwind code ∷ ts) u _ at same (omega (arith, paid, fresh_rounds c m (method_at p m)))

@@ -1,5 +1,5 @@
 -- The laws of steps.
-use Rattle.std.specs.Prelude.{ℕ, true, false, cond, ◌+◌, ◌≤◌, ◌<◌, ◌≡◌, List, [], Option, Some, None}
+use Rattle.std.specs.Prelude.{ℕ, true, false, cond, ◌+◌, ◌≤◌, ◌<◌, ◌≡◌, List, [], Some, None}
 use Rattle.aom_image.specs.Image.{Image}
 use Rattle.aom_image.specs.WellFormed.{WellFormed}
 use Rattle.aom_classes.specs.Linked.{IsLinked}
