@@ -30,29 +30,29 @@ first_waiting [] = None
 first_waiting (c ∷ cs) = among_waiting c c.request (first_waiting cs)
 
 -- where nothing waits in a queue that is the first of all
+queue_first : (c : Cell) (cs : List Cell) → NoneAsked (c ∷ cs) → c.service.queue ≡ []
+queue_first c cs none = sym (ap (λ b. (cond b c.service (service_of cs c.object.name)).queue) (eq-eqb c.object.name c.object.name refl)) ∙ none c.object.name
+
+none_behind : (c : Cell) (cs : List Cell) → Tidy (c ∷ cs) → NoneAsked (c ∷ cs) → NoneAsked cs
+none_behind c cs tidy none n = go (c.object.name == n) refl (none n)
+  where
+    go : (b : Bool) → (c.object.name == n) ≡ b → (cond b c.service (service_of cs n)).queue ≡ [] → (service_of cs n).queue ≡ []
+    go true same e = ap (λ v. v.queue) (service_unnamed cs n (ap (λ m. named cs m) (sym (eqb-true c.object.name n same)) ∙ tidy.1))
+    go false other e = e
+
 alone_ready : (cs : List Cell) → Tidy cs → NoneAsked cs → first_ready cs ≡ first_waiting cs
 alone_ready [] tidy none = refl
-alone_ready (c ∷ cs) tidy none = by_request c.request
+alone_ready (c ∷ cs) tidy none = by_request c.request (alone_ready cs tidy.2 (none_behind c cs tidy none))
   where
-    here : c.service.queue ≡ []
-    here = sym (ap (λ b. (cond b c.service (service_of cs c.object.name)).queue) (eq-eqb c.object.name c.object.name refl)) ∙ none c.object.name
-
-    behind : NoneAsked cs
-    behind n = go (c.object.name == n) refl (none n)
-      where
-        go : (b : Bool) → (c.object.name == n) ≡ b → (cond b c.service (service_of cs n)).queue ≡ [] → (service_of cs n).queue ≡ []
-        go true same e = ap (λ v. v.queue) (service_unnamed cs n (ap (λ m. named cs m) (sym (eqb-true c.object.name n same)) ∙ tidy.1))
-        go false other e = e
-
     plain : (b : Bool) → (b || has_more []) ≡ b
     plain true = refl
     plain false = refl
 
-    by_request : (q : Option Request) → among_ready c q (first_ready cs) ≡ among_waiting c q (first_waiting cs)
-    by_request None = alone_ready cs tidy.2 behind
-    by_request (Some r) =
-        ap (λ b. cond b (Some (before_others (first_seat c r) (first_ready cs))) (first_ready cs)) (ap (λ q. is_ready r || has_more q) here ∙ plain (is_ready r))
-        ∙ ap (λ o. cond (is_ready r) (Some (before_others (first_seat c r) o)) o) (alone_ready cs tidy.2 behind)
+    by_request : (q : Option Request) → first_ready cs ≡ first_waiting cs → among_ready c q (first_ready cs) ≡ among_waiting c q (first_waiting cs)
+    by_request None rest = rest
+    by_request (Some r) rest =
+        ap (λ b. cond b (Some (before_others (first_seat c r) (first_ready cs))) (first_ready cs)) (ap (λ q. is_ready r || has_more q) (queue_first c cs none) ∙ plain (is_ready r))
+        ∙ ap (λ o. cond (is_ready r) (Some (before_others (first_seat c r) o)) o) rest
 
 -- what is held behind a cell is held in another place
 held_later : (c : Cell) (cs : List Cell) (p : Place) (o : Object) → Tidy (c ∷ cs) → held cs p ≡ Some o → held (c ∷ cs) p ≡ Some o
