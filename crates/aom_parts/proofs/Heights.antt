@@ -12,7 +12,7 @@ use Rattle.aom_sound.proofs.Items.{length_forms}
 use Rattle.aom_sound.proofs.Straight.{fits_unowning, register_fits}
 use Rattle.aom_sound.specs.Claims.{Dispatching, Dying, Form, Layer, Mark, Method, Unwinding, forms, items_of, objects, tasks_of}
 use Rattle.aom_sound.specs.Places.{Cell, Entry, Register, held, seen}
-use Rattle.aom_sound.specs.State.{An_object, An_operation, Destroy, Dispatched, Frame, Item, Run, State, Task, Trapped, Unwind, home_holder}
+use Rattle.aom_sound.specs.State.{An_object, An_operation, Closing, Destroy, Dispatched, Frame, Item, Run, State, Task, Trapped, Unwind, home_holder}
 use Rattle.aom_sound.specs.WellTyped.{Back, Caught, Fits, Gone, Good, Leaves, Now, Returns, Stack, WellTyped}
 use Rattle.aom_sound.proofs.Layers.{leave_layer, method_layer}
 use Rattle.aom_parts.specs.Room.{below_height, entries_in}
@@ -37,6 +37,7 @@ LowUnder n [] = Unit {0}
 LowUnder n (Run fr ∷ ts) = Unit {0}
 LowUnder n (Trapped ∷ ts) = AllLow (n - 1) ts
 LowUnder n (Destroy ∷ ts) = Unit {0}
+LowUnder n (Closing ∷ ts) = Unit {0}
 LowUnder n (Unwind code ∷ ts) = Unit {0}
 LowUnder n (Dispatched d ∷ ts) = Unit {0}
 
