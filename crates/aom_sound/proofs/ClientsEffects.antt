@@ -94,16 +94,16 @@ module _ (p : Image) (c : Choice) (fr : Frame) (ts : List Task) (s : State) (fre
 
 -- ---- the effects
 
-tasks_to_trap : (clients : List Client) (cs : List Cell) (ts : List Task) → TasksKept clients cs ts → TasksKept clients cs (to_trap ts)
-tasks_to_trap clients cs [] k = k
-tasks_to_trap clients cs (Run fr ∷ ts) k = tasks_to_trap clients cs ts k
-tasks_to_trap clients cs (Trapped ∷ ts) k = k
-tasks_to_trap clients cs (Destroy ∷ ts) k = k
-tasks_to_trap clients cs (Closing ∷ ts) k = k
-tasks_to_trap clients cs (Unwind code ∷ ts) k = k
-tasks_to_trap clients cs (Dispatched d ∷ ts) k = k
+tasks_to_trap : (p : Image) (clients : List Client) (cs : List Cell) (ts : List Task) → TasksKept p clients cs ts → TasksKept p clients cs (to_trap ts)
+tasks_to_trap p clients cs [] k = k
+tasks_to_trap p clients cs (Run fr ∷ ts) k = tasks_to_trap p clients cs ts k
+tasks_to_trap p clients cs (Trapped ∷ ts) k = k
+tasks_to_trap p clients cs (Destroy ∷ ts) k = k
+tasks_to_trap p clients cs (Closing ∷ ts) k = k
+tasks_to_trap p clients cs (Unwind code ∷ ts) k = k
+tasks_to_trap p clients cs (Dispatched d ∷ ts) k = k
 
-module _ (p : Image) (fr : Frame) (ts : List Task) (s : State) (fit : ClientsFit p s.clients s.cells) (stage : TasksKept s.clients s.cells ts) where
+module _ (p : Image) (fr : Frame) (ts : List Task) (s : State) (fit : ClientsFit p s.clients s.cells) (stage : TasksKept p s.clients s.cells ts) where
   steady : (u : Update) → IsFine s u → Steady s.cells (cells_after p fr ts s u)
   steady (Made name class a) f = steady_update p fr ts s (Made name class a) f
   steady (Carried from to) f = steady_update p fr ts s (Carried from to) tt
@@ -118,10 +118,10 @@ module _ (p : Image) (fr : Frame) (ts : List Task) (s : State) (fit : ClientsFit
   steady Popped_operation f = steady_update p fr ts s Popped_operation tt
 
   -- with those cells, and tasks over these
-  kept_by : (u : State) → u.clients ≡ s.clients → Steady s.cells u.cells → (TasksKept s.clients u.cells ts → TasksKept s.clients u.cells u.tasks) → IsKept p u
+  kept_by : (u : State) → u.clients ≡ s.clients → Steady s.cells u.cells → (TasksKept p s.clients u.cells ts → TasksKept p s.clients u.cells u.tasks) → IsKept p u
   kept_by u clients still over = record {
     fit = subst (λ l. ClientsFit p l u.cells) (sym clients) (fit_steady p s.clients s.cells u.cells still fit);
-    stage = subst (λ l. TasksKept l u.cells u.tasks) (sym clients) (over (tasks_steady s.clients s.cells u.cells still ts stage));
+    stage = subst (λ l. TasksKept p l u.cells u.tasks) (sym clients) (over (tasks_steady p s.clients s.cells u.cells still ts stage));
   }
 
   pub effect_kept : (e : Effect) → Fine s e → IsKept p (applied p fr ts s e)
@@ -133,7 +133,7 @@ module _ (p : Image) (fr : Frame) (ts : List Task) (s : State) (fit : ClientsFit
   effect_kept (Sets_trap target m first) f = kept_by (applied p fr ts s (Sets_trap target m first)) refl (steady_passed p fr ts s _ (arguments_of p m) first 0 s.cells) (λ k. k)
   effect_kept (Cancels m) f = kept_by (applied p fr ts s (Cancels m)) refl (steady_asked s.cells fr.home (on_request cancelling (own_request s.cells fr.home))) (λ k. k)
   effect_kept (Returns g a) f = absurd f
-  effect_kept (Leaves code u) f = kept_by (applied p fr ts s (Leaves code u)) refl (steady u f) (λ k. tasks_to_trap s.clients _ ts k)
+  effect_kept (Leaves code u) f = kept_by (applied p fr ts s (Leaves code u)) refl (steady u f) (λ k. tasks_to_trap p s.clients _ ts k)
   effect_kept (Destroys x a words) f = kept_by (applied p fr ts s (Destroys x a words)) refl (steady_moved s.cells (here fr ts s a) (Going (suc (length ts))) (λ n m. refl)) (λ k. tasks_begun p s.clients _ x _ _ k)
   effect_kept (Destroys_last x) f = kept_by (applied p fr ts s (Destroys_last x)) refl (steady_moved s.cells (top_place s.items) (Going (suc (length ts))) (λ n m. refl)) (λ k. tasks_begun p s.clients _ x _ _ k)
   effect_kept (Operates m w) f = kept_by (applied p fr ts s (Operates m w)) refl (steady Unchanged tt) (λ k. k)

@@ -3,6 +3,7 @@ pub mod Counts
 pub mod Services
 pub mod Sifted
 pub mod Queues
+pub mod Seated
 pub mod ClientsFit
 pub mod ClientsAsk
 pub mod ClientsLeave

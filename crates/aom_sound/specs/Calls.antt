@@ -244,13 +244,10 @@ abbrev pub accepted_cells : Dispatch → Place → List Cell → List Cell
 accepted_cells (Of_server x c Accepts) from cs = reserved (opened c) x.object.name (moved from (Elsewhere (Session x.object.name c)) cs)
 accepted_cells d from cs = cs
 
-abbrev pub session_name : Option Object → ℕ
-session_name None = 0
-session_name (Some o) = o.name
-
-abbrev pub accepted_clients : Dispatch → Option Object → List Client → List Client
-accepted_clients (Of_server x c Accepts) o clients = with_client c (at_opening (session_name o) (client_at clients c)) clients
-accepted_clients d o clients = clients
+-- its client has it open, and does not say which cell it is: its place tells that
+abbrev pub accepted_clients : Dispatch → List Client → List Client
+accepted_clients (Of_server x c Accepts) clients = with_client c (at_opening 0 (client_at clients c)) clients
+accepted_clients d clients = clients
 
 -- a session has a free place, and what served a message has taken it
 abbrev pub needs_ended : Dispatch → List Cell → List Need
@@ -332,7 +329,7 @@ module _ (p : Image) (fr : Frame) (ts : List Task) (s : State) where
         cells = accepted_cells d (here fr ts s a) s.cells;
         tasks = Dispatched (ended_well d) ∷ below;
         items = below_top s.items;
-        clients = accepted_clients d (held s.cells (here fr ts s a)) s.clients;
+        clients = accepted_clients d s.clients;
       }
   returned g a (Destroy ∷ below) = record s { tasks = Destroy ∷ below }
   returned g a (Unwind code ∷ below) = record s { tasks = Unwind code ∷ below }
