@@ -159,8 +159,8 @@ module _ (p : Image) (c : ℕ) (s : State) (tidy : Tidy s.cells) (fit : ClientsF
     goes_told : (server session slots : ℕ) → own ≡ Open server session slots → (to : Client) → server_of to ≡ Some server → is_leaving server to ≡ true → ClientsFit p (with_client c to s.clients) (reserved (asked_last (Close_of c)) server (withdrawn c s.cells))
     goes_told server session slots at to same leaves = subst (λ n. ClientsFit p (with_client c to s.clients) (reserved (asked_last (Close_of c)) n (withdrawn c s.cells))) there.1
         (fit_told p (with_client c to s.clients) (withdrawn c s.cells) alone there.0 still_there there.3 c
-          (ap (λ k. is_leaving there.0.name k) (client_here c to s.clients) ∙ ap (λ n. is_leaving n to) there.1 ∙ leaves)
-          (ap (λ q. list_any (is_close_of c) q) (service_left p s.clients s.cells tidy fit c waiting there.0.name).0 ∙ none_stays (is_close_of c) (stays c) (service_of s.cells there.0.name).queue (no_close (λ n. ap (λ k. is_leaving n k) at) there.0.name)))
+        (ap (λ k. is_leaving there.0.name k) (client_here c to s.clients) ∙ ap (λ n. is_leaving n to) there.1 ∙ leaves)
+        (ap (λ q. list_any (is_close_of c) q) (service_left p s.clients s.cells tidy fit c waiting there.0.name).0 ∙ none_stays (is_close_of c) (stays c) (service_of s.cells there.0.name).queue (no_close (λ n. ap (λ k. is_leaving n k) at) there.0.name)))
       where
         there : (o : Object) × (o.name ≡ server) × (named s.cells o.name ≡ Some o) × (is_server p o.thing ≡ true)
         there = server_there server (fit.listed server c (ap server_of at))

@@ -146,9 +146,9 @@ gone_so n g (c ∷ cs) = go (is_queue_of n c.owner) (gone_so n g cs)
 
 -- waiting: what is in a queue is no server; queued: what is asked of a server stands in its queue
 module _
-  (p : Image) (clients : List Client) (cs : List Cell) (tidy : Tidy cs) (fit : ClientsFit p clients cs) (o : Object) (g : Place) (there : held cs g ≡ Some o) (apart : (n m : ℕ) → same_place g (Elsewhere (Queued n m)) ≡ false)
-  (waiting : (n m : ℕ) (x : Object) → held cs (Elsewhere (Queued n m)) ≡ Some x → is_server p x.thing ≡ false)
-  (queued : (n c m : ℕ) → list_any (is_message_of c m) (service_of cs n).queue ≡ true → (x : Object) × (held cs (Elsewhere (Queued n m)) ≡ Some x)) where
+    (p : Image) (clients : List Client) (cs : List Cell) (tidy : Tidy cs) (fit : ClientsFit p clients cs) (o : Object) (g : Place) (there : held cs g ≡ Some o) (apart : (n m : ℕ) → same_place g (Elsewhere (Queued n m)) ≡ false)
+    (waiting : (n m : ℕ) (x : Object) → held cs (Elsewhere (Queued n m)) ≡ Some x → is_server p x.thing ≡ false)
+    (queued : (n c m : ℕ) → list_any (is_message_of c m) (service_of cs n).queue ≡ true → (x : Object) × (held cs (Elsewhere (Queued n m)) ≡ Some x)) where
   abbrev drops : Cell → Bool
   drops = goes_with o.name g
 

@@ -91,8 +91,8 @@ without_so g [] = refl
 without_so g (c ∷ cs) = ap (λ l. cond (same_place c.owner g) l (c ∷ l)) (without_so g cs)
 
 module _
-  (p : Image) (clients : List Client) (cs : List Cell) (tidy : Tidy cs) (fit : ClientsFit p clients cs) (o : Object) (g : Place) (there : held cs g ≡ Some o) (apart : NoQueue g) (plain : is_server p o.thing ≡ false)
-  (queued : (n c m : ℕ) → list_any (is_message_of c m) (service_of cs n).queue ≡ true → (x : Object) × (held cs (Elsewhere (Queued n m)) ≡ Some x)) where
+    (p : Image) (clients : List Client) (cs : List Cell) (tidy : Tidy cs) (fit : ClientsFit p clients cs) (o : Object) (g : Place) (there : held cs g ≡ Some o) (apart : NoQueue g) (plain : is_server p o.thing ≡ false)
+    (queued : (n c m : ℕ) → list_any (is_message_of c m) (service_of cs n).queue ≡ true → (x : Object) × (held cs (Elsewhere (Queued n m)) ≡ Some x)) where
   abbrev drops : Cell → Bool
   drops c = same_place c.owner g
 

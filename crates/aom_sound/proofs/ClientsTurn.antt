@@ -211,7 +211,6 @@ module _ (p : Image) (t : Typing) (wired : IsWired p) (s : State) (w : WellTyped
         go true e = serves_kept (service_of s.cells n).queue refl e
         go false e = let d = dispatched_so p s u x e in subst (λ v. IsKept p v) (sym d.2) (record { fit = requested_fit x.object _; stage = tt })
 
-
   -- ---- the others
 
   -- what is picked stands, and the name that is heard is free

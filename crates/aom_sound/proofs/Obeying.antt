@@ -63,7 +63,7 @@ module _ (p : Image) (t : Typing) (wired : IsWired p) (s : State) (w : WellTyped
   sends_well None name words free (Open server session slots) at =
       let there = server_there p c s good.tidy fit server (fit.listed server c (ap server_of at)) in
       well _ refl refl (subst (λ n. Good p t (sent n) []) there.1
-        (good_sent p t s.cells good there.0 there.2 there.3 c name free (the_message there.0.name) refl refl refl refl refl (none_named name (service_of s.cells there.0.name).queue (nobody p c s good.tidy fit there.0.name name free))))
+      (good_sent p t s.cells good there.0 there.2 there.3 c name free (the_message there.0.name) refl refl refl refl refl (none_named name (service_of s.cells there.0.name).queue (nobody p c s good.tidy fit there.0.name name free))))
     where
       the_message : ℕ → Cell
       the_message n = record {

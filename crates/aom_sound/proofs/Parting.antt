@@ -94,18 +94,18 @@ module _ (p : Image) (t : Typing) (s : State) (x : Seat) (client : ℕ) (seats :
 
     left_good : Good p t left (Dispatching (Of_object x) seats ∷ [])
     left_good =
-        let stack = stack_dropped goes p s.cells good.tidy goes_sent goes_message t (Dispatching (Of_server x client (Service_left code)) seats ∷ []) Now good.stack in
+        let stack = stack_dropped goes p s.cells good.tidy goes_message goes_sent t (Dispatching (Of_server x client (Service_left code)) seats ∷ []) Now good.stack in
         record {
           stack = (tt, refl, stack.2, stack.3, tt);
           fits = fits;
-          suits = suits_dropped goes p s.cells good.tidy goes_sent goes_message (Dispatching (Of_object x) seats ∷ []) good.suits;
+          suits = suits_dropped goes p s.cells good.tidy goes_message (Dispatching (Of_object x) seats ∷ []) good.suits;
           tidy = tidy_dropped goes s.cells good.tidy;
         }
       where
         same : (r : Place) → same_place r (Elsewhere In_service) ≡ false → Fits p (seen s.cells) (held s.cells r) (declared p s.cells r) → Fits p (seen left) (held left r) (declared p left r)
         same r e f =
-            subst (λ k. Fits p (seen left) (held left r) k) (sym (declared_dropped goes p s.cells good.tidy goes_sent goes_message r))
-            (fits_dropped goes p s.cells good.tidy goes_sent goes_message r (declared p s.cells r) e f)
+            subst (λ k. Fits p (seen left) (held left r) k) (sym (declared_dropped goes p s.cells good.tidy goes_message r))
+            (fits_dropped goes p s.cells good.tidy goes_message r (declared p s.cells r) e f)
 
         fits : (r : Place) → Fits p (seen left) (held left r) (claim p (declared p left) (Dispatching (Of_object x) seats ∷ []) r)
         fits (Register f i) = same (Register f i) refl (good.fits (Register f i))

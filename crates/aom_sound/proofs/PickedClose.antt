@@ -27,8 +27,8 @@ use Rattle.aom_sound.specs.WellTyped.{AllSit, AllUndo, Fits, Keeps, NoSeatIn, Si
 use Rattle.aom_sound.specs.World.{parting_with, taken_from}
 
 module _ (p : Image) (t : Typing) (wired : IsWired p) (typed : IsTyped p t) (s : State) (w : WellTyped p t s) (idle_now : s.tasks ≡ []) (fit : ClientsFit p s.clients s.cells)
-  (x : Seat) (r : Request) (there : held s.cells x.place ≡ Some x.object) (lives : named s.cells x.object.name ≡ Some x.object) (asked : requested s.cells x.object.name ≡ Some r) (server : is_server p x.object.thing ≡ true)
-  (client : ℕ) (es : List Asked) (queue : (service_of s.cells x.object.name).queue ≡ Close_of client ∷ es) where
+    (x : Seat) (r : Request) (there : held s.cells x.place ≡ Some x.object) (lives : named s.cells x.object.name ≡ Some x.object) (asked : requested s.cells x.object.name ≡ Some r) (server : is_server p x.object.thing ≡ true)
+    (client : ℕ) (es : List Asked) (queue : (service_of s.cells x.object.name).queue ≡ Close_of client ∷ es) where
   abbrev n : ℕ
   n = x.object.name
 

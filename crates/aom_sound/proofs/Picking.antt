@@ -111,7 +111,7 @@ plain_message d (Elsewhere In_service) = refl
 plain_message d (Elsewhere (Queued s m)) = refl
 
 module _ (p : Image) (t : Typing) (wired : IsWired p) (typed : IsTyped p t) (s : State) (w : WellTyped p t s) (idle_now : s.tasks ≡ []) (fit : ClientsFit p s.clients s.cells)
-  (x : Seat) (r : Request) (there : held s.cells x.place ≡ Some x.object) (lives : named s.cells x.object.name ≡ Some x.object) (asked : requested s.cells x.object.name ≡ Some r) (server : is_server p x.object.thing ≡ true) where
+    (x : Seat) (r : Request) (there : held s.cells x.place ≡ Some x.object) (lives : named s.cells x.object.name ≡ Some x.object) (asked : requested s.cells x.object.name ≡ Some r) (server : is_server p x.object.thing ≡ true) where
   abbrev n : ℕ
   n = x.object.name
 
