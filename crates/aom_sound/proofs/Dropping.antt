@@ -1,6 +1,6 @@
 -- Where messages go that wait in a queue or are served, all else is as it was: by the cells one after another.
 use Rattle.std.proofs.Common.{length, Bool, List, None, Option, Some, [], ap, cond, false, inl, inr, refl, subst, sym, true, ⊎_elim, ℕ, ◌==◌, ◌∙◌, ◌∷◌, ◌≡◌, ◌⊎◌}
-use Rattle.std.proofs.lemmas.Bool.{cases_Bool, eq-eqb, eqb-true, true≢false}
+use Rattle.std.proofs.lemmas.Bool.{cases_Bool, eqb-true, true≢false}
 use Rattle.aom_image.specs.Image.{Image}
 use Rattle.aom_image.specs.declared.method.Thing.{Thing}
 use Rattle.aom_image.specs.declared.method.Thing.TheVariants.{Message}
@@ -10,13 +10,12 @@ use Rattle.aom_shape.specs.Kinds.{filled}
 use Rattle.aom_shape.specs.declared.kind.Filling.TheVariants.{Full}
 use Rattle.aom_shape.specs.declared.kind.Kind.TheVariants.{Null}
 use Rattle.aom_sound.proofs.Maps.{cond_same, front_free, held_lives, same_place-true, same_place_refl}
-use Rattle.aom_sound.proofs.Services.{attended_at, service_unnamed, sits_lives}
-use Rattle.aom_sound.proofs.Seats.{first_kept, sits_kept}
+use Rattle.aom_sound.proofs.Services.{attended_at}
 use Rattle.aom_sound.specs.Claims.{claim, Dispatching, Dying, Ending, Layer, Mark, Method, Unwinding, declared, declared_field, tasks_of}
-use Rattle.aom_sound.specs.Places.{Sight, seen, Cell, Elsewhere, Entry, Field, Going, In_service, Object, Place, Queued, Register, Request, Root, Service, Session, Tidy, held, named, requested, same_place, service_of, unserved, without}
+use Rattle.aom_sound.specs.Places.{Sight, seen, Cell, Elsewhere, Entry, Field, Going, In_service, Object, Place, Queued, Register, Root, Session, Tidy, held, named, requested, same_place, service_of, without}
 use Rattle.aom_sound.specs.Servers.{is_server, has_message, has_session, is_queue_of, message_thing, session_thing, without_queue}
 use Rattle.aom_sound.specs.State.{AtRoot, Home, Inside, Seat, Static}
-use Rattle.aom_sound.specs.WellTyped.{EndsSessions, Fits, SitsFirst, AllSit, Back, Holds, IsBelow, IsHoused, SitsIn, Stack, seat_of}
+use Rattle.aom_sound.specs.WellTyped.{EndsSessions, Fits, SitsFirst, AllSit, Back, IsBelow, IsHoused, SitsIn, Stack, seat_of}
 use Rattle.std.specs.Prelude.{is_some}
 use Rattle.std.proofs.lemmas.Option.{same_Some}
 use Rattle.aom_shape.specs.declared.kind.Kind.{Kind}

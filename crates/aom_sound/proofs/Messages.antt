@@ -1,6 +1,5 @@
 -- The laws of the instructions on messages: the message in service comes to a register, and a message that is replied to goes.
-use Rattle.std.proofs.Common.{Bool, List, None, Option, Some, ap, arith, cond, false, length, refl, subst, sym, true, ℕ, ℤ, [], ◌==◌, ◌∙◌, ◌∷◌, ◌≡◌}
-use Rattle.std.proofs.lemmas.Bool.{cases_Bool, eq-eqb, true≢false}
+use Rattle.std.proofs.Common.{Bool, List, None, Option, Some, ap, arith, cond, false, refl, subst, sym, true, ℕ, ℤ, [], ◌∙◌, ◌∷◌, ◌≡◌}
 use Rattle.std.specs.Prelude.{is_none, is_some}
 use Rattle.aom_image.specs.Image.{Image}
 use Rattle.aom_image.specs.Views.{method_role}
@@ -21,20 +20,19 @@ use Rattle.aom_shape.specs.declared.kind.Delivery.{Delivery}
 use Rattle.aom_shape.specs.declared.kind.Delivery.TheVariants.{Gone, Here}
 use Rattle.aom_shape.specs.declared.kind.Kind.{Kind}
 use Rattle.aom_shape.specs.declared.kind.Kind.TheVariants.{Null, Own, Word}
-use Rattle.aom_sound.proofs.Claimed.{Outside, claim-set_register, claim_frame, claim_rel}
+use Rattle.aom_sound.proofs.Claimed.{claim-set_register, claim_frame, claim_rel}
 use Rattle.aom_sound.proofs.Dropping.{declared_dropped, dropped, fits_dropped, held_dropped, place_dropped, suits_dropped, tidy_dropped}
 use Rattle.aom_sound.proofs.Going.{housed_without, stack_without}
-use Rattle.aom_sound.proofs.Maps.{same_place-true, same_place_comm, same_place_refl}
+use Rattle.aom_sound.proofs.Maps.{same_place-true, same_place_comm}
 use Rattle.aom_sound.proofs.Picking.{own_held}
-use Rattle.aom_sound.proofs.Seats.{NoFieldHere}
 use Rattle.aom_sound.proofs.Straight.{At, Fitted, Law, fitted, free_register, kind_fits, no_word, relocate, same_suits, settle, top, well, words_set}
 use Rattle.aom_sound.proofs.Things.{stands_same}
 use Rattle.aom_sound.specs.Claims.{Dispatching, Layer, Mark, Method, claim, declared, delivered, home_claim, root_claim, serves, tasks_of}
 use Rattle.aom_sound.specs.Moves.{does}
 use Rattle.aom_sound.specs.Objects.{is_thing}
-use Rattle.aom_sound.specs.Places.{Cell, Elsewhere, Entry, Field, Going, In_service, Object, Place, Queued, Register, Root, Session, Sight, changed, held, moved, same_place, seen, without}
+use Rattle.aom_sound.specs.Places.{Cell, Elsewhere, Field, In_service, Object, Place, Queued, Root, Sight, changed, held, moved, same_place, seen, without}
 use Rattle.aom_sound.specs.State.{AtRoot, Choice, Frame, Home, Inside, Of_server, Seat, Serves, State, Static, next, set_word, word}
-use Rattle.aom_sound.specs.WellTyped.{AllSit, Back, Fits, Holds, IsBelow, IsHoused, IsServed, NoSeatAt, NoneFrom, Returns, SitsIn, Stack, WordFits}
+use Rattle.aom_sound.specs.WellTyped.{AllSit, Back, Fits, IsBelow, IsHoused, IsServed, NoSeatAt, NoneFrom, Returns, SitsIn, Stack, WordFits}
 
 -- ---- the message in service
 

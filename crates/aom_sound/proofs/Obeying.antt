@@ -1,6 +1,5 @@
 -- A client's command between dispatches leads to a well-typed state.
-use Rattle.std.proofs.Common.{Bool, List, None, Option, Some, [], ap, cond, false, refl, subst, sym, true, ℕ, ℤ, ◌==◌, ◌∙◌, ◌∷◌, ◌≡◌}
-use Rattle.std.specs.List.{list_any}
+use Rattle.std.proofs.Common.{List, None, Option, Some, [], ap, false, refl, subst, sym, true, ℕ, ℤ, ◌∙◌, ◌∷◌, ◌≡◌}
 use Rattle.aom_image.specs.Image.{Image}
 use Rattle.aom_image.specs.declared.method.Thing.TheVariants.{Message}
 use Rattle.aom_clients.specs.Table.{row, server_of}
@@ -21,7 +20,7 @@ use Rattle.aom_sound.specs.Clients.{Closes, Command, Connects, Dies, Listed, Sen
 use Rattle.aom_sound.specs.Kept.{ClientsFit}
 use Rattle.aom_sound.specs.Laws.{IsWired}
 use Rattle.aom_sound.specs.Owned.{NoneGoes}
-use Rattle.aom_sound.specs.Places.{Cell, Close_of, Connect_of, Elsewhere, Message_of, Object, Queued, Sender, held, named, service_of, unserved}
+use Rattle.aom_sound.specs.Places.{Cell, Close_of, Connect_of, Elsewhere, Message_of, Object, Queued, held, named, service_of, unserved}
 use Rattle.aom_sound.specs.Servers.{asked_last, is_server, reserved, withdrawn}
 use Rattle.aom_sound.specs.State.{State}
 use Rattle.aom_sound.specs.WellTyped.{AllUndo, Good, WellTyped}

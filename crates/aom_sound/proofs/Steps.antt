@@ -1,5 +1,5 @@
 -- Every move from a well-typed state.
-use Rattle.std.proofs.Common.{List, None, Some, [], cond, refl, subst, sym, ℕ, ℤ, ◌∙◌, ◌∷◌, ◌≡◌, arith}
+use Rattle.std.proofs.Common.{List, None, Some, [], cond, refl, subst, sym, ℕ, ℤ, ◌∙◌, ◌∷◌, ◌≡◌}
 use Rattle.std.specs.Int.{int_bit_and, int_bit_or, int_bit_xor, int_wrapping_add, int_wrapping_mul, int_wrapping_sub, w32}
 use Rattle.std.specs.Ordering.{int_eq}
 use Rattle.std.specs.Prelude.{int_lt}
