@@ -16,7 +16,7 @@ use Rattle.aom_rules.specs.Ways.{As_before, Branches, Branches_in, Branches_on_e
 use Rattle.aom_shape.specs.declared.kind.Kind.{Kind}
 use Rattle.aom_shape.specs.declared.kind.Kind.TheVariants.{Maybe, Null, Own, Unset, Word}
 use Rattle.aom_sound.specs.Places.{Cell, Object, Register, held}
-use Rattle.aom_sound.specs.State.{Destroy, Dispatched, Frame, Run, Task, Trapped, Unwind, word}
+use Rattle.aom_sound.specs.State.{Closing, Destroy, Dispatched, Frame, Run, Task, Trapped, Unwind, word}
 
 -- what a kind says of the word that a register has, and of what it owns
 abbrev pub KindSays : Image → Kind → Option ℤ → Option Object → Type 0
@@ -70,6 +70,7 @@ AllWait p t cs [] = Unit {0}
 AllWait p t cs (Run fr ∷ ts) = Waits p t cs (length ts) fr × AllWait p t cs ts
 AllWait p t cs (Trapped ∷ ts) = AllWait p t cs ts
 AllWait p t cs (Destroy ∷ ts) = AllWait p t cs ts
+AllWait p t cs (Closing ∷ ts) = AllWait p t cs ts
 AllWait p t cs (Unwind code ∷ ts) = AllWait p t cs ts
 AllWait p t cs (Dispatched d ∷ ts) = AllWait p t cs ts
 
