@@ -11,3 +11,5 @@ pub mod Moves
 pub mod Turns
 pub mod Events
 pub mod Owners
+pub mod Servers
+pub mod Kept
