@@ -10,6 +10,6 @@ pub mod Cleanup
 pub mod Moves
 pub mod Turns
 pub mod Events
-pub mod Owners
 pub mod Servers
+pub mod Owners
 pub mod Kept
