@@ -1,5 +1,5 @@
 -- What is kept of clients in closed states: by computation, and by the name of the server where all names are spoken of.
-use Rattle.std.proofs.Common.{Bool, List, None, Option, Some, [], ap, arith, cond, false, refl, subst, sym, true, zero, suc, ℕ, ◌==◌, ◌∙◌, ◌∷◌, ◌≡◌, ◌≤◌, ◌<◌}
+use Rattle.std.proofs.Common.{Bool, List, None, Some, [], ap, arith, cond, false, refl, subst, sym, true, zero, suc, ℕ, ◌==◌, ◌∙◌, ◌∷◌, ◌≡◌, ◌≤◌, ◌<◌}
 use Rattle.std.proofs.lemmas.Bool.{eqb-true, true≢false}
 use Rattle.aom_clients.specs.Table.{server_of}
 use Rattle.aom_image.specs.Views.{class_at}
