@@ -23,7 +23,7 @@ use Rattle.aom_sound.proofs.Straight.{claim_field}
 use Rattle.aom_sound.specs.Claims.{Dispatching, Dying, Layer, Mark, Mark_form, Method, Object_form, Unwinding, claim, declared, declared_field, entry_claim, entry_form, form, forms, home_claim, is_of_root, items_of, objects, root_claim}
 use Rattle.aom_sound.specs.Owned.{over}
 use Rattle.aom_sound.specs.Places.{Cell, Elsewhere, Entry, Field, Object, Place, Register, Root, Sight, held, named, seen}
-use Rattle.aom_sound.specs.State.{An_object, AtRoot, Destroy, Dispatched, Frame, Home, Inside, Item, Run, State, Static, Task, Trapped, Unwind, field_place, thing_holder, word}
+use Rattle.aom_sound.specs.State.{An_object, AtRoot, Closing, Destroy, Dispatched, Frame, Home, Inside, Item, Run, State, Static, Task, Trapped, Unwind, field_place, thing_holder, word}
 use Rattle.aom_sound.specs.WellTyped.{Back, Caught, Fits, Gone, IsHoused, Leaves, Now, Returns, Stack, Good}
 use Rattle.aom_sound.proofs.Layers.{method_layer}
 use Rattle.aom_exec.specs.Agreement.{Agreement, AgreesInAll, FieldsAgree, NumberSays, RegistersAgree}
@@ -51,6 +51,7 @@ waits_under p t cs [] fr below w = w.0
 waits_under p t cs (Run g ∷ above) fr below w = waits_under p t cs above fr below w.1
 waits_under p t cs (Trapped ∷ above) fr below w = waits_under p t cs above fr below w
 waits_under p t cs (Destroy ∷ above) fr below w = waits_under p t cs above fr below w
+waits_under p t cs (Closing ∷ above) fr below w = waits_under p t cs above fr below w
 waits_under p t cs (Unwind code ∷ above) fr below w = waits_under p t cs above fr below w
 waits_under p t cs (Dispatched d ∷ above) fr below w = waits_under p t cs above fr below w
 

@@ -14,6 +14,7 @@ use Rattle.aom_active.specs.Meanings.{Makes, asked_anew}
 use Rattle.aom_owed.specs.Owed.{serves, serves_object}
 use Rattle.aom_sessions.specs.Sessions.{Sets, Standing, is_open}
 use Rattle.aom_shape.specs.Tables.{at}
+use Rattle.aom_sound.proofs.ClientsTurn.{fit_same, same_bereaved}
 use Rattle.aom_sound.proofs.Counts.{count_bereaved}
 use Rattle.aom_sound.proofs.Storing.{bereaved_alike}
 use Rattle.aom_sound.proofs.Turning.{bereaved_well}
@@ -345,6 +346,7 @@ module _ (p : Image) (native : ℕ) (m b : Parts) (bereaves : Bereaves p native 
     killed_stands : s.tasks ≡ [] → StandsFor (record { image = p; parts = killed_parts }) (without_native p native (heard_one s))
     killed_stands idle =
         stands_as p m s st idle killed_parts cs (heard_one s).rest (s.killed ++ native ∷ []) (bereaved_well p st.typing s st.typed idle native (heard_one s).rest (s.killed ++ native ∷ []))
+        (fit_same p s.clients s.cells cs (same_bereaved p native s.cells) st.kept.fit)
         (reset_same st.sound.prices (λ c. (bereaved p native c).request) (λ c. (bereaved p native c).session) s.cells) refl killed_agrees
 
     -- what the native served has no timer
