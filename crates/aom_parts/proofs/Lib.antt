@@ -9,3 +9,4 @@ pub mod CellFields
 pub mod Depths
 pub mod Heights
 pub mod Alike
+pub mod Nobody
