@@ -10,3 +10,4 @@ pub mod Depths
 pub mod Heights
 pub mod Alike
 pub mod Nobody
+pub mod Unslotted
