@@ -52,7 +52,7 @@ use Rattle.aom_steps.proofs.Pushed.{asked_same}
 use Rattle.aom_steps.proofs.Turns.{picking}
 use Rattle.aom_sound.specs.Kept.{ClientsFit, TasksKept}
 use Rattle.aom_parts.proofs.Nobody.{none_asked, picked_plain}
-use Rattle.aom_steps.specs.Left.{closings_left, objects_left}
+use Rattle.aom_steps.specs.Left.{closings_left, is_entry, objects_left}
 use Rattle.aom_steps.specs.Payers as payers
 use Rattle.aom_steps.specs.Payers.{declared_of, payer, price_of}
 use Rattle.aom_parts.specs.declared.parts.Parts.{Parts}
@@ -229,7 +229,7 @@ module _ (p : Image) (m : Parts) (a : Active) (turned : progress_by m.rest.ended
         let cs = with_request timed_out o s.cells in
         stands_as p m s st idle (record m { active = a }) cs s.rest s.killed (completed p st.typing s st.typed idle (pos 0) refl o s.rest)
         (fit_same p s.clients s.cells cs (same_requested s.cells o (on_request timed_out (requested s.cells o.name))) st.kept.fit)
-        (asked_same st.sound.prices o.name (on_request timed_out (requested s.cells o.name)) s.cells) refl timed_agrees
+        (asked_same st.sound.prices is_entry o.name (on_request timed_out (requested s.cells o.name)) s.cells) refl timed_agrees
 
   timer_completes : (id : ℕ) → Makes m.active a id timed_out → ((asked : ℕ → Option Request) → Asks_for m.active asked → IsFirstDue m.rest.clock id asked) → Completed before true after
   timer_completes id makes first told s st =
@@ -457,7 +457,7 @@ module _ (p : Image) (m : Parts) (s : State) (st : StandsFor (record { image = p
         typed = subst (λ h. Keeps p st.typing (dispatched h k.candidate.seat s)) method k.keeps;
         calm = (λ clearing. absurd (true≢false (sym clearing)), (refl, tt));
         traps = (tt, (tt, tt));
-        room = dispatches_with_room p (at 0 st.sound.depths.depths) st.sound.heights then.cells d.method (Inside object k.candidate.seat.place) (Of_object k.candidate.seat) s.items then.rest s.killed none_pushed;
+        room = dispatches_with_room p (at 0 st.sound.depths.depths) st.sound.heights then.cells d.method (Inside object k.candidate.seat.place) (Of_object k.candidate.seat) s.items then.rest s.killed s.clients none_pushed;
         waits = tt;
         kept = record { fit = fit_same p s.clients s.cells then.cells (same_requested s.cells object (on_request taken_up (requested s.cells object.name))) st.kept.fit; stage = tt };
         within = dispatch_within;

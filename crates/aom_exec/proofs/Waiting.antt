@@ -1,6 +1,7 @@
 -- Each move keeps what the typing says of the methods that wait: what runs over a method leaves its registers alone, and a method begins to wait with its operands moved.
-use Rattle.std.proofs.Common.{Bool, List, None, Option, Some, [], ap, arith, cond, false, length, pos, refl, subst, suc, sym, true, ℕ, ℤ, ◌&&◌, ◌<◌, ◌==◌, ◌∙◌, ◌∷◌, ◌≡◌}
+use Rattle.std.proofs.Common.{Bool, List, None, Option, Some, [], ap, arith, cond, false, length, pos, refl, subst, suc, sym, true, ℕ, ℤ, ◌&&◌, ◌<◌, ◌≤◌, ◌==◌, ◌∙◌, ◌∷◌, ◌≡◌}
 use Rattle.std.proofs.lemmas.Bool.{eq-eqb, eqb-true, ne_eqb}
+use Rattle.std.proofs.lemmas.Option.{same_Some}
 use Rattle.aom_image.specs.Image.{Image}
 use Rattle.aom_image.specs.Views.{arguments_of, instr_at, method_class}
 use Rattle.aom_instructions.specs.declared.instr.Instr.{Instr}
@@ -266,11 +267,11 @@ trapped_wait p t cs (Dispatched d ∷ ts) w = w
 -- a session is in no such place
 session_apart : (cs : List Cell) (n : ℕ) (clients : List ℕ) (x : Seat) (q : Place) → ((n c : ℕ) → same_place (Elsewhere (Session n c)) q ≡ false) → first_session cs n clients ≡ Some x → same_place x.place q ≡ false
 session_apart cs n [] x q apart e = cc
-session_apart cs n (c ∷ clients) x q apart e = go (held cs (Elsewhere (Session n c))) e
+session_apart cs n (c ∷ clients) x q apart e = go (held cs (Elsewhere (Session n c))) (λ later. session_apart cs n clients x q apart later) e
   where
-    go : (o : Option Object) → seat_or o (Elsewhere (Session n c)) (first_session cs n clients) ≡ Some x → same_place x.place q ≡ false
-    go None e = session_apart cs n clients x q apart e
-    go (Some o) e = ap (λ (y : Seat). same_place y.place q) (sym (same_Some _ x e)) ∙ apart n c
+    go : (o : Option Object) → (first_session cs n clients ≡ Some x → same_place x.place q ≡ false) → seat_or o (Elsewhere (Session n c)) (first_session cs n clients) ≡ Some x → same_place x.place q ≡ false
+    go None later e = later e
+    go (Some o) later e = ap (λ (y : Seat). same_place y.place q) (sym (same_Some _ x e)) ∙ apart n c
 
 -- a method's move
 module _ (p : Image) (t : Typing) (c : Choice) (s : State) (fr : Frame) (ts : List Task) (at_hand : s.tasks ≡ Run fr ∷ ts) (i : Instr) (there : instr_at p fr.method fr.place ≡ Some i) (met : AllTrue (needs p c fr ts s i)) (h : RunsTyped p t s.cells fr ts) (w : AllWait p t s.cells ts) where
