@@ -1,31 +1,31 @@
 -- What a client asks of a server, and what it sends, is kept: by the entry that is queued last.
-use Rattle.std.proofs.Common.{Bool, List, None, Option, Some, [], ap, arith, cond, false, refl, subst, sym, true, ℕ, ℤ, ◌&&◌, ◌<◌, ◌==◌, ◌∙◌, ◌∷◌, ◌≡◌, ◌≤◌}
+use Rattle.std.proofs.Common.{Bool, List, None, Option, Some, [], ap, arith, cond, false, refl, subst, sym, true, ℕ, ◌&&◌, ◌<◌, ◌==◌, ◌∙◌, ◌∷◌, ◌≡◌, ◌≤◌}
 use Rattle.std.proofs.lemmas.Bool.{eq-eqb, eqb-true, le-ltb, ne_eqb, true≢false, ltb-true}
 use Rattle.std.proofs.lemmas.List.Folds.{list_any-append}
 use Rattle.std.specs.List.{list_any}
-use Rattle.std.specs.Prelude.{is_some, nat_lt, ◌++◌, ◌||◌}
+use Rattle.std.specs.Prelude.{is_some, nat_lt, ◌||◌}
 use Rattle.aom_image.specs.Image.{Image}
 use Rattle.aom_image.specs.declared.class.ClassKind.{ClassKind}
 use Rattle.aom_image.specs.declared.class.ClassKind.TheVariants.{Server as A_server}
 use Rattle.aom_image.specs.declared.method.Thing.{Thing}
 use Rattle.aom_image.specs.declared.method.Thing.TheVariants.{Message, Object as An_object_of}
-use Rattle.aom_clients.specs.Nodes.{is_connecting_at, is_leaving, is_open_at}
+use Rattle.aom_clients.specs.Nodes.{is_connecting_at, is_open_at}
 use Rattle.aom_clients.specs.Table.{row, server_of}
 use Rattle.aom_clients.specs.declared.client.Client.{Client}
-use Rattle.aom_clients.specs.declared.client.Client.TheVariants.{Closing, Connecting, Dead, Dying, Gone, Open, Unconnected}
+use Rattle.aom_clients.specs.declared.client.Client.TheVariants.{Connecting, Gone, Unconnected}
 use Rattle.aom_clients.specs.declared.refusal.Refusal.{Refusal}
 use Rattle.aom_clients.specs.declared.refusal.Refusal.TheVariants.{ServerBusy}
 use Rattle.aom_roles.specs.Classes.{sessions_in, sessions_of}
 use Rattle.aom_roles.specs.Shapes.{kind_of}
-use Rattle.aom_sound.proofs.ClientsFit.{Changes, IsFree, by_server, fit_changed, none_of_free, names_then, servers_then, seats_then}
+use Rattle.aom_sound.proofs.ClientsFit.{IsFree, by_server, fit_changed, none_of_free, names_then, servers_then, seats_then}
 use Rattle.aom_sound.proofs.Maps.{same_place-true}
-use Rattle.aom_sound.proofs.Queues.{client_here, client_of, none_passes, queue_last, queue_other}
+use Rattle.aom_sound.proofs.Queues.{client_here, none_passes, queue_last, queue_other}
 use Rattle.aom_sound.proofs.Seated.{seats_asked, seats_none}
 use Rattle.aom_sound.proofs.Services.{service_unnamed}
 use Rattle.aom_sound.specs.Clients.{Listed, among_listed, asked_of, client_at, earlier, first_listed, is_of_class, most_of, with_client}
 use Rattle.aom_sound.specs.Enlisted.{thing_kind}
 use Rattle.aom_sound.specs.Kept.{ClientsFit, EntryFits, QueueFits, is_connect_of, is_message_of}
-use Rattle.aom_sound.specs.Places.{Asked, Cell, Close_of, Connect_of, Elsewhere, Message_of, Object, Place, Queued, Request, Service, Tidy, held, named, same_place, service_of, unserved}
+use Rattle.aom_sound.specs.Places.{Asked, Cell, Close_of, Connect_of, Elsewhere, Message_of, Object, Queued, Request, Service, Tidy, held, named, same_place, service_of}
 use Rattle.aom_sound.specs.Servers.{asked_last, has_session, is_from, is_message, is_server, reserved, seats_taken}
 
 -- ---- the server that is asked stands, and is one

@@ -1,22 +1,18 @@
 -- What is kept of clients stays so in each effect of an instruction: by the cells that it changes, and the tasks below it.
-use Rattle.std.proofs.Common.{Bool, List, None, Option, Some, [], ap, cond, false, inl, inr, length, refl, subst, suc, sym, true, zero, ℕ, ℤ, ◌&&◌, ◌-◌, ◌==◌, ◌∙◌, ◌∷◌, ◌≡◌}
-use Rattle.std.proofs.lemmas.Bool.{eq-eqb, eqb-true, ne_eqb, true≢false}
-use Rattle.std.specs.List.{list_any}
+use Rattle.std.proofs.Common.{Bool, List, None, Option, Some, [], cond, false, length, refl, subst, suc, sym, true, zero, ℕ, ◌∷◌, ◌≡◌}
 use Rattle.aom_image.specs.Image.{Image}
-use Rattle.aom_image.specs.Views.{arguments_of, instr_at}
-use Rattle.aom_image.specs.declared.method.Gives.{Gives}
+use Rattle.aom_image.specs.Views.{arguments_of}
 use Rattle.aom_clients.specs.declared.client.Client.{Client}
 use Rattle.aom_instructions.specs.declared.instr.Instr.{Instr}
 use Rattle.aom_instructions.specs.declared.instr.Instr.TheVariants as instrs
-use Rattle.aom_sound.proofs.ClientsMoves.{Steady, fit_steady, steady_asked, steady_ended, steady_moved, steady_passed, steady_result, steady_update, tasks_queues, tasks_steady}
+use Rattle.aom_sound.proofs.ClientsMoves.{Steady, fit_steady, steady_asked, steady_moved, steady_passed, steady_update, tasks_steady}
 use Rattle.aom_sound.proofs.ClientsTurn.{tasks_begun}
-use Rattle.aom_sound.specs.Calls.{ended_well, result_register, returned}
 use Rattle.aom_sound.specs.Cleanup.{is_negative, to_trap, top_place}
-use Rattle.aom_sound.specs.Effects.{Calls, Cancels, Carried, Change, Counts, Destroys, Destroys_last, Effect, Goes_on, Jumps, Leaves, Made, Operates, Popped, Popped_operation, Pushed, Pushed_operation, Repeats, Replied, Requested, Returns, Same as Unchanged, Sessioned, Sets_trap, Update, Written, applied, cancels_if, cells_after, deals, deletes, effect, jumps_if, jumps_unless, makes_unless, round, unless_refused, updates}
-use Rattle.aom_sound.specs.Enlisted.{cancelling, ended_cells, on_request, own_request}
+use Rattle.aom_sound.specs.Effects.{Calls, Cancels, Carried, Counts, Destroys, Destroys_last, Effect, Goes_on, Jumps, Leaves, Made, Operates, Popped, Popped_operation, Pushed, Pushed_operation, Repeats, Replied, Requested, Returns, Same as Unchanged, Sessioned, Sets_trap, Update, Written, applied, cancels_if, cells_after, deals, deletes, effect, jumps_unless, makes_unless, round, updates}
+use Rattle.aom_sound.specs.Enlisted.{cancelling, on_request, own_request}
 use Rattle.aom_sound.specs.Kept.{ClientsFit, IsKept, TasksKept}
-use Rattle.aom_sound.specs.Places.{Cell, Going, Object, named, service_of}
-use Rattle.aom_sound.specs.State.{A_mark, An_object, An_operation, Choice, Closing, Destroy, Dispatch, Dispatched, Frame, Item, Run, State, Task, Trapped, Unwind}
+use Rattle.aom_sound.specs.Places.{Cell, Going, Object, named}
+use Rattle.aom_sound.specs.State.{A_mark, An_object, An_operation, Choice, Closing, Destroy, Dispatched, Frame, Item, Run, State, Task, Trapped, Unwind}
 use Rattle.aom_sound.specs.Words.{here, read}
 
 -- ---- the effects that this is of

@@ -1,22 +1,22 @@
 -- Clients and what they have at servers say the same where one client is at something else: by its entries, its session, and those of all others.
-use Rattle.std.proofs.Common.{Bool, List, None, Option, Some, [], ap, arith, cond, false, refl, subst, suc, sym, true, ℕ, ◌&&◌, ◌<◌, ◌==◌, ◌∙◌, ◌∷◌, ◌≡◌, ◌≤◌}
+use Rattle.std.proofs.Common.{Bool, List, None, Some, [], ap, arith, false, refl, subst, sym, true, ℕ, ◌<◌, ◌==◌, ◌∙◌, ◌∷◌, ◌≡◌, ◌≤◌}
 use Rattle.std.proofs.lemmas.Bool.{eq-eqb, eqb-true, ne_eqb, true≢false}
 use Rattle.std.proofs.lemmas.List.Folds.{list_any-append}
 use Rattle.std.proofs.lemmas.Map.Views.{any-filter_same}
 use Rattle.std.specs.List.{list_any}
-use Rattle.std.specs.Prelude.{filter, not, ◌++◌, ◌||◌}
+use Rattle.std.specs.Prelude.{not, ◌++◌, ◌||◌}
 use Rattle.aom_image.specs.Image.{Image}
 use Rattle.aom_clients.specs.Nodes.{is_connecting_at, is_leaving, is_open_at}
 use Rattle.aom_clients.specs.Table.{server_of}
 use Rattle.aom_clients.specs.declared.client.Client.{Client}
-use Rattle.aom_clients.specs.declared.client.Client.TheVariants.{Closing, Connecting, Dead, Dying, Gone, Open, Unconnected}
+use Rattle.aom_clients.specs.declared.client.Client.TheVariants.{Closing, Connecting, Dying}
 use Rattle.aom_sound.proofs.Queues.{client_here, client_of, client_there, front_none, is_of, none_passes, queue_other}
 use Rattle.aom_sound.proofs.Seated.{seats_opened, seats_parted}
 use Rattle.aom_sound.proofs.Services.{held_served, named_served, service_here, service_there}
 use Rattle.aom_sound.specs.Clients.{at_opening, at_parting, client_at, most_of, with_client}
 use Rattle.aom_sound.specs.Enlisted.{thing_kind}
 use Rattle.aom_sound.specs.Kept.{ClientsFit, EntryFits, QueueFits, is_close_of, is_connect_of, is_message_of}
-use Rattle.aom_sound.specs.Places.{Asked, Cell, Close_of, Connect_of, Elsewhere, Message_of, Object, Queued, Service, held, named, service_of, set_service}
+use Rattle.aom_sound.specs.Places.{Asked, Cell, Close_of, Connect_of, Elsewhere, Message_of, Object, Queued, Service, held, named, service_of}
 use Rattle.aom_sound.specs.Servers.{has_session, is_from, is_other, is_server, opened, parted, reserved, seats_taken}
 
 -- ---- what a client that connects, closes or has its session open is not

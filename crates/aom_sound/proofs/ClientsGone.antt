@@ -1,8 +1,8 @@
 -- A server that goes lets go of all clients that are at it, and what is kept of all others stays.
-use Rattle.std.proofs.Common.{Bool, List, None, Option, Some, [], ap, cond, false, refl, subst, sym, true, ℕ, ◌&&◌, ◌==◌, ◌∙◌, ◌∷◌, ◌≡◌, ◌<◌, ◌≤◌, arith}
+use Rattle.std.proofs.Common.{Bool, List, None, Option, Some, [], ap, cond, false, refl, subst, sym, true, ℕ, ◌==◌, ◌∙◌, ◌∷◌, ◌≡◌, ◌<◌, ◌≤◌, arith}
 use Rattle.std.proofs.lemmas.Bool.{eq-eqb, eqb-true, ne_eqb, true≢false}
 use Rattle.std.specs.List.{list_any}
-use Rattle.std.specs.Prelude.{not, ◌++◌, ◌||◌}
+use Rattle.std.specs.Prelude.{◌||◌}
 use Rattle.aom_image.specs.Image.{Image}
 use Rattle.aom_clients.specs.Nodes.{is_connecting_at, is_leaving, is_open_at}
 use Rattle.aom_clients.specs.Table.{at_gone, server_of}
@@ -11,9 +11,9 @@ use Rattle.aom_clients.specs.declared.client.Client.TheVariants.{Closing, Connec
 use Rattle.aom_sound.proofs.ClientsFit.{connecting_only, leaving_only}
 use Rattle.aom_sound.proofs.Maps.{cond_same, same_place-true, same_place_comm, same_place_refl}
 use Rattle.aom_sound.proofs.Queues.{client_here, client_there, none_passes}
-use Rattle.aom_sound.proofs.Sifted.{a_cell_of, cell_in, cell_lives, cell_name, cell_of, cell_of_sifted, cell_owner, cell_placed, held_cell, held_sifted, kept, named_before, named_cell, object_in, service_cell, service_gone, service_in, service_sifted, sifted, unheld_sifted, unslotted_so}
+use Rattle.aom_sound.proofs.Sifted.{a_cell_of, cell_in, cell_lives, cell_name, cell_of, cell_of_sifted, cell_owner, cell_placed, held_cell, held_sifted, kept, named_before, named_cell, object_in, service_cell, service_gone, service_in, service_sifted, sifted, unheld_sifted}
 use Rattle.aom_sound.specs.Clients.{client_at, each_unslotted, queue_ended, sessions_ended, with_client, most_of}
-use Rattle.aom_sound.specs.Kept.{ClientsFit, EntryFits, QueueFits, ConnectKept, StageKept, asked_again, is_close_of, is_connect_of, is_message_of}
+use Rattle.aom_sound.specs.Kept.{ClientsFit, EntryFits, QueueFits, ConnectKept, StageKept, is_close_of, is_connect_of, is_message_of}
 use Rattle.aom_sound.specs.Places.{Asked, Cell, Close_of, Connect_of, Elsewhere, Message_of, Object, Place, Queued, Sender, Service, Tidy, held, named, same_place, service_of, unserved, without}
 use Rattle.aom_sound.specs.State.{Accept_left, Accepted, Accepts, Parts, Service_left, Serves, Stage}
 use Rattle.aom_sound.specs.Servers.{all_unslotted, has_session, is_from, is_queue_of, is_server, unslotted, without_queue, seats_taken}
@@ -146,9 +146,9 @@ gone_so n g (c ∷ cs) = go (is_queue_of n c.owner) (gone_so n g cs)
 
 -- waiting: what is in a queue is no server; queued: what is asked of a server stands in its queue
 module _
-  (p : Image) (clients : List Client) (cs : List Cell) (tidy : Tidy cs) (fit : ClientsFit p clients cs) (o : Object) (g : Place) (there : held cs g ≡ Some o) (apart : (n m : ℕ) → same_place g (Elsewhere (Queued n m)) ≡ false)
-  (waiting : (n m : ℕ) (x : Object) → held cs (Elsewhere (Queued n m)) ≡ Some x → is_server p x.thing ≡ false)
-  (queued : (n c m : ℕ) → list_any (is_message_of c m) (service_of cs n).queue ≡ true → (x : Object) × (held cs (Elsewhere (Queued n m)) ≡ Some x)) where
+    (p : Image) (clients : List Client) (cs : List Cell) (tidy : Tidy cs) (fit : ClientsFit p clients cs) (o : Object) (g : Place) (there : held cs g ≡ Some o) (apart : (n m : ℕ) → same_place g (Elsewhere (Queued n m)) ≡ false)
+    (waiting : (n m : ℕ) (x : Object) → held cs (Elsewhere (Queued n m)) ≡ Some x → is_server p x.thing ≡ false)
+    (queued : (n c m : ℕ) → list_any (is_message_of c m) (service_of cs n).queue ≡ true → (x : Object) × (held cs (Elsewhere (Queued n m)) ≡ Some x)) where
   abbrev drops : Cell → Bool
   drops = goes_with o.name g
 

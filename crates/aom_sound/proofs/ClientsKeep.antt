@@ -1,6 +1,5 @@
 -- Clients, and what they have at servers, say the same in each state of a run: as it boots, in each move and in each turn.
-use Rattle.std.proofs.Common.{Bool, List, None, Option, Some, [], ap, arith, cond, false, inl, inr, length, pos, refl, subst, suc, sym, true, zero, ℕ, ℤ, ◌&&◌, ◌==◌, ◌∙◌, ◌∷◌, ◌≡◌}
-use Rattle.std.proofs.lemmas.Bool.{and_parts, eq-eqb, eqb-true, ne_eqb, true≢false}
+use Rattle.std.proofs.Common.{Bool, List, None, Option, Some, [], ap, cond, false, length, pos, refl, subst, sym, true, ℕ, ℤ, ◌∙◌, ◌∷◌, ◌≡◌}
 use Rattle.std.specs.List.{list_any}
 use Rattle.std.specs.Ordering.{int_eq}
 use Rattle.aom_image.specs.Image.{Image}
@@ -11,8 +10,7 @@ use Rattle.aom_image.specs.declared.method.Role.TheVariants.{Error as Answers}
 use Rattle.aom_image.specs.declared.method.Thing.TheVariants.{Message}
 use Rattle.aom_classes.specs.Roles.{main_of, destructor_of}
 use Rattle.aom_clients.specs.declared.client.Client.{Client}
-use Rattle.aom_clients.specs.declared.client.Client.TheVariants.{Unconnected}
-use Rattle.aom_rules.specs.Typing.{IsTyped, Typing}
+use Rattle.aom_rules.specs.Typing.{Typing}
 use Rattle.aom_sound.proofs.ClientsEffects.{IsUsual, effect_kept, fine_effect}
 use Rattle.aom_sound.proofs.ClientsFacts.{IsAt, goes_apart, queued_well, server_lives, serving_plain, waiting_well}
 use Rattle.aom_sound.proofs.ClientsFit.{fit_parted}
@@ -29,15 +27,13 @@ use Rattle.aom_sound.specs.Calls.{returned}
 use Rattle.aom_sound.specs.Objects.{is_thing}
 use Rattle.aom_sound.specs.Words.{here}
 use Rattle.aom_sound.proofs.Guarded.{goes_same, guarded_goes, guarded_met}
-use Rattle.aom_sound.specs.Claims.{Dying, Layer, tasks_of}
-use Rattle.aom_sound.specs.Clients.{client_at, with_client}
 use Rattle.aom_sound.specs.Cleanup.{arrived, dealt_with, destroyed, ended_by, top_is_whole, unwound}
-use Rattle.aom_sound.specs.Destruction.{begun, begun_by, closing, destructed, first_session, gone, needs_gone, parting, parting_from, vanished}
-use Rattle.aom_sound.specs.Effects.{Goes_on, Leaves, Replied, Returns, applied, effect, needs}
+use Rattle.aom_sound.specs.Destruction.{begun, begun_by, closing, first_session, gone, needs_gone, parting, parting_from, vanished}
+use Rattle.aom_sound.specs.Effects.{applied, effect, needs}
 use Rattle.aom_sound.specs.Enlisted.{ended_cells, part_of}
 use Rattle.aom_sound.specs.Kept.{ClientsFit, IsKept, StageKept, TasksKept, is_message_of}
 use Rattle.aom_sound.specs.Laws.{ClientsKeep, IsWired}
-use Rattle.aom_sound.specs.Moves.{answered, asking, closed, counted, step_instr, dispatch_ends, failed, handled, main_ends, main_left, needs_end, object_ends, over, stage_ends, step, step_task, uprooted}
+use Rattle.aom_sound.specs.Moves.{answered, asking, counted, step_instr, dispatch_ends, failed, handled, main_ends, needs_end, object_ends, stage_ends, step_task}
 use Rattle.aom_sound.specs.Places.{Cell, Elsewhere, Entry, Going, In_service, Object, Place, Queued, Root, Tidy, held, moved, named, service_of, without}
 use Rattle.aom_sound.specs.Servers.{is_server, without_queue}
 use Rattle.aom_sound.specs.State.{Accept_left, Accepted, Accepts, Answered, Asks, Choice, Closing, Destroy, Dispatch, Dispatched, Frame, Goes, Item, A_mark, An_object, An_operation, IsStuck, Main_left, NullOrDead, Object_left, Of_main, Of_object, Of_root, Of_server, Parts, Run, Seat, Service_left, Serves, Stage, State, Task, Trapped, Unwind, resumed}

@@ -3,21 +3,20 @@ use Rattle.std.proofs.Common.{Bool, List, None, Option, Some, [], ap, arith, con
 use Rattle.std.proofs.lemmas.Bool.{eq-eqb, eqb-true, ne_eqb, true≢false}
 use Rattle.std.proofs.lemmas.List.Folds.{list_any-append}
 use Rattle.std.specs.List.{list_any}
-use Rattle.std.specs.Prelude.{filter, not, ◌++◌, ◌||◌}
+use Rattle.std.specs.Prelude.{filter, not, ◌||◌}
 use Rattle.aom_image.specs.Image.{Image}
-use Rattle.aom_clients.specs.Nodes.{is_connecting_at, is_leaving, is_open_at}
-use Rattle.aom_clients.specs.Table.{row, server_of}
+use Rattle.aom_clients.specs.Nodes.{is_leaving}
+use Rattle.aom_clients.specs.Table.{server_of}
 use Rattle.aom_clients.specs.declared.client.Client.{Client}
-use Rattle.aom_clients.specs.declared.client.Client.TheVariants.{Closing, Connecting, Dead, Dying, Gone, Open, Unconnected}
-use Rattle.aom_sound.proofs.ClientsFit.{Changes, IsFree, by_server, fit_changed, names_then, seats_then, servers_then}
-use Rattle.aom_sound.proofs.Queues.{client_here, client_of, client_there, entry_other, is_of, none_passes, none_stays, queue_last, queue_other, queue_stays}
+use Rattle.aom_sound.proofs.ClientsFit.{by_server, fit_changed, names_then, seats_then, servers_then}
+use Rattle.aom_sound.proofs.Queues.{client_here, client_of, entry_other, is_of, none_stays, queue_last, queue_other, queue_stays}
 use Rattle.aom_sound.proofs.Seated.{seats_asked, seats_left}
-use Rattle.aom_sound.proofs.Sifted.{cell_in, cell_of_sifted, kept, unheld_sifted, cell_lives, cell_of, cell_owner, cell_placed, held_cell, held_sifted, named_before, named_cell, object_in, service_cell, service_gone, service_in, service_sifted, sifted, withdrawn_so}
+use Rattle.aom_sound.proofs.Sifted.{cell_in, cell_of_sifted, kept, unheld_sifted, cell_lives, cell_of, cell_placed, held_cell, held_sifted, named_before, named_cell, object_in, service_cell, service_gone, service_in, service_sifted, sifted, withdrawn_so}
 use Rattle.aom_sound.specs.Clients.{client_at, most_of, with_client}
 use Rattle.aom_sound.specs.Enlisted.{thing_kind}
 use Rattle.aom_sound.specs.Kept.{ClientsFit, EntryFits, QueueFits, asked_again, is_close_of, is_message_of}
 use Rattle.aom_sound.specs.Places.{Asked, Cell, Close_of, Connect_of, Elsewhere, Message_of, Object, Place, Queued, Sender, Service, Tidy, held, named, service_of, unserved}
-use Rattle.aom_sound.specs.Servers.{asked_last, discarded, has_session, reserved, is_from, is_other, is_queue, is_server, left_by, seats_taken, stays, withdrawn}
+use Rattle.aom_sound.specs.Servers.{asked_last, discarded, has_session, reserved, is_from, is_queue, is_server, left_by, seats_taken, stays, withdrawn}
 
 -- ---- lists
 

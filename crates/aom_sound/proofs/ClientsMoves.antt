@@ -1,36 +1,35 @@
 -- What is kept of clients stays so where a method moves: cells are made, move and change, and no queue and no session of a server does.
-use Rattle.std.proofs.Common.{Bool, List, None, Option, Some, [], ap, cond, false, inl, inr, length, refl, subst, suc, sym, true, ℕ, ℤ, ◌&&◌, ◌==◌, ◌∙◌, ◌∷◌, ◌≡◌, ◌<◌, ◌≤◌, arith}
-use Rattle.std.proofs.lemmas.Bool.{eq-eqb, eqb-true, ne_eqb, true≢false}
+use Rattle.std.proofs.Common.{Bool, List, None, Option, Some, [], ap, cond, false, inl, inr, length, refl, subst, suc, sym, true, ℕ, ℤ, ◌==◌, ◌∙◌, ◌∷◌, ◌≡◌, ◌<◌, ◌≤◌, arith}
+use Rattle.std.proofs.lemmas.Bool.{eqb-true}
 use Rattle.std.specs.List.{list_any}
 use Rattle.std.specs.Prelude.{◌⊎◌}
 use Rattle.aom_image.specs.Image.{Image}
-use Rattle.aom_image.specs.Views.{arguments_of, method_role}
+use Rattle.aom_image.specs.Views.{method_role}
 use Rattle.aom_image.specs.declared.method.Argument.{Argument}
 use Rattle.aom_image.specs.declared.method.Argument.TheVariants.{Own as Takes_own, Word as Takes_word}
 use Rattle.aom_image.specs.declared.method.Gives.{Gives}
 use Rattle.aom_image.specs.declared.method.Gives.TheVariants.{Left, Maybe as A_maybe, Nothing, Own as An_own, Word as A_word}
 use Rattle.aom_image.specs.declared.method.Thing.{Thing}
-use Rattle.aom_clients.specs.Nodes.{is_connecting_at, is_leaving}
-use Rattle.aom_clients.specs.Table.{server_of}
+use Rattle.aom_clients.specs.Nodes.{is_connecting_at}
 use Rattle.aom_clients.specs.declared.client.Client.{Client}
 use Rattle.aom_clients.specs.declared.client.Client.TheVariants.{Unconnected}
 use Rattle.aom_rules.specs.Requests.{is_cancel}
-use Rattle.aom_sound.proofs.ClientsFit.{Changes, connecting_only, fit_changed, fit_parted, none_of_connecting}
-use Rattle.aom_sound.proofs.ClientsTurn.{Same, tasks_begun}
-use Rattle.aom_sound.proofs.Maps.{front_free, named_moved, same_place-true, same_place_refl, same_place_along}
-use Rattle.aom_sound.proofs.Queues.{client_here, queue_other}
+use Rattle.aom_sound.proofs.ClientsFit.{connecting_only, fit_changed, none_of_connecting}
+use Rattle.aom_sound.proofs.ClientsTurn.{Same}
+use Rattle.aom_sound.proofs.Maps.{named_moved, same_place-true, same_place_along}
+use Rattle.aom_sound.proofs.Queues.{queue_other}
 use Rattle.aom_sound.proofs.Services.{service_asked, service_moved, service_opened, service_stored, service_unnamed}
 use Rattle.aom_sound.proofs.Storing.{rerequested_alike}
 use Rattle.aom_sound.specs.Cleanup.{top_place}
-use Rattle.aom_sound.specs.Calls.{given_cells, passed_cells, result_cells}
+use Rattle.aom_sound.specs.Calls.{passed_cells, result_cells}
 use Rattle.aom_sound.specs.Clients.{client_at, with_client, most_of}
 use Rattle.aom_sound.specs.Effects.{Carried, In_field, In_register, Made, Popped, Popped_operation, Pushed, Pushed_operation, Replied, Requested, Same as Unchanged, Sessioned, Spot, The_message, Update, Written, cells_after, spot_place}
-use Rattle.aom_sound.specs.Enlisted.{begun_cells, cancelled, cancelling, ended_cells, on_request, own_request, rerequested, thing_kind}
-use Rattle.aom_sound.specs.Kept.{ClientsFit, IsKept, QueueFits, ConnectKept, StageKept, TasksKept, is_close_of, is_connect_of, is_message_of}
+use Rattle.aom_sound.specs.Enlisted.{cancelled, ended_cells, on_request, own_request, rerequested, thing_kind}
+use Rattle.aom_sound.specs.Kept.{ClientsFit, QueueFits, ConnectKept, StageKept, TasksKept, is_close_of, is_connect_of, is_message_of}
 use Rattle.aom_sound.specs.Natives.{resessioned}
-use Rattle.aom_sound.specs.Places.{Asked, Cell, Elsewhere, Entry, Field, Going, In_service, Object, Place, Queued, Register, Request, Root, Tidy, held, moved, named, same_place, service_of, set_request, set_session, set_word_field, unserved, with_new}
-use Rattle.aom_sound.specs.Servers.{has_session, is_from, is_server, seats_taken}
-use Rattle.aom_sound.specs.State.{Accept_left, Accepted, Accepts, AtRoot, Closing, Destroy, Dispatch, Dispatched, Frame, Home, Inside, Of_server, Parts, Run, Seat, Service_left, Serves, Stage, State, Static, Task, Trapped, Unwind, field_place}
+use Rattle.aom_sound.specs.Places.{Cell, Elsewhere, Entry, Object, Place, Queued, Register, Request, held, moved, named, same_place, service_of, set_request, set_session, set_word_field, unserved, with_new}
+use Rattle.aom_sound.specs.Servers.{is_from, is_server, seats_taken}
+use Rattle.aom_sound.specs.State.{Accept_left, Accepted, Accepts, AtRoot, Closing, Destroy, Dispatched, Frame, Home, Inside, Of_server, Parts, Run, Service_left, Serves, Stage, State, Static, Task, Trapped, Unwind, field_place}
 use Rattle.aom_sound.specs.Words.{here, stored}
 use Rattle.aom_sound.proofs.Seated.{seats_none, seats_same}
 

@@ -1,21 +1,20 @@
 -- What is kept of clients stays so where a method returns, where a message is completed, and where a dispatch comes to its end.
-use Rattle.std.proofs.Common.{Bool, List, None, Option, Some, [], ap, cond, false, inl, inr, length, refl, subst, suc, sym, true, ℕ, ℤ, ◌&&◌, ◌==◌, ◌∙◌, ◌∷◌, ◌≡◌, ◌<◌, ◌≤◌, arith}
-use Rattle.std.proofs.lemmas.Bool.{eq-eqb, eqb-true, ne_eqb, true≢false}
+use Rattle.std.proofs.Common.{Bool, List, None, Option, Some, [], ap, cond, false, refl, subst, sym, true, ℕ, ℤ, ◌==◌, ◌∙◌, ◌∷◌, ◌≡◌, ◌<◌, ◌≤◌, arith}
 use Rattle.std.specs.List.{list_any}
 use Rattle.aom_image.specs.Image.{Image}
 use Rattle.aom_image.specs.declared.method.Gives.{Gives}
 use Rattle.aom_clients.specs.declared.client.Client.{Client}
 use Rattle.aom_sound.proofs.ClientsFacts.{IsAt}
 use Rattle.aom_sound.proofs.ClientsFit.{fit_accepted}
-use Rattle.aom_sound.proofs.ClientsMoves.{NoQueue, Steady, fit_steady, stage_queues, steady_itself, steady_moved, steady_result, tasks_queues, tasks_steady}
-use Rattle.aom_sound.proofs.Maps.{held_without, named_moved, same_place-true, same_place_comm, same_place_refl}
-use Rattle.aom_sound.proofs.Sifted.{a_cell_of, cell_in, cell_lives, cell_name, cell_of, cell_of_sifted, cell_owner, cell_placed, held_cell, held_sifted, kept, named_before, named_cell, object_in, service_cell, service_gone, service_in, service_sifted, sifted, unheld_sifted}
-use Rattle.aom_sound.specs.Calls.{answered_by, ended_well, result_cells, returned}
-use Rattle.aom_sound.specs.Clients.{client_at, most_of}
+use Rattle.aom_sound.proofs.ClientsMoves.{NoQueue, fit_steady, steady_moved, steady_result, tasks_queues, tasks_steady}
+use Rattle.aom_sound.proofs.Maps.{held_without, named_moved, same_place-true, same_place_comm}
+use Rattle.aom_sound.proofs.Sifted.{a_cell_of, cell_in, cell_lives, cell_of, cell_of_sifted, cell_owner, cell_placed, held_cell, kept, named_before, named_cell, object_in, service_cell, service_gone, service_in, service_sifted, sifted}
+use Rattle.aom_sound.specs.Calls.{answered_by, result_cells, returned}
+use Rattle.aom_sound.specs.Clients.{most_of}
 use Rattle.aom_sound.specs.Kept.{ClientsFit, IsKept, QueueFits, TasksKept, is_connect_of, is_message_of}
-use Rattle.aom_sound.specs.Places.{Asked, Cell, Elsewhere, Object, Place, Queued, Session, Tidy, held, moved, named, same_place, service_of, unserved, without}
-use Rattle.aom_sound.specs.Servers.{has_session, is_from, is_server, seats_taken}
-use Rattle.aom_sound.specs.State.{Accept_left, Accepted, Accepts, Answered, Asks, Closing, Destroy, Dispatch, Dispatched, Frame, Main_left, Object_left, Of_main, Of_object, Of_root, Of_server, Parts, Run, Seat, Service_left, Serves, Stage, State, Task, Trapped, Unwind}
+use Rattle.aom_sound.specs.Places.{Cell, Elsewhere, Object, Place, Queued, Session, Tidy, held, moved, named, same_place, service_of, without}
+use Rattle.aom_sound.specs.Servers.{is_from, is_server, seats_taken}
+use Rattle.aom_sound.specs.State.{Accept_left, Accepted, Accepts, Answered, Asks, Destroy, Dispatch, Dispatched, Frame, Main_left, Object_left, Of_main, Of_object, Of_root, Of_server, Parts, Run, Seat, Service_left, Serves, State, Task, Trapped, Unwind}
 use Rattle.aom_sound.specs.Words.{here}
 use Rattle.aom_sound.specs.Enlisted.{thing_kind}
 use Rattle.aom_sound.proofs.Seated.{seats_same}
@@ -91,8 +90,8 @@ without_so g [] = refl
 without_so g (c ∷ cs) = ap (λ l. cond (same_place c.owner g) l (c ∷ l)) (without_so g cs)
 
 module _
-  (p : Image) (clients : List Client) (cs : List Cell) (tidy : Tidy cs) (fit : ClientsFit p clients cs) (o : Object) (g : Place) (there : held cs g ≡ Some o) (apart : NoQueue g) (plain : is_server p o.thing ≡ false)
-  (queued : (n c m : ℕ) → list_any (is_message_of c m) (service_of cs n).queue ≡ true → (x : Object) × (held cs (Elsewhere (Queued n m)) ≡ Some x)) where
+    (p : Image) (clients : List Client) (cs : List Cell) (tidy : Tidy cs) (fit : ClientsFit p clients cs) (o : Object) (g : Place) (there : held cs g ≡ Some o) (apart : NoQueue g) (plain : is_server p o.thing ≡ false)
+    (queued : (n c m : ℕ) → list_any (is_message_of c m) (service_of cs n).queue ≡ true → (x : Object) × (held cs (Elsewhere (Queued n m)) ≡ Some x)) where
   abbrev drops : Cell → Bool
   drops c = same_place c.owner g
 

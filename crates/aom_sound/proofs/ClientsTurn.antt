@@ -1,8 +1,7 @@
 -- What is kept of clients stays so in each turn: as a server is picked, as a client does something, and in all others, where nothing of it changes.
-use Rattle.std.proofs.Common.{Bool, List, None, Option, Some, [], ap, cond, false, refl, subst, sym, true, ℕ, ℤ, ◌&&◌, ◌==◌, ◌∙◌, ◌∷◌, ◌≡◌, pos, ◌<◌, ◌≤◌, arith}
-use Rattle.std.proofs.lemmas.Bool.{eq-eqb, eqb-true, ne_eqb, true≢false}
+use Rattle.std.proofs.Common.{Bool, List, None, Option, Some, [], ap, cond, false, refl, subst, sym, true, ℕ, ◌∙◌, ◌∷◌, ◌≡◌, ◌<◌, ◌≤◌, arith}
 use Rattle.std.specs.List.{list_any}
-use Rattle.std.specs.Prelude.{is_some, length, nat_le, ◌||◌}
+use Rattle.std.specs.Prelude.{length, nat_le, ◌||◌}
 use Rattle.aom_image.specs.Image.{Image}
 use Rattle.aom_image.specs.declared.method.Role.TheVariants.{Accept as Accepts_role, Run as Handles, Service as Attends_role}
 use Rattle.aom_image.specs.declared.method.Thing.{Thing}
@@ -10,23 +9,22 @@ use Rattle.aom_image.specs.declared.method.Thing.TheVariants.{Message}
 use Rattle.aom_roles.specs.Classes.{sessions_in}
 use Rattle.aom_roles.specs.Shapes.{kind_of}
 use Rattle.aom_shape.specs.declared.kind.Kind.TheVariants.{Null}
-use Rattle.aom_clients.specs.Nodes.{is_connecting_at, is_leaving}
 use Rattle.aom_clients.specs.Table.{server_of}
 use Rattle.aom_clients.specs.declared.client.Client.{Client}
-use Rattle.aom_rules.specs.Typing.{IsTyped, Typing}
+use Rattle.aom_rules.specs.Typing.{Typing}
 use Rattle.aom_sound.proofs.ClientsCommand.{fit_commanded}
 use Rattle.aom_sound.proofs.ClientsFit.{by_server, seats_then}
 use Rattle.aom_sound.proofs.Maps.{held_moved, named_moved}
 use Rattle.aom_sound.proofs.Owners.{IsQueuedAt, in_queue, queued_lower}
-use Rattle.aom_sound.proofs.Services.{held_served, named_served, service_asked, service_bereaved, service_here, service_moved, service_there}
+use Rattle.aom_sound.proofs.Services.{held_served, named_served, service_asked, service_bereaved, service_here, service_moved}
 use Rattle.aom_sound.proofs.Signals.{at_rest}
 use Rattle.aom_sound.proofs.Storing.{bereaved_alike, rerequested_alike}
 use Rattle.aom_sound.proofs.Straight.{fits_unowning}
 use Rattle.aom_sound.proofs.Turned.{Polled, answers, commanded_kept, dispatched_so, nothing, polled_so}
 use Rattle.aom_sound.proofs.Guarded.{goes_same}
-use Rattle.aom_sound.proofs.Turning.{Found, found}
-use Rattle.aom_sound.specs.Claims.{claim, declared}
-use Rattle.aom_sound.specs.Clients.{Command, client_at, commanded, most_of}
+use Rattle.aom_sound.proofs.Turning.{found}
+use Rattle.aom_sound.specs.Claims.{declared}
+use Rattle.aom_sound.specs.Clients.{client_at, most_of}
 use Rattle.aom_sound.specs.Destruction.{begun, begun_by}
 use Rattle.aom_classes.specs.Roles.{destructor_of}
 use Rattle.aom_sound.specs.Enlisted.{completed_with, on_request, part_of, recorded, timed_out, thing_kind}
@@ -38,7 +36,7 @@ use Rattle.aom_sound.specs.Places.{Asked, Cell, Close_of, Connect_of, Elsewhere,
 use Rattle.aom_sound.specs.Servers.{has_session, is_from, is_server, reserved, rest_of as rest, taken_first, seats_taken}
 use Rattle.aom_sound.specs.State.{Closing, Destroy, Dispatched, Goes, Inside, Of_server, Parts, Seat, State, Task}
 use Rattle.aom_sound.specs.WellTyped.{Fits, Good, WellTyped}
-use Rattle.aom_sound.specs.World.{Candidate, Completes, Completion, Cuts, Heard, HearsWell, Hears, IsBetween, Kills, Obeys, Outside, Passes, Picks, Polls, Strays, Timed, Turning, Waits, accepting, attended, attending, by_event, by_timer, delivers, dispatched, first_due, first_ready, has_signal, heard_one, lives, next_event, next_native, next_time, parting_with, picks, picked, polled, polls, serves_first, taken_from, turn, turned, turning, with_request}
+use Rattle.aom_sound.specs.World.{Candidate, Completes, Completion, Cuts, Heard, Hears, Kills, Obeys, Outside, Passes, Picks, Polls, Strays, Timed, Turning, Waits, accepting, attended, attending, by_event, by_timer, delivers, dispatched, first_due, first_ready, has_signal, heard_one, lives, next_event, next_native, next_time, parting_with, picks, picked, polls, serves_first, taken_from, turn, turned, turning, with_request}
 use Rattle.aom_transcript.specs.declared.event.Event.{Event}
 use Rattle.aom_transcript.specs.declared.event.Event.TheVariants.{Kill, Tell}
 use Rattle.aom_transcript.specs.declared.event.TimedEvent.{TimedEvent}
@@ -210,7 +208,6 @@ module _ (p : Image) (t : Typing) (wired : IsWired p) (s : State) (w : WellTyped
         go : (b : Bool) → cond b (serves_first p x (service_of s.cells n).queue s) (dispatched (part_of p Handles x.object.thing) x s) ≡ Goes u → IsKept p u
         go true e = serves_kept (service_of s.cells n).queue refl e
         go false e = let d = dispatched_so p s u x e in subst (λ v. IsKept p v) (sym d.2) (record { fit = requested_fit x.object _; stage = tt })
-
 
   -- ---- the others
 

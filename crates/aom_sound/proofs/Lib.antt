@@ -51,6 +51,7 @@ pub mod Dealing
 pub mod Entries
 pub mod Arrival
 pub mod Unwinding
+pub mod Messages
 pub mod Steps
 pub mod Booting
 pub mod Owners

@@ -1,14 +1,9 @@
 -- How many seats of a server are taken: by lists, where something is asked, is taken first, is opened, parted or withdrawn.
-use Rattle.std.proofs.Common.{Bool, List, None, Option, Some, [], ap, arith, cond, false, length, refl, subst, suc, sym, true, ℕ, ◌+◌, ◌<◌, ◌==◌, ◌∙◌, ◌∷◌, ◌≡◌, ◌≤◌}
-use Rattle.std.proofs.lemmas.Bool.{eqb-true}
+use Rattle.std.proofs.Common.{Bool, List, [], ap, arith, cond, false, length, refl, subst, suc, sym, true, ℕ, ◌+◌, ◌∙◌, ◌∷◌, ◌≡◌, ◌≤◌}
 use Rattle.std.proofs.lemmas.List.{length-append}
 use Rattle.std.specs.Prelude.{filter, ◌++◌}
-use Rattle.aom_image.specs.Image.{Image}
-use Rattle.aom_sound.proofs.Services.{named_served}
-use Rattle.aom_sound.specs.Clients.{most_of}
-use Rattle.aom_sound.specs.Enlisted.{thing_kind}
-use Rattle.aom_sound.specs.Places.{Asked, Cell, Object, Service, named, service_of}
-use Rattle.aom_sound.specs.Servers.{asked_last, is_connect, is_other, opened, parted, reserved, rest_of, seats_taken, stays, taken_first}
+use Rattle.aom_sound.specs.Places.{Asked, Service}
+use Rattle.aom_sound.specs.Servers.{asked_last, is_connect, is_other, opened, parted, rest_of, seats_taken, stays, taken_first}
 
 -- ---- lists
 
