@@ -1,4 +1,6 @@
 pub mod Cells
+pub mod Serving
+pub mod Commands
 pub mod Needs
 pub mod Doing
 pub mod Turning
