@@ -8,6 +8,8 @@ pub mod Steps
 pub mod Hearing
 pub mod Polling
 pub mod Oracles
+pub mod Waiting
 pub mod Fresh
 pub mod Alike
+pub mod Staying
 pub mod Runs
