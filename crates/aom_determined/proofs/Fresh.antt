@@ -256,7 +256,7 @@ module _ (names : ℕ → ℕ) where
     tasks_spared (Dispatching d seats ∷ ls) back k at = rw (dispatch_spared d seats k.2 k.3 at, k.1)
 
 -- the dispatch that stands below all is at hand
-dispatch_at : (ts : List Task) (d : Dispatch) → dispatch_of ts ≡ Some d → IsAt d ts
+pub dispatch_at : (ts : List Task) (d : Dispatch) → dispatch_of ts ≡ Some d → IsAt d ts
 dispatch_at [] d e = cc
 dispatch_at (Run fr ∷ ts) d e = dispatch_at ts d e
 dispatch_at (Trapped ∷ ts) d e = dispatch_at ts d e

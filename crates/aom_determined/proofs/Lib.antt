@@ -10,6 +10,10 @@ pub mod Polling
 pub mod Oracles
 pub mod Waiting
 pub mod Fresh
+pub mod Keeping
+pub mod Vanishing
+pub mod Moving
+pub mod Ending
 pub mod Alike
 pub mod Staying
 pub mod Runs

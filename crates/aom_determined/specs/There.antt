@@ -8,6 +8,10 @@ use Rattle.aom_sound.specs.Kept.{is_connect_of}
 use Rattle.aom_sound.specs.Places.{Cell, Elsewhere, Session, held, service_of}
 use Rattle.aom_sound.specs.State.{Accept_left, Accepts, Closing, Destroy, Dispatch, Dispatched, Of_server, Run, Serves, State, Task, Trapped, Unwind}
 
+-- the client's connect waits in the queue of that server
+abbrev pub waits : List Cell → (server client : ℕ) → Bool
+waits cs n c = list_any (is_connect_of c) (service_of cs n).queue
+
 -- the dispatch that stands below all else
 abbrev pub dispatch_of : List Task → Option Dispatch
 dispatch_of [] = None
@@ -31,7 +35,7 @@ IsAtPlace cs _ = Unit {0}
 
 pub record AreThere (clients : List Client) (cs : List Cell) (d : Option Dispatch) : Type 0 where
   -- a client that connects waits in the queue of the server that it asked, or is accepted there
-  pub asked : (n c : ℕ) → is_connecting_at n (client_at clients c) ≡ true → (list_any (is_connect_of c) (service_of cs n).queue || accepts n c d) ≡ true
+  pub asked : (n c : ℕ) → is_connecting_at n (client_at clients c) ≡ true → (waits cs n c || accepts n c d) ≡ true
   pub serves : IsAtPlace cs d
 
 -- so it is in a state
