@@ -1,5 +1,5 @@
 -- A move of each of two states that are the same but for names, where the new cells' names are changed with one another, and a turn of each.
-use Rattle.std.proofs.Common.{List, None, Option, ap, refl, subst, sym, ℕ, ◌∙◌, ◌≡◌, Bool, true, false, ℤ}
+use Rattle.std.proofs.Common.{List, None, ap, refl, subst, sym, ℕ, ◌∙◌, ◌≡◌, Bool, true, false, ℤ}
 use Rattle.aom_image.specs.Image.{Image}
 use Rattle.aom_rules.specs.Typing.{Typing}
 use Rattle.aom_sound.specs.Kept.{IsKept}
@@ -15,7 +15,7 @@ use Rattle.aom_determined.proofs.Polling.{turn_unpolled}
 use Rattle.aom_determined.proofs.Turning.{polling_kept, turns_so, writes_turn_so}
 use Rattle.aom_determined.specs.Laws.{MovesStayAlike, TurnsStayAlike}
 use Rattle.aom_determined.specs.There.{AllThere}
-use Rattle.aom_determined.specs.Names.{AlikeOutcomes, AreAlike, IsOneToOne, renamed, renamed_choice, renamed_heard, renamed_outcome}
+use Rattle.aom_determined.specs.Names.{AlikeOutcomes, AreAlike, IsOneToOne, renamed, renamed_choice, renamed_outcome}
 use Rattle.aom_determined.specs.Hearing.{is_heard, is_polling}
 use Rattle.aom_determined.proofs.Hearing.{step_unheard, heard_kept}
 

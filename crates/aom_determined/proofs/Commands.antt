@@ -1,5 +1,5 @@
 -- What a client does means the same under other names: it is refused alike, and comes to the same state, renamed.
-use Rattle.std.proofs.Common.{Bool, List, None, Option, Some, [], ap, cond, false, length, refl, suc, true, zero, ℕ, ℤ, ◌&&◌, ◌==◌, ◌∙◌, ◌∷◌, ◌≡◌}
+use Rattle.std.proofs.Common.{Bool, List, None, Option, Some, [], ap, cond, false, length, refl, suc, true, ℕ, ℤ, ◌&&◌, ◌∙◌, ◌∷◌, ◌≡◌}
 use Rattle.std.proofs.lemmas.List.{length-map}
 use Rattle.std.specs.Prelude.{filter, nat_lt, option_map, ◌+◌}
 use Rattle.aom_image.specs.Image.{Image}
@@ -11,13 +11,13 @@ use Rattle.aom_clients.specs.declared.refusal.Refusal.{Refusal}
 use Rattle.aom_clients.specs.declared.refusal.Refusal.TheVariants.{ServerBusy}
 use Rattle.aom_roles.specs.Shapes.{kind_of}
 use Rattle.aom_shape.specs.Kinds.{is_object}
-use Rattle.aom_sound.specs.Clients.{Closes, Command, Connects, Dies, Listed, Sends, among_listed, asked_of, client_at, commanded, connecting, count_messages, earlier, first_listed, is_of_class, leaving, most_of, own, refusal, room, sending, slots_of, told, with_client, with_message}
+use Rattle.aom_sound.specs.Clients.{Closes, Command, Connects, Dies, Listed, Sends, among_listed, asked_of, commanded, connecting, count_messages, earlier, first_listed, is_of_class, leaving, most_of, own, refusal, room, sending, slots_of, told, with_client, with_message}
 use Rattle.aom_sound.specs.Places.{Asked, Cell, Close_of, Connect_of, Elsewhere, Message_of, Object, Place, Queued, Request, Service, service_of, unserved}
 use Rattle.aom_sound.specs.Servers.{asked_last, discarded, holds_slot, is_connect, is_from, is_queue, left_by, reserved, seats_taken, slots_taken, stays, withdrawn}
 use Rattle.aom_sound.specs.State.{State}
 use Rattle.aom_determined.proofs.Cells.{cond_applied, cond_mapped}
 use Rattle.aom_determined.proofs.Serving.{asks_renamed, client_renamed, service_renamed, with_client_renamed}
-use Rattle.aom_determined.specs.Names.{IsOneToOne, renamed, renamed_asked, renamed_cell, renamed_cells, renamed_client, renamed_clients, renamed_object, renamed_place, renamed_queue, renamed_service}
+use Rattle.aom_determined.specs.Names.{IsOneToOne, renamed, renamed_asked, renamed_cell, renamed_cells, renamed_client, renamed_object, renamed_place, renamed_queue, renamed_service}
 
 module _ (names : ℕ → ℕ) where
   -- ---- what is counted

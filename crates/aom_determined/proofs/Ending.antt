@@ -1,6 +1,6 @@
 -- What is there stays there as a cell goes and as a dispatch ends: the server that is dispatched does not go, and after its end no client is accepted.
 use Rattle.std.proofs.Common.{Bool, List, None, Option, Some, [], ap, arith, cond, false, length, pos, refl, subst, sym, true, ℕ, ℤ, ◌&&◌, ◌==◌, ◌∙◌, ◌∷◌, ◌≡◌, ◌≤◌}
-use Rattle.std.proofs.lemmas.Bool.{eq-eqb, eqb-true, ne_eqb, true≢false}
+use Rattle.std.proofs.lemmas.Bool.{eqb-true, ne_eqb, true≢false}
 use Rattle.std.specs.List.{list_any}
 use Rattle.std.specs.Ordering.{int_eq}
 use Rattle.std.specs.Prelude.{◌||◌}
@@ -15,16 +15,16 @@ use Rattle.aom_shape.specs.declared.kind.Kind.TheVariants.{Null}
 use Rattle.aom_sound.proofs.ClientsFacts.{IsAt, ServerLives, dying_layers, server_lives}
 use Rattle.aom_sound.proofs.ClientsMoves.{held_elsewhere}
 use Rattle.aom_sound.proofs.Destroying.{Untouched, untouched}
-use Rattle.aom_sound.proofs.Guarded.{goes_same, guarded_goes}
+use Rattle.aom_sound.proofs.Guarded.{goes_same}
 use Rattle.aom_sound.proofs.Queues.{client_here, client_there}
 use Rattle.aom_sound.proofs.Services.{service_moved}
 use Rattle.aom_sound.specs.Claims.{Dispatching, Dying, Ending, Layer, tasks_of}
 use Rattle.aom_sound.specs.Clients.{at_parting, client_at, with_client}
-use Rattle.aom_sound.specs.Destruction.{begun, closing, destructed, first_session, parting, parting_from, seat_or}
+use Rattle.aom_sound.specs.Destruction.{closing, first_session, parting, parting_from, seat_or}
 use Rattle.aom_sound.specs.Enlisted.{part_of}
 use Rattle.aom_sound.specs.Kept.{ClientsFit, is_connect_of}
-use Rattle.aom_sound.specs.Moves.{answered, asking, dispatch_ends, failed, handled, main_ends, needs_end, object_ends, stage_ends}
-use Rattle.aom_sound.specs.Places.{Cell, Elsewhere, Going, In_service, Object, Place, Root, Session, Tidy, held, moved, named, same_place, service_of}
+use Rattle.aom_sound.specs.Moves.{answered, asking, dispatch_ends, failed, handled, main_ends, object_ends, stage_ends}
+use Rattle.aom_sound.specs.Places.{Cell, Elsewhere, Going, In_service, Object, Root, Session, Tidy, held, moved, service_of}
 use Rattle.aom_sound.specs.Servers.{is_server, parted}
 use Rattle.aom_sound.specs.State.{Accept_left, Accepted, Accepts, Answered, Asks, Closing, Destroy, Dispatch, Dispatched, Goes, Main_left, Object_left, Of_main, Of_object, Of_root, Of_server, Parts, Run, Seat, Service_left, Serves, Stage, State, Task, Trapped, Unwind}
 use Rattle.aom_sound.specs.WellTyped.{EndsDispatch, Gone, Now, SomeIn, Stack, WellTyped}

@@ -1,10 +1,9 @@
 -- As cells change no connect is lost, and no session's place changes: by the queues that stay, and by what moves and goes.
-use Rattle.std.proofs.Common.{Bool, List, None, Option, Some, [], ap, cond, false, length, refl, subst, suc, sym, true, ℕ, ℤ, ⊎_elim, ◌&&◌, ◌==◌, ◌∙◌, ◌∷◌, ◌≡◌}
+use Rattle.std.proofs.Common.{Bool, List, None, Option, Some, [], ap, cond, false, length, refl, subst, suc, sym, true, ℕ, ℤ, ⊎_elim, ◌==◌, ◌∙◌, ◌∷◌, ◌≡◌}
 use Rattle.std.proofs.lemmas.Bool.{eqb-true, true≢false}
 use Rattle.std.specs.List.{list_any}
 use Rattle.std.specs.Prelude.{◌||◌}
 use Rattle.aom_image.specs.Image.{Image}
-use Rattle.aom_image.specs.Views.{method_role}
 use Rattle.aom_image.specs.declared.method.Argument.{Argument}
 use Rattle.aom_image.specs.declared.method.Argument.TheVariants.{Own as Takes_own, Word as Takes_word}
 use Rattle.aom_image.specs.declared.method.Gives.{Gives}
@@ -12,10 +11,10 @@ use Rattle.aom_image.specs.declared.method.Gives.TheVariants.{Left, Maybe as A_m
 use Rattle.aom_clients.specs.declared.client.Client.{Client}
 use Rattle.aom_sound.proofs.ClientsEffects.{IsFine}
 use Rattle.aom_sound.proofs.ClientsGone.{queue_unslotted}
-use Rattle.aom_sound.proofs.ClientsMoves.{Steady, held_elsewhere, steady_ended, steady_itself, steady_moved, steady_passed, steady_result, steady_update}
+use Rattle.aom_sound.proofs.ClientsMoves.{Steady, held_elsewhere, steady_ended, steady_moved, steady_passed, steady_result, steady_update}
 use Rattle.aom_sound.proofs.Dropping.{Same, Went, dropped, each_name, held_dropped}
 use Rattle.aom_sound.proofs.Maps.{named_name}
-use Rattle.aom_sound.proofs.Services.{held_served, named_served, service_here, service_there, service_unnamed}
+use Rattle.aom_sound.proofs.Services.{held_served, service_here, service_there, service_unnamed}
 use Rattle.aom_sound.proofs.Storing.{ended_alike, held_set_word, rerequested_alike, resessioned_alike}
 use Rattle.aom_sound.proofs.Unslotting.{each_unslotted_alike}
 use Rattle.aom_sound.specs.Calls.{passed_cells, result_cells}
@@ -24,7 +23,7 @@ use Rattle.aom_sound.specs.Cleanup.{top_place}
 use Rattle.aom_sound.specs.Effects.{Carried, In_field, In_register, Made, Popped, Popped_operation, Pushed, Pushed_operation, Replied, Requested, Same as Unchanged, Sessioned, Spot, The_message, Update, Written, cells_after, spot_place}
 use Rattle.aom_sound.specs.Enlisted.{ended_cells}
 use Rattle.aom_sound.specs.Kept.{is_connect_of}
-use Rattle.aom_sound.specs.Places.{Cell, Elsewhere, Entry, Object, Place, Queued, Register, Service, Session, Tidy, held, moved, named, same_place, service_of, set_service}
+use Rattle.aom_sound.specs.Places.{Cell, Elsewhere, Entry, Object, Place, Queued, Register, Service, Session, Tidy, held, moved, named, same_place, service_of}
 use Rattle.aom_sound.specs.Servers.{reserved}
 use Rattle.aom_sound.specs.State.{AtRoot, Dispatch, Frame, Home, Inside, Of_server, Serves, State, Static, Task, field_place}
 use Rattle.aom_sound.specs.Words.{here, stored}

@@ -4,7 +4,7 @@ use Rattle.std.proofs.lemmas.Bool.{eqb-true, true≢false}
 use Rattle.std.specs.List.{list_any}
 use Rattle.std.specs.Prelude.{◌||◌}
 use Rattle.aom_image.specs.Image.{Image}
-use Rattle.aom_image.specs.Views.{arguments_of, instr_at}
+use Rattle.aom_image.specs.Views.{arguments_of}
 use Rattle.aom_image.specs.declared.method.Gives.{Gives}
 use Rattle.aom_classes.specs.Roles.{destructor_of}
 use Rattle.aom_clients.specs.Nodes.{is_connecting_at}
@@ -19,16 +19,16 @@ use Rattle.aom_sound.specs.Calls.{accepted_cells, accepted_clients, answered_by,
 use Rattle.aom_sound.specs.Cleanup.{arrived, dealt_with, destroyed, ended_by, to_trap, top_is_whole, top_place, unwound}
 use Rattle.aom_sound.specs.Clients.{at_opening, client_at, with_client}
 use Rattle.aom_sound.specs.Destruction.{begun, begun_by, destructed}
-use Rattle.aom_sound.specs.Effects.{Calls, Cancels, Counts, Destroys, Destroys_last, Effect, Goes_on, Jumps, Leaves, Operates, Repeats, Returns, Same as Unchanged, Sets_trap, applied}
-use Rattle.aom_sound.specs.Enlisted.{begun_cells, cancelling, on_request, own_request, rerequested}
+use Rattle.aom_sound.specs.Effects.{Calls, Cancels, Counts, Destroys, Destroys_last, Effect, Goes_on, Jumps, Leaves, Operates, Repeats, Returns, Sets_trap, applied}
+use Rattle.aom_sound.specs.Enlisted.{begun_cells, cancelling, on_request, own_request}
 use Rattle.aom_sound.specs.Kept.{is_connect_of}
-use Rattle.aom_sound.specs.Places.{Cell, Elsewhere, Entry, Going, Object, Place, Session, held, moved, service_of}
+use Rattle.aom_sound.specs.Places.{Cell, Elsewhere, Entry, Going, Object, Place, Session, held, moved}
 use Rattle.aom_sound.specs.Servers.{is_server, opened}
 use Rattle.aom_sound.specs.State.{A_mark, Accept_left, Accepted, Accepts, An_object, An_operation, Answered, Asks, Closing, Destroy, Dispatch, Dispatched, Frame, Goes, IsStuck, Item, Main_left, NullOrDead, Object_left, Of_main, Of_object, Of_root, Of_server, Parts, Run, Service_left, Serves, State, Task, Trapped, Unwind, resumed}
 use Rattle.aom_sound.specs.Words.{here}
 use Rattle.aom_sound.proofs.ClientsMoves.{steady_asked}
-use Rattle.aom_determined.proofs.Keeping.{Calm, calm_ended, calm_itself, calm_moved, calm_passed, calm_reserved, calm_result, calm_steady, calm_update, there_by}
-use Rattle.aom_determined.specs.There.{AllThere, AreThere, accepts, dispatch_of, waits}
+use Rattle.aom_determined.proofs.Keeping.{Calm, calm_itself, calm_moved, calm_passed, calm_reserved, calm_result, calm_steady, calm_update, there_by}
+use Rattle.aom_determined.specs.There.{AllThere, AreThere, dispatch_of, waits}
 
 -- ---- the dispatch below
 

@@ -1,13 +1,13 @@
 -- What clients are at, and what they have at servers, under other names: the same, renamed.
-use Rattle.std.proofs.Common.{Bool, List, None, Option, Some, [], ap, cond, false, length, refl, suc, true, zero, ℕ, ◌&&◌, ◌==◌, ◌∙◌, ◌∷◌, ◌≡◌, sym}
+use Rattle.std.proofs.Common.{List, None, Option, Some, [], ap, cond, refl, suc, zero, ℕ, ◌==◌, ◌∙◌, ◌∷◌, ◌≡◌, sym}
 use Rattle.std.proofs.lemmas.List.{map-append}
-use Rattle.std.specs.Prelude.{map, option_map}
+use Rattle.std.specs.Prelude.{option_map}
 use Rattle.aom_clients.specs.declared.client.Client.{Client}
 use Rattle.aom_clients.specs.declared.client.Client.TheVariants.{Closing as Closing_client, Connecting, Dying, Open, Unconnected}
 use Rattle.aom_clients.specs.Table.{at_gone}
 use Rattle.aom_sound.specs.Clients.{at_opening, at_parting, client_at, each_unslotted, queue_ended, sessions_ended, with_client}
 use Rattle.aom_sound.specs.Destruction.{first_session, seat_or}
-use Rattle.aom_sound.specs.Places.{Asked, Cell, Close_of, Connect_of, Elsewhere, Message_of, Object, Place, Queued, Service, Session, held, service_of, set_service, unserved}
+use Rattle.aom_sound.specs.Places.{Asked, Cell, Close_of, Connect_of, Elsewhere, Message_of, Object, Place, Queued, Service, Session, held, service_of, set_service}
 use Rattle.aom_sound.specs.Servers.{all_unslotted, asked_last, has_more, is_queue_of, opened, parted, reserved, rest_of, taken_first, unslotted, without_queue}
 use Rattle.aom_sound.specs.State.{Seat}
 use Rattle.aom_determined.proofs.Cells.{cond_applied, held_renamed, same_name}

@@ -1,5 +1,5 @@
 -- The laws of names, and that the text of a run is determined.
-use Rattle.std.specs.Prelude.{ℕ, true, ◌≡◌, ◌⊎◌, List, ◌++◌, Option, None}
+use Rattle.std.specs.Prelude.{ℕ, true, ◌≡◌, ◌⊎◌, List, ◌++◌, None}
 use Rattle.aom_image.specs.Image.{Image}
 use Rattle.aom_image.specs.WellFormed.{WellFormed}
 use Rattle.aom_rules.specs.Typing.{Typing, IsTyped}
