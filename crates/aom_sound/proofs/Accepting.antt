@@ -1,8 +1,7 @@
 -- A method that accepts returns to its dispatch: what it gives is the session of the client.
-use Rattle.std.proofs.Common.{Bool, List, None, Option, Some, [], ap, cond, false, length, refl, subst, sym, true, ℕ, ℤ, ◌==◌, ◌∙◌, ◌∷◌, ◌≡◌}
-use Rattle.std.proofs.lemmas.Bool.{eq-eqb, eqb-true, ne_eqb, true≢false}
+use Rattle.std.proofs.Common.{Bool, List, None, Some, [], ap, cond, false, length, refl, subst, sym, true, ℕ, ◌==◌, ◌∙◌, ◌∷◌, ◌≡◌}
+use Rattle.std.proofs.lemmas.Bool.{eq-eqb, eqb-true}
 use Rattle.std.specs.Prelude.{is_none, is_some, ◌&&◌, ◌++◌, ◌||◌}
-use Rattle.std.specs.List.{list_any}
 use Rattle.aom_image.specs.Image.{Image}
 use Rattle.aom_image.specs.Views.{gives_of}
 use Rattle.aom_image.specs.declared.method.Gives.{Gives}
@@ -25,15 +24,15 @@ use Rattle.aom_sound.proofs.Maps.{held_moved, named_moved, requested_moved, same
 use Rattle.aom_sound.proofs.Returning.{held_thing, may_own}
 use Rattle.aom_sound.proofs.Seats.{first_kept, sits_kept}
 use Rattle.aom_sound.proofs.Services.{held_served, named_served, requested_served, service_here, service_moved, service_there, sits_lives, tidy_served}
-use Rattle.aom_sound.proofs.Straight.{At, Law, claim_register, fits_unowning, register_fits, top, word_of_object}
+use Rattle.aom_sound.proofs.Straight.{At, Law, claim_register, fits_unowning, register_fits, word_of_object}
 use Rattle.aom_sound.proofs.Suiting.{all_returned, known_resting, rests_there, suits_rests}
 use Rattle.aom_sound.specs.Calls.{result_needs}
 use Rattle.aom_sound.specs.Claims.{Dispatching, Layer, Mark, Mark_form, Method, claim, declared, declared_field, tasks_of}
-use Rattle.aom_sound.specs.Places.{Cell, Elsewhere, Entry, Field, Going, In_service, Object, Place, Queued, Register, Root, Service, Session, changed, held, moved, named, requested, same_place, seen, service_of, set_service}
+use Rattle.aom_sound.specs.Places.{Cell, Elsewhere, Entry, Field, Going, In_service, Place, Queued, Register, Root, Service, Session, changed, held, moved, named, requested, same_place, seen, service_of, set_service}
 use Rattle.aom_sound.specs.Requests.{AllSuit, Suits, states_claim, thing_kind}
-use Rattle.aom_sound.specs.Servers.{has_message, has_session, is_among, message_thing, opened, reserved, session_thing}
+use Rattle.aom_sound.specs.Servers.{has_message, has_session, is_among, message_thing, opened, session_thing}
 use Rattle.aom_sound.specs.State.{word, Accepted, Accepts, Choice, Frame, Inside, Of_server, Seat, State}
-use Rattle.aom_sound.specs.WellTyped.{AllSit, Fits, Good, IsApart, IsAttended, NoSeatAt, SitsFirst, WellTyped}
+use Rattle.aom_sound.specs.WellTyped.{AllSit, Fits, Good, IsApart, NoSeatAt}
 
 -- the client is among those with one more if it is the one, or was among them
 among_new : (c : ℕ) (ss : List ℕ) → is_among c (ss ++ c ∷ []) ≡ true

@@ -1,8 +1,7 @@
 -- Of the message that is served a method claims nothing where it does not serve: by its role.
-use Rattle.std.proofs.Common.{List, ◌∷◌, Bool, Option, Some, ap, cond, false, refl, sym, true, ℕ, ◌≡◌, ◌⊎◌, inl, inr, ◌∙◌}
+use Rattle.std.proofs.Common.{List, ◌∷◌, Bool, Some, ap, cond, false, refl, true, ℕ, ◌≡◌, ◌⊎◌, inl, inr}
 use Rattle.aom_image.specs.Image.{Image}
 use Rattle.aom_image.specs.Views.{method_role}
-use Rattle.aom_image.specs.declared.method.Role.{Role}
 use Rattle.aom_image.specs.declared.method.Role.TheVariants.{Construct, Do}
 use Rattle.aom_shape.specs.Shape.{Shape}
 use Rattle.aom_shape.specs.declared.kind.Kind.{Kind}

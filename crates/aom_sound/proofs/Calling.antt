@@ -18,7 +18,7 @@ use Rattle.aom_shape.specs.Arguments.{argument_kind, arguments_moved, before_of,
 use Rattle.aom_shape.specs.Kinds.{is_own_for, entry_kind, field, filled, is_fresh_kind, is_object_or_null, is_ready_kind, is_unowning, readied, register, set_register}
 use Rattle.aom_shape.specs.Entries.{readied_at}
 use Rattle.aom_shape.specs.Needs.{AllTrue, only_if}
-use Rattle.aom_shape.specs.Order.{SaysNoMore, Weaker, WeakerFilling, alike, alike_filling, perhaps_empty, perhaps_full}
+use Rattle.aom_shape.specs.Order.{SaysNoMore, WeakerFilling, alike, alike_filling, perhaps_empty, perhaps_full}
 use Rattle.aom_shape.specs.Shape.{Shape}
 use Rattle.aom_shape.specs.Tables.{at}
 use Rattle.aom_shape.specs.Things.{Member, field_thing, holder_by, holder_of, stands_for}
@@ -30,7 +30,7 @@ use Rattle.aom_shape.specs.declared.kind.Filling.{Filling}
 use Rattle.aom_shape.specs.declared.kind.Filling.TheVariants.{Empty, Full, Perhaps}
 use Rattle.aom_shape.specs.declared.kind.Kind.{Kind}
 use Rattle.aom_shape.specs.declared.kind.Kind.TheVariants.{Null, Own, Unset}
-use Rattle.aom_sound.proofs.Claimed.{Outside, OwnsNoMore, claim_from, claim_register_above, claim_unclaimed, claim_weaker, filled_weaker, fits_weaker, layer_rel, outside_differs, word_fits_weaker}
+use Rattle.aom_sound.proofs.Claimed.{Outside, OwnsNoMore, claim_from, claim_register_above, claim_unclaimed, claim_weaker, filled_weaker, fits_weaker, outside_differs, word_fits_weaker}
 use Rattle.aom_sound.proofs.Destroying.{Untouched, at_alike, eqb_comm, other_name, untouched, untouched_method}
 use Rattle.aom_sound.proofs.Finishing.{all_join}
 use Rattle.aom_sound.proofs.Items.{entry_claimed, entry_owns, entry_there, length_each, length_forms, readied_claim, readied_items}

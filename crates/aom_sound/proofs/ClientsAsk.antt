@@ -1,29 +1,31 @@
 -- What a client asks of a server, and what it sends, is kept: by the entry that is queued last.
-use Rattle.std.proofs.Common.{Bool, List, None, Option, Some, [], ap, arith, cond, false, refl, subst, sym, true, ℕ, ℤ, ◌&&◌, ◌==◌, ◌∙◌, ◌∷◌, ◌≡◌}
-use Rattle.std.proofs.lemmas.Bool.{eq-eqb, eqb-true, le-ltb, ne_eqb, true≢false}
+use Rattle.std.proofs.Common.{Bool, List, None, Option, Some, [], ap, arith, cond, false, refl, subst, sym, true, ℕ, ◌&&◌, ◌<◌, ◌==◌, ◌∙◌, ◌∷◌, ◌≡◌, ◌≤◌}
+use Rattle.std.proofs.lemmas.Bool.{eq-eqb, eqb-true, le-ltb, ne_eqb, true≢false, ltb-true}
 use Rattle.std.proofs.lemmas.List.Folds.{list_any-append}
 use Rattle.std.specs.List.{list_any}
-use Rattle.std.specs.Prelude.{is_some, nat_lt, ◌++◌, ◌||◌}
+use Rattle.std.specs.Prelude.{is_some, nat_lt, ◌||◌}
 use Rattle.aom_image.specs.Image.{Image}
 use Rattle.aom_image.specs.declared.class.ClassKind.{ClassKind}
 use Rattle.aom_image.specs.declared.class.ClassKind.TheVariants.{Server as A_server}
 use Rattle.aom_image.specs.declared.method.Thing.{Thing}
 use Rattle.aom_image.specs.declared.method.Thing.TheVariants.{Message, Object as An_object_of}
-use Rattle.aom_clients.specs.Nodes.{is_connecting_at, is_leaving, is_open_at}
+use Rattle.aom_clients.specs.Nodes.{is_connecting_at, is_open_at}
 use Rattle.aom_clients.specs.Table.{row, server_of}
 use Rattle.aom_clients.specs.declared.client.Client.{Client}
-use Rattle.aom_clients.specs.declared.client.Client.TheVariants.{Closing, Connecting, Dead, Dying, Gone, Open, Unconnected}
+use Rattle.aom_clients.specs.declared.client.Client.TheVariants.{Connecting, Gone, Unconnected}
 use Rattle.aom_clients.specs.declared.refusal.Refusal.{Refusal}
 use Rattle.aom_clients.specs.declared.refusal.Refusal.TheVariants.{ServerBusy}
 use Rattle.aom_roles.specs.Classes.{sessions_in, sessions_of}
 use Rattle.aom_roles.specs.Shapes.{kind_of}
-use Rattle.aom_sound.proofs.ClientsFit.{Changes, IsFree, by_server, fit_changed, none_of_free, names_then, servers_then}
+use Rattle.aom_sound.proofs.ClientsFit.{IsFree, by_server, fit_changed, none_of_free, names_then, servers_then, seats_then}
 use Rattle.aom_sound.proofs.Maps.{same_place-true}
-use Rattle.aom_sound.proofs.Queues.{client_here, client_of, none_passes, queue_last, queue_other}
+use Rattle.aom_sound.proofs.Queues.{client_here, none_passes, queue_last, queue_other}
+use Rattle.aom_sound.proofs.Seated.{seats_asked, seats_none}
 use Rattle.aom_sound.proofs.Services.{service_unnamed}
 use Rattle.aom_sound.specs.Clients.{Listed, among_listed, asked_of, client_at, earlier, first_listed, is_of_class, most_of, with_client}
+use Rattle.aom_sound.specs.Enlisted.{thing_kind}
 use Rattle.aom_sound.specs.Kept.{ClientsFit, EntryFits, QueueFits, is_connect_of, is_message_of}
-use Rattle.aom_sound.specs.Places.{Asked, Cell, Close_of, Connect_of, Elsewhere, Message_of, Object, Place, Queued, Request, Service, Tidy, held, named, same_place, service_of, unserved}
+use Rattle.aom_sound.specs.Places.{Asked, Cell, Close_of, Connect_of, Elsewhere, Message_of, Object, Queued, Request, Service, Tidy, held, named, same_place, service_of}
 use Rattle.aom_sound.specs.Servers.{asked_last, has_session, is_from, is_message, is_server, reserved, seats_taken}
 
 -- ---- the server that is asked stands, and is one
@@ -76,6 +78,11 @@ pub listed_serves : (p : Image) (class n : ℕ) (x : Thing) → is_of_class clas
 listed_serves p class n (An_object_of d) of room = ap (λ k. is_some (sessions_in (kind_of p (Some k)))) (eqb-true d class of) ∙ takes_some (kind_of p (Some class)) n room
 listed_serves p class n Message of room = cc
 
+-- and so it has a seat left
+pub listed_room : (p : Image) (class : ℕ) (v : Service) (x : Thing) → is_of_class class x ≡ true → nat_lt (seats_taken v) (most_of (kind_of p (Some class))) ≡ true → seats_taken v < most_of (thing_kind p x)
+listed_room p class v (An_object_of d) of room = subst (λ k. seats_taken v < most_of (kind_of p (Some k))) (sym (eqb-true d class of)) (ltb-true (seats_taken v) (most_of (kind_of p (Some class))) room)
+listed_room p class v Message of room = cc
+
 -- a connect that is not refused
 pub asked_none : (r : Option Refusal) (most : ℕ) (x : Listed) (cs : List Cell) → asked_of r most (Some x) cs ≡ None → (r ≡ None) × (nat_lt (seats_taken (service_of cs x.name)) most ≡ true)
 asked_none (Some refusal) most x cs e = cc
@@ -97,8 +104,8 @@ or_false false = refl
 module _ (p : Image) (clients : List Client) (cs : List Cell) (fit : ClientsFit p clients cs) (o : Object) (lives : named cs o.name ≡ Some o) (serves : is_server p o.thing ≡ true) (c : ℕ) where
   -- ---- a connect
 
-  pub fit_connecting : (slots : ℕ) → IsFree (client_at clients c) → ClientsFit p (with_client c (Connecting o.name slots) clients) (reserved (asked_last (Connect_of c)) o.name cs)
-  fit_connecting slots free = fit_changed p c (Connecting o.name slots) clients cs (reserved (asked_last (Connect_of c)) o.name cs) fit record {
+  pub fit_connecting : (slots : ℕ) → IsFree (client_at clients c) → seats_taken (service_of cs o.name) < most_of (thing_kind p o.thing) → ClientsFit p (with_client c (Connecting o.name slots) clients) (reserved (asked_last (Connect_of c)) o.name cs)
+  fit_connecting slots free room = fit_changed p c (Connecting o.name slots) clients cs (reserved (asked_last (Connect_of c)) o.name cs) fit record {
     queues = by_server p cs o lives (asked_last (Connect_of c)) (λ n v. QueueFits (with_client c (Connecting o.name slots) clients) n v.queue)
         (queue_last (with_client c (Connecting o.name slots) clients) o.name (Connect_of c) (service_of cs o.name).queue entry (none_passes (is_connect_of c) clients o.name never (service_of cs o.name).queue (fit.queues o.name)) (queues o.name))
         (λ n e. queues n);
@@ -110,6 +117,7 @@ module _ (p : Image) (clients : List Client) (cs : List Cell) (fit : ClientsFit 
     senders = λ n d m. by_server p cs o lives (asked_last (Connect_of c)) (λ n v. list_any (is_message_of d m) v.queue ≡ true → is_from d (service_of (reserved (asked_last (Connect_of c)) o.name cs) m).sender ≡ true)
         (λ h. senders m d (fit.senders o.name d m (sym (list_any-append (is_message_of d m) (service_of cs o.name).queue (Connect_of c ∷ []) ∙ or_false (list_any (is_message_of d m) (service_of cs o.name).queue)) ∙ h)))
         (λ n other h. senders m d (fit.senders n d m h)) n;
+    seats = seats_then p cs o lives (asked_last (Connect_of c)) clients fit (let one = seats_asked (Connect_of c) (service_of cs o.name) in omega (arith, room, one));
   }
     where
       queues : (n : ℕ) → QueueFits (with_client c (Connecting o.name slots) clients) n (service_of cs n).queue
@@ -139,6 +147,7 @@ fit_with p clients cs x free no_queue no_sessions named_so fit = record {
   servers = λ o h plain. servers o plain (x.object.name == o.name) h;
   names = λ n m o h. names n m o (same_place x.owner (Elsewhere (Queued n m))) refl h;
   senders = λ n c m h. senders n c m (x.object.name == n) (x.object.name == m) refl h;
+  seats = λ o h. seats o (x.object.name == o.name) h;
 }
   where
     queues : (n : ℕ) (b : Bool) → QueueFits clients n (cond b x.service (service_of cs n)).queue
@@ -154,6 +163,10 @@ fit_with p clients cs x free no_queue no_sessions named_so fit = record {
     servers : (o : Object) → is_server p o.thing ≡ false → (b : Bool) → cond b (Some x.object) (named cs o.name) ≡ Some o → ((cond b x.service (service_of cs o.name)).queue ≡ []) × ((cond b x.service (service_of cs o.name)).sessions ≡ [])
     servers o plain true h = (no_queue, no_sessions)
     servers o plain false h = fit.servers o h plain
+
+    seats : (o : Object) (b : Bool) → cond b (Some x.object) (named cs o.name) ≡ Some o → seats_taken (cond b x.service (service_of cs o.name)) ≤ most_of (thing_kind p o.thing)
+    seats o true h = let none = seats_none x.service no_queue no_sessions in omega (arith, none)
+    seats o false h = fit.seats o h
 
     names : (n m : ℕ) (o : Object) (b : Bool) → same_place x.owner (Elsewhere (Queued n m)) ≡ b → cond b (Some x.object) (held cs (Elsewhere (Queued n m))) ≡ Some o → o.name ≡ m
     names n m o true e h = let same : x.object ≡ o = cc in ap (λ y. y.name) (sym same) ∙ named_so n m (same_place-true x.owner (Elsewhere (Queued n m)) e)
@@ -183,6 +196,7 @@ module _ (p : Image) (clients : List Client) (cs : List Cell) (fit : ClientsFit 
     senders = λ n d k. by_server p cs o lives (asked_last (Message_of c m)) (λ n v. list_any (is_message_of d k) v.queue ≡ true → is_from d (service_of (reserved (asked_last (Message_of c m)) o.name cs) k).sender ≡ true)
         (λ h. senders k d (last d k (list_any (is_message_of d k) (service_of cs o.name).queue) refl (sym (list_any-append (is_message_of d k) (service_of cs o.name).queue (Message_of c m ∷ [])) ∙ h)))
         (λ n other h. senders k d (fit.senders n d k h)) n;
+    seats = seats_then p cs o lives (asked_last (Message_of c m)) clients fit (let one = seats_asked (Message_of c m) (service_of cs o.name) in let was = fit.seats o lives in omega (arith, one, was));
   }
     where
       senders : (k d : ℕ) → is_from d (service_of cs k).sender ≡ true → is_from d (service_of (reserved (asked_last (Message_of c m)) o.name cs) k).sender ≡ true

@@ -2,25 +2,25 @@
 use Rattle.std.proofs.Common.{Bool, List, None, Option, Some, [], ap, cond, false, refl, subst, sym, true, ℕ, ℤ, ◌&&◌, ◌==◌, ◌∙◌, ◌∷◌, ◌≡◌}
 use Rattle.std.proofs.lemmas.Bool.{eq-eqb, eqb-true, ne_eqb, true≢false}
 use Rattle.std.specs.List.{list_any}
-use Rattle.std.specs.Prelude.{filter, ◌||◌}
+use Rattle.std.specs.Prelude.{nat_lt, ◌||◌}
 use Rattle.aom_image.specs.Image.{Image}
 use Rattle.aom_image.specs.declared.method.Thing.TheVariants.{Message}
-use Rattle.aom_clients.specs.Nodes.{is_connecting_at, is_leaving, is_open_at}
+use Rattle.aom_clients.specs.Nodes.{is_leaving, is_open_at}
 use Rattle.aom_clients.specs.Table.{row, server_of}
 use Rattle.aom_clients.specs.declared.client.Client.{Client}
 use Rattle.aom_clients.specs.declared.client.Client.TheVariants.{Closing, Connecting, Dead, Dying, Gone, Open, Unconnected}
 use Rattle.aom_clients.specs.declared.refusal.Refusal.{Refusal}
 use Rattle.aom_roles.specs.Shapes.{kind_of}
-use Rattle.aom_sound.proofs.ClientsAsk.{IsListed, asked_none, connects_free, fit_connecting, fit_sent, fit_with, listed_serves, listed_there}
+use Rattle.aom_sound.proofs.ClientsAsk.{asked_none, connects_free, fit_connecting, fit_sent, fit_with, listed_room, listed_serves, listed_there}
 use Rattle.aom_sound.proofs.ClientsLeave.{empty, fit_told, fit_withdrawn, queue_leaving, queue_left, service_left}
 use Rattle.aom_sound.proofs.Maps.{named_name}
 use Rattle.aom_sound.proofs.Queues.{client_here, front_none, none_passes, none_stays}
 use Rattle.aom_sound.proofs.Services.{service_unnamed}
-use Rattle.aom_sound.proofs.Sifted.{a_cell_of, cell_of, named_cell, named_sifted, service_cell, service_in, sifted, withdrawn_so}
-use Rattle.aom_sound.specs.Clients.{Closes, Command, Connects, Dies, Listed, Sends, asked_of, client_at, commanded, connecting, first_listed, leaving, most_of, refusal, room, sending, told, with_client, with_message}
-use Rattle.aom_sound.specs.Kept.{ClientsFit, EntryFits, QueueFits, is_close_of, is_message_of}
-use Rattle.aom_sound.specs.Places.{Asked, Cell, Close_of, Connect_of, Elsewhere, Message_of, Object, Place, Queued, Sender, Service, Tidy, held, named, service_of, set_service, unserved}
-use Rattle.aom_sound.specs.Servers.{asked_last, has_session, is_from, is_message, is_queue, is_server, left_by, reserved, stays, withdrawn}
+use Rattle.aom_sound.proofs.Sifted.{a_cell_of, cell_of, named_cell, named_sifted, service_cell, service_in, withdrawn_so}
+use Rattle.aom_sound.specs.Clients.{Closes, Command, Connects, Dies, Listed, Sends, asked_of, client_at, commanded, connecting, first_listed, leaving, most_of, refusal, sending, told, with_client, with_message}
+use Rattle.aom_sound.specs.Kept.{ClientsFit, EntryFits, is_close_of, is_message_of}
+use Rattle.aom_sound.specs.Places.{Asked, Cell, Close_of, Connect_of, Elsewhere, Message_of, Object, Queued, Tidy, held, named, service_of, set_service, unserved}
+use Rattle.aom_sound.specs.Servers.{asked_last, has_session, is_from, is_message, is_queue, is_server, left_by, reserved, seats_taken, stays, withdrawn}
 use Rattle.aom_sound.specs.State.{State}
 
 -- ---- what stands where clients are
@@ -78,7 +78,7 @@ module _ (p : Image) (c : ℕ) (s : State) (tidy : Tidy s.cells) (fit : ClientsF
           let asked = asked_none (row own).connect (most_of (kind_of p (Some class))) x s.cells e in
           let l = listed_there class s.cells x tidy there in
           subst (λ n. ClientsFit p (with_client c (Connecting n slots) s.clients) (reserved (asked_last (Connect_of c)) n s.cells)) l.1
-          (fit_connecting p s.clients s.cells fit l.0 l.2 (listed_serves p class _ l.0.thing l.3 asked.1) c slots (connects_free own asked.0))
+          (fit_connecting p s.clients s.cells fit l.0 l.2 (listed_serves p class _ l.0.thing l.3 asked.1) c slots (connects_free own asked.0) (listed_room p class (service_of s.cells l.0.name) l.0.thing l.3 (ap (λ n. nat_lt (seats_taken (service_of s.cells n)) (most_of (kind_of p (Some class)))) l.1 ∙ asked.1)))
       go None None there e = fit
       go (Some r) x there e = fit
 
@@ -159,8 +159,8 @@ module _ (p : Image) (c : ℕ) (s : State) (tidy : Tidy s.cells) (fit : ClientsF
     goes_told : (server session slots : ℕ) → own ≡ Open server session slots → (to : Client) → server_of to ≡ Some server → is_leaving server to ≡ true → ClientsFit p (with_client c to s.clients) (reserved (asked_last (Close_of c)) server (withdrawn c s.cells))
     goes_told server session slots at to same leaves = subst (λ n. ClientsFit p (with_client c to s.clients) (reserved (asked_last (Close_of c)) n (withdrawn c s.cells))) there.1
         (fit_told p (with_client c to s.clients) (withdrawn c s.cells) alone there.0 still_there there.3 c
-          (ap (λ k. is_leaving there.0.name k) (client_here c to s.clients) ∙ ap (λ n. is_leaving n to) there.1 ∙ leaves)
-          (ap (λ q. list_any (is_close_of c) q) (service_left p s.clients s.cells tidy fit c waiting there.0.name).0 ∙ none_stays (is_close_of c) (stays c) (service_of s.cells there.0.name).queue (no_close (λ n. ap (λ k. is_leaving n k) at) there.0.name)))
+        (ap (λ k. is_leaving there.0.name k) (client_here c to s.clients) ∙ ap (λ n. is_leaving n to) there.1 ∙ leaves)
+        (ap (λ q. list_any (is_close_of c) q) (service_left p s.clients s.cells tidy fit c waiting there.0.name).0 ∙ none_stays (is_close_of c) (stays c) (service_of s.cells there.0.name).queue (no_close (λ n. ap (λ k. is_leaving n k) at) there.0.name)))
       where
         there : (o : Object) × (o.name ≡ server) × (named s.cells o.name ≡ Some o) × (is_server p o.thing ≡ true)
         there = server_there server (fit.listed server c (ap server_of at))

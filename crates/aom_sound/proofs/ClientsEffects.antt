@@ -1,22 +1,18 @@
 -- What is kept of clients stays so in each effect of an instruction: by the cells that it changes, and the tasks below it.
-use Rattle.std.proofs.Common.{Bool, List, None, Option, Some, [], ap, cond, false, inl, inr, length, refl, subst, suc, sym, true, zero, ℕ, ℤ, ◌&&◌, ◌-◌, ◌==◌, ◌∙◌, ◌∷◌, ◌≡◌}
-use Rattle.std.proofs.lemmas.Bool.{eq-eqb, eqb-true, ne_eqb, true≢false}
-use Rattle.std.specs.List.{list_any}
+use Rattle.std.proofs.Common.{Bool, List, None, Option, Some, [], cond, false, length, refl, subst, suc, sym, true, zero, ℕ, ◌∷◌, ◌≡◌}
 use Rattle.aom_image.specs.Image.{Image}
-use Rattle.aom_image.specs.Views.{arguments_of, instr_at}
-use Rattle.aom_image.specs.declared.method.Gives.{Gives}
+use Rattle.aom_image.specs.Views.{arguments_of}
 use Rattle.aom_clients.specs.declared.client.Client.{Client}
 use Rattle.aom_instructions.specs.declared.instr.Instr.{Instr}
 use Rattle.aom_instructions.specs.declared.instr.Instr.TheVariants as instrs
-use Rattle.aom_sound.proofs.ClientsMoves.{Steady, fit_steady, steady_asked, steady_ended, steady_moved, steady_passed, steady_result, steady_update, tasks_queues, tasks_steady}
+use Rattle.aom_sound.proofs.ClientsMoves.{Steady, fit_steady, steady_asked, steady_moved, steady_passed, steady_update, tasks_steady}
 use Rattle.aom_sound.proofs.ClientsTurn.{tasks_begun}
-use Rattle.aom_sound.specs.Calls.{ended_well, result_register, returned}
 use Rattle.aom_sound.specs.Cleanup.{is_negative, to_trap, top_place}
-use Rattle.aom_sound.specs.Effects.{Calls, Cancels, Carried, Change, Counts, Destroys, Destroys_last, Effect, Goes_on, Jumps, Leaves, Made, Operates, Popped, Popped_operation, Pushed, Pushed_operation, Repeats, Replied, Requested, Returns, Same as Unchanged, Sessioned, Sets_trap, Update, Written, applied, cancels_if, cells_after, deals, deletes, effect, jumps_if, jumps_unless, makes_unless, round, unless_refused, updates}
-use Rattle.aom_sound.specs.Enlisted.{cancelling, ended_cells, on_request, own_request}
+use Rattle.aom_sound.specs.Effects.{Calls, Cancels, Carried, Counts, Destroys, Destroys_last, Effect, Goes_on, Jumps, Leaves, Made, Operates, Popped, Popped_operation, Pushed, Pushed_operation, Repeats, Replied, Requested, Returns, Same as Unchanged, Sessioned, Sets_trap, Update, Written, applied, cancels_if, cells_after, deals, deletes, effect, jumps_unless, makes_unless, round, updates}
+use Rattle.aom_sound.specs.Enlisted.{cancelling, on_request, own_request}
 use Rattle.aom_sound.specs.Kept.{ClientsFit, IsKept, TasksKept}
-use Rattle.aom_sound.specs.Places.{Cell, Going, Object, named, service_of}
-use Rattle.aom_sound.specs.State.{A_mark, An_object, An_operation, Choice, Closing, Destroy, Dispatch, Dispatched, Frame, Item, Run, State, Task, Trapped, Unwind}
+use Rattle.aom_sound.specs.Places.{Cell, Going, Object, named}
+use Rattle.aom_sound.specs.State.{A_mark, An_object, An_operation, Choice, Closing, Destroy, Dispatched, Frame, Item, Run, State, Task, Trapped, Unwind}
 use Rattle.aom_sound.specs.Words.{here, read}
 
 -- ---- the effects that this is of
@@ -94,16 +90,16 @@ module _ (p : Image) (c : Choice) (fr : Frame) (ts : List Task) (s : State) (fre
 
 -- ---- the effects
 
-tasks_to_trap : (clients : List Client) (cs : List Cell) (ts : List Task) → TasksKept clients cs ts → TasksKept clients cs (to_trap ts)
-tasks_to_trap clients cs [] k = k
-tasks_to_trap clients cs (Run fr ∷ ts) k = tasks_to_trap clients cs ts k
-tasks_to_trap clients cs (Trapped ∷ ts) k = k
-tasks_to_trap clients cs (Destroy ∷ ts) k = k
-tasks_to_trap clients cs (Closing ∷ ts) k = k
-tasks_to_trap clients cs (Unwind code ∷ ts) k = k
-tasks_to_trap clients cs (Dispatched d ∷ ts) k = k
+tasks_to_trap : (p : Image) (clients : List Client) (cs : List Cell) (ts : List Task) → TasksKept p clients cs ts → TasksKept p clients cs (to_trap ts)
+tasks_to_trap p clients cs [] k = k
+tasks_to_trap p clients cs (Run fr ∷ ts) k = tasks_to_trap p clients cs ts k
+tasks_to_trap p clients cs (Trapped ∷ ts) k = k
+tasks_to_trap p clients cs (Destroy ∷ ts) k = k
+tasks_to_trap p clients cs (Closing ∷ ts) k = k
+tasks_to_trap p clients cs (Unwind code ∷ ts) k = k
+tasks_to_trap p clients cs (Dispatched d ∷ ts) k = k
 
-module _ (p : Image) (fr : Frame) (ts : List Task) (s : State) (fit : ClientsFit p s.clients s.cells) (stage : TasksKept s.clients s.cells ts) where
+module _ (p : Image) (fr : Frame) (ts : List Task) (s : State) (fit : ClientsFit p s.clients s.cells) (stage : TasksKept p s.clients s.cells ts) where
   steady : (u : Update) → IsFine s u → Steady s.cells (cells_after p fr ts s u)
   steady (Made name class a) f = steady_update p fr ts s (Made name class a) f
   steady (Carried from to) f = steady_update p fr ts s (Carried from to) tt
@@ -118,10 +114,10 @@ module _ (p : Image) (fr : Frame) (ts : List Task) (s : State) (fit : ClientsFit
   steady Popped_operation f = steady_update p fr ts s Popped_operation tt
 
   -- with those cells, and tasks over these
-  kept_by : (u : State) → u.clients ≡ s.clients → Steady s.cells u.cells → (TasksKept s.clients u.cells ts → TasksKept s.clients u.cells u.tasks) → IsKept p u
+  kept_by : (u : State) → u.clients ≡ s.clients → Steady s.cells u.cells → (TasksKept p s.clients u.cells ts → TasksKept p s.clients u.cells u.tasks) → IsKept p u
   kept_by u clients still over = record {
     fit = subst (λ l. ClientsFit p l u.cells) (sym clients) (fit_steady p s.clients s.cells u.cells still fit);
-    stage = subst (λ l. TasksKept l u.cells u.tasks) (sym clients) (over (tasks_steady s.clients s.cells u.cells still ts stage));
+    stage = subst (λ l. TasksKept p l u.cells u.tasks) (sym clients) (over (tasks_steady p s.clients s.cells u.cells still ts stage));
   }
 
   pub effect_kept : (e : Effect) → Fine s e → IsKept p (applied p fr ts s e)
@@ -133,7 +129,7 @@ module _ (p : Image) (fr : Frame) (ts : List Task) (s : State) (fit : ClientsFit
   effect_kept (Sets_trap target m first) f = kept_by (applied p fr ts s (Sets_trap target m first)) refl (steady_passed p fr ts s _ (arguments_of p m) first 0 s.cells) (λ k. k)
   effect_kept (Cancels m) f = kept_by (applied p fr ts s (Cancels m)) refl (steady_asked s.cells fr.home (on_request cancelling (own_request s.cells fr.home))) (λ k. k)
   effect_kept (Returns g a) f = absurd f
-  effect_kept (Leaves code u) f = kept_by (applied p fr ts s (Leaves code u)) refl (steady u f) (λ k. tasks_to_trap s.clients _ ts k)
+  effect_kept (Leaves code u) f = kept_by (applied p fr ts s (Leaves code u)) refl (steady u f) (λ k. tasks_to_trap p s.clients _ ts k)
   effect_kept (Destroys x a words) f = kept_by (applied p fr ts s (Destroys x a words)) refl (steady_moved s.cells (here fr ts s a) (Going (suc (length ts))) (λ n m. refl)) (λ k. tasks_begun p s.clients _ x _ _ k)
   effect_kept (Destroys_last x) f = kept_by (applied p fr ts s (Destroys_last x)) refl (steady_moved s.cells (top_place s.items) (Going (suc (length ts))) (λ n m. refl)) (λ k. tasks_begun p s.clients _ x _ _ k)
   effect_kept (Operates m w) f = kept_by (applied p fr ts s (Operates m w)) refl (steady Unchanged tt) (λ k. k)

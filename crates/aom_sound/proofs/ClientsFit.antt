@@ -1,21 +1,23 @@
 -- Clients and what they have at servers say the same where one client is at something else: by its entries, its session, and those of all others.
-use Rattle.std.proofs.Common.{Bool, List, None, Option, Some, [], ap, cond, false, refl, subst, sym, true, ℕ, ◌&&◌, ◌==◌, ◌∙◌, ◌∷◌, ◌≡◌}
+use Rattle.std.proofs.Common.{Bool, List, None, Some, [], ap, arith, false, refl, subst, sym, true, ℕ, ◌<◌, ◌==◌, ◌∙◌, ◌∷◌, ◌≡◌, ◌≤◌}
 use Rattle.std.proofs.lemmas.Bool.{eq-eqb, eqb-true, ne_eqb, true≢false}
 use Rattle.std.proofs.lemmas.List.Folds.{list_any-append}
 use Rattle.std.proofs.lemmas.Map.Views.{any-filter_same}
 use Rattle.std.specs.List.{list_any}
-use Rattle.std.specs.Prelude.{filter, not, ◌++◌, ◌||◌}
+use Rattle.std.specs.Prelude.{not, ◌++◌, ◌||◌}
 use Rattle.aom_image.specs.Image.{Image}
 use Rattle.aom_clients.specs.Nodes.{is_connecting_at, is_leaving, is_open_at}
 use Rattle.aom_clients.specs.Table.{server_of}
 use Rattle.aom_clients.specs.declared.client.Client.{Client}
-use Rattle.aom_clients.specs.declared.client.Client.TheVariants.{Closing, Connecting, Dead, Dying, Gone, Open, Unconnected}
+use Rattle.aom_clients.specs.declared.client.Client.TheVariants.{Closing, Connecting, Dying}
 use Rattle.aom_sound.proofs.Queues.{client_here, client_of, client_there, front_none, is_of, none_passes, queue_other}
+use Rattle.aom_sound.proofs.Seated.{seats_opened, seats_parted}
 use Rattle.aom_sound.proofs.Services.{held_served, named_served, service_here, service_there}
-use Rattle.aom_sound.specs.Clients.{at_opening, at_parting, client_at, with_client}
+use Rattle.aom_sound.specs.Clients.{at_opening, at_parting, client_at, most_of, with_client}
+use Rattle.aom_sound.specs.Enlisted.{thing_kind}
 use Rattle.aom_sound.specs.Kept.{ClientsFit, EntryFits, QueueFits, is_close_of, is_connect_of, is_message_of}
-use Rattle.aom_sound.specs.Places.{Asked, Cell, Close_of, Connect_of, Elsewhere, Message_of, Object, Queued, Service, held, named, service_of, set_service}
-use Rattle.aom_sound.specs.Servers.{has_session, is_from, is_other, is_server, opened, parted, reserved}
+use Rattle.aom_sound.specs.Places.{Asked, Cell, Close_of, Connect_of, Elsewhere, Message_of, Object, Queued, Service, held, named, service_of}
+use Rattle.aom_sound.specs.Servers.{has_session, is_from, is_other, is_server, opened, parted, reserved, seats_taken}
 
 -- ---- what a client that connects, closes or has its session open is not
 
@@ -104,9 +106,10 @@ pub record Changes (p : Image) (c : ℕ) (to : Client) (clients : List Client) (
   pub servers : (o : Object) → named cs' o.name ≡ Some o → is_server p o.thing ≡ false → ((service_of cs' o.name).queue ≡ []) × ((service_of cs' o.name).sessions ≡ [])
   pub names : (n m : ℕ) (o : Object) → held cs' (Elsewhere (Queued n m)) ≡ Some o → o.name ≡ m
   pub senders : (n d m : ℕ) → list_any (is_message_of d m) (service_of cs' n).queue ≡ true → is_from d (service_of cs' m).sender ≡ true
+  pub seats : (o : Object) → named cs' o.name ≡ Some o → seats_taken (service_of cs' o.name) ≤ most_of (thing_kind p o.thing)
 
 pub fit_changed : (p : Image) (c : ℕ) (to : Client) (clients : List Client) (cs cs' : List Cell) → ClientsFit p clients cs → Changes p c to clients cs cs' → ClientsFit p (with_client c to clients) cs'
-fit_changed p c to clients cs cs' fit ch = record { queues = ch.queues; sessions = λ n d. sessions n d (c == d) refl; listed = λ n d. listed n d (c == d) refl; servers = ch.servers; names = ch.names; senders = ch.senders }
+fit_changed p c to clients cs cs' fit ch = record { queues = ch.queues; sessions = λ n d. sessions n d (c == d) refl; listed = λ n d. listed n d (c == d) refl; servers = ch.servers; names = ch.names; senders = ch.senders; seats = ch.seats }
   where
     sessions : (n d : ℕ) (b : Bool) → (c == d) ≡ b → has_session (service_of cs' n) d ≡ true → server_of (client_at (with_client c to clients) d) ≡ Some n
     sessions n d true e h =
@@ -133,6 +136,16 @@ module _ (p : Image) (cs : List Cell) (o : Object) (lives : named cs o.name ≡ 
       go : (b : Bool) → (o.name == n) ≡ b → P n (service_of then n)
       go true e = subst (λ k. P k (service_of then k)) (eqb-true o.name n e) (subst (λ v. P o.name v) (sym (service_here cs o.name (f (service_of cs o.name)) o lives)) here)
       go false e = subst (λ v. P n v) (sym (service_there cs o.name n (f (service_of cs o.name)) e)) (others n e)
+
+  -- as long as it has seats
+  pub seats_then : (clients : List Client) → ClientsFit p clients cs → seats_taken (f (service_of cs o.name)) ≤ most_of (thing_kind p o.thing) → (x : Object) → named then x.name ≡ Some x → seats_taken (service_of then x.name) ≤ most_of (thing_kind p x.thing)
+  seats_then clients fit room x there = by_server (λ n v. named cs n ≡ Some x → n ≡ x.name → seats_taken v ≤ most_of (thing_kind p x.thing)) here others x.name (sym (named_served cs o.name (f (service_of cs o.name)) x.name) ∙ there) refl
+    where
+      here : named cs o.name ≡ Some x → o.name ≡ x.name → seats_taken (f (service_of cs o.name)) ≤ most_of (thing_kind p x.thing)
+      here at same = let one : Some o ≡ Some x = sym lives ∙ at in let equal : o ≡ x = cc in subst (λ y. seats_taken (f (service_of cs o.name)) ≤ most_of (thing_kind p y.thing)) equal room
+
+      others : (n : ℕ) → (o.name == n) ≡ false → named cs n ≡ Some x → n ≡ x.name → seats_taken (service_of cs n) ≤ most_of (thing_kind p x.thing)
+      others n other at same = subst (λ k. seats_taken (service_of cs k) ≤ most_of (thing_kind p x.thing)) (sym same) (fit.seats x (ap (λ k. named cs k) (sym same) ∙ at))
 
   module _ (serves : is_server p o.thing ≡ true) (clients : List Client) (fit : ClientsFit p clients cs) where
     pub servers_then : (x : Object) → named then x.name ≡ Some x → is_server p x.thing ≡ false → ((service_of then x.name).queue ≡ []) × ((service_of then x.name).sessions ≡ [])
@@ -161,7 +174,7 @@ module _ (p : Image) (clients : List Client) (cs : List Cell) (fit : ClientsFit 
   or_false true = refl
   or_false false = refl
 
-  module _ (session : ℕ) (at : is_connecting_at o.name own ≡ true) (none : list_any (is_connect_of c) (service_of cs o.name).queue ≡ false) where
+  module _ (session : ℕ) (at : is_connecting_at o.name own ≡ true) (none : list_any (is_connect_of c) (service_of cs o.name).queue ≡ false) (room : seats_taken (service_of cs o.name) < most_of (thing_kind p o.thing)) where
     is_open : (x : Client) → is_connecting_at o.name x ≡ true → server_of (at_opening session x) ≡ Some o.name
     is_open (Connecting server slots) e = ap (λ z. Some z) (eqb-true server o.name e)
     is_open _ e = cc
@@ -179,6 +192,7 @@ module _ (p : Image) (clients : List Client) (cs : List Cell) (fit : ClientsFit 
       servers = servers_then p cs o lives (opened c) serves clients fit;
       names = names_then p cs o lives (opened c) serves clients fit;
       senders = λ n d m. by_server p cs o lives (opened c) (λ n v. list_any (is_message_of d m) v.queue ≡ true → is_from d (service_of (reserved (opened c) o.name cs) m).sender ≡ true) (λ h. senders m d (fit.senders o.name d m h)) (λ n other h. senders m d (fit.senders n d m h)) n;
+      seats = seats_then p cs o lives (opened c) clients fit (let one = seats_opened c (service_of cs o.name) in omega (arith, room, one));
     }
       where
         queues : (n : ℕ) → QueueFits (with_client c (at_opening session own) clients) n (service_of cs n).queue
@@ -208,6 +222,7 @@ module _ (p : Image) (clients : List Client) (cs : List Cell) (fit : ClientsFit 
       servers = servers_then p cs o lives (parted c) serves clients fit;
       names = names_then p cs o lives (parted c) serves clients fit;
       senders = λ n d m. by_server p cs o lives (parted c) (λ n v. list_any (is_message_of d m) v.queue ≡ true → is_from d (service_of (reserved (parted c) o.name cs) m).sender ≡ true) (λ h. senders m d (fit.senders o.name d m h)) (λ n other h. senders m d (fit.senders n d m h)) n;
+      seats = seats_then p cs o lives (parted c) clients fit (let less = seats_parted c (service_of cs o.name) in let was = fit.seats o lives in omega (arith, less, was));
     }
       where
         queues : (n : ℕ) → QueueFits (with_client c (at_parting own) clients) n (service_of cs n).queue

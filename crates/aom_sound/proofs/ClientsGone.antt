@@ -1,8 +1,8 @@
 -- A server that goes lets go of all clients that are at it, and what is kept of all others stays.
-use Rattle.std.proofs.Common.{Bool, List, None, Option, Some, [], ap, cond, false, refl, subst, sym, true, ℕ, ◌&&◌, ◌==◌, ◌∙◌, ◌∷◌, ◌≡◌}
+use Rattle.std.proofs.Common.{Bool, List, None, Option, Some, [], ap, cond, false, refl, subst, sym, true, ℕ, ◌==◌, ◌∙◌, ◌∷◌, ◌≡◌, ◌<◌, ◌≤◌, arith}
 use Rattle.std.proofs.lemmas.Bool.{eq-eqb, eqb-true, ne_eqb, true≢false}
 use Rattle.std.specs.List.{list_any}
-use Rattle.std.specs.Prelude.{not, ◌++◌, ◌||◌}
+use Rattle.std.specs.Prelude.{◌||◌}
 use Rattle.aom_image.specs.Image.{Image}
 use Rattle.aom_clients.specs.Nodes.{is_connecting_at, is_leaving, is_open_at}
 use Rattle.aom_clients.specs.Table.{at_gone, server_of}
@@ -11,12 +11,14 @@ use Rattle.aom_clients.specs.declared.client.Client.TheVariants.{Closing, Connec
 use Rattle.aom_sound.proofs.ClientsFit.{connecting_only, leaving_only}
 use Rattle.aom_sound.proofs.Maps.{cond_same, same_place-true, same_place_comm, same_place_refl}
 use Rattle.aom_sound.proofs.Queues.{client_here, client_there, none_passes}
-use Rattle.aom_sound.proofs.Sifted.{a_cell_of, cell_in, cell_lives, cell_name, cell_of, cell_of_sifted, cell_owner, cell_placed, held_cell, held_sifted, kept, named_before, named_cell, object_in, service_cell, service_gone, service_in, service_sifted, sifted, unheld_sifted, unslotted_so}
-use Rattle.aom_sound.specs.Clients.{client_at, each_unslotted, queue_ended, sessions_ended, with_client}
-use Rattle.aom_sound.specs.Kept.{ClientsFit, EntryFits, QueueFits, StageKept, asked_again, is_close_of, is_connect_of, is_message_of}
+use Rattle.aom_sound.proofs.Sifted.{a_cell_of, cell_in, cell_lives, cell_name, cell_of, cell_of_sifted, cell_owner, cell_placed, held_cell, held_sifted, kept, named_before, named_cell, object_in, service_cell, service_gone, service_in, service_sifted, sifted, unheld_sifted}
+use Rattle.aom_sound.specs.Clients.{client_at, each_unslotted, queue_ended, sessions_ended, with_client, most_of}
+use Rattle.aom_sound.specs.Kept.{ClientsFit, EntryFits, QueueFits, ConnectKept, StageKept, is_close_of, is_connect_of, is_message_of}
 use Rattle.aom_sound.specs.Places.{Asked, Cell, Close_of, Connect_of, Elsewhere, Message_of, Object, Place, Queued, Sender, Service, Tidy, held, named, same_place, service_of, unserved, without}
 use Rattle.aom_sound.specs.State.{Accept_left, Accepted, Accepts, Parts, Service_left, Serves, Stage}
-use Rattle.aom_sound.specs.Servers.{all_unslotted, has_session, is_from, is_queue_of, is_server, unslotted, without_queue}
+use Rattle.aom_sound.specs.Servers.{all_unslotted, has_session, is_from, is_queue_of, is_server, unslotted, without_queue, seats_taken}
+use Rattle.aom_sound.specs.Enlisted.{thing_kind}
+use Rattle.aom_sound.proofs.Seated.{seats_same}
 
 -- ---- what the clients are at
 
@@ -115,23 +117,20 @@ module _ (p : Image) (clients : List Client) (c : ℕ) where
     servers = λ o h plain. subst (λ v. (v.queue ≡ []) × (v.sessions ≡ [])) (sym (service_unslotted cs o.name)) (fit.servers o (sym (named_unslotted cs o.name) ∙ h) plain);
     names = λ n m o h. fit.names n m o (sym (held_unslotted cs (Elsewhere (Queued n m))) ∙ h);
     senders = λ n d m h. subst (λ v. is_from d v.sender ≡ true) (sym (service_unslotted cs m)) (from_unslotted d (service_of cs m).sender (fit.senders n d m (ap (λ v. list_any (is_message_of d m) v.queue) (sym (service_unslotted cs n)) ∙ h)));
+    seats = λ o h. subst (λ v. seats_taken v ≤ most_of (thing_kind p o.thing)) (sym (service_unslotted cs o.name)) (fit.seats o (sym (named_unslotted cs o.name) ∙ h));
   }
 
 pub fit_each_unslotted : (p : Image) (clients : List Client) (xs : List ℕ) (cs : List Cell) → ClientsFit p clients cs → ClientsFit p clients (each_unslotted xs cs)
 fit_each_unslotted p clients [] cs fit = fit
 fit_each_unslotted p clients (c ∷ xs) cs fit = fit_each_unslotted p clients xs (all_unslotted c cs) (fit_unslotted p clients c cs fit)
 
-pub queue_unslotted : (xs : List ℕ) (cs : List Cell) (n : ℕ) → (service_of (each_unslotted xs cs) n).queue ≡ (service_of cs n).queue
-queue_unslotted [] cs n = refl
-queue_unslotted (c ∷ xs) cs n = queue_unslotted xs (all_unslotted c cs) n ∙ front cs
-  where
-    front : (cs : List Cell) → (service_of (all_unslotted c cs) n).queue ≡ (service_of cs n).queue
-    front [] = refl
-    front (x ∷ cs) = go (x.object.name == n) (front cs)
-      where
-        go : (b : Bool) → (service_of (all_unslotted c cs) n).queue ≡ (service_of cs n).queue → (cond b (record x.service { sender = unslotted c x.service.sender }) (service_of (all_unslotted c cs) n)).queue ≡ (cond b x.service (service_of cs n)).queue
-        go true e = refl
-        go false e = e
+pub queue_unslotted : (p : Image) (clients : List Client) (xs : List ℕ) (cs : List Cell) (n : ℕ) → (service_of (each_unslotted xs cs) n).queue ≡ (service_of cs n).queue
+queue_unslotted p clients [] cs n = refl
+queue_unslotted p clients (c ∷ xs) cs n = queue_unslotted p clients xs (all_unslotted c cs) n ∙ ap (λ v. v.queue) (service_unslotted p clients c cs n)
+
+pub sessions_unslotted : (p : Image) (clients : List Client) (xs : List ℕ) (cs : List Cell) (n : ℕ) → (service_of (each_unslotted xs cs) n).sessions ≡ (service_of cs n).sessions
+sessions_unslotted p clients [] cs n = refl
+sessions_unslotted p clients (c ∷ xs) cs n = sessions_unslotted p clients xs (all_unslotted c cs) n ∙ ap (λ v. v.sessions) (service_unslotted p clients c cs n)
 
 -- what goes with it
 abbrev pub goes_with : ℕ → Place → Cell → Bool
@@ -147,9 +146,9 @@ gone_so n g (c ∷ cs) = go (is_queue_of n c.owner) (gone_so n g cs)
 
 -- waiting: what is in a queue is no server; queued: what is asked of a server stands in its queue
 module _
-  (p : Image) (clients : List Client) (cs : List Cell) (tidy : Tidy cs) (fit : ClientsFit p clients cs) (o : Object) (g : Place) (there : held cs g ≡ Some o) (apart : (n m : ℕ) → same_place g (Elsewhere (Queued n m)) ≡ false)
-  (waiting : (n m : ℕ) (x : Object) → held cs (Elsewhere (Queued n m)) ≡ Some x → is_server p x.thing ≡ false)
-  (queued : (n c m : ℕ) → list_any (is_message_of c m) (service_of cs n).queue ≡ true → (x : Object) × (held cs (Elsewhere (Queued n m)) ≡ Some x)) where
+    (p : Image) (clients : List Client) (cs : List Cell) (tidy : Tidy cs) (fit : ClientsFit p clients cs) (o : Object) (g : Place) (there : held cs g ≡ Some o) (apart : (n m : ℕ) → same_place g (Elsewhere (Queued n m)) ≡ false)
+    (waiting : (n m : ℕ) (x : Object) → held cs (Elsewhere (Queued n m)) ≡ Some x → is_server p x.thing ≡ false)
+    (queued : (n c m : ℕ) → list_any (is_message_of c m) (service_of cs n).queue ≡ true → (x : Object) × (held cs (Elsewhere (Queued n m)) ≡ Some x)) where
   abbrev drops : Cell → Bool
   drops = goes_with o.name g
 
@@ -337,11 +336,20 @@ module _
     servers = servers_left;
     names = names_left;
     senders = λ n d m h. senders n d m (o.name == n) refl h;
+    seats = λ x h. seats x h (o.name == x.name) refl;
   }
     where
       queues : (n : ℕ) (b : Bool) → (o.name == n) ≡ b → QueueFits then n (service_of left n).queue
       queues n true e = subst (λ v. QueueFits then n v.queue) (sym (ap (λ k. service_of left k) (sym (eqb-true o.name n e)) ∙ service_none)) tt
       queues n false e = subst (λ q. QueueFits then n q) (sym (service_left n e).0) (queue_kept n e (service_of cs n).queue (fit.queues n))
+
+      seats : (x : Object) → named left x.name ≡ Some x → (b : Bool) → (o.name == x.name) ≡ b → seats_taken (service_of left x.name) ≤ most_of (thing_kind p x.thing)
+      seats x h true e = let none : seats_taken (service_of left x.name) ≡ 0 = ap (λ k. seats_taken (service_of left k)) (sym (eqb-true o.name x.name e)) ∙ ap seats_taken service_none in omega (arith, none)
+      seats x h false e =
+          let b = named_before drops (λ c. c.service) cs x.name x tidy h in
+          let was = fit.seats x (named_cell cs x.name ∙ ap object_in b.1 ∙ ap (λ y. Some y) b.2) in
+          let same = seats_same (service_of left x.name) (service_of cs x.name) (service_left x.name e).0 (service_left x.name e).1 in
+          omega (arith, was, same)
 
       senders : (n d m : ℕ) (b : Bool) → (o.name == n) ≡ b → list_any (is_message_of d m) (service_of left n).queue ≡ true → is_from d (service_of left m).sender ≡ true
       senders n d m true e h = let none : false ≡ true = sym (ap (λ v. list_any (is_message_of d m) v.queue) (ap (λ k. service_of left k) (sym (eqb-true o.name n e)) ∙ service_none)) ∙ h in cc
@@ -352,16 +360,29 @@ module _
   fit_gone = fit_each_unslotted p then (service_of cs o.name).sessions (without g (without_queue o.name cs)) (subst (λ l. ClientsFit p then l) (sym (gone_so o.name g cs)) fit_left)
 
   -- a stage of the dispatch of another server stays kept
-  pub stage_gone : (n c : ℕ) (stage : Stage) → (o.name == n) ≡ false → StageKept clients cs n c stage → StageKept then (each_unslotted (service_of cs o.name).sessions (without g (without_queue o.name cs))) n c stage
-  stage_gone n c stage other k = at stage k
+  pub stage_gone : (x : Object) (c : ℕ) (stage : Stage) → (o.name == x.name) ≡ false → StageKept p clients cs x c stage → StageKept p then (each_unslotted (service_of cs o.name).sessions (without g (without_queue o.name cs))) x c stage
+  stage_gone x c stage other k = at stage k
     where
-      queue : (service_of (each_unslotted (service_of cs o.name).sessions (without g (without_queue o.name cs))) n).queue ≡ (service_of cs n).queue
-      queue = queue_unslotted (service_of cs o.name).sessions (without g (without_queue o.name cs)) n ∙ ap (λ l. (service_of l n).queue) (gone_so o.name g cs) ∙ (service_left n other).0
+      n : ℕ
+      n = x.name
 
-      at : (stage : Stage) → StageKept clients cs n c stage → StageKept then (each_unslotted (service_of cs o.name).sessions (without g (without_queue o.name cs))) n c stage
-      at Accepts k = (ap (λ x. is_connecting_at n x) (with_connect n c other k.0) ∙ k.0, ap (λ q. list_any (is_connect_of c) q) queue ∙ k.1)
-      at (Accept_left code) k = (ap (λ x. is_connecting_at n x) (with_connect n c other k.0) ∙ k.0, ap (λ q. list_any (is_connect_of c) q) queue ∙ k.1)
+      sessions : (service_of (each_unslotted (service_of cs o.name).sessions (without g (without_queue o.name cs))) n).sessions ≡ (service_of cs n).sessions
+      sessions = sessions_unslotted p clients (service_of cs o.name).sessions (without g (without_queue o.name cs)) n ∙ ap (λ l. (service_of l n).sessions) (gone_so o.name g cs) ∙ (service_left n other).1
+
+      queue : (service_of (each_unslotted (service_of cs o.name).sessions (without g (without_queue o.name cs))) n).queue ≡ (service_of cs n).queue
+      queue = queue_unslotted p clients (service_of cs o.name).sessions (without g (without_queue o.name cs)) n ∙ ap (λ l. (service_of l n).queue) (gone_so o.name g cs) ∙ (service_left n other).0
+
+      connect : ConnectKept p clients cs x c → ConnectKept p then (each_unslotted (service_of cs o.name).sessions (without g (without_queue o.name cs))) x c
+      connect k = (
+        ap (λ x. is_connecting_at n x) (with_connect n c other k.0) ∙ k.0,
+        ap (λ q. list_any (is_connect_of c) q) queue ∙ k.1,
+        subst (λ i. i < most_of (thing_kind p x.thing)) (sym (seats_same (service_of (each_unslotted (service_of cs o.name).sessions (without g (without_queue o.name cs))) n) (service_of cs n) queue sessions)) k.2,
+      )
+
+      at : (stage : Stage) → StageKept p clients cs x c stage → StageKept p then (each_unslotted (service_of cs o.name).sessions (without g (without_queue o.name cs))) x c stage
+      at Accepts k = connect k
+      at (Accept_left code) k = connect k
       at Parts k = (ap (λ x. is_leaving n x) (with_session n c other (leaving_only n n (client_at clients c) k.0).2) ∙ k.0, ap (λ q. list_any (is_close_of c) q) queue ∙ k.1)
       at Accepted k = tt
-      at (Serves x) k = tt
+      at (Serves y) k = tt
       at (Service_left code) k = tt

@@ -1,6 +1,5 @@
 -- Clients, and what they have at servers, say the same in each state of a run: as it boots, in each move and in each turn.
-use Rattle.std.proofs.Common.{Bool, List, None, Option, Some, [], ap, arith, cond, false, inl, inr, length, pos, refl, subst, suc, sym, true, zero, ℕ, ℤ, ◌&&◌, ◌==◌, ◌∙◌, ◌∷◌, ◌≡◌}
-use Rattle.std.proofs.lemmas.Bool.{and_parts, eq-eqb, eqb-true, ne_eqb, true≢false}
+use Rattle.std.proofs.Common.{Bool, List, None, Option, Some, [], ap, cond, false, length, pos, refl, subst, sym, true, ℕ, ℤ, ◌∙◌, ◌∷◌, ◌≡◌}
 use Rattle.std.specs.List.{list_any}
 use Rattle.std.specs.Ordering.{int_eq}
 use Rattle.aom_image.specs.Image.{Image}
@@ -11,8 +10,7 @@ use Rattle.aom_image.specs.declared.method.Role.TheVariants.{Error as Answers}
 use Rattle.aom_image.specs.declared.method.Thing.TheVariants.{Message}
 use Rattle.aom_classes.specs.Roles.{main_of, destructor_of}
 use Rattle.aom_clients.specs.declared.client.Client.{Client}
-use Rattle.aom_clients.specs.declared.client.Client.TheVariants.{Unconnected}
-use Rattle.aom_rules.specs.Typing.{IsTyped, Typing}
+use Rattle.aom_rules.specs.Typing.{Typing}
 use Rattle.aom_sound.proofs.ClientsEffects.{IsUsual, effect_kept, fine_effect}
 use Rattle.aom_sound.proofs.ClientsFacts.{IsAt, goes_apart, queued_well, server_lives, serving_plain, waiting_well}
 use Rattle.aom_sound.proofs.ClientsFit.{fit_parted}
@@ -29,15 +27,13 @@ use Rattle.aom_sound.specs.Calls.{returned}
 use Rattle.aom_sound.specs.Objects.{is_thing}
 use Rattle.aom_sound.specs.Words.{here}
 use Rattle.aom_sound.proofs.Guarded.{goes_same, guarded_goes, guarded_met}
-use Rattle.aom_sound.specs.Claims.{Dying, Layer, tasks_of}
-use Rattle.aom_sound.specs.Clients.{client_at, with_client}
 use Rattle.aom_sound.specs.Cleanup.{arrived, dealt_with, destroyed, ended_by, top_is_whole, unwound}
-use Rattle.aom_sound.specs.Destruction.{begun, begun_by, closing, destructed, first_session, gone, needs_gone, parting, parting_from, vanished}
-use Rattle.aom_sound.specs.Effects.{Goes_on, Leaves, Replied, Returns, applied, effect, needs}
+use Rattle.aom_sound.specs.Destruction.{begun, begun_by, closing, first_session, gone, needs_gone, parting, parting_from, vanished}
+use Rattle.aom_sound.specs.Effects.{applied, effect, needs}
 use Rattle.aom_sound.specs.Enlisted.{ended_cells, part_of}
 use Rattle.aom_sound.specs.Kept.{ClientsFit, IsKept, StageKept, TasksKept, is_message_of}
 use Rattle.aom_sound.specs.Laws.{ClientsKeep, IsWired}
-use Rattle.aom_sound.specs.Moves.{answered, asking, closed, counted, step_instr, dispatch_ends, failed, handled, main_ends, main_left, needs_end, object_ends, over, stage_ends, step, step_task, uprooted}
+use Rattle.aom_sound.specs.Moves.{answered, asking, counted, step_instr, dispatch_ends, failed, handled, main_ends, needs_end, object_ends, stage_ends, step_task}
 use Rattle.aom_sound.specs.Places.{Cell, Elsewhere, Entry, Going, In_service, Object, Place, Queued, Root, Tidy, held, moved, named, service_of, without}
 use Rattle.aom_sound.specs.Servers.{is_server, without_queue}
 use Rattle.aom_sound.specs.State.{Accept_left, Accepted, Accepts, Answered, Asks, Choice, Closing, Destroy, Dispatch, Dispatched, Frame, Goes, Item, A_mark, An_object, An_operation, IsStuck, Main_left, NullOrDead, Object_left, Of_main, Of_object, Of_root, Of_server, Parts, Run, Seat, Service_left, Serves, Stage, State, Task, Trapped, Unwind, resumed}
@@ -48,11 +44,11 @@ use Rattle.aom_sound.specs.World.{boot_state, main_tasks}
 
 boot_kept : (p : Image) → IsKept p (boot_state p)
 boot_kept p = record {
-  fit = record { queues = λ n. tt; sessions = λ n c h. cc; listed = λ n c h. cc; servers = λ o h plain. cc; names = λ n m o h. cc; senders = λ n c m h. cc };
+  fit = record { queues = λ n. tt; sessions = λ n c h. cc; listed = λ n c h. cc; servers = λ o h plain. cc; names = λ n m o h. cc; senders = λ n c m h. cc; seats = λ o h. cc };
   stage = stage (main_of p);
 }
   where
-    stage : (m : Option ℕ) → TasksKept [] [] (main_tasks m)
+    stage : (m : Option ℕ) → TasksKept p [] [] (main_tasks m)
     stage None = tt
     stage (Some m) = tt
 
@@ -60,25 +56,25 @@ boot_kept p = record {
 
 module _ (p : Image) (s : State) (fit : ClientsFit p s.clients s.cells) where
   -- with the same cells
-  same_cells : (u : State) → u.cells ≡ s.cells → u.clients ≡ s.clients → TasksKept s.clients s.cells u.tasks → IsKept p u
+  same_cells : (u : State) → u.cells ≡ s.cells → u.clients ≡ s.clients → TasksKept p s.clients s.cells u.tasks → IsKept p u
   same_cells u cells clients stage = record {
     fit = subst (λ l. ClientsFit p l u.cells) (sym clients) (subst (λ l. ClientsFit p s.clients l) (sym cells) fit);
-    stage = subst (λ l. TasksKept l u.cells u.tasks) (sym clients) (subst (λ l. TasksKept s.clients l u.tasks) (sym cells) stage);
+    stage = subst (λ l. TasksKept p l u.cells u.tasks) (sym clients) (subst (λ l. TasksKept p s.clients l u.tasks) (sym cells) stage);
   }
 
   -- a cell is at hand to go
-  begun_kept : (a : Place) (k : ℕ) (o : Object) (height : ℕ) (ts : List Task) (u : State) → u.cells ≡ moved a (Going k) s.cells → u.clients ≡ s.clients → u.tasks ≡ begun p o height ts → TasksKept s.clients s.cells ts → IsKept p u
+  begun_kept : (a : Place) (k : ℕ) (o : Object) (height : ℕ) (ts : List Task) (u : State) → u.cells ≡ moved a (Going k) s.cells → u.clients ≡ s.clients → u.tasks ≡ begun p o height ts → TasksKept p s.clients s.cells ts → IsKept p u
   begun_kept a k o height ts u cells clients tasks stage =
       let still = steady_moved s.cells a (Going k) (λ n m. refl) in
       record {
         fit = subst (λ l. ClientsFit p l u.cells) (sym clients) (subst (λ l. ClientsFit p s.clients l) (sym cells) (fit_steady p s.clients s.cells (moved a (Going k) s.cells) still fit));
-        stage = subst (λ l. TasksKept l u.cells u.tasks) (sym clients) (subst (λ l. TasksKept s.clients l u.tasks) (sym cells) (subst (λ l. TasksKept s.clients (moved a (Going k) s.cells) l) (sym tasks)
-            (tasks_begun p s.clients (moved a (Going k) s.cells) o height ts (tasks_steady s.clients s.cells (moved a (Going k) s.cells) still ts stage))));
+        stage = subst (λ l. TasksKept p l u.cells u.tasks) (sym clients) (subst (λ l. TasksKept p s.clients l u.tasks) (sym cells) (subst (λ l. TasksKept p s.clients (moved a (Going k) s.cells) l) (sym tasks)
+            (tasks_begun p s.clients (moved a (Going k) s.cells) o height ts (tasks_steady p s.clients s.cells (moved a (Going k) s.cells) still ts stage))));
       }
 
   -- ---- a leave
 
-  arrival_stage : (code : ℤ) (d : Dispatch) (ts : List Task) → TasksKept s.clients s.cells (Dispatched d ∷ ts) → TasksKept s.clients s.cells (Dispatched (ended_by code d) ∷ ts)
+  arrival_stage : (code : ℤ) (d : Dispatch) (ts : List Task) → TasksKept p s.clients s.cells (Dispatched d ∷ ts) → TasksKept p s.clients s.cells (Dispatched (ended_by code d) ∷ ts)
   arrival_stage code (Of_server x c Accepts) ts k = k
   arrival_stage code (Of_server x c Accepted) ts k = k
   arrival_stage code (Of_server x c (Accept_left old)) ts k = k
@@ -93,12 +89,12 @@ module _ (p : Image) (s : State) (fit : ClientsFit p s.clients s.cells) where
   arrival_stage code (Asks x) ts k = tt
   arrival_stage code (Answered x answer) ts k = tt
 
-  arrived_kept : (code : ℤ) (ts : List Task) (items : List Item) (u : State) → TasksKept s.clients s.cells ts → arrived p code ts items s ≡ Goes u → IsKept p u
+  arrived_kept : (code : ℤ) (ts : List Task) (items : List Item) (u : State) → TasksKept p s.clients s.cells ts → arrived p code ts items s ≡ Goes u → IsKept p u
   arrived_kept code (Trapped ∷ Run fr ∷ ts) items u stage e = subst (λ v. IsKept p v) (goes_same _ u e) (same_cells _ refl refl stage)
   arrived_kept code (Trapped ∷ Dispatched d ∷ ts) items u stage e = subst (λ v. IsKept p v) (goes_same _ u e) (same_cells _ refl refl (arrival_stage code d ts stage))
   arrived_kept code _ items u stage e = cc
 
-  unwound_kept : (code : ℤ) (ts : List Task) (items : List Item) (u : State) → TasksKept s.clients s.cells ts → unwound p code ts s items ≡ Goes u → IsKept p u
+  unwound_kept : (code : ℤ) (ts : List Task) (items : List Item) (u : State) → TasksKept p s.clients s.cells ts → unwound p code ts s items ≡ Goes u → IsKept p u
   unwound_kept code ts [] u stage e = cc
   unwound_kept code ts (An_object ∷ items) u stage e = go (top_is_whole s.cells (An_object ∷ items)) e
     where
@@ -114,15 +110,15 @@ module _ (p : Image) (s : State) (fit : ClientsFit p s.clients s.cells) where
 
   -- ---- a server lets go of a session
 
-  parting_kept : (o : Object) (x : Option Seat) (below : List Task) → TasksKept s.clients s.cells below → IsKept p (parting p o x below s)
+  parting_kept : (o : Object) (x : Option Seat) (below : List Task) → TasksKept p s.clients s.cells below → IsKept p (parting p o x below s)
   parting_kept o None below stage = same_cells _ refl refl (go (destructor_of p o.thing))
     where
-      go : (m : Option ℕ) → TasksKept s.clients s.cells (begun_by m o (length s.items) below)
+      go : (m : Option ℕ) → TasksKept p s.clients s.cells (begun_by m o (length s.items) below)
       go None = stage
       go (Some m) = stage
   parting_kept o (Some x) below stage = begun_kept x.place _ x.object (length s.items) (Closing ∷ Destroy ∷ below) _ refl refl refl stage
 
-  closing_kept : (ts : List Task) (u : State) → TasksKept s.clients s.cells ts → closing p ts s ≡ Goes u → IsKept p u
+  closing_kept : (ts : List Task) (u : State) → TasksKept p s.clients s.cells ts → closing p ts s ≡ Goes u → IsKept p u
   closing_kept (Destroy ∷ below) u stage e = go (held s.cells (Going (length below))) e
     where
       go : (o : Option Object) → parting_from p o below s ≡ Goes u → IsKept p u
@@ -161,7 +157,7 @@ module _ (p : Image) (s : State) (fit : ClientsFit p s.clients s.cells) where
         go None e = subst (λ l. ClientsFit p s.clients l) (sym (without_none s.cells (Elsewhere In_service) e)) fit
         go (Some o) e = fit_without p s.clients s.cells tidy fit o (Elsewhere In_service) e (λ n m. refl) (plain o e) queued
 
-    stage_kept : (x : Seat) (c : ℕ) (stage : Stage) → named s.cells x.object.name ≡ Some x.object → is_server p x.object.thing ≡ true → StageKept s.clients s.cells x.object.name c stage → IsKept p (stage_ends x c stage s)
+    stage_kept : (x : Seat) (c : ℕ) (stage : Stage) → named s.cells x.object.name ≡ Some x.object → is_server p x.object.thing ≡ true → StageKept p s.clients s.cells x.object c stage → IsKept p (stage_ends x c stage s)
     stage_kept x c Accepts lives serves k = same_cells p s fit _ refl refl tt
     stage_kept x c Accepted lives serves k = same_cells p s fit _ refl refl tt
     stage_kept x c (Serves o) lives serves k = same_cells p s fit _ refl refl tt
@@ -169,7 +165,7 @@ module _ (p : Image) (s : State) (fit : ClientsFit p s.clients s.cells) where
     stage_kept x c (Service_left code) lives serves k = record { fit = service_gone_kept; stage = tt }
     stage_kept x c Parts lives serves k = record { fit = fit_parted p s.clients s.cells fit x.object lives serves c k.0 k.1; stage = tt }
 
-    dispatch_kept : (d : Dispatch) (ts : List Task) → ((x : Seat) (c : ℕ) (stage : Stage) → d ≡ Of_server x c stage → (named s.cells x.object.name ≡ Some x.object) × (is_server p x.object.thing ≡ true)) → TasksKept s.clients s.cells (Dispatched d ∷ ts) → IsKept p (dispatch_ends p d s)
+    dispatch_kept : (d : Dispatch) (ts : List Task) → ((x : Seat) (c : ℕ) (stage : Stage) → d ≡ Of_server x c stage → (named s.cells x.object.name ≡ Some x.object) × (is_server p x.object.thing ≡ true)) → TasksKept p s.clients s.cells (Dispatched d ∷ ts) → IsKept p (dispatch_ends p d s)
     dispatch_kept Of_main ts there k = main_kept p s fit s.rest.stopped (held s.cells (Elsewhere Root))
     dispatch_kept (Main_left code) ts there k = same_cells p s fit _ refl refl tt
     dispatch_kept Of_root ts there k = same_cells p s fit _ refl refl tt
@@ -181,25 +177,25 @@ module _ (p : Image) (s : State) (fit : ClientsFit p s.clients s.cells) where
 
 -- ---- a cell goes
 
-tasks_resumed : (clients : List Client) (cs : List Cell) (ts : List Task) → TasksKept clients cs ts → TasksKept clients cs (resumed ts)
-tasks_resumed clients cs [] k = k
-tasks_resumed clients cs (Run fr ∷ ts) k = k
-tasks_resumed clients cs (Trapped ∷ ts) k = k
-tasks_resumed clients cs (Destroy ∷ ts) k = k
-tasks_resumed clients cs (Closing ∷ ts) k = k
-tasks_resumed clients cs (Unwind code ∷ ts) k = k
-tasks_resumed clients cs (Dispatched d ∷ ts) k = k
+tasks_resumed : (p : Image) (clients : List Client) (cs : List Cell) (ts : List Task) → TasksKept p clients cs ts → TasksKept p clients cs (resumed ts)
+tasks_resumed p clients cs [] k = k
+tasks_resumed p clients cs (Run fr ∷ ts) k = k
+tasks_resumed p clients cs (Trapped ∷ ts) k = k
+tasks_resumed p clients cs (Destroy ∷ ts) k = k
+tasks_resumed p clients cs (Closing ∷ ts) k = k
+tasks_resumed p clients cs (Unwind code ∷ ts) k = k
+tasks_resumed p clients cs (Dispatched d ∷ ts) k = k
 
 -- what a stage has stays kept, so do tasks
-tasks_staged : (clients clients' : List Client) (cs cs' : List Cell) (ts : List Task) → ((x : Seat) (c : ℕ) (stage : Stage) → IsAt (Of_server x c stage) ts → StageKept clients cs x.object.name c stage → StageKept clients' cs' x.object.name c stage) → TasksKept clients cs ts → TasksKept clients' cs' ts
-tasks_staged clients clients' cs cs' [] still k = tt
-tasks_staged clients clients' cs cs' (Run fr ∷ ts) still k = tasks_staged clients clients' cs cs' ts still k
-tasks_staged clients clients' cs cs' (Trapped ∷ ts) still k = tasks_staged clients clients' cs cs' ts still k
-tasks_staged clients clients' cs cs' (Destroy ∷ ts) still k = tasks_staged clients clients' cs cs' ts still k
-tasks_staged clients clients' cs cs' (Closing ∷ ts) still k = tasks_staged clients clients' cs cs' ts still k
-tasks_staged clients clients' cs cs' (Unwind code ∷ ts) still k = tasks_staged clients clients' cs cs' ts still k
-tasks_staged clients clients' cs cs' (Dispatched (Of_server x c stage) ∷ ts) still k = still x c stage refl k
-tasks_staged clients clients' cs cs' (Dispatched _ ∷ ts) still k = tt
+tasks_staged : (p : Image) (clients clients' : List Client) (cs cs' : List Cell) (ts : List Task) → ((x : Seat) (c : ℕ) (stage : Stage) → IsAt (Of_server x c stage) ts → StageKept p clients cs x.object c stage → StageKept p clients' cs' x.object c stage) → TasksKept p clients cs ts → TasksKept p clients' cs' ts
+tasks_staged p clients clients' cs cs' [] still k = tt
+tasks_staged p clients clients' cs cs' (Run fr ∷ ts) still k = tasks_staged p clients clients' cs cs' ts still k
+tasks_staged p clients clients' cs cs' (Trapped ∷ ts) still k = tasks_staged p clients clients' cs cs' ts still k
+tasks_staged p clients clients' cs cs' (Destroy ∷ ts) still k = tasks_staged p clients clients' cs cs' ts still k
+tasks_staged p clients clients' cs cs' (Closing ∷ ts) still k = tasks_staged p clients clients' cs cs' ts still k
+tasks_staged p clients clients' cs cs' (Unwind code ∷ ts) still k = tasks_staged p clients clients' cs cs' ts still k
+tasks_staged p clients clients' cs cs' (Dispatched (Of_server x c stage) ∷ ts) still k = still x c stage refl k
+tasks_staged p clients clients' cs cs' (Dispatched _ ∷ ts) still k = tt
 
 -- ---- each move
 
@@ -215,8 +211,8 @@ module _ (p : Image) (t : Typing) (wired : IsWired p) (c : Choice) (s : State) (
   there ts tasks x d stage at = let l = server_lives p t s.cells w.layers Now x d stage w.good.stack (subst (λ l. IsAt (Of_server x d stage) l) (sym tasks ∙ w.tasks) at) in (l.0, l.1)
 
   module _ (fr : Frame) (ts : List Task) (tasks : s.tasks ≡ Run fr ∷ ts) where
-    stage_below : TasksKept s.clients s.cells ts
-    stage_below = subst (λ l. TasksKept s.clients s.cells l) tasks kept.stage
+    stage_below : TasksKept p s.clients s.cells ts
+    stage_below = subst (λ l. TasksKept p s.clients s.cells l) tasks kept.stage
 
     -- a message is completed
     reply_kept : (a b : ℕ) → AllTrue (needs p c fr ts (counted p s) (instrs.Reply a b)) → IsKept p (applied p fr ts (counted p s) (effect p c fr ts (counted p s) (instrs.Reply a b)))
@@ -235,7 +231,7 @@ module _ (p : Image) (t : Typing) (wired : IsWired p) (c : Choice) (s : State) (
         let still = steady_ended p fr s.cells in
         return_kept p fr ts (record (counted p s) { cells = ended_cells p fr s.cells }) (fit_steady p s.clients s.cells (ended_cells p fr s.cells) still kept.fit) g a ts
         (λ x d at. let l = there (Run fr ∷ ts) tasks x d Accepts at in ((ended_alike p fr s.cells).named_so x.object.name ∙ l.0, l.1))
-        tasks (tasks_steady s.clients s.cells (ended_cells p fr s.cells) still ts stage_below) (tasks_steady s.clients s.cells (ended_cells p fr s.cells) still ts stage_below)
+        tasks (tasks_steady p s.clients s.cells (ended_cells p fr s.cells) still ts stage_below) (tasks_steady p s.clients s.cells (ended_cells p fr s.cells) still ts stage_below)
 
     act_kept : (i : Instr) → AllTrue (needs p c fr ts (counted p s) i) → IsKept p (applied p fr ts (counted p s) (effect p c fr ts (counted p s) i))
     act_kept (instrs.Reply a b) met = reply_kept a b met
@@ -253,9 +249,9 @@ module _ (p : Image) (t : Typing) (wired : IsWired p) (c : Choice) (s : State) (
   gone_kept ts u tasks None at e = cc
   gone_kept ts u tasks (Some o) at e = subst (λ v. IsKept p v) (guarded_goes (needs_gone (without_queue o.name s.cells) o) (vanished o ts (counted p s)) u e) (record {
     fit = fit_gone p s.clients s.cells tidy kept.fit o (Going (length ts)) at (λ n m. refl) (waiting_well p t wired s w) queued;
-    stage = tasks_resumed _ _ ts (tasks_staged s.clients _ s.cells _ ts
-        (λ x d stage below k. stage_gone p s.clients s.cells tidy kept.fit o (Going (length ts)) at (λ n m. refl) (waiting_well p t wired s w) queued x.object.name d stage (goes_apart p t s w ts tasks o at x d stage below) k)
-        (subst (λ l. TasksKept s.clients s.cells l) tasks kept.stage));
+    stage = tasks_resumed p _ _ ts (tasks_staged p s.clients _ s.cells _ ts
+        (λ x d stage below k. stage_gone p s.clients s.cells tidy kept.fit o (Going (length ts)) at (λ n m. refl) (waiting_well p t wired s w) queued x.object d stage (goes_apart p t s w ts tasks o at x d stage below) k)
+        (subst (λ l. TasksKept p s.clients s.cells l) tasks kept.stage));
   })
 
   moved_kept : (ts : List Task) → s.tasks ≡ ts → (u : State) → step_task p c (counted p s) ts ≡ Goes u → IsKept p u
@@ -263,10 +259,10 @@ module _ (p : Image) (t : Typing) (wired : IsWired p) (c : Choice) (s : State) (
   moved_kept (Run fr ∷ ts) tasks u e = run_kept fr ts tasks (instr_at p fr.method fr.place) u e
   moved_kept (Trapped ∷ ts) tasks u e = cc
   moved_kept (Destroy ∷ ts) tasks u e = gone_kept ts u tasks (held s.cells (Going (length ts))) refl e
-  moved_kept (Closing ∷ ts) tasks u e = closing_kept p (counted p s) kept.fit ts u (subst (λ l. TasksKept s.clients s.cells l) tasks kept.stage) e
-  moved_kept (Unwind code ∷ ts) tasks u e = unwound_kept p (counted p s) kept.fit code ts s.items u (subst (λ l. TasksKept s.clients s.cells l) tasks kept.stage) e
+  moved_kept (Closing ∷ ts) tasks u e = closing_kept p (counted p s) kept.fit ts u (subst (λ l. TasksKept p s.clients s.cells l) tasks kept.stage) e
+  moved_kept (Unwind code ∷ ts) tasks u e = unwound_kept p (counted p s) kept.fit code ts s.items u (subst (λ l. TasksKept p s.clients s.cells l) tasks kept.stage) e
   moved_kept (Dispatched d ∷ ts) tasks u e = subst (λ v. IsKept p v) (guarded_goes (needs_end d s.cells) _ u e)
-      (dispatch_kept p (counted p s) kept.fit tidy queued (serving_plain p t s w) d ts (λ x k stage same. there (Dispatched d ∷ ts) tasks x k stage same) (subst (λ l. TasksKept s.clients s.cells l) tasks kept.stage))
+      (dispatch_kept p (counted p s) kept.fit tidy queued (serving_plain p t s w) d ts (λ x k stage same. there (Dispatched d ∷ ts) tasks x k stage same) (subst (λ l. TasksKept p s.clients s.cells l) tasks kept.stage))
 
 pub clients_keep : ClientsKeep
 clients_keep = record {

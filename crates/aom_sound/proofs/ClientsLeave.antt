@@ -1,21 +1,22 @@
 -- A client that closes or dies leaves what is kept: its messages that wait go, and where its session was open a close is asked last.
-use Rattle.std.proofs.Common.{Bool, List, None, Option, Some, [], ap, cond, false, refl, subst, sym, true, ℕ, ◌&&◌, ◌==◌, ◌∙◌, ◌∷◌, ◌≡◌}
+use Rattle.std.proofs.Common.{Bool, List, None, Option, Some, [], ap, arith, cond, false, refl, subst, sym, true, ℕ, ◌&&◌, ◌==◌, ◌∙◌, ◌∷◌, ◌≡◌, ◌≤◌}
 use Rattle.std.proofs.lemmas.Bool.{eq-eqb, eqb-true, ne_eqb, true≢false}
 use Rattle.std.proofs.lemmas.List.Folds.{list_any-append}
 use Rattle.std.specs.List.{list_any}
-use Rattle.std.specs.Prelude.{filter, not, ◌++◌, ◌||◌}
+use Rattle.std.specs.Prelude.{filter, not, ◌||◌}
 use Rattle.aom_image.specs.Image.{Image}
-use Rattle.aom_clients.specs.Nodes.{is_connecting_at, is_leaving, is_open_at}
-use Rattle.aom_clients.specs.Table.{row, server_of}
+use Rattle.aom_clients.specs.Nodes.{is_leaving}
+use Rattle.aom_clients.specs.Table.{server_of}
 use Rattle.aom_clients.specs.declared.client.Client.{Client}
-use Rattle.aom_clients.specs.declared.client.Client.TheVariants.{Closing, Connecting, Dead, Dying, Gone, Open, Unconnected}
-use Rattle.aom_sound.proofs.ClientsFit.{Changes, IsFree, by_server, fit_changed, names_then, servers_then}
-use Rattle.aom_sound.proofs.Queues.{client_here, client_of, client_there, entry_other, is_of, none_passes, none_stays, queue_last, queue_other, queue_stays}
-use Rattle.aom_sound.proofs.Sifted.{cell_in, cell_of_sifted, kept, unheld_sifted, cell_lives, cell_of, cell_owner, cell_placed, held_cell, held_sifted, named_before, named_cell, object_in, service_cell, service_gone, service_in, service_sifted, sifted, withdrawn_so}
-use Rattle.aom_sound.specs.Clients.{client_at, with_client}
+use Rattle.aom_sound.proofs.ClientsFit.{by_server, fit_changed, names_then, seats_then, servers_then}
+use Rattle.aom_sound.proofs.Queues.{client_here, client_of, entry_other, is_of, none_stays, queue_last, queue_other, queue_stays}
+use Rattle.aom_sound.proofs.Seated.{seats_asked, seats_left}
+use Rattle.aom_sound.proofs.Sifted.{cell_in, cell_of_sifted, kept, unheld_sifted, cell_lives, cell_of, cell_placed, held_cell, held_sifted, named_before, named_cell, object_in, service_cell, service_gone, service_in, service_sifted, sifted, withdrawn_so}
+use Rattle.aom_sound.specs.Clients.{client_at, most_of, with_client}
+use Rattle.aom_sound.specs.Enlisted.{thing_kind}
 use Rattle.aom_sound.specs.Kept.{ClientsFit, EntryFits, QueueFits, asked_again, is_close_of, is_message_of}
 use Rattle.aom_sound.specs.Places.{Asked, Cell, Close_of, Connect_of, Elsewhere, Message_of, Object, Place, Queued, Sender, Service, Tidy, held, named, service_of, unserved}
-use Rattle.aom_sound.specs.Servers.{asked_last, discarded, has_session, reserved, is_from, is_other, is_queue, is_server, left_by, stays, withdrawn}
+use Rattle.aom_sound.specs.Servers.{asked_last, discarded, has_session, reserved, is_from, is_queue, is_server, left_by, seats_taken, stays, withdrawn}
 
 -- ---- lists
 
@@ -185,13 +186,21 @@ module _ (p : Image) (clients : List Client) (cs : List Cell) (tidy : Tidy cs) (
       servers = servers;
       names = names;
       senders = λ n d m h. let parts = message_stays c d m (service_of cs n).queue (ap (λ q. list_any (is_message_of d m) q) (sym (service_left n).0) ∙ h) in sender_left d m parts.0 (fit.senders n d m parts.1);
+      seats = seats;
     }
       where
+        before : (o : Object) → named (withdrawn c cs) o.name ≡ Some o → named cs o.name ≡ Some o
+        before o there = let b = named_before drops left cs o.name o tidy (ap (λ l. named l o.name) (sym (withdrawn_so c cs)) ∙ there) in named_cell cs o.name ∙ ap object_in b.1 ∙ ap (λ y. Some y) b.2
+
+        seats : (o : Object) → named (withdrawn c cs) o.name ≡ Some o → seats_taken (service_of (withdrawn c cs) o.name) ≤ most_of (thing_kind p o.thing)
+        seats o there =
+            let was = fit.seats o (before o there) in
+            let less = seats_left c (service_of (withdrawn c cs) o.name) (service_of cs o.name) (service_left o.name).0 (service_left o.name).1 in
+            omega (arith, was, less)
+
         servers : (o : Object) → named (withdrawn c cs) o.name ≡ Some o → is_server p o.thing ≡ false → ((service_of (withdrawn c cs) o.name).queue ≡ []) × ((service_of (withdrawn c cs) o.name).sessions ≡ [])
         servers o there plain =
-            let b = named_before drops left cs o.name o tidy (ap (λ l. named l o.name) (sym (withdrawn_so c cs)) ∙ there) in
-            let was : named cs o.name ≡ Some o = named_cell cs o.name ∙ ap object_in b.1 ∙ ap (λ y. Some y) b.2 in
-            let none = fit.servers o was plain in
+            let none = fit.servers o (before o there) plain in
             ((service_left o.name).0 ∙ ap (λ q. filter (stays c) q) none.0, (service_left o.name).1 ∙ none.1)
 
         names : (n m : ℕ) (o : Object) → held (withdrawn c cs) (Elsewhere (Queued n m)) ≡ Some o → o.name ≡ m
@@ -218,6 +227,7 @@ module _ (p : Image) (clients : List Client) (cs : List Cell) (fit : ClientsFit 
     senders = λ n d k. by_server p cs o lives (asked_last (Close_of c)) (λ n v. list_any (is_message_of d k) v.queue ≡ true → is_from d (service_of (reserved (asked_last (Close_of c)) o.name cs) k).sender ≡ true)
         (λ h. senders k d (fit.senders o.name d k (sym (list_any-append (is_message_of d k) (service_of cs o.name).queue (Close_of c ∷ []) ∙ or_false (list_any (is_message_of d k) (service_of cs o.name).queue)) ∙ h)))
         (λ n other h. senders k d (fit.senders n d k h)) n;
+    seats = seats_then p cs o lives (asked_last (Close_of c)) clients fit (let one = seats_asked (Close_of c) (service_of cs o.name) in let was = fit.seats o lives in omega (arith, one, was));
   }
     where
       senders : (k d : ℕ) → is_from d (service_of cs k).sender ≡ true → is_from d (service_of (reserved (asked_last (Close_of c)) o.name cs) k).sender ≡ true

@@ -1,37 +1,37 @@
 -- What is kept of clients stays so where a method moves: cells are made, move and change, and no queue and no session of a server does.
-use Rattle.std.proofs.Common.{Bool, List, None, Option, Some, [], ap, cond, false, inl, inr, length, refl, subst, suc, sym, true, ℕ, ℤ, ◌&&◌, ◌==◌, ◌∙◌, ◌∷◌, ◌≡◌}
-use Rattle.std.proofs.lemmas.Bool.{eq-eqb, eqb-true, ne_eqb, true≢false}
+use Rattle.std.proofs.Common.{Bool, List, None, Option, Some, [], ap, cond, false, inl, inr, length, refl, subst, suc, sym, true, ℕ, ℤ, ◌==◌, ◌∙◌, ◌∷◌, ◌≡◌, ◌<◌, ◌≤◌, arith}
+use Rattle.std.proofs.lemmas.Bool.{eqb-true}
 use Rattle.std.specs.List.{list_any}
 use Rattle.std.specs.Prelude.{◌⊎◌}
 use Rattle.aom_image.specs.Image.{Image}
-use Rattle.aom_image.specs.Views.{arguments_of, method_role}
+use Rattle.aom_image.specs.Views.{method_role}
 use Rattle.aom_image.specs.declared.method.Argument.{Argument}
 use Rattle.aom_image.specs.declared.method.Argument.TheVariants.{Own as Takes_own, Word as Takes_word}
 use Rattle.aom_image.specs.declared.method.Gives.{Gives}
 use Rattle.aom_image.specs.declared.method.Gives.TheVariants.{Left, Maybe as A_maybe, Nothing, Own as An_own, Word as A_word}
 use Rattle.aom_image.specs.declared.method.Thing.{Thing}
-use Rattle.aom_clients.specs.Nodes.{is_connecting_at, is_leaving}
-use Rattle.aom_clients.specs.Table.{server_of}
+use Rattle.aom_clients.specs.Nodes.{is_connecting_at}
 use Rattle.aom_clients.specs.declared.client.Client.{Client}
 use Rattle.aom_clients.specs.declared.client.Client.TheVariants.{Unconnected}
 use Rattle.aom_rules.specs.Requests.{is_cancel}
-use Rattle.aom_sound.proofs.ClientsFit.{Changes, connecting_only, fit_changed, fit_parted, none_of_connecting}
-use Rattle.aom_sound.proofs.ClientsTurn.{Same, tasks_begun}
-use Rattle.aom_sound.proofs.Maps.{front_free, named_moved, same_place-true, same_place_refl, same_place_along}
-use Rattle.aom_sound.proofs.Queues.{client_here, queue_other}
+use Rattle.aom_sound.proofs.ClientsFit.{connecting_only, fit_changed, none_of_connecting}
+use Rattle.aom_sound.proofs.ClientsTurn.{Same}
+use Rattle.aom_sound.proofs.Maps.{named_moved, same_place-true, same_place_along}
+use Rattle.aom_sound.proofs.Queues.{queue_other}
 use Rattle.aom_sound.proofs.Services.{service_asked, service_moved, service_opened, service_stored, service_unnamed}
 use Rattle.aom_sound.proofs.Storing.{rerequested_alike}
 use Rattle.aom_sound.specs.Cleanup.{top_place}
-use Rattle.aom_sound.specs.Calls.{given_cells, passed_cells, result_cells}
-use Rattle.aom_sound.specs.Clients.{client_at, with_client}
+use Rattle.aom_sound.specs.Calls.{passed_cells, result_cells}
+use Rattle.aom_sound.specs.Clients.{client_at, with_client, most_of}
 use Rattle.aom_sound.specs.Effects.{Carried, In_field, In_register, Made, Popped, Popped_operation, Pushed, Pushed_operation, Replied, Requested, Same as Unchanged, Sessioned, Spot, The_message, Update, Written, cells_after, spot_place}
-use Rattle.aom_sound.specs.Enlisted.{begun_cells, cancelled, cancelling, ended_cells, on_request, own_request, rerequested}
-use Rattle.aom_sound.specs.Kept.{ClientsFit, IsKept, QueueFits, StageKept, TasksKept, is_close_of, is_connect_of, is_message_of}
+use Rattle.aom_sound.specs.Enlisted.{cancelled, ended_cells, on_request, own_request, rerequested, thing_kind}
+use Rattle.aom_sound.specs.Kept.{ClientsFit, QueueFits, ConnectKept, StageKept, TasksKept, is_close_of, is_connect_of, is_message_of}
 use Rattle.aom_sound.specs.Natives.{resessioned}
-use Rattle.aom_sound.specs.Places.{Asked, Cell, Elsewhere, Entry, Field, Going, In_service, Object, Place, Queued, Register, Request, Root, Tidy, held, moved, named, same_place, service_of, set_request, set_session, set_word_field, unserved, with_new}
-use Rattle.aom_sound.specs.Servers.{has_session, is_from, is_server}
-use Rattle.aom_sound.specs.State.{Accept_left, Accepted, Accepts, AtRoot, Closing, Destroy, Dispatch, Dispatched, Frame, Home, Inside, Of_server, Parts, Run, Seat, Service_left, Serves, Stage, State, Static, Task, Trapped, Unwind, field_place}
+use Rattle.aom_sound.specs.Places.{Cell, Elsewhere, Entry, Object, Place, Queued, Register, Request, held, moved, named, same_place, service_of, set_request, set_session, set_word_field, unserved, with_new}
+use Rattle.aom_sound.specs.Servers.{is_from, is_server, seats_taken}
+use Rattle.aom_sound.specs.State.{Accept_left, Accepted, Accepts, AtRoot, Closing, Destroy, Dispatched, Frame, Home, Inside, Of_server, Parts, Run, Service_left, Serves, Stage, State, Static, Task, Trapped, Unwind, field_place}
 use Rattle.aom_sound.specs.Words.{here, stored}
+use Rattle.aom_sound.proofs.Seated.{seats_none, seats_same}
 
 -- ---- cells of which servers have the same
 
@@ -51,33 +51,43 @@ fit_steady p clients cs cs' still fit = record {
   servers = λ o h plain. servers o plain (still.lived o h);
   names = λ n m o h. fit.names n m o (still.queued n m o h);
   senders = λ n c m h. still.senders c m (fit.senders n c m (ap (λ q. list_any (is_message_of c m) q) (sym (still.queues n)) ∙ h));
+  seats = λ o h. seats o (still.lived o h);
 }
   where
+    seats : (o : Object) → (named cs o.name ≡ Some o) ⊎ (named cs o.name ≡ None) → seats_taken (service_of cs' o.name) ≤ most_of (thing_kind p o.thing)
+    seats o (inl e) = let was = fit.seats o e in let same = seats_same (service_of cs' o.name) (service_of cs o.name) (still.queues o.name) (still.sessions o.name) in omega (arith, was, same)
+    seats o (inr e) =
+        let none = seats_none (service_of cs' o.name) (still.queues o.name ∙ ap (λ v. v.queue) (service_unnamed cs o.name e)) (still.sessions o.name ∙ ap (λ v. v.sessions) (service_unnamed cs o.name e)) in
+        omega (arith, none)
+
     servers : (o : Object) → is_server p o.thing ≡ false → (named cs o.name ≡ Some o) ⊎ (named cs o.name ≡ None) → ((service_of cs' o.name).queue ≡ []) × ((service_of cs' o.name).sessions ≡ [])
     servers o plain (inl e) = let none = fit.servers o e plain in (still.queues o.name ∙ none.0, still.sessions o.name ∙ none.1)
     servers o plain (inr e) = (still.queues o.name ∙ ap (λ v. v.queue) (service_unnamed cs o.name e), still.sessions o.name ∙ ap (λ v. v.sessions) (service_unnamed cs o.name e))
 
-module _ (clients : List Client) (cs cs' : List Cell) (queues : (n : ℕ) → (service_of cs' n).queue ≡ (service_of cs n).queue) where
-  pub stage_queues : (n c : ℕ) (stage : Stage) → StageKept clients cs n c stage → StageKept clients cs' n c stage
-  stage_queues n c Accepts k = (k.0, ap (λ q. list_any (is_connect_of c) q) (queues n) ∙ k.1)
-  stage_queues n c (Accept_left code) k = (k.0, ap (λ q. list_any (is_connect_of c) q) (queues n) ∙ k.1)
-  stage_queues n c Parts k = (k.0, ap (λ q. list_any (is_close_of c) q) (queues n) ∙ k.1)
-  stage_queues n c Accepted k = tt
-  stage_queues n c (Serves o) k = tt
-  stage_queues n c (Service_left code) k = tt
+module _ (p : Image) (clients : List Client) (cs cs' : List Cell) (queues : (n : ℕ) → (service_of cs' n).queue ≡ (service_of cs n).queue) (sessions : (n : ℕ) → (service_of cs' n).sessions ≡ (service_of cs n).sessions) where
+  connect_queues : (o : Object) (c : ℕ) → ConnectKept p clients cs o c → ConnectKept p clients cs' o c
+  connect_queues o c k = (k.0, ap (λ q. list_any (is_connect_of c) q) (queues o.name) ∙ k.1, subst (λ n. n < most_of (thing_kind p o.thing)) (sym (seats_same (service_of cs' o.name) (service_of cs o.name) (queues o.name) (sessions o.name))) k.2)
 
-  pub tasks_queues : (ts : List Task) → TasksKept clients cs ts → TasksKept clients cs' ts
+  pub stage_queues : (o : Object) (c : ℕ) (stage : Stage) → StageKept p clients cs o c stage → StageKept p clients cs' o c stage
+  stage_queues o c Accepts k = connect_queues o c k
+  stage_queues o c (Accept_left code) k = connect_queues o c k
+  stage_queues o c Parts k = (k.0, ap (λ q. list_any (is_close_of c) q) (queues o.name) ∙ k.1)
+  stage_queues o c Accepted k = tt
+  stage_queues o c (Serves x) k = tt
+  stage_queues o c (Service_left code) k = tt
+
+  pub tasks_queues : (ts : List Task) → TasksKept p clients cs ts → TasksKept p clients cs' ts
   tasks_queues [] k = tt
   tasks_queues (Run fr ∷ ts) k = tasks_queues ts k
   tasks_queues (Trapped ∷ ts) k = tasks_queues ts k
   tasks_queues (Destroy ∷ ts) k = tasks_queues ts k
   tasks_queues (Closing ∷ ts) k = tasks_queues ts k
   tasks_queues (Unwind code ∷ ts) k = tasks_queues ts k
-  tasks_queues (Dispatched (Of_server x c stage) ∷ ts) k = stage_queues x.object.name c stage k
+  tasks_queues (Dispatched (Of_server x c stage) ∷ ts) k = stage_queues x.object c stage k
   tasks_queues (Dispatched _ ∷ ts) k = tt
 
-pub tasks_steady : (clients : List Client) (cs cs' : List Cell) → Steady cs cs' → (ts : List Task) → TasksKept clients cs ts → TasksKept clients cs' ts
-tasks_steady clients cs cs' still ts k = tasks_queues clients cs cs' still.queues ts k
+pub tasks_steady : (p : Image) (clients : List Client) (cs cs' : List Cell) → Steady cs cs' → (ts : List Task) → TasksKept p clients cs ts → TasksKept p clients cs' ts
+tasks_steady p clients cs cs' still ts k = tasks_queues p clients cs cs' still.queues still.sessions ts k
 
 pub steady_itself : (cs : List Cell) → Steady cs cs
 steady_itself cs = record { queues = λ n. refl; sessions = λ n. refl; lived = λ o h. inl h; queued = λ n m o h. h; senders = λ c m h. h }
@@ -251,4 +261,5 @@ module _ (p : Image) (clients : List Client) (cs : List Cell) (fit : ClientsFit 
     servers = fit.servers;
     names = fit.names;
     senders = fit.senders;
+    seats = fit.seats;
   }

@@ -1,8 +1,7 @@
 -- What is kept of clients stays so in each turn: as a server is picked, as a client does something, and in all others, where nothing of it changes.
-use Rattle.std.proofs.Common.{Bool, List, None, Option, Some, [], ap, cond, false, refl, subst, sym, true, ℕ, ℤ, ◌&&◌, ◌==◌, ◌∙◌, ◌∷◌, ◌≡◌, pos}
-use Rattle.std.proofs.lemmas.Bool.{eq-eqb, eqb-true, ne_eqb, true≢false}
+use Rattle.std.proofs.Common.{Bool, List, None, Option, Some, [], ap, cond, false, refl, subst, sym, true, ℕ, ◌∙◌, ◌∷◌, ◌≡◌, ◌<◌, ◌≤◌, arith}
 use Rattle.std.specs.List.{list_any}
-use Rattle.std.specs.Prelude.{is_some, length, nat_le, ◌||◌}
+use Rattle.std.specs.Prelude.{length, nat_le, ◌||◌}
 use Rattle.aom_image.specs.Image.{Image}
 use Rattle.aom_image.specs.declared.method.Role.TheVariants.{Accept as Accepts_role, Run as Handles, Service as Attends_role}
 use Rattle.aom_image.specs.declared.method.Thing.{Thing}
@@ -10,38 +9,38 @@ use Rattle.aom_image.specs.declared.method.Thing.TheVariants.{Message}
 use Rattle.aom_roles.specs.Classes.{sessions_in}
 use Rattle.aom_roles.specs.Shapes.{kind_of}
 use Rattle.aom_shape.specs.declared.kind.Kind.TheVariants.{Null}
-use Rattle.aom_clients.specs.Nodes.{is_connecting_at, is_leaving}
 use Rattle.aom_clients.specs.Table.{server_of}
 use Rattle.aom_clients.specs.declared.client.Client.{Client}
-use Rattle.aom_rules.specs.Typing.{IsTyped, Typing}
+use Rattle.aom_rules.specs.Typing.{Typing}
 use Rattle.aom_sound.proofs.ClientsCommand.{fit_commanded}
-use Rattle.aom_sound.proofs.ClientsFit.{by_server}
+use Rattle.aom_sound.proofs.ClientsFit.{by_server, seats_then}
 use Rattle.aom_sound.proofs.Maps.{held_moved, named_moved}
 use Rattle.aom_sound.proofs.Owners.{IsQueuedAt, in_queue, queued_lower}
-use Rattle.aom_sound.proofs.Services.{held_served, named_served, service_asked, service_bereaved, service_here, service_moved, service_there}
+use Rattle.aom_sound.proofs.Services.{held_served, named_served, service_asked, service_bereaved, service_here, service_moved}
 use Rattle.aom_sound.proofs.Signals.{at_rest}
 use Rattle.aom_sound.proofs.Storing.{bereaved_alike, rerequested_alike}
 use Rattle.aom_sound.proofs.Straight.{fits_unowning}
 use Rattle.aom_sound.proofs.Turned.{Polled, answers, commanded_kept, dispatched_so, nothing, polled_so}
 use Rattle.aom_sound.proofs.Guarded.{goes_same}
-use Rattle.aom_sound.proofs.Turning.{Found, found}
-use Rattle.aom_sound.specs.Claims.{claim, declared}
-use Rattle.aom_sound.specs.Clients.{Command, client_at, commanded}
+use Rattle.aom_sound.proofs.Turning.{found}
+use Rattle.aom_sound.specs.Claims.{declared}
+use Rattle.aom_sound.specs.Clients.{client_at, most_of}
 use Rattle.aom_sound.specs.Destruction.{begun, begun_by}
 use Rattle.aom_classes.specs.Roles.{destructor_of}
-use Rattle.aom_sound.specs.Enlisted.{completed_with, on_request, part_of, recorded, timed_out}
+use Rattle.aom_sound.specs.Enlisted.{completed_with, on_request, part_of, recorded, timed_out, thing_kind}
 use Rattle.aom_sound.specs.Natives.{all_bereaved}
 use Rattle.aom_sound.specs.Owned.{NoneGoes}
 use Rattle.aom_sound.specs.Kept.{ClientsFit, IsKept, QueueFits, TasksKept, is_close_of, is_connect_of, is_message_of}
 use Rattle.aom_sound.specs.Laws.{IsWired}
 use Rattle.aom_sound.specs.Places.{Asked, Cell, Close_of, Connect_of, Elsewhere, Going, In_service, Message_of, Object, Place, Queued, Request, Root, Session, held, moved, named, requested, same_place, seen, service_of, set_request}
-use Rattle.aom_sound.specs.Servers.{has_session, is_from, is_server, reserved, rest_of as rest, taken_first}
+use Rattle.aom_sound.specs.Servers.{has_session, is_from, is_server, reserved, rest_of as rest, taken_first, seats_taken}
 use Rattle.aom_sound.specs.State.{Closing, Destroy, Dispatched, Goes, Inside, Of_server, Parts, Seat, State, Task}
 use Rattle.aom_sound.specs.WellTyped.{Fits, Good, WellTyped}
-use Rattle.aom_sound.specs.World.{Candidate, Completes, Completion, Cuts, Heard, HearsWell, Hears, IsBetween, Kills, Obeys, Outside, Passes, Picks, Polls, Strays, Timed, Turning, Waits, accepting, attended, attending, by_event, by_timer, delivers, dispatched, first_due, first_ready, has_signal, heard_one, lives, next_event, next_native, next_time, parting_with, picks, picked, polled, polls, serves_first, taken_from, turn, turned, turning, with_request}
+use Rattle.aom_sound.specs.World.{Candidate, Completes, Completion, Cuts, Heard, Hears, Kills, Obeys, Outside, Passes, Picks, Polls, Strays, Timed, Turning, Waits, accepting, attended, attending, by_event, by_timer, delivers, dispatched, first_due, first_ready, has_signal, heard_one, lives, next_event, next_native, next_time, parting_with, picks, picked, polls, serves_first, taken_from, turn, turned, turning, with_request}
 use Rattle.aom_transcript.specs.declared.event.Event.{Event}
 use Rattle.aom_transcript.specs.declared.event.Event.TheVariants.{Kill, Tell}
 use Rattle.aom_transcript.specs.declared.event.TimedEvent.{TimedEvent}
+use Rattle.aom_sound.proofs.Seated.{seats_first, seats_rest}
 
 -- ---- cells of which clients have the same
 
@@ -58,6 +57,7 @@ fit_same p clients cs cs' like fit = record {
   servers = λ o h plain. subst (λ v. (v.queue ≡ []) × (v.sessions ≡ [])) (sym (like.service_so o.name)) (fit.servers o (sym (like.named_so o.name) ∙ h) plain);
   names = λ n m o h. fit.names n m o (sym (like.held_so (Elsewhere (Queued n m))) ∙ h);
   senders = λ n c m h. subst (λ v. is_from c v.sender ≡ true) (sym (like.service_so m)) (fit.senders n c m (ap (λ v. list_any (is_message_of c m) v.queue) (sym (like.service_so n)) ∙ h));
+  seats = λ o h. subst (λ v. seats_taken v ≤ most_of (thing_kind p o.thing)) (sym (like.service_so o.name)) (fit.seats o (sym (like.named_so o.name) ∙ h));
 }
 
 pub same_requested : (cs : List Cell) (o : Object) (r : Option Request) → Same cs (set_request o.name r cs)
@@ -75,6 +75,7 @@ fit_moved p clients cs a b free apart fit = record {
   servers = λ o h plain. subst (λ v. (v.queue ≡ []) × (v.sessions ≡ [])) (sym (service_moved cs a b o.name)) (fit.servers o (sym (named_moved cs a b o.name) ∙ h) plain);
   names = λ n m o h. names n m o (same_place a (Elsewhere (Queued n m))) (sym (ap (λ x. cond x (held cs a) (cond (same_place a (Elsewhere (Queued n m))) None (held cs (Elsewhere (Queued n m))))) (apart n m)) ∙ sym (held_moved cs a b (Elsewhere (Queued n m)) free) ∙ h);
   senders = λ n c m h. subst (λ v. is_from c v.sender ≡ true) (sym (service_moved cs a b m)) (fit.senders n c m (ap (λ v. list_any (is_message_of c m) v.queue) (sym (service_moved cs a b n)) ∙ h));
+  seats = λ o h. subst (λ v. seats_taken v ≤ most_of (thing_kind p o.thing)) (sym (service_moved cs a b o.name)) (fit.seats o (sym (named_moved cs a b o.name) ∙ h));
 }
   where
     names : (n m : ℕ) (o : Object) (x : Bool) → cond x None (held cs (Elsewhere (Queued n m))) ≡ Some o → o.name ≡ m
@@ -92,6 +93,7 @@ fit_taken p clients cs o lives e es queue fit = record {
   senders = λ n d m. by_server p cs o lives taken_first (λ n v. list_any (is_message_of d m) v.queue ≡ true → is_from d (service_of (reserved taken_first o.name cs) m).sender ≡ true)
       (λ h. senders m d (fit.senders o.name d m (ap (λ q. list_any (is_message_of d m) q) queue ∙ or_right (is_message_of d m e) (list_any (is_message_of d m) es) (ap (λ q. list_any (is_message_of d m) (rest q)) (sym queue) ∙ h))))
       (λ n other h. senders m d (fit.senders n d m h)) n;
+  seats = seats_then p cs o lives taken_first clients fit (let less = seats_rest (service_of cs o.name) in let was = fit.seats o lives in omega (arith, less, was));
 }
   where
     or_right : (b x : Bool) → x ≡ true → (b || x) ≡ true
@@ -103,14 +105,14 @@ fit_taken p clients cs o lives e es queue fit = record {
 
 -- ---- tasks
 
-pub tasks_begun : (p : Image) (clients : List Client) (cs : List Cell) (o : Object) (height : ℕ) (ts : List Task) → TasksKept clients cs ts → TasksKept clients cs (begun p o height ts)
+pub tasks_begun : (p : Image) (clients : List Client) (cs : List Cell) (o : Object) (height : ℕ) (ts : List Task) → TasksKept p clients cs ts → TasksKept p clients cs (begun p o height ts)
 tasks_begun p clients cs o height ts kept = go (is_server p o.thing)
   where
-    by : (m : Option ℕ) → TasksKept clients cs (begun_by m o height ts)
+    by : (m : Option ℕ) → TasksKept p clients cs (begun_by m o height ts)
     by None = kept
     by (Some m) = kept
 
-    go : (b : Bool) → TasksKept clients cs (cond b (Closing ∷ Destroy ∷ ts) (begun_by (destructor_of p o.thing) o height ts))
+    go : (b : Bool) → TasksKept p clients cs (cond b (Closing ∷ Destroy ∷ ts) (begun_by (destructor_of p o.thing) o height ts))
     go true = kept
     go false = by (destructor_of p o.thing)
 
@@ -125,8 +127,8 @@ module _ (p : Image) (t : Typing) (wired : IsWired p) (s : State) (w : WellTyped
   good : Good p t s.cells []
   good = subst (λ ls. Good p t s.cells ls) (at_rest p t s w idle_now) w.good
 
-  stage_idle : (clients : List Client) (cs : List Cell) (ts : List Task) → ts ≡ [] → TasksKept clients cs ts
-  stage_idle clients cs ts e = subst (λ l. TasksKept clients cs l) (sym e) tt
+  stage_idle : (clients : List Client) (cs : List Cell) (ts : List Task) → ts ≡ [] → TasksKept p clients cs ts
+  stage_idle clients cs ts e = subst (λ l. TasksKept p clients cs l) (sym e) tt
 
   -- what waits in a queue is no server
   waiting : (n m : ℕ) (o : Object) → held s.cells (Elsewhere (Queued n m)) ≡ Some o → is_server p o.thing ≡ false
@@ -164,7 +166,13 @@ module _ (p : Image) (t : Typing) (wired : IsWired p) (s : State) (w : WellTyped
     connect_kept c es queue None e = cc
     connect_kept c es queue (Some m) e =
         let first = first_fits (Connect_of c) es queue in
-        subst (λ v. IsKept p v) (goes_same _ u e) (record { fit = taken (Connect_of c) es queue; stage = (first.0.0, ap (λ q. list_any (is_connect_of c) q) (queue_now (Connect_of c) es queue) ∙ first.0.1) })
+        subst (λ v. IsKept p v) (goes_same _ u e) (record { fit = taken (Connect_of c) es queue; stage = (first.0.0, ap (λ q. list_any (is_connect_of c) q) (queue_now (Connect_of c) es queue) ∙ first.0.1, room) })
+      where
+        room : seats_taken (service_of cs n) < most_of (thing_kind p x.object.thing)
+        room =
+            let was = kept.fit.seats x.object there in
+            let one = seats_first (service_of s.cells n) (Connect_of c) es queue in
+            subst (λ v. seats_taken v < most_of (thing_kind p x.object.thing)) (sym (service_here s.cells n (taken_first (service_of s.cells n)) x.object there)) (omega (arith, was, one))
 
     message_kept : (c m : ℕ) (es : List Asked) → (service_of s.cells n).queue ≡ Message_of c m ∷ es → (o : Option Object) → attended p x c o m (taken_from n s) ≡ Goes u → IsKept p u
     message_kept c m es queue None e = cc
@@ -200,7 +208,6 @@ module _ (p : Image) (t : Typing) (wired : IsWired p) (s : State) (w : WellTyped
         go : (b : Bool) → cond b (serves_first p x (service_of s.cells n).queue s) (dispatched (part_of p Handles x.object.thing) x s) ≡ Goes u → IsKept p u
         go true e = serves_kept (service_of s.cells n).queue refl e
         go false e = let d = dispatched_so p s u x e in subst (λ v. IsKept p v) (sym d.2) (record { fit = requested_fit x.object _; stage = tt })
-
 
   -- ---- the others
 

@@ -1,23 +1,19 @@
 -- What a client's command comes to between dispatches is well typed: a queue is longer, a message more waits in one, or those of a client go.
-use Rattle.std.proofs.Common.{Bool, List, None, Option, Some, [], ap, cond, false, refl, subst, sym, true, ℕ, ℤ, ◌&&◌, ◌==◌, ◌∙◌, ◌∷◌, ◌≡◌}
-use Rattle.std.proofs.lemmas.Bool.{eq-eqb, eqb-true, ne_eqb, true≢false}
+use Rattle.std.proofs.Common.{Bool, List, Some, [], ap, cond, false, refl, subst, sym, true, ℕ, ◌∙◌, ◌∷◌, ◌≡◌}
 use Rattle.std.proofs.lemmas.List.Folds.{list_any-append}
 use Rattle.std.specs.List.{list_any}
-use Rattle.std.specs.Prelude.{filter, not, ◌++◌, ◌||◌}
+use Rattle.std.specs.Prelude.{◌||◌}
 use Rattle.aom_image.specs.Image.{Image}
-use Rattle.aom_image.specs.declared.method.Thing.{Thing}
-use Rattle.aom_image.specs.declared.method.Thing.TheVariants.{Message}
 use Rattle.aom_rules.specs.Typing.{Typing}
 use Rattle.aom_shape.specs.Kinds.{filled}
 use Rattle.aom_shape.specs.declared.kind.Filling.TheVariants.{Full}
-use Rattle.aom_shape.specs.declared.kind.Kind.{Kind}
-use Rattle.aom_shape.specs.declared.kind.Kind.TheVariants.{Null, Own}
+use Rattle.aom_shape.specs.declared.kind.Kind.TheVariants.{Null}
 use Rattle.aom_sound.proofs.Claimed.{declared_ready}
 use Rattle.aom_sound.proofs.ClientsFit.{by_server}
 use Rattle.aom_sound.proofs.Picking.{fits_ready}
 use Rattle.aom_sound.proofs.Services.{held_served, named_served, requested_served, tidy_served}
 use Rattle.aom_sound.specs.Claims.{declared, declared_field}
-use Rattle.aom_sound.specs.Places.{Asked, Cell, Close_of, Connect_of, Elsewhere, Entry, Field, Going, In_service, Message_of, Object, Place, Queued, Register, Request, Root, Service, Session, Tidy, held, named, requested, seen, service_of}
+use Rattle.aom_sound.specs.Places.{Asked, Cell, Elsewhere, Entry, Field, Going, In_service, Object, Place, Queued, Register, Root, Session, Tidy, held, named, requested, seen, service_of}
 use Rattle.aom_sound.specs.Requests.{AllSuit, Suits, resting_in, rests_in, thing_kind}
 use Rattle.aom_sound.specs.Servers.{asked_last, has_message, has_session, is_message, message_thing, reserved, session_thing}
 use Rattle.aom_sound.specs.WellTyped.{Fits, Good}

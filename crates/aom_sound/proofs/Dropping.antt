@@ -1,6 +1,6 @@
 -- Where messages go that wait in a queue or are served, all else is as it was: by the cells one after another.
 use Rattle.std.proofs.Common.{length, Bool, List, None, Option, Some, [], ap, cond, false, inl, inr, refl, subst, sym, true, ⊎_elim, ℕ, ◌==◌, ◌∙◌, ◌∷◌, ◌≡◌, ◌⊎◌}
-use Rattle.std.proofs.lemmas.Bool.{cases_Bool, eq-eqb, eqb-true, true≢false}
+use Rattle.std.proofs.lemmas.Bool.{cases_Bool, eqb-true, true≢false}
 use Rattle.aom_image.specs.Image.{Image}
 use Rattle.aom_image.specs.declared.method.Thing.{Thing}
 use Rattle.aom_image.specs.declared.method.Thing.TheVariants.{Message}
@@ -10,13 +10,12 @@ use Rattle.aom_shape.specs.Kinds.{filled}
 use Rattle.aom_shape.specs.declared.kind.Filling.TheVariants.{Full}
 use Rattle.aom_shape.specs.declared.kind.Kind.TheVariants.{Null}
 use Rattle.aom_sound.proofs.Maps.{cond_same, front_free, held_lives, same_place-true, same_place_refl}
-use Rattle.aom_sound.proofs.Services.{attended_at, service_unnamed, sits_lives}
-use Rattle.aom_sound.proofs.Seats.{first_kept, sits_kept}
+use Rattle.aom_sound.proofs.Services.{attended_at}
 use Rattle.aom_sound.specs.Claims.{claim, Dispatching, Dying, Ending, Layer, Mark, Method, Unwinding, declared, declared_field, tasks_of}
-use Rattle.aom_sound.specs.Places.{Sight, seen, Cell, Elsewhere, Entry, Field, Going, In_service, Object, Place, Queued, Register, Request, Root, Service, Session, Tidy, held, named, requested, same_place, service_of, unserved, without}
+use Rattle.aom_sound.specs.Places.{Sight, seen, Cell, Elsewhere, Entry, Field, Going, In_service, Object, Place, Queued, Register, Root, Session, Tidy, held, named, requested, same_place, service_of, without}
 use Rattle.aom_sound.specs.Servers.{is_server, has_message, has_session, is_queue_of, message_thing, session_thing, without_queue}
 use Rattle.aom_sound.specs.State.{AtRoot, Home, Inside, Seat, Static}
-use Rattle.aom_sound.specs.WellTyped.{EndsSessions, Fits, SitsFirst, AllSit, Back, Holds, IsBelow, IsHoused, SitsIn, Stack, seat_of}
+use Rattle.aom_sound.specs.WellTyped.{EndsSessions, Fits, SitsFirst, AllSit, Back, IsBelow, IsHoused, SitsIn, Stack, seat_of}
 use Rattle.std.specs.Prelude.{is_some}
 use Rattle.std.proofs.lemmas.Option.{same_Some}
 use Rattle.aom_shape.specs.declared.kind.Kind.{Kind}
@@ -145,8 +144,8 @@ module _ (gone : Place → Bool) where
       go true rest = rest
       go false rest = (fewer_held cs c.owner t.0, fewer_named cs t.2 c.object.name t.1, rest)
 
-  -- where these are messages that were sent
-  module _ (p : Image) (cs : List Cell) (tidy : Tidy cs) (sent : (r : Place) → gone r ≡ true → is_sent r ≡ true) (messages : (r : Place) (x : Object) → gone r ≡ true → held cs r ≡ Some x → x.thing ≡ Message) where
+  -- where these are messages
+  module _ (p : Image) (cs : List Cell) (tidy : Tidy cs) (messages : (r : Place) (x : Object) → gone r ≡ true → held cs r ≡ Some x → x.thing ≡ Message) where
     pub stays_at : (r : Place) (x : Object) → gone r ≡ false → held cs r ≡ Some x → held (dropped cs) r ≡ Some x
     stays_at r x e h = held_dropped cs r ∙ ap (λ b. cond b None (held cs r)) e ∙ h
 
@@ -184,73 +183,6 @@ module _ (gone : Place → Bool) where
         of_message : (x : Object) → x.thing ≡ Message → cond (has_message (service_of cs n) m) (filled (message_thing p (Some x)) Full) Null ≡ Null
         of_message x e = ap (λ y. cond (has_message (service_of cs n) m) (filled (message_thing p (Some (record { name = x.name; thing = y }))) Full) Null) e ∙ cond_same (has_message (service_of cs n) m) Null
 
-    -- what holds the objects of methods and seats stays
-    spared : (r : Place) → is_sent r ≡ false → gone r ≡ false
-    spared r e = ⊎_elim (λ g. absurd (true≢false (sym (sent r g) ∙ e))) (λ g. g) (cases_Bool (gone r))
-
-    below_spared : (r : Place) (ls : List Layer) → IsBelow r ls → gone r ≡ false
-    below_spared (Elsewhere In_service) ls b = absurd b
-    below_spared (Elsewhere (Queued n m)) ls b = absurd b
-    below_spared (Register f i) ls b = spared (Register f i) refl
-    below_spared (Entry k) ls b = spared (Entry k) refl
-    below_spared (Field n f) ls b = spared (Field n f) refl
-    below_spared (Going k) ls b = spared (Going k) refl
-    below_spared (Elsewhere Root) ls b = spared (Elsewhere Root) refl
-    below_spared (Elsewhere (Session n c)) ls b = spared (Elsewhere (Session n c)) refl
-
-    sits_spared : (r : Place) (xs : List Seat) → SitsIn r xs → gone r ≡ false
-    sits_spared (Field n f) xs b = spared (Field n f) refl
-    sits_spared (Elsewhere Root) xs b = spared (Elsewhere Root) refl
-    sits_spared (Elsewhere (Session n c)) xs b = spared (Elsewhere (Session n c)) refl
-    sits_spared (Elsewhere In_service) xs b = absurd b
-    sits_spared (Elsewhere (Queued n m)) xs b = absurd b
-    sits_spared _ xs b = absurd b
-
-    housed_dropped : (ls : List Layer) (home : Home) → IsHoused p cs ls home → IsHoused p (dropped cs) ls home
-    housed_dropped ls Static h = h
-    housed_dropped ls AtRoot h = h
-    housed_dropped ls (Inside o from) h = let e = below_spared from ls h.below in record { there = stays_at from o e h.there; lives = stays_named from o e h.there; below = h.below; ready = h.ready }
-
-    all_sit_dropped : (xs : List Seat) → AllSit cs xs → AllSit (dropped cs) xs
-    all_sit_dropped [] s = tt
-    all_sit_dropped (x ∷ xs) s = let e = sits_spared x.place xs s.0.2 in ((stays_at x.place x.object e s.0.0, stays_named x.place x.object e s.0.0, s.0.2, s.0.3), all_sit_dropped xs s.1)
-
-    -- the object that is dispatched stays
-    first_same : (xs : List Seat) (x : Seat) → AllSit cs xs → SitsFirst cs (Some x) xs → Same cs x.object.name
-    first_same (y ∷ ys) x s f =
-        let same : y ≡ x = cc in
-        subst (λ (z : Seat). Same cs z.object.name) same (stays_same y.place y.object (sits_spared y.place ys s.0.2) s.0.0)
-    first_same [] x s f = cc
-
-    first_dropped : (d : Option Seat) (xs : List Seat) → AllSit cs xs → SitsFirst cs d xs → SitsFirst (dropped cs) d xs
-    first_dropped None xs s f = f
-    first_dropped (Some x) xs s f = (ap is_some (first_same xs x s f).request ∙ f.0, f.1, f.2)
-
-    not_message : (x : Thing) → is_server p x ≡ true → x ≡ Message → ⊥
-    unfolding sessions_in kind_of
-    not_message x e m = true≢false (sym e ∙ ap (is_server p) m)
-
-    sessions_dropped : (o : Object) (left : List ℕ) → EndsSessions p cs o left → EndsSessions p (dropped cs) o left
-    sessions_dropped o left h = ⊎_elim
-        (λ s. record { server = h.server; lives = s.name ∙ h.lives; listed = λ c e. ap (λ v. has_session v c) s.service ∙ h.listed c e })
-        (λ w. let same : w.object ≡ o = same_Some w.object o (sym w.was ∙ h.lives) in absurd (not_message o.thing h.server (sym (ap (λ (x : Object). x.thing) same) ∙ messages w.place w.object w.goes w.there)))
-        (each_name cs tidy o.name)
-
-    pub stack_dropped : (t : Typing) (ls : List Layer) (back : Back) → Stack p t cs back ls → Stack p t (dropped cs) back ls
-    stack_dropped t [] back s = s
-    stack_dropped t (Method fr sh ∷ ls) back s = (s.0, s.1, housed_dropped ls fr.home s.2, s.3, stack_dropped t ls _ s.4)
-    stack_dropped t (Mark gv ∷ ls) back s = (s.0, stack_dropped t ls _ s.1)
-    stack_dropped t (Dying o ∷ ls) back s = ((stays_named (Going (length (tasks_of ls))) o (spared (Going (length (tasks_of ls))) refl) s.0.1, stays_at (Going (length (tasks_of ls))) o (spared (Going (length (tasks_of ls))) refl) s.0.1), s.1, stack_dropped t ls _ s.2)
-    stack_dropped t (Ending o left ∷ ls) back s = (sessions_dropped o left s.0, s.1, s.2, stack_dropped t ls _ s.3)
-    stack_dropped t (Unwinding code es ∷ ls) back s = (s.0, stack_dropped t ls _ s.1)
-    stack_dropped t (Dispatching d seats ∷ ls) back s = (
-      s.0,
-      s.1,
-      all_sit_dropped seats s.2,
-      first_dropped (seat_of d) seats s.2 s.3,
-      attended_at p cs (dropped cs) d (λ y there. (first_same seats y s.2 (subst (λ o. SitsFirst cs o seats) there s.3)).service) s.4,
-    )
-
     pub suits_dropped : (ls : List Layer) → AllSuit p cs ls → AllSuit p (dropped cs) ls
     suits_dropped ls s o lives = ⊎_elim
         (λ h. subst (λ r. Suits (thing_kind p o.thing) (states_claim p o ls) r) (sym h.request) (s o (sym h.name ∙ lives)))
@@ -261,6 +193,75 @@ module _ (gone : Place → Bool) where
     fits_dropped r k e f =
         subst (λ x. Fits p (seen (dropped cs)) x k) (sym (held_dropped cs r ∙ ap (λ b. cond b None (held cs r)) e))
         (fits_age p (seen cs) (seen (dropped cs)) (held cs r) k (λ x at fresh age. (λ f. fewer_held cs (Field x.name f) (age.0 f), fewer_requested cs tidy x.name age.1)) f)
+
+    -- that were sent
+    module _ (sent : (r : Place) → gone r ≡ true → is_sent r ≡ true) where
+      -- what holds the objects of methods and seats stays
+      spared : (r : Place) → is_sent r ≡ false → gone r ≡ false
+      spared r e = ⊎_elim (λ g. absurd (true≢false (sym (sent r g) ∙ e))) (λ g. g) (cases_Bool (gone r))
+
+      below_spared : (r : Place) (ls : List Layer) → IsBelow r ls → gone r ≡ false
+      below_spared (Elsewhere In_service) ls b = absurd b
+      below_spared (Elsewhere (Queued n m)) ls b = absurd b
+      below_spared (Register f i) ls b = spared (Register f i) refl
+      below_spared (Entry k) ls b = spared (Entry k) refl
+      below_spared (Field n f) ls b = spared (Field n f) refl
+      below_spared (Going k) ls b = spared (Going k) refl
+      below_spared (Elsewhere Root) ls b = spared (Elsewhere Root) refl
+      below_spared (Elsewhere (Session n c)) ls b = spared (Elsewhere (Session n c)) refl
+
+      sits_spared : (r : Place) (xs : List Seat) → SitsIn r xs → gone r ≡ false
+      sits_spared (Field n f) xs b = spared (Field n f) refl
+      sits_spared (Elsewhere Root) xs b = spared (Elsewhere Root) refl
+      sits_spared (Elsewhere (Session n c)) xs b = spared (Elsewhere (Session n c)) refl
+      sits_spared (Elsewhere In_service) xs b = absurd b
+      sits_spared (Elsewhere (Queued n m)) xs b = absurd b
+      sits_spared _ xs b = absurd b
+
+      housed_dropped : (ls : List Layer) (home : Home) → IsHoused p cs ls home → IsHoused p (dropped cs) ls home
+      housed_dropped ls Static h = h
+      housed_dropped ls AtRoot h = h
+      housed_dropped ls (Inside o from) h = let e = below_spared from ls h.below in record { there = stays_at from o e h.there; lives = stays_named from o e h.there; below = h.below; ready = h.ready }
+
+      all_sit_dropped : (xs : List Seat) → AllSit cs xs → AllSit (dropped cs) xs
+      all_sit_dropped [] s = tt
+      all_sit_dropped (x ∷ xs) s = let e = sits_spared x.place xs s.0.2 in ((stays_at x.place x.object e s.0.0, stays_named x.place x.object e s.0.0, s.0.2, s.0.3), all_sit_dropped xs s.1)
+
+      -- the object that is dispatched stays
+      first_same : (xs : List Seat) (x : Seat) → AllSit cs xs → SitsFirst cs (Some x) xs → Same cs x.object.name
+      first_same (y ∷ ys) x s f =
+          let same : y ≡ x = cc in
+          subst (λ (z : Seat). Same cs z.object.name) same (stays_same y.place y.object (sits_spared y.place ys s.0.2) s.0.0)
+      first_same [] x s f = cc
+
+      first_dropped : (d : Option Seat) (xs : List Seat) → AllSit cs xs → SitsFirst cs d xs → SitsFirst (dropped cs) d xs
+      first_dropped None xs s f = f
+      first_dropped (Some x) xs s f = (ap is_some (first_same xs x s f).request ∙ f.0, f.1, f.2)
+
+      not_message : (x : Thing) → is_server p x ≡ true → x ≡ Message → ⊥
+      unfolding sessions_in kind_of
+      not_message x e m = true≢false (sym e ∙ ap (is_server p) m)
+
+      sessions_dropped : (o : Object) (left : List ℕ) → EndsSessions p cs o left → EndsSessions p (dropped cs) o left
+      sessions_dropped o left h = ⊎_elim
+          (λ s. record { server = h.server; lives = s.name ∙ h.lives; listed = λ c e. ap (λ v. has_session v c) s.service ∙ h.listed c e })
+          (λ w. let same : w.object ≡ o = same_Some w.object o (sym w.was ∙ h.lives) in absurd (not_message o.thing h.server (sym (ap (λ (x : Object). x.thing) same) ∙ messages w.place w.object w.goes w.there)))
+          (each_name cs tidy o.name)
+
+      pub stack_dropped : (t : Typing) (ls : List Layer) (back : Back) → Stack p t cs back ls → Stack p t (dropped cs) back ls
+      stack_dropped t [] back s = s
+      stack_dropped t (Method fr sh ∷ ls) back s = (s.0, s.1, housed_dropped ls fr.home s.2, s.3, stack_dropped t ls _ s.4)
+      stack_dropped t (Mark gv ∷ ls) back s = (s.0, stack_dropped t ls _ s.1)
+      stack_dropped t (Dying o ∷ ls) back s = ((stays_named (Going (length (tasks_of ls))) o (spared (Going (length (tasks_of ls))) refl) s.0.1, stays_at (Going (length (tasks_of ls))) o (spared (Going (length (tasks_of ls))) refl) s.0.1), s.1, stack_dropped t ls _ s.2)
+      stack_dropped t (Ending o left ∷ ls) back s = (sessions_dropped o left s.0, s.1, s.2, stack_dropped t ls _ s.3)
+      stack_dropped t (Unwinding code es ∷ ls) back s = (s.0, stack_dropped t ls _ s.1)
+      stack_dropped t (Dispatching d seats ∷ ls) back s = (
+        s.0,
+        s.1,
+        all_sit_dropped seats s.2,
+        first_dropped (seat_of d) seats s.2 s.3,
+        attended_at p cs (dropped cs) d (λ y there. (first_same seats y s.2 (subst (λ o. SitsFirst cs o seats) there s.3)).service) s.4,
+      )
 
 -- two of these
 pub queue_dropped : (n : ℕ) (cs : List Cell) → without_queue n cs ≡ dropped (is_queue_of n) cs

@@ -21,8 +21,8 @@ use Rattle.aom_sound.specs.Laws.{IsWired}
 use Rattle.aom_sound.specs.Places.{requested, Cell, Elsewhere, Entry, Field, Going, In_service, Object, Place, Queued, Register, Root, Session, changed, held, moved, named, same_place, seen, service_of}
 use Rattle.aom_sound.specs.Requests.{Suits, resting_in, states_claim, thing_kind, AllSuit}
 use Rattle.aom_sound.specs.Servers.{is_among, is_other, session_thing}
-use Rattle.aom_sound.specs.State.{AtRoot, Goes, Home, Inside, Seat, State, Static, thing_holder}
-use Rattle.aom_sound.specs.WellTyped.{IsBelow, SitsIn, AllSit, AllUndo, Back, EndsSessions, Fits, Gone, Good, IsHoused, IsOverDying, Keeps, NoSeatAt, NoneFrom, NotFrom, SomeIn, SomeSits, Stack, WellTyped}
+use Rattle.aom_sound.specs.State.{AtRoot, Home, Inside, Seat, State, Static, thing_holder}
+use Rattle.aom_sound.specs.WellTyped.{IsBelow, SitsIn, AllSit, AllUndo, Back, Fits, Gone, Good, IsHoused, Keeps, NoSeatAt, NoneFrom, NotFrom, SomeIn, SomeSits, Stack, WellTyped}
 use Rattle.aom_shape.specs.declared.kind.Kind.{Kind}
 use Rattle.aom_shape.specs.declared.kind.Age.TheVariants.{Ready}
 use Rattle.aom_roles.specs.States.{last_of}

@@ -1,6 +1,6 @@
 -- A cell goes.
-use Rattle.std.proofs.Common.{Bool, IsTrue, List, None, Option, Some, [], ap, arith, cond, false, inl, inr, length, refl, subst, sym, true, ℕ, ◌&&◌, ◌==◌, ◌∙◌, ◌∷◌, ◌≡◌}
-use Rattle.std.proofs.lemmas.Bool.{and_from, cases_Bool, eq-eqb, eqb-true, ne_eqb, true≢false}
+use Rattle.std.proofs.Common.{Bool, IsTrue, List, None, Option, Some, [], ap, arith, cond, false, length, refl, subst, sym, true, ℕ, ◌&&◌, ◌==◌, ◌∙◌, ◌∷◌, ◌≡◌}
+use Rattle.std.proofs.lemmas.Bool.{and_from, eq-eqb, eqb-true, ne_eqb, true≢false}
 use Rattle.std.specs.Prelude.{not}
 use Rattle.aom_image.specs.Image.{Image}
 use Rattle.aom_rules.specs.Typing.{Typing}
@@ -51,7 +51,7 @@ module _ (p : Image) (t : Typing) (cs : List Cell) (g : Place) (o : Object) (tid
     ready = h.ready;
   }
 
-  housed_without : (ls : List Layer) (home : Home) → Outside g ls → ((from : Place) → NoFieldHere g from) → IsHoused p cs ls home → IsHoused p (without g cs) ls home
+  pub housed_without : (ls : List Layer) (home : Home) → Outside g ls → ((from : Place) → NoFieldHere g from) → IsHoused p cs ls home → IsHoused p (without g cs) ls home
   housed_without ls Static out plain h = h
   housed_without ls AtRoot out plain h = h
   housed_without ls (Inside x from) out plain h = holds_without ls x from (outside_differs g from ls out (plain from) h.below) h
@@ -65,7 +65,7 @@ module _ (p : Image) (t : Typing) (cs : List Cell) (g : Place) (o : Object) (tid
   first_apart (z ∷ xs) y f none = let same : z ≡ y = cc in subst (λ (z : Seat). same_place g z.place ≡ false) same none.0
   first_apart [] y f none = cc
 
-  stack_without : (ls : List Layer) (back : Back) → Outside g ls → ((from : Place) → NoFieldHere g from) → Stack p t cs back ls → Stack p t (without g cs) back ls
+  pub stack_without : (ls : List Layer) (back : Back) → Outside g ls → ((from : Place) → NoFieldHere g from) → Stack p t cs back ls → Stack p t (without g cs) back ls
   stack_without [] back out plain s = s
   stack_without (Method fr sh ∷ ls) back out plain s =
       let out' = outside_less g (Method fr sh) ls out in
@@ -301,24 +301,24 @@ module _ (p : Image) (t : Typing) (s : State) (o : Object) (ls : List Layer) (go
   g = Going (length (tasks_of ls))
 
   stack_less : Stack p t less Now (Dying o ∷ ls)
-  stack_less = stack_dropped waits p s.cells good.tidy waits_sent waits_messages t (Dying o ∷ ls) Now good.stack
+  stack_less = stack_dropped waits p s.cells good.tidy waits_messages waits_sent t (Dying o ∷ ls) Now good.stack
 
   tidy_less : Tidy less
   tidy_less = tidy_dropped waits s.cells good.tidy
 
   fits_less : (r : Place) → is_queue_of o.name r ≡ false → Fits p (seen less) (held less r) (claim p (declared p less) (Dying o ∷ ls) r)
   fits_less r e =
-      subst (λ k. Fits p (seen less) (held less r) k) (claim_rel (λ x y. x ≡ y) (λ k. refl) p (declared p s.cells) (declared p less) (Dying o ∷ ls) r (sym (declared_dropped waits p s.cells good.tidy waits_sent waits_messages r)))
-      (fits_dropped waits p s.cells good.tidy waits_sent waits_messages r _ e (good.fits r))
+      subst (λ k. Fits p (seen less) (held less r) k) (claim_rel (λ x y. x ≡ y) (λ k. refl) p (declared p s.cells) (declared p less) (Dying o ∷ ls) r (sym (declared_dropped waits p s.cells good.tidy waits_messages r)))
+      (fits_dropped waits p s.cells good.tidy waits_messages r _ e (good.fits r))
 
   suits_less : AllSuit p less (Dying o ∷ ls)
-  suits_less = suits_dropped waits p s.cells good.tidy waits_sent waits_messages (Dying o ∷ ls) good.suits
+  suits_less = suits_dropped waits p s.cells good.tidy waits_messages (Dying o ∷ ls) good.suits
 
   none_waits : (m : ℕ) → held less (Elsewhere (Queued o.name m)) ≡ None
   none_waits m = held_dropped waits s.cells (Elsewhere (Queued o.name m)) ∙ ap (λ b. cond b None (held s.cells (Elsewhere (Queued o.name m)))) (eq-eqb o.name _ refl)
 
   rests_less : is_at_rest (requested less o.name) ≡ true
-  rests_less = ap is_at_rest (stays_same waits p s.cells good.tidy waits_sent waits_messages g o refl good.stack.0.1).request ∙ rests_as_it_goes p t s.cells o ls good
+  rests_less = ap is_at_rest (stays_same waits p s.cells good.tidy waits_messages g o refl good.stack.0.1).request ∙ rests_as_it_goes p t s.cells o ls good
 
   -- the state once it is gone
   abbrev after : List Cell → State

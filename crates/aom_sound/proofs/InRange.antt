@@ -24,7 +24,7 @@ use Rattle.aom_sound.specs.Laws.{IsWired, RegistersKeep}
 use Rattle.aom_sound.specs.Moves.{needs_end, counted, dispatch_ends, does, main_ends, needs, step, step_instr, step_task, answered, asking, failed, handled, object_ends}
 use Rattle.aom_sound.specs.Places.{Service, set_service, Session, In_service, Queued, service_of, Cell, Elsewhere, Entry, Going, Object, Place, Register, Request, Root, held, moved, same_place, set_request, set_word_field, without, set_session}
 use Rattle.aom_sound.specs.Registers.{AllInRange, IsInRange}
-use Rattle.aom_sound.specs.State.{Seat, Of_server, Accepts, Accepted, Accept_left, Serves, Service_left, Parts, Closing, A_mark, An_object, An_operation, AtRoot, Choice, Destroy, Dispatch, Dispatched, Frame, Goes, Home, Inside, IsStuck, Item, Main_left, NullOrDead, Of_main, Of_root, Run, State, Static, Task, Trapped, Unwind, field_place, resumed, Answered, Asks, Object_left, Of_object}
+use Rattle.aom_sound.specs.State.{Seat, Of_server, Accepts, Accepted, Accept_left, Serves, Service_left, Parts, Closing, A_mark, An_object, An_operation, AtRoot, Choice, Destroy, Dispatch, Dispatched, Frame, Goes, Home, Inside, IsStuck, Item, Main_left, NullOrDead, Of_main, Of_root, Run, State, Static, Task, Trapped, Unwind, field_place, Answered, Asks, Object_left, Of_object}
 use Rattle.aom_sound.specs.Words.{here, stored}
 use Rattle.aom_rules.specs.Requests.{is_cancel}
 use Rattle.aom_sound.specs.Natives.{all_bereaved, resessioned}

@@ -3,6 +3,7 @@ pub mod Counts
 pub mod Services
 pub mod Sifted
 pub mod Queues
+pub mod Seated
 pub mod ClientsFit
 pub mod ClientsAsk
 pub mod ClientsLeave
@@ -50,6 +51,7 @@ pub mod Dealing
 pub mod Entries
 pub mod Arrival
 pub mod Unwinding
+pub mod Messages
 pub mod Steps
 pub mod Booting
 pub mod Owners

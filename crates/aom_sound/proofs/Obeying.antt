@@ -1,6 +1,5 @@
 -- A client's command between dispatches leads to a well-typed state.
-use Rattle.std.proofs.Common.{Bool, List, None, Option, Some, [], ap, cond, false, refl, subst, sym, true, ℕ, ℤ, ◌==◌, ◌∙◌, ◌∷◌, ◌≡◌}
-use Rattle.std.specs.List.{list_any}
+use Rattle.std.proofs.Common.{List, None, Option, Some, [], ap, false, refl, subst, sym, true, ℕ, ℤ, ◌∙◌, ◌∷◌, ◌≡◌}
 use Rattle.aom_image.specs.Image.{Image}
 use Rattle.aom_image.specs.declared.method.Thing.TheVariants.{Message}
 use Rattle.aom_clients.specs.Table.{row, server_of}
@@ -21,7 +20,7 @@ use Rattle.aom_sound.specs.Clients.{Closes, Command, Connects, Dies, Listed, Sen
 use Rattle.aom_sound.specs.Kept.{ClientsFit}
 use Rattle.aom_sound.specs.Laws.{IsWired}
 use Rattle.aom_sound.specs.Owned.{NoneGoes}
-use Rattle.aom_sound.specs.Places.{Cell, Close_of, Connect_of, Elsewhere, Message_of, Object, Queued, Sender, held, named, service_of, unserved}
+use Rattle.aom_sound.specs.Places.{Cell, Close_of, Connect_of, Elsewhere, Message_of, Object, Queued, held, named, service_of, unserved}
 use Rattle.aom_sound.specs.Servers.{asked_last, is_server, reserved, withdrawn}
 use Rattle.aom_sound.specs.State.{State}
 use Rattle.aom_sound.specs.WellTyped.{AllUndo, Good, WellTyped}
@@ -63,7 +62,7 @@ module _ (p : Image) (t : Typing) (wired : IsWired p) (s : State) (w : WellTyped
   sends_well None name words free (Open server session slots) at =
       let there = server_there p c s good.tidy fit server (fit.listed server c (ap server_of at)) in
       well _ refl refl (subst (λ n. Good p t (sent n) []) there.1
-        (good_sent p t s.cells good there.0 there.2 there.3 c name free (the_message there.0.name) refl refl refl refl refl (none_named name (service_of s.cells there.0.name).queue (nobody p c s good.tidy fit there.0.name name free))))
+      (good_sent p t s.cells good there.0 there.2 there.3 c name free (the_message there.0.name) refl refl refl refl refl (none_named name (service_of s.cells there.0.name).queue (nobody p c s good.tidy fit there.0.name name free))))
     where
       the_message : ℕ → Cell
       the_message n = record {

@@ -398,7 +398,6 @@ module _ (p : Image) (t : Typing) (wired : IsWired p) (s : State) (w : WellTyped
       let lower = lower_rank p wired x.0.thing o.thing f x.2 in
       let y = named_held s.cells n x.0 w.good.tidy x.1 in
       by_cell x.0 y.0 x.1 y.1 (ends_by fuel y.0 x.0 y.1 (omega arith))
-
   ends_by zero (Elsewhere (Session n c)) o e le = let x = at_session n c o e in let lower = session_lower p wired x.0 o.thing x.3 in absurd (omega (arith, le, lower.0, lower.1))
   ends_by (suc fuel) (Elsewhere (Session n c)) o e le =
       let x = at_session n c o e in

@@ -1,6 +1,6 @@
 -- What a server's dispatch ends with: the entry is served, and it goes on as the dispatch of an object.
 use Rattle.std.proofs.Common.{Bool, List, None, Option, Some, [], ap, cond, false, refl, subst, sym, true, ℕ, ℤ, ◌==◌, ◌∙◌, ◌∷◌, ◌≡◌}
-use Rattle.std.proofs.lemmas.Bool.{eq-eqb, eqb-true, ne_eqb, true≢false}
+use Rattle.std.proofs.lemmas.Bool.{eqb-true}
 use Rattle.std.specs.Prelude.{filter, is_some, not, ◌&&◌, ◌||◌}
 use Rattle.aom_image.specs.Image.{Image}
 use Rattle.aom_image.specs.declared.method.Thing.TheVariants.{Message}
@@ -12,13 +12,12 @@ use Rattle.aom_shape.specs.declared.kind.Kind.{Kind}
 use Rattle.aom_shape.specs.declared.kind.Kind.TheVariants.{Null, Own}
 use Rattle.aom_sound.proofs.Claimed.{fits_age}
 use Rattle.aom_sound.proofs.Dropping.{declared_dropped, dropped, fits_dropped, held_dropped, is_sent, place_dropped, stack_dropped, suits_dropped, tidy_dropped}
-use Rattle.aom_sound.proofs.Maps.{cond_same, same_place-true}
-use Rattle.aom_sound.proofs.Seats.{first_kept}
+use Rattle.aom_sound.proofs.Maps.{same_place-true}
 use Rattle.aom_sound.proofs.Services.{held_served, named_served, requested_served, service_here, service_there, sits_lives, tidy_served}
 use Rattle.aom_sound.proofs.Things.{stands_same}
-use Rattle.aom_sound.specs.Claims.{Dispatching, Layer, by_close, by_stage, claim, declared, declared_field, forms, items_of, tasks_of}
+use Rattle.aom_sound.specs.Claims.{Dispatching, by_close, by_stage, claim, declared, declared_field, forms}
 use Rattle.aom_sound.specs.Moves.{dispatch_ends, needs_end, stage_ends}
-use Rattle.aom_sound.specs.Places.{Cell, Elsewhere, Entry, Field, Going, In_service, Object, Place, Queued, Register, Root, Service, Session, held, named, requested, same_place, seen, service_of, set_service, without}
+use Rattle.aom_sound.specs.Places.{Cell, Elsewhere, Entry, Field, Going, In_service, Object, Place, Queued, Register, Root, Service, Session, held, named, same_place, seen, service_of, set_service, without}
 use Rattle.aom_sound.specs.Requests.{Suits, states_claim, thing_kind}
 use Rattle.aom_sound.specs.Servers.{has_message, has_session, is_among, is_other, message_thing, parted, session_thing}
 use Rattle.aom_sound.specs.State.{Accept_left, Accepted, Accepts, CompletedTwice, Dispatched, Goes, IsStuck, Of_object, Of_server, Parts, Seat, Service_left, Serves, Stage, State, guarded}
@@ -94,18 +93,18 @@ module _ (p : Image) (t : Typing) (s : State) (x : Seat) (client : ℕ) (seats :
 
     left_good : Good p t left (Dispatching (Of_object x) seats ∷ [])
     left_good =
-        let stack = stack_dropped goes p s.cells good.tidy goes_sent goes_message t (Dispatching (Of_server x client (Service_left code)) seats ∷ []) Now good.stack in
+        let stack = stack_dropped goes p s.cells good.tidy goes_message goes_sent t (Dispatching (Of_server x client (Service_left code)) seats ∷ []) Now good.stack in
         record {
           stack = (tt, refl, stack.2, stack.3, tt);
           fits = fits;
-          suits = suits_dropped goes p s.cells good.tidy goes_sent goes_message (Dispatching (Of_object x) seats ∷ []) good.suits;
+          suits = suits_dropped goes p s.cells good.tidy goes_message (Dispatching (Of_object x) seats ∷ []) good.suits;
           tidy = tidy_dropped goes s.cells good.tidy;
         }
       where
         same : (r : Place) → same_place r (Elsewhere In_service) ≡ false → Fits p (seen s.cells) (held s.cells r) (declared p s.cells r) → Fits p (seen left) (held left r) (declared p left r)
         same r e f =
-            subst (λ k. Fits p (seen left) (held left r) k) (sym (declared_dropped goes p s.cells good.tidy goes_sent goes_message r))
-            (fits_dropped goes p s.cells good.tidy goes_sent goes_message r (declared p s.cells r) e f)
+            subst (λ k. Fits p (seen left) (held left r) k) (sym (declared_dropped goes p s.cells good.tidy goes_message r))
+            (fits_dropped goes p s.cells good.tidy goes_message r (declared p s.cells r) e f)
 
         fits : (r : Place) → Fits p (seen left) (held left r) (claim p (declared p left) (Dispatching (Of_object x) seats ∷ []) r)
         fits (Register f i) = same (Register f i) refl (good.fits (Register f i))

@@ -23,9 +23,9 @@ use Rattle.aom_sound.proofs.Maps.{at-put_at, held_moved, requested_moved, same_p
 use Rattle.aom_sound.proofs.Returning.{held_thing, may_own, word_is}
 use Rattle.aom_sound.proofs.Straight.{At, claim_register, fits_unowning, housed_relocated, kind_fits, no_word_fits, word_of_object, words_null, words_set}
 use Rattle.aom_sound.specs.Calls.{needs_each, passed_cells, passed_words}
-use Rattle.aom_sound.specs.Claims.{Layer, Method, claim, declared, layer_claim, tasks_of}
+use Rattle.aom_sound.specs.Claims.{Layer, Method, claim, declared, tasks_of}
 use Rattle.aom_sound.specs.Places.{Cell, Elsewhere, Entry, Field, Going, Place, Register, Root, Tidy, changed, held, moved, same_place, seen}
-use Rattle.aom_sound.specs.State.{Choice, Frame, State, Static, frame_of, word}
+use Rattle.aom_sound.specs.State.{Choice, Frame, State, word}
 use Rattle.aom_sound.specs.WellTyped.{Fits, Good, IsHoused, Returns, Stack, WordFits}
 use Rattle.aom_sound.proofs.Suiting.{all_moved}
 use Rattle.aom_sound.specs.Requests.{AllSuit}

@@ -1,11 +1,9 @@
 -- A server is picked for a close: the session of its client goes.
-use Rattle.std.proofs.Common.{Bool, List, None, Option, Some, [], ap, arith, cond, false, inl, inr, length, refl, subst, sym, true, ℕ, ⊎_elim, ◌&&◌, ◌<◌, ◌==◌, ◌∙◌, ◌∷◌, ◌≡◌}
-use Rattle.std.proofs.lemmas.Bool.{eq-eqb, eqb-true, ne_eqb, true≢false}
-use Rattle.std.specs.Prelude.{is_some, ◌||◌}
+use Rattle.std.proofs.Common.{Bool, List, None, Some, [], ap, arith, cond, false, inl, inr, length, refl, subst, sym, true, ℕ, ⊎_elim, ◌&&◌, ◌<◌, ◌==◌, ◌∙◌, ◌∷◌, ◌≡◌}
+use Rattle.std.proofs.lemmas.Bool.{ne_eqb}
+use Rattle.std.specs.Prelude.{is_some}
 use Rattle.aom_image.specs.Image.{Image}
-use Rattle.aom_clients.specs.Table.{server_of}
 use Rattle.aom_rules.specs.Typing.{IsTyped, Typing}
-use Rattle.aom_shape.specs.declared.kind.Kind.{Kind}
 use Rattle.aom_shape.specs.declared.kind.Kind.TheVariants.{Null}
 use Rattle.aom_sound.proofs.ClientsFit.{leaving_only}
 use Rattle.aom_sound.proofs.Destroying.{begin, goes_fitting, goes_there, no_going}
@@ -15,7 +13,7 @@ use Rattle.aom_sound.proofs.Owners.{rank}
 use Rattle.aom_sound.proofs.Picking.{above, fits_now, held_now, named_now, no_items, requested_now, session_held, sessions_now, sits, sits_now, suits_now, tidy_now}
 use Rattle.aom_sound.proofs.Services.{service_moved}
 use Rattle.aom_sound.proofs.Suiting.{all_moved}
-use Rattle.aom_sound.specs.Claims.{Dispatching, Layer, claim, declared, forms, tasks_of}
+use Rattle.aom_sound.specs.Claims.{Dispatching, Layer, claim, declared, forms}
 use Rattle.aom_sound.specs.Clients.{client_at}
 use Rattle.aom_sound.specs.Kept.{ClientsFit, QueueFits}
 use Rattle.aom_sound.specs.Laws.{IsWired}
@@ -23,12 +21,12 @@ use Rattle.aom_sound.specs.Places.{Asked, Cell, Close_of, Elsewhere, Entry, Fiel
 use Rattle.aom_sound.specs.Servers.{has_session, is_server, reserved, taken_first}
 use Rattle.aom_sound.specs.State.{Dispatched, Of_server, Parts, Seat, State}
 use Rattle.aom_sound.specs.Destruction.{begun}
-use Rattle.aom_sound.specs.WellTyped.{AllSit, AllUndo, Fits, Keeps, NoSeatIn, SitsIn, SomeSits, WellTyped}
+use Rattle.aom_sound.specs.WellTyped.{AllSit, AllUndo, Fits, Keeps, SitsIn, SomeSits, WellTyped}
 use Rattle.aom_sound.specs.World.{parting_with, taken_from}
 
 module _ (p : Image) (t : Typing) (wired : IsWired p) (typed : IsTyped p t) (s : State) (w : WellTyped p t s) (idle_now : s.tasks ≡ []) (fit : ClientsFit p s.clients s.cells)
-  (x : Seat) (r : Request) (there : held s.cells x.place ≡ Some x.object) (lives : named s.cells x.object.name ≡ Some x.object) (asked : requested s.cells x.object.name ≡ Some r) (server : is_server p x.object.thing ≡ true)
-  (client : ℕ) (es : List Asked) (queue : (service_of s.cells x.object.name).queue ≡ Close_of client ∷ es) where
+    (x : Seat) (r : Request) (there : held s.cells x.place ≡ Some x.object) (lives : named s.cells x.object.name ≡ Some x.object) (asked : requested s.cells x.object.name ≡ Some r) (server : is_server p x.object.thing ≡ true)
+    (client : ℕ) (es : List Asked) (queue : (service_of s.cells x.object.name).queue ≡ Close_of client ∷ es) where
   abbrev n : ℕ
   n = x.object.name
 

@@ -1,10 +1,10 @@
 -- A server is picked: its `accept` or the `service` of a session enters over the dispatch.
 use Rattle.std.proofs.Common.{Bool, IsTrue, List, None, Option, Some, [], ap, arith, cond, false, inl, inr, length, refl, subst, suc, sym, true, zero, ℕ, ℤ, ◌&&◌, ◌<◌, ◌==◌, ◌∙◌, ◌∷◌, ◌≡◌}
-use Rattle.std.proofs.lemmas.Bool.{eq-eqb, eqb-true, ne_eqb, true≢false}
+use Rattle.std.proofs.lemmas.Bool.{eq-eqb, eqb-true, true≢false}
 use Rattle.std.specs.List.{list_any}
 use Rattle.std.specs.Prelude.{is_some, map, replicate, ◌||◌}
 use Rattle.aom_image.specs.Image.{Image}
-use Rattle.aom_image.specs.Views.{has, method_class, method_role}
+use Rattle.aom_image.specs.Views.{has, method_class}
 use Rattle.aom_image.specs.declared.class.ClassKind.{ClassKind}
 use Rattle.aom_image.specs.declared.class.ClassKind.TheVariants.{Server as A_server, Session as A_session}
 use Rattle.aom_image.specs.declared.method.Argument.TheVariants.{Word as Takes_word}
@@ -12,8 +12,7 @@ use Rattle.aom_image.specs.declared.method.Gives.TheVariants.{Nothing, Own as An
 use Rattle.aom_image.specs.declared.method.Role.TheVariants.{Accept as Accepts_role, Service as Attends_role}
 use Rattle.aom_image.specs.declared.method.Thing.{Thing}
 use Rattle.aom_image.specs.declared.method.Thing.TheVariants.{Message, Object as An_object_of}
-use Rattle.aom_clients.specs.Nodes.{is_connecting_at, is_leaving, is_open_at}
-use Rattle.aom_clients.specs.Table.{server_of}
+use Rattle.aom_clients.specs.Nodes.{is_connecting_at}
 use Rattle.aom_roles.specs.Classes.{is_session, is_session_in, is_session_kind, kind_at, sessions_at, sessions_in, sessions_of}
 use Rattle.aom_roles.specs.Shapes.{kind_of}
 use Rattle.aom_roles.specs.States.{idle, server_states, states_of}
@@ -45,11 +44,11 @@ use Rattle.aom_sound.specs.Clients.{client_at}
 use Rattle.aom_sound.specs.Enlisted.{part_of}
 use Rattle.aom_sound.specs.Kept.{ClientsFit, QueueFits}
 use Rattle.aom_sound.specs.Laws.{IsAcceptor, IsAttendant, IsWired}
-use Rattle.aom_sound.specs.Places.{Asked, Cell, Close_of, Connect_of, Elsewhere, Entry, Field, Going, In_service, Message_of, Object, Idle, Phase, Place, Queued, Register, Request, Root, Service, Session, Sight, Tidy, held, moved, named, requested, seen, service_of, word_field}
-use Rattle.aom_sound.specs.Requests.{AllSuit, Known, Suits, phase_state, resting_in, rests_in, thing_kind}
+use Rattle.aom_sound.specs.Places.{Asked, Cell, Connect_of, Elsewhere, Entry, Field, Going, In_service, Message_of, Object, Idle, Phase, Place, Queued, Register, Request, Root, Session, Sight, Tidy, held, moved, named, requested, seen, service_of, word_field}
+use Rattle.aom_sound.specs.Requests.{Known, Suits, phase_state, resting_in, rests_in, thing_kind}
 use Rattle.aom_sound.specs.Servers.{has_message, has_session, is_message, is_server, of_class, session_class, message_thing, reserved, rest_of, session_thing, taken_first}
 use Rattle.aom_sound.specs.State.{A_mark, Accepts, Inside, Of_server, Serves, Seat, State, frame_of, thing_holder}
-use Rattle.aom_sound.specs.WellTyped.{AllSit, Fits, Good, IsServed, Keeps, SitsIn, SomeSits, WellTyped, WordFits}
+use Rattle.aom_sound.specs.WellTyped.{AllSit, Fits, Good, Keeps, SitsIn, SomeSits, WellTyped, WordFits}
 use Rattle.aom_sound.specs.World.{accepting, attended, attending, message_words, serving, taken_from}
 
 -- what is ready fits whatever is asked for
@@ -111,7 +110,7 @@ plain_message d (Elsewhere In_service) = refl
 plain_message d (Elsewhere (Queued s m)) = refl
 
 module _ (p : Image) (t : Typing) (wired : IsWired p) (typed : IsTyped p t) (s : State) (w : WellTyped p t s) (idle_now : s.tasks ≡ []) (fit : ClientsFit p s.clients s.cells)
-  (x : Seat) (r : Request) (there : held s.cells x.place ≡ Some x.object) (lives : named s.cells x.object.name ≡ Some x.object) (asked : requested s.cells x.object.name ≡ Some r) (server : is_server p x.object.thing ≡ true) where
+    (x : Seat) (r : Request) (there : held s.cells x.place ≡ Some x.object) (lives : named s.cells x.object.name ≡ Some x.object) (asked : requested s.cells x.object.name ≡ Some r) (server : is_server p x.object.thing ≡ true) where
   abbrev n : ℕ
   n = x.object.name
 

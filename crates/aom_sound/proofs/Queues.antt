@@ -1,6 +1,6 @@
 -- What waits in a queue fits where clients and queues change: by its entries one after another.
-use Rattle.std.proofs.Common.{Bool, List, None, Option, Some, [], ap, cond, false, refl, subst, sym, true, ℕ, ◌&&◌, ◌==◌, ◌∙◌, ◌∷◌, ◌≡◌}
-use Rattle.std.proofs.lemmas.Bool.{eq-eqb, eqb-true, ne_eqb, true≢false}
+use Rattle.std.proofs.Common.{Bool, List, [], ap, cond, false, refl, subst, sym, true, ℕ, ◌==◌, ◌∙◌, ◌∷◌, ◌≡◌}
+use Rattle.std.proofs.lemmas.Bool.{eq-eqb, ne_eqb, true≢false}
 use Rattle.std.proofs.lemmas.List.Folds.{list_any-append}
 use Rattle.std.specs.List.{list_any}
 use Rattle.std.specs.Prelude.{filter, ◌++◌, ◌||◌}
@@ -9,9 +9,8 @@ use Rattle.aom_clients.specs.declared.client.Client.TheVariants.{Unconnected}
 use Rattle.aom_clients.specs.Nodes.{is_connecting_at, is_leaving, is_open_at}
 use Rattle.aom_sound.proofs.Maps.{at-put_at}
 use Rattle.aom_sound.specs.Clients.{client_at, with_client}
-use Rattle.aom_sound.specs.Kept.{EntryFits, QueueFits, asked_again, is_close_of, is_connect_of, is_message_of}
+use Rattle.aom_sound.specs.Kept.{EntryFits, QueueFits, asked_again}
 use Rattle.aom_sound.specs.Places.{Asked, Close_of, Connect_of, Message_of}
-use Rattle.aom_sound.specs.Servers.{is_message}
 
 -- ---- one client
 

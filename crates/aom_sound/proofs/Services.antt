@@ -1,11 +1,11 @@
 -- What clients have at the cells where these change: by the cells one after another.
 use Rattle.std.proofs.Common.{Bool, List, None, Option, Some, [], ap, cond, false, refl, sym, subst, true, ℕ, ℤ, ◌==◌, ◌∙◌, ◌∷◌, ◌≡◌}
-use Rattle.std.proofs.lemmas.Bool.{eqb-true, eq-eqb, false≢true, ne_eqb, true≢false}
+use Rattle.std.proofs.lemmas.Bool.{eqb-true, eq-eqb, true≢false}
 use Rattle.aom_image.specs.Image.{Image}
 use Rattle.aom_sound.specs.WellTyped.{AllSit, SitsFirst, seat_of, EndsSessions, IsAttended, StageFits}
 use Rattle.aom_sound.specs.Servers.{is_among, has_session}
 use Rattle.aom_sound.specs.State.{Seat, Dispatch, Of_server, Stage, Accepts, Accepted, Accept_left, Serves, Service_left, Parts}
-use Rattle.aom_sound.proofs.Maps.{front_free, held_named, same_place-true, without_none}
+use Rattle.aom_sound.proofs.Maps.{front_free, same_place-true, without_none}
 use Rattle.aom_sound.specs.Natives.{all_bereaved}
 use Rattle.aom_sound.specs.Places.{Cell, Object, Place, Request, Service, Tidy, held, moved, named, requested, same_place, service_of, set_request, set_service, set_session, set_word_field, unserved, without}
 

@@ -1,12 +1,12 @@
 -- Every move from a well-typed state.
-use Rattle.std.proofs.Common.{List, None, Some, [], cond, refl, subst, sym, ℕ, ℤ, ◌∙◌, ◌∷◌, ◌≡◌, arith}
+use Rattle.std.proofs.Common.{List, None, Some, [], cond, refl, subst, sym, ℕ, ℤ, ◌∙◌, ◌∷◌, ◌≡◌}
 use Rattle.std.specs.Int.{int_bit_and, int_bit_or, int_bit_xor, int_wrapping_add, int_wrapping_mul, int_wrapping_sub, w32}
 use Rattle.std.specs.Ordering.{int_eq}
 use Rattle.std.specs.Prelude.{int_lt}
 use Rattle.aom_image.specs.Image.{Image}
 use Rattle.aom_image.specs.Views.{instr_at}
 use Rattle.aom_instructions.specs.declared.instr.Instr.{Instr}
-use Rattle.aom_instructions.specs.declared.instr.Instr.TheVariants.{Abort, Add, And, Call, Cancel, Const, Copy, Delete, Enlist, Issue, Jump, JumpActive, JumpAdded, JumpEmpty, JumpEqual, JumpLess, JumpNull, Leave, LeaveIf, Load, Loop, Move, Mul, New, NewOrLeave, Next, Or, Pop, PopDelete, PopOperation, Print, Push, PushOperation, Put, Return, SetActive, Status, Stop, Store, Sub, Take, Trap, Xor, Connect, Ask, Close}
+use Rattle.aom_instructions.specs.declared.instr.Instr.TheVariants.{Abort, Add, And, Call, Cancel, Const, Copy, Delete, Enlist, Issue, Jump, JumpActive, JumpAdded, JumpEmpty, JumpEqual, JumpLess, JumpNull, Leave, LeaveIf, Load, Loop, Move, Mul, New, NewOrLeave, Next, Or, Pop, PopDelete, PopOperation, Print, Push, PushOperation, Put, Return, SetActive, Status, Stop, Store, Sub, Take, Trap, Xor, Connect, Ask, Close, TakeMessage, Reply}
 use Rattle.aom_shape.specs.Needs.{AllTrue}
 use Rattle.aom_shape.specs.Shape.{Shape}
 use Rattle.aom_rules.specs.Typing.{IsTyped, Typing}
@@ -20,6 +20,7 @@ use Rattle.aom_sound.proofs.Going.{going_keeps}
 use Rattle.aom_sound.proofs.Jumps.{law_jump, law_jump_empty, law_jump_null, law_loop, law_next}
 use Rattle.aom_sound.proofs.Words.{law_binary, law_compare, law_const, law_copy, law_load, law_print, law_store}
 use Rattle.aom_sound.proofs.Leaving.{law_leave, law_leave_if}
+use Rattle.aom_sound.proofs.Messages.{law_reply, law_take_message}
 use Rattle.aom_sound.proofs.Moves.{law_move, law_put, law_take}
 use Rattle.aom_sound.proofs.Requesting.{law_abort, law_enlist, law_issue, law_jump_active, law_jump_added, law_set_active, law_status, main_of_none}
 use Rattle.aom_sound.proofs.Returning.{law_answer, law_return, law_return_caught, law_return_main, law_return_object, law_return_served, law_return_unwound}
@@ -94,7 +95,8 @@ module _ (p : Image) (t : Typing) (wired : IsWired p) (typed : IsTyped p t) (c :
   law (Connect a) here back = law_connect p t (main_of_none p wired) c s fr sh ls at_hand a
   law (Ask a b x) here back = law_ask p t (main_of_none p wired) c s fr sh ls at_hand a b x
   law Close here back = law_close p t (main_of_none p wired) c s fr sh ls at_hand
-  law _ here back = λ n l. cc
+  law (TakeMessage a) here back = law_take_message p t c s fr sh ls at_hand a
+  law (Reply a b) here back = law_reply p t c s fr sh ls at_hand a b
 
 -- no method stands right over the dispatch of a server
 no_stage : (p : Image) (x : Seat) (stage : Stage) (m : ℕ) (home : Home) → EndsStage p x stage (Returns m home) → ⊥

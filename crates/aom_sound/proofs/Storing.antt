@@ -1,9 +1,7 @@
 -- The words of a cell count for no place, and its request for the age of objects alone: where these change, what is claimed holds on.
 use Rattle.std.specs.Prelude.{is_some, map}
-use Rattle.aom_shape.specs.declared.kind.Age.TheVariants.{Ready}
-use Rattle.aom_shape.specs.declared.kind.Kind.TheVariants.{Null, Own}
+use Rattle.aom_shape.specs.declared.kind.Kind.TheVariants.{Null}
 use Rattle.aom_shape.specs.declared.kind.Filling.TheVariants.{Full}
-use Rattle.aom_image.specs.declared.method.Thing.TheVariants.{Message}
 use Rattle.aom_sound.proofs.Services.{attended_kept, sessions_kept, service_asked, service_opened, service_stored}
 use Rattle.aom_sound.specs.Servers.{is_among, is_message, message_thing, has_message, has_session, session_thing}
 use Rattle.aom_sound.proofs.Seats.{first_kept}

@@ -2,7 +2,7 @@
 use Rattle.std.proofs.Common.{Bool, true, false, List, [], ap, cond, refl, ℕ, ◌==◌, ◌∙◌, ◌∷◌, ◌≡◌, Some}
 use Rattle.aom_sound.proofs.Storing.{Alike, alike_itself}
 use Rattle.aom_sound.specs.Clients.{each_unslotted}
-use Rattle.aom_sound.specs.Places.{Cell, Place, Service, Tidy, held, named, requested, same_place, service_of}
+use Rattle.aom_sound.specs.Places.{Cell, Place, Tidy, held, named, requested, same_place, service_of}
 use Rattle.aom_sound.specs.Servers.{unslotted, all_unslotted}
 
 held_unslotted : (c : ℕ) (cs : List Cell) (r : Place) → held (all_unslotted c cs) r ≡ held cs r

@@ -3,9 +3,9 @@ use Rattle.std.proofs.Common.{ℕ, arith, List, [], ap, refl, sym, ◌∙◌, �
 use Rattle.aom_image.specs.Image.{Image}
 use Rattle.aom_rules.specs.Typing.{Typing}
 use Rattle.aom_sound.specs.Claims.{Ending, Dispatching, Dying, Layer, Mark, Method, Unwinding, tasks_of}
-use Rattle.aom_sound.specs.Places.{Object, Cell}
+use Rattle.aom_sound.specs.Places.{Cell}
 use Rattle.aom_sound.specs.State.{Closing, Of_server, Parts, Stage, Destroy, Dispatch, Dispatched, Asks, Frame, Of_main, Of_object, Of_root, Run, Seat, State, Task, Trapped, Unwind}
-use Rattle.aom_sound.specs.WellTyped.{IsOverDying, Back, Caught, Gone, Leaves, Now, Returns, Stack, WellTyped}
+use Rattle.aom_sound.specs.WellTyped.{Back, Caught, Gone, Leaves, Now, Returns, Stack, WellTyped}
 
 -- what stands over a layer: a method, a cell that goes, or a leave
 pub data Over : Type 0 where

@@ -8,20 +8,19 @@ use Rattle.aom_image.specs.declared.method.Thing.TheVariants.{Message}
 use Rattle.aom_clients.specs.declared.client.Client.{Client}
 use Rattle.aom_rules.specs.Typing.{Typing}
 use Rattle.aom_shape.specs.Kinds.{filled}
-use Rattle.aom_shape.specs.declared.kind.Age.TheVariants.{Ready}
 use Rattle.aom_shape.specs.declared.kind.Filling.TheVariants.{Full}
 use Rattle.aom_shape.specs.declared.kind.Kind.{Kind}
-use Rattle.aom_shape.specs.declared.kind.Kind.TheVariants.{Null, Own}
+use Rattle.aom_shape.specs.declared.kind.Kind.TheVariants.{Null}
 use Rattle.aom_sound.proofs.Claimed.{declared_ready}
 use Rattle.aom_sound.proofs.ClientsLeave.{service_left}
 use Rattle.aom_sound.proofs.ClientsTurn.{message_plain}
 use Rattle.aom_sound.proofs.Maps.{named_name}
 use Rattle.aom_sound.proofs.Picking.{fits_ready}
 use Rattle.aom_sound.proofs.Queues.{none_stays}
-use Rattle.aom_sound.proofs.Sifted.{cell_in, cell_in_sifted, cell_lives, cell_name, cell_of, cell_of_sifted, cell_owner, cell_placed, held_cell, kept, named_cell, object_in, request_in, requested_cell, service_cell, service_in, sifted, tidy_sifted, withdrawn_so}
+use Rattle.aom_sound.proofs.Sifted.{cell_in, cell_in_sifted, cell_lives, cell_of, cell_of_sifted, cell_owner, cell_placed, held_cell, kept, named_cell, object_in, request_in, requested_cell, service_cell, service_in, sifted, tidy_sifted, withdrawn_so}
 use Rattle.aom_sound.specs.Claims.{declared, declared_field}
 use Rattle.aom_sound.specs.Kept.{ClientsFit, is_message_of}
-use Rattle.aom_sound.specs.Places.{Asked, Cell, Close_of, Connect_of, Elsewhere, Entry, Field, Going, In_service, Message_of, Object, Place, Queued, Register, Request, Root, Sender, Session, Tidy, held, named, requested, seen, service_of}
+use Rattle.aom_sound.specs.Places.{Asked, Cell, Close_of, Connect_of, Elsewhere, Entry, Field, Going, In_service, Message_of, Object, Place, Queued, Register, Root, Sender, Session, held, named, requested, seen, service_of}
 use Rattle.aom_sound.specs.Requests.{AllSuit, Suits, resting_in, rests_in, thing_kind}
 use Rattle.aom_sound.specs.Servers.{has_message, has_session, is_from, is_message, is_queue, is_server, left_by, message_thing, session_thing, stays, withdrawn}
 use Rattle.aom_sound.specs.WellTyped.{Fits, Good}

@@ -1,5 +1,5 @@
 -- What is claimed of each place, from the methods at hand and their abstract states.
-use Rattle.std.specs.Prelude.{ℕ, ℤ, Bool, true, false, cond, ◌==◌, map, List, [], ◌∷◌, Option, Some, None, length, ◌&&◌, not}
+use Rattle.std.specs.Prelude.{ℕ, ℤ, Bool, true, false, cond, ◌==◌, map, List, [], ◌∷◌, Option, Some, None, length, ◌&&◌}
 use Rattle.aom_image.specs.Image.{Image}
 use Rattle.aom_image.specs.declared.method.Gives.{Gives}
 use Rattle.aom_shape.specs.Things.{Program, field_thing}
@@ -10,7 +10,7 @@ use Rattle.aom_shape.specs.declared.kind.Entry.{Entry as Pushed}
 use Rattle.aom_shape.specs.declared.kind.Entry.TheVariants.{Object as Pushed_object, Operation as Pushed_operation}
 use Rattle.aom_shape.specs.declared.kind.Filling.TheVariants.{Perhaps, Full}
 use Rattle.aom_shape.specs.declared.kind.Kind.{Kind}
-use Rattle.aom_shape.specs.declared.kind.Kind.TheVariants.{Null, Own, Maybe}
+use Rattle.aom_shape.specs.declared.kind.Kind.TheVariants.{Null, Own}
 use Rattle.aom_image.specs.Views.{method_role}
 use Rattle.aom_rules.specs.Requests.{is_service}
 use Rattle.aom_image.specs.declared.method.Thing.TheVariants.{Message}

@@ -1,5 +1,5 @@
 -- What clients do: what each is at, whom it asks, and what becomes of it as it is served or its server goes.
-use Rattle.std.specs.Prelude.{ℕ, suc, ℤ, Bool, true, false, cond, nat_lt, not, ◌&&◌, ◌==◌, length, List, [], ◌∷◌, Option, Some, None}
+use Rattle.std.specs.Prelude.{ℕ, suc, ℤ, Bool, true, false, cond, nat_lt, ◌&&◌, ◌==◌, List, [], ◌∷◌, Option, Some, None}
 use Rattle.aom_image.specs.Image.{Image}
 use Rattle.aom_image.specs.declared.class.ClassKind.{ClassKind}
 use Rattle.aom_image.specs.declared.class.ClassKind.TheVariants.{Server as A_server}
@@ -7,14 +7,14 @@ use Rattle.aom_image.specs.declared.method.Thing.{Thing}
 use Rattle.aom_image.specs.declared.method.Thing.TheVariants.{Object as An_object_of, Message}
 use Rattle.aom_roles.specs.Shapes.{kind_of}
 use Rattle.aom_clients.specs.declared.client.Client.{Client}
-use Rattle.aom_clients.specs.declared.client.Client.TheVariants.{Unconnected, Connecting, Open, Closing, Gone, Dead, Dying}
+use Rattle.aom_clients.specs.declared.client.Client.TheVariants.{Unconnected, Connecting, Open, Closing, Dead, Dying}
 use Rattle.aom_clients.specs.declared.refusal.Refusal.{Refusal}
 use Rattle.aom_clients.specs.declared.refusal.Refusal.TheVariants.{NotFound, ServerBusy}
 use Rattle.aom_clients.specs.Table.{at_gone, row}
 use Rattle.aom_shape.specs.Kinds.{is_object}
 use Rattle.aom_shape.specs.Tables.{at, put_at}
-use Rattle.aom_sound.specs.Places.{Asked, Cell, Close_of, Connect_of, Message_of, Elsewhere, Object, Queued, Request, Sender, service_of, unserved}
-use Rattle.aom_sound.specs.Servers.{asked_last, opened, parted, reserved, seats_taken, slots_taken, withdrawn, all_unslotted}
+use Rattle.aom_sound.specs.Places.{Asked, Cell, Close_of, Connect_of, Message_of, Elsewhere, Object, Queued, Request, service_of, unserved}
+use Rattle.aom_sound.specs.Servers.{asked_last, reserved, seats_taken, slots_taken, withdrawn, all_unslotted}
 use Rattle.aom_sound.specs.State.{State}
 
 -- what a client does

@@ -1,5 +1,5 @@
 -- The laws of the checked machine.
-use Rattle.std.specs.Prelude.{IsSome, List, None, Some, [], bit_or, false, is_some, true, ℕ, ℤ, ◌<◌, ◌∷◌, ◌≡◌, ◌⊎◌, replicate, Option}
+use Rattle.std.specs.Prelude.{IsSome, List, None, Some, [], bit_or, false, is_some, true, ℕ, ℤ, ◌<◌, ◌∷◌, ◌≡◌, ◌⊎◌, replicate}
 use Rattle.aom_image.specs.Image.{Image}
 use Rattle.aom_image.specs.Views.{instr_at, method_at, method_class, method_role, is_quiet, leaves, gives_of, arguments_of}
 use Rattle.aom_instructions.specs.Fits.{InstrFits}

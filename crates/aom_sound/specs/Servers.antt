@@ -1,12 +1,12 @@
 -- Servers, sessions and messages: whose cell is a server, what waits in its queue, and who sent a message.
-use Rattle.std.specs.Prelude.{ℕ, suc, Bool, true, false, cond, not, is_some, ◌&&◌, ◌||◌, ◌==◌, ◌+◌, ◌++◌, length, map, filter, List, [], ◌∷◌, Option, Some, None}
+use Rattle.std.specs.Prelude.{ℕ, suc, Bool, true, false, cond, not, is_some, ◌&&◌, ◌==◌, ◌+◌, ◌++◌, length, filter, List, [], ◌∷◌, Option, Some, None}
 use Rattle.std.specs.List.{list_any}
 use Rattle.aom_image.specs.Image.{Image}
 use Rattle.aom_image.specs.declared.method.Thing.{Thing}
 use Rattle.aom_image.specs.declared.method.Thing.TheVariants.{Message, Object as An_object_of}
 use Rattle.aom_roles.specs.Classes.{sessions_in}
 use Rattle.aom_sound.specs.Enlisted.{thing_kind}
-use Rattle.aom_sound.specs.Places.{Asked, Cell, Close_of, Connect_of, Elsewhere, Entry, Field, Going, In_service, Object, Other, Place, Queued, Register, Root, Sender, Message_of, Service, Session, service_of, set_service}
+use Rattle.aom_sound.specs.Places.{Asked, Cell, Close_of, Connect_of, Elsewhere, Entry, Field, Going, In_service, Object, Place, Queued, Register, Root, Sender, Message_of, Service, Session, service_of, set_service}
 
 -- the class of the sessions of what that names, if it is a server
 abbrev pub session_class : Image → Thing → Option ℕ

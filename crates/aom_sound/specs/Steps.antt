@@ -7,8 +7,8 @@ use Rattle.aom_instructions.specs.declared.instr.Instr.TheVariants.{Call, Delete
 use Rattle.aom_classes.specs.Jumps.{jump_of}
 use Rattle.aom_classes.specs.Loops.{loop_in}
 use Rattle.aom_shape.specs.Needs.{AllTrue}
-use Rattle.aom_sound.specs.Places.{service_of, Entry, Going, Object, held, moved, without}
-use Rattle.aom_sound.specs.State.{Closing, Dispatch, Frame, Task, Run, Trapped, Destroy, Unwind, Dispatched, An_object, Item, An_operation, A_mark, State, Choice, Goes, counter, next, resumed}
+use Rattle.aom_sound.specs.Places.{service_of, Entry, Going, Object, held, moved}
+use Rattle.aom_sound.specs.State.{Closing, Dispatch, Frame, Task, Run, Trapped, Destroy, Unwind, Dispatched, An_object, Item, An_operation, A_mark, State, Choice, Goes, counter, next}
 use Rattle.aom_sound.specs.Destruction.{vanished, parting, first_session, begun, owns_nothing}
 use Rattle.aom_sound.specs.Words.{here}
 use Rattle.aom_sound.specs.Calls.{below_top, called, result_register}
