@@ -10,7 +10,6 @@ use Rattle.aom_image.specs.declared.method.Gives.{Gives}
 use Rattle.aom_image.specs.declared.method.Gives.TheVariants.{Left, Maybe as A_maybe, Nothing, Own as An_own, Word as A_word}
 use Rattle.aom_clients.specs.declared.client.Client.{Client}
 use Rattle.aom_sound.proofs.ClientsEffects.{IsFine}
-use Rattle.aom_sound.proofs.ClientsGone.{queue_unslotted}
 use Rattle.aom_sound.proofs.ClientsMoves.{Steady, held_elsewhere, steady_ended, steady_moved, steady_passed, steady_result, steady_update}
 use Rattle.aom_sound.proofs.Dropping.{Same, Went, dropped, each_name, held_dropped}
 use Rattle.aom_sound.proofs.Maps.{named_name}
@@ -150,7 +149,7 @@ module _ (f : Service → Service) (keeps : (v : Service) (c : ℕ) → list_any
 
 pub calm_unslotted : (xs : List ℕ) (cs : List Cell) → Calm cs (each_unslotted xs cs)
 calm_unslotted xs cs = record {
-  connects = λ n c h. ap (λ q. list_any (is_connect_of c) q) (queue_unslotted xs cs n) ∙ h;
+  connects = λ n c h. ap (λ q. list_any (is_connect_of c) q) ((each_unslotted_alike xs cs).queues_so n) ∙ h;
   places = λ n c. (each_unslotted_alike xs cs).held_so (Elsewhere (Session n c));
 }
 
