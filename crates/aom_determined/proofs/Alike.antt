@@ -44,8 +44,8 @@ module _ (p : Image) (t : Typing) (s u : State) (well : WellTyped p t u) (kept :
   exchanged_state = renamed_twice (swapped (alike.names a) b) alike.names s ∙ ap (renamed (swapped (alike.names a) b)) (sym alike.same) ∙ swapped_free p t u (alike.names a) b well kept.fit there free free_b
 
 module _
-  (p : Image) (t : Typing) (refused : List ℕ) (c d : Choice) (s u : State) (well : WellTyped p t u) (kept : IsKept p u) (there : AllThere u) (alike : AreAlike s u)
-  (open_c : IsOpen p refused c s) (open_d : IsOpen p refused d u) (answers : is_heard p s.tasks ≡ true → c.answer ≡ d.answer) where
+    (p : Image) (t : Typing) (refused : List ℕ) (c d : Choice) (s u : State) (well : WellTyped p t u) (kept : IsKept p u) (there : AllThere u) (alike : AreAlike s u)
+    (open_c : IsOpen p refused c s) (open_d : IsOpen p refused d u) (answers : is_heard p s.tasks ≡ true → c.answer ≡ d.answer) where
   -- the name of one new cell becomes that of the other
   abbrev names : ℕ → ℕ
   names = exchanged p t s u well kept there alike c.name d.name open_c.name open_d.name
@@ -90,8 +90,8 @@ moves_stay_alike p t refused c d s u well kept there alike open_c open_d answers
 
 -- a turn hears what the other hears, and the name of what one makes becomes that of the other
 module _
-  (p : Image) (t : Typing) (outside : Outside) (heard other : Heard) (s u : State) (well : WellTyped p t u) (kept : IsKept p u) (there : AllThere u) (alike : AreAlike s u)
-  (free_heard : named s.cells heard.name ≡ None) (free_other : named u.cells other.name ≡ None) (answers : is_polling (turning outside nothing_heard s) ≡ true → heard.completion ≡ other.completion) where
+    (p : Image) (t : Typing) (outside : Outside) (heard other : Heard) (s u : State) (well : WellTyped p t u) (kept : IsKept p u) (there : AllThere u) (alike : AreAlike s u)
+    (free_heard : named s.cells heard.name ≡ None) (free_other : named u.cells other.name ≡ None) (answers : is_polling (turning outside nothing_heard s) ≡ true → heard.completion ≡ other.completion) where
   abbrev turn_names : ℕ → ℕ
   turn_names = exchanged p t s u well kept there alike heard.name other.name free_heard free_other
 

@@ -183,8 +183,8 @@ stays_connects c d (Connect_of i ∷ es) other h = go (i == d) refl h (is_other 
     go false same h false f rest = rest h
 
 module _
-  (p : Image) (client : ℕ) (s : State) (tidy : Tidy s.cells) (fit : ClientsFit p s.clients s.cells) (waiting : (n m : ℕ) (o : Object) → held s.cells (Elsewhere (Queued n m)) ≡ Some o → is_server p o.thing ≡ false)
-  (all : AllWait s.clients s.cells) where
+    (p : Image) (client : ℕ) (s : State) (tidy : Tidy s.cells) (fit : ClientsFit p s.clients s.cells) (waiting : (n m : ℕ) (o : Object) → held s.cells (Elsewhere (Queued n m)) ≡ Some o → is_server p o.thing ≡ false)
+    (all : AllWait s.clients s.cells) where
   abbrev StillWait : State → Type 0
   StillWait u = AllWait u.clients u.cells
 

@@ -10,6 +10,6 @@
 mod laws;
 
 pub use laws::{
-    all_stays_there, each_run_follows, moves_stay_alike, names_mean_nothing, nothing_is_heard, text_is_determined,
-    turns_stay_alike,
+    all_stays_there, each_run_follows, moves_stay_alike, names_mean_nothing, nothing_is_heard,
+    text_is_determined, turns_stay_alike,
 };
