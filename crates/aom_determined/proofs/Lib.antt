@@ -14,7 +14,7 @@ pub mod Keeping
 pub mod Vanishing
 pub mod Moving
 pub mod Ending
-pub mod Serves
+pub mod Asking
 pub mod Staying
 pub mod Alike
 pub mod Runs

@@ -33,7 +33,7 @@ use Rattle.aom_sound.specs.World.{Completes, Cuts, Hears, Kills, Obeys, Passes, 
 use Rattle.aom_determined.proofs.Ending.{AllWait, all_wait, closing_there, dispatch_there, gone_apart, plain_there}
 use Rattle.aom_determined.proofs.Keeping.{calm_ended, there_by}
 use Rattle.aom_determined.proofs.Moving.{dispatch_resumed, effect_there, returned_there, unwound_there}
-use Rattle.aom_determined.proofs.Serves.{commanded_waits, picked_there, same_waits}
+use Rattle.aom_determined.proofs.Asking.{commanded_waits, picked_there, same_waits}
 use Rattle.aom_determined.proofs.Vanishing.{calm_without, there_vanished}
 use Rattle.aom_determined.specs.Laws.{AllStaysThere}
 use Rattle.aom_determined.specs.There.{AllThere, AreThere, IsAtPlace, dispatch_of}

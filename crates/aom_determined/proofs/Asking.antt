@@ -1,4 +1,4 @@
--- What is there stays there in each turn: as a server takes the first of its queue, as a client does something, and in all others, where no queue changes.
+-- What is there stays there as a server takes the first of its queue, and as a client does something: by the connects that stay in queues.
 use Rattle.std.proofs.Common.{Bool, List, None, Option, Some, [], ap, cond, false, length, refl, subst, sym, true, ℕ, ℤ, ◌&&◌, ◌==◌, ◌∙◌, ◌∷◌, ◌≡◌}
 use Rattle.std.proofs.lemmas.Bool.{eq-eqb, eqb-true, ne_eqb, true≢false}
 use Rattle.std.proofs.lemmas.List.Folds.{list_any-append}
