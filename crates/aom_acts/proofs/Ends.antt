@@ -15,7 +15,7 @@ use Rattle.aom_rules.specs.Typing.{Typing}
 use Rattle.aom_sound.proofs.View.{under_dispatch}
 use Rattle.aom_sound.specs.Places.{Cell, Place, Register, Entry, Field, Going, Elsewhere, Root, Object, changed, held}
 use Rattle.aom_transcript.specs.declared.line.Ending.TheVariants.{Stopped, MainLeft as Left_with}
-use Rattle.aom_sound.specs.State.{guarded, Home, Inside, Frame, frame_of, Seat, Dispatch, Asks, Task, Run, Dispatched, Rest, State, Choice, Goes, raised}
+use Rattle.aom_sound.specs.State.{guarded, Home, Inside, Frame, frame_of, Seat, Asks, Task, Run, Dispatched, Rest, State, Choice, Goes, raised}
 use Rattle.aom_sound.specs.Moves.{needs_end, answered, asked, asking, is_counted, closed, error_frame, failed, main_ends, object_ends, dispatch_ends, step, step_task, written_task}
 use Rattle.aom_sound.specs.WellTyped.{WellTyped, Keeps}
 use Rattle.aom_lines.specs.Turn.{Turn}

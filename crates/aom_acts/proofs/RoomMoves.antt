@@ -133,8 +133,8 @@ module _ (p : Image) (t : Typing) (depth heights : ℕ → ℕ) (tables : Tables
       let left = without_queue o.name s.cells in
       let cells' = each_unslotted (service_of s.cells o.name).sessions (without (Going (length ts)) left) in
       let still : SameEntries s.cells cells' (length s.items) = λ k lt.
-          (each_unslotted_alike (service_of s.cells o.name).sessions (without (Going (length ts)) left)).held_so (Entry k) ∙ held_without left (Going (length ts)) (Entry k)
-          ∙ ap (λ cs. held cs (Entry k)) (queue_dropped o.name s.cells) ∙ held_dropped (is_queue_of o.name) s.cells (Entry k) in
+      (each_unslotted_alike (service_of s.cells o.name).sessions (without (Going (length ts)) left)).held_so (Entry k) ∙ held_without left (Going (length ts)) (Entry k)
+      ∙ ap (λ cs. held cs (Entry k)) (queue_dropped o.name s.cells) ∙ held_dropped (is_queue_of o.name) s.cells (Entry k) in
       subst RoomyState (sym same) (on_again p depth heights cells' s.items ts (recelled p depth heights s.cells cells' s.items ts still (subst (λ us. Roomy p depth heights s.cells s.items us) at room)))
   roomy_moves within typed c s u w room (Empties ts o at there same) =
       closing_layer (λ ls. Good p t s.cells ls) (Destroy ∷ ts) w.layers (sym w.tasks ∙ at) w.good (λ x left below _ good. absurd (true≢false (sym good.stack.0.server ∙ no_server p tables.admitted x.thing)))

@@ -29,7 +29,7 @@ use Rattle.aom_sound.specs.Enlisted.{cancel_method, cancelling, ended_cells, fir
 use Rattle.aom_sound.specs.Moves.{stage_ends, answered, asking, counted, dispatch_ends, failed, handled, main_ends, needs, object_ends, step, step_instr, step_task}
 use Rattle.aom_sound.specs.Natives.{is_owed, native_of}
 use Rattle.aom_sound.specs.Places.{service_of, seen, In_service, Tidy, Cell, Elsewhere, Entry, Going, Object, Root, held, in_session, named, requested, without}
-use Rattle.aom_sound.specs.State.{Serves, Parts, Accepts, Accepted, Accept_left, Service_left, Of_server, Closing, Stage, Seat, An_object, An_operation, Answered, Asks, AtRoot, Choice, Destroy, Dispatch, Dispatched, Frame, Goes, Home, Inside, Item, Main_left, Object_left, Of_main, Of_object, Of_root, Run, State, Static, Task, Unwind, resumed}
+use Rattle.aom_sound.specs.State.{Serves, Parts, Accepts, Accepted, Accept_left, Service_left, Of_server, Closing, Stage, Seat, An_object, An_operation, Answered, Asks, AtRoot, Choice, Destroy, Dispatch, Dispatched, Frame, Goes, Home, Inside, Item, Main_left, Object_left, Of_main, Of_object, Of_root, Run, State, Static, Task, Unwind}
 use Rattle.aom_sound.specs.Steps.{Empties, Acts, Arrives, Clears, Comes_out, Ends, Fits, IsStill, Move, Rests, Undoes, Vanishes}
 use Rattle.aom_sound.specs.Wanted.{Closes, wanted, wanted_by, wanted_going, wanted_gone, wanted_here, wanted_if, wanted_task}
 use Rattle.aom_sound.specs.WellTyped.{Fits as FitsKind, Good, IsHoused, WellTyped}

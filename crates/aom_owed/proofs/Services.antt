@@ -19,7 +19,7 @@ use Rattle.aom_sound.proofs.Sifted.{a_cell_of, cell_in, cell_in_sifted, cell_liv
 use Rattle.aom_sound.specs.Claims.{Layer, claim, declared}
 use Rattle.aom_sound.specs.Clients.{Command, Closes, Connects, Dies, Listed, Sends, commanded, connecting, each_unslotted, first_listed, leaving, own, refusal, sending, told}
 use Rattle.aom_sound.specs.Natives.{is_owed, is_served_by}
-use Rattle.aom_sound.specs.Places.{Message_of, Cell, Elsewhere, Entry, Field, Going, In_service, Object, Place, Queued, Register, Root, Service, Session, Tidy, held, in_session, named, requested, same_place, seen, service_of, set_service, unserved, with_new, without}
+use Rattle.aom_sound.specs.Places.{Message_of, Cell, Elsewhere, Entry, Field, Going, In_service, Object, Place, Queued, Register, Root, Service, Session, Tidy, held, in_session, named, requested, same_place, seen, service_of, set_service, with_new, without}
 use Rattle.aom_sound.specs.Servers.{all_unslotted, asked_last, has_message, is_from, is_queue, is_queue_of, reserved, without_queue, withdrawn}
 use Rattle.aom_sound.specs.State.{State}
 use Rattle.aom_sound.specs.WellTyped.{Fits, Good}

@@ -17,14 +17,14 @@ use Rattle.aom_owed.specs.Laws.{TurnsKillOrComplete}
 use Rattle.aom_owed.specs.Owed.{CompletesOwed, SessionsHold, has_name, killed_turned, meets, meets_turned, owes, owes_turned, serves, serves_object}
 use Rattle.aom_rules.specs.Typing.{Typing}
 use Rattle.aom_sound.proofs.Guarded.{goes_same, guarded_goes}
-use Rattle.aom_sound.proofs.Turned.{handles, accepts, attends, parts as by_parting, picked_so, Picked, dispatched_so, recorded_so}
+use Rattle.aom_sound.proofs.Turned.{handles, accepts, attends, parts as by_parting, picked_so, Picked, recorded_so}
 use Rattle.aom_sound.specs.Enlisted.{completed_with, is_active, on_request, pending, recorded, taken_up, thing_kind, timed_out}
 use Rattle.aom_roles.specs.Classes.{sessions_in, sessions_of}
 use Rattle.aom_sound.specs.Kept.{ClientsFit}
 use Rattle.aom_sound.specs.Natives.{all_bereaved, is_dead, is_outstanding_at, is_owed, is_served_by, native_of, terminated, terminated_request}
 use Rattle.aom_sound.specs.Places.{Cell, Elsewhere, Going, In_service, Queued, Request, Session as Session_at, Timer, in_session, named, requested}
 use Rattle.aom_sound.specs.Requests.{Known, Suits, states_claim}
-use Rattle.aom_sound.specs.State.{CompletedTwice, Goes, Inside, Seat, State}
+use Rattle.aom_sound.specs.State.{CompletedTwice, Goes, Inside, State}
 use Rattle.aom_sound.specs.WellTyped.{WellTyped}
 use Rattle.aom_sound.specs.World.{taken_from, heard_one, Obeys, AnswersWell, Candidate, Completes, Cuts, Hears, Kills, Passes, Picks, Polls, Strays, Timed, Turning, Waits, answered_by, cell_at, is_ready, turned, turning, with_request}
 use Rattle.aom_sound.specs.Servers.{has_more, is_server}

@@ -1,5 +1,5 @@
 -- The laws of what is outstanding at natives.
-use Rattle.std.specs.Prelude.{ℕ, true, false, ◌≡◌, List, Option, None}
+use Rattle.std.specs.Prelude.{ℕ, true, false, ◌≡◌, List, None}
 use Rattle.aom_image.specs.Image.{Image}
 use Rattle.aom_rules.specs.Typing.{Typing, IsTyped}
 use Rattle.aom_sound.specs.Kept.{ClientsFit}

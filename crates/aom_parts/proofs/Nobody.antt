@@ -1,8 +1,8 @@
 -- An admitted image has no server, so that nobody has a session or is asked for anything: no destruction begins with sessions, and no message goes.
 use Rattle.std.proofs.Common.{Bool, IsTrue, List, None, Option, Some, [], ap, cond, false, refl, subst, sym, true, ℕ, ◌&&◌, ◌==◌, ◌∙◌, ◌∷◌, ◌≡◌}
-use Rattle.std.proofs.lemmas.Bool.{and_parts, and_from, eq-eqb, eqb-true}
-use Rattle.std.specs.List.{list_all, list_any}
-use Rattle.std.specs.Prelude.{is_some, length}
+use Rattle.std.proofs.lemmas.Bool.{eq-eqb}
+use Rattle.std.specs.List.{list_all}
+use Rattle.std.specs.Prelude.{is_some}
 use Rattle.aom_classes.proofs.Facts.{at_place}
 use Rattle.aom_classes.specs.Admitted.{IsAdmitted, admits_class, admits_kind, admits_thing}
 use Rattle.aom_image.specs.Image.{Image}
@@ -18,20 +18,18 @@ use Rattle.aom_roles.specs.Shapes.{kind_of}
 use Rattle.aom_rules.specs.Typing.{Typing}
 use Rattle.aom_shape.specs.Kinds.{filled}
 use Rattle.aom_shape.specs.declared.kind.Filling.TheVariants.{Full}
-use Rattle.aom_shape.specs.declared.kind.Kind.{Kind}
 use Rattle.aom_shape.specs.declared.kind.Kind.TheVariants.{Null}
 use Rattle.aom_sound.proofs.Dropping.{queued_claim}
 use Rattle.aom_sound.proofs.Maps.{front_free, named_name}
 use Rattle.aom_sound.proofs.Services.{service_unnamed}
 use Rattle.aom_sound.proofs.Straight.{fits_unowning}
-use Rattle.aom_sound.specs.Claims.{claim, declared}
-use Rattle.aom_sound.specs.Clients.{each_unslotted, queue_ended, sessions_ended}
-use Rattle.aom_sound.specs.Destruction.{begun, destructed, vanished}
+use Rattle.aom_sound.specs.Claims.{declared}
+use Rattle.aom_sound.specs.Destruction.{begun, destructed}
 use Rattle.aom_sound.specs.Enlisted.{part_of}
 use Rattle.aom_sound.specs.Kept.{ClientsFit}
-use Rattle.aom_sound.specs.Places.{Asked, Cell, Elsewhere, Entry, Field, Going, In_service, Object, Place, Queued, Register, Root, Service, Session, held, named, same_place, seen, service_of, without}
-use Rattle.aom_sound.specs.Servers.{has_message, is_message, is_queue_of, is_server, message_thing, without_queue}
-use Rattle.aom_sound.specs.State.{Closing, Destroy, Outcome, Seat, State, Task, resumed}
+use Rattle.aom_sound.specs.Places.{Cell, Elsewhere, Entry, Field, Going, In_service, Object, Place, Queued, Register, Root, Service, Session, held, named, same_place, seen, service_of}
+use Rattle.aom_sound.specs.Servers.{has_message, is_queue_of, is_server, message_thing, without_queue}
+use Rattle.aom_sound.specs.State.{Closing, Destroy, Seat, State, Task}
 use Rattle.aom_sound.specs.WellTyped.{Fits, WellTyped}
 use Rattle.aom_sound.specs.World.{dispatched, picked, serves_first}
 

@@ -1,5 +1,5 @@
 -- Where messages hold no slot any more the machine's cells and sessions are as they were: by the cells one after another.
-use Rattle.std.proofs.Common.{Bool, List, [], ap, cond, refl, suc, sym, ℕ, ℤ, pos, ◌==◌, ◌∙◌, ◌∷◌, ◌≡◌}
+use Rattle.std.proofs.Common.{List, [], ap, cond, refl, suc, sym, ℕ, pos, ◌==◌, ◌∙◌, ◌∷◌, ◌≡◌}
 use Rattle.aom_cells.specs.Heap.{Heap}
 use Rattle.aom_image.specs.Image.{Image}
 use Rattle.aom_parts.specs.Agrees.{SameCells, SameNatives, thing_of}

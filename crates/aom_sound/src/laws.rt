@@ -14,6 +14,8 @@ ghost use Rattle.aom_sound.specs.Cases.Cleanup.{CleanupBites};
 ghost use Rattle.aom_sound.specs.Cases.Requests.{RequestsBite};
 ghost use Rattle.aom_sound.specs.Cases.Natives.{NativesBite};
 ghost use Rattle.aom_sound.specs.Cases.Moves.{MovesBite};
+ghost use Rattle.aom_sound.specs.Cases.Servers.{ServersBite};
+ghost use Rattle.aom_sound.specs.Cases.Kept.{KeptBites};
 ghost use Rattle.aom_sound.specs.Cases.Turns.{TurnsBite};
 ghost use Rattle.aom_sound.specs.Cases.Events.{EventsBite};
 ghost use Rattle.aom_sound.specs.Cases.Owners.{OwnersBite};
@@ -181,4 +183,14 @@ pub fn events_bite()
 /// Places that do not own are no owners.
 pub fn owners_bite()
     ensures { OwnersBite }
+{}
+
+/// Each need of an instruction on messages, of a server's dispatch and of its going bites, and its queue signals.
+pub fn servers_bite()
+    ensures { ServersBite }
+{}
+
+/// Where clients and servers do not say the same, nothing is kept.
+pub fn kept_bites()
+    ensures { KeptBites }
 {}
