@@ -212,7 +212,7 @@ module _ (p : Image) (t : Typing) (wired : IsWired p) (s : State) (w : WellTyped
   -- ---- the others
 
   -- what is picked stands, and the name that is heard is free
-  abbrev IsFound : Turning → Type 0
+  abbrev pub IsFound : Turning → Type 0
   IsFound (Obeys client command name) = named s.cells name ≡ None
   IsFound (Picks x) = named s.cells x.object.name ≡ Some x.object
   IsFound _ = Unit {0}
@@ -285,7 +285,7 @@ module _ (p : Image) (t : Typing) (wired : IsWired p) (s : State) (w : WellTyped
       go true = tt
       go false = f
 
-  turning_found : (outside : Outside) (heard : Heard) → IsFound (turning outside heard s)
+  pub turning_found : (outside : Outside) (heard : Heard) → IsFound (turning outside heard s)
   turning_found outside heard = go (nat_le outside.limit s.rest.dispatches)
     where
       go : (b : Bool) → IsFound (cond b Cuts (by_timer s (first_due s.cells) (by_event outside s (next_event outside s) (polls (next_native outside s) heard.completion (picks (has_signal s.cells) (first_ready s.cells) (next_time outside s))))))
