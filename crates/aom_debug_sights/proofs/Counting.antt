@@ -1,5 +1,5 @@
 -- How many numbers have an object of a class is how many objects of the class each state has: their names are distinct, and below the limit.
-use Rattle.std.proofs.Common.{◌≡◌, ◌∙◌, ◌<◌, ℕ, zero, suc, ◌+◌, Bool, true, false, cond, ◌==◌, List, [], ◌∷◌, ◌++◌, Option, Some, None, take, refl, sym, ap, subst, arith}
+use Rattle.std.proofs.Common.{◌≡◌, ◌∙◌, ◌<◌, ℕ, zero, suc, ◌+◌, Bool, true, false, cond, ◌==◌, List, [], ◌∷◌, ◌++◌, Option, Some, None, take, refl, sym, ap, add-one, arith}
 use Rattle.std.proofs.lemmas.Bool.{eq-eqb, eqb-false, eqb-true, ne_eqb, false≢true}
 use Rattle.std.proofs.lemmas.List.{append-nil}
 use Rattle.std.proofs.lemmas.Option.{none-some}
@@ -26,6 +26,10 @@ use Rattle.aom_debug_sights.proofs.Showing.{class_named}
 pub counted_same : (f g : ℕ → Bool) (n : ℕ) → ((k : ℕ) → k < n → f k ≡ g k) → counted f n ≡ counted g n
 counted_same f g zero same = refl
 counted_same f g (suc n) same = ap (λ k. k + cond (f n) 1 0) (counted_same f g n (λ k less. same k (omega arith))) ∙ ap (λ b. counted g n + cond b 1 0) (same n (omega arith))
+
+-- one more
+pub counted_next : (f : ℕ → Bool) (n a b : ℕ) → a ≡ counted f n → b ≡ cond (f n) 1 0 → a + b ≡ counted f (n + 1)
+counted_next f n a b first here = rw add-one (ap (λ x. x + b) first ∙ ap (λ x. counted f n + x) here)
 
 none_counted : (n : ℕ) → counted (λ k. false) n ≡ 0
 none_counted zero = refl

@@ -24,6 +24,7 @@ use Rattle.aom_parts.proofs.Alike.{by_items}
 use Rattle.aom_parts.proofs.Entries.{same_items_length}
 use Rattle.aom_debug_lines.specs.declared.answer.Answer.{Answer}
 use Rattle.aom_debug_lines.specs.declared.answer.Answer.TheVariants.{Object as Object_answer, Operation, Trap}
+use Rattle.aom_debug_sights.specs.Owners.{entries_of, is_entry}
 use Rattle.aom_debug_sights.specs.Sights.{class_in, class_of, held_answer, item_answer}
 
 -- ---- what stands over so many others
@@ -94,6 +95,31 @@ same_answer h cs k (Some (Holds_operation m n)) (Some (An_operation m' w)) same 
 same_answer h cs k (Some Is_mark) (Some A_mark) same object = refl
 same_answer h cs k _ _ same object = absurd same
 
+-- how many entries that is
+abbrev pub entries_over : Option Held_item → ℕ
+entries_over None = 0
+entries_over (Some i) = entries_of i
+
+entry_counted : (o : Option Held_item) (u : Option Item) → SameOver o u → entries_over o ≡ cond (is_entry u) 1 0
+entry_counted None None same = refl
+entry_counted (Some (Holds_object n)) (Some An_object) same = refl
+entry_counted (Some (Holds_operation m n)) (Some (An_operation m' w)) same = refl
+entry_counted (Some Is_mark) (Some A_mark) same = refl
+entry_counted _ _ same = absurd same
+
+-- what an item owns is the number in its place
+abbrev pub owned_over : Option Held_item → ℕ
+owned_over None = null
+owned_over (Some i) = owned_by i
+
+pub entry_there : (is : List Held_item) (k : ℕ) → owned_over (over is k) ≡ entry_in is k
+entry_there [] k = refl
+entry_there (i ∷ is) k = go (entry_there is k) (length is == k)
+  where
+    go : owned_over (over is k) ≡ entry_in is k → (b : Bool) → owned_over (cond b (Some i) (over is k)) ≡ cond b (owned_by i) (entry_in is k)
+    go below true = refl
+    go below false = below
+
 -- the number in the place of an entry is that of the item there
 entry_number : (is : List Held_item) (k n : ℕ) → over is k ≡ Some (Holds_object n) → entry_in is k ≡ n
 entry_number [] k n is_there = absurd (none-some (Holds_object n) is_there)
@@ -105,11 +131,13 @@ entry_number (i ∷ is) k n there = go (entry_number is k n) (length is == k) th
 
 module _ (p : Image) (m : Parts) (s : State) (st : StandsFor (record { image = p; parts = m }) s) where
   -- so is an item told as that of the state
-  pub item_told : (k : ℕ) (o : Option Held_item) → k < length m.entries.items → o ≡ item_at m.entries.items ((length m.entries.items - k) - 1) → answer_at m.cells o ≡ item_answer s.cells k (over s.items k)
-  item_told k o less is =
-      let there : o ≡ over m.entries.items k = is ∙ over_from_top m.entries.items k less in
+  pub item_told : (k : ℕ) (o : Option Held_item) → o ≡ over m.entries.items k → answer_at m.cells o ≡ item_answer s.cells k (over s.items k)
+  item_told k o there =
       ap (answer_at m.cells) there ∙ same_answer m.cells s.cells k (over m.entries.items k) (over s.items k) (both_over k m.entries.items s.items st.agrees.entries)
       (λ n object. class_held p m s st (Entry k) n (sym (entry_number m.entries.items k n object) ∙ st.agrees.values (Entry k)))
 
   pub as_many_items : length m.entries.items ≡ length s.items
   as_many_items = same_items_length m.entries.items s.items st.agrees.entries
+
+  pub entries_told : (k : ℕ) (o : Option Held_item) → o ≡ over m.entries.items k → entries_over o ≡ cond (is_entry (over s.items k)) 1 0
+  entries_told k o is = ap entries_over is ∙ entry_counted (over m.entries.items k) (over s.items k) (both_over k m.entries.items s.items st.agrees.entries)

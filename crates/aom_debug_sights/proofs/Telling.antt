@@ -107,8 +107,28 @@ module _ {A : Type 0} (line : A → List ℕ) (m : Machine) (f : State → ℕ �
     out = λ s st. line_cut line (f s) before now new i (n s) cut.sent (within s st) (was.out s st) (cut.out ∙ ap (λ ys. after now (take cut.sent (flat_map line ys))) (same s st));
   }
 
+  -- where what is told depends on the state
+  pub tells_further : (i : ℕ) (before now new : Option (List ℕ)) → TellsTo i before now → Tells m (λ s. flat_map line (f s i)) now new → TellsTo (i + 1) before new
+  tells_further i before now new was later = record { out = λ s st. line_sent line (f s) before now new i (was.out s st) (later.out s st) }
+
+  pub part_further : (n : State → ℕ) (i : ℕ) (before now new : Option (List ℕ)) (fault : DebugFault) (failed : Bool) → TellsTo i before now → ((s : State) → StandsFor m s → i < n s) → TellsPart m (λ s. flat_map line (f s i)) fault failed now new →
+      TellsPart m (λ s. flat_map line (gathered (f s) (n s))) fault failed before new
+  part_further n i before now new fault failed was within cut = record {
+    told = cut.told;
+    fails = cut.fails;
+    out = λ s st. let sent = cut.out s st in line_cut line (f s) before now new i (n s) sent.0 (within s st) (was.out s st) sent.1;
+  }
+
   pub tells_all : (n : State → ℕ) (i : ℕ) (before now : Option (List ℕ)) → TellsTo i before now → ((s : State) → StandsFor m s → i ≡ n s) → Tells m (λ s. flat_map line (gathered (f s) (n s))) before now
   tells_all n i before now was all = record { out = λ s st. was.out s st ∙ ap (λ k. after before (flat_map line (gathered (f s) k))) (all s st) }
+
+-- a text that is the same in each state
+module _ (m : Machine) (a b : State → List ℕ) (same : (s : State) → StandsFor m s → a s ≡ b s) where
+  pub tells_same : (before now : Option (List ℕ)) → Tells m a before now → Tells m b before now
+  tells_same before now told = record { out = λ s st. told.out s st ∙ ap (λ u. after before u) (same s st) }
+
+  pub part_same : (fault : DebugFault) (failed : Bool) (before now : Option (List ℕ)) → TellsPart m a fault failed before now → TellsPart m b fault failed before now
+  part_same fault failed before now cut = record { told = cut.told; fails = cut.fails; out = λ s st. let sent = cut.out s st in (sent.0, sent.1 ∙ ap (λ u. after before (take sent.0 u)) (same s st)) }
 
 -- ---- two texts of each state, one after the other
 

@@ -12,7 +12,7 @@ use Rattle.aom_image.specs.declared.method.Thing.TheVariants.{Object as An_objec
 use Rattle.aom_cells.specs.Heap.{Lives, class_at, field_at}
 use Rattle.aom_cells.specs.Heap.{class_of as class_of_cell}
 use Rattle.aom_transcript.specs.Text.{ended}
-use Rattle.aom_sound.specs.Places.{Cell, Field, Object, Place, held}
+use Rattle.aom_sound.specs.Places.{Cell, Field, Object, Place, Register, held}
 use Rattle.aom_sound.specs.State.{State}
 use Rattle.aom_parts.specs.declared.parts.Parts.{Parts}
 use Rattle.aom_parts.specs.Agrees.{number}
@@ -21,10 +21,14 @@ use Rattle.aom_run.specs.Runs.{after}
 use Rattle.aom_acts.proofs.Finding.{object_lives}
 use Rattle.aom_debug_words.specs.declared.fault.DebugFault.{DebugFault}
 use Rattle.aom_debug_sights.specs.Sights.{class_in, class_of}
-use Rattle.aom_debug_sights.specs.Owners.{Branch, By_field, Outer, Owned, Shows, ShowsNone, Way, branch_text, further, generations, grown, hanging, outer_text, owned_line, owners_text, thing_text, tree, way_text}
+use Rattle.aom_debug_sights.specs.Owners.{Branch, By_field, In_register, Outer, Owned, Shows, ShowsNone, Way, branch_text, frame_registers, further, generations, grown, hanging, outer_text, owned_line, owners_text, thing_text, tree, way_text}
 use Rattle.aom_debug_sights.specs.Telling.{IsCut, Tells, TellsPart, gathered}
 use Rattle.aom_debug_sights.proofs.Telling.{cut_on, none_sent, sent_on}
 use Rattle.aom_debug_sights.proofs.Showing.{class_held}
+
+gathered_none : (n : ℕ) (f : ℕ → List Owned) → ((i : ℕ) → f i ≡ []) → gathered f n ≡ []
+gathered_none zero f none = refl
+gathered_none (suc n) f none = ap (λ (xs : List Owned). xs ++ f n) (gathered_none n f none) ∙ none n
 
 -- ---- ways
 
@@ -127,3 +131,20 @@ module _ (p : Image) (m : Parts) where
   -- where nothing is held, nothing hangs
   pub tree_untold : (d : ℕ) (w : Way) (r : Place) (out : Option (List ℕ)) → ShowsNone M r → Tells M (λ s. owners_text (tree s.cells d w (held s.cells r))) out out
   tree_untold d w r out none = record { out = λ s st. none_sent out ∙ ap (λ xs. after out (owners_text xs)) (sym (tree_none s.cells d w (held s.cells r) (none.each s st))) }
+
+  -- as many generations as there are hang from an outer place
+  pub grown_told : (outer : Outer) (r : Place) (before now : Option (List ℕ)) → Tells M (λ s. owners_text (tree s.cells 256 (record { outer = outer; branches = [] }) (held s.cells r))) before now → Tells M (λ s. owners_text (grown s.cells outer r)) before now
+  unfolding generations
+  grown_told outer r before now told = told
+
+  pub grown_cut : (outer : Outer) (r : Place) (fault : DebugFault) (failed : Bool) (before now : Option (List ℕ)) → TellsPart M (λ s. owners_text (tree s.cells 256 (record { outer = outer; branches = [] }) (held s.cells r))) fault failed before now → TellsPart M (λ s. owners_text (grown s.cells outer r)) fault failed before now
+  unfolding generations
+  grown_cut outer r fault failed before now cut = cut
+
+  -- nothing hangs from a place that holds nothing
+  pub grown_untold : (outer : Outer) (r : Place) (out : Option (List ℕ)) → ShowsNone M r → Tells M (λ s. owners_text (grown s.cells outer r)) out out
+  grown_untold outer r out none = tree_untold generations (record { outer = outer; branches = [] }) r out none
+
+  -- nothing hangs from registers that own nothing
+  pub none_hang : (depth frames : ℕ) (out : Option (List ℕ)) → ((i : ℕ) → ShowsNone M (Register depth i)) → Tells M (λ s. owners_text (frame_registers s.cells depth frames 16)) out out
+  none_hang depth frames out none = record { out = λ s st. none_sent out ∙ ap (λ xs. after out (owners_text xs)) (sym (gathered_none 16 (λ i. grown s.cells (In_register frames i) (Register depth i)) (λ i. tree_none s.cells generations (record { outer = In_register frames i; branches = [] }) (held s.cells (Register depth i)) ((none i).each s st)))) }

@@ -4,6 +4,11 @@ use Rattle.std.specs.List.{flat_map}
 use Rattle.aom_image.specs.declared.method.Thing.{Thing}
 use Rattle.aom_image.specs.declared.method.Thing.TheVariants.{Object as An_object_of, Message}
 use Rattle.aom_cells.specs.Heap.{null}
+use Rattle.aom_cleanup.specs.declared.item.Item.{Item as Held_item}
+use Rattle.aom_cleanup.specs.declared.item.Item.TheVariants.{Object as Holds_object, Operation as Holds_operation, Mark as Is_mark}
+use Rattle.aom_frames.specs.declared.frame.Frame.{Frame as Held_frame}
+use Rattle.aom_frames.specs.declared.task.Task.{Task as Held_task}
+use Rattle.aom_frames.specs.declared.task.Task.TheVariants.{Run as Runs_frame, Destroy as Destroys}
 use Rattle.aom_shape.specs.Kinds.{register}
 use Rattle.aom_shape.specs.Shape.{Shape}
 use Rattle.aom_shape.specs.declared.kind.Kind.{Kind}
@@ -94,17 +99,13 @@ abbrev pub is_frame : Option Task → Bool
 is_frame (Some (Run fr)) = true
 is_frame _ = false
 
--- the first so many registers of the frame over so many others, which stands at that depth
+-- the first so many registers at a depth, by how many frames there are below
 abbrev pub frame_registers : List Cell → (depth frames count : ℕ) → List Owned
 frame_registers cs depth frames count = gathered (λ i. grown cs (In_register frames i) (Register depth i)) count
 
-abbrev pub task_registers : List Cell → (depth frames : ℕ) → Option Task → List Owned
-task_registers cs depth frames (Some (Run fr)) = frame_registers cs depth frames 16
-task_registers cs depth frames _ = []
-
 -- of the first so many tasks, the outermost first
 abbrev pub registers_map : State → ℕ → List Owned
-registers_map s n = gathered (λ depth. task_registers s.cells depth (counted (λ k. is_frame (over s.tasks k)) depth) (over s.tasks depth)) n
+registers_map s n = gathered (λ depth. frame_registers s.cells depth (counted (λ k. is_frame (over s.tasks k)) depth) 16) n
 
 -- marks aside
 abbrev pub is_entry : Option Item → Bool
@@ -113,25 +114,17 @@ is_entry (Some (An_operation m w)) = true
 is_entry (Some A_mark) = false
 is_entry None = false
 
-abbrev pub item_owns : List Cell → (height entries : ℕ) → Option Item → List Owned
-item_owns cs height entries (Some An_object) = grown cs (In_entry entries) (Entry height)
-item_owns cs height entries _ = []
-
 -- of the first so many items of the cleanup stack, the lowest first
 abbrev pub entries_map : State → ℕ → List Owned
-entries_map s n = gathered (λ height. item_owns s.cells height (counted (λ k. is_entry (over s.items k)) height) (over s.items height)) n
+entries_map s n = gathered (λ height. grown s.cells (In_entry (counted (λ k. is_entry (over s.items k)) height)) (Entry height)) n
 
 abbrev pub is_going : Option Task → Bool
 is_going (Some Destroy) = true
 is_going _ = false
 
-abbrev pub task_goes : List Cell → (depth goings : ℕ) → Option Task → List Owned
-task_goes cs depth goings (Some Destroy) = grown cs (In_going goings) (Going depth)
-task_goes cs depth goings _ = []
-
 -- of the first so many tasks, the outermost first
 abbrev pub goings_map : State → ℕ → List Owned
-goings_map s n = gathered (λ depth. task_goes s.cells depth (counted (λ k. is_going (over s.tasks k)) depth) (over s.tasks depth)) n
+goings_map s n = gathered (λ depth. grown s.cells (In_going (counted (λ k. is_going (over s.tasks k)) depth)) (Going depth)) n
 
 -- all of them: the root, the registers, the cleanup stack and what goes
 abbrev pub owners : State → List Owned
@@ -163,3 +156,22 @@ may_own (Maybe t a) = true
 -- so are the registers of a frame at that depth, by its abstract state
 pub record ShowsAll (m : Machine) (sh : Shape) (registers : List ℕ) (depth : ℕ) : Type 0 where
   pub each : (i : ℕ) → ShowsIf (may_own (register sh i)) m (slice_index_or registers i null) (Register depth i)
+
+-- the frame that a task of the machine is
+abbrev pub frame_in : Held_task → Option Held_frame
+frame_in (Runs_frame f) = Some f
+frame_in _ = None
+
+abbrev pub frame_over : Option Held_task → Option Held_frame
+frame_over None = None
+frame_over (Some t) = frame_in t
+
+-- one for a destruction, and for a cleanup entry
+abbrev pub goings_in : Held_task → ℕ
+goings_in (Destroys x) = 1
+goings_in _ = 0
+
+abbrev pub entries_of : Held_item → ℕ
+entries_of (Holds_object n) = 1
+entries_of (Holds_operation m n) = 1
+entries_of Is_mark = 0

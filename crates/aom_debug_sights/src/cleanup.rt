@@ -26,6 +26,15 @@ pub(crate) fn class_of(parts: &Parts, number: u32) -> Option<u16>
     }
 }
 
+/// The item that stands over so many others.
+pub(crate) fn item_at(parts: &Parts, height: usize) -> Option<Item>
+    requires { height < length parts.now.entries.items }
+    ensures { result ≡ over parts.now.entries.items height }
+{
+    let above = parts.entries.len() - height;
+    parts.entries.entry(above - 1)
+}
+
 /// An object on the cleanup stack, as it is told.
 fn object_answer(parts: &Parts, number: u32) -> Option<Answer>
     ensures { result ≡ option_map (λ class. Object class) (class_at parts.now.cells number) }
@@ -49,14 +58,15 @@ fn told_item(parts: &Parts, item: Item) -> Option<Answer>
     }
 }
 
-/// The item that stands over so many others, as it is told.
+/// That item, as it is told.
 fn item_answer(parts: &Parts, height: usize) -> Option<Answer>
     requires { height < length parts.now.entries.items }
     ensures { (p : Image) (s : State) → StandsFor (record { image = p; parts = parts.now }) s → result ≡ item_answer s.cells height (over s.items height) }
 {
-    let above = parts.entries.len() - height;
-    let item = parts.entries.entry(above - 1)?;
-    told_item(parts, item)
+    match item_at(parts, height) {
+        Some(item) => told_item(parts, item),
+        None => None,
+    }
 }
 
 /// Tells the items of the cleanup stack, the lowest first.

@@ -10,11 +10,15 @@
 mod actives;
 mod cells;
 mod cleanup;
+mod owners;
 mod recent;
 mod sending;
+mod tree;
+mod way;
 
 pub use actives::tell_actives;
 pub use cells::tell_cells;
 pub use cleanup::tell_cleanup;
+pub use owners::tell_owners;
 pub use recent::tell_recent;
 pub use sending::{send, tell};

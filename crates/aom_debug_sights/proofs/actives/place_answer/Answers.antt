@@ -1,6 +1,6 @@
 -- The object at a place of the roster is told by its name.
-use Rattle.std.proofs.Common.{◌≡◌, ◌∙◌, Some, None, ap, sym}
-use Rattle.std.specs.Prelude.{map, option_map, slice_get}
+use Rattle.std.proofs.Common.{◌∙◌, ap, sym}
+use Rattle.std.specs.Prelude.{option_map}
 use Rattle.std.proofs.lemmas.Option.{slice_get-map}
 use Rattle.aom_debug_sights.specs.Actives.{active_at}
 use Rattle.aom_debug_sights.proofs.Enlisted.{has_priority}

@@ -3,7 +3,6 @@ use Rattle.std.proofs.Common.{◌≡◌, ◌∙◌, ℕ, List, ap, length}
 use Rattle.std.proofs.lemmas.Result.{IfErr-weaker, IfOk-weaker, err_from_is_err_and}
 use Rattle.aom_image.specs.Image.{Image}
 use Rattle.aom_transcript.specs.Text.{ended}
-use Rattle.aom_sound.specs.State.{State}
 use Rattle.aom_debug_lines.specs.Answers.{answer_text}
 use Rattle.aom_debug_lines.specs.declared.answer.Answer.{Answer}
 use Rattle.aom_debug_sights.specs.Sights.{first_classes}

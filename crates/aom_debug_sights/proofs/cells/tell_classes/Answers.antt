@@ -1,5 +1,5 @@
 -- One class after another is told, by number.
-use Rattle.std.proofs.Common.{◌≡◌, ◌∙◌, ℕ, List, ap, arith}
+use Rattle.std.proofs.Common.{ℕ, List, ap, arith}
 use Rattle.std.proofs.lemmas.Result.{err_from_is_err_and}
 use Rattle.aom_transcript.specs.Text.{ended}
 use Rattle.aom_sound.specs.State.{State}

@@ -3,7 +3,8 @@ use Rattle.std.proofs.Common.{◌≡◌, ◌∙◌, Some, None}
 use Rattle.aom_debug_sights.proofs.Showing.{item_told}
 use Rattle.aom_debug_sights.proofs.cleanup.item_answer.Goals as goal
 
-pub returns : goal.returns
-returns c = λ p s st.
-    let at = rw c.len.ensures.value at c.in_ok-item.ensures in
-    c.told_item.ensures ∙ item_told p c.args.parts.now s st c.args.height (Some c.in_ok-item.item) c.requires at
+pub returns-in-Some : goal.returns-in-Some
+returns-in-Some c = λ p s st. c.told_item.ensures ∙ item_told p c.args.parts.now s st c.args.height (Some c.in-Some.item) c.in-Some.ensures
+
+pub returns-in-None : goal.returns-in-None
+returns-in-None c = λ p s st. item_told p c.args.parts.now s st c.args.height None c.in-None.ensures
