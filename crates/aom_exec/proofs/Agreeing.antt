@@ -125,7 +125,6 @@ module _ (p : Image) (t : Typing) (cs : List Cell) (n : ℕ) (o : Option Object)
       go : (b : Bool) → (F (claim p (declared p cs) ls (Field x.name f)) → Declared x f) → F (cond b Null (claim p (declared p cs) ls (Field x.name f))) → Declared x f
       go true below fits = let thing = field_thing p (thing_holder x.thing) f in declared_says p (seen cs) thing Empty n o same (empty_fits p (seen cs) thing o fits)
       go false below fits = below fits
-
   field_says x f lives (Ending y left ∷ ls) back st fits = go (y.name == x.name) refl (field_says x f lives ls Now st.3) fits
     where
       go : (b : Bool) → (y.name == x.name) ≡ b → (F (claim p (declared p cs) ls (Field x.name f)) → Declared x f) → F (cond b (filled (field_thing p (thing_holder y.thing) f) Perhaps) (claim p (declared p cs) ls (Field x.name f))) → Declared x f
