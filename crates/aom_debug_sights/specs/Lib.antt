@@ -1,0 +1,4 @@
+pub mod Telling
+pub mod Sights
+pub mod Actives
+pub mod Owners
