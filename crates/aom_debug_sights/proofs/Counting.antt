@@ -1,5 +1,5 @@
 -- How many numbers have an object of a class is how many objects of the class each state has: their names are distinct, and below the limit.
-use Rattle.std.proofs.Common.{◌≡◌, ◌∙◌, ◌<◌, ℕ, zero, suc, ◌+◌, Bool, true, false, cond, ◌==◌, List, [], ◌∷◌, ◌++◌, Option, Some, None, take, refl, sym, ap, add-one, arith}
+use Rattle.std.proofs.Common.{◌≡◌, ◌∙◌, ◌<◌, ℕ, zero, suc, ◌+◌, Bool, true, false, cond, ◌==◌, List, [], ◌∷◌, Option, Some, None, take, refl, sym, ap, add-one, arith}
 use Rattle.std.proofs.lemmas.Bool.{eq-eqb, eqb-false, eqb-true, ne_eqb, false≢true}
 use Rattle.std.proofs.lemmas.List.{append-nil}
 use Rattle.std.proofs.lemmas.Option.{none-some}
@@ -7,7 +7,7 @@ use Rattle.aom_image.specs.Image.{Image}
 use Rattle.aom_cells.specs.Heap.{cell_at, class_at}
 use Rattle.aom_cells.specs.Heap.{class_of as class_of_cell, count as living}
 use Rattle.aom_cells.specs.declared.cell.Cell.{Cell as Held_cell}
-use Rattle.aom_sound.specs.Places.{Cell, Object, Tidy, count_cells, named}
+use Rattle.aom_sound.specs.Places.{Cell, Tidy, count_cells, named}
 use Rattle.aom_sound.specs.State.{State}
 use Rattle.aom_parts.specs.declared.parts.Parts.{Parts}
 use Rattle.aom_parts.specs.Stands.{StandsFor}

@@ -1,6 +1,6 @@
 -- The entries of the roster are the enlisted objects of each state that the machine stands for, in the order of choice.
-use Rattle.std.proofs.Common.{◌≡◌, ◌∙◌, ◌<◌, ℕ, ℤ, Bool, true, false, List, [], ◌∷◌, Option, Some, None, IsSome, length, slice_get, take, refl, sym, ap, subst, arith}
-use Rattle.std.specs.Prelude.{All, AllPairs, is_some, map}
+use Rattle.std.proofs.Common.{◌≡◌, ◌∙◌, ℕ, ℤ, Bool, true, List, [], ◌∷◌, Option, Some, None, IsSome, length, slice_get, take, refl, sym, ap, subst}
+use Rattle.std.specs.Prelude.{AllPairs, is_some, map}
 use Rattle.std.proofs.lemmas.List.Elements.{All-map}
 use Rattle.std.proofs.lemmas.List.Kept.{AllPairs-cons}
 use Rattle.std.proofs.lemmas.Option.{get_or_from_slice_get, none-some, same_Some, slice_get_within}
@@ -13,7 +13,7 @@ use Rattle.aom_requests.specs.declared.request.Request.TheVariants.{Object as He
 use Rattle.aom_scheduler.specs.declared.entry.Entry.{Entry}
 use Rattle.aom_active.specs.Agrees.{GoesBefore, HasPriority, Tells as Tells_request, phase_of}
 use Rattle.aom_scheduler.proofs.Items.{pairs-head, pairs-nil, pairs-tail}
-use Rattle.aom_sound.specs.Places.{Cell, Request, named, requested}
+use Rattle.aom_sound.specs.Places.{Request, named, requested}
 use Rattle.aom_sound.specs.State.{State}
 use Rattle.aom_parts.specs.declared.parts.Parts.{Parts}
 use Rattle.aom_parts.specs.Stands.{Machine, StandsFor}

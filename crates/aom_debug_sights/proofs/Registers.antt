@@ -1,5 +1,5 @@
 -- What the strongest abstract state of a frame says of its registers is what they own, also while the frame waits for what stands over it.
-use Rattle.std.proofs.Common.{◌≡◌, ◌∙◌, ℕ, ℤ, suc, Bool, true, false, cond, ◌==◌, List, [], ◌∷◌, ◌++◌, length, Option, Some, None, IsSome, inl, inr, slice_index_or, refl, sym, ap, subst}
+use Rattle.std.proofs.Common.{◌≡◌, ◌∙◌, ℕ, suc, Bool, true, false, cond, ◌==◌, List, [], ◌∷◌, Option, Some, None, IsSome, inl, inr, slice_index_or, refl, sym, ap, subst}
 use Rattle.std.specs.Prelude.{◌⊎◌, is_some}
 use Rattle.std.proofs.lemmas.Bool.{eqb-true, false≢true}
 use Rattle.std.proofs.lemmas.Option.{none-some, same_Some}
@@ -17,27 +17,25 @@ use Rattle.aom_frames.specs.declared.task.Task.TheVariants.{Run as Runs_frame}
 use Rattle.aom_rules.specs.Calls.{while_called}
 use Rattle.aom_rules.specs.Requests.{resting}
 use Rattle.aom_rules.specs.Rules.{ways_of}
-use Rattle.aom_rules.specs.Typing.{shape_at}
 use Rattle.aom_rules.specs.Ways.{As_before, Branches, Branches_in, Branches_on_empty, Branches_on_null, Called, Cancelled, Caught, Dropped, Ends, Filled, Goes_back, Goes_on, Goes_to, Holding, Left_in, Moved, News, Popped, Pushed, Pushed_operation, Taken, Taken_message, Ways}
 use Rattle.aom_shape.specs.Arguments.{after_of, arguments_moved}
 use Rattle.aom_shape.specs.Kinds.{is_object_or_null, is_unowning, readied, register, set_register}
 use Rattle.aom_shape.specs.Order.{SaysNoMore, Weaker, alike, maybe_null, maybe_own, unset_null, unset_word}
 use Rattle.aom_shape.specs.Shape.{Shape}
-use Rattle.aom_shape.specs.Tables.{at}
 use Rattle.aom_shape.specs.declared.kind.Kind.{Kind}
 use Rattle.aom_shape.specs.declared.kind.Kind.TheVariants.{Maybe, Null, Own, Unset, Word}
 use Rattle.aom_sound.specs.Owned.{over}
-use Rattle.aom_sound.specs.Places.{Object, Place, Register, held}
+use Rattle.aom_sound.specs.Places.{Object, Register, held}
 use Rattle.aom_sound.specs.State.{Frame, Run, State, Task}
 use Rattle.aom_sound.proofs.Maps.{at-put_at}
-use Rattle.aom_verify.specs.Strongest.{IsMethodStrongest, IsShapeAt, IsStrongest}
+use Rattle.aom_verify.specs.Strongest.{IsShapeAt}
 use Rattle.aom_parts.specs.declared.parts.Parts.{Parts}
 use Rattle.aom_parts.specs.Agrees.{SameFrame, number}
 use Rattle.aom_parts.specs.Places.{value}
 use Rattle.aom_parts.specs.Stands.{Machine, Stands, StandsFor}
 use Rattle.aom_parts.specs.Waits.{waiting_by, waiting_for, while_waiting}
-use Rattle.aom_exec.specs.Agreement.{AgreesInAll, Agreement, NumberSays, RegistersAgree, state_under}
-use Rattle.aom_debug_sights.specs.Owners.{Shows, ShowsAll, ShowsIf, ShowsNone, may_own}
+use Rattle.aom_exec.specs.Agreement.{AgreesInAll, NumberSays, RegistersAgree, state_under}
+use Rattle.aom_debug_sights.specs.Owners.{ShowsAll, ShowsIf, may_own}
 use Rattle.aom_debug_sights.proofs.Tasks.{frame_there, parted, register_value}
 
 -- ---- a frame that waits: what a register may own is what it may own at its place, or gone

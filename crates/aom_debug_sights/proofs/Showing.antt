@@ -1,16 +1,15 @@
 -- What a machine's numbers show of each state that it stands for: the classes of cells, and the items of the cleanup stack.
-use Rattle.std.proofs.Common.{◌≡◌, ◌∙◌, ◌<◌, ℕ, ℤ, suc, ◌+◌, ◌-◌, Bool, true, false, cond, ◌==◌, List, [], ◌∷◌, length, Option, Some, None, slice_get, refl, sym, ap, subst, arith}
-use Rattle.std.specs.Prelude.{option_map, reverse}
+use Rattle.std.proofs.Common.{◌≡◌, ◌∙◌, ◌<◌, ℕ, suc, ◌-◌, Bool, true, false, cond, ◌==◌, List, [], ◌∷◌, length, Option, Some, None, slice_get, refl, sym, ap, arith}
+use Rattle.std.specs.Prelude.{option_map}
 use Rattle.std.specs.Int.{w32, cast_signed}
-use Rattle.std.proofs.lemmas.Bool.{eq-eqb, eqb-false, eqb-true}
+use Rattle.std.proofs.lemmas.Bool.{eqb-false, eqb-true}
 use Rattle.std.proofs.lemmas.Option.{none-some, same_Some}
 use Rattle.aom_image.specs.Image.{Image}
-use Rattle.aom_image.specs.declared.method.Thing.{Thing}
 use Rattle.aom_image.specs.declared.method.Thing.TheVariants.{Object as An_object_of}
 use Rattle.aom_cells.specs.Heap.{Heap, cell_at, class_at, null}
 use Rattle.aom_cells.specs.Heap.{class_of as class_of_cell}
 use Rattle.aom_cells.specs.declared.cell.Cell.{Cell as Held_cell}
-use Rattle.aom_cleanup.specs.Items.{entry_in, item_at, owned_by}
+use Rattle.aom_cleanup.specs.Items.{entry_in, owned_by}
 use Rattle.aom_cleanup.specs.declared.item.Item.{Item as Held_item}
 use Rattle.aom_cleanup.specs.declared.item.Item.TheVariants.{Object as Holds_object, Operation as Holds_operation, Mark as Is_mark}
 use Rattle.aom_sound.specs.Owned.{over}
@@ -23,7 +22,7 @@ use Rattle.aom_parts.specs.Stands.{StandsFor}
 use Rattle.aom_parts.proofs.Alike.{by_items}
 use Rattle.aom_parts.proofs.Entries.{same_items_length}
 use Rattle.aom_debug_lines.specs.declared.answer.Answer.{Answer}
-use Rattle.aom_debug_lines.specs.declared.answer.Answer.TheVariants.{Object as Object_answer, Operation, Trap}
+use Rattle.aom_debug_lines.specs.declared.answer.Answer.TheVariants.{Object as Object_answer, Operation}
 use Rattle.aom_debug_sights.specs.Owners.{entries_of, is_entry}
 use Rattle.aom_debug_sights.specs.Sights.{class_in, class_of, held_answer, item_answer}
 

@@ -1,5 +1,5 @@
 -- What goes out piece by piece: one text after another is out, or a beginning of them all.
-use Rattle.std.proofs.Common.{◌≡◌, ◌∙◌, ◌<◌, ◌≤◌, ℕ, zero, suc, ◌+◌, List, [], ◌∷◌, ◌++◌, Option, Some, None, Bool, true, false, ◌==◌, ◌≢◌, length, min, take, slice_get, refl, sym, ap, subst, append_assoc, add-one, arith}
+use Rattle.std.proofs.Common.{◌≡◌, ◌∙◌, ◌<◌, ℕ, zero, suc, ◌+◌, List, [], ◌∷◌, ◌++◌, Option, Some, None, Bool, true, false, ◌==◌, length, min, take, slice_get, refl, sym, ap, append_assoc, add-one, arith}
 use Rattle.std.specs.Prelude.{map, option_map}
 use Rattle.std.specs.List.{flat_map}
 use Rattle.std.proofs.Math.Seq.{take-append-add}

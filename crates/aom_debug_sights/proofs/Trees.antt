@@ -1,8 +1,6 @@
 -- What hangs from a place: the line of what it holds, and then what hangs from its fields, is what goes out.
-use Rattle.std.proofs.Common.{◌≡◌, ◌∙◌, ◌≢◌, ℕ, zero, suc, ◌+◌, ◌-◌, Bool, true, false, List, [], ◌∷◌, ◌++◌, Option, Some, None, IsSome, codes, decimal, length, take, refl, sym, ap, subst, append_assoc, arith}
-use Rattle.std.specs.Prelude.{is_some}
+use Rattle.std.proofs.Common.{◌≡◌, ◌∙◌, ℕ, zero, suc, Bool, List, [], ◌∷◌, ◌++◌, Option, Some, None, codes, decimal, take, refl, sym, ap, append_assoc}
 use Rattle.std.specs.List.{flat_map}
-use Rattle.std.proofs.lemmas.Bool.{false≢true}
 use Rattle.std.proofs.lemmas.Grind.{flat_map-append}
 use Rattle.std.proofs.lemmas.List.{append-nil}
 use Rattle.std.proofs.lemmas.Option.{none-some, same_Some}
@@ -10,7 +8,6 @@ use Rattle.aom_image.specs.Image.{Image}
 use Rattle.aom_image.specs.declared.method.Thing.{Thing}
 use Rattle.aom_image.specs.declared.method.Thing.TheVariants.{Object as An_object_of, Message}
 use Rattle.aom_cells.specs.Heap.{Lives, class_at, field_at}
-use Rattle.aom_cells.specs.Heap.{class_of as class_of_cell}
 use Rattle.aom_transcript.specs.Text.{ended}
 use Rattle.aom_sound.specs.Places.{Cell, Field, Object, Place, Register, held}
 use Rattle.aom_sound.specs.State.{State}
@@ -21,7 +18,7 @@ use Rattle.aom_run.specs.Runs.{after}
 use Rattle.aom_acts.proofs.Finding.{object_lives}
 use Rattle.aom_debug_words.specs.declared.fault.DebugFault.{DebugFault}
 use Rattle.aom_debug_sights.specs.Sights.{class_in, class_of}
-use Rattle.aom_debug_sights.specs.Owners.{Branch, By_field, In_register, Outer, Owned, Shows, ShowsNone, Way, branch_text, frame_registers, further, generations, grown, hanging, outer_text, owned_line, owners_text, thing_text, tree, way_text}
+use Rattle.aom_debug_sights.specs.Owners.{Branch, By_field, In_register, Outer, Owned, Shows, ShowsNone, Way, branch_text, frame_registers, further, generations, grown, outer_text, owned_line, owners_text, thing_text, tree, way_text}
 use Rattle.aom_debug_sights.specs.Telling.{IsCut, Tells, TellsPart, gathered}
 use Rattle.aom_debug_sights.proofs.Telling.{cut_on, none_sent, sent_on}
 use Rattle.aom_debug_sights.proofs.Showing.{class_held}

@@ -1,5 +1,5 @@
 -- What a debugger tells of the active objects of a state.
-use Rattle.std.specs.Prelude.{◌≡◌, ℕ, Bool, true, List, [], ◌∷◌, Option, Some, None, IsSome, All, AllPairs, take}
+use Rattle.std.specs.Prelude.{◌≡◌, ℕ, Bool, true, List, Option, Some, None, IsSome, All, AllPairs, take}
 use Rattle.std.specs.List.{flat_map}
 use Rattle.aom_active.specs.Agrees.{GoesBefore}
 use Rattle.aom_sound.specs.Places.{Aborted, Active as Waiting, Cancelling, Cell, Idle, Issued, Phase, Request, named, requested}

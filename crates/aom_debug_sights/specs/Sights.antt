@@ -1,5 +1,5 @@
 -- What a debugger tells of a state: its cells and its cleanup stack; and of the latest instructions.
-use Rattle.std.specs.Prelude.{◌≡◌, ℕ, zero, suc, ◌+◌, Bool, true, false, cond, ◌==◌, List, [], ◌∷◌, length, Option, Some, None, map, option_map}
+use Rattle.std.specs.Prelude.{ℕ, zero, suc, ◌+◌, Bool, false, cond, ◌==◌, List, [], ◌∷◌, length, Option, Some, None, map, option_map}
 use Rattle.std.specs.Int.{w32, cast_signed}
 use Rattle.aom_image.specs.Image.{Image}
 use Rattle.aom_image.specs.declared.method.Thing.{Thing}

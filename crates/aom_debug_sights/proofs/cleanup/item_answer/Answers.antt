@@ -1,5 +1,5 @@
 -- An item is told as the one that stands there in each state.
-use Rattle.std.proofs.Common.{◌≡◌, ◌∙◌, Some, None}
+use Rattle.std.proofs.Common.{◌∙◌, Some, None}
 use Rattle.aom_debug_sights.proofs.Showing.{item_told}
 use Rattle.aom_debug_sights.proofs.cleanup.item_answer.Goals as goal
 

@@ -1,5 +1,5 @@
 -- One item after another is told, from the lowest.
-use Rattle.std.proofs.Common.{◌≡◌, ◌∙◌, ℕ, List, ap, arith, length, subst, sym}
+use Rattle.std.proofs.Common.{ℕ, List, ap, arith, length}
 use Rattle.std.proofs.lemmas.Result.{err_from_is_err_and}
 use Rattle.aom_transcript.specs.Text.{ended}
 use Rattle.aom_sound.specs.Owned.{over}
