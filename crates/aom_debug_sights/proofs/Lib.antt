@@ -5,3 +5,5 @@ pub mod Enlisted
 pub mod Counting
 pub mod Tasks
 pub mod Registers
+pub mod Sums
+pub mod Once

@@ -2,3 +2,4 @@ pub mod Telling
 pub mod Sights
 pub mod Actives
 pub mod Owners
+pub mod Laws

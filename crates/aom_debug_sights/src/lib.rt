@@ -10,6 +10,7 @@
 mod actives;
 mod cells;
 mod cleanup;
+mod laws;
 mod owners;
 mod recent;
 mod sending;
@@ -19,6 +20,7 @@ mod way;
 pub use actives::tell_actives;
 pub use cells::tell_cells;
 pub use cleanup::tell_cleanup;
+pub use laws::owners_are_told_once;
 pub use owners::tell_owners;
 pub use recent::tell_recent;
 pub use sending::{send, tell};
