@@ -1,28 +1,20 @@
--- Where each cell has one living owner, each has one line of the map of owners: the way from a cell up to an outer place goes through just
--- the places from which it hangs, and its end is one of those that the map begins at.
-use Rattle.std.proofs.Common.{◌≡◌, ◌∙◌, ◌<◌, ◌≤◌, ℕ, zero, suc, ◌+◌, Bool, true, false, cond, ◌==◌, ◌&&◌, List, [], ◌∷◌, ◌++◌, length, Option, Some, None, IsSome, inl, inr, slice_get, refl, sym, ap, subst, arith}
+-- Each object has one line of the map of owners: the way from its owner up to an outer place goes through just the places from which it
+-- hangs, it ends since classes rise on it, and its end is one of those that the map begins at.
+use Rattle.std.proofs.Common.{◌≡◌, ◌∙◌, ◌<◌, ◌≤◌, ℕ, ℤ, nat_lt, zero, suc, ◌+◌, Bool, true, false, cond, ◌==◌, ◌&&◌, List, [], ◌∷◌, ◌++◌, length, Option, Some, None, inl, inr, refl, sym, ap, subst, arith}
 use Rattle.std.specs.Prelude.{is_some}
-use Rattle.std.proofs.lemmas.Bool.{eq-eqb, eqb-false, eqb-true, false≢true, ne_eqb}
-use Rattle.std.proofs.lemmas.Option.{none-some, same_Some, slice_get_within}
-use Rattle.aom_image.proofs.Given.{some_given}
+use Rattle.std.proofs.lemmas.Bool.{eq-eqb, eqb-true, false≢true, ne_eqb}
+use Rattle.std.proofs.lemmas.Option.{none-some, same_Some}
 use Rattle.aom_image.specs.Image.{Image}
-use Rattle.aom_image.specs.Views.{class_at}
-use Rattle.aom_image.specs.WellFormed.{ClassFits, WellFormed}
-use Rattle.aom_image.specs.declared.class.ClassDecl.{ClassDecl}
 use Rattle.aom_image.specs.declared.method.Thing.{Thing}
 use Rattle.aom_image.specs.declared.method.Thing.TheVariants.{Object as An_object_of, Message}
 use Rattle.aom_cells.specs.Heap.{cell_at}
 use Rattle.aom_cells.specs.declared.cell.Cell.{Cell as Held_cell}
-use Rattle.aom_classes.proofs.Facts.{all_there}
-use Rattle.aom_classes.proofs.Views.{has_class, in_class}
 use Rattle.aom_shape.specs.Kinds.{filled}
-use Rattle.aom_shape.specs.Things.{Member, Nobody, Program, field_thing, same_thing, stands_for}
+use Rattle.aom_shape.specs.Things.{field_thing, stands_for}
 use Rattle.aom_shape.specs.declared.kind.Filling.TheVariants.{Perhaps}
-use Rattle.aom_sound.specs.Laws.{IsWired}
-use Rattle.aom_sound.specs.Owned.{AllOwned, Ends, HasRegisters, IsObjects, Lives, NoneGoes, at_entry, at_register, at_root, by_cell, over}
-use Rattle.aom_sound.specs.Owned.{Owned as IsOwned}
+use Rattle.aom_sound.specs.Owned.{over}
 use Rattle.aom_sound.specs.Places.{Cell, Elsewhere, Entry, Field, Going, In_service, Object, Place, Queued, Register, Root, Session, Tidy, held, named, same_place}
-use Rattle.aom_sound.specs.State.{Item, State, Task, thing_holder}
+use Rattle.aom_sound.specs.State.{State, thing_holder}
 use Rattle.aom_sound.proofs.Maps.{held_lives, named_name, one_place, same_place-true, same_place_refl}
 use Rattle.aom_parts.specs.declared.parts.Parts.{Parts}
 use Rattle.aom_parts.specs.Agrees.{thing_in, thing_of}
@@ -30,9 +22,20 @@ use Rattle.aom_parts.specs.Places.{value}
 use Rattle.aom_parts.specs.Stands.{Machine, StandsFor}
 use Rattle.aom_exec.specs.Agreement.{AgreesInAll, NumberSays}
 use Rattle.aom_debug_sights.specs.Laws.{ToldOnce, lines_of}
-use Rattle.aom_debug_sights.specs.Owners.{At_root, By_field, In_entry, In_going, In_register, Outer, Owned, Way, entries_map, frame_registers, further, generations, goings_map, grown, hanging, is_entry, is_frame, is_going, owners, registers_map, tree}
+use Rattle.aom_debug_sights.specs.Owners.{At_root, By_field, In_entry, In_going, In_register, Outer, Owned, Way, entries_map, further, generations, goings_map, grown, is_entry, is_frame, is_going, owners, registers_map, tree}
 use Rattle.aom_debug_sights.specs.Sights.{counted}
 use Rattle.aom_debug_sights.specs.Telling.{gathered}
+use Rattle.aom_cells.specs.Heap.{field_of, null}
+use Rattle.aom_cleanup.specs.declared.item.Item.{Item as Held_item}
+use Rattle.aom_frames.specs.declared.task.Task.{Task as Held_task}
+use Rattle.aom_frames.specs.declared.task.Task.TheVariants.{Destroy as Destroys, Dispatched as Ends_dispatch, Run as Runs_frame, Trapped as Is_trap, Unwind as Unwinds}
+use Rattle.aom_parts.specs.Agrees.{word_at}
+use Rattle.aom_parts.specs.Agrees.{Shows as Held_shows}
+use Rattle.aom_acts.proofs.Finding.{object_lives}
+use Rattle.std.proofs.lemmas.Bool.{ltb-false, ltb-true}
+use Rattle.std.proofs.lemmas.List.{get_or_past}
+use Rattle.aom_debug_sights.proofs.Showing.{as_many_items, entry_there, owned_over}
+use Rattle.aom_debug_sights.proofs.Tasks.{as_many_tasks, frame_there, going_over, going_there, register_over, register_there}
 use Rattle.aom_debug_sights.proofs.Sums.{bit, sum_add, sum_none, sum_one, sum_same, sum_to}
 
 -- ---- lines
@@ -83,40 +86,26 @@ module _ {A : Type 0} where
       go below true at is = let same = eqb-true (length ys) k at in omega (arith, same)
       go below false at is = let less = below is in omega (arith, less)
 
--- ---- owners of the cells of a state
-
-owner_holds : (p : Image) (s : State) (cs : List Cell) → Tidy cs → AllOwned p s cs → (n : ℕ) (x : Object) → named cs n ≡ Some x → (q : Place) × (held cs q ≡ Some x) × Ends s q
-owner_holds p s [] tidy all n x is = absurd (none-some x is)
-owner_holds p s (c ∷ cs) tidy all n x is = go (owner_holds p s cs tidy.2 all.1 n x) (c.object.name == n) is
+-- what lives is held somewhere
+owner_of : (cs : List Cell) → Tidy cs → (n : ℕ) (x : Object) → named cs n ≡ Some x → (q : Place) × (held cs q ≡ Some x)
+owner_of [] tidy n x is = absurd (none-some x is)
+owner_of (c ∷ cs) tidy n x is = go (owner_of cs tidy.2 n x) (c.object.name == n) is
   where
     later : (q : Place) → held cs q ≡ Some x → (b : Bool) → same_place c.owner q ≡ b → cond b (Some c.object) (held cs q) ≡ Some x
     later q holds true same = absurd (none-some x (sym tidy.0 ∙ ap (held cs) (same_place-true c.owner q same) ∙ holds))
     later q holds false other = holds
 
-    go : (named cs n ≡ Some x → (q : Place) × (held cs q ≡ Some x) × Ends s q) → (b : Bool) → cond b (Some c.object) (named cs n) ≡ Some x → (q : Place) × (held (c ∷ cs) q ≡ Some x) × Ends s q
-    go below true is = (c.owner, ap (λ b. cond b (Some c.object) (held cs c.owner)) (same_place_refl c.owner) ∙ is, all.0.1)
-    go below false is = let found = below is in (found.0, later found.0 found.1 (same_place c.owner found.0) refl, found.2)
+    go : (named cs n ≡ Some x → (q : Place) × (held cs q ≡ Some x)) → (b : Bool) → cond b (Some c.object) (named cs n) ≡ Some x → (q : Place) × (held (c ∷ cs) q ≡ Some x)
+    go below true is = (c.owner, ap (λ b. cond b (Some c.object) (held cs c.owner)) (same_place_refl c.owner) ∙ is)
+    go below false is = let found = below is in (found.0, later found.0 found.1 (same_place c.owner found.0) refl)
 
-holder_lives : (p : Image) (s : State) (cs : List Cell) → AllOwned p s cs → (r : Place) (o : Object) → held cs r ≡ Some o → Lives p s r
-holder_lives p s [] all r o is = absurd (none-some o is)
-holder_lives p s (c ∷ cs) all r o is = go (holder_lives p s cs all.1 r o) (same_place c.owner r) refl is
-  where
-    go : (held cs r ≡ Some o → Lives p s r) → (b : Bool) → same_place c.owner r ≡ b → cond b (Some c.object) (held cs r) ≡ Some o → Lives p s r
-    go below true same is = subst (Lives p s) (same_place-true c.owner r same) all.0.0
-    go below false other is = below is
-
--- a class has at most eight fields
-class_fits : (p : Image) → WellFormed p → (c : ℕ) (d : ClassDecl) → class_at p c ≡ Some d → length d.fields ≤ 8
-unfolding class_at
-class_fits p formed c d is = let fits = all_there (ClassFits _ _) p.classes c d formed.classes.each is in fits.field_count
-
-few_fields : (p : Image) → WellFormed p → (t : Thing) (f : ℕ) → IsSome (field_thing p (thing_holder t) f) → f < 8
-few_fields p formed Message f some = cc
-few_fields p formed (An_object_of c) f some = some_given (λ o. IsSome o) (class_at p c) (has_class p c f some) (λ none. cc) (λ d is _.
-    some_given (λ o. IsSome o) (slice_get d.fields f) (subst (λ o. IsSome o) (in_class p c f d is) some) (λ none. cc) (λ t there _.
-    let few = class_fits p formed c d is in
-    let less = slice_get_within d.fields f t there in
-    omega (arith, few, less)))
+-- the way from a place up to one that the map begins at
+data Up (s : State) : Place → Type 0 where
+  up_register : {d i : ℕ} → d < length s.tasks → i < 16 → Up s (Register d i)
+  up_entry : {k : ℕ} → k < length s.items → Up s (Entry k)
+  up_going : {d : ℕ} → d < length s.tasks → Up s (Going d)
+  up_root : Up s (Elsewhere Root)
+  up_field : {n f : ℕ} (o : Object) (q : Place) → named s.cells n ≡ Some o → held s.cells q ≡ Some o → f < 8 → Up s q → Up s (Field n f)
 
 -- ---- classes
 
@@ -180,27 +169,24 @@ module _ (m : Machine) (s : State) (st : StandsFor m s) (agrees : AgreesInAll m)
 
   -- ---- the way from a place up to an outer one
 
-  abbrev AllLive : Type 0
-  AllLive = (r : Place) (o : Object) → held cs r ≡ Some o → Lives p s r
-
   -- how often a place stands on it
-  abbrev occurs : (r q : Place) → Ends s q → ℕ
-  occurs r q (by_cell o above there holds ends) = bit (same_place r q) + occurs r above ends
+  abbrev occurs : (r q : Place) → Up s q → ℕ
+  occurs r q (up_field o above there holds few ends) = bit (same_place r q) + occurs r above ends
   occurs r q _ = bit (same_place r q)
 
   -- a place that holds nothing does not
-  occurs_none : (r q : Place) (e : Ends s q) (x : Object) → held cs q ≡ Some x → held cs r ≡ None → occurs r q e ≡ 0
-  occurs_none r q (by_cell o above there holds ends) x on none = let here = none_bit cs q r x on none in let rest = occurs_none r above ends o holds none in omega (arith, here, rest)
-  occurs_none r q at_register x on none = none_bit cs q r x on none
-  occurs_none r q at_entry x on none = none_bit cs q r x on none
-  occurs_none r q at_root x on none = none_bit cs q r x on none
+  occurs_none : (r q : Place) (e : Up s q) (x : Object) → held cs q ≡ Some x → held cs r ≡ None → occurs r q e ≡ 0
+  occurs_none r q (up_field o above there holds few ends) x on none = let here = none_bit cs q r x on none in let rest = occurs_none r above ends o holds none in omega (arith, here, rest)
+  occurs_none r q (up_register deep small) x on none = none_bit cs q r x on none
+  occurs_none r q (up_entry high) x on none = none_bit cs q r x on none
+  occurs_none r q (up_going deep) x on none = none_bit cs q r x on none
+  occurs_none r q up_root x on none = none_bit cs q r x on none
 
   -- one that holds an object stands there as often as that is what the way begins with, and as its fields stand there
-  split : (r q : Place) (e : Ends s q) (x o : Object) → AllLive → held cs q ≡ Some x → held cs r ≡ Some o → occurs r q e ≡ bit (o.name == x.name) + sum_to (λ f. occurs (Field o.name f) q e) 8
-  split r (Field n f) (by_cell y above there holds ends) x o live on here =
+  split : (r q : Place) (e : Up s q) (x o : Object) → held cs q ≡ Some x → held cs r ≡ Some o → occurs r q e ≡ bit (o.name == x.name) + sum_to (λ f. occurs (Field o.name f) q e) 8
+  split r (Field n f) (up_field y above there holds few ends) x o on here =
       let first = place_bit cs tidy (Field n f) r x o on here in
-      let rest = split r above ends y o live holds here in
-      let few = few_fields p st.sound.formed (live (Field n f) x on).0.thing f (live (Field n f) x on).2 in
+      let rest = split r above ends y o holds here in
       let fields = sum_add (λ k. bit ((o.name == n) && (k == f))) (λ k. occurs (Field o.name k) above ends) 8 in
       let one = sum_one (λ k. bit ((o.name == n) && (k == f))) f 8 few (λ k other. other_field (o.name == n) (k == f) other) in
       let this : bit ((o.name == n) && (f == f)) ≡ bit (o.name == y.name) = ap (λ b. bit ((o.name == n) && b)) (eq-eqb f f refl) ∙ this_cell (o.name == n) ∙ ap (λ k. bit (o.name == k)) (sym (named_name cs n y there)) in
@@ -213,18 +199,19 @@ module _ (m : Machine) (s : State) (st : StandsFor m s) (agrees : AgreesInAll m)
       this_cell : (a : Bool) → bit (a && true) ≡ bit a
       this_cell true = refl
       this_cell false = refl
-  split r q at_register x o live on here = let first = place_bit cs tidy q r x o on here in let none = sum_none (λ f. occurs (Field o.name f) q at_register) 8 (λ k less. refl) in omega (arith, first, none)
-  split r q at_entry x o live on here = let first = place_bit cs tidy q r x o on here in let none = sum_none (λ f. occurs (Field o.name f) q at_entry) 8 (λ k less. refl) in omega (arith, first, none)
-  split r q at_root x o live on here = let first = place_bit cs tidy q r x o on here in let none = sum_none (λ f. occurs (Field o.name f) q at_root) 8 (λ k less. refl) in omega (arith, first, none)
+  split r q (up_register deep small) x o on here = let first = place_bit cs tidy q r x o on here in let none = sum_none (λ f. occurs (Field o.name f) q (up_register deep small)) 8 (λ k less. refl) in omega (arith, first, none)
+  split r q (up_entry high) x o on here = let first = place_bit cs tidy q r x o on here in let none = sum_none (λ f. occurs (Field o.name f) q (up_entry high)) 8 (λ k less. refl) in omega (arith, first, none)
+  split r q (up_going deep) x o on here = let first = place_bit cs tidy q r x o on here in let none = sum_none (λ f. occurs (Field o.name f) q (up_going deep)) 8 (λ k less. refl) in omega (arith, first, none)
+  split r q up_root x o on here = let first = place_bit cs tidy q r x o on here in let none = sum_none (λ f. occurs (Field o.name f) q up_root) 8 (λ k less. refl) in omega (arith, first, none)
 
   -- so what hangs from a place has a line of an object as often as the place stands on the way from it
-  hangs_on : (fuel : ℕ) (w : Way) (r q : Place) (e : Ends s q) (x : Object) → AllLive → held cs q ≡ Some x → held_rank (held cs r) ≤ fuel → lines_of x.name (tree cs fuel w (held cs r)) ≡ occurs r q e
-  hangs_on zero w r q e x live on low = go (held cs r) refl low
+  hangs_on : (fuel : ℕ) (w : Way) (r q : Place) (e : Up s q) (x : Object) → held cs q ≡ Some x → held_rank (held cs r) ≤ fuel → lines_of x.name (tree cs fuel w (held cs r)) ≡ occurs r q e
+  hangs_on zero w r q e x on low = go (held cs r) refl low
     where
       go : (o : Option Object) → held cs r ≡ o → held_rank o ≤ 0 → 0 ≡ occurs r q e
       go None is low = sym (occurs_none r q e x on is)
       go (Some o) is low = let c = object_at r o is in let high = ap rank c.1 in absurd (omega (arith, high, low))
-  hangs_on (suc fuel) w r q e x live on low = go (λ w r low. hangs_on fuel w r q e x live on low) (held cs r) refl low
+  hangs_on (suc fuel) w r q e x on low = go (λ w r low. hangs_on fuel w r q e x on low) (held cs r) refl low
     where
       lower_still : (o : Object) → held cs r ≡ Some o → rank o.thing ≤ suc fuel → (f : ℕ) (y : Option Object) → held cs (Field o.name f) ≡ y → held_rank y ≤ fuel
       lower_still o is low f None there = omega arith
@@ -239,7 +226,7 @@ module _ (m : Machine) (s : State) (st : StandsFor m s) (agrees : AgreesInAll m)
           let counted_so = bit_more (o.name == x.name) (lines_of x.name (gathered (below o) 8)) in
           let fields = lines_gathered x.name (below o) 8 in
           let each = sum_same (λ f. lines_of x.name (below o f)) (λ f. occurs (Field o.name f) q e) 8 (λ f less. deeper (further w (By_field f)) (Field o.name f) (lower_still o is low f (held cs (Field o.name f)) refl)) in
-          let all = split r q e x o live on is in
+          let all = split r q e x o on is in
           counted_so ∙ omega (arith, fields, each, all)
 
   -- and no object that has no such way has one
@@ -289,11 +276,16 @@ module _ (m : Machine) (s : State) (st : StandsFor m s) (agrees : AgreesInAll m)
       omega (arith, root, first, second, third)
 
   -- each way ends at just one of them, and goes through no other
-  weigh_one : (q : Place) (e : Ends s q) (x : Object) → AllLive → held cs q ≡ Some x → weigh (λ r. occurs r q e) ≡ 1
-  weigh_one (Field n f) (by_cell y above there holds ends) x live on =
-      weigh_same (λ r. occurs r (Field n f) (by_cell y above there holds ends)) (λ r. occurs r above ends) (omega arith) (λ d i. omega arith) (λ k. omega arith) (λ d. omega arith)
-      ∙ weigh_one above ends y live holds
-  weigh_one (Register D I) at_register x live on = frame_there (over s.tasks D) refl (live (Register D I) x on).0 (live (Register D I) x on).1
+  weigh_one : (q : Place) (e : Up s q) → weigh (λ r. occurs r q e) ≡ 1
+  weigh_one (Field n f) (up_field y above there holds few ends) =
+      weigh_same (λ r. occurs r (Field n f) (up_field y above there holds few ends)) (λ r. occurs r above ends) (omega arith) (λ d i. omega arith) (λ k. omega arith) (λ d. omega arith)
+      ∙ weigh_one above ends
+  weigh_one (Register D I) (up_register deep small) =
+      let inner = sum_one (λ i. here D i) I 16 small (λ i other. other_register (D == D) (i == I) other) in
+      let outer = sum_one (λ d. sum_to (λ i. here d i) 16) D (length s.tasks) deep (λ d other. sum_none (λ i. here d i) 16 (λ i less. ap (λ b. bit (b && (i == I))) other)) in
+      let entries = sum_none (λ k. occurs (Entry k) (Register D I) (up_register deep small)) (length s.items) (λ k less. refl) in
+      let goings = sum_none (λ d. occurs (Going d) (Register D I) (up_register deep small)) (length s.tasks) (λ k less. refl) in
+      omega (arith, inner, outer, entries, goings, one)
     where
       here : (d i : ℕ) → ℕ
       here d i = bit ((d == D) && (i == I))
@@ -304,49 +296,123 @@ module _ (m : Machine) (s : State) (st : StandsFor m s) (agrees : AgreesInAll m)
       other_register : (a b : Bool) → b ≡ false → bit (a && b) ≡ 0
       other_register true b other = ap bit other
       other_register false b other = refl
-
-      frame_there : (t : Option Task) → over s.tasks D ≡ t → HasRegisters t → I < 16 → weigh (λ r. occurs r (Register D I) at_register) ≡ 1
-      frame_there None is has small = absurd has
-      frame_there (Some t) is has small =
-          let deep = within_over s.tasks D t is in
-          let inner = sum_one (λ i. here D i) I 16 small (λ i other. other_register (D == D) (i == I) other) in
-          let outer = sum_one (λ d. sum_to (λ i. here d i) 16) D (length s.tasks) deep (λ d other. sum_none (λ i. here d i) 16 (λ i less. ap (λ b. bit (b && (i == I))) other)) in
-          let entries = sum_none (λ k. occurs (Entry k) (Register D I) at_register) (length s.items) (λ k less. refl) in
-          let goings = sum_none (λ d. occurs (Going d) (Register D I) at_register) (length s.tasks) (λ k less. refl) in
-          omega (arith, inner, outer, entries, goings, one)
-  weigh_one (Entry K) at_entry x live on = item_there (over s.items K) refl (live (Entry K) x on)
+  weigh_one (Entry K) (up_entry high) =
+      let entries = sum_one (λ k. here k) K (length s.items) high (λ k other. ap (λ b. bit (b && true)) other) in
+      let registers = sum_none (λ d. sum_to (λ i. occurs (Register d i) (Entry K) (up_entry high)) 16) (length s.tasks) (λ d less. sum_none (λ i. occurs (Register d i) (Entry K) (up_entry high)) 16 (λ i few. refl)) in
+      let goings = sum_none (λ d. occurs (Going d) (Entry K) (up_entry high)) (length s.tasks) (λ k less. refl) in
+      omega (arith, entries, registers, goings, one)
     where
       here : ℕ → ℕ
       here k = bit ((k == K) && true)
 
       one : here K ≡ 1
       one = ap (λ b. bit (b && true)) (eq-eqb K K refl)
+  weigh_one (Going D) (up_going deep) =
+      let goings = sum_one (λ d. here d) D (length s.tasks) deep (λ d other. ap (λ b. bit (b && true)) other) in
+      let registers = sum_none (λ d. sum_to (λ i. occurs (Register d i) (Going D) (up_going deep)) 16) (length s.tasks) (λ d less. sum_none (λ i. occurs (Register d i) (Going D) (up_going deep)) 16 (λ i few. refl)) in
+      let entries = sum_none (λ k. occurs (Entry k) (Going D) (up_going deep)) (length s.items) (λ k less. refl) in
+      omega (arith, entries, registers, goings, one)
+    where
+      here : ℕ → ℕ
+      here d = bit ((d == D) && true)
 
-      item_there : (t : Option Item) → over s.items K ≡ t → IsObjects t → weigh (λ r. occurs r (Entry K) at_entry) ≡ 1
-      item_there None is owns = absurd owns
-      item_there (Some i) is owns =
-          let high = within_over s.items K i is in
-          let entries = sum_one (λ k. here k) K (length s.items) high (λ k other. ap (λ b. bit (b && true)) other) in
-          let registers = sum_none (λ d. sum_to (λ i. occurs (Register d i) (Entry K) at_entry) 16) (length s.tasks) (λ d less. sum_none (λ i. occurs (Register d i) (Entry K) at_entry) 16 (λ i few. refl)) in
-          let goings = sum_none (λ d. occurs (Going d) (Entry K) at_entry) (length s.tasks) (λ k less. refl) in
-          omega (arith, entries, registers, goings, one)
-  weigh_one (Going k) e x live on = elim e [ ]
-  weigh_one (Elsewhere (Session server client)) e x live on = elim e [ ]
-  weigh_one (Elsewhere In_service) e x live on = elim e [ ]
-  weigh_one (Elsewhere (Queued server message)) e x live on = elim e [ ]
-  weigh_one (Elsewhere Root) at_root x live on =
-      let registers = sum_none (λ d. sum_to (λ i. occurs (Register d i) (Elsewhere Root) at_root) 16) (length s.tasks) (λ d less. sum_none (λ i. occurs (Register d i) (Elsewhere Root) at_root) 16 (λ i few. refl)) in
-      let entries = sum_none (λ k. occurs (Entry k) (Elsewhere Root) at_root) (length s.items) (λ k less. refl) in
-      let goings = sum_none (λ d. occurs (Going d) (Elsewhere Root) at_root) (length s.tasks) (λ k less. refl) in
+      one : here D ≡ 1
+      one = ap (λ b. bit (b && true)) (eq-eqb D D refl)
+  weigh_one (Elsewhere (Session server client)) e = elim e [ ]
+  weigh_one (Elsewhere In_service) e = elim e [ ]
+  weigh_one (Elsewhere (Queued server message)) e = elim e [ ]
+  weigh_one (Elsewhere Root) up_root =
+      let registers = sum_none (λ d. sum_to (λ i. occurs (Register d i) (Elsewhere Root) up_root) 16) (length s.tasks) (λ d less. sum_none (λ i. occurs (Register d i) (Elsewhere Root) up_root) 16 (λ i few. refl)) in
+      let entries = sum_none (λ k. occurs (Entry k) (Elsewhere Root) up_root) (length s.items) (λ k less. refl) in
+      let goings = sum_none (λ d. occurs (Going d) (Elsewhere Root) up_root) (length s.tasks) (λ k less. refl) in
       omega (arith, registers, entries, goings)
 
-  -- as many generations as there are
-  all_hang : (outer : Outer) (r q : Place) (e : Ends s q) (x : Object) → AllLive → held cs q ≡ Some x → lines_of x.name (grown cs outer r) ≡ occurs r q e
-  unfolding generations
-  all_hang outer r q e x live on = hangs_on 256 (record { outer = outer; branches = [] }) r q e x live on (low_enough r)
+  -- ---- each place that holds has such a way
 
-  once : IsOwned p s → (n : ℕ) (o : Option Object) → named cs n ≡ o → lines_of n (owners s) ≡ cond (is_some o) 1 0
-  once owned n None is = lines_weighed n (λ r. 0) (λ outer r. none_hangs generations (record { outer = outer; branches = [] }) r n is) ∙ none
+  abbrev parts : Parts
+  parts = m.parts
+
+  -- the number of what it holds stands there, and is not null
+  number_there : (r : Place) (x : Object) → held cs r ≡ Some x → value parts r ≡ x.name
+  number_there r x holds = shown (value parts r) (word_at s.tasks r) (subst (λ o. Held_shows (value parts r) (word_at s.tasks r) o) holds (st.agrees.values r))
+    where
+      shown : (n : ℕ) (w : Option ℤ) → Held_shows n w (Some x) → n ≡ x.name
+      shown n None shows = shows
+      shown n (Some w) shows = absurd shows
+
+  some_number : (r : Place) (x : Object) → held cs r ≡ Some x → null ≡ x.name → ⊥
+  some_number r x holds is = false≢true (sym (ap is_some st.agrees.cells.null_is_none) ∙ object_lives p parts st.typing s st.typed st.agrees r x null holds is)
+
+  module _ (r : Place) (x : Object) (holds : held cs r ≡ Some x) where
+    task_there : (d : ℕ) (o : Option Held_task) (n : ℕ) → over parts.stack.tasks d ≡ o → n ≡ x.name → (o ≡ None → n ≡ null) → d < length s.tasks
+    task_there d None n there is none = absurd (some_number r x holds (sym (none refl) ∙ is))
+    task_there d (Some t) n there is none = let less = within_over parts.stack.tasks d t there in let many = as_many_tasks p parts s st in omega (arith, less, many)
+
+    register_small : (d i : ℕ) (o : Option Held_task) → over parts.stack.tasks d ≡ o → register_over o i ≡ x.name → i < 16
+    register_small d i None there is = absurd (some_number r x holds is)
+    register_small d i (Some Is_trap) there is = absurd (some_number r x holds is)
+    register_small d i (Some (Destroys y)) there is = absurd (some_number r x holds is)
+    register_small d i (Some (Unwinds code)) there is = absurd (some_number r x holds is)
+    register_small d i (Some (Ends_dispatch e)) there is = absurd (some_number r x holds is)
+    register_small d i (Some (Runs_frame f)) there is = go (nat_lt i 16) refl
+      where
+        go : (b : Bool) → nat_lt i 16 ≡ b → i < 16
+        go true less = ltb-true i 16 less
+        go false more =
+            let frame = frame_there p parts s st d f there in
+            let wide = frame.2.wide in
+            let past = get_or_past f.registers i null (omega (arith, wide, ltb-false i 16 more)) in
+            absurd (some_number r x holds (sym past ∙ is))
+
+    entry_small : (k : ℕ) (o : Option Held_item) → over parts.entries.items k ≡ o → owned_over o ≡ x.name → k < length s.items
+    entry_small k None there is = absurd (some_number r x holds is)
+    entry_small k (Some i) there is = let less = within_over parts.entries.items k i there in let many = as_many_items p parts s st in omega (arith, less, many)
+
+    field_small : (n f : ℕ) (c : Option Held_cell) → cell_at parts.cells n ≡ c → field_of c f ≡ x.name → (f < 8) × ((o : Object) × (named cs n ≡ Some o))
+    field_small n f None there is = absurd (some_number r x holds is)
+    field_small n f (Some c) there is = (go (nat_lt f 8) refl, cell_there (named cs n) refl (sym (ap thing_in there) ∙ st.agrees.cells.things n))
+      where
+        go : (b : Bool) → nat_lt f 8 ≡ b → f < 8
+        go true less = ltb-true f 8 less
+        go false more =
+            let wide = st.agrees.cells.wide n c there in
+            let past = get_or_past c.fields f null (omega (arith, wide, ltb-false f 8 more)) in
+            absurd (some_number r x holds (sym past ∙ is))
+
+        cell_there : (o : Option Object) → named cs n ≡ o → Some (An_object_of c.class) ≡ thing_of (named cs n) → (y : Object) × (named cs n ≡ Some y)
+        cell_there None is told = absurd (none-some (An_object_of c.class) (sym (told ∙ ap thing_of is)))
+        cell_there (Some y) is told = (y, is)
+
+  up : (fuel : ℕ) (r : Place) (x : Object) → held cs r ≡ Some x → 256 < rank x.thing + fuel → Up s r
+  up zero r x holds high = let low = low_enough r in let here = ap held_rank holds in absurd (omega (arith, low, here, high))
+  up (suc fuel) (Register d i) x holds high =
+      let there = sym (register_there parts.stack.tasks d i) ∙ number_there (Register d i) x holds in
+      up_register (task_there (Register d i) x holds d (over parts.stack.tasks d) (register_over (over parts.stack.tasks d) i) refl there (λ none. ap (λ o. register_over o i) none))
+      (register_small (Register d i) x holds d i (over parts.stack.tasks d) refl there)
+  up (suc fuel) (Entry k) x holds high = up_entry (entry_small (Entry k) x holds k (over parts.entries.items k) refl (entry_there parts.entries.items k ∙ number_there (Entry k) x holds))
+  up (suc fuel) (Going d) x holds high =
+      let there = sym (going_there parts.stack.tasks d) ∙ number_there (Going d) x holds in
+      up_going (task_there (Going d) x holds d (over parts.stack.tasks d) (going_over (over parts.stack.tasks d)) refl there (λ none. ap going_over none))
+  up (suc fuel) (Field n f) x holds high =
+      let below = field_small (Field n f) x holds n f (cell_at parts.cells n) refl (number_there (Field n f) x holds) in
+      let o = below.1.0 in
+      let there = below.1.1 in
+      let owner = owner_of cs tidy n o there in
+      let name = named_name cs n o there in
+      let less = lower owner.0 o x f owner.1 (ap (λ k. held cs (Field k f)) name ∙ holds) in
+      up_field o owner.0 there owner.1 below.0 (up fuel owner.0 o owner.1 (omega (arith, less, high)))
+  up (suc fuel) (Elsewhere Root) x holds high = up_root
+  up (suc fuel) (Elsewhere (Session server client)) x holds high = absurd (some_number (Elsewhere (Session server client)) x holds (number_there (Elsewhere (Session server client)) x holds))
+  up (suc fuel) (Elsewhere In_service) x holds high = absurd (some_number (Elsewhere In_service) x holds (number_there (Elsewhere In_service) x holds))
+  up (suc fuel) (Elsewhere (Queued server message)) x holds high = absurd (some_number (Elsewhere (Queued server message)) x holds (number_there (Elsewhere (Queued server message)) x holds))
+
+  -- as many generations as there are
+  all_hang : (outer : Outer) (r q : Place) (e : Up s q) (x : Object) → held cs q ≡ Some x → lines_of x.name (grown cs outer r) ≡ occurs r q e
+  unfolding generations
+  all_hang outer r q e x on = hangs_on 256 (record { outer = outer; branches = [] }) r q e x on (low_enough r)
+
+  once : (n : ℕ) (o : Option Object) → named cs n ≡ o → lines_of n (owners s) ≡ cond (is_some o) 1 0
+  once n None is = lines_weighed n (λ r. 0) (λ outer r. none_hangs generations (record { outer = outer; branches = [] }) r n is) ∙ none
     where
       none : weigh (λ r. 0) ≡ 0
       none =
@@ -354,10 +420,10 @@ module _ (m : Machine) (s : State) (st : StandsFor m s) (agrees : AgreesInAll m)
           let entries = sum_none (λ k. 0) (length s.items) (λ k less. refl) in
           let goings = sum_none (λ d. 0) (length s.tasks) (λ k less. refl) in
           omega (arith, registers, entries, goings)
-  once owned n (Some x) is =
-      let found = owner_holds p s cs tidy owned.each n x is in
-      let live = holder_lives p s cs owned.each in
-      ap (λ k. lines_of k (owners s)) (sym (named_name cs n x is)) ∙ lines_weighed x.name (λ r. occurs r found.0 found.2) (λ outer r. all_hang outer r found.0 found.2 x live found.1) ∙ weigh_one found.0 found.2 x live found.1
+  once n (Some x) is =
+      let owner = owner_of cs tidy n x is in
+      let e = up 257 owner.0 x owner.1 (omega arith) in
+      ap (λ k. lines_of k (owners s)) (sym (named_name cs n x is)) ∙ lines_weighed x.name (λ r. occurs r owner.0 e) (λ outer r. all_hang outer r owner.0 e x owner.1) ∙ weigh_one owner.0 e
 
 pub told_once : ToldOnce
-told_once m s st agrees owned n = once m s st agrees owned n (named s.cells n) refl
+told_once m s st agrees n = once m s st agrees n (named s.cells n) refl

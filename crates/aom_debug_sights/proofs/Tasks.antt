@@ -110,11 +110,11 @@ going_counted _ _ same = absurd same
 
 -- ---- the numbers in the places of a task
 
-abbrev register_over : Option Held_task → ℕ → ℕ
+abbrev pub register_over : Option Held_task → ℕ → ℕ
 register_over None i = null
 register_over (Some t) i = register_of t i
 
-register_there : (ms : List Held_task) (k i : ℕ) → register_in ms k i ≡ register_over (over ms k) i
+pub register_there : (ms : List Held_task) (k i : ℕ) → register_in ms k i ≡ register_over (over ms k) i
 register_there [] k i = refl
 register_there (m ∷ ms) k i = go (register_there ms k i) (length ms == k)
   where

@@ -3,8 +3,9 @@
 //!
 //! Each call takes the machine's parts by `&` and writes lines to a `Sink`. It promises that what went out is the text of the lines that
 //! its definition says of each state that the machine stands for (`Tells` of `specs/Telling.antt`, with `specs/Sights.antt` and
-//! `specs/Owners.antt`), or a beginning of it where the sink failed (`TellsPart`), and then it answers a write fault. Nothing here takes
-//! memory, by signature. It knows no commands, no texts of programs and no natives.
+//! `specs/Owners.antt`), or a beginning of it where the sink failed (`TellsPart`), and then it answers a write fault. Each object has just one
+//! line in the map of owners (`owners_are_told_once`). Nothing here takes memory, by signature. It knows no commands, no texts of
+//! programs and no natives.
 #![tactic(auto)]
 
 mod actives;
