@@ -106,11 +106,12 @@ module _ (m : Machine) where
   all_told s = gathered_items (λ o. listed (active_at s.cells o)) (names_of m.parts)
 
   pub actives_told : (before now : Option (List ℕ)) → Tells m (λ s. answers_text (told_to s (length (names_of m.parts)))) before now → TellsActives m before now
-  actives_told before now all = record { out = λ s st. (names_of m.parts, in_order s st, all.out s st ∙ ap (λ xs. after before (answers_text xs)) (all_told s)) }
+  actives_told before now all = record { order = in_order; out = λ s st. all.out s st ∙ ap (λ xs. after before (answers_text xs)) (all_told s) }
 
   pub actives_cut : (fault : DebugFault) (failed : Bool) (before now : Option (List ℕ)) → TellsPart m (λ s. answers_text (told_to s (length (names_of m.parts)))) fault failed before now → TellsActivesPart m fault failed before now
   actives_cut fault failed before now cut = record {
     told = cut.told;
     fails = cut.fails;
-    out = λ s st. let sent = cut.out s st in (names_of m.parts, in_order s st, (sent.0, sent.1 ∙ ap (λ xs. after before (take sent.0 (answers_text xs))) (all_told s)));
+    order = in_order;
+    out = λ s st. let sent = cut.out s st in (sent.0, sent.1 ∙ ap (λ xs. after before (take sent.0 (answers_text xs))) (all_told s));
   }

@@ -1,5 +1,5 @@
 -- What a debugger tells of the active objects of a state.
-use Rattle.std.specs.Prelude.{◌≡◌, ℕ, Bool, true, List, Option, Some, None, IsSome, All, AllPairs, take}
+use Rattle.std.specs.Prelude.{◌≡◌, ℕ, Bool, true, List, Option, Some, None, IsSome, All, AllPairs, map, take}
 use Rattle.std.specs.List.{flat_map}
 use Rattle.aom_active.specs.Agrees.{GoesBefore}
 use Rattle.aom_sound.specs.Places.{Aborted, Active as Waiting, Cancelling, Cell, Idle, Issued, Phase, Request, named, requested}
@@ -43,12 +43,18 @@ pub record InOrderOfChoice (cs : List Cell) (names : List ℕ) : Type 0 where
   pub enlisted : All (λ n. IsSome (requested cs n)) names
   pub order : AllPairs (λ n m. GoesBefore (requested cs n) (requested cs m)) names
 
--- of each state that a machine stands for, the lines of the enlisted are out in that order
+-- the objects that the machine has on its list, in the order of that
+abbrev pub on_list : Machine → List ℕ
+on_list m = map (λ e. e.id) m.parts.active.roster.entries
+
+-- these are in the order of choice of each state that a machine stands for, and their lines are out
 pub record TellsActives (m : Machine) (before now : Option (List ℕ)) : Type 0 where
-  pub out : (s : State) → StandsFor m s → (names : List ℕ) × InOrderOfChoice s.cells names × (now ≡ after before (answers_text (active_answers s.cells names)))
+  pub order : (s : State) → StandsFor m s → InOrderOfChoice s.cells (on_list m)
+  pub out : (s : State) → StandsFor m s → now ≡ after before (answers_text (active_answers s.cells (on_list m)))
 
 -- or a beginning of them, since the sink failed, and the fault says so
 pub record TellsActivesPart (m : Machine) (fault : DebugFault) (failed : Bool) (before now : Option (List ℕ)) : Type 0 where
   pub told : fault ≡ WriteFault
   pub fails : failed ≡ true
-  pub out : (s : State) → StandsFor m s → (names : List ℕ) × InOrderOfChoice s.cells names × ((sent : ℕ) × (now ≡ after before (take sent (answers_text (active_answers s.cells names)))))
+  pub order : (s : State) → StandsFor m s → InOrderOfChoice s.cells (on_list m)
+  pub out : (s : State) → StandsFor m s → (sent : ℕ) × (now ≡ after before (take sent (answers_text (active_answers s.cells (on_list m)))))
