@@ -9,6 +9,11 @@ use Rattle.aom_debug_sights.proofs.Telling.{part_further, tells_all, tells_furth
 use Rattle.aom_debug_sights.proofs.Trees.{below, field_shows, fields_unsent, line_unsent, none_lives, tree_told, tree_untold, way_further}
 use Rattle.aom_debug_sights.proofs.tree.+tell_tree.Goals as goal
 
+-- a way that was entered and cut again is as it was
+back_again : (first way entered after now b : List ℕ) (n : ℕ) → now ≡ take n after → n ≡ length first → after ≡ entered → entered ≡ way ++ b → way ≡ first → now ≡ first
+back_again first way entered after now b n cut long same text begun =
+    cut ∙ ap (λ k. take k after) long ∙ ap (λ (t : List ℕ). take (length first) t) (same ∙ text ∙ ap (λ (t : List ℕ). t ++ b) begun) ∙ take-append_seam first b
+
 pub returns-in_default-clause-ok : goal.returns-in_default-clause-ok
 returns-in_default-clause-ok g t c = λ p w r is shows.
     let lives = c.in_default.ensures.lives in
@@ -45,10 +50,7 @@ loop-field-preserved g t c =
     let at = c.loop-field.field in
     let first = c.tell_owned.new.way in
     record {
-      same =
-          c.cut.ensures ∙ ap (λ n. take n c.tell_tree.new.way) c.len-length.ensures
-          ∙ ap (take (length first)) (c.in_ok-tell_tree.ensures.same ∙ c.enter.ensures.text ∙ ap (λ (t : List ℕ). t ++ branch_text (By_field at)) c.loop-field.invariant.same)
-          ∙ take-append_seam first (branch_text (By_field at));
+      same = back_again first c.loop-field.way c.enter.new.self c.tell_tree.new.way c.cut.new.self (branch_text (By_field at)) c.len-length.result c.cut.ensures c.len-length.ensures c.in_ok-tell_tree.ensures.same c.enter.ensures.text c.loop-field.invariant.same;
       out = λ p w is.
           let here = way_further w (By_field at) c.loop-field.way c.enter.new.self (c.loop-field.invariant.same ∙ is) c.enter.ensures.text in
           tells_further owned_line (record { image = p; parts = m }) (below p m id (c.args.depth - 1) w) at _ _ _ (c.loop-field.invariant.out p w is)
