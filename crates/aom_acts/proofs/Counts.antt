@@ -18,12 +18,12 @@ use Rattle.aom_shape.specs.declared.kind.Kind.TheVariants.{Null}
 use Rattle.aom_verify.specs.Strongest.{IsStrongest}
 use Rattle.aom_budget.specs.Depths.{HasDepths, alone}
 use Rattle.aom_budget.specs.Heights.{HasHeights}
-use Rattle.aom_sound.specs.Claims.{Dispatching, Dying, Form, Layer, Mark, Mark_form, Method, Object_form, Operation_form, Unwinding, forms, items_of, objects, tasks_of}
+use Rattle.aom_sound.specs.Claims.{Ending, Dispatching, Dying, Form, Layer, Mark, Mark_form, Method, Object_form, Operation_form, Unwinding, forms, items_of, objects, tasks_of}
 use Rattle.aom_sound.specs.Laws.{IsWired}
 use Rattle.aom_sound.specs.Places.{Cell}
 use Rattle.aom_sound.specs.Tasks.{Below}
 use Rattle.aom_sound.specs.Quiet.{IsCalm, calm, is_clearing}
-use Rattle.aom_sound.specs.State.{A_mark, An_object, An_operation, Destroy, Dispatched, Frame, Item, Run, State, Task, Trapped, Unwind}
+use Rattle.aom_sound.specs.State.{A_mark, An_object, An_operation, Closing, Destroy, Dispatched, Frame, Item, Run, State, Task, Trapped, Unwind}
 use Rattle.aom_sound.specs.WellTyped.{Back, Gone, Leaves, Now, Returns, Stack, WellTyped}
 use Rattle.aom_sound.proofs.Layers.{method_layer}
 use Rattle.aom_parts.specs.Room.{AllUnder, HasRoom, IsUnder, entries_in}
@@ -31,6 +31,8 @@ use Rattle.aom_parts.proofs.Depths.{Roomy}
 use Rattle.aom_parts.proofs.Heights.{stands_here}
 use Rattle.aom_acts.proofs.RoomActs.{may_call, pushes}
 use Rattle.aom_acts.proofs.RoomMoves.{tables_of}
+use Rattle.aom_classes.specs.Admitted.{IsAdmitted}
+use Rattle.aom_parts.proofs.Nobody.{no_server}
 
 -- ---- methods
 
@@ -39,6 +41,7 @@ methods_in [] = 0
 methods_in (Run fr ∷ ts) = suc (methods_in ts)
 methods_in (Trapped ∷ ts) = methods_in ts
 methods_in (Destroy ∷ ts) = methods_in ts
+methods_in (Closing ∷ ts) = methods_in ts
 methods_in (Unwind code ∷ ts) = methods_in ts
 methods_in (Dispatched d ∷ ts) = methods_in ts
 
@@ -48,6 +51,7 @@ few_under depth within n [] le u all = omega (arith, le)
 few_under depth within n (Run fr ∷ ts) le u all = let few = few_under depth within (depth fr.method) ts (within fr.method) all.0 all.1 in omega (arith, few, u)
 few_under depth within n (Trapped ∷ ts) le u all = few_under depth within n ts le u all
 few_under depth within n (Destroy ∷ ts) le u all = few_under depth within n ts le u all
+few_under depth within n (Closing ∷ ts) le u all = few_under depth within n ts le u all
 few_under depth within n (Unwind code ∷ ts) le u all = few_under depth within n ts le u all
 few_under depth within n (Dispatched d ∷ ts) le u all = few_under depth within n ts le u all
 
@@ -56,6 +60,7 @@ few_methods depth within [] all = omega arith
 few_methods depth within (Run fr ∷ ts) all = let few = few_under depth within (depth fr.method) ts (within fr.method) all.0 all.1 in omega (arith, few)
 few_methods depth within (Trapped ∷ ts) all = few_methods depth within ts all
 few_methods depth within (Destroy ∷ ts) all = few_methods depth within ts all
+few_methods depth within (Closing ∷ ts) all = few_methods depth within ts all
 few_methods depth within (Unwind code ∷ ts) all = few_methods depth within ts all
 few_methods depth within (Dispatched d ∷ ts) all = few_methods depth within ts all
 
@@ -66,6 +71,7 @@ unwindings_in [] = 0
 unwindings_in (Run fr ∷ ts) = unwindings_in ts
 unwindings_in (Trapped ∷ ts) = unwindings_in ts
 unwindings_in (Destroy ∷ ts) = unwindings_in ts
+unwindings_in (Closing ∷ ts) = unwindings_in ts
 unwindings_in (Unwind code ∷ ts) = suc (unwindings_in ts)
 unwindings_in (Dispatched d ∷ ts) = unwindings_in ts
 
@@ -86,27 +92,30 @@ one_unwinds p [] h = omega arith
 one_unwinds p (Run fr ∷ ts) h = one_unwinds p ts h.1
 one_unwinds p (Trapped ∷ ts) h = one_unwinds p ts h.1
 one_unwinds p (Destroy ∷ ts) h = one_unwinds p ts h
+one_unwinds p (Closing ∷ ts) h = one_unwinds p ts h
 one_unwinds p (Unwind code ∷ ts) h = let none = none_unwinds ts h.0 in omega (arith, none)
 one_unwinds p (Dispatched d ∷ ts) h = one_unwinds p ts h
 
 -- over each method stands at most one task that is none, but for an unwinding and what it stands on
-few_tasks : (p : Image) (t : Typing) (cs : List Cell) (back : Back) (ls : List Layer) → Stack p t cs back ls → length (tasks_of ls) ≤ (2 * methods_in (tasks_of ls) + 2 * unwindings_in (tasks_of ls) + 2)
-few_tasks p t cs back [] s = omega arith
-few_tasks p t cs back (Method fr sh ∷ ls) s = let few = few_tasks p t cs (Returns fr.method fr.home) ls s.4 in omega (arith, few)
-few_tasks p t cs back (Mark g ∷ []) s = omega arith
-few_tasks p t cs back (Mark g ∷ Method fr sh ∷ ls) s = let few = few_tasks p t cs (Returns fr.method fr.home) ls s.1.4 in omega (arith, few)
-few_tasks p t cs back (Mark g ∷ Dispatching d seats ∷ ls) s = subst (λ us. length (tasks_of (Mark g ∷ Dispatching d seats ∷ us)) ≤ (2 * methods_in (tasks_of (Mark g ∷ Dispatching d seats ∷ us)) + 2 * unwindings_in (tasks_of (Mark g ∷ Dispatching d seats ∷ us)) + 2)) (sym s.1.1) (omega arith)
-few_tasks p t cs back (Dying o ∷ []) s = omega arith
-few_tasks p t cs back (Dying o ∷ Method fr sh ∷ ls) s = let few = few_tasks p t cs (Returns fr.method fr.home) ls s.2.4 in omega (arith, few)
-few_tasks p t cs back (Dying o ∷ Unwinding code es ∷ ls) s = let few = few_tasks p t cs Leaves ls s.2.1 in omega (arith, few)
-few_tasks p t cs back (Dying o ∷ Dispatching d seats ∷ ls) s = subst (λ us. length (tasks_of (Dying o ∷ Dispatching d seats ∷ us)) ≤ (2 * methods_in (tasks_of (Dying o ∷ Dispatching d seats ∷ us)) + 2 * unwindings_in (tasks_of (Dying o ∷ Dispatching d seats ∷ us)) + 2)) (sym s.2.1) (omega arith)
-few_tasks p t cs back (Unwinding code es ∷ ls) s = let few = few_tasks p t cs Leaves ls s.1 in omega (arith, few)
-few_tasks p t cs back (Dispatching d seats ∷ ls) s = subst (λ us. length (tasks_of (Dispatching d seats ∷ us)) ≤ (2 * methods_in (tasks_of (Dispatching d seats ∷ us)) + 2 * unwindings_in (tasks_of (Dispatching d seats ∷ us)) + 2)) (sym s.1) (omega arith)
-few_tasks p t cs back _ s = absurd (assumption tt)
+few_tasks : (p : Image) → IsAdmitted p → (t : Typing) (cs : List Cell) (back : Back) (ls : List Layer) → Stack p t cs back ls → length (tasks_of ls) ≤ (2 * methods_in (tasks_of ls) + 2 * unwindings_in (tasks_of ls) + 2)
+few_tasks p a t cs back [] s = omega arith
+few_tasks p a t cs back (Method fr sh ∷ ls) s = let few = few_tasks p a t cs (Returns fr.method fr.home) ls s.4 in omega (arith, few)
+few_tasks p a t cs back (Mark g ∷ []) s = omega arith
+few_tasks p a t cs back (Mark g ∷ Method fr sh ∷ ls) s = let few = few_tasks p a t cs (Returns fr.method fr.home) ls s.1.4 in omega (arith, few)
+few_tasks p a t cs back (Mark g ∷ Dispatching d seats ∷ ls) s = subst (λ us. length (tasks_of (Mark g ∷ Dispatching d seats ∷ us)) ≤ (2 * methods_in (tasks_of (Mark g ∷ Dispatching d seats ∷ us)) + 2 * unwindings_in (tasks_of (Mark g ∷ Dispatching d seats ∷ us)) + 2)) (sym s.1.1) (omega arith)
+few_tasks p a t cs back (Dying o ∷ []) s = omega arith
+few_tasks p a t cs back (Dying o ∷ Method fr sh ∷ ls) s = let few = few_tasks p a t cs (Returns fr.method fr.home) ls s.2.4 in omega (arith, few)
+few_tasks p a t cs back (Dying o ∷ Unwinding code es ∷ ls) s = let few = few_tasks p a t cs Leaves ls s.2.1 in omega (arith, few)
+few_tasks p a t cs back (Dying o ∷ Dispatching d seats ∷ ls) s = subst (λ us. length (tasks_of (Dying o ∷ Dispatching d seats ∷ us)) ≤ (2 * methods_in (tasks_of (Dying o ∷ Dispatching d seats ∷ us)) + 2 * unwindings_in (tasks_of (Dying o ∷ Dispatching d seats ∷ us)) + 2)) (sym s.2.1) (omega arith)
+few_tasks p a t cs back (Dying o ∷ Ending x left ∷ ls) s = absurd (true≢false (sym s.2.0.server ∙ no_server p a x.thing))
+few_tasks p a t cs back (Ending o left ∷ ls) s = absurd (true≢false (sym s.0.server ∙ no_server p a o.thing))
+few_tasks p a t cs back (Unwinding code es ∷ ls) s = let few = few_tasks p a t cs Leaves ls s.1 in omega (arith, few)
+few_tasks p a t cs back (Dispatching d seats ∷ ls) s = subst (λ us. length (tasks_of (Dispatching d seats ∷ us)) ≤ (2 * methods_in (tasks_of (Dispatching d seats ∷ us)) + 2 * unwindings_in (tasks_of (Dispatching d seats ∷ us)) + 2)) (sym s.1) (omega arith)
+few_tasks p a t cs back _ s = absurd (assumption tt)
 
-pub tasks_at_hand : (p : Image) (t : Typing) (depths : HasDepths p) (heights : ℕ → ℕ) (s : State) → WellTyped p t s → IsCalm p s.tasks → HasRoom p (at 0 depths.depths) heights s → length s.tasks ≤ 518
-tasks_at_hand p t depths heights s w is_calm room =
-    let few = few_tasks p t s.cells Now w.layers w.good.stack in
+pub tasks_at_hand : (p : Image) → IsAdmitted p → (t : Typing) (depths : HasDepths p) (heights : ℕ → ℕ) (s : State) → WellTyped p t s → IsCalm p s.tasks → HasRoom p (at 0 depths.depths) heights s → length s.tasks ≤ 518
+tasks_at_hand p admitted t depths heights s w is_calm room =
+    let few = few_tasks p admitted t s.cells Now w.layers w.good.stack in
     let methods = few_methods (at 0 depths.depths) depths.are.within (tasks_of w.layers) (subst (AllUnder (at 0 depths.depths)) w.tasks room.under) in
     let one = one_unwinds p (tasks_of w.layers) (calm_below p (tasks_of w.layers) (subst (IsCalm p) w.tasks is_calm)) in
     let same = ap length w.tasks in
@@ -145,6 +154,7 @@ few_marks p t cs back (Mark g ∷ []) s = omega arith
 few_marks p t cs back (Mark g ∷ Method fr sh ∷ ls) s = let few = few_marks p t cs (Returns fr.method fr.home) ls s.1.4 in omega (arith, few, no_marks sh.entries (items_of ls))
 few_marks p t cs back (Mark g ∷ Dispatching d seats ∷ ls) s = subst (λ us. form_marks (items_of (Mark g ∷ Dispatching d seats ∷ us)) ≤ suc (methods_in (tasks_of (Mark g ∷ Dispatching d seats ∷ us)))) (sym s.1.1) (omega arith)
 few_marks p t cs back (Dying o ∷ ls) s = few_marks p t cs Gone ls s.2
+few_marks p t cs back (Ending o left ∷ ls) s = few_marks p t cs Now ls s.3
 few_marks p t cs back (Unwinding code es ∷ ls) s = let few = few_marks p t cs Leaves ls s.1 in omega (arith, few, no_marks es (items_of ls))
 few_marks p t cs back (Dispatching d seats ∷ ls) s = subst (λ us. form_marks (items_of (Dispatching d seats ∷ us)) ≤ suc (methods_in (tasks_of (Dispatching d seats ∷ us)))) (sym s.1) (omega arith)
 few_marks p t cs back _ s = absurd (assumption tt)
@@ -155,39 +165,39 @@ marks_under p t s fr ts w same = method_layer (λ ls. (forms s.items ≡ items_o
     let few = few_marks p t s.cells (Returns fr.method fr.home) ls h.1.4 in
     omega (arith, few, no_marks sh.entries (items_of ls), ap form_marks h.0, marks_told s.items, ap methods_in under))
 
-pub marks_at_hand : (p : Image) (t : Typing) → IsWired p → IsTyped p t → IsStrongest p t → (depths : HasDepths p) (heights : HasHeights p) (s : State) (fr : Frame) (ts : List Task) → WellTyped p t s → s.tasks ≡ Run fr ∷ ts → HasRoom p (at 0 depths.depths) (at 0 heights.heights) s
+pub marks_at_hand : (p : Image) (t : Typing) → IsWired p → IsAdmitted p → IsTyped p t → IsStrongest p t → (depths : HasDepths p) (heights : HasHeights p) (s : State) (fr : Frame) (ts : List Task) → WellTyped p t s → s.tasks ≡ Run fr ∷ ts → HasRoom p (at 0 depths.depths) (at 0 heights.heights) s
     → (target : Target) (m first x : ℕ) → instr_at p fr.method fr.place ≡ Some (Trap target m first x) → marks_in s.items < 256
-marks_at_hand p t wired typed strongest depths heights s fr ts w same room target m first x here =
+marks_at_hand p t wired admitted typed strongest depths heights s fr ts w same room target m first x here =
     let h = stands_here p t s fr ts w same in
     let all = subst (AllUnder (at 0 depths.depths)) same room.under in
     let few = few_under (at 0 depths.depths) depths.are.within (at 0 depths.depths fr.method) ts (depths.are.within fr.method) all.0 all.1 in
     let one = (depths.are.each m (wired.trapped fr.method fr.place target m first x here).there).most 1 (alone (wired.trapped fr.method fr.place target m first x here).there) in
-    let less = may_call p t (at 0 depths.depths) (at 0 heights.heights) (tables_of p t wired strongest depths heights) fr h.shape h.there (Trap target m first x) m here (inl refl) in
+    let less = may_call p t (at 0 depths.depths) (at 0 heights.heights) (tables_of p t wired admitted strongest depths heights) fr h.shape h.there (Trap target m first x) m here (inl refl) in
     omega (arith, few, one, less, marks_under p t s fr ts w same)
 
 -- ---- entries
 
 -- there is room for what is pushed
-pub push_at_hand : (p : Image) (t : Typing) → IsWired p → IsTyped p t → IsStrongest p t → (depths : HasDepths p) (heights : HasHeights p) (s : State) (fr : Frame) (ts : List Task) → WellTyped p t s → s.tasks ≡ Run fr ∷ ts → HasRoom p (at 0 depths.depths) (at 0 heights.heights) s
+pub push_at_hand : (p : Image) (t : Typing) → IsWired p → IsAdmitted p → IsTyped p t → IsStrongest p t → (depths : HasDepths p) (heights : HasHeights p) (s : State) (fr : Frame) (ts : List Task) → WellTyped p t s → s.tasks ≡ Run fr ∷ ts → HasRoom p (at 0 depths.depths) (at 0 heights.heights) s
     → (a : ℕ) → instr_at p fr.method fr.place ≡ Some (Push a) → entries_in s.items < 1024
-push_at_hand p t wired typed strongest depths heights s fr ts w same room a here =
+push_at_hand p t wired admitted typed strongest depths heights s fr ts w same room a here =
     let h = stands_here p t s fr ts w same in
     let x = typed.each fr.method fr.place h.shape h.there in
     let it : x.instr ≡ Push a = let both : Some x.instr ≡ Some (Push a) = sym x.stands ∙ here in cc in
     let needs = subst (λ i. AllTrue (rule_needs p fr.method fr.place h.shape i)) it x.needs in
     let leads = subst (λ i. AllLead t fr.method (flows p fr.method fr.place h.shape i)) it x.flows in
     let roomy = subst (λ l. Roomy p (at 0 depths.depths) (at 0 heights.heights) s.cells s.items l) same (room.under, room.runs, room.fit, room.entries) in
-    let few = pushes p t (at 0 depths.depths) (at 0 heights.heights) (tables_of p t wired strongest depths heights) (record { name = 0; refused = false; answer = pos 0 }) fr ts s w.undos same h roomy (Push a) (with_entry (entry_of (register h.shape a)) (set_register h.shape a Null)) here needs.1.0 leads.0 refl in
+    let few = pushes p t (at 0 depths.depths) (at 0 heights.heights) (tables_of p t wired admitted strongest depths heights) (record { name = 0; refused = false; answer = pos 0 }) fr ts s w.undos same h roomy (Push a) (with_entry (entry_of (register h.shape a)) (set_register h.shape a Null)) here needs.1.0 leads.0 refl in
     omega (arith, few)
 
-pub push_operation_at_hand : (p : Image) (t : Typing) → IsWired p → IsTyped p t → IsStrongest p t → (depths : HasDepths p) (heights : HasHeights p) (s : State) (fr : Frame) (ts : List Task) → WellTyped p t s → s.tasks ≡ Run fr ∷ ts → HasRoom p (at 0 depths.depths) (at 0 heights.heights) s
+pub push_operation_at_hand : (p : Image) (t : Typing) → IsWired p → IsAdmitted p → IsTyped p t → IsStrongest p t → (depths : HasDepths p) (heights : HasHeights p) (s : State) (fr : Frame) (ts : List Task) → WellTyped p t s → s.tasks ≡ Run fr ∷ ts → HasRoom p (at 0 depths.depths) (at 0 heights.heights) s
     → (a m : ℕ) → instr_at p fr.method fr.place ≡ Some (PushOperation a m) → entries_in s.items < 1024
-push_operation_at_hand p t wired typed strongest depths heights s fr ts w same room a m here =
+push_operation_at_hand p t wired admitted typed strongest depths heights s fr ts w same room a m here =
     let h = stands_here p t s fr ts w same in
     let x = typed.each fr.method fr.place h.shape h.there in
     let it : x.instr ≡ PushOperation a m = let both : Some x.instr ≡ Some (PushOperation a m) = sym x.stands ∙ here in cc in
     let needs = subst (λ i. AllTrue (rule_needs p fr.method fr.place h.shape i)) it x.needs in
     let leads = subst (λ i. AllLead t fr.method (flows p fr.method fr.place h.shape i)) it x.flows in
     let roomy = subst (λ l. Roomy p (at 0 depths.depths) (at 0 heights.heights) s.cells s.items l) same (room.under, room.runs, room.fit, room.entries) in
-    let few = pushes p t (at 0 depths.depths) (at 0 heights.heights) (tables_of p t wired strongest depths heights) (record { name = 0; refused = false; answer = pos 0 }) fr ts s w.undos same h roomy (PushOperation a m) (with_entry Pushed_operation h.shape) here needs.1.0 leads.0 refl in
+    let few = pushes p t (at 0 depths.depths) (at 0 heights.heights) (tables_of p t wired admitted strongest depths heights) (record { name = 0; refused = false; answer = pos 0 }) fr ts s w.undos same h roomy (PushOperation a m) (with_entry Pushed_operation h.shape) here needs.1.0 leads.0 refl in
     omega (arith, few)

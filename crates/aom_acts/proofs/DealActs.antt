@@ -11,7 +11,7 @@ use Rattle.aom_cleanup.specs.declared.item.Item.TheVariants.{Object as Holds_obj
 use Rattle.aom_rules.specs.Typing.{Typing}
 use Rattle.aom_sound.specs.Cleanup.{dealt_with as deals_with, destroyed, operation_frame, tops_entry, top_is_whole, top_place}
 use Rattle.aom_classes.specs.Roles.{destructor_of}
-use Rattle.aom_sound.specs.Places.{Place, Register, Entry, Going, Object, changed, held}
+use Rattle.aom_sound.specs.Places.{moved, Place, Register, Entry, Going, Object, changed, held}
 use Rattle.aom_sound.proofs.Dealing.{dealing as dealing_effect}
 use Rattle.aom_sound.specs.State.{Static, frame_of, Run, Item, An_object, State}
 use Rattle.aom_sound.specs.WellTyped.{WellTyped}
@@ -34,8 +34,11 @@ use Rattle.aom_acts.proofs.ReturnActs.{none_above}
 use Rattle.aom_acts.proofs.Standing.{begun_frame, nothing_held, reframed}
 use Rattle.aom_parts.proofs.Values.{going_past, kept, same_length, value_written, word_written, writes}
 use Rattle.aom_acts.proofs.WordActs.{plain_at}
+use Rattle.aom_classes.specs.Admitted.{IsAdmitted}
+use Rattle.aom_parts.proofs.Nobody.{begun_plain}
+use Rattle.aom_sound.specs.Destruction.{destructed}
 
-module _ (p : Image) (m : Parts) (t : Typing) (s : State) (typed : WellTyped p t s) (agrees : Agrees p m s) where
+module _ (p : Image) (admitted : IsAdmitted p) (m : Parts) (t : Typing) (s : State) (typed : WellTyped p t s) (agrees : Agrees p m s) where
   deep : length m.stack.tasks ≡ length s.tasks
   deep = same_length m.stack.tasks s.tasks agrees.tasks
 
@@ -56,9 +59,10 @@ module _ (p : Image) (m : Parts) (t : Typing) (s : State) (typed : WellTyped p t
       let there = top_value us m.cells is m.root n (length js) even in
       let name : n ≡ o.name = sym there ∙ old from ∙ ap number e in
       let empty : held s.cells (Going (length ts)) ≡ None = nothing_held p m t s typed agrees (Going (length ts)) (sym (going_past us (length ts) (omega arith)) ∙ agrees.values (Going (length ts))) in
-      subst (λ d. Agrees p (with_tasks (destroying d n us) mid) (destroyed p (Some o) js ts s)) (sym (ap (destructor_at p m.cells) name ∙ destructor_same p m t s typed agrees from o e))
+      subst (λ ws. Agrees p (with_tasks (destroying (destructor_at p m.cells n) n us) mid) (record s { cells = moved from (Going (length ts)) s.cells; tasks = ws; items = js })) (sym (begun_plain p admitted o (length js) ts))
+      (subst (λ d. Agrees p (with_tasks (destroying d n us) mid) (record s { cells = moved from (Going (length ts)) s.cells; tasks = destructed p o (length js) ts; items = js })) (sym (ap (destructor_at p m.cells) name ∙ destructor_same p m t s typed agrees from o e))
       (begins p mid below us ts from m.root n (destructor_of p o.thing) o (length js) m.rest s.rest name agrees.rest agrees.tasks agrees.cells same agrees.requests agrees.natives agrees.room agrees.entry_room
-      (dying_shows p mid below us ts from m.root n v (word_at ts) old long refl there empty (value_popped us m.cells is m.root n (length js) even) (λ q. refl)))
+      (dying_shows p mid below us ts from m.root n v (word_at ts) old long refl there empty (value_popped us m.cells is m.root n (length js) even) (λ q. refl))))
 
   -- an operation is run
   operation_runs : (k n k' : ℕ) (w : ℤ) (is : List Held_item) (js : List Item) → m.entries.items ≡ Holds_operation k n ∷ is → k ≡ k' → cast_signed w32 n ≡ w → SameItems is js
@@ -111,4 +115,4 @@ pop_delete_does p m refused h here =
     plain_at p m _ refused PopDelete refl h (λ c needs typed.
     let s = h.state in
     subst (Agrees p (dealt_with p m)) (dealing_effect p h.frame h.below s s.items (held s.cells (top_place s.items)) refl refl needs.0 needs.1.0)
-    (subst (λ us. Agrees p (dealt_with p m) (deals_with p s.items us s)) h.top (deals p m h.typing s h.typed h.agrees needs.0 needs.1.0)))
+    (subst (λ us. Agrees p (dealt_with p m) (deals_with p s.items us s)) h.top (deals p h.admitted m h.typing s h.typed h.agrees needs.0 needs.1.0)))

@@ -13,10 +13,10 @@ use Rattle.aom_classes.specs.Roles.{role_of}
 use Rattle.aom_cleanup.specs.declared.item.Item.{Item as Held_item}
 use Rattle.aom_rules.specs.Typing.{Typing}
 use Rattle.aom_sound.proofs.View.{under_dispatch}
-use Rattle.aom_sound.specs.Places.{Place, Register, Entry, Field, Going, Elsewhere, Root, Object, changed, held}
+use Rattle.aom_sound.specs.Places.{Cell, Place, Register, Entry, Field, Going, Elsewhere, Root, Object, changed, held}
 use Rattle.aom_transcript.specs.declared.line.Ending.TheVariants.{Stopped, MainLeft as Left_with}
-use Rattle.aom_sound.specs.State.{Home, Inside, Frame, frame_of, Seat, Dispatch, Asks, Task, Run, Dispatched, Rest, State, Choice, Goes, raised}
-use Rattle.aom_sound.specs.Moves.{answered, asked, asking, is_counted, closed, error_frame, failed, main_ends, object_ends, dispatch_ends, step, step_task, written_task}
+use Rattle.aom_sound.specs.State.{guarded, Home, Inside, Frame, frame_of, Seat, Asks, Task, Run, Dispatched, Rest, State, Choice, Goes, raised}
+use Rattle.aom_sound.specs.Moves.{needs_end, answered, asked, asking, is_counted, closed, error_frame, failed, main_ends, object_ends, dispatch_ends, step, step_task, written_task}
 use Rattle.aom_sound.specs.WellTyped.{WellTyped, Keeps}
 use Rattle.aom_lines.specs.Turn.{Turn}
 use Rattle.aom_frames.specs.Tasks.{below_first, fresh, with_register}
@@ -42,6 +42,7 @@ use Rattle.aom_acts.proofs.CallActs.{Closing, closing, shows_null}
 use Rattle.aom_acts.proofs.OnTop.{ending_of}
 use Rattle.aom_acts.proofs.GoingActs.{end_word, fresh_value, fresh_word, uproots}
 use Rattle.aom_acts.proofs.Stepping.{counted_by}
+use Rattle.aom_classes.specs.Admitted.{IsAdmitted}
 
 -- a dispatch that is at its end, on both sides
 pub record AtEnd (m : Parts) (s : State) : Type 0 where
@@ -98,8 +99,19 @@ emptied p m s r r' agrees shut same = record {
 abbrev pub at_close : State → State
 at_close s = record s { rest = record s.rest { announced = true } }
 
-pub step_of_end : (p : Image) (c : Choice) (s : State) (d : Dispatch) → s.tasks ≡ Dispatched d ∷ [] → step p c s ≡ Goes (dispatch_ends p d (at_close s))
-step_of_end p c s d top = ap (λ us. step_task p c (counted_by s (asked p us) (is_counted us)) us) top
+-- the end of such a dispatch needs nothing
+needs_none : (q : Place) (x : Held_dispatch) (cs : List Cell) → needs_end (dispatch_of q x) cs ≡ []
+needs_none q Main cs = refl
+needs_none q (MainLeft code) cs = refl
+needs_none q End_of_run cs = refl
+needs_none q (Of_one x) cs = refl
+needs_none q (One_left x code) cs = refl
+needs_none q (One_asks x) cs = refl
+needs_none q (One_answered x answer) cs = refl
+
+pub step_of_end : (p : Image) (c : Choice) (s : State) (q : Place) (x : Held_dispatch) → s.tasks ≡ Dispatched (dispatch_of q x) ∷ [] → step p c s ≡ Goes (dispatch_ends p (dispatch_of q x) (at_close s))
+step_of_end p c s q x top =
+    ap (λ us. step_task p c (counted_by s (asked p us) (is_counted us)) us) top ∙ ap (λ ns. guarded ns (dispatch_ends p (dispatch_of q x) (at_close s))) (needs_none q x s.cells)
 
 -- the counts of both sides
 abbrev over_counts : Rest → Rest
@@ -120,7 +132,7 @@ end_value x y h es root (Going k) = refl
 end_value x y h es root (Elsewhere o) = refl
 
 -- what is left of a dispatch at its end, on both sides
-module _ (p : Image) (m : Parts) (announced : m.rest.announced ≡ true) (t : Typing) (s : State) (typed : WellTyped p t s) (agrees : Agrees p m s) (e : AtEnd m s) where
+module _ (p : Image) (admitted : IsAdmitted p) (m : Parts) (announced : m.rest.announced ≡ true) (t : Typing) (s : State) (typed : WellTyped p t s) (agrees : Agrees p m s) (e : AtEnd m s) where
   abbrev now : Rest
   now = record s.rest { announced = true }
 
@@ -155,7 +167,7 @@ module _ (p : Image) (m : Parts) (announced : m.rest.announced ≡ true) (t : Ty
           let name : m.root ≡ o.name = agrees.values (Elsewhere Root) ∙ ap number is in
           let rooted : m.root ≡ null → ⊥ = λ n. not_null p m t s typed agrees (Elsewhere Root) o is (sym name ∙ n) in
           subst (λ b. Agrees p (cond (not b) (uprooted p old) (ends.closed old)) (main_ends p true (Some o) new)) (sym (ne_eqb m.root null rooted))
-          (uproots p m t s e.dispatch (dispatch_of e.place e.dispatch) o r (uprooted_counts r') typed agrees e.held e.state is (ap uprooted_counts same))
+          (uproots p admitted m t s e.dispatch (dispatch_of e.place e.dispatch) o r (uprooted_counts r') typed agrees e.held e.state is (ap uprooted_counts same))
 
   -- the dispatch of an object counts
   object_alike : Agrees p (ended_dispatch p (ends.handled m)) (object_ends p (at_close s))
@@ -227,12 +239,12 @@ module _ (p : Image) (m : Parts) (announced : m.rest.announced ≡ true) (t : Ty
 
 module _ (p : Image) (m : Parts) (told : Turn) (announced : m.rest.announced ≡ true) where
   -- the end of a dispatch writes nothing
-  by_end : (new : Parts) (x : Held_dispatch) → ending_here m.stack.tasks ≡ Some x → ((t : Typing) (s : State) → WellTyped p t s → Agrees p m s → (e : AtEnd m s) → Agrees p new (dispatch_ends p (dispatch_of e.place x) (at_close s))) → Moves p m told told new
+  by_end : (new : Parts) (x : Held_dispatch) → ending_here m.stack.tasks ≡ Some x → ((t : Typing) (s : State) → IsAdmitted p → WellTyped p t s → Agrees p m s → (e : AtEnd m s) → Agrees p new (dispatch_ends p (dispatch_of e.place x) (at_close s))) → Moves p m told told new
   by_end new x ending ends t s sound typed agrees =
       let e = at_end p t m s typed agrees (ending_of m.stack.tasks ending) in
       let c = an_open p told.refused m s agrees in
       let after = dispatch_ends p (dispatch_of e.place e.dispatch) (at_close s) in
-      let is = step_of_end p c.0 s (dispatch_of e.place e.dispatch) e.state in (
+      let is = step_of_end p c.0 s e.place e.dispatch e.state in (
         record {
           choice = c.0;
           state = after;
@@ -240,28 +252,28 @@ module _ (p : Image) (m : Parts) (told : Turn) (announced : m.rest.announced ≡
           hears = c.2;
           goes = is;
           typed = subst (Keeps p t) is (sound.keeps c.0 s typed c.1.name);
-          agrees = subst (λ y. Agrees p new (dispatch_ends p (dispatch_of e.place y) (at_close s))) (sym (which m s e x ending)) (ends t s typed agrees e);
+          agrees = subst (λ y. Agrees p new (dispatch_ends p (dispatch_of e.place y) (at_close s))) (sym (which m s e x ending)) (ends t s sound.admitted typed agrees e);
         },
         ap (λ ls. record told { lines = ls }) (sym (ap (λ us. told.lines ++ written_task p s us) e.state ∙ append-nil told.lines)),
       )
 
   pub main_moves : ending_here m.stack.tasks ≡ Some Main → Moves p m told told (ended_dispatch p m)
-  main_moves is = by_end _ Main is (λ t s typed agrees e. ends_alike p m announced t s typed agrees e m.rest (now p m announced t s typed agrees e) (same_counts p m announced t s typed agrees e (λ r. r)))
+  main_moves is = by_end _ Main is (λ t s admitted typed agrees e. ends_alike p admitted m announced t s typed agrees e m.rest (now p admitted m announced t s typed agrees e) (same_counts p admitted m announced t s typed agrees e (λ r. r)))
 
   pub over_moves : ending_here m.stack.tasks ≡ Some End_of_run → Moves p m told told (record m { stack = record m.stack { tasks = below_first m.stack.tasks }; rest = over_counts m.rest })
-  over_moves is = by_end _ End_of_run is (λ t s typed agrees e. left_alone p m announced t s typed agrees e (over_counts m.rest) _ (same_counts p m announced t s typed agrees e over_counts))
+  over_moves is = by_end _ End_of_run is (λ t s admitted typed agrees e. left_alone p admitted m announced t s typed agrees e (over_counts m.rest) _ (same_counts p admitted m announced t s typed agrees e over_counts))
 
   pub left_moves : (code : ℤ) → ending_here m.stack.tasks ≡ Some (MainLeft code) → Moves p m told told (record m { stack = record m.stack { tasks = below_first m.stack.tasks }; rest = left_counts code m.rest })
-  left_moves code is = by_end _ (MainLeft code) is (λ t s typed agrees e. left_alone p m announced t s typed agrees e (left_counts code m.rest) _ (same_counts p m announced t s typed agrees e (left_counts code)))
+  left_moves code is = by_end _ (MainLeft code) is (λ t s admitted typed agrees e. left_alone p admitted m announced t s typed agrees e (left_counts code m.rest) _ (same_counts p admitted m announced t s typed agrees e (left_counts code)))
 
   pub object_moves : (x : Subject) → ending_here m.stack.tasks ≡ Some (Of_one x) → Moves p m told told (ended_dispatch p (ends.handled m))
-  object_moves x is = by_end _ (Of_one x) is (object_alike p m announced)
+  object_moves x is = by_end _ (Of_one x) is (λ t s admitted. object_alike p admitted m announced t s)
 
   pub asks_moves : (x : Subject) → ending_here m.stack.tasks ≡ Some (One_asks x) → Moves p m told told (ended_dispatch p (ends.handled m))
-  asks_moves x is = by_end _ (One_asks x) is (object_alike p m announced)
+  asks_moves x is = by_end _ (One_asks x) is (λ t s admitted. object_alike p admitted m announced t s)
 
   pub object_left_moves : (x : Subject) (code : ℤ) → FitsSigned w32 code → ending_here m.stack.tasks ≡ Some (One_left x code) → Moves p m told told (ends.asking p (role_of p x.class Answers) x code m)
-  object_left_moves x code fits is = by_end _ (One_left x code) is (λ t s typed agrees e. asking_alike p m announced t s typed agrees e (role_of p x.class Answers) x code fits)
+  object_left_moves x code fits is = by_end _ (One_left x code) is (λ t s admitted typed agrees e. asking_alike p admitted m announced t s typed agrees e (role_of p x.class Answers) x code fits)
 
   pub answered_moves : (x : Subject) (answer : ℤ) → ending_here m.stack.tasks ≡ Some (One_answered x answer) → Moves p m told told (ended_answered p answer m)
-  answered_moves x answer is = by_end _ (One_answered x answer) is (λ t s typed agrees e. answered_alike p m announced t s typed agrees e answer)
+  answered_moves x answer is = by_end _ (One_answered x answer) is (λ t s admitted typed agrees e. answered_alike p admitted m announced t s typed agrees e answer)

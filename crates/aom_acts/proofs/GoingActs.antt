@@ -15,7 +15,7 @@ use Rattle.aom_sound.specs.Places.{Place, Register, Entry, Field, Going, Elsewhe
 use Rattle.aom_sound.specs.Effects.{applied, deletes}
 use Rattle.aom_sound.specs.State.{Home, Inside, frame_of, word, set_word, Dispatch, Of_root, Task, Run, Destroy, Dispatched, resumed, Rest, State, raised}
 use Rattle.aom_classes.specs.Roles.{destructor_of}
-use Rattle.aom_sound.specs.Destruction.{begun, begun_by, is_field_of, owns_nothing}
+use Rattle.aom_sound.specs.Destruction.{destructed, begun, begun_by, is_field_of, owns_nothing}
 use Rattle.aom_sound.specs.Moves.{goes_line}
 use Rattle.aom_sound.specs.WellTyped.{WellTyped}
 use Rattle.aom_transcript.specs.declared.line.Line.TheVariants.{Gone}
@@ -45,6 +45,8 @@ use Rattle.aom_cleanup.specs.declared.item.Item.{Item}
 use Rattle.aom_parts.proofs.Alike.{Alike, both_go, alike, by_task, by_tasks}
 use Rattle.aom_sessions.specs.Sessions.{Standing, Sets}
 use Rattle.aom_parts.proofs.Sessions.{natives_moved, natives_gone}
+use Rattle.aom_classes.specs.Admitted.{IsAdmitted}
+use Rattle.aom_parts.proofs.Nobody.{begun_plain}
 
 -- a method at its first place shows nothing, and has no word
 pub fresh_value : (method this : ℕ) (us : List Held_task) (h : Heap) (es : List Item) (root : ℕ) (r : Place) → value_in (Runs_frame (fresh method this) ∷ us) h es root r ≡ value_in us h es root r
@@ -138,14 +140,15 @@ module _ (p : Image) (m : Parts) (refused : List ℕ) where
           let was = word_here fr ts a ∙ none in
           let name : k ≡ o.name = shown p m h f ms top a none ∙ ap number e in
           let empty : held s.cells (Going (suc (length ts))) ≡ None = nothing_held p m h.typing s h.typed h.agrees (Going (suc (length ts))) (sym (going_past (Runs_frame f ∷ ms) (suc (length ts)) (let d = top.deep in omega arith)) ∙ top.values (Going (suc (length ts)))) in
-          subst (λ d. Agrees p (with_tasks (destroying d k us) m) (record s { cells = moved here (Going (suc (length ts))) s.cells; tasks = begun p o (length s.items) vs }))
+          subst (λ ws. Agrees p (with_tasks (destroying (destructor_at p m.cells k) k us) m) (record s { cells = moved here (Going (suc (length ts))) s.cells; tasks = ws })) (sym (begun_plain p h.admitted o (length s.items) vs))
+          (subst (λ d. Agrees p (with_tasks (destroying d k us) m) (record s { cells = moved here (Going (suc (length ts))) s.cells; tasks = destructed p o (length s.items) vs }))
           (sym (ap (destructor_at p m.cells) name ∙ destructor_same p m h.typing s h.typed h.agrees here o e))
           (begins p m s us vs here m.root k (destructor_of p o.thing) o (length s.items) m.rest s.rest name h.agrees.rest
           (reframed f fr (slice_set f.registers a null) _ f.place fr.place top.frame (length-set f.registers a null ∙ wide) top.frame.place, top.below) h.agrees.cells h.agrees.entries h.agrees.requests h.agrees.natives h.agrees.room h.agrees.entry_room
           (dying_shows p m s us vs here m.root k (value_in (Runs_frame f ∷ ms) m.cells m.entries.items m.root) (word_at (Run fr ∷ ts)) top.values (ap suc top.deep) was
           (value_here f ms m.cells m.entries.items m.root (length ts) a top.deep) empty
           (value_written f ms m.cells m.entries.items m.root (length ts) a null f.place top.deep (omega arith))
-          (λ q. word_written fr ts a fr.place None q ∙ sym (kept (word_at (Run fr ∷ ts)) here q ∙ ap (λ x. changed (word_at (Run fr ∷ ts)) here x q) was))))
+          (λ q. word_written fr ts a fr.place None q ∙ sym (kept (word_at (Run fr ∷ ts)) here q ∙ ap (λ x. changed (word_at (Run fr ∷ ts)) here x q) was)))))
 
 -- the root is null, and else all is as it was
 root_taken : (x : Held_dispatch) (h : Heap) (es : List Item) (root : ℕ) (q : Place) → value_in (Ends End_of_run ∷ []) h es null q ≡ changed (value_in (Ends x ∷ []) h es root) (Elsewhere Root) null q
@@ -163,19 +166,20 @@ pub end_word : (d e : Dispatch) (q : Place) → word_at (Dispatched d ∷ []) q 
 end_word d e _ = refl
 
 -- where a dispatch is at its end, the root is at hand to go, with these counts
-pub uproots : (p : Image) (m : Parts) (t : Typing) (s : State) (x : Held_dispatch) (d : Dispatch) (o : Object) (rest r : Rest) → WellTyped p t s → Agrees p m s → m.stack.tasks ≡ Ends x ∷ [] → s.tasks ≡ Dispatched d ∷ [] → held s.cells (Elsewhere Root) ≡ Some o → record rest { clock = raised rest.clock } ≡ r
+pub uproots : (p : Image) → IsAdmitted p → (m : Parts) (t : Typing) (s : State) (x : Held_dispatch) (d : Dispatch) (o : Object) (rest r : Rest) → WellTyped p t s → Agrees p m s → m.stack.tasks ≡ Ends x ∷ [] → s.tasks ≡ Dispatched d ∷ [] → held s.cells (Elsewhere Root) ≡ Some o → record rest { clock = raised rest.clock } ≡ r
     → Agrees p (uprooted p (record m { rest = rest })) (record s { cells = moved (Elsewhere Root) (Going 1) s.cells; tasks = begun p o (length s.items) (Dispatched Of_root ∷ []); rest = r })
-uproots p m t s x d o rest r typed agrees held_top top e same =
+uproots p admitted m t s x d o rest r typed agrees held_top top e same =
     let v = value_in (Ends x ∷ []) m.cells m.entries.items m.root in
     let w = word_at (Dispatched d ∷ []) in
-    let u = record s { cells = moved (Elsewhere Root) (Going 1) s.cells; tasks = begun p o (length s.items) (Dispatched Of_root ∷ []); rest = r } in
+    let u = record s { cells = moved (Elsewhere Root) (Going 1) s.cells; tasks = destructed p o (length s.items) (Dispatched Of_root ∷ []); rest = r } in
     let rest' = record rest { clock = raised rest.clock } in
     let values : (q : Place) → Shows (v q) (w q) (held s.cells q) = λ q. subst (λ us. Shows (v q) (word_at us q) (held s.cells q)) top (subst (λ us. Shows (value_in us m.cells m.entries.items m.root q) (word_at s.tasks q) (held s.cells q)) held_top (agrees.values q)) in
     let name : m.root ≡ o.name = values (Elsewhere Root) ∙ ap number e in
-    subst (λ ms. Agrees p (record m { stack = record m.stack { tasks = destroying (destructor_at p m.cells m.root) m.root (Ends End_of_run ∷ ms) }; root = null; rest = rest' }) u) (sym (ap below_first held_top))
+    subst (λ us. Agrees p (uprooted p (record m { rest = rest })) (record s { cells = moved (Elsewhere Root) (Going 1) s.cells; tasks = us; rest = r })) (sym (begun_plain p admitted o (length s.items) (Dispatched Of_root ∷ [])))
+    (subst (λ ms. Agrees p (record m { stack = record m.stack { tasks = destroying (destructor_at p m.cells m.root) m.root (Ends End_of_run ∷ ms) }; root = null; rest = rest' }) u) (sym (ap below_first held_top))
     (subst (λ k. Agrees p (record m { stack = record m.stack { tasks = destroying k m.root (Ends End_of_run ∷ []) }; root = null; rest = rest' }) u) (sym (ap (destructor_at p m.cells) name ∙ destructor_same p m t s typed agrees (Elsewhere Root) o e))
     (begins p m s (Ends End_of_run ∷ []) (Dispatched Of_root ∷ []) (Elsewhere Root) null m.root (destructor_of p o.thing) o (length s.items) rest' r name same ((Elsewhere Root, refl), tt) agrees.cells agrees.entries agrees.requests agrees.natives agrees.room agrees.entry_room
-    (dying_shows p m s (Ends End_of_run ∷ []) (Dispatched Of_root ∷ []) (Elsewhere Root) null m.root v w values refl refl refl (nothing_held p m t s typed agrees (Going 1) (values (Going 1))) (root_taken x m.cells m.entries.items m.root) (end_word Of_root d))))
+    (dying_shows p m s (Ends End_of_run ∷ []) (Dispatched Of_root ∷ []) (Elsewhere Root) null m.root v w values refl refl refl (nothing_held p m t s typed agrees (Going 1) (values (Going 1))) (root_taken x m.cells m.entries.items m.root) (end_word Of_root d)))))
 
 -- what is known of the machine, taken apart
 pub record Ends_cell (m : Parts) (s : State) (x : ℕ) (ms : List Held_task) (ts : List Task) : Type 0 where

@@ -34,7 +34,7 @@ use Rattle.aom_frames.specs.declared.frame.Frame.{Frame as Held_frame}
 use Rattle.aom_frames.specs.declared.task.Task.{Task as Held_task}
 use Rattle.aom_frames.specs.declared.task.Task.TheVariants.{Run as Runs_frame, Trapped as Is_trap, Destroy as Destroys, Dispatched as Ends, Unwind as Unwinds}
 use Rattle.aom_frames.specs.declared.dispatch.Dispatch.{Dispatch as Held_dispatch}
-use Rattle.aom_frames.specs.declared.dispatch.Dispatch.TheVariants.{Asks as One_asks}
+use Rattle.aom_frames.specs.declared.dispatch.Dispatch.TheVariants.{Answered as One_answered, Asks as One_asks, Main, MainLeft, Object as Of_one, ObjectLeft as One_left, Root as End_of_run}
 use Rattle.aom_active.specs.Agrees.{Active}
 use Rattle.aom_sound.specs.Enlisted.{ended_cells}
 use Rattle.aom_sound.proofs.Storing.{ended_alike}
@@ -397,6 +397,23 @@ module _ (p : Image) (m : Parts) (t : Typing) (s : State) (fr : Frame) (agrees :
     through (A_maybe thing) met same typed = lands_coded true g ms caller ts top small_too es marked coded _ _ _ (code_alone _ (set_word caller z None) _ typed) (lands_object true g ms caller ts top small_too (λ i. none_above p t _ _ i typed (omega arith)) (empty (sym same)) met)
     through (Left thing) met same typed = lands_coded true g ms caller ts top small_too es marked coded _ _ _ (code_alone _ caller _ typed) (lands_bare true g ms caller ts top small_too (λ i. none_above p t _ _ i typed (omega arith)))
 
+-- ---- a return to a dispatch of the machine's, which is no server's
+
+returned_plain :
+    (p : Image) (fr : Frame) (s : State) (g : Gives) (a : ℕ) (ts : List Task) (x : Held_dispatch) (d : Dispatch) → SameDispatch x d →
+    returned p fr (Trapped ∷ Dispatched d ∷ ts) s g a (Trapped ∷ Dispatched d ∷ ts) ≡ record s { tasks = Dispatched d ∷ ts; items = below_top s.items }
+returned_plain p fr s g a ts x d same =
+    subst (λ e. returned p fr (Trapped ∷ Dispatched e ∷ ts) s g a (Trapped ∷ Dispatched e ∷ ts) ≡ record s { tasks = Dispatched e ∷ ts; items = below_top s.items }) same.1 (go same.0 x)
+  where
+    go : (q : Place) (x : Held_dispatch) → returned p fr (Trapped ∷ Dispatched (dispatch_of q x) ∷ ts) s g a (Trapped ∷ Dispatched (dispatch_of q x) ∷ ts) ≡ record s { tasks = Dispatched (dispatch_of q x) ∷ ts; items = below_top s.items }
+    go q Main = refl
+    go q (MainLeft code) = refl
+    go q End_of_run = refl
+    go q (Of_one x) = refl
+    go q (One_left x code) = refl
+    go q (One_asks x) = refl
+    go q (One_answered x answer) = refl
+
 -- ---- a dispatch that has asked hears the answer
 
 heard_same : (answer answer' : ℤ) (x : Held_dispatch) (d : Dispatch) → answer ≡ answer' → SameDispatch x d → SameDispatch (heard answer x) (answered_by answer' d)
@@ -561,7 +578,9 @@ module _ (p : Image) (m : Parts) (refused : List ℕ) (a : ℕ) (act : Active) (
 
       go : (h : At_hand p m) (ms : List Held_task) (ts : List Task) → Tops A_last_trap ms → Alike ms ts → WellTyped p h.typing (after h ts) → Agrees p (record (with_tasks (below_first ms) mid) { entries = es }) (after h ts)
       go h _ _ (last_trap_on_top x ms) (both_trapped _ _ _ (both_end _ d _ ts same below _)) typed =
-          let last = under_dispatch p h.typing _ d ts typed refl in
-          let shut = closing p h.typing _ d (subst (λ us. WellTyped p h.typing (ended_state h d us)) last typed) refl in
-          subst (λ us. Agrees p (ends_with x us) (ended_state h d ts)) (sym (none_alike ms ts below last))
-          (subst (λ us. Agrees p (ends_with x []) (ended_state h d us)) (sym last) (ended p mid es (past h) x d (agree h) marked same shut))
+          let plain = subst (λ v. WellTyped p h.typing v) (returned_plain p h.frame (past h) (gives_of p h.frame.method) a ts x d same) typed in
+          let last = under_dispatch p h.typing (ended_state h d ts) d ts plain refl in
+          let shut = closing p h.typing _ d (subst (λ us. WellTyped p h.typing (ended_state h d us)) last plain) refl in
+          subst (λ v. Agrees p (ends_with x ms) v) (sym (returned_plain p h.frame (past h) (gives_of p h.frame.method) a ts x d same))
+          (subst (λ us. Agrees p (ends_with x us) (ended_state h d ts)) (sym (none_alike ms ts below last))
+          (subst (λ us. Agrees p (ends_with x []) (ended_state h d us)) (sym last) (ended p mid es (past h) x d (agree h) marked same shut)))

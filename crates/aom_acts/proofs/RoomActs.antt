@@ -37,19 +37,19 @@ use Rattle.aom_sound.proofs.Claimed.{length_objects}
 use Rattle.aom_sound.proofs.Destroying.{destroys}
 use Rattle.aom_sound.proofs.Finishing.{all_parts}
 use Rattle.aom_sound.proofs.Items.{length_forms}
-use Rattle.aom_sound.proofs.Maps.{held_moved, same_place_refl}
+use Rattle.aom_sound.proofs.Maps.{held_without, held_moved, same_place_refl}
 use Rattle.aom_sound.proofs.Storing.{ended_alike, held_set_word, rerequested_alike, resessioned_alike}
 use Rattle.aom_sound.proofs.Things.{stands_same}
-use Rattle.aom_sound.specs.Calls.{below_top, entered, given_cells, over_caller, over_trap, passed_cells, received, result_cells, result_register, returned}
+use Rattle.aom_sound.specs.Calls.{ended_well, accepted_cells, below_top, entered, given_cells, over_caller, over_trap, passed_cells, received, result_cells, result_register, returned}
 use Rattle.aom_sound.specs.Claims.{objects}
 use Rattle.aom_sound.specs.Cleanup.{operation_frame, top_place}
 use Rattle.aom_classes.specs.Roles.{destructor_of}
 use Rattle.aom_sound.specs.Destruction.{begun, begun_by}
-use Rattle.aom_sound.specs.Effects.{Calls, Cancels, Carried, Counts, Destroys, Destroys_last, Effect, Goes_on, In_field, In_register, Jumps, Leaves, Made, Operates, Popped, Popped_operation, Pushed, Pushed_operation, Repeats, Requested, Returns, Same, Sets_trap, Spot, Update, Written, applied, cells_after, items_after, spot_place, with_words, Sessioned}
+use Rattle.aom_sound.specs.Effects.{The_message, Replied, Calls, Cancels, Carried, Counts, Destroys, Destroys_last, Effect, Goes_on, In_field, In_register, Jumps, Leaves, Made, Operates, Popped, Popped_operation, Pushed, Pushed_operation, Repeats, Requested, Returns, Same, Sets_trap, Spot, Update, Written, applied, cells_after, items_after, spot_place, with_words, Sessioned}
 use Rattle.aom_sound.specs.Laws.{IsWired}
 use Rattle.aom_sound.specs.Steps.{Fits as May, FitsUpdate}
-use Rattle.aom_sound.specs.Places.{Cell, Entry, Going, Object, Register, Sight, held, moved, same_place, seen}
-use Rattle.aom_sound.specs.State.{A_mark, An_object, An_operation, AtRoot, Choice, Destroy, Dispatched, Frame, Home, Inside, Item, Run, State, Static, Task, Trapped, Unwind, field_place, frame_of, next, set_word}
+use Rattle.aom_sound.specs.Places.{service_of, Session, Place, Elsewhere, Cell, Entry, Going, Object, Register, Sight, held, moved, same_place, seen}
+use Rattle.aom_sound.specs.State.{Of_server, Dispatch, Accepts, A_mark, An_object, An_operation, AtRoot, Choice, Destroy, Dispatched, Frame, Home, Inside, Item, Run, State, Static, Task, Trapped, Unwind, field_place, frame_of, next, set_word}
 use Rattle.aom_sound.specs.WellTyped.{AllUndo, Fits, IsUndo}
 use Rattle.aom_sound.specs.Words.{here, stored}
 use Rattle.aom_parts.specs.Room.{IsUnder, below_height, destructor_in, entries_in, may_push}
@@ -57,6 +57,10 @@ use Rattle.aom_parts.proofs.Depths.{AllLow, Roomy, SameEntries, begins, dropped,
 use Rattle.aom_parts.proofs.Heights.{LowUnder, Stands_here, own_entries}
 use Rattle.aom_sound.specs.Enlisted.{begun_cells, cancel_method, cancelling, ended_cells, on_request, own_request}
 use Rattle.aom_sound.proofs.Callees.{cancel_class, cancel_quiet}
+use Rattle.aom_classes.specs.Admitted.{IsAdmitted}
+use Rattle.aom_sound.proofs.Services.{held_served}
+use Rattle.aom_parts.proofs.Nobody.{begun_plain}
+use Rattle.aom_sound.specs.Servers.{opened}
 
 -- the destructor of an object is that of the class which its register's kind tells
 destructor_among : (p : Image) (h : Sight) (o : Object) (k : Kind) (m : ℕ) → Fits p h (Some o) k → destructor_of p o.thing ≡ Some m → Among m (destructors p (object_class k))
@@ -119,9 +123,17 @@ result_same p fr ts s (An_own t) a x below n k lt = held_apart s.cells (here fr 
 result_same p fr ts s (A_maybe t) a x below n k lt = held_apart s.cells (here fr ts s a) (Register (length below) x) (Entry k) refl refl
 result_same p fr ts s _ a x below n k lt = refl
 
+-- a session moves to its place, and no entry
+accepted_same : (d : Dispatch) (from : Place) (cs : List Cell) (n : ℕ) → ((k : ℕ) → same_place from (Entry k) ≡ false) → SameEntries cs (accepted_cells d from cs) n
+accepted_same (Of_server x c Accepts) from cs n apart k lt =
+    let there = Elsewhere (Session x.object.name c) in
+    held_served (moved from there cs) x.object.name (opened c (service_of (moved from there cs) x.object.name)) (Entry k) ∙ held_apart cs from there (Entry k) (apart k) refl
+accepted_same _ from cs n apart k lt = refl
+
 -- the tables of depths and of heights
 pub record Tables (p : Image) (t : Typing) (depth heights : ℕ → ℕ) : Type 0 where
   pub wired : IsWired p
+  pub admitted : IsAdmitted p
   pub strongest : IsStrongest p t
   pub less : (m k : ℕ) → MayCall p m k → depth k < depth m
   pub own : (m n : ℕ) → StandsWith p m n → n ≤ heights m
@@ -131,7 +143,7 @@ module _ (p : Image) (t : Typing) (depth heights : ℕ → ℕ) (tables : Tables
   -- ---- what leaves the cleanup stack is dealt with
 
   pub begins_over : (cs : List Cell) (items : List Item) (o : Object) (ts : List Task) → ((m : ℕ) → destructor_of p o.thing ≡ Some m → IsUnder depth (depth m) ts) → Roomy p depth heights cs items ts → Roomy p depth heights cs items (begun p o (length items) ts)
-  begins_over cs items o ts under w = go (destructor_of p o.thing) refl
+  begins_over cs items o ts under w = subst (λ us. Roomy p depth heights cs items us) (sym (begun_plain p tables.admitted o (length items) ts)) (go (destructor_of p o.thing) refl)
     where
       go : (d : Option ℕ) → destructor_of p o.thing ≡ d → Roomy p depth heights cs items (begun_by d o (length items) ts)
       go None e = w
@@ -273,7 +285,10 @@ module _ (p : Image) (t : Typing) (depth heights : ℕ → ℕ) (tables : Tables
         let v' = recelled p depth heights s.cells over.cells s.items (Run caller ∷ below) ended_same v in
         goes_back_trapped cells' (below_top s.items) g a x caller below (Some (pos 0))
         (popped_top p depth heights cells' s.items (Run caller ∷ below) (low_top (Run caller ∷ below) low) (recelled p depth heights over.cells cells' s.items (Run caller ∷ below) (result_same p fr ts over g a x below (length s.items)) v'))
-    return_room g a (Trapped ∷ Dispatched d ∷ below) low v = popped_top p depth heights over.cells s.items (Dispatched d ∷ below) (low_top (Dispatched d ∷ below) low) (recelled p depth heights s.cells over.cells s.items (Dispatched d ∷ below) ended_same v)
+    return_room g a (Trapped ∷ Dispatched d ∷ below) low v =
+        let cells' = accepted_cells d (here fr ts over a) over.cells in
+        popped_top p depth heights cells' s.items (Dispatched (ended_well d) ∷ below) (low_top (Dispatched d ∷ below) low)
+        (recelled p depth heights over.cells cells' s.items (Dispatched (ended_well d) ∷ below) (accepted_same d (here fr ts over a) over.cells (length s.items) (λ k. refl)) (recelled p depth heights s.cells over.cells s.items (Dispatched d ∷ below) ended_same v))
     return_room g a (Destroy ∷ below) low v = recelled p depth heights s.cells over.cells s.items (Destroy ∷ below) ended_same v
     return_room g a (Dispatched d ∷ below) low v = recelled p depth heights s.cells over.cells s.items (Dispatched d ∷ below) ended_same v
     return_room g a (Unwind code ∷ below) low v = recelled p depth heights s.cells over.cells s.items (Unwind code ∷ below) ended_same v
@@ -363,6 +378,7 @@ module _ (p : Image) (t : Typing) (depth heights : ℕ → ℕ) (tables : Tables
     spot_apart : (x : Spot) (k : ℕ) → same_place (spot_place p fr ts s x) (Entry k) ≡ false
     spot_apart (In_register a) k = refl
     spot_apart (In_field f) k = field_apart fr.home f k
+    spot_apart The_message k = refl
 
     -- after an update, with the method on top
     updated_room : (i : Instr) → instr_at p fr.method fr.place ≡ Some i → Ruled i → Leading i → (u : Update) → FitsUpdate ts s.items i u → After u
@@ -372,6 +388,7 @@ module _ (p : Image) (t : Typing) (depth heights : ℕ → ℕ) (tables : Tables
     updated_room i stands r n (Written x v) f = moves (cells_after p fr ts s (Written x v)) (stored_same s.cells fr.home x (length s.items) v)
     updated_room i stands r n (Requested q) f = moves (cells_after p fr ts s (Requested q)) (λ k lt. (rerequested_alike s.cells fr.home q).held_so (Entry k))
     updated_room i stands r n (Sessioned b) f = moves (cells_after p fr ts s (Sessioned b)) (λ k lt. (resessioned_alike s.cells fr.home b).held_so (Entry k))
+    updated_room i stands r n (Replied a) f = moves (cells_after p fr ts s (Replied a)) (λ k lt. held_without s.cells (here fr ts s a) (Entry k))
     updated_room i stands r n (Pushed a) f = push_room a (stands_as i _ stands f.0) (subst Ruled f.0 r).1.0 (subst Leading f.0 n).0
     updated_room i stands r n (Pushed_operation m v) f = push_operation_room f.0 m v (stands_as i _ stands f.1) (subst Ruled f.1 r).1.0 (subst Leading f.1 n).0
     updated_room i stands r n (Popped a) f = pop_room a (subst Ruled f.0 r).1.0

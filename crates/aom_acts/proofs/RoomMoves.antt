@@ -18,23 +18,31 @@ use Rattle.aom_budget.specs.Depths.{HasDepths}
 use Rattle.aom_budget.specs.Heights.{HasHeights}
 use Rattle.aom_sound.proofs.Moving.{steps_are_moves}
 use Rattle.aom_sound.specs.Effects.{Effect, applied}
-use Rattle.aom_sound.specs.Steps.{Acts, Arrives, Clears, Comes_out, Ends, Fits, Move, Rests, Undoes, Vanishes}
+use Rattle.aom_sound.specs.Steps.{Empties, Acts, Arrives, Clears, Comes_out, Ends, Fits, Move, Rests, Undoes, Vanishes}
 use Rattle.aom_sound.proofs.Maps.{held_without}
 use Rattle.aom_sound.specs.Calls.{called, result_register}
 use Rattle.aom_sound.specs.Cleanup.{code_told}
 use Rattle.aom_sound.specs.Laws.{IsWired}
-use Rattle.aom_sound.proofs.Layers.{dispatch_layer}
+use Rattle.aom_sound.proofs.Layers.{closing_layer, dispatch_layer}
 use Rattle.aom_sound.specs.Claims.{Dispatching, forms, items_of}
 use Rattle.aom_sound.specs.Enlisted.{part_of}
 use Rattle.aom_sound.specs.Moves.{answered, asking, counted, dispatch_ends, error_frame, failed, handled, main_ends, object_ends, step}
-use Rattle.aom_sound.specs.Places.{Cell, Elsewhere, Going, Object, Root, held, moved, without}
-use Rattle.aom_sound.specs.State.{A_mark, An_object, An_operation, Answered, Asks, Choice, Dispatch, Dispatched, Frame, Goes, Home, Item, Main_left, Object_left, Of_main, Of_object, Of_root, Rest, Run, Seat, State, Task, Trapped, Unwind, frame_of, next}
+use Rattle.aom_sound.specs.Places.{service_of, Entry, Cell, Elsewhere, Going, Object, Root, held, moved, without}
+use Rattle.aom_sound.specs.State.{Parts, Service_left, Serves, Of_server, Destroy, Accepts, Accepted, Accept_left, A_mark, An_object, An_operation, Answered, Asks, Choice, Dispatch, Dispatched, Frame, Goes, Home, Item, Main_left, Object_left, Of_main, Of_object, Of_root, Rest, Run, Seat, State, Task, Trapped, Unwind, frame_of, next}
 use Rattle.aom_sound.specs.WellTyped.{AllUndo, Good, WellTyped}
 use Rattle.aom_sound.specs.World.{boot_state, main_tasks}
 use Rattle.aom_parts.specs.Room.{HasRoom, entries_in}
-use Rattle.aom_parts.proofs.Depths.{Roomy, on_again, popped, recelled}
+use Rattle.aom_parts.proofs.Depths.{SameEntries, Roomy, on_again, popped, recelled}
 use Rattle.aom_parts.proofs.Heights.{Stands_here, low_unwinding, stands_here}
 use Rattle.aom_acts.proofs.RoomActs.{Tables, acts_room, begins_over, clears, undoes}
+use Rattle.aom_classes.specs.Admitted.{IsAdmitted}
+use Rattle.aom_clients.specs.declared.client.Client.{Client}
+use Rattle.aom_sound.proofs.Dropping.{queue_dropped, held_dropped}
+use Rattle.aom_sound.proofs.Unslotting.{each_unslotted_alike}
+use Rattle.aom_sound.specs.Clients.{each_unslotted}
+use Rattle.aom_sound.specs.Servers.{without_queue, is_queue_of}
+use Rattle.aom_parts.proofs.Nobody.{no_server}
+use Rattle.std.proofs.lemmas.Bool.{true≢false}
 
 -- where a dispatch is at its end nothing is on the cleanup stack
 pub none_formed : (items : List Item) → forms items ≡ [] → items ≡ []
@@ -90,6 +98,12 @@ module _ (p : Image) (t : Typing) (depth heights : ℕ → ℕ) (tables : Tables
     ends (Object_left x code) = asking_roomy (part_of p Answers x.object.thing) x code
     ends (Asks x) = root_roomy (handled s) refl refl s.rest.stopped (held s.cells (Elsewhere Root))
     ends (Answered x answer) = answer_roomy answer
+    ends (Of_server x client Accepts) = (tt, tt, tt, few s bare)
+    ends (Of_server x client Accepted) = (tt, tt, tt, few s bare)
+    ends (Of_server x client (Accept_left code)) = (tt, tt, tt, few s bare)
+    ends (Of_server x client (Serves o)) = (tt, tt, tt, few s bare)
+    ends (Of_server x client (Service_left code)) = (tt, tt, tt, few s bare)
+    ends (Of_server x client Parts) = (tt, tt, tt, few s bare)
 
   -- a method's move
   acts :
@@ -116,8 +130,14 @@ module _ (p : Image) (t : Typing) (depth heights : ℕ → ℕ) (tables : Tables
   roomy_moves within typed c s u w room (Rests still same) = subst RoomyState (sym same) room
   roomy_moves within typed c s u w room (Acts fr ts i e at there met fits same) = subst RoomyState (sym same) (acts typed c s w room fr ts i e at there fits)
   roomy_moves within typed c s u w room (Vanishes ts o at there owns same) =
-      let cells' = without (Going (length ts)) s.cells in
-      subst RoomyState (sym same) (on_again p depth heights cells' s.items ts (recelled p depth heights s.cells cells' s.items ts (λ k lt. held_without s.cells (Going (length ts)) _) (subst (λ us. Roomy p depth heights s.cells s.items us) at room)))
+      let left = without_queue o.name s.cells in
+      let cells' = each_unslotted (service_of s.cells o.name).sessions (without (Going (length ts)) left) in
+      let still : SameEntries s.cells cells' (length s.items) = λ k lt.
+      (each_unslotted_alike (service_of s.cells o.name).sessions (without (Going (length ts)) left)).held_so (Entry k) ∙ held_without left (Going (length ts)) (Entry k)
+      ∙ ap (λ cs. held cs (Entry k)) (queue_dropped o.name s.cells) ∙ held_dropped (is_queue_of o.name) s.cells (Entry k) in
+      subst RoomyState (sym same) (on_again p depth heights cells' s.items ts (recelled p depth heights s.cells cells' s.items ts still (subst (λ us. Roomy p depth heights s.cells s.items us) at room)))
+  roomy_moves within typed c s u w room (Empties ts o at there same) =
+      closing_layer (λ ls. Good p t s.cells ls) (Destroy ∷ ts) w.layers (sym w.tasks ∙ at) w.good (λ x left below _ good. absurd (true≢false (sym good.stack.0.server ∙ no_server p tables.admitted x.thing)))
   roomy_moves within typed c s u w room (Clears code ts items o at top there same) =
       subst RoomyState (sym same) (clears p t depth heights tables s.cells items o (Unwind code ∷ ts) there (low_unwinding p t s code ts An_object items w at top) (with_top code ts An_object items s room at top))
   roomy_moves within typed c s u w room (Undoes code ts items m x at top same) =
@@ -131,13 +151,13 @@ module _ (p : Image) (t : Typing) (depth heights : ℕ → ℕ) (tables : Tables
   roomy_moves within typed c s u w room (Ends d ts at same) = subst RoomyState (sym same) (ends within (counted p s) (bare_end p t s d ts w at) d)
 
 -- the tables of an accepted image
-pub tables_of : (p : Image) (t : Typing) → IsWired p → IsStrongest p t → (depths : HasDepths p) (heights : HasHeights p) → Tables p t (at 0 depths.depths) (at 0 heights.heights)
-tables_of p t wired strongest depths heights = record { wired = wired; strongest = strongest; less = depths.are.less; own = heights.are.own; under = heights.are.under }
+pub tables_of : (p : Image) (t : Typing) → IsWired p → IsAdmitted p → IsStrongest p t → (depths : HasDepths p) (heights : HasHeights p) → Tables p t (at 0 depths.depths) (at 0 heights.heights)
+tables_of p t wired admitted strongest depths heights = record { wired = wired; admitted = admitted; strongest = strongest; less = depths.are.less; own = heights.are.own; under = heights.are.under }
 
 -- each move keeps it
-pub keeps_room : (p : Image) (t : Typing) → IsWired p → IsTyped p t → IsStrongest p t → (depths : HasDepths p) (heights : HasHeights p) (c : Choice) (s u : State) → WellTyped p t s → HasRoom p (at 0 depths.depths) (at 0 heights.heights) s → step p c s ≡ Goes u → HasRoom p (at 0 depths.depths) (at 0 heights.heights) u
-keeps_room p t wired typed strongest depths heights c s u w room e =
-    let after = roomy_moves p t (at 0 depths.depths) (at 0 heights.heights) (tables_of p t wired strongest depths heights) (λ m. heights.are.within m) typed c s u w (room.under, room.runs, room.fit, room.entries) (steps_are_moves p c s u e) in
+pub keeps_room : (p : Image) (t : Typing) → IsWired p → IsAdmitted p → IsTyped p t → IsStrongest p t → (depths : HasDepths p) (heights : HasHeights p) (c : Choice) (s u : State) → WellTyped p t s → HasRoom p (at 0 depths.depths) (at 0 heights.heights) s → step p c s ≡ Goes u → HasRoom p (at 0 depths.depths) (at 0 heights.heights) u
+keeps_room p t wired admitted typed strongest depths heights c s u w room e =
+    let after = roomy_moves p t (at 0 depths.depths) (at 0 heights.heights) (tables_of p t wired admitted strongest depths heights) (λ m. heights.are.within m) typed c s u w (room.under, room.runs, room.fit, room.entries) (steps_are_moves p c s u e) in
     record { under = after.0; runs = after.1; fit = after.2; entries = after.3 }
 
 -- the boot state has it
@@ -155,10 +175,10 @@ boots_with_room p depth heights = go (main_of p)
 
 -- and so has a dispatch that begins
 pub dispatches_with_room :
-    (p : Image) (depth : ℕ → ℕ) (heights : HasHeights p) (cs : List Cell) (m : ℕ) (home : Home) (d : Dispatch) (items : List Item) (r : Rest) (dead : List ℕ) → items ≡ [] →
-    HasRoom p depth (at 0 heights.heights) (record { cells = cs; tasks = Run (frame_of m home (length (A_mark ∷ items))) ∷ Trapped ∷ Dispatched d ∷ []; items = A_mark ∷ items; rest = r; killed = dead })
-dispatches_with_room p depth heights cs m home d items r dead bare =
-    subst (λ is. HasRoom p depth (at 0 heights.heights) (record { cells = cs; tasks = Run (frame_of m home (length (A_mark ∷ is))) ∷ Trapped ∷ Dispatched d ∷ []; items = A_mark ∷ is; rest = r; killed = dead })) (sym bare)
+    (p : Image) (depth : ℕ → ℕ) (heights : HasHeights p) (cs : List Cell) (m : ℕ) (home : Home) (d : Dispatch) (items : List Item) (r : Rest) (dead : List ℕ) (clients : List Client) → items ≡ [] →
+    HasRoom p depth (at 0 heights.heights) (record { cells = cs; tasks = Run (frame_of m home (length (A_mark ∷ items))) ∷ Trapped ∷ Dispatched d ∷ []; items = A_mark ∷ items; rest = r; killed = dead; clients = clients })
+dispatches_with_room p depth heights cs m home d items r dead clients bare =
+    subst (λ is. HasRoom p depth (at 0 heights.heights) (record { cells = cs; tasks = Run (frame_of m home (length (A_mark ∷ is))) ∷ Trapped ∷ Dispatched d ∷ []; items = A_mark ∷ is; rest = r; killed = dead; clients = clients })) (sym bare)
     (record {
       under = (tt, tt);
       runs = ((λ le k e. cc, tt), tt);

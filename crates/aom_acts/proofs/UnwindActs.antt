@@ -74,7 +74,7 @@ deals_move p m told above h u e typed = go (entries_alike m.entries.items h.stat
     done : (js : List Item) → s.items ≡ js → tops_entry js ≡ true → top_is_whole s.cells js ≡ true → deals_with p js (Unwind h.code ∷ h.below) s ≡ u → arrival h.code s.items ≡ [] → Agrees p (dealt_with p m) u × (told ≡ record told { lines = told.lines ++ arrival h.code s.items })
     done js is some whole same none = (
       subst (Agrees p (dealt_with p m)) (ap (λ us. deals_with p s.items us s) h.top ∙ ap (λ is. deals_with p is (Unwind h.code ∷ h.below) s) is ∙ same)
-          (deals p m h.typing s h.typed h.agrees (ap tops_entry is ∙ some) (ap (λ is. top_is_whole s.cells is) is ∙ whole)),
+          (deals p h.admitted m h.typing s h.typed h.agrees (ap tops_entry is ∙ some) (ap (λ is. top_is_whole s.cells is) is ∙ whole)),
       ap (λ ls. record told { lines = ls }) (sym (ap (λ ls. told.lines ++ ls) none ∙ append-nil told.lines)),
     )
 

@@ -20,6 +20,7 @@ use Rattle.aom_parts.specs.declared.parts.Parts.{Parts}
 use Rattle.aom_acts.specs.Going.{destructor_at, destroying}
 use Rattle.aom_parts.specs.Places.{with_items, with_tasks, next, set_register}
 use Rattle.aom_parts.specs.Agrees.{Agrees}
+use Rattle.aom_classes.specs.Admitted.{IsAdmitted}
 
 -- an object is last
 abbrev pub TopsObject : List Item → Type 0
@@ -71,6 +72,7 @@ pub record In_unwinding (p : Image) (m : Parts) : Type 0 where
   pub code : ℤ
   pub below : List Task
   pub top : state.tasks ≡ Unwind code ∷ below
+  pub admitted : IsAdmitted p
   pub typed : WellTyped p typing state
   pub agrees : Agrees p m state
 

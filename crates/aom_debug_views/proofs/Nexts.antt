@@ -14,19 +14,21 @@ use Rattle.aom_frames.specs.Tasks.{Runs, method_here, place_here}
 use Rattle.aom_frames.specs.declared.task.Task.{Task as Held_task}
 use Rattle.aom_frames.specs.declared.task.Task.TheVariants.{Destroy as Destroy_held}
 use Rattle.aom_frames.specs.declared.dispatch.Dispatch.{Dispatch as Held_dispatch}
-use Rattle.aom_sound.specs.Places.{Elsewhere, Going, Object, Place, Root, held}
-use Rattle.aom_sound.specs.State.{Destroy, Dispatch, Dispatched as Ends_state, Run, State, Task, Trapped, Unwind}
+use Rattle.aom_sound.specs.Destruction.{first_session}
+use Rattle.aom_sound.specs.Places.{Elsewhere, Going, Object, Place, Root, held, service_of}
+use Rattle.aom_sound.specs.State.{Closing, Destroy, Dispatch, Dispatched as Ends_state, Run, State, Task, Trapped, Unwind}
 use Rattle.aom_sound.proofs.Maps.{held_lives}
 use Rattle.aom_parts.specs.declared.parts.Parts.{Parts}
 use Rattle.aom_parts.specs.Agrees.{SameTasks, dispatch_of, number, number as number_of_object, thing_in, thing_of}
 use Rattle.aom_parts.specs.Places.{IsDestroying, going_here, going_in, value}
 use Rattle.aom_parts.specs.Stands.{StandsFor}
+use Rattle.aom_parts.proofs.Nobody.{no_server}
 use Rattle.aom_parts.proofs.Values.{same_length}
 use Rattle.aom_parts.proofs.Alike.{Alike, alike, both_end, both_go, both_run, both_trapped, both_unwind, no_tasks}
 use Rattle.aom_acts.specs.Going.{ending_here}
 use Rattle.aom_acts.proofs.Finding.{object_lives}
 use Rattle.aom_debug_lines.specs.declared.answer.Answer.TheVariants.{At, Gone}
-use Rattle.aom_debug_views.specs.Next.{begins_by, destruction_by, destruction_of, ends_all_in, gone_by, going_of, is_last_in, next_in}
+use Rattle.aom_debug_views.specs.Next.{begins_by, destruction_by, destruction_of, ends_all_in, goes_first, gone_by, going_of, is_last_in, next_in}
 
 -- the class of a cell is told by its thing
 class_told : (c : Option Held_cell) (t : Thing) (class : ℕ) → thing_in c ≡ Some t → class_of c ≡ Some class → t ≡ An_object_of class
@@ -47,6 +49,7 @@ no_end_of_all p [] not = refl
 no_end_of_all p (Run fr ∷ ts) not = refl
 no_end_of_all p (Trapped ∷ ts) not = refl
 no_end_of_all p (Destroy ∷ ts) not = refl
+no_end_of_all p (Closing ∷ ts) not = refl
 no_end_of_all p (Unwind code ∷ ts) not = refl
 no_end_of_all p (Ends_state d ∷ ts) not = absurd not
 
@@ -55,6 +58,7 @@ no_last [] not = refl
 no_last (Run fr ∷ ts) not = refl
 no_last (Trapped ∷ ts) not = refl
 no_last (Destroy ∷ ts) not = refl
+no_last (Closing ∷ ts) not = refl
 no_last (Unwind code ∷ ts) not = refl
 no_last (Ends_state d ∷ ts) not = absurd not
 
@@ -93,11 +97,13 @@ module _ (p : Image) (m : Parts) (s : State) (st : StandsFor (record { image = p
       go true e = sym (ap is_some (root_owns_nothing (eqb-true m.root null e)))
       go false e = sym (ap is_some (root_owns (λ is. false≢true (sym e ∙ eq-eqb m.root null is))).1)
 
-  pub root_destroyed : (class : ℕ) → m.root ≢ null → class_at m.cells m.root ≡ Some class → begins_by class (role_of p class Destruct) ≡ destruction_of p (held s.cells (Elsewhere Root))
+  pub root_destroyed : (class : ℕ) → m.root ≢ null → class_at m.cells m.root ≡ Some class → begins_by class (role_of p class Destruct) ≡ destruction_of p s.cells (held s.cells (Elsewhere Root))
   root_destroyed class some told =
       let x = root_owns some in
       let thing = thing_told (Elsewhere Root) x.0 m.root class x.1 x.2 told in
-      sym (ap (destruction_of p) x.1 ∙ ap (destruction_by p) thing)
+      let lives = held_lives s.cells (Elsewhere Root) x.0 st.typed.good.tidy x.1 in
+      let none : (service_of s.cells x.0.name).sessions ≡ [] = (st.kept.fit.servers x.0 lives (no_server p st.sound.admitted x.0.thing)).1 in
+      sym (ap (destruction_of p s.cells) x.1 ∙ ap (λ ns. destruction_by p (goes_first x.0 (first_session s.cells x.0.name ns))) none ∙ ap (destruction_by p) thing)
 
   -- ---- the task on top
 

@@ -6,8 +6,9 @@ use Rattle.aom_image.specs.declared.method.Role.TheVariants.{Destruct, Error as 
 use Rattle.aom_image.specs.declared.method.Thing.{Thing}
 use Rattle.aom_image.specs.declared.method.Thing.TheVariants.{Object as An_object_of, Message}
 use Rattle.aom_classes.specs.Roles.{role_of}
-use Rattle.aom_sound.specs.Places.{Elsewhere, Going, Object, Root, held}
-use Rattle.aom_sound.specs.State.{Answered, Asks, Destroy, Dispatch, Dispatched, Main_left, Object_left, Of_main, Of_object, Of_root, Run, State, Task, Trapped, Unwind}
+use Rattle.aom_sound.specs.Destruction.{first_session}
+use Rattle.aom_sound.specs.Places.{Cell, Elsewhere, Going, Object, Root, held, service_of}
+use Rattle.aom_sound.specs.State.{Answered, Asks, Closing, Destroy, Dispatch, Dispatched, Main_left, Object_left, Of_main, Of_object, Of_root, Of_server, Run, Seat, State, Task, Trapped, Unwind}
 use Rattle.aom_transcript.specs.declared.line.Ending.{Ending}
 use Rattle.aom_debug_marks.specs.declared.spot.Spot.{Spot}
 use Rattle.aom_debug_lines.specs.declared.answer.Answer.{Answer}
@@ -24,10 +25,15 @@ abbrev pub destruction_by : Image → Thing → Answer
 destruction_by p (An_object_of class) = begins_by class (role_of p class Destruct)
 destruction_by p Message = Ended
 
+-- a session with it goes before a server
+abbrev pub goes_first : Object → Option Seat → Thing
+goes_first o None = o.thing
+goes_first o (Some x) = x.object.thing
+
 -- of what a place owns; nothing owned, nothing to destroy
-abbrev pub destruction_of : Image → Option Object → Answer
-destruction_of p None = Ended
-destruction_of p (Some o) = destruction_by p o.thing
+abbrev pub destruction_of : Image → List Cell → Option Object → Answer
+destruction_of p cs None = Ended
+destruction_of p cs (Some o) = destruction_by p (goes_first o (first_session cs o.name (service_of cs o.name).sessions))
 
 -- the going of what a place owns
 abbrev pub gone_by : Thing → Answer
@@ -40,13 +46,19 @@ going_of (Some o) = gone_by o.thing
 
 -- ---- what is next
 
+-- where a server lets go of its sessions
+abbrev pub next_closing : Image → State → List Task → Answer
+next_closing p s (Destroy ∷ ts) = destruction_of p s.cells (held s.cells (Going (length ts)))
+next_closing p s _ = Ended
+
 abbrev pub next_in : Image → State → List Task → Answer
 next_in p s [] = Between s.rest.clock
 next_in p s (Run fr ∷ ts) = At (record { method = fr.method; place = fr.place })
 next_in p s (Destroy ∷ ts) = going_of (held s.cells (Going (length ts)))
-next_in p s (Trapped ∷ ts) = destruction_of p (held s.cells (Elsewhere Root))
-next_in p s (Unwind code ∷ ts) = destruction_of p (held s.cells (Elsewhere Root))
-next_in p s (Dispatched d ∷ ts) = destruction_of p (held s.cells (Elsewhere Root))
+next_in p s (Closing ∷ ts) = next_closing p s ts
+next_in p s (Trapped ∷ ts) = destruction_of p s.cells (held s.cells (Elsewhere Root))
+next_in p s (Unwind code ∷ ts) = destruction_of p s.cells (held s.cells (Elsewhere Root))
+next_in p s (Dispatched d ∷ ts) = destruction_of p s.cells (held s.cells (Elsewhere Root))
 
 abbrev pub next_by : Image → State → Option Ending → Answer
 next_by p s None = next_in p s s.tasks
@@ -76,6 +88,8 @@ ends_all p (Of_object x) = true
 ends_all p (Object_left x code) = int_eq code (pos 0) && not (has_answer p x.object.thing)
 ends_all p (Asks x) = true
 ends_all p (Answered x answer) = int_eq answer (pos 0)
+-- it ends as one of an object first
+ends_all p (Of_server x client stage) = false
 
 abbrev pub ends_all_in : Image → List Task → Bool
 ends_all_in p (Dispatched d ∷ ts) = ends_all p d
@@ -89,6 +103,7 @@ root_is_due p s = s.rest.stopped && (is_some (held s.cells (Elsewhere Root)) && 
 abbrev pub is_last : Dispatch → Bool
 is_last (Main_left code) = false
 is_last Of_root = false
+is_last (Of_server x client stage) = false
 is_last _ = true
 
 abbrev pub is_last_in : List Task → Bool

@@ -35,7 +35,7 @@ fn begins_by(linked: &Linked, class: ClassNumber) -> Answer
 /// The first step of the root's destruction, and the end where the root owns nothing.
 fn begins_root(parts: &Parts, linked: &Linked) -> Answer
     requires stands { Stands (record { image = linked.now; parts = parts.now }) }
-    ensures { (s : State) → StandsFor (record { image = linked.now; parts = parts.now }) s → result ≡ destruction_of linked.now (held s.cells (Elsewhere Root)) }
+    ensures { (s : State) → StandsFor (record { image = linked.now; parts = parts.now }) s → result ≡ destruction_of linked.now s.cells (held s.cells (Elsewhere Root)) }
 {
     if parts.root == NULL {
         return Answer::Ended;

@@ -101,6 +101,9 @@ module _ (names : ℕ → ℕ) (one_to_one : IsOneToOne names) where
 
   is_field_kept : (n : ℕ) (q : Place) → is_field_of (names n) (renamed_place names q) ≡ is_field_of n q
   is_field_kept n (Field m f) = same_name n m
+  is_field_kept n (Elsewhere (Session s c)) = same_name n s
+  is_field_kept n (Elsewhere (Queued s m)) = same_name n s
+  is_field_kept n (Elsewhere _) = refl
   is_field_kept n _ = refl
 
   pub owns_nothing_kept : (cs : List Cell) (n : ℕ) → owns_nothing (renamed_cells names cs) (names n) ≡ owns_nothing cs n

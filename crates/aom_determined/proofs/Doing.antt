@@ -4,24 +4,27 @@ use Rattle.std.specs.Prelude.{is_some, option_map}
 use Rattle.aom_image.specs.Image.{Image}
 use Rattle.aom_image.specs.Views.{instr_at, method_class, method_role}
 use Rattle.aom_instructions.specs.declared.instr.Instr.{Instr}
-use Rattle.aom_instructions.specs.declared.instr.Instr.TheVariants.{Abort, Add, And, Call, Cancel, Const, Copy, Delete, Enlist, Issue, JumpActive, JumpAdded, JumpEmpty, JumpNull, Load, Move, Mul, New, NewOrLeave, Next, Or, Pop, Push, PushOperation, Put, Return, SetActive, Status, Connect, Ask, Close, Store, Sub, Take, Trap, Xor}
+use Rattle.aom_instructions.specs.declared.instr.Instr.TheVariants.{Abort, Add, And, Call, Cancel, Const, Copy, Delete, Enlist, Issue, JumpActive, JumpAdded, JumpEmpty, JumpNull, Load, Move, Mul, New, NewOrLeave, Next, Or, Pop, Push, PushOperation, Put, Return, SetActive, Status, Connect, Ask, Close, Store, Sub, Take, TakeMessage, Trap, Reply, Xor}
 use Rattle.aom_instructions.specs.declared.instr.Target.{Target}
 use Rattle.aom_instructions.specs.declared.instr.Target.TheVariants.{Entry as On_entry, Field as On_field, Register as On_register, This}
 use Rattle.aom_image.specs.declared.method.Gives.{Gives}
 use Rattle.aom_image.specs.declared.method.Gives.TheVariants.{Left, Maybe as A_maybe, Nothing, Own as An_own, Word as A_word}
-use Rattle.aom_sound.specs.Calls.{answered_by, below_top, told_answer, entry_place, home_at, own_home, received, result_cells, result_register, returned, target_home}
+use Rattle.aom_clients.specs.declared.client.Client.{Client}
+use Rattle.aom_sound.specs.Calls.{accepted_cells, accepted_clients, answered_by, below_top, ended_well, told_answer, entry_place, home_at, own_home, received, result_cells, result_register, returned, target_home}
 use Rattle.aom_sound.specs.Cleanup.{code_told, dealt_with, destroyed, to_trap, top_place}
 use Rattle.aom_classes.specs.Roles.{destructor_of}
-use Rattle.aom_sound.specs.Destruction.{begun, begun_by}
-use Rattle.aom_sound.specs.Effects.{Calls, Cancels, Carried, Destroys, Destroys_last, Effect, Goes_on, In_field, In_register, Jumps, Leaves, Made, Popped, Popped_operation, Pushed, Pushed_operation, Requested, Returns, Same, Sets_trap, Spot, Update, Written, applied, cancels_if, cells_after, deals, deletes, effect, items_after, jumps_if, jumps_unless, makes_unless, round, sets, spot_place, updates, with_words, writes, Sessioned}
+use Rattle.aom_sound.specs.Destruction.{begun, begun_by, destructed}
+use Rattle.aom_sound.specs.Servers.{is_server, opened, reserved}
+use Rattle.aom_sound.specs.Effects.{Calls, Cancels, Carried, Destroys, Destroys_last, Effect, Goes_on, In_field, In_register, Jumps, Leaves, Made, Popped, Popped_operation, Pushed, Pushed_operation, Requested, Returns, Same, Sets_trap, Spot, Update, Written, applied, cancels_if, cells_after, deals, deletes, effect, items_after, jumps_if, jumps_unless, makes_unless, round, sets, spot_place, updates, with_words, writes, Replied, Sessioned, The_message}
 use Rattle.aom_sound.specs.Enlisted.{cancel_method, cancelled, cancelling, ended_cells, in_phase, is_active, is_busy, on_request, own_request, rerequested}
 use Rattle.aom_sound.specs.Moves.{does, needs}
-use Rattle.aom_sound.specs.Places.{Cell, Entry, Going, Object, Place, Register, Request, held, moved}
-use Rattle.aom_sound.specs.State.{A_mark, An_object, An_operation, Asks, AtRoot, Choice, Destroy, Dispatch, Dispatched, Frame, Home, Inside, Item, Run, State, Static, Task, Trapped, Unwind, counter, field_place}
+use Rattle.aom_sound.specs.Places.{Cell, Elsewhere, Entry, Going, Object, Place, Register, Request, Session, held, moved}
+use Rattle.aom_sound.specs.State.{A_mark, Accepts, An_object, An_operation, Asks, AtRoot, Choice, Closing, Destroy, Dispatch, Dispatched, Frame, Home, Inside, Item, Of_server, Run, Serves, State, Static, Task, Trapped, Unwind, counter, field_place}
 use Rattle.aom_sound.specs.Words.{loaded, stored}
-use Rattle.aom_determined.proofs.Cells.{held_renamed, moved_renamed, order_kept, set_request_renamed, set_word_field_renamed, tasks_counted, timer_kept, word_field_kept, in_session_kept, set_session_renamed}
-use Rattle.aom_determined.proofs.Needs.{call_kept, field_renamed, free_at, given_renamed, held_field, holder_kept, kind_kept, leave_kept, message_at, own_request_kept, push_kept, pushed_renamed, put_kept, refusal_kept, register_renamed, return_kept, trap_kept, under_trap_kept, whole_kept}
-use Rattle.aom_determined.specs.Names.{IsOneToOne, renamed, renamed_cells, renamed_choice, renamed_dispatch, renamed_frame, renamed_home, renamed_object, renamed_place, renamed_tasks}
+use Rattle.aom_determined.proofs.Cells.{held_renamed, moved_renamed, order_kept, set_request_renamed, set_word_field_renamed, tasks_counted, timer_kept, word_field_kept, in_session_kept, set_session_renamed, cond_applied, without_renamed}
+use Rattle.aom_determined.proofs.Serving.{opened_client_renamed, opens_renamed}
+use Rattle.aom_determined.proofs.Needs.{call_kept, field_renamed, free_at, given_renamed, held_field, holder_kept, kind_kept, leave_kept, message_at, own_request_kept, push_kept, pushed_renamed, put_kept, refusal_kept, register_renamed, reply_kept, return_kept, take_message_kept, trap_kept, under_trap_kept, whole_kept}
+use Rattle.aom_determined.specs.Names.{IsOneToOne, renamed, renamed_cells, renamed_clients, renamed_choice, renamed_dispatch, renamed_frame, renamed_home, renamed_object, renamed_place, renamed_tasks}
 use Rattle.aom_rules.specs.Requests.{is_cancel}
 use Rattle.aom_sound.specs.Natives.{own_session, resessioned}
 
@@ -48,14 +51,20 @@ module _ (names : ℕ → ℕ) where
   begun_by_renamed None o height below = refl
   begun_by_renamed (Some m) o height below = rw (tasks_counted names below)
 
+  pub destructed_renamed : (p : Image) (o : Object) (height : ℕ) (below : List Task) → destructed p (renamed_object names o) height (renamed_tasks names below) ≡ renamed_tasks names (destructed p o height below)
+  destructed_renamed p o height below = begun_by_renamed (destructor_of p o.thing) o height below
+
   pub begun_renamed : (p : Image) (o : Object) (height : ℕ) (below : List Task) → begun p (renamed_object names o) height (renamed_tasks names below) ≡ renamed_tasks names (begun p o height below)
-  begun_renamed p o height below = begun_by_renamed (destructor_of p o.thing) o height below
+  begun_renamed p o height below =
+      ap (cond (is_server p o.thing) (Closing ∷ Destroy ∷ renamed_tasks names below)) (destructed_renamed p o height below)
+      ∙ cond_applied (renamed_tasks names) (is_server p o.thing) (Closing ∷ Destroy ∷ below) (destructed p o height below)
 
   to_trap_renamed : (ts : List Task) → to_trap (renamed_tasks names ts) ≡ renamed_tasks names (to_trap ts)
   to_trap_renamed [] = refl
   to_trap_renamed (Run fr ∷ ts) = to_trap_renamed ts
   to_trap_renamed (Trapped ∷ ts) = refl
   to_trap_renamed (Destroy ∷ ts) = refl
+  to_trap_renamed (Closing ∷ ts) = refl
   to_trap_renamed (Unwind code ∷ ts) = refl
   to_trap_renamed (Dispatched d ∷ ts) = refl
 
@@ -138,6 +147,26 @@ module _ (names : ℕ → ℕ) where
   answered_by_renamed answer (Asks x) = refl
   answered_by_renamed answer _ = refl
 
+  -- ---- the end of the method of a dispatch
+
+  ended_well_renamed : (d : Dispatch) → ended_well (renamed_dispatch names d) ≡ renamed_dispatch names (ended_well d)
+  ended_well_renamed (Of_server x c Accepts) = refl
+  ended_well_renamed (Of_server x c (Serves o)) = refl
+  ended_well_renamed (Of_server x c _) = refl
+  ended_well_renamed _ = refl
+
+  accepted_clients_renamed : (d : Dispatch) (clients : List Client) → accepted_clients (renamed_dispatch names d) (renamed_clients names clients) ≡ renamed_clients names (accepted_clients d clients)
+  accepted_clients_renamed (Of_server x c Accepts) clients = opened_client_renamed names c clients
+  accepted_clients_renamed (Of_server x c _) clients = refl
+  accepted_clients_renamed _ clients = refl
+
+  accepted_renamed : IsOneToOne names → (d : Dispatch) (from : Place) (cs : List Cell) → accepted_cells (renamed_dispatch names d) (renamed_place names from) (renamed_cells names cs) ≡ renamed_cells names (accepted_cells d from cs)
+  accepted_renamed one_to_one (Of_server x c Accepts) from cs =
+      let to = Elsewhere (Session x.object.name c) in
+      ap (reserved (opened c) (names x.object.name)) (moved_renamed names one_to_one from to cs) ∙ opens_renamed names one_to_one c x.object.name (moved from to cs)
+  accepted_renamed one_to_one (Of_server x c _) from cs = refl
+  accepted_renamed one_to_one _ from cs = refl
+
 module _ (names : ℕ → ℕ) (one_to_one : IsOneToOne names) (p : Image) (c : Choice) (fr : Frame) (ts : List Task) (s : State) where
   -- whatever a register has moves to a place
   from_register : (a : ℕ) (q : Place) → moved (Register (length (renamed_tasks names ts)) a) (renamed_place names q) (renamed_cells names s.cells) ≡ renamed_cells names (moved (Register (length ts) a) q s.cells)
@@ -161,6 +190,8 @@ module _ (names : ℕ → ℕ) (one_to_one : IsOneToOne names) (p : Image) (c : 
   returned_renamed g a (Trapped ∷ Run caller ∷ below) =
       let b = result_register (instr_at p caller.method caller.place) in
       rw (result_cells_renamed g a b below, received_renamed names p fr ts s g a b caller)
+  returned_renamed g a (Trapped ∷ Dispatched d ∷ below) =
+      rw (tasks_counted names ts, accepted_renamed names one_to_one d (Register (length ts) a) s.cells, accepted_clients_renamed names d s.clients, ended_well_renamed names d)
   returned_renamed g a (Dispatched d ∷ below) = rw (answer_kept names g fr a, answered_by_renamed names (told_answer g fr a) d)
   returned_renamed g a _ = refl
 
@@ -208,6 +239,7 @@ module _ (names : ℕ → ℕ) (one_to_one : IsOneToOne names) (p : Image) (c : 
   place_renamed : (spot : Spot) → spot_place p fr' ts' s' spot ≡ renamed_place names (spot_place p fr ts s spot)
   place_renamed (In_register a) = rw (tasks_counted names ts)
   place_renamed (In_field f) = field_renamed names fr.home f
+  place_renamed The_message = refl
 
   cells_renamed : (u : Update) → cells_after p fr' ts' s' (renamed_update names u) ≡ renamed_cells names (cells_after p fr ts s u)
   cells_renamed Same = refl
@@ -216,6 +248,7 @@ module _ (names : ℕ → ℕ) (one_to_one : IsOneToOne names) (p : Image) (c : 
   cells_renamed (Written w v) = stored_renamed names one_to_one s.cells fr.home w v
   cells_renamed (Requested r) = rerequested_renamed names one_to_one s.cells fr.home r
   cells_renamed (Sessioned session) = resessioned_renamed names one_to_one s.cells fr.home session
+  cells_renamed (Replied a) = rw (tasks_counted names ts, without_renamed names one_to_one (Register (length ts) a) s.cells)
   cells_renamed (Pushed a) = pushed_renamed names one_to_one p c fr ts s a
   cells_renamed (Pushed_operation m w) = refl
   cells_renamed (Popped a) = rw (tasks_counted names ts, moved_renamed names one_to_one (top_place s.items) (Register (length ts) a) s.cells)
@@ -358,6 +391,8 @@ module _ (names : ℕ → ℕ) (one_to_one : IsOneToOne names) (p : Image) (c : 
   needs_kept (Connect a) = rw (kind_kept names p fr.home, free_at names one_to_one s.cells ts a)
   needs_kept (Ask a b x) = rw (kind_kept names p fr.home, free_at names one_to_one s.cells ts a)
   needs_kept Close = rw (kind_kept names p fr.home, own_request_kept names one_to_one s.cells fr.home)
+  needs_kept (TakeMessage a) = take_message_kept names one_to_one p c fr ts s a
+  needs_kept (Reply a b) = reply_kept names one_to_one p c fr ts s a b
   needs_kept (Return a) = return_kept names one_to_one p c fr ts s a
   needs_kept _ = first_of (cc, rw (leave_kept names s.cells (Run fr ∷ ts)), rw (whole_kept names one_to_one s.cells s.items))
 

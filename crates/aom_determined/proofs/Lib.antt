@@ -1,4 +1,6 @@
 pub mod Cells
+pub mod Serving
+pub mod Commands
 pub mod Needs
 pub mod Doing
 pub mod Turning
@@ -6,6 +8,13 @@ pub mod Steps
 pub mod Hearing
 pub mod Polling
 pub mod Oracles
+pub mod Waiting
 pub mod Fresh
+pub mod Keeping
+pub mod Vanishing
+pub mod Moving
+pub mod Ending
+pub mod Asking
+pub mod Staying
 pub mod Alike
 pub mod Runs

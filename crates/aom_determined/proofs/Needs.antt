@@ -10,15 +10,19 @@ use Rattle.aom_image.specs.declared.method.Argument.TheVariants.{Own as Takes_ow
 use Rattle.aom_image.specs.declared.method.Gives.{Gives}
 use Rattle.aom_image.specs.declared.method.Gives.TheVariants.{Left, Maybe as A_maybe, Nothing, Own as An_own, Word as A_word}
 use Rattle.aom_image.specs.declared.method.Thing.{Thing}
-use Rattle.aom_image.specs.declared.method.Thing.TheVariants.{Object as An_object_of}
+use Rattle.aom_image.specs.declared.method.Thing.TheVariants.{Message, Object as An_object_of}
 use Rattle.aom_shape.specs.Things.{field_thing}
-use Rattle.aom_sound.specs.Calls.{end_needs, is_asked, entry_place, given_cells, is_level, is_worked_on, is_emptied, leaves_object, needs_argument, needs_call, needs_each, needs_entering, needs_result, needs_return, needs_target, needs_target_object, needs_trap, passed_cells, result_needs, result_source}
+use Rattle.aom_sound.specs.Calls.{end_needs, is_asked, entry_place, given_cells, is_level, is_worked_on, is_emptied, leaves_object, needs_argument, needs_call, needs_each, needs_ended, needs_entering, needs_reply, needs_result, needs_return, needs_target, needs_target_object, needs_trap, passed_cells, result_needs, result_source, tops_mark}
 use Rattle.aom_sound.specs.Cleanup.{above_trap_is_free, has_trap, if_refused, leave_needs, needs_push, pushed_cells, top_is_whole}
 use Rattle.aom_sound.specs.Enlisted.{home_kind, own_request}
-use Rattle.aom_sound.specs.Objects.{is_declared_thing, is_no_message, is_thing, needs_put}
-use Rattle.aom_sound.specs.Places.{Cell, Entry, Object, Register, held, moved}
-use Rattle.aom_sound.specs.State.{A_mark, An_object, An_operation, Asks, AtRoot, Choice, Destroy, Dispatch, Dispatched, Frame, Home, Inside, IsStuck, Item, Need, Orphan, Run, State, Static, Task, Trapped, Unwind, field_place, guarded, home_holder}
+use Rattle.aom_sound.specs.Objects.{is_declared_thing, is_no_message, is_thing, needs_put, needs_take_message}
+use Rattle.aom_sound.specs.Places.{Cell, Elsewhere, Entry, In_service, Object, Place, Register, Session, held, moved}
+use Rattle.aom_sound.specs.Destruction.{owns_nothing}
+use Rattle.aom_sound.specs.Servers.{without_queue}
+use Rattle.aom_sound.specs.State.{A_mark, Accepts, An_object, An_operation, Asks, AtRoot, Choice, Closing, Destroy, Dispatch, Dispatched, Frame, Home, Inside, IsStuck, Item, MessageLost, Need, Of_server, Orphan, Run, Serves, State, Static, Task, Trapped, Unbalanced, Unwind, field_place, guarded, home_holder}
+use Rattle.aom_sound.specs.Words.{needs_word}
 use Rattle.aom_determined.proofs.Cells.{held_renamed, moved_renamed, none_owns_kept, owns_nothing_kept, requested_kept, tasks_counted}
+use Rattle.aom_determined.proofs.Serving.{without_queue_renamed}
 use Rattle.aom_determined.specs.Names.{IsOneToOne, renamed, renamed_cells, renamed_choice, renamed_dispatch, renamed_frame, renamed_home, renamed_object, renamed_outcome, renamed_place, renamed_tasks}
 
 -- ---- what is asked of an object, none of which is its name
@@ -78,6 +82,7 @@ module _ (names : ℕ → ℕ) where
   trap_kept (Run fr ∷ ts) = trap_kept ts
   trap_kept (Trapped ∷ ts) = refl
   trap_kept (Destroy ∷ ts) = refl
+  trap_kept (Closing ∷ ts) = refl
   trap_kept (Unwind code ∷ ts) = refl
   trap_kept (Dispatched d ∷ ts) = refl
 
@@ -86,6 +91,7 @@ module _ (names : ℕ → ℕ) where
   free_kept cs (Run fr ∷ ts) = rw (tasks_counted names ts, none_owns_kept names cs (length ts) None, free_kept cs ts)
   free_kept cs (Trapped ∷ ts) = refl
   free_kept cs (Destroy ∷ ts) = refl
+  free_kept cs (Closing ∷ ts) = refl
   free_kept cs (Unwind code ∷ ts) = refl
   free_kept cs (Dispatched d ∷ ts) = refl
 
@@ -127,7 +133,20 @@ module _ (names : ℕ → ℕ) (one_to_one : IsOneToOne names) where
   emptied_kept : (cs : List Cell) (h : Home) → is_emptied (renamed_cells names cs) (renamed_home names h) ≡ is_emptied cs h
   emptied_kept cs Static = refl
   emptied_kept cs AtRoot = refl
-  emptied_kept cs (Inside o from) = owns_nothing_kept names one_to_one cs o.name
+  emptied_kept cs (Inside o from) = ap (λ l. owns_nothing l (names o.name)) (without_queue_renamed names one_to_one o.name cs) ∙ owns_nothing_kept names one_to_one (without_queue o.name cs) o.name
+
+  pub place_owns : (cs : List Cell) (q : Place) → is_some (held (renamed_cells names cs) (renamed_place names q)) ≡ is_some (held cs q)
+  place_owns cs q = ap is_some (held_renamed names one_to_one cs q) ∙ some_kept names (held cs q)
+
+  place_free : (cs : List Cell) (q : Place) → is_none (held (renamed_cells names cs) (renamed_place names q)) ≡ is_none (held cs q)
+  place_free cs q = ap is_none (held_renamed names one_to_one cs q) ∙ none_kept names (held cs q)
+
+  -- what the return of the method of a dispatch needs
+  ended_kept : (d : Dispatch) (cs : List Cell) → needs_ended (renamed_dispatch names d) (renamed_cells names cs) ≡ needs_ended d cs
+  ended_kept (Of_server x c Accepts) cs = ap (λ b. (b, Orphan) ∷ []) (place_free cs (Elsewhere (Session x.object.name c)))
+  ended_kept (Of_server x c (Serves o)) cs = ap (λ b. (b, MessageLost) ∷ []) (place_free cs (Elsewhere In_service))
+  ended_kept (Of_server x c _) cs = refl
+  ended_kept _ cs = refl
 
   -- the request of what a method works on
   pub own_request_kept : (cs : List Cell) (h : Home) → own_request (renamed_cells names cs) (renamed_home names h) ≡ own_request cs h
@@ -227,6 +246,7 @@ module _ (names : ℕ → ℕ) (one_to_one : IsOneToOne names) (p : Image) (c : 
   end_kept : (below : List Task) → end_needs p fr' ts' s' (renamed_tasks names below) ≡ end_needs p fr ts s below
   end_kept (Destroy ∷ below) = rw (emptied_kept names one_to_one s.cells fr.home)
   end_kept (Trapped ∷ Run caller ∷ below) = refl
+  end_kept (Trapped ∷ Dispatched d ∷ below) = ap (λ ns. (tops_mark s.items, Unbalanced) ∷ ns) (ended_kept names one_to_one d s.cells)
   end_kept (Trapped ∷ _) = refl
   end_kept (Dispatched d ∷ below) = rw (is_asked_kept names d)
   end_kept _ = refl
@@ -273,6 +293,14 @@ module _ (names : ℕ → ℕ) (one_to_one : IsOneToOne names) (p : Image) (c : 
       let refusal : if_refused p c' fr' ts' s' (pushed_cells fr' ts' s' a) ≡ if_refused p c fr ts s (pushed_cells fr ts s a) =
       ap (if_refused p c' fr' ts' s') (pushed_renamed a) ∙ refusal_kept (pushed_cells fr ts s a) in
       rw (owns_at names one_to_one s.cells ts a, message_at names one_to_one s.cells ts a, refusal, trap_kept names ts)
+
+  -- ---- messages
+
+  pub take_message_kept : (a : ℕ) → needs_take_message p c' fr' ts' s' a ≡ needs_take_message p c fr ts s a
+  take_message_kept a = rw (place_owns names one_to_one s.cells (Elsewhere In_service), free_at names one_to_one s.cells ts a)
+
+  pub reply_kept : (a b : ℕ) → needs_reply p fr' ts' s' a b ≡ needs_reply p fr ts s a b
+  reply_kept a b = ap (λ ns. ns ++ (needs_word fr ts s b ∷ [])) (argument_kept (Takes_own Message) a)
 
   pub put_kept : (f b : ℕ) → needs_put p c' fr' ts' s' f b ≡ needs_put p c fr ts s f b
   put_kept f b = rw (

@@ -54,7 +54,7 @@ module _ (heard : Heard) where
   told_by_timer s None after = refl
   told_by_timer s (Some x) after = cond_applied (told heard.completion) (nat_le x.timer.due s.rest.clock) (Completes x.object) after
 
-  told_turning : (outside : Outside) (s : State) → turning outside heard s ≡ told heard.completion (turning outside nothing_heard s)
+  told_turning : (outside : Outside) (s : State) → turning outside heard s ≡ told heard.completion (turning outside (record nothing_heard { name = heard.name }) s)
   told_turning outside s =
       let cut = nat_le outside.limit s.rest.dispatches in
       let after = picks (has_signal s.cells) (first_ready s.cells) (next_time outside s) in
@@ -69,8 +69,8 @@ module _ (heard : Heard) where
   untold (Polls n other) e = cc
   untold _ e = refl
 
-  pub turn_unpolled : (p : Image) (outside : Outside) (s : State) → is_polling (turning outside nothing_heard s) ≡ false → turn p outside heard s ≡ turn p outside nothing_heard s
-  turn_unpolled p outside s e = ap (turned p s) (told_turning outside s ∙ untold (turning outside nothing_heard s) e)
+  pub turn_unpolled : (p : Image) (outside : Outside) (s : State) → is_polling (turning outside nothing_heard s) ≡ false → turn p outside heard s ≡ turn p outside (record nothing_heard { name = heard.name }) s
+  turn_unpolled p outside s e = ap (turned p s) (told_turning outside s ∙ untold (turning outside (record nothing_heard { name = heard.name }) s) e)
 
 -- ---- where there is no native none is polled
 

@@ -6,15 +6,18 @@ use Rattle.aom_image.specs.Image.{Image}
 use Rattle.aom_classes.specs.Roles.{main_of}
 use Rattle.aom_rules.specs.Typing.{IsTyped, Typing}
 use Rattle.aom_sound.proofs.Booting.{boot_keeps}
-use Rattle.aom_sound.proofs.Course.{well_on}
+use Rattle.aom_sound.proofs.ClientsKeep.{clients_keep}
+use Rattle.aom_sound.proofs.Course.{WellKept, well_on}
 use Rattle.aom_sound.proofs.Soundness.{over_idle}
 use Rattle.aom_sound.specs.Laws.{IsWired}
 use Rattle.aom_sound.specs.Moves.{IsOpen, step, written}
 use Rattle.aom_sound.specs.State.{Choice, Goes, Outcome, State}
-use Rattle.aom_sound.specs.WellTyped.{WellTyped}
+use Rattle.aom_sound.specs.Places.{named}
 use Rattle.aom_sound.specs.World.{Heard, IsBetween, IsBusy, Reaches, Run_of, begins, boot_state, main_tasks, moves, nothing_heard, turn, turning, turns, written_turn, Outside}
 use Rattle.aom_transcript.specs.declared.line.Ending.{Ending}
 use Rattle.aom_transcript.specs.declared.line.Line.{Line}
+use Rattle.aom_determined.proofs.Staying.{all_stays_there}
+use Rattle.aom_determined.specs.There.{AllThere}
 use Rattle.aom_determined.proofs.Alike.{move_alike, turn_alike, turn_writes_alike, writes_alike}
 use Rattle.aom_determined.specs.Laws.{Begins, TextIsDetermined}
 use Rattle.aom_determined.specs.Names.{AlikeOutcomes, AreAlike, renamed_tasks}
@@ -35,6 +38,7 @@ module _ (p : Image) (t : Typing) (outside : Outside) (wired : IsWired p) (typed
   record Turned (n : ℕ) (v s : State) (new : List Line) : Type 0 where
     heard : Heard
     between : IsBetween v
+    free : named v.cells heard.name ≡ None
     goes : turn p outside heard v ≡ Goes s
     lines : new ≡ written_turn outside v
     hears : is_polling (turning outside nothing_heard v) ≡ true → heard.completion ≡ oracle.completes n
@@ -52,10 +56,15 @@ module _ (p : Image) (t : Typing) (outside : Outside) (wired : IsWired p) (typed
   staged (moves {lines = lines} {s = s} c before busy choice e) follows =
       (lines, s, written p s, staged before follows.0, before, inl (record { choice = c; busy = busy; open_so = choice; goes = e; lines = refl; hears = follows.1 }), refl)
   staged (turns {lines = lines} {s = s} heard before between owed e) follows =
-      (lines, s, written_turn outside s, staged before follows.0, before, inr (record { heard = heard; between = between; goes = e; lines = refl; hears = follows.1 }), refl)
+      (lines, s, written_turn outside s, staged before follows.0, before, inr (record { heard = heard; between = between; free = owed.name; goes = e; lines = refl; hears = follows.1 }), refl)
 
-  well : (lines : List Line) (s : State) → Reaches p outside (boot_state p) lines s → WellTyped p t s
-  well lines s r = well_on p t outside wired typed (boot_state p) (boot_keeps p t wired typed) lines s r
+  well : (lines : List Line) (s : State) → Reaches p outside (boot_state p) lines s → WellKept p t s
+  well lines s r = well_on p t outside wired typed (boot_state p) (boot_keeps p t wired typed, clients_keep.boot p) lines s r
+
+  there : (lines : List Line) (s : State) → Reaches p outside (boot_state p) lines s → AllThere s
+  there _ _ begins = all_stays_there.boot p
+  there _ _ (moves {lines = lines} {s = s} {u = u} c before busy choice e) = let w = well lines s before in all_stays_there.moves p t wired typed c s u w.0 choice.name w.1 (there lines s before) e
+  there _ _ (turns {lines = lines} {s = s} {u = u} heard before between hears e) = let w = well lines s before in all_stays_there.turns p t outside wired typed heard s u w.0 between hears w.1 (there lines s before) e
 
   -- ---- as many stages
 
@@ -76,16 +85,16 @@ module _ (p : Image) (t : Typing) (outside : Outside) (wired : IsWired p) (typed
   polls_alike : (n : ℕ) (v w s u : State) (new new' : List Line) → AreAlike v w → (one : Turned n v s new) (other : Turned n w u new') → is_polling (turning outside nothing_heard v) ≡ true → one.heard.completion ≡ other.heard.completion
   polls_alike n v w s u new new' alike one other polled = one.hears polled ∙ sym (other.hears (ap (λ x. is_polling (turning outside nothing_heard x)) alike.same ∙ polling_kept alike.names outside v ∙ polled))
 
-  stage_alike : (n : ℕ) (v w s u : State) (new new' : List Line) → WellTyped p t w → AreAlike v w → Stage n v s new → Stage n w u new' → (new ≡ new') × AreAlike s u
-  stage_alike n v w s u new new' wt alike (inl one) (inl other) = (
+  stage_alike : (n : ℕ) (v w s u : State) (new new' : List Line) → WellKept p t w → AllThere w → AreAlike v w → Stage n v s new → Stage n w u new' → (new ≡ new') × AreAlike s u
+  stage_alike n v w s u new new' k there alike (inl one) (inl other) = (
     one.lines ∙ writes_alike p v w alike ∙ sym other.lines,
-    goes_alike _ _ s u one.goes other.goes (move_alike p t outside.refused one.choice other.choice v w wt alike one.open_so other.open_so (hears_alike n v w s u new new' alike one other)),
+    goes_alike _ _ s u one.goes other.goes (move_alike p t outside.refused one.choice other.choice v w k.0 k.1 there alike one.open_so other.open_so (hears_alike n v w s u new new' alike one other)),
   )
-  stage_alike n v w s u new new' wt alike (inl one) (inr other) = absurd (busy_idle v w alike one.busy other.between.idle)
-  stage_alike n v w s u new new' wt alike (inr one) (inl other) = absurd (idle_busy v w alike one.between.idle other.busy)
-  stage_alike n v w s u new new' wt alike (inr one) (inr other) = (
+  stage_alike n v w s u new new' k there alike (inl one) (inr other) = absurd (busy_idle v w alike one.busy other.between.idle)
+  stage_alike n v w s u new new' k there alike (inr one) (inl other) = absurd (idle_busy v w alike one.between.idle other.busy)
+  stage_alike n v w s u new new' k there alike (inr one) (inr other) = (
     one.lines ∙ turn_writes_alike outside v w alike ∙ sym other.lines,
-    goes_alike _ _ s u one.goes other.goes (turn_alike p outside one.heard other.heard v w alike (polls_alike n v w s u new new' alike one other)),
+    goes_alike _ _ s u one.goes other.goes (turn_alike p t outside one.heard other.heard v w k.0 k.1 there alike one.free other.free (polls_alike n v w s u new new' alike one other)),
   )
 
   -- nothing in the boot state has a name
@@ -100,7 +109,7 @@ module _ (p : Image) (t : Typing) (outside : Outside) (wired : IsWired p) (typed
   together zero lines others s u a b = (a.0 ∙ sym b.0, subst (λ x. AreAlike x u) (sym a.1) (subst (λ x. AreAlike (boot_state p) x) (sym b.1) booted))
   together (suc n) lines others s u a b =
       let before = together n a.0 b.0 a.1 b.1 a.3 b.3 in
-      let now = stage_alike n a.1 b.1 s u a.2 b.2 (well b.0 b.1 b.4) before.1 a.5 b.5 in
+      let now = stage_alike n a.1 b.1 s u a.2 b.2 (well b.0 b.1 b.4) (there b.0 b.1 b.4) before.1 a.5 b.5 in
       (a.6 ∙ ap (λ x. x ++ a.2) before.0 ∙ ap (λ x. b.0 ++ x) now.0 ∙ sym b.6, now.1)
 
   -- ---- fewer stages

@@ -10,17 +10,21 @@ use Rattle.aom_instructions.specs.declared.instr.Instr.TheVariants.{Print}
 use Rattle.aom_sound.specs.World.{Heard, HearsWell, Outside}
 use Rattle.aom_sound.specs.Calls.{called, result_register}
 use Rattle.aom_sound.specs.Cleanup.{arrived, dealt_with, ended_by, top_is_whole, unwound}
-use Rattle.aom_sound.specs.Destruction.{gone, needs_gone}
+use Rattle.aom_clients.specs.declared.client.Client.TheVariants.{Unconnected}
+use Rattle.aom_sound.specs.Clients.{at_parting, client_at, each_unslotted, queue_ended, sessions_ended, with_client}
+use Rattle.aom_sound.specs.Destruction.{closing, first_session, gone, needs_gone, parting, parting_from, vanished}
+use Rattle.aom_sound.specs.Servers.{parted, reserved, without_queue}
 use Rattle.aom_sound.specs.Enlisted.{part_of}
-use Rattle.aom_sound.specs.Moves.{IsOpen, answered, asked, asking, counted, dispatch_ends, does, failed, goes_line, handled, is_counted, is_refused, main_ends, makes_cell, needs, object_ends, step, step_instr, step_task, written, written_instr, written_task}
-use Rattle.aom_sound.specs.Places.{Elsewhere, Going, Object, Root, held, named, without}
-use Rattle.aom_sound.specs.State.{A_mark, An_object, An_operation, Answered, Asks, Choice, Destroy, Dispatch, Dispatched, Frame, Goes, IsStuck, Item, Main_left, NullOrDead, Object_left, Of_main, Of_object, Of_root, Run, Seat, State, Task, Trapped, Unwind, guarded, resumed}
+use Rattle.aom_sound.specs.Moves.{IsOpen, answered, asked, asking, counted, dispatch_ends, does, failed, goes_line, handled, is_counted, is_refused, main_ends, makes_cell, needs, needs_end, object_ends, served_so, stage_ends, step, step_instr, step_task, written, written_instr, written_task}
+use Rattle.aom_sound.specs.Places.{Cell, Elsewhere, Going, In_service, Object, Root, held, named, service_of, without}
+use Rattle.aom_sound.specs.State.{A_mark, Accept_left, Accepted, Accepts, An_object, An_operation, Answered, Asks, Choice, Closing, CompletedTwice, Destroy, Dispatch, Dispatched, Frame, Goes, IsStuck, Item, Main_left, NullOrDead, Object_left, Of_main, Of_object, Of_root, Of_server, Parts, Run, Seat, Service_left, Serves, Stage, State, Task, Trapped, Unwind, guarded, resumed}
 use Rattle.aom_determined.proofs.Cells.{cells_counted, cond_applied, held_renamed, moved_renamed, named_renamed, owns_nothing_kept, requested_kept, tasks_counted, without_renamed}
-use Rattle.aom_determined.proofs.Doing.{begun_renamed, dealt_renamed, does_renamed, needs_kept, told_renamed}
-use Rattle.aom_determined.proofs.Needs.{guarded_renamed, whole_kept}
+use Rattle.aom_determined.proofs.Doing.{begun_renamed, dealt_renamed, destructed_renamed, does_renamed, needs_kept, told_renamed}
+use Rattle.aom_determined.proofs.Needs.{guarded_renamed, place_owns, whole_kept}
+use Rattle.aom_determined.proofs.Serving.{each_unslotted_renamed, first_session_renamed, parted_client_renamed, parts_renamed, queue_ended_renamed, service_renamed, sessions_ended_renamed, with_client_renamed, without_queue_renamed}
 use Rattle.aom_determined.proofs.Turning.{turns_so, writes_turn_so, answers_so}
 use Rattle.aom_determined.specs.Laws.{NamesMeanNothing}
-use Rattle.aom_determined.specs.Names.{IsOneToOne, renamed, renamed_cells, renamed_choice, renamed_dispatch, renamed_frame, renamed_object, renamed_outcome, renamed_seat, renamed_tasks, renamed_heard}
+use Rattle.aom_determined.specs.Names.{IsOneToOne, renamed, renamed_cells, renamed_choice, renamed_clients, renamed_queue, renamed_stage, renamed_dispatch, renamed_frame, renamed_object, renamed_outcome, renamed_seat, renamed_tasks, renamed_heard}
 
 module _ (names : ℕ → ℕ) (one_to_one : IsOneToOne names) where
   resumed_renamed : (ts : List Task) → resumed (renamed_tasks names ts) ≡ renamed_tasks names (resumed ts)
@@ -28,6 +32,7 @@ module _ (names : ℕ → ℕ) (one_to_one : IsOneToOne names) where
   resumed_renamed (Run fr ∷ ts) = refl
   resumed_renamed (Trapped ∷ ts) = refl
   resumed_renamed (Destroy ∷ ts) = refl
+  resumed_renamed (Closing ∷ ts) = refl
   resumed_renamed (Unwind code ∷ ts) = refl
   resumed_renamed (Dispatched d ∷ ts) = refl
 
@@ -40,15 +45,67 @@ module _ (names : ℕ → ℕ) (one_to_one : IsOneToOne names) where
       ∙ ap (guarded (needs p c fr ts s i)) (does_renamed names one_to_one p c fr ts s i)
       ∙ guarded_renamed names (needs p c fr ts s i) (does p c fr ts s i)
 
+  -- ---- a cell goes
+
+  needs_gone_kept : (o : Object) (cs : List Cell) → needs_gone (without_queue (names o.name) (renamed_cells names cs)) (renamed_object names o) ≡ needs_gone (without_queue o.name cs) o
+  needs_gone_kept o cs =
+      ap (λ l. needs_gone l (renamed_object names o)) (without_queue_renamed names one_to_one o.name cs)
+      ∙ rw (owns_nothing_kept names one_to_one (without_queue o.name cs) o.name, requested_kept names one_to_one (without_queue o.name cs) o.name)
+
+  vanished_renamed : (o : Object) (ts : List Task) (s : State) → vanished (renamed_object names o) (renamed_tasks names ts) (renamed names s) ≡ renamed names (vanished o ts s)
+  vanished_renamed o ts s =
+      let v = service_of s.cells o.name in
+      let left = without_queue o.name s.cells in
+      let cells : each_unslotted v.sessions (without (Going (length (renamed_tasks names ts))) (without_queue (names o.name) (renamed_cells names s.cells))) ≡ renamed_cells names (each_unslotted v.sessions (without (Going (length ts)) left)) =
+      ap (λ n. each_unslotted v.sessions (without (Going n) (without_queue (names o.name) (renamed_cells names s.cells)))) (tasks_counted names ts)
+      ∙ ap (λ l. each_unslotted v.sessions (without (Going (length ts)) l)) (without_queue_renamed names one_to_one o.name s.cells)
+      ∙ ap (each_unslotted v.sessions) (without_renamed names one_to_one (Going (length ts)) left)
+      ∙ each_unslotted_renamed names v.sessions (without (Going (length ts)) left) in
+      let clients : sessions_ended v.sessions (queue_ended (renamed_queue names v.queue) (renamed_clients names s.clients)) ≡ renamed_clients names (sessions_ended v.sessions (queue_ended v.queue s.clients)) =
+      ap (sessions_ended v.sessions) (queue_ended_renamed names v.queue s.clients) ∙ sessions_ended_renamed names v.sessions (queue_ended v.queue s.clients) in
+      rw (service_renamed names one_to_one s.cells o.name, cells, clients, resumed_renamed ts)
+
   gone_renamed : (o : Option Object) (ts : List Task) (s : State) → gone (option_map (renamed_object names) o) (renamed_tasks names ts) (renamed names s) ≡ renamed_outcome names (gone o ts s)
   gone_renamed None ts s = refl
   gone_renamed (Some o) ts s =
-      rw (owns_nothing_kept names one_to_one s.cells o.name, requested_kept names one_to_one s.cells o.name, tasks_counted names ts, without_renamed names one_to_one (Going (length ts)) s.cells, resumed_renamed ts)
-      (guarded_renamed names (needs_gone s.cells o) (record s { cells = without (Going (length ts)) s.cells; tasks = resumed ts }))
+      ap (λ ns. guarded ns (vanished (renamed_object names o) (renamed_tasks names ts) (renamed names s))) (needs_gone_kept o s.cells)
+      ∙ ap (guarded (needs_gone (without_queue o.name s.cells) o)) (vanished_renamed o ts s)
+      ∙ guarded_renamed names (needs_gone (without_queue o.name s.cells) o) (vanished o ts s)
+
+  -- ---- the sessions of a server
+
+  parting_renamed : (p : Image) (o : Object) (x : Option Seat) (below : List Task) (s : State) → parting p (renamed_object names o) (option_map (renamed_seat names) x) (renamed_tasks names below) (renamed names s) ≡ renamed names (parting p o x below s)
+  parting_renamed p o None below s = ap (λ ts. record (renamed names s) { tasks = ts }) (destructed_renamed names p o (length s.items) below)
+  parting_renamed p o (Some x) below s =
+      let over = Closing ∷ Destroy ∷ below in
+      rw (tasks_counted names below, moved_renamed names one_to_one x.place (Going (length over)) s.cells, begun_renamed names p x.object (length s.items) over)
+
+  parting_from_renamed : (p : Image) (o : Option Object) (below : List Task) (s : State) → parting_from p (option_map (renamed_object names) o) (renamed_tasks names below) (renamed names s) ≡ renamed_outcome names (parting_from p o below s)
+  parting_from_renamed p None below s = refl
+  parting_from_renamed p (Some o) below s =
+      let sessions = (service_of s.cells o.name).sessions in
+      ap (λ v. Goes (parting p (renamed_object names o) (first_session (renamed_cells names s.cells) (names o.name) v.sessions) (renamed_tasks names below) (renamed names s))) (service_renamed names one_to_one s.cells o.name)
+      ∙ ap (λ x. Goes (parting p (renamed_object names o) x (renamed_tasks names below) (renamed names s))) (first_session_renamed names one_to_one s.cells o.name sessions)
+      ∙ ap Goes (parting_renamed p o (first_session s.cells o.name sessions) below s)
+
+  closing_renamed : (p : Image) (ts : List Task) (s : State) → closing p (renamed_tasks names ts) (renamed names s) ≡ renamed_outcome names (closing p ts s)
+  closing_renamed p (Destroy ∷ below) s =
+      ap (λ n. parting_from p (held (renamed_cells names s.cells) (Going n)) (renamed_tasks names below) (renamed names s)) (tasks_counted names below)
+      ∙ ap (λ o. parting_from p o (renamed_tasks names below) (renamed names s)) (held_renamed names one_to_one s.cells (Going (length below)))
+      ∙ parting_from_renamed p (held s.cells (Going (length below))) below s
+  closing_renamed p [] s = refl
+  closing_renamed p (Run fr ∷ ts) s = refl
+  closing_renamed p (Trapped ∷ ts) s = refl
+  closing_renamed p (Closing ∷ ts) s = refl
+  closing_renamed p (Unwind code ∷ ts) s = refl
+  closing_renamed p (Dispatched d ∷ ts) s = refl
 
   ended_by_renamed : (code : ℤ) (d : Dispatch) → ended_by code (renamed_dispatch names d) ≡ renamed_dispatch names (ended_by code d)
   ended_by_renamed code Of_main = refl
   ended_by_renamed code (Of_object x) = refl
+  ended_by_renamed code (Of_server x c Accepts) = refl
+  ended_by_renamed code (Of_server x c (Serves o)) = refl
+  ended_by_renamed code (Of_server x c _) = refl
   ended_by_renamed code _ = refl
 
   arrived_renamed :
@@ -91,6 +148,22 @@ module _ (names : ℕ → ℕ) (one_to_one : IsOneToOne names) where
   asking_renamed p None x code s = answered_renamed p code s
   asking_renamed p (Some m) x code s = refl
 
+  -- the end of a stage
+  stage_ends_renamed : (x : Seat) (c : ℕ) (stage : Stage) (s : State) → stage_ends (renamed_seat names x) c (renamed_stage names stage) (renamed names s) ≡ renamed names (stage_ends x c stage s)
+  stage_ends_renamed x c Accepts s = refl
+  stage_ends_renamed x c Accepted s = refl
+  stage_ends_renamed x c (Accept_left code) s = ap (λ l. served_so (renamed_seat names x) (record (renamed names s) { clients = l })) (with_client_renamed names c Unconnected s.clients)
+  stage_ends_renamed x c (Serves o) s = refl
+  stage_ends_renamed x c (Service_left code) s = ap (λ cs. served_so (renamed_seat names x) (record (renamed names s) { cells = cs })) (without_renamed names one_to_one (Elsewhere In_service) s.cells)
+  stage_ends_renamed x c Parts s =
+      ap (λ cs. served_so (renamed_seat names x) (record (renamed names s) { cells = cs; clients = with_client c (at_parting (client_at (renamed_clients names s.clients) c)) (renamed_clients names s.clients) })) (parts_renamed names one_to_one c x.object.name s.cells)
+      ∙ ap (λ l. served_so (renamed_seat names x) (record (renamed names s) { cells = renamed_cells names (reserved (parted c) x.object.name s.cells); clients = l })) (parted_client_renamed names c s.clients)
+
+  end_needs_kept : (d : Dispatch) (cs : List Cell) → needs_end (renamed_dispatch names d) (renamed_cells names cs) ≡ needs_end d cs
+  end_needs_kept (Of_server x c (Service_left code)) cs = ap (λ b. (b, CompletedTwice) ∷ []) (place_owns names one_to_one cs (Elsewhere In_service))
+  end_needs_kept (Of_server x c _) cs = refl
+  end_needs_kept _ cs = refl
+
   ends_renamed : (p : Image) (d : Dispatch) (s : State) → dispatch_ends p (renamed_dispatch names d) (renamed names s) ≡ renamed names (dispatch_ends p d s)
   ends_renamed p Of_main s =
       ap (λ o. main_ends p s.rest.stopped o (renamed names s)) (held_renamed names one_to_one s.cells (Elsewhere Root))
@@ -101,6 +174,7 @@ module _ (names : ℕ → ℕ) (one_to_one : IsOneToOne names) where
   ends_renamed p (Object_left x code) s = asking_renamed p (part_of p Answers x.object.thing) x code s
   ends_renamed p (Asks x) s = object_ends_renamed p s
   ends_renamed p (Answered x answer) s = answered_renamed p answer s
+  ends_renamed p (Of_server x c stage) s = stage_ends_renamed x c stage s
 
   task_renamed : (p : Image) (c : Choice) (s : State) (ts : List Task) → step_task p (renamed_choice names c) (renamed names s) (renamed_tasks names ts) ≡ renamed_outcome names (step_task p c s ts)
   task_renamed p c s [] = refl
@@ -111,7 +185,11 @@ module _ (names : ℕ → ℕ) (one_to_one : IsOneToOne names) where
       ∙ ap (λ o. gone o (renamed_tasks names ts) (renamed names s)) (held_renamed names one_to_one s.cells (Going (length ts)))
       ∙ gone_renamed (held s.cells (Going (length ts))) ts s
   task_renamed p c s (Unwind code ∷ ts) = unwound_renamed p code ts s s.items
-  task_renamed p c s (Dispatched d ∷ ts) = ap Goes (ends_renamed p d s)
+  task_renamed p c s (Closing ∷ ts) = closing_renamed p ts s
+  task_renamed p c s (Dispatched d ∷ ts) =
+      ap (λ ns. guarded ns (dispatch_ends p (renamed_dispatch names d) (renamed names s))) (end_needs_kept d s.cells)
+      ∙ ap (guarded (needs_end d s.cells)) (ends_renamed p d s)
+      ∙ guarded_renamed names (needs_end d s.cells) (dispatch_ends p d s)
 
   -- ---- what is counted and written
 

@@ -1,22 +1,26 @@
 -- A turn under other names: orders, priorities, times and numbers decide, so the same timer is due first, the same native is polled or killed, the same object is picked, and the lines are the same.
-use Rattle.std.proofs.Common.{Bool, List, None, Option, Some, [], ap, cond, false, refl, true, ℕ, ℤ, ◌∙◌, ◌∷◌, ◌≡◌, ◌||◌, subst, sym}
+use Rattle.std.proofs.Common.{Bool, List, None, Option, Some, [], ap, cond, false, refl, true, ℕ, ℤ, ◌∙◌, ◌∷◌, ◌≡◌, ◌||◌, length, subst, sym}
 use Rattle.std.specs.Prelude.{nat_le, option_map}
 use Rattle.aom_image.specs.Image.{Image}
-use Rattle.aom_image.specs.declared.method.Role.TheVariants.{Run as Handles}
+use Rattle.aom_image.specs.declared.method.Role.TheVariants.{Accept as Accepts_role, Run as Handles, Service as Attends}
 use Rattle.aom_image.specs.declared.method.Thing.{Thing}
 use Rattle.aom_image.specs.declared.method.Thing.TheVariants.{Message, Object as An_object_of}
 use Rattle.aom_sound.specs.Enlisted.{completed_with, on_request, part_of, recorded, taken_up, timed_out}
 use Rattle.aom_sound.specs.Natives.{all_bereaved, bereaved, is_outstanding_at}
-use Rattle.aom_sound.specs.Places.{Cell, Object, Request, Timer, requested, set_request}
-use Rattle.aom_sound.specs.State.{CompletedTwice, Seat, State, guarded}
-use Rattle.aom_sound.specs.World.{Candidate, Completes, Completion, Cuts, Heard, Hears, Kills, Outside, Picks, Polls, Timed, Turning, among_ready, among_timers, answered_by, before_others, by_event, by_timer, cell_at, delivers, dispatched, due_of, first_due, first_ready, goes_before, has_signal, is_ready, is_sooner, lives, nearer, next_event, next_native, next_time, nothing_heard, passes, past_native, picks, polled, polls, run_line, signals, sooner, time_of, turn, turned, turning, with_request, written_by, written_turn, AnswersWell}
+use Rattle.aom_sound.specs.Places.{Asked, Cell, Close_of, Connect_of, Elsewhere, Going, In_service, Message_of, Object, Queued, Request, Session, Timer, held, requested, service_of, set_request}
+use Rattle.aom_sound.specs.Servers.{is_server}
+use Rattle.aom_sound.specs.State.{CompletedTwice, Dispatched, Goes, Of_server, Parts, Seat, State, guarded}
+use Rattle.aom_sound.specs.World.{Candidate, Completes, Completion, Cuts, Heard, Hears, Kills, Obeys, Outside, Picks, Polls, Timed, Turning, accepting, among_ready, among_timers, answered_by, attended, attending, before_others, by_event, by_timer, cell_at, delivers, dispatched, due_of, first_due, first_ready, goes_before, goes_now, has_signal, heard_one, is_ready, is_signalled, is_sooner, lives, message_words, nearer, next_event, next_native, next_time, nothing_heard, parting_with, passes, past_native, picked, picks, polled, polls, run_line, serves_first, signals, sooner, taken_from, time_of, turn, turned, turning, with_request, written_by, written_turn, AnswersWell}
 use Rattle.aom_transcript.specs.declared.event.Event.{Event}
 use Rattle.aom_transcript.specs.declared.event.Event.TheVariants.{Kill, Tell}
 use Rattle.aom_transcript.specs.declared.event.TimedEvent.{TimedEvent}
-use Rattle.aom_determined.proofs.Cells.{cell_at_renamed, cond_applied, cond_mapped, each_renamed, requested_kept, set_request_renamed}
+use Rattle.aom_determined.proofs.Cells.{cell_at_renamed, cond_applied, cond_mapped, each_renamed, held_renamed, moved_renamed, requested_kept, set_request_renamed, word_field_kept}
+use Rattle.aom_determined.proofs.Commands.{commanded_renamed}
+use Rattle.aom_determined.proofs.Doing.{begun_renamed}
+use Rattle.aom_determined.proofs.Serving.{more_kept, service_renamed, takes_renamed}
 use Rattle.aom_determined.proofs.Needs.{guarded_renamed}
 use Rattle.aom_determined.specs.Hearing.{is_polling}
-use Rattle.aom_determined.specs.Names.{IsOneToOne, renamed, renamed_cell, renamed_cells, renamed_heard, renamed_object, renamed_outcome, renamed_seat}
+use Rattle.aom_determined.specs.Names.{IsOneToOne, renamed, renamed_cell, renamed_cells, renamed_heard, renamed_object, renamed_outcome, renamed_queue, renamed_seat}
 
 module _ (names : ℕ → ℕ) where
   abbrev renamed_timed : Timed → Timed
@@ -29,6 +33,7 @@ module _ (names : ℕ → ℕ) where
   renamed_turning Cuts = Cuts
   renamed_turning (Completes o) = Completes (renamed_object names o)
   renamed_turning (Picks x) = Picks (renamed_seat names x)
+  renamed_turning (Obeys client command name) = Obeys client command (names name)
   renamed_turning t = t
 
   -- ---- timers
@@ -53,9 +58,13 @@ module _ (names : ℕ → ℕ) where
 
   -- ---- signals
 
+  signals_kept : (c : Cell) (r : Option Request) → signals (renamed_cell names c) r ≡ signals c r
+  signals_kept c None = refl
+  signals_kept c (Some r) = ap (λ b. is_signalled r || b) (more_kept names c.service.queue)
+
   signal_kept : (cs : List Cell) → has_signal (renamed_cells names cs) ≡ has_signal cs
   signal_kept [] = refl
-  signal_kept (c ∷ cs) = ap (λ b. signals c.request || b) (signal_kept cs)
+  signal_kept (c ∷ cs) = ap (λ b. b || has_signal (renamed_cells names cs)) (signals_kept c c.request) ∙ ap (λ b. signals c c.request || b) (signal_kept cs)
 
   before_renamed : (a : Candidate) (b : Option Candidate) → before_others (renamed_candidate a) (option_map renamed_candidate b) ≡ renamed_candidate (before_others a b)
   before_renamed a None = refl
@@ -65,8 +74,9 @@ module _ (names : ℕ → ℕ) where
   among_renamed c None others = refl
   among_renamed c (Some r) others =
       let a : Candidate = record { seat = record { object = c.object; place = c.owner }; request = r } in
-      ap (λ x. cond (is_ready r) (Some x) (option_map renamed_candidate others)) (before_renamed a others)
-      ∙ cond_mapped renamed_candidate (is_ready r) (before_others a others) others
+      ap (λ b. cond (is_ready r || b) (Some (before_others (renamed_candidate a) (option_map renamed_candidate others))) (option_map renamed_candidate others)) (more_kept names c.service.queue)
+      ∙ ap (λ x. cond (goes_now c r) (Some x) (option_map renamed_candidate others)) (before_renamed a others)
+      ∙ cond_mapped renamed_candidate (goes_now c r) (before_others a others) others
 
   ready_renamed : (cs : List Cell) → first_ready (renamed_cells names cs) ≡ option_map renamed_candidate (first_ready cs)
   ready_renamed [] = refl
@@ -91,11 +101,11 @@ module _ (names : ℕ → ℕ) where
   picks_renamed false ready next = passes_renamed next
 
   -- of a state where all natives are polled
-  abbrev picked : Outside → State → Turning
-  picked outside s = picks (has_signal s.cells) (first_ready s.cells) (next_time outside s)
+  abbrev picking : Outside → State → Turning
+  picking outside s = picks (has_signal s.cells) (first_ready s.cells) (next_time outside s)
 
-  picked_renamed : (outside : Outside) (s : State) → picked outside (renamed names s) ≡ renamed_turning (picked outside s)
-  picked_renamed outside s =
+  picking_renamed : (outside : Outside) (s : State) → picking outside (renamed names s) ≡ renamed_turning (picking outside s)
+  picking_renamed outside s =
       ap (λ b. picks b (first_ready (renamed_cells names s.cells)) (next_time outside (renamed names s))) (signal_kept s.cells)
       ∙ ap (λ x. picks (has_signal s.cells) x (next_time outside (renamed names s))) (ready_renamed s.cells)
       ∙ ap (picks (has_signal s.cells) (option_map renamed_candidate (first_ready s.cells))) (time_kept outside s)
@@ -122,10 +132,10 @@ module _ (names : ℕ → ℕ) where
   pub turning_renamed : (outside : Outside) (heard : Heard) (s : State) → turning outside (renamed_heard names heard) (renamed names s) ≡ renamed_turning (turning outside heard s)
   turning_renamed outside heard s =
       let cut = nat_le outside.limit s.rest.dispatches in
-      let polled = polls (next_native outside s) heard.completion (picked outside s) in
+      let polled = polls (next_native outside s) heard.completion (picking outside s) in
       let delivered = by_event outside s (next_event outside s) polled in
-      ap (λ t. cond cut Cuts (by_timer s (first_due (renamed_cells names s.cells)) (by_event outside s (next_event outside s) (polls (next_native outside s) heard.completion t)))) (picked_renamed outside s)
-      ∙ ap (λ t. cond cut Cuts (by_timer s (first_due (renamed_cells names s.cells)) (by_event outside s (next_event outside s) t))) (polls_renamed (next_native outside s) heard.completion (picked outside s))
+      ap (λ t. cond cut Cuts (by_timer s (first_due (renamed_cells names s.cells)) (by_event outside s (next_event outside s) (polls (next_native outside s) heard.completion t)))) (picking_renamed outside s)
+      ∙ ap (λ t. cond cut Cuts (by_timer s (first_due (renamed_cells names s.cells)) (by_event outside s (next_event outside s) t))) (polls_renamed (next_native outside s) heard.completion (picking outside s))
       ∙ ap (λ t. cond cut Cuts (by_timer s (first_due (renamed_cells names s.cells)) t)) (by_event_renamed outside s (next_event outside s) polled)
       ∙ ap (λ x. cond cut Cuts (by_timer s x (renamed_turning delivered))) (due_renamed s.cells)
       ∙ ap (cond cut Cuts) (by_timer_renamed s (first_due s.cells) delivered)
@@ -151,6 +161,66 @@ module _ (names : ℕ → ℕ) (one_to_one : IsOneToOne names) where
   dispatched_renamed None x s = refl
   dispatched_renamed (Some m) x s = rw (request_renamed taken_up x.object s.cells)
 
+  -- ---- the dispatch of a server
+
+  taken_from_renamed : (n : ℕ) (s : State) → taken_from (names n) (renamed names s) ≡ renamed names (taken_from n s)
+  taken_from_renamed n s = ap (λ cs. record (taken_from (names n) (renamed names s)) { cells = cs }) (takes_renamed names one_to_one n s.cells)
+
+  accepting_renamed : (m : Option ℕ) (x : Seat) (c : ℕ) (s : State) → accepting m (renamed_seat names x) c (renamed names s) ≡ renamed_outcome names (accepting m x c s)
+  accepting_renamed None x c s = refl
+  accepting_renamed (Some m) x c s = refl
+
+  words_kept : (cs : List Cell) (m : ℕ) → message_words (renamed_cells names cs) (names m) ≡ message_words cs m
+  words_kept cs m = rw (
+    word_field_kept names one_to_one cs m 0,
+    word_field_kept names one_to_one cs m 1,
+    word_field_kept names one_to_one cs m 2,
+    word_field_kept names one_to_one cs m 3,
+    word_field_kept names one_to_one cs m 4,
+  )
+
+  attending_renamed : (method : Option ℕ) (x : Seat) (c : ℕ) (o : Object) (m : ℕ) (s : State) → attending method (renamed_seat names x) c (renamed_object names o) (names m) (renamed names s) ≡ renamed_outcome names (attending method x c o m s)
+  attending_renamed None x c o m s = refl
+  attending_renamed (Some method) x c o m s = rw (words_kept s.cells m, moved_renamed names one_to_one (Elsewhere (Queued x.object.name m)) (Elsewhere In_service) s.cells)
+
+  attended_renamed : (p : Image) (x : Seat) (c : ℕ) (o : Option Object) (m : ℕ) (s : State) → attended p (renamed_seat names x) c (option_map (renamed_object names) o) (names m) (renamed names s) ≡ renamed_outcome names (attended p x c o m s)
+  attended_renamed p x c None m s = refl
+  attended_renamed p x c (Some o) m s = attending_renamed (part_of p Attends o.thing) x c o m s
+
+  parting_renamed : (p : Image) (x : Seat) (c : ℕ) (o : Option Object) (s : State) → parting_with p (renamed_seat names x) c (option_map (renamed_object names) o) (renamed names s) ≡ renamed_outcome names (parting_with p x c o s)
+  parting_renamed p x c None s = refl
+  parting_renamed p x c (Some o) s = rw (moved_renamed names one_to_one (Elsewhere (Session x.object.name c)) (Going 1) s.cells, begun_renamed names p o (length s.items) (Dispatched (Of_server x c Parts) ∷ []))
+
+  -- the session of a client
+  session_renamed : (n c : ℕ) (cs : List Cell) → held (renamed_cells names cs) (Elsewhere (Session (names n) c)) ≡ option_map (renamed_object names) (held cs (Elsewhere (Session n c)))
+  session_renamed n c cs = held_renamed names one_to_one cs (Elsewhere (Session n c))
+
+  serves_renamed : (p : Image) (x : Seat) (es : List Asked) (s : State) → serves_first p (renamed_seat names x) (renamed_queue names es) (renamed names s) ≡ renamed_outcome names (serves_first p x es s)
+  serves_renamed p x [] s = refl
+  serves_renamed p x (Connect_of c ∷ es) s =
+      let m = part_of p Accepts_role x.object.thing in
+      ap (accepting m (renamed_seat names x) c) (taken_from_renamed x.object.name s) ∙ accepting_renamed m x c (taken_from x.object.name s)
+  serves_renamed p x (Message_of c m ∷ es) s =
+      let o = held s.cells (Elsewhere (Session x.object.name c)) in
+      ap (λ y. attended p (renamed_seat names x) c y (names m) (taken_from (names x.object.name) (renamed names s))) (session_renamed x.object.name c s.cells)
+      ∙ ap (attended p (renamed_seat names x) c (option_map (renamed_object names) o) (names m)) (taken_from_renamed x.object.name s)
+      ∙ attended_renamed p x c o m (taken_from x.object.name s)
+  serves_renamed p x (Close_of c ∷ es) s =
+      let o = held s.cells (Elsewhere (Session x.object.name c)) in
+      ap (λ y. parting_with p (renamed_seat names x) c y (taken_from (names x.object.name) (renamed names s))) (session_renamed x.object.name c s.cells)
+      ∙ ap (parting_with p (renamed_seat names x) c (option_map (renamed_object names) o)) (taken_from_renamed x.object.name s)
+      ∙ parting_renamed p x c o (taken_from x.object.name s)
+
+  picked_renamed : (p : Image) (x : Seat) (s : State) → picked p (renamed_seat names x) (renamed names s) ≡ renamed_outcome names (picked p x s)
+  picked_renamed p x s =
+      let serves = is_server p x.object.thing in
+      let m = part_of p Handles x.object.thing in
+      let es = (service_of s.cells x.object.name).queue in
+      ap (λ v. cond serves (serves_first p (renamed_seat names x) v.queue (renamed names s)) (dispatched m (renamed_seat names x) (renamed names s))) (service_renamed names one_to_one s.cells x.object.name)
+      ∙ ap (λ o. cond serves o (dispatched m (renamed_seat names x) (renamed names s))) (serves_renamed p x es s)
+      ∙ ap (cond serves (renamed_outcome names (serves_first p x es s))) (dispatched_renamed m x s)
+      ∙ cond_applied (renamed_outcome names) serves (serves_first p x es s) (dispatched m x s)
+
   -- a native completes what a cell has outstanding, or is killed
   answered_renamed : (p : Image) (n : ℕ) (c : Option Cell) (code : ℤ) (s : State) → answered_by p n (option_map (renamed_cell names) c) code (renamed names s) ≡ renamed_outcome names (answered_by p n c code s)
   answered_renamed p n None code s = refl
@@ -170,7 +240,8 @@ module _ (names : ℕ → ℕ) (one_to_one : IsOneToOne names) where
   turned_renamed p s (Completes o) = rw (request_renamed timed_out o s.cells)
   turned_renamed p s (Kills n) = rw (bereaved_renamed p n s.cells)
   turned_renamed p s (Polls n answer) = polled_renamed p n answer s
-  turned_renamed p s (Picks x) = dispatched_renamed (part_of p Handles x.object.thing) x s
+  turned_renamed p s (Picks x) = picked_renamed p x s
+  turned_renamed p s (Obeys client command name) = ap Goes (commanded_renamed names one_to_one p client (heard_one s) command name)
   turned_renamed p s _ = refl
 
   pub turns_so : (p : Image) (outside : Outside) (heard : Heard) (s : State) → turn p outside (renamed_heard names heard) (renamed names s) ≡ renamed_outcome names (turn p outside heard s)

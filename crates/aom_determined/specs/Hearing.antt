@@ -1,5 +1,5 @@
 -- What is heard of natives: where one answers, where one is polled, and what a run hears.
-use Rattle.std.specs.Prelude.{ℕ, suc, ℤ, Bool, true, false, ◌≡◌, List, ◌∷◌, Option, Some, None}
+use Rattle.std.specs.Prelude.{ℕ, suc, ℤ, Bool, true, false, ◌≡◌, List, ◌∷◌, Option, Some}
 use Rattle.aom_image.specs.Image.{Image}
 use Rattle.aom_image.specs.Views.{instr_at}
 use Rattle.aom_image.specs.declared.class.ClassKind.{ClassKind}

@@ -1,16 +1,19 @@
 -- The laws of names, and that the text of a run is determined.
-use Rattle.std.specs.Prelude.{ℕ, true, ◌≡◌, ◌⊎◌, List, ◌++◌, Option, None}
+use Rattle.std.specs.Prelude.{ℕ, true, ◌≡◌, ◌⊎◌, List, ◌++◌, None}
 use Rattle.aom_image.specs.Image.{Image}
 use Rattle.aom_image.specs.WellFormed.{WellFormed}
 use Rattle.aom_rules.specs.Typing.{Typing, IsTyped}
-use Rattle.aom_sound.specs.State.{State, Choice}
+use Rattle.aom_sound.specs.Kept.{IsKept}
+use Rattle.aom_sound.specs.Places.{named}
+use Rattle.aom_sound.specs.State.{State, Choice, Goes}
 use Rattle.aom_sound.specs.Moves.{step, written, IsOpen}
 use Rattle.aom_sound.specs.WellTyped.{WellTyped}
-use Rattle.aom_sound.specs.World.{boot_state, Heard, nothing_heard, Reaches, Run_of, Outside, turn, turning, written_turn, HearsWell}
+use Rattle.aom_sound.specs.World.{boot_state, Heard, nothing_heard, Reaches, Run_of, Outside, turn, turning, written_turn, HearsWell, IsBetween}
 use Rattle.aom_sound.specs.Laws.{IsWired}
 use Rattle.aom_transcript.specs.declared.line.Line.{Line}
 use Rattle.aom_transcript.specs.declared.line.Ending.{Ending}
 use Rattle.aom_determined.specs.Hearing.{HasNoNative, Oracle, Follows, is_heard, is_polling}
+use Rattle.aom_determined.specs.There.{AllThere}
 use Rattle.aom_determined.specs.Names.{IsOneToOne, renamed, renamed_choice, renamed_heard, renamed_outcome, AreAlike, AlikeOutcomes}
 
 -- of any state, well typed or not: under other names the same moves are open to it, and its turns may hear the same; it moves to the same state under these names, or is stuck alike, and writes the same; and so does a turn
@@ -23,19 +26,27 @@ pub record NamesMeanNothing : Type 0 where
   pub hears : (p : Image) (outside : Outside) (heard : Heard) (names : ℕ → ℕ) → IsOneToOne names → (s : State) → HearsWell p outside heard s → HearsWell p outside (renamed_heard names heard) (renamed names s)
   pub writes_turn : (outside : Outside) (names : ℕ → ℕ) → IsOneToOne names → (s : State) → written_turn outside (renamed names s) ≡ written_turn outside s
 
--- two states that are the same but for names, of which one is well typed, move alike, each with any free name for a new cell, and write the same, where both hear the same of a native that answers
+-- two states that are the same but for names, of which one is well typed, keeps what clients have, and has what they say, move alike, each with any free name for a new cell, and write the same, where both hear the same of a native that answers
 abbrev pub MovesStayAlike : Type 0
 MovesStayAlike =
     (p : Image) (t : Typing) (refused : List ℕ) (c d : Choice) (s u : State) →
-    WellTyped p t u → AreAlike s u → IsOpen p refused c s → IsOpen p refused d u → (is_heard p s.tasks ≡ true → c.answer ≡ d.answer) →
+    WellTyped p t u → IsKept p u → AllThere u → AreAlike s u → IsOpen p refused c s → IsOpen p refused d u → (is_heard p s.tasks ≡ true → c.answer ≡ d.answer) →
     AlikeOutcomes (step p c s) (step p d u) × (written p s ≡ written p u)
 
--- and two such states, well typed or not, turn alike, each with any name for what the turn makes, and write the same, where a native that is polled completes the same
+-- and two such states turn alike, each with any free name for what the turn makes, and write the same, where a native that is polled completes the same
 abbrev pub TurnsStayAlike : Type 0
 TurnsStayAlike =
-    (p : Image) (outside : Outside) (heard other : Heard) (s u : State) →
-    AreAlike s u → (is_polling (turning outside nothing_heard s) ≡ true → heard.completion ≡ other.completion) →
+    (p : Image) (t : Typing) (outside : Outside) (heard other : Heard) (s u : State) →
+    WellTyped p t u → IsKept p u → AllThere u → AreAlike s u → named s.cells heard.name ≡ None → named u.cells other.name ≡ None → (is_polling (turning outside nothing_heard s) ≡ true → heard.completion ≡ other.completion) →
     AlikeOutcomes (turn p outside heard s) (turn p outside other u) × (written_turn outside s ≡ written_turn outside u)
+
+-- what clients and the dispatch at hand say is of cells that are there in each state of a run
+pub record AllStaysThere : Type 0 where
+  pub boot : (p : Image) → AllThere (boot_state p)
+  pub moves : (p : Image) (t : Typing) → IsWired p → IsTyped p t → (c : Choice) (s u : State) → WellTyped p t s → named s.cells c.name ≡ None → IsKept p s → AllThere s → step p c s ≡ Goes u → AllThere u
+  pub turns :
+      (p : Image) (t : Typing) (outside : Outside) → IsWired p → IsTyped p t → (heard : Heard) (s u : State) →
+      WellTyped p t s → IsBetween s → HearsWell p outside heard s → IsKept p s → AllThere s → turn p outside heard s ≡ Goes u → AllThere u
 
 -- lines that may go on to others
 abbrev pub Begins : List Line → List Line → Type 0

@@ -1,3 +1,4 @@
 pub mod Names
+pub mod There
 pub mod Hearing
 pub mod Laws

@@ -1,7 +1,9 @@
 -- A state under other names: each cell has another name, and whatever names a cell says the new one.
 use Rattle.std.specs.Prelude.{ℕ, ◌≡◌, List, map}
-use Rattle.aom_sound.specs.Places.{Place, Register, Entry, Field, Going, Elsewhere, Other, Root, Session, In_service, Queued, Object, Cell}
-use Rattle.aom_sound.specs.State.{Home, Static, AtRoot, Inside, Frame, Seat, Dispatch, Of_main, Main_left, Of_root, Of_object, Object_left, Asks, Answered, Task, Run, Trapped, Destroy, Unwind, Dispatched, State, Choice, Outcome, Goes, IsStuck}
+use Rattle.aom_clients.specs.declared.client.Client.{Client}
+use Rattle.aom_clients.specs.declared.client.Client.TheVariants.{Unconnected, Connecting, Open, Closing as Closing_client, Gone, Dead, Dying}
+use Rattle.aom_sound.specs.Places.{Place, Register, Entry, Field, Going, Elsewhere, Other, Root, Session, In_service, Queued, Object, Asked, Connect_of, Message_of, Close_of, Service, Cell}
+use Rattle.aom_sound.specs.State.{Home, Static, AtRoot, Inside, Frame, Seat, Stage, Accepts, Accepted, Accept_left, Serves, Service_left, Parts, Dispatch, Of_main, Main_left, Of_root, Of_object, Object_left, Asks, Answered, Of_server, Task, Run, Trapped, Destroy, Closing, Unwind, Dispatched, State, Choice, Outcome, Goes, IsStuck}
 use Rattle.aom_sound.specs.World.{Heard}
 
 -- two names stay two
@@ -27,8 +29,20 @@ module _ (names : ℕ → ℕ) where
   renamed_place (Going k) = Going k
   renamed_place (Elsewhere o) = Elsewhere (renamed_other o)
 
+  -- clients have numbers of their own, and a message that waits has its cell's name
+  abbrev pub renamed_asked : Asked → Asked
+  renamed_asked (Connect_of c) = Connect_of c
+  renamed_asked (Message_of c m) = Message_of c (names m)
+  renamed_asked (Close_of c) = Close_of c
+
+  abbrev pub renamed_queue : List Asked → List Asked
+  renamed_queue es = map renamed_asked es
+
+  abbrev pub renamed_service : Service → Service
+  renamed_service v = record v { queue = renamed_queue v.queue }
+
   abbrev pub renamed_cell : Cell → Cell
-  renamed_cell c = record c { object = renamed_object c.object; owner = renamed_place c.owner }
+  renamed_cell c = record c { object = renamed_object c.object; service = renamed_service c.service; owner = renamed_place c.owner }
 
   abbrev pub renamed_cells : List Cell → List Cell
   renamed_cells cs = map renamed_cell cs
@@ -45,6 +59,15 @@ module _ (names : ℕ → ℕ) where
   abbrev pub renamed_seat : Seat → Seat
   renamed_seat x = record { object = renamed_object x.object; place = renamed_place x.place }
 
+  -- the session that serves
+  abbrev pub renamed_stage : Stage → Stage
+  renamed_stage Accepts = Accepts
+  renamed_stage Accepted = Accepted
+  renamed_stage (Accept_left code) = Accept_left code
+  renamed_stage (Serves o) = Serves (renamed_object o)
+  renamed_stage (Service_left code) = Service_left code
+  renamed_stage Parts = Parts
+
   -- a dispatch of main has no seat
   abbrev pub renamed_dispatch : Dispatch → Dispatch
   renamed_dispatch Of_main = Of_main
@@ -54,20 +77,35 @@ module _ (names : ℕ → ℕ) where
   renamed_dispatch (Object_left x code) = Object_left (renamed_seat x) code
   renamed_dispatch (Asks x) = Asks (renamed_seat x)
   renamed_dispatch (Answered x answer) = Answered (renamed_seat x) answer
+  renamed_dispatch (Of_server x client stage) = Of_server (renamed_seat x) client (renamed_stage stage)
 
   abbrev pub renamed_task : Task → Task
   renamed_task (Run fr) = Run (renamed_frame fr)
   renamed_task Trapped = Trapped
   renamed_task Destroy = Destroy
+  renamed_task Closing = Closing
   renamed_task (Unwind code) = Unwind code
   renamed_task (Dispatched d) = Dispatched (renamed_dispatch d)
 
   abbrev pub renamed_tasks : List Task → List Task
   renamed_tasks ts = map renamed_task ts
 
+  -- a client says which server it is at; which cell its session is stands at the session's place
+  abbrev pub renamed_client : Client → Client
+  renamed_client Unconnected = Unconnected
+  renamed_client (Connecting server slots) = Connecting (names server) slots
+  renamed_client (Open server session slots) = Open (names server) session slots
+  renamed_client (Closing_client server session) = Closing_client (names server) session
+  renamed_client Gone = Gone
+  renamed_client Dead = Dead
+  renamed_client (Dying server session) = Dying (names server) session
+
+  abbrev pub renamed_clients : List Client → List Client
+  renamed_clients clients = map renamed_client clients
+
   -- items and counts name no cell
   abbrev pub renamed : State → State
-  renamed s = record s { cells = renamed_cells s.cells; tasks = renamed_tasks s.tasks }
+  renamed s = record s { cells = renamed_cells s.cells; tasks = renamed_tasks s.tasks; clients = renamed_clients s.clients }
 
   abbrev pub renamed_choice : Choice → Choice
   renamed_choice c = record c { name = names c.name }

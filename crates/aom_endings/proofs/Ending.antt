@@ -5,6 +5,10 @@ use Rattle.std.proofs.lemmas.Bool.{ne_eqb}
 use Rattle.aom_image.specs.Image.{Image}
 use Rattle.aom_classes.specs.Linked.{IsLinked}
 use Rattle.aom_rules.specs.Typing.{Typing, IsTyped}
+use Rattle.aom_sound.proofs.Booting.{boot_keeps}
+use Rattle.aom_sound.proofs.ClientsKeep.{clients_keep}
+use Rattle.aom_sound.proofs.Course.{well_on}
+use Rattle.aom_sound.specs.Kept.{IsKept}
 use Rattle.aom_sound.proofs.Guarded.{goes_same}
 use Rattle.aom_sound.proofs.Steps.{step_keeps}
 use Rattle.aom_sound.proofs.Turning.{turn_goes_on}
@@ -122,6 +126,10 @@ module _ (p : Image) (t : Typing) (outside : Outside) (few : outside.limit ≤ 2
   abbrev Ends : ℕ → Type 0
   Ends n = (lines : List Line) (s : State) → spare outside.limit s < n → Reached lines s → WellTyped p t s → CanEnd p outside lines
 
+  -- what clients are at is kept
+  kept : (lines : List Line) (s : State) → Reached lines s → IsKept p s
+  kept lines s r = (well_on p t outside wired is_typed (boot_state p) (boot_keeps p t wired is_typed, clients_keep.boot p) lines s r).1
+
   -- the run is over: no more lines
   over : (lines : List Line) (s : State) (ending : Ending) → Reached lines s → s.rest.ended ≡ Some ending → CanEnd p outside lines
   over lines s ending r e = record { more = []; last = s; ending = ending; run = record { reaches = subst (λ ls. Reached ls s) (sym (append-nil lines)) r; ended = e } }
@@ -196,7 +204,7 @@ module _ (p : Image) (t : Typing) (outside : Outside) (few : outside.limit ≤ 2
   by_turns n (suc k) (suc j) ends lines s less few_natives spares r w between =
       let owed = hears_nothing p outside s in
       let heard = quiet s in
-      let next = leads_on p t (turn p outside heard s) (turn_goes_on p t outside wired is_typed heard s w between owed) in
+      let next = leads_on p t (turn p outside heard s) (turn_goes_on p t outside wired is_typed heard s w between owed (kept lines s r).fit) in
       further lines (written_turn outside s)
       (by_kind n k j ends (λ i. by_turns n k i ends) (by_turns n (suc k) j ends) (lines ++ written_turn outside s) s (omega (arith, less)) (omega (arith, few_natives)) spares w between
       (turning outside heard s) (kind_of outside s heard) next.0 next.1 (turns heard r between owed next.1) next.2)

@@ -1,18 +1,22 @@
 -- How many dispatches of objects there may still be: no move makes more of them.
-use Rattle.std.proofs.Common.{◌≡◌, ℕ, ◌<◌, ◌≤◌, ◌^◌, ◌-◌, ◌∙◌, Bool, true, false, [], Some, None, ap, arith, cond, refl}
+use Rattle.std.proofs.Common.{◌≡◌, ℕ, ◌<◌, ◌≤◌, ◌^◌, ◌-◌, ◌∙◌, ◌∷◌, Bool, true, false, [], Some, None, ap, arith, cond, refl}
 use Rattle.std.specs.Prelude.{is_some}
 use Rattle.aom_image.specs.Image.{Image}
 use Rattle.aom_image.specs.declared.method.Role.TheVariants.{Run as Handles}
 use Rattle.aom_image.specs.declared.method.Thing.{Thing}
 use Rattle.aom_image.specs.declared.method.Thing.TheVariants.{Message, Object as An_object_of}
+use Rattle.aom_roles.specs.Classes.{sessions_in}
+use Rattle.aom_roles.specs.Shapes.{kind_of}
 use Rattle.aom_sound.proofs.Counting.{dispatches_are_counted}
-use Rattle.aom_sound.proofs.Turned.{dispatched_so}
+use Rattle.aom_sound.proofs.Turned.{Picked, accepts, attends, dispatched_so, handles, parts, picked_rest, picked_so}
 use Rattle.aom_sound.specs.Counting.{restarts}
 use Rattle.aom_sound.specs.Enlisted.{part_of}
 use Rattle.aom_sound.specs.Moves.{step}
-use Rattle.aom_sound.specs.State.{Choice, Goes, Seat, State, raised}
-use Rattle.aom_sound.specs.World.{Picks, turned}
-use Rattle.aom_steps.proofs.Payers.{payers}
+use Rattle.aom_sound.specs.Places.{service_of}
+use Rattle.aom_sound.specs.Servers.{is_server}
+use Rattle.aom_sound.specs.State.{Choice, Dispatched, Goes, Of_server, Parts, Rest, Seat, State, raised}
+use Rattle.aom_sound.specs.World.{Picks, dispatched, serves_first, turned}
+use Rattle.aom_steps.proofs.Payers.{begun_payer, payers}
 use Rattle.aom_steps.specs.Payers.{class_of, payer}
 use Rattle.aom_endings.specs.Endings.{DispatchesAreSpent, one_where, spare}
 
@@ -30,21 +34,40 @@ moved_spares p limit most c s u goes = go (restarts p s.tasks) refl
         by_case true counts pays = omega (arith, counts, pays, one_at_most (is_some (payer s.tasks)), most)
         by_case false counts pays = omega (arith, counts, pays)
 
--- the dispatch of an object takes one of them
+-- the dispatch of an object, or of a server, takes one of them
 class_there : (p : Image) (t : Thing) (m : ℕ) → part_of p Handles t ≡ Some m → is_some (class_of t) ≡ true
 class_there p (An_object_of c) m e = refl
 class_there p Message m e = cc
 
+server_there : (p : Image) (t : Thing) → is_server p t ≡ true → is_some (class_of t) ≡ true
+unfolding sessions_in kind_of
+server_there p (An_object_of c) e = refl
+server_there p Message e = cc
+
+picked_class : (p : Image) (s u : State) (x : Seat) → turned p s (Picks x) ≡ Goes u → is_some (class_of x.object.thing) ≡ true
+picked_class p s u x goes = go (is_server p x.object.thing) refl goes
+  where
+    go : (b : Bool) → is_server p x.object.thing ≡ b → cond b (serves_first p x (service_of s.cells x.object.name).queue s) (dispatched (part_of p Handles x.object.thing) x s) ≡ Goes u → is_some (class_of x.object.thing) ≡ true
+    go true is e = server_there p x.object.thing is
+    go false is e = let d = dispatched_so p s u x e in class_there p x.object.thing d.0 d.1
+
+-- its class pays
+picked_payer : (p : Image) (s u : State) (x : Seat) → Picked p s x u → payer u.tasks ≡ class_of x.object.thing
+picked_payer p s u x d = elim d as (λ v d. payer v.tasks ≡ class_of x.object.thing) [
+  | handles m at ↦ refl
+  | accepts client m at ↦ refl
+  | attends client message m o there at ↦ refl
+  | parts client o there ↦ begun_payer p o _ (Dispatched (Of_server x client Parts) ∷ [])
+]
+
 pub picked_pays : (p : Image) (s u : State) (x : Seat) → turned p s (Picks x) ≡ Goes u → is_some (payer u.tasks) ≡ true
-picked_pays p s u x goes =
-    let d = dispatched_so p s u x goes in
-    ap (λ (v : State). is_some (payer v.tasks)) d.2 ∙ class_there p x.object.thing d.0 d.1
+picked_pays p s u x goes = ap is_some (picked_payer p s u x (picked_so p s u x goes)) ∙ picked_class p s u x goes
 
 pub picked_spares : (p : Image) (limit : ℕ) (s u : State) (x : Seat) → s.rest.dispatches < limit → s.tasks ≡ [] → turned p s (Picks x) ≡ Goes u → spare limit u < spare limit s
 picked_spares p limit s u x below idle goes =
     let one = ap one_where (picked_pays p s u x goes) in
     let none = ap (λ ts. one_where (is_some (payer ts))) idle in
-    omega (arith, below, one, none, ap (λ (v : State). v.rest.dispatches) (dispatched_so p s u x goes).2)
+    omega (arith, below, one, none, ap (λ (r : Rest). r.dispatches) (picked_rest p s u x goes))
 
 pub dispatches_are_spent : DispatchesAreSpent
 dispatches_are_spent = record { moves = moved_spares; picks = picked_spares }

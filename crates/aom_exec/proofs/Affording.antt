@@ -1,20 +1,19 @@
--- An image whose dispatches cost at most what it declares of them affords those of the objects of each of its classes.
+-- An image whose dispatches cost at most what it declares of them affords those of the objects and servers of each of its classes.
 use Rattle.std.proofs.Common.{Option, None, Some, arith, refl, true, ◌≡◌, ◌≤◌, ℕ}
 use Rattle.aom_image.specs.Image.{Image}
 use Rattle.aom_image.specs.Views.{class_at}
 use Rattle.aom_image.specs.declared.class.ClassDecl.{ClassDecl}
 use Rattle.aom_image.specs.declared.class.ClassKind.{ClassKind}
-use Rattle.aom_image.specs.declared.class.ClassKind.TheVariants.{Active}
-use Rattle.aom_image.specs.declared.method.Role.TheVariants.{Error, Run as Handles}
+use Rattle.aom_image.specs.declared.class.ClassKind.TheVariants.{Active, Plain, Server, Session}
+use Rattle.aom_image.specs.declared.method.Role.TheVariants.{Accept, Error, Run as Handles, Service}
 use Rattle.aom_classes.specs.Roles.{role_of}
 use Rattle.aom_roles.specs.Classes.{kind_in}
 use Rattle.aom_roles.specs.Shapes.{kind_of}
-use Rattle.aom_rules.specs.Requests.{is_active_kind}
 use Rattle.aom_prices.specs.Costs.{destructor_price}
 use Rattle.aom_prices.specs.Prices.{Prices, perhaps_price}
 use Rattle.aom_budget.specs.Budgets.{CostsWithin, class_declares, class_price, kind_declares, kind_price}
 use Rattle.aom_budget.specs.declared.fault.Payer.TheVariants.{Class}
-use Rattle.aom_steps.specs.Payers.{AffordsObjects, class_budget, object_price}
+use Rattle.aom_steps.specs.Payers.{AffordsObjects, class_budget, dispatch_price}
 
 -- the price of a method that may not be there
 same_price : (c : Prices) (m : Option ℕ) → perhaps_price c m ≡ destructor_price c m
@@ -22,16 +21,17 @@ same_price c None = refl
 same_price c (Some m) = refl
 
 module _ (p : Image) (c : Prices) (x : ℕ) where
-  of_kind : (k : ClassKind) → is_active_kind (Some k) ≡ true → ((most : ℕ) → kind_declares k ≡ Some most → kind_price p c x k ≤ most) → object_price p c x ≤ class_budget (Some k)
-  of_kind (Active provider budget) active within =
-      omega (arith, same_price c (role_of p x Handles), same_price c (role_of p x Error), within budget refl)
-  of_kind _ active within = cc
+  of_kind : (k : ClassKind) → ((most : ℕ) → kind_declares k ≡ Some most → kind_price p c x k ≤ most) → dispatch_price p c x (Some k) ≤ class_budget (Some k)
+  of_kind Plain within = omega arith
+  of_kind (Active provider budget) within = omega (arith, same_price c (role_of p x Handles), same_price c (role_of p x Error), within budget refl)
+  of_kind (Server most session budget) within = omega (arith, same_price c (role_of p x Accept), same_price c (role_of p session Service), within budget refl)
+  of_kind Session within = omega arith
 
-  of_class : (d : Option ClassDecl) → is_active_kind (kind_in d) ≡ true → ((most : ℕ) → class_declares d ≡ Some most → class_price p c x d ≤ most) → object_price p c x ≤ class_budget (kind_in d)
+  of_class : (d : Option ClassDecl) → ((most : ℕ) → class_declares d ≡ Some most → class_price p c x d ≤ most) → dispatch_price p c x (kind_in d) ≤ class_budget (kind_in d)
   unfolding kind_in
-  of_class None active within = cc
-  of_class (Some d) active within = of_kind d.kind active within
+  of_class None within = omega arith
+  of_class (Some d) within = of_kind d.kind within
 
 pub affords : (p : Image) (c : Prices) → CostsWithin p c → AffordsObjects p c
 unfolding kind_of
-affords p c within = record { each = λ x active. of_class p c x (class_at p x) active (λ most e. within (Class x) most e) }
+affords p c within = record { each = λ x. of_class p c x (class_at p x) (λ most e. within (Class x) most e) }

@@ -20,10 +20,10 @@ use Rattle.aom_shape.specs.declared.kind.Kind.TheVariants.{Maybe, Null, Own, Uns
 use Rattle.aom_sound.proofs.Items.{length_forms}
 use Rattle.aom_sound.proofs.Maps.{held_lives, one_place}
 use Rattle.aom_sound.proofs.Straight.{claim_field}
-use Rattle.aom_sound.specs.Claims.{Dispatching, Dying, Layer, Mark, Mark_form, Method, Object_form, Unwinding, claim, declared, declared_field, entry_claim, entry_form, form, forms, home_claim, is_of_root, items_of, objects, root_claim}
+use Rattle.aom_sound.specs.Claims.{Dispatching, Dying, Ending, Layer, Mark, Mark_form, Method, Object_form, Unwinding, claim, declared, declared_field, entry_claim, entry_form, form, forms, home_claim, is_of_root, items_of, objects, root_claim}
 use Rattle.aom_sound.specs.Owned.{over}
 use Rattle.aom_sound.specs.Places.{Cell, Elsewhere, Entry, Field, Object, Place, Register, Root, Sight, held, named, seen}
-use Rattle.aom_sound.specs.State.{An_object, AtRoot, Destroy, Dispatched, Frame, Home, Inside, Item, Run, State, Static, Task, Trapped, Unwind, field_place, thing_holder, word}
+use Rattle.aom_sound.specs.State.{An_object, AtRoot, Closing, Destroy, Dispatched, Frame, Home, Inside, Item, Run, State, Static, Task, Trapped, Unwind, field_place, thing_holder, word}
 use Rattle.aom_sound.specs.WellTyped.{Back, Caught, Fits, Gone, IsHoused, Leaves, Now, Returns, Stack, Good}
 use Rattle.aom_sound.proofs.Layers.{method_layer}
 use Rattle.aom_exec.specs.Agreement.{Agreement, AgreesInAll, FieldsAgree, NumberSays, RegistersAgree}
@@ -51,6 +51,7 @@ waits_under p t cs [] fr below w = w.0
 waits_under p t cs (Run g ∷ above) fr below w = waits_under p t cs above fr below w.1
 waits_under p t cs (Trapped ∷ above) fr below w = waits_under p t cs above fr below w
 waits_under p t cs (Destroy ∷ above) fr below w = waits_under p t cs above fr below w
+waits_under p t cs (Closing ∷ above) fr below w = waits_under p t cs above fr below w
 waits_under p t cs (Unwind code ∷ above) fr below w = waits_under p t cs above fr below w
 waits_under p t cs (Dispatched d ∷ above) fr below w = waits_under p t cs above fr below w
 
@@ -124,6 +125,14 @@ module _ (p : Image) (t : Typing) (cs : List Cell) (n : ℕ) (o : Option Object)
       go : (b : Bool) → (F (claim p (declared p cs) ls (Field x.name f)) → Declared x f) → F (cond b Null (claim p (declared p cs) ls (Field x.name f))) → Declared x f
       go true below fits = let thing = field_thing p (thing_holder x.thing) f in declared_says p (seen cs) thing Empty n o same (empty_fits p (seen cs) thing o fits)
       go false below fits = below fits
+  field_says x f lives (Ending y left ∷ ls) back st fits = go (y.name == x.name) refl (field_says x f lives ls Now st.3) fits
+    where
+      go : (b : Bool) → (y.name == x.name) ≡ b → (F (claim p (declared p cs) ls (Field x.name f)) → Declared x f) → F (cond b (filled (field_thing p (thing_holder y.thing) f) Perhaps) (claim p (declared p cs) ls (Field x.name f))) → Declared x f
+      go true e below fits =
+          let alike : y ≡ x = same_Some y x (sym st.0.lives ∙ ap (λ k. named cs k) (eqb-true y.name x.name e) ∙ lives) in
+          declared_says p (seen cs) (field_thing p (thing_holder x.thing) f) Perhaps n o same
+          (subst (λ (z : Object). F (filled (field_thing p (thing_holder z.thing) f) Perhaps)) alike fits)
+      go false e below fits = below fits
 
   root_says : (ls : List Layer) → F (claim p (declared p cs) ls (Elsewhere Root)) → RootDeclared
   root_says [] fits = declared_says p (seen cs) (field_thing p Program 0) Perhaps n o same fits
@@ -135,6 +144,7 @@ module _ (p : Image) (t : Typing) (cs : List Cell) (n : ℕ) (o : Option Object)
       go (Inside y from) below fits = below fits
   root_says (Mark gv ∷ ls) fits = root_says ls fits
   root_says (Dying y ∷ ls) fits = root_says ls fits
+  root_says (Ending y left ∷ ls) fits = root_says ls fits
   root_says (Unwinding code es ∷ ls) fits = root_says ls fits
   root_says (Dispatching d seats ∷ ls) fits = go (is_of_root d) (root_says ls) fits
     where
@@ -189,6 +199,7 @@ module _ (p : Image) (d : Place → Kind) (k : ℕ) where
   entries_own (Method fr sh ∷ ls) e = pushed_own sh.entries ls (entries_own ls) e
   entries_own (Unwinding code es ∷ ls) e = pushed_own es ls (entries_own ls) e
   entries_own (Dying o ∷ ls) e = entries_own ls e
+  entries_own (Ending o left ∷ ls) e = entries_own ls e
   entries_own (Dispatching d seats ∷ ls) e = entries_own ls e
   entries_own (Mark gv ∷ ls) e = let below : ClaimedOwn ls = entries_own ls in false_given (λ b. cond b (Some Mark_form) (over (items_of ls) k) ≡ Some Object_form) (length (items_of ls) == k) e (λ e. cc) (λ _ e. below e)
 

@@ -7,9 +7,9 @@ use Rattle.aom_sound.proofs.Moving.{steps_are_moves}
 use Rattle.aom_sound.proofs.Resting.{IsEnd, Takes, course_announced, move_rest}
 use Rattle.aom_image.specs.declared.method.Role.TheVariants.{Error as Answers}
 use Rattle.aom_sound.specs.Enlisted.{part_of}
-use Rattle.aom_sound.specs.Moves.{answered, asking, counted, dispatch_ends, failed, handled, main_ends, object_ends, step}
+use Rattle.aom_sound.specs.Moves.{answered, asking, counted, dispatch_ends, failed, handled, main_ends, object_ends, stage_ends, step}
 use Rattle.aom_sound.specs.Places.{Elsewhere, Object, Root, held}
-use Rattle.aom_sound.specs.State.{Answered, Asks, Choice, Dispatch, Goes, Main_left, Object_left, Of_main, Of_object, Of_root, Rest, Seat, State}
+use Rattle.aom_sound.specs.State.{Accept_left, Accepted, Accepts, Answered, Asks, Choice, Dispatch, Goes, Main_left, Object_left, Of_main, Of_object, Of_root, Of_server, Parts, Rest, Seat, Serves, Service_left, Stage, State}
 
 abbrev IsTold : State → Type 0
 IsTold s = s.rest.announced ≡ true
@@ -34,6 +34,14 @@ module _ (p : Image) (s : State) (told : IsTold s) where
   asking_told None x code = answer_told code
   asking_told (Some m) x code = told
 
+  stage_told : (x : Seat) (client : ℕ) (stage : Stage) → IsTold (stage_ends x client stage s)
+  stage_told x client Accepts = told
+  stage_told x client Accepted = told
+  stage_told x client (Accept_left code) = told
+  stage_told x client (Serves o) = told
+  stage_told x client (Service_left code) = told
+  stage_told x client Parts = told
+
   end_told : (d : Dispatch) → IsTold (dispatch_ends p d s)
   end_told Of_main = main_told p s told s.rest.stopped (held s.cells (Elsewhere Root))
   end_told (Main_left code) = told
@@ -42,6 +50,7 @@ module _ (p : Image) (s : State) (told : IsTold s) where
   end_told (Object_left x code) = asking_told (part_of p Answers x.object.thing) x code
   end_told (Asks x) = object_told
   end_told (Answered x answer) = answer_told answer
+  end_told (Of_server x client stage) = stage_told x client stage
 
 pub step_told : (p : Image) (c : Choice) (s u : State) → step p c s ≡ Goes u → u.rest.announced ≡ true
 step_told p c s u e = go (move_rest p c s u (steps_are_moves p c s u e))

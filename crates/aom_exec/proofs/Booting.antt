@@ -18,6 +18,7 @@ use Rattle.aom_budget.specs.Depths.{HasDepths}
 use Rattle.aom_budget.specs.Heights.{HasHeights}
 use Rattle.aom_sound.specs.Places.{Place, Register, Entry, Field, Going, Elsewhere, Root, Session, In_service, Queued}
 use Rattle.aom_sound.specs.Laws.{BootKeeps, StepKeeps, LinkedIsWired}
+use Rattle.aom_sound.proofs.ClientsKeep.{clients_keep}
 use Rattle.aom_sound.specs.Quiet.{CalmKeeps}
 use Rattle.aom_sound.specs.World.{main_tasks, boot_state}
 use Rattle.aom_prices.specs.Dispatches.{IsAffordable}
@@ -124,7 +125,7 @@ boots p m linked admitted (t, strongest, prices, affordable, costs) depths heigh
       prices = prices;
       affordable = affordable;
       objects = affords p prices costs;
-      pays = λ c s u well goes h. keeps_within p t prices linked strongest.typed affordable moves_pay c s u well goes h;
+      pays = λ c s u well kept goes h. keeps_within p t prices linked strongest.typed affordable moves_pay c s u well kept goes h;
     } in
     record {
       typing = t;
@@ -134,6 +135,7 @@ boots p m linked admitted (t, strongest, prices, affordable, costs) depths heigh
       traps = boots_at_traps p (main_of p);
       room = boot_room p t sound;
       waits = none_waits p t;
+      kept = clients_keep.boot p;
       within = boots_within p t prices linked strongest.typed affordable boot_within;
       agrees = boot_agrees p m booted;
     }

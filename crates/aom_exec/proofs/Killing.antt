@@ -14,6 +14,7 @@ use Rattle.aom_active.specs.Meanings.{Makes, asked_anew}
 use Rattle.aom_owed.specs.Owed.{serves, serves_object}
 use Rattle.aom_sessions.specs.Sessions.{Sets, Standing, is_open}
 use Rattle.aom_shape.specs.Tables.{at}
+use Rattle.aom_sound.proofs.ClientsTurn.{fit_same, same_bereaved}
 use Rattle.aom_sound.proofs.Counts.{count_bereaved}
 use Rattle.aom_sound.proofs.Storing.{bereaved_alike}
 use Rattle.aom_sound.proofs.Turning.{bereaved_well}
@@ -22,6 +23,7 @@ use Rattle.aom_sound.specs.Natives.{all_bereaved, bereaved, is_owed, is_served_b
 use Rattle.aom_sound.specs.Places.{Cell, Object, Request, in_session, named, requested, word_field}
 use Rattle.aom_sound.specs.State.{Rest, State}
 use Rattle.aom_sound.specs.World.{Kills, heard_one, without_native}
+use Rattle.aom_steps.specs.Left.{is_entry}
 use Rattle.aom_steps.proofs.Pushed.{reset_same}
 use Rattle.aom_transcript.specs.declared.line.Line.TheVariants.{Killed}
 use Rattle.aom_parts.specs.declared.parts.Parts.{Parts}
@@ -345,7 +347,8 @@ module _ (p : Image) (native : ℕ) (m b : Parts) (bereaves : Bereaves p native 
     killed_stands : s.tasks ≡ [] → StandsFor (record { image = p; parts = killed_parts }) (without_native p native (heard_one s))
     killed_stands idle =
         stands_as p m s st idle killed_parts cs (heard_one s).rest (s.killed ++ native ∷ []) (bereaved_well p st.typing s st.typed idle native (heard_one s).rest (s.killed ++ native ∷ []))
-        (reset_same st.sound.prices (λ c. (bereaved p native c).request) (λ c. (bereaved p native c).session) s.cells) refl killed_agrees
+        (fit_same p s.clients s.cells cs (same_bereaved p native s.cells) st.kept.fit)
+        (reset_same st.sound.prices is_entry (λ c. (bereaved p native c).request) (λ c. (bereaved p native c).session) s.cells) refl killed_agrees
 
     -- what the native served has no timer
     killed_timers : b.active.pending.timers ≡ m.active.pending.timers

@@ -5,6 +5,7 @@ use Rattle.aom_classes.specs.Linked.{IsLinked}
 use Rattle.aom_classes.specs.Roles.{main_of}
 use Rattle.aom_rules.specs.Typing.{IsTyped, Typing}
 use Rattle.aom_sound.specs.Counting.{restarts}
+use Rattle.aom_sound.specs.Kept.{IsKept}
 use Rattle.aom_sound.specs.Moves.{step}
 use Rattle.aom_sound.specs.State.{Choice, Goes, State}
 use Rattle.aom_sound.specs.WellTyped.{WellTyped}
@@ -17,21 +18,21 @@ use Rattle.aom_steps.specs.Payers.{declared_of, payer}
 use Rattle.aom_parts.specs.Stands.{KeepsWithin}
 
 module _ (p : Image) (t : Typing) (c : Prices) (linked : IsLinked p) (typed : IsTyped p t) (affordable : IsAffordable p t c) where
-  pub keeps_within : MovesPay → (ch : Choice) (s u : State) → WellTyped p t s → step p ch s ≡ Goes u → KeepsWithin p c s → KeepsWithin p c u
-  keeps_within moves_pay ch s u well goes h = go (restarts p s.tasks) refl
+  pub keeps_within : MovesPay → (ch : Choice) (s u : State) → WellTyped p t s → IsKept p s → step p ch s ≡ Goes u → KeepsWithin p c s → KeepsWithin p c u
+  keeps_within moves_pay ch s u well kept goes h = go (restarts p s.tasks) refl
     where
       go : (b : Bool) → restarts p s.tasks ≡ b → KeepsWithin p c u
       go true ends =
           let main = moves_pay.payers p ch s u goes ∙ ap (λ b. cond b None (payer s.tasks)) ends in
           record {
             within =
-                omega (arith, moves_pay.restarts_pay p t c linked typed affordable.priced ch s u well goes ends, none_counted p ch s u goes ends, affordable.declared, ap (λ x. declared_of p x) main);
+                omega (arith, moves_pay.restarts_pay p t c linked typed affordable.priced ch s u well kept goes ends, none_counted p ch s u goes ends, affordable.declared, ap (λ x. declared_of p x) main);
           }
       go false on =
           let same = moves_pay.payers p ch s u goes ∙ ap (λ b. cond b None (payer s.tasks)) on in
           record {
             within =
-                omega (arith, moves_pay.pays p t c linked typed affordable.priced ch s u well goes on, steps_counted p ch s u goes on, h.within, ap (λ x. declared_of p x) same);
+                omega (arith, moves_pay.pays p t c linked typed affordable.priced ch s u well kept goes on, steps_counted p ch s u goes on, h.within, ap (λ x. declared_of p x) same);
           }
 
   -- main's dispatch begins so

@@ -10,6 +10,7 @@ use Rattle.aom_active.proofs.Halves.{timer_anew}
 use Rattle.aom_active.specs.Agrees.{Active, timer_in}
 use Rattle.aom_active.specs.Meanings.{Makes}
 use Rattle.aom_owed.specs.Owed.{owes, serves, serves_object}
+use Rattle.aom_sound.proofs.ClientsTurn.{fit_same, same_requested}
 use Rattle.aom_sound.proofs.Turned.{recorded_so}
 use Rattle.aom_sound.proofs.Turning.{completed}
 use Rattle.aom_sound.specs.Enlisted.{completed_with, on_request, recorded}
@@ -17,6 +18,7 @@ use Rattle.aom_sound.specs.Natives.{is_outstanding_at, is_owed, is_served_by}
 use Rattle.aom_sound.specs.Places.{Object, Request, named, requested}
 use Rattle.aom_sound.specs.State.{CompletedTwice, Goes, IsStuck, Rest, State}
 use Rattle.aom_sound.specs.World.{AnswersWell, Completion, Polls, answered_by, past_native, turned, with_request}
+use Rattle.aom_steps.specs.Left.{is_entry}
 use Rattle.aom_steps.proofs.Pushed.{asked_same}
 use Rattle.aom_parts.specs.declared.parts.Parts.{Parts}
 use Rattle.aom_parts.specs.declared.progress.Progress.TheVariants.{Turned}
@@ -115,7 +117,8 @@ module _ (p : Image) (m : Parts) (native : ℕ) where
         polled_stands : StandsFor (now a) then
         polled_stands =
             stands_as p m s st idle (now a).parts (with_request f object s.cells) counts s.killed (completed p st.typing s st.typed idle (recorded code) (recorded_so code) object counts)
-            (asked_same st.sound.prices object.name (on_request f (requested s.cells object.name)) s.cells) refl polled_agrees
+            (fit_same p s.clients s.cells _ (same_requested s.cells object (on_request f (requested s.cells object.name))) st.kept.fit)
+            (asked_same st.sound.prices is_entry object.name (on_request f (requested s.cells object.name)) s.cells) refl polled_agrees
 
         outstanding : is_outstanding_at p native it.cell ≡ true
         outstanding = sym (ap (λ o. serves_object p native o && is_owed (requested s.cells id)) it.lives ∙ ap (λ q. is_served_by p native object.thing && is_owed q) it.asked) ∙ owed

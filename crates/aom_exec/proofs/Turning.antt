@@ -38,6 +38,7 @@ use Rattle.aom_active.specs.Meanings.{IsFirstDue, IsFirstReady, Makes, asked_ane
 use Rattle.aom_active.specs.Meanings as meanings
 use Rattle.aom_sound.proofs.Signals.{at_rest, signals_are_ready}
 use Rattle.aom_sound.proofs.Storing.{Alike, rerequested_alike}
+use Rattle.aom_sound.proofs.ClientsTurn.{fit_same, same_requested}
 use Rattle.aom_sound.proofs.Turned.{picked}
 use Rattle.aom_sound.proofs.Turning.{completed, picked_well}
 use Rattle.aom_sound.specs.Claims.{items_of}
@@ -49,7 +50,9 @@ use Rattle.aom_sound.specs.WellTyped.{Keeps, WellTyped}
 use Rattle.aom_sound.specs.World.{Candidate, Cuts, Hears, IsBetween, Passes, Picks, Timed, Turning, Waits, dispatched, due_of, ends_as, first_due, heard_one, first_ready, is_ready, run_line, turned, with_request}
 use Rattle.aom_steps.proofs.Pushed.{asked_same}
 use Rattle.aom_steps.proofs.Turns.{picking}
-use Rattle.aom_steps.specs.Left.{objects_left}
+use Rattle.aom_sound.specs.Kept.{ClientsFit, TasksKept}
+use Rattle.aom_parts.proofs.Nobody.{none_asked, picked_plain}
+use Rattle.aom_steps.specs.Left.{closings_left, is_entry, objects_left}
 use Rattle.aom_steps.specs.Payers as payers
 use Rattle.aom_steps.specs.Payers.{declared_of, payer, price_of}
 use Rattle.aom_parts.specs.declared.parts.Parts.{Parts}
@@ -111,6 +114,7 @@ stands_rest p m s r r' same steps st = record {
   traps = st.traps;
   room = room_rest p _ _ s r' st.room;
   waits = st.waits;
+  kept = record { fit = st.kept.fit; stage = st.kept.stage };
   within = within_rest p st.sound.prices (declared_of p (payer s.tasks)) s r' steps st.within;
   agrees = agrees_rest p m s r r' same st.agrees;
 }
@@ -169,10 +173,10 @@ module _ (p : Image) (m : Parts) (turned : progress_by m.rest.ended m.stack.task
 -- nothing is at hand, and other cells have as much outstanding on the cleanup stack
 module _ (p : Image) (m : Parts) (s : State) (st : StandsFor (record { image = p; parts = m }) s) (idle : s.tasks ≡ []) where
   pub stands_as :
-      (new : Parts) (cs : List Cell) (r : Rest) (killed : List ℕ) → WellTyped p st.typing (record s { cells = cs; rest = r; killed = killed }) →
+      (new : Parts) (cs : List Cell) (r : Rest) (killed : List ℕ) → WellTyped p st.typing (record s { cells = cs; rest = r; killed = killed }) → ClientsFit p s.clients cs →
       objects_left st.sound.prices cs ≡ objects_left st.sound.prices s.cells → r.steps ≡ s.rest.steps → Agrees p new (record s { cells = cs; rest = r; killed = killed }) →
       StandsFor (record { image = p; parts = new }) (record s { cells = cs; rest = r; killed = killed })
-  stands_as new cs r killed typed as_many steps agrees = record {
+  stands_as new cs r killed typed fits as_many steps agrees = record {
     typing = st.typing;
     sound = st.sound;
     typed = typed;
@@ -180,7 +184,8 @@ module _ (p : Image) (m : Parts) (s : State) (st : StandsFor (record { image = p
     traps = st.traps;
     room = record { under = st.room.under; runs = subst (λ ts. AllRunUnder p (at 0 st.sound.depths.depths) cs s.items ts) (sym idle) tt; fit = st.room.fit; entries = st.room.entries };
     waits = subst (λ ts. OthersWait p st.typing cs ts) (sym idle) tt;
-    within = record { within = omega (arith, st.within.within, as_many, steps) };
+    kept = record { fit = fits; stage = subst (λ ts. TasksKept p s.clients cs ts) (sym idle) tt };
+    within = record { within = omega (arith, st.within.within, as_many, steps, ap (λ ts. closings_left p st.sound.prices cs ts) idle, ap (λ ts. closings_left p st.sound.prices s.cells ts) idle) };
     agrees = agrees;
   }
 
@@ -223,7 +228,8 @@ module _ (p : Image) (m : Parts) (a : Active) (turned : progress_by m.rest.ended
         let idle = (machine_between before s st turned).idle in
         let cs = with_request timed_out o s.cells in
         stands_as p m s st idle (record m { active = a }) cs s.rest s.killed (completed p st.typing s st.typed idle (pos 0) refl o s.rest)
-        (asked_same st.sound.prices o.name (on_request timed_out (requested s.cells o.name)) s.cells) refl timed_agrees
+        (fit_same p s.clients s.cells cs (same_requested s.cells o (on_request timed_out (requested s.cells o.name))) st.kept.fit)
+        (asked_same st.sound.prices is_entry o.name (on_request timed_out (requested s.cells o.name)) s.cells) refl timed_agrees
 
   timer_completes : (id : ℕ) → Makes m.active a id timed_out → ((asked : ℕ → Option Request) → Asks_for m.active asked → IsFirstDue m.rest.clock id asked) → Completed before true after
   timer_completes id makes first told s st =
@@ -269,16 +275,6 @@ completed_again first last true c st = let t = (c (record { lines = []; refused 
 completed_again first last false c st = subst (λ m. Stands m) (sym c.0) st
 
 -- ---- an object is dispatched
-
--- its class is one of active objects
-ready_active : (k : Option ClassKind) (n : Known) (r : Request) → is_ready r ≡ true → Suits k n (Some r) → is_active_kind k ≡ true
-ready_active (Some (An_active v b)) n r e s = refl
-ready_active (Some (A_server most x b)) n r e s = absurd (go r.phase (and_parts (is_active r.phase) (not (int_eq r.status pending)) e).0 s.1)
-  where
-    go : (q : Phase) → is_active q ≡ true → IsTrue (has server_states (phase_state q)) → ⊥
-    go Waits_for e h = cc
-    go _ e h = cc
-ready_active _ n r e s = cc
 
 class_told : (t : Thing) (class : ℕ) (c : Option Held_cell) → class_of c ≡ Some class → thing_in c ≡ Some t → t ≡ An_object_of class
 class_told t class None e f = cc
@@ -336,7 +332,7 @@ module _ (p : Image) (m : Parts) (s : State) (st : StandsFor (record { image = p
 
   pick_of : (id : ℕ) → IsFirstReady id (requested s.cells) → Pick id
   pick_of id f =
-      let x = choosing.picked s.cells id st.typed.good.tidy f in
+      let x = choosing.picked s.cells id st.typed.good.tidy (none_asked p st.sound.admitted st.typing s st.typed st.kept.fit) f in
       record {
         candidate = x.0;
         first = x.1;
@@ -345,7 +341,7 @@ module _ (p : Image) (m : Parts) (s : State) (st : StandsFor (record { image = p
         holds = x.4;
         asked = x.5;
         ready = subst (λ r. is_ready r ≡ true) (same_Some _ _ (sym f.stands ∙ x.5)) f.ready;
-        keeps = picked_well p st.typing s st.typed idle st.sound.wired st.sound.typed x.0 x.1;
+        keeps = subst (λ o. Keeps p st.typing o) (picked_plain p st.sound.admitted x.0.seat s) (picked_well p st.typing s st.typed idle st.sound.wired st.sound.typed st.kept.fit x.0 x.1);
       }
 
   module _ (id : ℕ) (k : Pick id) where
@@ -396,7 +392,7 @@ module _ (p : Image) (m : Parts) (s : State) (st : StandsFor (record { image = p
       method = ap (part_of p Handles) thing ∙ d.handles
 
       goes : turned p s (Picks k.candidate.seat) ≡ Goes then
-      goes = ap (λ h. dispatched h k.candidate.seat s) method
+      goes = picked_plain p st.sound.admitted k.candidate.seat s ∙ ap (λ h. dispatched h k.candidate.seat s) method
 
       lives : named s.cells object.name ≡ Some object
       lives = ap (named s.cells) k.name ∙ k.lives
@@ -449,14 +445,10 @@ module _ (p : Image) (m : Parts) (s : State) (st : StandsFor (record { image = p
 
       -- it costs no more than its class declares
       dispatch_within : KeepsWithin p st.sound.prices then
-      dispatch_within = record { within = omega (arith, picking p st.typing st.sound.prices s st.typed idle (Picks k.candidate.seat) refl then goes, affords) }
+      dispatch_within = record { within = omega (arith, picking p st.typing st.sound.prices st.sound.linked st.sound.affordable.priced s st.typed idle (Picks k.candidate.seat) lives refl then goes, affords) }
         where
-          active : is_active_kind (thing_kind p object.thing) ≡ true
-          active = ready_active (thing_kind p object.thing) (states_claim p object st.typed.layers) k.candidate.request k.ready
-              (subst (λ r. Suits (thing_kind p object.thing) (states_claim p object st.typed.layers) r) asked (st.typed.good.suits object lives))
-
           affords : price_of p st.sound.prices (payers.class_of object.thing) ≤ declared_of p (payers.class_of object.thing)
-          affords = subst (λ t. price_of p st.sound.prices (payers.class_of t) ≤ declared_of p (payers.class_of t)) (sym thing) (st.sound.objects.each d.class (subst (λ t. is_active_kind (thing_kind p t) ≡ true) thing active))
+          affords = subst (λ t. price_of p st.sound.prices (payers.class_of t) ≤ declared_of p (payers.class_of t)) (sym thing) (st.sound.objects.each d.class)
 
       dispatch_stands : StandsFor (record { image = p; parts = running d.method d.class id (record m { active = a }) }) then
       dispatch_stands = record {
@@ -465,8 +457,9 @@ module _ (p : Image) (m : Parts) (s : State) (st : StandsFor (record { image = p
         typed = subst (λ h. Keeps p st.typing (dispatched h k.candidate.seat s)) method k.keeps;
         calm = (λ clearing. absurd (true≢false (sym clearing)), (refl, tt));
         traps = (tt, (tt, tt));
-        room = dispatches_with_room p (at 0 st.sound.depths.depths) st.sound.heights then.cells d.method (Inside object k.candidate.seat.place) (Of_object k.candidate.seat) s.items then.rest s.killed none_pushed;
+        room = dispatches_with_room p (at 0 st.sound.depths.depths) st.sound.heights then.cells d.method (Inside object k.candidate.seat.place) (Of_object k.candidate.seat) s.items then.rest s.killed s.clients none_pushed;
         waits = tt;
+        kept = record { fit = fit_same p s.clients s.cells then.cells (same_requested s.cells object (on_request taken_up (requested s.cells object.name))) st.kept.fit; stage = tt };
         within = dispatch_within;
         agrees = dispatch_agrees;
       }
@@ -513,7 +506,7 @@ module _ (p : Image) (m : Parts) (turned : progress_by m.rest.ended m.stack.task
     refl,
     λ s st.
         let idle = (machine_between was s st turned).idle in
-        (signals_are_ready p st.typing s st.typed idle).1 ∙ ap is_some (choosing.none_picked s.cells st.typed.good.tidy (c.1 (requested s.cells) st.agrees.requests.stands)),
+        (signals_are_ready p st.typing s st.typed idle).1 ∙ ap is_some (choosing.none_picked s.cells st.typed.good.tidy (none_asked p st.sound.admitted st.typing s st.typed st.kept.fit) (c.1 (requested s.cells) st.agrees.requests.stands)),
   )
 
 -- and the machine stands for a state again

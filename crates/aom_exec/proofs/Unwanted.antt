@@ -16,7 +16,7 @@ use Rattle.aom_instructions.specs.declared.instr.Instr.{Instr}
 use Rattle.aom_sound.specs.Enlisted.{thing_kind}
 use Rattle.aom_sound.specs.Natives.{native_of}
 use Rattle.aom_sound.specs.Places.{Going, Object, held}
-use Rattle.aom_sound.specs.State.{AtRoot, Destroy, Dispatched, Frame, Home, Inside, Run, State, Static, Task, Trapped, Unwind}
+use Rattle.aom_sound.specs.State.{AtRoot, Closing, Destroy, Dispatched, Frame, Home, Inside, Run, State, Static, Task, Trapped, Unwind}
 use Rattle.aom_sound.specs.Wanted.{wanted, wanted_at, wanted_by, wanted_going, wanted_gone, wanted_task}
 
 module _ (p : Image) (none_named : p.header.natives ≡ 0) (formed : WellFormed p) where
@@ -54,6 +54,7 @@ module _ (p : Image) (none_named : p.header.natives ≡ 0) (formed : WellFormed 
     none_of_task (Run fr ∷ ts) = none_at_home fr ts fr.home (instr_at p fr.method fr.place)
     none_of_task (Trapped ∷ ts) = refl
     none_of_task (Destroy ∷ ts) = none_gone (held s.cells (Going (length ts)))
+    none_of_task (Closing ∷ ts) = refl
     none_of_task (Unwind code ∷ ts) = refl
     none_of_task (Dispatched d ∷ ts) = refl
 

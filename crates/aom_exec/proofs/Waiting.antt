@@ -1,6 +1,7 @@
 -- Each move keeps what the typing says of the methods that wait: what runs over a method leaves its registers alone, and a method begins to wait with its operands moved.
-use Rattle.std.proofs.Common.{Bool, List, None, Option, Some, [], ap, arith, cond, false, length, pos, refl, subst, suc, sym, true, ℕ, ℤ, ◌&&◌, ◌<◌, ◌==◌, ◌∙◌, ◌∷◌, ◌≡◌}
+use Rattle.std.proofs.Common.{Bool, List, None, Option, Some, [], ap, arith, cond, false, length, pos, refl, subst, suc, sym, true, ℕ, ℤ, ◌&&◌, ◌<◌, ◌≤◌, ◌==◌, ◌∙◌, ◌∷◌, ◌≡◌}
 use Rattle.std.proofs.lemmas.Bool.{eq-eqb, eqb-true, ne_eqb}
+use Rattle.std.proofs.lemmas.Option.{same_Some}
 use Rattle.aom_image.specs.Image.{Image}
 use Rattle.aom_image.specs.Views.{arguments_of, instr_at, method_class}
 use Rattle.aom_instructions.specs.declared.instr.Instr.{Instr}
@@ -30,15 +31,20 @@ use Rattle.aom_sound.proofs.Maps.{at-put_at, held_without, same_place-true}
 use Rattle.aom_sound.proofs.Moving.{steps_are_moves}
 use Rattle.aom_sound.proofs.Storing.{ended_alike, held_set_word, rerequested_alike, resessioned_alike}
 use Rattle.aom_sound.proofs.Straight.{register_fits}
-use Rattle.aom_sound.specs.Calls.{needs_each, needs_entering, needs_target, passed_cells, result_cells, returned}
+use Rattle.aom_sound.specs.Calls.{accepted_cells, needs_each, needs_entering, needs_target, passed_cells, result_cells, returned}
 use Rattle.aom_sound.specs.Cleanup.{to_trap, top_place}
-use Rattle.aom_sound.specs.Destruction.{begun_by}
+use Rattle.aom_sound.specs.Destruction.{begun, begun_by, destructed, first_session, parting, seat_or}
+use Rattle.aom_sound.proofs.Dropping.{held_dropped, queue_dropped}
+use Rattle.aom_sound.proofs.Services.{held_served}
+use Rattle.aom_sound.proofs.Unslotting.{each_unslotted_alike}
+use Rattle.aom_sound.specs.Clients.{each_unslotted}
+use Rattle.aom_sound.specs.Servers.{is_queue_of, is_server, opened, without_queue}
 use Rattle.aom_classes.specs.Roles.{destructor_of}
-use Rattle.aom_sound.specs.Effects.{Calls, Cancels, Carried, Counts, Destroys, Destroys_last, Effect, Goes_on, In_field, In_register, Jumps, Leaves, Made, Operates, Popped, Pushed, Repeats, Requested, Returns, Sets_trap, Spot, Update, Written, applied, cells_after, deletes, spot_place, with_words, Sessioned}
-use Rattle.aom_sound.specs.Moves.{answered, asking, counted, dispatch_ends, does, failed, handled, main_ends, needs, object_ends, step}
-use Rattle.aom_sound.specs.Places.{Cell, Elsewhere, Entry, Going, Object, Place, Register, Root, Sight, held, moved, same_place, seen, without}
-use Rattle.aom_sound.specs.State.{Answered, Asks, AtRoot, Choice, Destroy, Dispatch, Dispatched, Frame, Goes, Home, Inside, Main_left, Need, Object_left, Of_main, Of_object, Of_root, Run, Seat, State, Static, Task, Trapped, Unwind, field_place, guarded, resumed, word}
-use Rattle.aom_sound.specs.Steps.{Acts, Arrives, Clears, Comes_out, Ends, Fits as May, Move, Rests, Undoes, Vanishes}
+use Rattle.aom_sound.specs.Effects.{Calls, Cancels, Carried, Counts, Destroys, Destroys_last, Effect, Goes_on, In_field, In_register, Jumps, Replied, The_message, Leaves, Made, Operates, Popped, Pushed, Repeats, Requested, Returns, Sets_trap, Spot, Update, Written, applied, cells_after, deletes, spot_place, with_words, Sessioned}
+use Rattle.aom_sound.specs.Moves.{answered, asking, counted, dispatch_ends, does, failed, handled, main_ends, needs, object_ends, stage_ends, step}
+use Rattle.aom_sound.specs.Places.{Cell, Elsewhere, Entry, Going, Object, Place, Register, Root, Session, Sight, held, moved, same_place, seen, service_of, without}
+use Rattle.aom_sound.specs.State.{Accept_left, Accepted, Accepts, Answered, Asks, AtRoot, Choice, Closing, Destroy, Dispatch, Dispatched, Frame, Goes, Home, Inside, Main_left, Need, Object_left, Of_main, Of_object, Of_root, Of_server, Parts, Run, Seat, Serves, Service_left, Stage, State, Static, Task, Trapped, Unwind, field_place, guarded, resumed, word}
+use Rattle.aom_sound.specs.Steps.{Acts, Arrives, Clears, Comes_out, Empties, Ends, Fits as May, Move, Rests, Undoes, Vanishes}
 use Rattle.aom_sound.specs.WellTyped.{Fits, Good, WellTyped, WordFits}
 use Rattle.aom_sound.specs.Words.{here, stored}
 use Rattle.aom_sound.specs.World.{boot_state, main_tasks}
@@ -88,6 +94,7 @@ still_wait p t cs cs' (Run fr ∷ ts) same w = (
 )
 still_wait p t cs cs' (Trapped ∷ ts) same w = still_wait p t cs cs' ts (λ d i lt. same d i (omega (arith, lt))) w
 still_wait p t cs cs' (Destroy ∷ ts) same w = still_wait p t cs cs' ts (λ d i lt. same d i (omega (arith, lt))) w
+still_wait p t cs cs' (Closing ∷ ts) same w = still_wait p t cs cs' ts (λ d i lt. same d i (omega (arith, lt))) w
 still_wait p t cs cs' (Unwind code ∷ ts) same w = still_wait p t cs cs' ts (λ d i lt. same d i (omega (arith, lt))) w
 still_wait p t cs cs' (Dispatched e ∷ ts) same w = still_wait p t cs cs' ts (λ d i lt. same d i (omega (arith, lt))) w
 
@@ -104,10 +111,26 @@ stored_same cs Static w v n d i lt = refl
 stored_same cs AtRoot w v n d i lt = refl
 stored_same cs (Inside o from) w v n d i lt = held_set_word cs o.name w v (Register d i)
 
+-- where a session is accepted from a register of a method over these
+accepted_same : (d : Dispatch) (a depth : ℕ) (cs : List Cell) (n : ℕ) → n ≤ depth → SameBelow cs (accepted_cells d (Register depth a) cs) n
+accepted_same (Of_server x client Accepts) a depth cs n deep e i lt =
+    let place = Elsewhere (Session x.object.name client) in
+    let cs2 = moved (Register depth a) place cs in
+    held_served cs2 x.object.name (opened client (service_of cs2 x.object.name)) (Register e i)
+    ∙ held_apart cs (Register depth a) place (Register e i) (higher_apart depth a e i (omega (arith, lt, deep))) refl
+accepted_same _ a depth cs n deep e i lt = refl
+
+-- where a cell goes, with what waits in its queue
+gone_same : (clients : List ℕ) (k m n : ℕ) (cs : List Cell) → SameBelow cs (each_unslotted clients (without (Going k) (without_queue m cs))) n
+gone_same clients k m n cs d i lt =
+    (each_unslotted_alike clients (without (Going k) (without_queue m cs))).held_so (Register d i) ∙ held_without (without_queue m cs) (Going k) (Register d i)
+    ∙ ap (λ l. held l (Register d i)) (queue_dropped m cs) ∙ held_dropped (is_queue_of m) cs (Register d i)
+
 module _ (p : Image) (fr : Frame) (ts : List Task) (s : State) where
   spot_apart : (spot : Spot) (e i : ℕ) → e < length ts → same_place (spot_place p fr ts s spot) (Register e i) ≡ false
   spot_apart (In_register a) e i lt = higher_apart (length ts) a e i lt
   spot_apart (In_field f) e i lt = field_apart fr.home f e i
+  spot_apart The_message e i lt = refl
 
   updated_same : (u : Update) → SameBelow s.cells (cells_after p fr ts s u) (length ts)
   updated_same (Carried from to) d i lt = held_apart s.cells (spot_place p fr ts s from) (spot_place p fr ts s to) (Register d i) (spot_apart from d i lt) (spot_apart to d i lt)
@@ -115,6 +138,7 @@ module _ (p : Image) (fr : Frame) (ts : List Task) (s : State) where
   updated_same (Written w v) d i lt = stored_same s.cells fr.home w v (length ts) d i lt
   updated_same (Requested r) d i lt = (rerequested_alike s.cells fr.home r).held_so (Register d i)
   updated_same (Sessioned b) d i lt = (resessioned_alike s.cells fr.home b).held_so (Register d i)
+  updated_same (Replied a) d i lt = held_without s.cells (here fr ts s a) (Register d i) ∙ ap (λ b. cond b None (held s.cells (Register d i))) (higher_apart (length ts) a d i lt)
   updated_same (Pushed a) d i lt = held_apart s.cells (here fr ts s a) (Entry (length s.items)) (Register d i) (higher_apart (length ts) a d i lt) refl
   updated_same (Popped a) d i lt = held_apart s.cells (top_place s.items) (here fr ts s a) (Register d i) refl (higher_apart (length ts) a d i lt)
   updated_same _ d i lt = refl
@@ -208,15 +232,26 @@ runs_typed p t s fr ts w top = method_layer (λ ls. Good p t s.cells ls) fr ts w
 
 -- ---- moves
 
-begun_wait : (p : Image) (t : Typing) (cs : List Cell) (d : Option ℕ) (o : Object) (height : ℕ) (ts : List Task) → AllWait p t cs ts → OthersWait p t cs (begun_by d o height ts)
-begun_wait p t cs None o height ts w = w
-begun_wait p t cs (Some m) o height ts w = w
+destructed_wait : (p : Image) (t : Typing) (cs : List Cell) (o : Object) (height : ℕ) (ts : List Task) → AllWait p t cs ts → OthersWait p t cs (destructed p o height ts)
+destructed_wait p t cs o height ts w = by (destructor_of p o.thing)
+  where
+    by : (d : Option ℕ) → OthersWait p t cs (begun_by d o height ts)
+    by None = w
+    by (Some m) = w
+
+begun_wait : (p : Image) (t : Typing) (cs : List Cell) (o : Object) (height : ℕ) (ts : List Task) → AllWait p t cs ts → OthersWait p t cs (begun p o height ts)
+begun_wait p t cs o height ts w = go (is_server p o.thing)
+  where
+    go : (b : Bool) → OthersWait p t cs (cond b (Closing ∷ Destroy ∷ ts) (destructed p o height ts))
+    go true = w
+    go false = destructed_wait p t cs o height ts w
 
 resumed_wait : (p : Image) (t : Typing) (cs : List Cell) (ts : List Task) → AllWait p t cs ts → OthersWait p t cs (resumed ts)
 resumed_wait p t cs [] w = tt
 resumed_wait p t cs (Run fr ∷ ts) w = w.1
 resumed_wait p t cs (Trapped ∷ ts) w = w
 resumed_wait p t cs (Destroy ∷ ts) w = w
+resumed_wait p t cs (Closing ∷ ts) w = w
 resumed_wait p t cs (Unwind code ∷ ts) w = w
 resumed_wait p t cs (Dispatched d ∷ ts) w = w
 
@@ -225,8 +260,18 @@ trapped_wait p t cs [] w = tt
 trapped_wait p t cs (Run fr ∷ ts) w = trapped_wait p t cs ts w.1
 trapped_wait p t cs (Trapped ∷ ts) w = w
 trapped_wait p t cs (Destroy ∷ ts) w = w
+trapped_wait p t cs (Closing ∷ ts) w = w
 trapped_wait p t cs (Unwind code ∷ ts) w = w
 trapped_wait p t cs (Dispatched d ∷ ts) w = w
+
+-- a session is in no such place
+session_apart : (cs : List Cell) (n : ℕ) (clients : List ℕ) (x : Seat) (q : Place) → ((n c : ℕ) → same_place (Elsewhere (Session n c)) q ≡ false) → first_session cs n clients ≡ Some x → same_place x.place q ≡ false
+session_apart cs n [] x q apart e = cc
+session_apart cs n (c ∷ clients) x q apart e = go (held cs (Elsewhere (Session n c))) (λ later. session_apart cs n clients x q apart later) e
+  where
+    go : (o : Option Object) → (first_session cs n clients ≡ Some x → same_place x.place q ≡ false) → seat_or o (Elsewhere (Session n c)) (first_session cs n clients) ≡ Some x → same_place x.place q ≡ false
+    go None later e = later e
+    go (Some o) later e = ap (λ (y : Seat). same_place y.place q) (sym (same_Some _ x e)) ∙ apart n c
 
 -- a method's move
 module _ (p : Image) (t : Typing) (c : Choice) (s : State) (fr : Frame) (ts : List Task) (at_hand : s.tasks ≡ Run fr ∷ ts) (i : Instr) (there : instr_at p fr.method fr.place ≡ Some i) (met : AllTrue (needs p c fr ts s i)) (h : RunsTyped p t s.cells fr ts) (w : AllWait p t s.cells ts) where
@@ -267,9 +312,11 @@ module _ (p : Image) (t : Typing) (c : Choice) (s : State) (fr : Frame) (ts : Li
   returns : (g : Gives) (a : ℕ) (us : List Task) → us ≡ ts → W (returned p fr ts over g a us)
   returns g a (Run caller ∷ below) e = still_wait p t over.cells _ below (result_same p fr ts over g a _ below (let n = ap length e in omega (arith, n))) (subst (AllWait p t over.cells) (sym e) ended_w).1
   returns g a (Trapped ∷ Run caller ∷ below) e = still_wait p t over.cells _ below (result_same p fr ts over g a _ below (let n = ap length e in omega (arith, n))) (subst (AllWait p t over.cells) (sym e) ended_w).1
-  returns g a (Trapped ∷ Dispatched d ∷ below) e = subst (AllWait p t over.cells) (sym e) ended_w
+  returns g a (Trapped ∷ Dispatched d ∷ below) e =
+      still_wait p t over.cells _ below (accepted_same d a (length ts) over.cells (length below) (let n = ap length e in omega (arith, n))) (subst (AllWait p t over.cells) (sym e) ended_w)
   returns g a (Destroy ∷ below) e = subst (AllWait p t over.cells) (sym e) ended_w
   returns g a (Unwind code ∷ below) e = subst (AllWait p t over.cells) (sym e) ended_w
+  returns g a (Closing ∷ below) e = subst (OthersWait p t over.cells) (sym at_hand) ended_w
   returns g a [] e = stays
     where
       stays : W over
@@ -278,6 +325,7 @@ module _ (p : Image) (t : Typing) (c : Choice) (s : State) (fr : Frame) (ts : Li
   returns g a (Trapped ∷ []) e = subst (OthersWait p t over.cells) (sym at_hand) ended_w
   returns g a (Trapped ∷ Trapped ∷ below) e = subst (OthersWait p t over.cells) (sym at_hand) ended_w
   returns g a (Trapped ∷ Destroy ∷ below) e = subst (OthersWait p t over.cells) (sym at_hand) ended_w
+  returns g a (Trapped ∷ Closing ∷ below) e = subst (OthersWait p t over.cells) (sym at_hand) ended_w
   returns g a (Trapped ∷ Unwind code ∷ below) e = subst (OthersWait p t over.cells) (sym at_hand) ended_w
 
   -- the object of a register goes
@@ -286,7 +334,7 @@ module _ (p : Image) (t : Typing) (c : Choice) (s : State) (fr : Frame) (ts : Li
       let cs = moved (here fr ts s a) (Going (suc (length ts))) s.cells in
       let wordless = no_word _ (subst (λ j. AllTrue (needs p c fr ts s j)) is met).0 in
       let says = emptied p fr ts s s.cells h.shape a (Going (suc (length ts))) (λ j. refl) wordless h.says in
-      begun_wait p t cs (destructor_of p o.thing) o (length s.items) (Run (with_words fr (put_at None fr.words a None)) ∷ ts) (
+      begun_wait p t cs o (length s.items) (Run (with_words fr (put_at None fr.words a None)) ∷ ts) (
         record {
           shape = h.shape;
           typed = h.typed;
@@ -339,7 +387,7 @@ module _ (p : Image) (t : Typing) (c : Choice) (s : State) (fr : Frame) (ts : Li
   acts_wait (Destroys o a words) deleted fits = deleted o a words refl
   acts_wait (Destroys_last o) deleted fits =
       let cs = moved (top_place s.items) (Going (suc (length ts))) s.cells in
-      begun_wait p t cs (destructor_of p o.thing) o _ (Run fr ∷ ts) (pops cs (λ x. ap (λ j. while_waiting p (Some j) x) fits.0) (λ d j. held_apart s.cells (top_place s.items) (Going (suc (length ts))) (Register d j) refl refl))
+      begun_wait p t cs o _ (Run fr ∷ ts) (pops cs (λ x. ap (λ j. while_waiting p (Some j) x) fits.0) (λ d j. held_apart s.cells (top_place s.items) (Going (suc (length ts))) (Register d j) refl refl))
   acts_wait (Operates m x) deleted fits = pops s.cells (λ x. ap (λ j. while_waiting p (Some j) x) fits.0) (λ d j. refl)
 
 module _ (p : Image) (t : Typing) (c : Choice) (s u : State) (typed : WellTyped p t s) (others : OthersWait p t s.cells s.tasks) (goes : step p c s ≡ Goes u) where
@@ -362,7 +410,7 @@ module _ (p : Image) (t : Typing) (c : Choice) (s u : State) (typed : WellTyped 
       wait
 
   main_wait : (v : State) (b : Bool) (root : Option Object) → V (main_ends p b root v)
-  main_wait v true (Some o) = begun_wait p t _ (destructor_of p o.thing) o _ (Dispatched Of_root ∷ []) tt
+  main_wait v true (Some o) = begun_wait p t _ o _ (Dispatched Of_root ∷ []) tt
   main_wait v true None = tt
   main_wait v false root = tt
 
@@ -380,6 +428,21 @@ module _ (p : Image) (t : Typing) (c : Choice) (s u : State) (typed : WellTyped 
   asking_waits None x code v = answer_waits code v
   asking_waits (Some m) x code v = tt
 
+  stage_waits : (x : Seat) (client : ℕ) (stage : Stage) (v : State) → V (stage_ends x client stage v)
+  stage_waits x client Accepts v = tt
+  stage_waits x client Accepted v = tt
+  stage_waits x client (Accept_left code) v = tt
+  stage_waits x client (Serves o) v = tt
+  stage_waits x client (Service_left code) v = tt
+  stage_waits x client Parts v = tt
+
+  -- a session goes over a server that goes, or the server's destructor runs
+  parting_waits : (ts : List Task) (o : Object) (y : Option Seat) → s.tasks ≡ Closing ∷ Destroy ∷ ts → y ≡ first_session s.cells o.name (service_of s.cells o.name).sessions → V (parting p o y ts (counted p s))
+  parting_waits ts o None top is = destructed_wait p t s.cells o _ ts (over_these (Closing ∷ Destroy ∷ ts) top)
+  parting_waits ts o (Some x) top is =
+      let over = Closing ∷ Destroy ∷ ts in
+      begun_wait p t _ x.object _ over (still_wait p t s.cells _ ts (λ d i lt. held_apart s.cells x.place (Going (length over)) (Register d i) (session_apart s.cells o.name (service_of s.cells o.name).sessions x (Register d i) (λ n c. refl) (sym is)) refl) (over_these over top))
+
   ends : (d : Dispatch) → V (dispatch_ends p d (counted p s))
   ends Of_root = tt
   ends (Main_left code) = tt
@@ -388,6 +451,7 @@ module _ (p : Image) (t : Typing) (c : Choice) (s u : State) (typed : WellTyped 
   ends (Object_left x code) = asking_waits (part_of p Answers x.object.thing) x code (counted p s)
   ends (Asks x) = object_wait (counted p s)
   ends (Answered x answer) = answer_waits answer (counted p s)
+  ends (Of_server x client stage) = stage_waits x client stage (counted p s)
 
   pub keeps_waiting : V u
   keeps_waiting = go (steps_are_moves p c s u goes)
@@ -399,12 +463,12 @@ module _ (p : Image) (t : Typing) (c : Choice) (s u : State) (typed : WellTyped 
           (acts_wait p t c (counted p s) fr ts top i there met (runs_typed p t s fr ts typed top) (over_these (Run fr ∷ ts) top) e
           (λ o a words is. let may = subst (May p c fr ts (counted p s) i) is fits in subst V same (deleted fr ts i o a top there may.0 may.1)) fits)
       go (Vanishes ts o top there owns same) =
-          let cs = without (Going (length ts)) s.cells in
-          subst V (sym same) (resumed_wait p t cs ts (still_wait p t s.cells cs ts (λ d i lt. held_without s.cells (Going (length ts)) (Register d i)) (over_these (Destroy ∷ ts) top)))
+          subst V (sym same) (resumed_wait p t _ ts (still_wait p t s.cells _ ts (gone_same (service_of s.cells o.name).sessions (length ts) o.name (length ts) s.cells) (over_these (Destroy ∷ ts) top)))
+      go (Empties ts o top there same) = subst V (sym same) (parting_waits ts o (first_session s.cells o.name (service_of s.cells o.name).sessions) top refl)
       go (Clears code ts items o top last there same) =
           let cs = moved (Entry (length items)) (Going (suc (length ts))) s.cells in
           subst V (sym same)
-          (begun_wait p t cs (destructor_of p o.thing) o _ (Unwind code ∷ ts)
+          (begun_wait p t cs o _ (Unwind code ∷ ts)
           (still_wait p t s.cells cs ts (λ d i lt. held_apart s.cells (Entry (length items)) (Going (suc (length ts))) (Register d i) refl refl) (over_these (Unwind code ∷ ts) top)))
       go (Undoes code ts items m x top last same) = subst V (sym same) (over_these (Unwind code ∷ ts) top)
       go (Arrives code fr ts items top last same) = subst V (sym same) (over_these (Unwind code ∷ Trapped ∷ Run fr ∷ ts) top).1

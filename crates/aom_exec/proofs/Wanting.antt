@@ -208,5 +208,6 @@ heard_stands p m answer s st =
       room = st.room;
       waits = st.waits;
       within = st.within;
+      kept = st.kept;
       agrees = record { tasks = a.tasks; values = a.values; cells = a.cells; entries = a.entries; requests = a.requests; natives = a.natives; rest = a.rest; room = a.room; entry_room = a.entry_room };
     }

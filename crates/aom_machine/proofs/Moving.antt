@@ -8,7 +8,7 @@ use Rattle.aom_owed.specs.Owed.{FindsWell, SessionsHold, owes, owes_after}
 use Rattle.aom_owed.proofs.Moves.{moves_follow_calls}
 use Rattle.aom_sound.specs.Places.{named}
 use Rattle.aom_sound.specs.Moves.{IsOpen, step}
-use Rattle.aom_sound.specs.State.{Choice, Goes, IsStuck, Outcome, State, Task, Dispatched, Unwind, Run, Trapped, Destroy}
+use Rattle.aom_sound.specs.State.{Choice, Goes, IsStuck, Outcome, State, Task, Dispatched, Unwind, Run, Trapped, Closing, Destroy}
 use Rattle.aom_sound.specs.Wanted.{Wanted, wanted, wanted_task}
 use Rattle.aom_sound.specs.WellTyped.{Keeps, WellTyped}
 use Rattle.aom_endings.proofs.Ending.{above, top}
@@ -31,6 +31,7 @@ uncounted_asks_none p s [] uncounted = absurd uncounted
 uncounted_asks_none p s (Run fr ∷ ts) uncounted = absurd uncounted
 uncounted_asks_none p s (Trapped ∷ ts) uncounted = absurd uncounted
 uncounted_asks_none p s (Destroy ∷ ts) uncounted = absurd uncounted
+uncounted_asks_none p s (Closing ∷ ts) uncounted = refl
 uncounted_asks_none p s (Unwind code ∷ ts) uncounted = refl
 uncounted_asks_none p s (Dispatched d ∷ ts) uncounted = refl
 

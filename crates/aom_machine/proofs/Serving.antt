@@ -136,7 +136,7 @@ module _ {X : Type 0} {B : X → Type 0} (old new : Machine X B) (s : State) (st
   }
 
   pub tale_of : (part : Turning) → IsAbout s part → AnswersWell old.core.image s part → (before now : Turn) → (core : Core_takes old.core s part before now new.core) → Tale old.core.image s core.state part
-  tale_of part about well before now core = told old.core.image st.stands.typing s core.state st.stands.typed part about well core.goes
+  tale_of part about well before now core = told old.core.image st.stands.typing s core.state st.stands.typed part st.stands.kept.fit about well core.goes
 
   -- so where natives are as they were, but for calls that change nothing outstanding
   pub takes_plainly : (part : Turning) → IsPlain s part → IsAbout s part → AnswersWell old.core.image s part → KeptSame (λ l. l.ids) old.natives.slots.items new.natives.slots.items → new.core.image ≡ old.core.image →

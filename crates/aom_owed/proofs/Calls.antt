@@ -1,5 +1,5 @@
 -- What a move tells, by the call that it makes: how instructions on requests and sessions bear on what is outstanding.
-use Rattle.std.proofs.Common.{Bool, List, None, Option, Some, ap, cond, false, refl, sym, true, ℕ, ℤ, ◌&&◌, ◌==◌, ◌∙◌, ◌≡◌}
+use Rattle.std.proofs.Common.{Bool, List, None, Option, Some, ap, cond, false, refl, subst, sym, true, ℕ, ℤ, ◌&&◌, ◌==◌, ◌∙◌, ◌≡◌}
 use Rattle.std.proofs.lemmas.Bool.{not-true, and_parts, and_right, eq-eqb, eqb-true, or_right, true≢false}
 use Rattle.std.specs.Ordering.{int_eq}
 use Rattle.std.specs.Prelude.{not, ◌||◌}
@@ -106,6 +106,43 @@ module _ (p : Image) (answer : ℤ) (s : State) (holds : SessionsHold p s) (w : 
     met = λ k m e. told.meets k m ∙ met_after told.finds k m (sym (told.owes k m) ∙ e);
     lives = λ k m e. ap (λ l. is_dead l k) killed ∙ lives_after told.finds k m (sym (told.meets k m) ∙ e);
   }
+
+-- ---- other changes before and after it
+
+-- sessions hold where nothing changes
+pub sessions_along : (p : Image) (s u : State) → Unchanged p s.cells u.cells → u.killed ≡ s.killed → SessionsHold p s → SessionsHold p u
+sessions_along p s u same killed holds = record {
+  met = λ n m e. same.meets n m ∙ holds.met n m (sym (same.owes n m) ∙ e);
+  lives = λ n m e. ap (λ l. is_dead l n) killed ∙ holds.lives n m (sym (same.meets n m) ∙ e);
+}
+
+pub told_along : (p : Image) (answer : ℤ) (s : State) (w : Option Wanted) (cs cs' : List Cell) → Unchanged p cs cs' → Told p answer s w cs → Told p answer s w cs'
+told_along p answer s w cs cs' same told = record { finds = told.finds; owes = λ k m. same.owes k m ∙ told.owes k m; meets = λ k m. same.meets k m ∙ told.meets k m }
+
+pub told_before :
+    (p : Image) (answer : ℤ) (s u : State) → Unchanged p s.cells u.cells → ((k m : ℕ) → serves p u.cells k m ≡ serves p s.cells k m) → u.killed ≡ s.killed → (w : Option Wanted) (cs : List Cell) →
+    Told p answer u w cs → Told p answer s w cs
+told_before p answer s u same serving killed w cs told = record {
+  finds = finds_before w told.finds;
+  owes = λ k m. told.owes k m ∙ ap (λ b. owes_after w answer k m b) (same.owes k m);
+  meets = λ k m. told.meets k m ∙ ap (λ b. meets_after w answer k m b) (same.meets k m);
+}
+  where
+    found_before : (n x : ℕ) (session owed : Bool) → Finds p u n x session owed → Finds p s n x session owed
+    found_before n x session owed f = record {
+      lives = ap (λ l. is_dead l n) (sym killed) ∙ f.lives;
+      serves = sym (serving n x) ∙ f.serves;
+      meets = sym (same.meets n x) ∙ f.meets;
+      owes = sym (same.owes n x) ∙ f.owes;
+    }
+
+    finds_before : (w : Option Wanted) → FindsWell p u w → FindsWell p s w
+    finds_before None f = tt
+    finds_before (Some (Opens n x)) f = found_before n x false false f
+    finds_before (Some (Starts n x y z)) f = found_before n x true false f
+    finds_before (Some (Asks n x y z)) f = found_before n x true (owes p s.cells n x) (subst (λ b. Finds p u n x true b) (same.owes n x) f)
+    finds_before (Some (Cancels n x)) f = found_before n x true true f
+    finds_before (Some (Closes n x)) f = found_before n x true false f
 
 -- ---- what instructions tell
 

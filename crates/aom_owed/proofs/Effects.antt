@@ -8,20 +8,22 @@ use Rattle.aom_image.specs.declared.method.Gives.{Gives}
 use Rattle.aom_image.specs.declared.method.Gives.TheVariants.{Left, Maybe as A_maybe, Nothing, Own as An_own, Word as A_word}
 use Rattle.aom_image.specs.declared.method.Thing.TheVariants.{Object as An_object_of}
 use Rattle.aom_owed.proofs.Cells.{Unchanged, unchanged_along, unchanged_itself, unchanged_moved, unchanged_new, unchanged_stored}
-use Rattle.aom_sound.specs.Calls.{passed_cells, result_cells, result_register, returned}
+use Rattle.aom_owed.proofs.Services.{unchanged_served}
+use Rattle.aom_sound.specs.Calls.{accepted_cells, passed_cells, result_cells, result_register, returned}
 use Rattle.aom_sound.specs.Cleanup.{top_place}
-use Rattle.aom_sound.specs.Effects.{Calls, Cancels, Carried, Destroys, Destroys_last, Effect, Goes_on, Leaves, Made, Popped, Pushed, Requested, Returns, Sessioned, Sets_trap, Update, Written, applied, cells_after, spot_place}
+use Rattle.aom_sound.specs.Effects.{Calls, Cancels, Carried, Destroys, Destroys_last, Effect, Goes_on, Leaves, Made, Popped, Pushed, Replied, Requested, Returns, Sessioned, Sets_trap, Update, Written, applied, cells_after, spot_place}
 use Rattle.aom_sound.specs.Enlisted.{ended_cells}
 use Rattle.aom_sound.specs.Objects.{no_words}
-use Rattle.aom_sound.specs.Places.{Cell, Entry, Going, Register, moved, named}
-use Rattle.aom_sound.specs.State.{Destroy, Dispatched, Frame, Run, State, Task, Trapped, Unwind}
+use Rattle.aom_sound.specs.Places.{Cell, Elsewhere, Entry, Going, Place, Register, Session, moved, named}
+use Rattle.aom_sound.specs.State.{Accepts, Destroy, Dispatch, Dispatched, Frame, Of_server, Run, State, Task, Trapped, Unwind}
 use Rattle.aom_sound.specs.Words.{here}
 
--- a cell that is made has that name, and no request nor session changes
+-- a cell that is made has that name, no request nor session changes, and no message is completed
 abbrev pub LeavesAlone : ℕ → Update → Type 0
 LeavesAlone name (Made n class a) = n ≡ name
 LeavesAlone name (Requested r) = ⊥
 LeavesAlone name (Sessioned session) = ⊥
+LeavesAlone name (Replied a) = ⊥
 LeavesAlone name _ = Unit {0}
 
 abbrev pub IsAside : ℕ → Effect → Type 0
@@ -47,9 +49,17 @@ module _ (p : Image) (fr : Frame) (ts : List Task) (s : State) where
   brought_unchanged (A_maybe t) a x below = unchanged_moved p s.cells (here fr ts s a) (Register (length below) x)
   brought_unchanged (Left t) a x below = unchanged_itself p s.cells
 
+  -- a session that `accept` gives moves to its place, and the server has it
+  accepted_unchanged : (d : Dispatch) (from : Place) → Unchanged p s.cells (accepted_cells d from s.cells)
+  accepted_unchanged (Of_server x client Accepts) from =
+      let there = moved from (Elsewhere (Session x.object.name client)) s.cells in
+      unchanged_along p s.cells there _ (unchanged_moved p s.cells from (Elsewhere (Session x.object.name client))) (unchanged_served p there x.object.name _)
+  accepted_unchanged _ from = unchanged_itself p s.cells
+
   pub returned_unchanged : (g : Gives) (a : ℕ) (below : List Task) → Unchanged p s.cells (returned p fr ts s g a below).cells
   returned_unchanged g a (Run caller ∷ below) = brought_unchanged g a (result_register (instr_at p caller.method caller.place)) below
   returned_unchanged g a (Trapped ∷ Run caller ∷ below) = brought_unchanged g a (result_register (instr_at p caller.method caller.place)) below
+  returned_unchanged g a (Trapped ∷ Dispatched d ∷ below) = accepted_unchanged d (here fr ts s a)
   returned_unchanged g a _ = unchanged_itself p s.cells
 
   returned_killed : (g : Gives) (a : ℕ) (below : List Task) → (returned p fr ts s g a below).killed ≡ s.killed
@@ -68,6 +78,7 @@ module _ (p : Image) (fr : Frame) (ts : List Task) (s : State) where
     update_unchanged (Written w v) h = unchanged_stored p s.cells fr.home w v
     update_unchanged (Requested r) h = absurd h
     update_unchanged (Sessioned session) h = absurd h
+    update_unchanged (Replied a) h = absurd h
     update_unchanged (Pushed a) h = unchanged_moved p s.cells (here fr ts s a) (Entry (length s.items))
     update_unchanged (Popped a) h = unchanged_moved p s.cells (top_place s.items) (here fr ts s a)
     update_unchanged _ h = unchanged_itself p s.cells

@@ -1,10 +1,11 @@
 -- The cell that a turn is about: whose timer is due, that is ready, or that stands at a place.
 use Rattle.std.proofs.Common.{Bool, List, None, Option, Some, [], ap, cond, false, refl, subst, suc, sym, true, zero, ℕ, ℤ, ◌==◌, ◌∙◌, ◌∷◌, ◌≡◌}
 use Rattle.std.proofs.lemmas.Bool.{eq-eqb, ne_eqb}
-use Rattle.std.specs.Prelude.{nat_le}
-use Rattle.aom_sound.specs.Places.{Cell, Object, Phase, Request, Tidy, Timer, named, requested}
+use Rattle.std.specs.Prelude.{nat_le, ◌||◌}
+use Rattle.aom_sound.specs.Places.{Cell, Object, Phase, Request, Tidy, Timer, named, requested, service_of}
+use Rattle.aom_sound.specs.Servers.{has_more}
 use Rattle.aom_sound.specs.State.{State}
-use Rattle.aom_sound.specs.World.{Candidate, Completes, Completion, Cuts, Heard, Hears, Kills, Outside, Picks, Polls, Timed, Turning, among_ready, among_timers, before_others, by_event, by_timer, cell_at, delivers, first_due, first_ready, goes_before, has_signal, is_ready, is_sooner, lives, next_event, next_native, next_time, passes, picks, polls, sooner, turning}
+use Rattle.aom_sound.specs.World.{Candidate, Completes, Completion, Cuts, Heard, Hears, Kills, Obeys, Outside, Picks, Polls, Timed, Turning, among_ready, among_timers, before_others, by_event, by_timer, cell_at, delivers, first_due, first_ready, goes_before, goes_now, has_signal, is_ready, is_sooner, lives, next_event, next_native, next_time, passes, picks, polls, sooner, turning}
 use Rattle.aom_transcript.specs.declared.event.Event.{Event}
 use Rattle.aom_transcript.specs.declared.event.Event.TheVariants.{Kill, Tell}
 use Rattle.aom_transcript.specs.declared.event.TimedEvent.{TimedEvent}
@@ -20,11 +21,21 @@ is_first c cs = record {
   asked = ap (λ b. cond b c.request (requested cs c.object.name)) (eq-eqb c.object.name c.object.name refl);
 }
 
+service_first : (c : Cell) (cs : List Cell) → service_of (c ∷ cs) c.object.name ≡ c.service
+service_first c cs = ap (λ b. cond b c.service (service_of cs c.object.name)) (eq-eqb c.object.name c.object.name refl)
+
+-- of another name
+is_apart : (c : Cell) (cs : List Cell) (o : Object) → Tidy (c ∷ cs) → named cs o.name ≡ Some o → (c.object.name == o.name) ≡ false
+is_apart c cs o tidy lives = ne_eqb c.object.name o.name (λ same. let clash : Some o ≡ None = sym lives ∙ sym (ap (λ n. named cs n) same) ∙ tidy.1 in cc)
+
+service_later : (c : Cell) (cs : List Cell) (o : Object) → Tidy (c ∷ cs) → named cs o.name ≡ Some o → service_of (c ∷ cs) o.name ≡ service_of cs o.name
+service_later c cs o tidy lives = ap (λ b. cond b c.service (service_of cs o.name)) (is_apart c cs o tidy lives)
+
 is_later : (c : Cell) (cs : List Cell) (o : Object) (r : Option Request) → Tidy (c ∷ cs) → IsCell cs o r → IsCell (c ∷ cs) o r
 is_later c cs o r tidy f = record { lives = ap (λ b. cond b (Some c.object) (named cs o.name)) other ∙ f.lives; asked = ap (λ b. cond b c.request (requested cs o.name)) other ∙ f.asked }
   where
     other : (c.object.name == o.name) ≡ false
-    other = ne_eqb c.object.name o.name (λ same. let clash : Some o ≡ None = sym f.lives ∙ sym (ap (λ n. named cs n) same) ∙ tidy.1 in cc)
+    other = is_apart c cs o tidy f.lives
 
 -- ---- by its place
 
@@ -71,20 +82,24 @@ is_due (c ∷ cs) tidy x e = by_its_request c cs x tidy (λ e. is_due cs tidy.2 
 
 -- ---- as the first that is ready
 
+-- its request is completed, or something waits in its queue
+abbrev pub GoesNow : List Cell → Candidate → Type 0
+GoesNow cs y = (is_ready y.request || has_more (service_of cs y.seat.object.name).queue) ≡ true
+
 abbrev pub IsReady : List Cell → Candidate → Type 0
-IsReady cs y = IsCell cs y.seat.object (Some y.request) × (is_ready y.request ≡ true)
+IsReady cs y = IsCell cs y.seat.object (Some y.request) × GoesNow cs y
 
 module _ (c : Cell) (cs : List Cell) (y : Candidate) (tidy : Tidy (c ∷ cs)) (rest : first_ready cs ≡ Some y → IsReady cs y) where
   ready_later : first_ready cs ≡ Some y → IsReady (c ∷ cs) y
-  ready_later e = let d = rest e in (is_later c cs y.seat.object (Some y.request) tidy d.0, d.1)
+  ready_later e = let d = rest e in (is_later c cs y.seat.object (Some y.request) tidy d.0, ap (λ v. is_ready y.request || has_more v.queue) (service_later c cs y.seat.object tidy d.0.lives) ∙ d.1)
 
   abbrev me : Request → Candidate
   me r = record { seat = record { object = c.object; place = c.owner }; request = r }
 
-  ready_here : (r : Request) → c.request ≡ Some r → is_ready r ≡ true → me r ≡ y → IsReady (c ∷ cs) y
-  ready_here r asked ready same = subst (λ z. IsReady (c ∷ cs) z) same (subst (λ q. IsCell (c ∷ cs) c.object q) asked (is_first c cs), ready)
+  ready_here : (r : Request) → c.request ≡ Some r → goes_now c r ≡ true → me r ≡ y → IsReady (c ∷ cs) y
+  ready_here r asked ready same = subst (λ z. IsReady (c ∷ cs) z) same (subst (λ q. IsCell (c ∷ cs) c.object q) asked (is_first c cs), ap (λ v. is_ready r || has_more v.queue) (service_first c cs) ∙ ready)
 
-  first_of_all : (r : Request) → c.request ≡ Some r → is_ready r ≡ true → (others : Option Candidate) → first_ready cs ≡ others → Some (before_others (me r) others) ≡ Some y → IsReady (c ∷ cs) y
+  first_of_all : (r : Request) → c.request ≡ Some r → goes_now c r ≡ true → (others : Option Candidate) → first_ready cs ≡ others → Some (before_others (me r) others) ≡ Some y → IsReady (c ∷ cs) y
   first_of_all r asked ready None same e = ready_here r asked ready cc
   first_of_all r asked ready (Some b) same e = go (goes_before b.request r) e
     where
@@ -92,13 +107,13 @@ module _ (c : Cell) (cs : List Cell) (y : Candidate) (tidy : Tidy (c ∷ cs)) (r
       go true e = ready_later (same ∙ e)
       go false e = ready_here r asked ready cc
 
-  ready_or_not : (r : Request) → c.request ≡ Some r → (b : Bool) → is_ready r ≡ b → cond b (Some (before_others (me r) (first_ready cs))) (first_ready cs) ≡ Some y → IsReady (c ∷ cs) y
+  ready_or_not : (r : Request) → c.request ≡ Some r → (b : Bool) → goes_now c r ≡ b → cond b (Some (before_others (me r) (first_ready cs))) (first_ready cs) ≡ Some y → IsReady (c ∷ cs) y
   ready_or_not r asked true ready e = first_of_all r asked ready (first_ready cs) refl e
   ready_or_not r asked false ready e = ready_later e
 
   with_request_of : (r : Option Request) → c.request ≡ r → among_ready c r (first_ready cs) ≡ Some y → IsReady (c ∷ cs) y
   with_request_of None asked e = ready_later e
-  with_request_of (Some r) asked e = ready_or_not r asked (is_ready r) refl e
+  with_request_of (Some r) asked e = ready_or_not r asked (goes_now c r) refl e
 
 pub is_found_ready : (cs : List Cell) → Tidy cs → (y : Candidate) → first_ready cs ≡ Some y → IsReady cs y
 is_found_ready [] tidy y e = cc
@@ -109,6 +124,7 @@ is_found_ready (c ∷ cs) tidy y e = with_request_of c cs y tidy (λ e. is_found
 abbrev pub IsAbout : State → Turning → Type 0
 IsAbout s (Completes o) = (x : Timed) × (first_due s.cells ≡ Some x) × (x.object ≡ o)
 IsAbout s (Picks x) = (y : Candidate) × (first_ready s.cells ≡ Some y) × (y.seat ≡ x)
+IsAbout s (Obeys client command name) = named s.cells name ≡ None
 IsAbout s _ = Unit {0}
 
 module _ (outside : Outside) (heard : Heard) (s : State) where

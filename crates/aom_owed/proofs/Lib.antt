@@ -1,4 +1,5 @@
 pub mod Cells
+pub mod Services
 pub mod Effects
 pub mod Requests
 pub mod Calls

@@ -7,8 +7,8 @@ use Rattle.aom_image.specs.Image.{Image}
 use Rattle.aom_image.specs.Views.{gives_of, instr_at}
 use Rattle.aom_image.specs.declared.method.Role.TheVariants.{Error}
 use Rattle.aom_instructions.specs.declared.instr.Instr.{Instr}
-use Rattle.aom_instructions.specs.declared.instr.Instr.TheVariants.{Abort, Ask, Cancel, Close, Connect, Enlist, Issue, Return, SetActive}
-use Rattle.aom_owed.proofs.Calls.{IsAlive, Told, abort_told, alive_in, at_it, found, ask_told, asked_same, close_told, connect_told, ended_same, issue_told, sessions_after, taken_off, told_none, unasked}
+use Rattle.aom_instructions.specs.declared.instr.Instr.TheVariants.{Abort, Ask, Cancel, Close, Connect, Enlist, Issue, Reply, Return, SetActive}
+use Rattle.aom_owed.proofs.Calls.{IsAlive, Told, abort_told, alive_in, at_it, found, ask_told, asked_same, close_told, connect_told, ended_same, issue_told, sessions_after, sessions_along, taken_off, told_along, told_before, told_none, unasked}
 use Rattle.aom_owed.proofs.Cells.{Unchanged, meets_gone, owes_gone, served_none, unchanged_along, unchanged_itself, unchanged_moved}
 use Rattle.aom_owed.proofs.Effects.{IsAside, applied_killed, applied_unchanged, returned_unchanged}
 use Rattle.aom_owed.proofs.Requests.{cancelling_owed, none_owed, rests_owed, waits_owed}
@@ -18,25 +18,33 @@ use Rattle.aom_rules.specs.Typing.{Typing}
 use Rattle.aom_shape.specs.Needs.{AllTrue}
 use Rattle.aom_sound.proofs.Finishing.{all_parts}
 use Rattle.aom_sound.proofs.Guarded.{guarded_goes, guarded_met}
-use Rattle.aom_sound.proofs.Layers.{method_layer}
-use Rattle.aom_sound.proofs.Maps.{held_lives}
+use Rattle.aom_sound.proofs.Layers.{dispatch_layer, method_layer}
+use Rattle.aom_sound.proofs.Maps.{tidy_without, held_lives}
 use Rattle.aom_sound.proofs.Moving.{acted, steps_are_moves}
 use Rattle.aom_sound.specs.Calls.{result_needs, returned}
-use Rattle.aom_sound.specs.Claims.{Layer}
-use Rattle.aom_sound.specs.Destruction.{gone, is_at_rest, needs_gone}
+use Rattle.aom_sound.specs.Claims.{Dispatching, Layer}
+use Rattle.aom_sound.specs.Destruction.{first_session, vanished, parting, gone, is_at_rest, needs_gone}
 use Rattle.aom_sound.specs.Effects.{Effect, Leaves, Same, applied, cancels_if, deals, deletes, effect, jumps_if, jumps_unless, makes_unless, round, sets, unless_refused, updates}
 use Rattle.aom_sound.specs.Enlisted.{cancel_method, cancelling, ended_cells, first_request, in_phase, is_active, next_timer, on_request, own_request, part_of, thing_kind, waits}
-use Rattle.aom_sound.specs.Moves.{answered, asking, counted, dispatch_ends, failed, handled, main_ends, needs, object_ends, step, step_instr, step_task}
+use Rattle.aom_sound.specs.Moves.{stage_ends, answered, asking, counted, dispatch_ends, failed, handled, main_ends, needs, object_ends, step, step_instr, step_task}
 use Rattle.aom_sound.specs.Natives.{is_owed, native_of}
-use Rattle.aom_sound.specs.Places.{Tidy, Cell, Elsewhere, Entry, Going, Object, Root, held, in_session, named, requested, without}
-use Rattle.aom_sound.specs.State.{An_object, An_operation, Answered, Asks, AtRoot, Choice, Destroy, Dispatch, Dispatched, Frame, Goes, Home, Inside, Item, Main_left, Object_left, Of_main, Of_object, Of_root, Run, State, Static, Task, Unwind, resumed}
-use Rattle.aom_sound.specs.Steps.{Acts, Arrives, Clears, Comes_out, Ends, Fits, IsStill, Move, Rests, Undoes, Vanishes}
+use Rattle.aom_sound.specs.Places.{service_of, seen, In_service, Tidy, Cell, Elsewhere, Entry, Going, Object, Root, held, in_session, named, requested, without}
+use Rattle.aom_sound.specs.State.{Serves, Parts, Accepts, Accepted, Accept_left, Service_left, Of_server, Closing, Stage, Seat, An_object, An_operation, Answered, Asks, AtRoot, Choice, Destroy, Dispatch, Dispatched, Frame, Goes, Home, Inside, Item, Main_left, Object_left, Of_main, Of_object, Of_root, Run, State, Static, Task, Unwind}
+use Rattle.aom_sound.specs.Steps.{Empties, Acts, Arrives, Clears, Comes_out, Ends, Fits, IsStill, Move, Rests, Undoes, Vanishes}
 use Rattle.aom_sound.specs.Wanted.{Closes, wanted, wanted_by, wanted_going, wanted_gone, wanted_here, wanted_if, wanted_task}
-use Rattle.aom_sound.specs.WellTyped.{Good, IsHoused, WellTyped}
+use Rattle.aom_sound.specs.WellTyped.{Fits as FitsKind, Good, IsHoused, WellTyped}
+use Rattle.aom_sound.specs.Servers.{without_queue}
+use Rattle.aom_sound.specs.Words.{here}
+use Rattle.aom_sound.specs.Objects.{is_thing}
+use Rattle.aom_image.specs.declared.method.Thing.TheVariants.{Message}
+use Rattle.aom_owed.proofs.Services.{serves_unqueued, unchanged_unslotted, unchanged_served, session_unqueued, unchanged_completed, going_unqueued, tidy_unqueued, unchanged_unqueued}
+use Rattle.aom_sound.proofs.Things.{stands_same}
+use Rattle.aom_shape.specs.declared.kind.Kind.TheVariants.{Own}
+use Rattle.aom_shape.specs.declared.kind.Age.TheVariants.{Ready}
 
 -- ---- an instruction
 
-module _ (p : Image) (c : Choice) (fr : Frame) (ts : List Task) (s : State) (holds : SessionsHold p s) (alive : IsAlive s.cells fr.home) (unused : named s.cells c.name ≡ None) where
+module _ (p : Image) (t : Typing) (c : Choice) (fr : Frame) (ts : List Task) (s : State) (ls : List Layer) (good : Good p t s.cells ls) (holds : SessionsHold p s) (alive : IsAlive s.cells fr.home) (unused : named s.cells c.name ≡ None) where
   abbrev Tells : Instr → Type 0
   Tells i = Told p c.answer s (wanted_by s p fr ts fr.home (Some i)) (applied p fr ts (counted p s) (effect p c fr ts (counted p s) i)).cells
 
@@ -102,6 +110,11 @@ module _ (p : Image) (c : Choice) (fr : Frame) (ts : List Task) (s : State) (hol
   tells SetActive met = silent SetActive (λ n name. refl) (asked_same p c.answer s fr.home (on_request waits (own_request s.cells fr.home)) (waits_owed (own_request s.cells fr.home) met.1.1.1.0))
   tells Cancel met = silent Cancel (λ n name. refl) (cancels (in_phase is_active (own_request s.cells fr.home)) refl (cancel_method p fr.home))
   tells (Return a) met = silent (Return a) (λ n name. refl) (returns a met)
+  tells (Reply a b) met = silent (Reply a b) (λ n name. refl) (unchanged_completed p t s.cells ls good (here fr ts (counted p s) a) (λ x there. is_message x there met.1.1.0))
+    where
+      -- what is completed is a message
+      is_message : (x : Object) → held s.cells (here fr ts (counted p s) a) ≡ Some x → is_thing p Message (held s.cells (here fr ts (counted p s) a)) ≡ true → x.thing ≡ Message
+      is_message x there thing = stands_same p x.thing Message (sym (ap (is_thing p Message) there) ∙ thing)
   -- the others make no call, whatever a test of theirs decides
   tells i met = aside i (λ n name. refl) (search (jumps_aside, misses_aside, round_aside, deletes_aside, deals_aside, makes_aside, refused_aside, leaves_aside))
 
@@ -176,18 +189,37 @@ answer_calm p answer s = go (int_eq answer (pos 0))
     go true = object_calm p s
     go false = (unchanged_itself p s.cells, refl)
 
-end_calm : (p : Image) (d : Dispatch) (s : State) → IsCalm p s (dispatch_ends p d s)
-end_calm p Of_main s = (main_unchanged p s.rest.stopped (held s.cells (Elsewhere Root)) s, main_killed p s.rest.stopped (held s.cells (Elsewhere Root)) s)
-end_calm p (Main_left code) s = (unchanged_itself p s.cells, refl)
-end_calm p Of_root s = (unchanged_itself p s.cells, refl)
-end_calm p (Of_object x) s = object_calm p s
-end_calm p (Object_left x code) s = go (part_of p Error x.object.thing)
-  where
-    go : (m : Option ℕ) → IsCalm p s (asking p m x code s)
-    go None = answer_calm p code s
-    go (Some m) = (unchanged_itself p s.cells, refl)
-end_calm p (Asks x) s = object_calm p s
-end_calm p (Answered x answer) s = answer_calm p answer s
+module _ (p : Image) (t : Typing) (s : State) where
+  -- what a service has left is a message
+  left_message : (x : Seat) (client : ℕ) (code : ℤ) (seats : List Seat) (below : List Layer) → Good p t s.cells (Dispatching (Of_server x client (Service_left code)) seats ∷ below) → (y : Object) → held s.cells (Elsewhere In_service) ≡ Some y → y.thing ≡ Message
+  left_message x client code seats below good y there = let f = subst (λ o. FitsKind p (seen s.cells) o (Own Message Ready)) there (good.fits (Elsewhere In_service)) in stands_same p y.thing Message f.0
+
+  stage_calm : (x : Seat) (client : ℕ) (stage : Stage) (seats : List Seat) (below : List Layer) → Good p t s.cells (Dispatching (Of_server x client stage) seats ∷ below) → IsCalm p s (stage_ends x client stage s)
+  stage_calm x client (Service_left code) seats below good = (unchanged_completed p t s.cells (Dispatching (Of_server x client (Service_left code)) seats ∷ below) good (Elsewhere In_service) (left_message x client code seats below good), refl)
+  stage_calm x client Parts seats below good = (unchanged_served p s.cells x.object.name _, refl)
+  stage_calm x client Accepts seats below good = (unchanged_itself p s.cells, refl)
+  stage_calm x client Accepted seats below good = (unchanged_itself p s.cells, refl)
+  stage_calm x client (Accept_left code) seats below good = (unchanged_itself p s.cells, refl)
+  stage_calm x client (Serves o) seats below good = (unchanged_itself p s.cells, refl)
+
+  end_calm : (d : Dispatch) (seats : List Seat) (below : List Layer) → Good p t s.cells (Dispatching d seats ∷ below) → IsCalm p s (dispatch_ends p d s)
+  end_calm Of_main seats below good = (main_unchanged p s.rest.stopped (held s.cells (Elsewhere Root)) s, main_killed p s.rest.stopped (held s.cells (Elsewhere Root)) s)
+  end_calm (Main_left code) seats below good = (unchanged_itself p s.cells, refl)
+  end_calm Of_root seats below good = (unchanged_itself p s.cells, refl)
+  end_calm (Of_object x) seats below good = object_calm p s
+  end_calm (Object_left x code) seats below good = go (part_of p Error x.object.thing)
+    where
+      go : (m : Option ℕ) → IsCalm p s (asking p m x code s)
+      go None = answer_calm p code s
+      go (Some m) = (unchanged_itself p s.cells, refl)
+  end_calm (Asks x) seats below good = object_calm p s
+  end_calm (Answered x answer) seats below good = answer_calm p answer s
+  end_calm (Of_server x client stage) seats below good = stage_calm x client stage seats below good
+
+-- a server that goes lets go of a session, or its destructor begins
+parting_calm : (p : Image) (o : Object) (first : Option Seat) (ts : List Task) (s : State) → IsCalm p s (parting p o first ts s)
+parting_calm p o None ts s = (unchanged_itself p s.cells, refl)
+parting_calm p o (Some x) ts s = (unchanged_moved p s.cells x.place (Going (length (Closing ∷ Destroy ∷ ts))), refl)
 
 -- ---- any move
 
@@ -225,23 +257,41 @@ module _ (p : Image) (t : Typing) (c : Choice) (s u : State) (w : WellTyped p t 
       told =
           subst (λ l. Told p c.answer s (wanted_task s p l) u.cells) (sym at)
           (subst (λ x. Told p c.answer s (wanted_by s p fr ts fr.home x) u.cells) (sym there)
-          (subst (λ (x : State). Told p c.answer s (wanted_by s p fr ts fr.home (Some i)) x.cells) (sym acts.2) (tells p c fr ts s holds alive unused i acts.0)))
+          (subst (λ (x : State). Told p c.answer s (wanted_by s p fr ts fr.home (Some i)) x.cells) (sym acts.2) (tells p t c fr ts s w.layers w.good holds alive unused i acts.0)))
 
   of_going : (ts : List Task) (o : Object) → s.tasks ≡ Destroy ∷ ts → held s.cells (Going (length ts)) ≡ Some o → Tale
   of_going ts o at there = (told, sym (ap (λ (x : State). x.killed) after))
     where
+      -- once what waits in its queue is gone
+      less : State
+      less = record s { cells = without_queue o.name s.cells }
+
       goes : gone (Some o) ts (counted p s) ≡ Goes u
       goes = subst (λ x. gone x ts (counted p s) ≡ Goes u) there (subst (λ l. step_task p c (counted p s) l ≡ Goes u) at e)
 
-      after : record (counted p s) { cells = without (Going (length ts)) s.cells; tasks = resumed ts } ≡ u
-      after = guarded_goes (needs_gone s.cells o) _ u goes
+      after : vanished o ts (counted p s) ≡ u
+      after = guarded_goes (needs_gone less.cells o) _ u goes
+
+      unqueued : Told p c.answer less (wanted_gone less p (Some o)) (without (Going (length ts)) less.cells)
+      unqueued =
+          goes_told p c.answer less (sessions_along p s less (unchanged_unqueued p t s.cells w.layers w.good o.name) refl holds) (tidy_unqueued p t s.cells w.layers w.good o.name) (length ts) o
+          (going_unqueued p t s.cells w.layers w.good o.name (length ts) o there) (guarded_met (needs_gone less.cells o) _ u goes).1.0
+
+      same_call : wanted_gone less p (Some o) ≡ wanted_gone s p (Some o)
+      same_call = go (native_of (thing_kind p o.thing))
+        where
+          go : (x : Option ℕ) → wanted_going less o x ≡ wanted_going s o x
+          go None = refl
+          go (Some n) = ap (λ b. wanted_if b (Closes n o.name)) (session_unqueued p t s.cells w.layers w.good o.name (length ts) o there)
 
       told : Told p c.answer s (wanted p s) u.cells
       told =
           subst (λ l. Told p c.answer s (wanted_task s p l) u.cells) (sym at)
           (subst (λ x. Told p c.answer s (wanted_gone s p x) u.cells) (sym there)
           (subst (λ (x : State). Told p c.answer s (wanted_gone s p (Some o)) x.cells) after
-          (goes_told p c.answer s holds w.good.tidy (length ts) o there (guarded_met (needs_gone s.cells o) _ u goes).1.0)))
+          (told_along p c.answer s (wanted_gone s p (Some o)) _ _ (unchanged_unslotted p (service_of s.cells o.name).sessions _ (tidy_without less.cells (Going (length ts)) (tidy_unqueued p t s.cells w.layers w.good o.name)))
+          (subst (λ x. Told p c.answer s x (without (Going (length ts)) less.cells)) same_call
+          (told_before p c.answer s less (unchanged_unqueued p t s.cells w.layers w.good o.name) (λ k m. serves_unqueued p t s.cells w.layers w.good o.name k m) refl (wanted_gone less p (Some o)) _ unqueued)))))
 
   of_move : Move p c s u → Tale
   of_move (Acts fr ts i effect at there met fits same) = of_method fr ts i at there
@@ -251,7 +301,9 @@ module _ (p : Image) (t : Typing) (c : Choice) (s u : State) (w : WellTyped p t 
   of_move (Undoes code ts items m x at top same) = calmly _ same (ap (λ l. wanted_task s p l) at) (unchanged_itself p s.cells, refl)
   of_move (Arrives code fr ts items at top same) = calmly _ same (ap (λ l. wanted_task s p l) at) (unchanged_itself p s.cells, refl)
   of_move (Comes_out code d ts items at top same) = calmly _ same (ap (λ l. wanted_task s p l) at) (unchanged_itself p s.cells, refl)
-  of_move (Ends d ts at same) = calmly _ same (ap (λ l. wanted_task s p l) at) (end_calm p d (counted p s))
+  of_move (Ends d ts at same) =
+      calmly _ same (ap (λ l. wanted_task s p l) at) (dispatch_layer (λ ls. Good p t s.cells ls) d ts w.layers (sym w.tasks ∙ at) w.good (λ seats below _ good. end_calm p t (counted p s) d seats below good))
+  of_move (Empties ts o at there same) = calmly _ same (ap (λ l. wanted_task s p l) at) (parting_calm p o (first_session s.cells o.name (service_of s.cells o.name).sessions) ts (counted p s))
 
   move_told : FollowsCall p c s u
   move_told = let tale = of_move (steps_are_moves p c s u e) in record {

@@ -1,30 +1,34 @@
 -- Each turn tells what its kill or its completion does: what a timer completes no native serves, and what is dispatched is completed before.
-use Rattle.std.proofs.Common.{Bool, List, None, Option, Some, [], ap, cond, false, refl, subst, sym, true, ℕ, ℤ, ◌&&◌, ◌==◌, ◌∙◌, ◌∷◌, ◌≡◌, pos}
+use Rattle.std.proofs.Common.{is_some, Bool, List, None, Option, Some, [], ap, cond, false, refl, subst, sym, true, ℕ, ℤ, ◌&&◌, ◌==◌, ◌∙◌, ◌∷◌, ◌≡◌, pos}
 use Rattle.std.proofs.lemmas.Bool.{not-true, and_from, and_parts, and_right, eqb-true, or_from, true≢false}
 use Rattle.std.proofs.lemmas.List.Folds.{list_any-append}
 use Rattle.std.specs.Ordering.{int_eq}
 use Rattle.std.specs.Prelude.{is_none, not, ◌||◌}
 use Rattle.aom_image.specs.Image.{Image}
 use Rattle.aom_image.specs.declared.class.ClassKind.{ClassKind}
-use Rattle.aom_image.specs.declared.class.ClassKind.TheVariants.{Active as An_active}
+use Rattle.aom_image.specs.declared.class.ClassKind.TheVariants.{Active as An_active, Plain, Server as A_server, Session}
 use Rattle.aom_image.specs.declared.class.Provider.TheVariants.{Native, Own, Timer as A_timer}
 use Rattle.aom_image.specs.declared.method.Thing.{Thing}
 use Rattle.aom_owed.proofs.Calls.{asked_same, still, taken_off}
-use Rattle.aom_owed.proofs.Cells.{Unchanged, meets_asked, native_served, owes_asked, served_so, unchanged_asked}
-use Rattle.aom_owed.proofs.Found.{IsAbout, IsCell, IsDue, is_due, is_found_ready, stands_at, turn_about}
+use Rattle.aom_owed.proofs.Cells.{unchanged_moved, unchanged_along, Unchanged, meets_asked, native_served, owes_asked, served_so, unchanged_asked}
+use Rattle.aom_owed.proofs.Found.{GoesNow, IsAbout, IsCell, IsDue, is_due, is_found_ready, stands_at, turn_about}
 use Rattle.aom_owed.proofs.Requests.{completed_owed, completed_with_owed, taken_owed}
 use Rattle.aom_owed.specs.Laws.{TurnsKillOrComplete}
 use Rattle.aom_owed.specs.Owed.{CompletesOwed, SessionsHold, has_name, killed_turned, meets, meets_turned, owes, owes_turned, serves, serves_object}
 use Rattle.aom_rules.specs.Typing.{Typing}
 use Rattle.aom_sound.proofs.Guarded.{goes_same, guarded_goes}
-use Rattle.aom_sound.proofs.Turned.{dispatched_so, recorded_so}
+use Rattle.aom_sound.proofs.Turned.{handles, accepts, attends, parts as by_parting, picked_so, Picked, recorded_so}
 use Rattle.aom_sound.specs.Enlisted.{completed_with, is_active, on_request, pending, recorded, taken_up, thing_kind, timed_out}
+use Rattle.aom_roles.specs.Classes.{sessions_in, sessions_of}
+use Rattle.aom_sound.specs.Kept.{ClientsFit}
 use Rattle.aom_sound.specs.Natives.{all_bereaved, is_dead, is_outstanding_at, is_owed, is_served_by, native_of, terminated, terminated_request}
-use Rattle.aom_sound.specs.Places.{Cell, Request, Timer, in_session, named, requested}
+use Rattle.aom_sound.specs.Places.{Cell, Elsewhere, Going, In_service, Queued, Request, Session as Session_at, Timer, in_session, named, requested}
 use Rattle.aom_sound.specs.Requests.{Known, Suits, states_claim}
-use Rattle.aom_sound.specs.State.{CompletedTwice, Goes, Inside, Seat, State}
+use Rattle.aom_sound.specs.State.{CompletedTwice, Goes, Inside, State}
 use Rattle.aom_sound.specs.WellTyped.{WellTyped}
-use Rattle.aom_sound.specs.World.{AnswersWell, Candidate, Completes, Cuts, Hears, Kills, Passes, Picks, Polls, Strays, Timed, Turning, Waits, answered_by, cell_at, is_ready, turned, turning, with_request}
+use Rattle.aom_sound.specs.World.{taken_from, heard_one, Obeys, AnswersWell, Candidate, Completes, Cuts, Hears, Kills, Passes, Picks, Polls, Strays, Timed, Turning, Waits, answered_by, cell_at, is_ready, turned, turning, with_request}
+use Rattle.aom_sound.specs.Servers.{has_more, is_server}
+use Rattle.aom_owed.proofs.Services.{unchanged_served, unchanged_commanded, commanded_killed}
 
 -- ---- a native is killed
 
@@ -108,11 +112,44 @@ module _ (p : Image) (t : Typing) (s : State) (w : WellTyped p t s) where
 
   -- ---- an object is dispatched
 
-  picked_same : (y : Candidate) → IsCell s.cells y.seat.object (Some y.request) → is_ready y.request ≡ true → Unchanged p s.cells (with_request taken_up y.seat.object s.cells)
-  picked_same y cell ready =
+  ready_same : (y : Candidate) → IsCell s.cells y.seat.object (Some y.request) → is_ready y.request ≡ true → Unchanged p s.cells (with_request taken_up y.seat.object s.cells)
+  ready_same y cell ready =
       let own = requested s.cells y.seat.object.name in
       let completed = not-true (int_eq y.request.status pending) (and_parts (is_active y.request.phase) (not (int_eq y.request.status pending)) ready).1 in
       asked_same p (pos 0) s (Inside y.seat.object y.seat.place) (on_request taken_up own) (taken_owed own ∙ sym (ap is_owed cell.asked ∙ completed_owed (Some y.request) completed))
+
+  -- no native serves a server
+  server_unserved : (x : Thing) → is_server p x ≡ true → native_of (thing_kind p x) ≡ None
+  unfolding sessions_in sessions_of
+  server_unserved x server = go (thing_kind p x) server
+    where
+      go : (k : Option ClassKind) → is_some (sessions_in k) ≡ true → native_of k ≡ None
+      go (Some (A_server most session budget)) e = refl
+      go None e = refl
+      go (Some (An_active provider budget)) e = cc
+      go (Some Plain) e = refl
+      go (Some Session) e = refl
+
+  -- what is no server is ready, since nothing waits in its queue
+  picked_same : (y : Candidate) → ClientsFit p s.clients s.cells → IsCell s.cells y.seat.object (Some y.request) → GoesNow s.cells y → Unchanged p s.cells (with_request taken_up y.seat.object s.cells)
+  picked_same y fit cell now = go (is_server p y.seat.object.thing) refl
+    where
+      or_right_false : (b : Bool) → (b || false) ≡ b
+      or_right_false true = refl
+      or_right_false false = refl
+
+      go : (b : Bool) → is_server p y.seat.object.thing ≡ b → Unchanged p s.cells (with_request taken_up y.seat.object s.cells)
+      go true server = unchanged_asked p s.cells y.seat.object _ (λ k. still p (pos 0) s y.seat.object cell.lives (server_unserved y.seat.object.thing server) k _ _)
+      go false plain = ready_same y cell (sym (or_right_false (is_ready y.request)) ∙ sym (ap (λ q. is_ready y.request || has_more q) (fit.servers y.seat.object cell.lives plain).0) ∙ now)
+
+  -- an object is dispatched, or a server with the first of its queue
+  pick_same : (y : Candidate) (u : State) → ClientsFit p s.clients s.cells → IsCell s.cells y.seat.object (Some y.request) → GoesNow s.cells y → Picked p s y.seat u → Unchanged p s.cells u.cells × (u.killed ≡ s.killed)
+  pick_same y u fit cell now d = elim d as (λ v d. Unchanged p s.cells v.cells × (v.killed ≡ s.killed)) [
+    | handles m at ↦ (picked_same y fit cell now, refl)
+    | accepts client m at ↦ (unchanged_served p s.cells y.seat.object.name _, refl)
+    | attends client message m o there at ↦ (unchanged_along p s.cells (taken_from y.seat.object.name s).cells _ (unchanged_served p s.cells y.seat.object.name _) (unchanged_moved p (taken_from y.seat.object.name s).cells (Elsewhere (Queued y.seat.object.name message)) (Elsewhere In_service)), refl)
+    | by_parting client o there ↦ (unchanged_along p s.cells (taken_from y.seat.object.name s).cells _ (unchanged_served p s.cells y.seat.object.name _) (unchanged_moved p (taken_from y.seat.object.name s).cells (Elsewhere (Session_at y.seat.object.name client)) (Going 1)), refl)
+  ]
 
   -- ---- a request is completed
 
@@ -161,23 +198,25 @@ module _ (p : Image) (t : Typing) (s u : State) (w : WellTyped p t s) where
         killed = refl;
       })
 
-  pub told : (k : Turning) → IsAbout s k → AnswersWell p s k → turned p s k ≡ Goes u → Tale p s u k
-  told Cuts about well e = subst (λ (v : State). Tale p s v Cuts) (goes_same _ u e) (record { completes = tt; owes = λ n m. refl; meets = λ n m. refl; killed = refl })
-  told Hears about well e = subst (λ (v : State). Tale p s v Hears) (goes_same _ u e) (record { completes = tt; owes = λ n m. refl; meets = λ n m. refl; killed = refl })
-  told (Passes time) about well e = subst (λ (v : State). Tale p s v (Passes time)) (goes_same _ u e) (record { completes = tt; owes = λ n m. refl; meets = λ n m. refl; killed = refl })
-  told Waits about well e = subst (λ (v : State). Tale p s v Waits) (goes_same _ u e) (record { completes = tt; owes = λ n m. refl; meets = λ n m. refl; killed = refl })
-  told Strays about well e = cc
-  told (Completes o) about well e =
+  pub told : (k : Turning) → ClientsFit p s.clients s.cells → IsAbout s k → AnswersWell p s k → turned p s k ≡ Goes u → Tale p s u k
+  told Cuts fit about well e = subst (λ (v : State). Tale p s v Cuts) (goes_same _ u e) (record { completes = tt; owes = λ n m. refl; meets = λ n m. refl; killed = refl })
+  told Hears fit about well e = subst (λ (v : State). Tale p s v Hears) (goes_same _ u e) (record { completes = tt; owes = λ n m. refl; meets = λ n m. refl; killed = refl })
+  told (Passes time) fit about well e = subst (λ (v : State). Tale p s v (Passes time)) (goes_same _ u e) (record { completes = tt; owes = λ n m. refl; meets = λ n m. refl; killed = refl })
+  told Waits fit about well e = subst (λ (v : State). Tale p s v Waits) (goes_same _ u e) (record { completes = tt; owes = λ n m. refl; meets = λ n m. refl; killed = refl })
+  told Strays fit about well e = cc
+  told (Completes o) fit about well e =
       let same = subst (λ x. Unchanged p s.cells (with_request timed_out x s.cells)) about.2 (due_same p t s w about.0 (is_due s.cells w.good.tidy about.0 about.1)) in
       subst (λ (v : State). Tale p s v (Completes o)) (goes_same _ u e) (record { completes = tt; owes = same.owes; meets = same.meets; killed = refl })
-  told (Kills n) about well e = subst (λ (v : State). Tale p s v (Kills n)) (goes_same _ u e) (record { completes = tt; owes = owes_bereaved p n s.cells; meets = meets_bereaved p n s.cells; killed = refl })
-  told (Polls n None) about well e = subst (λ (v : State). Tale p s v (Polls n None)) (goes_same _ u e) (record { completes = tt; owes = λ n m. refl; meets = λ n m. refl; killed = refl })
-  told (Polls n (Some a)) about well e = asked_then a.cell well.0 well.1 n a.code well.2 (subst (λ c. answered_by p n c a.code s ≡ Goes u) well.1 e)
-  told (Picks x) about well e =
-      let d = dispatched_so p s u x e in
-      let ready = is_found_ready s.cells w.good.tidy about.0 about.1 in
-      let same = subst (λ (y : Seat). Unchanged p s.cells (with_request taken_up y.object s.cells)) about.2 (picked_same p t s w about.0 ready.0 ready.1) in
-      subst (λ (v : State). Tale p s v (Picks x)) (sym d.2) (record { completes = tt; owes = same.owes; meets = same.meets; killed = refl })
+  told (Kills n) fit about well e = subst (λ (v : State). Tale p s v (Kills n)) (goes_same _ u e) (record { completes = tt; owes = owes_bereaved p n s.cells; meets = meets_bereaved p n s.cells; killed = refl })
+  told (Polls n None) fit about well e = subst (λ (v : State). Tale p s v (Polls n None)) (goes_same _ u e) (record { completes = tt; owes = λ n m. refl; meets = λ n m. refl; killed = refl })
+  told (Polls n (Some a)) fit about well e = asked_then a.cell well.0 well.1 n a.code well.2 (subst (λ c. answered_by p n c a.code s ≡ Goes u) well.1 e)
+  told (Picks x) fit about well e =
+      let cell = is_found_ready s.cells w.good.tidy about.0 about.1 in
+      let same = pick_same p t s w about.0 u fit cell.0 cell.1 (subst (λ y. Picked p s y u) (sym about.2) (picked_so p s u x e)) in
+      record { completes = tt; owes = same.0.owes; meets = same.0.meets; killed = same.1 }
+  told (Obeys client command name) fit about well e =
+      let same = unchanged_commanded p t (heard_one s) w.layers w.good client name about command in
+      subst (λ (v : State). Tale p s v (Obeys client command name)) (goes_same _ u e) (record { completes = tt; owes = same.owes; meets = same.meets; killed = commanded_killed p (heard_one s) client name command })
 
 -- ---- sessions hold after it
 
@@ -201,6 +240,6 @@ module _ (p : Image) (s : State) (holds : SessionsHold p s) where
   }
 
 pub turns_kill_or_complete : TurnsKillOrComplete
-turns_kill_or_complete p t outside heard s u w well holds e =
-    let tale = told p t s u w (turning outside heard s) (turn_about outside heard s) well e in
+turns_kill_or_complete p t outside heard s u w well fit holds e =
+    let tale = told p t s u w (turning outside heard s) fit (turn_about outside heard s) well.completion e in
     record { completes = tale.completes; owes = tale.owes; meets = tale.meets; killed = tale.killed; sessions = sessions_turned p s holds u (turning outside heard s) tale }

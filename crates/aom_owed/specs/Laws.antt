@@ -1,14 +1,15 @@
 -- The laws of what is outstanding at natives.
-use Rattle.std.specs.Prelude.{ℕ, true, false, ◌≡◌, List, Option, None}
+use Rattle.std.specs.Prelude.{ℕ, true, false, ◌≡◌, List, None}
 use Rattle.aom_image.specs.Image.{Image}
 use Rattle.aom_rules.specs.Typing.{Typing, IsTyped}
+use Rattle.aom_sound.specs.Kept.{ClientsFit}
 use Rattle.aom_sound.specs.Laws.{IsWired}
 use Rattle.aom_sound.specs.Moves.{step}
 use Rattle.aom_sound.specs.Places.{Cell, named}
 use Rattle.aom_sound.specs.State.{State, Choice, Goes}
 use Rattle.aom_sound.specs.Wanted.{wanted}
 use Rattle.aom_sound.specs.WellTyped.{WellTyped}
-use Rattle.aom_sound.specs.World.{AnswersWell, Heard, Outside, Reaches, boot_state, turn, turning}
+use Rattle.aom_sound.specs.World.{Heard, HearsWell, Outside, Reaches, boot_state, turn, turning}
 use Rattle.aom_transcript.specs.declared.line.Line.{Line}
 use Rattle.aom_owed.specs.Owed.{CompletesOwed, FindsWell, SessionsHold, killed_turned, meets, meets_after, meets_turned, owes, owes_after, owes_turned}
 
@@ -29,7 +30,7 @@ pub record FollowsCall (p : Image) (c : Choice) (s u : State) : Type 0 where
 abbrev pub MovesFollowCalls : Type 0
 MovesFollowCalls = (p : Image) (t : Typing) (c : Choice) (s u : State) → WellTyped p t s → named s.cells c.name ≡ None → SessionsHold p s → step p c s ≡ Goes u → FollowsCall p c s u
 
--- a turn changes it where it kills a native, or completes what is outstanding at one
+-- a turn changes it where it kills a native, or completes what is outstanding at one; clients change none of it
 pub record FollowsTurn (p : Image) (outside : Outside) (heard : Heard) (s u : State) : Type 0 where
   pub completes : CompletesOwed p s.cells (turning outside heard s)
   pub owes : (k m : ℕ) → owes p u.cells k m ≡ owes_turned s.cells (turning outside heard s) k m (owes p s.cells k m)
@@ -39,7 +40,7 @@ pub record FollowsTurn (p : Image) (outside : Outside) (heard : Heard) (s u : St
 
 abbrev pub TurnsKillOrComplete : Type 0
 TurnsKillOrComplete =
-    (p : Image) (t : Typing) (outside : Outside) (heard : Heard) (s u : State) → WellTyped p t s → AnswersWell p s (turning outside heard s) → SessionsHold p s → turn p outside heard s ≡ Goes u →
+    (p : Image) (t : Typing) (outside : Outside) (heard : Heard) (s u : State) → WellTyped p t s → HearsWell p outside heard s → ClientsFit p s.clients s.cells → SessionsHold p s → turn p outside heard s ≡ Goes u →
     FollowsTurn p outside heard s u
 
 -- so sessions hold all along a run

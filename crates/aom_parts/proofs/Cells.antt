@@ -1,5 +1,5 @@
 -- The machine's cells, where owners move and where a cell goes.
-use Rattle.std.proofs.Common.{suc, ◌≡◌, ℕ, pos, ◌+◌, Bool, true, false, cond, not, ◌==◌, length, List, [], ◌∷◌, Option, Some, None, refl, sym, ap, ◌∙◌, arith, subst, ◌<◌}
+use Rattle.std.proofs.Common.{◌≡◌, ℕ, pos, ◌+◌, Bool, true, false, cond, not, ◌==◌, length, List, [], ◌∷◌, Option, Some, None, refl, sym, ap, ◌∙◌, arith, subst, ◌<◌}
 use Rattle.std.proofs.lemmas.Bool.{eqb-true, eq-eqb, false≢true, false_from_ne_true, not-true, true≢false}
 use Rattle.aom_image.specs.Image.{Image}
 use Rattle.aom_cells.specs.declared.cell.Cell.{Cell as Held_cell}

@@ -6,7 +6,7 @@ use Rattle.aom_sound.proofs.Maps.{same_place-true}
 use Rattle.aom_sound.specs.Cleanup.{to_trap}
 use Rattle.aom_sound.specs.Calls.{below_top}
 use Rattle.aom_sound.specs.Places.{Cell, Entry, Place, held, moved, same_place}
-use Rattle.aom_sound.specs.State.{A_mark, An_object, An_operation, Destroy, Dispatched, Frame, Item, Run, Task, Trapped, Unwind, resumed}
+use Rattle.aom_sound.specs.State.{A_mark, An_object, An_operation, Closing, Destroy, Dispatched, Frame, Item, Run, Task, Trapped, Unwind, resumed}
 use Rattle.aom_parts.specs.Room.{AllFit, AllRunUnder, AllUnder, IsUnder, RunsUnder, below_height, destructor_in, entries_in, may_push, run_by}
 
 -- each method at hand began where the cleanup stack had no more items than that
@@ -15,6 +15,7 @@ AllLow n [] = Unit {0}
 AllLow n (Run fr ∷ ts) = (fr.height ≤ n) × AllLow n ts
 AllLow n (Trapped ∷ ts) = AllLow n ts
 AllLow n (Destroy ∷ ts) = AllLow n ts
+AllLow n (Closing ∷ ts) = AllLow n ts
 AllLow n (Unwind code ∷ ts) = AllLow n ts
 AllLow n (Dispatched d ∷ ts) = AllLow n ts
 
@@ -23,6 +24,7 @@ lower n k [] le w = tt
 lower n k (Run fr ∷ ts) le w = (omega (arith, w.0), lower n k ts le w.1)
 lower n k (Trapped ∷ ts) le w = lower n k ts le w
 lower n k (Destroy ∷ ts) le w = lower n k ts le w
+lower n k (Closing ∷ ts) le w = lower n k ts le w
 lower n k (Unwind code ∷ ts) le w = lower n k ts le w
 lower n k (Dispatched d ∷ ts) le w = lower n k ts le w
 
@@ -64,6 +66,7 @@ module _ (p : Image) (depth heights : ℕ → ℕ) where
   under_less n k (Run fr ∷ ts) lt u = omega (arith, lt, u)
   under_less n k (Trapped ∷ ts) lt u = under_less n k ts lt u
   under_less n k (Destroy ∷ ts) lt u = under_less n k ts lt u
+  under_less n k (Closing ∷ ts) lt u = under_less n k ts lt u
   under_less n k (Unwind code ∷ ts) lt u = under_less n k ts lt u
   under_less n k (Dispatched d ∷ ts) lt u = under_less n k ts lt u
 
@@ -83,6 +86,7 @@ module _ (p : Image) (depth heights : ℕ → ℕ) where
   all_same cs cs' items (Run fr ∷ ts) same w = (same_runs cs cs' fr.height (depth fr.method) items same w.0, all_same cs cs' items ts same w.1)
   all_same cs cs' items (Trapped ∷ ts) same w = all_same cs cs' items ts same w
   all_same cs cs' items (Destroy ∷ ts) same w = all_same cs cs' items ts same w
+  all_same cs cs' items (Closing ∷ ts) same w = all_same cs cs' items ts same w
   all_same cs cs' items (Unwind code ∷ ts) same w = all_same cs cs' items ts same w
   all_same cs cs' items (Dispatched d ∷ ts) same w = all_same cs cs' items ts same w
 
@@ -96,6 +100,7 @@ module _ (p : Image) (depth heights : ℕ → ℕ) where
   runs_below cs i items (Run fr ∷ ts) w = (w.0.1, runs_below cs i items ts w.1)
   runs_below cs i items (Trapped ∷ ts) w = runs_below cs i items ts w
   runs_below cs i items (Destroy ∷ ts) w = runs_below cs i items ts w
+  runs_below cs i items (Closing ∷ ts) w = runs_below cs i items ts w
   runs_below cs i items (Unwind code ∷ ts) w = runs_below cs i items ts w
   runs_below cs i items (Dispatched d ∷ ts) w = runs_below cs i items ts w
 
@@ -104,6 +109,7 @@ module _ (p : Image) (depth heights : ℕ → ℕ) where
   same_fit items items' (Run fr ∷ ts) n low same w = (λ may. subst (λ is. entries_in is + heights fr.method ≤ 1024) (sym (same fr.height low.0)) (w.0 may), same_fit items items' ts n low.1 same w.1)
   same_fit items items' (Trapped ∷ ts) n low same w = same_fit items items' ts n low same w
   same_fit items items' (Destroy ∷ ts) n low same w = same_fit items items' ts n low same w
+  same_fit items items' (Closing ∷ ts) n low same w = same_fit items items' ts n low same w
   same_fit items items' (Unwind code ∷ ts) n low same w = same_fit items items' ts n low same w
   same_fit items items' (Dispatched d ∷ ts) n low same w = same_fit items items' ts n low same w
 
@@ -126,6 +132,7 @@ module _ (p : Image) (depth heights : ℕ → ℕ) where
   pushed_runs cs i items (Run fr ∷ ts) u h w = ((λ le m e. h m e, w.0), pushed_runs cs i items ts u.1 (λ m e. under_less (depth m) (depth fr.method) ts (h m e) u.0) w.1)
   pushed_runs cs i items (Trapped ∷ ts) u h w = pushed_runs cs i items ts u h w
   pushed_runs cs i items (Destroy ∷ ts) u h w = pushed_runs cs i items ts u h w
+  pushed_runs cs i items (Closing ∷ ts) u h w = pushed_runs cs i items ts u h w
   pushed_runs cs i items (Unwind code ∷ ts) u h w = pushed_runs cs i items ts u h w
   pushed_runs cs i items (Dispatched d ∷ ts) u h w = pushed_runs cs i items ts u h w
 
@@ -158,6 +165,7 @@ module _ (p : Image) (depth heights : ℕ → ℕ) where
   top_under cs i items (Run fr ∷ ts) m low e w = w.0.0 low.0 m e
   top_under cs i items (Trapped ∷ ts) m low e w = top_under cs i items ts m low e w
   top_under cs i items (Destroy ∷ ts) m low e w = top_under cs i items ts m low e w
+  top_under cs i items (Closing ∷ ts) m low e w = top_under cs i items ts m low e w
   top_under cs i items (Unwind code ∷ ts) m low e w = top_under cs i items ts m low e w
   top_under cs i items (Dispatched d ∷ ts) m low e w = top_under cs i items ts m low e w
 
@@ -175,5 +183,6 @@ module _ (p : Image) (depth heights : ℕ → ℕ) where
   on_again cs items (Run fr ∷ ts) w = w
   on_again cs items (Trapped ∷ ts) w = w
   on_again cs items (Destroy ∷ ts) w = w
+  on_again cs items (Closing ∷ ts) w = w
   on_again cs items (Unwind code ∷ ts) w = w
   on_again cs items (Dispatched d ∷ ts) w = w

@@ -10,9 +10,9 @@ use Rattle.aom_shape.specs.declared.kind.Kind.TheVariants.{Null}
 use Rattle.aom_sound.proofs.Claimed.{claim_entry_above, length_objects}
 use Rattle.aom_sound.proofs.Items.{length_forms}
 use Rattle.aom_sound.proofs.Straight.{fits_unowning, register_fits}
-use Rattle.aom_sound.specs.Claims.{Dispatching, Dying, Form, Layer, Mark, Method, Unwinding, forms, items_of, objects, tasks_of}
+use Rattle.aom_sound.specs.Claims.{Dispatching, Dying, Ending, Form, Layer, Mark, Method, Unwinding, forms, items_of, objects, tasks_of}
 use Rattle.aom_sound.specs.Places.{Cell, Entry, Register, held, seen}
-use Rattle.aom_sound.specs.State.{An_object, An_operation, Destroy, Dispatched, Frame, Item, Run, State, Task, Trapped, Unwind, home_holder}
+use Rattle.aom_sound.specs.State.{An_object, An_operation, Closing, Destroy, Dispatched, Frame, Item, Run, State, Task, Trapped, Unwind, home_holder}
 use Rattle.aom_sound.specs.WellTyped.{Back, Caught, Fits, Gone, Good, Leaves, Now, Returns, Stack, WellTyped}
 use Rattle.aom_sound.proofs.Layers.{leave_layer, method_layer}
 use Rattle.aom_parts.specs.Room.{below_height, entries_in}
@@ -28,6 +28,7 @@ low_stack p t cs back (Method fr sh ∷ ls) n s le =
     (omega (arith, more, high, le), low_stack p t cs (Returns fr.method fr.home) ls n s.4 (omega (arith, more, le)))
 low_stack p t cs back (Mark gv ∷ ls) n s le = low_stack p t cs (Caught gv) ls n s.1 (omega (arith, le))
 low_stack p t cs back (Dying o ∷ ls) n s le = low_stack p t cs Gone ls n s.2 le
+low_stack p t cs back (Ending o left ∷ ls) n s le = low_stack p t cs Now ls n s.3 le
 low_stack p t cs back (Unwinding code es ∷ ls) n s le = low_stack p t cs Leaves ls n s.1 (omega (arith, length_objects es (items_of ls), le))
 low_stack p t cs back (Dispatching d seats ∷ ls) n s le = subst (λ us. AllLow n (tasks_of us)) (sym s.1) tt
 
@@ -37,6 +38,7 @@ LowUnder n [] = Unit {0}
 LowUnder n (Run fr ∷ ts) = Unit {0}
 LowUnder n (Trapped ∷ ts) = AllLow (n - 1) ts
 LowUnder n (Destroy ∷ ts) = Unit {0}
+LowUnder n (Closing ∷ ts) = Unit {0}
 LowUnder n (Unwind code ∷ ts) = Unit {0}
 LowUnder n (Dispatched d ∷ ts) = Unit {0}
 

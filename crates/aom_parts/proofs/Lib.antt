@@ -9,3 +9,5 @@ pub mod CellFields
 pub mod Depths
 pub mod Heights
 pub mod Alike
+pub mod Nobody
+pub mod Unslotted

@@ -8,7 +8,7 @@ use Rattle.aom_cells.specs.Heap.{Heap, null, cell_at, count}
 use Rattle.aom_cells.specs.Heap.{word_at as cell_word}
 use Rattle.aom_cells.specs.declared.cell.Cell.{Cell as Held_cell}
 use Rattle.aom_sound.specs.Places.{Place, Register, Entry, Field, Going, Elsewhere, Object, Cell, held, in_session, named, requested, word_field, count_cells}
-use Rattle.aom_sound.specs.State.{Home, Static, AtRoot, Inside, Frame, Seat, Dispatch, Of_main, Main_left, Of_root, Of_object, Object_left, Asks, Answered, word, counter, Task, Run, Trapped, Destroy, Unwind, Dispatched, Item, An_object, An_operation, A_mark, State}
+use Rattle.aom_sound.specs.State.{Home, Static, AtRoot, Inside, Frame, Seat, Dispatch, Of_main, Main_left, Of_root, Of_object, Object_left, Asks, Answered, word, counter, Task, Run, Trapped, Destroy, Closing, Unwind, Dispatched, Item, An_object, An_operation, A_mark, State}
 use Rattle.aom_active.specs.Agrees.{Active, StandsFor}
 use Rattle.aom_frames.specs.declared.frame.Frame.{Frame as Held_frame}
 use Rattle.aom_frames.specs.declared.task.Task.{Task as Held_task}
@@ -38,6 +38,7 @@ abbrev pub word_of : Task → ℕ → Option ℤ
 word_of (Run fr) i = word fr i
 word_of Trapped i = None
 word_of Destroy i = None
+word_of Closing i = None
 word_of (Unwind code) i = None
 word_of (Dispatched d) i = None
 
@@ -84,7 +85,7 @@ dispatch_of q (One_answered x answer) = Answered (seat_of q x) answer
 abbrev pub SameDispatch : Held_dispatch → Dispatch → Type 0
 SameDispatch x d = (q : Place) × (dispatch_of q x ≡ d)
 
--- frames and other tasks, one by one
+-- frames and other tasks, one by one; the machine has no servers, which let go of their sessions
 abbrev pub SameTask : Held_task → Task → Type 0
 SameTask (Runs_frame f) (Run fr) = SameFrame f fr
 SameTask Is_trap Trapped = Unit {0}

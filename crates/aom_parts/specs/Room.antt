@@ -9,7 +9,7 @@ use Rattle.aom_frames.specs.declared.task.Task.TheVariants.{Run as Runs_frame, T
 use Rattle.aom_sound.specs.Calls.{result_register}
 use Rattle.aom_classes.specs.Roles.{destructor_of}
 use Rattle.aom_sound.specs.Places.{Entry, Object, Cell, held}
-use Rattle.aom_sound.specs.State.{Task, Run, Trapped, Destroy, Unwind, Dispatched, Item, An_object, An_operation, A_mark, State}
+use Rattle.aom_sound.specs.State.{Task, Run, Trapped, Closing, Destroy, Unwind, Dispatched, Item, An_object, An_operation, A_mark, State}
 
 -- ---- methods, by a table of depths
 
@@ -19,6 +19,7 @@ IsUnder depth n [] = Unit {0}
 IsUnder depth n (Run fr ∷ ts) = n < depth fr.method
 IsUnder depth n (Trapped ∷ ts) = IsUnder depth n ts
 IsUnder depth n (Destroy ∷ ts) = IsUnder depth n ts
+IsUnder depth n (Closing ∷ ts) = IsUnder depth n ts
 IsUnder depth n (Unwind code ∷ ts) = IsUnder depth n ts
 IsUnder depth n (Dispatched d ∷ ts) = IsUnder depth n ts
 
@@ -28,6 +29,7 @@ AllUnder depth [] = Unit {0}
 AllUnder depth (Run fr ∷ ts) = IsUnder depth (depth fr.method) ts × AllUnder depth ts
 AllUnder depth (Trapped ∷ ts) = AllUnder depth ts
 AllUnder depth (Destroy ∷ ts) = AllUnder depth ts
+AllUnder depth (Closing ∷ ts) = AllUnder depth ts
 AllUnder depth (Unwind code ∷ ts) = AllUnder depth ts
 AllUnder depth (Dispatched d ∷ ts) = AllUnder depth ts
 
@@ -54,6 +56,7 @@ AllRunUnder p depth cs items [] = Unit {0}
 AllRunUnder p depth cs items (Run fr ∷ ts) = RunsUnder p depth cs fr.height (depth fr.method) items × AllRunUnder p depth cs items ts
 AllRunUnder p depth cs items (Trapped ∷ ts) = AllRunUnder p depth cs items ts
 AllRunUnder p depth cs items (Destroy ∷ ts) = AllRunUnder p depth cs items ts
+AllRunUnder p depth cs items (Closing ∷ ts) = AllRunUnder p depth cs items ts
 AllRunUnder p depth cs items (Unwind code ∷ ts) = AllRunUnder p depth cs items ts
 AllRunUnder p depth cs items (Dispatched d ∷ ts) = AllRunUnder p depth cs items ts
 
@@ -81,6 +84,7 @@ AllFit p heights items [] = Unit {0}
 AllFit p heights items (Run fr ∷ ts) = (may_push p fr.method ≡ true → entries_in (below_height fr.height items) + heights fr.method ≤ 1024) × AllFit p heights items ts
 AllFit p heights items (Trapped ∷ ts) = AllFit p heights items ts
 AllFit p heights items (Destroy ∷ ts) = AllFit p heights items ts
+AllFit p heights items (Closing ∷ ts) = AllFit p heights items ts
 AllFit p heights items (Unwind code ∷ ts) = AllFit p heights items ts
 AllFit p heights items (Dispatched d ∷ ts) = AllFit p heights items ts
 

@@ -12,11 +12,11 @@ use Rattle.aom_rules.specs.Rules.{ways_of}
 use Rattle.aom_shape.specs.Shape.{Shape}
 use Rattle.aom_shape.specs.Things.{stands_for}
 use Rattle.aom_rules.specs.Typing.{Typing, shape_at}
-use Rattle.aom_rules.specs.Ways.{As_before, Branches, Branches_in, Branches_on_empty, Branches_on_null, Called, Cancelled, Caught, Dropped, Ends, Filled, Goes_back, Goes_on, Goes_to, Holding, Left_in, Moved, News, Popped, Pushed, Pushed_operation, Taken, Ways}
+use Rattle.aom_rules.specs.Ways.{As_before, Branches, Branches_in, Branches_on_empty, Branches_on_null, Called, Cancelled, Caught, Dropped, Ends, Filled, Goes_back, Goes_on, Goes_to, Holding, Left_in, Moved, News, Popped, Pushed, Pushed_operation, Taken, Taken_message, Ways}
 use Rattle.aom_shape.specs.declared.kind.Kind.{Kind}
 use Rattle.aom_shape.specs.declared.kind.Kind.TheVariants.{Maybe, Null, Own, Unset, Word}
 use Rattle.aom_sound.specs.Places.{Cell, Object, Register, held}
-use Rattle.aom_sound.specs.State.{Destroy, Dispatched, Frame, Run, Task, Trapped, Unwind, word}
+use Rattle.aom_sound.specs.State.{Closing, Destroy, Dispatched, Frame, Run, Task, Trapped, Unwind, word}
 
 -- what a kind says of the word that a register has, and of what it owns
 abbrev pub KindSays : Image → Kind → Option ℤ → Option Object → Type 0
@@ -37,6 +37,7 @@ waiting_for p Dropped sh = without_entry sh
 waiting_for p As_before sh = sh
 waiting_for p (Moved a b) sh = sh
 waiting_for p (Taken a f) sh = sh
+waiting_for p (Taken_message a) sh = sh
 waiting_for p (Filled f a) sh = sh
 waiting_for p (Pushed a) sh = sh
 waiting_for p Pushed_operation sh = sh
@@ -70,6 +71,7 @@ AllWait p t cs [] = Unit {0}
 AllWait p t cs (Run fr ∷ ts) = Waits p t cs (length ts) fr × AllWait p t cs ts
 AllWait p t cs (Trapped ∷ ts) = AllWait p t cs ts
 AllWait p t cs (Destroy ∷ ts) = AllWait p t cs ts
+AllWait p t cs (Closing ∷ ts) = AllWait p t cs ts
 AllWait p t cs (Unwind code ∷ ts) = AllWait p t cs ts
 AllWait p t cs (Dispatched d ∷ ts) = AllWait p t cs ts
 

@@ -14,7 +14,7 @@ use Rattle.aom_sound.specs.Laws.{IsWired}
 use Rattle.aom_sound.specs.Leaves.{IsLeaving, IsOver, Unwinds, deals as dealt_with, leaves, works}
 use Rattle.aom_sound.specs.Moves.{step}
 use Rattle.aom_sound.specs.Places.{named}
-use Rattle.aom_sound.specs.State.{A_mark, Choice, Destroy, Goes, IsStuck, Item, Outcome, Run, State, Task, Unwind}
+use Rattle.aom_sound.specs.State.{A_mark, Choice, Closing, Destroy, Goes, IsStuck, Item, Outcome, Run, State, Task, Unwind}
 use Rattle.aom_sound.specs.WellTyped.{Keeps, WellTyped}
 
 -- a state that is not stuck leads on
@@ -84,6 +84,7 @@ module _ (p : Image) (t : Typing) (wired : IsWired p) (linked : IsLinked p) (typ
       go : (ts : List Task) → s.tasks ≡ ts → IsOver p (length s.items) code below ts → Comes_from s
       go (Run fr ∷ ts) at o = over (Run fr) ts at (λ top. let clash : Run fr ∷ ts ≡ Unwind code ∷ below = sym at ∙ top in cc)
       go (Destroy ∷ ts) at o = over Destroy ts at (λ top. let clash : Destroy ∷ ts ≡ Unwind code ∷ below = sym at ∙ top in cc)
+      go (Closing ∷ ts) at o = over Closing ts at (λ top. let clash : Closing ∷ ts ≡ Unwind code ∷ below = sym at ∙ top in cc)
       go (Unwind x ∷ ts) at o = turns rest all l (at ∙ ap (λ y. Unwind y ∷ ts) o.0 ∙ ap (λ b. Unwind code ∷ b) o.1)
       go _ at o = absurd o
 

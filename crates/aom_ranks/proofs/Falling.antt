@@ -23,7 +23,7 @@ use Rattle.aom_sound.proofs.Finishing.{all_parts}
 use Rattle.aom_sound.proofs.Fitting.{straight_by}
 use Rattle.aom_sound.specs.Calls.{below_top, passed_cells, returned}
 use Rattle.aom_sound.specs.Cleanup.{to_trap, top_place}
-use Rattle.aom_sound.specs.Effects.{Calls, Cancels, Carried, Counts, Destroys, Destroys_last, Effect, Goes_on, In_field, In_register, Jumps, Leaves, Made, Operates, Popped, Popped_operation, Pushed, Pushed_operation, Repeats, Requested, Returns, Same, Sets_trap, Spot, Update, Written, applied, cells_after, items_after, spot_place, with_words, Sessioned}
+use Rattle.aom_sound.specs.Effects.{Calls, Cancels, Carried, Counts, Destroys, Destroys_last, Effect, Goes_on, In_field, In_register, The_message, Replied, Jumps, Leaves, Made, Operates, Popped, Popped_operation, Pushed, Pushed_operation, Repeats, Requested, Returns, Same, Sets_trap, Spot, Update, Written, applied, cells_after, items_after, spot_place, with_words, Sessioned}
 use Rattle.aom_sound.specs.Leaves.{LeavesWith}
 use Rattle.aom_sound.specs.Moves.{makes}
 use Rattle.aom_sound.specs.Objects.{no_words}
@@ -36,7 +36,7 @@ use Rattle.aom_ranks.specs.Ranks.{cell_rank, frame_rank, is_going, left_in, oper
 use Rattle.aom_ranks.specs.Within.{left}
 use Rattle.aom_ranks.proofs.Levels.{begun_paid, called_before, called_lower, cell_paid, cell_some, cell_two, loud_leaver, price_some, run_paid, trapped_before, undo_paid}
 use Rattle.aom_ranks.proofs.Places.{back, enters, jumps, leaves, straight_on}
-use Rattle.aom_ranks.proofs.Standing.{field_stands, operations_below, standing_asked, standing_goes, standing_moved, standing_new, standing_passes, standing_stored, standing_opened}
+use Rattle.aom_ranks.proofs.Standing.{field_stands, operations_below, standing_asked, standing_goes, standing_moved, standing_new, standing_passes, standing_stored, standing_opened, standing_without}
 use Rattle.aom_ranks.proofs.Worths.{passed_less, to_trap_less}
 use Rattle.aom_ranks.proofs.Sums.{one_less, one_more, scaled, scaled_le}
 use Rattle.aom_image.proofs.Given.{false_given}
@@ -114,7 +114,7 @@ module _ (p : Image) (linked : IsLinked p) (c : Choice) (s : State) (fr : Frame)
   leaves_on i stands plain loud m more =
       let less = paid fr.counters (suc fr.place) (straight i stands plain) in
       let one = one_more m (standing s.cells + operations s.items) (cell_rank p) more in
-      omega (arith, less, one, to_trap_less (rank_worths p) ts, cell_paid p fr.method loud, cell_two p linked)
+      omega (arith, less, one, to_trap_less (rank_worths p) ts, cell_paid p fr.method loud, cell_two p)
 
   -- an item more, an operation at most
   pushes_on : (i : Instr) → slice_get d.code fr.place ≡ Some i → loop_in (Some i) ≡ None → is_quiet p fr.method ≡ false → (m : ℕ) → m ≤ suc (standing s.cells + operations s.items) → rest_at fr.counters (suc fr.place) + waiting_rank p ts + m * cell_rank p < before
@@ -131,6 +131,7 @@ module _ (p : Image) (linked : IsLinked p) (c : Choice) (s : State) (fr : Frame)
   spot_stands : (x : Spot) → is_going (spot_place p fr ts s x) ≡ false
   spot_stands (In_register a) = refl
   spot_stands (In_field f) = field_stands fr.home f
+  spot_stands The_message = refl
 
   -- one more at most
   more : (u : Update) → count_after u ≤ suc (standing s.cells + operations s.items)
@@ -140,6 +141,7 @@ module _ (p : Image) (linked : IsLinked p) (c : Choice) (s : State) (fr : Frame)
   more (Written w v) = omega (arith, standing_stored s.cells fr.home w v)
   more (Requested r) = omega (arith, standing_asked s.cells fr.home r)
   more (Sessioned b) = omega (arith, standing_opened s.cells fr.home b)
+  more (Replied a) = omega (arith, standing_without (here fr ts s a) s.cells)
   more (Pushed a) = omega (arith, standing_moved (here fr ts s a) (Entry (length s.items)) s.cells refl)
   more (Pushed_operation m w) = omega arith
   more (Popped a) = omega (arith, standing_moved (top_place s.items) (here fr ts s a) s.cells refl, operations_below s.items)
@@ -176,6 +178,7 @@ module _ (p : Image) (linked : IsLinked p) (c : Choice) (s : State) (fr : Frame)
     goes_after i stands plain r (Written w v) f = on i stands plain (count_after (Written w v)) (omega (arith, standing_stored s.cells fr.home w v))
     goes_after i stands plain r (Requested q) f = on i stands plain (count_after (Requested q)) (omega (arith, standing_asked s.cells fr.home q))
     goes_after i stands plain r (Sessioned b) f = on i stands plain (count_after (Sessioned b)) (omega (arith, standing_opened s.cells fr.home b))
+    goes_after i stands plain r (Replied a) f = on i stands plain (count_after (Replied a)) (omega (arith, standing_without (here fr ts s a) s.cells))
     goes_after i stands plain r (Popped a) f = on i stands plain (count_after (Popped a)) (omega (arith, standing_moved (top_place s.items) (here fr ts s a) s.cells refl, operations_below s.items))
     goes_after i stands plain r Popped_operation f = on i stands plain (count_after Popped_operation) (omega (arith, operations_below s.items))
 

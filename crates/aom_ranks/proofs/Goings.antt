@@ -8,7 +8,7 @@ use Rattle.aom_rules.specs.Typing.{Typing}
 use Rattle.aom_shape.specs.declared.kind.Age.TheVariants.{Ready}
 use Rattle.aom_shape.specs.declared.kind.Kind.TheVariants.{Null, Own}
 use Rattle.aom_sound.proofs.Maps.{held_without, same_place-true, same_place_refl, tidy_without}
-use Rattle.aom_sound.specs.Claims.{Dispatching, Dying, Layer, Mark, Unwinding, Method, claim, declared, tasks_of}
+use Rattle.aom_sound.specs.Claims.{Dispatching, Dying, Ending, Layer, Mark, Unwinding, Method, claim, declared, tasks_of}
 use Rattle.aom_sound.specs.Places.{Cell, Elsewhere, Entry, Field, Going, Object, Place, Register, Sight, Tidy, held, same_place, seen, without}
 use Rattle.aom_sound.specs.State.{State}
 use Rattle.aom_sound.specs.WellTyped.{Back, Caught, Fits, Gone, Now, Returns, Stack, WellTyped, Leaves}
@@ -60,6 +60,7 @@ goes_at [] k = false
 goes_at (Method fr sh ∷ ls) k = goes_at ls k
 goes_at (Mark gv ∷ ls) k = goes_at ls k
 goes_at (Unwinding code es ∷ ls) k = goes_at ls k
+goes_at (Ending o left ∷ ls) k = goes_at ls k
 goes_at (Dying o ∷ ls) k = (length (tasks_of ls) == k) || goes_at ls k
 goes_at (Dispatching d seats ∷ ls) k = goes_at ls k
 
@@ -69,6 +70,7 @@ DyingHeld cs [] = Unit {0}
 DyingHeld cs (Method fr sh ∷ ls) = DyingHeld cs ls
 DyingHeld cs (Mark gv ∷ ls) = DyingHeld cs ls
 DyingHeld cs (Unwinding code es ∷ ls) = DyingHeld cs ls
+DyingHeld cs (Ending o left ∷ ls) = DyingHeld cs ls
 DyingHeld cs (Dying o ∷ ls) = (held cs (Going (length (tasks_of ls))) ≡ Some o) × DyingHeld cs ls
 DyingHeld cs (Dispatching d seats ∷ ls) = DyingHeld cs ls
 
@@ -83,6 +85,7 @@ held_below cs n [] le h = tt
 held_below cs n (Method fr sh ∷ ls) le h = held_below cs n ls (omega (arith, le)) h
 held_below cs n (Mark gv ∷ ls) le h = held_below cs n ls (omega (arith, le)) h
 held_below cs n (Unwinding code es ∷ ls) le h = held_below cs n ls (omega (arith, le)) h
+held_below cs n (Ending o left ∷ ls) le h = held_below cs n ls (omega (arith, le)) h
 held_below cs n (Dying o ∷ ls) le h = (other_depth cs n (length (tasks_of ls)) (ne_eqb n (length (tasks_of ls)) (λ e. absurd (omega (arith, le, e)))) ∙ h.0, held_below cs n ls (omega (arith, le)) h.1)
 held_below cs n (Dispatching d seats ∷ ls) le h = held_below cs n ls (omega (arith, le)) h
 
@@ -91,6 +94,7 @@ counted_cells [] cs t h none = omega (arith, all_stand cs (λ k. none k refl))
 counted_cells (Method fr sh ∷ ls) cs t h none = counted_cells ls cs t h none
 counted_cells (Mark gv ∷ ls) cs t h none = counted_cells ls cs t h none
 counted_cells (Unwinding code es ∷ ls) cs t h none = counted_cells ls cs t h none
+counted_cells (Ending o left ∷ ls) cs t h none = counted_cells ls cs t h none
 counted_cells (Dispatching d seats ∷ ls) cs t h none = counted_cells ls cs t h none
 counted_cells (Dying o ∷ ls) cs t h none =
     let n = length (tasks_of ls) in
@@ -108,6 +112,7 @@ stack_held p t cs back [] h = tt
 stack_held p t cs back (Method fr sh ∷ ls) h = stack_held p t cs (Returns fr.method fr.home) ls h.4
 stack_held p t cs back (Mark gv ∷ ls) h = stack_held p t cs (Caught gv) ls h.1
 stack_held p t cs back (Unwinding code es ∷ ls) h = stack_held p t cs Leaves ls h.1
+stack_held p t cs back (Ending o left ∷ ls) h = stack_held p t cs Now ls h.3
 stack_held p t cs back (Dying o ∷ ls) h = (h.0.1, stack_held p t cs Gone ls h.2)
 stack_held p t cs back (Dispatching d seats ∷ []) h = tt
 stack_held p t cs back (Dispatching d seats ∷ l ∷ ls) h = let clash : l ∷ ls ≡ [] = h.1 in cc
@@ -117,6 +122,7 @@ claims_none p cs [] k e = refl
 claims_none p cs (Method fr sh ∷ ls) k e = claims_none p cs ls k e
 claims_none p cs (Mark gv ∷ ls) k e = claims_none p cs ls k e
 claims_none p cs (Unwinding code es ∷ ls) k e = claims_none p cs ls k e
+claims_none p cs (Ending o left ∷ ls) k e = claims_none p cs ls k e
 claims_none p cs (Dispatching d seats ∷ ls) k e = claims_none p cs ls k e
 claims_none p cs (Dying o ∷ ls) k e = let ih : (goes_at ls k ≡ false → claim p (declared p cs) ls (Going k) ≡ Null) = λ h. claims_none p cs ls k h in false_given (λ b. (b || goes_at ls k) ≡ false) (length (tasks_of ls) == k) e (λ e. cc) (λ s e. ap (λ b. cond b (Own o.thing Ready) (claim p (declared p cs) ls (Going k))) s ∙ ih e)
 

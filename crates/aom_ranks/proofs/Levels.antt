@@ -1,5 +1,5 @@
 -- What a run of a method costs those that begin it.
-use Rattle.std.proofs.Common.{Bool, IfSome, IsTrue, List, None, Option, Some, [], ap, arith, cond, false, length, refl, slice_get, subst, suc, true, ℕ, ◌*◌, ◌+◌, ◌<◌, ◌^◌, ◌∙◌, ◌≡◌, ◌≤◌}
+use Rattle.std.proofs.Common.{Bool, IfSome, IsTrue, List, None, Option, Some, [], ap, arith, cond, false, length, refl, slice_get, subst, suc, true, ℕ, ◌*◌, ◌∷◌, ◌+◌, ◌<◌, ◌^◌, ◌∙◌, ◌≡◌, ◌≤◌}
 use Rattle.std.specs.Prelude.{IsSome, position}
 use Rattle.std.proofs.lemmas.Option.{slice_get_within}
 use Rattle.aom_image.specs.Image.{Image}
@@ -14,11 +14,12 @@ use Rattle.aom_classes.specs.Linked.{IsLinked}
 use Rattle.aom_classes.specs.Roles.{destructor_of, is_main, main_of, plays, role_of}
 use Rattle.aom_roles.specs.Shapes.{FlagsFit, HasShape, IsShaped, kind_of, may_leave, is_quiet as quiet_bit}
 use Rattle.aom_classes.proofs.Facts.{all_there, at_place}
-use Rattle.aom_sound.specs.Destruction.{begun, begun_by}
+use Rattle.aom_sound.specs.Destruction.{begun, begun_by, destructed}
+use Rattle.aom_sound.specs.Servers.{is_server}
 use Rattle.aom_sound.specs.Places.{Object}
-use Rattle.aom_sound.specs.State.{Task}
+use Rattle.aom_sound.specs.State.{Closing, Destroy, Task}
 use Rattle.aom_sound.specs.WellTyped.{IsUndo}
-use Rattle.aom_ranks.specs.Ranks.{all_left, base, cell_rank, left_in, level, price, tasks_rank, waiting_rank}
+use Rattle.aom_ranks.specs.Ranks.{all_left, base, cell_rank, closing_rank, left_in, level, price, tasks_rank, waiting_rank}
 use Rattle.aom_ranks.specs.Within.{left}
 use Rattle.aom_ranks.proofs.Sums.{pow_less, pow_more, pow_some, pow_step, pow_twice, whole_run}
 use Rattle.aom_image.proofs.Given.{cons_given, some_given}
@@ -40,7 +41,7 @@ pub price_some : (p : Image) (m : ℕ) → 1 ≤ price p m
 price_some p m = pow_some (all_left p.methods) (level p m)
 
 pub cell_some : (p : Image) → 1 ≤ cell_rank p
-cell_some p = pow_some (all_left p.methods) (length p.methods)
+cell_some p = pow_some (all_left p.methods) (suc (length p.methods))
 
 -- a whole run of a method and two more are paid by a move of a higher level
 pub run_paid : (p : Image) (m : ℕ) (n : ℕ) → level p m < n → left_in (method_at p m) [] 0 * price p m + 2 ≤ base p ^ n
@@ -54,16 +55,19 @@ run_paid p m n lower =
 pub called_lower : (p : Image) (m m' : ℕ) → m' < m → (is_quiet p m ≡ true → is_quiet p m' ≡ true) → level p m' < level p m
 called_lower p m m' below quiet = go (is_quiet p m) (is_quiet p m') quiet
   where
-    go : (b c : Bool) → (b ≡ true → c ≡ true) → cond c m' (suc (length p.methods) + m') < cond b m (suc (length p.methods) + m)
+    go : (b c : Bool) → (b ≡ true → c ≡ true) → cond c m' (suc (suc (length p.methods)) + m') < cond b m (suc (suc (length p.methods)) + m)
     go true true h = below
     go true false h = let clash = h refl in cc
     go false true h = omega (arith, below)
     go false false h = omega (arith, below)
 
--- there is a method, so a cell has two at least
-pub cell_two : (p : Image) → IsLinked p → 2 ≤ cell_rank p
+-- a cell has two at least, and as there is a method, so has what goes before a server
+pub cell_two : (p : Image) → 2 ≤ cell_rank p
+cell_two p = omega (arith, pow_less (all_left p.methods) 0 (suc (length p.methods)) (omega arith), pow_some (all_left p.methods) 0)
+
+closing_two : (p : Image) → IsLinked p → 2 ≤ closing_rank p
 unfolding main_of
-cell_two p linked =
+closing_two p linked =
     let some : 1 ≤ length p.methods = cons_given (λ ms. IsSome (position is_main ms)) p.methods linked.main (λ none. cc) (λ m ms is found. omega (arith, ap length is)) in
     omega (arith, pow_less (all_left p.methods) 0 (length p.methods) (omega (arith, some)), pow_some (all_left p.methods) 0)
 
@@ -80,9 +84,9 @@ loud_leaver p linked m e = some_given (λ o. leaves_in o ≡ true) (slice_get p.
 -- a move of a method that is not quiet pays for a cell
 pub cell_paid : (p : Image) (m : ℕ) → is_quiet p m ≡ false → cell_rank p + cell_rank p ≤ price p m
 cell_paid p m loud =
-    let is : level p m ≡ suc (length p.methods) + m = ap (λ b. cond b m (suc (length p.methods) + m)) loud in
-    let twice : cell_rank p + cell_rank p ≤ base p ^ suc (length p.methods) = pow_twice (all_left p.methods) (length p.methods) in
-    let more : base p ^ suc (length p.methods) ≤ base p ^ level p m = pow_more (all_left p.methods) (suc (length p.methods)) (level p m) (omega (arith, is)) in
+    let is : level p m ≡ suc (suc (length p.methods)) + m = ap (λ b. cond b m (suc (suc (length p.methods)) + m)) loud in
+    let twice : cell_rank p + cell_rank p ≤ base p ^ suc (suc (length p.methods)) = pow_twice (all_left p.methods) (suc (length p.methods)) in
+    let more : base p ^ suc (suc (length p.methods)) ≤ base p ^ level p m = pow_more (all_left p.methods) (suc (suc (length p.methods))) (level p m) (omega (arith, is)) in
     omega (arith, twice, more)
 
 -- ---- destructors
@@ -101,20 +105,31 @@ quiet_destructor p linked c m e =
     let shape : HasShape Destruct (kind_of p d.class) d = subst (λ r. HasShape r (kind_of p d.class) d) w.3 shaped.role in
     record { within = slice_get_within p.methods m d w.1; quiet = ap quiet_in w.1 ∙ shape.flags }
 
--- a destruction that begins is paid by its cell, with one left
-pub begun_paid : (p : Image) → IsLinked p → (o : Object) (height : ℕ) (below : List Task) → tasks_rank p (begun p o height below) + 1 ≤ cell_rank p + waiting_rank p below
-begun_paid p linked o height below = go (destructor_of p o.thing) (of_thing o.thing)
+-- a destructor and the going after it are paid by what goes before a server, with one left
+pub destructed_paid : (p : Image) → IsLinked p → (o : Object) (height : ℕ) (below : List Task) → tasks_rank p (destructed p o height below) + 1 ≤ closing_rank p + waiting_rank p below
+destructed_paid p linked o height below = go (destructor_of p o.thing) (of_thing o.thing)
   where
     of_thing : (t : Thing) (m : ℕ) → destructor_of p t ≡ Some m → IsQuietThere p m
     of_thing x m e = let w = destroyed p x m e in quiet_destructor p linked w.0 m w.2
 
-    go : (d : Option ℕ) → ((m : ℕ) → d ≡ Some m → IsQuietThere p m) → tasks_rank p (begun_by d o height below) + 1 ≤ cell_rank p + waiting_rank p below
-    go None h = omega (arith, cell_two p linked)
+    go : (d : Option ℕ) → ((m : ℕ) → d ≡ Some m → IsQuietThere p m) → tasks_rank p (begun_by d o height below) + 1 ≤ closing_rank p + waiting_rank p below
+    go None h = omega (arith, closing_two p linked)
     go (Some m) h =
         let w = h m refl in
-        let is : level p m ≡ m = ap (λ b. cond b m (suc (length p.methods) + m)) w.quiet in
-        let paid : left_in (method_at p m) [] 0 * price p m + 2 ≤ cell_rank p = run_paid p m (length p.methods) (omega (arith, is, w.within)) in
+        let is : level p m ≡ m = ap (λ b. cond b m (suc (suc (length p.methods)) + m)) w.quiet in
+        let paid : left_in (method_at p m) [] 0 * price p m + 2 ≤ closing_rank p = run_paid p m (length p.methods) (omega (arith, is, w.within)) in
         omega (arith, paid)
+
+-- a destruction that begins is paid by its cell, with one left
+pub begun_paid : (p : Image) → IsLinked p → (o : Object) (height : ℕ) (below : List Task) → tasks_rank p (begun p o height below) + 1 ≤ cell_rank p + waiting_rank p below
+begun_paid p linked o height below = go (is_server p o.thing)
+  where
+    twice : closing_rank p + closing_rank p ≤ cell_rank p
+    twice = pow_twice (all_left p.methods) (length p.methods)
+
+    go : (b : Bool) → tasks_rank p (cond b (Closing ∷ Destroy ∷ below) (destructed p o height below)) + 1 ≤ cell_rank p + waiting_rank p below
+    go true = omega (arith, twice, closing_two p linked)
+    go false = omega (arith, twice, destructed_paid p linked o height below)
 
 -- a called method comes before
 pub called_before : (p : Image) → IsLinked p → (m place : ℕ) (d : Method) (target : Target) (m' first c : ℕ) → method_at p m ≡ Some d → slice_get d.code place ≡ Some (Call target m' first c) → m' < m
@@ -135,9 +150,9 @@ trapped_before p linked m place d target m' first c is stands =
 pub undo_paid : (p : Image) (m : ℕ) → IsUndo p m → left_in (method_at p m) [] 0 * price p m + 2 ≤ cell_rank p
 unfolding method_at
 undo_paid p m undo =
-    let is : level p m ≡ m = ap (λ b. cond b m (suc (length p.methods) + m)) undo.quiet in
+    let is : level p m ≡ m = ap (λ b. cond b m (suc (suc (length p.methods)) + m)) undo.quiet in
     let within : m < length p.methods = some_given (λ o. IsSome o) (slice_get p.methods m) undo.there (λ none. cc) (λ d is some. slice_get_within p.methods m d is) in
-    run_paid p m (length p.methods) (omega (arith, is, within))
+    run_paid p m (suc (length p.methods)) (omega (arith, is, within))
 
 -- ---- methods that cancel
 

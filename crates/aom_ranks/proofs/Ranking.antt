@@ -18,24 +18,26 @@ use Rattle.aom_shape.specs.Shape.{Shape}
 use Rattle.aom_rules.specs.Typing.{IsTyped, Typing}
 use Rattle.aom_sound.specs.Calls.{called, result_register, returned}
 use Rattle.aom_sound.specs.Cleanup.{ended_by, operation_frame}
+use Rattle.aom_sound.specs.Calls.{ended_well}
 use Rattle.aom_sound.specs.Effects.{Effect, applied}
-use Rattle.aom_sound.specs.Steps.{Acts, Arrives, Clears, Comes_out, Ends, Fits, IsStill, Move, Rests, Undoes, Vanishes}
+use Rattle.aom_sound.specs.Steps.{Acts, Arrives, Clears, Comes_out, Empties, Ends, Fits, IsStill, Move, Rests, Undoes, Vanishes}
 use Rattle.aom_sound.proofs.Moving.{steps_are_moves}
 use Rattle.aom_sound.specs.Claims.{Layer, Mark, Method, tasks_of}
-use Rattle.aom_sound.specs.Destruction.{begun}
+use Rattle.aom_sound.specs.Destruction.{begun, first_session, parting, seat_or, vanished}
 use Rattle.aom_sound.proofs.Steps.{step_keeps}
 use Rattle.aom_sound.specs.Laws.{IsWired}
 use Rattle.aom_ranks.specs.Laws.{Moves, no_move, one_move}
 use Rattle.aom_sound.specs.WellTyped.{Keeps}
-use Rattle.aom_sound.specs.Moves.{answered, asking, counted, dispatch_ends, failed, handled, main_ends, object_ends, step}
-use Rattle.aom_sound.specs.Places.{Elsewhere, Entry, Going, Object, Root, held, moved, without}
-use Rattle.aom_sound.specs.State.{A_mark, An_object, An_operation, Answered, Asks, Choice, Destroy, Dispatch, Dispatched, Frame, Goes, Item, Main_left, Object_left, Of_main, Of_object, Of_root, Outcome, Seat, Run, State, Task, Trapped, Unwind, home_holder, resumed}
+use Rattle.aom_sound.specs.Moves.{answered, asking, counted, dispatch_ends, failed, handled, main_ends, object_ends, stage_ends, step}
+use Rattle.aom_sound.specs.Places.{Cell, Elsewhere, Entry, Going, In_service, Object, Root, Session, held, moved, service_of, without}
+use Rattle.aom_sound.specs.Servers.{parted, reserved}
+use Rattle.aom_sound.specs.State.{A_mark, Accept_left, Accepted, Accepts, An_object, An_operation, Answered, Asks, Choice, Closing, Destroy, Dispatch, Dispatched, Frame, Goes, Item, Main_left, Object_left, Of_main, Of_object, Of_root, Of_server, Outcome, Parts, Seat, Serves, Service_left, Stage, Run, State, Task, Trapped, Unwind, home_holder}
 use Rattle.aom_sound.specs.WellTyped.{AllUndo, Good, Now, Stack, WellTyped}
 use Rattle.aom_sound.specs.World.{IsBusy}
-use Rattle.aom_ranks.specs.Ranks.{cell_rank, end_rank, frame_rank, operations, rank, rank_worths, run_rank, standing, tasks_rank, waiting_rank}
+use Rattle.aom_ranks.specs.Ranks.{cell_rank, end_rank, frame_rank, is_going, operations, rank, rank_worths, run_rank, standing, tasks_rank, waiting_rank}
 use Rattle.aom_ranks.proofs.Falling.{falls, paid, straight}
-use Rattle.aom_ranks.proofs.Levels.{begun_paid, canceller_before, price_some, quiet_canceller, undo_paid}
-use Rattle.aom_ranks.proofs.Standing.{operations_below, standing_asked, standing_goes, standing_passes, standing_without}
+use Rattle.aom_ranks.proofs.Levels.{begun_paid, canceller_before, destructed_paid, price_some, quiet_canceller, undo_paid}
+use Rattle.aom_ranks.proofs.Standing.{operations_below, standing_accepted, standing_asked, standing_goes, standing_gone, standing_passes, standing_reserved, standing_without}
 use Rattle.aom_ranks.proofs.Sums.{one_less, scaled_le}
 use Rattle.aom_ranks.proofs.Worths.{resumed_alike, returned_less, told_alike}
 use Rattle.aom_sound.proofs.Layers.{method_layer}
@@ -53,13 +55,29 @@ ends p linked c s fr ts d declared_there a stands =
     let less = paid p linked c s fr ts d declared_there fr.counters (suc fr.place) (straight p linked c s fr ts d declared_there (Return a) stands refl) in
     omega (arith, less, price_some p fr.method)
 
+-- the dispatch that heard it has no more before it
+well_less : (p : Image) (d : Dispatch) → end_rank p (ended_well d) ≤ end_rank p d
+well_less p (Of_server x client Accepts) = omega arith
+well_less p (Of_server x client (Serves o)) = omega arith
+well_less p (Of_server x client Accepted) = omega arith
+well_less p (Of_server x client (Accept_left code)) = omega arith
+well_less p (Of_server x client (Service_left code)) = omega arith
+well_less p (Of_server x client Parts) = omega arith
+well_less p Of_main = omega arith
+well_less p (Main_left code) = omega arith
+well_less p Of_root = omega arith
+well_less p (Of_object x) = omega arith
+well_less p (Object_left x code) = omega arith
+well_less p (Asks x) = omega arith
+well_less p (Answered x answer) = omega arith
+
 -- to what stands below
 returns :
     (p : Image) (t : Typing) (s : State) (fr : Frame) (sh : Shape) (ls : List Layer) → Stack p t s.cells Now (Method fr sh ∷ ls) → 1 ≤ frame_rank p fr → (g : Gives) (a : ℕ) →
     rank p (returned p fr (tasks_of ls) (record s { cells = ended_cells p fr s.cells }) g a (tasks_of ls)) < tasks_rank p (Run fr ∷ tasks_of ls) + (standing s.cells + operations s.items) * cell_rank p
 returns p t s fr sh ls h some g a =
     let u = returned p fr (tasks_of ls) (record s { cells = ended_cells p fr s.cells }) g a (tasks_of ls) in
-    let less = returned_less (rank_worths p) standing operations standing_passes operations_below standing_asked (λ x answer. omega arith) p t s fr sh g a ls h in
+    let less = returned_less (rank_worths p) standing operations standing_passes operations_below standing_asked (λ x answer. omega arith) (well_less p) p t s fr sh g a (λ d e i. standing_accepted d e i (ended_cells p fr s.cells)) ls h in
     let cells = scaled_le (standing u.cells + operations u.items) (standing s.cells + operations s.items) (cell_rank p) less.1 in
     omega (arith, some, less.0, cells)
 
@@ -95,12 +113,38 @@ module _ (p : Image) (t : Typing) (linked : IsLinked p) (typed : IsTyped p t) (c
   acts : (ls : List Layer) → Good p t s.cells ls → (fr : Frame) (ts : List Task) → tasks_of ls ≡ Run fr ∷ ts → ActsLower fr ts
   acts ls good fr ts at = method_layer (Good p t s.cells) fr ts ls at good (λ sh below under there. subst (ActsLower fr) under (acts_there fr sh below there))
 
+  -- so many cells stand at most
+  fewer_stand : (cs : List Cell) → standing cs ≤ standing s.cells → (standing cs + operations s.items) * cell_rank p ≤ (standing s.cells + operations s.items) * cell_rank p
+  fewer_stand cs fewer = scaled_le (standing cs + operations s.items) (standing s.cells + operations s.items) (cell_rank p) (omega (arith, fewer))
+
   -- a cell goes
-  vanishes : (ts : List Task) → rank p (record (counted p s) { cells = without (Going (length ts)) s.cells; tasks = resumed ts }) < total (Destroy ∷ ts)
-  vanishes ts =
-      let fewer = standing_without (Going (length ts)) s.cells in
-      let cells = scaled_le (standing (without (Going (length ts)) s.cells) + operations s.items) (standing s.cells + operations s.items) (cell_rank p) (omega (arith, fewer)) in
+  vanishes : (ts : List Task) (o : Object) → rank p (vanished o ts (counted p s)) < total (Destroy ∷ ts)
+  vanishes ts o =
+      let cells = fewer_stand (vanished o ts (counted p s)).cells (standing_gone (service_of s.cells o.name).sessions (Going (length ts)) o.name s.cells) in
       omega (arith, resumed_alike (rank_worths p) ts, cells)
+
+  -- the first session is there, and stands
+  session_there : (n : ℕ) (clients : List ℕ) (x : Seat) → first_session s.cells n clients ≡ Some x → (is_going x.place ≡ false) × (held s.cells x.place ≡ Some x.object)
+  session_there n [] x e = cc
+  session_there n (c ∷ clients) x e = go (held s.cells (Elsewhere (Session n c))) refl e (λ h. session_there n clients x h)
+    where
+      go : (o : Option Object) → held s.cells (Elsewhere (Session n c)) ≡ o → seat_or o (Elsewhere (Session n c)) (first_session s.cells n clients) ≡ Some x →
+          (first_session s.cells n clients ≡ Some x → (is_going x.place ≡ false) × (held s.cells x.place ≡ Some x.object)) → (is_going x.place ≡ false) × (held s.cells x.place ≡ Some x.object)
+      go None there e later = later e
+      go (Some o) there e later =
+          let same : record { object = o; place = Elsewhere (Session n c) } ≡ x = same_Some (record { object = o; place = Elsewhere (Session n c) }) x e in
+          subst (λ (y : Seat). (is_going y.place ≡ false) × (held s.cells y.place ≡ Some y.object)) same (refl, there)
+
+  -- a server lets go of a session, which pays for its destruction, or its destructor begins
+  empties : (ts : List Task) (o : Object) (y : Option Seat) → first_session s.cells o.name (service_of s.cells o.name).sessions ≡ y → rank p (parting p o y ts (counted p s)) < total (Closing ∷ Destroy ∷ ts)
+  empties ts o None e = omega (arith, destructed_paid p linked o (length s.items) ts)
+  empties ts o (Some x) e =
+      let there = session_there o.name (service_of s.cells o.name).sessions x e in
+      let over = Closing ∷ Destroy ∷ ts in
+      let destruction = begun_paid p linked x.object (length s.items) over in
+      let goes = standing_goes x.place (length over) x.object s.cells there.0 there.1 in
+      let cells = one_less (standing (moved x.place (Going (length over)) s.cells) + operations s.items) (standing s.cells + operations s.items) (cell_rank p) (omega (arith, goes)) in
+      omega (arith, destruction, cells)
 
   kept_alike : (v : State) → v.cells ≡ s.cells → v.items ≡ s.items → (standing v.cells + operations v.items) * cell_rank p ≡ (standing s.cells + operations s.items) * cell_rank p
   kept_alike v same alike = ap (λ cs. (standing cs + operations v.items) * cell_rank p) same ∙ ap (λ is. (standing s.cells + operations is) * cell_rank p) alike
@@ -139,6 +183,15 @@ module _ (p : Image) (t : Typing) (linked : IsLinked p) (typed : IsTyped p t) (c
   by_asking ts x code None = omega (arith, by_answer ts (Answered x code) (omega arith) code)
   by_asking ts x code (Some m) = omega arith
 
+  -- what is served ends as an object's dispatch does
+  of_stage : (ts : List Task) (x : Seat) (client : ℕ) (stage : Stage) → rank p (stage_ends x client stage (counted p s)) < total (Dispatched (Of_server x client stage) ∷ ts)
+  of_stage ts x client Accepts = omega arith
+  of_stage ts x client Accepted = omega arith
+  of_stage ts x client (Accept_left code) = omega arith
+  of_stage ts x client (Serves o) = omega arith
+  of_stage ts x client (Service_left code) = omega (arith, fewer_stand (without (Elsewhere In_service) s.cells) (standing_without (Elsewhere In_service) s.cells))
+  of_stage ts x client Parts = omega (arith, fewer_stand (reserved (parted client) x.object.name s.cells) (omega (arith, standing_reserved (parted client) x.object.name s.cells)))
+
   of_dispatch : (ts : List Task) (d : Dispatch) → rank p (dispatch_ends p d (counted p s)) < total (Dispatched d ∷ ts)
   of_dispatch ts Of_main = of_main ts s.rest.stopped (held s.cells (Elsewhere Root)) refl
   of_dispatch ts (Main_left code) = omega arith
@@ -147,6 +200,7 @@ module _ (p : Image) (t : Typing) (linked : IsLinked p) (typed : IsTyped p t) (c
   of_dispatch ts (Object_left x code) = omega (arith, by_asking ts x code (part_of p Error x.object.thing))
   of_dispatch ts (Asks x) = of_object ts (Asks x) (omega arith)
   of_dispatch ts (Answered x answer) = by_answer ts (Answered x answer) (omega arith) answer
+  of_dispatch ts (Of_server x client stage) = of_stage ts x client stage
 
   ended_alike : (code : ℤ) (d : Dispatch) → end_rank p (ended_by code d) ≤ end_rank p d
   ended_alike code Of_main = omega arith
@@ -156,6 +210,12 @@ module _ (p : Image) (t : Typing) (linked : IsLinked p) (typed : IsTyped p t) (c
   ended_alike code (Object_left x n) = omega arith
   ended_alike code (Asks x) = omega arith
   ended_alike code (Answered x n) = omega arith
+  ended_alike code (Of_server x client Accepts) = omega arith
+  ended_alike code (Of_server x client Accepted) = omega arith
+  ended_alike code (Of_server x client (Accept_left n)) = omega arith
+  ended_alike code (Of_server x client (Serves o)) = omega arith
+  ended_alike code (Of_server x client (Service_left n)) = omega arith
+  ended_alike code (Of_server x client Parts) = omega arith
 
   -- the mark is no operation
   unmarked : (items : List Item) → s.items ≡ A_mark ∷ items → (standing s.cells + operations items) * cell_rank p ≤ (standing s.cells + operations s.items) * cell_rank p
@@ -190,7 +250,8 @@ module _ (p : Image) (t : Typing) (linked : IsLinked p) (typed : IsTyped p t) (c
   lowers : IsBusy s → (u : State) → Move p c s u → rank p u < rank p s
   lowers busy u (Rests still same) = absurd (not_still w.layers w.good busy.0 busy.1 (sym w.tasks ∙ busy.2) (subst IsStill w.tasks still))
   lowers busy u (Acts fr ts i e at there met fits same) = by (Run fr ∷ ts) u _ at same (acts w.layers w.good fr ts (sym w.tasks ∙ at) i e there fits)
-  lowers busy u (Vanishes ts o at there owns same) = by (Destroy ∷ ts) u _ at same (vanishes ts)
+  lowers busy u (Vanishes ts o at there owns same) = by (Destroy ∷ ts) u _ at same (vanishes ts o)
+  lowers busy u (Empties ts o at there same) = by (Closing ∷ Destroy ∷ ts) u _ at same (empties ts o (first_session s.cells o.name (service_of s.cells o.name).sessions) refl)
   lowers busy u (Clears code ts items o at top there same) = by (Unwind code ∷ ts) u _ at same (clears code ts items o top there)
   lowers busy u (Undoes code ts items m x at top same) = by (Unwind code ∷ ts) u _ at same (undoes code ts items m x top)
   lowers busy u (Arrives code fr ts items at top same) =

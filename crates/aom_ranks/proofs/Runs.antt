@@ -5,6 +5,7 @@ use Rattle.aom_image.specs.WellFormed.{WellFormed}
 use Rattle.aom_classes.specs.Linked.{IsLinked}
 use Rattle.aom_rules.specs.Typing.{IsTyped, Typing}
 use Rattle.aom_sound.proofs.Booting.{boot_keeps}
+use Rattle.aom_sound.proofs.ClientsKeep.{clients_keep}
 use Rattle.aom_sound.proofs.Course.{leaves_arrive, leaves_move, well_on}
 use Rattle.aom_sound.proofs.Looping.{loops_keep}
 use Rattle.aom_sound.proofs.Quiet.{calm_keeps}
@@ -31,7 +32,7 @@ module _ (p : Image) (t : Typing) (outside : Outside) (formed : WellFormed p) (l
   wired = linked_is_wired p formed linked
 
   well : (lines : List Line) (s : State) → Reaches p outside (boot_state p) lines s → WellTyped p t s
-  well lines s reached = well_on p t outside wired typed (boot_state p) (boot_keeps p t wired typed) lines s reached
+  well lines s reached = (well_on p t outside wired typed (boot_state p) (boot_keeps p t wired typed, clients_keep.boot p) lines s reached).0
 
   module _ (choose : State → Choice) (unused : IsFree choose) where
     -- one move earlier
@@ -64,7 +65,7 @@ module _ (p : Image) (t : Typing) (outside : Outside) (formed : WellFormed p) (l
   calm : (lines : List Line) (s : State) → Reaches p outside (boot_state p) lines s → IsCalm p s.tasks
   calm _ _ begins = calm_keeps.boot p
   calm _ _ (moves {lines = lines} {s = s} {u = u} c before busy choice e) = calm_keeps.moves p t wired typed c s u (well lines s before) (calm lines s before) e
-  calm _ _ (turns {lines = lines} {s = s} {u = u} heard before between owed e) = calm_keeps.turns p outside heard s u (calm lines s before) e
+  calm _ _ (turns {lines = lines} {s = s} {u = u} heard before between owed e) = calm_keeps.turns p wired outside heard s u (calm lines s before) e
 
   runs_well : RunsWell p outside
   runs_well = record {

@@ -2,9 +2,11 @@
 use Rattle.std.proofs.Common.{◌≡◌, ◌≤◌, ◌∙◌, ℕ, ℤ, suc, Bool, true, false, cond, List, [], ◌∷◌, Option, Some, refl, ap, arith}
 use Rattle.aom_image.specs.declared.method.Thing.{Thing}
 use Rattle.aom_sound.specs.Enlisted.{rerequested}
-use Rattle.aom_sound.specs.Places.{Cell, Going, Object, Place, Register, Request, held, moved, same_place, set_request, set_word_field, with_new, without, set_session}
-use Rattle.aom_sound.specs.State.{AtRoot, Home, Inside, Item, An_object, An_operation, A_mark, Static, field_place}
-use Rattle.aom_sound.specs.Calls.{below_top}
+use Rattle.aom_sound.specs.Places.{Cell, Elsewhere, Going, Object, Place, Register, Request, Service, Session, held, moved, same_place, service_of, set_request, set_service, set_session, set_word_field, with_new, without}
+use Rattle.aom_sound.specs.State.{A_mark, Accepted, Accepts, Accept_left, An_object, An_operation, Answered, Asks, AtRoot, Dispatch, Home, Inside, Item, Main_left, Object_left, Of_main, Of_object, Of_root, Of_server, Parts, Serves, Service_left, Static, field_place}
+use Rattle.aom_sound.specs.Calls.{accepted_cells, below_top}
+use Rattle.aom_sound.specs.Clients.{each_unslotted}
+use Rattle.aom_sound.specs.Servers.{all_unslotted, is_queue_of, opened, reserved, without_queue}
 use Rattle.aom_sound.specs.Words.{stored}
 use Rattle.aom_sound.proofs.Maps.{same_place-true}
 use Rattle.aom_ranks.specs.Ranks.{is_going, standing, operations}
@@ -86,6 +88,55 @@ pub standing_opened : (cs : List Cell) (h : Home) (b : Bool) → standing (reses
 standing_opened cs Static b = refl
 standing_opened cs AtRoot b = refl
 standing_opened cs (Inside o from) b = opened_same o.name b cs
+
+served_same : (n : ℕ) (v : Service) (cs : List Cell) → standing (set_service n v cs) ≡ standing cs
+served_same n v [] = refl
+served_same n v (c ∷ cs) = ap (λ x. cond (is_going c.owner) x (suc x)) (served_same n v cs)
+
+pub standing_reserved : (f : Service → Service) (n : ℕ) (cs : List Cell) → standing (reserved f n cs) ≡ standing cs
+standing_reserved f n cs = served_same n (f (service_of cs n)) cs
+
+-- a session that is accepted still stands
+pub standing_accepted : (d : Dispatch) (e i : ℕ) (cs : List Cell) → standing (accepted_cells d (Register e i) cs) ≤ standing cs
+standing_accepted (Of_server x client Accepts) e i cs =
+    let place = Elsewhere (Session x.object.name client) in
+    omega (arith, standing_reserved (opened client) x.object.name (moved (Register e i) place cs), standing_moved (Register e i) place cs refl)
+standing_accepted (Of_server x client Accepted) e i cs = omega arith
+standing_accepted (Of_server x client (Accept_left code)) e i cs = omega arith
+standing_accepted (Of_server x client (Serves o)) e i cs = omega arith
+standing_accepted (Of_server x client (Service_left code)) e i cs = omega arith
+standing_accepted (Of_server x client Parts) e i cs = omega arith
+standing_accepted Of_main e i cs = omega arith
+standing_accepted (Main_left code) e i cs = omega arith
+standing_accepted Of_root e i cs = omega arith
+standing_accepted (Of_object x) e i cs = omega arith
+standing_accepted (Object_left x code) e i cs = omega arith
+standing_accepted (Asks x) e i cs = omega arith
+standing_accepted (Answered x answer) e i cs = omega arith
+
+-- ---- a server goes
+
+standing_unqueued : (n : ℕ) (cs : List Cell) → standing (without_queue n cs) ≤ standing cs
+standing_unqueued n [] = omega arith
+standing_unqueued n (c ∷ cs) = here (is_queue_of n c.owner) (is_going c.owner) refl (standing_unqueued n cs)
+  where
+    here : (b g : Bool) → is_going c.owner ≡ g → standing (without_queue n cs) ≤ standing cs → standing (cond b (without_queue n cs) (c ∷ without_queue n cs)) ≤ cond g (standing cs) (suc (standing cs))
+    here true true e le = le
+    here true false e le = omega (arith, le)
+    here false true e le = rw e le
+    here false false e le = rw e (omega (arith, le))
+
+unslotted_same : (client : ℕ) (cs : List Cell) → standing (all_unslotted client cs) ≡ standing cs
+unslotted_same client [] = refl
+unslotted_same client (c ∷ cs) = ap (λ x. cond (is_going c.owner) x (suc x)) (unslotted_same client cs)
+
+standing_unslotted : (clients : List ℕ) (cs : List Cell) → standing (each_unslotted clients cs) ≡ standing cs
+standing_unslotted [] cs = refl
+standing_unslotted (c ∷ clients) cs = standing_unslotted clients (all_unslotted c cs) ∙ unslotted_same c cs
+
+-- the cell is gone, and what waited in its queue
+pub standing_gone : (clients : List ℕ) (g : Place) (n : ℕ) (cs : List Cell) → standing (each_unslotted clients (without g (without_queue n cs))) ≤ standing cs
+standing_gone clients g n cs = omega (arith, standing_unslotted clients (without g (without_queue n cs)), standing_without g (without_queue n cs), standing_unqueued n cs)
 
 pub field_stands : (h : Home) (f : ℕ) → is_going (field_place h f) ≡ false
 field_stands Static f = refl

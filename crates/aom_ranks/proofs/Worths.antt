@@ -8,11 +8,11 @@ use Rattle.aom_image.specs.declared.method.Gives.{Gives}
 use Rattle.aom_image.specs.declared.method.Gives.TheVariants.{Nothing, Word as A_word, Own as An_own, Maybe as A_maybe, Left}
 use Rattle.aom_shape.specs.Shape.{Shape}
 use Rattle.aom_rules.specs.Typing.{Typing}
-use Rattle.aom_sound.specs.Calls.{answered_by, below_top, passed_cells, received, result_cells, result_register, returned, told_answer}
-use Rattle.aom_sound.specs.Claims.{Dispatching, Dying, Layer, Mark, Method, Unwinding, tasks_of}
+use Rattle.aom_sound.specs.Calls.{accepted_cells, answered_by, below_top, ended_well, passed_cells, received, result_cells, result_register, returned, told_answer}
+use Rattle.aom_sound.specs.Claims.{Dispatching, Dying, Ending, Layer, Mark, Method, Unwinding, tasks_of}
 use Rattle.aom_sound.specs.Cleanup.{code_told, to_trap}
 use Rattle.aom_sound.specs.Places.{Cell, Register, Request, moved}
-use Rattle.aom_sound.specs.State.{Answered, Asks, Destroy, Dispatch, Dispatched, Frame, Home, Item, Main_left, Object_left, Of_main, Of_object, Of_root, Run, Seat, State, Task, Trapped, Unwind, next, resumed}
+use Rattle.aom_sound.specs.State.{Answered, Asks, Closing, Destroy, Dispatch, Dispatched, Frame, Home, Item, Main_left, Object_left, Of_main, Of_object, Of_root, Of_server, Run, Seat, State, Task, Trapped, Unwind, next, resumed}
 use Rattle.aom_sound.specs.WellTyped.{Caught, Now, Returns, Stack}
 use Rattle.aom_ranks.specs.Worths.{Worths, tasks_worth, waiting_worth}
 use Rattle.aom_sound.specs.Enlisted.{cancelled, ended_cells, on_request, own_request, rerequested}
@@ -46,6 +46,7 @@ module _ (w : Worths) where
   to_trap_less (Run fr ∷ ts) = omega (arith, to_trap_less ts)
   to_trap_less (Trapped ∷ ts) = omega arith
   to_trap_less (Destroy ∷ ts) = omega arith
+  to_trap_less (Closing ∷ ts) = omega arith
   to_trap_less (Unwind code ∷ ts) = omega arith
   to_trap_less (Dispatched d ∷ ts) = omega arith
 
@@ -55,6 +56,7 @@ module _ (w : Worths) where
   resumed_alike (Run fr ∷ ts) = refl
   resumed_alike (Trapped ∷ ts) = refl
   resumed_alike (Destroy ∷ ts) = refl
+  resumed_alike (Closing ∷ ts) = refl
   resumed_alike (Unwind code ∷ ts) = refl
   resumed_alike (Dispatched d ∷ ts) = refl
 
@@ -79,8 +81,9 @@ module _ (w : Worths) where
   -- a return to what stands below
   module _ (f : List Cell → ℕ) (g : List Item → ℕ)
       (passes : (d i e j : ℕ) (cs : List Cell) → f (moved (Register d i) (Register e j) cs) ≤ f cs) (below : (items : List Item) → g (below_top items) ≤ g items)
-      (asks : (cs : List Cell) (h : Home) (r : Option Request) → f (rerequested cs h r) ≡ f cs) (answers : (x : Seat) (answer : ℤ) → w.dispatch (Answered x answer) ≤ w.dispatch (Asks x))
-      (p : Image) (t : Typing) (s : State) (fr : Frame) (sh : Shape) (gives : Gives) (a : ℕ) where
+      (asks : (cs : List Cell) (h : Home) (r : Option Request) → f (rerequested cs h r) ≡ f cs) (answers : (x : Seat) (answer : ℤ) → w.dispatch (Answered x answer) ≤ w.dispatch (Asks x)) (serves : (d : Dispatch) → w.dispatch (ended_well d) ≤ w.dispatch d)
+      (p : Image) (t : Typing) (s : State) (fr : Frame) (sh : Shape) (gives : Gives) (a : ℕ)
+      (accepts : (d : Dispatch) (e i : ℕ) → f (accepted_cells d (Register e i) (ended_cells p fr s.cells)) ≤ f (ended_cells p fr s.cells)) where
     -- the state as the method ends
     abbrev pub ended : State
     ended = record s { cells = ended_cells p fr s.cells }
@@ -104,6 +107,7 @@ module _ (w : Worths) where
     answered_less answer (Of_object x) = omega arith
     answered_less answer (Object_left x code) = omega arith
     answered_less answer (Answered x y) = omega arith
+    answered_less answer (Of_server x client stage) = omega arith
 
     abbrev pub after : List Layer → State
     after ls = returned p fr (tasks_of ls) ended gives a (tasks_of ls)
@@ -118,12 +122,14 @@ module _ (w : Worths) where
         let below = Run caller ∷ tasks_of ls in
         (omega (arith, received_alike p fr below ended gives a x caller (tasks_of ls)), omega (arith, result_less f passes p fr below ended gives a x (tasks_of ls), ended_less))
     returned_less (Dying o ∷ ls) h = (omega arith, omega (arith, ended_less))
+    returned_less (Ending o left ∷ ls) h = absurd h.4.1
     returned_less (Unwinding code es ∷ ls) h = (omega arith, omega (arith, ended_less))
     returned_less (Mark gv ∷ []) h = let e : Caught gv ≡ Now = h.4.1 in absurd (cc)
+    returned_less (Mark gv ∷ Ending o left ∷ ls) h = absurd h.4.1.1
     returned_less (Mark gv ∷ Method caller sh2 ∷ ls) h =
         let x = result_register (instr_at p caller.method caller.place) in
         let over = Trapped ∷ Run caller ∷ tasks_of ls in
         (omega (arith, received_alike p fr over ended gives a x caller (tasks_of ls)), omega (arith, result_less f passes p fr over ended gives a x (tasks_of ls), ended_less, below s.items))
-    returned_less (Mark gv ∷ Dispatching d seats ∷ ls) h = (omega arith, omega (arith, ended_less, below s.items))
+    returned_less (Mark gv ∷ Dispatching d seats ∷ ls) h = (omega (arith, serves d), omega (arith, accepts d (length (Trapped ∷ Dispatched d ∷ tasks_of ls)) a, ended_less, below s.items))
     returned_less (Dispatching d seats ∷ ls) h = (omega (arith, answered_less (told_answer gives fr a) d), omega (arith, ended_less))
     returned_less _ h = absurd (grind arith)

@@ -6,7 +6,7 @@ use Rattle.aom_image.specs.declared.method.Method.{Method}
 use Rattle.aom_image.specs.declared.method.Role.TheVariants.{Error}
 use Rattle.aom_sound.specs.Enlisted.{part_of}
 use Rattle.aom_sound.specs.Places.{Place, Register, Entry, Field, Going, Elsewhere, Cell}
-use Rattle.aom_sound.specs.State.{Frame, Dispatch, Of_main, Main_left, Of_root, Of_object, Object_left, Asks, Answered, Seat, Task, Run, Trapped, Destroy, Unwind, Dispatched, Item, An_object, An_operation, A_mark, State}
+use Rattle.aom_sound.specs.State.{Frame, Dispatch, Of_main, Main_left, Of_root, Of_object, Object_left, Asks, Answered, Of_server, Seat, Task, Run, Trapped, Destroy, Closing, Unwind, Dispatched, Item, An_object, An_operation, A_mark, State}
 use Rattle.aom_ranks.specs.Within.{left}
 use Rattle.aom_ranks.specs.Worths.{Worths, tasks_worth, waiting_worth}
 
@@ -18,9 +18,9 @@ all_left (m ∷ ms) = left m.code [] 0 + all_left ms
 abbrev pub base : Image → ℕ
 base p = all_left p.methods + 2
 
--- a method comes after those that it calls, and those that are not quiet come after all that are
+-- a method comes after those that it calls, and those that are not quiet come after all that are, and after a cell
 abbrev pub level : Image → ℕ → ℕ
-level p m = cond (is_quiet p m) m (suc (length p.methods) + m)
+level p m = cond (is_quiet p m) m (suc (suc (length p.methods)) + m)
 
 -- a move of a method pays for a whole run of any method of a lower level
 abbrev pub price : Image → ℕ → ℕ
@@ -54,10 +54,16 @@ end_rank p (Of_object x) = 4 + error_rank p x
 end_rank p (Object_left x code) = 4 + error_rank p x
 end_rank p (Asks x) = 3
 end_rank p (Answered x answer) = 2
+-- once all is served it is the end of an object's
+end_rank p (Of_server x client stage) = 5 + error_rank p x
+
+-- the destructor of a server, which is quiet, is paid as its sessions begin to go
+abbrev pub closing_rank : Image → ℕ
+closing_rank p = base p ^ length p.methods
 
 -- a trap, the going of a cell and a leave are a move each
 abbrev pub rank_worths : Image → Worths
-rank_worths p = record { method = method_rank p; trap = 1; going = 1; leave = 1; dispatch = end_rank p }
+rank_worths p = record { method = method_rank p; trap = 1; going = 1; closing = closing_rank p; leave = 1; dispatch = end_rank p }
 
 abbrev pub waiting_rank : Image → List Task → ℕ
 waiting_rank p ts = waiting_worth (rank_worths p) ts
@@ -65,9 +71,9 @@ waiting_rank p ts = waiting_worth (rank_worths p) ts
 abbrev pub tasks_rank : Image → List Task → ℕ
 tasks_rank p ts = tasks_worth (rank_worths p) ts
 
--- a cell pays for its destructor, which is quiet, and for its going
+-- a cell pays for its destructor, which is quiet, for what goes before that where it is a server, and for its going
 abbrev pub cell_rank : Image → ℕ
-cell_rank p = base p ^ length p.methods
+cell_rank p = base p ^ suc (length p.methods)
 
 abbrev pub is_going : Place → Bool
 is_going (Register f r) = false
@@ -95,6 +101,7 @@ rank p s = tasks_rank p s.tasks + (standing s.cells + operations s.items) * cell
 abbrev pub destructions : List Task → ℕ
 destructions [] = 0
 destructions (Destroy ∷ ts) = suc (destructions ts)
+destructions (Closing ∷ ts) = destructions ts
 destructions (Run fr ∷ ts) = destructions ts
 destructions (Trapped ∷ ts) = destructions ts
 destructions (Unwind code ∷ ts) = destructions ts

@@ -1,6 +1,6 @@
 -- What the tasks at hand come to, where it is known what each of them is worth.
 use Rattle.std.specs.Prelude.{ℕ, suc, ◌+◌, List, [], ◌∷◌}
-use Rattle.aom_sound.specs.State.{Dispatch, Task, Run, Trapped, Destroy, Unwind, Dispatched}
+use Rattle.aom_sound.specs.State.{Closing, Destroy, Dispatch, Dispatched, Run, Task, Trapped, Unwind}
 
 pub record Worths : Type 0 where
   -- a method, by its number, its counters and its place
@@ -8,6 +8,8 @@ pub record Worths : Type 0 where
   pub trap : ℕ
   -- the going of a cell
   pub going : ℕ
+  -- what goes before a server: its sessions, and then its destructor
+  pub closing : ℕ
   pub leave : ℕ
   -- the end of a dispatch
   pub dispatch : Dispatch → ℕ
@@ -18,6 +20,7 @@ waiting_worth w [] = 0
 waiting_worth w (Run fr ∷ ts) = w.method fr.method fr.counters (suc fr.place) + waiting_worth w ts
 waiting_worth w (Trapped ∷ ts) = w.trap + waiting_worth w ts
 waiting_worth w (Destroy ∷ ts) = w.going + waiting_worth w ts
+waiting_worth w (Closing ∷ ts) = w.closing + waiting_worth w ts
 waiting_worth w (Unwind code ∷ ts) = w.leave + waiting_worth w ts
 waiting_worth w (Dispatched d ∷ ts) = w.dispatch d + waiting_worth w ts
 

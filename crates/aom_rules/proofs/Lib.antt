@@ -11,3 +11,4 @@ pub mod Growing
 pub mod Examples
 pub mod RequestExamples
 pub mod NativeExamples
+pub mod MessageExamples

@@ -5,14 +5,14 @@ use Rattle.std.specs.Prelude.{bit_and, bit_or}
 use Rattle.aom_image.specs.Image.{Image}
 use Rattle.aom_image.specs.Views.{arguments_of, gives_of, fields_of, has, leaves, method_class, method_role}
 use Rattle.aom_instructions.specs.declared.instr.Instr.{Instr}
-use Rattle.aom_instructions.specs.declared.instr.Instr.TheVariants.{Const, Copy, Move, Add, Sub, Mul, And, Or, Xor, JumpEqual, JumpLess, JumpNull, JumpEmpty, Print, Load, Store, Take, Put, New, NewOrLeave, Delete, Push, PushOperation, Pop, Call, Trap, Return, Leave, LeaveIf, Enlist, Issue, SetActive, Cancel, Abort, Status, Connect, Ask, Close}
+use Rattle.aom_instructions.specs.declared.instr.Instr.TheVariants.{Const, Copy, Move, Add, Sub, Mul, And, Or, Xor, JumpEqual, JumpLess, JumpNull, JumpEmpty, Print, Load, Store, Take, Put, New, NewOrLeave, Delete, Push, PushOperation, Pop, Call, Trap, TakeMessage, Reply, Return, Leave, LeaveIf, Enlist, Issue, SetActive, Cancel, Abort, Status, Connect, Ask, Close}
 use Rattle.aom_instructions.specs.declared.instr.Target.{Target}
 use Rattle.aom_instructions.specs.declared.instr.Target.TheVariants.{This, Register, Field, Entry as On_entry}
 use Rattle.aom_image.specs.declared.method.Argument.{Argument}
 use Rattle.aom_image.specs.declared.method.Argument.TheVariants.{Word as A_word_argument, Own as An_own_argument}
 use Rattle.aom_image.specs.declared.method.Gives.{Gives}
 use Rattle.aom_image.specs.declared.method.Gives.TheVariants.{Nothing, Word as A_word, Own as An_own, Maybe as A_maybe, Left}
-use Rattle.aom_image.specs.declared.method.Thing.TheVariants.{Object}
+use Rattle.aom_image.specs.declared.method.Thing.TheVariants.{Message, Object}
 use Rattle.aom_roles.specs.States.{active, active_states, cancel_done, cancel_open, idle, issued, server_states, unlisted}
 use Rattle.aom_rules.specs.Requests.{begins_here, flow_in, flow_narrowed, is_cancel, is_construct, is_service, may_begin, once_cancelled, resting, unissued}
 use Rattle.aom_rules.specs.Calls.{is_destructor, is_target, age_need, awaits, brought, caught, worked_on, while_called, argument_needs, each_argument, rule_target, rule_arguments, rule_moved, rule_trapped, fields_done, rule_ended, rule_left, rule_result, result_moved, lasting}
@@ -29,7 +29,7 @@ use Rattle.aom_shape.specs.Order.Weaker.{alike, unset_word, unset_null, maybe_nu
 use Rattle.aom_shape.specs.Order.WeakerFilling.{alike_filling, perhaps_empty, perhaps_full}
 use Rattle.aom_rules.specs.Rules.{rule_needs, flows, ways_of}
 use Rattle.aom_shape.specs.Shape.{Shape}
-use Rattle.aom_rules.specs.Ways.{As_before, Branches, Branches_in, Branches_on_empty, Branches_on_null, Called, Cancelled, Caught, Dropped, Ends, Filled, Goes_back, Goes_on, Goes_to, Holding, Left_in, Moved, News, Popped, Pushed, Pushed_operation, Taken, Ways, after, flowing}
+use Rattle.aom_rules.specs.Ways.{As_before, Branches, Branches_in, Branches_on_empty, Branches_on_null, Called, Cancelled, Caught, Dropped, Ends, Filled, Goes_back, Goes_on, Goes_to, Holding, Left_in, Moved, News, Popped, Pushed, Pushed_operation, Taken, Taken_message, Ways, after, flowing}
 use Rattle.aom_shape.specs.Things.{Holder, Nobody, Program, Member, field_thing, holder_of}
 use Rattle.aom_shape.specs.declared.kind.Age.TheVariants.{Ready}
 use Rattle.aom_shape.specs.declared.kind.Entry.{Entry}
@@ -410,7 +410,9 @@ needs_more p m pc a b (Ask r s t) h n = (
   (word_more (register a t) (register b t) (h.registers t) n.1.0, (n.1.1.0, (unowning_more (register a r) (register b r) (h.registers r) n.1.1.1.0, tt))),
 )
 needs_more p m pc a b Close h n = (n.0, (has_along server_states a.states b.states n.1.0 h.states, tt))
--- of the entries or of the method alone, or of nothing, or never met
+needs_more p m pc a b (TakeMessage r) h n = (unowning_more (register a r) (register b r) (h.registers r) n.0, (n.1.0, (here_more a b h n.1.1.0, tt)))
+needs_more p m pc a b (Reply r s) h n = (own_more p Message (register a r) (register b r) (h.registers r) n.0, (word_more (register a s) (register b s) (h.registers s) n.1.0, tt))
+-- of the entries or of the method alone, or of nothing
 needs_more p m pc a b _ h n = grind (arith, n, h.entries)
 
 same_jump : (p : Image) (m pc : ℕ) (a b : Shape) (r to : ℕ) → SaysNoMore a b → (k : Kind) → AllFollow (flow_jump_null p m pc a k r to) (flow_jump_null p m pc b k r to)
@@ -534,6 +536,9 @@ module _ (p : Image) (m pc : ℕ) (a b : Shape) (h : SaysNoMore a b) where
       caught_more (gives_of p m') c (lasting p m pc a target m' first ended) (lasting p m pc b target m' first ended) (lasting_more target m' first ended)
   after_more (Left_in states) n = states_more a b states states h (has_itself states)
   after_more Cancelled n = record { registers = h.registers; fields = λ i. alike_filling; entries = h.entries; states = cancelled_more a.states b.states h.states; delivery = h.delivery }
+  after_more (Taken_message r) n =
+      let held = register_more a b r (Own Message Ready) (Own Message Ready) h alike in
+      record { registers = held.registers; fields = h.fields; entries = h.entries; states = h.states; delivery = refl }
 
   ways_more : (ways : Ways) → Allows a ways → AllFollow (flowing p m pc a ways) (flowing p m pc b ways)
   ways_more Ends n = tt

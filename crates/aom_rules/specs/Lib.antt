@@ -3,6 +3,7 @@ pub mod Objects
 pub mod Cleanup
 pub mod Requests
 pub mod Natives
+pub mod Messages
 pub mod Calls
 pub mod Ways
 pub mod Rules

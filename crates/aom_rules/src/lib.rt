@@ -10,6 +10,7 @@ mod active;
 mod calls;
 mod cleanup;
 mod laws;
+mod messages;
 mod natives;
 mod objects;
 mod requests;

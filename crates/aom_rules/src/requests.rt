@@ -29,7 +29,7 @@ fn is_cancel(role: Role) -> bool
     matches!(role, Role::Cancel)
 }
 
-fn is_service(role: Role) -> bool
+pub(crate) fn is_service(role: Role) -> bool
     ensures { result ≡ is_service (Some role) }
 {
     matches!(role, Role::Service)

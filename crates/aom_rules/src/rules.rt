@@ -93,6 +93,7 @@ pub fn rule(
         Instr::Connect(a) => site.rule_connect(a),
         Instr::Ask(a, b, c) => site.rule_ask(a, b, c),
         Instr::Close => site.rule_close(),
-        Instr::TakeMessage(_) | Instr::Reply(_, _) => Err(Why::RegisterKind),
+        Instr::TakeMessage(a) => site.rule_take_message(a),
+        Instr::Reply(a, b) => site.rule_reply(a, b),
     }
 }

@@ -172,6 +172,15 @@ impl<'a> Shape<'a> {
         self.known.delivery
     }
 
+    /// The same with something else known of the message in service.
+    pub fn with_delivery(&self, delivery: Delivery) -> Shape<'a>
+        ensures { result ≡ record self.now { delivery = delivery } }
+    {
+        let mut known = self.known;
+        known.delivery = delivery;
+        self.with_known(known)
+    }
+
     /// No register owns, and none perhaps owns.
     pub fn none_owns(&self) -> bool
         ensures { result ≡ none_owns self.now.registers }

@@ -15,7 +15,7 @@ use Rattle.aom_sound.specs.Calls.{called, result_register}
 use Rattle.aom_sound.specs.Claims.{Dispatching, Layer, Mark, Method, Unwinding, claim, declared, forms, items_of, objects, tasks_of}
 use Rattle.aom_sound.specs.Cleanup.{arrived, code_told}
 use Rattle.aom_sound.specs.Places.{Cell, Elsewhere, Entry, Field, Going, Place, Register, Root, held, seen}
-use Rattle.aom_sound.specs.State.{Dispatch, Frame, Item, Main_left, Object_left, Of_main, Of_object, Seat, State, Static, next, set_word}
+use Rattle.aom_sound.specs.State.{Of_server, Accepts, Accept_left, Serves, Service_left, Dispatch, Frame, Item, Main_left, Object_left, Of_main, Of_object, Seat, State, Static, next, set_word}
 use Rattle.aom_sound.specs.WellTyped.{AllUndo, Awaits, Caught, Fits, Good, Keeps, Stack}
 
 same_entries : (g : Gives) (c : ℕ) (sh : Shape) → (caught g c sh).entries ≡ sh.entries
@@ -82,7 +82,7 @@ module _ (p : Image) (t : Typing) (s : State) (code : ℤ) (items : List Item) w
     tasks = refl;
     items = same;
     undos = undos;
-    good = record { stack = (tt, good.stack.1.1.1, good.stack.1.1.2, good.stack.1.1.3); fits = fits; suits = good.suits; tidy = good.tidy };
+    good = record { stack = (tt, good.stack.1.1.1, good.stack.1.1.2, good.stack.1.1.3, tt); fits = fits; suits = good.suits; tidy = good.tidy };
   }
     where
       fits : (r : Place) → Fits p (seen s.cells) (held s.cells r) (claim p (declared p s.cells) (Dispatching (Main_left code) seats ∷ ls) r)
@@ -97,10 +97,40 @@ module _ (p : Image) (t : Typing) (s : State) (code : ℤ) (items : List Item) w
     tasks = refl;
     items = same;
     undos = undos;
-    good = record { stack = (tt, good.stack.1.1.1, good.stack.1.1.2, good.stack.1.1.3); fits = fits; suits = good.suits; tidy = good.tidy };
+    good = record { stack = (tt, good.stack.1.1.1, good.stack.1.1.2, good.stack.1.1.3, tt); fits = fits; suits = good.suits; tidy = good.tidy };
   }
     where
       fits : (r : Place) → Fits p (seen s.cells) (held s.cells r) (claim p (declared p s.cells) (Dispatching (Object_left x code) seats ∷ ls) r)
+      fits (Register f i) = good.fits (Register f i)
+      fits (Entry k) = good.fits (Entry k)
+      fits (Field n f) = good.fits (Field n f)
+      fits (Elsewhere Root) = good.fits (Elsewhere Root)
+      fits (Elsewhere w) = good.fits (Elsewhere w)
+      fits (Going k) = good.fits (Going k)
+  at_dispatch gv (Of_server x c Accepts) seats ls same undos good = record {
+    layers = Dispatching (Of_server x c (Accept_left code)) seats ∷ ls;
+    tasks = refl;
+    items = same;
+    undos = undos;
+    good = record { stack = (tt, good.stack.1.1.1, good.stack.1.1.2, good.stack.1.1.3, good.stack.1.1.4); fits = fits; suits = good.suits; tidy = good.tidy };
+  }
+    where
+      fits : (r : Place) → Fits p (seen s.cells) (held s.cells r) (claim p (declared p s.cells) (Dispatching (Of_server x c (Accept_left code)) seats ∷ ls) r)
+      fits (Register f i) = good.fits (Register f i)
+      fits (Entry k) = good.fits (Entry k)
+      fits (Field n f) = good.fits (Field n f)
+      fits (Elsewhere Root) = good.fits (Elsewhere Root)
+      fits (Elsewhere w) = good.fits (Elsewhere w)
+      fits (Going k) = good.fits (Going k)
+  at_dispatch gv (Of_server x c (Serves o)) seats ls same undos good = record {
+    layers = Dispatching (Of_server x c (Service_left code)) seats ∷ ls;
+    tasks = refl;
+    items = same;
+    undos = undos;
+    good = record { stack = (tt, good.stack.1.1.1, good.stack.1.1.2, good.stack.1.1.3, good.stack.1.1.4); fits = fits; suits = good.suits; tidy = good.tidy };
+  }
+    where
+      fits : (r : Place) → Fits p (seen s.cells) (held s.cells r) (claim p (declared p s.cells) (Dispatching (Of_server x c (Service_left code)) seats ∷ ls) r)
       fits (Register f i) = good.fits (Register f i)
       fits (Entry k) = good.fits (Entry k)
       fits (Field n f) = good.fits (Field n f)

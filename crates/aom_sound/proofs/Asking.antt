@@ -1,5 +1,5 @@
 -- An `error` method enters over the dispatch that asks it.
-use Rattle.std.proofs.Common.{inl, IsTrue, List, None, Option, Some, [], ap, length, refl, subst, suc, sym, true, zero, ℕ, ℤ, ◌∙◌, ◌∷◌, ◌≡◌}
+use Rattle.std.proofs.Common.{inr, false, inl, IsTrue, List, None, Option, Some, [], ap, length, refl, subst, suc, sym, true, zero, ℕ, ℤ, ◌∙◌, ◌∷◌, ◌≡◌}
 use Rattle.std.specs.Prelude.{bit_or, is_some, map}
 use Rattle.aom_image.specs.Image.{Image}
 use Rattle.aom_image.specs.Views.{has, method_class}
@@ -10,7 +10,7 @@ use Rattle.aom_image.specs.declared.method.Role.TheVariants.{Error}
 use Rattle.aom_image.specs.declared.method.Thing.{Thing}
 use Rattle.aom_image.specs.declared.method.Thing.TheVariants.{Message, Object as An_object_of}
 use Rattle.aom_roles.specs.States.{active, active_states, idle, server_states, states_of}
-use Rattle.aom_rules.specs.Requests.{is_cancel}
+use Rattle.aom_rules.specs.Requests.{is_service, is_cancel}
 use Rattle.aom_rules.specs.Typing.{IsTyped, Typing}
 use Rattle.aom_shape.specs.Arguments.{argument_kind, entry_fields}
 use Rattle.aom_shape.specs.Tables.{at}
@@ -28,6 +28,8 @@ use Rattle.aom_sound.specs.Places.{Active, Elsewhere, Entry, Field, Going, Idle,
 use Rattle.aom_sound.specs.Requests.{Suits, phase_state, resting_in, thing_kind}
 use Rattle.aom_sound.specs.State.{Asks, Object_left, Seat, State, thing_holder}
 use Rattle.aom_sound.specs.WellTyped.{AllUndo, Fits, Good, WellTyped, WordFits}
+use Rattle.aom_sound.proofs.Attending.{with_message}
+use Rattle.std.proofs.lemmas.Bool.{true≢false}
 
 -- what rests and is enlisted is idle or active
 pub rests_listed : (k : Option ClassKind) (r : Option Request) → is_some r ≡ true → Suits k (resting_in (states_of k)) r → Suits k (resting_in (bit_or idle active)) r
@@ -69,7 +71,7 @@ module _ (p : Image) (t : Typing) (wired : IsWired p) (typed : IsTyped p t) (s :
       empty zero = tt
       empty (suc i) = tt
 
-      claims : (d : Place → Kind) (r : Place) → claim p d (Dispatching (Asks x) (x ∷ above) ∷ []) r ≡ d r
+      claims : (d : Place → Kind) (r : Place) → claim p d (Dispatching (Asks x) (x ∷ above) ∷ []) r ≡ with_message false d r
       claims d (Register f i) = refl
       claims d (Entry k) = refl
       claims d (Field n f) = refl
@@ -77,7 +79,7 @@ module _ (p : Image) (t : Typing) (wired : IsWired p) (typed : IsTyped p t) (s :
       claims d (Elsewhere w) = refl
       claims d (Going k) = refl
 
-      fits : (r : Place) → Fits p (seen s.cells) (held s.cells r) (declared p s.cells r)
+      fits : (r : Place) → Fits p (seen s.cells) (held s.cells r) (with_message false (declared p s.cells) r)
       fits (Register f i) = good.fits (Register f i)
       fits (Entry k) = good.fits (Entry k)
       fits (Field n f) = good.fits (Field n f)
@@ -87,13 +89,16 @@ module _ (p : Image) (t : Typing) (wired : IsWired p) (typed : IsTyped p t) (s :
 
       entering : Entering p t s.cells x above over m (Some code ∷ [])
       entering = record {
+        served = false;
+        message = ap is_service it.2.role;
+        right_over = (λ e. absurd (true≢false (sym e ∙ ap is_service it.2.role)), λ served. absurd served);
         claims = claims;
         states = λ y. refl;
         none_in = λ n h. (h, tt);
-        some_in = λ n h. inl h;
+        some_in = λ n h. inl (inr h);
         joins = tt;
         past = refl;
-        stack = ((it.2.leaves, it.2.gives, ap is_cancel it.2.role), refl, good.stack.2, (good.stack.3.0, above, refl));
+        stack = ((it.2.leaves, it.2.gives, ap is_cancel it.2.role), refl, good.stack.2, (good.stack.3.0, above, refl), tt);
         fits = fits;
         own = subst (λ n. Suits (thing_kind p x.object.thing) (resting_in n) (requested s.cells x.object.name)) (sym it.2.begins) (rests_listed (thing_kind p x.object.thing) (requested s.cells x.object.name) good.stack.3.0 (good.suits x.object good.stack.2.0.1));
         others = λ y lives other. good.suits y lives;

@@ -2,8 +2,8 @@
 use Rattle.std.proofs.Common.{refl}
 use Rattle.aom_image.specs.Views.{arguments_in, class_at, class_in, fields_in, gives_in, instr_in, method_at, role_in}
 use Rattle.aom_instructions.specs.declared.instr.Instr.TheVariants.{Call, Trap}
-use Rattle.aom_roles.specs.Classes.{kind_in}
-use Rattle.aom_roles.specs.Shapes.{kind_of}
+use Rattle.aom_roles.specs.Classes.{sessions_in, sessions_of, kind_in}
+use Rattle.aom_roles.specs.Shapes.{is_role, kind_of}
 use Rattle.aom_shape.specs.Things.{words_in}
 use Rattle.aom_sound.specs.Cases.Calls.{CallBites, CallsBite}
 use Rattle.aom_sound.specs.Cases.Cleanup.{CleanupBites}
@@ -12,9 +12,11 @@ use Rattle.aom_sound.specs.Cases.Natives.{NativesBite}
 use Rattle.aom_sound.specs.Cases.Objects.{ObjectsBite}
 use Rattle.aom_sound.specs.Cases.Requests.{RequestsBite}
 use Rattle.aom_sound.specs.Cases.Returns.{ReturnsBite}
+use Rattle.aom_sound.specs.Cases.Servers.{ServersBite}
 use Rattle.aom_sound.specs.Cases.Turns.{TurnsBite}
 use Rattle.aom_sound.specs.Cases.Events.{EventsBite}
 use Rattle.aom_sound.specs.Cases.Words.{WordsBite}
+use Rattle.aom_classes.specs.Roles.{plays, role_number, role_of}
 
 pub words_bite : WordsBite
 unfolding class_at gives_in instr_in method_at words_in
@@ -62,8 +64,12 @@ natives_bite =
     }
 
 pub moves_bite : MovesBite
-unfolding class_at class_in fields_in gives_in instr_in method_at role_in
+unfolding is_role role_number kind_of sessions_in sessions_of class_at class_in fields_in gives_in instr_in method_at role_in
 moves_bite = record { going = refl; unwinding = refl; arrival = refl; traps = refl; standing = refl; later = refl }
+
+pub servers_bite : ServersBite
+unfolding is_role role_number role_of plays kind_of kind_in sessions_in sessions_of class_at class_in fields_in gives_in instr_in method_at role_in
+servers_bite = record { taking = refl; replying = refl; returning = refl; ending = refl; closing = refl; signals = (refl, (refl, (refl, (refl, (refl, tt))))); picking = refl }
 
 pub turns_bite : TurnsBite
 turns_bite =

@@ -12,19 +12,21 @@ use Rattle.aom_shape.specs.Order.{SaysNoMore, Weaker, WeakerFilling, alike_filli
 use Rattle.aom_shape.specs.Shape.{Shape}
 use Rattle.aom_shape.specs.Tables.{at}
 use Rattle.aom_shape.specs.Things.{Program, field_thing, holder_by}
-use Rattle.aom_rules.specs.Requests.{is_cancel}
+use Rattle.aom_rules.specs.Requests.{is_service, is_cancel}
 use Rattle.aom_rules.specs.Typing.{IsTyped, Typing, shape_at}
 use Rattle.aom_shape.specs.Arguments.{entry_fields, entry_shape}
 use Rattle.aom_shape.specs.declared.kind.Filling.{Filling}
 use Rattle.aom_shape.specs.declared.kind.Filling.TheVariants.{Full, Perhaps}
 use Rattle.aom_shape.specs.declared.kind.Kind.TheVariants.{Null, Unset}
 use Rattle.aom_sound.proofs.Destroying.{entry_registers, unset_only}
-use Rattle.aom_sound.specs.Claims.{Dispatching, Layer, Mark, Mark_form, Method, claim, declared, entry_claim, forms, objects, tasks_of}
+use Rattle.aom_sound.specs.Claims.{serves, Dispatching, Layer, Mark, Mark_form, Method, claim, declared, entry_claim, forms, objects, tasks_of}
 use Rattle.aom_sound.specs.Laws.{IsWired}
-use Rattle.aom_sound.specs.Places.{Elsewhere, Entry, Field, Going, Place, Register, Root, Sight, seen}
+use Rattle.aom_sound.specs.Places.{In_service, Elsewhere, Entry, Field, Going, Place, Register, Root, Sight, seen}
 use Rattle.aom_sound.specs.State.{A_mark, AtRoot, Frame, Of_main, State, frame_of}
 use Rattle.aom_sound.specs.WellTyped.{AllUndo, Fits, Good, WellTyped, WordFits}
 use Rattle.aom_sound.specs.World.{boot_state, main_tasks}
+use Rattle.aom_sound.proofs.Attending.{plain_claim}
+use Rattle.std.proofs.lemmas.Bool.{true≢false}
 
 abbrev begins : ℕ → Frame
 begins m = frame_of m AtRoot 1
@@ -50,6 +52,7 @@ module _ (p : Image) (m : ℕ) (after : Shape) (w : SaysNoMore after (entry_shap
   fits (Entry k) = subst (λ es. Fits p (seen []) None (entry_claim es (Mark_form ∷ []) k Null)) (sym w.entries) tt
   fits (Field n f) = tt
   fits (Elsewhere Root) = root_null p (seen []) (field_thing p Program 0) (field after 0) (field (entry_shape p m) 0) (w.fields 0) (ap (λ r. is_empty (at Perhaps (entry_fields r) 0)) role)
+  fits (Elsewhere In_service) = subst (λ k. Fits p (seen []) None k) (sym (plain_claim (serves p m) after Null (ap is_service role))) tt
   fits (Elsewhere w) = tt
   fits (Going k) = tt
 
@@ -57,10 +60,10 @@ module _ (p : Image) (m : ℕ) (after : Shape) (w : SaysNoMore after (entry_shap
   good t stands gives = record {
     stack = (
       stands,
-      record { words = λ i. subst (λ k. WordFits None k) (sym (unset i)) tt; holder = sym (ap (λ r. holder_by r (method_class p m)) role); height = refl; alone = λ e. tt },
+      record { words = λ i. subst (λ k. WordFits None k) (sym (unset i)) tt; holder = sym (ap (λ r. holder_by r (method_class p m)) role); height = refl; alone = λ e. tt; message = (λ e. absurd (true≢false (sym e ∙ ap is_service role)), λ served. absurd served) },
       tt,
       ((refl, tt), (tt, tt)),
-      ((gives, tt, ap is_cancel role), (refl, refl, tt, refl)),
+      ((gives, tt, ap is_cancel role), (refl, refl, tt, refl, tt)),
     );
     fits = fits;
     suits = λ o lives. cc;

@@ -24,21 +24,27 @@ use Rattle.aom_sound.specs.Calls.{called, given_cells, needs_each, needs_result,
 use Rattle.aom_sound.specs.Claims.{Layer, Mark, Mark_form, Method, tasks_of}
 use Rattle.aom_sound.specs.Laws.{IsCalled, IsWired}
 use Rattle.aom_sound.specs.Moves.{does}
-use Rattle.aom_sound.specs.Places.{Cell, Elsewhere, Field, Object, Place, other_cell}
+use Rattle.aom_sound.specs.Places.{Cell, Elsewhere, Field, Object, Place, Root, Session, In_service, Queued}
 use Rattle.aom_sound.specs.State.{AtRoot, Choice, Frame, Home, Inside, State, Static}
-use Rattle.aom_sound.specs.WellTyped.{Awaits, Caught, EndsWell, IsApart, IsBelow, IsHoused, Returns, Stands, SomeInAny}
+use Rattle.aom_sound.specs.WellTyped.{Awaits, Caught, EndsWell, IsApart, IsBelow, IsHoused, Returns, Stands}
 use Rattle.aom_sound.proofs.Callees.{none_owns_each, only_then}
 use Rattle.aom_sound.specs.Requests.{rests_in, thing_kind, works_at}
 use Rattle.aom_roles.specs.Shapes.{kind_of}
 use Rattle.aom_shape.proofs.Sets.{has_itself}
 use Rattle.aom_roles.specs.States.{idle, states_of}
 use Rattle.aom_sound.proofs.Calling.{answer, awaited, caller, cancels_not, enter, kind_begun, result_free, result_met, same_high}
+use Rattle.aom_sound.proofs.Leaving.{here_is}
 
 -- what the caller finds its own object in is no issued request, where neither before nor at the end there is one
 called_unissued : (target : Target) (class : Option ℕ) (ended : ℕ) (sh : Shape) → unissued sh.states ≡ true → unissued ended ≡ true → unissued (while_called target class ended sh).states ≡ true
 called_unissued This (Some c) ended sh u e = e
 called_unissued This None ended sh u e = u
 called_unissued _ class ended sh u e = u
+
+called_delivery : (target : Target) (class : Option ℕ) (ended : ℕ) (sh : Shape) → (while_called target class ended sh).delivery ≡ sh.delivery
+called_delivery This (Some c) ended sh = refl
+called_delivery This None ended sh = refl
+called_delivery _ class ended sh = refl
 
 -- under a trap it rests
 rests_under :
@@ -74,6 +80,7 @@ module _ (p : Image) (t : Typing) (wired : IsWired p) (typed : IsTyped p t) (c :
           only_then (leaves p m) (leaves p fr.method) more.1.1.1.1.0 l,
           none_owns_each sh'.registers (λ i. a.1.owning i ∙ none_owns_at (arguments_moved (arguments_of p m) first sh).registers i (only_then (leaves p m) _ more.1.1.1.1.1.0 l)),
           called_unissued target (method_class p m) ended (arguments_moved (arguments_of p m) first sh) (only_then (leaves p m) _ more.1.1.1.1.1.1.0 l) called_so.ends,
+          λ serving. called_delivery target (method_class p m) ended (arguments_moved (arguments_of p m) first sh) ∙ here_is _ (only_then (leaves p m) _ more.1.1.1.1.1.1.1.0 l),
         ),
         subst (λ y. Awaits (gives_of p m) y sh') (sym at_x) (awaited p t wired typed c s fr sh ls at_hand m first depth height deep called_so passed (gives_of p m) x sh' a.1.owning more.1.1.1.0),
         subst (λ y. Leads t fr.method (suc fr.place) (brought (gives_of p m) y sh')) (sym at_x) leads.0,
@@ -83,7 +90,7 @@ module _ (p : Image) (t : Typing) (wired : IsWired p) (typed : IsTyped p t) (c :
       let high = same_high p t wired typed c s fr sh ls at_hand m first depth height deep called_so passed home sh' a.1 in (
         all_join (needs_target p fr (tasks_of ls) s target (method_class p m) first (length (arguments_of p m))) _ a.0
             (parts.1.0, all_join (needs_each p fr (tasks_of ls) s (arguments_of p m) first) _ (each_met p t c s fr sh ls at_hand (arguments_of p m) first more.0) (result_met p t wired typed c s fr sh ls at_hand m first depth height deep called_so passed (gives_of p m) x more.1.1.1.0)),
-        enter p t wired typed c s fr sh ls at_hand m first depth height deep called_so passed home sh' (Method fr sh' ∷ ls) a.1 refl (ap length (sym high) ∙ length_forms s.items) (λ d r. refl) (λ o. refl) a.1.housed a.1.apart (caller p t wired typed c s fr sh ls at_hand m first depth height deep called_so passed home sh' (Returns m home) a.1 stands) (does p c fr (tasks_of ls) s (Call target m first x)) refl refl high at_hand.undos,
+        enter p t wired typed c s fr sh ls at_hand m first depth height deep called_so passed home sh' (Method fr sh' ∷ ls) (λ x. x) a.1 refl (ap length (sym high) ∙ length_forms s.items) (λ d r. refl) (λ o. refl) a.1.housed a.1.apart (caller p t wired typed c s fr sh ls at_hand m first depth height deep called_so passed home sh' (Returns m home) a.1 stands) (does p c fr (tasks_of ls) s (Call target m first x)) refl refl high at_hand.undos,
       )
     where
       depth : ℕ
@@ -95,11 +102,10 @@ module _ (p : Image) (t : Typing) (wired : IsWired p) (typed : IsTyped p t) (c :
 -- over a trap's mark
 below_mark : (from : Place) (gv : Gives) (ls : List Layer) → IsBelow from ls → IsBelow from (Mark gv ∷ ls)
 below_mark (Field n f) gv ls b = b
-below_mark (Elsewhere w) gv ls b = go (other_cell w) b
-  where
-    go : (c : Option ℕ) → SomeInAny c ls → SomeInAny c (Mark gv ∷ ls)
-    go None b = tt
-    go (Some n) b = b
+below_mark (Elsewhere Root) gv ls b = tt
+below_mark (Elsewhere (Session n c)) gv ls b = b
+below_mark (Elsewhere In_service) gv ls b = absurd b
+below_mark (Elsewhere (Queued n m)) gv ls b = absurd b
 below_mark _ gv ls b = omega arith
 
 housed_mark : (p : Image) (cs : List Cell) (home : Home) (gv : Gives) (ls : List Layer) → IsHoused p cs ls home → IsHoused p cs (Mark gv ∷ ls) home
@@ -151,7 +157,7 @@ module _ (p : Image) (t : Typing) (wired : IsWired p) (typed : IsTyped p t) (c :
           all_join (needs_each p fr (tasks_of ls) s (arguments_of p m) first) _ (each_met p t c s fr sh ls at_hand (arguments_of p m) first more.0)
               (all_join (needs_result p fr (tasks_of ls) s gv (given_cells p fr (tasks_of ls) s (over_trap p fr (tasks_of ls) s) m first) x) _ (result_met p t wired typed c s fr sh ls at_hand m first depth height deep called_so passed gv x more.1.1.0) (free, tt)),
         ),
-        enter p t wired typed c s fr sh ls at_hand m first depth height deep called_so passed home sh' over a.1 refl (ap suc (ap length (sym high) ∙ length_forms s.items)) (λ d r. mark_claims p d gv (Method fr sh' ∷ ls) r) (λ o. refl)
+        enter p t wired typed c s fr sh ls at_hand m first depth height deep called_so passed home sh' over (λ x. x) a.1 refl (ap suc (ap length (sym high) ∙ length_forms s.items)) (λ d r. mark_claims p d gv (Method fr sh' ∷ ls) r) (λ o. refl)
             (housed_mark p (given_cells p fr (tasks_of ls) s (over_trap p fr (tasks_of ls) s) m first) home gv (Method fr sh' ∷ ls) a.1.housed) (apart_mark p home gv fr sh' ls a.1.apart (rests_under p m fr sh' home (kind_begun p t wired typed c s fr sh ls at_hand m first depth height deep called_so home sh' a.1.begun) a.1.settles))
             ((refl, trapped.gives, ap is_cancel trapped.role), below) (does p c fr (tasks_of ls) s (Trap target m first x)) refl refl (ap (λ fs. Mark_form ∷ fs) high) at_hand.undos,
       )

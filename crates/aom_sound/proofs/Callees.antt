@@ -28,9 +28,9 @@ use Rattle.aom_sound.proofs.Maps.{at-put_at, held_moved}
 use Rattle.aom_sound.proofs.Passing.{lower, upper}
 use Rattle.aom_sound.specs.Calls.{passed_cells}
 use Rattle.aom_sound.specs.Claims.{Layer, Method, items_of, tasks_of}
-use Rattle.aom_sound.specs.Places.{Cell, Elsewhere, Entry, Field, Going, Object, Place, Register, Sight, held, moved, same_place, other_cell}
+use Rattle.aom_sound.specs.Places.{Cell, Elsewhere, Entry, Field, Going, Object, Place, Register, Sight, held, moved, same_place, Root, Session, In_service, Queued}
 use Rattle.aom_sound.specs.State.{Frame, Home, Inside, State, home_holder, thing_holder}
-use Rattle.aom_sound.specs.WellTyped.{Fits, IsBelow, SomeInAny}
+use Rattle.aom_sound.specs.WellTyped.{Fits, IsBelow}
 use Rattle.aom_sound.specs.Requests.{thing_kind}
 use Rattle.aom_roles.specs.Shapes.{kind_of}
 use Rattle.aom_sound.specs.Enlisted.{cancel_method, cancel_of}
@@ -86,11 +86,10 @@ pub below_more : (from : Place) (fr : Frame) (sh : Shape) (ls : List Layer) → 
 below_more (Register f i) fr sh ls b = omega arith
 below_more (Entry k) fr sh ls b = omega (arith, length_objects sh.entries (items_of ls))
 below_more (Field n f) fr sh ls b = inr b
-below_more (Elsewhere w) fr sh ls b = go (other_cell w) b
-  where
-    go : (c : Option ℕ) → SomeInAny c ls → SomeInAny c (Method fr sh ∷ ls)
-    go None b = tt
-    go (Some n) b = inr b
+below_more (Elsewhere Root) fr sh ls b = tt
+below_more (Elsewhere (Session n c)) fr sh ls b = inr b
+below_more (Elsewhere In_service) fr sh ls b = absurd b
+below_more (Elsewhere (Queued n m)) fr sh ls b = absurd b
 below_more (Going k) fr sh ls b = omega arith
 
 -- whose fields a called method works on, by its class

@@ -18,7 +18,7 @@ use Rattle.aom_shape.specs.Arguments.{argument_kind, arguments_moved, before_of,
 use Rattle.aom_shape.specs.Kinds.{is_own_for, entry_kind, field, filled, is_fresh_kind, is_object_or_null, is_ready_kind, is_unowning, readied, register, set_register}
 use Rattle.aom_shape.specs.Entries.{readied_at}
 use Rattle.aom_shape.specs.Needs.{AllTrue, only_if}
-use Rattle.aom_shape.specs.Order.{SaysNoMore, Weaker, WeakerFilling, alike, alike_filling, perhaps_empty, perhaps_full}
+use Rattle.aom_shape.specs.Order.{SaysNoMore, WeakerFilling, alike, alike_filling, perhaps_empty, perhaps_full}
 use Rattle.aom_shape.specs.Shape.{Shape}
 use Rattle.aom_shape.specs.Tables.{at}
 use Rattle.aom_shape.specs.Things.{Member, field_thing, holder_by, holder_of, stands_for}
@@ -30,26 +30,27 @@ use Rattle.aom_shape.specs.declared.kind.Filling.{Filling}
 use Rattle.aom_shape.specs.declared.kind.Filling.TheVariants.{Empty, Full, Perhaps}
 use Rattle.aom_shape.specs.declared.kind.Kind.{Kind}
 use Rattle.aom_shape.specs.declared.kind.Kind.TheVariants.{Null, Own, Unset}
-use Rattle.aom_sound.proofs.Claimed.{Outside, OwnsNoMore, claim_from, claim_register_above, claim_unclaimed, claim_weaker, filled_weaker, fits_weaker, layer_rel, outside_differs, word_fits_weaker}
+use Rattle.aom_sound.proofs.Claimed.{Outside, OwnsNoMore, claim_from, claim_register_above, claim_unclaimed, claim_weaker, filled_weaker, fits_weaker, outside_differs, word_fits_weaker}
 use Rattle.aom_sound.proofs.Destroying.{Untouched, at_alike, eqb_comm, other_name, untouched, untouched_method}
 use Rattle.aom_sound.proofs.Finishing.{all_join}
 use Rattle.aom_sound.proofs.Items.{entry_claimed, entry_owns, entry_there, length_each, length_forms, readied_claim, readied_items}
 use Rattle.aom_sound.proofs.Jumps.{words_kept}
 use Rattle.aom_sound.proofs.Maps.{at-put_at, held_lives, same_place-true}
-use Rattle.aom_sound.proofs.Passing.{Passed, filling, lower, taken, taker, under, upper}
+use Rattle.aom_sound.proofs.Passing.{Passed, filled_weaker_below, filling, lower, under, upper}
 use Rattle.aom_sound.proofs.Straight.{At, claim_field, claim_register, field_fits, field_not_from, field_outside, fits_unowning, kind_fits, top, word_of_object}
 use Rattle.aom_sound.proofs.Things.{stands_along, stands_same}
 use Rattle.aom_sound.specs.Calls.{entry_place, home_at, needs_result, needs_target, needs_target_object, own_home, passed_cells, passed_words, target_home, works_on}
-use Rattle.aom_sound.specs.Claims.{Layer, Method, claim, declared, declared_field, entry_claim, forms, home_claim, items_of, layer_claim, objects, root_claim, tasks_of}
+use Rattle.aom_sound.specs.Claims.{serves, delivered, Layer, Method, claim, declared, declared_field, entry_claim, forms, home_claim, items_of, layer_claim, objects, root_claim, tasks_of}
 use Rattle.aom_sound.specs.Laws.{IsCalled, IsWired}
-use Rattle.aom_sound.specs.Places.{Cell, Elsewhere, Entry, Field, Going, Object, Place, Register, Root, held, named, requested, same_place, seen}
+use Rattle.aom_sound.specs.Places.{In_service, Cell, Elsewhere, Entry, Field, Going, Object, Place, Register, Root, held, named, requested, same_place, seen}
 use Rattle.aom_sound.specs.State.{AtRoot, Choice, Frame, Home, Inside, Run, State, Static, WrongKind, field_place, frame_of, home_holder, thing_holder, word}
-use Rattle.aom_sound.specs.WellTyped.{AllUndo, Awaits, Back, Fits, Good, Holds, IsApart, IsBelow, IsHoused, IsNoFieldOf, NotIn, Returns, Stack, Stands, Unclaimed, WellTyped, WordFits, WorksOn, by_field}
+use Rattle.aom_sound.specs.WellTyped.{IsServed, AllUndo, Awaits, Back, Fits, Good, Holds, IsApart, IsBelow, IsHoused, IsNoFieldOf, NotIn, Returns, Stack, Stands, Unclaimed, WellTyped, WordFits, WorksOn, by_field}
 use Rattle.aom_sound.proofs.Callees.{apart_from, below_more, filled_ready, fits_fresh, held_own, holder_called, holder_member, holder_static, home_member, member_kind, moved_entries, moved_register, own_for, passed_elsewhere}
 use Rattle.aom_sound.specs.Requests.{AllSuit, Known, Suits, Unworked, known_at, resting_in, rests_in, states_claim, thing_kind, works_at}
 use Rattle.aom_roles.specs.Shapes.{kind_of}
 use Rattle.aom_sound.proofs.Suiting.{known_plain, same_object, suits_first, suits_less, unworked_rests}
 use Rattle.aom_roles.specs.States.{first_of, states_of}
+use Rattle.aom_sound.proofs.Attending.{plain_claim, called_plain}
 
 module _ (p : Image) (t : Typing) (wired : IsWired p) (typed : IsTyped p t) (c : Choice) (s : State) (fr : Frame) (sh : Shape) (ls : List Layer) (at_hand : At p t s fr sh ls) (m first depth height : ℕ) (deep : length (tasks_of ls) < depth) (is_called : IsCalled p m) where
   abbrev xs : List Argument
@@ -93,6 +94,10 @@ module _ (p : Image) (t : Typing) (wired : IsWired p) (typed : IsTyped p t) (c :
       go : (method_role p m ≡ Some Do) ⊎ (method_role p m ≡ Some Construct) → is_cancel (method_role p m) ≡ false
       go (inl e) = ap is_cancel e
       go (inr e) = ap is_cancel e
+
+  -- and does not serve
+  pub serves_not : serves p m ≡ false
+  serves_not = called_plain p m is_called
 
   pub kind_begun : (home : Home) (sh' : Shape) → BeginsWell home sh' → (o : Object) (from : Place) → home ≡ Inside o from → thing_kind p o.thing ≡ kind_of p (method_class p m)
   kind_begun (Inside x q) sh' b o from e = let same : x ≡ o = cc in subst (λ y. thing_kind p y.thing ≡ kind_of p (method_class p m)) same b.1
@@ -143,6 +148,7 @@ module _ (p : Image) (t : Typing) (wired : IsWired p) (typed : IsTyped p t) (c :
         go Static b = e.fits (Elsewhere Root)
         go AtRoot b = absurd b
         go (Inside o from) b = e.fits (Elsewhere Root)
+    begins home sh' e after w (Elsewhere In_service) = subst (λ k. Fits p (seen cs) (held cs (Elsewhere In_service)) k) (sym (plain_claim (serves p m) after (claim p (declared p cs) (Method fr sh' ∷ ls) (Elsewhere In_service)) serves_not)) (e.fits (Elsewhere In_service))
     begins home sh' e after w (Elsewhere o) = e.fits (Elsewhere o)
     begins home sh' e after w (Going k) = e.fits (Going k)
 
@@ -162,12 +168,12 @@ module _ (p : Image) (t : Typing) (wired : IsWired p) (typed : IsTyped p t) (c :
         inner false e = s x lives e
 
     -- so it is entered, over these layers, which claim what the caller claims
-    pub enter : {ended : ℕ} (home : Home) (sh' : Shape) (over : List Layer) → Entering ended home sh' → length (tasks_of over) ≡ depth → length (items_of over) ≡ height → ((d : Place → Kind) (r : Place) → claim p d over r ≡ claim p d (Method fr sh' ∷ ls) r) → ((o : Object) → states_claim p o over ≡ states_claim p o (Method fr sh' ∷ ls)) → IsHoused p cs over home → IsApart p home over → Stack p t cs (Returns m home) over → (s' : State) → s'.cells ≡ cs → s'.tasks ≡ Run (callee home) ∷ tasks_of over → forms s'.items ≡ items_of over → AllUndo p s'.items → WellTyped p t s'
-    enter home sh' over e at_depth high same same_states housed apart stack s' cells tasks items undos =
+    pub enter : {ended : ℕ} (home : Home) (sh' : Shape) (over : List Layer) → (IsServed over → ⊥) → Entering ended home sh' → length (tasks_of over) ≡ depth → length (items_of over) ≡ height → ((d : Place → Kind) (r : Place) → claim p d over r ≡ claim p d (Method fr sh' ∷ ls) r) → ((o : Object) → states_claim p o over ≡ states_claim p o (Method fr sh' ∷ ls)) → IsHoused p cs over home → IsApart p home over → Stack p t cs (Returns m home) over → (s' : State) → s'.cells ≡ cs → s'.tasks ≡ Run (callee home) ∷ tasks_of over → forms s'.items ≡ items_of over → AllUndo p s'.items → WellTyped p t s'
+    enter home sh' over unserved e at_depth high same same_states housed apart stack s' cells tasks items undos =
         let leads = typed.entry m is_called.there in
         let w = leads.2 in
         let good : Good p t cs (Method (callee home) leads.0 ∷ over) = record {
-          stack = (leads.1, record { words = λ i. word_fits_weaker (at None ws i) (w.registers i) (passed.given i); holder = e.holder; height = sym high; alone = λ cancels. absurd (true≢false (sym cancels ∙ cancels_not)) }, housed, apart, stack);
+          stack = (leads.1, record { words = λ i. word_fits_weaker (at None ws i) (w.registers i) (passed.given i); holder = e.holder; height = sym high; alone = λ cancels. absurd (true≢false (sym cancels ∙ cancels_not)); message = (λ serving. absurd (true≢false (sym serving ∙ serves_not)), λ served. absurd (unserved served)) }, housed, apart, stack);
           fits = λ r. subst (λ k. Fits p (seen cs) (held cs r) k) (sym (as_begun leads.0 w r)) (begins home sh' e leads.0 w r);
           suits = begun_suits home sh' over leads.0 w.states housed same_states e.begun (λ x lives other. subst (λ k. Suits (thing_kind p x.thing) k (requested cs x.name)) (sym (same_states x)) (e.suits x lives other));
           tidy = passed.tidy;
@@ -185,12 +191,13 @@ module _ (p : Image) (t : Typing) (wired : IsWired p) (typed : IsTyped p t) (c :
         as_begun after w (Entry k) = ap (λ es. entry_claim es (items_of over) k (claim p (declared p cs) over (Entry k))) w.entries ∙ same (declared p cs) (Entry k) ∙ sym (ap (λ es. entry_claim es [] k (claim p (declared p cs) (Method fr sh' ∷ ls) (Entry k))) w.entries)
         as_begun after w (Field n f) = ap (λ k. home_claim p home after n f k) (same (declared p cs) (Field n f))
         as_begun after w (Elsewhere Root) = ap (λ k. root_claim p home after k) (same (declared p cs) (Elsewhere Root))
+        as_begun after w (Elsewhere In_service) = ap (λ k. cond (serves p m) (delivered after.delivery) k) (same (declared p cs) (Elsewhere In_service))
         as_begun after w (Elsewhere o) = same (declared p cs) (Elsewhere o)
         as_begun after w (Going k) = same (declared p cs) (Going k)
 
     -- the caller below, while the call lasts
     pub caller : {ended : ℕ} (home : Home) (sh' : Shape) (back : Back) → Entering ended home sh' → Stands p t back fr sh' → Stack p t cs back (Method fr sh' ∷ ls)
-    caller home sh' back e stands = (stands, record { words = e.words; holder = at_hand.good.stack.1.holder; height = at_hand.good.stack.1.height; alone = at_hand.good.stack.1.alone }, passed.housed, at_hand.good.stack.3, passed.stack)
+    caller home sh' back e stands = (stands, record { words = e.words; holder = at_hand.good.stack.1.holder; height = at_hand.good.stack.1.height; alone = at_hand.good.stack.1.alone; message = at_hand.good.stack.1.message }, passed.housed, at_hand.good.stack.3, passed.stack)
 
     -- the cleanup stack is as it was
     pub same_high : {ended : ℕ} (home : Home) (sh' : Shape) → Entering ended home sh' → forms s.items ≡ items_of (Method fr sh' ∷ ls)
@@ -253,7 +260,7 @@ module _ (p : Image) (t : Typing) (wired : IsWired p) (typed : IsTyped p t) (c :
     worked ended = record after_arguments { fields = replicate 8 Perhaps; states = ended }
 
     opened : (ended : ℕ) → OwnsNoMore (worked ended) after_arguments
-    opened ended = record { registers = λ i. alike; fields = λ i. subst (λ x. WeakerFilling x (field after_arguments i)) (sym (at_alike 8 Perhaps i)) (any (field after_arguments i)); entries = refl }
+    opened ended = record { registers = λ i. alike; fields = λ i. subst (λ x. WeakerFilling x (field after_arguments i)) (sym (at_alike 8 Perhaps i)) (any (field after_arguments i)); entries = refl; delivery = refl }
       where
         any : (x : Filling) → WeakerFilling Perhaps x
         any Empty = perhaps_empty
@@ -267,7 +274,7 @@ module _ (p : Image) (t : Typing) (wired : IsWired p) (typed : IsTyped p t) (c :
         let apart : IsApart p (Inside o from) ls = subst (λ h. IsApart p h ls) eh at_hand.good.stack.3 in
         let apart' : IsApart p (Inside o from) (Method fr (worked ended) ∷ ls) = (apart.0, (subst (λ h. NotIn o.name h) (sym eh) apart.0, apart.1), own_fields, inl own_home_works) in
         let fits : (r : Place) → Fits p (seen cs) (held cs r) (filling p t fr ls depth deep (declared p cs) regs (worked ended) r) =
-        λ r. fits_weaker p (seen cs) (held cs r) (layer_rel Weaker (λ k. alike) p (Method taker (taken regs)) depth [] r _ _ (claim_weaker p (declared p cs) fr (worked ended) after_arguments ls r (opened ended))) (passed.fits r) in
+        λ r. fits_weaker p (seen cs) (held cs r) (filled_weaker_below depth regs r _ _ (claim_weaker p (declared p cs) fr (worked ended) after_arguments ls r (opened ended))) (passed.fits r) in
         record {
           fits = fits;
           words = passed.words;

@@ -14,7 +14,7 @@ use Rattle.aom_instructions.specs.declared.instr.Instr.TheVariants.{Cancel}
 use Rattle.aom_roles.specs.Shapes.{kind_of}
 use Rattle.aom_roles.specs.States.{active, active_states, cancel_open, idle, server_states}
 use Rattle.aom_rules.specs.Calls.{brought}
-use Rattle.aom_rules.specs.Requests.{after_cancel, is_active_kind, is_cancel, once_cancelled, own_kind}
+use Rattle.aom_rules.specs.Requests.{is_service, after_cancel, is_active_kind, is_cancel, once_cancelled, own_kind}
 use Rattle.aom_rules.specs.Typing.{IsTyped, Leads, Typing}
 use Rattle.aom_shape.proofs.Ordering.{transitive}
 use Rattle.aom_shape.proofs.Sets.{has_along, has_first, has_itself, has_second}
@@ -36,15 +36,16 @@ use Rattle.aom_sound.proofs.Requesting.{OfObject, active_home, active_listed, ha
 use Rattle.aom_sound.proofs.Storing.{Alike, fits_alike, housed_alike, listed_still, on_some, requested_here, requested_there, rerequested_alike, stack_alike}
 use Rattle.aom_sound.proofs.Straight.{At, Law, fits_unowning, settle, stepped, well}
 use Rattle.aom_sound.proofs.Suiting.{timed_on, same_object}
-use Rattle.aom_sound.specs.Claims.{Layer, Method, claim, declared, entry_claim, home_claim, items_of, objects, root_claim, tasks_of}
+use Rattle.aom_sound.specs.Claims.{serves, Layer, Method, claim, declared, entry_claim, home_claim, items_of, objects, root_claim, tasks_of}
 use Rattle.aom_sound.specs.Calls.{result_register}
 use Rattle.aom_sound.specs.Effects.{applied, cancels_if}
 use Rattle.aom_sound.specs.Enlisted.{begun_cells, cancel_method, cancel_of, cancelling, in_phase, is_active, is_cancelling, is_unsettled, on_request, own_request, rerequested, is_idle}
 use Rattle.aom_sound.specs.Laws.{IsWired}
-use Rattle.aom_sound.specs.Places.{Active, Aborted, Cancelling, Cell, Elsewhere, Entry, Field, Going, Idle, Issued, Object, Phase, Place, Register, Request, Root, held, requested, seen}
+use Rattle.aom_sound.specs.Places.{In_service, Active, Aborted, Cancelling, Cell, Elsewhere, Entry, Field, Going, Idle, Issued, Object, Phase, Place, Register, Request, Root, held, requested, seen}
 use Rattle.aom_sound.specs.Requests.{AllSuit, Known, Suits, known_at, phase_state, state_of, states_claim, thing_kind, works_at}
 use Rattle.aom_sound.specs.State.{Choice, Frame, Home, Inside, State, frame_of, home_holder, next, thing_holder}
 use Rattle.aom_sound.specs.WellTyped.{Awaits, EndsWell, Fits, Good, Holds, IsAlone, IsApart, IsHoused, NotIn, Returns, Stack, Stands, Unclaimed, WellTyped, WordFits, by_field}
+use Rattle.aom_sound.proofs.Attending.{plain_claim}
 
 -- ---- what is known of a request
 
@@ -203,7 +204,7 @@ module _ (p : Image) (t : Typing) (wired : IsWired p) (typed : IsTyped p t) (c :
         true≢false (sym ready ∙ ap (λ q. is_ready_kind (claim p (declared p s.cells) over q)) same ∙ fresh))
 
     opened : OwnsNoMore sh' sh
-    opened = record { registers = λ i. alike; fields = λ i. unknown_at i (field sh i); entries = refl }
+    opened = record { registers = λ i. alike; fields = λ i. unknown_at i (field sh i); entries = refl; delivery = refl }
 
     base : (q : Place) → Fits p (seen cs') (held cs' q) (claim p (declared p cs') over q)
     base q = fits_alike p t s.cells cs' same_cells over q (λ x at fresh. others x.name (unready q x at fresh)) (fits_weaker p (seen s.cells) (held s.cells q) (claim_weaker p (declared p s.cells) fr sh' sh ls q opened) (at_hand.good.fits q))
@@ -240,6 +241,7 @@ module _ (p : Image) (t : Typing) (wired : IsWired p) (typed : IsTyped p t) (c :
             (subst (λ x. Fits p (seen cs') (held cs' (Field o.name f)) (filled thing x)) (sym (unfilled f)) (subst (λ k. Fits p (seen cs') (held cs' (Field o.name f)) k) own_field (base (Field o.name f))))
         go false e = base (Field n f)
     fits (Elsewhere Root) = subst (λ h. Fits p (seen cs') (held cs' (Elsewhere Root)) (root_claim p h begins.0 (claim p (declared p cs') over (Elsewhere Root)))) (sym it.home) (base (Elsewhere Root))
+    fits (Elsewhere In_service) = subst (λ k. Fits p (seen cs') (held cs' (Elsewhere In_service)) k) (sym (plain_claim (serves p m) begins.0 (claim p (declared p cs') over (Elsewhere In_service)) (ap is_service role))) (base (Elsewhere In_service))
     fits (Elsewhere w) = base (Elsewhere w)
     fits (Going k) = base (Going k)
 
@@ -327,7 +329,7 @@ module _ (p : Image) (t : Typing) (wired : IsWired p) (typed : IsTyped p t) (c :
     caller : Stack p t cs' (Returns m fr.home) over
     caller = (
       stands,
-      record { words = at_hand.good.stack.1.words; holder = at_hand.good.stack.1.holder; height = at_hand.good.stack.1.height; alone = at_hand.good.stack.1.alone },
+      record { words = at_hand.good.stack.1.words; holder = at_hand.good.stack.1.holder; height = at_hand.good.stack.1.height; alone = at_hand.good.stack.1.alone; message = at_hand.good.stack.1.message },
       housed_alike p t s.cells cs' same_cells ls fr.home at_hand.good.stack.2,
       at_hand.good.stack.3,
       stack_alike p t s.cells cs' same_cells (listed_still s.cells fr.home (on_request cancelling request) (on_some cancelling request)) ls _ at_hand.good.stack.4,
@@ -342,6 +344,7 @@ module _ (p : Image) (t : Typing) (wired : IsWired p) (typed : IsTyped p t) (c :
           holder = holder;
           height = sym (length_forms s.items) ∙ ap length at_hand.items;
           alone = λ cancels. subst (λ h. IsAlone p h over) (sym it.home) alone;
+          message = (λ serving. absurd (true≢false (sym serving ∙ ap is_service role)), λ served. absurd served);
         },
         housed,
         apart_over,

@@ -22,7 +22,7 @@ use Rattle.aom_sound.proofs.Guarded.{goes_same, guarded_goes, guarded_met}
 use Rattle.aom_sound.proofs.Maps.{at-put_at, held_moved, same_place-true, same_place_refl}
 use Rattle.aom_sound.proofs.Straight.{claim_register, fits_unowning}
 use Rattle.aom_sound.specs.Calls.{called, result_register}
-use Rattle.aom_sound.specs.Claims.{Dispatching, Dying, Form, Layer, Mark, Mark_form, Method, Unwinding, declared, forms, items_of, objects, tasks_of}
+use Rattle.aom_sound.specs.Claims.{Ending, Dispatching, Dying, Form, Layer, Mark, Mark_form, Method, Unwinding, declared, forms, items_of, objects, tasks_of}
 use Rattle.aom_sound.specs.Cleanup.{arrival, arrived, code_told, destroyed, has_trap, operation_frame, to_trap, unwound}
 use Rattle.aom_classes.specs.Roles.{destructor_of}
 use Rattle.aom_sound.specs.Destruction.{begun_by}
@@ -31,13 +31,14 @@ use Rattle.aom_sound.specs.Leaves.{AreEntries, AreMethods, Arrives, ArrivesAt, B
 use Rattle.aom_sound.specs.Steps.{Fits as MayHave}
 use Rattle.aom_sound.specs.Moves.{announcement, counted, does, main_left, needs, step, step_instr, step_task, written_task}
 use Rattle.aom_sound.specs.Places.{Cell, Entry, Going, Object, Place, Register, held, moved, named, same_place, seen}
-use Rattle.aom_sound.specs.State.{Answered, Asks, Object_left, Of_object, A_mark, An_object, An_operation, Choice, Dispatch, Dispatched, Frame, Goes, Inside, IsStuck, Item, Main_left, NullOrDead, Of_main, Of_root, Run, State, Task, Trapped, Unwind, frame_of, next, set_word, word}
+use Rattle.aom_sound.specs.State.{Destroy, Closing, Of_server, Accepts, Accepted, Accept_left, Serves, Service_left, Parts, Answered, Asks, Object_left, Of_object, A_mark, An_object, An_operation, Choice, Dispatch, Dispatched, Frame, Goes, Inside, IsStuck, Item, Main_left, NullOrDead, Of_main, Of_root, Run, State, Task, Trapped, Unwind, frame_of, next, set_word, word}
 use Rattle.aom_sound.specs.WellTyped.{AllUndo, Awaits, EndsDispatch, Fits, Good, Keeps, Leaves, Now, Stack, WellTyped}
 use Rattle.aom_sound.specs.Effects.{Leaves, Update, applied}
 use Rattle.aom_sound.specs.Words.{word_or_zero}
 use Rattle.aom_shape.specs.Needs.{AllTrue}
 use Rattle.aom_transcript.specs.declared.line.Ending.TheVariants.{MainLeft}
 use Rattle.aom_sound.proofs.Steps.{step_keeps}
+use Rattle.aom_sound.specs.Servers.{is_server}
 
 -- ---- the entries of a leave, and its mark
 
@@ -63,6 +64,12 @@ no_dispatch p (Of_object x) e = absurd e
 no_dispatch p (Object_left x c) e = absurd e
 no_dispatch p (Asks x) e = absurd e
 no_dispatch p (Answered x c) e = absurd e
+no_dispatch p (Of_server x c Accepts) e = absurd e
+no_dispatch p (Of_server x c Accepted) e = absurd e
+no_dispatch p (Of_server x c (Accept_left code)) e = absurd e
+no_dispatch p (Of_server x c (Serves o)) e = absurd e
+no_dispatch p (Of_server x c (Service_left code)) e = absurd e
+no_dispatch p (Of_server x c Parts) e = absurd e
 
 -- a leave on top has entries over the mark of its trap
 pub splits : (p : Image) (t : Typing) (s : State) → WellTyped p t s → (code : ℤ) (below : List Task) → s.tasks ≡ Unwind code ∷ below → (entries : List Item) × (items : List Item) × IsLeaving p code below entries items s
@@ -75,6 +82,7 @@ splits p t s w code below at =
     under es (Method fr sh ∷ ls) f stack = absurd stack.0
     under es (Mark gv ∷ ls) f stack = split es (items_of ls) s.items f
     under es (Dying o ∷ ls) f stack = absurd stack.1
+    under es (Ending o left ∷ ls) f stack = absurd stack.1
     under es (Unwinding x fs ∷ ls) f stack = absurd stack.0
     under es (Dispatching d seats ∷ ls) f stack = no_dispatch p d stack.0
 
@@ -182,9 +190,10 @@ none_on_its_way p t s w ts at =
     fits_unowning p (seen s.cells) _ Null refl
     (subst (λ k. Fits p (seen s.cells) (held s.cells (Going (length ts))) k) (claim_going_above p s.cells w.layers (length ts) (omega (arith, deep))) (w.good.fits (Going (length ts))))
 
-destroyed_over : (d : Option ℕ) (o : Object) (height : ℕ) (under : List Task) → IsDestroyed d o under (begun_by d o height under)
-destroyed_over None o height under = refl
-destroyed_over (Some m) o height under = (frame_of m (Inside o (Going (length under))) height, refl, refl, refl, refl)
+destroyed_over : (x : Bool) (d : Option ℕ) (o : Object) (height : ℕ) (under : List Task) → IsDestroyed x d o under (cond x (Closing ∷ Destroy ∷ under) (begun_by d o height under))
+destroyed_over true d o height under = refl
+destroyed_over false None o height under = refl
+destroyed_over false (Some m) o height under = (frame_of m (Inside o (Going (length under))) height, refl, refl, refl, refl)
 
 module _ (p : Image) (t : Typing) (wired : IsWired p) (s u : State) (w : WellTyped p t s) (code : ℤ) (below : List Task) (at_hand : s.tasks ≡ Unwind code ∷ below) where
   -- what is made of the item on top, with these below it
@@ -196,7 +205,7 @@ module _ (p : Image) (t : Typing) (wired : IsWired p) (s u : State) (w : WellTyp
   of_object rest (Some o) there some =
       let g = Going (length (Unwind code ∷ below)) in
       let free = none_on_its_way p t s w (Unwind code ∷ below) at_hand in
-      (begins_over p wired o (length rest) code below (Unwind code ∷ below) (refl, refl), refl, (o, has_moved s.cells (Entry (length rest)) g o there free refl, destroyed_over (destructor_of p o.thing) o (length rest) (Unwind code ∷ below)))
+      (begins_over p wired o (length rest) code below (Unwind code ∷ below) (refl, refl), refl, (o, has_moved s.cells (Entry (length rest)) g o there free refl, destroyed_over (is_server p o.thing) (destructor_of p o.thing) o (length rest) (Unwind code ∷ below)))
 
   of_whole : (rest : List Item) (b : Bool) → is_some (held s.cells (Entry (length rest))) ≡ b → cond b (Goes (destroyed p (held s.cells (Entry (length rest))) rest (Unwind code ∷ below) (counted p s))) (IsStuck NullOrDead) ≡ Goes u → Dealt An_object rest u
   of_whole rest true some e = subst (λ v. Dealt An_object rest v) (goes_same _ u e) (of_object rest (held s.cells (Entry (length rest))) refl some)
@@ -306,6 +315,9 @@ module _ (p : Image) (t : Typing) (s u : State) (code : ℤ) (items : List Item)
   below_trap [] gv es good e = cc
   below_trap (Method fr sh ∷ ls) gv es good e = subst (λ v. Arrived (Trapped ∷ Run fr ∷ tasks_of ls) v) (goes_same _ u e) (at_method fr sh ls gv es good)
   below_trap (Dying o ∷ ls) gv es good e = absurd good.stack.1.1.1
+  below_trap (Ending o left ∷ ls) gv es good e = absurd good.stack.1.1.1
+  below_trap (Dispatching (Of_server x c Accepts) seats ∷ ls) gv es good e = subst (λ v. Arrived (Trapped ∷ Dispatched (Of_server x c Accepts) ∷ tasks_of ls) v) (goes_same _ u e) (refl, refl, refl)
+  below_trap (Dispatching (Of_server x c (Serves o)) seats ∷ ls) gv es good e = subst (λ v. Arrived (Trapped ∷ Dispatched (Of_server x c (Serves o)) ∷ tasks_of ls) v) (goes_same _ u e) (refl, refl, refl)
   below_trap (Dispatching Of_main seats ∷ ls) gv es good e = subst (λ v. Arrived (Trapped ∷ Dispatched Of_main ∷ tasks_of ls) v) (goes_same _ u e) (refl, refl, refl)
   below_trap (Dispatching (Of_object x) seats ∷ ls) gv es good e = subst (λ v. Arrived (Trapped ∷ Dispatched (Of_object x) ∷ tasks_of ls) v) (goes_same _ u e) (refl, refl, refl)
   below_trap _ gv es good e = absurd good.stack.1.1.0

@@ -5,15 +5,16 @@ use Rattle.aom_rules.specs.Typing.{Typing}
 use Rattle.aom_shape.specs.Things.{field_thing}
 use Rattle.aom_shape.specs.declared.kind.Kind.TheVariants.{Null}
 use Rattle.aom_sound.proofs.Maps.{held_lives, named_name}
-use Rattle.aom_sound.proofs.Owners.{ends, field_thing_of, kind_at, lower_rank, rank}
+use Rattle.aom_sound.proofs.Owners.{at_session, ends, field_thing_of, in_queue, kind_at, lower_rank, queued_lower, rank, session_lower}
 use Rattle.aom_sound.proofs.Signals.{at_rest}
 use Rattle.aom_sound.proofs.Straight.{fits_unowning}
 use Rattle.aom_sound.specs.Claims.{claim, declared}
 use Rattle.aom_sound.specs.Laws.{IsWired}
-use Rattle.aom_sound.specs.Owned.{Ends, NoneGoes, at_entry, at_register, at_root, by_cell}
-use Rattle.aom_sound.specs.Places.{Elsewhere, Entry, Field, Object, Place, Register, Root, held, named, seen}
+use Rattle.aom_sound.specs.Owned.{Ends, NoneGoes, at_entry, at_register, at_root, at_service, by_cell, by_server}
+use Rattle.aom_sound.specs.Places.{Elsewhere, Entry, Field, In_service, Object, Place, Queued, Register, Root, Session, held, named, seen}
+use Rattle.aom_sound.specs.Servers.{session_thing}
 use Rattle.aom_sound.specs.State.{Seat, State, thing_holder}
-use Rattle.aom_sound.specs.WellTyped.{AllSit, Fits, Now, SomeSits, WellTyped}
+use Rattle.aom_sound.specs.WellTyped.{AllSit, Fits, Now, SitsIn, SomeSits, WellTyped}
 
 -- each stands higher than that one
 abbrev Higher : ℕ → List Seat → Type 0
@@ -46,20 +47,43 @@ module _ (p : Image) (t : Typing) (wired : IsWired p) (s : State) (w : WellTyped
   abbrev Chain : Object → Place → Type 0
   Chain o q = (above : List Seat) × AllSit s.cells (record { object = o; place = q } ∷ above) × Higher (rank o.thing) above
 
-  follow : (q : Place) (o : Object) → Ends s q → held s.cells q ≡ Some o → Chain o q
-  follow _ o (at_register {f = f} {i = i}) e = absurd (unheld (Register f i) o refl e)
-  follow _ o (at_entry {k = k}) e = absurd (unheld (Entry k) o refl e)
-  follow _ o at_root e = ([], ((e, held_lives s.cells (Elsewhere Root) o w.good.tidy e, tt, λ h. h), tt), tt)
-  follow _ o (by_cell {n = n} {f = f} z q there held_so ends) e =
-      let rest = follow q z ends held_so in
-      let lives = held_lives s.cells (Field n f) o w.good.tidy e in
+  -- over it stands what owns it
+  on : (place q : Place) (o z : Object) → held s.cells place ≡ Some o → rank o.thing < rank z.thing → Chain z q → ((above : List Seat) → SitsIn place (record { object = z; place = q } ∷ above)) → Chain o place
+  on place q o z e lower rest sits =
+      let lives = held_lives s.cells place o w.good.tidy e in
+      let high : Higher (rank o.thing) (record { object = z; place = q } ∷ rest.0) = (lower, higher_too (rank o.thing) (rank z.thing) rest.0 lower rest.2) in
+      (record { object = z; place = q } ∷ rest.0, ((e, lives, sits rest.0, not_among o (record { object = z; place = q } ∷ rest.0) lives rest.1 high), rest.1), high)
+
+  -- of what is no message
+  follow : (q : Place) (o : Object) → Ends s q → held s.cells q ≡ Some o → 0 < rank o.thing → Chain o q
+  follow _ o (at_register {f = f} {i = i}) e pos = absurd (unheld (Register f i) o refl e)
+  follow _ o (at_entry {k = k}) e pos = absurd (unheld (Entry k) o refl e)
+  follow _ o at_root e pos = ([], ((e, held_lives s.cells (Elsewhere Root) o w.good.tidy e, tt, λ h. h), tt), tt)
+  follow _ o at_service e pos = absurd (unheld (Elsewhere In_service) o refl e)
+  follow _ o (by_cell {n = n} {f = f} z q there held_so ends) e pos =
       let owner = field_thing_of p t s.cells w.layers Now n f o.thing w.good.stack (kind_at p t wired s w clear (Field n f) o e) in
       let same : Some owner.0 ≡ Some z = sym owner.1 ∙ there in
       let equal : owner.0 ≡ z = cc in
       let lower = lower_rank p wired z.thing o.thing f (subst (λ (y : Object). field_thing p (thing_holder y.thing) f ≡ Some o.thing) equal owner.2) in
-      let high : Higher (rank o.thing) (record { object = z; place = q } ∷ rest.0) = (lower, higher_too (rank o.thing) (rank z.thing) rest.0 lower rest.2) in
-      (record { object = z; place = q } ∷ rest.0, ((e, lives, inl (named_name s.cells n z there), not_among o (record { object = z; place = q } ∷ rest.0) lives rest.1 high), rest.1), high)
+      on (Field n f) q o z e lower (follow q z ends held_so (omega (arith, lower))) (λ above. inl (named_name s.cells n z there))
+  follow _ o (by_server {w = Session m c} {n = n} z q other there held_so ends) e pos =
+      let owner = at_session p t wired s w clear m c o e in
+      let equal : m ≡ n = cc in
+      let same : Some owner.0 ≡ Some z = sym owner.1 ∙ ap (λ k. named s.cells k) equal ∙ there in
+      let one : owner.0 ≡ z = cc in
+      let lower = (session_lower p wired z o.thing (subst (λ (y : Object). session_thing p (Some y) ≡ Some o.thing) one owner.3)).0 in
+      on (Elsewhere (Session m c)) q o z e lower (follow q z ends held_so (omega (arith, lower))) (λ above. inl (named_name s.cells n z there ∙ sym equal))
+  follow _ o (by_server {w = Queued m k} z q other there held_so ends) e pos =
+      let owner = in_queue p t wired s w clear m k o e in
+      let none = (queued_lower p wired owner.0 o.thing owner.3).0 in
+      let low : 0 < 0 = subst (λ x. 0 < rank x) none pos in
+      absurd (omega (arith, low))
+  follow _ o (by_server {w = Root} z q other there held_so ends) e pos = cc
+  follow _ o (by_server {w = In_service} z q other there held_so ends) e pos = cc
 
-  -- so what a place owns sits there
-  pub chain : (q : Place) (o : Object) → held s.cells q ≡ Some o → (above : List Seat) × AllSit s.cells (record { object = o; place = q } ∷ above)
-  chain q o e = let c = follow q o (ends p t wired s w clear q o e) e in (c.0, c.1)
+  -- so what a place owns sits there, and nothing that stands lower sits with it
+  pub chain : (q : Place) (o : Object) → held s.cells q ≡ Some o → 0 < rank o.thing →
+      (above : List Seat) × AllSit s.cells (record { object = o; place = q } ∷ above) × ((y : Object) → named s.cells y.name ≡ Some y → rank y.thing < rank o.thing → SomeSits y.name (record { object = o; place = q } ∷ above) → ⊥)
+  chain q o e pos =
+      let c = follow q o (ends p t wired s w clear q o e) e pos in
+      (c.0, c.1, λ y lives lower some. not_among y (record { object = o; place = q } ∷ c.0) lives c.1 (lower, higher_too (rank y.thing) (rank o.thing) c.0 lower c.2) some)

@@ -14,22 +14,25 @@ use Rattle.aom_rules.specs.Typing.{Typing}
 use Rattle.aom_shape.specs.declared.kind.Age.TheVariants.{Fresh, Ready}
 use Rattle.aom_shape.specs.declared.kind.Entry.{Entry as Pushed}
 use Rattle.aom_shape.specs.declared.kind.Filling.{Filling}
-use Rattle.aom_shape.specs.declared.kind.Filling.TheVariants.{Perhaps}
+use Rattle.aom_shape.specs.declared.kind.Filling.TheVariants.{Perhaps, Full}
 use Rattle.aom_shape.specs.declared.kind.Kind.{Kind}
 use Rattle.aom_shape.specs.declared.kind.Kind.TheVariants.{Maybe, Null, Own, Unset}
+use Rattle.aom_sound.proofs.Services.{service_moved, attended_kept, sessions_kept}
+use Rattle.aom_sound.specs.Servers.{message_thing, has_message, has_session, session_thing}
 use Rattle.aom_sound.proofs.Seats.{NoFieldHere, NoSeatHere, first_kept, sits_kept}
 use Rattle.aom_sound.proofs.Maps.{at-put_at, held_moved, named_moved, requested_moved, same_place-true, same_place_refl, transfer}
-use Rattle.aom_sound.specs.Claims.{is_of_root, Dispatching, Dying, Form, Layer, Mark, Method, Unwinding, claim, declared, declared_field, entries_of, entry_claim, home_claim, items_of, layer_claim, objects, root_claim, tasks_of}
-use Rattle.aom_sound.specs.Places.{Cell, Elsewhere, Entry, Field, Going, Object, Place, Register, Root, Sight, changed, held, moved, named, same_place, Session, In_service, Queued}
-use Rattle.aom_sound.specs.State.{AtRoot, Dispatch, Frame, Home, Inside, Seat, Static, field_place, home_holder, thing_holder}
-use Rattle.aom_sound.specs.WellTyped.{Back, Caught, Fits, Gone, HasAge, Holds, IsBelow, IsHoused, IsNoFieldOf, Leaves, NoneFrom, NoneIn, NotFrom, NotIn, Returns, Stack, Unclaimed, WordFits, by_field, seat_of}
+use Rattle.aom_sound.specs.Claims.{is_of_root, Dispatching, Dying, Form, Layer, Mark, Method, Unwinding, claim, declared, declared_field, entries_of, entry_claim, home_claim, items_of, layer_claim, objects, root_claim, tasks_of, Ending, by_close, by_stage, delivered, serves}
+use Rattle.aom_sound.specs.Places.{Service, Cell, Elsewhere, Entry, Field, Going, Object, Place, Register, Root, Sight, changed, held, moved, named, same_place, Session, In_service, Queued, service_of}
+use Rattle.aom_sound.specs.State.{AtRoot, Dispatch, Frame, Home, Inside, Seat, Static, field_place, home_holder, thing_holder, Of_server, Parts, Serves, Service_left}
+use Rattle.aom_sound.specs.WellTyped.{Back, Caught, Fits, Gone, HasAge, Holds, IsBelow, IsHoused, IsNoFieldOf, Leaves, NoneFrom, NoneIn, NotFrom, NotIn, Returns, Stack, Unclaimed, WordFits, by_field, seat_of, Now}
 use mathlib.Core.Path.{fun_ext}
 
--- a frame counts for the claims by its home alone
-pub claim_frame : (p : Image) (d : Place → Kind) (fr fr' : Frame) (sh : Shape) (ls : List Layer) (r : Place) → fr'.home ≡ fr.home → claim p d (Method fr' sh ∷ ls) r ≡ claim p d (Method fr sh ∷ ls) r
-claim_frame p d fr fr' sh ls (Field n f) e = ap (λ h. home_claim p h sh n f (claim p d ls (Field n f))) e
-claim_frame p d fr fr' sh ls (Elsewhere Root) e = ap (λ h. root_claim p h sh (claim p d ls (Elsewhere Root))) e
-claim_frame p d fr fr' sh ls _ e = refl
+-- a frame counts for the claims by its home and its method alone
+pub claim_frame : (p : Image) (d : Place → Kind) (fr fr' : Frame) (sh : Shape) (ls : List Layer) (r : Place) → fr'.home ≡ fr.home → fr'.method ≡ fr.method → claim p d (Method fr' sh ∷ ls) r ≡ claim p d (Method fr sh ∷ ls) r
+claim_frame p d fr fr' sh ls (Field n f) e em = ap (λ h. home_claim p h sh n f (claim p d ls (Field n f))) e
+claim_frame p d fr fr' sh ls (Elsewhere Root) e em = ap (λ h. root_claim p h sh (claim p d ls (Elsewhere Root))) e
+claim_frame p d fr fr' sh ls (Elsewhere In_service) e em = ap (λ m. cond (serves p m) (delivered sh.delivery) (claim p d ls (Elsewhere In_service))) em
+claim_frame p d fr fr' sh ls _ e em = refl
 
 pub claim-set_register : (p : Image) (d : Place → Kind) (fr : Frame) (sh : Shape) (ls : List Layer) (a : ℕ) (v : Kind) (r : Place) → claim p d (Method fr (set_register sh a v) ∷ ls) r ≡ changed (claim p d (Method fr sh ∷ ls)) (Register (length (tasks_of ls)) a) v r
 claim-set_register p d fr sh ls a v (Register f i) = go (length (tasks_of ls) == f)
@@ -112,9 +115,10 @@ pub record OwnsNoMore (a b : Shape) : Type 0 where
   pub registers : (i : ℕ) → Weaker (register a i) (register b i)
   pub fields : (i : ℕ) → WeakerFilling (field a i) (field b i)
   pub entries : a.entries ≡ b.entries
+  pub delivery : a.delivery ≡ b.delivery
 
 pub owns_no_more : (a b : Shape) → SaysNoMore a b → OwnsNoMore a b
-owns_no_more a b w = record { registers = w.registers; fields = w.fields; entries = w.entries }
+owns_no_more a b w = record { registers = w.registers; fields = w.fields; entries = w.entries; delivery = w.delivery }
 
 -- then it claims no more
 pub claim_weaker : (p : Image) (d : Place → Kind) (fr : Frame) (a b : Shape) (ls : List Layer) (r : Place) → OwnsNoMore a b → Weaker (claim p d (Method fr a ∷ ls) r) (claim p d (Method fr b ∷ ls) r)
@@ -140,6 +144,7 @@ claim_weaker p d fr a b ls (Elsewhere Root) w = go fr.home
     go Static = alike
     go AtRoot = filled_weaker (field_thing p Program 0) (w.fields 0)
     go (Inside o from) = alike
+claim_weaker p d fr a b ls (Elsewhere In_service) w = subst (λ x. Weaker (cond (serves p fr.method) (delivered a.delivery) (claim p d ls (Elsewhere In_service))) (cond (serves p fr.method) (delivered x) (claim p d ls (Elsewhere In_service)))) w.delivery alike
 claim_weaker p d fr a b ls _ w = alike
 
 pub fits_weaker : (p : Image) (h : Sight) (o : Option Object) {a b : Kind} → Weaker a b → Fits p h o b → Fits p h o a
@@ -203,6 +208,7 @@ claim_entry_above p cs (Method fr sh ∷ ls) k le = entries_above sh.entries (it
 claim_entry_above p cs (Mark gv ∷ ls) k le = claim_entry_above p cs ls k (omega arith)
 claim_entry_above p cs (Dispatching w seats ∷ ls) k le = claim_entry_above p cs ls k (omega arith)
 claim_entry_above p cs (Dying o ∷ ls) k le = claim_entry_above p cs ls k le
+claim_entry_above p cs (Ending o left ∷ ls) k le = claim_entry_above p cs ls k le
 claim_entry_above p cs (Unwinding code es ∷ ls) k le = entries_above es (items_of ls) k _ le ∙ claim_entry_above p cs ls k (omega (arith, length_objects es (items_of ls)))
 
 pub declared_moved : (p : Image) (cs : List Cell) (a b : Place) → declared p (moved a b cs) ≡ declared p cs
@@ -213,7 +219,9 @@ declared_moved p cs a b = fun_ext go
     go (Entry k) = refl
     go (Field n f) = ap (λ o. declared_field p o f) (named_moved cs a b n)
     go (Elsewhere Root) = refl
-    go (Elsewhere w) = refl
+    go (Elsewhere (Session n c)) = ap (λ v. cond (has_session v c) (filled (session_thing p (named (moved a b cs) n)) Full) Null) (service_moved cs a b n) ∙ ap (λ o. cond (has_session (service_of cs n) c) (filled (session_thing p o) Full) Null) (named_moved cs a b n)
+    go (Elsewhere In_service) = refl
+    go (Elsewhere (Queued n m)) = ap (λ v. cond (has_message v m) (filled (message_thing p (named (moved a b cs) n)) Full) Null) (service_moved cs a b n) ∙ ap (λ o. cond (has_message (service_of cs n) m) (filled (message_thing p o) Full) Null) (named_moved cs a b n)
     go (Going k) = refl
 
 -- a place of the top method, or above it
@@ -305,6 +313,13 @@ stack_moved p t cs a b (Dispatching d seats ∷ ls) back free oa ob s = (
   s.1,
   sits_kept cs (moved a b cs) a b seats (λ r o na nb there lives. (held_moved cs a b r free ∙ ap (λ x. cond x (held cs a) (cond (same_place a r) None (held cs r))) nb ∙ ap (λ x. cond x None (held cs r)) na ∙ there, named_moved cs a b o.name ∙ lives)) (no_seat_outside a d seats ls oa) (no_seat_outside b d seats ls ob) s.2,
   first_kept cs (moved a b cs) a (seat_of d) seats (λ r o na there lives some. ap is_some (requested_moved cs a b o.name) ∙ some) (no_seat_outside a d seats ls oa) s.2 s.3,
+  attended_kept p cs (moved a b cs) (λ n. ap (λ (v : Service). v.sessions) (service_moved cs a b n)) d s.4,
+)
+stack_moved p t cs a b (Ending o left ∷ ls) back free oa ob s = (
+  sessions_kept p cs (moved a b cs) (named_moved cs a b) (λ n. ap (λ (v : Service). v.sessions) (service_moved cs a b n)) o left s.0,
+  s.1,
+  s.2,
+  stack_moved p t cs a b ls _ free (outside_less a (Ending o left) ls oa) (outside_less b (Ending o left) ls ob) s.3,
 )
 stack_moved p t cs a b (Unwinding code es ∷ ls) back free oa ob s = (s.0, stack_moved p t cs a b ls _ free (outside_less a (Unwinding code es) ls oa) (outside_less b (Unwinding code es) ls ob) s.1)
 stack_moved p t cs a b (Dying o ∷ ls) back free oa ob s = ((named_moved cs a b o.name ∙ s.0.0, going_moved cs a b o ls free oa ob s.0.1), s.1, stack_moved p t cs a b ls _ free (outside_less a (Dying o) ls oa) (outside_less b (Dying o) ls ob) s.2)
@@ -321,6 +336,7 @@ claim_from p d fr o (Register g j) sh ls e n b = ap (λ x. cond x (register sh j
 claim_from p d fr o (Entry k) sh ls e n b = entries_below sh.entries (items_of ls) k (claim p d ls (Entry k)) b
 claim_from p d fr o (Field m g) sh ls e n b = ap (λ h. home_claim p h sh m g (claim p d ls (Field m g))) e ∙ ap (λ x. cond x (filled (field_thing p (thing_holder o.thing) g) (field sh g)) (claim p d ls (Field m g))) n
 claim_from p d fr o (Elsewhere Root) sh ls e n b = ap (λ h. root_claim p h sh (claim p d ls (Elsewhere Root))) e
+claim_from p d fr o (Elsewhere In_service) sh ls e n b = absurd b
 claim_from p d fr o _ sh ls e n b = refl
 
 -- a layer's claims follow those below it
@@ -342,30 +358,53 @@ root_rel R same p Static sh x y h = h
 root_rel R same p AtRoot sh x y h = same _
 root_rel R same p (Inside o from) sh x y h = h
 
+close_rel : (R : Kind → Kind → Type 0) → ((k : Kind) → R k k) → (d : Dispatch) (s c : ℕ) (x y : Kind) → R x y → R (by_close d s c x) (by_close d s c y)
+close_rel R same (Of_server z client Parts) s c x y h = cond_rel R same ((z.object.name == s) && (client == c)) Null x y h
+close_rel R same _ s c x y h = h
+
+stage_rel : (R : Kind → Kind → Type 0) → ((k : Kind) → R k k) → (d : Dispatch) (x y : Kind) → R x y → R (by_stage d x) (by_stage d y)
+stage_rel R same (Of_server z client (Serves o)) x y h = same _
+stage_rel R same (Of_server z client (Service_left code)) x y h = same _
+stage_rel R same _ x y h = h
+
 pub layer_rel : (R : Kind → Kind → Type 0) → ((k : Kind) → R k k) → (p : Image) (l : Layer) (depth : ℕ) (items : List Form) (r : Place) (x y : Kind) → R x y → R (layer_claim p l depth items r x) (layer_claim p l depth items r y)
 layer_rel R same p (Method fr sh) depth items (Register f i) x y h = cond_rel R same (depth == f) (register sh i) x y h
 layer_rel R same p (Mark gv) depth items (Register f i) x y h = h
 layer_rel R same p (Dispatching w seats) depth items (Register f i) x y h = h
 layer_rel R same p (Dying o) depth items (Register f i) x y h = h
+layer_rel R same p (Ending o left) depth items (Register f i) x y h = h
 layer_rel R same p (Unwinding code es) depth items (Register f i) x y h = h
 layer_rel R same p l depth items (Entry k) x y h = entry_rel R same (entries_of l) items k x y h
 layer_rel R same p (Method fr sh) depth items (Field n f) x y h = home_rel R same p fr.home sh n f x y h
 layer_rel R same p (Mark gv) depth items (Field n f) x y h = h
 layer_rel R same p (Dispatching w seats) depth items (Field n f) x y h = h
 layer_rel R same p (Dying o) depth items (Field n f) x y h = cond_rel R same (o.name == n) Null x y h
+layer_rel R same p (Ending o left) depth items (Field n f) x y h = cond_rel R same (o.name == n) _ x y h
 layer_rel R same p (Unwinding code es) depth items (Field n f) x y h = h
 layer_rel R same p (Method fr sh) depth items (Elsewhere Root) x y h = root_rel R same p fr.home sh x y h
 layer_rel R same p (Mark gv) depth items (Elsewhere Root) x y h = h
 layer_rel R same p (Dying o) depth items (Elsewhere Root) x y h = h
 layer_rel R same p (Unwinding code es) depth items (Elsewhere Root) x y h = h
 layer_rel R same p (Dispatching d seats) depth items (Elsewhere Root) x y h = cond_rel R same (is_of_root d) Null x y h
-layer_rel R same p l depth items (Elsewhere (Session s c)) x y h = h
-layer_rel R same p l depth items (Elsewhere In_service) x y h = h
+layer_rel R same p (Ending o left) depth items (Elsewhere Root) x y h = h
+layer_rel R same p (Method fr sh) depth items (Elsewhere (Session s c)) x y h = h
+layer_rel R same p (Mark gv) depth items (Elsewhere (Session s c)) x y h = h
+layer_rel R same p (Dying o) depth items (Elsewhere (Session s c)) x y h = cond_rel R same (o.name == s) Null x y h
+layer_rel R same p (Ending o left) depth items (Elsewhere (Session s c)) x y h = cond_rel R same (o.name == s) _ x y h
+layer_rel R same p (Unwinding code es) depth items (Elsewhere (Session s c)) x y h = h
+layer_rel R same p (Dispatching d seats) depth items (Elsewhere (Session s c)) x y h = close_rel R same d s c x y h
+layer_rel R same p (Method fr sh) depth items (Elsewhere In_service) x y h = cond_rel R same (serves p fr.method) (delivered sh.delivery) x y h
+layer_rel R same p (Mark gv) depth items (Elsewhere In_service) x y h = h
+layer_rel R same p (Dying o) depth items (Elsewhere In_service) x y h = h
+layer_rel R same p (Ending o left) depth items (Elsewhere In_service) x y h = h
+layer_rel R same p (Unwinding code es) depth items (Elsewhere In_service) x y h = h
+layer_rel R same p (Dispatching d seats) depth items (Elsewhere In_service) x y h = stage_rel R same d x y h
 layer_rel R same p l depth items (Elsewhere (Queued s m)) x y h = h
 layer_rel R same p (Method fr sh) depth items (Going k) x y h = h
 layer_rel R same p (Mark gv) depth items (Going k) x y h = h
 layer_rel R same p (Dispatching w seats) depth items (Going k) x y h = h
 layer_rel R same p (Dying o) depth items (Going k) x y h = cond_rel R same (depth == k) (Own o.thing Ready) x y h
+layer_rel R same p (Ending o left) depth items (Going k) x y h = h
 layer_rel R same p (Unwinding code es) depth items (Going k) x y h = h
 
 pub claim_rel : (R : Kind → Kind → Type 0) → ((k : Kind) → R k k) → (p : Image) (d d' : Place → Kind) (ls : List Layer) (r : Place) → R (d r) (d' r) → R (claim p d ls r) (claim p d' ls r)
@@ -376,6 +415,11 @@ perhaps_ready : (t : Option Thing) → is_ready_kind (filled t Perhaps) ≡ true
 perhaps_ready None = refl
 perhaps_ready (Some t) = refl
 
+full_ready : (b : Bool) (t : Option Thing) → is_ready_kind (cond b (filled t Full) Null) ≡ true
+full_ready false t = refl
+full_ready true None = refl
+full_ready true (Some t) = refl
+
 pub declared_ready : (p : Image) (cs : List Cell) (r : Place) → is_ready_kind (declared p cs r) ≡ true
 declared_ready p cs (Field n f) = go (named cs n)
   where
@@ -383,6 +427,8 @@ declared_ready p cs (Field n f) = go (named cs n)
     go None = refl
     go (Some o) = perhaps_ready (field_thing p (thing_holder o.thing) f)
 declared_ready p cs (Elsewhere Root) = perhaps_ready (field_thing p Program 0)
+declared_ready p cs (Elsewhere (Session n c)) = full_ready (has_session (service_of cs n) c) (session_thing p (named cs n))
+declared_ready p cs (Elsewhere (Queued n m)) = full_ready (has_message (service_of cs n) m) (message_thing p (named cs n))
 declared_ready p cs _ = refl
 
 -- declared fields are ready, so that a claim which is ready with nothing declared is ready
@@ -400,6 +446,9 @@ claim_unnamed p t cs d (Method fr sh ∷ ls) back n f s e = go fr.home s.2 ∙ c
     go (Inside o from) h = ap (λ b. cond b (filled (field_thing p (thing_holder o.thing) f) (field sh f)) (claim p d ls (Field n f))) (ne_eqb o.name n (λ same. let l = h.lives in let e' : Some o ≡ None = sym l ∙ ap (λ x. named cs x) same ∙ e in cc))
 claim_unnamed p t cs d (Mark gv ∷ ls) back n f s e = claim_unnamed p t cs d ls (Caught gv) n f s.1 e
 claim_unnamed p t cs d (Dispatching w seats ∷ ls) back n f s e = ap (λ l. claim p d l (Field n f)) s.1
+claim_unnamed p t cs d (Ending o left ∷ ls) back n f s e =
+    ap (λ b. cond b (filled (field_thing p (thing_holder o.thing) f) Perhaps) (claim p d ls (Field n f))) (ne_eqb o.name n (λ same. let l = s.0.lives in let e' : Some o ≡ None = sym l ∙ ap (λ x. named cs x) same ∙ e in cc))
+    ∙ claim_unnamed p t cs d ls Now n f s.3 e
 claim_unnamed p t cs d (Unwinding code es ∷ ls) back n f s e = claim_unnamed p t cs d ls Leaves n f s.1 e
 claim_unnamed p t cs d (Dying o ∷ ls) back n f s e =
     ap (λ b. cond b Null (claim p d ls (Field n f))) (ne_eqb o.name n (λ same. let l = s.0.0 in let e' : Some o ≡ None = sym l ∙ ap (λ x. named cs x) same ∙ e in cc))
@@ -412,6 +461,7 @@ claim_register_above p cs (Method fr sh ∷ ls) f i le = ap (λ b. cond b (regis
 claim_register_above p cs (Mark gv ∷ ls) f i le = claim_register_above p cs ls f i (omega arith)
 claim_register_above p cs (Dispatching w seats ∷ ls) f i le = claim_register_above p cs ls f i (omega arith)
 claim_register_above p cs (Dying o ∷ ls) f i le = claim_register_above p cs ls f i (omega arith)
+claim_register_above p cs (Ending o left ∷ ls) f i le = claim_register_above p cs ls f i (omega arith)
 claim_register_above p cs (Unwinding code es ∷ ls) f i le = claim_register_above p cs ls f i (omega arith)
 
 -- of a cell of which the layers claim nothing more
@@ -423,6 +473,7 @@ claim_going_above p cs [] k le = refl
 claim_going_above p cs (Method fr sh ∷ ls) k le = claim_going_above p cs ls k (omega arith)
 claim_going_above p cs (Mark gv ∷ ls) k le = claim_going_above p cs ls k (omega arith)
 claim_going_above p cs (Dispatching w seats ∷ ls) k le = claim_going_above p cs ls k (omega arith)
+claim_going_above p cs (Ending o left ∷ ls) k le = claim_going_above p cs ls k (omega arith)
 claim_going_above p cs (Unwinding code es ∷ ls) k le = claim_going_above p cs ls k (omega arith)
 claim_going_above p cs (Dying o ∷ ls) k le = ap (λ b. cond b (Own o.thing Ready) (claim p (declared p cs) ls (Going k))) (ne_eqb (length (tasks_of ls)) k (λ e. absurd (omega arith))) ∙ claim_going_above p cs ls k (omega arith)
 

@@ -1,6 +1,6 @@
 -- While a leave is at hand, the methods and the going cells over it leave the cleanup stack as it is: by the heights at which the methods began.
 use Rattle.std.proofs.lemmas.Option.{same_Some}
-use Rattle.std.proofs.Common.{List, None, Option, Some, [], ap, arith, length, refl, subst, sym, true, ℕ, ℤ, ◌∙◌, ◌∷◌, ◌≡◌, ◌≢◌}
+use Rattle.std.proofs.Common.{Bool, cond, false, List, None, Option, Some, [], ap, arith, length, refl, subst, sym, true, ℕ, ℤ, ◌∙◌, ◌∷◌, ◌≡◌, ◌≢◌}
 use Rattle.std.proofs.lemmas.Bool.{true≢false}
 use Rattle.std.specs.Prelude.{not}
 use Rattle.aom_image.specs.Image.{Image}
@@ -28,21 +28,23 @@ use Rattle.aom_sound.specs.Calls.{result_register, returned}
 use Rattle.aom_sound.specs.Claims.{Form, Layer, Method, forms, items_of, objects, tasks_of}
 use Rattle.aom_sound.specs.Cleanup.{has_trap}
 use Rattle.aom_classes.specs.Roles.{destructor_of}
-use Rattle.aom_sound.specs.Destruction.{begun, begun_by}
+use Rattle.aom_sound.specs.Destruction.{destructed, parting, first_session, begun, begun_by}
 use Rattle.aom_sound.specs.Effects.{Calls, Cancels, Counts, Destroys, Destroys_last, Effect, Goes_on, Jumps, Leaves, Operates, Popped, Popped_operation, Pushed, Pushed_operation, Repeats, Returns, Sets_trap, Update, applied, items_after, with_words}
 use Rattle.aom_sound.specs.Laws.{IsWired}
 use Rattle.aom_sound.specs.Leaves.{IsLeaving, IsOver}
 use Rattle.aom_sound.specs.Moves.{counted, step}
-use Rattle.aom_sound.specs.Places.{Cell, Object}
-use Rattle.aom_sound.specs.State.{Choice, Destroy, Dispatched, Frame, Goes, Item, Run, State, Task, Trapped, Unwind, next, resumed}
-use Rattle.aom_sound.specs.Steps.{Acts, Arrives, Clears, Comes_out, Ends, Fits, FitsUpdate, Move, Rests, Undoes, Vanishes}
+use Rattle.aom_sound.specs.Places.{service_of, Cell, Object}
+use Rattle.aom_sound.specs.State.{Closing, Seat, Choice, Destroy, Dispatched, Frame, Goes, Item, Run, State, Task, Trapped, Unwind, next, resumed}
+use Rattle.aom_sound.specs.Steps.{Empties, Acts, Arrives, Clears, Comes_out, Ends, Fits, FitsUpdate, Move, Rests, Undoes, Vanishes}
 use Rattle.aom_sound.specs.WellTyped.{Good, WellTyped}
 use Rattle.aom_sound.specs.Enlisted.{ended_cells}
+use Rattle.aom_sound.specs.Servers.{is_server}
 
 -- a leave that is begun over it finds no trap
 no_trap : (p : Image) (height : ℕ) (code : ℤ) (below ts : List Task) → IsOver p height code below ts → has_trap ts ≡ true → ⊥
 no_trap p height code below (Run fr ∷ ts) o e = no_trap p height code below ts o.2 e
 no_trap p height code below (Destroy ∷ ts) o e = true≢false (sym e)
+no_trap p height code below (Closing ∷ ts) o e = true≢false (sym e)
 no_trap p height code below (Unwind x ∷ ts) o e = true≢false (sym e)
 no_trap p height code below _ o e = o
 
@@ -52,16 +54,24 @@ resumes_over p height code below [] o = o
 resumes_over p height code below (Run fr ∷ ts) o = o
 resumes_over p height code below (Trapped ∷ ts) o = o
 resumes_over p height code below (Destroy ∷ ts) o = o
+resumes_over p height code below (Closing ∷ ts) o = o
 resumes_over p height code below (Unwind x ∷ ts) o = o
 resumes_over p height code below (Dispatched d ∷ ts) o = o
 
 -- a destruction begins over it
-pub begins_over : (p : Image) → IsWired p → (o : Object) (height : ℕ) (code : ℤ) (below ts : List Task) → IsOver p height code below ts → IsOver p height code below (begun p o height ts)
-begins_over p wired o height code below ts h = go (destructor_of p o.thing) refl
+destructs_over : (p : Image) → IsWired p → (o : Object) (height : ℕ) (code : ℤ) (below ts : List Task) → IsOver p height code below ts → IsOver p height code below (destructed p o height ts)
+destructs_over p wired o height code below ts h = go (destructor_of p o.thing) refl
   where
     go : (d : Option ℕ) → destructor_of p o.thing ≡ d → IsOver p height code below (begun_by d o height ts)
     go None e = h
     go (Some m) e = ((destroys p wired o.thing m e).quiet, refl, h)
+
+pub begins_over : (p : Image) → IsWired p → (o : Object) (height : ℕ) (code : ℤ) (below ts : List Task) → IsOver p height code below ts → IsOver p height code below (begun p o height ts)
+begins_over p wired o height code below ts h = go (is_server p o.thing)
+  where
+    go : (x : Bool) → IsOver p height code below (cond x (Closing ∷ Destroy ∷ ts) (destructed p o height ts))
+    go true = h
+    go false = destructs_over p wired o height code below ts h
 
 -- a method that stands at the height at which it began has no entry
 no_entries : (es : List Pushed_entry) (below : List Form) → length (objects es below) ≡ length below → es ≡ []
@@ -79,7 +89,7 @@ bare_shape p t cs fr ts items (Method fr' sh ∷ ls) at f h good =
 bare_shape p t cs fr ts items _ at f h good = cc
 
 -- a method's move
-module _ (p : Image) (wired : IsWired p) (c : Choice) (fr : Frame) (sh : Shape) (ts : List Task) (s : State) (code : ℤ) (below : List Task) (h : IsOver p (length s.items) code below (Run fr ∷ ts)) (bare : sh.entries ≡ []) where
+module _ (p : Image) (wired : IsWired p) (c : Choice) (fr : Frame) (sh : Shape) (ts : List Task) (s : State) (at_hand : s.tasks ≡ Run fr ∷ ts) (code : ℤ) (below : List Task) (h : IsOver p (length s.items) code below (Run fr ∷ ts)) (bare : sh.entries ≡ []) where
   abbrev Kept : State → Type 0
   Kept u = IsOver p (length s.items) code below u.tasks × (u.items ≡ s.items)
 
@@ -95,6 +105,7 @@ module _ (p : Image) (wired : IsWired p) (c : Choice) (fr : Frame) (sh : Shape) 
       (subst (λ f. IsOver p (length s.items) code below (Run (next f) ∷ under)) (sym (receives p fr ts (record s { cells = ended_cells p fr s.cells }) g a x caller)) w, refl)
   return_kept g a (Destroy ∷ under) w = (w, refl)
   return_kept g a (Unwind x ∷ under) w = (w, refl)
+  return_kept g a (Closing ∷ under) w = (subst (λ l. IsOver p (length s.items) code below l) (sym at_hand) h, refl)
   return_kept g a _ w = absurd (assumption tt)
 
   -- neither pushed nor taken
@@ -137,6 +148,11 @@ module _ (p : Image) (t : Typing) (wired : IsWired p) (typed : IsTyped p t) (c :
   at_leave : (x : ℤ) (ts : List Task) → s.tasks ≡ Unwind x ∷ ts → ⊥
   at_leave x ts at = let o = subst O at over in other (at ∙ ap (λ y. Unwind y ∷ ts) o.0 ∙ ap (λ l. Unwind code ∷ l) o.1)
 
+  -- a server that goes over it has its sessions go first
+  empties : (o : Object) (x : Option Seat) (ts : List Task) → IsOver p (length s.items) code below ts → Stays (parting p o x ts (counted p s))
+  empties o None ts h = (destructs_over p wired o (length s.items) code below ts h, refl)
+  empties o (Some x) ts h = (begins_over p wired x.object (length s.items) code below (Closing ∷ Destroy ∷ ts) h, refl)
+
   kept : Move p c s u → Stays u
   kept (Rests still e) = subst Stays (sym e) (over, refl)
   kept (Acts fr ts i e at there met fits same) =
@@ -144,8 +160,9 @@ module _ (p : Image) (t : Typing) (wired : IsWired p) (typed : IsTyped p t) (c :
       let stands = bare_shape p t s.cells fr ts s.items w.layers (sym at ∙ w.tasks) w.items h.1 w.good in
       let x = typed.each fr.method fr.place stands.0 stands.1 in
       let is : x.instr ≡ i = same_Some x.instr i (sym x.stands ∙ there) in
-      subst Stays (sym same) (acts_kept p wired c fr stands.0 ts (counted p s) code below h stands.2 i e (subst (λ j. AllTrue (rule_needs p fr.method fr.place stands.0 j)) is x.needs) fits)
+      subst Stays (sym same) (acts_kept p wired c fr stands.0 ts (counted p s) at code below h stands.2 i e (subst (λ j. AllTrue (rule_needs p fr.method fr.place stands.0 j)) is x.needs) fits)
   kept (Vanishes ts o at there owns same) = subst Stays (sym same) (resumes_over p (length s.items) code below ts (subst O at over), refl)
+  kept (Empties ts o at there same) = subst Stays (sym same) (empties o (first_session s.cells o.name (service_of s.cells o.name).sessions) ts (subst O at over))
   kept (Clears x ts items o at top there same) = absurd (at_leave x ts at)
   kept (Undoes x ts items m y at top same) = absurd (at_leave x ts at)
   kept (Arrives x fr ts items at top same) = absurd (at_leave x _ at)

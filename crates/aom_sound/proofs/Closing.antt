@@ -14,13 +14,15 @@ use Rattle.aom_shape.specs.declared.kind.Kind.TheVariants.{Null}
 use Rattle.aom_sound.proofs.Destroying.{begin, goes_fitting, goes_there, no_going}
 use Rattle.aom_sound.proofs.Maps.{held_lives, named_moved, tidy_moved}
 use Rattle.aom_sound.proofs.Straight.{fits_unowning}
-use Rattle.aom_sound.specs.Claims.{Dispatching, Layer, claim, declared, forms, items_of, tasks_of, is_of_root}
+use Rattle.aom_sound.specs.Claims.{by_close, by_stage, Dispatching, Layer, claim, declared, forms, items_of, tasks_of, is_of_root}
 use Rattle.aom_sound.specs.Laws.{IsWired}
-use Rattle.aom_sound.specs.Moves.{closed, dispatch_ends, main_ends, main_left, over, uprooted, answered, asking, failed, handled, object_ends}
-use Rattle.aom_sound.specs.Places.{Elsewhere, Entry, Field, Going, Object, Place, Register, Root, changed, held, moved, seen}
-use Rattle.aom_sound.specs.State.{Dispatch, Item, Main_left, Of_main, Of_root, State, Answered, Asks, Object_left, Of_object, Seat}
-use Rattle.aom_sound.specs.WellTyped.{AllUndo, Fits, Good, WellTyped}
+use Rattle.aom_sound.specs.Moves.{needs_end, closed, dispatch_ends, main_ends, main_left, over, uprooted, answered, asking, failed, handled, object_ends}
+use Rattle.aom_sound.specs.Places.{Session, In_service, Queued, Elsewhere, Entry, Field, Going, Object, Place, Register, Root, changed, held, moved, seen}
+use Rattle.aom_sound.specs.State.{guarded, Of_server, Dispatch, Item, Main_left, Of_main, Of_root, State, Answered, Asks, Object_left, Of_object, Seat}
+use Rattle.aom_sound.specs.WellTyped.{Keeps, AllUndo, Fits, Good, WellTyped}
 use Rattle.aom_sound.proofs.Suiting.{all_moved}
+use Rattle.aom_shape.specs.declared.kind.Kind.{Kind}
+use Rattle.aom_sound.proofs.Parting.{stage_keeps}
 
 -- what holds of the root once it is gone
 pub root_gone : (p : Image) (t : Typing) (s : State) (seats : List Seat) (ls : List Layer) → Good p t s.cells (Dispatching Of_root seats ∷ ls) → held s.cells (Elsewhere Root) ≡ None
@@ -30,27 +32,42 @@ no_items : (items : List Item) → forms items ≡ [] → items ≡ []
 no_items [] e = refl
 no_items (i ∷ items) e = cc
 
+-- no server is dispatched
+abbrev serves_none : Dispatch → Bool
+serves_none (Of_server x client stage) = false
+serves_none _ = true
+
+none_parts : (d : Dispatch) → serves_none d ≡ true → (n c : ℕ) (k : Kind) → by_close d n c k ≡ k
+none_parts (Of_server x client stage) e n c k = cc
+none_parts _ e n c k = refl
+
+none_served : (d : Dispatch) → serves_none d ≡ true → (k : Kind) → by_stage d k ≡ k
+none_served (Of_server x client stage) e k = cc
+none_served _ e k = refl
+
 module _ (p : Image) (t : Typing) (s : State) where
   -- with nothing at hand
-  idle : (s' : State) (d : Dispatch) (seats : List Seat) → s'.cells ≡ s.cells → s'.tasks ≡ [] → s'.items ≡ [] → Good p t s.cells (Dispatching d seats ∷ []) → WellTyped p t s'
-  idle s' d seats cells tasks items good = record { layers = []; tasks = tasks; items = ap forms items; undos = subst (λ is. AllUndo p is) (sym items) tt; good = subst (λ cs. Good p t cs []) (sym cells) (record { stack = refl; fits = fits d good; suits = good.suits; tidy = good.tidy }) }
+  idle : (s' : State) (d : Dispatch) (seats : List Seat) → serves_none d ≡ true → s'.cells ≡ s.cells → s'.tasks ≡ [] → s'.items ≡ [] → Good p t s.cells (Dispatching d seats ∷ []) → WellTyped p t s'
+  idle s' d seats plain cells tasks items good = record { layers = []; tasks = tasks; items = ap forms items; undos = subst (λ is. AllUndo p is) (sym items) tt; good = subst (λ cs. Good p t cs []) (sym cells) (record { stack = refl; fits = fits d plain good; suits = good.suits; tidy = good.tidy }) }
     where
       nothing : (x : Option Thing) → Fits p (seen s.cells) None (filled x Perhaps)
       nothing None = tt
       nothing (Some x) = tt
 
-      fits : (d : Dispatch) → Good p t s.cells (Dispatching d seats ∷ []) → (r : Place) → Fits p (seen s.cells) (held s.cells r) (declared p s.cells r)
-      fits d good (Register f i) = good.fits (Register f i)
-      fits d good (Entry k) = good.fits (Entry k)
-      fits d good (Field n f) = good.fits (Field n f)
-      fits Of_root good (Elsewhere Root) = subst (λ o. Fits p (seen s.cells) o (filled (field_thing p Program 0) Perhaps)) (sym (root_gone p t s seats [] good)) (nothing (field_thing p Program 0))
-      fits _ good (Elsewhere Root) = good.fits (Elsewhere Root)
-      fits d good (Elsewhere w) = good.fits (Elsewhere w)
-      fits d good (Going k) = good.fits (Going k)
+      fits : (d : Dispatch) → serves_none d ≡ true → Good p t s.cells (Dispatching d seats ∷ []) → (r : Place) → Fits p (seen s.cells) (held s.cells r) (declared p s.cells r)
+      fits d plain good (Register f i) = good.fits (Register f i)
+      fits d plain good (Entry k) = good.fits (Entry k)
+      fits d plain good (Field n f) = good.fits (Field n f)
+      fits Of_root plain good (Elsewhere Root) = subst (λ o. Fits p (seen s.cells) o (filled (field_thing p Program 0) Perhaps)) (sym (root_gone p t s seats [] good)) (nothing (field_thing p Program 0))
+      fits _ plain good (Elsewhere Root) = good.fits (Elsewhere Root)
+      fits d plain good (Elsewhere (Session n c)) = subst (λ k. Fits p (seen s.cells) (held s.cells (Elsewhere (Session n c))) k) (none_parts d plain n c (declared p s.cells (Elsewhere (Session n c)))) (good.fits (Elsewhere (Session n c)))
+      fits d plain good (Elsewhere In_service) = subst (λ k. Fits p (seen s.cells) (held s.cells (Elsewhere In_service)) k) (none_served d plain Null) (good.fits (Elsewhere In_service))
+      fits d plain good (Elsewhere (Queued n m)) = good.fits (Elsewhere (Queued n m))
+      fits d plain good (Going k) = good.fits (Going k)
 
   -- the root goes
-  uproots : IsWired p → IsTyped p t → (d : Dispatch) (seats : List Seat) → is_of_root d ≡ false → (o : Object) → held s.cells (Elsewhere Root) ≡ Some o → s.items ≡ [] → Good p t s.cells (Dispatching d seats ∷ []) → WellTyped p t (uprooted p o s)
-  uproots wired typed d seats other o there items good =
+  uproots : IsWired p → IsTyped p t → (d : Dispatch) (seats : List Seat) → serves_none d ≡ true → is_of_root d ≡ false → (o : Object) → held s.cells (Elsewhere Root) ≡ Some o → s.items ≡ [] → Good p t s.cells (Dispatching d seats ∷ []) → WellTyped p t (uprooted p o s)
+  uproots wired typed d seats plain other o there items good =
       let q = Elsewhere Root in
       let g = Going (length (tasks_of (Dispatching Of_root [] ∷ []))) in
       let before = Dispatching d seats ∷ [] in
@@ -59,10 +76,10 @@ module _ (p : Image) (t : Typing) (s : State) where
       begin p t wired typed (moved q g s.cells) o below
       (goes_fitting p t s.cells o q before below good.fits there (omega arith) claims)
       (tidy_moved s.cells q g free good.tidy)
-      (tt, refl, tt, refl)
+      (tt, refl, tt, refl, tt)
       (goes_there p t s.cells o q before below good.fits there (omega arith) claims)
       (named_moved s.cells q g o.name ∙ held_lives s.cells q o good.tidy there)
-      (record { some = λ x. ⊎_elim (λ y. y) (λ y. y) x; unclaimed = λ f. refl; none_in = (tt, tt); unworked = tt })
+      (record { some = λ x. ⊎_elim (λ y. y) (λ y. y) x; unclaimed = λ f. refl; none_in = (tt, tt); unworked = tt; sessions = λ d c. refl })
       (all_moved p s.cells q g below good.suits)
       (uprooted p o s) (length s.items) (ap length items) refl refl (ap forms items) (subst (λ is. AllUndo p is) (sym items) tt)
     where
@@ -71,39 +88,42 @@ module _ (p : Image) (t : Typing) (s : State) where
       claims (Entry k) = refl
       claims (Field n f) = refl
       claims (Elsewhere Root) = refl
-      claims (Elsewhere w) = refl
+      claims (Elsewhere (Session n c)) = sym (none_parts d plain n c _)
+      claims (Elsewhere In_service) = sym (none_served d plain _)
+      claims (Elsewhere (Queued n m)) = refl
       claims (Going k) = refl
 
   -- a dispatch ends, and the root goes first where the run stops
-  closes : IsWired p → IsTyped p t → (d : Dispatch) (seats : List Seat) → is_of_root d ≡ false → s.items ≡ [] → Good p t s.cells (Dispatching d seats ∷ []) → (b : Bool) (root : Option Object) → held s.cells (Elsewhere Root) ≡ root → WellTyped p t (main_ends p b root s)
-  closes wired typed d seats other items good true (Some o) e = uproots wired typed d seats other o e items good
-  closes wired typed d seats other items good true None e = idle (closed s) d seats refl refl items good
-  closes wired typed d seats other items good false root e = idle (closed s) d seats refl refl items good
+  closes : IsWired p → IsTyped p t → (d : Dispatch) (seats : List Seat) → serves_none d ≡ true → is_of_root d ≡ false → s.items ≡ [] → Good p t s.cells (Dispatching d seats ∷ []) → (b : Bool) (root : Option Object) → held s.cells (Elsewhere Root) ≡ root → WellTyped p t (main_ends p b root s)
+  closes wired typed d seats plain other items good true (Some o) e = uproots wired typed d seats plain other o e items good
+  closes wired typed d seats plain other items good true None e = idle (closed s) d seats plain refl refl items good
+  closes wired typed d seats plain other items good false root e = idle (closed s) d seats plain refl refl items good
 
 module _ (p : Image) (t : Typing) (s : State) (wired : IsWired p) (typed : IsTyped p t) (items : s.items ≡ []) where
-  of_object : (d : Dispatch) (seats : List Seat) → is_of_root d ≡ false → Good p t s.cells (Dispatching d seats ∷ []) → WellTyped p t (object_ends p s)
-  of_object d seats other good = closes p t (handled s) wired typed d seats other items good s.rest.stopped (held s.cells (Elsewhere Root)) refl
+  of_object : (d : Dispatch) (seats : List Seat) → serves_none d ≡ true → is_of_root d ≡ false → Good p t s.cells (Dispatching d seats ∷ []) → WellTyped p t (object_ends p s)
+  of_object d seats plain other good = closes p t (handled s) wired typed d seats plain other items good s.rest.stopped (held s.cells (Elsewhere Root)) refl
 
-  with_answer : (d : Dispatch) (seats : List Seat) (answer : ℤ) → is_of_root d ≡ false → Good p t s.cells (Dispatching d seats ∷ []) → WellTyped p t (answered p answer s)
-  with_answer d seats answer other good = go (int_eq answer (pos 0))
+  with_answer : (d : Dispatch) (seats : List Seat) (answer : ℤ) → serves_none d ≡ true → is_of_root d ≡ false → Good p t s.cells (Dispatching d seats ∷ []) → WellTyped p t (answered p answer s)
+  with_answer d seats answer plain other good = go (int_eq answer (pos 0))
     where
       go : (b : Bool) → WellTyped p t (cond b (object_ends p s) (failed answer s))
-      go true = of_object d seats other good
-      go false = idle p t s (failed answer s) d seats refl refl items good
+      go true = of_object d seats plain other good
+      go false = idle p t s (failed answer s) d seats plain refl refl items good
 
   -- each kind of dispatch
-  ends : (d : Dispatch) (seats : List Seat) → Good p t s.cells (Dispatching d seats ∷ []) → WellTyped p t (dispatch_ends p d s)
-  ends Of_root seats good = idle p t s (over s) Of_root seats refl refl items good
-  ends (Main_left code) seats good = idle p t s (main_left code s) (Main_left code) seats refl refl items good
-  ends Of_main seats good = closes p t s wired typed Of_main seats refl items good s.rest.stopped (held s.cells (Elsewhere Root)) refl
-  ends (Of_object x) seats good = of_object (Of_object x) seats refl good
+  ends : (d : Dispatch) (seats : List Seat) → Good p t s.cells (Dispatching d seats ∷ []) → Keeps p t (guarded (needs_end d s.cells) (dispatch_ends p d s))
+  ends (Of_server x client stage) seats good = stage_keeps p t s x client seats stage items good
+  ends Of_root seats good = idle p t s (over s) Of_root seats refl refl refl items good
+  ends (Main_left code) seats good = idle p t s (main_left code s) (Main_left code) seats refl refl refl items good
+  ends Of_main seats good = closes p t s wired typed Of_main seats refl refl items good s.rest.stopped (held s.cells (Elsewhere Root)) refl
+  ends (Of_object x) seats good = of_object (Of_object x) seats refl refl good
   ends (Object_left x code) seats good = go (part_of p Error x.object.thing) refl
     where
       go : (m : Option ℕ) → part_of p Error x.object.thing ≡ m → WellTyped p t (asking p m x code s)
-      go None e = with_answer (Object_left x code) seats code refl good
+      go None e = with_answer (Object_left x code) seats code refl refl good
       go (Some m) e = error_enters p t wired typed s x code seats items good m e
-  ends (Asks x) seats good = of_object (Asks x) seats refl good
-  ends (Answered x answer) seats good = with_answer (Answered x answer) seats answer refl good
+  ends (Asks x) seats good = of_object (Asks x) seats refl refl good
+  ends (Answered x answer) seats good = with_answer (Answered x answer) seats answer refl refl good
 
-pub dispatch_keeps : (p : Image) (t : Typing) → IsWired p → IsTyped p t → (s : State) (d : Dispatch) (seats : List Seat) (ls : List Layer) → Good p t s.cells (Dispatching d seats ∷ ls) → forms s.items ≡ items_of ls → WellTyped p t (dispatch_ends p d s)
+pub dispatch_keeps : (p : Image) (t : Typing) → IsWired p → IsTyped p t → (s : State) (d : Dispatch) (seats : List Seat) (ls : List Layer) → Good p t s.cells (Dispatching d seats ∷ ls) → forms s.items ≡ items_of ls → Keeps p t (guarded (needs_end d s.cells) (dispatch_ends p d s))
 dispatch_keeps p t wired typed s d seats ls good items = ends p t s wired typed (no_items s.items (items ∙ ap items_of good.stack.1)) d seats (subst (λ l. Good p t s.cells (Dispatching d seats ∷ l)) good.stack.1 good)

@@ -3,18 +3,18 @@ use Rattle.std.specs.Prelude.{◌⊎◌, is_none}
 use Rattle.std.specs.Ordering.{int_eq}
 use Rattle.aom_image.specs.declared.method.Role.TheVariants.{Error}
 use Rattle.aom_sound.specs.Enlisted.{part_of}
-use Rattle.aom_sound.proofs.Turned.{dispatched_so, polled_rest}
-use Rattle.aom_sound.proofs.Guarded.{goes_same}
+use Rattle.aom_sound.proofs.Turned.{commanded_kept, picked_rest, polled_rest}
+use Rattle.aom_sound.proofs.Guarded.{goes_same, guarded_goes}
 use Rattle.std.proofs.Common.{Bool, List, None, Option, Some, ap, arith, cond, false, refl, true, ℕ, ◌+◌, ◌≤◌, ◌∙◌, ◌∷◌, ◌≡◌, inl, inr, sym, subst, pos, ℤ}
 use Rattle.aom_image.specs.Image.{Image}
 use Rattle.aom_sound.proofs.Moving.{steps_are_moves}
 use Rattle.aom_sound.proofs.Resting.{move_rest, IsEnd, Takes}
 use Rattle.aom_sound.specs.Counting.{DispatchesAreCounted, StepsAreCounted, ends_object, in_range, restarts, starts, steps_of, taken}
 use Rattle.aom_sound.specs.Effects.{Course, Goes_its_way, Stops, coursed}
-use Rattle.aom_sound.specs.Moves.{answered, asking, counted, dispatch_ends, failed, handled, is_counted, main_ends, object_ends, step, step_task}
+use Rattle.aom_sound.specs.Moves.{needs_end, answered, asking, counted, dispatch_ends, failed, handled, is_counted, main_ends, object_ends, step, step_task}
 use Rattle.aom_sound.specs.Places.{Elsewhere, Object, Root, held}
-use Rattle.aom_sound.specs.State.{Answered, Asks, Choice, Destroy, Dispatch, Dispatched, Goes, Main_left, Object_left, Of_main, Of_object, Of_root, Rest, Run, State, Task, raised}
-use Rattle.aom_sound.specs.World.{Completes, Cuts, Heard, Outside, Passes, Picks, Reaches, Strays, Turning, Waits, begins, boot_state, moves, turn, turned, turning, turns, Hears, Kills, Polls}
+use Rattle.aom_sound.specs.State.{Of_server, Accepts, Accepted, Accept_left, Serves, Service_left, Parts, Answered, Asks, Choice, Destroy, Dispatch, Dispatched, Goes, Main_left, Object_left, Of_main, Of_object, Of_root, Rest, Run, State, Task, raised}
+use Rattle.aom_sound.specs.World.{Obeys, heard_one, Completes, Cuts, Heard, Outside, Passes, Picks, Reaches, Strays, Turning, Waits, begins, boot_state, moves, turn, turned, turning, turns, Hears, Kills, Polls}
 use Rattle.aom_transcript.specs.declared.line.Line.{Line}
 
 -- the counts after a move, by those before it: where the dispatch of an object ends steps are counted anew, and it counts
@@ -52,6 +52,12 @@ end_counts p (Object_left x code) s = go (part_of p Error x.object.thing)
     go (Some m) = (refl, refl)
 end_counts p (Asks x) s = object_counts p s
 end_counts p (Answered x answer) s = answer_counts p answer s
+end_counts p (Of_server x client Accepts) s = (refl, refl)
+end_counts p (Of_server x client Accepted) s = (refl, refl)
+end_counts p (Of_server x client (Accept_left code)) s = (refl, refl)
+end_counts p (Of_server x client (Serves o)) s = (refl, refl)
+end_counts p (Of_server x client (Service_left code)) s = (refl, refl)
+end_counts p (Of_server x client Parts) s = (refl, refl)
 
 -- a move counts, and nothing else does
 move_counts : (p : Image) (c : Choice) (s u : State) → step p c s ≡ Goes u → Counts (restarts p s.tasks) (counted p s).rest u.rest
@@ -65,7 +71,7 @@ move_counts p c s u e = go (move_rest p c s u (steps_are_moves p c s u e))
 
         by_tasks : (ts : List Task) → s.tasks ≡ ts → Counts (restarts p ts) (counted p s).rest u.rest
         by_tasks (Dispatched d ∷ ts) at =
-            subst (λ (x : State). Counts (ends_object p d) (counted p s).rest x.rest) (goes_same (dispatch_ends p d (counted p s)) u (subst (λ l. step_task p c (counted p s) l ≡ Goes u) at e)) (end_counts p d (counted p s))
+            subst (λ (x : State). Counts (ends_object p d) (counted p s).rest x.rest) (guarded_goes (needs_end d s.cells) (dispatch_ends p d (counted p s)) u (subst (λ l. step_task p c (counted p s) l ≡ Goes u) at e)) (end_counts p d (counted p s))
         by_tasks _ at = plain
     go (inr d) =
         subst (λ ts. Counts (restarts p ts) (counted p s).rest u.rest) (sym d.2)
@@ -96,7 +102,8 @@ turn_count : (p : Image) (outside : Outside) (heard : Heard) (s u : State) → t
 turn_count p outside heard s u e = go (turning outside heard s) e
   where
     go : (k : Turning) → turned p s k ≡ Goes u → u.rest.steps ≡ cond (starts k) 0 s.rest.steps
-    go (Picks x) e = ap (λ (v : State). v.rest.steps) (dispatched_so p s u x e).2
+    go (Picks x) e = ap (λ (r : Rest). r.steps) (picked_rest p s u x e)
+    go (Obeys client command name) e = ap (λ (v : State). v.rest.steps) (sym (goes_same _ u e)) ∙ ap (λ (r : Rest). r.steps) (commanded_kept p client (heard_one s) command name).0
     go Strays e = cc
     go Cuts e = ap (λ (v : State). v.rest.steps) (sym (goes_same _ u e))
     go (Completes o) e = ap (λ (v : State). v.rest.steps) (sym (goes_same _ u e))
@@ -111,7 +118,8 @@ turn_dispatches : (p : Image) (outside : Outside) (heard : Heard) (s u : State) 
 turn_dispatches p outside heard s u e = go (turning outside heard s) e
   where
     go : (k : Turning) → turned p s k ≡ Goes u → u.rest.dispatches ≡ s.rest.dispatches
-    go (Picks x) e = ap (λ (v : State). v.rest.dispatches) (dispatched_so p s u x e).2
+    go (Picks x) e = ap (λ (r : Rest). r.dispatches) (picked_rest p s u x e)
+    go (Obeys client command name) e = ap (λ (v : State). v.rest.dispatches) (sym (goes_same _ u e)) ∙ ap (λ (r : Rest). r.dispatches) (commanded_kept p client (heard_one s) command name).0
     go Strays e = cc
     go Cuts e = ap (λ (v : State). v.rest.dispatches) (sym (goes_same _ u e))
     go (Completes o) e = ap (λ (v : State). v.rest.dispatches) (sym (goes_same _ u e))

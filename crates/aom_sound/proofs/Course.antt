@@ -8,10 +8,12 @@ use Rattle.aom_sound.proofs.Booting.{boot_keeps}
 use Rattle.aom_sound.proofs.Caught.{arrives as arrives_so, begins as begins_so, deals as deals_so, ends as ends_so, splits}
 use Rattle.aom_sound.proofs.Clearing.{works_kept}
 use Rattle.aom_sound.proofs.Steps.{step_keeps}
+use Rattle.aom_sound.proofs.ClientsKeep.{clients_keep}
+use Rattle.aom_sound.specs.Kept.{IsKept}
 use Rattle.aom_sound.specs.Laws.{IsWired}
 use Rattle.aom_sound.specs.Leaves.{HasArrived, IsLeaving, IsOver, LeavesArrive, LeavesMove, StillLeaves, Unwinds, deals, leaves, works}
 use Rattle.aom_sound.specs.Moves.{IsOpen, step}
-use Rattle.aom_sound.specs.State.{A_mark, Choice, Destroy, Goes, Item, Run, State, Task, Unwind}
+use Rattle.aom_sound.specs.State.{Closing, A_mark, Choice, Destroy, Goes, Item, Run, State, Task, Unwind}
 use Rattle.aom_sound.specs.WellTyped.{Keeps, WellTyped}
 use Rattle.aom_sound.specs.World.{IsBetween, IsBusy, Reaches, begins, boot_state, moves, turn, turns, Outside, Heard, HearsWell}
 use Rattle.aom_transcript.specs.declared.line.Line.{Line}
@@ -25,13 +27,21 @@ leaves_move = record {
   ends = ends_so;
 }
 
-module _ (p : Image) (t : Typing) (outside : Outside) (wired : IsWired p) (typed : IsTyped p t) where
-  pub well_on : (from : State) → WellTyped p t from → (lines : List Line) (s : State) → Reaches p outside from lines s → WellTyped p t s
-  well_on from w _ _ begins = w
-  well_on from w _ _ (moves {lines = lines} {s = s} {u = u} c before busy choice e) = subst (λ o. Keeps p t o) e (step_keeps p t wired typed c s (well_on from w lines s before) choice.name)
-  well_on from w _ _ (turns {lines = lines} {s = s} {u = u} heard before between well e) = subst (λ o. Keeps p t o) e (turn_goes_on p t outside wired typed heard s (well_on from w lines s before) between well)
+-- well typed, and what clients are at is kept
+abbrev pub WellKept : Image → Typing → State → Type 0
+WellKept p t s = WellTyped p t s × IsKept p s
 
-  module _ (from : State) (well : WellTyped p t from) (code : ℤ) (below : List Task) (entries items : List Item) where
+module _ (p : Image) (t : Typing) (outside : Outside) (wired : IsWired p) (typed : IsTyped p t) where
+  pub well_on : (from : State) → WellKept p t from → (lines : List Line) (s : State) → Reaches p outside from lines s → WellKept p t s
+  well_on from w _ _ begins = w
+  well_on from w _ _ (moves {lines = lines} {s = s} {u = u} c before busy choice e) =
+      let b = well_on from w lines s before in
+      (subst (λ o. Keeps p t o) e (step_keeps p t wired typed c s b.0 choice.name), clients_keep.moves p t wired typed c s u b.0 choice.name b.1 e)
+  well_on from w _ _ (turns {lines = lines} {s = s} {u = u} heard before between well e) =
+      let b = well_on from w lines s before in
+      (subst (λ o. Keeps p t o) e (turn_goes_on p t outside wired typed heard s b.0 between well b.1.fit), clients_keep.turns p t outside wired typed heard s u b.0 between well b.1 e)
+
+  module _ (from : State) (well : WellKept p t from) (code : ℤ) (below : List Task) (entries items : List Item) where
     abbrev Course : State → Type 0
     Course s = StillLeaves p code below entries items from s ⊎ HasArrived p outside code below entries items from s
 
@@ -69,6 +79,7 @@ module _ (p : Image) (t : Typing) (outside : Outside) (wired : IsWired p) (typed
         go : (ts : List Task) → s.tasks ≡ ts → IsOver p (length s.items) code below ts → Course u
         go (Run fr ∷ ts) at o = goes_on s u c w h (λ top. let clash : Run fr ∷ ts ≡ Unwind code ∷ below = sym at ∙ top in cc) e
         go (Destroy ∷ ts) at o = goes_on s u c w h (λ top. let clash : Destroy ∷ ts ≡ Unwind code ∷ below = sym at ∙ top in cc) e
+        go (Closing ∷ ts) at o = goes_on s u c w h (λ top. let clash : Closing ∷ ts ≡ Unwind code ∷ below = sym at ∙ top in cc) e
         go (Unwind x ∷ ts) at o = leave_moves s u c w h.dealt h.rest h.all h.course h.leaving (at ∙ ap (λ y. Unwind y ∷ ts) o.0 ∙ ap (λ l. Unwind code ∷ l) o.1) e
         go _ at o = absurd o
 
@@ -82,11 +93,11 @@ module _ (p : Image) (t : Typing) (outside : Outside) (wired : IsWired p) (typed
 
     course_of : IsLeaving p code below entries items from → (lines : List Line) (s : State) → Reaches p outside from lines s → Course s
     course_of l _ _ begins = inl (record { dealt = []; rest = entries; all = refl; course = leaves; leaving = l })
-    course_of l _ _ (moves {lines = lines} {s = s} {u = u} c before busy choice e) = moved_on lines s u c (well_on from well lines s before) busy choice e (course_of l lines s before)
+    course_of l _ _ (moves {lines = lines} {s = s} {u = u} c before busy choice e) = moved_on lines s u c (well_on from well lines s before).0 busy choice e (course_of l lines s before)
     course_of l _ _ (turns {lines = lines} {s = s} {u = u} heard before between hears e) = turned heard s u between hears e (course_of l lines s before)
 
 pub leaves_arrive : LeavesArrive
 leaves_arrive p t outside wired typed before s reached code below at =
-    let w = well_on p t outside wired typed (boot_state p) (boot_keeps p t wired typed) before s reached in
-    let found = splits p t s w code below at in
+    let w = well_on p t outside wired typed (boot_state p) (boot_keeps p t wired typed, clients_keep.boot p) before s reached in
+    let found = splits p t s w.0 code below at in
     (found.0, found.1, found.2.stack, found.2.plain, λ lines u r. course_of p t outside wired typed s w code below found.0 found.1 found.2 lines u r)

@@ -14,22 +14,24 @@ use Rattle.aom_shape.specs.Things.{field_thing}
 use Rattle.aom_rules.specs.Typing.{Typing}
 use Rattle.aom_shape.specs.declared.kind.Age.{Age}
 use Rattle.aom_shape.specs.declared.kind.Age.TheVariants.{Fresh, Ready}
-use Rattle.aom_shape.specs.declared.kind.Filling.TheVariants.{Perhaps}
+use Rattle.aom_shape.specs.declared.kind.Filling.TheVariants.{Full, Perhaps}
 use Rattle.aom_shape.specs.declared.kind.Kind.{Kind}
 use Rattle.aom_shape.specs.declared.kind.Kind.TheVariants.{Maybe, Null}
 use Rattle.std.specs.Prelude.{is_some}
 use Rattle.aom_sound.proofs.Claimed.{Outside, claim-set_register, claim_frame, claim_rel, claim_unnamed, fits_age, fits_weaker, outside_differs}
 use Rattle.aom_sound.proofs.Straight.{At, Fitted, Law, fits_unowning, fitted, free_register, relabel, settle, top, well, words_set}
 use Rattle.aom_sound.proofs.Things.{stands_itself}
-use Rattle.aom_sound.specs.Claims.{Dispatching, Dying, Layer, Mark, Method, Unwinding, claim, declared, declared_field, home_claim, tasks_of}
+use Rattle.aom_sound.specs.Claims.{Ending, Dispatching, Dying, Layer, Mark, Method, Unwinding, claim, declared, declared_field, home_claim, tasks_of}
 use Rattle.aom_sound.specs.Effects.{applied, makes_unless, sets}
 use Rattle.aom_sound.specs.Objects.{no_words}
-use Rattle.aom_sound.specs.Places.{Cell, Field, Object, Place, Register, Request, Sight, held, named, requested, same_place, seen, with_new}
-use Rattle.aom_sound.specs.State.{AtRoot, Choice, Frame, Home, Inside, State, Static, next, set_word, thing_holder, word}
-use Rattle.aom_sound.specs.WellTyped.{Back, Fits, HasAge, IsHoused, Returns, Stack, WellTyped, WordFits, seat_of}
+use Rattle.aom_sound.specs.Places.{Elsewhere, Session, Queued, service_of, unserved, Cell, Field, Object, Place, Register, Request, Sight, held, named, requested, same_place, seen, with_new}
+use Rattle.aom_sound.specs.State.{Dispatch, Seat, AtRoot, Choice, Frame, Home, Inside, State, Static, next, set_word, thing_holder, word}
+use Rattle.aom_sound.specs.WellTyped.{AllSit, SitsFirst, IsAttended, Back, Fits, HasAge, IsHoused, Returns, Stack, WellTyped, WordFits, seat_of}
 use Rattle.aom_sound.proofs.Seats.{NoFieldHere, first_kept, sits_kept}
 use Rattle.aom_sound.specs.Requests.{AllSuit, Suits, Unworked, states_claim, thing_kind, works_at}
 use Rattle.aom_sound.proofs.Suiting.{suits_new, unworked_rests}
+use Rattle.aom_sound.specs.Servers.{has_session, has_message, session_thing, message_thing}
+use Rattle.aom_sound.proofs.Services.{service_unnamed, attended_at, sits_lives}
 
 -- nothing but a new cell's fields is declared anew
 declared_new : (p : Image) (cs : List Cell) (n : ℕ) (x : Thing) (ws : List ℤ) (owner : Place) → named cs n ≡ None → (r : Place) → Weaker (declared p (with_new n x ws owner cs) r) (declared p cs r)
@@ -42,7 +44,26 @@ declared_new p cs n x ws owner e (Field m f) = go (n == m) refl
     go : (b : Bool) → (n == m) ≡ b → Weaker (declared_field p (cond b (Some (record { name = n; thing = x })) (named cs m)) f) (declared_field p (named cs m) f)
     go true h = subst (λ o. Weaker (filled (field_thing p (thing_holder x) f) Perhaps) (declared_field p o f)) (sym e ∙ ap (λ k. named cs k) (eqb-true n m h)) (null (field_thing p (thing_holder x) f))
     go false h = alike
+declared_new p cs n x ws owner e (Elsewhere (Session m c)) = go (n == m) refl
+  where
+    go : (b : Bool) → (n == m) ≡ b →
+        Weaker (cond (has_session (cond b unserved (service_of cs m)) c) (filled (session_thing p (cond b (Some (record { name = n; thing = x })) (named cs m))) Full) Null) (cond (has_session (service_of cs m) c) (filled (session_thing p (named cs m)) Full) Null)
+    go true h = subst (λ v. Weaker Null (cond (has_session v c) (filled (session_thing p (named cs m)) Full) Null)) (sym (service_unnamed cs m (ap (λ k. named cs k) (sym (eqb-true n m h)) ∙ e))) alike
+    go false h = alike
+declared_new p cs n x ws owner e (Elsewhere (Queued m k)) = go (n == m) refl
+  where
+    go : (b : Bool) → (n == m) ≡ b →
+        Weaker (cond (has_message (cond b unserved (service_of cs m)) k) (filled (message_thing p (cond b (Some (record { name = n; thing = x })) (named cs m))) Full) Null) (cond (has_message (service_of cs m) k) (filled (message_thing p (named cs m)) Full) Null)
+    go true h = subst (λ v. Weaker Null (cond (has_message v k) (filled (message_thing p (named cs m)) Full) Null)) (sym (service_unnamed cs m (ap (λ k. named cs k) (sym (eqb-true n m h)) ∙ e))) alike
+    go false h = alike
 declared_new p cs n x ws owner e _ = alike
+
+-- what clients have at what there was is as it was
+service_new : (cs : List Cell) (n : ℕ) (x : Thing) (ws : List ℤ) (owner : Place) (o : Object) → named cs n ≡ None → named cs o.name ≡ Some o → service_of (with_new n x ws owner cs) o.name ≡ service_of cs o.name
+service_new cs n x ws owner o e h = ap (λ b. cond b unserved (service_of cs o.name)) (ne_eqb n o.name (λ same. let e' : Some o ≡ None = sym h ∙ ap (λ k. named cs k) (sym same) ∙ e in cc))
+
+attended_new : (p : Image) (cs : List Cell) (n : ℕ) (x : Thing) (ws : List ℤ) (owner : Place) (d : Dispatch) (seats : List Seat) → named cs n ≡ None → AllSit cs seats → SitsFirst cs (seat_of d) seats → IsAttended p cs d → IsAttended p (with_new n x ws owner cs) d
+attended_new p cs n x ws owner d seats e sits first h = attended_at p cs (with_new n x ws owner cs) d (λ y there. service_new cs n x ws owner y.object e (sits_lives cs seats y sits (subst (λ o. SitsFirst cs o seats) there first))) h
 
 lives_new : (cs : List Cell) (n : ℕ) (x : Thing) (ws : List ℤ) (owner : Place) (o : Object) → named cs n ≡ None → named cs o.name ≡ Some o → named (with_new n x ws owner cs) o.name ≡ Some o
 lives_new cs n x ws owner o e h = ap (λ b. cond b (Some (record { name = n; thing = x })) (named cs o.name)) (ne_eqb n o.name (λ same. let e' : Some o ≡ None = sym h ∙ ap (λ k. named cs k) (sym same) ∙ e in cc)) ∙ h
@@ -66,6 +87,7 @@ stack_new p t cs n x ws f i (Dispatching d seats ∷ ls) back e out s = (
   s.1,
   sits_kept cs cs' q q seats (λ r o other other' there lives. (ap (λ b. cond b (Some (record { name = n; thing = x })) (held cs r)) other ∙ there, lives_new cs n x ws q o e lives)) tt tt s.2,
   first_kept cs cs' q (seat_of d) seats (λ r o other there lives some. ap (λ b. is_some (cond b None (requested cs o.name))) (ne_eqb n o.name (λ same. let e' : Some o ≡ None = sym lives ∙ ap (λ k. named cs k) (sym same) ∙ e in cc)) ∙ some) tt s.2 s.3,
+  attended_new p cs n x ws q d seats e s.2 s.3 s.4,
 )
   where
     q : Place
@@ -73,6 +95,12 @@ stack_new p t cs n x ws f i (Dispatching d seats ∷ ls) back e out s = (
 
     cs' : List Cell
     cs' = with_new n x ws (Register f i) cs
+stack_new p t cs n x ws f i (Ending o left ∷ ls) back e out s = (
+  record { server = s.0.server; lives = lives_new cs n x ws (Register f i) o e s.0.lives; listed = λ c h. ap (λ v. has_session v c) (service_new cs n x ws (Register f i) o e s.0.lives) ∙ s.0.listed c h },
+  s.1,
+  s.2,
+  stack_new p t cs n x ws f i ls _ e (omega arith) s.3,
+)
 stack_new p t cs n x ws f i (Unwinding code es ∷ ls) back e out s = (s.0, stack_new p t cs n x ws f i ls _ e (omega arith) s.1)
 stack_new p t cs n x ws f i (Dying o ∷ ls) back e out s = ((lives_new cs n x ws (Register f i) o e s.0.0, s.0.1), s.1, stack_new p t cs n x ws f i ls _ e (omega arith) s.2)
 
@@ -88,6 +116,7 @@ module _ (p : Image) (cs : List Cell) (o : Object) where
   unworked_unnamed t (Method fr sh ∷ ls) back s e = (unworked_home ls fr.home s.2 e, unworked_unnamed t ls _ s.4 e)
   unworked_unnamed t (Mark gv ∷ ls) back s e = unworked_unnamed t ls _ s.1 e
   unworked_unnamed t (Dying x ∷ ls) back s e = (ne_eqb x.name o.name (λ same. let l = s.0.0 in let clash : Some x ≡ None = sym l ∙ ap (λ m. named cs m) same ∙ e in cc), unworked_unnamed t ls _ s.2 e)
+  unworked_unnamed t (Ending x left ∷ ls) back s e = unworked_unnamed t ls _ s.3 e
   unworked_unnamed t (Unwinding code es ∷ ls) back s e = unworked_unnamed t ls _ s.1 e
   unworked_unnamed t (Dispatching d seats ∷ ls) back s e = subst (λ l. Unworked o.name l) (sym s.1) tt
 
@@ -109,7 +138,7 @@ create p t cs fr sh ls n x ws a k g e free new word = record {
   fits = fits;
   suits = suits;
   tidy = (free, e, g.tidy);
-  frames = record { words = words_set fr.words sh a None k g.frames.words word; holder = g.frames.holder; height = g.frames.height; alone = g.frames.alone };
+  frames = record { words = words_set fr.words sh a None k g.frames.words word; holder = g.frames.holder; height = g.frames.height; alone = g.frames.alone; message = g.frames.message };
   housed = holds_new p cs n x ws (top ls a) ls fr.home e (omega arith) (λ o from e. tt) g.housed;
   apart = g.apart;
   stack = stack_new p t cs n x ws (length (tasks_of ls)) a ls _ e (omega arith) g.stack;
@@ -136,7 +165,7 @@ create p t cs fr sh ls n x ws a k g e free new word = record {
     no_request = ap (λ b. cond b None (requested cs n)) (eq-eqb n n refl)
 
     fits : (r : Place) → Fits p (seen cs') (held cs' r) (claim p (declared p cs') (Method (next (set_word fr a None)) (set_register sh a k) ∷ ls) r)
-    fits r = subst (λ k. Fits p (seen cs') (held cs' r) k) (sym (claim_frame p (declared p cs') fr (next (set_word fr a None)) (set_register sh a k) ls r refl ∙ claim-set_register p (declared p cs') fr sh ls a k r)) (go (same_place (top ls a) r))
+    fits r = subst (λ k. Fits p (seen cs') (held cs' r) k) (sym (claim_frame p (declared p cs') fr (next (set_word fr a None)) (set_register sh a k) ls r refl refl ∙ claim-set_register p (declared p cs') fr sh ls a k r)) (go (same_place (top ls a) r))
       where
         go : (b : Bool) → Fits p (seen cs') (cond b (Some (record { name = n; thing = x })) (held cs r)) (cond b k (claim p (declared p cs') (Method fr sh ∷ ls) r))
         go true = new (seen cs') no_field no_request

@@ -1,6 +1,6 @@
 -- The last item of the cleanup stack is dealt with: its object is destroyed, or its operation runs, over the layers below it.
 use Rattle.std.proofs.Common.{Bool, List, None, Option, Some, [], ap, arith, cond, false, length, map, refl, subst, suc, sym, true, zero, ℕ, ℤ, ◌==◌, ◌∙◌, ◌∷◌, ◌≡◌, ◌≤◌}
-use Rattle.std.proofs.lemmas.Bool.{eqb-true}
+use Rattle.std.proofs.lemmas.Bool.{true≢false, eqb-true}
 use Rattle.std.specs.Prelude.{is_some}
 use Rattle.aom_image.specs.Image.{Image}
 use Rattle.aom_image.specs.Views.{method_class}
@@ -24,17 +24,19 @@ use Rattle.aom_sound.proofs.Destroying.{begin, goes_fitting, goes_there, no_goin
 use Rattle.aom_sound.proofs.Items.{length_forms}
 use Rattle.aom_sound.proofs.Maps.{held_lives, named_moved, same_place-true, same_place_refl, tidy_moved}
 use Rattle.aom_sound.proofs.Straight.{fits_unowning}
-use Rattle.aom_sound.specs.Claims.{Layer, Method, claim, declared, entry_claim, entry_form, forms, items_of, objects, tasks_of}
+use Rattle.aom_sound.specs.Claims.{serves, Layer, Method, claim, declared, entry_claim, entry_form, forms, items_of, objects, tasks_of}
 use Rattle.aom_sound.specs.Calls.{below_top}
 use Rattle.aom_sound.specs.Cleanup.{dealt_with, destroyed, operation_frame, top_is_whole, top_place, tops_entry}
 use Rattle.aom_sound.specs.Destruction.{begun}
 use Rattle.aom_sound.specs.Effects.{applied, deals as deals_effect}
 use Rattle.aom_sound.specs.Laws.{IsWired}
-use Rattle.aom_sound.specs.Places.{Elsewhere, Entry, Field, Going, Object, Place, Register, Root, Tidy, changed, held, moved, same_place, seen}
+use Rattle.aom_sound.specs.Places.{In_service, Elsewhere, Entry, Field, Going, Object, Place, Register, Root, Tidy, changed, held, moved, same_place, seen}
 use Rattle.aom_sound.specs.State.{An_object, An_operation, Frame, Item, Run, State, Static, Task, thing_holder, word}
-use Rattle.aom_sound.specs.WellTyped.{AllUndo, Fits, Gone, IsUndo, Returns, Stack, WellTyped, WordFits}
+use Rattle.aom_sound.specs.WellTyped.{IsServed, AllUndo, Fits, Gone, IsUndo, Returns, Stack, WellTyped, WordFits}
 use Rattle.aom_sound.proofs.Suiting.{all_moved}
 use Rattle.aom_sound.specs.Requests.{AllSuit}
+use Rattle.aom_sound.proofs.Attending.{plain_claim}
+use Rattle.aom_rules.specs.Requests.{is_service}
 
 -- without the last entry the layers claim nothing of its place, and else the same
 pub less_claims : (f g : Place → Kind) (q : Place) (k : Kind) → ((r : Place) → f r ≡ changed g q k r) → g q ≡ Null → (r : Place) → g r ≡ changed f q Null r
@@ -55,6 +57,7 @@ pub record Dealing (p : Image) (t : Typing) (s : State) (e : Pushed) (before bel
   pub undos : AllUndo p s.items
   -- below a destruction, and below an operation
   pub under_object : Stack p t s.cells Gone below
+  pub unserved : IsServed below → ⊥
   pub under_operation : (m : ℕ) → IsUndo p m → Stack p t s.cells (Returns m Static) below
 
 module _ (p : Image) (t : Typing) (wired : IsWired p) (typed : IsTyped p t) (s : State) (e : Pushed) (before below : List Layer) (d : Dealing p t s e before below) where
@@ -119,6 +122,7 @@ module _ (p : Image) (t : Typing) (wired : IsWired p) (typed : IsTyped p t) (s :
     runs_fitting height after says (Entry k) = subst (λ es. Fits p (seen s.cells) (held s.cells (Entry k)) (entry_claim es (items_of below) k (claim p (declared p s.cells) below (Entry k)))) (sym says.entries) (fits_below (Entry k))
     runs_fitting height after says (Field n f) = fits_below (Field n f)
     runs_fitting height after says (Elsewhere Root) = fits_below (Elsewhere Root)
+    runs_fitting height after says (Elsewhere In_service) = subst (λ k. Fits p (seen s.cells) (held s.cells (Elsewhere In_service)) k) (sym (plain_claim (serves p m) after (claim p (declared p s.cells) below (Elsewhere In_service)) (ap is_service undo.role))) (fits_below (Elsewhere In_service))
     runs_fitting height after says (Elsewhere w) = fits_below (Elsewhere w)
     runs_fitting height after says (Going k) = fits_below (Going k)
 
@@ -139,7 +143,7 @@ module _ (p : Image) (t : Typing) (wired : IsWired p) (typed : IsTyped p t) (s :
           good = record {
             stack = (
               leads.1,
-              record { words = λ i. word_fits_weaker (word fr i) (says.registers i) (subst (λ k. WordFits (word fr i) k) (sym (begins_with i)) (its_word i)); holder = sym holder; height = sym (length_forms items) ∙ ap length same; alone = λ e. tt },
+              record { words = λ i. word_fits_weaker (word fr i) (says.registers i) (subst (λ k. WordFits (word fr i) k) (sym (begins_with i)) (its_word i)); holder = sym holder; height = sym (length_forms items) ∙ ap length same; alone = λ e. tt; message = (λ e. absurd (true≢false (sym e ∙ ap is_service undo.role)), λ served. absurd (d.unserved served)) },
               tt,
               tt,
               d.under_operation m undo,

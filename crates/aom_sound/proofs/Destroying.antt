@@ -1,7 +1,7 @@
 -- Destruction begins: from a delete, and as an entry is unwound.
 use Rattle.std.proofs.Common.{Bool, List, None, Option, Some, [], ap, arith, cond, false, inl, inr, length, refl, subst, suc, sym, true, zero, ℕ, ⊎_elim, ◌&&◌, ◌==◌, ◌∙◌, ◌∷◌, ◌≡◌, ◌≤◌}
 use Rattle.std.proofs.lemmas.Bool.{cases_Bool, eq-eqb, eqb-true, ne_eqb, true≢false}
-use Rattle.std.specs.Prelude.{IsSome, is_none, map, replicate}
+use Rattle.std.specs.Prelude.{is_some, IsSome, is_none, map, replicate}
 use Rattle.aom_image.specs.Image.{Image}
 use Rattle.aom_image.specs.Views.{arguments_of, gives_of, is_quiet, leaves, method_at, method_class, method_role}
 use Rattle.aom_instructions.specs.declared.instr.Instr.TheVariants.{Delete}
@@ -19,7 +19,7 @@ use Rattle.aom_rules.specs.Typing.{IsTyped, Typing}
 use Rattle.aom_shape.specs.Arguments.{after_of, argument_kind, before_of, entry_fields, entry_shape}
 use Rattle.aom_shape.specs.declared.kind.Age.TheVariants.{Ready}
 use Rattle.aom_shape.specs.declared.kind.Filling.{Filling}
-use Rattle.aom_shape.specs.declared.kind.Filling.TheVariants.{Perhaps}
+use Rattle.aom_shape.specs.declared.kind.Filling.TheVariants.{Full, Perhaps}
 use Rattle.aom_shape.specs.declared.kind.Kind.{Kind}
 use Rattle.aom_shape.specs.declared.kind.Kind.TheVariants.{Maybe, Null, Own, Unset}
 use Rattle.aom_sound.proofs.Claimed.{no_seat_outside, Outside, claim-set_register, claim_frame, claim_going_above, claim_register_above, claim_unclaimed, declared_moved, going_differs, keep_fits, no_field_here, outside_differs, outside_less, stack_moved}
@@ -28,20 +28,25 @@ use Rattle.aom_sound.proofs.Seats.{NoFieldHere, NoSeatHere, no_seat}
 use Rattle.aom_sound.proofs.Maps.{held_lives, held_moved, named_moved, one_place, requested_moved, same_place-true, same_place_refl, tidy_moved}
 use Rattle.aom_sound.proofs.Straight.{At, Law, fits_unowning, fitted, housed_relocated, kind_fits, no_word, relabel, settle, top, well, words_set}
 use Rattle.aom_sound.proofs.Things.{stands_itself, stands_same}
-use Rattle.aom_sound.specs.Claims.{Dispatching, Dying, Layer, Mark, Method, Unwinding, claim, declared, declared_field, entry_claim, forms, home_claim, items_of, objects, tasks_of}
+use Rattle.aom_sound.specs.Claims.{Ending, by_close, serves, Dispatching, Dying, Layer, Mark, Method, Unwinding, claim, declared, declared_field, entry_claim, forms, home_claim, items_of, objects, tasks_of}
 use Rattle.aom_classes.specs.Roles.{destructor_of}
-use Rattle.aom_sound.specs.Destruction.{begun, begun_by}
+use Rattle.aom_sound.specs.Destruction.{destructed, begun, begun_by}
 use Rattle.aom_sound.specs.Laws.{IsWired}
 use Rattle.aom_sound.specs.Effects.{applied, deletes}
 use Rattle.aom_sound.specs.Objects.{is_no_message}
-use Rattle.aom_sound.specs.Places.{Cell, Elsewhere, Entry, Field, Going, Object, Place, Register, Root, Sight, Tidy, changed, held, moved, named, requested, same_place, seen, other_cell, Session}
-use Rattle.aom_sound.specs.State.{AtRoot, Choice, Frame, Home, Inside, Run, Seat, State, Static, frame_of, next, set_word, thing_holder, word}
-use Rattle.aom_sound.specs.WellTyped.{AllSit, NoSeatAt, NoSeatIn, SitsIn, SomeSits, AllUndo, Back, Caught, Fits, Gone, Good, IsBelow, IsHoused, IsNoFieldOf, Leaves, NoneIn, NotIn, Returns, SomeIn, Stack, Unclaimed, WellTyped, WordFits, WorksOn, SomeInAny, IsOther}
+use Rattle.aom_sound.specs.Places.{In_service, Queued, service_of, Cell, Elsewhere, Entry, Field, Going, Object, Place, Register, Root, Sight, Tidy, changed, held, moved, named, requested, same_place, seen, Session}
+use Rattle.aom_sound.specs.State.{Dispatch, Of_server, Parts, Closing, Destroy, AtRoot, Choice, Frame, Home, Inside, Run, Seat, State, Static, frame_of, next, set_word, thing_holder, word}
+use Rattle.aom_sound.specs.WellTyped.{SitsFirst, seat_of, IsOverDying, Now, AllSit, NoSeatAt, NoSeatIn, SitsIn, SomeSits, AllUndo, Back, Caught, Fits, Gone, Good, IsBelow, IsHoused, IsNoFieldOf, Leaves, NoneIn, NotIn, Returns, SomeIn, Stack, Unclaimed, WellTyped, WordFits, WorksOn}
 use Rattle.aom_roles.specs.Shapes.{kind_of}
 use Rattle.aom_sound.proofs.Suiting.{all_moved, known_plain, same_object, suits_less, unworked_rests}
 use Rattle.aom_sound.specs.Requests.{AllSuit, Known, Suits, Unworked, known_at, resting_in, states_claim, thing_kind, works_at}
-use Rattle.aom_rules.specs.Requests.{is_cancel}
+use Rattle.aom_rules.specs.Requests.{is_service, is_cancel}
 use Rattle.aom_roles.specs.States.{last_of, states_of}
+use Rattle.aom_sound.specs.Servers.{is_among, session_thing, is_server, session_class, of_class, has_session}
+use Rattle.aom_roles.specs.Classes.{sessions_in, sessions_of}
+use Rattle.aom_image.specs.declared.class.ClassKind.{ClassKind}
+use Rattle.aom_image.specs.declared.class.ClassKind.TheVariants.{Active as An_active}
+use Rattle.aom_sound.proofs.Attending.{plain_claim}
 
 -- no layer works on that cell, or claims anything of its fields but what is declared
 pub record Untouched (p : Image) (k : ℕ → Kind) (n : ℕ) (ls : List Layer) : Type 0 where
@@ -49,6 +54,12 @@ pub record Untouched (p : Image) (k : ℕ → Kind) (n : ℕ) (ls : List Layer) 
   pub unclaimed : Unclaimed p k n ls
   pub none_in : NoneIn n ls
   pub unworked : Unworked n ls
+  pub sessions : (d : Place → Kind) (c : ℕ) → claim p d ls (Elsewhere (Session n c)) ≡ d (Elsewhere (Session n c))
+
+-- a server whose sessions go first is the cell that goes below
+ending_apart : (x : Object) (n : ℕ) (ls : List Layer) → IsOverDying x ls → Unworked n ls → (x.name == n) ≡ false
+ending_apart x n (Dying y ∷ ls) same u = ap (λ (z : Object). z.name == n) (sym same) ∙ u.0
+ending_apart x n _ same u = absurd same
 
 pub eqb_comm : (a b : ℕ) → (a == b) ≡ (b == a)
 eqb_comm a b = elim (cases_Bool (a == b)) as (λ x. (a == b) ≡ (b == a)) [
@@ -70,11 +81,9 @@ module _ (p : Image) (t : Typing) (cs : List Cell) (q : Place) (o : Object) (tid
       not_in (Register f i) b = tt
       not_in (Entry j) b = tt
       not_in (Field m f) b = ne_eqb o.name m (λ e. u.some (subst (λ x. SomeIn x ls) (sym e) b))
-      not_in (Elsewhere w) b = go (other_cell w) b
-        where
-          go : (c : Option ℕ) → SomeInAny c ls → IsOther o.name c
-          go None b = tt
-          go (Some m) b = ne_eqb o.name m (λ e. u.some (subst (λ x. SomeIn x ls) (sym e) b))
+      not_in (Elsewhere Root) b = tt
+      not_in (Elsewhere (Session m c)) b = ne_eqb o.name m (λ e. u.some (subst (λ x. SomeIn x ls) (sym e) b))
+      not_in (Elsewhere w) b = absurd b
       not_in (Going j) b = tt
 
       of : (home : Home) → fr.home ≡ home → IsHoused p cs ls home → Result home
@@ -90,6 +99,7 @@ module _ (p : Image) (t : Typing) (cs : List Cell) (q : Place) (o : Object) (tid
         unclaimed = λ f. ap (λ x. home_claim p fr.home sh o.name f x) (u.unclaimed f) ∙ r.1 f;
         none_in = (r.2, u.none_in);
         unworked = (r.3, u.unworked);
+        sessions = u.sessions;
       }
 
   -- it does not sit, nor does any in its fields
@@ -108,21 +118,36 @@ module _ (p : Image) (t : Typing) (cs : List Cell) (q : Place) (o : Object) (tid
           let above = go xs h.1 s.1 in
           (λ some. ⊎_elim (λ same. true≢false (sym (eq-eqb x.object.name o.name same) ∙ other_name x.place x.object s.0.0 h.0)) above.0 some, (not_in xs x.place s.0.2 above.0, above.1))
 
+  -- the close of a session with what sits is none with it
+  close_apart : (w : Dispatch) (seats : List Seat) → SitsFirst cs (seat_of w) seats → (SomeSits o.name seats → ⊥) → (c : ℕ) (k : Kind) → by_close w o.name c k ≡ k
+  close_apart (Of_server x client Parts) seats first none c k = ap (λ b. cond (b && (client == c)) Null k) (ne_eqb x.object.name o.name (λ e. none (subst (λ xs. SomeSits o.name xs) (sym first.2) (inl e))))
+  close_apart _ seats first none c k = refl
+
   pub untouched : (k : ℕ → Kind) (ls : List Layer) (back : Back) → Outside q ls → Stack p t cs back ls → Untouched p k o.name ls
-  untouched k [] back out s = record { some = λ x. x; unclaimed = λ f. refl; none_in = tt; unworked = tt }
+  untouched k [] back out s = record { some = λ x. x; unclaimed = λ f. refl; none_in = tt; unworked = tt; sessions = λ d c. refl }
   untouched k (Method fr sh ∷ ls) back out s = untouched_method k fr sh ls (λ x from e. no_field_here q fr x from sh ls e out) (outside_less q (Method fr sh) ls out) s.2 (untouched k ls (Returns fr.method fr.home) (outside_less q (Method fr sh) ls out) s.4)
   untouched k (Mark gv ∷ ls) back out s =
       let u = untouched k ls (Caught gv) (outside_less q (Mark gv) ls out) s.1 in
-      record { some = u.some; unclaimed = u.unclaimed; none_in = u.none_in; unworked = u.unworked }
+      record { some = u.some; unclaimed = u.unclaimed; none_in = u.none_in; unworked = u.unworked; sessions = u.sessions }
   untouched k (Dying x ∷ ls) back out s =
       let u = untouched k ls Gone (outside_less q (Dying x) ls out) s.2 in
-      record { some = u.some; unclaimed = λ f. ap (λ y. cond (x.name == o.name) Null y) (u.unclaimed f) ∙ ap (λ b. cond b Null (k f)) (other_name (Going (length (tasks_of ls))) x s.0.1 (going_differs q x ls out)); none_in = u.none_in; unworked = (other_name (Going (length (tasks_of ls))) x s.0.1 (going_differs q x ls out), u.unworked) }
+      record { some = u.some; unclaimed = λ f. ap (λ y. cond (x.name == o.name) Null y) (u.unclaimed f) ∙ ap (λ b. cond b Null (k f)) (other_name (Going (length (tasks_of ls))) x s.0.1 (going_differs q x ls out)); none_in = u.none_in; unworked = (other_name (Going (length (tasks_of ls))) x s.0.1 (going_differs q x ls out), u.unworked); sessions = λ d c. ap (λ b. cond b Null (claim p d ls (Elsewhere (Session o.name c)))) (other_name (Going (length (tasks_of ls))) x s.0.1 (going_differs q x ls out)) ∙ u.sessions d c }
   untouched k (Dispatching w seats ∷ ls) back out s =
       let h = unseated seats (no_seat_outside q w seats ls out) s.2 in
-      subst (λ l. Untouched p k o.name (Dispatching w seats ∷ l)) (sym s.1) (record { some = λ x. ⊎_elim h.0 (λ y. y) x; unclaimed = λ f. refl; none_in = (h.1, tt); unworked = tt })
+      subst (λ l. Untouched p k o.name (Dispatching w seats ∷ l)) (sym s.1) (record { some = λ x. ⊎_elim h.0 (λ y. y) x; unclaimed = λ f. refl; none_in = (h.1, tt); unworked = tt; sessions = λ d c. close_apart w seats s.3 h.0 c (d (Elsewhere (Session o.name c))) })
+  untouched k (Ending x left ∷ ls) back out s =
+      let u = untouched k ls Now (outside_less q (Ending x left) ls out) s.3 in
+      let apart = ending_apart x o.name ls s.2 u.unworked in
+      record {
+        some = u.some;
+        unclaimed = λ f. ap (λ y. cond (x.name == o.name) (filled (field_thing p (thing_holder x.thing) f) Perhaps) y) (u.unclaimed f) ∙ ap (λ b. cond b (filled (field_thing p (thing_holder x.thing) f) Perhaps) (k f)) apart;
+        none_in = u.none_in;
+        unworked = u.unworked;
+        sessions = λ d c. ap (λ b. cond b (cond (is_among c left) (filled (session_thing p (Some x)) Full) Null) (claim p d ls (Elsewhere (Session o.name c)))) apart ∙ u.sessions d c;
+      }
   untouched k (Unwinding code es ∷ ls) back out s =
       let u = untouched k ls Leaves (outside_less q (Unwinding code es) ls out) s.1 in
-      record { some = u.some; unclaimed = u.unclaimed; none_in = u.none_in; unworked = u.unworked }
+      record { some = u.some; unclaimed = u.unclaimed; none_in = u.none_in; unworked = u.unworked; sessions = u.sessions }
 
 -- what the link has found of a thing's destructor
 pub record Destroys (p : Image) (x : Thing) (m : ℕ) : Type 0 where
@@ -187,8 +212,19 @@ unset_only alike = refl
 pub perhaps_only : {x : Filling} → WeakerFilling x Perhaps → x ≡ Perhaps
 perhaps_only alike_filling = refl
 
+-- and with no session of its own any more
+abbrev pub Bare : Image → List Cell → Object → List Layer → Place → Kind
+Bare p cs o ls (Register f i) = Dies p cs o ls (Register f i)
+Bare p cs o ls (Entry k) = Dies p cs o ls (Entry k)
+Bare p cs o ls (Field n f) = Dies p cs o ls (Field n f)
+Bare p cs o ls (Going k) = Dies p cs o ls (Going k)
+Bare p cs o ls (Elsewhere Root) = Dies p cs o ls (Elsewhere Root)
+Bare p cs o ls (Elsewhere (Session m c)) = cond (o.name == m) Null (claim p (declared p cs) ls (Elsewhere (Session m c)))
+Bare p cs o ls (Elsewhere In_service) = Dies p cs o ls (Elsewhere In_service)
+Bare p cs o ls (Elsewhere (Queued m k)) = Dies p cs o ls (Elsewhere (Queued m k))
+
 module _ (p : Image) (t : Typing) (linked : IsWired p) (typed : IsTyped p t) (cs : List Cell) (o : Object) (ls : List Layer)
-    (fits : (r : Place) → Fits p (seen cs) (held cs r) (Dies p cs o ls r))
+    (fits : (r : Place) → Fits p (seen cs) (held cs r) (Bare p cs o ls r))
     (tidy : Tidy cs)
     (stack : Stack p t cs Gone ls)
     (there : held cs (Going (length (tasks_of ls))) ≡ Some o)
@@ -233,7 +269,8 @@ module _ (p : Image) (t : Typing) (linked : IsWired p) (typed : IsTyped p t) (cs
       go true e = subst (λ x. Fits p (seen cs) (held cs (Field n f)) (filled (field_thing p (thing_holder o.thing) f) x)) (sym (perhaps_only (subst (λ x. WeakerFilling (field after f) x) (destruct_fields p m is.role f) (w.fields f)))) (fields_fit n f e)
       go false e = fits (Field n f)
   clothed m height after is w (Elsewhere Root) = fits (Elsewhere Root)
-  clothed m height after is w (Elsewhere o) = fits (Elsewhere o)
+  clothed m height after is w (Elsewhere In_service) = subst (λ k. Fits p (seen cs) (held cs (Elsewhere In_service)) k) (sym (plain_claim (serves p m) after (claim p (declared p cs) ls (Elsewhere In_service)) (ap is_service is.role))) (fits (Elsewhere In_service))
+  clothed m height after is w (Elsewhere w') = fits (Elsewhere w')
   clothed m height after is w (Going k) = subst (λ b. Fits p (seen cs) (held cs (Going k)) (cond b (Own o.thing Ready) (claim p (declared p cs) ls (Going k)))) (tail (length (tasks_of ls) == k)) (fits (Going k))
     where
       tail : (b : Bool) → (b && true) ≡ b
@@ -244,13 +281,13 @@ module _ (p : Image) (t : Typing) (linked : IsWired p) (typed : IsTyped p t) (cs
   rested : Suits (thing_kind p o.thing) (resting_in (states_of (thing_kind p o.thing))) (requested cs o.name)
   rested = subst (λ k. Suits (thing_kind p o.thing) k (requested cs o.name)) (unworked_rests p o ls apart.unworked) (suits o lives)
 
-  bare_suits : destructor_of p o.thing ≡ None → AllSuit p cs (Dying o ∷ ls)
-  bare_suits none x there = at_name (o.name == x.name) refl
+  bare_suits : last_of (thing_kind p o.thing) ≡ states_of (thing_kind p o.thing) → AllSuit p cs (Dying o ∷ ls)
+  bare_suits last x there = at_name (o.name == x.name) refl
     where
       at_name : (b : Bool) → (o.name == x.name) ≡ b → Suits (thing_kind p x.thing) (cond b (resting_in (last_of (thing_kind p x.thing))) (states_claim p x ls)) (requested cs x.name)
       at_name true e =
           subst (λ y. Suits (thing_kind p y.thing) (resting_in (last_of (thing_kind p y.thing))) (requested cs y.name)) (same_object cs o x lives there e)
-          (subst (λ n. Suits (thing_kind p o.thing) (resting_in n) (requested cs o.name)) (sym (undestructed p linked o.thing none)) rested)
+          (subst (λ n. Suits (thing_kind p o.thing) (resting_in n) (requested cs o.name)) (sym last) rested)
       at_name false e = suits x there
 
   clothed_suits : (m height : ℕ) (after : Shape) → Destroys p o.thing m → SaysNoMore after (entry_shape p m) → AllSuit p cs (Method (frame_of m (Inside o (Going (length (tasks_of ls)))) height) after ∷ Dying o ∷ ls)
@@ -269,9 +306,9 @@ module _ (p : Image) (t : Typing) (linked : IsWired p) (typed : IsTyped p t) (cs
           (suits_less (thing_kind p o.thing) after.states (before_of p m) false (requested cs o.name) w.states (subst (λ n. Suits (thing_kind p o.thing) (resting_in n) (requested cs o.name)) (sym is.begins) rested)))
       at_name false e = suits x there
 
-  -- so a destruction begins
-  pub begin : (s : State) (height : ℕ) → height ≡ length (items_of ls) → s.cells ≡ cs → s.tasks ≡ begun p o height (tasks_of ls) → forms s.items ≡ items_of ls → AllUndo p s.items → WellTyped p t s
-  begin s height high cells tasks items undos = go (destructor_of p o.thing) refl tasks
+  -- so a destructor begins
+  pub destruct : (s : State) (height : ℕ) → height ≡ length (items_of ls) → s.cells ≡ cs → s.tasks ≡ destructed p o height (tasks_of ls) → forms s.items ≡ items_of ls → AllUndo p s.items → WellTyped p t s
+  destruct s height high cells tasks items undos = go (destructor_of p o.thing) refl tasks
     where
       go : (d : Option ℕ) → destructor_of p o.thing ≡ d → s.tasks ≡ begun_by d o height (tasks_of ls) → WellTyped p t s
       go None e tasks = record {
@@ -279,7 +316,7 @@ module _ (p : Image) (t : Typing) (linked : IsWired p) (typed : IsTyped p t) (cs
         tasks = tasks;
         items = items;
         undos = undos;
-        good = subst (λ cs. Good p t cs (Dying o ∷ ls)) (sym cells) (record { stack = ((lives, there), tt, stack); fits = bare e; suits = bare_suits e; tidy = tidy });
+        good = subst (λ cs. Good p t cs (Dying o ∷ ls)) (sym cells) (record { stack = ((lives, there), tt, stack); fits = bare e; suits = bare_suits (undestructed p linked o.thing e); tidy = tidy });
       }
       go (Some m) e tasks =
           let d = destroys p linked o.thing m e in
@@ -289,7 +326,7 @@ module _ (p : Image) (t : Typing) (linked : IsWired p) (typed : IsTyped p t) (cs
           let good : Good p t cs (Method fr leads.0 ∷ Dying o ∷ ls) = record {
             stack = (
               leads.1,
-              record { words = λ i. subst (λ k. WordFits None k) (sym (unset_only (subst (λ k. Weaker (register leads.0 i) k) (entry_registers p m d.arguments i) (w.registers i)))) tt; holder = sym d.holder; height = high; alone = λ e. absurd (true≢false (sym e ∙ ap is_cancel d.role)) },
+              record { words = λ i. subst (λ k. WordFits None k) (sym (unset_only (subst (λ k. Weaker (register leads.0 i) k) (entry_registers p m d.arguments i) (w.registers i)))) tt; holder = sym d.holder; height = high; alone = λ e. absurd (true≢false (sym e ∙ ap is_cancel d.role)); message = (λ e. absurd (true≢false (sym e ∙ ap is_service d.role)), λ served. absurd served) },
               record { there = there; lives = lives; below = omega arith; ready = ap (λ b. is_ready_kind (cond b (Own o.thing Ready) (claim p (λ x. Null) ls (Going (length (tasks_of ls)))))) (eq-eqb (length (tasks_of ls)) _ refl) },
               (tt, apart.none_in, apart.unclaimed, apart.unworked),
               ((lives, there), (d.stays, refl, ap is_destruct d.role, d.gives, d.ends, d.quiet), stack),
@@ -305,6 +342,108 @@ module _ (p : Image) (t : Typing) (linked : IsWired p) (typed : IsTyped p t) (cs
             undos = undos;
             good = subst (λ cs. Good p t cs (Method fr leads.0 ∷ Dying o ∷ ls)) (sym cells) good;
           }
+
+-- the objects of a server's class may rest as they go
+pub server_last : (k : Option ClassKind) → is_some (sessions_in k) ≡ true → last_of k ≡ states_of k
+unfolding last_of states_of sessions_in sessions_of
+server_last (Some (An_active provider budget)) e = cc
+server_last _ e = refl
+
+module _ (p : Image) (t : Typing) (linked : IsWired p) (typed : IsTyped p t) (cs : List Cell) (o : Object) (ls : List Layer)
+    (fits : (r : Place) → Fits p (seen cs) (held cs r) (Dies p cs o ls r))
+    (tidy : Tidy cs)
+    (stack : Stack p t cs Gone ls)
+    (there : held cs (Going (length (tasks_of ls))) ≡ Some o)
+    (lives : named cs o.name ≡ Some o)
+    (apart : Untouched p (λ f. filled (field_thing p (thing_holder o.thing) f) Perhaps) o.name ls)
+    (suits : AllSuit p cs ls) where
+  -- what its clients have is a session each
+  sessions_fit : (c : ℕ) → Fits p (seen cs) (held cs (Elsewhere (Session o.name c))) (cond (has_session (service_of cs o.name) c) (filled (session_thing p (Some o)) Full) Null)
+  sessions_fit c =
+      subst (λ k. Fits p (seen cs) (held cs (Elsewhere (Session o.name c))) k)
+      (apart.sessions (declared p cs) c ∙ ap (λ x. cond (has_session (service_of cs o.name) c) (filled (session_thing p x) Full) Null) lives)
+      (fits (Elsewhere (Session o.name c)))
+
+  -- what is no server has none
+  none_at : is_server p o.thing ≡ false → (c : ℕ) → Fits p (seen cs) (held cs (Elsewhere (Session o.name c))) Null
+  none_at plain c = go (session_class p o.thing) plain (has_session (service_of cs o.name) c) (sessions_fit c)
+    where
+      go : (x : Option ℕ) → is_some x ≡ false → (b : Bool) → Fits p (seen cs) (held cs (Elsewhere (Session o.name c))) (cond b (filled (of_class x) Full) Null) → Fits p (seen cs) (held cs (Elsewhere (Session o.name c))) Null
+      go None e true h = h
+      go None e false h = h
+      go (Some k) e b h = cc
+
+  bare_fits : is_server p o.thing ≡ false → (r : Place) → Fits p (seen cs) (held cs r) (Bare p cs o ls r)
+  bare_fits plain (Elsewhere (Session m c)) = go (o.name == m) refl
+    where
+      go : (b : Bool) → (o.name == m) ≡ b → Fits p (seen cs) (held cs (Elsewhere (Session m c))) (cond b Null (claim p (declared p cs) ls (Elsewhere (Session m c))))
+      go true e = subst (λ n. Fits p (seen cs) (held cs (Elsewhere (Session n c))) Null) (eqb-true o.name m e) (none_at plain c)
+      go false e = fits (Elsewhere (Session m c))
+  bare_fits plain (Register f i) = fits (Register f i)
+  bare_fits plain (Entry k) = fits (Entry k)
+  bare_fits plain (Field n f) = fits (Field n f)
+  bare_fits plain (Going k) = fits (Going k)
+  bare_fits plain (Elsewhere Root) = fits (Elsewhere Root)
+  bare_fits plain (Elsewhere In_service) = fits (Elsewhere In_service)
+  bare_fits plain (Elsewhere (Queued m k)) = fits (Elsewhere (Queued m k))
+
+  -- all of them are left
+  ending_fits : (r : Place) → Fits p (seen cs) (held cs r) (claim p (declared p cs) (Ending o (service_of cs o.name).sessions ∷ Dying o ∷ ls) r)
+  ending_fits (Register f i) = fits (Register f i)
+  ending_fits (Entry k) = fits (Entry k)
+  ending_fits (Field n f) = go (o.name == n) refl
+    where
+      claims : claim p (declared p cs) ls (Field o.name f) ≡ filled (field_thing p (thing_holder o.thing) f) Perhaps
+      claims = claim_unclaimed p (declared p cs) ls o.name f (λ f. filled (field_thing p (thing_holder o.thing) f) Perhaps) apart.unclaimed (ap (λ x. declared_field p x f) lives)
+
+      go : (b : Bool) → (o.name == n) ≡ b → Fits p (seen cs) (held cs (Field n f)) (cond b (filled (field_thing p (thing_holder o.thing) f) Perhaps) (cond b Null (claim p (declared p cs) ls (Field n f))))
+      go true e = subst (λ m. Fits p (seen cs) (held cs (Field m f)) (filled (field_thing p (thing_holder o.thing) f) Perhaps)) (eqb-true o.name n e) (subst (λ k. Fits p (seen cs) (held cs (Field o.name f)) k) claims (fits (Field o.name f)))
+      go false e = fits (Field n f)
+  ending_fits (Elsewhere Root) = fits (Elsewhere Root)
+  ending_fits (Elsewhere (Session m c)) = go (o.name == m) refl
+    where
+      go : (b : Bool) → (o.name == m) ≡ b → Fits p (seen cs) (held cs (Elsewhere (Session m c))) (cond b (cond (has_session (service_of cs o.name) c) (filled (session_thing p (Some o)) Full) Null) (cond b Null (claim p (declared p cs) ls (Elsewhere (Session m c)))))
+      go true e = subst (λ n. Fits p (seen cs) (held cs (Elsewhere (Session n c))) (cond (has_session (service_of cs o.name) c) (filled (session_thing p (Some o)) Full) Null)) (eqb-true o.name m e) (sessions_fit c)
+      go false e = fits (Elsewhere (Session m c))
+  ending_fits (Elsewhere In_service) = fits (Elsewhere In_service)
+  ending_fits (Elsewhere (Queued m k)) = fits (Elsewhere (Queued m k))
+  ending_fits (Going k) = subst (λ b. Fits p (seen cs) (held cs (Going k)) (cond b (Own o.thing Ready) (claim p (declared p cs) ls (Going k)))) (tail (length (tasks_of ls) == k)) (fits (Going k))
+    where
+      tail : (b : Bool) → (b && true) ≡ b
+      tail true = refl
+      tail false = refl
+
+  -- so a destruction begins
+  pub begin : (s : State) (height : ℕ) → height ≡ length (items_of ls) → s.cells ≡ cs → s.tasks ≡ begun p o height (tasks_of ls) → forms s.items ≡ items_of ls → AllUndo p s.items → WellTyped p t s
+  begin s height high cells tasks items undos = go (is_server p o.thing) refl tasks
+    where
+      left : List ℕ
+      left = (service_of cs o.name).sessions
+
+      rests : is_server p o.thing ≡ true → AllSuit p cs (Dying o ∷ ls)
+      rests server x lives' = at_name (o.name == x.name) refl
+        where
+          at_name : (b : Bool) → (o.name == x.name) ≡ b → Suits (thing_kind p x.thing) (cond b (resting_in (last_of (thing_kind p x.thing))) (states_claim p x ls)) (requested cs x.name)
+          at_name true e =
+              subst (λ y. Suits (thing_kind p y.thing) (resting_in (last_of (thing_kind p y.thing))) (requested cs y.name)) (same_object cs o x lives lives' e)
+              (subst (λ n. Suits (thing_kind p o.thing) (resting_in n) (requested cs o.name)) (sym (server_last (thing_kind p o.thing) server))
+              (subst (λ k. Suits (thing_kind p o.thing) k (requested cs o.name)) (unworked_rests p o ls apart.unworked) (suits o lives)))
+          at_name false e = suits x lives'
+
+      go : (b : Bool) → is_server p o.thing ≡ b → s.tasks ≡ cond b (Closing ∷ Destroy ∷ tasks_of ls) (destructed p o height (tasks_of ls)) → WellTyped p t s
+      go false plain tasks = destruct p t linked typed cs o ls (bare_fits plain) tidy stack there lives apart suits s height high cells tasks items undos
+      go true server tasks = record {
+        layers = Ending o left ∷ Dying o ∷ ls;
+        tasks = tasks;
+        items = items;
+        undos = undos;
+        good = subst (λ cs'. Good p t cs' (Ending o left ∷ Dying o ∷ ls)) (sym cells) (record {
+          stack = (record { server = server; lives = lives; listed = λ c h. h }, tt, refl, ((lives, there), tt, stack));
+          fits = ending_fits;
+          suits = rests server;
+          tidy = tidy;
+        });
+      }
 
 -- a thing goes from q to the place of its destruction
 module _ (p : Image) (t : Typing) (cs : List Cell) (o : Object) (q : Place) (ls ls' : List Layer)
@@ -366,7 +505,7 @@ module _ (p : Image) (t : Typing) (c : Choice) (s : State) (fr : Frame) (sh : Sh
       words = words_set fr.words sh a None Null at_hand.good.stack.1.words refl
 
       claims : (r : Place) → claim p (declared p cs) (Method fr' sh' ∷ ls) r ≡ changed (claim p (declared p cs) (Method fr sh ∷ ls)) (top ls a) Null r
-      claims r = claim_frame p (declared p cs) fr fr' sh' ls r refl ∙ claim-set_register p (declared p cs) fr sh ls a Null r
+      claims r = claim_frame p (declared p cs) fr fr' sh' ls r refl refl ∙ claim-set_register p (declared p cs) fr sh ls a Null r
 
       go : (x : Option Object) → held s.cells (top ls a) ≡ x → WellTyped p t (applied p fr (tasks_of ls) s (deletes fr x a))
       go None e = well p t c s fr sh ls at_hand (applied p fr (tasks_of ls) s (deletes fr None a)) (next fr') sh' refl at_hand.items at_hand.undos
@@ -382,7 +521,7 @@ module _ (p : Image) (t : Typing) (c : Choice) (s : State) (fr : Frame) (sh : Sh
           begin p t linked typed (moved q g cs) o below
           (goes_fitting p t cs o q before below at_hand.good.fits e (omega arith) claims)
           (tidy_moved cs q g free at_hand.good.tidy)
-          (leads.0, record { words = words; holder = at_hand.good.stack.1.holder; height = at_hand.good.stack.1.height; alone = at_hand.good.stack.1.alone }, housed, at_hand.good.stack.3, stack_moved p t cs q g ls _ free (omega arith) (omega arith) at_hand.good.stack.4)
+          (leads.0, record { words = words; holder = at_hand.good.stack.1.holder; height = at_hand.good.stack.1.height; alone = at_hand.good.stack.1.alone; message = at_hand.good.stack.1.message }, housed, at_hand.good.stack.3, stack_moved p t cs q g ls _ free (omega arith) (omega arith) at_hand.good.stack.4)
           (goes_there p t cs o q before below at_hand.good.fits e (omega arith) claims)
           (named_moved cs q g o.name ∙ held_lives cs q o at_hand.good.tidy e)
           (untouched_method p t cs q o at_hand.good.tidy e k fr' sh' ls (λ x from e. tt) (omega arith) at_hand.good.stack.2 (untouched p t cs q o at_hand.good.tidy e k ls _ (omega arith) at_hand.good.stack.4))

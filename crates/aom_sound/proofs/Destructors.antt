@@ -9,7 +9,7 @@ use Rattle.aom_image.specs.declared.method.Thing.{Thing}
 use Rattle.aom_image.specs.declared.method.Thing.TheVariants.{Message, Object as An_object_of}
 use Rattle.aom_shape.specs.Kinds.{all_empty, field, filled, is_empty, no_entry, none_owns, register}
 use Rattle.aom_rules.specs.Calls.{fields_done, is_destruct, result_moved}
-use Rattle.aom_rules.specs.Requests.{is_cancel}
+use Rattle.aom_rules.specs.Requests.{is_service, is_cancel}
 use Rattle.aom_image.specs.declared.method.Role.{Role}
 use Rattle.aom_image.specs.declared.method.Role.TheVariants.{Destruct}
 use Rattle.aom_shape.specs.Needs.{AllTrue}
@@ -22,17 +22,18 @@ use Rattle.aom_shape.specs.declared.kind.Filling.TheVariants.{Empty, Perhaps}
 use Rattle.aom_shape.specs.declared.kind.Kind.TheVariants.{Null}
 use Rattle.aom_sound.proofs.Claimed.{claim_register_above}
 use Rattle.aom_sound.proofs.Finishing.{ended_plainly, no_entries, none_left, none_owns_at, return_needs, returnable, same_items}
-use Rattle.aom_sound.proofs.Going.{no_fields, nothing_in}
+use Rattle.aom_sound.proofs.Going.{nothing_left}
 use Rattle.aom_sound.proofs.Straight.{At, Law, fits_unowning}
 use Rattle.aom_sound.specs.Calls.{is_emptied, result_needs}
-use Rattle.aom_sound.specs.Claims.{Dying, Layer, claim, declared, entry_claim, home_claim, items_of, root_claim, tasks_of}
-use Rattle.aom_sound.specs.Places.{Elsewhere, Entry, Field, Going, Object, Place, Register, Root, held, requested, seen}
+use Rattle.aom_sound.specs.Claims.{serves, Dying, Layer, claim, declared, entry_claim, home_claim, items_of, root_claim, tasks_of}
+use Rattle.aom_sound.specs.Places.{In_service, Elsewhere, Entry, Field, Going, Object, Place, Register, Root, held, requested, seen}
 use Rattle.aom_sound.specs.State.{Choice, Frame, Inside, State, home_holder, thing_holder}
 use Rattle.aom_sound.specs.WellTyped.{Fits, Good}
 use Rattle.aom_shape.specs.Arguments.{after_of}
 use Rattle.aom_roles.specs.States.{last_of}
 use Rattle.aom_sound.specs.Requests.{AllSuit, Known, Suits, known_at, resting_in, states_claim, thing_kind, works_at}
 use Rattle.aom_sound.proofs.Suiting.{known_plain, same_object, suits_less}
+use Rattle.aom_sound.proofs.Attending.{plain_claim}
 
 empty_at : (ts : List Thing) (xs : List Filling) (f : ℕ) (y : Thing) → all_empty ts xs ≡ true → slice_get ts f ≡ Some y → is_empty (at Perhaps xs f) ≡ true
 empty_at [] xs f y e h = let clash : slice_get {X = Thing} [] f ≡ Some y = h in cc
@@ -58,21 +59,22 @@ module _ (p : Image) (t : Typing) (c : Choice) (s : State) (fr : Frame) (sh : Sh
           empty Empty e h = h
           empty _ e h = cc
 
-  fits_dying : fr.home ≡ Inside o (Going (length (tasks_of ls))) → no_entry sh.entries ≡ true → none_owns sh.registers ≡ true → fields_done p true (thing_holder o.thing) sh.fields ≡ true → (r : Place) → Fits p (seen s.cells) (held s.cells r) (claim p (declared p s.cells) (Dying o ∷ ls) r)
-  fits_dying eh e n done (Register f i) = go (length (tasks_of (Dying o ∷ ls)) == f) refl (at_hand.good.fits (Register f i))
+  fits_dying : is_service (method_role p fr.method) ≡ false → fr.home ≡ Inside o (Going (length (tasks_of ls))) → no_entry sh.entries ≡ true → none_owns sh.registers ≡ true → fields_done p true (thing_holder o.thing) sh.fields ≡ true → (r : Place) → Fits p (seen s.cells) (held s.cells r) (claim p (declared p s.cells) (Dying o ∷ ls) r)
+  fits_dying plain eh e n done (Register f i) = go (length (tasks_of (Dying o ∷ ls)) == f) refl (at_hand.good.fits (Register f i))
     where
       go : (b : Bool) → (length (tasks_of (Dying o ∷ ls)) == f) ≡ b → Fits p (seen s.cells) (held s.cells (Register f i)) (cond b (register sh i) (claim p (declared p s.cells) ls (Register f i))) → Fits p (seen s.cells) (held s.cells (Register f i)) (claim p (declared p s.cells) ls (Register f i))
       go true e h = subst (λ k. Fits p (seen s.cells) (held s.cells (Register f i)) k) (sym (claim_register_above p s.cells ls f i (omega (arith, eqb-true _ _ e)))) (subst (λ x. Fits p (seen s.cells) x Null) (sym (fits_unowning p (seen s.cells) _ (register sh i) (none_owns_at sh.registers i n) h)) tt)
       go false e h = h
-  fits_dying eh e n done (Entry k) = subst (λ es. Fits p (seen s.cells) (held s.cells (Entry k)) (entry_claim es (items_of ls) k (claim p (declared p s.cells) ls (Entry k)))) (no_entries sh.entries e) (at_hand.good.fits (Entry k))
-  fits_dying eh e n done (Field m f) = go (o.name == m) (subst (λ h. Fits p (seen s.cells) (held s.cells (Field m f)) (home_claim p h sh m f (cond (o.name == m) Null (claim p (declared p s.cells) ls (Field m f))))) eh (at_hand.good.fits (Field m f)))
+  fits_dying plain eh e n done (Entry k) = subst (λ es. Fits p (seen s.cells) (held s.cells (Entry k)) (entry_claim es (items_of ls) k (claim p (declared p s.cells) ls (Entry k)))) (no_entries sh.entries e) (at_hand.good.fits (Entry k))
+  fits_dying plain eh e n done (Field m f) = go (o.name == m) (subst (λ h. Fits p (seen s.cells) (held s.cells (Field m f)) (home_claim p h sh m f (cond (o.name == m) Null (claim p (declared p s.cells) ls (Field m f))))) eh (at_hand.good.fits (Field m f)))
     where
       go : (b : Bool) → Fits p (seen s.cells) (held s.cells (Field m f)) (cond b (filled (field_thing p (thing_holder o.thing) f) (field sh f)) (cond b Null (claim p (declared p s.cells) ls (Field m f)))) → Fits p (seen s.cells) (held s.cells (Field m f)) (cond b Null (claim p (declared p s.cells) ls (Field m f)))
       go true h = null_field f (held s.cells (Field m f)) done h
       go false h = h
-  fits_dying eh e n done (Elsewhere Root) = subst (λ h. Fits p (seen s.cells) (held s.cells (Elsewhere Root)) (root_claim p h sh (claim p (declared p s.cells) ls (Elsewhere Root)))) eh (at_hand.good.fits (Elsewhere Root))
-  fits_dying eh e n done (Elsewhere w) = at_hand.good.fits (Elsewhere w)
-  fits_dying eh e n done (Going k) = at_hand.good.fits (Going k)
+  fits_dying plain eh e n done (Elsewhere Root) = subst (λ h. Fits p (seen s.cells) (held s.cells (Elsewhere Root)) (root_claim p h sh (claim p (declared p s.cells) ls (Elsewhere Root)))) eh (at_hand.good.fits (Elsewhere Root))
+  fits_dying plain eh e n done (Elsewhere In_service) = subst (λ k. Fits p (seen s.cells) (held s.cells (Elsewhere In_service)) k) (plain_claim (serves p fr.method) sh (claim p (declared p s.cells) (Dying o ∷ ls) (Elsewhere In_service)) plain) (at_hand.good.fits (Elsewhere In_service))
+  fits_dying plain eh e n done (Elsewhere w) = at_hand.good.fits (Elsewhere w)
+  fits_dying plain eh e n done (Going k) = at_hand.good.fits (Going k)
 
   -- the object is in a state in which it may go
   suits_dying : fr.home ≡ Inside o (Going (length (tasks_of ls))) → is_cancel (method_role p fr.method) ≡ false → after_of p fr.method ≡ last_of (thing_kind p o.thing) → IsTrue (has (after_of p fr.method) sh.states) → AllSuit p s.cells (Dying o ∷ ls)
@@ -93,6 +95,10 @@ module _ (p : Image) (t : Typing) (c : Choice) (s : State) (fr : Frame) (sh : Sh
   destructs_only (Some Destruct) e = refl
   destructs_only _ e = cc
 
+  destructs_plainly : (r : Option Role) → is_destruct r ≡ true → is_service r ≡ false
+  destructs_plainly (Some Destruct) e = refl
+  destructs_plainly _ e = cc
+
   pub law_destructor : (a : ℕ) → Law p t c s fr sh (Dying o ∷ ls) at_hand (Return a)
   law_destructor a n leads =
       let r = returnable p fr sh a n in
@@ -104,12 +110,12 @@ module _ (p : Image) (t : Typing) (c : Choice) (s : State) (fr : Frame) (sh : Sh
       let plain = destructs_only (method_role p fr.method) above.2 in
       let good : Good p t s.cells (Dying o ∷ ls) = record {
         stack = (at_hand.good.stack.4.0, tt, at_hand.good.stack.4.2);
-        fits = fits_dying above.1 entries free done;
+        fits = fits_dying (destructs_plainly (method_role p fr.method) above.2) above.1 entries free done;
         suits = suits_dying above.1 plain above.4 r.ends;
         tidy = at_hand.good.tidy;
       } in (
         return_needs p t c s fr sh (Dying o ∷ ls) at_hand a r
             (subst (λ g. AllTrue (result_needs p fr (tasks_of (Dying o ∷ ls)) s g a)) (sym above.3) tt)
-            (ap (λ h. is_emptied s.cells h) above.1 ∙ nothing_in s.cells o.name (no_fields p t s.cells o ls good), tt),
+            (ap (λ h. is_emptied s.cells h) above.1 ∙ nothing_left p t s.cells o ls good, tt),
         ended_plainly p t c s fr sh (Dying o ∷ ls) at_hand a r plain (record { layers = Dying o ∷ ls; tasks = refl; items = same_items p t c s fr sh (Dying o ∷ ls) at_hand entries; undos = at_hand.undos; good = good }),
       )

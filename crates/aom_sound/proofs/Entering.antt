@@ -14,27 +14,34 @@ use Rattle.aom_shape.specs.Tables.{at}
 use Rattle.aom_shape.specs.Things.{field_thing, holder_of}
 use Rattle.aom_shape.specs.declared.kind.Filling.TheVariants.{Perhaps}
 use Rattle.aom_shape.specs.declared.kind.Kind.{Kind}
-use Rattle.aom_shape.specs.declared.kind.Kind.TheVariants.{Null}
+use Rattle.aom_shape.specs.declared.kind.Kind.TheVariants.{Null, Own}
+use Rattle.aom_shape.specs.declared.kind.Age.TheVariants.{Ready}
+use Rattle.aom_image.specs.declared.method.Thing.TheVariants.{Message}
+use Rattle.aom_sound.proofs.Attending.{with_message, with_message_ready}
 use Rattle.aom_sound.proofs.Claimed.{fits_weaker, word_fits_weaker}
 use Rattle.aom_sound.proofs.Destroying.{perhaps_only}
 use Rattle.aom_sound.proofs.Straight.{fits_unowning}
 use Rattle.aom_sound.proofs.Suiting.{known_plain, same_object, suits_less}
-use Rattle.aom_sound.specs.Claims.{Layer, Method, claim, declared, declared_field, entry_claim, forms, items_of, objects, tasks_of}
-use Rattle.aom_sound.specs.Places.{Cell, Elsewhere, Entry, Field, Going, Object, Place, Register, Root, Tidy, held, named, requested, seen, Session}
+use Rattle.aom_sound.specs.Claims.{Layer, Method, claim, declared, declared_field, entry_claim, forms, items_of, objects, tasks_of, delivered, serves}
+use Rattle.aom_sound.specs.Places.{In_service, Cell, Elsewhere, Entry, Field, Going, Object, Place, Register, Root, Tidy, held, named, requested, seen, Session}
 use Rattle.aom_sound.specs.Requests.{AllSuit, Joins, Known, Suits, known_at, resting_in, rests_in, states_claim, thing_kind}
 use Rattle.aom_sound.specs.State.{Frame, Inside, Run, Seat, State, frame_of, thing_holder}
-use Rattle.aom_sound.specs.WellTyped.{AllSit, AllUndo, Fits, Good, Holds, IsApart, IsBelow, IsNoFieldOf, NoSeatIn, NoneIn, Returns, SitsIn, SomeIn, SomeSits, Stack, WellTyped, WordFits, by_field, past_going}
+use Rattle.aom_sound.specs.WellTyped.{IsServed, AllSit, AllUndo, Fits, Good, Holds, IsApart, IsBelow, IsNoFieldOf, NoSeatIn, NoneIn, Returns, SitsIn, SomeIn, SomeSits, Stack, WellTyped, WordFits, by_field, past_going}
 
--- what it takes: over these layers nothing is claimed, and the method begins with its object as it is
+-- what it takes: over these layers nothing is claimed but the message that is served, and the method begins with its object as it is
 pub record Entering (p : Image) (t : Typing) (cs : List Cell) (x : Seat) (above : List Seat) (over : List Layer) (m : ℕ) (ws : List (Option ℤ)) : Type 0 where
-  pub claims : (d : Place → Kind) (r : Place) → claim p d over r ≡ d r
+  -- a message is served
+  pub served : Bool
+  pub message : serves p m ≡ served
+  pub right_over : (serves p m ≡ true → IsServed over) × (IsServed over → serves p m ≡ true)
+  pub claims : (d : Place → Kind) (r : Place) → claim p d over r ≡ with_message served d r
   pub states : (y : Object) → states_claim p y over ≡ resting_in (rests_in p y)
   pub none_in : (n : ℕ) → NoSeatIn n (x ∷ above) → NoneIn n over
-  pub some_in : (n : ℕ) → SomeSits n (x ∷ above) → SomeIn n over
+  pub some_in : (n : ℕ) → SomeSits n above → SomeIn n over
   pub joins : Joins p x.object over
   pub past : past_going over ≡ over
   pub stack : Stack p t cs (Returns m (Inside x.object x.place)) over
-  pub fits : (r : Place) → Fits p (seen cs) (held cs r) (declared p cs r)
+  pub fits : (r : Place) → Fits p (seen cs) (held cs r) (with_message served (declared p cs) r)
   pub own : Suits (thing_kind p x.object.thing) (resting_in (before_of p m)) (requested cs x.object.name)
   pub others : (y : Object) → named cs y.name ≡ Some y → (x.object.name == y.name) ≡ false → Suits (thing_kind p y.thing) (resting_in (rests_in p y)) (requested cs y.name)
   pub tidy : Tidy cs
@@ -53,7 +60,7 @@ no_field n (Elsewhere Root) xs none h = tt
 no_field n (Elsewhere (Session m c)) xs none h = ne_eqb n m (λ e. none (subst (λ k. SomeSits k xs) (sym e) h))
 no_field n _ xs none h = absurd h
 
-no_fields : (cs : List Cell) (n : ℕ) (xs : List Seat) → (SomeSits n xs → ⊥) → AllSit cs xs → NoSeatIn n xs
+pub no_fields : (cs : List Cell) (n : ℕ) (xs : List Seat) → (SomeSits n xs → ⊥) → AllSit cs xs → NoSeatIn n xs
 no_fields cs n [] none s = tt
 no_fields cs n (x ∷ xs) none s = (no_field n x.place xs (λ h. none (inr h)) s.0.2, no_fields cs n xs (λ h. none (inr h)) s.1)
 
@@ -65,12 +72,12 @@ module _ (p : Image) (t : Typing) (typed : IsTyped p t) (cs : List Cell) (x : Se
   begun height = record (frame_of m (Inside x.object x.place) height) { words = ws }
 
   housed : Holds p cs over x.object x.place
-  housed = record { there = e.sits.0.0; lives = e.sits.0.1; below = below x.place e.sits.0.2; ready = ap is_ready_kind (e.claims (λ r. Null) x.place) }
+  housed = record { there = e.sits.0.0; lives = e.sits.0.1; below = below x.place e.sits.0.2; ready = ap is_ready_kind (e.claims (λ r. Null) x.place) ∙ with_message_ready e.served x.place }
     where
       below : (q : Place) → SitsIn q above → IsBelow q over
-      below (Field n f) h = e.some_in n (inr h)
+      below (Field n f) h = e.some_in n h
       below (Elsewhere Root) h = tt
-      below (Elsewhere (Session n c)) h = e.some_in n (inr h)
+      below (Elsewhere (Session n c)) h = e.some_in n h
       below _ h = absurd h
 
   apart : IsApart p (Inside x.object x.place) over
@@ -112,6 +119,13 @@ module _ (p : Image) (t : Typing) (typed : IsTyped p t) (cs : List Cell) (x : Se
           (subst (λ y. Fits p (seen cs) (held cs (Field x.object.name f)) (filled (field_thing p (thing_holder x.object.thing) f) y)) (sym unfilled) own_field)
       go false other = base (Field n f)
   fits height after w (Elsewhere Root) = base (Elsewhere Root)
+  fits height after w (Elsewhere In_service) = go (serves p m) refl
+    where
+      go : (b : Bool) → serves p m ≡ b → Fits p (seen cs) (held cs (Elsewhere In_service)) (cond b (delivered after.delivery) (claim p (declared p cs) over (Elsewhere In_service)))
+      go true serving =
+          subst (λ x. Fits p (seen cs) (held cs (Elsewhere In_service)) (delivered x)) (sym w.delivery)
+          (subst (λ b. Fits p (seen cs) (held cs (Elsewhere In_service)) (cond b (Own Message Ready) Null)) (sym e.message ∙ serving) (e.fits (Elsewhere In_service)))
+      go false plain = base (Elsewhere In_service)
   fits height after w (Elsewhere o) = base (Elsewhere o)
   fits height after w (Going k) = base (Going k)
 
@@ -138,7 +152,7 @@ module _ (p : Image) (t : Typing) (typed : IsTyped p t) (cs : List Cell) (x : Se
       let good : Good p t cs (Method (begun height) leads.0 ∷ over) = record {
         stack = (
           leads.1,
-          record { words = λ i. word_fits_weaker (at None ws i) (w.registers i) (e.words i); holder = sym e.holder; height = high; alone = λ cancels. absurd (true≢false (sym cancels ∙ e.plain)) },
+          record { words = λ i. word_fits_weaker (at None ws i) (w.registers i) (e.words i); holder = sym e.holder; height = high; alone = λ cancels. absurd (true≢false (sym cancels ∙ e.plain)); message = e.right_over },
           housed,
           apart,
           e.stack,

@@ -168,7 +168,7 @@ module _ (p : Image) (t : Typing) (c : Choice) (s : State) (fr : Frame) (sh : Sh
       needed false = tt
 
       goes : (b : Bool) → WellTyped p t (applied p fr (tasks_of ls) s (unless_refused b (Object_pushed a) (sets fr a None (Object_pushed a))))
-      goes true = leave_keeps p t wired (record s { cells = cells; items = An_object ∷ s.items }) no_memory fr' (pushed_shape a) ls items at_hand.undos there n.1.0 n.1.1.0 n.1.1.1.0
+      goes true = leave_keeps p t wired (record s { cells = cells; items = An_object ∷ s.items }) no_memory fr' (pushed_shape a) ls items at_hand.undos there n.1.0 n.1.1.0 n.1.1.1.0 n.1.1.1.1.0
       goes false = well p t c s fr sh ls at_hand _ fr' (pushed_shape a) refl items at_hand.undos (settle p t cells fr' (pushed_shape a) ls there leads.0)
 
   -- ---- the push of an operation
@@ -199,7 +199,7 @@ module _ (p : Image) (t : Typing) (c : Choice) (s : State) (fr : Frame) (sh : Sh
       needed false = tt
 
       goes : (b : Bool) → WellTyped p t (applied p fr (tasks_of ls) s (unless_refused b (Operation_pushed m (read fr (tasks_of ls) s a)) (updates fr (Operation_pushed m (read fr (tasks_of ls) s a)))))
-      goes true = leave_keeps p t wired (record s { items = An_operation m (read fr (tasks_of ls) s a) ∷ s.items }) no_memory (next fr) with_operation ls items undos operation_fitted n.1.0 n.1.1.0 n.1.1.1.0
+      goes true = leave_keeps p t wired (record s { items = An_operation m (read fr (tasks_of ls) s a) ∷ s.items }) no_memory (next fr) with_operation ls items undos operation_fitted n.1.0 n.1.1.0 n.1.1.1.0 n.1.1.1.1.0
       goes false = well p t c s fr sh ls at_hand _ (next fr) with_operation refl items undos (settle p t s.cells (next fr) with_operation ls operation_fitted leads.0)
 
   -- ---- a pop
@@ -269,7 +269,7 @@ module _ (p : Image) (t : Typing) (c : Choice) (s : State) (fr : Frame) (sh : Sh
 
       -- the method waits
       waits : (x : Pushed) (es : List Pushed) → sh.entries ≡ x ∷ es → Stack p t s.cells Gone (Method fr (record sh { entries = es }) ∷ ls)
-      waits x es e = (lead x es e, record { words = at_hand.good.stack.1.words; holder = at_hand.good.stack.1.holder; height = at_hand.good.stack.1.height; alone = at_hand.good.stack.1.alone }, at_hand.good.stack.2, at_hand.good.stack.3, at_hand.good.stack.4)
+      waits x es e = (lead x es e, record { words = at_hand.good.stack.1.words; holder = at_hand.good.stack.1.holder; height = at_hand.good.stack.1.height; alone = at_hand.good.stack.1.alone; message = at_hand.good.stack.1.message }, at_hand.good.stack.2, at_hand.good.stack.3, at_hand.good.stack.4)
 
       -- for a method that gives nothing and does not leave
       awaits : (x : Pushed) (es : List Pushed) → sh.entries ≡ x ∷ es → (m : ℕ) → IsUndo p m → Stack p t s.cells (Returns m Static) (Method fr (record sh { entries = es }) ∷ ls)
@@ -311,6 +311,7 @@ module _ (p : Image) (t : Typing) (c : Choice) (s : State) (fr : Frame) (sh : Sh
             items = known x es e;
             undos = at_hand.undos;
             under_object = waits x es e;
+            unserved = λ x. x;
             under_operation = awaits x es e;
           } in
           let w = deals p t wired typed s x (Method fr sh ∷ ls) (Method fr less ∷ ls) d in
@@ -343,5 +344,5 @@ module _ (p : Image) (t : Typing) (c : Choice) (s : State) (fr : Frame) (sh : Sh
       needed false = tt
 
       goes : (b : Bool) → WellTyped p t (applied p fr (tasks_of ls) s (unless_refused b Same (sets fr a None (Made c.name x a))))
-      goes true = leave_keeps p t wired s no_memory fr sh ls at_hand.items at_hand.undos g n.1.1.0 n.1.1.1.0 n.1.1.1.1.0
+      goes true = leave_keeps p t wired s no_memory fr sh ls at_hand.items at_hand.undos g n.1.1.0 n.1.1.1.0 n.1.1.1.1.0 n.1.1.1.1.1.0
       goes false = well p t c s fr sh ls at_hand _ fr' (set_register sh a k) refl at_hand.items at_hand.undos (settle p t cells fr' (set_register sh a k) ls makes leads.0)

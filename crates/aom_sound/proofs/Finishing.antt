@@ -10,7 +10,7 @@ use Rattle.aom_image.specs.declared.method.Gives.TheVariants.{Left, Maybe as A_m
 use Rattle.aom_image.specs.declared.method.Thing.{Thing}
 use Rattle.aom_image.specs.declared.method.Thing.TheVariants.{Object as An_object_of}
 use Rattle.aom_rules.specs.Calls.{entries_done, fields_done, is_destructor, leaves_one, result_moved, rule_ended, rule_left, rule_result}
-use Rattle.aom_shape.specs.Kinds.{is_own_for, field, filled, is_ready_kind, is_unowning, no_entry, none_owns, register, set_register}
+use Rattle.aom_shape.specs.Kinds.{is_here, is_own_for, field, filled, is_ready_kind, is_unowning, no_entry, none_owns, register, set_register}
 use Rattle.aom_shape.specs.Needs.{AllTrue, only_if}
 use Rattle.aom_rules.specs.Rules.{rule_needs}
 use Rattle.aom_shape.specs.Shape.{Shape}
@@ -32,10 +32,10 @@ use Rattle.aom_sound.proofs.Maps.{at-put_at, front_free}
 use Rattle.aom_sound.proofs.Things.{stands_same}
 use Rattle.aom_sound.proofs.Straight.{At, fits_unowning, free_register, top}
 use Rattle.aom_sound.specs.Calls.{end_needs, is_level, is_register_but, leaves_object, none_owns_but, result_needs, result_source, returned}
-use Rattle.aom_sound.specs.Claims.{Dispatching, Dying, Layer, Mark, Method, Object_form, Unwinding, claim, declared, declared_field, entry_claim, forms, home_claim, items_of, objects, root_claim, tasks_of}
+use Rattle.aom_sound.specs.Claims.{serves, delivered, Dispatching, Dying, Layer, Mark, Method, Object_form, Unwinding, claim, declared, declared_field, entry_claim, forms, home_claim, items_of, objects, root_claim, tasks_of, Ending}
 use Rattle.aom_sound.specs.Moves.{does, needs}
 use Rattle.aom_sound.specs.Objects.{is_thing}
-use Rattle.aom_sound.specs.Places.{Cell, Elsewhere, Entry, Field, Going, Object, Place, Register, Root, Sight, held, requested, same_place, seen}
+use Rattle.aom_sound.specs.Places.{In_service, Cell, Elsewhere, Entry, Field, Going, Object, Place, Register, Root, Sight, held, requested, same_place, seen}
 use Rattle.aom_sound.specs.State.{An_object, AtRoot, Choice, Frame, Home, Inside, Item, State, Static, thing_holder}
 use Rattle.aom_sound.specs.WellTyped.{Fits, IsApart, IsHoused, NotAtRoot, RootUnclaimed, Unclaimed, WellTyped, past_going}
 use Rattle.aom_rules.specs.Requests.{is_cancel, unissued}
@@ -45,6 +45,8 @@ use Rattle.aom_roles.specs.States.{cancel_done}
 use Rattle.std.specs.Ordering.{int_eq}
 use Rattle.aom_sound.specs.Requests.{Known, Suits, known_at, states_claim, thing_kind, works_at}
 use Rattle.aom_sound.proofs.Suiting.{completed}
+use Rattle.aom_shape.specs.declared.kind.Delivery.{Delivery}
+use Rattle.aom_shape.specs.declared.kind.Delivery.TheVariants.{Here, Gone}
 
 pub none_owns_at : (ks : List Kind) (i : ℕ) → none_owns ks ≡ true → is_unowning (at Unset ks i) ≡ true
 none_owns_at [] i e = refl
@@ -118,18 +120,19 @@ claim_root p d (Method fr sh ∷ ls) u = go fr.home u.0 ∙ claim_root p d ls u.
     go (Inside o from) n = refl
 claim_root p d (Mark gv ∷ ls) u = claim_root p d ls u
 claim_root p d (Dying o ∷ ls) u = claim_root p d ls u
+claim_root p d (Ending o left ∷ ls) u = claim_root p d ls u
 claim_root p d (Unwinding code es ∷ ls) u = claim_root p d ls u
 claim_root p d (Dispatching x seats ∷ ls) u = ap (λ b. cond b Null (claim p d ls (Elsewhere Root))) u.0 ∙ claim_root p d ls u.1
 
 -- a method ends
-pub ended : (p : Image) (cs : List Cell) (fr : Frame) (sh : Shape) (ls : List Layer) → IsHoused p cs ls fr.home → IsApart p fr.home ls → past_going ls ≡ ls → no_entry sh.entries ≡ true → none_owns sh.registers ≡ true → (r : Place) (h : Sight) (o : Option Object) → Fits p h o (claim p (declared p cs) (Method fr sh ∷ ls) r) → Fits p h o (claim p (declared p cs) ls r)
-ended p cs fr sh ls housed apart at_top e n (Register f i) h o fits = go (length (tasks_of ls) == f) refl fits
+pub ended : (p : Image) (cs : List Cell) (fr : Frame) (sh : Shape) (ls : List Layer) → IsHoused p cs ls fr.home → IsApart p fr.home ls → past_going ls ≡ ls → no_entry sh.entries ≡ true → none_owns sh.registers ≡ true → (serves p fr.method ≡ true → claim p (declared p cs) ls (Elsewhere In_service) ≡ delivered sh.delivery) → (r : Place) (h : Sight) (o : Option Object) → Fits p h o (claim p (declared p cs) (Method fr sh ∷ ls) r) → Fits p h o (claim p (declared p cs) ls r)
+ended p cs fr sh ls housed apart at_top e n message (Register f i) h o fits = go (length (tasks_of ls) == f) refl fits
   where
     go : (b : Bool) → (length (tasks_of ls) == f) ≡ b → Fits p h o (cond b (register sh i) (claim p (declared p cs) ls (Register f i))) → Fits p h o (claim p (declared p cs) ls (Register f i))
     go true e fits = subst (λ k. Fits p h o k) (sym (claim_register_above p cs ls f i (omega (arith, eqb-true _ _ e)))) (subst (λ x. Fits p h x Null) (sym (fits_unowning p h o (register sh i) (none_owns_at sh.registers i n) fits)) tt)
     go false e fits = fits
-ended p cs fr sh ls housed apart at_top e n (Entry k) h o fits = subst (λ es. Fits p h o (entry_claim es (items_of ls) k (claim p (declared p cs) ls (Entry k)))) (no_entries sh.entries e) fits
-ended p cs fr sh ls housed apart at_top e n (Field m f) h o fits = go fr.home housed apart fits
+ended p cs fr sh ls housed apart at_top e n message (Entry k) h o fits = subst (λ es. Fits p h o (entry_claim es (items_of ls) k (claim p (declared p cs) ls (Entry k)))) (no_entries sh.entries e) fits
+ended p cs fr sh ls housed apart at_top e n message (Field m f) h o fits = go fr.home housed apart fits
   where
     go : (home : Home) → IsHoused p cs ls home → IsApart p home ls → Fits p h o (home_claim p home sh m f (claim p (declared p cs) ls (Field m f))) → Fits p h o (claim p (declared p cs) ls (Field m f))
     go Static hs ap' fits = fits
@@ -143,13 +146,18 @@ ended p cs fr sh ls housed apart at_top e n (Field m f) h o fits = go fr.home ho
             let unclaimed = subst (λ l. Unclaimed p (λ f. filled (field_thing p (thing_holder x.thing) f) Perhaps) x.name l) at_top ap'.2 in
             let claims = claim_unclaimed p (declared p cs) ls x.name f (λ f. filled (field_thing p (thing_holder x.thing) f) Perhaps) unclaimed (ap (λ y. declared_field p y f) hs.lives) in
             subst (λ k. Fits p h o k) (sym claims ∙ ap (λ y. claim p (declared p cs) ls (Field y f)) same) (perhaps_fits p h o (field_thing p (thing_holder x.thing) f) (field sh f) fits)
-ended p cs fr sh ls housed apart at_top e n (Elsewhere Root) h o fits = go fr.home apart fits
+ended p cs fr sh ls housed apart at_top e n message (Elsewhere Root) h o fits = go fr.home apart fits
   where
     go : (home : Home) → IsApart p home ls → Fits p h o (root_claim p home sh (claim p (declared p cs) ls (Elsewhere Root))) → Fits p h o (claim p (declared p cs) ls (Elsewhere Root))
     go Static ap' fits = fits
     go AtRoot ap' fits = subst (λ k. Fits p h o k) (sym (claim_root p (declared p cs) ls ap'.0)) (perhaps_fits p h o (field_thing p Program 0) (field sh 0) fits)
     go (Inside x from) ap' fits = fits
-ended p cs fr sh ls housed apart at_top e n _ h o fits = fits
+ended p cs fr sh ls housed apart at_top e n message (Elsewhere In_service) h o fits = go (serves p fr.method) refl fits
+  where
+    go : (b : Bool) → serves p fr.method ≡ b → Fits p h o (cond b (delivered sh.delivery) (claim p (declared p cs) ls (Elsewhere In_service))) → Fits p h o (claim p (declared p cs) ls (Elsewhere In_service))
+    go true serving fits = subst (λ k. Fits p h o k) (sym (message serving)) fits
+    go false plain fits = fits
+ended p cs fr sh ls housed apart at_top e n message _ h o fits = fits
 
 -- what the rule says of a return
 pub record Returnable (p : Image) (fr : Frame) (sh : Shape) (a : ℕ) : Type 0 where
@@ -160,12 +168,21 @@ pub record Returnable (p : Image) (fr : Frame) (sh : Shape) (a : ℕ) : Type 0 w
   pub settled : unissued sh.states ≡ true
   pub cancels : only_if (is_cancel (method_role p fr.method)) (has cancel_done sh.states) ≡ true
   pub ends : IsTrue (has (after_of p fr.method) sh.states)
+  pub message : only_if (serves p fr.method) (not (is_here sh.delivery)) ≡ true
 
 pub returnable : (p : Image) (fr : Frame) (sh : Shape) (a : ℕ) → AllTrue (rule_needs p fr.method fr.place sh (Return a)) → Returnable p fr sh a
 returnable p fr sh a n =
     let parts = all_parts (rule_result p fr.method fr.place sh (gives_of p fr.method) a) (rule_left p fr.method fr.place sh a ++ rule_ended p fr.method fr.place sh) n in
     let left = all_parts (rule_left p fr.method fr.place sh a) (rule_ended p fr.method fr.place sh) parts.1 in
-    record { result = parts.0; entries = left.0.0; free = left.0.1.0; fields = left.1.1.1.1.0; settled = left.1.0; cancels = left.1.1.0; ends = left.1.1.1.1.1.0 }
+    record { result = parts.0; entries = left.0.0; free = left.0.1.0; fields = left.1.1.1.1.0; settled = left.1.0; cancels = left.1.1.0; ends = left.1.1.1.1.1.0; message = left.1.1.1.1.1.1.0 }
+
+-- a method that served has taken its message
+pub message_gone : (p : Image) (fr : Frame) (sh : Shape) (a : ℕ) → Returnable p fr sh a → serves p fr.method ≡ true → sh.delivery ≡ Gone
+message_gone p fr sh a r serving = go sh.delivery (ap (λ b. only_if b (not (is_here sh.delivery))) (sym serving) ∙ r.message)
+  where
+    go : (d : Delivery) → not (is_here d) ≡ true → d ≡ Gone
+    go Here e = cc
+    go Gone e = refl
 
 -- a method that gives nothing leaves no entry
 pub none_left : (p : Image) (fr : Frame) (sh : Shape) (a : ℕ) → gives_of p fr.method ≡ Nothing → Returnable p fr sh a → no_entry sh.entries ≡ true

@@ -8,7 +8,7 @@ use Rattle.aom_instructions.specs.Operands.{IsRegister}
 use Rattle.aom_image.specs.Views.{arguments_of, method_class}
 use Rattle.aom_instructions.specs.Fits.{InstrFits}
 use Rattle.aom_instructions.specs.declared.instr.Instr.{Instr}
-use Rattle.aom_instructions.specs.declared.instr.Instr.TheVariants.{Call, Cancel, Delete, Jump, JumpActive, JumpAdded, JumpEmpty, JumpEqual, JumpLess, JumpNull, Leave, LeaveIf, Loop, Move, New, NewOrLeave, Next, Pop, PopDelete, PopOperation, Push, PushOperation, Return, Take, Trap}
+use Rattle.aom_instructions.specs.declared.instr.Instr.TheVariants.{TakeMessage, Call, Cancel, Delete, Jump, JumpActive, JumpAdded, JumpEmpty, JumpEqual, JumpLess, JumpNull, Leave, LeaveIf, Loop, Move, New, NewOrLeave, Next, Pop, PopDelete, PopOperation, Push, PushOperation, Return, Take, Trap}
 use Rattle.aom_instructions.specs.declared.instr.Target.{Target}
 use Rattle.aom_instructions.specs.declared.limits.Limits.{Limits}
 use Rattle.aom_classes.specs.Jumps.{jump_of}
@@ -17,7 +17,7 @@ use Rattle.aom_shape.specs.Needs.{AllTrue}
 use Rattle.aom_sound.proofs.Finishing.{all_parts}
 use Rattle.aom_sound.specs.Calls.{below_top, needs_entering, needs_target}
 use Rattle.aom_sound.specs.Cleanup.{has_trap, is_negative, leave_needs, no_memory, top_is_whole, top_place, tops_entry, tops_object, tops_operation}
-use Rattle.aom_sound.specs.Effects.{Calls, Cancels, Carried, Destroys, Destroys_last, Effect, Goes_on, In_field, In_register, Leaves, Made, Operates, Popped, Pushed, Pushed_operation, Same, Sets_trap, Spot, Update, cancels_if, deals, deletes, effect, jumps_if, jumps_unless, makes_unless, round, sets, updates}
+use Rattle.aom_sound.specs.Effects.{The_message, Calls, Cancels, Carried, Destroys, Destroys_last, Effect, Goes_on, In_field, In_register, Leaves, Made, Operates, Popped, Pushed, Pushed_operation, Same, Sets_trap, Spot, Update, cancels_if, deals, deletes, effect, jumps_if, jumps_unless, makes_unless, round, sets, updates}
 use Rattle.aom_sound.specs.Enlisted.{cancel_method, in_phase, is_active, is_busy, own_request}
 use Rattle.aom_sound.specs.Leaves.{LeavesWith}
 use Rattle.aom_sound.specs.Moves.{needs}
@@ -45,6 +45,7 @@ module _ (p : Image) where
   abbrev pub SpotFits : Spot → Type 0
   SpotFits (In_register a) = IsRegister a
   SpotFits (In_field f) = Unit {0}
+  SpotFits The_message = Unit {0}
 
   abbrev pub UpdateFits : Update → Type 0
   UpdateFits (Carried from to) = SpotFits to
@@ -124,6 +125,7 @@ module _ (p : Image) (c : Choice) (fr : Frame) (ts : List Task) (s : State) wher
   fits (Next depth to) n = loops (counter fr depth - 1) depth to refl
   fits (Move a b) n = ((refl, tt), λ l f. f.a)
   fits (Take a field) n = ((refl, tt), λ l f. f.a)
+  fits (TakeMessage a) n = ((refl, tt), λ l f. f.a)
   fits (New a x) n = making c.refused a x
   fits (Delete a) n = deleting (held s.cells (here fr ts s a)) a refl
   fits (Call target m first x) n = ((x, refl), λ l f. few_arguments target m first _ n)

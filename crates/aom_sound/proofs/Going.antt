@@ -1,43 +1,46 @@
 -- A cell goes.
-use Rattle.std.proofs.Common.{Bool, IsTrue, List, None, Option, Some, [], ap, arith, cond, false, inl, inr, length, refl, subst, sym, true, ℕ, ◌&&◌, ◌==◌, ◌∙◌, ◌∷◌, ◌≡◌}
-use Rattle.std.proofs.lemmas.Bool.{and_from, cases_Bool, eq-eqb, eqb-true, ne_eqb, true≢false}
+use Rattle.std.proofs.Common.{Bool, IsTrue, List, None, Option, Some, [], ap, arith, cond, false, length, refl, subst, sym, true, ℕ, ◌&&◌, ◌==◌, ◌∙◌, ◌∷◌, ◌≡◌}
+use Rattle.std.proofs.lemmas.Bool.{and_from, eq-eqb, eqb-true, ne_eqb, true≢false}
 use Rattle.std.specs.Prelude.{not}
 use Rattle.aom_image.specs.Image.{Image}
 use Rattle.aom_rules.specs.Typing.{Typing}
 use Rattle.aom_shape.specs.declared.kind.Age.TheVariants.{Ready}
 use Rattle.aom_shape.specs.declared.kind.Kind.TheVariants.{Null, Own}
 use Rattle.std.specs.Prelude.{is_some}
-use Rattle.aom_sound.proofs.Seats.{NoFieldHere, first_kept, sits_kept}
+use Rattle.aom_sound.proofs.Seats.{no_seat, NoFieldHere, first_kept, sits_kept}
 use Rattle.aom_sound.proofs.Claimed.{no_seat_outside, Outside, claim_frame, claim_going_above, claim_rel, claim_unclaimed, fits_age, going_differs, outside_differs, outside_less}
-use Rattle.aom_sound.proofs.Destroying.{Untouched, other_name, untouched}
-use Rattle.aom_sound.proofs.Maps.{front_free, held_without, named_without, requested_without, same_place-true, tidy_without, unnamed, unrequested}
+use Rattle.aom_sound.proofs.Destroying.{eqb_comm, Untouched, other_name, untouched}
+use Rattle.aom_sound.proofs.Maps.{cond_same, same_place_refl, front_free, held_without, named_without, requested_without, same_place-true, tidy_without, unnamed, unrequested}
 use Rattle.aom_sound.proofs.Straight.{Fitted, fits_unowning, settle}
-use Rattle.aom_sound.specs.Claims.{Dispatching, Dying, Layer, Mark, Method, Unwinding, claim, declared, declared_field, forms, items_of, objects, tasks_of}
+use Rattle.aom_sound.specs.Claims.{Ending, Dispatching, Dying, Layer, Mark, Method, Unwinding, claim, declared, declared_field, forms, items_of, objects, tasks_of}
 use Rattle.aom_sound.specs.Destruction.{gone, is_at_rest, is_field_of, owns_nothing}
 use Rattle.aom_sound.specs.Enlisted.{is_idle}
-use Rattle.aom_sound.specs.Places.{Cell, Elsewhere, Entry, Field, Going, Idle, Object, Phase, Place, Register, Request, Root, Tidy, held, named, requested, same_place, seen, without}
-use Rattle.aom_sound.specs.State.{ActiveDestroyed, AtRoot, Home, Inside, IsStuck, Of_root, Orphan, State, Static, guarded, next, resumed}
-use Rattle.aom_sound.specs.WellTyped.{seat_of, AllUndo, Back, Caught, Fits, Gone, Good, Holds, IsHoused, Keeps, Leaves, Now, Returns, Stack, WellTyped}
+use Rattle.aom_sound.specs.Places.{Session, Queued, In_service, service_of, Cell, Elsewhere, Entry, Field, Going, Idle, Object, Phase, Place, Register, Request, Root, Tidy, held, named, requested, same_place, seen, without}
+use Rattle.aom_sound.specs.State.{Of_server, Parts, Seat, ActiveDestroyed, AtRoot, Home, Inside, IsStuck, Of_root, Orphan, State, Static, guarded, next, resumed}
+use Rattle.aom_sound.specs.WellTyped.{IsOverDying, SitsFirst, NoSeatAt, seat_of, AllUndo, Back, Caught, Fits, Gone, Good, Holds, IsHoused, Keeps, Leaves, Now, Returns, Stack, WellTyped}
 use Rattle.aom_sound.specs.Requests.{AllSuit, Suits, phase_state, resting_in, states_claim, thing_kind}
 use Rattle.aom_roles.specs.States.{last_of, server_states}
 use Rattle.aom_image.specs.Views.{has}
 use Rattle.aom_image.specs.declared.class.ClassKind.{ClassKind}
 use Rattle.aom_image.specs.declared.class.ClassKind.TheVariants.{Active as An_active, Server as A_server}
+use Rattle.aom_sound.specs.Servers.{has_session, has_message, session_thing, message_thing, is_queue_of, without_queue}
+use Rattle.aom_sound.specs.Clients.{each_unslotted, queue_ended, sessions_ended}
+use Rattle.aom_sound.proofs.Dropping.{dropped, held_dropped, queue_dropped, queued_claim, waits_message, is_sent, stack_dropped, tidy_dropped, fits_dropped, declared_dropped, suits_dropped, stays_same}
+use Rattle.aom_sound.proofs.Unslotting.{each_unslotted_alike, each_unslotted_requests}
+use Rattle.aom_sound.proofs.Storing.{stack_alike, fits_alike}
+use Rattle.aom_sound.proofs.Services.{attended_at, service_without, sits_there}
+use Rattle.aom_shape.specs.Kinds.{filled}
+use Rattle.aom_shape.specs.declared.kind.Filling.TheVariants.{Full}
+use Rattle.aom_image.specs.declared.method.Thing.TheVariants.{Message}
 
--- the fields of a cell that goes are null, so nothing is owned by it
-pub nothing_in : (cs : List Cell) (n : ℕ) → ((f : ℕ) → held cs (Field n f) ≡ None) → owns_nothing cs n ≡ true
+-- no place of a cell owns, where none of them holds anything
+pub nothing_in : (cs : List Cell) (n : ℕ) → ((r : Place) → is_field_of n r ≡ true → held cs r ≡ None) → owns_nothing cs n ≡ true
 nothing_in [] n h = refl
-nothing_in (c ∷ cs) n h = and_from _ _ (go c.owner h) (nothing_in cs n (λ f. (front_free _ _ _ (h f)).1))
+nothing_in (c ∷ cs) n h = and_from _ _ (go (is_field_of n c.owner) refl) (nothing_in cs n (λ r e. (front_free _ _ _ (h r e)).1))
   where
-    go : (r : Place) → ((f : ℕ) → cond (same_place r (Field n f)) (Some c.object) (held cs (Field n f)) ≡ None) → not (is_field_of n r) ≡ true
-    go (Register f i) h = refl
-    go (Entry k) h = refl
-    go (Field m f) h = elim (cases_Bool (n == m)) as (λ x. not (n == m) ≡ true) [
-      | inl e ↦ absurd (true≢false (sym (ap (λ b. b && (f == f)) (eq-eqb m n (sym (eqb-true n m e))) ∙ eq-eqb f f refl) ∙ (front_free _ _ _ (h f)).0))
-      | inr e ↦ ap not e
-    ]
-    go (Elsewhere w) h = refl
-    go (Going k) h = refl
+    go : (b : Bool) → is_field_of n c.owner ≡ b → not b ≡ true
+    go true e = absurd (true≢false (sym (same_place_refl c.owner) ∙ (front_free _ _ _ (h c.owner e)).0))
+    go false e = refl
 
 module _ (p : Image) (t : Typing) (cs : List Cell) (g : Place) (o : Object) (tidy : Tidy cs) (there : held cs g ≡ Some o) where
   holds_without : (ls : List Layer) (x : Object) (from : Place) → same_place g from ≡ false → Holds p cs ls x from → Holds p (without g cs) ls x from
@@ -48,12 +51,21 @@ module _ (p : Image) (t : Typing) (cs : List Cell) (g : Place) (o : Object) (tid
     ready = h.ready;
   }
 
-  housed_without : (ls : List Layer) (home : Home) → Outside g ls → ((from : Place) → NoFieldHere g from) → IsHoused p cs ls home → IsHoused p (without g cs) ls home
+  pub housed_without : (ls : List Layer) (home : Home) → Outside g ls → ((from : Place) → NoFieldHere g from) → IsHoused p cs ls home → IsHoused p (without g cs) ls home
   housed_without ls Static out plain h = h
   housed_without ls AtRoot out plain h = h
   housed_without ls (Inside x from) out plain h = holds_without ls x from (outside_differs g from ls out (plain from) h.below) h
 
-  stack_without : (ls : List Layer) (back : Back) → Outside g ls → ((from : Place) → NoFieldHere g from) → Stack p t cs back ls → Stack p t (without g cs) back ls
+  -- the server that goes above a layer is another cell
+  ending_other : (x : Object) (ls : List Layer) → Outside g ls → IsOverDying x ls → Stack p t cs Now ls → (o.name == x.name) ≡ false
+  ending_other x (Dying y ∷ ls) out same s = ne_eqb o.name x.name (λ e. true≢false (sym (eq-eqb y.name o.name (ap (λ (z : Object). z.name) same ∙ sym e)) ∙ other_name p t cs g o tidy there (Going (length (tasks_of ls))) y s.0.1 (going_differs g y ls out)))
+  ending_other x _ out same s = absurd same
+
+  first_apart : (xs : List Seat) (y : Seat) → SitsFirst cs (Some y) xs → NoSeatAt g xs → same_place g y.place ≡ false
+  first_apart (z ∷ xs) y f none = let same : z ≡ y = cc in subst (λ (z : Seat). same_place g z.place ≡ false) same none.0
+  first_apart [] y f none = cc
+
+  pub stack_without : (ls : List Layer) (back : Back) → Outside g ls → ((from : Place) → NoFieldHere g from) → Stack p t cs back ls → Stack p t (without g cs) back ls
   stack_without [] back out plain s = s
   stack_without (Method fr sh ∷ ls) back out plain s =
       let out' = outside_less g (Method fr sh) ls out in
@@ -65,6 +77,9 @@ module _ (p : Image) (t : Typing) (cs : List Cell) (g : Place) (o : Object) (tid
         s.1,
         sits_kept cs (without g cs) g g seats (λ r x other other' there lives. (held_without cs g r ∙ ap (λ b. cond b None (held cs r)) other ∙ there, named_without cs g o x.name tidy there_it (another r x other there) ∙ lives)) none none s.2,
         first_kept cs (without g cs) g (seat_of d) seats (λ r x other there lives some. ap is_some (requested_without cs g o x.name tidy there_it (another r x other there)) ∙ some) none s.2 s.3,
+        attended_at p cs (without g cs) d (λ y first.
+            let f = subst (λ o. SitsFirst cs o seats) first s.3 in
+            service_without cs g o y.object.name tidy there_it (another y.place y.object (first_apart seats y f (no_seat cs g seats none s.2)) (sits_there cs seats y s.2 f).0)) s.4,
       )
     where
       there_it : held cs g ≡ Some o
@@ -72,6 +87,13 @@ module _ (p : Image) (t : Typing) (cs : List Cell) (g : Place) (o : Object) (tid
 
       another : (r : Place) (x : Object) → same_place g r ≡ false → held cs r ≡ Some x → (o.name == x.name) ≡ false
       another r x other h = ne_eqb o.name x.name (λ same. true≢false (sym (eq-eqb x.name o.name (sym same)) ∙ other_name p t cs g o tidy there_it r x h other))
+  stack_without (Ending x left ∷ ls) back out plain s =
+      let other = ending_other x ls (outside_less g (Ending x left) ls out) s.2 s.3 in (
+        record { server = s.0.server; lives = named_without cs g o x.name tidy there other ∙ s.0.lives; listed = λ c e. ap (λ v. has_session v c) (service_without cs g o x.name tidy there other) ∙ s.0.listed c e },
+        s.1,
+        s.2,
+        stack_without ls Now (outside_less g (Ending x left) ls out) plain s.3,
+      )
   stack_without (Unwinding code es ∷ ls) back out plain s = (s.0, stack_without ls Leaves (outside_less g (Unwinding code es) ls out) plain s.1)
   stack_without (Dying x ∷ ls) back out plain s =
       let q = Going (length (tasks_of ls)) in
@@ -84,13 +106,31 @@ module _ (p : Image) (t : Typing) (cs : List Cell) (g : Place) (o : Object) (tid
         stack_without ls Gone (outside_less g (Dying x) ls out) plain s.2,
       )
 
+-- a cell that goes has nothing in its fields, and no session
 module _ (p : Image) (t : Typing) (cs : List Cell) (o : Object) (ls : List Layer) (good : Good p t cs (Dying o ∷ ls)) where
-  at_hand : Place
-  at_hand = Going (length (tasks_of ls))
-
-  pub no_fields : (f : ℕ) → held cs (Field o.name f) ≡ None
+  no_fields : (f : ℕ) → held cs (Field o.name f) ≡ None
   no_fields f = fits_unowning p (seen cs) _ Null refl (subst (λ b. Fits p (seen cs) (held cs (Field o.name f)) (cond b Null (claim p (declared p cs) ls (Field o.name f)))) (eq-eqb o.name _ refl) (good.fits (Field o.name f)))
 
+  no_sessions : (c : ℕ) → held cs (Elsewhere (Session o.name c)) ≡ None
+  no_sessions c = fits_unowning p (seen cs) _ Null refl (subst (λ b. Fits p (seen cs) (held cs (Elsewhere (Session o.name c))) (cond b Null (claim p (declared p cs) ls (Elsewhere (Session o.name c))))) (eq-eqb o.name _ refl) (good.fits (Elsewhere (Session o.name c))))
+
+  pub nothing_left : owns_nothing (without_queue o.name cs) o.name ≡ true
+  nothing_left = nothing_in (without_queue o.name cs) o.name (λ r e. ap (λ l. held l r) (queue_dropped o.name cs) ∙ held_dropped (is_queue_of o.name) cs r ∙ none r e)
+    where
+      none : (r : Place) → is_field_of o.name r ≡ true → cond (is_queue_of o.name r) None (held cs r) ≡ None
+      none (Field m f) e = ap (λ n. held cs (Field n f)) (sym (eqb-true o.name m e)) ∙ no_fields f
+      none (Elsewhere (Session m c)) e = ap (λ n. held cs (Elsewhere (Session n c))) (sym (eqb-true o.name m e)) ∙ no_sessions c
+      none (Elsewhere (Queued m k)) e = ap (λ b. cond b None (held cs (Elsewhere (Queued m k)))) (eq-eqb m o.name (sym (eqb-true o.name m e)))
+      none (Register f i) e = cc
+      none (Entry k) e = cc
+      none (Going k) e = cc
+      none (Elsewhere Root) e = cc
+      none (Elsewhere In_service) e = cc
+
+-- once nothing waits in its queue
+module _ (p : Image) (t : Typing) (cs : List Cell) (o : Object) (ls : List Layer) (stack : Stack p t cs Now (Dying o ∷ ls)) (tidy : Tidy cs) (suits : AllSuit p cs (Dying o ∷ ls))
+    (fits : (r : Place) → is_queue_of o.name r ≡ false → Fits p (seen cs) (held cs r) (claim p (declared p cs) (Dying o ∷ ls) r))
+    (unqueued : (m : ℕ) → held cs (Elsewhere (Queued o.name m)) ≡ None) where
   fits_after : (r : Place) → Fits p (seen (without (Going (length (tasks_of ls))) cs)) (held (without (Going (length (tasks_of ls))) cs) r) (claim p (declared p (without (Going (length (tasks_of ls))) cs)) ls r)
   fits_after r = subst (λ x. Fits p (seen cs') x (claim p (declared p cs') ls r)) (sym (held_without cs g r)) (go (same_place g r) refl)
     where
@@ -108,35 +148,56 @@ module _ (p : Image) (t : Typing) (cs : List Cell) (o : Object) (ls : List Layer
           none false = refl
 
       u : Untouched p (λ f. Null) o.name ls
-      u = untouched p t cs g o good.tidy good.stack.0.1 (λ f. Null) ls Gone (omega arith) good.stack.2
+      u = untouched p t cs g o tidy stack.0.1 (λ f. Null) ls Gone (omega arith) stack.2
 
-      same_declared : (r : Place) → ((n f : ℕ) → r ≡ Field n f → (o.name == n) ≡ false) → declared p cs r ≡ declared p cs' r
-      same_declared (Register f i) h = refl
-      same_declared (Entry k) h = refl
-      same_declared (Field n f) h = ap (λ x. declared_field p x f) (sym (named_without cs g o n good.tidy good.stack.0.1 (h n f refl)))
-      same_declared (Elsewhere Root) h = refl
-      same_declared (Elsewhere w) h = refl
-      same_declared (Going k) h = refl
+      name_gone : named (without (Going (length (tasks_of ls))) cs) o.name ≡ None
+      name_gone = unnamed cs g o tidy stack.0.1
 
-      keep : (r : Place) → claim p (declared p cs) (Dying o ∷ ls) r ≡ claim p (declared p cs) ls r → ((n f : ℕ) → r ≡ Field n f → (o.name == n) ≡ false) → Fits p (seen cs') (held cs r) (claim p (declared p cs') ls r)
-      keep r e h = fits_age p (seen cs) (seen cs') (held cs r) _ (λ x e' fresh age. (λ f. fewer (Field x.name f) (age.0 f), unrequested cs g x.name good.tidy age.1))
-          (subst (λ k. Fits p (seen cs) (held cs r) k) (e ∙ claim_rel (λ x y. x ≡ y) (λ k. refl) p (declared p cs) (declared p cs') ls r (same_declared r h)) (good.fits r))
+      keep : (r : Place) → is_queue_of o.name r ≡ false → claim p (declared p cs) (Dying o ∷ ls) r ≡ claim p (declared p cs) ls r → declared p cs r ≡ declared p (without (Going (length (tasks_of ls))) cs) r → Fits p (seen cs') (held cs r) (claim p (declared p cs') ls r)
+      keep r plain e h = fits_age p (seen cs) (seen cs') (held cs r) _ (λ x e' fresh age. (λ f. fewer (Field x.name f) (age.0 f), unrequested cs g x.name tidy age.1))
+          (subst (λ k. Fits p (seen cs) (held cs r) k) (e ∙ claim_rel (λ x y. x ≡ y) (λ k. refl) p (declared p cs) (declared p cs') ls r h) (fits r plain))
+
+      -- what is null and holds nothing goes on so
+      nothing : (r : Place) → held cs r ≡ None → claim p (declared p cs') ls r ≡ Null → Fits p (seen cs') (held cs r) (claim p (declared p cs') ls r)
+      nothing r gone null = subst (λ x. Fits p (seen cs') x (claim p (declared p cs') ls r)) (sym gone) (subst (λ k. Fits p (seen cs') None k) (sym null) tt)
 
       others : (r : Place) → same_place g r ≡ false → Fits p (seen cs') (held cs r) (claim p (declared p cs') ls r)
-      others (Register f i) e = keep (Register f i) refl (λ n m e. cc)
-      others (Entry k) e = keep (Entry k) refl (λ n m e. cc)
+      others (Register f i) e = keep (Register f i) refl refl refl
+      others (Entry k) e = keep (Entry k) refl refl refl
       others (Field n f) e = fields (o.name == n) refl
         where
+          own_field : held cs (Field o.name f) ≡ None
+          own_field = fits_unowning p (seen cs) _ Null refl (subst (λ b. Fits p (seen cs) (held cs (Field o.name f)) (cond b Null (claim p (declared p cs) ls (Field o.name f)))) (eq-eqb o.name _ refl) (fits (Field o.name f) refl))
+
           fields : (b : Bool) → (o.name == n) ≡ b → Fits p (seen cs') (held cs (Field n f)) (claim p (declared p cs') ls (Field n f))
           fields true d =
               let same = eqb-true o.name n d in
-              let gone = ap (λ m. held cs (Field m f)) (sym same) ∙ no_fields f in
-              let null = ap (λ m. claim p (declared p cs') ls (Field m f)) (sym same) ∙ claim_unclaimed p (declared p cs') ls o.name f (λ f. Null) u.unclaimed (ap (λ x. declared_field p x f) (unnamed cs g o good.tidy good.stack.0.1)) in
-              subst (λ x. Fits p (seen cs') x (claim p (declared p cs') ls (Field n f))) (sym gone) (subst (λ k. Fits p (seen cs') None k) (sym null) tt)
-          fields false d = keep (Field n f) (ap (λ b. cond b Null (claim p (declared p cs) ls (Field n f))) d) (λ m h e. let same : n ≡ m = cc in subst (λ m. (o.name == m) ≡ false) same d)
-      others (Elsewhere Root) e = keep (Elsewhere Root) refl (λ n m e. cc)
-      others (Elsewhere w) e = keep (Elsewhere w) refl (λ n m e. cc)
-      others (Going k) e = keep (Going k) (ap (λ b. cond b (Own o.thing Ready) (claim p (declared p cs) ls (Going k))) (tail (length (tasks_of ls) == k) e)) (λ n m e. cc)
+              nothing (Field n f) (ap (λ m. held cs (Field m f)) (sym same) ∙ own_field) (ap (λ m. claim p (declared p cs') ls (Field m f)) (sym same) ∙ claim_unclaimed p (declared p cs') ls o.name f (λ f. Null) u.unclaimed (ap (λ x. declared_field p x f) name_gone))
+          fields false d = keep (Field n f) refl (ap (λ b. cond b Null (claim p (declared p cs) ls (Field n f))) d) (ap (λ x. declared_field p x f) (sym (named_without cs g o n tidy stack.0.1 d)))
+      others (Elsewhere Root) e = keep (Elsewhere Root) refl refl refl
+      others (Elsewhere (Session n c)) e = sessions (o.name == n) refl
+        where
+          own_session : held cs (Elsewhere (Session o.name c)) ≡ None
+          own_session = fits_unowning p (seen cs) _ Null refl (subst (λ b. Fits p (seen cs) (held cs (Elsewhere (Session o.name c))) (cond b Null (claim p (declared p cs) ls (Elsewhere (Session o.name c))))) (eq-eqb o.name _ refl) (fits (Elsewhere (Session o.name c)) refl))
+
+          sessions : (b : Bool) → (o.name == n) ≡ b → Fits p (seen cs') (held cs (Elsewhere (Session n c))) (claim p (declared p cs') ls (Elsewhere (Session n c)))
+          sessions true d =
+              let same = eqb-true o.name n d in
+              nothing (Elsewhere (Session n c)) (ap (λ m. held cs (Elsewhere (Session m c))) (sym same) ∙ own_session)
+              (ap (λ m. claim p (declared p cs') ls (Elsewhere (Session m c))) (sym same) ∙ u.sessions (declared p cs') c ∙ ap (λ x. cond (has_session (service_of cs' o.name) c) (filled (session_thing p x) Full) Null) name_gone ∙ cond_same (has_session (service_of cs' o.name) c) Null)
+          sessions false d = keep (Elsewhere (Session n c)) refl (ap (λ b. cond b Null (claim p (declared p cs) ls (Elsewhere (Session n c)))) d)
+              (ap (λ v. cond (has_session v c) (filled (session_thing p (named cs n)) Full) Null) (sym (service_without cs g o n tidy stack.0.1 d)) ∙ ap (λ x. cond (has_session (service_of cs' n) c) (filled (session_thing p x) Full) Null) (sym (named_without cs g o n tidy stack.0.1 d)))
+      others (Elsewhere In_service) e = keep (Elsewhere In_service) refl refl refl
+      others (Elsewhere (Queued n m)) e = waits (o.name == n) refl
+        where
+          waits : (b : Bool) → (o.name == n) ≡ b → Fits p (seen cs') (held cs (Elsewhere (Queued n m))) (claim p (declared p cs') ls (Elsewhere (Queued n m)))
+          waits true d =
+              let same = eqb-true o.name n d in
+              nothing (Elsewhere (Queued n m)) (ap (λ k. held cs (Elsewhere (Queued k m))) (sym same) ∙ unqueued m)
+              (ap (λ k. claim p (declared p cs') ls (Elsewhere (Queued k m))) (sym same) ∙ queued_claim p (declared p cs') ls o.name m ∙ ap (λ x. cond (has_message (service_of cs' o.name) m) (filled (message_thing p x) Full) Null) name_gone ∙ cond_same (has_message (service_of cs' o.name) m) Null)
+          waits false d = keep (Elsewhere (Queued n m)) (eqb_comm n o.name ∙ d) refl
+              (ap (λ v. cond (has_message v m) (filled (message_thing p (named cs n)) Full) Null) (sym (service_without cs g o n tidy stack.0.1 d)) ∙ ap (λ x. cond (has_message (service_of cs' n) m) (filled (message_thing p x) Full) Null) (sym (named_without cs g o n tidy stack.0.1 d)))
+      others (Going k) e = keep (Going k) refl (ap (λ b. cond b (Own o.thing Ready) (claim p (declared p cs) ls (Going k))) (tail (length (tasks_of ls) == k) e)) refl
         where
           tail : (b : Bool) → (b && true) ≡ false → b ≡ false
           tail true e = e
@@ -155,22 +216,22 @@ module _ (p : Image) (t : Typing) (cs : List Cell) (o : Object) (ls : List Layer
 
       go : (b : Bool) → (o.name == x.name) ≡ b → Suits (thing_kind p x.thing) (states_claim p x ls) (requested (without g cs) x.name)
       go true same =
-          let gone : named (without g cs) x.name ≡ None = ap (λ n. named (without g cs) n) (sym (eqb-true o.name x.name same)) ∙ unnamed cs g o good.tidy good.stack.0.1 in
+          let gone : named (without g cs) x.name ≡ None = ap (λ n. named (without g cs) n) (sym (eqb-true o.name x.name same)) ∙ unnamed cs g o tidy stack.0.1 in
           let clash : Some x ≡ None = sym lives ∙ gone in cc
       go false other =
-          let there = sym (named_without cs g o x.name good.tidy good.stack.0.1 other) ∙ lives in
-          subst (λ r. Suits (thing_kind p x.thing) (states_claim p x ls) r) (sym (requested_without cs g o x.name good.tidy good.stack.0.1 other))
-          (subst (λ b. Suits (thing_kind p x.thing) (cond b (resting_in (last_of (thing_kind p x.thing))) (states_claim p x ls)) (requested cs x.name)) other (good.suits x there))
+          let there = sym (named_without cs g o x.name tidy stack.0.1 other) ∙ lives in
+          subst (λ r. Suits (thing_kind p x.thing) (states_claim p x ls) r) (sym (requested_without cs g o x.name tidy stack.0.1 other))
+          (subst (λ b. Suits (thing_kind p x.thing) (cond b (resting_in (last_of (thing_kind p x.thing))) (states_claim p x ls)) (requested cs x.name)) other (suits x there))
 
 -- the method below goes on, or the run is at its end
 goes_on : (p : Image) (t : Typing) (s : State) (ls : List Layer) → Stack p t s.cells Gone ls → ((r : Place) → Fits p (seen s.cells) (held s.cells r) (claim p (declared p s.cells) ls r)) → AllSuit p s.cells ls → Tidy s.cells → s.tasks ≡ resumed (tasks_of ls) → forms s.items ≡ items_of ls → AllUndo p s.items → WellTyped p t s
 goes_on p t s [] stack fits suits tidy tasks items undos = let clash : Gone ≡ Now = stack in cc
 goes_on p t s (Method fr sh ∷ ls) stack fits suits tidy tasks items undos =
     let f : Fitted p t s.cells (next fr) sh ls = record {
-      fits = λ r. subst (λ k. Fits p (seen s.cells) (held s.cells r) k) (sym (claim_frame p (declared p s.cells) fr (next fr) sh ls r refl)) (fits r);
+      fits = λ r. subst (λ k. Fits p (seen s.cells) (held s.cells r) k) (sym (claim_frame p (declared p s.cells) fr (next fr) sh ls r refl refl)) (fits r);
       suits = suits;
       tidy = tidy;
-      frames = record { words = stack.1.words; holder = stack.1.holder; height = stack.1.height; alone = stack.1.alone };
+      frames = record { words = stack.1.words; holder = stack.1.holder; height = stack.1.height; alone = stack.1.alone; message = stack.1.message };
       housed = stack.2;
       apart = stack.3;
       stack = stack.4;
@@ -178,9 +239,11 @@ goes_on p t s (Method fr sh ∷ ls) stack fits suits tidy tasks items undos =
     let g = settle p t s.cells (next fr) sh ls f stack.0 in
     record { layers = Method (next fr) g.0 ∷ ls; tasks = tasks; items = items ∙ ap (λ es. objects es (items_of ls)) (sym g.2); undos = undos; good = g.1 }
 goes_on p t s (Unwinding code es ∷ ls) stack fits suits tidy tasks items undos = record { layers = Unwinding code es ∷ ls; tasks = tasks; items = items; undos = undos; good = record { stack = (tt, stack.1); fits = fits; suits = suits; tidy = tidy } }
-goes_on p t s (Dispatching Of_root seats ∷ ls) stack fits suits tidy tasks items undos = record { layers = Dispatching Of_root seats ∷ ls; tasks = tasks; items = items; undos = undos; good = record { stack = (tt, stack.1, stack.2, stack.3); fits = fits; suits = suits; tidy = tidy } }
+goes_on p t s (Dispatching Of_root seats ∷ ls) stack fits suits tidy tasks items undos = record { layers = Dispatching Of_root seats ∷ ls; tasks = tasks; items = items; undos = undos; good = record { stack = (tt, stack.1, stack.2, stack.3, stack.4); fits = fits; suits = suits; tidy = tidy } }
+goes_on p t s (Dispatching (Of_server x client Parts) seats ∷ ls) stack fits suits tidy tasks items undos = record { layers = Dispatching (Of_server x client Parts) seats ∷ ls; tasks = tasks; items = items; undos = undos; good = record { stack = (tt, stack.1, stack.2, stack.3, stack.4); fits = fits; suits = suits; tidy = tidy } }
+goes_on p t s (Ending o left ∷ ls) stack fits suits tidy tasks items undos = record { layers = Ending o left ∷ ls; tasks = tasks; items = items; undos = undos; good = record { stack = (stack.0, tt, stack.2, stack.3); fits = fits; suits = suits; tidy = tidy } }
 goes_on p t s (Dying o ∷ ls) stack fits suits tidy tasks items undos = record { layers = Dying o ∷ ls; tasks = tasks; items = items; undos = undos; good = record { stack = (stack.0, tt, stack.2); fits = fits; suits = suits; tidy = tidy } }
-goes_on p t s _ stack fits suits tidy tasks items undos = absurd (assumption tt)
+goes_on p t s _ stack fits suits tidy tasks items undos = absurd stack.0
 
 -- what is about to go is at rest
 dying_rests : (k : Option ClassKind) (r : Option Request) → Suits k (resting_in (last_of k)) r → is_at_rest r ≡ true
@@ -204,16 +267,81 @@ rests_as_it_goes p t cs o ls good =
     let suits = good.suits o good.stack.0.0 in
     dying_rests (thing_kind p o.thing) (requested cs o.name) (subst (λ b. Suits (thing_kind p o.thing) (cond b last (states_claim p o ls)) (requested cs o.name)) (eq-eqb o.name o.name refl) suits)
 
+-- what waits in its queue is a message
+module _ (p : Image) (t : Typing) (s : State) (o : Object) (ls : List Layer) (good : Good p t s.cells (Dying o ∷ ls)) where
+  abbrev waits : Place → Bool
+  waits = is_queue_of o.name
+
+  waits_sent : (r : Place) → is_queue_of o.name r ≡ true → is_sent r ≡ true
+  waits_sent (Elsewhere (Queued n m)) e = refl
+  waits_sent (Register f i) e = cc
+  waits_sent (Entry k) e = cc
+  waits_sent (Field n f) e = cc
+  waits_sent (Going k) e = cc
+  waits_sent (Elsewhere Root) e = cc
+  waits_sent (Elsewhere (Session n c)) e = cc
+  waits_sent (Elsewhere In_service) e = cc
+
+  waits_messages : (r : Place) (x : Object) → is_queue_of o.name r ≡ true → held s.cells r ≡ Some x → x.thing ≡ Message
+  waits_messages (Elsewhere (Queued n m)) x e there =
+      waits_message p (seen s.cells) x (has_message (service_of s.cells n) m) (named s.cells n)
+      (subst (λ k. Fits p (seen s.cells) (Some x) k) (queued_claim p (declared p s.cells) (Dying o ∷ ls) n m) (subst (λ y. Fits p (seen s.cells) y (claim p (declared p s.cells) (Dying o ∷ ls) (Elsewhere (Queued n m)))) there (good.fits (Elsewhere (Queued n m)))))
+  waits_messages (Register f i) x e there = cc
+  waits_messages (Entry k) x e there = cc
+  waits_messages (Field n f) x e there = cc
+  waits_messages (Going k) x e there = cc
+  waits_messages (Elsewhere Root) x e there = cc
+  waits_messages (Elsewhere (Session n c)) x e there = cc
+  waits_messages (Elsewhere In_service) x e there = cc
+
+  abbrev less : List Cell
+  less = dropped waits s.cells
+
+  abbrev g : Place
+  g = Going (length (tasks_of ls))
+
+  stack_less : Stack p t less Now (Dying o ∷ ls)
+  stack_less = stack_dropped waits p s.cells good.tidy waits_messages waits_sent t (Dying o ∷ ls) Now good.stack
+
+  tidy_less : Tidy less
+  tidy_less = tidy_dropped waits s.cells good.tidy
+
+  fits_less : (r : Place) → is_queue_of o.name r ≡ false → Fits p (seen less) (held less r) (claim p (declared p less) (Dying o ∷ ls) r)
+  fits_less r e =
+      subst (λ k. Fits p (seen less) (held less r) k) (claim_rel (λ x y. x ≡ y) (λ k. refl) p (declared p s.cells) (declared p less) (Dying o ∷ ls) r (sym (declared_dropped waits p s.cells good.tidy waits_messages r)))
+      (fits_dropped waits p s.cells good.tidy waits_messages r _ e (good.fits r))
+
+  suits_less : AllSuit p less (Dying o ∷ ls)
+  suits_less = suits_dropped waits p s.cells good.tidy waits_messages (Dying o ∷ ls) good.suits
+
+  none_waits : (m : ℕ) → held less (Elsewhere (Queued o.name m)) ≡ None
+  none_waits m = held_dropped waits s.cells (Elsewhere (Queued o.name m)) ∙ ap (λ b. cond b None (held s.cells (Elsewhere (Queued o.name m)))) (eq-eqb o.name _ refl)
+
+  rests_less : is_at_rest (requested less o.name) ≡ true
+  rests_less = ap is_at_rest (stays_same waits p s.cells good.tidy waits_messages g o refl good.stack.0.1).request ∙ rests_as_it_goes p t s.cells o ls good
+
+  -- the state once it is gone
+  abbrev after : List Cell → State
+  after cs = record s { cells = each_unslotted (service_of s.cells o.name).sessions (without g cs); tasks = resumed (tasks_of ls); clients = sessions_ended (service_of s.cells o.name).sessions (queue_ended (service_of s.cells o.name).queue s.clients) }
+
+  gone_well : forms s.items ≡ items_of ls → AllUndo p s.items → WellTyped p t (after less)
+  gone_well items undos =
+      let ss = (service_of s.cells o.name).sessions in
+      let cs2 = without g less in
+      let cs3 = each_unslotted ss cs2 in
+      let alike = each_unslotted_alike ss cs2 in
+      let requests = each_unslotted_requests ss cs2 in
+      goes_on p t (after less) ls
+      (stack_alike p t cs2 cs3 alike (λ n some. ap is_some (requests n) ∙ some) ls Gone (stack_without p t less g o tidy_less stack_less.0.1 ls Gone (omega arith) (λ from. tt) stack_less.2))
+      (λ r. fits_alike p t cs2 cs3 alike ls r (λ x e fresh. requests x.name) (fits_after p t less o ls stack_less tidy_less suits_less fits_less none_waits r))
+      (λ x lives. subst (λ r. Suits (thing_kind p x.thing) (states_claim p x ls) r) (sym (requests x.name)) (suits_after p t less o ls stack_less tidy_less suits_less fits_less none_waits x (sym (alike.named_so x.name) ∙ lives)))
+      (alike.tidy (tidy_without less g tidy_less))
+      refl items undos
+
 pub going_keeps : (p : Image) (t : Typing) (s : State) (o : Object) (ls : List Layer) → Good p t s.cells (Dying o ∷ ls) → forms s.items ≡ items_of ls → AllUndo p s.items → Keeps p t (gone (held s.cells (Going (length (tasks_of ls)))) (tasks_of ls) s)
 going_keeps p t s o ls good items undos =
-    let g = Going (length (tasks_of ls)) in
-    let after : State = record s { cells = without g s.cells; tasks = resumed (tasks_of ls) } in
+    let end = after p t s o ls good (without_queue o.name s.cells) in
     subst (λ x. Keeps p t (gone x (tasks_of ls) s)) (sym good.stack.0.1)
-    (subst (λ b. Keeps p t (cond b (guarded ((is_at_rest (requested s.cells o.name), ActiveDestroyed) ∷ []) after) (IsStuck Orphan))) (sym (nothing_in s.cells o.name (no_fields p t s.cells o ls good)))
-    (subst (λ b. Keeps p t (cond b (guarded [] after) (IsStuck ActiveDestroyed))) (sym (rests_as_it_goes p t s.cells o ls good))
-    (goes_on p t after ls
-    (stack_without p t s.cells g o good.tidy good.stack.0.1 ls Gone (omega arith) (λ from. tt) good.stack.2)
-    (fits_after p t s.cells o ls good)
-    (suits_after p t s.cells o ls good)
-    (tidy_without s.cells g good.tidy)
-    refl items undos)))
+    (subst (λ b. Keeps p t (cond b (guarded ((is_at_rest (requested (without_queue o.name s.cells) o.name), ActiveDestroyed) ∷ []) end) (IsStuck Orphan))) (sym (nothing_left p t s.cells o ls good))
+    (subst (λ b. Keeps p t (cond b (guarded [] end) (IsStuck ActiveDestroyed))) (sym (ap (λ l. is_at_rest (requested l o.name)) (queue_dropped o.name s.cells) ∙ rests_less p t s o ls good))
+    (subst (λ l. WellTyped p t (after p t s o ls good l)) (sym (queue_dropped o.name s.cells)) (gone_well p t s o ls good items undos))))

@@ -1,8 +1,8 @@
 -- Only registers that a method has come to own: an instruction names no other, and arguments come to the first ones.
 use Rattle.std.specs.Ordering.{int_eq}
 use Rattle.aom_image.specs.declared.method.Role.TheVariants.{Error}
-use Rattle.aom_sound.specs.World.{Heard, Outside, turn}
-use Rattle.aom_sound.proofs.Turned.{completes, keeps_all, kills, picks, turns_so}
+use Rattle.aom_sound.specs.World.{heard_one, taken_from, Heard, Outside, turn}
+use Rattle.aom_sound.proofs.Turned.{obeys, handles, accepts, attends, parts, completes, keeps_all, kills, picks, turns_so}
 use Rattle.std.proofs.Common.{Bool, List, None, Option, Some, [], arith, cond, false, length, refl, subst, suc, true, ℕ, ℤ, ◌+◌, ◌∷◌, ◌≡◌, ◌≤◌, pos}
 use Rattle.aom_image.specs.Image.{Image}
 use Rattle.aom_instructions.specs.Operands.{IsRegister}
@@ -15,19 +15,25 @@ use Rattle.aom_image.specs.declared.method.Gives.{Gives}
 use Rattle.aom_image.specs.declared.method.Gives.TheVariants.{Left, Maybe as A_maybe, Nothing, Own as An_own, Word as A_word}
 use Rattle.aom_sound.proofs.Fitting.{EffectFits, SpotFits, UpdateFits, fits}
 use Rattle.aom_sound.proofs.Guarded.{goes_same, guarded_goes, guarded_met}
-use Rattle.aom_sound.specs.Calls.{passed_cells, result_cells, result_register, returned}
+use Rattle.aom_sound.specs.Calls.{accepted_cells, passed_cells, result_cells, result_register, returned}
 use Rattle.aom_sound.specs.Cleanup.{arrived, dealt_with, destroyed, top_is_whole, top_place, unwound}
-use Rattle.aom_sound.specs.Destruction.{gone, needs_gone}
-use Rattle.aom_sound.specs.Effects.{Calls, Cancels, Carried, Destroys, Destroys_last, Effect, Goes_on, In_field, In_register, Leaves, Made, Popped, Pushed, Requested, Returns, Sets_trap, Spot, Update, Written, applied, cells_after, effect, spot_place, Sessioned}
+use Rattle.aom_sound.specs.Destruction.{vanished, parting, parting_from, first_session, closing, gone, needs_gone}
+use Rattle.aom_sound.specs.Effects.{Replied, The_message, Calls, Cancels, Carried, Destroys, Destroys_last, Effect, Goes_on, In_field, In_register, Leaves, Made, Popped, Pushed, Requested, Returns, Sets_trap, Spot, Update, Written, applied, cells_after, effect, spot_place, Sessioned}
 use Rattle.aom_sound.specs.Enlisted.{cancelled, cancelling, ended_cells, on_request, own_request, rerequested, part_of}
 use Rattle.aom_sound.specs.Laws.{IsWired, RegistersKeep}
-use Rattle.aom_sound.specs.Moves.{counted, dispatch_ends, does, main_ends, needs, step, step_instr, step_task, answered, asking, failed, handled, object_ends}
-use Rattle.aom_sound.specs.Places.{Cell, Elsewhere, Entry, Going, Object, Place, Register, Request, Root, held, moved, same_place, set_request, set_word_field, without, set_session}
+use Rattle.aom_sound.specs.Moves.{needs_end, counted, dispatch_ends, does, main_ends, needs, step, step_instr, step_task, answered, asking, failed, handled, object_ends}
+use Rattle.aom_sound.specs.Places.{Service, set_service, Session, In_service, Queued, service_of, Cell, Elsewhere, Entry, Going, Object, Place, Register, Request, Root, held, moved, same_place, set_request, set_word_field, without, set_session}
 use Rattle.aom_sound.specs.Registers.{AllInRange, IsInRange}
-use Rattle.aom_sound.specs.State.{A_mark, An_object, An_operation, AtRoot, Choice, Destroy, Dispatch, Dispatched, Frame, Goes, Home, Inside, IsStuck, Item, Main_left, NullOrDead, Of_main, Of_root, Run, State, Static, Task, Trapped, Unwind, field_place, resumed, Answered, Asks, Object_left, Of_object}
+use Rattle.aom_sound.specs.State.{Seat, Of_server, Accepts, Accepted, Accept_left, Serves, Service_left, Parts, Closing, A_mark, An_object, An_operation, AtRoot, Choice, Destroy, Dispatch, Dispatched, Frame, Goes, Home, Inside, IsStuck, Item, Main_left, NullOrDead, Of_main, Of_root, Run, State, Static, Task, Trapped, Unwind, field_place, Answered, Asks, Object_left, Of_object}
 use Rattle.aom_sound.specs.Words.{here, stored}
 use Rattle.aom_rules.specs.Requests.{is_cancel}
 use Rattle.aom_sound.specs.Natives.{all_bereaved, resessioned}
+use Rattle.aom_sound.specs.Servers.{withdrawn, without_queue, is_queue, is_from, left_by, is_queue_of, all_unslotted}
+use Rattle.aom_sound.specs.Clients.{each_unslotted, Command, commanded, Connects, Sends, Closes, Dies, Listed, connecting, sending, leaving, told, client_at}
+use Rattle.aom_clients.specs.declared.client.Client.{Client}
+use Rattle.aom_clients.specs.declared.client.Client.TheVariants.{Open}
+use Rattle.aom_clients.specs.declared.refusal.Refusal.{Refusal}
+use Rattle.std.specs.Prelude.{◌&&◌}
 
 move_in_range : (p q : Place) (cs : List Cell) → IsInRange q → AllInRange cs → AllInRange (moved p q cs)
 move_in_range p q [] fits all = tt
@@ -61,6 +67,31 @@ bereaved_in_range : (p : Image) (n : ℕ) (cs : List Cell) → AllInRange cs →
 bereaved_in_range p n [] all = tt
 bereaved_in_range p n (c ∷ cs) all = (all.0, bereaved_in_range p n cs all.1)
 
+-- what clients have at cells changes no owner but where a message goes
+serve_in_range : (n : ℕ) (v : Service) (cs : List Cell) → AllInRange cs → AllInRange (set_service n v cs)
+serve_in_range n v [] all = tt
+serve_in_range n v (c ∷ cs) all = (all.0, serve_in_range n v cs all.1)
+
+fewer_in_range : (b : Bool) (c : Cell) (cs : List Cell) → IsInRange c.owner → AllInRange cs → AllInRange (cond b cs (c ∷ cs))
+fewer_in_range true c cs fits all = all
+fewer_in_range false c cs fits all = (fits, all)
+
+withdrawn_in_range : (client : ℕ) (cs : List Cell) → AllInRange cs → AllInRange (withdrawn client cs)
+withdrawn_in_range client [] all = tt
+withdrawn_in_range client (c ∷ cs) all = fewer_in_range (is_queue c.owner && is_from client c.service.sender) (record c { service = left_by client c.service }) (withdrawn client cs) all.0 (withdrawn_in_range client cs all.1)
+
+dequeued_in_range : (n : ℕ) (cs : List Cell) → AllInRange cs → AllInRange (without_queue n cs)
+dequeued_in_range n [] all = tt
+dequeued_in_range n (c ∷ cs) all = fewer_in_range (is_queue_of n c.owner) c (without_queue n cs) all.0 (dequeued_in_range n cs all.1)
+
+unslotted_in_range : (client : ℕ) (cs : List Cell) → AllInRange cs → AllInRange (all_unslotted client cs)
+unslotted_in_range client [] all = tt
+unslotted_in_range client (c ∷ cs) all = (all.0, unslotted_in_range client cs all.1)
+
+each_unslotted_in_range : (clients : List ℕ) (cs : List Cell) → AllInRange cs → AllInRange (each_unslotted clients cs)
+each_unslotted_in_range [] cs all = all
+each_unslotted_in_range (c ∷ clients) cs all = each_unslotted_in_range clients (all_unslotted c cs) (unslotted_in_range c cs all)
+
 field_in_range : (home : Home) (f : ℕ) → IsInRange (field_place home f)
 field_in_range Static f = tt
 field_in_range AtRoot f = tt
@@ -90,6 +121,7 @@ module _ (p : Image) (wired : IsWired p) (fr : Frame) (ts : List Task) (s : Stat
   spot_in_range : (spot : Spot) → SpotFits p spot → IsInRange (spot_place p fr ts s spot)
   spot_in_range (In_register a) fits = fits
   spot_in_range (In_field f) fits = field_in_range fr.home f
+  spot_in_range The_message fits = tt
 
   store_in_range : (home : Home) (w : ℕ) (v : ℤ) → AllInRange (stored s.cells home w v)
   store_in_range Static w v = all
@@ -113,6 +145,7 @@ module _ (p : Image) (wired : IsWired p) (fr : Frame) (ts : List Task) (s : Stat
   update_in_range (Requested r) fits = request_in_range fr.home r
   update_in_range (Sessioned session) fits = session_in_range fr.home session
   update_in_range (Pushed a) fits = move_in_range (here fr ts s a) (Entry (length s.items)) s.cells tt all
+  update_in_range (Replied a) fits = end_in_range (here fr ts s a) s.cells all
   update_in_range (Popped a) fits = move_in_range (top_place s.items) (here fr ts s a) s.cells fits all
   update_in_range _ fits = all
 
@@ -133,6 +166,11 @@ module _ (p : Image) (wired : IsWired p) (fr : Frame) (ts : List Task) (s : Stat
   return_in_range : (g : Gives) (a : ℕ) (below : List Task) → AllInRange (returned p fr ts s g a below).cells
   return_in_range g a (Run caller ∷ below) = bring_in_range g a _ below (result_in_range p wired caller.method caller.place)
   return_in_range g a (Trapped ∷ Run caller ∷ below) = bring_in_range g a _ below (result_in_range p wired caller.method caller.place)
+  return_in_range g a (Trapped ∷ Dispatched d ∷ below) = go d
+    where
+      go : (d : Dispatch) → AllInRange (accepted_cells d (here fr ts s a) s.cells)
+      go (Of_server x client Accepts) = serve_in_range x.object.name _ (moved (here fr ts s a) (Elsewhere (Session x.object.name client)) s.cells) (move_in_range (here fr ts s a) (Elsewhere (Session x.object.name client)) s.cells tt all)
+      go _ = all
   return_in_range g a (Trapped ∷ _) = all
   return_in_range g a _ = all
 
@@ -177,8 +215,21 @@ unwind_in_range p code ts (A_mark ∷ items) s u all e = arrive_in_range p code 
 go_in_range : (o : Option Object) (ts : List Task) (s u : State) → AllInRange s.cells → gone o ts s ≡ Goes u → AllInRange u.cells
 go_in_range None ts s u all e = cc
 go_in_range (Some o) ts s u all e =
-    subst (λ v. AllInRange v.cells) (guarded_goes (needs_gone s.cells o) (record s { cells = without (Going (length ts)) s.cells; tasks = resumed ts }) u e)
-    (end_in_range (Going (length ts)) s.cells all)
+    subst (λ v. AllInRange v.cells) (guarded_goes (needs_gone (without_queue o.name s.cells) o) (vanished o ts s) u e)
+    (each_unslotted_in_range (service_of s.cells o.name).sessions (without (Going (length ts)) (without_queue o.name s.cells)) (end_in_range (Going (length ts)) (without_queue o.name s.cells) (dequeued_in_range o.name s.cells all)))
+
+-- a session goes before its server
+parting_in_range : (p : Image) (o : Object) (x : Option Seat) (below : List Task) (s : State) → AllInRange s.cells → AllInRange (parting p o x below s).cells
+parting_in_range p o None below s all = all
+parting_in_range p o (Some x) below s all = move_in_range x.place (Going (suc (suc (length below)))) s.cells tt all
+
+closing_in_range : (p : Image) (ts : List Task) (s u : State) → AllInRange s.cells → closing p ts s ≡ Goes u → AllInRange u.cells
+closing_in_range p (Destroy ∷ ts) s u all e = go (held s.cells (Going (length ts))) e
+  where
+    go : (o : Option Object) → parting_from p o ts s ≡ Goes u → AllInRange u.cells
+    go None e = cc
+    go (Some o) e = subst (λ v. AllInRange v.cells) (goes_same _ u e) (parting_in_range p o (first_session s.cells o.name (service_of s.cells o.name).sessions) ts s all)
+closing_in_range p _ s u all e = cc
 
 close_in_range : (p : Image) (s : State) (b : Bool) (root : Option Object) → AllInRange s.cells → AllInRange (main_ends p b root s).cells
 close_in_range p s true (Some o) all = move_in_range (Elsewhere Root) (Going 1) s.cells tt all
@@ -207,6 +258,37 @@ dispatch_in_range p (Object_left x code) s all = go (part_of p Error x.object.th
     go (Some m) = all
 dispatch_in_range p (Asks x) s all = object_in_range p s all
 dispatch_in_range p (Answered x answer) s all = answer_in_range p answer s all
+dispatch_in_range p (Of_server x client Accepts) s all = all
+dispatch_in_range p (Of_server x client Accepted) s all = all
+dispatch_in_range p (Of_server x client (Accept_left code)) s all = all
+dispatch_in_range p (Of_server x client (Serves o)) s all = all
+dispatch_in_range p (Of_server x client (Service_left code)) s all = end_in_range (Elsewhere In_service) s.cells all
+dispatch_in_range p (Of_server x client Parts) s all = serve_in_range x.object.name _ s.cells all
+
+-- what clients do
+module _ (p : Image) (client : ℕ) (s : State) (all : AllInRange s.cells) where
+  connects_in_range : (refused : Option Refusal) (server : Option Listed) (slots : ℕ) → AllInRange (connecting p client s refused server slots).cells
+  connects_in_range None (Some x) slots = serve_in_range x.name _ s.cells all
+  connects_in_range None None slots = all
+  connects_in_range (Some r) server slots = all
+
+  sends_in_range : (refused : Option Refusal) (c : Client) (name : ℕ) (words : List ℤ) → AllInRange (sending p client s refused c name words).cells
+  sends_in_range None (Open server session slots) name words = (tt, serve_in_range server _ s.cells all)
+  sends_in_range _ _ name words = all
+
+  tells_in_range : (c : Client) (cs : List Cell) → AllInRange cs → AllInRange (told p client s c cs)
+  tells_in_range (Open server session slots) cs all = serve_in_range server _ cs all
+  tells_in_range _ cs all = all
+
+  leaves_in_range : (to : Option Client) → AllInRange (leaving p client s to).cells
+  leaves_in_range None = all
+  leaves_in_range (Some to) = tells_in_range (client_at s.clients client) (withdrawn client s.cells) (withdrawn_in_range client s.cells all)
+
+  commands_in_range : (command : Command) (name : ℕ) → AllInRange (commanded p client s command name).cells
+  commands_in_range (Connects class slots) name = connects_in_range _ _ slots
+  commands_in_range (Sends words) name = sends_in_range _ _ name words
+  commands_in_range Closes name = leaves_in_range _
+  commands_in_range Dies name = leaves_in_range _
 
 moves : (p : Image) → IsWired p → (c : Choice) (s u : State) → AllInRange s.cells → step p c s ≡ Goes u → AllInRange u.cells
 moves p wired c s u all e = go s.tasks e
@@ -223,15 +305,22 @@ moves p wired c s u all e = go s.tasks e
             (apply_in_range p wired fr ts (counted p s) all (effect p c fr ts (counted p s) i) ((fits p c fr ts (counted p s) i (guarded_met (needs p c fr ts (counted p s) i) (does p c fr ts (counted p s) i) u e)).1 named.0 named.1))
     go (Trapped ∷ ts) e = cc
     go (Destroy ∷ ts) e = go_in_range (held s.cells (Going (length ts))) ts (counted p s) u all e
+    go (Closing ∷ ts) e = closing_in_range p ts (counted p s) u all e
     go (Unwind code ∷ ts) e = unwind_in_range p code ts s.items (counted p s) u all e
-    go (Dispatched d ∷ ts) e = subst (λ v. AllInRange v.cells) (goes_same _ u e) (dispatch_in_range p d (counted p s) all)
+    go (Dispatched d ∷ ts) e = subst (λ v. AllInRange v.cells) (guarded_goes (needs_end d s.cells) _ u e) (dispatch_in_range p d (counted p s) all)
 
 turns : (p : Image) (outside : Outside) (heard : Heard) (s u : State) → AllInRange s.cells → turn p outside heard s ≡ Goes u → AllInRange u.cells
 turns p outside heard s u all e = elim (turns_so p outside heard s u e) as (λ v d. AllInRange v.cells) [
   | keeps_all r ↦ all
   | completes code o r other ↦ asks_in_range o.name _ s.cells all
   | kills n r k ↦ bereaved_in_range p n s.cells all
-  | picks x m at ↦ asks_in_range x.object.name _ s.cells all
+  | obeys client command name ↦ commands_in_range p client (heard_one s) all command name
+  | picks x v d ↦ elim d as (λ v d. AllInRange v.cells) [
+    | handles m at ↦ asks_in_range x.object.name _ s.cells all
+    | accepts client m at ↦ serve_in_range x.object.name _ s.cells all
+    | attends client message m o there at ↦ move_in_range (Elsewhere (Queued x.object.name message)) (Elsewhere In_service) (taken_from x.object.name s).cells tt (serve_in_range x.object.name _ s.cells all)
+    | parts client o there ↦ move_in_range (Elsewhere (Session x.object.name client)) (Going 1) (taken_from x.object.name s).cells tt (serve_in_range x.object.name _ s.cells all)
+  ]
 ]
 
 pub registers_keep : RegistersKeep

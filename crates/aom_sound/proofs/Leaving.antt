@@ -16,11 +16,15 @@ use Rattle.aom_sound.proofs.Finishing.{ended, none_owns_at, none_owns_from}
 use Rattle.aom_sound.proofs.Straight.{At, Fitted, Law, claim_register, fits_unowning, fitted, settle, stepped, well}
 use Rattle.aom_sound.proofs.Words.{has_word}
 use Rattle.aom_sound.specs.Calls.{none_owns_but}
-use Rattle.aom_sound.specs.Claims.{Dispatching, Dying, Form, Layer, Mark, Method, Unwinding, claim, declared, entry_claim, entry_form, forms, home_claim, items_of, objects, root_claim, tasks_of}
+use Rattle.aom_sound.specs.Claims.{Dispatching, Dying, Form, Layer, Mark, Method, Unwinding, claim, declared, entry_claim, entry_form, forms, home_claim, items_of, objects, root_claim, tasks_of, Ending, delivered, serves}
+use Rattle.aom_sound.proofs.Attending.{served_claim}
+use Rattle.aom_shape.specs.Kinds.{is_here}
+use Rattle.aom_shape.specs.declared.kind.Delivery.{Delivery}
+use Rattle.aom_shape.specs.declared.kind.Delivery.TheVariants.{Gone, Here}
 use Rattle.aom_sound.specs.Cleanup.{above_trap_is_free, has_trap, is_negative, leave_needs, to_trap}
-use Rattle.aom_sound.specs.Places.{Cell, Elsewhere, Entry, Field, Going, Object, Place, Register, Request, Root, Sight, held, named, requested, seen}
-use Rattle.aom_sound.specs.State.{Asks, AtRoot, Choice, Dispatch, Frame, Home, Inside, Run, State, Static, Unwind, next}
-use Rattle.aom_sound.specs.WellTyped.{AllUndo, EndsDispatch, Fits, IsApart, IsHoused, Leaves, Returns, Stack, WellTyped, past_going}
+use Rattle.aom_sound.specs.Places.{In_service, Cell, Elsewhere, Entry, Field, Going, Object, Place, Register, Request, Root, Sight, held, named, requested, seen}
+use Rattle.aom_sound.specs.State.{Asks, AtRoot, Choice, Dispatch, Frame, Home, Inside, Run, State, Static, Unwind, next, Of_server, Accepts, Accepted, Accept_left, Serves, Service_left, Parts}
+use Rattle.aom_sound.specs.WellTyped.{HasMessage, AllUndo, EndsDispatch, Fits, IsApart, IsHoused, Leaves, Returns, Stack, WellTyped, past_going}
 use Rattle.aom_sound.specs.Effects.{Leaves, Same, applied, updates}
 use Rattle.aom_sound.specs.Words.{read}
 use Rattle.aom_rules.specs.Requests.{is_cancel, unissued}
@@ -37,6 +41,7 @@ entries_over [] = []
 entries_over (Method fr sh ∷ ls) = sh.entries ++ entries_over ls
 entries_over (Mark gv ∷ ls) = []
 entries_over (Dying o ∷ ls) = []
+entries_over (Ending o left ∷ ls) = []
 entries_over (Unwinding code es ∷ ls) = []
 entries_over (Dispatching d seats ∷ ls) = []
 
@@ -46,6 +51,7 @@ from_trap [] = []
 from_trap (Method fr sh ∷ ls) = from_trap ls
 from_trap (Mark gv ∷ ls) = Mark gv ∷ ls
 from_trap (Dying o ∷ ls) = Dying o ∷ ls
+from_trap (Ending o left ∷ ls) = Ending o left ∷ ls
 from_trap (Unwinding code es ∷ ls) = Unwinding code es ∷ ls
 from_trap (Dispatching d seats ∷ ls) = Dispatching d seats ∷ ls
 
@@ -79,6 +85,12 @@ join_claims p d code es fs ls (Going k) = refl
 -- what lies under a method that may leave: neither the end of the run nor a dispatch's
 no_end : {A : Type 0} (p : Image) (d : Dispatch) (m : ℕ) (home : Home) → leaves p m ≡ true → EndsDispatch p d (Returns m home) → A
 no_end p (Asks x) m home may e = absurd (true≢false (sym may ∙ e.0))
+no_end p (Of_server x c Accepts) m home may e = absurd e
+no_end p (Of_server x c Accepted) m home may e = absurd e
+no_end p (Of_server x c (Accept_left code)) m home may e = absurd e
+no_end p (Of_server x c (Serves o)) m home may e = absurd e
+no_end p (Of_server x c (Service_left code)) m home may e = absurd e
+no_end p (Of_server x c Parts) m home may e = absurd e
 no_end p _ m home may e = absurd (assumption tt)
 
 not_going : (p : Image) (t : Typing) (cs : List Cell) (ls : List Layer) (m : ℕ) (home : Home) → leaves p m ≡ true → Stack p t cs (Returns m home) ls → past_going ls ≡ ls
@@ -86,9 +98,13 @@ not_going p t cs (Dying o ∷ ls) m home e s = absurd (true≢false (sym e ∙ s
 not_going p t cs _ m home e s = refl
 
 -- a method ends by a leave, and its entries are still there
-ended_by_leave : (p : Image) (cs : List Cell) (fr : Frame) (sh : Shape) (ls : List Layer) (code : ℤ) → IsHoused p cs ls fr.home → IsApart p fr.home ls → past_going ls ≡ ls → none_owns sh.registers ≡ true → (r : Place) (h : Sight) (o : Option Object) → Fits p h o (claim p (declared p cs) (Method fr sh ∷ ls) r) → Fits p h o (claim p (declared p cs) (Unwinding code sh.entries ∷ ls) r)
-ended_by_leave p cs fr sh ls code housed apart at_top n r h o fits = go r fits
+ended_by_leave : (p : Image) (cs : List Cell) (fr : Frame) (sh : Shape) (ls : List Layer) (code : ℤ) → IsHoused p cs ls fr.home → IsApart p fr.home ls → past_going ls ≡ ls → none_owns sh.registers ≡ true → (serves p fr.method ≡ true → sh.delivery ≡ Here) → HasMessage p fr ls → (r : Place) (h : Sight) (o : Option Object) → Fits p h o (claim p (declared p cs) (Method fr sh ∷ ls) r) → Fits p h o (claim p (declared p cs) (Unwinding code sh.entries ∷ ls) r)
+ended_by_leave p cs fr sh ls code housed apart at_top n here served r h o fits = go r fits
   where
+    -- the message is where it was
+    message : serves p fr.method ≡ true → claim p (declared p cs) ls (Elsewhere In_service) ≡ delivered sh.delivery
+    message serving = served_claim p (declared p cs) ls (served.0 serving) ∙ sym (ap delivered (here serving))
+
     bare : Shape
     bare = record sh { entries = [] }
 
@@ -103,10 +119,11 @@ ended_by_leave p cs fr sh ls code housed apart at_top n r h o fits = go r fits
     same_root (Inside x from) k = refl
 
     go : (r : Place) → Fits p h o (claim p (declared p cs) (Method fr sh ∷ ls) r) → Fits p h o (claim p (declared p cs) (Unwinding code sh.entries ∷ ls) r)
-    go (Register f i) fits = ended p cs fr bare ls housed apart at_top refl n (Register f i) h o fits
+    go (Register f i) fits = ended p cs fr bare ls housed apart at_top refl n message (Register f i) h o fits
     go (Entry k) fits = fits
-    go (Field m f) fits = ended p cs fr bare ls housed apart at_top refl n (Field m f) h o (subst (λ k. Fits p h o k) (same_fields fr.home m f (claim p (declared p cs) ls (Field m f))) fits)
-    go (Elsewhere Root) fits = ended p cs fr bare ls housed apart at_top refl n (Elsewhere Root) h o (subst (λ k. Fits p h o k) (same_root fr.home (claim p (declared p cs) ls (Elsewhere Root))) fits)
+    go (Field m f) fits = ended p cs fr bare ls housed apart at_top refl n message (Field m f) h o (subst (λ k. Fits p h o k) (same_fields fr.home m f (claim p (declared p cs) ls (Field m f))) fits)
+    go (Elsewhere Root) fits = ended p cs fr bare ls housed apart at_top refl n message (Elsewhere Root) h o (subst (λ k. Fits p h o k) (same_root fr.home (claim p (declared p cs) ls (Elsewhere Root))) fits)
+    go (Elsewhere In_service) fits = ended p cs fr bare ls housed apart at_top refl n message (Elsewhere In_service) h o fits
     go _ fits = fits
 
 -- all methods over the trap end so
@@ -114,7 +131,7 @@ all_ended : (p : Image) (t : Typing) (cs : List Cell) (code : ℤ) (ls : List La
 all_ended p t cs code (Method fr sh ∷ ls) es m home e s r h o fits =
     let may = s.0.0 e in
     let d = declared p cs in
-    let one = layer_rel (λ x y. Fits p h o x → Fits p h o y) (λ k f. f) p (Unwinding code es) (length (tasks_of (Method fr sh ∷ ls))) (items_of (Method fr sh ∷ ls)) r _ _ (ended_by_leave p cs fr sh ls code s.2 s.3 (not_going p t cs ls _ _ may.0 s.4) may.1 r h o) fits in
+    let one = layer_rel (λ x y. Fits p h o x → Fits p h o y) (λ k f. f) p (Unwinding code es) (length (tasks_of (Method fr sh ∷ ls))) (items_of (Method fr sh ∷ ls)) r _ _ (ended_by_leave p cs fr sh ls code s.2 s.3 (not_going p t cs ls _ _ may.0 s.4) may.1 may.3 s.1.message r h o) fits in
     let two = subst (λ k. Fits p h o k) (join_claims p d code es sh.entries ls r) one in
     subst (λ es. Fits p h o (claim p d (Unwinding code es ∷ from_trap ls) r)) (append_assoc es sh.entries (entries_over ls))
     (all_ended p t cs code ls (es ++ sh.entries) fr.method fr.home may.0 s.4 r h o two)
@@ -259,9 +276,13 @@ leave_is_met p t cs fr top_frame sh ls g may n =
 pub trap_is_there : (p : Image) (t : Typing) (cs : List Cell) (fr : Frame) (sh : Shape) (ls : List Layer) → Fitted p t cs fr sh ls → leaves p fr.method ≡ true → none_owns sh.registers ≡ true → has_trap (tasks_of ls) ≡ true
 trap_is_there p t cs fr sh ls g may n = (leave_is_met p t cs fr fr sh ls g may n).0
 
+pub here_is : (d : Delivery) → is_here d ≡ true → d ≡ Here
+here_is Here e = refl
+here_is Gone e = cc
+
 -- a leave from such a state is well typed
-pub leave_keeps : (p : Image) (t : Typing) → IsWired p → (s : State) (code : ℤ) (fr : Frame) (sh : Shape) (ls : List Layer) → forms s.items ≡ objects sh.entries (items_of ls) → AllUndo p s.items → Fitted p t s.cells fr sh ls → leaves p fr.method ≡ true → none_owns sh.registers ≡ true → unissued sh.states ≡ true → WellTyped p t (record s { tasks = Unwind code ∷ to_trap (tasks_of ls) })
-leave_keeps p t wired s code fr sh ls items undos g may n u = record {
+pub leave_keeps : (p : Image) (t : Typing) → IsWired p → (s : State) (code : ℤ) (fr : Frame) (sh : Shape) (ls : List Layer) → forms s.items ≡ objects sh.entries (items_of ls) → AllUndo p s.items → Fitted p t s.cells fr sh ls → leaves p fr.method ≡ true → none_owns sh.registers ≡ true → unissued sh.states ≡ true → is_here sh.delivery ≡ true → WellTyped p t (record s { tasks = Unwind code ∷ to_trap (tasks_of ls) })
+leave_keeps p t wired s code fr sh ls items undos g may n u here = record {
   layers = Unwinding code (sh.entries ++ entries_over ls) ∷ from_trap ls;
   tasks = ap (λ ts. Unwind code ∷ ts) (tasks_from_trap ls);
   items = items ∙ ap (λ i. objects sh.entries i) (items_from_trap ls) ∙ sym (objects_append sh.entries (entries_over ls) (items_of (from_trap ls)));
@@ -269,7 +290,7 @@ leave_keeps p t wired s code fr sh ls items undos g may n u = record {
   good = record {
     stack = (tt, stack_from_trap p t s.cells ls fr.method fr.home may g.stack);
     fits = λ r. all_ended p t s.cells code ls sh.entries fr.method fr.home may g.stack r (seen s.cells) (held s.cells r)
-        (ended_by_leave p s.cells fr sh ls code g.housed g.apart (not_going p t s.cells ls _ _ may g.stack) n r (seen s.cells) (held s.cells r) (g.fits r));
+        (ended_by_leave p s.cells fr sh ls code g.housed g.apart (not_going p t s.cells ls _ _ may g.stack) n (λ serving. here_is sh.delivery here) g.frames.message r (seen s.cells) (held s.cells r) (g.fits r));
     suits = all_left p t wired s.cells code (sh.entries ++ entries_over ls) fr sh ls g may u;
     tidy = g.tidy;
   };
@@ -280,11 +301,11 @@ module _ (p : Image) (t : Typing) (wired : IsWired p) (c : Choice) (s : State) (
   met : leaves p fr.method ≡ true → none_owns sh.registers ≡ true → AllTrue (leave_needs s.cells (Run fr ∷ tasks_of ls))
   met may n = leave_is_met p t s.cells fr fr sh ls (fitted p t s.cells fr sh ls at_hand.good) may n
 
-  leaves_here : (code : ℤ) → leaves p fr.method ≡ true → none_owns sh.registers ≡ true → unissued sh.states ≡ true → WellTyped p t (applied p fr (tasks_of ls) s (Leaves code Same))
-  leaves_here code may n u = leave_keeps p t wired s code fr sh ls at_hand.items at_hand.undos (fitted p t s.cells fr sh ls at_hand.good) may n u
+  leaves_here : (code : ℤ) → leaves p fr.method ≡ true → none_owns sh.registers ≡ true → unissued sh.states ≡ true → is_here sh.delivery ≡ true → WellTyped p t (applied p fr (tasks_of ls) s (Leaves code Same))
+  leaves_here code may n u here = leave_keeps p t wired s code fr sh ls at_hand.items at_hand.undos (fitted p t s.cells fr sh ls at_hand.good) may n u here
 
   pub law_leave : (a : ℕ) → Law p t c s fr sh ls at_hand (Leave a)
-  law_leave a n leads = ((has_word p t c s fr sh ls at_hand a n.0, met n.1.0 n.1.1.0), leaves_here (read fr (tasks_of ls) s a) n.1.0 n.1.1.0 n.1.1.1.0)
+  law_leave a n leads = ((has_word p t c s fr sh ls at_hand a n.0, met n.1.0 n.1.1.0), leaves_here (read fr (tasks_of ls) s a) n.1.0 n.1.1.0 n.1.1.1.0 n.1.1.1.1.0)
 
   -- with a negative word only
   pub law_leave_if : (a : ℕ) → Law p t c s fr sh ls at_hand (LeaveIf a)
@@ -298,5 +319,5 @@ module _ (p : Image) (t : Typing) (wired : IsWired p) (c : Choice) (s : State) (
       needed false = tt
 
       goes : (b : Bool) → WellTyped p t (applied p fr (tasks_of ls) s (cond b (Leaves w Same) (updates fr Same)))
-      goes true = leaves_here w n.1.0 n.1.1.0 n.1.1.1.0
+      goes true = leaves_here w n.1.0 n.1.1.0 n.1.1.1.0 n.1.1.1.1.0
       goes false = well p t c s fr sh ls at_hand (applied p fr (tasks_of ls) s (updates fr Same)) (next fr) sh refl at_hand.items at_hand.undos (settle p t s.cells (next fr) sh ls (stepped p t s.cells fr sh ls (fitted p t s.cells fr sh ls at_hand.good)) leads.0)

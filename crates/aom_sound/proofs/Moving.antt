@@ -8,12 +8,13 @@ use Rattle.aom_shape.specs.Needs.{AllTrue}
 use Rattle.aom_sound.proofs.Fitting.{fits}
 use Rattle.aom_sound.proofs.Guarded.{goes_same, guarded_goes, guarded_met}
 use Rattle.aom_sound.specs.Cleanup.{arrived, destroyed, unwound}
-use Rattle.aom_sound.specs.Destruction.{gone, needs_gone}
+use Rattle.aom_sound.specs.Destruction.{vanished, parting_from, closing, gone, needs_gone}
 use Rattle.aom_sound.specs.Effects.{applied, effect}
-use Rattle.aom_sound.specs.Moves.{act, counted, does, needs, step_instr, step_task}
-use Rattle.aom_sound.specs.Places.{Entry, Going, Object, held, without}
-use Rattle.aom_sound.specs.State.{A_mark, An_object, An_operation, Choice, Destroy, Dispatched, Frame, Goes, IsStuck, Item, NullOrDead, Run, State, Task, Trapped, Unwind, resumed}
-use Rattle.aom_sound.specs.Steps.{Acts, Arrives, Clears, Comes_out, Ends, Fits, IsStill, Move, Rests, StepsAreMoves, Undoes, Vanishes}
+use Rattle.aom_sound.specs.Moves.{needs_end, act, counted, does, needs, step_instr, step_task}
+use Rattle.aom_sound.specs.Places.{Entry, Going, Object, held}
+use Rattle.aom_sound.specs.State.{Closing, A_mark, An_object, An_operation, Choice, Destroy, Dispatched, Frame, Goes, IsStuck, Item, NullOrDead, Run, State, Task, Trapped, Unwind}
+use Rattle.aom_sound.specs.Steps.{Empties, Acts, Arrives, Clears, Comes_out, Ends, Fits, IsStill, Move, Rests, StepsAreMoves, Undoes, Vanishes}
+use Rattle.aom_sound.specs.Servers.{without_queue}
 
 -- a cell goes
 vanishes : (p : Image) (c : Choice) (ts : List Task) (s u : State) → s.tasks ≡ Destroy ∷ ts → gone (held s.cells (Going (length ts))) ts (counted p s) ≡ Goes u → Move p c s u
@@ -22,9 +23,18 @@ vanishes p c ts s u at e = go (held s.cells (Going (length ts))) refl e
     go : (o : Option Object) → held s.cells (Going (length ts)) ≡ o → gone o ts (counted p s) ≡ Goes u → Move p c s u
     go None there e = cc
     go (Some o) there e =
-        let needed = needs_gone s.cells o in
-        let after : State = record (counted p s) { cells = without (Going (length ts)) s.cells; tasks = resumed ts } in
+        let needed = needs_gone (without_queue o.name s.cells) o in
+        let after : State = vanished o ts (counted p s) in
         Vanishes ts o at there (guarded_met needed after u e).0 (sym (guarded_goes needed after u e))
+
+-- a server that goes has its sessions go first
+empties : (p : Image) (c : Choice) (ts : List Task) (s u : State) → s.tasks ≡ Closing ∷ ts → closing p ts (counted p s) ≡ Goes u → Move p c s u
+empties p c (Destroy ∷ ts) s u at e = go (held s.cells (Going (length ts))) refl e
+  where
+    go : (o : Option Object) → held s.cells (Going (length ts)) ≡ o → parting_from p o ts (counted p s) ≡ Goes u → Move p c s u
+    go None there e = cc
+    go (Some o) there e = Empties ts o at there (sym (goes_same _ u e))
+empties p c _ s u at e = cc
 
 -- a code arrives
 arrives :
@@ -66,5 +76,6 @@ steps_are_moves p c s u e = go s.tasks refl e
     go (Run fr ∷ ts) at e = runs fr ts (instr_at p fr.method fr.place) at refl e
     go (Trapped ∷ ts) at e = cc
     go (Destroy ∷ ts) at e = vanishes p c ts s u at e
+    go (Closing ∷ ts) at e = empties p c ts s u at e
     go (Unwind code ∷ ts) at e = unwinds p c code ts s.items s u at refl e
-    go (Dispatched d ∷ ts) at e = Ends d ts at (sym (goes_same _ u e))
+    go (Dispatched d ∷ ts) at e = Ends d ts at (sym (guarded_goes (needs_end d s.cells) _ u e))

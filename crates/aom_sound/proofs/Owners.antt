@@ -1,5 +1,5 @@
 -- In a well-typed state each cell has one living owner, and following owners ends: by what the layers claim of the owner.
-use Rattle.std.proofs.Common.{Bool, List, None, Option, Some, [], ap, arith, cond, false, length, refl, subst, suc, sym, true, zero, ℕ, ⊎_elim, ◌+◌, ◌<◌, ◌==◌, ◌∙◌, ◌∷◌, ◌≡◌, ◌≤◌}
+use Rattle.std.proofs.Common.{Bool, List, None, Option, Some, [], ap, arith, cond, false, length, refl, subst, suc, sym, true, zero, ℕ, ⊎_elim, ◌&&◌, ◌+◌, ◌<◌, ◌==◌, ◌∙◌, ◌∷◌, ◌≡◌, ◌≤◌}
 use Rattle.aom_image.proofs.Given.{false_given}
 use Rattle.std.proofs.lemmas.Bool.{cases_lt, eqb-true, ne_eqb}
 use Rattle.std.proofs.lemmas.Option.{slice_get_within}
@@ -9,6 +9,8 @@ use Rattle.aom_image.specs.Views.{class_at, fields_in}
 use Rattle.aom_image.specs.declared.class.ClassDecl.{ClassDecl}
 use Rattle.aom_image.specs.declared.method.Thing.{Thing}
 use Rattle.aom_image.specs.declared.method.Thing.TheVariants.{Message, Object as An_object_of}
+use Rattle.aom_roles.specs.Classes.{kind_in, sessions_at, sessions_in}
+use Rattle.aom_roles.specs.Shapes.{kind_of}
 use Rattle.aom_shape.specs.Kinds.{entry_kind, field, filled, register}
 use Rattle.aom_shape.specs.Things.{Program, field_thing}
 use Rattle.aom_rules.specs.Typing.{Typing}
@@ -22,23 +24,24 @@ use Rattle.aom_sound.proofs.Claimed.{claim_entry_above, claim_register_above}
 use Rattle.aom_sound.proofs.Items.{length_forms}
 use Rattle.aom_sound.proofs.Maps.{same_place-true, same_place_refl}
 use Rattle.aom_sound.proofs.Things.{stands_same}
-use Rattle.aom_sound.specs.Claims.{Dispatching, Dying, Layer, Mark, Mark_form, Method, Object_form, Unwinding, claim, declared, declared_field, entry_claim, entry_form, form, forms, home_claim, items_of, objects, root_claim, task_of, tasks_of}
+use Rattle.aom_sound.specs.Claims.{Dispatching, Dying, Ending, Layer, Mark, Mark_form, Method, Object_form, Unwinding, by_close, by_stage, claim, delivered, serves, declared, declared_field, entry_claim, entry_form, form, forms, home_claim, items_of, objects, root_claim, task_of, tasks_of}
 use Rattle.aom_sound.specs.Laws.{EndsEmpty, EndsOwned, IsWired}
-use Rattle.aom_sound.specs.Owned.{AllOwned, Ends, HasRegisters, IsObjects, Lives, NoneGoes, Owned, at_entry, at_register, at_root, by_cell, over}
-use Rattle.aom_sound.specs.Places.{Cell, Elsewhere, Entry, Field, Going, Object, Place, Register, Root, Sight, Tidy, held, named, same_place, seen, Session, In_service, Queued}
+use Rattle.aom_sound.specs.Owned.{AllOwned, Ends, HasRegisters, HasService, IsObjects, Lives, NoneGoes, Owned, at_entry, at_register, at_root, at_service, by_cell, by_server, over}
+use Rattle.aom_sound.specs.Places.{Cell, Elsewhere, Entry, Field, Going, Object, Place, Register, Root, Sight, Tidy, held, named, same_place, seen, service_of, Session, In_service, Queued}
 use Rattle.aom_sound.specs.Registers.{AllInRange, IsInRange}
-use Rattle.aom_sound.specs.State.{An_object, AtRoot, Home, Inside, Item, Of_root, Run, State, Static, thing_holder}
-use Rattle.aom_sound.specs.WellTyped.{Back, Caught, Fits, Gone, IsHoused, Leaves, Now, Returns, Stack, WellTyped}
+use Rattle.aom_sound.specs.Servers.{has_message, has_session, is_among, is_server, message_thing, of_class, session_class, session_thing}
+use Rattle.aom_sound.specs.State.{An_object, AtRoot, Dispatch, Dispatched, Home, Inside, Item, Of_root, Of_server, Parts, Run, Service_left, Serves, State, Static, thing_holder}
+use Rattle.aom_sound.specs.WellTyped.{Back, Caught, Fits, Gone, IsHoused, IsServed, Leaves, Now, Returns, Stack, WellTyped}
 
 -- what a kind of an owning place says of the thing
-abbrev HasThing : Kind → Thing → Type 0
+abbrev pub HasThing : Kind → Thing → Type 0
 HasThing Unset x = ⊥
 HasThing Word x = ⊥
 HasThing Null x = ⊥
 HasThing (Own c a) x = x ≡ c
 HasThing (Maybe c a) x = x ≡ c
 
-fits_thing : (p : Image) (h : Sight) (o : Object) (k : Kind) → Fits p h (Some o) k → HasThing k o.thing
+pub fits_thing : (p : Image) (h : Sight) (o : Object) (k : Kind) → Fits p h (Some o) k → HasThing k o.thing
 fits_thing p h o (Own c a) f = stands_same p o.thing c f.0
 fits_thing p h o (Maybe c a) f = stands_same p o.thing c f.0
 fits_thing p h o _ f = f
@@ -91,9 +94,97 @@ field_thing_of p t cs (Method fr sh ∷ ls) back n f c s h = go fr.home s.2 (fie
         inside true e h = (o, ap (λ m. named cs m) (sym (eqb-true o.name n e)) ∙ hs.lives, filled_thing (field_thing p (thing_holder o.thing) f) (field sh f) c h)
         inside false e h = ih h
 field_thing_of p t cs (Mark gv ∷ ls) back n f c s h = field_thing_of p t cs ls (Caught gv) n f c s.1 h
+field_thing_of p t cs (Ending o left ∷ ls) back n f c s h = ending (o.name == n) refl (field_thing_of p t cs ls Now n f c s.3) h
+  where
+    ending : (b : Bool) → (o.name == n) ≡ b → (HasThing (claim p (declared p cs) ls (Field n f)) c → (o : Object) × (named cs n ≡ Some o) × (field_thing p (thing_holder o.thing) f ≡ Some c)) → HasThing (cond b (filled (field_thing p (thing_holder o.thing) f) Perhaps) (claim p (declared p cs) ls (Field n f))) c → (o : Object) × (named cs n ≡ Some o) × (field_thing p (thing_holder o.thing) f ≡ Some c)
+    ending true e below h = (o, ap (λ m. named cs m) (sym (eqb-true o.name n e)) ∙ s.0.lives, filled_thing (field_thing p (thing_holder o.thing) f) Perhaps c h)
+    ending false e below h = below h
 field_thing_of p t cs (Unwinding code es ∷ ls) back n f c s h = field_thing_of p t cs ls Leaves n f c s.1 h
 field_thing_of p t cs (Dispatching w seats ∷ ls) back n f c s h = declared_thing_of p cs n f c (subst (λ l. HasThing (claim p (declared p cs) l (Field n f)) c) s.1 h)
 field_thing_of p t cs (Dying o ∷ ls) back n f c s h = let ih : (HasThing (claim p (declared p cs) ls (Field n f)) c → (o : Object) × (named cs n ≡ Some o) × (field_thing p (thing_holder o.thing) f ≡ Some c)) = field_thing_of p t cs ls Gone n f c s.2 in false_given (λ b. HasThing (cond b Null (claim p (declared p cs) ls (Field n f))) c) (o.name == n) h (λ h. h) (λ _ h. ih h)
+
+-- ---- sessions and messages
+
+-- of a server that stands it is the session of a client that is among its sessions
+abbrev pub IsSessionAt : Image → List Cell → ℕ → ℕ → Thing → Type 0
+IsSessionAt p cs n c x = (o : Object) × (named cs n ≡ Some o) × (has_session (service_of cs n) c ≡ true) × (session_thing p (Some o) ≡ Some x)
+
+declared_session_of : (p : Image) (cs : List Cell) (n c : ℕ) (x : Thing) → HasThing (declared p cs (Elsewhere (Session n c))) x → IsSessionAt p cs n c x
+declared_session_of p cs n c x h = go (has_session (service_of cs n) c) refl (named cs n) refl h
+  where
+    go : (b : Bool) → has_session (service_of cs n) c ≡ b → (o : Option Object) → named cs n ≡ o → HasThing (cond b (filled (session_thing p o) Full) Null) x → IsSessionAt p cs n c x
+    go true e (Some o) f h = (o, f, e, filled_thing (session_thing p (Some o)) Full x h)
+    go true e None f h = absurd h
+    go false e o f h = absurd h
+
+-- where a close is served its session is claimed no more
+by_close_below : (d : Dispatch) (n c : ℕ) (k : Kind) (x : Thing) → HasThing (by_close d n c k) x → HasThing k x
+by_close_below (Of_server y client Parts) n c k x h = go ((y.object.name == n) && (client == c)) h
+  where
+    go : (b : Bool) → HasThing (cond b Null k) x → HasThing k x
+    go true h = absurd h
+    go false h = h
+by_close_below _ n c k x h = h
+
+pub session_thing_of : (p : Image) (t : Typing) (cs : List Cell) (ls : List Layer) (back : Back) (n c : ℕ) (x : Thing) → Stack p t cs back ls → HasThing (claim p (declared p cs) ls (Elsewhere (Session n c))) x → IsSessionAt p cs n c x
+session_thing_of p t cs [] back n c x s h = declared_session_of p cs n c x h
+session_thing_of p t cs (Method fr sh ∷ ls) back n c x s h = session_thing_of p t cs ls (Returns fr.method fr.home) n c x s.4 h
+session_thing_of p t cs (Mark gv ∷ ls) back n c x s h = session_thing_of p t cs ls (Caught gv) n c x s.1 h
+session_thing_of p t cs (Unwinding code es ∷ ls) back n c x s h = session_thing_of p t cs ls Leaves n c x s.1 h
+session_thing_of p t cs (Dispatching d seats ∷ ls) back n c x s h = declared_session_of p cs n c x (subst (λ l. HasThing (claim p (declared p cs) l (Elsewhere (Session n c))) x) s.1 (by_close_below d n c (claim p (declared p cs) ls (Elsewhere (Session n c))) x h))
+session_thing_of p t cs (Dying o ∷ ls) back n c x s h = go (o.name == n) (session_thing_of p t cs ls Gone n c x s.2) h
+  where
+    go : (b : Bool) → (HasThing (claim p (declared p cs) ls (Elsewhere (Session n c))) x → IsSessionAt p cs n c x) → HasThing (cond b Null (claim p (declared p cs) ls (Elsewhere (Session n c)))) x → IsSessionAt p cs n c x
+    go true below h = absurd h
+    go false below h = below h
+session_thing_of p t cs (Ending o left ∷ ls) back n c x s h = go (o.name == n) refl (is_among c left) refl (session_thing_of p t cs ls Now n c x s.3) h
+  where
+    go :
+        (b : Bool) → (o.name == n) ≡ b → (a : Bool) → is_among c left ≡ a → (HasThing (claim p (declared p cs) ls (Elsewhere (Session n c))) x → IsSessionAt p cs n c x) →
+        HasThing (cond b (cond a (filled (session_thing p (Some o)) Full) Null) (claim p (declared p cs) ls (Elsewhere (Session n c)))) x → IsSessionAt p cs n c x
+    go true e true f below h =
+        let same : o.name ≡ n = eqb-true o.name n e in
+        (o, ap (λ m. named cs m) (sym same) ∙ s.0.lives, ap (λ m. has_session (service_of cs m) c) (sym same) ∙ s.0.listed c f, filled_thing (session_thing p (Some o)) Full x h)
+    go true e false f below h = absurd h
+    go false e a f below h = below h
+
+-- a message that waits is in the queue of a server that stands
+abbrev pub IsQueuedAt : Image → List Cell → ℕ → ℕ → Thing → Type 0
+IsQueuedAt p cs n m x = (o : Object) × (named cs n ≡ Some o) × (has_message (service_of cs n) m ≡ true) × (message_thing p (Some o) ≡ Some x)
+
+pub queued_thing_of : (p : Image) (cs : List Cell) (ls : List Layer) (n m : ℕ) (x : Thing) → HasThing (claim p (declared p cs) ls (Elsewhere (Queued n m))) x → IsQueuedAt p cs n m x
+queued_thing_of p cs [] n m x h = go (has_message (service_of cs n) m) refl (named cs n) refl h
+  where
+    go : (b : Bool) → has_message (service_of cs n) m ≡ b → (o : Option Object) → named cs n ≡ o → HasThing (cond b (filled (message_thing p o) Full) Null) x → IsQueuedAt p cs n m x
+    go true e (Some o) f h = (o, f, e, filled_thing (message_thing p (Some o)) Full x h)
+    go true e None f h = absurd h
+    go false e o f h = absurd h
+queued_thing_of p cs (l ∷ ls) n m x h = queued_thing_of p cs ls n m x h
+
+-- a message is served under a dispatch that serves it
+served_below : (ls : List Layer) → IsServed ls → HasService (tasks_of ls)
+served_below (Mark gv ∷ Dispatching (Of_server x c (Serves o)) seats ∷ ls) h = refl
+served_below _ h = absurd h
+
+by_stage_serves : (d : Dispatch) (ls : List Layer) (k : Kind) (x : Thing) → (HasThing k x → ⊥) → HasThing (by_stage d k) x → HasService (Dispatched d ∷ tasks_of ls)
+by_stage_serves (Of_server y c (Serves o)) ls k x none h = refl
+by_stage_serves (Of_server y c (Service_left code)) ls k x none h = refl
+by_stage_serves _ ls k x none h = absurd (none h)
+
+pub service_lives : (p : Image) (t : Typing) (cs : List Cell) (ls : List Layer) (back : Back) (x : Thing) → Stack p t cs back ls → HasThing (claim p (declared p cs) ls (Elsewhere In_service)) x → HasService (tasks_of ls)
+service_lives p t cs [] back x s h = absurd h
+service_lives p t cs (Method fr sh ∷ ls) back x s h = go (serves p fr.method) refl (service_lives p t cs ls (Returns fr.method fr.home) x s.4) h
+  where
+    go :
+        (b : Bool) → serves p fr.method ≡ b → (HasThing (claim p (declared p cs) ls (Elsewhere In_service)) x → HasService (tasks_of ls)) →
+        HasThing (cond b (delivered sh.delivery) (claim p (declared p cs) ls (Elsewhere In_service))) x → HasService (tasks_of ls)
+    go true e below h = served_below ls (s.1.message.0 e)
+    go false e below h = below h
+service_lives p t cs (Mark gv ∷ ls) back x s h = service_lives p t cs ls (Caught gv) x s.1 h
+service_lives p t cs (Dying o ∷ ls) back x s h = service_lives p t cs ls Gone x s.2 h
+service_lives p t cs (Ending o left ∷ ls) back x s h = service_lives p t cs ls Now x s.3 h
+service_lives p t cs (Unwinding code es ∷ ls) back x s h = service_lives p t cs ls Leaves x s.1 h
+service_lives p t cs (Dispatching d seats ∷ ls) back x s h = by_stage_serves d ls (claim p (declared p cs) ls (Elsewhere In_service)) x (λ h. subst (λ l. HasThing (claim p (declared p cs) l (Elsewhere In_service)) x) s.1 h) h
 
 -- ---- the places that are claimed to own live
 
@@ -129,6 +220,7 @@ module _ (p : Image) (cs : List Cell) (x : Thing) where
       go false below h = below h
   registers_live (Mark gv ∷ ls) f i h = not_here (Mark gv) ls f i h (registers_live ls f i h)
   registers_live (Dying o ∷ ls) f i h = not_here (Dying o) ls f i h (registers_live ls f i h)
+  registers_live (Ending o left ∷ ls) f i h = not_here (Ending o left) ls f i h (registers_live ls f i h)
   registers_live (Unwinding code es ∷ ls) f i h = not_here (Unwinding code es) ls f i h (registers_live ls f i h)
   registers_live (Dispatching w seats ∷ ls) f i h = not_here (Dispatching w seats) ls f i h (registers_live ls f i h)
 
@@ -156,6 +248,7 @@ module _ (p : Image) (cs : List Cell) (x : Thing) where
   items_live (Method fr sh ∷ ls) k h = entries_live sh.entries ls k (items_live ls k) h
   items_live (Mark gv ∷ ls) k h = over_below Mark_form (items_of ls) k (entry_below ls k h) ∙ items_live ls k h
   items_live (Dying o ∷ ls) k h = items_live ls k h
+  items_live (Ending o left ∷ ls) k h = items_live ls k h
   items_live (Unwinding code es ∷ ls) k h = entries_live es ls k (items_live ls k) h
   items_live (Dispatching w seats ∷ ls) k h = items_live ls k h
 
@@ -172,22 +265,10 @@ module _ (p : Image) (cs : List Cell) (x : Thing) where
       go (Inside o from) below h = below h
   root_lives (Mark gv ∷ ls) h = root_lives ls h
   root_lives (Dying o ∷ ls) h = root_lives ls h
+  root_lives (Ending o left ∷ ls) h = root_lives ls h
   root_lives (Unwinding code es ∷ ls) h = root_lives ls h
   root_lives (Dispatching Of_root seats ∷ ls) h = absurd h
   root_lives (Dispatching d seats ∷ ls) h = root_lives ls h
-
-  -- no layer claims a session or a message
-  no_session : (ls : List Layer) (s c : ℕ) → Claims ls (Elsewhere (Session s c)) → ⊥
-  no_session [] s c h = h
-  no_session (l ∷ ls) s c h = no_session ls s c h
-
-  none_in_service : (ls : List Layer) → Claims ls (Elsewhere In_service) → ⊥
-  none_in_service [] h = h
-  none_in_service (l ∷ ls) h = none_in_service ls h
-
-  none_queued : (ls : List Layer) (s m : ℕ) → Claims ls (Elsewhere (Queued s m)) → ⊥
-  none_queued [] s m h = h
-  none_queued (l ∷ ls) s m h = none_queued ls s m h
 
 -- an item of that form is an object's
 objects_item : (items : List Item) (k : ℕ) → over (forms items) k ≡ Some Object_form → IsObjects (over items k)
@@ -208,6 +289,7 @@ none_going p d [] k clear = refl
 none_going p d (Method fr sh ∷ ls) k clear = none_going p d ls k clear
 none_going p d (Mark gv ∷ ls) k clear = none_going p d ls k clear
 none_going p d (Dying o ∷ ls) k clear = absurd clear
+none_going p d (Ending o left ∷ ls) k clear = absurd clear
 none_going p d (Unwinding code es ∷ ls) k clear = none_going p d ls k clear
 none_going p d (Dispatching w seats ∷ ls) k clear = none_going p d ls k clear
 
@@ -233,6 +315,48 @@ declaring p (An_object_of c) y f e = go (slice_get p.classes c) refl e
     go (Some k) at h = let lt = slice_get_within p.classes c k at in omega arith
 declaring p Message y f e = cc
 
+-- what is at a server stands lower than it, and its class is there
+module _ (p : Image) (wired : IsWired p) where
+  serving_class : (c k : ℕ) → sessions_at p c ≡ Some k → suc c ≤ length p.classes
+  unfolding class_at kind_in sessions_in
+  serving_class c k e = go (slice_get p.classes c) refl e
+    where
+      go : (d : Option ClassDecl) → slice_get p.classes c ≡ d → sessions_in (kind_in d) ≡ Some k → suc c ≤ length p.classes
+      go None at h = cc
+      go (Some d) at h = let lt = slice_get_within p.classes c d at in omega arith
+
+  abbrev IsLower : Thing → Thing → Type 0
+  IsLower x y = (rank x < rank y) × (rank y ≤ length p.classes)
+
+  pub session_lower : (o : Object) (x : Thing) → session_thing p (Some o) ≡ Some x → IsLower x o.thing
+  unfolding kind_of sessions_in
+  session_lower o x e = of_thing o.thing e
+    where
+      of_thing : (y : Thing) → of_class (session_class p y) ≡ Some x → IsLower x y
+      of_thing Message e = cc
+      of_thing (An_object_of c) e = go (sessions_at p c) refl e
+        where
+          go : (k : Option ℕ) → sessions_at p c ≡ k → of_class k ≡ Some x → IsLower x (An_object_of c)
+          go None f e = cc
+          go (Some k) f e =
+              let same : An_object_of k ≡ x = cc in
+              let lt = (wired.sessions c k f).0 in
+              (subst (λ y. rank y < suc c) same (omega (arith, lt)), serving_class c k f)
+
+  pub queued_lower : (o : Object) (x : Thing) → message_thing p (Some o) ≡ Some x → (x ≡ Message) × (IsLower x o.thing)
+  unfolding kind_of sessions_in
+  queued_lower o x e = of_thing o.thing e
+    where
+      of_thing : (y : Thing) → cond (is_server p y) (Some Message) None ≡ Some x → (x ≡ Message) × (IsLower x y)
+      of_thing Message e = cc
+      of_thing (An_object_of c) e = go (sessions_at p c) refl e
+        where
+          go : (k : Option ℕ) → sessions_at p c ≡ k → cond (is_some k) (Some Message) None ≡ Some x → (x ≡ Message) × (IsLower x (An_object_of c))
+          go None f e = cc
+          go (Some k) f e =
+              let same : Message ≡ x = cc in
+              (sym same, (subst (λ y. rank y < suc c) same (omega arith), serving_class c k f))
+
 module _ (p : Image) (t : Typing) (wired : IsWired p) (s : State) (w : WellTyped p t s) (clear : NoneGoes s.tasks) where
   pub kind_at : (q : Place) (o : Object) → held s.cells q ≡ Some o → HasThing (claim p (declared p s.cells) w.layers q) o.thing
   kind_at q o e = fits_thing p (seen s.cells) o _ (subst (λ x. Fits p (seen s.cells) x (claim p (declared p s.cells) w.layers q)) e (w.good.fits q))
@@ -241,14 +365,20 @@ module _ (p : Image) (t : Typing) (wired : IsWired p) (s : State) (w : WellTyped
   unowned_going : (k : ℕ) (o : Object) → held s.cells (Going k) ≡ Some o → ⊥
   unowned_going k o e = unclaimed p s.cells o.thing w.layers (Going k) (none_going p (declared p s.cells) w.layers k (subst (λ ts. NoneGoes ts) w.tasks clear)) (kind_at (Going k) o e)
 
+  pub at_session : (n c : ℕ) (o : Object) → held s.cells (Elsewhere (Session n c)) ≡ Some o → IsSessionAt p s.cells n c o.thing
+  at_session n c o e = session_thing_of p t s.cells w.layers Now n c o.thing w.good.stack (kind_at (Elsewhere (Session n c)) o e)
+
+  pub in_queue : (n m : ℕ) (o : Object) → held s.cells (Elsewhere (Queued n m)) ≡ Some o → IsQueuedAt p s.cells n m o.thing
+  in_queue n m o e = queued_thing_of p s.cells w.layers n m o.thing (kind_at (Elsewhere (Queued n m)) o e)
+
   lives : (q : Place) (o : Object) → IsInRange q → held s.cells q ≡ Some o → Lives p s q
   lives (Register f i) o fits e = (subst (λ ts. HasRegisters (over ts f)) (sym w.tasks) (registers_live p s.cells o.thing w.layers f i (kind_at (Register f i) o e)), fits)
   lives (Entry k) o fits e = objects_item s.items k (ap (λ is. over is k) w.items ∙ items_live p s.cells o.thing w.layers k (kind_at (Entry k) o e))
   lives (Field n f) o fits e = let x = field_thing_of p t s.cells w.layers Now n f o.thing w.good.stack (kind_at (Field n f) o e) in (x.0, x.1, ap is_some x.2)
   lives (Elsewhere Root) o fits e = root_lives p s.cells o.thing w.layers (kind_at (Elsewhere Root) o e)
-  lives (Elsewhere (Session n c)) o fits e = no_session p s.cells o.thing w.layers n c (kind_at (Elsewhere (Session n c)) o e)
-  lives (Elsewhere In_service) o fits e = none_in_service p s.cells o.thing w.layers (kind_at (Elsewhere In_service) o e)
-  lives (Elsewhere (Queued n m)) o fits e = none_queued p s.cells o.thing w.layers n m (kind_at (Elsewhere (Queued n m)) o e)
+  lives (Elsewhere (Session n c)) o fits e = let x = at_session n c o e in (x.0, x.1, x.2)
+  lives (Elsewhere In_service) o fits e = subst (λ ts. HasService ts) (sym w.tasks) (service_lives p t s.cells w.layers Now o.thing w.good.stack (kind_at (Elsewhere In_service) o e))
+  lives (Elsewhere (Queued n m)) o fits e = let x = in_queue n m o e in (x.0, x.1, x.2)
   lives (Going k) o fits e = absurd (unowned_going k o e)
 
   -- the owner stands higher, so that following owners ends
@@ -256,9 +386,7 @@ module _ (p : Image) (t : Typing) (wired : IsWired p) (s : State) (w : WellTyped
   ends_by fuel (Register f i) o e le = at_register
   ends_by fuel (Entry k) o e le = at_entry
   ends_by fuel (Elsewhere Root) o e le = at_root
-  ends_by fuel (Elsewhere (Session n c)) o e le = absurd (no_session p s.cells o.thing w.layers n c (kind_at (Elsewhere (Session n c)) o e))
-  ends_by fuel (Elsewhere In_service) o e le = absurd (none_in_service p s.cells o.thing w.layers (kind_at (Elsewhere In_service) o e))
-  ends_by fuel (Elsewhere (Queued n m)) o e le = absurd (none_queued p s.cells o.thing w.layers n m (kind_at (Elsewhere (Queued n m)) o e))
+  ends_by fuel (Elsewhere In_service) o e le = at_service
   ends_by fuel (Going k) o e le = absurd (unowned_going k o e)
   ends_by zero (Field n f) o e le =
       let x = field_thing_of p t s.cells w.layers Now n f o.thing w.good.stack (kind_at (Field n f) o e) in
@@ -270,6 +398,18 @@ module _ (p : Image) (t : Typing) (wired : IsWired p) (s : State) (w : WellTyped
       let lower = lower_rank p wired x.0.thing o.thing f x.2 in
       let y = named_held s.cells n x.0 w.good.tidy x.1 in
       by_cell x.0 y.0 x.1 y.1 (ends_by fuel y.0 x.0 y.1 (omega arith))
+  ends_by zero (Elsewhere (Session n c)) o e le = let x = at_session n c o e in let lower = session_lower p wired x.0 o.thing x.3 in absurd (omega (arith, le, lower.0, lower.1))
+  ends_by (suc fuel) (Elsewhere (Session n c)) o e le =
+      let x = at_session n c o e in
+      let lower = session_lower p wired x.0 o.thing x.3 in
+      let y = named_held s.cells n x.0 w.good.tidy x.1 in
+      by_server x.0 y.0 refl x.1 y.1 (ends_by fuel y.0 x.0 y.1 (omega (arith, le, lower.0)))
+  ends_by zero (Elsewhere (Queued n m)) o e le = let x = in_queue n m o e in let lower = (queued_lower p wired x.0 o.thing x.3).1 in absurd (omega (arith, le, lower.0, lower.1))
+  ends_by (suc fuel) (Elsewhere (Queued n m)) o e le =
+      let x = in_queue n m o e in
+      let lower = (queued_lower p wired x.0 o.thing x.3).1 in
+      let y = named_held s.cells n x.0 w.good.tidy x.1 in
+      by_server x.0 y.0 refl x.1 y.1 (ends_by fuel y.0 x.0 y.1 (omega (arith, le, lower.0)))
 
   pub ends : (q : Place) (o : Object) → held s.cells q ≡ Some o → Ends s q
   ends q o e = ends_by (length p.classes) q o e (omega arith)
@@ -306,7 +446,9 @@ module _ (p : Image) (t : Typing) (s : State) (w : WellTyped p t s) (idle : s.ta
   nowhere q o (at_register {f = f} {i = i}) e = unheld (Register f i) o refl e
   nowhere q o (at_entry {k = k}) e = unheld (Entry k) o refl e
   nowhere q o at_root e = let clash : Some o ≡ None = sym e ∙ rootless in cc
+  nowhere q o at_service e = unheld (Elsewhere In_service) o refl e
   nowhere q o (by_cell x r named there ends) e = nowhere r x ends there
+  nowhere q o (by_server x r other named there ends) e = nowhere r x ends there
 
   none_left : IsWired p → (cs : List Cell) → s.cells ≡ cs → cs ≡ []
   none_left wired [] e = refl

@@ -4,9 +4,9 @@ use Rattle.std.specs.Prelude.{IsSome, ◌⊎◌}
 use Rattle.aom_image.specs.Views.{class_at, fields_in}
 use Rattle.aom_shape.specs.Things.{field_thing}
 use Rattle.aom_sound.proofs.Maps.{same_place-true}
-use Rattle.aom_sound.specs.Cases.Building.{a_cell, pair, state_of}
+use Rattle.aom_sound.specs.Cases.Building.{a_cell, keeper, pair, state_of}
 use Rattle.aom_sound.specs.Cases.Owners.{OwnersBite, an_image, caught_tasks}
-use Rattle.aom_sound.specs.Owned.{Ends, at_entry, at_register, at_root, by_cell}
+use Rattle.aom_sound.specs.Owned.{Ends, at_entry, at_register, at_root, at_service, by_cell, by_server}
 use Rattle.aom_sound.specs.Places.{Cell, Elsewhere, Field, Object, Place, Root, held, named, same_place}
 use Rattle.aom_sound.specs.State.{A_mark, State, thing_holder}
 
@@ -38,7 +38,13 @@ no_end : (q : Place) → Ends two_round q → IsOfThem q → ⊥
 no_end _ (at_register {f = f} {i = i}) h = elim h [ inl e ↦ cc | inr e ↦ cc ]
 no_end _ (at_entry {k = k}) h = elim h [ inl e ↦ cc | inr e ↦ cc ]
 no_end _ at_root h = elim h [ inl e ↦ cc | inr e ↦ cc ]
+no_end _ at_service h = elim h [ inl e ↦ cc | inr e ↦ cc ]
 no_end _ (by_cell o q named there ends) h = no_end q ends (held_by_them q o there)
+no_end _ (by_server o q other named there ends) h = no_end q ends (held_by_them q o there)
+
+-- the server, and its session at each stage
+abbrev server : Object
+server = record { name = 5; thing = keeper }
 
 pub owners_bite : OwnersBite
 unfolding class_at fields_in
@@ -62,10 +68,22 @@ owners_bite = record {
       cc;
   gone = λ h. let there = h.each.0.0.1 in cc;
   no_root = λ h. let has = h.each.0.0 in cc;
-  session = λ h. h.each.0.0;
+  of_session = record { each = ((((server, refl, refl), by_server server (Elsewhere Root) refl refl refl at_root)), ((refl, at_root), tt)); settled = tt };
+  in_queue = record { each = ((((server, refl, refl), by_server server (Elsewhere Root) refl refl refl at_root)), ((refl, at_root), tt)); settled = tt };
+  served = record { each = ((refl, at_service), (((server, refl, refl), by_server server (Elsewhere Root) refl refl refl at_root), ((refl, at_root), tt))); settled = tt };
+  left = record { each = ((refl, at_service), (((server, refl, refl), by_server server (Elsewhere Root) refl refl refl at_root), ((refl, at_root), tt))); settled = tt };
+  unlisted = λ h. let has : false ≡ true = h.each.0.0.2 in cc;
+  not_queued = λ h. let has : false ≡ true = h.each.0.0.2 in cc;
+  of_none = λ h. let there = h.each.0.0.1 in cc;
+  queue_of_none = λ h. let there = h.each.0.0.1 in cc;
+  accepting = λ h. let has : false ≡ true = h.each.0.0 in cc;
+  parting = λ h. let has : false ≡ true = h.each.0.0 in cc;
+  all_served = λ h. h.each.0.0;
+  session = λ h. let has = h.each.0.0.2 in cc;
   service = λ h. h.each.0.0;
-  queue = λ h. h.each.0.0;
+  queue = λ h. let has = h.each.0.0.2 in cc;
   going = λ h. h.settled;
   destruction = λ h. h.settled;
+  closing = λ h. h.settled;
   round = λ h. no_end (Field 2 0) h.each.0.1 (inr refl);
 }

@@ -9,6 +9,7 @@ use Rattle.aom_rules.specs.Calls.{argument_needs, each_argument}
 use Rattle.aom_shape.specs.Arguments.{arguments_moved, argument_kind}
 use Rattle.aom_shape.specs.Kinds.{is_object_or_null, register, set_register}
 use Rattle.aom_shape.specs.Needs.{AllTrue}
+use Rattle.aom_shape.specs.Order.{Weaker, alike}
 use Rattle.aom_shape.specs.Shape.{Shape}
 use Rattle.aom_shape.specs.Tables.{at, put_at}
 use Rattle.aom_rules.specs.Typing.{Typing}
@@ -22,9 +23,9 @@ use Rattle.aom_sound.proofs.Maps.{at-put_at, held_moved, requested_moved, same_p
 use Rattle.aom_sound.proofs.Returning.{held_thing, may_own, word_is}
 use Rattle.aom_sound.proofs.Straight.{At, claim_register, fits_unowning, housed_relocated, kind_fits, no_word_fits, word_of_object, words_null, words_set}
 use Rattle.aom_sound.specs.Calls.{needs_each, passed_cells, passed_words}
-use Rattle.aom_sound.specs.Claims.{Layer, Method, claim, declared, layer_claim, tasks_of}
+use Rattle.aom_sound.specs.Claims.{Layer, Method, claim, declared, tasks_of}
 use Rattle.aom_sound.specs.Places.{Cell, Elsewhere, Entry, Field, Going, Place, Register, Root, Tidy, changed, held, moved, same_place, seen}
-use Rattle.aom_sound.specs.State.{Choice, Frame, State, Static, frame_of, word}
+use Rattle.aom_sound.specs.State.{Choice, Frame, State, word}
 use Rattle.aom_sound.specs.WellTyped.{Fits, Good, IsHoused, Returns, Stack, WordFits}
 use Rattle.aom_sound.proofs.Suiting.{all_moved}
 use Rattle.aom_sound.specs.Requests.{AllSuit}
@@ -42,12 +43,28 @@ length_more : {A : Type 0} (xs : List A) (v : A) → length (xs ++ v ∷ []) ≡
 length_more [] v = refl
 length_more (x ∷ xs) v = ap suc (length_more xs v)
 
--- the registers that the method called has so far, and nothing else of it
-abbrev pub taken : List Kind → Shape
-taken regs = record { registers = regs; fields = []; entries = []; states = 0; delivery = Here }
+-- the registers at that depth that the method called has so far, and nothing else of it
+abbrev pub filled_with : ℕ → List Kind → Place → Kind → Kind
+filled_with depth regs (Register f i) below = cond (depth == f) (at Unset regs i) below
+filled_with depth regs (Entry k) below = below
+filled_with depth regs (Field n f) below = below
+filled_with depth regs (Going k) below = below
+filled_with depth regs (Elsewhere w) below = below
 
-abbrev pub taker : Frame
-taker = frame_of 0 Static 0
+pub filled_weaker_below : (depth : ℕ) (regs : List Kind) (r : Place) (x y : Kind) → Weaker x y → Weaker (filled_with depth regs r x) (filled_with depth regs r y)
+filled_weaker_below depth regs (Register f i) x y h = go (depth == f)
+  where
+    go : (b : Bool) → Weaker (cond b (at Unset regs i) x) (cond b (at Unset regs i) y)
+    go true = alike
+    go false = h
+filled_weaker_below depth regs (Entry k) x y h = h
+filled_weaker_below depth regs (Field n f) x y h = h
+filled_weaker_below depth regs (Going k) x y h = h
+filled_weaker_below depth regs (Elsewhere w) x y h = h
+
+-- a shape of these registers alone
+abbrev taken : List Kind → Shape
+taken regs = record { registers = regs; fields = []; entries = []; states = 0; delivery = Here }
 
 module _ (p : Image) (t : Typing) (fr : Frame) (ls : List Layer) (depth : ℕ) (deep : length (tasks_of ls) < depth) where
   -- the place of the caller's register, and of the register of the method called
@@ -59,7 +76,7 @@ module _ (p : Image) (t : Typing) (fr : Frame) (ls : List Layer) (depth : ℕ) (
 
   -- what is claimed with these registers filled at that depth over the caller
   abbrev pub filling : (Place → Kind) → List Kind → Shape → Place → Kind
-  filling d regs sh r = layer_claim p (Method taker (taken regs)) depth [] r (claim p d (Method fr sh ∷ ls) r)
+  filling d regs sh r = filled_with depth regs r (claim p d (Method fr sh ∷ ls) r)
 
   -- these registers are filled, and the caller is as that state says
   pub record Passed (cs : List Cell) (sh : Shape) (regs : List Kind) (ws : List (Option ℤ)) : Type 0 where

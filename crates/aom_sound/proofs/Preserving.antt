@@ -16,16 +16,17 @@ use Rattle.aom_sound.proofs.Moving.{steps_are_moves}
 use Rattle.aom_sound.specs.Calls.{below_top, called, entered, received, result_register, returned}
 use Rattle.aom_sound.specs.Cleanup.{code_told, has_trap, operation_frame, to_trap}
 use Rattle.aom_classes.specs.Roles.{destructor_of}
-use Rattle.aom_sound.specs.Destruction.{begun, begun_by}
+use Rattle.aom_sound.specs.Destruction.{destructed, parting, first_session, begun, begun_by}
 use Rattle.aom_sound.specs.Effects.{Calls, Cancels, Counts, Destroys, Destroys_last, Effect, Goes_on, Jumps, Leaves, Operates, Repeats, Returns, Sets_trap, applied, with_words}
 use Rattle.aom_sound.specs.Moves.{answered, asking, counted, dispatch_ends, error_frame, failed, handled, main_ends, needs, object_ends, step}
-use Rattle.aom_sound.specs.Places.{Elsewhere, Going, Object, Root, held}
-use Rattle.aom_sound.specs.State.{A_mark, An_operation, Choice, Destroy, Dispatch, Dispatched, Frame, Goes, Inside, Item, Answered, Asks, Main_left, Object_left, Of_main, Of_object, Of_root, Run, Seat, State, Task, Trapped, Unwind, counter, frame_of, next, resumed, set_counter, set_word, to_place}
-use Rattle.aom_sound.specs.Steps.{Acts, Arrives, Clears, Comes_out, Ends, Fits, IsStraight, Move, Rests, Sets, Undoes, Vanishes}
+use Rattle.aom_sound.specs.Places.{service_of, Elsewhere, Going, Object, Root, held}
+use Rattle.aom_sound.specs.State.{Closing, Home, Of_server, Accepts, Accepted, Accept_left, Serves, Service_left, Parts, A_mark, An_operation, Choice, Destroy, Dispatch, Dispatched, Frame, Goes, Inside, Item, Answered, Asks, Main_left, Object_left, Of_main, Of_object, Of_root, Run, Seat, State, Task, Trapped, Unwind, counter, frame_of, next, resumed, set_counter, set_word, to_place}
+use Rattle.aom_sound.specs.Steps.{Empties, Acts, Arrives, Clears, Comes_out, Ends, Fits, IsStraight, Move, Rests, Sets, Undoes, Vanishes}
 use Rattle.aom_sound.specs.Tasks.{Below, Holds, TaskLaw}
-use Rattle.aom_sound.specs.World.{Heard, Outside, turn}
-use Rattle.aom_sound.proofs.Turned.{completes, keeps_all, kills, picks, turns_so}
+use Rattle.aom_sound.specs.World.{heard_one, Heard, Outside, turn}
+use Rattle.aom_sound.proofs.Turned.{obeys, handles, accepts, attends, parts, commanded_kept, completes, keeps_all, kills, picks, turns_so}
 use Rattle.aom_sound.specs.Enlisted.{cancel_method, ended_cells, part_of}
+use Rattle.aom_sound.specs.Servers.{is_server}
 
 -- an instruction is at hand, with its needs met
 pub record Acting (p : Image) (c : Choice) (l : TaskLaw) (s : State) (fr : Frame) (ts : List Task) (i : Instr) : Type 0 where
@@ -71,13 +72,30 @@ told (An_own t) x code fr = refl
 told (A_maybe t) x code fr = refl
 told (Left t) x code fr = refl
 
-module _ (p : Image) (c : Choice) (l : TaskLaw) (s : State) (k : Kept p c l s) where
-  begins_over : (o : Object) (height : ℕ) (ts : List Task) → Below l ts → Holds l (begun p o height ts)
-  begins_over o height ts b = go (destructor_of p o.thing) refl
+-- a destruction begins
+module _ (p : Image) (l : TaskLaw) (destructs : (o : Object) (m height : ℕ) (ts : List Task) → destructor_of p o.thing ≡ Some m → l.Runs (frame_of m (Inside o (Going (length ts))) height) (Destroy ∷ ts)) where
+  destructed_holds : (o : Object) (height : ℕ) (ts : List Task) → Below l ts → Holds l (destructed p o height ts)
+  destructed_holds o height ts b = go (destructor_of p o.thing) refl
     where
       go : (d : Option ℕ) → destructor_of p o.thing ≡ d → Holds l (begun_by d o height ts)
       go None e = b
-      go (Some m) e = (k.destructs o m height ts e, b)
+      go (Some m) e = (destructs o m height ts e, b)
+
+  begun_holds : (o : Object) (height : ℕ) (ts : List Task) → Below l ts → Holds l (begun p o height ts)
+  begun_holds o height ts b = go (is_server p o.thing)
+    where
+      go : (x : Bool) → Holds l (cond x (Closing ∷ Destroy ∷ ts) (destructed p o height ts))
+      go true = b
+      go false = destructed_holds o height ts b
+
+module _ (p : Image) (c : Choice) (l : TaskLaw) (s : State) (k : Kept p c l s) where
+  begins_over : (o : Object) (height : ℕ) (ts : List Task) → Below l ts → Holds l (begun p o height ts)
+  begins_over o height ts b = begun_holds p l (λ o m height ts e. k.destructs o m height ts e) o height ts b
+
+  -- a server that goes has a session go first, or its destructor begins
+  empties : (o : Object) (x : Option Seat) (ts : List Task) (v : State) → Below l ts → Holds l (parting p o x ts v).tasks
+  empties o None ts v b = destructed_holds p l (λ o m height ts e. k.destructs o m height ts e) o (length v.items) ts b
+  empties o (Some x) ts v b = begins_over x.object (length v.items) (Closing ∷ Destroy ∷ ts) b
 
   -- what waited goes on
   resumes_all : (ts : List Task) → Below l ts → Holds l (resumed ts)
@@ -134,6 +152,12 @@ module _ (p : Image) (c : Choice) (l : TaskLaw) (s : State) (k : Kept p c l s) w
   ends (Object_left x code) = asks_it x code (part_of p Error x.object.thing) refl
   ends (Asks x) = object_closes
   ends (Answered x answer) = answers answer
+  ends (Of_server x client Accepts) = tt
+  ends (Of_server x client Accepted) = tt
+  ends (Of_server x client (Accept_left code)) = tt
+  ends (Of_server x client (Serves o)) = tt
+  ends (Of_server x client (Service_left code)) = tt
+  ends (Of_server x client Parts) = tt
 
   module _ (fr : Frame) (ts : List Task) (at_hand : s.tasks ≡ Run fr ∷ ts) (h : Holds l (Run fr ∷ ts)) where
     acting : (i : Instr) → instr_at p fr.method fr.place ≡ Some i → AllTrue (needs p c fr ts (counted p s) i) → Acting p c l s fr ts i
@@ -168,6 +192,7 @@ module _ (p : Image) (c : Choice) (l : TaskLaw) (s : State) (k : Kept p c l s) w
       let h' = subst (λ ts. Holds l ts) at h in
       subst (λ v. Holds l v.tasks) (sym same) (acts fr ts at h' i e (acting fr ts at h' i there met) fits)
   kept u h (Vanishes ts o at there owns same) = subst (λ v. Holds l v.tasks) (sym same) (resumes_all ts (subst (λ ts. Holds l ts) at h))
+  kept u h (Empties ts o at there same) = subst (λ v. Holds l v.tasks) (sym same) (empties o (first_session s.cells o.name (service_of s.cells o.name).sessions) ts (counted p s) (subst (λ ts. Holds l ts) at h))
   kept u h (Clears code ts items o at top there same) = subst (λ v. Holds l v.tasks) (sym same) (begins_over o (length items) (Unwind code ∷ ts) (subst (λ ts. Holds l ts) at h))
   kept u h (Undoes code ts items m w at top same) = subst (λ v. Holds l v.tasks) (sym same) (k.undoes m w items (Unwind code ∷ ts) top, subst (λ ts. Holds l ts) at h)
   kept u h (Arrives code fr ts items at top same) =
@@ -181,14 +206,21 @@ module _ (p : Image) (c : Choice) (l : TaskLaw) (s : State) (k : Kept p c l s) w
 pub keeps : (p : Image) (c : Choice) (l : TaskLaw) (s u : State) → Kept p c l s → Holds l s.tasks → step p c s ≡ Goes u → Holds l u.tasks
 keeps p c l s u k h e = kept p c l s k u h (steps_are_moves p c s u e)
 
--- a turn keeps it, where it holds of the method of each object that is dispatched
+-- a turn keeps it, where it holds of each method that is dispatched and of each destructor
 pub turn_keeps_it :
     (p : Image) (outside : Outside) (heard : Heard) (l : TaskLaw) (s u : State) →
-    ((m height : ℕ) (x : Seat) → l.Runs (frame_of m (Inside x.object x.place) height) (Trapped ∷ Dispatched (Of_object x) ∷ [])) → ((x : Seat) → l.Stands (Dispatched (Of_object x) ∷ [])) →
+    ((m height : ℕ) (home : Home) (words : List (Option ℤ)) (d : Dispatch) → l.Runs (record (frame_of m home height) { words = words }) (Trapped ∷ Dispatched d ∷ [])) → ((d : Dispatch) → l.Stands (Dispatched d ∷ [])) →
+    ((o : Object) (m height : ℕ) (ts : List Task) → destructor_of p o.thing ≡ Some m → l.Runs (frame_of m (Inside o (Going (length ts))) height) (Destroy ∷ ts)) →
     Holds l s.tasks → turn p outside heard s ≡ Goes u → Holds l u.tasks
-turn_keeps_it p outside heard l s u runs stands h e = elim (turns_so p outside heard s u e) as (λ v d. Holds l v.tasks) [
+turn_keeps_it p outside heard l s u runs stands destructs h e = elim (turns_so p outside heard s u e) as (λ v d. Holds l v.tasks) [
   | keeps_all r ↦ h
   | completes code o r other ↦ h
   | kills n r k ↦ h
-  | picks x m at ↦ (runs m (length (A_mark ∷ s.items)) x, (stands x, tt))
+  | obeys client command name ↦ subst (λ ts. Holds l ts) (sym (commanded_kept p client (heard_one s) command name).1) h
+  | picks x v d ↦ elim d as (λ v d. Holds l v.tasks) [
+    | handles m at ↦ (runs m (length (A_mark ∷ s.items)) (Inside x.object x.place) [] (Of_object x), (stands (Of_object x), tt))
+    | accepts client m at ↦ (runs m (length (A_mark ∷ s.items)) (Inside x.object x.place) [] (Of_server x client Accepts), (stands (Of_server x client Accepts), tt))
+    | attends client message m o there at ↦ (runs m (length (A_mark ∷ s.items)) _ _ (Of_server x client (Serves o)), (stands (Of_server x client (Serves o)), tt))
+    | parts client o there ↦ begun_holds p l destructs o (length s.items) (Dispatched (Of_server x client Parts) ∷ []) tt
+  ]
 ]

@@ -87,7 +87,7 @@ boot p = begins (main_of p)
     begins (Some m) = (λ clearing. absurd (true≢false (sym clearing)), (refl, tt))
 
 pub calm_keeps : CalmKeeps
-calm_keeps = record { boot = boot; moves = moves; turns = λ p outside heard s u h e. turn_keeps_it p outside heard (calm p) s u (λ m height x clearing. absurd (true≢false (sym clearing))) (λ x. refl) h e }
+calm_keeps = record { boot = boot; moves = moves; turns = λ p wired outside heard s u h e. turn_keeps_it p outside heard (calm p) s u (λ m height home words d clearing. absurd (true≢false (sym clearing))) (λ d. refl) (λ o m height ts e clearing. (destroys p wired o.thing m e).quiet) h e }
 
 none_goes : (ts : List Task) → is_clearing ts ≡ false → NoneGoes ts
 none_goes [] e = tt

@@ -70,7 +70,7 @@ restated p t cs cs' fr sh ls o from states home lives alike listed others ready 
   fits = λ q. subst (λ k. Fits p (seen cs') (held cs' q) k) (sym (claim_states p (declared p cs') fr sh ls states q)) (fits_alike p t cs cs' alike (Method fr sh ∷ ls) q (λ x e fresh. others x.name (ready q x e fresh)) (g.fits q));
   suits = λ x here. subst (λ h. Suits (thing_kind p x.thing) (cond (works_at x.name h) (known_at p fr states (states_claim p x ls)) (states_claim p x ls)) (requested cs' x.name)) (sym home) (known x here (o.name == x.name) refl);
   tidy = alike.tidy g.tidy;
-  frames = record { words = g.frames.words; holder = g.frames.holder; height = g.frames.height; alone = g.frames.alone };
+  frames = record { words = g.frames.words; holder = g.frames.holder; height = g.frames.height; alone = g.frames.alone; message = g.frames.message };
   housed = housed_alike p t cs cs' alike ls fr.home g.housed;
   apart = g.apart;
   stack = stack_alike p t cs cs' alike listed ls _ g.stack;

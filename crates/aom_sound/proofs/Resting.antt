@@ -1,14 +1,16 @@
 -- What a move does to what no place tells: it takes its course, and only the end of a dispatch changes it otherwise.
-use Rattle.std.proofs.Common.{List, ap, inl, inr, refl, ◌∙◌, ◌∷◌, ◌≡◌, ℕ}
+use Rattle.std.proofs.Common.{Option, Some, None, List, ap, inl, inr, refl, ◌∙◌, ◌∷◌, ◌≡◌, ℕ}
 use Rattle.std.specs.Prelude.{◌⊎◌}
 use Rattle.aom_image.specs.Image.{Image}
 use Rattle.aom_image.specs.declared.method.Gives.{Gives}
 use Rattle.aom_sound.specs.Calls.{returned}
 use Rattle.aom_sound.specs.Effects.{Course, Effect, Goes_its_way, Goes_on, Returns, Stops, applied, coursed}
 use Rattle.aom_sound.specs.Moves.{counted, dispatch_ends}
-use Rattle.aom_sound.specs.State.{Choice, Destroy, Dispatch, Dispatched, Frame, Rest, Run, State, Task, Trapped, Unwind}
-use Rattle.aom_sound.specs.Steps.{Acts, Arrives, Clears, Comes_out, Ends, Move, Rests, Undoes, Vanishes}
+use Rattle.aom_sound.specs.State.{Seat, Choice, Destroy, Dispatch, Dispatched, Frame, Rest, Run, State, Task, Trapped, Unwind}
+use Rattle.aom_sound.specs.Steps.{Empties, Acts, Arrives, Clears, Comes_out, Ends, Move, Rests, Undoes, Vanishes}
 use Rattle.aom_sound.specs.Enlisted.{ended_cells}
+use Rattle.aom_sound.specs.Destruction.{parting, first_session}
+use Rattle.aom_sound.specs.Places.{service_of, Object}
 
 -- the rest after a move takes a course
 abbrev pub Takes : Image → State → State → Type 0
@@ -32,10 +34,15 @@ module _ (p : Image) (fr : Frame) (ts : List Task) (s : State) where
   applied_rest (Returns g a) = (Goes_its_way, returned_rest g a ts)
   applied_rest _ = (Goes_its_way, refl)
 
+parting_rest : (p : Image) (o : Object) (x : Option Seat) (below : List Task) (s : State) → (parting p o x below s).rest ≡ s.rest
+parting_rest p o None below s = refl
+parting_rest p o (Some x) below s = refl
+
 pub move_rest : (p : Image) (c : Choice) (s u : State) → Move p c s u → Takes p s u ⊎ IsEnd p s u
 move_rest p c s u (Acts fr ts i e at there met fits same) = let r = applied_rest p fr ts (counted p s) e in inl (r.0, ap (λ (x : State). x.rest) same ∙ r.1)
 move_rest p c s u (Rests still same) = inl (Goes_its_way, ap (λ (x : State). x.rest) same)
 move_rest p c s u (Vanishes ts o at there owns same) = inl (Goes_its_way, ap (λ (x : State). x.rest) same)
+move_rest p c s u (Empties ts o at there same) = inl (Goes_its_way, ap (λ (x : State). x.rest) same ∙ parting_rest p o (first_session s.cells o.name (service_of s.cells o.name).sessions) ts (counted p s))
 move_rest p c s u (Clears code ts items o at top there same) = inl (Goes_its_way, ap (λ (x : State). x.rest) same)
 move_rest p c s u (Undoes code ts items k w at top same) = inl (Goes_its_way, ap (λ (x : State). x.rest) same)
 move_rest p c s u (Arrives code fr ts items at top same) = inl (Goes_its_way, ap (λ (x : State). x.rest) same)

@@ -21,17 +21,17 @@ use Rattle.aom_shape.specs.declared.kind.Entry.TheVariants.{Object as Pushed_obj
 use Rattle.aom_shape.specs.declared.kind.Kind.{Kind}
 use Rattle.aom_shape.specs.declared.kind.Kind.TheVariants.{Maybe, Null, Own, Unset, Word}
 use Rattle.aom_sound.proofs.Claimed.{OwnsNoMore, claim-set_register, claim_frame, claim_push, claim_register_above, claim_weaker, declared_moved, fits_weaker, keep_fits, mark_claims, stack_moved, word_fits_weaker}
-use Rattle.aom_sound.proofs.Finishing.{Returnable, ended, ended_plainly, left_alone, left_held, none_left, return_needs, returnable, same_items}
+use Rattle.aom_sound.proofs.Finishing.{message_gone, after_return, Returnable, ended, ended_plainly, left_alone, left_held, none_left, return_needs, returnable, same_items}
 use Rattle.aom_sound.proofs.Items.{forms_below, mark_on_top, undos_below}
 use Rattle.aom_sound.proofs.Maps.{at-put_at, held_moved, requested_moved, same_place-true, same_place_refl, tidy_moved}
 use Rattle.aom_sound.proofs.Straight.{At, Fitted, Law, claim_register, fits_unowning, housed_relocated, next_unowning, no_word_fits, register_fits, settle, stepped, top, word_of_object, words_set, write, may_be_object}
 use Rattle.aom_sound.proofs.Things.{stands_same}
-use Rattle.aom_sound.specs.Calls.{below_top, received, result_cells, result_needs, result_register, returned, told_answer}
-use Rattle.aom_sound.specs.Claims.{Dispatching, Layer, Mark, Mark_form, Method, Unwinding, claim, declared, forms, items_of, objects, tasks_of}
+use Rattle.aom_sound.specs.Calls.{needs_ended, below_top, received, result_cells, result_needs, result_register, returned, told_answer}
+use Rattle.aom_sound.specs.Claims.{delivered, home_claim, root_claim, serves, Dispatching, Layer, Mark, Mark_form, Method, Unwinding, claim, declared, forms, items_of, objects, tasks_of}
 use Rattle.aom_sound.specs.Objects.{is_thing}
-use Rattle.aom_sound.specs.Places.{Cell, Entry, Object, Place, Sight, changed, held, moved, requested, same_place, seen, Elsewhere, Field, Going, Register, Root}
-use Rattle.aom_sound.specs.State.{Answered, Asks, Choice, Dispatch, Frame, Inside, Of_main, Of_object, Run, Seat, State, next, set_word, word}
-use Rattle.aom_sound.specs.WellTyped.{Awaits, Back, Caught, EndsDispatch, EndsWell, Fits, IsApart, LeavesNone, Now, Returns, Stack, WellTyped, WordFits, past_going}
+use Rattle.aom_sound.specs.Places.{In_service, Session, Queued, Cell, Entry, Object, Place, Sight, changed, held, moved, requested, same_place, seen, Elsewhere, Field, Going, Register, Root}
+use Rattle.aom_sound.specs.State.{Of_server, Serves, Static, AtRoot, Home, Dispatched, Answered, Asks, Choice, Dispatch, Frame, Inside, Of_main, Of_object, Run, Seat, State, next, set_word, word}
+use Rattle.aom_sound.specs.WellTyped.{SitsFirst, IsAttended, seat_of, Awaits, Back, Caught, EndsDispatch, EndsWell, Fits, IsApart, LeavesNone, Now, Returns, Stack, WellTyped, WordFits, past_going}
 use Rattle.aom_sound.proofs.Suiting.{all_moved, all_returned, known_plain, known_resting, rejoins_caller, rejoins_trap, rests_there, suits_rests}
 use Rattle.aom_sound.specs.Requests.{AllSuit, Suits, states_claim, thing_kind}
 use Rattle.aom_shape.specs.Arguments.{after_of}
@@ -42,13 +42,16 @@ use Rattle.aom_roles.specs.States.{idle}
 use Rattle.aom_sound.specs.Moves.{does, needs}
 use Rattle.aom_sound.specs.Laws.{IsWired}
 use Rattle.aom_sound.specs.Enlisted.{ended_cells}
+use Rattle.aom_shape.specs.declared.kind.Delivery.TheVariants.{Here}
+use Rattle.aom_image.specs.declared.method.Thing.TheVariants.{Message}
+use Rattle.aom_rules.specs.Rules.{rule_needs}
 
 loosen : (p : Image) (t : Typing) (cs : List Cell) (fr : Frame) (sh : Shape) (ls : List Layer) (c : ℕ) (k v : Kind) → Weaker v k → Fitted p t cs fr (set_register sh c k) ls → Fitted p t cs fr (set_register sh c v) ls
 loosen p t cs fr sh ls c k v w g = record {
   fits = λ r. fits_weaker p (seen cs) (held cs r) (claim_weaker p (declared p cs) fr (set_register sh c v) (set_register sh c k) ls r says) (g.fits r);
   suits = g.suits;
   tidy = g.tidy;
-  frames = record { words = λ i. word_fits_weaker (word fr i) (says.registers i) (g.frames.words i); holder = g.frames.holder; height = g.frames.height; alone = g.frames.alone };
+  frames = record { words = λ i. word_fits_weaker (word fr i) (says.registers i) (g.frames.words i); holder = g.frames.holder; height = g.frames.height; alone = g.frames.alone; message = g.frames.message };
   housed = g.housed;
   apart = g.apart;
   stack = g.stack;
@@ -59,6 +62,7 @@ loosen p t cs fr sh ls c k v w g = record {
       registers = λ i. subst (λ x. Weaker x (register (set_register sh c k) i)) (sym (at-put_at Unset sh.registers c i v)) (subst (λ x. Weaker (cond (c == i) v (register sh i)) x) (sym (at-put_at Unset sh.registers c i k)) (go (c == i) (register sh i)));
       fields = λ i. alike_filling;
       entries = refl;
+      delivery = refl;
     }
       where
         go : (b : Bool) (x : Kind) → Weaker (cond b v x) (cond b k x)
@@ -70,12 +74,13 @@ module _ (p : Image) (t : Typing) (c : Choice) (s : State) (fr fr2 : Frame) (sh 
     (same_claims : (d : Place → Kind) (r : Place) → claim p d below r ≡ claim p d (Method fr2 sh2 ∷ ls) r)
     (deeper : length (tasks_of ls) < length (tasks_of below))
     (at_top : past_going below ≡ below)
-    (suits : AllSuit p s.cells (Method fr2 sh2 ∷ ls)) where
+    (suits : AllSuit p s.cells (Method fr2 sh2 ∷ ls))
+    (unserving : serves p fr.method ≡ true → ⊥) where
   -- with no result in cells
   pub plain : no_entry sh.entries ≡ true → none_owns sh.registers ≡ true → Fitted p t s.cells fr2 sh2 ls
   plain e n = let g = at_hand.good in record {
     fits = λ r. subst (λ k. Fits p (seen s.cells) (held s.cells r) k) (same_claims (declared p s.cells) r)
-        (ended p s.cells fr sh below g.stack.2 g.stack.3 at_top e n r (seen s.cells) (held s.cells r) (g.fits r));
+        (ended p s.cells fr sh below g.stack.2 g.stack.3 at_top e n (λ serving. absurd (unserving serving)) r (seen s.cells) (held s.cells r) (g.fits r));
     suits = suits;
     tidy = g.tidy;
     frames = caller.1;
@@ -90,7 +95,7 @@ module _ (p : Image) (t : Typing) (c : Choice) (s : State) (fr fr2 : Frame) (sh 
     fits = λ r. subst (λ k. Fits p (seen s.cells) (held s.cells r) k) (sym (claim_push p (declared p s.cells) fr2 sh2 ls entry r)) (go r (same_place spot r) refl);
     suits = suits;
     tidy = at_hand.good.tidy;
-    frames = record { words = caller.1.words; holder = caller.1.holder; height = caller.1.height; alone = caller.1.alone };
+    frames = record { words = caller.1.words; holder = caller.1.holder; height = caller.1.height; alone = caller.1.alone; message = caller.1.message };
     housed = caller.2;
     apart = caller.3;
     stack = caller.4;
@@ -114,7 +119,7 @@ module _ (p : Image) (t : Typing) (c : Choice) (s : State) (fr fr2 : Frame) (sh 
       go : (r : Place) (b : Bool) → same_place spot r ≡ b → Fits p (seen s.cells) (held s.cells r) (cond b (entry_kind entry) (claim p (declared p s.cells) (Method fr2 sh2 ∷ ls) r))
       go r true f = subst (λ y. Fits p (seen s.cells) (held s.cells y) (entry_kind entry)) (ap (λ l. Entry (length (items_of l))) over ∙ same_place-true spot r f) (left_held p t c s fr sh below at_hand x e)
       go r false f = subst (λ k. Fits p (seen s.cells) (held s.cells r) k) (same_claims (declared p s.cells) r)
-          (ended p s.cells fr bare below at_hand.good.stack.2 at_hand.good.stack.3 at_top refl n r (seen s.cells) (held s.cells r)
+          (ended p s.cells fr bare below at_hand.good.stack.2 at_hand.good.stack.3 at_top refl n (λ serving. absurd (unserving serving)) r (seen s.cells) (held s.cells r)
           (subst (λ k. Fits p (seen s.cells) (held s.cells r) k) (without r f) (at_hand.good.fits r)))
 
   -- the result goes to its register
@@ -124,11 +129,11 @@ module _ (p : Image) (t : Typing) (c : Choice) (s : State) (fr fr2 : Frame) (sh 
       let free = fits_unowning p h _ (register sh2 x) u caller_fits in
       record {
         fits = λ r. subst (λ d. Fits p (seen cs') (held cs' r) (claim p d (Method (set_word fr2 x None) (set_register sh2 x k) ∷ ls) r)) (sym (declared_moved p cs q to))
-            (subst (λ k. Fits p (seen cs') (held cs' r) k) (sym (claim_frame p d fr2 (set_word fr2 x None) (set_register sh2 x k) ls r refl))
+            (subst (λ k. Fits p (seen cs') (held cs' r) k) (sym (claim_frame p d fr2 (set_word fr2 x None) (set_register sh2 x k) ls r refl refl))
             (keep_fits p h (seen cs') (changed (claim p d (Method fr2 sh2 ∷ ls)) q k) (claim p d (Method fr2 (set_register sh2 x k) ∷ ls)) q to (λ r. held_moved cs q to r free) (requested_moved cs q to) same (λ r x e k f. refl) fits_aside r));
         suits = all_moved p cs q to (Method fr2 sh2 ∷ ls) suits;
         tidy = tidy_moved cs q to free g.tidy;
-        frames = record { words = words_set fr2.words sh2 x None k caller.1.words (no_word_fits k obj); holder = caller.1.holder; height = caller.1.height; alone = caller.1.alone };
+        frames = record { words = words_set fr2.words sh2 x None k caller.1.words (no_word_fits k obj); holder = caller.1.holder; height = caller.1.height; alone = caller.1.alone; message = caller.1.message };
         housed = housed_relocated p cs q to ls fr2.home free (omega arith) (omega arith) (λ o from e. (tt, tt)) caller.2;
         apart = caller.3;
         stack = stack_moved p t cs q to ls (Returns fr2.method fr2.home) free (omega arith) (omega arith) caller.4;
@@ -167,7 +172,7 @@ module _ (p : Image) (t : Typing) (c : Choice) (s : State) (fr fr2 : Frame) (sh 
           go true e = subst (λ y. Fits p (seen s.cells) (held s.cells y) k) (same_place-true q r e) (register_fits p s.cells fr sh below at_hand.good.fits a)
           go false f =
               subst (λ k. Fits p (seen s.cells) (held s.cells r) k) (same_claims (declared p s.cells) r)
-              (ended p s.cells fr (set_register sh a Null) below at_hand.good.stack.2 at_hand.good.stack.3 at_top e n r (seen s.cells) (held s.cells r)
+              (ended p s.cells fr (set_register sh a Null) below at_hand.good.stack.2 at_hand.good.stack.3 at_top e n (λ serving. absurd (unserving serving)) r (seen s.cells) (held s.cells r)
               (subst (λ k. Fits p (seen s.cells) (held s.cells r) k) (sym (claim-set_register p (declared p s.cells) fr sh below a Null r ∙ ap (λ b. cond b Null (claim p (declared p s.cells) (Method fr sh ∷ below) r)) f)) (at_hand.good.fits r)))
 
       same : (r : Place) → claim p d (Method fr2 (set_register sh2 x k) ∷ ls) r ≡ changed (changed (changed (claim p d (Method fr2 sh2 ∷ ls)) q k) q Null) to (changed (claim p d (Method fr2 sh2 ∷ ls)) q k q) r
@@ -237,22 +242,22 @@ module _ (p : Image) (t : Typing) (wired : IsWired p) (c : Choice) (s : State) (
       Goal g = AllTrue (result_needs p fr (tasks_of below) s g a) × WellTyped p t (record s { cells = result_cells p fr (tasks_of below) s g a x (tasks_of ls); tasks = Run (next (received p fr (tasks_of below) s g a x fr2)) ∷ tasks_of ls })
 
       go : is_cancel (method_role p fr.method) ≡ false → (g : Gives) → AllTrue (rule_result p fr.method fr.place sh g a) → entries_done p g sh.entries ≡ true → none_owns (result_moved p fr.method fr.place sh g a).registers ≡ true → Awaits g x sh2 → Leads t fr2.method (suc fr2.place) (brought g x sh2) → Goal g
-      go still Nothing r e n w leads = (tt, finish s.cells fr2 sh2 refl refl (items e) (plain p t c s fr fr2 sh sh2 ls below at_hand (Returns fr.method fr.home) at_hand.good.stack.4 (λ d r. refl) (omega arith) refl (suits still) e n) leads)
+      go still Nothing r e n w leads = (tt, finish s.cells fr2 sh2 refl refl (items e) (plain p t c s fr fr2 sh sh2 ls below at_hand (Returns fr.method fr.home) at_hand.good.stack.4 (λ d r. refl) (omega arith) refl (suits still) at_hand.good.stack.1.message.0 e n) leads)
       go still A_word r e n w leads =
           let i = word_is p s (word fr a) (register sh a) r.0 (at_hand.good.stack.1.words a) in
-          ((i.0, tt), finish s.cells (set_word fr2 x (word fr a)) (set_register sh2 x Word) refl refl (items e) (write p t s.cells fr2 sh2 ls x (word fr a) Word (plain p t c s fr fr2 sh sh2 ls below at_hand (Returns fr.method fr.home) at_hand.good.stack.4 (λ d r. refl) (omega arith) refl (suits still) e n) w (λ h. tt) i.1) leads)
+          ((i.0, tt), finish s.cells (set_word fr2 x (word fr a)) (set_register sh2 x Word) refl refl (items e) (write p t s.cells fr2 sh2 ls x (word fr a) Word (plain p t c s fr fr2 sh sh2 ls below at_hand (Returns fr.method fr.home) at_hand.good.stack.4 (λ d r. refl) (omega arith) refl (suits still) at_hand.good.stack.1.message.0 e n) w (λ h. tt) i.1) leads)
       go still (An_own y) r e n w leads =
           let k = may_own p s y (register sh a) r.0 r.1.0 in
-          let f = carried p t c s fr fr2 sh sh2 ls below at_hand (Returns fr.method fr.home) at_hand.good.stack.4 (λ d r. refl) (omega arith) refl (suits still) a x e n w (ap is_object_or_null k) in
+          let f = carried p t c s fr fr2 sh sh2 ls below at_hand (Returns fr.method fr.home) at_hand.good.stack.4 (λ d r. refl) (omega arith) refl (suits still) at_hand.good.stack.1.message.0 a x e n w (ap is_object_or_null k) in
           let h = held_thing p s y (held s.cells (top below a)) (subst (λ k. Fits p (seen s.cells) (held s.cells (top below a)) k) k (register_fits p s.cells fr sh below at_hand.good.fits a)) in
           ((ap is_none (word_of_object (word fr a) (register sh a) (ap is_object_or_null k) (at_hand.good.stack.1.words a)), (h.0, (h.1, tt))), finish (moved (top below a) (top ls x) s.cells) (set_word fr2 x None) (set_register sh2 x (Own y Ready)) refl refl (items e) (subst (λ k. Fitted p t (moved (top below a) (top ls x) s.cells) (set_word fr2 x None) (set_register sh2 x k) ls) k f) leads)
       go still (A_maybe y) r e n w leads =
           let obj : is_object_or_null (register sh a) ≡ true = object_of p s y (register sh a) r.0 in
-          let f = carried p t c s fr fr2 sh sh2 ls below at_hand (Returns fr.method fr.home) at_hand.good.stack.4 (λ d r. refl) (omega arith) refl (suits still) a x e n w obj in
+          let f = carried p t c s fr fr2 sh sh2 ls below at_hand (Returns fr.method fr.home) at_hand.good.stack.4 (λ d r. refl) (omega arith) refl (suits still) at_hand.good.stack.1.message.0 a x e n w obj in
           let weak = may_hold p s y (register sh a) r.0 r.1.0 in
           let h = held_maybe p s y (held s.cells (top below a)) (fits_weaker p (seen s.cells) (held s.cells (top below a)) weak (register_fits p s.cells fr sh below at_hand.good.fits a)) in
           ((ap is_none (word_of_object (word fr a) (register sh a) obj (at_hand.good.stack.1.words a)), (h, tt)), finish (moved (top below a) (top ls x) s.cells) (set_word fr2 x None) (set_register sh2 x (Maybe y Ready)) refl refl (items e) (loosen p t (moved (top below a) (top ls x) s.cells) (set_word fr2 x None) sh2 ls x (register sh a) (Maybe y Ready) weak f) leads)
-      go still (Left y) r e n w leads = (tt, finish s.cells fr2 (with_entry (Pushed_object y Ready) sh2) refl refl (at_hand.items ∙ ap (λ es. objects es (items_of below)) (left_alone p y sh.entries e)) (pushed p t c s fr fr2 sh sh2 ls below at_hand (Returns fr.method fr.home) at_hand.good.stack.4 (λ d r. refl) (omega arith) refl (suits still) y refl e n) leads)
+      go still (Left y) r e n w leads = (tt, finish s.cells fr2 (with_entry (Pushed_object y Ready) sh2) refl refl (at_hand.items ∙ ap (λ es. objects es (items_of below)) (left_alone p y sh.entries e)) (pushed p t c s fr fr2 sh sh2 ls below at_hand (Returns fr.method fr.home) at_hand.good.stack.4 (λ d r. refl) (omega arith) refl (suits still) at_hand.good.stack.1.message.0 y refl e n) leads)
 
       -- one that cancels gives nothing
       cancel_keeps : is_cancel (method_role p fr.method) ≡ true → AllTrue (needs p c fr (tasks_of below) s (Return a)) × WellTyped p t (does p c fr (tasks_of below) s (Return a))
@@ -331,62 +336,137 @@ module _ (p : Image) (t : Typing) (wired : IsWired p) (c : Choice) (s : State) (
       Goal g = AllTrue (result_needs p fr (tasks_of marked) s g a) × WellTyped p t (record s { cells = result_cells p fr (tasks_of marked) s g a x (tasks_of ls); tasks = Run (next (set_word (received p fr (tasks_of marked) s g a x fr2) (suc x) (Some (pos 0)))) ∷ tasks_of ls; items = below_top s.items })
 
       go : (g : Gives) → LeavesNone g → AllTrue (rule_result p fr.method fr.place sh g a) → entries_done p g sh.entries ≡ true → none_owns (result_moved p fr.method fr.place sh g a).registers ≡ true → is_unowning (register sh2 (suc x)) ≡ true → Awaits g x sh2 → Leads t fr2.method (suc fr2.place) (caught g x sh2) → Goal g
-      go Nothing none r e n u w leads = (tt, finish s.cells fr2 sh2 refl refl (items e) u (plain p t c s fr fr2 sh sh2 ls marked at_hand (Caught gv) caller (λ d r. mark_claims p d gv (Method fr2 sh2 ∷ ls) r) (omega arith) refl suits e n) leads)
+      go Nothing none r e n u w leads = (tt, finish s.cells fr2 sh2 refl refl (items e) u (plain p t c s fr fr2 sh sh2 ls marked at_hand (Caught gv) caller (λ d r. mark_claims p d gv (Method fr2 sh2 ∷ ls) r) (omega arith) refl suits at_hand.good.stack.1.message.0 e n) leads)
       go A_word none r e n u w leads =
           let i = word_is p s (word fr a) (register sh a) r.0 (at_hand.good.stack.1.words a) in
-          ((i.0, tt), finish s.cells (set_word fr2 x (word fr a)) (set_register sh2 x Word) refl refl (items e) (next_unowning sh2.registers x Word u) (write p t s.cells fr2 sh2 ls x (word fr a) Word (plain p t c s fr fr2 sh sh2 ls marked at_hand (Caught gv) caller (λ d r. mark_claims p d gv (Method fr2 sh2 ∷ ls) r) (omega arith) refl suits e n) w (λ h. tt) i.1) leads)
+          ((i.0, tt), finish s.cells (set_word fr2 x (word fr a)) (set_register sh2 x Word) refl refl (items e) (next_unowning sh2.registers x Word u) (write p t s.cells fr2 sh2 ls x (word fr a) Word (plain p t c s fr fr2 sh sh2 ls marked at_hand (Caught gv) caller (λ d r. mark_claims p d gv (Method fr2 sh2 ∷ ls) r) (omega arith) refl suits at_hand.good.stack.1.message.0 e n) w (λ h. tt) i.1) leads)
       go (An_own y) none r e n u w leads =
           let k = may_own p s y (register sh a) r.0 r.1.0 in
-          let f = carried p t c s fr fr2 sh sh2 ls marked at_hand (Caught gv) caller (λ d r. mark_claims p d gv (Method fr2 sh2 ∷ ls) r) (omega arith) refl suits a x e n w (ap is_object_or_null k) in
+          let f = carried p t c s fr fr2 sh sh2 ls marked at_hand (Caught gv) caller (λ d r. mark_claims p d gv (Method fr2 sh2 ∷ ls) r) (omega arith) refl suits at_hand.good.stack.1.message.0 a x e n w (ap is_object_or_null k) in
           let h = held_thing p s y (held s.cells (top marked a)) (subst (λ k. Fits p (seen s.cells) (held s.cells (top marked a)) k) k (register_fits p s.cells fr sh marked at_hand.good.fits a)) in
           let weak : Weaker (Maybe y Ready) (register sh a) = subst (λ k. Weaker (Maybe y Ready) k) (sym k) maybe_own in
           ((ap is_none (word_of_object (word fr a) (register sh a) (ap is_object_or_null k) (at_hand.good.stack.1.words a)), (h.0, (h.1, tt))), finish (moved (top marked a) (top ls x) s.cells) (set_word fr2 x None) (set_register sh2 x (Maybe y Ready)) refl refl (items e) (next_unowning sh2.registers x (Maybe y Ready) u) (loosen p t (moved (top marked a) (top ls x) s.cells) (set_word fr2 x None) sh2 ls x (register sh a) (Maybe y Ready) weak f) leads)
       go (A_maybe y) none r e n u w leads =
           let obj : is_object_or_null (register sh a) ≡ true = object_of p s y (register sh a) r.0 in
-          let f = carried p t c s fr fr2 sh sh2 ls marked at_hand (Caught gv) caller (λ d r. mark_claims p d gv (Method fr2 sh2 ∷ ls) r) (omega arith) refl suits a x e n w obj in
+          let f = carried p t c s fr fr2 sh sh2 ls marked at_hand (Caught gv) caller (λ d r. mark_claims p d gv (Method fr2 sh2 ∷ ls) r) (omega arith) refl suits at_hand.good.stack.1.message.0 a x e n w obj in
           let weak = may_hold p s y (register sh a) r.0 r.1.0 in
           let h = held_maybe p s y (held s.cells (top marked a)) (fits_weaker p (seen s.cells) (held s.cells (top marked a)) weak (register_fits p s.cells fr sh marked at_hand.good.fits a)) in
           ((ap is_none (word_of_object (word fr a) (register sh a) obj (at_hand.good.stack.1.words a)), (h, tt)), finish (moved (top marked a) (top ls x) s.cells) (set_word fr2 x None) (set_register sh2 x (Maybe y Ready)) refl refl (items e) (next_unowning sh2.registers x (Maybe y Ready) u) (loosen p t (moved (top marked a) (top ls x) s.cells) (set_word fr2 x None) sh2 ls x (register sh a) (Maybe y Ready) weak f) leads)
       go (Left y) none r e n u w leads = absurd none
 
--- the method of main or of an object returns to its dispatch
+-- a method returns to its dispatch
 module _ (p : Image) (t : Typing) (c : Choice) (s : State) (fr : Frame) (sh : Shape) (gv : Gives) (w : Dispatch) (seats : List Seat) (ls : List Layer) (at_hand : At p t s fr sh (Mark gv ∷ Dispatching w seats ∷ ls)) where
   abbrev pub dispatched : List Layer
   dispatched = Mark gv ∷ Dispatching w seats ∷ ls
 
-  gives_nothing : (w : Dispatch) → EndsDispatch p w (Caught gv) → gv ≡ Nothing
-  gives_nothing Of_main e = e
-  gives_nothing (Of_object x) e = e
-  gives_nothing _ e = absurd (assumption tt)
+  -- with this dispatch below, and the cells as they were
+  abbrev after_it : Dispatch → State
+  after_it d = record s { tasks = Dispatched d ∷ tasks_of ls; items = below_top s.items }
 
-  ends : (w : Dispatch) → EndsDispatch p w (Caught gv) → EndsDispatch p w Now
-  ends Of_main e = tt
-  ends (Of_object x) e = tt
-  ends _ e = absurd (assumption tt)
+  -- what is claimed with it is what was claimed below the method, but for a message that was served
+  pub dispatch_after :
+      (d : Dispatch) (a : ℕ) → Returnable p fr sh a → no_entry sh.entries ≡ true → EndsDispatch p d Now → SitsFirst s.cells (seat_of d) seats → IsAttended p s.cells d →
+      ((q : Place) → Fits p (seen s.cells) (held s.cells q) (claim p (declared p s.cells) (Dispatching d seats ∷ ls) q)) → WellTyped p t (after_it d)
+  dispatch_after d a r entries ends first attended fits = record {
+    layers = Dispatching d seats ∷ ls;
+    tasks = refl;
+    items = forms_below s.items Mark_form _ (same_items p t c s fr sh dispatched at_hand entries);
+    undos = undos_below p s.items at_hand.undos;
+    good = record {
+      stack = (ends, at_hand.good.stack.4.1.1, at_hand.good.stack.4.1.2, first, attended);
+      fits = fits;
+      suits = suits_after a r;
+      tidy = at_hand.good.tidy;
+    };
+  }
+    where
+      suits_after : (a : ℕ) → Returnable p fr sh a → AllSuit p s.cells dispatched
+      suits_after a r = all_returned p s.cells s.cells fr sh dispatched at_hand.good.suits at_hand.good.stack.2 (λ n. refl) (λ n off. refl) (λ o from e h.
+          let apart : IsApart p (Inside o from) dispatched = subst (λ h. IsApart p h dispatched) e at_hand.good.stack.3 in
+          rests_there p o dispatched (requested s.cells o.name) apart.3 (suits_rests (thing_kind p o.thing) sh.states (requested s.cells o.name) r.settled (subst (λ k. Suits (thing_kind p o.thing) k (requested s.cells o.name)) (known_resting p o fr sh.states dispatched at_hand.good.stack.4.0.2 apart.3) h)))
 
-  pub law_return_dispatch : (a : ℕ) → Law p t c s fr sh (Mark gv ∷ Dispatching w seats ∷ ls) at_hand (Return a)
-  law_return_dispatch a n leads =
+  -- below the method, where it gives nothing and serves nothing
+  plain_below : no_entry sh.entries ≡ true → none_owns sh.registers ≡ true → (serves p fr.method ≡ true → ⊥) → (q : Place) → Fits p (seen s.cells) (held s.cells q) (claim p (declared p s.cells) (Dispatching w seats ∷ ls) q)
+  plain_below entries free plain q =
+      subst (λ k. Fits p (seen s.cells) (held s.cells q) k) (mark_claims p (declared p s.cells) gv (Dispatching w seats ∷ ls) q)
+      (ended p s.cells fr sh dispatched at_hand.good.stack.2 at_hand.good.stack.3 refl entries free (λ serving. absurd (plain serving)) q (seen s.cells) (held s.cells q) (at_hand.good.fits q))
+
+  -- with nothing given, the needs of a return are those of its end
+  pub return_nothing :
+      (d : Dispatch) (a : ℕ) → AllTrue (rule_needs p fr.method fr.place sh (Return a)) → gv ≡ Nothing → AllTrue (needs_ended w s.cells) →
+      ((r : Returnable p fr sh a) → WellTyped p t (after_it d) → WellTyped p t (after_return p t c s fr sh dispatched at_hand a r s.cells)) →
+      EndsDispatch p d Now → SitsFirst s.cells (seat_of d) seats → IsAttended p s.cells d →
+      (Returnable p fr sh a → no_entry sh.entries ≡ true → none_owns sh.registers ≡ true → (q : Place) → Fits p (seen s.cells) (held s.cells q) (claim p (declared p s.cells) (Dispatching d seats ∷ ls) q)) →
+      AllTrue (needs p c fr (tasks_of dispatched) s (Return a)) × WellTyped p t (does p c fr (tasks_of dispatched) s (Return a))
+  return_nothing d a n none met so ends first attended fits =
       let r = returnable p fr sh a n in
-      let below = at_hand.good.stack.4.1 in
-      let nothing : gives_of p fr.method ≡ Nothing = at_hand.good.stack.4.0.0 ∙ gives_nothing w below.0 in
+      let nothing : gives_of p fr.method ≡ Nothing = at_hand.good.stack.4.0.0 ∙ none in
       let entries : no_entry sh.entries ≡ true = none_left p fr sh a nothing r in
       let free : none_owns sh.registers ≡ true = ap (λ g. none_owns (result_moved p fr.method fr.place sh g a).registers) (sym nothing) ∙ r.free in (
-        return_needs p t c s fr sh dispatched at_hand a r (subst (λ g. AllTrue (result_needs p fr (tasks_of dispatched) s g a)) (sym nothing) tt) (mark_on_top s.items _ (same_items p t c s fr sh dispatched at_hand entries), tt),
-        ended_plainly p t c s fr sh dispatched at_hand a r at_hand.good.stack.4.0.2 (record {
-          layers = Dispatching w seats ∷ ls;
-          tasks = refl;
-          items = forms_below s.items Mark_form _ (same_items p t c s fr sh dispatched at_hand entries);
-          undos = undos_below p s.items at_hand.undos;
-          good = record {
-            stack = (ends w below.0, below.1, below.2, below.3);
-            fits = λ q. subst (λ k. Fits p (seen s.cells) (held s.cells q) k) (mark_claims p (declared p s.cells) gv (Dispatching w seats ∷ ls) q) (ended p s.cells fr sh dispatched at_hand.good.stack.2 at_hand.good.stack.3 refl entries free q (seen s.cells) (held s.cells q) (at_hand.good.fits q));
-            suits = all_returned p s.cells s.cells fr sh dispatched at_hand.good.suits at_hand.good.stack.2 (λ n. refl) (λ n off. refl) (λ o from e h.
-                let apart : IsApart p (Inside o from) dispatched = subst (λ h. IsApart p h dispatched) e at_hand.good.stack.3 in
-                rests_there p o dispatched (requested s.cells o.name) apart.3 (suits_rests (thing_kind p o.thing) sh.states (requested s.cells o.name) r.settled (subst (λ k. Suits (thing_kind p o.thing) k (requested s.cells o.name)) (known_resting p o fr sh.states dispatched at_hand.good.stack.4.0.2 apart.3) h)));
-            tidy = at_hand.good.tidy;
-          };
-        }),
+        return_needs p t c s fr sh dispatched at_hand a r (subst (λ g. AllTrue (result_needs p fr (tasks_of dispatched) s g a)) (sym nothing) tt) (mark_on_top s.items _ (same_items p t c s fr sh dispatched at_hand entries), met),
+        ended_plainly p t c s fr sh dispatched at_hand a r at_hand.good.stack.4.0.2 (so r (dispatch_after d a r entries ends first attended (fits r entries free))),
       )
+
+-- to that of main, or of an object
+pub law_return_main : (p : Image) (t : Typing) (c : Choice) (s : State) (fr : Frame) (sh : Shape) (gv : Gives) (seats : List Seat) (ls : List Layer) (at_hand : At p t s fr sh (Mark gv ∷ Dispatching Of_main seats ∷ ls)) (a : ℕ) → Law p t c s fr sh (Mark gv ∷ Dispatching Of_main seats ∷ ls) at_hand (Return a)
+law_return_main p t c s fr sh gv seats ls at_hand a n leads =
+    let below = at_hand.good.stack.4.1 in
+    return_nothing p t c s fr sh gv Of_main seats ls at_hand Of_main a n below.0 tt (λ r v. v) tt below.3 tt (λ r entries free. plain_below p t c s fr sh gv Of_main seats ls at_hand entries free at_hand.good.stack.1.message.0)
+
+pub law_return_object : (p : Image) (t : Typing) (c : Choice) (s : State) (fr : Frame) (sh : Shape) (gv : Gives) (x : Seat) (seats : List Seat) (ls : List Layer) (at_hand : At p t s fr sh (Mark gv ∷ Dispatching (Of_object x) seats ∷ ls)) (a : ℕ) → Law p t c s fr sh (Mark gv ∷ Dispatching (Of_object x) seats ∷ ls) at_hand (Return a)
+law_return_object p t c s fr sh gv x seats ls at_hand a n leads =
+    let below = at_hand.good.stack.4.1 in
+    return_nothing p t c s fr sh gv (Of_object x) seats ls at_hand (Of_object x) a n below.0 tt (λ r v. v) tt below.3 tt (λ r entries free. plain_below p t c s fr sh gv (Of_object x) seats ls at_hand entries free at_hand.good.stack.1.message.0)
+
+-- to that of a server which serves a message: it is taken, and the dispatch ends as an object's
+module _ (p : Image) (t : Typing) (c : Choice) (s : State) (fr : Frame) (sh : Shape) (gv : Gives) (x : Seat) (client : ℕ) (o : Object) (seats : List Seat) (ls : List Layer) (at_hand : At p t s fr sh (Mark gv ∷ Dispatching (Of_server x client (Serves o)) seats ∷ ls)) where
+  serves_it : serves p fr.method ≡ true
+  serves_it = at_hand.good.stack.1.message.1 tt
+
+  -- no message is served any more
+  taken : (a : ℕ) → Returnable p fr sh a → Fits p (seen s.cells) (held s.cells (Elsewhere In_service)) Null
+  taken a r =
+      subst (λ x. Fits p (seen s.cells) (held s.cells (Elsewhere In_service)) (delivered x)) (message_gone p fr sh a r serves_it)
+      (subst (λ b. Fits p (seen s.cells) (held s.cells (Elsewhere In_service)) (cond b (delivered sh.delivery) (Own Message Ready))) serves_it (at_hand.good.fits (Elsewhere In_service)))
+
+  others_fit : (a : ℕ) → Returnable p fr sh a → no_entry sh.entries ≡ true → none_owns sh.registers ≡ true → (q : Place) → Fits p (seen s.cells) (held s.cells q) (claim p (declared p s.cells) (Dispatching (Of_object x) seats ∷ ls) q)
+  others_fit a r entries free q = go q
+    where
+      bare : Shape
+      bare = record sh { delivery = Here }
+
+      -- with the message as it was, the method ends
+      whole : (q : Place) → Fits p (seen s.cells) (held s.cells q) (claim p (declared p s.cells) (Method fr bare ∷ Mark gv ∷ Dispatching (Of_server x client (Serves o)) seats ∷ ls) q) → Fits p (seen s.cells) (held s.cells q) (claim p (declared p s.cells) (Mark gv ∷ Dispatching (Of_server x client (Serves o)) seats ∷ ls) q)
+      whole q f = ended p s.cells fr bare (Mark gv ∷ Dispatching (Of_server x client (Serves o)) seats ∷ ls) at_hand.good.stack.2 at_hand.good.stack.3 refl entries free (λ serving. refl) q (seen s.cells) (held s.cells q) f
+
+      same_fields : (home : Home) (m f : ℕ) (k : Kind) → home_claim p home sh m f k ≡ home_claim p home (record sh { delivery = Here }) m f k
+      same_fields Static m f k = refl
+      same_fields AtRoot m f k = refl
+      same_fields (Inside y from) m f k = refl
+
+      same_root : (home : Home) (k : Kind) → root_claim p home sh k ≡ root_claim p home (record sh { delivery = Here }) k
+      same_root Static k = refl
+      same_root AtRoot k = refl
+      same_root (Inside y from) k = refl
+
+      below : List Layer
+      below = Mark gv ∷ Dispatching (Of_server x client (Serves o)) seats ∷ ls
+
+      go : (q : Place) → Fits p (seen s.cells) (held s.cells q) (claim p (declared p s.cells) (Dispatching (Of_object x) seats ∷ ls) q)
+      go (Register f i) = whole (Register f i) (at_hand.good.fits (Register f i))
+      go (Entry k) = whole (Entry k) (at_hand.good.fits (Entry k))
+      go (Field n f) = whole (Field n f) (subst (λ k. Fits p (seen s.cells) (held s.cells (Field n f)) k) (same_fields fr.home n f (claim p (declared p s.cells) below (Field n f))) (at_hand.good.fits (Field n f)))
+      go (Going k) = whole (Going k) (at_hand.good.fits (Going k))
+      go (Elsewhere Root) = whole (Elsewhere Root) (subst (λ k. Fits p (seen s.cells) (held s.cells (Elsewhere Root)) k) (same_root fr.home (claim p (declared p s.cells) below (Elsewhere Root))) (at_hand.good.fits (Elsewhere Root)))
+      go (Elsewhere (Session m k)) = at_hand.good.fits (Elsewhere (Session m k))
+      go (Elsewhere In_service) = subst (λ l. Fits p (seen s.cells) (held s.cells (Elsewhere In_service)) (claim p (declared p s.cells) (Dispatching (Of_object x) seats ∷ l) (Elsewhere In_service))) (sym at_hand.good.stack.4.1.1) (taken a r)
+      go (Elsewhere (Queued m k)) = at_hand.good.fits (Elsewhere (Queued m k))
+
+  pub law_return_served : (a : ℕ) → Law p t c s fr sh (Mark gv ∷ Dispatching (Of_server x client (Serves o)) seats ∷ ls) at_hand (Return a)
+  law_return_served a n leads =
+      let below = at_hand.good.stack.4.1 in
+      return_nothing p t c s fr sh gv (Of_server x client (Serves o)) seats ls at_hand (Of_object x) a n below.0
+      (ap is_none (fits_unowning p (seen s.cells) _ Null refl (taken a (returnable p fr sh a n))), tt) (λ r v. v) tt below.3 tt (λ r entries free. others_fit a r entries free)
 
 -- over an unwinding an operation is over
 module _ (p : Image) (t : Typing) (c : Choice) (s : State) (fr : Frame) (sh : Shape) (code : ℤ) (es : List Pushed) (ls : List Layer) (at_hand : At p t s fr sh (Unwinding code es ∷ ls)) where
@@ -405,7 +485,7 @@ module _ (p : Image) (t : Typing) (c : Choice) (s : State) (fr : Frame) (sh : Sh
           undos = at_hand.undos;
           good = record {
             stack = (tt, at_hand.good.stack.4.1);
-            fits = λ q. ended p s.cells fr sh below at_hand.good.stack.2 at_hand.good.stack.3 refl entries free q (seen s.cells) (held s.cells q) (at_hand.good.fits q);
+            fits = λ q. ended p s.cells fr sh below at_hand.good.stack.2 at_hand.good.stack.3 refl entries free (λ serving. absurd (at_hand.good.stack.1.message.0 serving)) q (seen s.cells) (held s.cells q) (at_hand.good.fits q);
             suits = all_returned p s.cells s.cells fr sh below at_hand.good.suits at_hand.good.stack.2 (λ n. refl) (λ n off. refl) (λ o from e h.
                 let apart : IsApart p (Inside o from) below = subst (λ h. IsApart p h below) e at_hand.good.stack.3 in
                 rests_there p o below (requested s.cells o.name) apart.3 (suits_rests (thing_kind p o.thing) sh.states (requested s.cells o.name) r.settled (subst (λ k. Suits (thing_kind p o.thing) k (requested s.cells o.name)) (known_resting p o fr sh.states below at_hand.good.stack.4.0.2 apart.3) h)));
@@ -444,8 +524,8 @@ module _ (p : Image) (t : Typing) (c : Choice) (s : State) (fr : Frame) (sh : Sh
           items = same_items p t c s fr sh asker at_hand entries;
           undos = at_hand.undos;
           good = record {
-            stack = (tt, below.1, below.2, below.3);
-            fits = λ q. subst (λ k. Fits p (seen s.cells) (held s.cells q) k) (sym (same_claims answer (declared p s.cells) q)) (ended p s.cells fr sh asker at_hand.good.stack.2 at_hand.good.stack.3 refl entries free q (seen s.cells) (held s.cells q) (at_hand.good.fits q));
+            stack = (tt, below.1, below.2, below.3, tt);
+            fits = λ q. subst (λ k. Fits p (seen s.cells) (held s.cells q) k) (sym (same_claims answer (declared p s.cells) q)) (ended p s.cells fr sh asker at_hand.good.stack.2 at_hand.good.stack.3 refl entries free (λ serving. absurd (at_hand.good.stack.1.message.0 serving)) q (seen s.cells) (held s.cells q) (at_hand.good.fits q));
             suits = all_returned p s.cells s.cells fr sh asker at_hand.good.suits at_hand.good.stack.2 (λ n. refl) (λ n off. refl) (λ o from e h.
                 let apart : IsApart p (Inside o from) asker = subst (λ h. IsApart p h asker) e at_hand.good.stack.3 in
                 rests_there p o asker (requested s.cells o.name) apart.3 (suits_rests (thing_kind p o.thing) sh.states (requested s.cells o.name) r.settled (subst (λ k. Suits (thing_kind p o.thing) k (requested s.cells o.name)) (known_resting p o fr sh.states asker below.0.2 apart.3) h)));

@@ -14,6 +14,7 @@ use Rattle.aom_sound.specs.Enlisted.{is_active, is_idle, is_unsettled, pending}
 use Rattle.aom_sound.specs.Laws.{SignalsAreReady}
 use Rattle.aom_sound.specs.Places.{Active, Cell, Idle, Object, Phase, Request, Tidy, named, requested}
 use Rattle.aom_sound.specs.Requests.{AllSuit, Suits, phase_state, resting_in, thing_kind}
+use Rattle.aom_sound.specs.Servers.{is_asked_for}
 use Rattle.aom_sound.specs.State.{State}
 use Rattle.aom_sound.specs.WellTyped.{WellTyped}
 use Rattle.aom_sound.specs.World.{AllSettled, Candidate, among_ready, before_others, first_ready, has_signal, is_settled, signals}
@@ -54,20 +55,24 @@ settled_cells (c ∷ cs) h tidy = (here, settled_cells cs later tidy.2)
         let other = ne_eqb c.object.name o.name (λ same. let clash : Some o ≡ None = sym e ∙ sym (ap (λ n. named cs n) same) ∙ tidy.1 in cc) in
         sym (ap (λ b. is_settled (cond b c.request (requested cs o.name))) other) ∙ h o (ap (λ b. cond b (Some c.object) (named cs o.name)) other ∙ e)
 
--- a signal of what is settled is that of an object that waits
-some_ready : (c : Cell) (r : Option Request) (others : Option Candidate) → is_settled r ≡ true → is_some (among_ready c r others) ≡ (signals r || is_some others)
+-- a signal of what is settled is that of an object that waits, or of a server with a queue
+some_ready : (c : Cell) (r : Option Request) (others : Option Candidate) → is_settled r ≡ true → is_some (among_ready c r others) ≡ (signals c r || is_some others)
 some_ready c None others e = refl
-some_ready c (Some r) others e = go r.phase (not (int_eq r.status pending)) (settled_not (is_unsettled r.phase) e)
+some_ready c (Some r) others e = go r.phase (not (int_eq r.status pending)) (is_asked_for c) (settled_not (is_unsettled r.phase) e)
   where
-    go : (q : Phase) (b : Bool) → is_unsettled q ≡ false → is_some (cond (is_active q && b) (Some (before_others (record { seat = record { object = c.object; place = c.owner }; request = r }) others)) others) ≡ ((not (is_idle q) && b) || is_some others)
-    go Idle b e = refl
-    go Active true e = refl
-    go Active false e = refl
-    go _ b e = cc
+    go :
+        (q : Phase) (b asked : Bool) → is_unsettled q ≡ false →
+        is_some (cond ((is_active q && b) || asked) (Some (before_others (record { seat = record { object = c.object; place = c.owner }; request = r }) others)) others) ≡ (((not (is_idle q) && b) || asked) || is_some others)
+    go Idle b true e = refl
+    go Idle b false e = refl
+    go Active true asked e = refl
+    go Active false true e = refl
+    go Active false false e = refl
+    go _ b asked e = cc
 
 same_signals : (cs : List Cell) → AllSettled cs → has_signal cs ≡ is_some (first_ready cs)
 same_signals [] s = refl
-same_signals (c ∷ cs) s = ap (λ b. signals c.request || b) (same_signals cs s.1) ∙ sym (some_ready c c.request (first_ready cs) s.0)
+same_signals (c ∷ cs) s = ap (λ b. signals c c.request || b) (same_signals cs s.1) ∙ sym (some_ready c c.request (first_ready cs) s.0)
 
 pub at_rest : (p : Image) (t : Typing) (s : State) (w : WellTyped p t s) → s.tasks ≡ [] → w.layers ≡ []
 at_rest p t s w idle = layers_none w.layers (sym w.tasks ∙ idle)

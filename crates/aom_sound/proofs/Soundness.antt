@@ -1,8 +1,10 @@
 -- Each run of an image that has a typing: every state that it comes to is well typed, and where it ended nothing is at hand.
 use Rattle.std.specs.Ordering.{int_eq}
 use Rattle.aom_image.specs.declared.method.Role.TheVariants.{Error as Error_role}
+use Rattle.aom_sound.proofs.ClientsKeep.{clients_keep}
+use Rattle.aom_sound.specs.Kept.{IsKept}
 use Rattle.aom_sound.specs.Enlisted.{part_of}
-use Rattle.aom_sound.proofs.Turned.{dispatched_so, polled_rest}
+use Rattle.aom_sound.proofs.Turned.{commanded_kept, picked_rest, polled_rest}
 use Rattle.aom_sound.proofs.Guarded.{goes_same}
 use Rattle.aom_sound.proofs.Signals.{signals_are_ready}
 use Rattle.aom_sound.proofs.Turning.{turn_goes_on}
@@ -24,10 +26,10 @@ use Rattle.aom_sound.specs.Moves.{IsOpen, answered, asking, counted, dispatch_en
 use Rattle.aom_sound.specs.Places.{Elsewhere, Object, Root, held}
 use Rattle.aom_sound.specs.Quiet.{IsCalm}
 use Rattle.aom_sound.specs.Registers.{AllInRange}
-use Rattle.aom_sound.specs.State.{Answered, Asks, Object_left, Of_object, Choice, Dispatch, Dispatched, Goes, IsStuck, Main_left, Of_main, Of_root, Outcome, Rest, State, Task}
+use Rattle.aom_sound.specs.State.{Of_server, Accepts, Accepted, Accept_left, Serves, Service_left, Parts, Answered, Asks, Object_left, Of_object, Choice, Dispatch, Dispatched, Goes, IsStuck, Main_left, Of_main, Of_root, Outcome, Rest, State, Task}
 use Rattle.aom_sound.specs.Steps.{Move}
 use Rattle.aom_sound.specs.WellTyped.{Good, Keeps, WellTyped}
-use Rattle.aom_sound.specs.World.{Completes, Cuts, Heard, IsBetween, IsBusy, Outside, Passes, Picks, Reaches, Strays, Turning, Waits, begins, boot_state, moves, turn, turned, turning, turns, Hears, Kills, Polls}
+use Rattle.aom_sound.specs.World.{Obeys, heard_one, Completes, Cuts, Heard, IsBetween, IsBusy, Outside, Passes, Picks, Reaches, Strays, Turning, Waits, begins, boot_state, moves, turn, turned, turning, turns, Hears, Kills, Polls}
 use Rattle.aom_transcript.specs.declared.line.Ending.{Ending}
 use Rattle.aom_transcript.specs.declared.line.Ending.TheVariants.{Stopped}
 use Rattle.aom_transcript.specs.declared.line.Line.{Line}
@@ -77,6 +79,12 @@ dispatch_holds p s (Object_left x code) rootless = go (part_of p Error_role x.ob
     go (Some m) = inl refl
 dispatch_holds p s (Asks x) rootless = object_holds p s
 dispatch_holds p s (Answered x answer) rootless = answer_holds p answer s
+dispatch_holds p s (Of_server x client Accepts) rootless = inl refl
+dispatch_holds p s (Of_server x client Accepted) rootless = inl refl
+dispatch_holds p s (Of_server x client (Accept_left code)) rootless = inl refl
+dispatch_holds p s (Of_server x client (Serves o)) rootless = inl refl
+dispatch_holds p s (Of_server x client (Service_left code)) rootless = inl refl
+dispatch_holds p s (Of_server x client Parts) rootless = inl refl
 
 -- a move ends the run only where it leaves nothing at hand
 move_holds : (p : Image) (c : Choice) (s u : State) → Uprooted s → Move p c s u → (u.rest.ended ≡ s.rest.ended) ⊎ IsAtRest u
@@ -100,7 +108,8 @@ turn_holds p outside heard s u between e = go (turning outside heard s) e
     go (Kills n) e = subst (λ v. GoesOn v) (goes_same _ u e) (inl between.going)
     go (Polls n answer) e = inl (ap (λ (r : Rest). r.ended) (polled_rest p s u n answer e) ∙ between.going)
     go (Passes due) e = subst (λ v. GoesOn v) (goes_same _ u e) (inl between.going)
-    go (Picks x) e = subst (λ v. GoesOn v) (sym (dispatched_so p s u x e).2) (inl between.going)
+    go (Picks x) e = inl (ap (λ (r : Rest). r.ended) (picked_rest p s u x e) ∙ between.going)
+    go (Obeys client command name) e = subst (λ v. GoesOn v) (goes_same _ u e) (inl (ap (λ (r : Rest). r.ended) (commanded_kept p client (heard_one s) command name).0 ∙ between.going))
     go Strays e = cc
 
 busy_open : (s : State) → IsBusy s → GoesOn s → s.rest.ended ≡ None
@@ -117,6 +126,7 @@ module _ (p : Image) (t : Typing) (outside : Outside) (wired : IsWired p) (typed
     well : WellTyped p t s
     calm : IsCalm p s.tasks
     in_range : AllInRange s.cells
+    kept : IsKept p s
     goes_on : GoesOn s
 
   moved_on : (s u : State) (c : Choice) → Stays s → IsBusy s → IsOpen p outside.refused c s → step p c s ≡ Goes u → Stays u
@@ -124,16 +134,18 @@ module _ (p : Image) (t : Typing) (outside : Outside) (wired : IsWired p) (typed
     well = subst (λ o. Keeps p t o) e (step_keeps p t wired typed c s h.well choice.name);
     calm = calm_keeps.moves p t wired typed c s u h.well h.calm e;
     in_range = registers_keep.moves p wired c s u h.in_range e;
+    kept = clients_keep.moves p t wired typed c s u h.well choice.name h.kept e;
     goes_on = ⊎_elim (λ same. inl (same ∙ busy_open s busy h.goes_on)) (λ idle. inr idle) (move_holds p c s u (uprooted_so p t s h.well) (steps_are_moves p c s u e));
   }
 
   stays : (lines : List Line) (s : State) → Reaches p outside (boot_state p) lines s → Stays s
-  stays _ _ begins = record { well = boot_keeps p t wired typed; calm = calm_keeps.boot p; in_range = registers_keep.boot p; goes_on = inl refl }
+  stays _ _ begins = record { well = boot_keeps p t wired typed; calm = calm_keeps.boot p; in_range = registers_keep.boot p; kept = clients_keep.boot p; goes_on = inl refl }
   stays _ _ (moves {lines = lines} {s = s} {u = u} c before busy choice e) = moved_on s u c (stays lines s before) busy choice e
   stays _ _ (turns {lines = lines} {s = s} {u = u} heard before between well e) = let h = stays lines s before in record {
-    well = subst (λ o. Keeps p t o) e (turn_goes_on p t outside wired typed heard s h.well between well);
-    calm = calm_keeps.turns p outside heard s u h.calm e;
+    well = subst (λ o. Keeps p t o) e (turn_goes_on p t outside wired typed heard s h.well between well h.kept.fit);
+    calm = calm_keeps.turns p wired outside heard s u h.calm e;
     in_range = registers_keep.turns p outside heard s u h.in_range e;
+    kept = clients_keep.turns p t outside wired typed heard s u h.well between well h.kept e;
     goes_on = turn_holds p outside heard s u between e;
   }
 
@@ -155,7 +167,7 @@ module _ (p : Image) (t : Typing) (outside : Outside) (wired : IsWired p) (typed
   pub sound : IsSound p outside
   sound = record {
     goes_on = λ lines s r busy c choice. goes (step p c s) (step_keeps p t wired typed c s (stays lines s r).well choice.name);
-    turns_on = λ lines s r between heard well. goes (turn p outside heard s) (turn_goes_on p t outside wired typed heard s (stays lines s r).well between well);
+    turns_on = λ lines s r between heard well. goes (turn p outside heard s) (turn_goes_on p t outside wired typed heard s (stays lines s r).well between well (stays lines s r).kept.fit);
     settled = λ lines s r idle. signals_are_ready p t s (stays lines s r).well idle;
     caught = λ lines s code tasks items r at top. let h = stays lines s r in caught_owned p t wired s h.well h.calm h.in_range code tasks items at top;
     owned = λ lines s d r e. let h = stays lines s r in (ends_owned p t wired s h.well h.in_range).0 d e;

@@ -1,12 +1,12 @@
 -- Every move from a well-typed state.
-use Rattle.std.proofs.Common.{List, None, Some, [], cond, refl, subst, sym, ℕ, ℤ, ◌∙◌, ◌∷◌, ◌≡◌, arith}
+use Rattle.std.proofs.Common.{List, None, Some, [], cond, refl, subst, sym, ℕ, ℤ, ◌∙◌, ◌∷◌, ◌≡◌}
 use Rattle.std.specs.Int.{int_bit_and, int_bit_or, int_bit_xor, int_wrapping_add, int_wrapping_mul, int_wrapping_sub, w32}
 use Rattle.std.specs.Ordering.{int_eq}
 use Rattle.std.specs.Prelude.{int_lt}
 use Rattle.aom_image.specs.Image.{Image}
 use Rattle.aom_image.specs.Views.{instr_at}
 use Rattle.aom_instructions.specs.declared.instr.Instr.{Instr}
-use Rattle.aom_instructions.specs.declared.instr.Instr.TheVariants.{Abort, Add, And, Call, Cancel, Const, Copy, Delete, Enlist, Issue, Jump, JumpActive, JumpAdded, JumpEmpty, JumpEqual, JumpLess, JumpNull, Leave, LeaveIf, Load, Loop, Move, Mul, New, NewOrLeave, Next, Or, Pop, PopDelete, PopOperation, Print, Push, PushOperation, Put, Return, SetActive, Status, Stop, Store, Sub, Take, Trap, Xor, Connect, Ask, Close}
+use Rattle.aom_instructions.specs.declared.instr.Instr.TheVariants.{Abort, Add, And, Call, Cancel, Const, Copy, Delete, Enlist, Issue, Jump, JumpActive, JumpAdded, JumpEmpty, JumpEqual, JumpLess, JumpNull, Leave, LeaveIf, Load, Loop, Move, Mul, New, NewOrLeave, Next, Or, Pop, PopDelete, PopOperation, Print, Push, PushOperation, Put, Return, SetActive, Status, Stop, Store, Sub, Take, Trap, Xor, Connect, Ask, Close, TakeMessage, Reply}
 use Rattle.aom_shape.specs.Needs.{AllTrue}
 use Rattle.aom_shape.specs.Shape.{Shape}
 use Rattle.aom_rules.specs.Typing.{IsTyped, Typing}
@@ -20,20 +20,23 @@ use Rattle.aom_sound.proofs.Going.{going_keeps}
 use Rattle.aom_sound.proofs.Jumps.{law_jump, law_jump_empty, law_jump_null, law_loop, law_next}
 use Rattle.aom_sound.proofs.Words.{law_binary, law_compare, law_const, law_copy, law_load, law_print, law_store}
 use Rattle.aom_sound.proofs.Leaving.{law_leave, law_leave_if}
+use Rattle.aom_sound.proofs.Messages.{law_reply, law_take_message}
 use Rattle.aom_sound.proofs.Moves.{law_move, law_put, law_take}
 use Rattle.aom_sound.proofs.Requesting.{law_abort, law_enlist, law_issue, law_jump_active, law_jump_added, law_set_active, law_status, main_of_none}
-use Rattle.aom_sound.proofs.Returning.{law_answer, law_return, law_return_caught, law_return_dispatch, law_return_unwound}
+use Rattle.aom_sound.proofs.Returning.{law_answer, law_return, law_return_caught, law_return_main, law_return_object, law_return_served, law_return_unwound}
 use Rattle.aom_sound.proofs.Straight.{At, Law, fitted, settle, stepped, well}
 use Rattle.aom_sound.proofs.Unwinding.{unwinds}
-use Rattle.aom_sound.specs.Claims.{Dispatching, Dying, Layer, Mark, Method, Unwinding, forms, items_of, tasks_of}
+use Rattle.aom_sound.specs.Claims.{Ending, Dispatching, Dying, Layer, Mark, Method, Unwinding, forms, items_of, tasks_of}
 use Rattle.aom_sound.specs.Laws.{IsWired}
 use Rattle.aom_sound.specs.Moves.{counted, does, needs, step, step_instr, step_task}
 use Rattle.aom_sound.specs.Places.{named}
-use Rattle.aom_sound.specs.State.{Asks, Choice, Destroy, Dispatch, Dispatched, Frame, IsStuck, Need, Run, State, Task, Trapped, Unwind, guarded, next}
-use Rattle.aom_sound.specs.WellTyped.{Caught, Good, Keeps, Now, Returns, WellTyped}
-use Rattle.aom_sound.proofs.Layers.{dispatch_layer, going_layer, leave_layer, mark_layer, method_layer}
+use Rattle.aom_sound.specs.State.{Closing, Seat, Stage, Accepted, Accept_left, Service_left, Parts, Home, Of_server, Serves, Of_main, Of_object, Accepts, Asks, Choice, Destroy, Dispatch, Dispatched, Frame, IsStuck, Need, Run, State, Task, Trapped, Unwind, guarded, next}
+use Rattle.aom_sound.specs.WellTyped.{EndsStage, Caught, Good, Keeps, Now, Returns, WellTyped}
+use Rattle.aom_sound.proofs.Layers.{closing_layer, dispatch_layer, going_layer, leave_layer, mark_layer, method_layer}
 use Rattle.aom_sound.proofs.Cancelling.{law_cancel}
 use Rattle.aom_sound.proofs.Serving.{law_connect, law_ask, law_close}
+use Rattle.aom_sound.proofs.Accepting.{law_return_accepted}
+use Rattle.aom_sound.proofs.Emptying.{closing_keeps}
 
 -- a state goes on where all needs are met
 kept : (p : Image) (t : Typing) (needs : List Need) (s : State) → AllTrue needs → WellTyped p t s → Keeps p t (guarded needs s)
@@ -92,7 +95,17 @@ module _ (p : Image) (t : Typing) (wired : IsWired p) (typed : IsTyped p t) (c :
   law (Connect a) here back = law_connect p t (main_of_none p wired) c s fr sh ls at_hand a
   law (Ask a b x) here back = law_ask p t (main_of_none p wired) c s fr sh ls at_hand a b x
   law Close here back = law_close p t (main_of_none p wired) c s fr sh ls at_hand
-  law _ here back = λ n l. cc
+  law (TakeMessage a) here back = law_take_message p t c s fr sh ls at_hand a
+  law (Reply a b) here back = law_reply p t c s fr sh ls at_hand a b
+
+-- no method stands right over the dispatch of a server
+no_stage : (p : Image) (x : Seat) (stage : Stage) (m : ℕ) (home : Home) → EndsStage p x stage (Returns m home) → ⊥
+no_stage p x Accepts m home e = e
+no_stage p x Accepted m home e = e
+no_stage p x (Accept_left code) m home e = e
+no_stage p x (Serves o) m home e = e
+no_stage p x (Service_left code) m home e = e
+no_stage p x Parts m home e = e
 
 -- a method returns to what stands below it
 returns : (p : Image) (t : Typing) → IsWired p → (c : Choice) (s : State) (fr : Frame) (sh : Shape) (ls : List Layer) (at_hand : At p t s fr sh ls) (a : ℕ) → Law p t c s fr sh ls at_hand (Return a)
@@ -102,9 +115,17 @@ returns p t wired c s fr sh (Dying o ∷ ls) h a = law_destructor p t c s fr sh 
 returns p t wired c s fr sh (Unwinding code es ∷ ls) h a = law_return_unwound p t c s fr sh code es ls h a
 returns p t wired c s fr sh (Mark gv ∷ []) h a = let clash : Caught gv ≡ Now = h.good.stack.4.1 in cc
 returns p t wired c s fr sh (Mark gv ∷ Method fr2 sh2 ∷ ls) h a = law_return_caught p t wired c s fr fr2 sh sh2 gv ls h a
-returns p t wired c s fr sh (Mark gv ∷ Dispatching w seats ∷ ls) h a = law_return_dispatch p t c s fr sh gv w seats ls h a
+returns p t wired c s fr sh (Mark gv ∷ Dispatching Of_main seats ∷ ls) h a = law_return_main p t c s fr sh gv seats ls h a
+returns p t wired c s fr sh (Mark gv ∷ Dispatching (Of_object x) seats ∷ ls) h a = law_return_object p t c s fr sh gv x seats ls h a
+returns p t wired c s fr sh (Mark gv ∷ Dispatching (Of_server x client (Serves o)) seats ∷ ls) h a = law_return_served p t c s fr sh gv x client o seats ls h a
 returns p t wired c s fr sh (Dispatching (Asks x) seats ∷ ls) h a = law_answer p t c s fr sh x seats ls h a
-returns p t wired c s fr sh _ h a = absurd (grind (arith, h.good.stack.4))
+returns p t wired c s fr sh (Mark gv ∷ Dispatching (Of_server x client Accepts) seats ∷ ls) h a = law_return_accepted p t c s fr sh gv x client seats ls h a
+returns p t wired c s fr sh (Mark gv ∷ Dying o ∷ ls) h a = absurd h.good.stack.4.1.1
+returns p t wired c s fr sh (Mark gv ∷ Ending o left ∷ ls) h a = absurd h.good.stack.4.1.1
+returns p t wired c s fr sh (Mark gv ∷ _) h a = absurd h.good.stack.4.1.0
+returns p t wired c s fr sh (Ending o left ∷ ls) h a = absurd h.good.stack.4.1
+returns p t wired c s fr sh (Dispatching (Of_server x client stage) seats ∷ ls) h a = absurd (no_stage p x stage fr.method fr.home h.good.stack.4.0)
+returns p t wired c s fr sh (Dispatching d seats ∷ ls) h a = absurd h.good.stack.4.0
 
 -- an instruction of a well-typed state
 pub instruction_keeps : (p : Image) (t : Typing) → IsWired p → IsTyped p t → (c : Choice) (s : State) (fr : Frame) (sh : Shape) (ls : List Layer) → At p t s fr sh ls → named s.cells c.name ≡ None → Keeps p t (step_instr p c fr (tasks_of ls) s (instr_at p fr.method fr.place))
@@ -132,6 +153,11 @@ module _ (p : Image) (t : Typing) (c : Choice) (s : State) where
       going_layer Stacked ts w.layers (sym w.tasks ∙ e) (w.tasks, w.items, w.good) (λ o ls rest h.
       subst (λ l. Keeps p t (step_task p c s l)) (sym h.0) (going_keeps p t s o ls h.2 h.1 w.undos))
 
+  of_closing : IsWired p → IsTyped p t → (ts : List Task) → s.tasks ≡ Closing ∷ ts → WellTyped p t s → Keeps p t (step_task p c s s.tasks)
+  of_closing wired typed ts e w =
+      closing_layer Stacked ts w.layers (sym w.tasks ∙ e) (w.tasks, w.items, w.good) (λ o left ls rest h.
+      subst (λ l. Keeps p t (step_task p c s l)) (sym h.0) (closing_keeps p t wired typed s o left ls h.2 h.1 w.undos))
+
   of_dispatch : IsWired p → IsTyped p t → (d : Dispatch) (ts : List Task) → s.tasks ≡ Dispatched d ∷ ts → WellTyped p t s → Keeps p t (step_task p c s s.tasks)
   of_dispatch wired typed d ts e w =
       dispatch_layer Stacked d ts w.layers (sym w.tasks ∙ e) (w.tasks, w.items, w.good) (λ seats ls rest h.
@@ -147,6 +173,7 @@ module _ (p : Image) (t : Typing) (c : Choice) (s : State) where
   of_any wired typed unused [] e w = subst (λ l. Keeps p t (step_task p c s l)) (sym e) w
   of_any wired typed unused (Run fr ∷ ts) e w = of_method wired typed unused fr ts e w
   of_any wired typed unused (Destroy ∷ ts) e w = of_going ts e w
+  of_any wired typed unused (Closing ∷ ts) e w = of_closing wired typed ts e w
   of_any wired typed unused (Unwind code ∷ ts) e w = of_unwinding wired typed code ts e w
   of_any wired typed unused (Dispatched d ∷ ts) e w = of_dispatch wired typed d ts e w
   of_any wired typed unused (Trapped ∷ ts) e w = mark_layer (λ ls. Good p t s.cells ls) ts w.layers (sym w.tasks ∙ e) w.good (λ gv ls rest good. absurd good.stack.0)

@@ -1,15 +1,19 @@
 -- The words of a cell count for no place, and its request for the age of objects alone: where these change, what is claimed holds on.
 use Rattle.std.specs.Prelude.{is_some, map}
+use Rattle.aom_shape.specs.declared.kind.Kind.TheVariants.{Null}
+use Rattle.aom_shape.specs.declared.kind.Filling.TheVariants.{Full}
+use Rattle.aom_sound.proofs.Services.{attended_kept, sessions_kept, service_asked, service_opened, service_stored}
+use Rattle.aom_sound.specs.Servers.{is_among, is_message, message_thing, has_message, has_session, session_thing}
 use Rattle.aom_sound.proofs.Seats.{first_kept}
 use Rattle.std.proofs.Common.{Bool, List, Option, Some, [], ap, cond, false, refl, subst, sym, true, ℕ, ℤ, ◌==◌, ◌∙◌, ◌∷◌, ◌≡◌}
 use Rattle.aom_image.specs.Image.{Image}
-use Rattle.aom_shape.specs.Kinds.{is_ready_kind}
+use Rattle.aom_shape.specs.Kinds.{is_ready_kind, filled}
 use Rattle.aom_shape.specs.Shape.{Shape}
 use Rattle.aom_rules.specs.Typing.{Typing}
 use Rattle.aom_sound.proofs.Claimed.{claim_rel, fits_age}
 use Rattle.aom_sound.proofs.Straight.{Fitted}
-use Rattle.aom_sound.specs.Claims.{Dispatching, Dying, Layer, Mark, Method, Unwinding, claim, declared, declared_field}
-use Rattle.aom_sound.specs.Places.{Cell, Entry, Field, Object, Place, Request, Tidy, held, named, requested, same_place, seen, set_request, set_word_field, set_session}
+use Rattle.aom_sound.specs.Claims.{Dispatching, Dying, Layer, Mark, Method, Unwinding, claim, declared, declared_field, Ending}
+use Rattle.aom_sound.specs.Places.{Service, Cell, Entry, Field, Object, Place, Request, Tidy, held, named, requested, same_place, seen, set_request, set_word_field, set_session, Elsewhere, Session, Queued, service_of}
 use Rattle.aom_sound.specs.State.{AtRoot, Frame, Home, Inside, Seat, Static}
 use Rattle.aom_sound.specs.WellTyped.{AllSit, Back, Fits, IsHoused, Stack, seat_of}
 use Rattle.aom_sound.specs.Words.{stored}
@@ -19,11 +23,14 @@ use Rattle.aom_sound.specs.Enlisted.{cancelled, ended_cells, on_request, own_req
 use Rattle.aom_rules.specs.Requests.{is_cancel}
 use Rattle.aom_image.specs.Views.{method_role}
 use Rattle.aom_sound.specs.Natives.{all_bereaved, bereaved, is_served_by, resessioned, terminated_request}
+use Rattle.std.specs.List.{list_any}
 
 -- the same cells in the same places
 pub record Alike (cs cs' : List Cell) : Type 0 where
   pub held_so : (r : Place) → held cs' r ≡ held cs r
   pub named_so : (n : ℕ) → named cs' n ≡ named cs n
+  pub queues_so : (n : ℕ) → (service_of cs' n).queue ≡ (service_of cs n).queue
+  pub sessions_so : (n : ℕ) → (service_of cs' n).sessions ≡ (service_of cs n).sessions
   pub tidy : Tidy cs → Tidy cs'
 
 pub held_set_word : (cs : List Cell) (n w : ℕ) (v : ℤ) (r : Place) → held (set_word_field n w v cs) r ≡ held cs r
@@ -43,12 +50,12 @@ tidy_set_word [] n w v t = tt
 tidy_set_word (c ∷ cs) n w v t = (held_set_word cs n w v c.owner ∙ t.0, named_set_word cs n w v c.object.name ∙ t.1, tidy_set_word cs n w v t.2)
 
 pub alike_itself : (cs : List Cell) → Alike cs cs
-alike_itself cs = record { held_so = λ r. refl; named_so = λ n. refl; tidy = λ t. t }
+alike_itself cs = record { held_so = λ r. refl; named_so = λ n. refl; queues_so = λ n. refl; sessions_so = λ n. refl; tidy = λ t. t }
 
 stored_alike : (cs : List Cell) (home : Home) (w : ℕ) (v : ℤ) → Alike cs (stored cs home w v)
 stored_alike cs Static w v = alike_itself cs
 stored_alike cs AtRoot w v = alike_itself cs
-stored_alike cs (Inside o from) w v = record { held_so = held_set_word cs o.name w v; named_so = named_set_word cs o.name w v; tidy = tidy_set_word cs o.name w v }
+stored_alike cs (Inside o from) w v = record { held_so = held_set_word cs o.name w v; named_so = named_set_word cs o.name w v; queues_so = λ n. ap (λ (v : Service). v.queue) (service_stored cs o.name w v n); sessions_so = λ n. ap (λ (v : Service). v.sessions) (service_stored cs o.name w v n); tidy = tidy_set_word cs o.name w v }
 
 stored_requests : (cs : List Cell) (home : Home) (w : ℕ) (v : ℤ) (n : ℕ) → requested (stored cs home w v) n ≡ requested cs n
 stored_requests cs Static w v n = refl
@@ -114,7 +121,7 @@ listed_still cs (Inside o from) r h m some = set_listed cs o.name r h m some
 pub rerequested_alike : (cs : List Cell) (home : Home) (r : Option Request) → Alike cs (rerequested cs home r)
 rerequested_alike cs Static r = alike_itself cs
 rerequested_alike cs AtRoot r = alike_itself cs
-rerequested_alike cs (Inside o from) r = record { held_so = held_asked cs o.name r; named_so = named_asked cs o.name r; tidy = tidy_asked cs o.name r }
+rerequested_alike cs (Inside o from) r = record { held_so = held_asked cs o.name r; named_so = named_asked cs o.name r; queues_so = λ n. ap (λ (v : Service). v.queue) (service_asked cs o.name r n); sessions_so = λ n. ap (λ (v : Service). v.sessions) (service_asked cs o.name r n); tidy = tidy_asked cs o.name r }
 
 -- and the cells once a method is over
 pub ended_alike : (p : Image) (fr : Frame) (cs : List Cell) → Alike cs (ended_cells p fr cs)
@@ -130,6 +137,8 @@ ended_alike p fr cs = go (is_cancel (method_role p fr.method))
 module _ (p : Image) (t : Typing) (cs cs' : List Cell) (alike : Alike cs cs') where
   declared_alike : (r : Place) → declared p cs' r ≡ declared p cs r
   declared_alike (Field n f) = ap (λ o. declared_field p o f) (alike.named_so n)
+  declared_alike (Elsewhere (Session n c)) = ap (λ ss. cond (is_among c ss) (filled (session_thing p (named cs' n)) Full) Null) (alike.sessions_so n) ∙ ap (λ o. cond (has_session (service_of cs n) c) (filled (session_thing p o) Full) Null) (alike.named_so n)
+  declared_alike (Elsewhere (Queued n m)) = ap (λ es. cond (list_any (is_message m) es) (filled (message_thing p (named cs' n)) Full) Null) (alike.queues_so n) ∙ ap (λ o. cond (has_message (service_of cs n) m) (filled (message_thing p o) Full) Null) (alike.named_so n)
   declared_alike _ = refl
 
   pub housed_alike : (ls : List Layer) (home : Home) → IsHoused p cs ls home → IsHoused p cs' ls home
@@ -148,7 +157,13 @@ module _ (p : Image) (t : Typing) (cs cs' : List Cell) (alike : Alike cs cs') wh
     stack_alike (Method fr sh ∷ ls) back s = (s.0, s.1, housed_alike ls fr.home s.2, s.3, stack_alike ls _ s.4)
     stack_alike (Mark gv ∷ ls) back s = (s.0, stack_alike ls _ s.1)
     stack_alike (Dying o ∷ ls) back s = ((alike.named_so o.name ∙ s.0.0, alike.held_so _ ∙ s.0.1), s.1, stack_alike ls _ s.2)
-    stack_alike (Dispatching d seats ∷ ls) back s = (s.0, s.1, sits_alike seats s.2, first_kept cs cs' (Entry 0) (seat_of d) seats (λ r o other there lives some. listed o.name some) tt s.2 s.3)
+    stack_alike (Dispatching d seats ∷ ls) back s = (s.0, s.1, sits_alike seats s.2, first_kept cs cs' (Entry 0) (seat_of d) seats (λ r o other there lives some. listed o.name some) tt s.2 s.3, attended_kept p cs cs' alike.sessions_so d s.4)
+    stack_alike (Ending o left ∷ ls) back s = (
+      sessions_kept p cs cs' alike.named_so alike.sessions_so o left s.0,
+      s.1,
+      s.2,
+      stack_alike ls _ s.3,
+    )
     stack_alike (Unwinding code es ∷ ls) back s = (s.0, stack_alike ls _ s.1)
 
   -- where what is claimed to be fresh has the request that it had
@@ -179,7 +194,7 @@ tidy_session (c ∷ cs) n b t = (held_session cs n b c.owner ∙ t.0, named_sess
 pub resessioned_alike : (cs : List Cell) (home : Home) (b : Bool) → Alike cs (resessioned cs home b)
 resessioned_alike cs Static b = alike_itself cs
 resessioned_alike cs AtRoot b = alike_itself cs
-resessioned_alike cs (Inside o from) b = record { held_so = held_session cs o.name b; named_so = named_session cs o.name b; tidy = tidy_session cs o.name b }
+resessioned_alike cs (Inside o from) b = record { held_so = held_session cs o.name b; named_so = named_session cs o.name b; queues_so = λ n. ap (λ (v : Service). v.queue) (service_opened cs o.name b n); sessions_so = λ n. ap (λ (v : Service). v.sessions) (service_opened cs o.name b n); tidy = tidy_session cs o.name b }
 
 pub resessioned_requests : (cs : List Cell) (home : Home) (b : Bool) (n : ℕ) → requested (resessioned cs home b) n ≡ requested cs n
 resessioned_requests cs Static b n = refl
@@ -222,12 +237,16 @@ module _ (f : Cell → Option Request) (g : Cell → Bool) where
   named_reset [] n = refl
   named_reset (c ∷ cs) n = ap (λ x. cond (c.object.name == n) (Some c.object) x) (named_reset cs n)
 
+  service_reset : (cs : List Cell) (n : ℕ) → service_of (map (reset f g) cs) n ≡ service_of cs n
+  service_reset [] n = refl
+  service_reset (c ∷ cs) n = ap (λ x. cond (c.object.name == n) c.service x) (service_reset cs n)
+
   tidy_reset : (cs : List Cell) → Tidy cs → Tidy (map (reset f g) cs)
   tidy_reset [] t = tt
   tidy_reset (c ∷ cs) t = (held_reset cs c.owner ∙ t.0, named_reset cs c.object.name ∙ t.1, tidy_reset cs t.2)
 
   pub reset_alike : (cs : List Cell) → Alike cs (map (reset f g) cs)
-  reset_alike cs = record { held_so = held_reset cs; named_so = named_reset cs; tidy = tidy_reset cs }
+  reset_alike cs = record { held_so = held_reset cs; named_so = named_reset cs; queues_so = λ n. ap (λ (v : Service). v.queue) (service_reset cs n); sessions_so = λ n. ap (λ (v : Service). v.sessions) (service_reset cs n); tidy = tidy_reset cs }
 
 -- what a native that is killed leaves behind
 pub bereaved_alike : (p : Image) (n : ℕ) (cs : List Cell) → Alike cs (all_bereaved p n cs)

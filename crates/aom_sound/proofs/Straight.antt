@@ -21,12 +21,12 @@ use Rattle.aom_sound.proofs.Seats.{NoFieldHere}
 use Rattle.aom_sound.proofs.Claimed.{Outside, claim-set_register, claim_frame, claim_from, claim_ready, claim_weaker, declared_moved, fits_weaker, holds_moved, keep_fits, outside_differs, owns_no_more, stack_moved, word_fits_weaker}
 use Rattle.aom_sound.proofs.Maps.{at-put_at, held_moved, one_place, requested_moved, same_place-true, tidy_moved}
 use Rattle.aom_sound.proofs.Things.{stands_along, stands_same}
-use Rattle.aom_sound.specs.Claims.{Layer, Method, claim, declared, forms, home_claim, items_of, objects, root_claim, tasks_of}
+use Rattle.aom_sound.specs.Claims.{Layer, Method, claim, declared, forms, home_claim, items_of, objects, root_claim, tasks_of, serves}
 use Rattle.aom_sound.specs.Moves.{does, needs}
 use Rattle.aom_sound.specs.Objects.{is_declared_thing, is_thing}
 use Rattle.aom_sound.specs.Places.{Cell, Elsewhere, Field, Object, Place, Register, Root, Sight, Tidy, changed, held, moved, requested, same_place, seen}
 use Rattle.aom_sound.specs.State.{AtRoot, Choice, Frame, Home, Inside, Run, State, Static, field_place, home_holder, next, set_word, thing_holder, word}
-use Rattle.aom_sound.specs.WellTyped.{AllUndo, Fits, Frames, Good, Holds, IsAlone, IsApart, IsHoused, IsNoFieldOf, Returns, Stack, WellTyped, WordFits}
+use Rattle.aom_sound.specs.WellTyped.{AllUndo, Fits, Frames, Good, Holds, IsAlone, IsApart, IsHoused, IsNoFieldOf, Returns, Stack, WellTyped, WordFits, HasMessage}
 use Rattle.aom_sound.proofs.Suiting.{all_moved, claims_less}
 use Rattle.aom_sound.specs.Requests.{AllSuit, Known, Suits, known_at, states_claim, thing_kind, works_at}
 use Rattle.aom_image.specs.Views.{method_role}
@@ -77,7 +77,7 @@ settle p t cs fr sh ls g leads =
     let w = leads.2 in (
       leads.0,
       record {
-        stack = (leads.1, record { words = λ i. word_fits_weaker (word fr i) (w.registers i) (g.frames.words i); holder = g.frames.holder; height = g.frames.height; alone = g.frames.alone }, g.housed, g.apart, g.stack);
+        stack = (leads.1, record { words = λ i. word_fits_weaker (word fr i) (w.registers i) (g.frames.words i); holder = g.frames.holder; height = g.frames.height; alone = g.frames.alone; message = g.frames.message }, g.housed, g.apart, g.stack);
         fits = λ r. fits_weaker p (seen cs) (held cs r) (claim_weaker p (declared p cs) fr leads.0 sh ls r (owns_no_more leads.0 sh w)) (g.fits r);
         suits = λ o lives. claims_less p o fr leads.0 sh ls (requested cs o.name) w.states (g.suits o lives);
         tidy = g.tidy;
@@ -95,6 +95,10 @@ housed_relocated p cs a b ls (Inside o from) free oa ob n h =
 -- a frame of the same method and home is as alone
 alone_too : (p : Image) (fr fr' : Frame) (ls : List Layer) → fr'.home ≡ fr.home → fr'.method ≡ fr.method → (is_cancel (method_role p fr.method) ≡ true → IsAlone p fr.home ls) → is_cancel (method_role p fr'.method) ≡ true → IsAlone p fr'.home ls
 alone_too p fr fr' ls eh em alone e = subst (λ h. IsAlone p h ls) (sym eh) (alone (ap (λ m. is_cancel (method_role p m)) (sym em) ∙ e))
+
+-- and serves as it does
+message_too : (p : Image) (fr fr' : Frame) (ls : List Layer) → fr'.method ≡ fr.method → HasMessage p fr ls → HasMessage p fr' ls
+message_too p fr fr' ls em message = (λ e. message.0 (ap (λ m. serves p m) (sym em) ∙ e), λ served. ap (λ m. serves p m) em ∙ message.1 served)
 
 -- the home, the method and the states alone count for requests
 pub same_suits : (p : Image) (cs : List Cell) (fr fr' : Frame) (sh sh' : Shape) (ls : List Layer) → fr'.home ≡ fr.home → fr'.method ≡ fr.method → sh'.states ≡ sh.states → AllSuit p cs (Method fr sh ∷ ls) → AllSuit p cs (Method fr' sh' ∷ ls)
@@ -127,10 +131,10 @@ relocate p t cs fr fr' sh sh' ls a b g eh em eg es free oa ob nf fresh claims wo
     let fits : (r : Place) → Fits p (seen cs') (held cs' r) (claim p d (Method fr sh' ∷ ls) r) =
     keep_fits p (seen cs) (seen cs') (claim p d (Method fr sh ∷ ls)) (claim p d (Method fr sh' ∷ ls)) a b (λ r. held_moved cs a b r free) (requested_moved cs a b) claims fresh g.fits in
     record {
-      fits = λ r. subst (λ k. Fits p (seen cs') (held cs' r) k) (ap (λ e. claim p e (Method fr sh' ∷ ls) r) (sym (declared_moved p cs a b)) ∙ sym (claim_frame p (declared p cs') fr fr' sh' ls r eh)) (fits r);
+      fits = λ r. subst (λ k. Fits p (seen cs') (held cs' r) k) (ap (λ e. claim p e (Method fr sh' ∷ ls) r) (sym (declared_moved p cs a b)) ∙ sym (claim_frame p (declared p cs') fr fr' sh' ls r eh em)) (fits r);
       suits = same_suits p (moved a b cs) fr fr' sh sh' ls eh em es (all_moved p cs a b (Method fr sh ∷ ls) g.suits);
       tidy = tidy_moved cs a b free g.tidy;
-      frames = record { words = words; holder = ap home_holder eh ∙ g.frames.holder ∙ ap (λ m. holder_of p m) (sym em); height = eg ∙ g.frames.height; alone = alone_too p fr fr' ls eh em g.frames.alone };
+      frames = record { words = words; holder = ap home_holder eh ∙ g.frames.holder ∙ ap (λ m. holder_of p m) (sym em); height = eg ∙ g.frames.height; alone = alone_too p fr fr' ls eh em g.frames.alone; message = message_too p fr fr' ls em g.frames.message };
       housed = housed_relocated p cs a b ls fr'.home free oa ob nf (subst (λ h. IsHoused p cs ls h) (sym eh) g.housed);
       apart = subst (λ h. IsApart p h ls) (sym eh) g.apart;
       stack = subst (λ m. Stack p t cs' (Returns m fr'.home) ls) (sym em) (subst (λ h. Stack p t cs' (Returns fr.method h) ls) (sym eh) (stack_moved p t cs a b ls _ free oa ob g.stack));
@@ -146,10 +150,10 @@ pub relabel :
     ((i : ℕ) → WordFits (word fr' i) (register sh' i)) →
     Fitted p t cs fr' sh' ls
 relabel p t cs fr fr' sh sh' ls a v g eh em eg es new claims words = record {
-  fits = λ r. subst (λ k. Fits p (seen cs) (held cs r) k) (sym (claim_frame p (declared p cs) fr fr' sh' ls r eh ∙ claims r)) (go r (same_place a r) refl);
+  fits = λ r. subst (λ k. Fits p (seen cs) (held cs r) k) (sym (claim_frame p (declared p cs) fr fr' sh' ls r eh em ∙ claims r)) (go r (same_place a r) refl);
   suits = same_suits p cs fr fr' sh sh' ls eh em es g.suits;
   tidy = g.tidy;
-  frames = record { words = words; holder = ap home_holder eh ∙ g.frames.holder ∙ ap (λ m. holder_of p m) (sym em); height = eg ∙ g.frames.height; alone = alone_too p fr fr' ls eh em g.frames.alone };
+  frames = record { words = words; holder = ap home_holder eh ∙ g.frames.holder ∙ ap (λ m. holder_of p m) (sym em); height = eg ∙ g.frames.height; alone = alone_too p fr fr' ls eh em g.frames.alone; message = message_too p fr fr' ls em g.frames.message };
   housed = subst (λ h. IsHoused p cs ls h) (sym eh) g.housed;
   apart = subst (λ h. IsApart p h ls) (sym eh) g.apart;
   stack = subst (λ m. Stack p t cs (Returns m fr'.home) ls) (sym em) (subst (λ h. Stack p t cs (Returns fr.method h) ls) (sym eh) g.stack);
@@ -198,10 +202,10 @@ pub reframed :
     (p : Image) (t : Typing) (cs : List Cell) (fr fr' : Frame) (sh : Shape) (ls : List Layer) → fr'.home ≡ fr.home → fr'.method ≡ fr.method → fr'.height ≡ fr.height → fr'.words ≡ fr.words →
     Fitted p t cs fr sh ls → Fitted p t cs fr' sh ls
 reframed p t cs fr fr' sh ls eh em eg ew g = record {
-  fits = λ r. subst (λ k. Fits p (seen cs) (held cs r) k) (sym (claim_frame p (declared p cs) fr fr' sh ls r eh)) (g.fits r);
+  fits = λ r. subst (λ k. Fits p (seen cs) (held cs r) k) (sym (claim_frame p (declared p cs) fr fr' sh ls r eh em)) (g.fits r);
   suits = same_suits p cs fr fr' sh sh ls eh em refl g.suits;
   tidy = g.tidy;
-  frames = record { words = λ i. subst (λ ws. WordFits (at None ws i) (register sh i)) (sym ew) (g.frames.words i); holder = ap home_holder eh ∙ g.frames.holder ∙ ap (λ m. holder_of p m) (sym em); height = eg ∙ g.frames.height; alone = alone_too p fr fr' ls eh em g.frames.alone };
+  frames = record { words = λ i. subst (λ ws. WordFits (at None ws i) (register sh i)) (sym ew) (g.frames.words i); holder = ap home_holder eh ∙ g.frames.holder ∙ ap (λ m. holder_of p m) (sym em); height = eg ∙ g.frames.height; alone = alone_too p fr fr' ls eh em g.frames.alone; message = message_too p fr fr' ls em g.frames.message };
   housed = subst (λ h. IsHoused p cs ls h) (sym eh) g.housed;
   apart = subst (λ h. IsApart p h ls) (sym eh) g.apart;
   stack = subst (λ m. Stack p t cs (Returns m fr'.home) ls) (sym em) (subst (λ h. Stack p t cs (Returns fr.method h) ls) (sym eh) g.stack);
@@ -210,10 +214,10 @@ reframed p t cs fr fr' sh ls eh em eg ew g = record {
 -- the place alone differs
 pub stepped : (p : Image) (t : Typing) (cs : List Cell) (fr : Frame) (sh : Shape) (ls : List Layer) → Fitted p t cs fr sh ls → Fitted p t cs (next fr) sh ls
 stepped p t cs fr sh ls g = record {
-  fits = λ r. subst (λ k. Fits p (seen cs) (held cs r) k) (sym (claim_frame p (declared p cs) fr (next fr) sh ls r refl)) (g.fits r);
+  fits = λ r. subst (λ k. Fits p (seen cs) (held cs r) k) (sym (claim_frame p (declared p cs) fr (next fr) sh ls r refl refl)) (g.fits r);
   suits = g.suits;
   tidy = g.tidy;
-  frames = record { words = g.frames.words; holder = g.frames.holder; height = g.frames.height; alone = g.frames.alone };
+  frames = record { words = g.frames.words; holder = g.frames.holder; height = g.frames.height; alone = g.frames.alone; message = g.frames.message };
   housed = g.housed;
   apart = g.apart;
   stack = g.stack;

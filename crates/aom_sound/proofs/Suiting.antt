@@ -13,7 +13,7 @@ use Rattle.aom_rules.specs.Requests.{is_cancel, unissued}
 use Rattle.aom_shape.proofs.Sets.{has_along, has_itself}
 use Rattle.aom_shape.specs.Shape.{Shape}
 use Rattle.aom_sound.proofs.Maps.{named_moved, requested_moved}
-use Rattle.aom_sound.specs.Claims.{Dispatching, Dying, Layer, Mark, Method, Unwinding}
+use Rattle.aom_sound.specs.Claims.{Dispatching, Dying, Layer, Mark, Method, Unwinding, Ending}
 use Rattle.aom_sound.specs.Places.{Aborted, Active, Cancelling, Cell, Idle, Issued, Object, Phase, Place, Request, moved, named, requested}
 use Rattle.aom_sound.specs.Enlisted.{cancelled, in_phase, is_aborted, is_cancelling, is_idle, is_unanswered, on_request, pending, status_of}
 use Rattle.std.specs.Ordering.{int_eq}
@@ -84,6 +84,7 @@ unworked_rests p o [] u = refl
 unworked_rests p o (Method fr sh ∷ ls) u = ap (λ b. cond b (known_at p fr sh.states (states_claim p o ls)) (states_claim p o ls)) u.0 ∙ unworked_rests p o ls u.1
 unworked_rests p o (Mark gv ∷ ls) u = unworked_rests p o ls u
 unworked_rests p o (Dying x ∷ ls) u = ap (λ b. cond b (resting_in (last_of (thing_kind p o.thing))) (states_claim p o ls)) u.0 ∙ unworked_rests p o ls u.1
+unworked_rests p o (Ending x left ∷ ls) u = unworked_rests p o ls u
 unworked_rests p o (Unwinding code es ∷ ls) u = unworked_rests p o ls u
 unworked_rests p o (Dispatching d seats ∷ ls) u = unworked_rests p o ls u
 

@@ -1,5 +1,5 @@
 -- What lies below the mark of a trap stays: as many marks lie on the cleanup stack as traps are at hand, and a move changes its last item at most.
-use Rattle.std.proofs.Common.{List, None, Option, Some, [], ap, arith, inl, inr, length, pos, refl, subst, suc, sym, ℕ, ℤ, ◌+◌, ◌∙◌, ◌∷◌, ◌≡◌}
+use Rattle.std.proofs.Common.{Bool, cond, true, false, List, None, Option, Some, [], ap, arith, inl, inr, length, pos, refl, subst, suc, sym, ℕ, ℤ, ◌+◌, ◌∙◌, ◌∷◌, ◌≡◌}
 use Rattle.aom_image.proofs.Given.{cons_given}
 use Rattle.std.specs.Prelude.{◌++◌, ◌⊎◌}
 use Rattle.aom_image.specs.Image.{Image}
@@ -14,28 +14,30 @@ use Rattle.aom_shape.specs.declared.kind.Entry.{Entry as Pushed_entry}
 use Rattle.aom_shape.specs.declared.kind.Entry.TheVariants.{Object as Pushed_object, Operation as Operation_entry}
 use Rattle.aom_sound.proofs.Booting.{boot_keeps}
 use Rattle.aom_sound.proofs.Caught.{own_word, told_frame}
-use Rattle.aom_sound.proofs.Course.{well_on}
+use Rattle.aom_sound.proofs.ClientsKeep.{clients_keep}
+use Rattle.aom_sound.proofs.Course.{WellKept, well_on}
 use Rattle.aom_sound.proofs.Guarded.{guarded_goes}
 use Rattle.aom_sound.proofs.Moving.{steps_are_moves}
 use Rattle.aom_sound.proofs.Standing.{stand}
 use Rattle.aom_sound.proofs.Steps.{step_keeps}
 use Rattle.aom_sound.proofs.View.{under_dispatch as nothing_under}
-use Rattle.aom_sound.specs.Calls.{below_top, called, received, result_register, returned}
-use Rattle.aom_sound.specs.Claims.{Dispatching, Dying, Form, Layer, Mark, Mark_form, Method, Object_form, Operation_form, Unwinding, forms, items_of, objects, tasks_of}
+use Rattle.aom_sound.specs.Calls.{ended_well, below_top, called, received, result_register, returned}
+use Rattle.aom_sound.specs.Claims.{Ending, Dispatching, Dying, Form, Layer, Mark, Mark_form, Method, Object_form, Operation_form, Unwinding, forms, items_of, objects, tasks_of}
 use Rattle.aom_sound.specs.Cleanup.{code_told, ended_by, to_trap}
 use Rattle.aom_classes.specs.Roles.{destructor_of}
-use Rattle.aom_sound.specs.Destruction.{begun, begun_by}
+use Rattle.aom_sound.specs.Destruction.{destructed, parting, first_session, begun, begun_by}
 use Rattle.aom_sound.specs.Effects.{Calls, Cancels, Counts, Destroys, Destroys_last, Effect, Goes_on, Jumps, Leaves, Operates, Popped, Popped_operation, Pushed, Pushed_operation, Repeats, Returns, Sets_trap, Update, applied, items_after, with_words}
 use Rattle.aom_sound.specs.Laws.{IsWired}
 use Rattle.aom_sound.specs.Moves.{IsOpen, counted, does, needs, step, step_instr, step_task}
-use Rattle.aom_sound.specs.Places.{Object, named}
-use Rattle.aom_sound.specs.State.{A_mark, An_object, An_operation, Choice, Destroy, Dispatch, Dispatched, Frame, Goes, Item, Run, State, Task, Trapped, Unwind, next, resumed, set_word, word}
-use Rattle.aom_sound.specs.Steps.{Acts, Arrives, Clears, Comes_out, Ends as A_dispatch_ends, Move, Rests, Undoes, Vanishes}
+use Rattle.aom_sound.specs.Places.{service_of, Object, named}
+use Rattle.aom_sound.specs.State.{Closing, Seat, A_mark, An_object, An_operation, Choice, Destroy, Dispatch, Dispatched, Frame, Goes, Item, Run, State, Task, Trapped, Unwind, next, resumed, set_word, word}
+use Rattle.aom_sound.specs.Steps.{Empties, Acts, Arrives, Clears, Comes_out, Ends as A_dispatch_ends, Move, Rests, Undoes, Vanishes}
 use Rattle.aom_sound.specs.Traps.{ComesOff, GoesOnAfter, IsPast, IsTrapping, TellsZero, TrapsKeep, WasPast, marks, traps}
 use Rattle.aom_sound.specs.WellTyped.{Keeps, WellTyped}
 use Rattle.aom_sound.specs.World.{Heard, HearsWell, IsBetween, IsBusy, Outside, Reaches, begins, boot_state, moves, turn, turns}
 use Rattle.aom_transcript.specs.declared.line.Line.{Line}
 use Rattle.aom_sound.specs.Enlisted.{ended_cells}
+use Rattle.aom_sound.specs.Servers.{is_server}
 
 -- ---- as many marks as traps
 
@@ -61,6 +63,7 @@ marks_of_layers [] = refl
 marks_of_layers (Method fr sh ∷ ls) = marks_under sh.entries (items_of ls) ∙ marks_of_layers ls
 marks_of_layers (Mark gv ∷ ls) = ap suc (marks_of_layers ls)
 marks_of_layers (Dying o ∷ ls) = marks_of_layers ls
+marks_of_layers (Ending o left ∷ ls) = marks_of_layers ls
 marks_of_layers (Unwinding code es ∷ ls) = marks_under es (items_of ls) ∙ marks_of_layers ls
 marks_of_layers (Dispatching d seats ∷ ls) = marks_of_layers ls
 
@@ -78,6 +81,7 @@ traps_join [] b = omega arith
 traps_join (Run fr ∷ a) b = traps_join a b
 traps_join (Trapped ∷ a) b = omega (arith, traps_join a b)
 traps_join (Destroy ∷ a) b = traps_join a b
+traps_join (Closing ∷ a) b = traps_join a b
 traps_join (Unwind code ∷ a) b = traps_join a b
 traps_join (Dispatched d ∷ a) b = traps_join a b
 
@@ -116,6 +120,9 @@ under_frame below ts fr e = cons_given (λ over. Run fr ∷ ts ≡ over ++ (Trap
 under_going : (below ts : List Task) → Ends below (Destroy ∷ ts) → Ends below ts
 under_going below ts e = cons_given (λ over. Destroy ∷ ts ≡ over ++ (Trapped ∷ below)) e.0 e.1 (λ e. cc) (λ x over _ e. (over, cc))
 
+under_closing : (below ts : List Task) → Ends below (Closing ∷ ts) → Ends below ts
+under_closing below ts e = cons_given (λ over. Closing ∷ ts ≡ over ++ (Trapped ∷ below)) e.0 e.1 (λ e. cc) (λ x over _ e. (over, cc))
+
 under_leave : (below ts : List Task) (code : ℤ) → Ends below (Unwind code ∷ ts) → Ends below ts
 under_leave below ts code e = cons_given (λ over. Unwind code ∷ ts ≡ over ++ (Trapped ∷ below)) e.0 e.1 (λ e. cc) (λ x over _ e. (over, cc))
 
@@ -138,12 +145,24 @@ resumes : (below ts : List Task) → Ends below ts → Ends below (resumed ts)
 resumes below (Run fr ∷ ts) e = with_task below ts (Run (next fr)) (under_frame below ts fr e)
 resumes below _ e = e
 
-begins_there : (p : Image) (o : Object) (height : ℕ) (below ts : List Task) → Ends below ts → Ends below (begun p o height ts)
-begins_there p o height below ts e = go (destructor_of p o.thing)
+destructs_there : (p : Image) (o : Object) (height : ℕ) (below ts : List Task) → Ends below ts → Ends below (destructed p o height ts)
+destructs_there p o height below ts e = go (destructor_of p o.thing)
   where
     go : (d : Option ℕ) → Ends below (begun_by d o height ts)
     go None = with_task below ts Destroy e
     go (Some m) = with_task below (Destroy ∷ ts) _ (with_task below ts Destroy e)
+
+begins_there : (p : Image) (o : Object) (height : ℕ) (below ts : List Task) → Ends below ts → Ends below (begun p o height ts)
+begins_there p o height below ts e = go (is_server p o.thing)
+  where
+    go : (x : Bool) → Ends below (cond x (Closing ∷ Destroy ∷ ts) (destructed p o height ts))
+    go true = with_task below (Destroy ∷ ts) Closing (with_task below ts Destroy e)
+    go false = destructs_there p o height below ts e
+
+-- a server that goes has a session go first, or its destructor begins
+empties_there : (p : Image) (o : Object) (x : Option Seat) (below ts : List Task) (s : State) → Ends below ts → Ends below (parting p o x ts s).tasks × Near s.items (parting p o x ts s).items
+empties_there p o None below ts s e = (destructs_there p o (length s.items) below ts e, inl refl)
+empties_there p o (Some x) below ts s e = (begins_there p x.object (length s.items) below (Closing ∷ Destroy ∷ ts) (with_task below (Destroy ∷ ts) Closing (with_task below ts Destroy e)), inl refl)
 
 -- a method returns
 module _ (p : Image) (c : Choice) (fr : Frame) (ts : List Task) (s : State) (at_hand : s.tasks ≡ Run fr ∷ ts) (below : List Task) (e : Ends below ts) where
@@ -177,11 +196,11 @@ module _ (p : Image) (c : Choice) (fr : Frame) (ts : List Task) (s : State) (at_
       )
   through_trap g a (Run caller ∷ under) at (inr o) = inl (with_task below under _ (under_frame below under caller o), near_top s.items)
   through_trap g a (Dispatched d ∷ under) at (inl same) = inr (
-    subst (λ b. GoesOnAfter b (Dispatched d ∷ under)) same (d, refl),
+    subst (λ b. GoesOnAfter b (Dispatched (ended_well d) ∷ under)) same (ended_well d, refl),
     refl,
-    inl (fr, at_hand ∙ ap (λ l. Run fr ∷ l) at ∙ ap (λ l. Run fr ∷ Trapped ∷ l) same, subst (λ b. TellsZero p b (Dispatched d ∷ under)) same tt),
+    inl (fr, at_hand ∙ ap (λ l. Run fr ∷ l) at ∙ ap (λ l. Run fr ∷ Trapped ∷ l) same, subst (λ b. TellsZero p b (Dispatched (ended_well d) ∷ under)) same tt),
   )
-  through_trap g a (Dispatched d ∷ under) at (inr o) = inl (o, near_top s.items)
+  through_trap g a (Dispatched d ∷ under) at (inr o) = inl (with_task below under _ (under_dispatch below under d o), near_top s.items)
   through_trap g a _ at o = given
 
   return_there : (g : Gives) (a : ℕ) (under : List Task) → ts ≡ under → Ends below under → Moved p below s (returned p fr ts s g a under)
@@ -236,6 +255,7 @@ module _ (p : Image) (c : Choice) (s : State) (below : List Task) where
   moved t u w o (Rests still e) = subst (λ v. Moved p below s v) (sym e) (inl (o, inl refl))
   moved t u w o (Acts fr ts i e at there met fits same) = subst (λ v. Moved p below s v) (sym same) (acts fr ts i e at (under_frame below ts fr (subst (λ l. Ends below l) at o)))
   moved t u w o (Vanishes ts x at there owns same) = subst (λ v. Moved p below s v) (sym same) (inl (resumes below ts (under_going below ts (subst (λ l. Ends below l) at o)), inl refl))
+  moved t u w o (Empties ts x at there same) = subst (λ v. Moved p below s v) (sym same) (inl (empties_there p x (first_session s.cells x.name (service_of s.cells x.name).sessions) below ts (counted p s) (under_going below ts (under_closing below (Destroy ∷ ts) (subst (λ l. Ends below l) at o)))))
   moved t u w o (Clears code ts items x at top there same) = subst (λ v. Moved p below s v) (sym same) (inl (begins_there p x (length items) below (Unwind code ∷ ts) (subst (λ l. Ends below l) at o), inr (inr (An_object, top))))
   moved t u w o (Undoes code ts items m x at top same) = subst (λ v. Moved p below s v) (sym same) (inl (with_task below (Unwind code ∷ ts) _ (subst (λ l. Ends below l) at o), inr (inr (An_operation m x, top))))
   moved t u w o (Arrives code fr ts items at top same) = subst (λ v. Moved p below s v) (sym same) (arrives code fr ts items at top (under_trap below _ (under_leave below _ code (subst (λ l. Ends below l) at o))))
@@ -313,7 +333,7 @@ keeps_trap :
 keeps_trap p t wired typed c s u w unused below items h e =
     by_moved p t s u w (subst (λ o. Keeps p t o) e (step_keeps p t wired typed c s w unused)) below items h (moved p c s below t u w (h.over, h.tasks) (steps_are_moves p c s u e))
 
-module _ (p : Image) (t : Typing) (outside : Outside) (wired : IsWired p) (typed : IsTyped p t) (from : State) (well : WellTyped p t from) (below : List Task) (items : List Item) where
+module _ (p : Image) (t : Typing) (outside : Outside) (wired : IsWired p) (typed : IsTyped p t) (from : State) (well : WellKept p t from) (below : List Task) (items : List Item) where
   abbrev Lasts : State → Type 0
   Lasts s = IsTrapping below items s ⊎ WasPast p outside below items from s
 
@@ -353,7 +373,7 @@ module _ (p : Image) (t : Typing) (outside : Outside) (wired : IsWired p) (typed
 
   lasts : IsTrapping below items from → (lines : List Line) (s : State) → Reaches p outside from lines s → Lasts s
   lasts h _ _ begins = inl h
-  lasts h _ _ (moves {lines = lines} {s = s} {u = u} c before busy choice e) = moved_on lines s u c (well_on p t outside wired typed from well lines s before) before busy choice e (lasts h lines s before)
+  lasts h _ _ (moves {lines = lines} {s = s} {u = u} c before busy choice e) = moved_on lines s u c (well_on p t outside wired typed from well lines s before).0 before busy choice e (lasts h lines s before)
   lasts h _ _ (turns {lines = lines} {s = s} {u = u} heard before between hears e) = turned heard s u between hears e (lasts h lines s before)
 
 pub traps_keep : TrapsKeep
@@ -361,5 +381,5 @@ traps_keep = record {
   stand = stand;
   sets = sets;
   moves = keeps_trap;
-  runs = λ p t outside wired typed before s reached below items h lines u r. lasts p t outside wired typed s (well_on p t outside wired typed (boot_state p) (boot_keeps p t wired typed) before s reached) below items h lines u r;
+  runs = λ p t outside wired typed before s reached below items h lines u r. lasts p t outside wired typed s (well_on p t outside wired typed (boot_state p) (boot_keeps p t wired typed, clients_keep.boot p) before s reached) below items h lines u r;
 }

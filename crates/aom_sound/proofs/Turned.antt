@@ -1,15 +1,21 @@
--- What a turn changes: nothing but what no place tells, the request of an object that is completed, what a native that is killed leaves behind, or all that the dispatch of an object begins with.
+-- What a turn changes: nothing but what no place tells, the request of an object that is completed, what a native that is killed leaves behind, or what a client's command comes to, or all that a dispatch begins with.
 use Rattle.std.proofs.Common.{Bool, List, None, Option, Some, cond, false, negsuc, pos, refl, subst, sym, true, ℕ, ℤ, ◌∷◌, ◌≡◌}
 use Rattle.std.specs.Ordering.{int_eq}
 use Rattle.aom_image.specs.Image.{Image}
-use Rattle.aom_image.specs.declared.method.Role.TheVariants.{Run as Handles}
+use Rattle.aom_image.specs.declared.method.Role.TheVariants.{Accept as Accepts_role, Service as Attends, Run as Handles}
 use Rattle.aom_sound.proofs.Guarded.{goes_same, guarded_goes}
 use Rattle.aom_sound.specs.Enlisted.{completed_with, part_of, pending, recorded, taken_up}
 use Rattle.aom_sound.specs.Natives.{all_bereaved, is_outstanding_at}
-use Rattle.aom_sound.specs.Places.{Cell, Object}
-use Rattle.aom_sound.specs.State.{A_mark, CompletedTwice, Goes, Rest, Seat, State}
-use Rattle.aom_sound.specs.World.{Completes, Completion, Cuts, Heard, Hears, Kills, Outside, Passes, Picks, Polls, Strays, Turning, Waits, answered_by, cell_at, dispatched, past_native, polled, run_tasks, turn, turned, turning, with_request}
+use Rattle.aom_sound.specs.Places.{Asked, Connect_of, Message_of, Close_of, Elsewhere, Session, In_service, Queued, Going, held, moved, service_of, Cell, Object}
+use Rattle.aom_sound.specs.State.{Dispatched, Of_server, Accepts, Serves, Parts, frame_of, Inside, A_mark, CompletedTwice, Goes, Rest, Seat, State}
+use Rattle.aom_sound.specs.World.{Obeys, heard_one, serving, taken_from, message_words, serves_first, accepting, attending, attended, parting_with, picked as any_picked, Completes, Completion, Cuts, Heard, Hears, Kills, Outside, Passes, Picks, Polls, Strays, Turning, Waits, answered_by, cell_at, dispatched, past_native, polled, run_tasks, turn, turned, turning, with_request}
 use Rattle.std.specs.Prelude.{[], length}
+use Rattle.aom_clients.specs.declared.client.Client.{Client}
+use Rattle.aom_clients.specs.declared.client.Client.TheVariants.{Open}
+use Rattle.aom_clients.specs.declared.refusal.Refusal.{Refusal}
+use Rattle.aom_sound.specs.Clients.{Command, commanded, Connects, Sends, Closes, Dies, Listed, connecting, sending, leaving}
+use Rattle.aom_sound.specs.Servers.{is_server}
+use Rattle.aom_sound.specs.Destruction.{begun}
 
 abbrev pub picked : ℕ → Seat → State → State
 picked m x s =
@@ -20,11 +26,28 @@ picked m x s =
       rest = record s.rest { steps = 0; polled = 0 };
     }
 
+-- what the dispatch of an object or a server begins with
+pub data Picked (p : Image) (s : State) (x : Seat) : State → Type 0 where
+  handles : (m : ℕ) → part_of p Handles x.object.thing ≡ Some m → Picked p s x (picked m x s)
+  accepts : (client m : ℕ) → part_of p Accepts_role x.object.thing ≡ Some m → Picked p s x (serving x client Accepts (frame_of m (Inside x.object x.place) (length (A_mark ∷ s.items))) (taken_from x.object.name s))
+  attends :
+      (client message m : ℕ) (o : Object) → held s.cells (Elsewhere (Session x.object.name client)) ≡ Some o → part_of p Attends o.thing ≡ Some m →
+      Picked p s x (serving x client (Serves o)
+      (record (frame_of m (Inside o (Elsewhere (Session x.object.name client))) (length (A_mark ∷ s.items))) { words = message_words (taken_from x.object.name s).cells message })
+      (record (taken_from x.object.name s) { cells = moved (Elsewhere (Queued x.object.name message)) (Elsewhere In_service) (taken_from x.object.name s).cells }))
+  parts :
+      (client : ℕ) (o : Object) → held s.cells (Elsewhere (Session x.object.name client)) ≡ Some o →
+      Picked p s x (record (taken_from x.object.name s) {
+        cells = moved (Elsewhere (Session x.object.name client)) (Going 1) (taken_from x.object.name s).cells;
+        tasks = begun p o (length s.items) (Dispatched (Of_server x client Parts) ∷ []);
+      })
+
 pub data Turned (p : Image) (s : State) : State → Type 0 where
   keeps_all : (r : Rest) → Turned p s (record s { rest = r })
   completes : (code : ℤ) (o : Object) (r : Rest) → int_eq code pending ≡ false → Turned p s (record s { cells = with_request (completed_with code) o s.cells; rest = r })
   kills : (n : ℕ) (r : Rest) (killed : List ℕ) → Turned p s (record s { cells = all_bereaved p n s.cells; rest = r; killed = killed })
-  picks : (x : Seat) (m : ℕ) → part_of p Handles x.object.thing ≡ Some m → Turned p s (picked m x s)
+  obeys : (client : ℕ) (command : Command) (name : ℕ) → Turned p s (commanded p client (heard_one s) command name)
+  picks : (x : Seat) (u : State) → Picked p s x u → Turned p s u
 
 pub dispatched_so : (p : Image) (s u : State) (x : Seat) → dispatched (part_of p Handles x.object.thing) x s ≡ Goes u → (m : ℕ) × (part_of p Handles x.object.thing ≡ Some m) × (u ≡ picked m x s)
 dispatched_so p s u x e = go (part_of p Handles x.object.thing) refl e
@@ -32,6 +55,71 @@ dispatched_so p s u x e = go (part_of p Handles x.object.thing) refl e
     go : (m : Option ℕ) → part_of p Handles x.object.thing ≡ m → dispatched m x s ≡ Goes u → (m : ℕ) × (part_of p Handles x.object.thing ≡ Some m) × (u ≡ picked m x s)
     go None at e = cc
     go (Some m) at e = (m, at, sym (goes_same (picked m x s) u e))
+
+-- the first of a server's queue is served
+serves_so : (p : Image) (s u : State) (x : Seat) (queue : List Asked) → serves_first p x queue s ≡ Goes u → Picked p s x u
+serves_so p s u x [] e = cc
+serves_so p s u x (Connect_of client ∷ es) e = go (part_of p Accepts_role x.object.thing) refl e
+  where
+    go : (m : Option ℕ) → part_of p Accepts_role x.object.thing ≡ m → accepting m x client (taken_from x.object.name s) ≡ Goes u → Picked p s x u
+    go None at e = cc
+    go (Some m) at e = subst (λ v. Picked p s x v) (goes_same _ u e) (accepts client m at)
+serves_so p s u x (Message_of client message ∷ es) e = go (held s.cells (Elsewhere (Session x.object.name client))) refl e
+  where
+    by_method : (o : Object) → held s.cells (Elsewhere (Session x.object.name client)) ≡ Some o → (m : Option ℕ) → part_of p Attends o.thing ≡ m → attending m x client o message (taken_from x.object.name s) ≡ Goes u → Picked p s x u
+    by_method o there None at e = cc
+    by_method o there (Some m) at e = subst (λ v. Picked p s x v) (goes_same _ u e) (attends client message m o there at)
+
+    go : (o : Option Object) → held s.cells (Elsewhere (Session x.object.name client)) ≡ o → attended p x client o message (taken_from x.object.name s) ≡ Goes u → Picked p s x u
+    go None there e = cc
+    go (Some o) there e = by_method o there (part_of p Attends o.thing) refl e
+serves_so p s u x (Close_of client ∷ es) e = go (held s.cells (Elsewhere (Session x.object.name client))) refl e
+  where
+    go : (o : Option Object) → held s.cells (Elsewhere (Session x.object.name client)) ≡ o → parting_with p x client o (taken_from x.object.name s) ≡ Goes u → Picked p s x u
+    go None there e = cc
+    go (Some o) there e = subst (λ v. Picked p s x v) (goes_same _ u e) (parts client o there)
+
+pub picked_so : (p : Image) (s u : State) (x : Seat) → any_picked p x s ≡ Goes u → Picked p s x u
+picked_so p s u x e = go (is_server p x.object.thing) e
+  where
+    go : (b : Bool) → cond b (serves_first p x (service_of s.cells x.object.name).queue s) (dispatched (part_of p Handles x.object.thing) x s) ≡ Goes u → Picked p s x u
+    go true e = serves_so p s u x (service_of s.cells x.object.name).queue e
+    go false e = let d = dispatched_so p s u x e in subst (λ v. Picked p s x v) (sym d.2) (handles d.0 d.1)
+
+-- steps are counted anew, and natives are polled anew
+pub picked_rest : (p : Image) (s u : State) (x : Seat) → any_picked p x s ≡ Goes u → u.rest ≡ record s.rest { steps = 0; polled = 0 }
+picked_rest p s u x e = elim (picked_so p s u x e) as (λ v d. v.rest ≡ record s.rest { steps = 0; polled = 0 }) [
+  | handles m at ↦ refl
+  | accepts client m at ↦ refl
+  | attends client message m o there at ↦ refl
+  | parts client o there ↦ refl
+]
+
+-- ---- a command of a client
+
+-- changes nothing of what no place tells, and no task
+module _ (p : Image) (client : ℕ) (s : State) where
+  abbrev Keeps_rest : State → Type 0
+  Keeps_rest u = (u.rest ≡ s.rest) × (u.tasks ≡ s.tasks)
+
+  connecting_kept : (refused : Option Refusal) (server : Option Listed) (slots : ℕ) → Keeps_rest (connecting p client s refused server slots)
+  connecting_kept None (Some x) slots = (refl, refl)
+  connecting_kept None None slots = (refl, refl)
+  connecting_kept (Some r) server slots = (refl, refl)
+
+  sending_kept : (refused : Option Refusal) (c : Client) (name : ℕ) (words : List ℤ) → Keeps_rest (sending p client s refused c name words)
+  sending_kept None (Open server session slots) name words = (refl, refl)
+  sending_kept _ _ name words = (refl, refl)
+
+  leaving_kept : (to : Option Client) → Keeps_rest (leaving p client s to)
+  leaving_kept None = (refl, refl)
+  leaving_kept (Some to) = (refl, refl)
+
+  pub commanded_kept : (command : Command) (name : ℕ) → Keeps_rest (commanded p client s command name)
+  commanded_kept (Connects class slots) name = connecting_kept _ _ slots
+  commanded_kept (Sends words) name = sending_kept _ _ name words
+  commanded_kept Closes name = leaving_kept _
+  commanded_kept Dies name = leaving_kept _
 
 -- ---- a native that is polled
 
@@ -75,7 +163,8 @@ turned_so p s u (Completes o) e = subst (λ v. Turned p s v) (goes_same _ u e) (
 turned_so p s u Hears e = subst (λ v. Turned p s v) (goes_same _ u e) (keeps_all _)
 turned_so p s u (Kills n) e = subst (λ v. Turned p s v) (goes_same _ u e) (kills n _ _)
 turned_so p s u (Polls n answer) e = polled_turned p s u n (polled_so p s u n answer e)
-turned_so p s u (Picks x) e = let d = dispatched_so p s u x e in subst (λ v. Turned p s v) (sym d.2) (picks x d.0 d.1)
+turned_so p s u (Obeys client command name) e = subst (λ v. Turned p s v) (goes_same _ u e) (obeys client command name)
+turned_so p s u (Picks x) e = picks x u (picked_so p s u x e)
 turned_so p s u Strays e = cc
 turned_so p s u (Passes time) e = subst (λ v. Turned p s v) (goes_same _ u e) (keeps_all _)
 turned_so p s u Waits e = subst (λ v. Turned p s v) (goes_same _ u e) (keeps_all _)

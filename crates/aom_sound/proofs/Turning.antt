@@ -1,7 +1,7 @@
 -- A turn from a well-typed state goes on to one: a timer completes a request, an object is dispatched, or time passes.
-use Rattle.std.proofs.Common.{Bool, IsTrue, List, None, Option, Some, [], ap, cond, false, inl, length, refl, subst, sym, true, ℕ, ℤ, ◌&&◌, ◌==◌, ◌∙◌, ◌∷◌, ◌≡◌, pos}
+use Rattle.std.proofs.Common.{Bool, IsTrue, List, None, Option, Some, [], ap, arith, cond, false, inl, inr, length, refl, subst, sym, true, ℕ, ℤ, ◌&&◌, ◌<◌, ◌==◌, ◌∙◌, ◌∷◌, ◌≡◌, pos}
 use Rattle.std.proofs.lemmas.Bool.{and_parts, eq-eqb, eqb-true, ne_eqb, true≢false}
-use Rattle.std.specs.Prelude.{is_some, map, nat_le, not}
+use Rattle.std.specs.Prelude.{is_some, map, nat_le, not, ◌||◌}
 use Rattle.std.specs.Ordering.{int_eq}
 use Rattle.aom_image.specs.Image.{Image}
 use Rattle.aom_image.specs.Views.{has, method_class}
@@ -13,9 +13,10 @@ use Rattle.aom_image.specs.declared.method.Gives.TheVariants.{Nothing}
 use Rattle.aom_image.specs.declared.method.Role.TheVariants.{Run as Handles}
 use Rattle.aom_image.specs.declared.method.Thing.{Thing}
 use Rattle.aom_image.specs.declared.method.Thing.TheVariants.{Message, Object as An_object_of}
+use Rattle.aom_roles.specs.Classes.{sessions_in, sessions_of}
 use Rattle.aom_roles.specs.Shapes.{kind_of}
 use Rattle.aom_roles.specs.States.{idle, server_states, states_of}
-use Rattle.aom_rules.specs.Requests.{is_active_kind, is_cancel}
+use Rattle.aom_rules.specs.Requests.{is_active_kind, is_cancel, is_service}
 use Rattle.aom_rules.specs.Typing.{IsTyped, Typing}
 use Rattle.aom_shape.specs.Arguments.{argument_kind, entry_fields}
 use Rattle.aom_shape.specs.Tables.{at}
@@ -28,18 +29,23 @@ use Rattle.aom_sound.proofs.Destroying.{at_alike}
 use Rattle.aom_sound.proofs.Entering.{Entering, enters}
 use Rattle.aom_sound.proofs.Maps.{same_place_refl}
 use Rattle.aom_sound.proofs.Owners.{later}
+use Rattle.aom_sound.proofs.Owners.{rank}
+use Rattle.aom_sound.proofs.PickedClose.{parts_well}
+use Rattle.aom_sound.proofs.Picking.{accepts_well, attends_well, plain_message}
 use Rattle.aom_sound.proofs.Signals.{at_rest, signals_are_ready}
 use Rattle.aom_sound.proofs.Storing.{Alike, fits_alike, requested_here, requested_there, rerequested_alike, sits_alike, bereaved_alike, requested_bereaved}
 use Rattle.aom_sound.proofs.Suiting.{idle_timed, untimed}
 use Rattle.aom_sound.proofs.Turned.{picked, recorded_so}
 use Rattle.aom_sound.specs.Claims.{Dispatching, Layer, Mark, claim, declared, forms, items_of}
 use Rattle.aom_sound.specs.Enlisted.{is_aborted, is_active, is_idle, on_request, part_of, pending, taken_up, completed_with, recorded}
+use Rattle.aom_sound.specs.Kept.{ClientsFit}
 use Rattle.aom_sound.specs.Laws.{IsHandler, IsWired, TurnGoesOn}
-use Rattle.aom_sound.specs.Places.{Active, Cell, Elsewhere, Entry, Field, Going, Object, Phase, Place, Register, Request, Root, Tidy, held, named, requested, seen}
+use Rattle.aom_sound.specs.Places.{Active, Asked, Cell, Close_of, Connect_of, Elsewhere, Message_of, Entry, Field, Going, Object, Phase, Place, Register, Request, Root, Tidy, held, named, requested, seen, service_of}
+use Rattle.aom_sound.specs.Servers.{has_more, is_server}
 use Rattle.aom_sound.specs.Requests.{AllSuit, Known, Suits, is_timed, phase_state, resting_in, rests_in, thing_kind}
 use Rattle.aom_sound.specs.State.{A_mark, Inside, Of_object, Rest, Seat, State, thing_holder, Goes, IsStuck, CompletedTwice}
 use Rattle.aom_sound.specs.WellTyped.{AllSit, Fits, Good, Keeps, WellTyped, WordFits}
-use Rattle.aom_sound.specs.World.{AnswersWell, Candidate, Completes, Completion, Cuts, Outside, Timed, Turning, among_ready, before_others, by_timer, dispatched, first_due, first_ready, goes_before, has_signal, is_ready, picks, turned, with_request, Hears, Kills, Polls, answered_by, by_event, delivers, lives, next_event, next_native, next_time, past_native, polled, polls}
+use Rattle.aom_sound.specs.World.{AnswersWell, Candidate, Completes, Completion, Cuts, Outside, Timed, Turning, among_ready, before_others, by_timer, dispatched, first_due, first_ready, goes_before, goes_now, has_signal, is_ready, picks, turned, with_request, Hears, Kills, Polls, answered_by, by_event, delivers, lives, next_event, next_native, next_time, past_native, picked as any_picked, polled, polls, serves_first}
 use Rattle.aom_sound.specs.Natives.{all_bereaved, is_outstanding_at, is_owed, is_served_by, terminated, terminated_request}
 use Rattle.aom_transcript.specs.declared.event.Event.{Event}
 use Rattle.aom_transcript.specs.declared.event.Event.TheVariants.{Kill, Tell}
@@ -47,18 +53,18 @@ use Rattle.aom_transcript.specs.declared.event.TimedEvent.{TimedEvent}
 
 -- ---- the object that is picked
 
-record Found (cs : List Cell) (y : Candidate) : Type 0 where
-  there : held cs y.seat.place ≡ Some y.seat.object
-  lives : named cs y.seat.object.name ≡ Some y.seat.object
-  asked : requested cs y.seat.object.name ≡ Some y.request
-  ready : is_ready y.request ≡ true
+pub record Found (cs : List Cell) (y : Candidate) : Type 0 where
+  pub there : held cs y.seat.place ≡ Some y.seat.object
+  pub lives : named cs y.seat.object.name ≡ Some y.seat.object
+  pub asked : requested cs y.seat.object.name ≡ Some y.request
+  pub ready : (is_ready y.request || has_more (service_of cs y.seat.object.name).queue) ≡ true
 
 found_later : (c : Cell) (cs : List Cell) (y : Candidate) → Tidy (c ∷ cs) → Found cs y → Found (c ∷ cs) y
 found_later c cs y tidy f = record {
   there = later cs c y.seat.place y.seat.object tidy f.there;
   lives = ap (λ b. cond b (Some c.object) (named cs y.seat.object.name)) other ∙ f.lives;
   asked = ap (λ b. cond b c.request (requested cs y.seat.object.name)) other ∙ f.asked;
-  ready = f.ready;
+  ready = ap (λ b. is_ready y.request || has_more (cond b c.service (service_of cs y.seat.object.name)).queue) other ∙ f.ready;
 }
   where
     other : (c.object.name == y.seat.object.name) ≡ false
@@ -71,15 +77,15 @@ module _ (c : Cell) (cs : List Cell) (y : Candidate) (tidy : Tidy (c ∷ cs)) (r
   abbrev me : Request → Candidate
   me r = record { seat = record { object = c.object; place = c.owner }; request = r }
 
-  found_here : (r : Request) → c.request ≡ Some r → is_ready r ≡ true → Found (c ∷ cs) (me r)
+  found_here : (r : Request) → c.request ≡ Some r → goes_now c r ≡ true → Found (c ∷ cs) (me r)
   found_here r here ready = record {
     there = ap (λ b. cond b (Some c.object) (held cs c.owner)) (same_place_refl c.owner);
     lives = ap (λ b. cond b (Some c.object) (named cs c.object.name)) (eq-eqb c.object.name c.object.name refl);
     asked = ap (λ b. cond b c.request (requested cs c.object.name)) (eq-eqb c.object.name c.object.name refl) ∙ here;
-    ready = ready;
+    ready = ap (λ b. is_ready r || has_more (cond b c.service (service_of cs c.object.name)).queue) (eq-eqb c.object.name c.object.name refl) ∙ ready;
   }
 
-  first : (r : Request) → c.request ≡ Some r → (others : Option Candidate) → first_ready cs ≡ others → is_ready r ≡ true → Some (before_others (me r) others) ≡ Some y → Found (c ∷ cs) y
+  first : (r : Request) → c.request ≡ Some r → (others : Option Candidate) → first_ready cs ≡ others → goes_now c r ≡ true → Some (before_others (me r) others) ≡ Some y → Found (c ∷ cs) y
   first r here None same ready e = let equal : me r ≡ y = cc in subst (λ z. Found (c ∷ cs) z) equal (found_here r here ready)
   first r here (Some b) same ready e = go (goes_before b.request r) e
     where
@@ -87,15 +93,15 @@ module _ (c : Cell) (cs : List Cell) (y : Candidate) (tidy : Tidy (c ∷ cs)) (r
       go true e = among (Some b) same e
       go false e = let equal : me r ≡ y = cc in subst (λ z. Found (c ∷ cs) z) equal (found_here r here ready)
 
-  of_ready : (r : Request) → c.request ≡ Some r → (b : Bool) → is_ready r ≡ b → cond b (Some (before_others (me r) (first_ready cs))) (first_ready cs) ≡ Some y → Found (c ∷ cs) y
+  of_ready : (r : Request) → c.request ≡ Some r → (b : Bool) → goes_now c r ≡ b → cond b (Some (before_others (me r) (first_ready cs))) (first_ready cs) ≡ Some y → Found (c ∷ cs) y
   of_ready r here true ready e = first r here (first_ready cs) refl ready e
   of_ready r here false ready e = among (first_ready cs) refl e
 
   of_request : (r : Option Request) → c.request ≡ r → among_ready c r (first_ready cs) ≡ Some y → Found (c ∷ cs) y
   of_request None here e = among (first_ready cs) refl e
-  of_request (Some r) here e = of_ready r here (is_ready r) refl e
+  of_request (Some r) here e = of_ready r here (goes_now c r) refl e
 
-found : (cs : List Cell) → Tidy cs → (y : Candidate) → first_ready cs ≡ Some y → Found cs y
+pub found : (cs : List Cell) → Tidy cs → (y : Candidate) → first_ready cs ≡ Some y → Found cs y
 found [] tidy y e = cc
 found (c ∷ cs) tidy y e = of_request c cs y tidy (λ e. found cs tidy.2 y e) c.request refl e
 
@@ -115,6 +121,20 @@ ready_active (Some (A_server most x b)) r e s = absurd (go r.phase (and_parts (i
     go Active e h = cc
     go _ e h = cc
 ready_active _ r e s = cc
+
+-- a server is idle
+idles : (k : Option ClassKind) (r : Request) → is_some (sessions_in k) ≡ true → Suits k (resting_in (states_of k)) (Some r) → is_ready r ≡ false
+unfolding sessions_in sessions_of states_of
+idles (Some (A_server most y b)) r e s = phase r.phase s.1
+  where
+    phase : (q : Phase) → IsTrue (has server_states (phase_state q)) → (is_active q && not (int_eq r.status pending)) ≡ false
+    phase Active h = cc
+    phase _ h = refl
+idles _ r e s = cc
+
+or_false : (b : Bool) → (b || false) ≡ b
+or_false true = refl
+or_false false = refl
 
 suits_taken : (k : Option ClassKind) (r : Request) → is_ready r ≡ true → Suits k (resting_in (states_of k)) (Some r) → Suits k (resting_in idle) (Some (taken_up r))
 suits_taken (Some (An_active v b)) r e s = (refl, refl, refl, idle_timed v (taken_up r) refl (untimed v r (is_completed r e) s.3))
@@ -230,15 +250,15 @@ module _ (p : Image) (t : Typing) (s : State) (w : WellTyped p t s) (idle_now : 
   polled_well n None owed = same_well _
   polled_well n (Some a) owed = subst (λ c. Keeps p t (answered_by p n c a.code s)) (sym owed.1) (answered_well n a owed.0 owed.2)
 
-  module _ (wired : IsWired p) (typed : IsTyped p t) where
+  module _ (wired : IsWired p) (typed : IsTyped p t) (fit : ClientsFit p s.clients s.cells) where
     -- the method of an object of a class of active objects
     handler_of : (x : Thing) → is_active_kind (thing_kind p x) ≡ true → (m : ℕ) × (part_of p Handles x ≡ Some m) × (c : ℕ) × (x ≡ An_object_of c) × IsHandler p c m
     unfolding kind_of
     handler_of (An_object_of c) e = let h = wired.handler c e in (h.0, h.1, c, refl, wired.handles c h.0 h.1)
     handler_of Message e = cc
 
-    pub picked_well : (y : Candidate) → first_ready s.cells ≡ Some y → Keeps p t (dispatched (part_of p Handles y.seat.object.thing) y.seat s)
-    picked_well y e = subst (λ h. Keeps p t (dispatched h y.seat s)) (sym it.1) well
+    object_well : (y : Candidate) → Found s.cells y → is_ready y.request ≡ true → Keeps p t (dispatched (part_of p Handles y.seat.object.thing) y.seat s)
+    object_well y it_is ready = subst (λ h. Keeps p t (dispatched h y.seat s)) (sym it.1) well
       where
         x : Seat
         x = y.seat
@@ -246,17 +266,14 @@ module _ (p : Image) (t : Typing) (s : State) (w : WellTyped p t s) (idle_now : 
         cs : List Cell
         cs = with_request taken_up y.seat.object s.cells
 
-        it_is : Found s.cells y
-        it_is = found s.cells good.tidy y e
-
         rests : Suits (thing_kind p y.seat.object.thing) (resting_in (states_of (thing_kind p y.seat.object.thing))) (Some y.request)
         rests = subst (λ r. Suits (thing_kind p y.seat.object.thing) (resting_in (rests_in p y.seat.object)) r) it_is.asked (good.suits y.seat.object it_is.lives)
 
         it : (m : ℕ) × (part_of p Handles y.seat.object.thing ≡ Some m) × (c : ℕ) × (y.seat.object.thing ≡ An_object_of c) × IsHandler p c m
-        it = handler_of y.seat.object.thing (ready_active (thing_kind p y.seat.object.thing) y.request it_is.ready rests)
+        it = handler_of y.seat.object.thing (ready_active (thing_kind p y.seat.object.thing) y.request ready rests)
 
         sits : (above : List Seat) × AllSit s.cells (y.seat ∷ above)
-        sits = chain p t wired s w idle_now y.seat.place y.seat.object it_is.there
+        sits = let c = chain p t wired s w idle_now y.seat.place y.seat.object it_is.there (subst (λ z. 0 < rank z) (sym it.3) (omega arith)) in (c.0, c.1)
 
         now : requested cs y.seat.object.name ≡ Some (taken_up y.request)
         now = requested_here s.cells y.seat.object.name (on_request taken_up (requested s.cells y.seat.object.name)) y.seat.object it_is.lives ∙ ap (on_request taken_up) it_is.asked
@@ -277,16 +294,19 @@ module _ (p : Image) (t : Typing) (s : State) (w : WellTyped p t s) (idle_now : 
 
         entering : Entering p t cs y.seat sits.0 over it.0 []
         entering = record {
-          claims = claims;
+          served = false;
+          message = ap is_service it.4.role;
+          right_over = (λ e. absurd (true≢false (sym e ∙ ap is_service it.4.role)), λ h. absurd h);
+          claims = λ d q. claims d q ∙ sym (plain_message d q);
           states = λ z. refl;
           none_in = λ n h. (h, tt);
-          some_in = λ n h. inl h;
+          some_in = λ n h. inl (inr h);
           joins = tt;
           past = refl;
-          stack = ((it.4.gives, tt, ap is_cancel it.4.role), (refl, refl, sits_now, (ap is_some now, sits.0, refl)));
-          fits = fits_then taken_up y.seat.object;
+          stack = ((it.4.gives, tt, ap is_cancel it.4.role), (refl, refl, sits_now, (ap is_some now, sits.0, refl), tt));
+          fits = λ q. subst (λ k. Fits p (seen cs) (held cs q) k) (sym (plain_message (declared p cs) q)) (fits_then taken_up y.seat.object q);
           own = subst (λ n. Suits (thing_kind p y.seat.object.thing) (resting_in n) (requested cs y.seat.object.name)) (sym it.4.begins)
-              (subst (λ r. Suits (thing_kind p y.seat.object.thing) (resting_in idle) r) (sym now) (suits_taken (thing_kind p y.seat.object.thing) y.request it_is.ready rests));
+              (subst (λ r. Suits (thing_kind p y.seat.object.thing) (resting_in idle) r) (sym now) (suits_taken (thing_kind p y.seat.object.thing) y.request ready rests));
           others = λ z lives other. others_then taken_up y.seat.object z lives other;
           tidy = (alike taken_up y.seat.object).tidy good.tidy;
           sits = sits_now;
@@ -300,6 +320,23 @@ module _ (p : Image) (t : Typing) (s : State) (w : WellTyped p t s) (idle_now : 
 
         well : WellTyped p t (picked it.0 y.seat s)
         well = enters p t typed cs y.seat sits.0 over it.0 [] entering (picked it.0 y.seat s) (length (A_mark ∷ s.items)) (ap (λ is. length (A_mark ∷ is)) items) refl refl (ap (λ is. forms (A_mark ∷ is)) items) w.undos
+
+    -- what waits in the queue of a server is served
+    server_well : (y : Candidate) → Found s.cells y → is_server p y.seat.object.thing ≡ true → (queue : List Asked) → (service_of s.cells y.seat.object.name).queue ≡ queue → Keeps p t (serves_first p y.seat queue s)
+    server_well y it_is server [] e = absurd (true≢false (sym it_is.ready ∙ ap (λ q. is_ready y.request || has_more q) e ∙ or_false (is_ready y.request) ∙ idles (thing_kind p y.seat.object.thing) y.request server (subst (λ r. Suits (thing_kind p y.seat.object.thing) (resting_in (rests_in p y.seat.object)) r) it_is.asked (good.suits y.seat.object it_is.lives))))
+    server_well y it_is server (Connect_of client ∷ es) e = accepts_well p t wired typed s w idle_now fit y.seat y.request it_is.there it_is.lives it_is.asked server client es e
+    server_well y it_is server (Message_of client m ∷ es) e = attends_well p t wired typed s w idle_now fit y.seat y.request it_is.there it_is.lives it_is.asked server client m es e
+    server_well y it_is server (Close_of client ∷ es) e = parts_well p t wired typed s w idle_now fit y.seat y.request it_is.there it_is.lives it_is.asked server client es e
+
+    pub picked_well : (y : Candidate) → first_ready s.cells ≡ Some y → Keeps p t (any_picked p y.seat s)
+    picked_well y e = go (is_server p y.seat.object.thing) refl
+      where
+        it_is : Found s.cells y
+        it_is = found s.cells good.tidy y e
+
+        go : (b : Bool) → is_server p y.seat.object.thing ≡ b → Keeps p t (cond b (serves_first p y.seat (service_of s.cells y.seat.object.name).queue s) (dispatched (part_of p Handles y.seat.object.thing) y.seat s))
+        go true server = server_well y it_is server (service_of s.cells y.seat.object.name).queue refl
+        go false plain = object_well y it_is (sym (or_false (is_ready y.request)) ∙ ap (λ q. is_ready y.request || has_more q) (sym (fit.servers y.seat.object it_is.lives plain).0) ∙ it_is.ready)
 
     picks_well : (ready : Option Candidate) → first_ready s.cells ≡ ready → (next : Option ℕ) → Keeps p t (turned p s (picks (is_some ready) ready next))
     picks_well (Some y) e next = picked_well y e
@@ -339,13 +376,13 @@ module _ (p : Image) (t : Typing) (s : State) (w : WellTyped p t s) (idle_now : 
         go false owed = then owed
 
 pub turn_goes_on : TurnGoesOn
-turn_goes_on p t outside wired typed heard s w between hears = go (nat_le outside.limit s.rest.dispatches) hears.completion
+turn_goes_on p t outside wired typed heard s w between hears fit = go (nat_le outside.limit s.rest.dispatches) hears.completion
   where
     go : (b : Bool) → AnswersWell p s (cond b Cuts (by_timer s (first_due s.cells) (by_event outside s (next_event outside s) (polls (next_native outside s) heard.completion (picks (has_signal s.cells) (first_ready s.cells) (next_time outside s))))))
         → Keeps p t (turned p s (cond b Cuts (by_timer s (first_due s.cells) (by_event outside s (next_event outside s) (polls (next_native outside s) heard.completion (picks (has_signal s.cells) (first_ready s.cells) (next_time outside s)))))))
     go true owed = same_well p t s w between.idle _
     go false owed =
-        timer_well p t s w between.idle wired typed (first_due s.cells) _ owed (λ owed.
-        event_well p t s w between.idle wired typed outside (next_event outside s) _ owed (λ owed.
-        poll_well p t s w between.idle wired typed (next_native outside s) heard.completion _ owed (λ owed.
-        signal_well p t s w between.idle wired typed (next_time outside s))))
+        timer_well p t s w between.idle wired typed fit (first_due s.cells) _ owed (λ owed.
+        event_well p t s w between.idle wired typed fit outside (next_event outside s) _ owed (λ owed.
+        poll_well p t s w between.idle wired typed fit (next_native outside s) heard.completion _ owed (λ owed.
+        signal_well p t s w between.idle wired typed fit (next_time outside s))))

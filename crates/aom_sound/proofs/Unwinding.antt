@@ -12,7 +12,7 @@ use Rattle.aom_sound.specs.Claims.{Dispatching, Layer, Mark, Mark_form, Unwindin
 use Rattle.aom_sound.specs.Cleanup.{dealt_with, top_is_whole, unwound}
 use Rattle.aom_sound.specs.Laws.{IsWired}
 use Rattle.aom_sound.specs.Places.{Entry, Place, changed}
-use Rattle.aom_sound.specs.State.{A_mark, An_object, An_operation, Answered, Asks, Object_left, Of_object, Dispatch, Goes, IsStuck, Item, Main_left, NullOrDead, Of_main, Of_root, State, Unwind}
+use Rattle.aom_sound.specs.State.{Of_server, Accepts, Accepted, Accept_left, Serves, Service_left, Parts, A_mark, An_object, An_operation, Answered, Asks, Object_left, Of_object, Dispatch, Goes, IsStuck, Item, Main_left, NullOrDead, Of_main, Of_root, State, Unwind}
 use Rattle.aom_sound.specs.WellTyped.{AllUndo, EndsDispatch, Good, Keeps, Leaves, Stack, WellTyped}
 use Rattle.aom_sound.proofs.Items.{no_mark}
 
@@ -38,6 +38,7 @@ module _ (p : Image) (t : Typing) (wired : IsWired p) (typed : IsTyped p t) (s :
         items = same;
         undos = undos;
         under_object = (tt, good.stack.1);
+        unserved = λ x. x;
         under_operation = λ m undo. ((undo.leaves, undo.gives, ap is_cancel undo.role, undo.quiet), good.stack.1);
       } in
       let w = deals p t wired typed s e (Unwinding code (e ∷ es) ∷ ls) (Unwinding code es ∷ ls) d in
@@ -67,6 +68,12 @@ module _ (p : Image) (t : Typing) (wired : IsWired p) (typed : IsTyped p t) (s :
       no_dispatch (Object_left x c) e = e
       no_dispatch (Asks x) e = e
       no_dispatch (Answered x c) e = e
+      no_dispatch (Of_server x c Accepts) e = e
+      no_dispatch (Of_server x c Accepted) e = e
+      no_dispatch (Of_server x c (Accept_left code)) e = e
+      no_dispatch (Of_server x c (Serves o)) e = e
+      no_dispatch (Of_server x c (Service_left code)) e = e
+      no_dispatch (Of_server x c Parts) e = e
   of_none _ same undos good = absurd (assumption tt)
 
   pub unwinds : (es : List Pushed) (ls : List Layer) → forms s.items ≡ objects es (items_of ls) → AllUndo p s.items → Good p t s.cells (Unwinding code es ∷ ls) → Keeps p t (unwound p code (tasks_of ls) s s.items)

@@ -1,10 +1,10 @@
 -- The tasks of a well-typed state as a stack on which only what can stand on a layer is written: for proofs that split what stands under a method, a going cell or a leave.
-use Rattle.std.proofs.Common.{arith, List, [], ap, refl, sym, ◌∙◌, ◌∷◌, ◌≡◌, ℤ}
+use Rattle.std.proofs.Common.{ℕ, arith, List, [], ap, refl, sym, ◌∙◌, ◌∷◌, ◌≡◌, ℤ}
 use Rattle.aom_image.specs.Image.{Image}
 use Rattle.aom_rules.specs.Typing.{Typing}
-use Rattle.aom_sound.specs.Claims.{Dispatching, Dying, Layer, Mark, Method, Unwinding, tasks_of}
+use Rattle.aom_sound.specs.Claims.{Ending, Dispatching, Dying, Layer, Mark, Method, Unwinding, tasks_of}
 use Rattle.aom_sound.specs.Places.{Cell}
-use Rattle.aom_sound.specs.State.{Destroy, Dispatch, Dispatched, Asks, Frame, Of_main, Of_object, Of_root, Run, Seat, State, Task, Trapped, Unwind}
+use Rattle.aom_sound.specs.State.{Closing, Of_server, Parts, Stage, Destroy, Dispatch, Dispatched, Asks, Frame, Of_main, Of_object, Of_root, Run, Seat, State, Task, Trapped, Unwind}
 use Rattle.aom_sound.specs.WellTyped.{Back, Caught, Gone, Leaves, Now, Returns, Stack, WellTyped}
 
 -- what stands over a layer: a method, a cell that goes, or a leave
@@ -27,14 +27,21 @@ pub data Under : Over → Type 0 where
   -- a method that waits until a cell is gone
   Deleter : Frame → Under A_method → Under A_going
   The_root : Under A_going
+  -- a server that goes, the session of which goes first
+  Its_server : Under A_going → Under A_going
+  -- a close that is served
+  A_close : Seat → (client : ℕ) → Under A_going
   -- who set the trap
   Catcher : Frame → Under A_method → Under A_leave
   Main's : Under A_leave
   Object's : Seat → Under A_leave
+  Server's : Seat → (client : ℕ) → Stage → Under A_leave
 
 pub data Tower : Type 0 where
   Runs : Frame → Under A_method → Tower
   Goes : Under A_going → Tower
+  -- a server that goes, with sessions
+  Closes : Under A_going → Tower
   Unwinds : (code : ℤ) → Under A_leave → Tower
   Ends : Dispatch → Tower
   Idle : Tower
@@ -49,13 +56,17 @@ listed (Clearing code b) = Unwind code ∷ Trapped ∷ listed b
 listed (Deleter fr b) = Run fr ∷ listed b
 listed The_root = Dispatched Of_root ∷ []
 listed (Catcher fr b) = Run fr ∷ listed b
+listed (Its_server b) = Closing ∷ Destroy ∷ listed b
+listed (A_close x client) = Dispatched (Of_server x client Parts) ∷ []
 listed Main's = Dispatched Of_main ∷ []
 listed (Object's x) = Dispatched (Of_object x) ∷ []
+listed (Server's x client stage) = Dispatched (Of_server x client stage) ∷ []
 listed (Asker x) = Dispatched (Asks x) ∷ []
 
 abbrev pub all_listed : Tower → List Task
 all_listed (Runs fr b) = Run fr ∷ listed b
 all_listed (Goes b) = Destroy ∷ listed b
+all_listed (Closes b) = Closing ∷ Destroy ∷ listed b
 all_listed (Unwinds code b) = Unwind code ∷ Trapped ∷ listed b
 all_listed (Ends d) = Dispatched d ∷ []
 all_listed Idle = []
@@ -86,6 +97,10 @@ under p t cs Gone (Method fr sh ∷ ls) s = let b = under p t cs (Returns fr.met
 under p t cs Gone (Unwinding code es ∷ ls) s = let b = under p t cs Leaves ls s.1 in (Clearing code b.0, ap (λ l. Unwind code ∷ l) b.1)
 under p t cs Gone (Dispatching Of_root seats ∷ ls) s = (The_root, ap (λ l. Dispatched Of_root ∷ tasks_of l) s.1)
 under p t cs Leaves (Mark gv ∷ ls) s = let b = under p t cs (Caught gv) ls s.1 in (b.0, ap (λ l. Trapped ∷ l) b.1)
+under p t cs Now (Ending o left ∷ Dying x ∷ ls) s = let b = under p t cs Gone ls s.3.2 in (Closes b.0, ap (λ l. Closing ∷ Destroy ∷ l) b.1)
+under p t cs Gone (Ending o left ∷ Dying x ∷ ls) s = let b = under p t cs Gone ls s.3.2 in (Its_server b.0, ap (λ l. Closing ∷ Destroy ∷ l) b.1)
+under p t cs Gone (Dispatching (Of_server x client Parts) seats ∷ ls) s = (A_close x client, ap (λ l. Dispatched (Of_server x client Parts) ∷ tasks_of l) s.1)
+under p t cs (Caught g) (Dispatching (Of_server x client stage) seats ∷ ls) s = (Server's x client stage, ap (λ l. Dispatched (Of_server x client stage) ∷ tasks_of l) s.1)
 under p t cs _ _ s = absurd (grind arith)
 
 pub stacked : (p : Image) (t : Typing) (s : State) → WellTyped p t s → (k : Tower) × (s.tasks ≡ all_listed k)

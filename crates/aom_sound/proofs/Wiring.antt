@@ -1,9 +1,9 @@
 -- What a linked image gives the laws: main and the destructors are as they must be, what is called does or constructs, and what is owned is of a class before its owner's.
 use Rattle.std.proofs.lemmas.List.{nil_from_length}
-use Rattle.std.proofs.lemmas.Bool.{cases_Bool, true≢false}
+use Rattle.std.proofs.lemmas.Bool.{cases_Bool, eqb-true, true≢false}
 use Rattle.std.proofs.Common.{Bool, IfSome, IsSome, IsTrue, List, None, Option, Some, [], ap, arith, false, inl, inr, length, refl, slice_get, subst, suc, sym, true, zero, ℕ, ◌<◌, ◌∙◌, ◌∷◌, ◌≡◌}
 use Rattle.aom_image.proofs.Given.{some_given}
-use Rattle.std.specs.Prelude.{is_none, not, ◌||◌, ◌⊎◌}
+use Rattle.std.specs.Prelude.{is_none, not, replicate, ◌||◌, ◌⊎◌}
 use Rattle.std.proofs.lemmas.Option.{slice_get_within}
 use Rattle.aom_image.specs.Image.{Image}
 use Rattle.aom_image.specs.Views.{arguments_in, arguments_of, class_at, class_in, fields_in, gives_in, gives_of, has, instr_at, is_quiet, leaves, leaves_in, method_at, method_class, method_role, quiet_in, role_in}
@@ -15,20 +15,20 @@ use Rattle.aom_instructions.specs.declared.instr.Instr.TheVariants.{Call, PushOp
 use Rattle.aom_instructions.specs.declared.instr.Target.{Target}
 use Rattle.aom_instructions.specs.declared.limits.Limits.{Limits}
 use Rattle.aom_image.specs.declared.method.Gives.{Gives}
-use Rattle.aom_image.specs.declared.method.Gives.TheVariants.{Left, Nothing, Word as A_word}
+use Rattle.aom_image.specs.declared.method.Gives.TheVariants.{Left, Nothing, Own as An_own, Word as A_word}
 use Rattle.aom_image.specs.declared.method.Method.{Method as Method_declared}
 use Rattle.aom_image.specs.declared.method.Role.{Role}
-use Rattle.aom_image.specs.declared.method.Role.TheVariants.{Cancel, Construct, Destruct, Do, Error, Main, Run, Undo}
+use Rattle.aom_image.specs.declared.method.Role.TheVariants.{Accept, Cancel, Construct, Destruct, Do, Error, Main, Run, Service, Undo}
 use Rattle.aom_image.specs.declared.method.Thing.TheVariants.{Object as An_object_of}
-use Rattle.aom_roles.specs.Classes.{ClassOrdered, OwnsBefore, kind_in}
-use Rattle.aom_roles.specs.Shapes.{HasShape, IsCancel, IsConstruct, IsDestruct, IsDo, IsMain, IsShaped, IsTrapped as ShapedTrapped, IsUndo as ShapedUndo, NamesRoles, gives_left, gives_nothing, is_role, is_word, kind_of, IsError, IsRun, gives_word}
+use Rattle.aom_roles.specs.Classes.{ClassOrdered, OwnsBefore, is_session, is_session_in, is_session_kind, kind_in, sessions_at, sessions_in, sessions_of}
+use Rattle.aom_roles.specs.Shapes.{HasShape, IsCancel, IsConstruct, IsDestruct, IsDo, IsMain, IsShaped, IsTrapped as ShapedTrapped, IsUndo as ShapedUndo, NamesRoles, gives_left, gives_nothing, is_role, is_word, kind_of, IsError, IsRun, gives_word, IsAccept, IsService, gives_object, is_object}
 use Rattle.aom_classes.specs.Linked.{IsLinked}
 use Rattle.aom_classes.specs.Needs.{KindNeeds, NeedsMet}
 use Rattle.aom_classes.specs.Roles.{main_of, role_of, same_role}
 use Rattle.aom_classes.proofs.Facts.{all_there, at_place, of_method}
 use Rattle.aom_classes.proofs.Playing.{main_found, role_found, same_roles}
 use Rattle.aom_shape.specs.Things.{Member, field_thing}
-use Rattle.aom_sound.specs.Laws.{IsAnswerer, IsCalled, IsHandler, IsTrapped, IsWired}
+use Rattle.aom_sound.specs.Laws.{IsAcceptor, IsAnswerer, IsAttendant, IsCalled, IsHandler, IsTrapped, IsWired}
 use Rattle.aom_sound.specs.WellTyped.{IsUndo, LeavesNone}
 use Rattle.aom_image.specs.declared.method.Argument.{Argument}
 use Rattle.aom_image.specs.declared.method.Argument.TheVariants.{Word as Takes_word}
@@ -50,10 +50,21 @@ unfolding gives_word
 word_given A_word e = refl
 word_given _ e = cc
 
-one_word : (xs : List Argument) → length xs ≡ 1 → IsTrue (list_all is_word xs) → xs ≡ Takes_word ∷ []
+-- so many words
+words_alone : (n : ℕ) (xs : List Argument) → length xs ≡ n → IsTrue (list_all is_word xs) → xs ≡ replicate n Takes_word
 unfolding is_word
-one_word (Takes_word ∷ xs) e w = ap (λ ys. Takes_word ∷ ys) (nil_from_length xs cc)
-one_word _ e w = cc
+words_alone zero xs e w = nil_from_length xs e
+words_alone (suc n) (Takes_word ∷ xs) e w = let l : length xs ≡ n = cc in ap (λ ys. Takes_word ∷ ys) (words_alone n xs l w)
+words_alone (suc n) _ e w = cc
+
+object_given : (c : ℕ) (g : Gives) → gives_object c g ≡ true → g ≡ An_own (An_object_of c)
+unfolding gives_object is_object
+object_given c (An_own (An_object_of d)) e = ap (λ k. An_own (An_object_of k)) (eqb-true d c e)
+object_given c _ e = cc
+
+some_there : (o : Option ℕ) → IsSome o → (m : ℕ) × (o ≡ Some m)
+some_there None h = cc
+some_there (Some m) h = (m, refl)
 
 leaves_none : (g : Gives) → gives_left g ≡ false → LeavesNone g
 unfolding gives_left
@@ -218,11 +229,79 @@ module _ (p : Image) (formed : WellFormed p) (linked : IsLinked p) where
         there = rw d.1 refl;
         role = ap role_in d.1 ∙ ap (λ r. Some r) d.3;
         class = ap class_in d.1 ∙ d.2;
-        arguments = ap arguments_in d.1 ∙ one_word d.0.arguments s.takes.count s.takes.words;
+        arguments = ap arguments_in d.1 ∙ words_alone 1 d.0.arguments s.takes.count s.takes.words;
         gives = ap gives_in d.1 ∙ word_given d.0.gives s.gives;
         leaves = ap leaves_in d.1 ∙ s.flags;
         begins = ap before_in d.1 ∙ s.begins;
       }
+
+  -- a server has a method that accepts
+  has_acceptor : (c session : ℕ) → sessions_at p c ≡ Some session → (m : ℕ) × (role_of p c Accept ≡ Some m)
+  unfolding kind_in class_at sessions_in sessions_of
+  has_acceptor c session serves = go (class_at p c) refl serves
+    where
+      of_kind : (d : ClassDecl) → class_at p c ≡ Some d → (k : ClassKind) → d.kind ≡ k → sessions_of k ≡ Some session → (m : ℕ) × (role_of p c Accept ≡ Some m)
+      of_kind d e (A_server most x b) same h = some_there (role_of p c Accept) (subst (λ k. KindNeeds p c k) same (at_place (NeedsMet p) p.classes c d linked.needs e).kind)
+      of_kind d e _ same h = cc
+
+      go : (o : Option ClassDecl) → class_at p c ≡ o → sessions_in (kind_in o) ≡ Some session → (m : ℕ) × (role_of p c Accept ≡ Some m)
+      go None e h = cc
+      go (Some d) e h = of_kind d e d.kind refl h
+
+  acceptor_is : (c session m : ℕ) → sessions_at p c ≡ Some session → role_of p c Accept ≡ Some m → IsAcceptor p c m session
+  unfolding role_in class_in arguments_in gives_in before_in kind_of
+  acceptor_is c session m serves e =
+      let d = role_found p c m Accept e in
+      let s : IsAccept (kind_of p d.0.class) d.0 = of_role m d.0 Accept d.1 d.3 in
+      let gives : IsTrue (gives_object session d.0.gives) = subst (λ o. IfSome o (λ k. IsTrue (gives_object k d.0.gives))) (ap (λ k. sessions_in (kind_of p k)) d.2 ∙ serves) s.gives in record {
+        there = rw d.1 refl;
+        role = ap role_in d.1 ∙ ap (λ r. Some r) d.3;
+        class = ap class_in d.1 ∙ d.2;
+        arguments = ap arguments_in d.1 ∙ nil_from_length d.0.arguments s.takes.count;
+        gives = ap gives_in d.1 ∙ object_given session d.0.gives gives;
+        begins = ap before_in d.1 ∙ s.begins;
+      }
+
+  attendant_is : (c m : ℕ) → role_of p c Service ≡ Some m → IsAttendant p c m
+  unfolding role_in class_in arguments_in gives_in kind_of
+  attendant_is c m e =
+      let d = role_found p c m Service e in
+      let s : IsService (kind_of p d.0.class) d.0 = of_role m d.0 Service d.1 d.3 in record {
+        session = ap (λ k. is_session_in (kind_of p k)) (sym d.2) ∙ s.of;
+        there = rw d.1 refl;
+        role = ap role_in d.1 ∙ ap (λ r. Some r) d.3;
+        class = ap class_in d.1 ∙ d.2;
+        arguments = ap arguments_in d.1 ∙ words_alone 5 d.0.arguments s.takes.count s.takes.words;
+        gives = ap gives_in d.1 ∙ nothing_given d.0.gives s.gives;
+      }
+
+  -- its sessions are of a class of sessions before it
+  session_before : (c session : ℕ) → sessions_at p c ≡ Some session → (session < c) × (is_session p session ≡ true)
+  unfolding kind_in class_at sessions_in
+  session_before c session serves = go (class_at p c) refl serves
+    where
+      go : (o : Option ClassDecl) → class_at p c ≡ o → sessions_in (kind_in o) ≡ Some session → (session < c) × (is_session p session ≡ true)
+      go None e h = cc
+      go (Some d) e h = subst (λ o. IfSome o (λ s. (s < c) × (is_session p s ≡ true))) h (at_place (ClassOrdered p) p.classes c d linked.classes.classes e).sessions
+
+  -- which have a method that serves, and no sessions
+  of_session : (c : ℕ) → is_session p c ≡ true → ((m : ℕ) × (role_of p c Service ≡ Some m)) × (sessions_at p c ≡ None)
+  unfolding kind_in class_at is_session_in is_session_kind sessions_in sessions_of
+  of_session c is = go (class_at p c) refl is
+    where
+      of_kind : (d : ClassDecl) → class_at p c ≡ Some d → (k : ClassKind) → d.kind ≡ k → is_session_kind k ≡ true → ((m : ℕ) × (role_of p c Service ≡ Some m)) × (sessions_of k ≡ None)
+      of_kind d e Session same h = (some_there (role_of p c Service) (subst (λ k. KindNeeds p c k) same (at_place (NeedsMet p) p.classes c d linked.needs e).kind), refl)
+      of_kind d e _ same h = cc
+
+      go : (o : Option ClassDecl) → class_at p c ≡ o → is_session_in (kind_in o) ≡ true → ((m : ℕ) × (role_of p c Service ≡ Some m)) × (sessions_in (kind_in o) ≡ None)
+      go None e h = cc
+      go (Some d) e h = of_kind d e d.kind refl h
+
+  has_attendant : (c session : ℕ) → sessions_at p c ≡ Some session → (m : ℕ) × (role_of p session Service ≡ Some m)
+  has_attendant c session serves = (of_session session (session_before c session serves).1).0
+
+  session_lower : (c session : ℕ) → sessions_at p c ≡ Some session → (session < c) × (sessions_at p session ≡ None)
+  session_lower c session serves = let before = session_before c session serves in (before.0, (of_session session before.1).1)
 
   -- what may leave is not quiet
   loud : (m : ℕ) → leaves p m ≡ true → is_quiet p m ≡ false
@@ -340,7 +419,7 @@ module _ (p : Image) (formed : WellFormed p) (linked : IsLinked p) where
             leaves = ap leaves_in f ∙ (shaped m' d f).flags.quiet u.flags;
             quiet = ap quiet_in f ∙ u.flags;
             gives = ap gives_in f ∙ nothing_given d.gives u.gives;
-            arguments = ap arguments_in f ∙ one_word d.arguments u.takes.count u.takes.words;
+            arguments = ap arguments_in f ∙ words_alone 1 d.arguments u.takes.count u.takes.words;
           }
 
   -- a class without a destructor owns nothing
@@ -383,4 +462,9 @@ linked_is_wired p formed linked = record {
   undestructed = none_destructs p formed linked;
   no_destructor = owns_none p formed linked;
   ordered = owned_before p formed linked;
+  acceptor = has_acceptor p formed linked;
+  accepts = acceptor_is p formed linked;
+  attendant = has_attendant p formed linked;
+  attends = attendant_is p formed linked;
+  sessions = session_lower p formed linked;
 }

@@ -11,11 +11,14 @@ use Rattle.aom_image.specs.declared.method.Argument.TheVariants.{Word as Takes_w
 use Rattle.aom_image.specs.declared.method.Gives.{Gives}
 use Rattle.aom_image.specs.declared.method.Gives.TheVariants.{Nothing, Word as A_word, Own as An_own, Maybe as A_maybe, Left}
 use Rattle.aom_image.specs.declared.method.Thing.{Thing}
-use Rattle.aom_image.specs.declared.method.Thing.TheVariants.{Object as An_object_of}
+use Rattle.aom_image.specs.declared.method.Thing.TheVariants.{Object as An_object_of, Message}
 use Rattle.aom_rules.specs.Calls.{is_among}
 use Rattle.aom_shape.specs.Things.{Holder, Nobody, Program, Member, field_thing, stands_for}
-use Rattle.aom_sound.specs.Places.{Object, Place, Register, Entry, Field, Going, Elsewhere, Cell, held, moved}
-use Rattle.aom_sound.specs.State.{Home, Static, AtRoot, Inside, Frame, Dispatch, Asks, Answered, Task, Run, Trapped, Destroy, Unwind, Dispatched, Item, An_object, An_operation, A_mark, State, Need, Unbalanced, PopUnder, Orphan, NullOrDead, WrongKind, word, set_word, next, field_place, home_holder, frame_of}
+use Rattle.aom_clients.specs.declared.client.Client.{Client}
+use Rattle.aom_sound.specs.Clients.{at_opening, client_at, with_client}
+use Rattle.aom_sound.specs.Servers.{without_queue, opened, reserved}
+use Rattle.aom_sound.specs.Places.{Object, Place, Register, Entry, Field, Going, Elsewhere, Cell, held, moved, Session, In_service}
+use Rattle.aom_sound.specs.State.{Home, Static, AtRoot, Inside, Frame, Dispatch, Asks, Answered, Task, Run, Trapped, Destroy, Unwind, Dispatched, Item, An_object, An_operation, A_mark, State, Need, Unbalanced, PopUnder, Orphan, NullOrDead, WrongKind, word, set_word, next, field_place, home_holder, frame_of, Of_server, Of_object, Accepts, Accepted, Serves, MessageLost}
 use Rattle.aom_sound.specs.Destruction.{owns_nothing}
 use Rattle.aom_sound.specs.Enlisted.{needs_cancelled}
 use Rattle.aom_sound.specs.Words.{here, needs_word, word_or_zero}
@@ -74,6 +77,10 @@ module _ (p : Image) (fr : Frame) (ts : List Task) (s : State) where
       ∷ (is_some (held s.cells (here fr ts s a)), NullOrDead)
       ∷ (is_thing p t (held s.cells (here fr ts s a)), WrongKind)
       ∷ []
+
+  -- a register owns a message, which is completed with the word of another
+  abbrev pub needs_reply : ℕ → ℕ → List Need
+  needs_reply a b = needs_own Message a ++ (needs_word fr ts s b ∷ [])
 
   abbrev pub needs_target : Target → Option ℕ → ℕ → ℕ → List Need
   needs_target This class first count = (works_on p class (home_holder fr.home), WrongKind) ∷ []
@@ -218,11 +225,35 @@ abbrev pub told_answer : Gives → Frame → ℕ → ℤ
 told_answer A_word fr a = word_or_zero (word fr a)
 told_answer _ fr a = pos 0
 
--- what a method works on is a cell, no field of which owns
+-- what a method works on is a cell, no field of which owns; what waits in its queue is none
 abbrev pub is_emptied : List Cell → Home → Bool
 is_emptied cs Static = false
 is_emptied cs AtRoot = false
-is_emptied cs (Inside o from) = owns_nothing cs o.name
+is_emptied cs (Inside o from) = owns_nothing (without_queue o.name cs) o.name
+
+-- ---- the method that a dispatch runs under its trap
+
+-- its return makes that of the dispatch: what has served a message ends as an object's does
+abbrev pub ended_well : Dispatch → Dispatch
+ended_well (Of_server x c Accepts) = Of_server x c Accepted
+ended_well (Of_server x c (Serves o)) = Of_object x
+ended_well d = d
+
+-- what `accept` gives is the session of the client, which is the last of the server's
+abbrev pub accepted_cells : Dispatch → Place → List Cell → List Cell
+accepted_cells (Of_server x c Accepts) from cs = reserved (opened c) x.object.name (moved from (Elsewhere (Session x.object.name c)) cs)
+accepted_cells d from cs = cs
+
+-- its client has it open, and does not say which cell it is: its place tells that
+abbrev pub accepted_clients : Dispatch → List Client → List Client
+accepted_clients (Of_server x c Accepts) clients = with_client c (at_opening 0 (client_at clients c)) clients
+accepted_clients d clients = clients
+
+-- a session has a free place, and what served a message has taken it
+abbrev pub needs_ended : Dispatch → List Cell → List Need
+needs_ended (Of_server x c Accepts) cs = (is_none (held cs (Elsewhere (Session x.object.name c))), Orphan) ∷ []
+needs_ended (Of_server x c (Serves o)) cs = (is_none (held cs (Elsewhere In_service)), MessageLost) ∷ []
+needs_ended d cs = []
 
 module _ (p : Image) (fr : Frame) (ts : List Task) (s : State) where
   abbrev pub result_needs : Gives → ℕ → List Need
@@ -251,7 +282,7 @@ module _ (p : Image) (fr : Frame) (ts : List Task) (s : State) where
   abbrev pub end_needs : List Task → List Need
   end_needs (Run caller ∷ below) = []
   end_needs (Trapped ∷ Run caller ∷ below) = (tops_mark s.items, Unbalanced) ∷ []
-  end_needs (Trapped ∷ Dispatched d ∷ below) = (tops_mark s.items, Unbalanced) ∷ []
+  end_needs (Trapped ∷ Dispatched d ∷ below) = (tops_mark s.items, Unbalanced) ∷ needs_ended d s.cells
   end_needs (Destroy ∷ below) = (is_emptied s.cells fr.home, Orphan) ∷ []
   end_needs (Unwind code ∷ below) = []
   end_needs (Dispatched d ∷ below) = (is_asked d, Unbalanced) ∷ []
@@ -293,7 +324,13 @@ module _ (p : Image) (fr : Frame) (ts : List Task) (s : State) where
         tasks = Run (next (set_word (received g a c caller) (suc c) (Some (pos 0)))) ∷ below;
         items = below_top s.items;
       }
-  returned g a (Trapped ∷ Dispatched d ∷ below) = record s { tasks = Dispatched d ∷ below; items = below_top s.items }
+  returned g a (Trapped ∷ Dispatched d ∷ below) =
+      record s {
+        cells = accepted_cells d (here fr ts s a) s.cells;
+        tasks = Dispatched (ended_well d) ∷ below;
+        items = below_top s.items;
+        clients = accepted_clients d s.clients;
+      }
   returned g a (Destroy ∷ below) = record s { tasks = Destroy ∷ below }
   returned g a (Unwind code ∷ below) = record s { tasks = Unwind code ∷ below }
   returned g a (Dispatched d ∷ below) = record s { tasks = Dispatched (answered_by (told_answer g fr a) d) ∷ below }

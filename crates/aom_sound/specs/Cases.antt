@@ -10,4 +10,6 @@ pub mod Cleanup
 pub mod Moves
 pub mod Turns
 pub mod Events
+pub mod Servers
 pub mod Owners
+pub mod Kept

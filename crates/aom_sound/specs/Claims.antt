@@ -1,5 +1,5 @@
 -- What is claimed of each place, from the methods at hand and their abstract states.
-use Rattle.std.specs.Prelude.{ℕ, ℤ, Bool, true, false, cond, ◌==◌, map, List, [], ◌∷◌, Option, Some, None, length}
+use Rattle.std.specs.Prelude.{ℕ, ℤ, Bool, true, false, cond, ◌==◌, map, List, [], ◌∷◌, Option, Some, None, length, ◌&&◌}
 use Rattle.aom_image.specs.Image.{Image}
 use Rattle.aom_image.specs.declared.method.Gives.{Gives}
 use Rattle.aom_shape.specs.Things.{Program, field_thing}
@@ -8,17 +8,29 @@ use Rattle.aom_shape.specs.Kinds.{entry_kind, filled, register, field}
 use Rattle.aom_shape.specs.declared.kind.Age.TheVariants.{Ready}
 use Rattle.aom_shape.specs.declared.kind.Entry.{Entry as Pushed}
 use Rattle.aom_shape.specs.declared.kind.Entry.TheVariants.{Object as Pushed_object, Operation as Pushed_operation}
-use Rattle.aom_shape.specs.declared.kind.Filling.TheVariants.{Perhaps}
+use Rattle.aom_shape.specs.declared.kind.Filling.TheVariants.{Perhaps, Full}
 use Rattle.aom_shape.specs.declared.kind.Kind.{Kind}
 use Rattle.aom_shape.specs.declared.kind.Kind.TheVariants.{Null, Own}
-use Rattle.aom_sound.specs.Places.{Place, Register, Entry, Field, Going, Elsewhere, Other, Root, Session, In_service, Queued, Object, Cell, named}
-use Rattle.aom_sound.specs.State.{Home, Static, AtRoot, Inside, Frame, Dispatch, Of_root, Seat, Task, Run, Trapped, Destroy, Unwind, Dispatched, Item, An_object, An_operation, A_mark, thing_holder}
+use Rattle.aom_image.specs.Views.{method_role}
+use Rattle.aom_rules.specs.Requests.{is_service}
+use Rattle.aom_image.specs.declared.method.Thing.TheVariants.{Message}
+use Rattle.aom_shape.specs.declared.kind.Delivery.{Delivery}
+use Rattle.aom_shape.specs.declared.kind.Delivery.TheVariants.{Here, Gone}
+use Rattle.aom_sound.specs.Servers.{message_thing, has_message, has_session, session_thing, is_among}
+use Rattle.aom_sound.specs.Places.{Place, Register, Entry, Field, Going, Elsewhere, Other, Root, Session, In_service, Queued, Object, Cell, named, service_of}
+use Rattle.aom_sound.specs.State.{Home, Static, AtRoot, Inside, Frame, Dispatch, Of_root, Seat, Task, Run, Trapped, Destroy, Unwind, Dispatched, Item, An_object, An_operation, A_mark, thing_holder, Closing, Of_server, Serves, Service_left, Parts}
+
+-- the method serves messages
+abbrev pub serves : Image → ℕ → Bool
+serves p m = is_service (method_role p m)
 
 -- what stands behind a task: a method with its abstract state, a trap's mark, a cell that is going, a leave with the entries that are still to unwind, or a dispatch with the seats from its object's up to the root
 pub data Layer : Type 0 where
   Method : Frame → Shape → Layer
   Mark : (gives : Gives) → Layer
   Dying : Object → Layer
+  -- these sessions with a server that is going go first
+  Ending : Object → (left : List ℕ) → Layer
   Unwinding : (code : ℤ) (entries : List Pushed) → Layer
   Dispatching : Dispatch → (seats : List Seat) → Layer
 
@@ -26,6 +38,7 @@ abbrev pub task_of : Layer → Task
 task_of (Method fr sh) = Run fr
 task_of (Mark gv) = Trapped
 task_of (Dying o) = Destroy
+task_of (Ending o left) = Closing
 task_of (Unwinding code es) = Unwind code
 task_of (Dispatching d seats) = Dispatched d
 
@@ -37,6 +50,7 @@ abbrev pub entries_of : Layer → List Pushed
 entries_of (Method fr sh) = sh.entries
 entries_of (Mark gv) = []
 entries_of (Dying o) = []
+entries_of (Ending o left) = []
 entries_of (Unwinding code es) = es
 entries_of (Dispatching d seats) = []
 
@@ -67,6 +81,7 @@ abbrev pub layer_items : Layer → List Form → List Form
 layer_items (Method fr sh) below = objects sh.entries below
 layer_items (Mark gv) below = Mark_form ∷ below
 layer_items (Dying o) below = below
+layer_items (Ending o left) below = below
 layer_items (Unwinding code es) below = objects es below
 layer_items (Dispatching d seats) below = below
 
@@ -83,6 +98,7 @@ abbrev pub register_claim : Layer → ℕ → ℕ → ℕ → Kind → Kind
 register_claim (Method fr sh) depth f i below = cond (depth == f) (register sh i) below
 register_claim (Mark gv) depth f i below = below
 register_claim (Dying o) depth f i below = below
+register_claim (Ending o left) depth f i below = below
 register_claim (Unwinding code es) depth f i below = below
 register_claim (Dispatching d seats) depth f i below = below
 
@@ -95,6 +111,7 @@ abbrev pub field_claim : Image → Layer → ℕ → ℕ → Kind → Kind
 field_claim p (Method fr sh) n f below = home_claim p fr.home sh n f below
 field_claim p (Mark gv) n f below = below
 field_claim p (Dying o) n f below = cond (o.name == n) Null below
+field_claim p (Ending o left) n f below = cond (o.name == n) (filled (field_thing p (thing_holder o.thing) f) Perhaps) below
 field_claim p (Unwinding code es) n f below = below
 field_claim p (Dispatching d seats) n f below = below
 
@@ -102,6 +119,7 @@ abbrev pub going_claim : Layer → ℕ → ℕ → Kind → Kind
 going_claim (Method fr sh) depth k below = below
 going_claim (Mark gv) depth k below = below
 going_claim (Dying o) depth k below = cond (depth == k) (Own o.thing Ready) below
+going_claim (Ending o left) depth k below = below
 going_claim (Unwinding code es) depth k below = below
 going_claim (Dispatching d seats) depth k below = below
 
@@ -120,14 +138,45 @@ abbrev pub by_root : Image → Layer → Kind → Kind
 by_root p (Method fr sh) below = root_claim p fr.home sh below
 by_root p (Mark gv) below = below
 by_root p (Dying o) below = below
+by_root p (Ending o left) below = below
 by_root p (Unwinding code es) below = below
 by_root p (Dispatching d seats) below = cond (is_of_root d) Null below
 
--- no layer claims a session or a message
+-- what a layer claims of the session of a client: of a server that is going those that are left are there and no other, and none of a client whose close is served
+abbrev pub by_close : Dispatch → ℕ → ℕ → Kind → Kind
+by_close (Of_server x client Parts) s c below = cond ((x.object.name == s) && (client == c)) Null below
+by_close _ s c below = below
+
+abbrev pub by_session : Image → Layer → ℕ → ℕ → Kind → Kind
+by_session p (Method fr sh) s c below = below
+by_session p (Mark gv) s c below = below
+by_session p (Dying o) s c below = cond (o.name == s) Null below
+by_session p (Ending o left) s c below = cond (o.name == s) (cond (is_among c left) (filled (session_thing p (Some o)) Full) Null) below
+by_session p (Unwinding code es) s c below = below
+by_session p (Dispatching d seats) s c below = by_close d s c below
+
+-- of the message that is served: it is there until it is taken, and then the method that serves knows of it
+abbrev pub delivered : Delivery → Kind
+delivered Here = Own Message Ready
+delivered Gone = Null
+
+abbrev pub by_stage : Dispatch → Kind → Kind
+by_stage (Of_server x client (Serves o)) below = Own Message Ready
+by_stage (Of_server x client (Service_left code)) below = Own Message Ready
+by_stage _ below = below
+
+abbrev pub by_service : Image → Layer → Kind → Kind
+by_service p (Method fr sh) below = cond (serves p fr.method) (delivered sh.delivery) below
+by_service p (Mark gv) below = below
+by_service p (Dying o) below = below
+by_service p (Ending o left) below = below
+by_service p (Unwinding code es) below = below
+by_service p (Dispatching d seats) below = by_stage d below
+
 abbrev pub other_claim : Image → Layer → Other → Kind → Kind
 other_claim p l Root below = by_root p l below
-other_claim p l (Session s c) below = below
-other_claim p l In_service below = below
+other_claim p l (Session s c) below = by_session p l s c below
+other_claim p l In_service below = by_service p l below
 other_claim p l (Queued s m) below = below
 
 abbrev pub layer_claim : Image → Layer → ℕ → List Form → Place → Kind → Kind
@@ -146,16 +195,16 @@ abbrev pub declared_field : Image → Option Object → ℕ → Kind
 declared_field p None f = Null
 declared_field p (Some o) f = filled (field_thing p (thing_holder o.thing) f) Perhaps
 
--- no server has a session or a message
-abbrev pub declared_other : Image → Other → Kind
-declared_other p Root = filled (field_thing p Program 0) Perhaps
-declared_other p (Session s c) = Null
-declared_other p In_service = Null
-declared_other p (Queued s m) = Null
+-- a server has a session of each client that is among its sessions, and each message that is in its queue
+abbrev pub declared_other : Image → List Cell → Other → Kind
+declared_other p cs Root = filled (field_thing p Program 0) Perhaps
+declared_other p cs (Session s c) = cond (has_session (service_of cs s) c) (filled (session_thing p (named cs s)) Full) Null
+declared_other p cs In_service = Null
+declared_other p cs (Queued s m) = cond (has_message (service_of cs s) m) (filled (message_thing p (named cs s)) Full) Null
 
 abbrev pub declared : Image → List Cell → Place → Kind
 declared p cs (Register f i) = Null
 declared p cs (Entry k) = Null
 declared p cs (Field n f) = declared_field p (named cs n) f
 declared p cs (Going k) = Null
-declared p cs (Elsewhere o) = declared_other p o
+declared p cs (Elsewhere o) = declared_other p cs o

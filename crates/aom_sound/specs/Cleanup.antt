@@ -5,7 +5,7 @@ use Rattle.aom_image.specs.Views.{instr_at}
 use Rattle.aom_image.specs.declared.method.Gives.{Gives}
 use Rattle.aom_image.specs.declared.method.Gives.TheVariants.{Nothing, Word as A_word, Own as An_own, Maybe as A_maybe, Left}
 use Rattle.aom_sound.specs.Places.{Place, Entry, Going, Object, Cell, held, moved}
-use Rattle.aom_sound.specs.State.{Static, Frame, Dispatch, Of_main, Main_left, Of_object, Object_left, Task, Run, Trapped, Destroy, Unwind, Dispatched, Item, An_object, An_operation, A_mark, State, Choice, Need, PopUnder, PushNoTrap, LeaveNoTrap, Unbalanced, Orphan, NullOrDead, WrongKind, Outcome, Goes, IsStuck, word, set_word, next, frame_of}
+use Rattle.aom_sound.specs.State.{Static, Frame, Dispatch, Of_main, Main_left, Of_object, Object_left, Task, Run, Trapped, Destroy, Unwind, Dispatched, Item, An_object, An_operation, A_mark, State, Choice, Need, PopUnder, PushNoTrap, LeaveNoTrap, Unbalanced, Orphan, NullOrDead, WrongKind, Outcome, Goes, IsStuck, word, set_word, next, frame_of, Closing, Of_server, Accepts, Accept_left, Serves, Service_left}
 use Rattle.aom_sound.specs.Destruction.{begun}
 use Rattle.aom_sound.specs.Words.{here, needs_word, read}
 use Rattle.aom_sound.specs.Objects.{is_no_message}
@@ -21,6 +21,7 @@ has_trap [] = false
 has_trap (Run fr ∷ ts) = has_trap ts
 has_trap (Trapped ∷ ts) = true
 has_trap (Destroy ∷ ts) = false
+has_trap (Closing ∷ ts) = false
 has_trap (Unwind code ∷ ts) = false
 has_trap (Dispatched d ∷ ts) = false
 
@@ -30,6 +31,7 @@ above_trap_is_free cs [] = true
 above_trap_is_free cs (Run fr ∷ ts) = none_owns_but cs (length ts) None && above_trap_is_free cs ts
 above_trap_is_free cs (Trapped ∷ ts) = true
 above_trap_is_free cs (Destroy ∷ ts) = true
+above_trap_is_free cs (Closing ∷ ts) = true
 above_trap_is_free cs (Unwind code ∷ ts) = true
 above_trap_is_free cs (Dispatched d ∷ ts) = true
 
@@ -39,6 +41,7 @@ to_trap [] = []
 to_trap (Run fr ∷ ts) = to_trap ts
 to_trap (Trapped ∷ ts) = Trapped ∷ ts
 to_trap (Destroy ∷ ts) = Destroy ∷ ts
+to_trap (Closing ∷ ts) = Closing ∷ ts
 to_trap (Unwind code ∷ ts) = Unwind code ∷ ts
 to_trap (Dispatched d ∷ ts) = Dispatched d ∷ ts
 
@@ -115,10 +118,12 @@ dealt_with p (A_mark ∷ items) ts s = record s { tasks = ts }
 
 -- ---- the code arrives
 
--- the dispatch of main, or of an object, is left with the code
+-- the dispatch of main, of an object or of a server is left with the code
 abbrev pub ended_by : ℤ → Dispatch → Dispatch
 ended_by code Of_main = Main_left code
 ended_by code (Of_object x) = Object_left x code
+ended_by code (Of_server x c Accepts) = Of_server x c (Accept_left code)
+ended_by code (Of_server x c (Serves o)) = Of_server x c (Service_left code)
 ended_by code d = d
 
 -- the code is in the register after the result's, where there is no object, or the word 0

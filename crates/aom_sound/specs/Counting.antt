@@ -1,7 +1,7 @@
 -- What counts as a step: an instruction that runs, those of destructors and operations among them, and a cell that goes.
 use Rattle.std.specs.Prelude.{ℕ, Bool, true, false, cond, is_none, ◌+◌, ◌-◌, ◌^◌, ◌≡◌, min, List, ◌∷◌}
 use Rattle.aom_image.specs.Image.{Image}
-use Rattle.aom_sound.specs.State.{Dispatch, Of_main, Main_left, Of_root, Of_object, Object_left, Asks, Answered, Task, Run, Destroy, Dispatched, State, Choice, Goes, raised}
+use Rattle.aom_sound.specs.State.{Dispatch, Of_main, Main_left, Of_root, Of_object, Object_left, Asks, Answered, Task, Run, Destroy, Dispatched, State, Choice, Goes, raised, Of_server}
 use Rattle.aom_image.specs.declared.method.Role.TheVariants.{Error}
 use Rattle.aom_sound.specs.Enlisted.{part_of}
 use Rattle.aom_sound.specs.Moves.{step}
@@ -23,6 +23,7 @@ ends_object p (Of_object x) = true
 ends_object p (Object_left x code) = is_none (part_of p Error x.object.thing)
 ends_object p (Asks x) = true
 ends_object p (Answered x answer) = true
+ends_object p (Of_server x c stage) = false
 
 -- with that move steps are counted anew
 abbrev pub restarts : Image → List Task → Bool

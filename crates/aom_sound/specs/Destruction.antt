@@ -1,25 +1,35 @@
 -- Destruction: a cell is at hand from here on, its destructor runs first, and then the cell goes.
-use Rattle.std.specs.Prelude.{ℕ, Bool, true, false, not, ◌&&◌, ◌==◌, List, [], ◌∷◌, Option, Some, None, length}
+use Rattle.std.specs.Prelude.{ℕ, Bool, true, false, not, ◌&&◌, ◌==◌, List, [], ◌∷◌, Option, Some, None, length, cond}
 use Rattle.aom_image.specs.Image.{Image}
 use Rattle.aom_classes.specs.Roles.{destructor_of}
+use Rattle.aom_sound.specs.Clients.{each_unslotted, queue_ended, sessions_ended}
+use Rattle.aom_sound.specs.Servers.{is_server, without_queue}
 use Rattle.aom_sound.specs.Enlisted.{is_idle}
-use Rattle.aom_sound.specs.Places.{Place, Register, Entry, Field, Going, Elsewhere, Object, Cell, Request, requested, without}
-use Rattle.aom_sound.specs.State.{Inside, Task, Run, Destroy, frame_of, State, Outcome, Need, IsStuck, Orphan, NullOrDead, ActiveDestroyed, guarded, resumed}
+use Rattle.aom_sound.specs.Places.{Place, Register, Entry, Field, Going, Elsewhere, Object, Cell, Request, requested, without, Session, other_cell, service_of, held, moved}
+use Rattle.aom_sound.specs.State.{Inside, Task, Run, Destroy, frame_of, State, Outcome, Need, IsStuck, Orphan, NullOrDead, ActiveDestroyed, guarded, resumed, Closing, Seat, Goes, Unbalanced}
 
 abbrev pub begun_by : Option ℕ → Object → ℕ → List Task → List Task
 begun_by None o height below = Destroy ∷ below
 begun_by (Some m) o height below = Run (frame_of m (Inside o (Going (length below))) height) ∷ Destroy ∷ below
 
--- the destruction of an object begins over these tasks, at that height of the cleanup stack
+-- its destructor begins over these tasks, at that height of the cleanup stack
+abbrev pub destructed : Image → Object → ℕ → List Task → List Task
+destructed p o height below = begun_by (destructor_of p o.thing) o height below
+
+-- the destruction of an object begins, of a server with its sessions
 abbrev pub begun : Image → Object → ℕ → List Task → List Task
-begun p o height below = begun_by (destructor_of p o.thing) o height below
+begun p o height below = cond (is_server p o.thing) (Closing ∷ Destroy ∷ below) (destructed p o height below)
+
+abbrev pub is_of_cell : ℕ → Option ℕ → Bool
+is_of_cell n None = false
+is_of_cell n (Some m) = n == m
 
 abbrev pub is_field_of : ℕ → Place → Bool
 is_field_of n (Register f r) = false
 is_field_of n (Entry k) = false
 is_field_of n (Field m f) = n == m
 is_field_of n (Going k) = false
-is_field_of n (Elsewhere o) = false
+is_field_of n (Elsewhere o) = is_of_cell n (other_cell o)
 
 -- no field of that cell owns
 abbrev pub owns_nothing : List Cell → ℕ → Bool
@@ -35,7 +45,46 @@ is_at_rest (Some r) = is_idle r.phase
 abbrev pub needs_gone : List Cell → Object → List Need
 needs_gone cs o = (owns_nothing cs o.name, Orphan) ∷ (is_at_rest (requested cs o.name), ActiveDestroyed) ∷ []
 
--- the going of a cell
+-- a cell is gone, with what waits in its queue where it is a server
+abbrev pub vanished : Object → List Task → State → State
+vanished o ts s =
+    let left = without_queue o.name s.cells in
+    let service = service_of s.cells o.name in
+    record s {
+      cells = each_unslotted service.sessions (without (Going (length ts)) left);
+      tasks = resumed ts;
+      clients = sessions_ended service.sessions (queue_ended service.queue s.clients);
+    }
+
 abbrev pub gone : Option Object → List Task → State → Outcome
 gone None ts s = IsStuck NullOrDead
-gone (Some o) ts s = guarded (needs_gone s.cells o) (record s { cells = without (Going (length ts)) s.cells; tasks = resumed ts })
+gone (Some o) ts s = guarded (needs_gone (without_queue o.name s.cells) o) (vanished o ts s)
+
+-- ---- the sessions of a server
+
+abbrev pub seat_or : Option Object → Place → Option Seat → Option Seat
+seat_or None place others = others
+seat_or (Some o) place others = Some (record { object = o; place = place })
+
+-- the first of these clients' sessions that is there
+abbrev pub first_session : List Cell → ℕ → List ℕ → Option Seat
+first_session cs n [] = None
+first_session cs n (c ∷ clients) = seat_or (held cs (Elsewhere (Session n c))) (Elsewhere (Session n c)) (first_session cs n clients)
+
+-- it goes before its server, in order of connection; where none is left the destructor begins
+abbrev pub parting : Image → Object → Option Seat → List Task → State → State
+parting p o None below s = record s { tasks = destructed p o (length s.items) below }
+parting p o (Some x) below s =
+    record s {
+      cells = moved x.place (Going (length (Closing ∷ Destroy ∷ below))) s.cells;
+      tasks = begun p x.object (length s.items) (Closing ∷ Destroy ∷ below);
+    }
+
+abbrev pub parting_from : Image → Option Object → List Task → State → Outcome
+parting_from p None below s = IsStuck NullOrDead
+parting_from p (Some o) below s = Goes (parting p o (first_session s.cells o.name (service_of s.cells o.name).sessions) below s)
+
+-- right over the going of a server
+abbrev pub closing : Image → List Task → State → Outcome
+closing p (Destroy ∷ below) s = parting_from p (held s.cells (Going (length below))) below s
+closing p _ s = IsStuck Unbalanced

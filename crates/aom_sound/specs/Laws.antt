@@ -1,5 +1,5 @@
 -- The laws of the checked machine.
-use Rattle.std.specs.Prelude.{IsSome, List, None, Some, [], bit_or, false, is_some, true, ℕ, ℤ, ◌<◌, ◌∷◌, ◌≡◌, ◌⊎◌}
+use Rattle.std.specs.Prelude.{IsSome, List, None, Some, [], bit_or, false, is_some, true, ℕ, ℤ, ◌<◌, ◌∷◌, ◌≡◌, ◌⊎◌, replicate}
 use Rattle.aom_image.specs.Image.{Image}
 use Rattle.aom_image.specs.Views.{instr_at, method_at, method_class, method_role, is_quiet, leaves, gives_of, arguments_of}
 use Rattle.aom_instructions.specs.Fits.{InstrFits}
@@ -8,9 +8,9 @@ use Rattle.aom_instructions.specs.declared.instr.Instr.{Instr}
 use Rattle.aom_instructions.specs.declared.instr.Instr.TheVariants.{Call, Trap, PushOperation}
 use Rattle.aom_instructions.specs.declared.instr.Target.{Target}
 use Rattle.aom_instructions.specs.declared.limits.Limits.{Limits}
-use Rattle.aom_image.specs.declared.method.Gives.TheVariants.{Nothing, Word as A_word}
+use Rattle.aom_image.specs.declared.method.Gives.TheVariants.{Nothing, Word as A_word, Own as An_own}
 use Rattle.aom_image.specs.declared.method.Argument.TheVariants.{Word as Takes_word}
-use Rattle.aom_image.specs.declared.method.Role.TheVariants.{Cancel, Do, Main, Construct, Destruct, Error, Run as Run_role}
+use Rattle.aom_image.specs.declared.method.Role.TheVariants.{Cancel, Do, Main, Construct, Destruct, Error, Run as Run_role, Accept, Service}
 use Rattle.aom_image.specs.declared.method.Thing.TheVariants.{Object as An_object_of}
 use Rattle.aom_classes.specs.Linked.{IsLinked}
 use Rattle.aom_classes.specs.Roles.{role_of, main_of}
@@ -20,10 +20,12 @@ use Rattle.aom_rules.specs.Requests.{is_active_kind, unissued}
 use Rattle.aom_roles.specs.Shapes.{kind_of}
 use Rattle.aom_roles.specs.States.{active, cancel_open, first_of, idle, last_of, states_of}
 use Rattle.aom_rules.specs.Typing.{Typing, IsTyped}
+use Rattle.aom_roles.specs.Classes.{is_session, sessions_at}
 use Rattle.aom_sound.specs.Places.{Elsewhere, Root, held, named}
 use Rattle.aom_sound.specs.State.{Dispatch, Frame, Task, Run, Destroy, Unwind, Dispatched, Item, A_mark, State, Choice, Goes}
 use Rattle.aom_sound.specs.Moves.{step, IsOpen}
 use Rattle.aom_sound.specs.WellTyped.{LeavesNone, IsUndo, WellTyped, Keeps}
+use Rattle.aom_sound.specs.Kept.{ClientsFit, IsKept}
 use Rattle.aom_sound.specs.Owned.{Owned}
 use Rattle.aom_sound.specs.Registers.{AllInRange}
 use Rattle.aom_sound.specs.World.{AllSettled, Heard, HearsWell, boot_state, first_ready, has_signal, IsBetween, IsBusy, Reaches, Outside, turn}
@@ -64,6 +66,24 @@ pub record IsAnswerer (p : Image) (c m : ℕ) : Type 0 where
   pub leaves : leaves p m ≡ false
   pub begins : before_of p m ≡ bit_or idle active
 
+-- a method that gives a session to a client that connects: the server is idle as it begins
+pub record IsAcceptor (p : Image) (c m session : ℕ) : Type 0 where
+  pub there : IsSome (method_at p m)
+  pub role : method_role p m ≡ Some Accept
+  pub class : method_class p m ≡ Some c
+  pub arguments : arguments_of p m ≡ []
+  pub gives : gives_of p m ≡ An_own (An_object_of session)
+  pub begins : before_of p m ≡ idle
+
+-- a method that serves a message: of a session, with the five words
+pub record IsAttendant (p : Image) (c m : ℕ) : Type 0 where
+  pub session : is_session p c ≡ true
+  pub there : IsSome (method_at p m)
+  pub role : method_role p m ≡ Some Service
+  pub class : method_class p m ≡ Some c
+  pub arguments : arguments_of p m ≡ replicate 5 Takes_word
+  pub gives : gives_of p m ≡ Nothing
+
 -- what linking has found, as far as the laws use it
 pub record IsWired (p : Image) : Type 0 where
   pub has_main : IsSome (main_of p)
@@ -89,6 +109,12 @@ pub record IsWired (p : Image) : Type 0 where
   pub trapped : (m place : ℕ) (target : Target) (m' first c : ℕ) → instr_at p m place ≡ Some (Trap target m' first c) → IsTrapped p m'
   pub pushed : (m place a m' : ℕ) → instr_at p m place ≡ Some (PushOperation a m') → IsUndo p m'
   pub no_destructor : (c : ℕ) → role_of p c Destruct ≡ None → (f : ℕ) → field_thing p (Member c) f ≡ None
+  -- a server has a method that accepts, and its sessions one that serves; what is a session, and so no server, has a lower class than its server
+  pub acceptor : (c session : ℕ) → sessions_at p c ≡ Some session → (m : ℕ) × (role_of p c Accept ≡ Some m)
+  pub accepts : (c session m : ℕ) → sessions_at p c ≡ Some session → role_of p c Accept ≡ Some m → IsAcceptor p c m session
+  pub attendant : (c session : ℕ) → sessions_at p c ≡ Some session → (m : ℕ) × (role_of p session Service ≡ Some m)
+  pub attends : (c m : ℕ) → role_of p c Service ≡ Some m → IsAttendant p c m
+  pub sessions : (c session : ℕ) → sessions_at p c ≡ Some session → (session < c) × (sessions_at p session ≡ None)
   -- what a field may own has a lower class
   pub ordered : (c d f : ℕ) → field_thing p (Member c) f ≡ Some (An_object_of d) → d < c
 
@@ -106,11 +132,17 @@ pub record RegistersKeep : Type 0 where
   pub moves : (p : Image) → IsWired p → (c : Choice) (s u : State) → AllInRange s.cells → step p c s ≡ Goes u → AllInRange u.cells
   pub turns : (p : Image) (outside : Outside) (heard : Heard) (s u : State) → AllInRange s.cells → turn p outside heard s ≡ Goes u → AllInRange u.cells
 
--- a turn from a well-typed state between dispatches is not stuck, whatever a native completes that it owes, and leads to a well-typed state
+-- a turn from a well-typed state between dispatches in which clients are kept is not stuck, whatever a native completes that it owes, and leads to a well-typed state
 abbrev pub TurnGoesOn : Type 0
 TurnGoesOn =
-    (p : Image) (t : Typing) (outside : Outside) → IsWired p → IsTyped p t → (heard : Heard) (s : State) → WellTyped p t s → IsBetween s → HearsWell p outside heard s →
+    (p : Image) (t : Typing) (outside : Outside) → IsWired p → IsTyped p t → (heard : Heard) (s : State) → WellTyped p t s → IsBetween s → HearsWell p outside heard s → ClientsFit p s.clients s.cells →
     Keeps p t (turn p outside heard s)
+
+-- clients, and what they have at servers, say the same in each state of a run
+pub record ClientsKeep : Type 0 where
+  pub boot : (p : Image) → IsKept p (boot_state p)
+  pub moves : (p : Image) (t : Typing) → IsWired p → IsTyped p t → (c : Choice) (s u : State) → WellTyped p t s → named s.cells c.name ≡ None → IsKept p s → step p c s ≡ Goes u → IsKept p u
+  pub turns : (p : Image) (t : Typing) (outside : Outside) → IsWired p → IsTyped p t → (heard : Heard) (s u : State) → WellTyped p t s → IsBetween s → HearsWell p outside heard s → IsKept p s → turn p outside heard s ≡ Goes u → IsKept p u
 
 -- between dispatches no request is made that is not waited for, and what signals is ready
 abbrev pub SignalsAreReady : Type 0

@@ -1,5 +1,5 @@
 -- Leaves: the code that a method leaves with is the one that arrives, what was pushed last is dealt with first, and what lies below the mark stays as it is.
-use Rattle.std.specs.Prelude.{ℕ, suc, ℤ, negsuc, pos, true, ◌≡◌, ◌≢◌, ◌⊎◌, int_lt, List, [], ◌∷◌, ◌++◌, Option, Some, None, length}
+use Rattle.std.specs.Prelude.{Bool, false, ℕ, suc, ℤ, negsuc, pos, true, ◌≡◌, ◌≢◌, ◌⊎◌, int_lt, List, [], ◌∷◌, ◌++◌, Option, Some, None, length}
 use Rattle.aom_image.specs.Image.{Image}
 use Rattle.aom_image.specs.Views.{instr_at, is_quiet, gives_of}
 use Rattle.aom_instructions.specs.declared.instr.Instr.{Instr}
@@ -9,7 +9,7 @@ use Rattle.aom_image.specs.declared.method.Gives.{Gives}
 use Rattle.aom_image.specs.declared.method.Gives.TheVariants.{Nothing, Word as A_word, Own as An_own, Maybe as A_maybe, Left}
 use Rattle.aom_rules.specs.Typing.{Typing, IsTyped}
 use Rattle.aom_sound.specs.Places.{Place, Register, Entry, Going, Object, Cell, held, named}
-use Rattle.aom_sound.specs.State.{Inside, Frame, Of_main, Main_left, Of_object, Object_left, Task, Run, Trapped, Destroy, Unwind, Dispatched, Item, An_object, An_operation, A_mark, State, Choice, Goes, word, next}
+use Rattle.aom_sound.specs.State.{Of_server, Accepts, Accept_left, Serves, Service_left, Inside, Frame, Of_main, Main_left, Of_object, Object_left, Task, Run, Trapped, Destroy, Unwind, Dispatched, Item, An_object, An_operation, A_mark, State, Choice, Goes, word, next, Closing}
 use Rattle.aom_classes.specs.Roles.{destructor_of}
 use Rattle.aom_sound.specs.Moves.{step, written, announcement}
 use Rattle.aom_sound.specs.WellTyped.{WellTyped}
@@ -18,6 +18,7 @@ use Rattle.aom_sound.specs.Laws.{IsWired}
 use Rattle.aom_transcript.specs.declared.line.Line.{Line}
 use Rattle.aom_transcript.specs.declared.line.Line.TheVariants.{Leave as Leave_line}
 use Rattle.aom_transcript.specs.declared.line.Ending.TheVariants.{MainLeft}
+use Rattle.aom_sound.specs.Servers.{is_server}
 
 -- ---- a leave at hand
 
@@ -27,6 +28,7 @@ IsOver p height code below [] = ⊥
 IsOver p height code below (Run fr ∷ ts) = (is_quiet p fr.method ≡ true) × (fr.height ≡ height) × IsOver p height code below ts
 IsOver p height code below (Trapped ∷ ts) = ⊥
 IsOver p height code below (Destroy ∷ ts) = IsOver p height code below ts
+IsOver p height code below (Closing ∷ ts) = IsOver p height code below ts
 IsOver p height code below (Unwind x ∷ ts) = (x ≡ code) × (ts ≡ below)
 IsOver p height code below (Dispatched d ∷ ts) = ⊥
 
@@ -72,6 +74,7 @@ AreMethods [] = Unit {0}
 AreMethods (Run fr ∷ ts) = AreMethods ts
 AreMethods (Trapped ∷ ts) = ⊥
 AreMethods (Destroy ∷ ts) = ⊥
+AreMethods (Closing ∷ ts) = ⊥
 AreMethods (Unwind code ∷ ts) = ⊥
 AreMethods (Dispatched d ∷ ts) = ⊥
 
@@ -89,15 +92,16 @@ pub record Begins (p : Image) (code : ℤ) (fr : Frame) (depth : ℕ) (i : Instr
 
 -- ---- what it deals with
 
--- the destruction of an object is at hand over these tasks, with its destructor first
-abbrev pub IsDestroyed : Option ℕ → Object → List Task → List Task → Type 0
-IsDestroyed None o under ts = ts ≡ Destroy ∷ under
-IsDestroyed (Some m) o under ts = (fr : Frame) × (ts ≡ Run fr ∷ Destroy ∷ under) × (fr.method ≡ m) × (fr.place ≡ 0) × (fr.home ≡ Inside o (Going (length under)))
+-- the destruction of an object is at hand over these tasks, with its destructor first, or of a server with the sessions that go before it
+abbrev pub IsDestroyed : Bool → Option ℕ → Object → List Task → List Task → Type 0
+IsDestroyed true d o under ts = ts ≡ Closing ∷ Destroy ∷ under
+IsDestroyed false None o under ts = ts ≡ Destroy ∷ under
+IsDestroyed false (Some m) o under ts = (fr : Frame) × (ts ≡ Run fr ∷ Destroy ∷ under) × (fr.method ≡ m) × (fr.place ≡ 0) × (fr.home ≡ Inside o (Going (length under)))
 
 -- what is to be done for the item over so many others is at hand over these tasks: its object's cell is to go, or its method runs on its word
 abbrev pub IsBegun : Image → List Task → Item → ℕ → State → State → Type 0
 IsBegun p under An_object k s u =
-    (o : Object) × HasMoved o (Entry k) (Going (length under)) s.cells u.cells × IsDestroyed (destructor_of p o.thing) o under u.tasks
+    (o : Object) × HasMoved o (Entry k) (Going (length under)) s.cells u.cells × IsDestroyed (is_server p o.thing) (destructor_of p o.thing) o under u.tasks
 IsBegun p under (An_operation m w) k s u = (fr : Frame) × (u.tasks ≡ Run fr ∷ under) × (fr.method ≡ m) × (fr.place ≡ 0) × (word fr 0 ≡ Some w) × (u.cells ≡ s.cells)
 IsBegun p under A_mark k s u = ⊥
 
@@ -125,7 +129,7 @@ pub record Hears (code : ℤ) (gives : Gives) (c : ℕ) (cs : List Cell) (depth 
   pub others : (r : ℕ) → r ≢ c → r ≢ suc c → word after r ≡ word before r
   pub goes_on : record after { words = before.words } ≡ next before
 
--- to the method that set the trap, or to the dispatch of main or of an object
+-- to the method that set the trap, or to the dispatch of main, of an object or of a server
 abbrev pub ArrivesAt : Image → ℤ → List Task → State → Type 0
 ArrivesAt p code (Trapped ∷ Run before ∷ ts) u =
     (after : Frame)
@@ -133,6 +137,8 @@ ArrivesAt p code (Trapped ∷ Run before ∷ ts) u =
     × ((target : Target) (m first c : ℕ) → instr_at p before.method before.place ≡ Some (Trap target m first c) → Hears code (gives_of p m) c u.cells (length ts) before after)
 ArrivesAt p code (Trapped ∷ Dispatched Of_main ∷ ts) u = u.tasks ≡ Dispatched (Main_left code) ∷ ts
 ArrivesAt p code (Trapped ∷ Dispatched (Of_object x) ∷ ts) u = u.tasks ≡ Dispatched (Object_left x code) ∷ ts
+ArrivesAt p code (Trapped ∷ Dispatched (Of_server x client Accepts) ∷ ts) u = u.tasks ≡ Dispatched (Of_server x client (Accept_left code)) ∷ ts
+ArrivesAt p code (Trapped ∷ Dispatched (Of_server x client (Serves o)) ∷ ts) u = u.tasks ≡ Dispatched (Of_server x client (Service_left code)) ∷ ts
 ArrivesAt p code _ u = ⊥
 
 -- the mark goes, what lay below it is as it was, and the line of the leave is written

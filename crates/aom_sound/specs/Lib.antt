@@ -7,12 +7,15 @@ pub mod Calls
 pub mod Cleanup
 pub mod Enlisted
 pub mod Natives
+pub mod Servers
+pub mod Clients
 pub mod Wanted
 pub mod Effects
 pub mod Moves
 pub mod Tasks
 pub mod Claims
 pub mod WellTyped
+pub mod Kept
 pub mod Owned
 pub mod Registers
 pub mod Requests

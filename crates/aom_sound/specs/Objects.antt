@@ -4,8 +4,11 @@ use Rattle.aom_image.specs.Image.{Image}
 use Rattle.aom_image.specs.declared.method.Thing.{Thing}
 use Rattle.aom_shape.specs.Things.{stands_for, field_thing, words_of}
 use Rattle.aom_shape.specs.Kinds.{is_object}
-use Rattle.aom_sound.specs.Places.{Object, held}
-use Rattle.aom_sound.specs.State.{Frame, Task, State, Choice, Need, Orphan, WrongKind, word, field_place, home_holder}
+use Rattle.aom_image.specs.Views.{method_role}
+use Rattle.aom_image.specs.declared.method.Role.TheVariants.{Service as Attends}
+use Rattle.aom_roles.specs.Shapes.{is_role}
+use Rattle.aom_sound.specs.Places.{Object, held, Elsewhere, In_service}
+use Rattle.aom_sound.specs.State.{Frame, Task, State, Choice, Need, Orphan, WrongKind, word, field_place, home_holder, NullOrDead}
 use Rattle.aom_sound.specs.Words.{here, needs_written}
 
 -- what may stand for that thing, or nothing
@@ -49,6 +52,10 @@ module _ (p : Image) (c : Choice) (fr : Frame) (ts : List Task) (s : State) wher
       ∷ (is_declared_thing p (field_thing p (home_holder fr.home) f) (held s.cells (here fr ts s b)), WrongKind)
       ∷ (is_none (held s.cells (field_place fr.home f)), Orphan)
       ∷ []
+
+  -- the method serves a message, and has not taken it yet
+  abbrev pub needs_take_message : ℕ → List Need
+  needs_take_message a = (is_role Attends (method_role p fr.method), NullOrDead) ∷ (is_some (held s.cells (Elsewhere In_service)), NullOrDead) ∷ needs_written fr ts s a
 
   abbrev pub needs_delete : ℕ → List Need
   needs_delete a = (is_none (word fr a), WrongKind) ∷ (is_no_message (held s.cells (here fr ts s a)), WrongKind) ∷ []

@@ -111,6 +111,28 @@ pub record Request : Type 0 where
   -- none where it waits for no time
   pub timer : Option Timer
 
+-- what a client asked of a server: for a session, to serve the message of that name, or to close its session
+pub data Asked : Type 0 where
+  Connect_of : (client : ℕ) → Asked
+  Message_of : (client message : ℕ) → Asked
+  Close_of : (client : ℕ) → Asked
+
+-- of a message: the client that sent it, whether it holds a slot of the client's session, and whether its completion is told
+pub record Sender : Type 0 where
+  pub client : ℕ
+  pub holds_slot : Bool
+  pub is_told : Bool
+
+-- what clients have at a cell: of a server its queue, first in, first out, and the clients that have a session with it, in order of connection; of a message its sender
+pub record Service : Type 0 where
+  pub queue : List Asked
+  pub sessions : List ℕ
+  pub sender : Option Sender
+
+-- nothing
+abbrev pub unserved : Service
+unserved = record { queue = []; sessions = []; sender = None }
+
 pub record Cell : Type 0 where
   pub object : Object
   pub words : List ℤ
@@ -118,6 +140,7 @@ pub record Cell : Type 0 where
   pub request : Option Request
   -- a session is open at the native of its class
   pub session : Bool
+  pub service : Service
   pub owner : Place
 
 -- what a place holds: the cell that it owns
@@ -158,9 +181,9 @@ abbrev pub without : Place → List Cell → List Cell
 without p [] = []
 without p (c ∷ cs) = cond (same_place c.owner p) (without p cs) (c ∷ without p cs)
 
--- one more cell, with these words, which is not enlisted and has no session
+-- one more cell, with these words, which is not enlisted and has no session, and of which clients have nothing
 abbrev pub with_new : ℕ → Thing → List ℤ → Place → List Cell → List Cell
-with_new name thing words owner cs = record { object = record { name = name; thing = thing }; words = words; request = None; session = false; owner = owner } ∷ cs
+with_new name thing words owner cs = record { object = record { name = name; thing = thing }; words = words; request = None; session = false; service = unserved; owner = owner } ∷ cs
 
 -- a word of the cell of that name
 abbrev pub word_field : List Cell → ℕ → ℕ → ℤ
@@ -191,6 +214,16 @@ in_session (c ∷ cs) n = cond (c.object.name == n) c.session (in_session cs n)
 abbrev pub set_session : ℕ → Bool → List Cell → List Cell
 set_session n session [] = []
 set_session n session (c ∷ cs) = record c { session = cond (c.object.name == n) session c.session } ∷ set_session n session cs
+
+-- what clients have at the cell of that name
+abbrev pub service_of : List Cell → ℕ → Service
+service_of [] n = unserved
+service_of (c ∷ cs) n = cond (c.object.name == n) c.service (service_of cs n)
+
+-- they have that at it from then on
+abbrev pub set_service : ℕ → Service → List Cell → List Cell
+set_service n v [] = []
+set_service n v (c ∷ cs) = record c { service = cond (c.object.name == n) v c.service } ∷ set_service n v cs
 
 -- a function of places with one value changed
 abbrev pub changed : {A : Type 0} → (Place → A) → Place → A → Place → A

@@ -3,7 +3,7 @@ use Rattle.std.specs.Prelude.{Bool, List, [], false, true, ℤ, ◌∷◌, ◌�
 use Rattle.aom_image.specs.Image.{Image}
 use Rattle.aom_image.specs.Views.{is_quiet}
 use Rattle.aom_rules.specs.Typing.{Typing, IsTyped}
-use Rattle.aom_sound.specs.State.{Frame, Task, Run, Trapped, Destroy, Unwind, Dispatched, Item, A_mark, State, Choice, Goes}
+use Rattle.aom_sound.specs.State.{Frame, Task, Run, Trapped, Destroy, Unwind, Dispatched, Item, A_mark, State, Choice, Goes, Closing}
 use Rattle.aom_sound.specs.Moves.{step}
 use Rattle.aom_sound.specs.Tasks.{TaskLaw, Holds}
 use Rattle.aom_sound.specs.WellTyped.{WellTyped}
@@ -18,6 +18,7 @@ is_clearing [] = false
 is_clearing (Run fr ∷ ts) = is_clearing ts
 is_clearing (Trapped ∷ ts) = is_clearing ts
 is_clearing (Destroy ∷ ts) = true
+is_clearing (Closing ∷ ts) = true
 is_clearing (Unwind code ∷ ts) = true
 is_clearing (Dispatched d ∷ ts) = is_clearing ts
 
@@ -36,7 +37,7 @@ IsCalm p ts = Holds (calm p) ts
 pub record CalmKeeps : Type 0 where
   pub boot : (p : Image) → IsCalm p (boot_state p).tasks
   pub moves : (p : Image) (t : Typing) → IsWired p → IsTyped p t → (c : Choice) (s u : State) → WellTyped p t s → IsCalm p s.tasks → step p c s ≡ Goes u → IsCalm p u.tasks
-  pub turns : (p : Image) (outside : Outside) (heard : Heard) (s u : State) → IsCalm p s.tasks → turn p outside heard s ≡ Goes u → IsCalm p u.tasks
+  pub turns : (p : Image) → IsWired p → (outside : Outside) (heard : Heard) (s u : State) → IsCalm p s.tasks → turn p outside heard s ≡ Goes u → IsCalm p u.tasks
 
 -- where a leave has nothing more to unwind, each cell has exactly one living owner
 abbrev pub CaughtOwned : Type 0

@@ -9,7 +9,7 @@ use Rattle.aom_image.specs.declared.class.Provider.{Provider}
 use Rattle.aom_image.specs.declared.class.Provider.TheVariants.{Timer as A_timer}
 use Rattle.aom_roles.specs.States.{unlisted, idle, issued, active, cancel_open, cancel_done, server_states, states_of, last_of}
 use Rattle.aom_rules.specs.Requests.{is_cancel}
-use Rattle.aom_sound.specs.Claims.{Layer, Method, Mark, Dying, Unwinding, Dispatching}
+use Rattle.aom_sound.specs.Claims.{Layer, Method, Mark, Dying, Unwinding, Dispatching, Ending}
 pub use Rattle.aom_sound.specs.Enlisted.{thing_kind}
 use Rattle.aom_sound.specs.Enlisted.{in_phase, is_cancelling, is_idle, is_unanswered, pending}
 use Rattle.aom_sound.specs.Places.{Object, Cell, Phase, Idle, Issued, Active, Cancelling, Aborted, Request, named, requested}
@@ -73,6 +73,7 @@ module _ (p : Image) (o : Object) where
   states_claim (Method fr sh ∷ ls) = cond (works_at o.name fr.home) (known_at p fr sh.states (states_claim ls)) (states_claim ls)
   states_claim (Mark gv ∷ ls) = states_claim ls
   states_claim (Dying x ∷ ls) = cond (x.name == o.name) (resting_in (last_of (thing_kind p o.thing))) (states_claim ls)
+  states_claim (Ending x left ∷ ls) = states_claim ls
   states_claim (Unwinding code es ∷ ls) = states_claim ls
   states_claim (Dispatching d seats ∷ ls) = states_claim ls
 
@@ -86,6 +87,7 @@ Unworked n [] = Unit {0}
 Unworked n (Method fr sh ∷ ls) = (works_at n fr.home ≡ false) × Unworked n ls
 Unworked n (Mark gv ∷ ls) = Unworked n ls
 Unworked n (Dying x ∷ ls) = ((x.name == n) ≡ false) × Unworked n ls
+Unworked n (Ending x left ∷ ls) = Unworked n ls
 Unworked n (Unwinding code es ∷ ls) = Unworked n ls
 Unworked n (Dispatching d seats ∷ ls) = Unworked n ls
 

@@ -2,6 +2,7 @@
 use Rattle.std.specs.Prelude.{ℕ, suc, ℤ, Bool, cond, ◌+◌, ◌-◌, ◌^◌, min, List, [], ◌∷◌, Option, None}
 use Rattle.aom_image.specs.declared.method.Thing.{Thing}
 use Rattle.aom_image.specs.declared.method.Thing.TheVariants.{Object as An_object_of, Message}
+use Rattle.aom_clients.specs.declared.client.Client.{Client}
 use Rattle.aom_shape.specs.Tables.{at, put_at}
 use Rattle.aom_shape.specs.Things.{Holder, Nobody, Program, Member}
 use Rattle.aom_sound.specs.Places.{Place, Field, Elsewhere, Root, Object, Cell}
@@ -29,6 +30,18 @@ pub record Seat : Type 0 where
   pub object : Object
   pub place : Place
 
+-- how far the dispatch of a server has come with the first of its queue
+pub data Stage : Type 0 where
+  -- of a connect: its `accept` runs, has given a session, or has left with a code
+  Accepts : Stage
+  Accepted : Stage
+  Accept_left : (code : ℤ) → Stage
+  -- of a message: the `service` of that session runs, or has left with a code
+  Serves : (session : Object) → Stage
+  Service_left : (code : ℤ) → Stage
+  -- of a close: the session goes, or is gone
+  Parts : Stage
+
 -- what stands below all else
 pub data Dispatch : Type 0 where
   -- of main, and its end where main left with a code
@@ -42,12 +55,16 @@ pub data Dispatch : Type 0 where
   -- its `error` method is asked, and has answered
   Asks : Seat → Dispatch
   Answered : Seat → (answer : ℤ) → Dispatch
+  -- of a server, for that client; once all is served it is one of an object
+  Of_server : Seat → (client : ℕ) → Stage → Dispatch
 
 -- what is at hand, the innermost first
 pub data Task : Type 0 where
   Run : Frame → Task
   Trapped : Task
   Destroy : Task
+  -- right over the going of a server: the sessions with it go first
+  Closing : Task
   -- a leave with that code, until it arrives at its trap
   Unwind : (code : ℤ) → Task
   Dispatched : Dispatch → Task
@@ -86,6 +103,8 @@ pub record State : Type 0 where
   pub rest : Rest
   -- the natives that are killed
   pub killed : List ℕ
+  -- what each client is at; one past the end is unconnected
+  pub clients : List Client
 
 -- what is left free, and what is heard at hand: the name of a new cell, whether the allocation request is refused, and what the native answers
 pub record Choice : Type 0 where
@@ -171,5 +190,6 @@ resumed [] = []
 resumed (Run fr ∷ ts) = Run (next fr) ∷ ts
 resumed (Trapped ∷ ts) = Trapped ∷ ts
 resumed (Destroy ∷ ts) = Destroy ∷ ts
+resumed (Closing ∷ ts) = Closing ∷ ts
 resumed (Unwind code ∷ ts) = Unwind code ∷ ts
 resumed (Dispatched d ∷ ts) = Dispatched d ∷ ts

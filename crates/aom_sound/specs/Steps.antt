@@ -7,16 +7,17 @@ use Rattle.aom_instructions.specs.declared.instr.Instr.TheVariants.{Call, Delete
 use Rattle.aom_classes.specs.Jumps.{jump_of}
 use Rattle.aom_classes.specs.Loops.{loop_in}
 use Rattle.aom_shape.specs.Needs.{AllTrue}
-use Rattle.aom_sound.specs.Places.{Entry, Going, Object, held, moved, without}
-use Rattle.aom_sound.specs.State.{Dispatch, Frame, Task, Run, Trapped, Destroy, Unwind, Dispatched, An_object, Item, An_operation, A_mark, State, Choice, Goes, counter, next, resumed}
-use Rattle.aom_sound.specs.Destruction.{begun, owns_nothing}
+use Rattle.aom_sound.specs.Places.{service_of, Entry, Going, Object, held, moved}
+use Rattle.aom_sound.specs.State.{Closing, Dispatch, Frame, Task, Run, Trapped, Destroy, Unwind, Dispatched, An_object, Item, An_operation, A_mark, State, Choice, Goes, counter, next}
+use Rattle.aom_sound.specs.Destruction.{vanished, parting, first_session, begun, owns_nothing}
 use Rattle.aom_sound.specs.Words.{here}
 use Rattle.aom_sound.specs.Calls.{below_top, called, result_register}
 use Rattle.aom_sound.specs.Cleanup.{code_told, ended_by, has_trap, operation_frame, top_place}
 use Rattle.aom_sound.specs.Moves.{counted, dispatch_ends, makes, needs, step}
 use Rattle.aom_sound.specs.Leaves.{LeavesWith}
-use Rattle.aom_sound.specs.Effects.{Update, Same, Carried, Made, Written, Requested, Sessioned, Pushed, Pushed_operation, Popped, Popped_operation, Effect, Goes_on, Jumps, Counts, Repeats, Calls, Cancels, Sets_trap, Returns, Leaves, Destroys, Destroys_last, Operates, applied}
+use Rattle.aom_sound.specs.Effects.{Update, Same, Carried, Made, Written, Requested, Sessioned, Pushed, Pushed_operation, Popped, Popped_operation, Effect, Goes_on, Jumps, Counts, Repeats, Calls, Cancels, Sets_trap, Returns, Leaves, Destroys, Destroys_last, Operates, applied, Replied}
 use Rattle.aom_sound.specs.Enlisted.{cancel_method}
+use Rattle.aom_sound.specs.Servers.{without_queue}
 
 -- ---- which instruction may have an effect
 
@@ -39,6 +40,7 @@ FitsUpdate ts items i (Sessioned session) = Unit {0}
 FitsUpdate ts items i (Pushed a) = (i ≡ Push a) × (has_trap ts ≡ true)
 FitsUpdate ts items i (Pushed_operation m w) = (a : ℕ) × (i ≡ PushOperation a m) × (has_trap ts ≡ true)
 FitsUpdate ts items i (Popped a) = (i ≡ Pop a) × (items ≡ An_object ∷ below_top items)
+FitsUpdate ts items i (Replied a) = Unit {0}
 FitsUpdate ts items i Popped_operation = (i ≡ PopOperation) × (m : ℕ) × (w : ℤ) × (items ≡ An_operation m w ∷ below_top items)
 
 abbrev pub Fits : Image → Choice → Frame → List Task → State → Instr → Effect → Type 0
@@ -70,8 +72,12 @@ pub data Move (p : Image) (c : Choice) (s u : State) : Type 0 where
       Fits p c fr ts (counted p s) i e → u ≡ applied p fr ts (counted p s) e → Move p c s u
   -- a cell goes
   Vanishes :
-      (ts : List Task) (o : Object) → s.tasks ≡ Destroy ∷ ts → held s.cells (Going (length ts)) ≡ Some o → owns_nothing s.cells o.name ≡ true →
-      u ≡ record (counted p s) { cells = without (Going (length ts)) s.cells; tasks = resumed ts } → Move p c s u
+      (ts : List Task) (o : Object) → s.tasks ≡ Destroy ∷ ts → held s.cells (Going (length ts)) ≡ Some o → owns_nothing (without_queue o.name s.cells) o.name ≡ true →
+      u ≡ vanished o ts (counted p s) → Move p c s u
+  -- a server that goes lets go of a session first, or its destructor begins
+  Empties :
+      (ts : List Task) (o : Object) → s.tasks ≡ Closing ∷ Destroy ∷ ts → held s.cells (Going (length ts)) ≡ Some o →
+      u ≡ parting p o (first_session s.cells o.name (service_of s.cells o.name).sessions) ts (counted p s) → Move p c s u
   -- a leave deals with an object, or with an operation
   Clears :
       (code : ℤ) (ts : List Task) (items : List Item) (o : Object) → s.tasks ≡ Unwind code ∷ ts → s.items ≡ An_object ∷ items → held s.cells (Entry (length items)) ≡ Some o →

@@ -1,6 +1,6 @@
 -- Laws of what is at hand, task by task.
 use Rattle.std.specs.Prelude.{ℤ, List, [], ◌∷◌}
-use Rattle.aom_sound.specs.State.{Frame, Task, Run, Trapped, Destroy, Unwind, Dispatched}
+use Rattle.aom_sound.specs.State.{Frame, Task, Run, Trapped, Destroy, Unwind, Dispatched, Closing}
 
 -- what holds of a method that runs, of one that waits, of a trap and of a leave, over the tasks below
 pub record TaskLaw : Type 1 where
@@ -15,6 +15,7 @@ Below l [] = Unit {0}
 Below l (Run fr ∷ ts) = l.Waits fr ts × Below l ts
 Below l (Trapped ∷ ts) = l.Stands ts × Below l ts
 Below l (Destroy ∷ ts) = Below l ts
+Below l (Closing ∷ ts) = Below l ts
 Below l (Unwind code ∷ ts) = l.Unwinds code ts × Below l ts
 Below l (Dispatched d ∷ ts) = Below l ts
 
@@ -24,5 +25,6 @@ Holds l [] = Unit {0}
 Holds l (Run fr ∷ ts) = l.Runs fr ts × Below l ts
 Holds l (Trapped ∷ ts) = Below l (Trapped ∷ ts)
 Holds l (Destroy ∷ ts) = Below l ts
+Holds l (Closing ∷ ts) = Below l ts
 Holds l (Unwind code ∷ ts) = Below l (Unwind code ∷ ts)
 Holds l (Dispatched d ∷ ts) = Below l ts

@@ -6,7 +6,7 @@ use Rattle.aom_instructions.specs.declared.instr.Instr.TheVariants.{Trap}
 use Rattle.aom_instructions.specs.declared.instr.Target.{Target}
 use Rattle.aom_rules.specs.Typing.{Typing, IsTyped}
 use Rattle.aom_sound.specs.Places.{named}
-use Rattle.aom_sound.specs.State.{Frame, Dispatch, Task, Run, Trapped, Destroy, Unwind, Dispatched, Item, An_object, An_operation, A_mark, State, Choice, Goes, word, next}
+use Rattle.aom_sound.specs.State.{Frame, Dispatch, Task, Run, Trapped, Destroy, Unwind, Dispatched, Item, An_object, An_operation, A_mark, State, Choice, Goes, word, next, Closing}
 use Rattle.aom_sound.specs.Moves.{step}
 use Rattle.aom_sound.specs.Tasks.{TaskLaw, Holds}
 use Rattle.aom_sound.specs.WellTyped.{WellTyped}
@@ -19,6 +19,7 @@ traps [] = 0
 traps (Run fr ∷ ts) = traps ts
 traps (Trapped ∷ ts) = suc (traps ts)
 traps (Destroy ∷ ts) = traps ts
+traps (Closing ∷ ts) = traps ts
 traps (Unwind code ∷ ts) = traps ts
 traps (Dispatched d ∷ ts) = traps ts
 
@@ -42,6 +43,7 @@ GoesOnAfter [] tasks = ⊥
 GoesOnAfter (Run before ∷ ts) tasks = (after : Frame) × (tasks ≡ Run after ∷ ts) × (record after { words = before.words } ≡ next before)
 GoesOnAfter (Trapped ∷ ts) tasks = ⊥
 GoesOnAfter (Destroy ∷ ts) tasks = ⊥
+GoesOnAfter (Closing ∷ ts) tasks = ⊥
 GoesOnAfter (Unwind code ∷ ts) tasks = ⊥
 GoesOnAfter (Dispatched d ∷ ts) tasks = (e : Dispatch) × (tasks ≡ Dispatched e ∷ ts)
 
@@ -79,6 +81,7 @@ IsAtTrap p [] = ⊥
 IsAtTrap p (Run fr ∷ ts) = (target : Target) × (m : ℕ) × (first : ℕ) × (x : ℕ) × (instr_at p fr.method fr.place ≡ Some (Trap target m first x))
 IsAtTrap p (Trapped ∷ ts) = ⊥
 IsAtTrap p (Destroy ∷ ts) = ⊥
+IsAtTrap p (Closing ∷ ts) = ⊥
 IsAtTrap p (Unwind code ∷ ts) = ⊥
 IsAtTrap p (Dispatched d ∷ ts) = Unit {0}
 

@@ -19,11 +19,14 @@ use Rattle.aom_shape.specs.declared.kind.Age.TheVariants.{Fresh, Ready}
 use Rattle.aom_shape.specs.declared.kind.Filling.TheVariants.{Perhaps}
 use Rattle.aom_shape.specs.declared.kind.Kind.{Kind}
 use Rattle.aom_shape.specs.declared.kind.Kind.TheVariants.{Unset, Word, Null, Own, Maybe}
-use Rattle.aom_sound.specs.Places.{Cell, Elsewhere, Entry, Field, Going, In_service, Object, Other, Place, Queued, Register, Root, Session, Sight, Tidy, held, named, other_cell, requested, same_place, seen}
-use Rattle.aom_sound.specs.State.{Home, Static, AtRoot, Inside, Frame, Dispatch, Of_main, Main_left, Of_root, Of_object, Object_left, Asks, Answered, Seat, Item, An_object, An_operation, A_mark, word, State, Outcome, Goes, IsStuck, home_holder, thing_holder}
+use Rattle.aom_image.specs.declared.method.Thing.{Thing}
+use Rattle.aom_shape.specs.declared.kind.Delivery.TheVariants.{Here}
+use Rattle.aom_sound.specs.Servers.{has_session, is_server, session_thing, is_among}
+use Rattle.aom_sound.specs.Places.{Cell, Elsewhere, Entry, Field, Going, In_service, Object, Other, Place, Queued, Register, Root, Session, Sight, Tidy, held, named, other_cell, requested, same_place, seen, service_of}
+use Rattle.aom_sound.specs.State.{Home, Static, AtRoot, Inside, Frame, Dispatch, Of_main, Main_left, Of_root, Of_object, Object_left, Asks, Answered, Seat, Item, An_object, An_operation, A_mark, word, State, Outcome, Goes, IsStuck, home_holder, thing_holder, Of_server, Stage, Accepts, Accepted, Accept_left, Serves, Service_left, Parts}
 use Rattle.aom_sound.specs.Calls.{result_register, called}
 use Rattle.aom_sound.specs.Requests.{AllSuit, Joins, states_claim, thing_kind, works_at}
-use Rattle.aom_sound.specs.Claims.{is_of_root, Layer, Method, Mark, Dying, Unwinding, Dispatching, tasks_of, forms, items_of, claim, declared}
+use Rattle.aom_sound.specs.Claims.{is_of_root, Layer, Method, Mark, Dying, Unwinding, Dispatching, tasks_of, forms, items_of, claim, declared, Ending, serves}
 
 -- fresh: all fields are null, and the object is not enlisted
 abbrev pub HasAge : Sight → Object → Age → Type 0
@@ -66,12 +69,22 @@ IsAlone p Static ls = Unit {0}
 IsAlone p AtRoot ls = Unit {0}
 IsAlone p (Inside o from) ls = (states_claim p o ls).cancelled ≡ false
 
+-- right below stands the dispatch of a server that serves a message, with its trap
+abbrev pub IsServed : List Layer → Type 0
+IsServed (Mark gv ∷ Dispatching (Of_server x client (Serves o)) seats ∷ ls) = Unit {0}
+IsServed ls = ⊥
+
+-- a method that serves stands right over its dispatch, and no other does
+abbrev pub HasMessage : Image → Frame → List Layer → Type 0
+HasMessage p fr ls = (serves p fr.method ≡ true → IsServed ls) × (IsServed ls → serves p fr.method ≡ true)
+
 -- the frame's registers are as the state says, and its home and its height are its own
 pub record Frames (p : Image) (ls : List Layer) (fr : Frame) (sh : Shape) : Type 0 where
   pub words : (i : ℕ) → WordFits (word fr i) (register sh i)
   pub holder : home_holder fr.home ≡ holder_of p fr.method
   pub height : fr.height ≡ length (items_of ls)
   pub alone : is_cancel (method_role p fr.method) ≡ true → IsAlone p fr.home ls
+  pub message : HasMessage p fr ls
 
 -- what the result goes to owns nothing while the call lasts
 abbrev pub Awaits : Gives → ℕ → Shape → Type 0
@@ -95,7 +108,7 @@ EndsWell p m (Inside o from) fr sh = works_at o.name fr.home ≡ true → IsTrue
 abbrev pub Stands : Image → Typing → Back → Frame → Shape → Type 0
 Stands p t Now fr sh = shape_at t fr.method fr.place ≡ Some sh
 Stands p t (Returns m home) fr sh =
-    (leaves p m ≡ true → (leaves p fr.method ≡ true) × (none_owns sh.registers ≡ true) × (unissued sh.states ≡ true))
+    (leaves p m ≡ true → (leaves p fr.method ≡ true) × (none_owns sh.registers ≡ true) × (unissued sh.states ≡ true) × (serves p fr.method ≡ true → sh.delivery ≡ Here))
     × Awaits (gives_of p m) (result_register (instr_at p fr.method fr.place)) sh
     × Leads t fr.method (suc fr.place) (brought (gives_of p m) (result_register (instr_at p fr.method fr.place)) sh)
     × EndsWell p m home fr sh
@@ -172,6 +185,7 @@ seat_of (Of_object x) = Some x
 seat_of (Object_left x code) = Some x
 seat_of (Asks x) = Some x
 seat_of (Answered x answer) = Some x
+seat_of (Of_server x c stage) = Some x
 
 -- the object that is dispatched is the first, and is enlisted; with none there are no seats
 abbrev pub SitsFirst : List Cell → Option Seat → List Seat → Type 0
@@ -184,6 +198,7 @@ NoneIn n [] = Unit {0}
 NoneIn n (Method fr sh ∷ ls) = NotIn n fr.home × NoneIn n ls
 NoneIn n (Mark gv ∷ ls) = NoneIn n ls
 NoneIn n (Dying o ∷ ls) = NoneIn n ls
+NoneIn n (Ending o left ∷ ls) = NoneIn n ls
 NoneIn n (Unwinding code es ∷ ls) = NoneIn n ls
 NoneIn n (Dispatching d seats ∷ ls) = NoSeatIn n seats × NoneIn n ls
 
@@ -202,6 +217,7 @@ Unclaimed p d n ls = (f : ℕ) → claim p (by_field d) ls (Field n f) ≡ d f
 abbrev pub past_going : List Layer → List Layer
 past_going [] = []
 past_going (Dying o ∷ ls) = ls
+past_going (Ending o left ∷ ls) = Ending o left ∷ ls
 past_going (Method fr sh ∷ ls) = Method fr sh ∷ ls
 past_going (Mark gv ∷ ls) = Mark gv ∷ ls
 past_going (Unwinding code es ∷ ls) = Unwinding code es ∷ ls
@@ -218,6 +234,7 @@ RootUnclaimed [] = Unit {0}
 RootUnclaimed (Method fr sh ∷ ls) = NotAtRoot fr.home × RootUnclaimed ls
 RootUnclaimed (Mark gv ∷ ls) = RootUnclaimed ls
 RootUnclaimed (Dying o ∷ ls) = RootUnclaimed ls
+RootUnclaimed (Ending o left ∷ ls) = RootUnclaimed ls
 RootUnclaimed (Unwinding code es ∷ ls) = RootUnclaimed ls
 RootUnclaimed (Dispatching d seats ∷ ls) = (is_of_root d ≡ false) × RootUnclaimed ls
 
@@ -232,6 +249,7 @@ NoneFrom q [] = Unit {0}
 NoneFrom q (Method fr sh ∷ ls) = NotFrom q fr.home × NoneFrom q ls
 NoneFrom q (Mark gv ∷ ls) = NoneFrom q ls
 NoneFrom q (Dying o ∷ ls) = NoneFrom q ls
+NoneFrom q (Ending o left ∷ ls) = NoneFrom q ls
 NoneFrom q (Unwinding code es ∷ ls) = NoneFrom q ls
 NoneFrom q (Dispatching d seats ∷ ls) = NoSeatAt q seats × NoneFrom q ls
 
@@ -256,12 +274,16 @@ SomeIn n [] = ⊥
 SomeIn n (Method fr sh ∷ ls) = WorksOn n fr.home ⊎ SomeIn n ls
 SomeIn n (Mark gv ∷ ls) = SomeIn n ls
 SomeIn n (Dying o ∷ ls) = SomeIn n ls
+SomeIn n (Ending o left ∷ ls) = SomeIn n ls
 SomeIn n (Unwinding code es ∷ ls) = SomeIn n ls
 SomeIn n (Dispatching d seats ∷ ls) = SomeSits n seats ⊎ SomeIn n ls
 
-abbrev pub SomeInAny : Option ℕ → List Layer → Type 0
-SomeInAny None ls = Unit {0}
-SomeInAny (Some n) ls = SomeIn n ls
+-- it is the root, or a session with a server that belongs to the layers
+abbrev pub IsBelowElsewhere : Other → List Layer → Type 0
+IsBelowElsewhere Root ls = Unit {0}
+IsBelowElsewhere (Session s c) ls = SomeIn s ls
+IsBelowElsewhere In_service ls = ⊥
+IsBelowElsewhere (Queued s m) ls = ⊥
 
 -- the place belongs to the layers
 abbrev pub IsBelow : Place → List Layer → Type 0
@@ -269,7 +291,7 @@ IsBelow (Register f r) ls = f < length (tasks_of ls)
 IsBelow (Entry k) ls = k < length (items_of ls)
 IsBelow (Field n f) ls = SomeIn n ls
 IsBelow (Going k) ls = k < length (tasks_of ls)
-IsBelow (Elsewhere o) ls = SomeInAny (other_cell o) ls
+IsBelow (Elsewhere o) ls = IsBelowElsewhere o ls
 
 -- what holds this is below the frame, and is claimed to be ready
 pub record Holds (p : Image) (cs : List Cell) (ls : List Layer) (o : Object) (from : Place) : Type 0 where
@@ -347,6 +369,30 @@ IsAsking p (Caught g) = ⊥
 IsAsking p Gone = ⊥
 IsAsking p Leaves = ⊥
 
+-- `accept` runs under its trap, and gives a session
+abbrev pub IsAccepting : Image → Seat → Back → Type 0
+IsAccepting p x Now = ⊥
+IsAccepting p x (Returns m home) = ⊥
+IsAccepting p x (Caught g) = (t : Thing) × (g ≡ An_own t) × (session_thing p (Some x.object) ≡ Some t)
+IsAccepting p x Gone = ⊥
+IsAccepting p x Leaves = ⊥
+
+-- `service` runs under its trap, and gives nothing
+abbrev pub IsServing : Back → Type 0
+IsServing Now = ⊥
+IsServing (Returns m home) = ⊥
+IsServing (Caught g) = g ≡ Nothing
+IsServing Gone = ⊥
+IsServing Leaves = ⊥
+
+abbrev pub EndsStage : Image → Seat → Stage → Back → Type 0
+EndsStage p x Accepts back = IsAccepting p x back
+EndsStage p x Accepted back = IsAtEnd back
+EndsStage p x (Accept_left code) back = IsAtEnd back
+EndsStage p x (Serves o) back = IsServing back
+EndsStage p x (Service_left code) back = IsAtEnd back
+EndsStage p x Parts back = IsUprooting back
+
 abbrev pub EndsDispatch : Image → Dispatch → Back → Type 0
 EndsDispatch p Of_main back = IsTrapping back
 EndsDispatch p (Main_left code) back = IsAtEnd back
@@ -355,6 +401,31 @@ EndsDispatch p (Of_object x) back = IsTrapping back
 EndsDispatch p (Object_left x code) back = IsAtEnd back
 EndsDispatch p (Asks x) back = IsAsking p back
 EndsDispatch p (Answered x answer) back = IsAtEnd back
+EndsDispatch p (Of_server x c stage) back = EndsStage p x stage back
+
+-- it is a server, and these clients have sessions with it
+pub record EndsSessions (p : Image) (cs : List Cell) (o : Object) (left : List ℕ) : Type 0 where
+  pub server : is_server p o.thing ≡ true
+  pub lives : named cs o.name ≡ Some o
+  pub listed : (c : ℕ) → is_among c left ≡ true → has_session (service_of cs o.name) c ≡ true
+
+-- right below stands the going of that server
+abbrev pub IsOverDying : Object → List Layer → Type 0
+IsOverDying o (Dying x ∷ ls) = x ≡ o
+IsOverDying o _ = ⊥
+
+-- the client of a connect has no session with the server yet, and that of a message or a close has one
+abbrev pub StageFits : List Cell → Seat → ℕ → Stage → Type 0
+StageFits cs x c Accepts = has_session (service_of cs x.object.name) c ≡ false
+StageFits cs x c Accepted = has_session (service_of cs x.object.name) c ≡ true
+StageFits cs x c (Accept_left code) = has_session (service_of cs x.object.name) c ≡ false
+StageFits cs x c (Serves o) = has_session (service_of cs x.object.name) c ≡ true
+StageFits cs x c (Service_left code) = has_session (service_of cs x.object.name) c ≡ true
+StageFits cs x c Parts = has_session (service_of cs x.object.name) c ≡ true
+
+abbrev pub IsAttended : Image → List Cell → Dispatch → Type 0
+IsAttended p cs (Of_server x c stage) = (is_server p x.object.thing ≡ true) × StageFits cs x c stage
+IsAttended p cs _ = Unit {0}
 
 abbrev pub Stack : Image → Typing → List Cell → Back → List Layer → Type 0
 Stack p t cs back [] = back ≡ Now
@@ -369,8 +440,9 @@ Stack p t cs back (Dying o ∷ ls) =
     ((named cs o.name ≡ Some o) × (held cs (Going (length (tasks_of ls))) ≡ Some o))
     × IsDestructorOf p (length (tasks_of ls)) o back
     × Stack p t cs Gone ls
+Stack p t cs back (Ending o left ∷ ls) = EndsSessions p cs o left × IsUprooting back × IsOverDying o ls × Stack p t cs Now ls
 Stack p t cs back (Unwinding code es ∷ ls) = IsUnwound p back × Stack p t cs Leaves ls
-Stack p t cs back (Dispatching d seats ∷ ls) = EndsDispatch p d back × (ls ≡ []) × AllSit cs seats × SitsFirst cs (seat_of d) seats
+Stack p t cs back (Dispatching d seats ∷ ls) = EndsDispatch p d back × (ls ≡ []) × AllSit cs seats × SitsFirst cs (seat_of d) seats × IsAttended p cs d
 
 -- a well-typed state, by its layers
 pub record Good (p : Image) (t : Typing) (cs : List Cell) (ls : List Layer) : Type 0 where

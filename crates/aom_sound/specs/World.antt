@@ -1,15 +1,18 @@
 -- The world round the dispatches: how a run begins, goes on from turn to turn, and ends.
-use Rattle.std.specs.Prelude.{ℕ, zero, suc, ℤ, Bool, true, false, not, ◌&&◌, ◌||◌, ◌-◌, ◌==◌, cond, min, nat_le, nat_lt, int_lt, length, ◌≡◌, List, [], ◌∷◌, ◌++◌, Option, Some, None}
+use Rattle.std.specs.Prelude.{ℕ, zero, suc, ℤ, Bool, true, false, not, ◌&&◌, ◌||◌, ◌-◌, ◌==◌, cond, min, nat_le, nat_lt, int_lt, length, ◌≡◌, List, [], ◌∷◌, ◌++◌, Option, Some, None, map}
 use Rattle.std.specs.Ordering.{int_eq}
 use Rattle.aom_image.specs.Image.{Image}
-use Rattle.aom_image.specs.declared.method.Role.TheVariants.{Run as Handles}
+use Rattle.aom_image.specs.declared.method.Role.TheVariants.{Run as Handles, Accept as Accepts_role, Service as Attends}
 use Rattle.aom_image.specs.declared.method.Thing.{Thing}
 use Rattle.aom_image.specs.declared.method.Thing.TheVariants.{Object as An_object_of, Message}
 use Rattle.aom_classes.specs.Roles.{main_of}
+use Rattle.aom_sound.specs.Clients.{Command, commanded}
+use Rattle.aom_sound.specs.Servers.{is_asked_for, is_server, reserved, taken_first}
+use Rattle.aom_sound.specs.Destruction.{begun}
 use Rattle.aom_sound.specs.Enlisted.{completed_with, is_active, is_idle, is_unsettled, on_request, part_of, pending, recorded, status_of, taken_up, timed_out}
 use Rattle.aom_sound.specs.Natives.{all_bereaved, is_dead, is_outstanding_at}
-use Rattle.aom_sound.specs.Places.{Cell, Object, Request, Timer, named, requested, set_request}
-use Rattle.aom_sound.specs.State.{AtRoot, Inside, frame_of, Seat, Task, Run, Trapped, Dispatched, Of_main, Of_object, A_mark, State, Choice, Outcome, Goes, IsStuck, CompletedTwice, NullOrDead, Stray, WrongKind, guarded}
+use Rattle.aom_sound.specs.Places.{Cell, Object, Request, Timer, named, requested, set_request, Asked, Connect_of, Message_of, Close_of, Elsewhere, Session, In_service, Queued, Going, held, moved, service_of, word_field}
+use Rattle.aom_sound.specs.State.{AtRoot, Inside, frame_of, Seat, Task, Run, Trapped, Dispatched, Of_main, Of_object, A_mark, State, Choice, Outcome, Goes, IsStuck, CompletedTwice, NullOrDead, Stray, WrongKind, guarded, Frame, Stage, Accepts, Serves, Parts, Of_server}
 use Rattle.aom_sound.specs.Moves.{step, written, IsOpen}
 use Rattle.aom_transcript.specs.declared.event.Event.{Event}
 use Rattle.aom_transcript.specs.declared.event.Event.TheVariants.{Kill, Tell}
@@ -48,6 +51,7 @@ boot_state p =
       items = A_mark ∷ [];
       rest = record { clock = 0; requests = 0; steps = 0; dispatches = 0; announced = false; stopped = false; delivered = 0; polled = 0; ended = None };
       killed = [];
+      clients = [];
     }
 
 -- some task is at hand
@@ -90,13 +94,17 @@ first_due (c ∷ cs) = among_timers c.object c.request (first_due cs)
 -- ---- signals
 
 -- a request is completed, and its signal is not taken
-abbrev pub signals : Option Request → Bool
-signals None = false
-signals (Some r) = not (is_idle r.phase) && not (int_eq r.status pending)
+abbrev pub is_signalled : Request → Bool
+is_signalled r = not (is_idle r.phase) && not (int_eq r.status pending)
+
+-- so it is, or something waits in the queue of a server that is enlisted
+abbrev pub signals : Cell → Option Request → Bool
+signals c None = false
+signals c (Some r) = is_signalled r || is_asked_for c
 
 abbrev pub has_signal : List Cell → Bool
 has_signal [] = false
-has_signal (c ∷ cs) = signals c.request || has_signal cs
+has_signal (c ∷ cs) = signals c c.request || has_signal cs
 
 -- an object that waits is ready once its request is completed
 abbrev pub is_ready : Request → Bool
@@ -115,9 +123,13 @@ abbrev pub before_others : Candidate → Option Candidate → Candidate
 before_others a None = a
 before_others a (Some b) = cond (goes_before b.request a.request) b a
 
+-- and a server while something waits in its queue
+abbrev pub goes_now : Cell → Request → Bool
+goes_now c r = is_ready r || is_asked_for c
+
 abbrev pub among_ready : Cell → Option Request → Option Candidate → Option Candidate
 among_ready c None others = others
-among_ready c (Some r) others = cond (is_ready r) (Some (before_others (record { seat = record { object = c.object; place = c.owner }; request = r }) others)) others
+among_ready c (Some r) others = cond (goes_now c r) (Some (before_others (record { seat = record { object = c.object; place = c.owner }; request = r }) others)) others
 
 -- the ready object that goes before all others
 abbrev pub first_ready : List Cell → Option Candidate
@@ -190,7 +202,9 @@ pub data Turning : Type 0 where
   Kills : (native : ℕ) → Turning
   -- a native is polled, and completes that, or nothing
   Polls : (native : ℕ) → Option Completion → Turning
-  -- an object is dispatched
+  -- a client's command, with a name for what it sends
+  Obeys : (client : ℕ) → Command → (name : ℕ) → Turning
+  -- an object or a server is dispatched
   Picks : Seat → Turning
   -- a signal, and no object is ready
   Strays : Turning
@@ -308,13 +322,61 @@ abbrev pub polled : Image → ℕ → Option Completion → State → Outcome
 polled p n None s = Goes (past_native n s)
 polled p n (Some a) s = answered_by p n (cell_at s.cells a.cell) a.code s
 
+-- ---- the dispatch of a server
+
+-- the first of its queue is taken, and no step is counted yet
+abbrev pub taken_from : ℕ → State → State
+taken_from n s = record s { cells = reserved taken_first n s.cells; rest = record s.rest { steps = 0; polled = 0 } }
+
+-- a method of the server, or of a session with it, runs under the trap of the dispatch
+abbrev pub serving : Seat → ℕ → Stage → Frame → State → State
+serving x client stage fr s = record s { tasks = Run fr ∷ Trapped ∷ Dispatched (Of_server x client stage) ∷ []; items = A_mark ∷ s.items }
+
+abbrev pub accepting : Option ℕ → Seat → ℕ → State → Outcome
+accepting None x client s = IsStuck WrongKind
+accepting (Some m) x client s = Goes (serving x client Accepts (frame_of m (Inside x.object x.place) (length (A_mark ∷ s.items))) s)
+
+-- the five words of a message
+abbrev pub message_words : List Cell → ℕ → List (Option ℤ)
+message_words cs n = map (λ w. Some (word_field cs n w)) (0 ∷ 1 ∷ 2 ∷ 3 ∷ 4 ∷ [])
+
+abbrev pub attending : Option ℕ → Seat → ℕ → Object → ℕ → State → Outcome
+attending None x client o m s = IsStuck WrongKind
+attending (Some method) x client o m s =
+    Goes (serving x client (Serves o)
+    (record (frame_of method (Inside o (Elsewhere (Session x.object.name client))) (length (A_mark ∷ s.items))) { words = message_words s.cells m })
+    (record s { cells = moved (Elsewhere (Queued x.object.name m)) (Elsewhere In_service) s.cells }))
+
+-- the message is served by the session of its client
+abbrev pub attended : Image → Seat → ℕ → Option Object → ℕ → State → Outcome
+attended p x client None m s = IsStuck NullOrDead
+attended p x client (Some o) m s = attending (part_of p Attends o.thing) x client o m s
+
+-- the session goes, with no trap
+abbrev pub parting_with : Image → Seat → ℕ → Option Object → State → Outcome
+parting_with p x client None s = IsStuck NullOrDead
+parting_with p x client (Some o) s =
+    let below = Dispatched (Of_server x client Parts) ∷ [] in
+    Goes (record s { cells = moved (Elsewhere (Session x.object.name client)) (Going (length below)) s.cells; tasks = begun p o (length s.items) below })
+
+abbrev pub serves_first : Image → Seat → List Asked → State → Outcome
+serves_first p x [] s = IsStuck Stray
+serves_first p x (Connect_of c ∷ es) s = accepting (part_of p Accepts_role x.object.thing) x c (taken_from x.object.name s)
+serves_first p x (Message_of c m ∷ es) s = attended p x c (held s.cells (Elsewhere (Session x.object.name c))) m (taken_from x.object.name s)
+serves_first p x (Close_of c ∷ es) s = parting_with p x c (held s.cells (Elsewhere (Session x.object.name c))) (taken_from x.object.name s)
+
+-- an object is dispatched, or a server
+abbrev pub picked : Image → Seat → State → Outcome
+picked p x s = cond (is_server p x.object.thing) (serves_first p x (service_of s.cells x.object.name).queue s) (dispatched (part_of p Handles x.object.thing) x s)
+
 abbrev pub turned : Image → State → Turning → Outcome
 turned p s Cuts = Goes (ends_as Limit s)
 turned p s (Completes o) = Goes (record s { cells = with_request timed_out o s.cells })
 turned p s Hears = Goes (heard_one s)
 turned p s (Kills n) = Goes (without_native p n (heard_one s))
 turned p s (Polls n answer) = polled p n answer s
-turned p s (Picks x) = dispatched (part_of p Handles x.object.thing) x s
+turned p s (Obeys client command name) = Goes (commanded p client (heard_one s) command name)
+turned p s (Picks x) = picked p x s
 turned p s Strays = IsStuck Stray
 turned p s (Passes time) = Goes (record s { rest = record s.rest { clock = time; polled = 0 } })
 turned p s Waits = Goes (ends_as Waiting s)

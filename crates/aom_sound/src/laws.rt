@@ -1,5 +1,5 @@
 //! The laws, each as the contract of a function that does nothing.
-ghost use Rattle.aom_sound.specs.Laws.{BootKeeps, InstructionKeeps, DestructionKeeps, UnwindingKeeps, TurnKeeps, TurnGoesOn, SignalsAreReady, StepKeeps, EndsOwned, EndsEmpty, RegistersKeep, TypedIsSound, LinkedIsWired};
+ghost use Rattle.aom_sound.specs.Laws.{BootKeeps, InstructionKeeps, DestructionKeeps, UnwindingKeeps, TurnKeeps, TurnGoesOn, SignalsAreReady, StepKeeps, EndsOwned, EndsEmpty, RegistersKeep, ClientsKeep, TypedIsSound, LinkedIsWired};
 ghost use Rattle.aom_sound.specs.Loops.{LoopsKeep};
 ghost use Rattle.aom_sound.specs.Quiet.{CalmKeeps, CaughtOwned};
 ghost use Rattle.aom_sound.specs.Leaves.{LeavesMove, LeavesArrive};
@@ -14,6 +14,8 @@ ghost use Rattle.aom_sound.specs.Cases.Cleanup.{CleanupBites};
 ghost use Rattle.aom_sound.specs.Cases.Requests.{RequestsBite};
 ghost use Rattle.aom_sound.specs.Cases.Natives.{NativesBite};
 ghost use Rattle.aom_sound.specs.Cases.Moves.{MovesBite};
+ghost use Rattle.aom_sound.specs.Cases.Servers.{ServersBite};
+ghost use Rattle.aom_sound.specs.Cases.Kept.{KeptBites};
 ghost use Rattle.aom_sound.specs.Cases.Turns.{TurnsBite};
 ghost use Rattle.aom_sound.specs.Cases.Events.{EventsBite};
 ghost use Rattle.aom_sound.specs.Cases.Owners.{OwnersBite};
@@ -81,6 +83,11 @@ pub fn calm_keeps()
 /// Only registers that a method has own.
 pub fn registers_keep()
     ensures { RegistersKeep }
+{}
+
+/// Clients, and what they have at servers, say the same.
+pub fn clients_keep()
+    ensures { ClientsKeep }
 {}
 
 /// A leave deals with the last entry over its mark, and its own code arrives.
@@ -176,4 +183,14 @@ pub fn events_bite()
 /// Places that do not own are no owners.
 pub fn owners_bite()
     ensures { OwnersBite }
+{}
+
+/// Each need of an instruction on messages, of a server's dispatch and of its going bites, and its queue signals.
+pub fn servers_bite()
+    ensures { ServersBite }
+{}
+
+/// Where clients and servers do not say the same, nothing is kept.
+pub fn kept_bites()
+    ensures { KeptBites }
 {}

@@ -13,7 +13,8 @@ use Rattle.aom_image.specs.declared.method.Role.{Role}
 use Rattle.aom_image.specs.declared.method.Role.TheVariants.{Destruct, Main}
 use Rattle.aom_image.specs.declared.method.Thing.{Thing}
 use Rattle.aom_image.specs.declared.method.Thing.TheVariants.{Object, Message}
-use Rattle.aom_roles.specs.Classes.{kind_in}
+use Rattle.aom_roles.specs.Classes.{kind_in, sessions_in, sessions_of}
+use Rattle.aom_roles.specs.Shapes.{kind_of}
 use Rattle.aom_roles.specs.Roles.{role_number}
 use Rattle.aom_classes.specs.Loops.{loop_in, next_in}
 use Rattle.aom_classes.specs.Roles.{destructor_of, main_of, plays, role_of}
@@ -241,5 +242,5 @@ outcome (Goes s) = Some (s.rest.steps, s.rest.ended)
 outcome (IsStuck kind) = None
 
 runs_to_its_end : outcome (after 20 (Goes (boot_state image))) ≡ Some (18, Some Stopped)
-unfolding main_of role_number method_at instr_in gives_in quiet_in role_in class_in class_at fields_in role_of plays
+unfolding main_of role_number method_at instr_in gives_in quiet_in role_in class_in class_at fields_in role_of plays kind_of kind_in sessions_in sessions_of
 runs_to_its_end = refl

@@ -1,4 +1,7 @@
 pub mod Pushed
+pub mod Lasting
+pub mod Sessions
+pub mod Classes
 pub mod Covering
 pub mod Paying
 pub mod Counted

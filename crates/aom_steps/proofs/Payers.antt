@@ -1,5 +1,5 @@
 -- Who pays stays the same while a dispatch goes on, and main pays once the dispatch of an object has ended.
-use Rattle.std.proofs.Common.{◌≡◌, ◌∙◌, ℕ, ℤ, pos, Bool, true, false, cond, List, [], ◌∷◌, Option, Some, None, refl, sym, ap}
+use Rattle.std.proofs.Common.{◌≡◌, ◌∙◌, ℕ, ℤ, pos, Bool, true, false, cond, List, [], ◌∷◌, length, Option, Some, None, refl, sym, ap}
 use Rattle.std.specs.Ordering.{int_eq}
 use Rattle.std.specs.Prelude.{is_none}
 use Rattle.aom_image.specs.Image.{Image}
@@ -7,17 +7,18 @@ use Rattle.aom_image.specs.declared.method.Gives.{Gives}
 use Rattle.aom_image.specs.declared.method.Role.TheVariants.{Error}
 use Rattle.aom_classes.specs.Roles.{destructor_of}
 use Rattle.aom_sound.proofs.Moving.{steps_are_moves}
-use Rattle.aom_sound.specs.Calls.{answered_by, returned, told_answer}
+use Rattle.aom_sound.specs.Calls.{answered_by, ended_well, returned, told_answer}
 use Rattle.aom_sound.specs.Cleanup.{ended_by, to_trap}
 use Rattle.aom_sound.specs.Counting.{ends_object, restarts}
-use Rattle.aom_sound.specs.Destruction.{begun, begun_by}
+use Rattle.aom_sound.specs.Destruction.{begun, begun_by, destructed, first_session, parting}
 use Rattle.aom_sound.specs.Effects.{Calls, Cancels, Counts, Destroys, Destroys_last, Effect, Goes_on, Jumps, Leaves, Operates, Repeats, Returns, Sets_trap, applied, with_words}
 use Rattle.aom_sound.specs.Enlisted.{ended_cells, part_of}
-use Rattle.aom_sound.specs.Moves.{answered, asking, counted, dispatch_ends, failed, handled, main_ends, object_ends, step}
-use Rattle.aom_sound.specs.Places.{Elsewhere, Object, Root, held}
-use Rattle.aom_sound.specs.State.{Answered, Asks, Choice, Destroy, Dispatch, Dispatched, Frame, Goes, Main_left, Object_left, Of_main, Of_object, Of_root, Run, State, Task, Trapped, Unwind, resumed}
-use Rattle.aom_sound.specs.Steps.{Acts, Arrives, Clears, Comes_out, Ends, IsStill, Move, Rests, Undoes, Vanishes}
-use Rattle.aom_steps.specs.Payers.{payer, payer_of}
+use Rattle.aom_sound.specs.Moves.{answered, asking, counted, dispatch_ends, failed, handled, main_ends, object_ends, stage_ends, step}
+use Rattle.aom_sound.specs.Places.{Elsewhere, Object, Root, held, service_of}
+use Rattle.aom_sound.specs.Servers.{is_server}
+use Rattle.aom_sound.specs.State.{Accept_left, Accepted, Accepts, Answered, Asks, Choice, Closing, Destroy, Dispatch, Dispatched, Frame, Goes, Main_left, Object_left, Of_main, Of_object, Of_root, Of_server, Parts, Run, Seat, Serves, Service_left, Stage, State, Task, Trapped, Unwind, resumed}
+use Rattle.aom_sound.specs.Steps.{Acts, Arrives, Clears, Comes_out, Empties, Ends, IsStill, Move, Rests, Undoes, Vanishes}
+use Rattle.aom_steps.specs.Payers.{class_of, payer, payer_of}
 
 -- ---- tasks
 
@@ -26,6 +27,7 @@ trap_payer [] = refl
 trap_payer (Run fr ∷ ts) = trap_payer ts
 trap_payer (Trapped ∷ ts) = refl
 trap_payer (Destroy ∷ ts) = refl
+trap_payer (Closing ∷ ts) = refl
 trap_payer (Unwind code ∷ ts) = refl
 trap_payer (Dispatched d ∷ ts) = refl
 
@@ -34,15 +36,27 @@ resumed_payer [] = refl
 resumed_payer (Run fr ∷ ts) = refl
 resumed_payer (Trapped ∷ ts) = refl
 resumed_payer (Destroy ∷ ts) = refl
+resumed_payer (Closing ∷ ts) = refl
 resumed_payer (Unwind code ∷ ts) = refl
 resumed_payer (Dispatched d ∷ ts) = refl
 
-begun_payer : (p : Image) (o : Object) (height : ℕ) (ts : List Task) → payer (begun p o height ts) ≡ payer ts
-begun_payer p o height ts = go (destructor_of p o.thing)
+destructed_payer : (p : Image) (o : Object) (height : ℕ) (ts : List Task) → payer (destructed p o height ts) ≡ payer ts
+destructed_payer p o height ts = go (destructor_of p o.thing)
   where
     go : (m : Option ℕ) → payer (begun_by m o height ts) ≡ payer ts
     go None = refl
     go (Some m) = refl
+
+pub begun_payer : (p : Image) (o : Object) (height : ℕ) (ts : List Task) → payer (begun p o height ts) ≡ payer ts
+begun_payer p o height ts = go (is_server p o.thing)
+  where
+    go : (b : Bool) → payer (cond b (Closing ∷ Destroy ∷ ts) (destructed p o height ts)) ≡ payer ts
+    go true = refl
+    go false = destructed_payer p o height ts
+
+parting_payer : (p : Image) (o : Object) (x : Option Seat) (ts : List Task) (v : State) → payer (parting p o x ts v).tasks ≡ payer ts
+parting_payer p o None ts v = destructed_payer p o (length v.items) ts
+parting_payer p o (Some x) ts v = begun_payer p x.object (length v.items) (Closing ∷ Destroy ∷ ts)
 
 ended_payer : (code : ℤ) (d : Dispatch) → payer_of (ended_by code d) ≡ payer_of d
 ended_payer code Of_main = refl
@@ -52,6 +66,9 @@ ended_payer code (Of_object x) = refl
 ended_payer code (Object_left x n) = refl
 ended_payer code (Asks x) = refl
 ended_payer code (Answered x n) = refl
+ended_payer code (Of_server x client Accepts) = refl
+ended_payer code (Of_server x client (Serves o)) = refl
+ended_payer code (Of_server x client _) = refl
 
 answered_payer : (answer : ℤ) (d : Dispatch) → payer_of (answered_by answer d) ≡ payer_of d
 answered_payer answer Of_main = refl
@@ -61,11 +78,18 @@ answered_payer answer (Of_object x) = refl
 answered_payer answer (Object_left x n) = refl
 answered_payer answer (Asks x) = refl
 answered_payer answer (Answered x n) = refl
+answered_payer answer (Of_server x client stage) = refl
+
+-- a method of a server or of a session has ended
+served_payer : (d : Dispatch) → payer_of (ended_well d) ≡ payer_of d
+served_payer (Of_server x client Accepts) = refl
+served_payer (Of_server x client (Serves o)) = refl
+served_payer _ = refl
 
 returned_payer : (p : Image) (fr : Frame) (ts : List Task) (v : State) (g : Gives) (a : ℕ) (below : List Task) → payer v.tasks ≡ payer below → payer (returned p fr ts v g a below).tasks ≡ payer below
 returned_payer p fr ts v g a (Run caller ∷ below) same = refl
 returned_payer p fr ts v g a (Trapped ∷ Run caller ∷ below) same = refl
-returned_payer p fr ts v g a (Trapped ∷ Dispatched d ∷ below) same = refl
+returned_payer p fr ts v g a (Trapped ∷ Dispatched d ∷ below) same = served_payer d
 returned_payer p fr ts v g a (Destroy ∷ below) same = refl
 returned_payer p fr ts v g a (Unwind code ∷ below) same = refl
 returned_payer p fr ts v g a (Dispatched d ∷ below) same = answered_payer (told_answer g fr a) d
@@ -86,6 +110,15 @@ acts_payer p fr ts v at (Leaves code u) = trap_payer ts
 acts_payer p fr ts v at (Destroys o a words) = begun_payer p o _ (Run (with_words fr words) ∷ ts)
 acts_payer p fr ts v at (Destroys_last o) = begun_payer p o _ (Run fr ∷ ts)
 acts_payer p fr ts v at (Operates m w) = refl
+
+-- the stage of a server's dispatch ends
+stage_payer : (x : Seat) (client : ℕ) (stage : Stage) (v : State) → payer (stage_ends x client stage v).tasks ≡ class_of x.object.thing
+stage_payer x client Accepts v = refl
+stage_payer x client Accepted v = refl
+stage_payer x client (Accept_left code) v = refl
+stage_payer x client (Serves o) v = refl
+stage_payer x client (Service_left code) v = refl
+stage_payer x client Parts v = refl
 
 -- main pays for what its end begins
 main_payer : (p : Image) (b : Bool) (o : Option Object) (v : State) → payer (main_ends p b o v).tasks ≡ None
@@ -110,6 +143,7 @@ ends_payer p Of_root v = refl
 ends_payer p (Of_object x) v = object_payer p v
 ends_payer p (Asks x) v = object_payer p v
 ends_payer p (Answered x answer) v = answer_payer p answer v
+ends_payer p (Of_server x client stage) v = stage_payer x client stage v
 ends_payer p (Object_left x code) v = go (part_of p Error x.object.thing)
   where
     go : (m : Option ℕ) → payer (asking p m x code v).tasks ≡ cond (is_none m) None (payer_of (Object_left x code))
@@ -130,6 +164,7 @@ module _ (p : Image) (ch : Choice) (s : State) where
   moved u (Rests still same) = by s.tasks u _ refl same (still_payer s.tasks still)
   moved u (Acts fr ts i e at there met fits same) = by (Run fr ∷ ts) u _ at same (acts_payer p fr ts (counted p s) at e)
   moved u (Vanishes ts o at there owns same) = by (Destroy ∷ ts) u _ at same (resumed_payer ts)
+  moved u (Empties ts o at there same) = by (Closing ∷ Destroy ∷ ts) u _ at same (parting_payer p o (first_session s.cells o.name (service_of s.cells o.name).sessions) ts (counted p s))
   moved u (Clears code ts items o at top there same) = by (Unwind code ∷ ts) u _ at same (begun_payer p o _ (Unwind code ∷ ts))
   moved u (Undoes code ts items m x at top same) = by (Unwind code ∷ ts) u _ at same refl
   moved u (Arrives code fr ts items at top same) = by (Unwind code ∷ Trapped ∷ Run fr ∷ ts) u _ at same refl

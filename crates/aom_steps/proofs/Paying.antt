@@ -1,7 +1,8 @@
 -- Each effect pays for its step: what a method goes on with, what it calls, destroys or pushes, and where a loop leads.
 use Rattle.std.proofs.Common.{◌≡◌, ◌≤◌, ◌+◌, ◌-◌, ◌*◌, ◌∙◌, ℕ, ℤ, zero, suc, Bool, true, false, cond, inl, inr, List, [], ◌∷◌, length, Option, Some, None, slice_get, refl, sym, ap, arith, subst}
 use Rattle.aom_image.specs.Image.{Image}
-use Rattle.aom_image.specs.Views.{arguments_of, method_at}
+use Rattle.aom_image.specs.declared.method.Thing.TheVariants.{Object as An_object_of}
+use Rattle.aom_image.specs.Views.{arguments_of, method_at, instr_at}
 use Rattle.aom_instructions.specs.declared.instr.Instr.{Instr}
 use Rattle.aom_instructions.specs.declared.instr.Instr.TheVariants.{Next}
 use Rattle.aom_instructions.specs.declared.instr.Target.{Target}
@@ -20,25 +21,28 @@ use Rattle.aom_shape.specs.declared.kind.Kind.{Kind}
 use Rattle.aom_shape.specs.declared.kind.Kind.TheVariants.{Own, Maybe}
 use Rattle.aom_sound.proofs.Straight.{At, kind_fits}
 use Rattle.aom_sound.proofs.Fitting.{straight_by}
-use Rattle.aom_sound.specs.Calls.{below_top}
-use Rattle.aom_sound.specs.Claims.{Layer, tasks_of}
+use Rattle.aom_sound.specs.Calls.{below_top, accepted_cells, ended_well, passed_cells, result_cells, result_register, returned}
+use Rattle.aom_sound.specs.Claims.{Layer, tasks_of, Dispatching, Dying, Ending, Mark, Method, Unwinding}
 use Rattle.aom_sound.specs.Cleanup.{top_place}
-use Rattle.aom_sound.specs.Destruction.{begun, begun_by}
-use Rattle.aom_sound.specs.Effects.{Calls, Cancels, Carried, Counts, Destroys, Destroys_last, Effect, Goes_on, In_field, In_register, Jumps, Leaves, Made, Operates, Popped, Popped_operation, Pushed, Pushed_operation, Repeats, Requested, Returns, Same, Sets_trap, Spot, Update, Written, applied, cells_after, items_after, spot_place, with_words, Sessioned}
-use Rattle.aom_sound.specs.Places.{Entry, Going, Object, Sight, held, seen}
-use Rattle.aom_sound.specs.State.{An_object, An_operation, Choice, Frame, Run, State, Task, Trapped, counter}
+use Rattle.aom_sound.specs.Destruction.{begun, begun_by, destructed}
+use Rattle.aom_sound.specs.Effects.{Calls, Cancels, Carried, Counts, Destroys, Destroys_last, Effect, Goes_on, In_field, In_register, Jumps, Leaves, Made, Operates, Popped, Popped_operation, Pushed, Pushed_operation, Repeats, Requested, Returns, Same, Sets_trap, Spot, Update, Written, applied, cells_after, items_after, spot_place, with_words, Sessioned, Replied, The_message}
+use Rattle.aom_sound.specs.Places.{service_of, Entry, Going, Object, Sight, held, seen, Cell, Elsewhere, Place, Register, Session, moved}
+use Rattle.aom_sound.specs.State.{An_object, An_operation, Choice, Frame, Run, State, Task, Trapped, counter, Accepts, Closing, Destroy, Dispatch, Of_server, Serves}
 use Rattle.aom_sound.specs.Steps.{Fits, Sets}
-use Rattle.aom_sound.specs.WellTyped.{Fits as Holds_of}
+use Rattle.aom_sound.specs.WellTyped.{Caught, Fits as Holds_of, Now, Returns as Comes_back, Stack}
 use Rattle.aom_sound.specs.Words.{here}
 use Rattle.aom_ranks.specs.Within.{loops_worth, total, worth_at}
 use Rattle.aom_ranks.proofs.Rounds.{back, closed_loop, enters, jumps, leaves, straight_on}
 use Rattle.aom_ranks.proofs.Sums.{scaled, scaled_le}
 use Rattle.aom_ranks.proofs.Worths.{passed_less, returned_less, to_trap_less}
-use Rattle.aom_prices.specs.Prices.{IsPriced, Prices, Stands, kind_price, price}
-use Rattle.aom_steps.specs.Left.{is_entry, left, left_worths, method_left, objects_left, operations_left, rounds_left, rounds_price, tasks_left, waiting_left}
+use Rattle.aom_prices.specs.Prices.{IsPriced, Prices, Stands, kind_price, price, perhaps_price, sessions_cost}
+use Rattle.aom_steps.specs.Left.{is_entry, left, left_worths, method_left, objects_left, operations_left, rounds_left, rounds_price, tasks_left, waiting_left, closing_left, closings_left, end_left, sessions_left}
 use Rattle.aom_steps.proofs.Covering.{Affords, Covers, pushes}
-use Rattle.aom_steps.proofs.Pushed.{enters_stack, field_no_entry, leaves_entry, moved_less, none_moves, operations_below, register_passes, rerequested_same, stored_same, resessioned_same}
-use Rattle.aom_sound.specs.Enlisted.{cancelling, on_request, own_request}
+use Rattle.aom_steps.proofs.Pushed.{enters_place, field_no_entry, leaves_place, moved_less, none_moves, operations_below, rerequested_same, stored_same, resessioned_same, enters_place, served_same, without_less}
+use Rattle.aom_sound.specs.Enlisted.{cancelling, on_request, own_request, ended_cells}
+use Rattle.aom_sound.specs.Servers.{is_server, opened}
+use Rattle.aom_steps.proofs.Lasting.{IsApart, going_apart, lasting, lasts_ended, lasts_moved, lasts_passed, lasts_result, lasts_update, to_trap_closings}
+use Rattle.aom_steps.proofs.Sessions.{FewSeats, stands_at_going}
 
 -- ---- what begins, and what ends
 
@@ -59,15 +63,28 @@ fresh_rounds c m (Some d) = none_in_all _ (length d.code) (λ q. none q _)
     none q None = omega arith
     none q (Some number) = no_rounds _ (c.round m q)
 
--- a destruction that begins costs what that of its class does
-pub begun_left :
-    (p : Image) (t : Typing) (c : Prices) → IsPriced p t c → (o : Object) (height : ℕ) (below : List Task) →
-    tasks_left p c (begun p o height below) ≤ c.destruction o.thing + waiting_left p c below
-begun_left p t c priced o height below = go (destructor_of p o.thing) refl
+-- a destructor that begins over the going of its cell
+pub destructed_left :
+    (p : Image) (c : Prices) (o : Object) (height : ℕ) (below : List Task) (us : List Cell) →
+    tasks_left p c (destructed p o height below) + closings_left p c us (destructed p o height below) ≤ 1 + perhaps_price c (destructor_of p o.thing) + (waiting_left p c below + closings_left p c us below)
+destructed_left p c o height below us = go (destructor_of p o.thing)
   where
-    go : (m : Option ℕ) → destructor_of p o.thing ≡ m → tasks_left p c (begun_by m o height below) ≤ c.destruction o.thing + waiting_left p c below
-    go None e = omega (arith, priced.cells o.thing)
-    go (Some m) e = omega (arith, priced.destructors o.thing m e, fresh_rounds c m (method_at p m))
+    go : (m : Option ℕ) → tasks_left p c (begun_by m o height below) + closings_left p c us (begun_by m o height below) ≤ 1 + perhaps_price c m + (waiting_left p c below + closings_left p c us below)
+    go None = omega arith
+    go (Some m) = omega (arith, fresh_rounds c m (method_at p m))
+
+-- a destruction that begins costs what that of its class does, where what goes before a server is no more than its class pays for
+pub begun_left :
+    (p : Image) (t : Typing) (c : Prices) → IsPriced p t c → (o : Object) (height : ℕ) (below : List Task) (us : List Cell) →
+    (is_server p o.thing ≡ true → (held us (Going (length below)) ≡ Some o) × (sessions_left c o.name us ≤ sessions_cost p (λ k. c.destruction (An_object_of k)) o.thing)) →
+    tasks_left p c (begun p o height below) + closings_left p c us (begun p o height below) ≤ c.destruction o.thing + (waiting_left p c below + closings_left p c us below)
+begun_left p t c priced o height below us few = go (is_server p o.thing) refl
+  where
+    go : (b : Bool) → is_server p o.thing ≡ b →
+        tasks_left p c (cond b (Closing ∷ Destroy ∷ below) (destructed p o height below)) + closings_left p c us (cond b (Closing ∷ Destroy ∷ below) (destructed p o height below))
+        ≤ c.destruction o.thing + (waiting_left p c below + closings_left p c us below)
+    go true e = let there = few e in omega (arith, ap (λ x. closing_left p c us x) there.0, there.1, priced.sessions o.thing)
+    go false e = omega (arith, destructed_left p c o height below us, priced.sessions o.thing)
 
 -- a register's kind pays for what it owns
 kind_pays : (p : Image) (t : Typing) (c : Prices) → IsPriced p t c → (h : Sight) (o : Object) (k : Kind) → Holds_of p h (Some o) k → c.destruction o.thing ≤ kind_price c k
@@ -78,15 +95,18 @@ kind_pays p t c priced h o _ f = absurd f
 -- ---- a method at its place
 
 module _ (p : Image) (t : Typing) (c : Prices) (linked : IsLinked p) (priced : IsPriced p t c) (ch : Choice) (s : State) (fr : Frame) (sh : Shape) (ls : List Layer)
-    (at_hand : At p t s fr sh ls) (d : Method_declared) (declared_there : method_at p fr.method ≡ Some d) where
+    (at_hand : At p t s fr sh ls) (few : FewSeats p s.cells) (d : Method_declared) (declared_there : method_at p fr.method ≡ Some d) where
   abbrev ts : List Task
   ts = tasks_of ls
 
   abbrev pushed : ℕ
   pushed = objects_left c s.cells + operations_left c s.items
 
+  abbrev closings : ℕ
+  closings = closings_left p c s.cells ts
+
   abbrev before : ℕ
-  before = tasks_left p c (Run fr ∷ ts) + pushed
+  before = tasks_left p c (Run fr ∷ ts) + closings + pushed
 
   -- the method at other counters and another place
   abbrev rest_at : List ℕ → ℕ → ℕ
@@ -107,9 +127,20 @@ module _ (p : Image) (t : Typing) (c : Prices) (linked : IsLinked p) (priced : I
       same : (cs : List ℕ) (k : ℕ) → rounds_left c fr.method (method_at p fr.method) cs k ≡ loops_worth d.code worth cs k
       same cs k = ap (λ o. rounds_left c fr.method o cs k) declared_there
 
-  -- the method goes on there, with so much for what it pushes
-  goes : (cs : List ℕ) (k n x : ℕ) → 1 + n + rest_at cs k ≤ rest_at fr.counters fr.place → x ≤ n + pushed → 1 + (rest_at cs k + waiting_left p c ts + x) ≤ before
-  goes cs k n x less most = omega (arith, less, most)
+  -- the method goes on there, with so much for what it pushes, and no more goes before servers
+  goes : (cs : List ℕ) (k n x y : ℕ) → 1 + n + rest_at cs k ≤ rest_at fr.counters fr.place → x ≤ n + pushed → y ≤ closings → 1 + (rest_at cs k + waiting_left p c ts + y + x) ≤ before
+  goes cs k n x y less most few = omega (arith, less, most, few)
+
+  -- a destruction begins over the method
+  destruction :
+      (o : Object) (from : Place) (height : ℕ) (waits : Frame) → held s.cells from ≡ Some o → IsApart (length ts) from →
+      tasks_left p c (begun p o height (Run waits ∷ ts)) + closings_left p c (moved from (Going (length (Run fr ∷ ts))) s.cells) (begun p o height (Run waits ∷ ts))
+      ≤ c.destruction o.thing + (waiting_left p c (Run waits ∷ ts) + closings)
+  destruction o from height waits there apart =
+      let depth = length (Run fr ∷ ts) in
+      let us = moved from (Going depth) s.cells in
+      let begins = begun_left p t c priced o height (Run waits ∷ ts) us (stands_at_going p t c priced s.cells (Method fr sh ∷ ls) at_hand.good few o from depth there (omega arith)) in
+      omega (arith, begins, lasting p c s.cells us ts (lasts_moved (length ts) from (Going depth) s.cells apart (going_apart (length ts) depth (omega arith)) (λ n. refl)))
 
   straight :
       (i : Instr) → slice_get d.code fr.place ≡ Some i → loop_in (Some i) ≡ None → (n : ℕ) → Affords c fr sh n (suc fr.place) →
@@ -125,25 +156,34 @@ module _ (p : Image) (t : Typing) (c : Prices) (linked : IsLinked p) (priced : I
   spot_no_entry : (x : Spot) → is_entry (spot_place p fr ts s x) ≡ false
   spot_no_entry (In_register a) = refl
   spot_no_entry (In_field f) = field_no_entry fr.home f
+  spot_no_entry The_message = refl
 
   -- what is on the cleanup stack after an update was there before, or its place pays for it
   after : (u : Update) → objects_left c (cells_after p fr ts s u) + operations_left c (items_after u s.items) ≤ pushes c fr sh u + pushed
   after Same = omega arith
-  after (Carried from to) = omega (arith, moved_less c (spot_place p fr ts s from) (spot_place p fr ts s to) s.cells (spot_no_entry to))
+  after (Carried from to) = omega (arith, moved_less c is_entry (spot_place p fr ts s from) (spot_place p fr ts s to) s.cells (spot_no_entry to))
   after (Made name x a) = omega arith
-  after (Written w v) = omega (arith, stored_same c s.cells fr.home w v)
-  after (Requested r) = omega (arith, rerequested_same c s.cells fr.home r)
-  after (Sessioned b) = omega (arith, resessioned_same c s.cells fr.home b)
+  after (Written w v) = omega (arith, stored_same c is_entry s.cells fr.home w v)
+  after (Requested r) = omega (arith, rerequested_same c is_entry s.cells fr.home r)
+  after (Sessioned b) = omega (arith, resessioned_same c is_entry s.cells fr.home b)
   after (Pushed a) = of_object (held s.cells (here fr ts s a)) refl
     where
       of_object : (o : Option Object) → held s.cells (here fr ts s a) ≡ o → objects_left c (cells_after p fr ts s (Pushed a)) + operations_left c s.items ≤ kind_price c (register sh a) + pushed
-      of_object None e = omega (arith, none_moves c (here fr ts s a) (Entry (length s.items)) s.cells e)
+      of_object None e = omega (arith, none_moves c is_entry (here fr ts s a) (Entry (length s.items)) s.cells e)
       of_object (Some o) e =
           let pays = kind_pays p t c priced (seen s.cells) o (register sh a) (subst (λ y. Holds_of p (seen s.cells) y (register sh a)) e (kind_fits p t ch s fr sh ls at_hand a)) in
-          omega (arith, pays, enters_stack c (here fr ts s a) (Entry (length s.items)) o s.cells at_hand.good.tidy e)
+          omega (arith, pays, enters_place c is_entry (here fr ts s a) (Entry (length s.items)) o s.cells at_hand.good.tidy e)
   after (Pushed_operation m w) = omega arith
-  after (Popped a) = omega (arith, moved_less c (top_place s.items) (here fr ts s a) s.cells refl, operations_below c s.items)
+  after (Popped a) = omega (arith, moved_less c is_entry (top_place s.items) (here fr ts s a) s.cells refl, operations_below c s.items)
   after Popped_operation = omega (arith, operations_below c s.items)
+  after (Replied a) = omega (arith, without_less c is_entry (here fr ts s a) s.cells)
+
+  -- and no more goes before servers
+  closings_after : (u : Update) → closings_left p c (cells_after p fr ts s u) ts ≤ closings
+  closings_after u = lasting p c s.cells (cells_after p fr ts s u) ts (lasts_update (length ts) p fr ts s u)
+
+  closings_passed : (depth m first : ℕ) → closings_left p c (passed_cells p fr ts s depth (arguments_of p m) first 0 s.cells) ts ≤ closings
+  closings_passed depth m first = lasting p c s.cells _ ts (lasts_passed (length ts) p fr ts s depth (arguments_of p m) first 0 s.cells)
 
   -- ---- effects
 
@@ -156,7 +196,7 @@ module _ (p : Image) (t : Typing) (c : Prices) (linked : IsLinked p) (priced : I
   away i stands to jump pays =
       let well : JumpsWell d.code = at_place (λ _ x. JumpsWell x.code) p.methods fr.method d linked.jumps declared_there in
       let loops = jumps d.code worth grows fr.counters fr.place to i well stands jump in
-      goes fr.counters to 0 pushed (there fr.counters to 1 0 0 (omega (arith, loops)) (omega (arith, pays))) (omega arith)
+      goes fr.counters to 0 pushed closings (there fr.counters to 1 0 0 (omega (arith, loops)) (omega (arith, pays))) (omega arith) (omega arith)
 
   -- a loop pays for all its rounds as it begins, and its last round goes on
   counts : (i : Instr) → slice_get d.code fr.place ≡ Some i → Stands p t fr.method fr.place sh i → (depth n : ℕ) → Sets i depth n → Pays (Counts depth n)
@@ -164,7 +204,7 @@ module _ (p : Image) (t : Typing) (c : Prices) (linked : IsLinked p) (priced : I
       let pays = priced.loops fr.method fr.place depth n sh (subst (λ x. Stands p t fr.method fr.place sh x) e it) in
       let loops = enters d.code worth grows fr.counters fr.place depth n nests (stands ∙ ap (λ x. Some x) e) in
       let less = there (put_at 0 fr.counters depth n) (suc fr.place) 1 (worth n fr.place) 0 (omega (arith, loops)) (omega (arith, pays)) in
-      goes (put_at 0 fr.counters depth n) (suc fr.place) 0 pushed less (omega arith)
+      goes (put_at 0 fr.counters depth n) (suc fr.place) 0 pushed closings less (omega arith) (omega arith)
   counts i stands it depth n (inr e) = subst (λ k. Pays (Counts depth k)) (sym e.2) last
     where
       last : Pays (Counts depth 0)
@@ -172,7 +212,7 @@ module _ (p : Image) (t : Typing) (c : Prices) (linked : IsLinked p) (priced : I
           let pays = priced.nexts fr.method fr.place depth e.0 sh (subst (λ x. Stands p t fr.method fr.place sh x) e.1 it) in
           let loops = leaves d.code worth grows fr.counters fr.place depth e.0 (stands ∙ ap (λ x. Some x) e.1) in
           let less = there (put_at 0 fr.counters depth 0) (suc fr.place) 1 0 0 (omega (arith, loops)) (omega (arith, pays)) in
-          goes (put_at 0 fr.counters depth 0) (suc fr.place) 0 pushed less (omega arith)
+          goes (put_at 0 fr.counters depth 0) (suc fr.place) 0 pushed closings less (omega arith) (omega arith)
 
   -- another round is one that was paid for
   again : (depth to n : ℕ) → slice_get d.code fr.place ≡ Some (Next depth to) → Stands p t fr.method fr.place sh (Next depth to) → counter fr depth - 1 ≡ suc n → Pays (Repeats depth (suc n) to)
@@ -183,22 +223,23 @@ module _ (p : Image) (t : Typing) (c : Prices) (linked : IsLinked p) (priced : I
       let one : worth (suc n) r.0 ≡ n * c.round fr.method r.0 = ap (λ k. k * c.round fr.method r.0) (omega arith) in
       let more = scaled n (at 0 fr.counters depth - 1) (c.round fr.method r.0) (omega (arith, e)) in
       let less = there (put_at 0 fr.counters depth (suc n)) (suc r.0) 1 0 (c.round fr.method r.0) (omega (arith, loops, one, more)) (omega (arith, pays)) in
-      subst (λ k. Pays (Repeats depth (suc n) k)) (sym r.2) (goes (put_at 0 fr.counters depth (suc n)) (suc r.0) 0 pushed less (omega arith))
+      subst (λ k. Pays (Repeats depth (suc n) k)) (sym r.2) (goes (put_at 0 fr.counters depth (suc n)) (suc r.0) 0 pushed closings less (omega arith) (omega arith))
 
   calls : (i : Instr) → slice_get d.code fr.place ≡ Some i → loop_in (Some i) ≡ None → (target : Target) (m first : ℕ) → Affords c fr sh (1 + price c m) (suc fr.place) → Pays (Calls target m first)
   calls i stands plain target m first pays =
       let less = straight i stands plain (1 + price c m) pays in
-      omega (arith, less, passed_less (objects_left c) (register_passes c) p fr ts s (length (Run fr ∷ ts)) (arguments_of p m) first 0 s.cells, fresh_rounds c m (method_at p m))
+      omega (arith, less, passed_less (objects_left c) (λ d i e j cs. moved_less c is_entry (Register d i) (Register e j) cs refl) p fr ts s (length (Run fr ∷ ts)) (arguments_of p m) first 0 s.cells, closings_passed (length (Run fr ∷ ts)) m first, fresh_rounds c m (method_at p m))
 
   cancels : (i : Instr) → slice_get d.code fr.place ≡ Some i → loop_in (Some i) ≡ None → (m : ℕ) → Affords c fr sh (1 + price c m) (suc fr.place) → Pays (Cancels m)
   cancels i stands plain m pays =
       let less = straight i stands plain (1 + price c m) pays in
-      omega (arith, less, rerequested_same c s.cells fr.home (on_request cancelling (own_request s.cells fr.home)), fresh_rounds c m (method_at p m))
+      let after = on_request cancelling (own_request s.cells fr.home) in
+      omega (arith, less, rerequested_same c is_entry s.cells fr.home after, closings_after (Requested after), fresh_rounds c m (method_at p m))
 
   traps : (i : Instr) → slice_get d.code fr.place ≡ Some i → loop_in (Some i) ≡ None → (target : Target) (m first : ℕ) → Affords c fr sh (1 + price c m) (suc fr.place) → Pays (Sets_trap target m first)
   traps i stands plain target m first pays =
       let less = straight i stands plain (1 + price c m) pays in
-      omega (arith, less, passed_less (objects_left c) (register_passes c) p fr ts s (length (Trapped ∷ Run fr ∷ ts)) (arguments_of p m) first 0 s.cells, fresh_rounds c m (method_at p m))
+      omega (arith, less, passed_less (objects_left c) (λ d i e j cs. moved_less c is_entry (Register d i) (Register e j) cs refl) p fr ts s (length (Trapped ∷ Run fr ∷ ts)) (arguments_of p m) first 0 s.cells, closings_passed (length (Trapped ∷ Run fr ∷ ts)) m first, fresh_rounds c m (method_at p m))
 
   -- the object of a register goes, or that of the last item, which was paid for as it was pushed
   destroys :
@@ -207,9 +248,9 @@ module _ (p : Image) (t : Typing) (c : Prices) (linked : IsLinked p) (priced : I
       Pays (Destroys o a words)
   destroys i stands plain o a words owned pays =
       let less = straight i stands plain (1 + kind_price c (register sh a)) pays in
-      let destruction = begun_left p t c priced o (length s.items) (Run (with_words fr words) ∷ ts) in
+      let begins = destruction o (here fr ts s a) (length s.items) (with_words fr words) owned (λ k lt. refl) in
       let kind = kind_pays p t c priced (seen s.cells) o (register sh a) (subst (λ y. Holds_of p (seen s.cells) y (register sh a)) owned (kind_fits p t ch s fr sh ls at_hand a)) in
-      omega (arith, less, destruction, kind, moved_less c (here fr ts s a) (Going (length (Run fr ∷ ts))) s.cells refl)
+      omega (arith, less, begins, kind, moved_less c is_entry (here fr ts s a) (Going (length (Run fr ∷ ts))) s.cells refl)
 
   destroys_last :
       (i : Instr) → slice_get d.code fr.place ≡ Some i → loop_in (Some i) ≡ None → (o : Object) → s.items ≡ An_object ∷ below_top s.items → held s.cells (top_place s.items) ≡ Some o →
@@ -217,8 +258,8 @@ module _ (p : Image) (t : Typing) (c : Prices) (linked : IsLinked p) (priced : I
       Pays (Destroys_last o)
   destroys_last i stands plain o top owned pays =
       let less = straight i stands plain 1 pays in
-      let destruction = begun_left p t c priced o (length (below_top s.items)) (Run fr ∷ ts) in
-      omega (arith, less, destruction, leaves_entry c (top_place s.items) (Going (length (Run fr ∷ ts))) o s.cells refl refl owned, operations_below c s.items)
+      let begins = destruction o (top_place s.items) (length (below_top s.items)) fr owned (λ k lt. refl) in
+      omega (arith, less, begins, leaves_place c is_entry (top_place s.items) (Going (length (Run fr ∷ ts))) o s.cells refl refl owned, operations_below c s.items)
 
   operates : (i : Instr) → slice_get d.code fr.place ≡ Some i → loop_in (Some i) ≡ None → (m : ℕ) (w : ℤ) → s.items ≡ An_operation m w ∷ below_top s.items → Affords c fr sh 1 (suc fr.place) → Pays (Operates m w)
   operates i stands plain m w top pays =
@@ -227,15 +268,54 @@ module _ (p : Image) (t : Typing) (c : Prices) (linked : IsLinked p) (priced : I
       omega (arith, less, same, fresh_rounds c m (method_at p m))
 
   -- what the method could still cost is dropped
+  accepted_less : (d : Dispatch) (e i : ℕ) (cs : List Cell) → objects_left c (accepted_cells d (Register e i) cs) ≤ objects_left c cs
+  accepted_less (Of_server x client Accepts) e i cs =
+      let us = moved (Register e i) (Elsewhere (Session x.object.name client)) cs in
+      omega (arith, served_same c is_entry x.object.name (opened client (service_of us x.object.name)) (moved (Register e i) (Elsewhere (Session x.object.name client)) cs), moved_less c is_entry (Register e i) (Elsewhere (Session x.object.name client)) cs refl)
+  accepted_less _ e i cs = omega arith
+
+  well_ended : (d : Dispatch) → end_left p c (ended_well d) ≤ end_left p c d
+  well_ended (Of_server x client Accepts) = omega arith
+  well_ended (Of_server x client (Serves o)) = omega arith
+  well_ended _ = omega arith
+
+  -- and no more goes before servers
+  module _ (g : Gives) (a : ℕ) where
+    abbrev ended : State
+    ended = record s { cells = ended_cells p fr s.cells }
+
+    abbrev Fewer : List Layer → Type 0
+    Fewer l = let u = returned p fr (tasks_of l) ended g a (tasks_of l) in closings_left p c u.cells u.tasks ≤ closings_left p c s.cells (tasks_of l)
+
+    over_ended : (below : List Task) → closings_left p c ended.cells below ≤ closings_left p c s.cells below
+    over_ended below = lasting p c s.cells ended.cells below (lasts_ended (length below) p fr s.cells)
+
+    over_result : (over below : List Task) (x : ℕ) → closings_left p c (result_cells p fr over ended g a x below) below ≤ closings_left p c s.cells below
+    over_result over below x = omega (arith, over_ended below, lasting p c ended.cells _ below (lasts_result (length below) p fr over ended g a x below))
+
+    returned_closings : (l : List Layer) → Stack p t s.cells Now (Method fr sh ∷ l) → Fewer l
+    returned_closings [] h = let e : Comes_back fr.method fr.home ≡ Now = h.4 in absurd (cc)
+    returned_closings (Method caller sh2 ∷ l) h = over_result (Run caller ∷ tasks_of l) (tasks_of l) (result_register (instr_at p caller.method caller.place))
+    returned_closings (Dying o ∷ l) h = over_ended (tasks_of l)
+    returned_closings (Ending o left ∷ l) h = absurd h.4.1
+    returned_closings (Unwinding code es ∷ l) h = over_ended (tasks_of l)
+    returned_closings (Mark gv ∷ []) h = let e : Caught gv ≡ Now = h.4.1 in absurd (cc)
+    returned_closings (Mark gv ∷ Ending o left ∷ l) h = absurd h.4.1.1
+    returned_closings (Mark gv ∷ Method caller sh2 ∷ l) h = over_result (Trapped ∷ Run caller ∷ tasks_of l) (tasks_of l) (result_register (instr_at p caller.method caller.place))
+    returned_closings (Mark gv ∷ Dispatching d seats ∷ l) h = subst (λ k. Fewer (Mark gv ∷ Dispatching d seats ∷ k)) (sym h.4.1.1) (omega arith)
+    returned_closings (Dispatching d seats ∷ l) h = over_ended (tasks_of l)
+    returned_closings _ h = absurd (grind arith)
+
   returns : (g : Gives) (a : ℕ) → 1 ≤ c.from fr.method fr.place → Pays (Returns g a)
   returns g a some =
-      let less = returned_less (left_worths p c) (objects_left c) (operations_left c) (register_passes c) (operations_below c) (rerequested_same c) (λ x answer. omega arith) p t s fr sh g a ls at_hand.good.stack in
-      omega (arith, some, less.0, less.1)
+      let less = returned_less (left_worths p c) (objects_left c) (operations_left c) (λ d i e j cs. moved_less c is_entry (Register d i) (Register e j) cs refl) (operations_below c) (rerequested_same c is_entry) (λ x answer. omega arith) well_ended p t s fr sh g a
+      (λ d e i. accepted_less d e i (ended_cells p fr s.cells)) ls at_hand.good.stack in
+      omega (arith, some, less.0, less.1, returned_closings g a ls at_hand.good.stack)
 
   pub pays : (i : Instr) → slice_get d.code fr.place ≡ Some i → Stands p t fr.method fr.place sh i → (e : Effect) → Fits p ch fr ts s i e → Covers c fr sh e → Pays e
   pays i stands it (Goes_on change) f covered =
       let n = pushes c fr sh change.update in
-      goes fr.counters (suc fr.place) n _ (straight i stands f.0 (1 + n) covered) (after change.update)
+      goes fr.counters (suc fr.place) n _ _ (straight i stands f.0 (1 + n) covered) (after change.update) (closings_after change.update)
   pays i stands it (Jumps to) f covered = away i stands to f covered
   pays i stands it (Counts depth n) f covered = counts i stands it depth n f
   pays i stands it (Repeats depth n to) f covered =
@@ -244,7 +324,7 @@ module _ (p : Image) (t : Typing) (c : Prices) (linked : IsLinked p) (priced : I
   pays i stands it (Cancels m) f covered = cancels i stands (straight_by p ch fr ts s i (Cancels m) f) m covered
   pays i stands it (Sets_trap target m first) f covered = traps i stands (straight_by p ch fr ts s i (Sets_trap target m first) f) target m first covered
   pays i stands it (Returns g a) f covered = returns g a covered
-  pays i stands it (Leaves code u) f covered = omega (arith, covered, after u, to_trap_less (left_worths p c) ts)
+  pays i stands it (Leaves code u) f covered = omega (arith, covered, after u, closings_after u, to_trap_closings p c (cells_after p fr ts s u) ts, to_trap_less (left_worths p c) ts)
   pays i stands it (Destroys o a words) f covered = destroys i stands (straight_by p ch fr ts s i (Destroys o a words) f) o a words f.1 covered
   pays i stands it (Destroys_last o) f covered = destroys_last i stands (straight_by p ch fr ts s i (Destroys_last o) f) o f.1 f.2 covered
   pays i stands it (Operates m w) f covered = operates i stands (straight_by p ch fr ts s i (Operates m w) f) m w f.1 covered

@@ -1,28 +1,51 @@
 -- What a turn may still cost: the price of the class whose object is dispatched, or nothing more.
-use Rattle.std.proofs.Common.{◌≡◌, ◌≤◌, ◌+◌, ◌∙◌, ℕ, true, false, List, [], ◌∷◌, Option, Some, None, refl, sym, ap, arith, subst}
+use Rattle.std.proofs.Common.{ℤ, ◌≡◌, ◌≤◌, ◌+◌, ◌∙◌, ℕ, true, false, List, [], ◌∷◌, Option, Some, None, refl, sym, ap, arith, subst, Bool, cond, length}
+use Rattle.std.proofs.lemmas.Bool.{true≢false}
 use Rattle.aom_image.specs.Image.{Image}
 use Rattle.aom_image.specs.Views.{method_at}
-use Rattle.aom_image.specs.declared.method.Role.TheVariants.{Error, Run as Handles}
+use Rattle.aom_image.specs.declared.method.Role.TheVariants.{Accept as Accepts_role, Error, Run as Handles, Service as Attends}
 use Rattle.aom_image.specs.declared.method.Thing.{Thing}
 use Rattle.aom_image.specs.declared.method.Thing.TheVariants.{Message, Object as An_object_of}
 use Rattle.aom_rules.specs.Typing.{Typing}
 use Rattle.aom_sound.proofs.Guarded.{goes_same}
-use Rattle.aom_sound.proofs.Turned.{Polled, answers, nothing, polled_so}
-use Rattle.aom_sound.specs.Claims.{Layer, forms, items_of, tasks_of}
+use Rattle.aom_sound.proofs.Turned.{accepts, attends, handles, parts, Polled, answers, nothing, polled_so, Picked, picked_so}
+use Rattle.aom_sound.specs.Claims.{forms, items_of, declared}
 use Rattle.aom_sound.specs.Counting.{starts}
 use Rattle.aom_sound.specs.Enlisted.{completed_with, on_request, part_of, recorded, taken_up, timed_out}
-use Rattle.aom_sound.specs.Natives.{all_bereaved, bereaved}
-use Rattle.aom_sound.specs.Places.{Cell, Object, Request, requested}
-use Rattle.aom_sound.specs.State.{Goes, Rest, Seat, State}
-use Rattle.aom_sound.specs.WellTyped.{Good, WellTyped}
-use Rattle.aom_sound.specs.World.{Completes, Cuts, Hears, Kills, Passes, Picks, Polls, Turning, Waits, dispatched, heard_one, past_native, turned, turning, with_request, without_native}
-use Rattle.aom_prices.specs.Prices.{Prices, perhaps_price, price}
+use Rattle.aom_sound.specs.Natives.{bereaved}
+use Rattle.aom_sound.specs.Places.{Message_of, service_of, Cell, Object, Request, requested, Elsewhere, Entry, Going, In_service, Place, Queued, Session, Tidy, held, moved, named, seen}
+use Rattle.aom_sound.specs.State.{Goes, Rest, Seat, State, Dispatched, Of_server, Parts}
+use Rattle.aom_sound.specs.WellTyped.{Good, WellTyped, Fits, Now}
+use Rattle.aom_sound.specs.World.{lives, Completes, Cuts, Hears, Kills, Passes, Picks, Polls, Turning, Waits, heard_one, past_native, turned, turning, with_request, without_native, Candidate, Completion, Heard, Obeys, Outside, Timed, by_event, by_timer, delivers, first_due, first_ready, has_signal, next_event, next_native, next_time, picks, polls, taken_from}
+use Rattle.aom_prices.specs.Prices.{Prices, perhaps_price, price, IsPriced}
 use Rattle.aom_steps.specs.Laws.{TurnsPay}
-use Rattle.aom_steps.specs.Left.{left, objects_left, operations_left, tasks_left}
+use Rattle.aom_steps.specs.Left.{left, objects_left, operations_left, tasks_left, closings_left, is_entry}
 use Rattle.aom_steps.specs.Payers.{class_of, payer, price_of}
 use Rattle.aom_steps.proofs.Emptied.{none_at_hand}
-use Rattle.aom_steps.proofs.Paying.{fresh_rounds}
-use Rattle.aom_steps.proofs.Pushed.{asked_same, reset_same}
+use Rattle.aom_steps.proofs.Paying.{fresh_rounds, begun_left}
+use Rattle.aom_steps.proofs.Pushed.{asked_same, reset_same, moved_less, served_same, withdrawn_same}
+use Rattle.aom_sound.proofs.Things.{stands_same}
+use Rattle.aom_roles.specs.Classes.{sessions_in}
+use Rattle.aom_classes.specs.Roles.{role_of}
+use Rattle.aom_steps.proofs.Classes.{acceptor_serves, plain_session, run_price, server_price}
+use Rattle.aom_steps.proofs.Sessions.{of_claim}
+use Rattle.aom_roles.specs.Shapes.{kind_of}
+use Rattle.std.specs.Prelude.{is_some, nat_le}
+use Rattle.aom_sound.specs.Servers.{asked_last, is_queue, is_server, of_class, session_class, withdrawn}
+use Rattle.aom_sound.proofs.Turning.{found}
+use Rattle.aom_shape.specs.Kinds.{filled}
+use Rattle.aom_steps.proofs.Payers.{begun_payer}
+use Rattle.aom_sound.specs.Destruction.{begun}
+use Rattle.aom_sound.proofs.Signals.{at_rest}
+use Rattle.aom_transcript.specs.declared.event.TimedEvent.{TimedEvent}
+use Rattle.aom_clients.specs.declared.refusal.Refusal.{Refusal}
+use Rattle.aom_clients.specs.declared.client.Client.TheVariants.{Open}
+use Rattle.aom_transcript.specs.declared.event.Event.TheVariants.{Kill, Tell}
+use Rattle.aom_classes.specs.Linked.{IsLinked}
+use Rattle.aom_shape.specs.declared.kind.Filling.TheVariants.{Full}
+use Rattle.aom_transcript.specs.declared.event.Event.{Event}
+use Rattle.aom_sound.specs.Clients.{Closes, Command, Connects, Dies, Listed, Sends, client_at, commanded, connecting, leaving, sending, told}
+use Rattle.aom_clients.specs.declared.client.Client.{Client}
 
 -- ---- a turn that dispatches no object
 
@@ -33,12 +56,15 @@ module _ (p : Image) (c : Prices) (s : State) (idle : s.tasks ≡ []) where
   passed : (u v : State) → Goes v ≡ Goes u → Passed v → Passed u
   passed u v e h = subst Passed (goes_same v u e) h
 
-  -- other cells, of which as much is left
-  with_cells : (cs : List Cell) (r : Rest) → objects_left c cs ≡ objects_left c s.cells → Passed (record s { cells = cs; rest = r })
-  with_cells cs r same = (idle, ap (λ n. tasks_left p c s.tasks + (n + operations_left c s.items)) same)
+  -- other cells, of which as much is left: no server goes
+  with_cells : (u : State) → u.tasks ≡ s.tasks → u.items ≡ s.items → objects_left c u.cells ≡ objects_left c s.cells → Passed u
+  with_cells u tasks items same =
+      let none = ap (λ ts. tasks_left p c ts + closings_left p c u.cells ts) (tasks ∙ idle) in
+      let before = ap (λ ts. tasks_left p c ts + closings_left p c s.cells ts) idle in
+      (tasks ∙ idle, omega (arith, none, before, same, ap (λ l. operations_left c l) items))
 
   completed : (f : Request → Request) (o : Object) (r : Rest) → Passed (record s { cells = with_request f o s.cells; rest = r })
-  completed f o r = with_cells (with_request f o s.cells) r (asked_same c o.name (on_request f (requested s.cells o.name)) s.cells)
+  completed f o r = with_cells (record s { cells = with_request f o s.cells; rest = r }) refl refl (asked_same c is_entry o.name (on_request f (requested s.cells o.name)) s.cells)
 
   polling : (u : State) (n : ℕ) → Polled n s u → Passed u
   polling u n d = elim d as (λ v d. Passed v) [
@@ -47,7 +73,41 @@ module _ (p : Image) (c : Prices) (s : State) (idle : s.tasks ≡ []) where
   ]
 
   killing : (n : ℕ) → Passed (without_native p n (heard_one s))
-  killing n = with_cells (all_bereaved p n s.cells) (heard_one s).rest (reset_same c (λ x. (bereaved p n x).request) (λ x. (bereaved p n x).session) s.cells)
+  killing n = with_cells (without_native p n (heard_one s)) refl refl (reset_same c is_entry (λ x. (bereaved p n x).request) (λ x. (bereaved p n x).session) s.cells)
+
+  -- a command makes and takes back messages in queues alone
+  obeying : (client : ℕ) (command : Command) (name : ℕ) → Passed (commanded p client (heard_one s) command name)
+  obeying client command name = by command
+    where
+      v : State
+      v = heard_one s
+
+      unqueued : (r : Place) → is_queue r ≡ true → is_entry r ≡ false
+      unqueued (Entry k) e = cc
+      unqueued _ e = refl
+
+      connects : (refused : Option Refusal) (server : Option Listed) (slots : ℕ) → Passed (connecting p client v refused server slots)
+      connects None (Some y) slots = with_cells (connecting p client v None (Some y) slots) refl refl (served_same c is_entry y.name _ s.cells)
+      connects None None slots = with_cells v refl refl refl
+      connects (Some r) server slots = with_cells v refl refl refl
+
+      sends : (refused : Option Refusal) (own : Client) (words : List ℤ) → Passed (sending p client v refused own name words)
+      sends None (Open server session slots) words = with_cells (sending p client v None (Open server session slots) name words) refl refl (omega (arith, served_same c is_entry server (asked_last (Message_of client name) (service_of s.cells server)) s.cells))
+      sends _ _ words = with_cells v refl refl refl
+
+      told_same : (own : Client) (cs : List Cell) → objects_left c (told p client v own cs) ≡ objects_left c cs
+      told_same (Open server session slots) cs = served_same c is_entry server _ cs
+      told_same _ cs = refl
+
+      leaves : (to : Option Client) → Passed (leaving p client v to)
+      leaves None = with_cells v refl refl refl
+      leaves (Some to) = with_cells (leaving p client v (Some to)) refl refl (told_same (client_at s.clients client) (withdrawn client s.cells) ∙ withdrawn_same c is_entry unqueued client s.cells)
+
+      by : (command : Command) → Passed (commanded p client v command name)
+      by (Connects class slots) = connects _ _ slots
+      by (Sends words) = sends _ _ words
+      by Closes = leaves _
+      by Dies = leaves _
 
   passing : (x : Turning) → starts x ≡ false → (u : State) → turned p s x ≡ Goes u → Passed u
   passing Cuts f u e = passed u _ e (idle, refl)
@@ -55,40 +115,159 @@ module _ (p : Image) (c : Prices) (s : State) (idle : s.tasks ≡ []) where
   passing Hears f u e = passed u _ e (idle, refl)
   passing (Kills n) f u e = passed u _ e (killing n)
   passing (Polls n answer) f u e = polling u n (polled_so p s u n answer e)
+  passing (Obeys client command name) f u e = passed u _ e (obeying client command name)
   passing (Passes time) f u e = passed u _ e (idle, refl)
   passing Waits f u e = passed u _ e (idle, refl)
   passing _ f u e = cc
 
--- ---- and one that dispatches an object
+-- ---- and one that dispatches an object or a server
+
+at_rest_good : (p : Image) (t : Typing) (s : State) → WellTyped p t s → s.tasks ≡ [] → Good p t s.cells []
+at_rest_good p t s w idle = subst (λ ls. Good p t s.cells ls) (at_rest p t s w idle) w.good
 
 -- nothing is on the cleanup stack between dispatches
 none_between : (p : Image) (t : Typing) (c : Prices) (s : State) → WellTyped p t s → s.tasks ≡ [] → objects_left c s.cells + operations_left c s.items ≡ 0
-none_between p t c s w idle = go w.layers (sym w.tasks ∙ idle) w.good w.items
-  where
-    go : (ls : List Layer) → tasks_of ls ≡ [] → Good p t s.cells ls → forms s.items ≡ items_of ls → objects_left c s.cells + operations_left c s.items ≡ 0
-    go [] e good items = none_at_hand c p t s.cells s.items good items
-    go (l ∷ ls) e good items = cc
+none_between p t c s w idle = none_at_hand c p t s.cells s.items (at_rest_good p t s w idle) (subst (λ ls. forms s.items ≡ items_of ls) (at_rest p t s w idle) w.items)
 
-module _ (p : Image) (c : Prices) (s : State) (bare : objects_left c s.cells + operations_left c s.items ≡ 0) (x : Seat) where
+-- what is picked lives
+abbrev Lives : State → Turning → Type 0
+Lives s (Picks x) = named s.cells x.object.name ≡ Some x.object
+Lives s _ = Unit {0}
+
+module _ (s : State) (tidy : Tidy s.cells) where
+  picks_lives : (b : Bool) (y : Option Candidate) → first_ready s.cells ≡ y → (next : Option ℕ) → Lives s (picks b y next)
+  picks_lives true None e next = tt
+  picks_lives true (Some y) e next = (found s.cells tidy y e).lives
+  picks_lives false y e None = tt
+  picks_lives false y e (Some time) = tt
+
+  polls_lives : (n : Option ℕ) (answer : Option Completion) (after : Turning) → Lives s after → Lives s (polls n answer after)
+  polls_lives None answer after f = f
+  polls_lives (Some n) answer after f = tt
+
+  delivers_lives : (outside : Outside) (event : Event) → Lives s (delivers outside s event)
+  delivers_lives outside (Tell n word) = tt
+  delivers_lives outside (Kill n) = go (lives outside s n)
+    where
+      go : (b : Bool) → Lives s (cond b (Kills n) Hears)
+      go true = tt
+      go false = tt
+
+  event_lives : (outside : Outside) (next : Option TimedEvent) (after : Turning) → Lives s after → Lives s (by_event outside s next after)
+  event_lives outside None after f = f
+  event_lives outside (Some e) after f = go (nat_le e.time s.rest.clock)
+    where
+      go : (b : Bool) → Lives s (cond b (delivers outside s e.event) after)
+      go true = delivers_lives outside e.event
+      go false = f
+
+  timer_lives : (next : Option Timed) (after : Turning) → Lives s after → Lives s (by_timer s next after)
+  timer_lives None after f = f
+  timer_lives (Some x) after f = go (nat_le x.timer.due s.rest.clock)
+    where
+      go : (b : Bool) → Lives s (cond b (Completes x.object) after)
+      go true = tt
+      go false = f
+
+  turning_lives : (outside : Outside) (heard : Heard) → Lives s (turning outside heard s)
+  turning_lives outside heard = go (nat_le outside.limit s.rest.dispatches)
+    where
+      go : (b : Bool) → Lives s (cond b Cuts (by_timer s (first_due s.cells) (by_event outside s (next_event outside s) (polls (next_native outside s) heard.completion (picks (has_signal s.cells) (first_ready s.cells) (next_time outside s))))))
+      go true = tt
+      go false = timer_lives (first_due s.cells) _ (event_lives outside (next_event outside s) _ (polls_lives (next_native outside s) heard.completion _ (picks_lives (has_signal s.cells) (first_ready s.cells) refl (next_time outside s))))
+
+module _ (p : Image) (t : Typing) (c : Prices) (linked : IsLinked p) (priced : IsPriced p t c) (s : State) (good : Good p t s.cells []) (bare : objects_left c s.cells + operations_left c s.items ≡ 0) (x : Seat)
+    (there : named s.cells x.object.name ≡ Some x.object) where
   abbrev Paid : State → Type 0
   Paid u = left p c u ≤ price_of p c (payer u.tasks)
 
-  begun_so : (thing : Thing) → x.object.thing ≡ thing → (m : ℕ) → part_of p Handles thing ≡ Some m → price c m + perhaps_price c (part_of p Error x.object.thing) ≤ price_of p c (class_of x.object.thing)
-  begun_so (An_object_of k) same m e =
-      subst (λ y. price c m + perhaps_price c (part_of p Error y) ≤ price_of p c (class_of y)) (sym same) (omega (arith, ap (λ o. perhaps_price c o) e))
-  begun_so Message same m e = cc
+  -- with so much for what begins, and for its end
+  abbrev Affords : Thing → ℕ → Type 0
+  Affords y n = n + perhaps_price c (part_of p Error y) ≤ price_of p c (class_of y)
 
-  beginning : (m : Option ℕ) → part_of p Handles x.object.thing ≡ m → (u : State) → dispatched m x s ≡ Goes u → Paid u
-  beginning None same u e = cc
-  beginning (Some m) same u e = subst Paid (goes_same _ u e)
-      (omega (arith, begun_so x.object.thing refl m same, fresh_rounds c m (method_at p m), bare, asked_same c x.object.name (on_request taken_up (requested s.cells x.object.name)) s.cells))
+  runs : (y : Thing) (m : ℕ) → part_of p Handles y ≡ Some m → Affords y (price c m)
+  runs (An_object_of k) m e = run_price p linked k c m e
+  runs Message m e = cc
 
-pub picking : (p : Image) (t : Typing) (c : Prices) (s : State) → WellTyped p t s → s.tasks ≡ [] → (x : Turning) → starts x ≡ true → (u : State) → turned p s x ≡ Goes u → left p c u ≤ price_of p c (payer u.tasks)
-picking p t c s w idle (Picks x) f u e = beginning p c s (none_between p t c s w idle) x (part_of p Handles x.object.thing) refl u e
-picking p t c s w idle _ f u e = cc
+  accepts_within : (y : Thing) (m : ℕ) → part_of p Accepts_role y ≡ Some m → Affords y (price c m)
+  accepts_within (An_object_of k) m e = go (sessions_in (kind_of p (Some k))) refl (acceptor_serves p linked k c m e)
+    where
+      go : (session : Option ℕ) → sessions_in (kind_of p (Some k)) ≡ session → is_some session ≡ true → Affords (An_object_of k) (price c m)
+      go (Some session) at some = omega (arith, (server_price p linked k c session at).accepts, ap (λ o. perhaps_price c o) e)
+      go None at some = cc
+  accepts_within Message m e = cc
+
+  no_message : (session : ℕ) → session_class p Message ≡ Some session → ⊥
+  unfolding kind_of sessions_in
+  no_message session e = cc
+
+  -- a session with it is of the class of its sessions
+  abbrev IsSessionOf : Thing → Object → Type 0
+  IsSessionOf y o = (session : ℕ) × (session_class p y ≡ Some session) × (o.thing ≡ An_object_of session)
+
+  session_there : (client : ℕ) (o : Object) → held s.cells (Elsewhere (Session x.object.name client)) ≡ Some o → IsSessionOf x.object.thing o
+  session_there client o held_there =
+      let has = of_claim p t s.cells x.object.name client x.object o there Now [] good.stack (subst (λ y. Fits p (seen s.cells) y (declared p s.cells (Elsewhere (Session x.object.name client)))) held_there (good.fits (Elsewhere (Session x.object.name client)))) in
+      go (session_class p x.object.thing) refl has.1
+    where
+      go : (k : Option ℕ) → session_class p x.object.thing ≡ k → Fits p (seen s.cells) (Some o) (filled (of_class k) Full) → IsSessionOf x.object.thing o
+      go None at f = absurd f
+      go (Some k) at f = (k, at, stands_same p o.thing (An_object_of k) f.0)
+
+  attends_within : (y : Thing) (o : Object) (m : ℕ) → IsSessionOf y o → part_of p Attends o.thing ≡ Some m → Affords y (price c m)
+  attends_within (An_object_of k) o m is e =
+      let role : role_of p is.0 Attends ≡ Some m = ap (λ z. part_of p Attends z) (sym is.2) ∙ e in
+      omega (arith, (server_price p linked k c is.0 is.1).attends, ap (λ r. perhaps_price c r) role)
+  attends_within Message o m is e = absurd (no_message is.0 is.1)
+
+  parts_within : (y : Thing) (o : Object) → IsSessionOf y o → Affords y (c.destruction o.thing)
+  parts_within (An_object_of k) o is = omega (arith, (server_price p linked k c is.0 is.1).parts, ap (λ z. c.destruction z) is.2)
+  parts_within Message o is = absurd (no_message is.0 is.1)
+
+  -- it is no server itself
+  no_server : (y : Thing) (o : Object) → IsSessionOf y o → is_server p o.thing ≡ true → ⊥
+  no_server (An_object_of k) o is server = true≢false (sym server ∙ ap (λ z. is_server p z) is.2 ∙ plain_session p linked k is.0 is.1)
+  no_server Message o is server = no_message is.0 is.1
+
+  taken_same : objects_left c (taken_from x.object.name s).cells ≡ objects_left c s.cells
+  taken_same = served_same c is_entry x.object.name _ s.cells
+
+  pub picked_pays : (u : State) → Picked p s x u → Paid u
+  picked_pays u d = elim d as (λ v e. Paid v) [
+    | handles m at ↦ omega (arith, runs x.object.thing m at, fresh_rounds c m (method_at p m), bare, asked_same c is_entry x.object.name (on_request taken_up (requested s.cells x.object.name)) s.cells)
+    | accepts client m at ↦ omega (arith, accepts_within x.object.thing m at, fresh_rounds c m (method_at p m), bare, taken_same)
+    | attends client message m o here at ↦
+        omega (
+          arith,
+          attends_within x.object.thing o m (session_there client o here) at,
+          fresh_rounds c m (method_at p m),
+          bare,
+          taken_same,
+          moved_less c is_entry (Elsewhere (Queued x.object.name message)) (Elsewhere In_service) (taken_from x.object.name s).cells refl,
+        )
+    | parts client o here ↦ parted_pays client o (session_there client o here)
+  ]
+    where
+      parted_pays : (client : ℕ) (o : Object) → IsSessionOf x.object.thing o →
+          Paid (record (taken_from x.object.name s) {
+            cells = moved (Elsewhere (Session x.object.name client)) (Going 1) (taken_from x.object.name s).cells;
+            tasks = begun p o (length s.items) (Dispatched (Of_server x client Parts) ∷ []);
+          })
+      parted_pays client o is =
+          let below = Dispatched (Of_server x client Parts) ∷ [] in
+          let us = moved (Elsewhere (Session x.object.name client)) (Going 1) (taken_from x.object.name s).cells in
+          let begins = begun_left p t c priced o (length s.items) below us (λ server. absurd (no_server x.object.thing o is server)) in
+          let less = moved_less c is_entry (Elsewhere (Session x.object.name client)) (Going 1) (taken_from x.object.name s).cells refl in
+          omega (arith, begins, parts_within x.object.thing o is, less, bare, taken_same, ap (λ y. price_of p c y) (begun_payer p o (length s.items) below))
+
+pub picking :
+    (p : Image) (t : Typing) (c : Prices) → IsLinked p → IsPriced p t c → (s : State) → WellTyped p t s → s.tasks ≡ [] → (x : Turning) → Lives s x → starts x ≡ true → (u : State) → turned p s x ≡ Goes u →
+    left p c u ≤ price_of p c (payer u.tasks)
+picking p t c linked priced s w idle (Picks x) there f u e = picked_pays p t c linked priced s (at_rest_good p t s w idle) (none_between p t c s w idle) x there u (picked_so p s u x e)
+picking p t c linked priced s w idle _ there f u e = cc
 
 pub turns_pay : TurnsPay
 turns_pay = record {
-  begins = λ p t c outside heard s u w idle e f. picking p t c s w idle (turning outside heard s) f u e;
+  begins = λ p t c linked priced outside heard s u w idle e f. picking p t c linked priced s w idle (turning outside heard s) (turning_lives s w.good.tidy outside heard) f u e;
   passes = λ p c outside heard s u idle e f. passing p c s idle (turning outside heard s) f u e;
 }

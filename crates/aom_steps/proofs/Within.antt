@@ -1,23 +1,21 @@
 -- Every move pays for the steps that it is, and so each dispatch keeps within what is declared.
 use Rattle.std.proofs.lemmas.Option.{same_Some}
 use Rattle.std.specs.Ordering.{int_eq}
-use Rattle.std.specs.Prelude.{IsSome, is_none, pos}
-use Rattle.std.proofs.Common.{◌≡◌, ◌<◌, ◌≤◌, ◌+◌, ◌∙◌, ◌^◌, slice_get, ℕ, ℤ, Bool, true, false, cond, List, [], ◌∷◌, length, Option, Some, None, refl, sym, ap, arith, subst}
+use Rattle.std.specs.Prelude.{IsSome, is_none, pos, max}
+use Rattle.std.proofs.Common.{◌≡◌, ◌<◌, ◌≤◌, ◌+◌, ◌∙◌, ◌^◌, slice_get, ℕ, ℤ, Bool, true, false, cond, List, [], ◌∷◌, length, Option, Some, None, refl, sym, ap, arith, subst, suc}
 use Rattle.aom_image.specs.Image.{Image}
 use Rattle.aom_image.specs.Views.{instr_at, method_at}
 use Rattle.aom_image.specs.WellFormed.{ClassFits, KindFits, WellFormed}
 use Rattle.aom_instructions.specs.declared.instr.Instr.{Instr}
 use Rattle.aom_image.specs.declared.method.Thing.TheVariants.{Object as An_object_of}
 use Rattle.aom_image.specs.declared.class.ClassKind.{ClassKind}
-use Rattle.aom_image.specs.declared.class.ClassKind.TheVariants.{Active, Plain, Server, Session}
-use Rattle.aom_image.specs.declared.method.Method.{Method as Method_declared}
+use Rattle.aom_image.specs.declared.class.ClassKind.TheVariants.{Active, Plain, Server, Session as A_session}
 use Rattle.aom_image.specs.declared.class.ClassDecl.{ClassDecl}
 use Rattle.aom_image.specs.declared.method.Role.{Role}
-use Rattle.aom_image.specs.declared.method.Role.TheVariants.{Error, Run as Handles}
+use Rattle.aom_image.specs.declared.method.Role.TheVariants.{Accept, Error, Run as Handles, Service as Attends}
 use Rattle.aom_image.specs.Views.{class_at}
 use Rattle.aom_roles.specs.Classes.{kind_in}
-use Rattle.aom_roles.specs.Shapes.{HasShape, IsShaped, is_active_in, kind_of}
-use Rattle.aom_rules.specs.Requests.{is_active_kind}
+use Rattle.aom_roles.specs.Shapes.{kind_of}
 use Rattle.aom_classes.specs.Roles.{role_of}
 use Rattle.aom_classes.proofs.Facts.{all_there}
 use Rattle.aom_classes.proofs.Playing.{role_found}
@@ -34,34 +32,34 @@ use Rattle.aom_shape.specs.declared.kind.Filling.TheVariants.{Perhaps}
 use Rattle.aom_sound.proofs.Booting.{boot_keeps}
 use Rattle.aom_sound.proofs.Counting.{steps_are_counted}
 use Rattle.aom_sound.proofs.Moving.{acted, steps_are_moves}
-use Rattle.aom_sound.proofs.Course.{well_on}
+use Rattle.aom_sound.proofs.Course.{well_on, WellKept}
 use Rattle.aom_sound.proofs.Straight.{At}
 use Rattle.aom_sound.proofs.Wiring.{linked_is_wired}
 use Rattle.aom_sound.specs.Calls.{called, result_register}
-use Rattle.aom_sound.specs.Claims.{Dispatching, Layer, Method, forms, items_of, tasks_of}
+use Rattle.aom_sound.specs.Claims.{Dispatching, Layer, Method, forms, items_of, tasks_of, declared}
 use Rattle.aom_sound.specs.Cleanup.{ended_by}
 use Rattle.aom_sound.specs.Counting.{ends_object, restarts, starts, steps_of, taken}
-use Rattle.aom_sound.specs.Destruction.{begun}
+use Rattle.aom_sound.specs.Destruction.{begun, first_session, parting, vanished}
 use Rattle.aom_sound.specs.Effects.{effect}
 use Rattle.aom_sound.specs.Laws.{IsWired}
 use Rattle.aom_sound.specs.Enlisted.{part_of}
-use Rattle.aom_sound.specs.Moves.{answered, asking, counted, dispatch_ends, failed, handled, main_ends, object_ends, step, step_instr, step_task}
-use Rattle.aom_sound.specs.Places.{Elsewhere, Entry, Going, Object, Root, held, moved, seen}
-use Rattle.aom_sound.specs.State.{An_object, Answered, Asks, Choice, Destroy, Dispatch, Dispatched, Frame, Goes, Item, Main_left, Object_left, Of_main, Of_object, Of_root, Run, Seat, State, Task, Trapped, Unwind}
-use Rattle.aom_sound.specs.Steps.{Acts, Arrives, Clears, Comes_out, Ends, Move, Rests, Undoes, Vanishes, IsStill}
+use Rattle.aom_sound.specs.Moves.{answered, asking, counted, dispatch_ends, failed, handled, main_ends, object_ends, step, step_instr, step_task, stage_ends}
+use Rattle.aom_sound.specs.Places.{Elsewhere, Entry, Going, In_service, Object, Place, Root, Session, held, moved, same_place, seen, service_of, without}
+use Rattle.aom_sound.specs.State.{An_object, Answered, Asks, Choice, Destroy, Dispatch, Dispatched, Frame, Goes, Item, Main_left, Object_left, Of_main, Of_object, Of_root, Run, Seat, State, Task, Trapped, Unwind, Accept_left, Accepted, Accepts, Closing, Of_server, Parts, Serves, Service_left, Stage}
+use Rattle.aom_sound.specs.Steps.{Acts, Arrives, Clears, Comes_out, Ends, Move, Rests, Undoes, Vanishes, IsStill, Empties}
 use Rattle.aom_sound.specs.WellTyped.{Fits, Good, WellTyped}
 use Rattle.aom_sound.specs.World.{Heard, Reaches, begins, boot_state, main_tasks, moves, turn, turning, turns, Outside}
 use Rattle.aom_transcript.specs.declared.line.Line.{Line}
 use Rattle.aom_ranks.proofs.Worths.{resumed_alike, told_alike}
 use Rattle.aom_prices.specs.Layers.{ArePricesUpTo}
-use Rattle.aom_prices.specs.Prices.{IsPriced, Prices, Stands, perhaps_price, price}
+use Rattle.aom_prices.specs.Prices.{IsPriced, Prices, Stands, perhaps_price, price, sessions_cost}
 use Rattle.aom_prices.specs.Dispatches.{IsAffordable, main_price, method_price, root_price}
 use Rattle.aom_steps.specs.Laws.{BootWithin, KeepsBudget, MovesPay, StepsWithin}
-use Rattle.aom_steps.specs.Left.{WithinBudget, end_left, left, left_worths, objects_left, operations_left, tasks_left, waiting_left}
-use Rattle.aom_steps.specs.Payers.{AffordsObjects, class_budget, declared_of, object_price, payer, price_of}
+use Rattle.aom_steps.specs.Left.{WithinBudget, end_left, left, left_worths, objects_left, operations_left, tasks_left, waiting_left, closing_left, closings_left, is_entry, is_session_with, sessions_left}
+use Rattle.aom_steps.specs.Payers.{AffordsObjects, class_budget, declared_of, payer, price_of, dispatch_price}
 use Rattle.aom_steps.proofs.Covering.{covers}
-use Rattle.aom_steps.proofs.Paying.{begun_left, fresh_rounds, pays}
-use Rattle.aom_steps.proofs.Pushed.{leaves_entry, moved_less, without_less}
+use Rattle.aom_steps.proofs.Paying.{begun_left, fresh_rounds, pays, destructed_left}
+use Rattle.aom_steps.proofs.Pushed.{leaves_place, moved_less, without_less, each_unslotted_same, queue_less, served_same}
 use Rattle.aom_steps.proofs.Counted.{none_counted, steps_counted}
 use Rattle.aom_steps.proofs.Emptied.{none_at_end}
 use Rattle.aom_steps.proofs.Payers.{payers}
@@ -70,13 +68,21 @@ use Rattle.aom_sound.proofs.Layers.{method_layer}
 use Rattle.aom_sound.proofs.Wiring.{main_of_none}
 use Rattle.aom_image.proofs.Given.{some_given}
 use Rattle.aom_sound.proofs.Layers.{dispatch_layer}
+use Rattle.std.proofs.Math.Nat.{le-max_left, le-max_right}
+use Rattle.aom_sound.specs.Servers.{is_server, parted, without_queue}
+use Rattle.std.proofs.lemmas.Bool.{eq-eqb}
+use Rattle.aom_sound.specs.Clients.{each_unslotted}
+use Rattle.aom_sound.proofs.ClientsKeep.{clients_keep}
+use Rattle.aom_sound.specs.Kept.{IsKept}
+use Rattle.aom_steps.proofs.Lasting.{IsApart, going_apart, lasting, lasts_below, lasts_gone, lasts_moved, resumed_closings}
+use Rattle.aom_steps.proofs.Sessions.{FewSeats, first_there, stands_at_going}
 
 -- ---- every move
 
-module _ (p : Image) (t : Typing) (c : Prices) (linked : IsLinked p) (typed : IsTyped p t) (priced : IsPriced p t c) (ch : Choice) (s : State) (w : WellTyped p t s) where
+module _ (p : Image) (t : Typing) (c : Prices) (linked : IsLinked p) (typed : IsTyped p t) (priced : IsPriced p t c) (ch : Choice) (s : State) (w : WellTyped p t s) (few : FewSeats p s.cells) where
   -- the state with these tasks
   abbrev all_left : List Task → ℕ
-  all_left ts = tasks_left p c ts + (objects_left c s.cells + operations_left c s.items)
+  all_left ts = tasks_left p c ts + closings_left p c s.cells ts + (objects_left c s.cells + operations_left c s.items)
 
   -- ---- an instruction
 
@@ -95,7 +101,7 @@ module _ (p : Image) (t : Typing) (c : Prices) (linked : IsLinked p) (typed : Is
       let at_hand : At p t (counted p s) fr sh ls = record { tasks = tasks; items = items; undos = w.undos; good = good } in
       let a = acted p ch (counted p s) u fr ts i (subst (λ o. step_instr p ch fr ts (counted p s) o ≡ Goes u) there goes) in
       let covered = covers p t c (main_of_none p linked) priced ch (counted p s) fr sh ls at_hand i it rule in
-      subst (λ x. 1 + left p c x ≤ all_left (Run fr ∷ ts)) (sym a.2) (pays p t c linked priced ch (counted p s) fr sh ls at_hand m.0 m.1 i m.2 it (effect p ch fr ts (counted p s) i) a.1 covered)
+      subst (λ x. 1 + left p c x ≤ all_left (Run fr ∷ ts)) (sym a.2) (pays p t c linked priced ch (counted p s) fr sh ls at_hand few m.0 m.1 i m.2 it (effect p ch fr ts (counted p s) i) a.1 covered)
 
   acts : (ls : List Layer) → s.tasks ≡ tasks_of ls → forms s.items ≡ items_of ls → Good p t s.cells ls → (fr : Frame) (ts : List Task) → tasks_of ls ≡ Run fr ∷ ts → ActsPay fr ts
   acts ls tasks items good fr ts at =
@@ -108,16 +114,61 @@ module _ (p : Image) (t : Typing) (c : Prices) (linked : IsLinked p) (typed : Is
   still_none [] still = refl
   still_none _ still = absurd still
 
+  -- a destruction begins over these tasks, and no more goes before servers
+  destruction :
+      (o : Object) (from : Place) (height : ℕ) (below : List Task) → held s.cells from ≡ Some o → s.tasks ≡ below → ((depth : ℕ) → IsApart depth from) →
+      tasks_left p c (begun p o height below) + closings_left p c (moved from (Going (length below)) s.cells) (begun p o height below)
+      ≤ c.destruction o.thing + (waiting_left p c below + closings_left p c (moved from (Going (length below)) s.cells) below)
+  destruction o from height below there at apart =
+      begun_left p t c priced o height below (moved from (Going (length below)) s.cells)
+      (stands_at_going p t c priced s.cells w.layers w.good few o from (length below) there (omega (arith, ap (λ ts. length ts) (sym w.tasks ∙ at))))
+
+  passed_on : (from : Place) (below : List Task) → ((depth : ℕ) → IsApart depth from) → closings_left p c (moved from (Going (length below)) s.cells) below ≤ closings_left p c s.cells below
+  passed_on from below apart = lasting p c s.cells _ below (lasts_moved (length below) from (Going (length below)) s.cells (apart (length below)) (going_apart (length below) (length below) (omega arith)) (λ n. refl))
+
   -- what a leave deals with was paid for as it was pushed
   clears :
-      (code : ℤ) (ts : List Task) (items : List Item) (o : Object) → s.items ≡ An_object ∷ items → held s.cells (Entry (length items)) ≡ Some o →
-      tasks_left p c (begun p o (length items) (Unwind code ∷ ts)) + (objects_left c (moved (Entry (length items)) (Going (length (Unwind code ∷ ts))) s.cells) + operations_left c items)
-      ≤ all_left (Unwind code ∷ ts)
-  clears code ts items o top there =
-      let destruction = begun_left p t c priced o (length items) (Unwind code ∷ ts) in
-      let cells = leaves_entry c (Entry (length items)) (Going (length (Unwind code ∷ ts))) o s.cells refl refl there in
+      (code : ℤ) (ts : List Task) (items : List Item) (o : Object) → s.tasks ≡ Unwind code ∷ ts → s.items ≡ An_object ∷ items → held s.cells (Entry (length items)) ≡ Some o →
+      left p c (record (counted p s) { cells = moved (Entry (length items)) (Going (length (Unwind code ∷ ts))) s.cells; tasks = begun p o (length items) (Unwind code ∷ ts); items = items }) ≤ all_left (Unwind code ∷ ts)
+  clears code ts items o at top there =
+      let begins = destruction o (Entry (length items)) (length items) (Unwind code ∷ ts) there at (λ depth k lt. refl) in
+      let cells = leaves_place c is_entry (Entry (length items)) (Going (length (Unwind code ∷ ts))) o s.cells refl refl there in
       let same : operations_left c s.items ≡ operations_left c items = ap (λ l. operations_left c l) top in
-      omega (arith, destruction, cells, same)
+      omega (arith, begins, passed_on (Entry (length items)) (Unwind code ∷ ts) (λ depth k lt. refl), cells, same)
+
+  -- a server that goes lets go of a session that was counted before it, or begins its destructor
+  lets_go :
+      (ts : List Task) (o : Object) (x : Seat) (client : ℕ) → x.place ≡ Elsewhere (Session o.name client) → held s.cells x.place ≡ Some x.object → s.tasks ≡ Closing ∷ Destroy ∷ ts → held s.cells (Going (length ts)) ≡ Some o →
+      left p c (parting p o (Some x) ts (counted p s)) ≤ all_left (Closing ∷ Destroy ∷ ts)
+  lets_go ts o x client place there at server =
+      let below = Closing ∷ Destroy ∷ ts in
+      let us = moved x.place (Going (length below)) s.cells in
+      let apart : ((depth : ℕ) → IsApart depth x.place) = λ depth k lt. ap (λ q. same_place q (Going k)) place in
+      let begins = destruction x.object x.place (length s.items) below there at apart in
+      let lasts = lasts_moved (suc (length ts)) x.place (Going (length below)) s.cells (apart (suc (length ts))) (going_apart (suc (length ts)) (length below) (omega arith)) (λ n. refl) in
+      let below_us = ap (λ y. closing_left p c us y) (lasts.going (length ts) (omega arith) ∙ server) in
+      let below_now = ap (λ y. closing_left p c s.cells y) server in
+      let fewer = leaves_place c (is_session_with o.name) x.place (Going (length below)) x.object s.cells (ap (is_session_with o.name) place ∙ eq-eqb o.name o.name refl) refl there in
+      let others = lasting p c s.cells us ts (lasts_below (length ts) (suc (length ts)) s.cells us (omega arith) lasts) in
+      omega (arith, begins, below_us, below_now, fewer, others, moved_less c is_entry x.place (Going (length below)) s.cells refl)
+
+  empties :
+      (ts : List Task) (o : Object) (x : Option Seat) → s.tasks ≡ Closing ∷ Destroy ∷ ts → held s.cells (Going (length ts)) ≡ Some o → first_session s.cells o.name (service_of s.cells o.name).sessions ≡ x →
+      left p c (parting p o x ts (counted p s)) ≤ all_left (Closing ∷ Destroy ∷ ts)
+  empties ts o None at server first = omega (arith, destructed_left p c o (length s.items) ts s.cells, ap (λ y. closing_left p c s.cells y) server)
+  empties ts o (Some x) at server first =
+      let found = first_there s.cells o.name (service_of s.cells o.name).sessions x first in
+      lets_go ts o x found.0 found.1 found.2 at server
+
+  -- a cell goes, and what waits in its queue
+  vanishes : (ts : List Task) (o : Object) → 1 + left p c (vanished o ts (counted p s)) ≤ all_left (Destroy ∷ ts)
+  vanishes ts o =
+      let queued = without_queue o.name s.cells in
+      let gone = without (Going (length ts)) queued in
+      let clients = (service_of s.cells o.name).sessions in
+      let after = each_unslotted clients gone in
+      let stays = lasting p c s.cells after ts (lasts_gone (length ts) o.name clients s.cells) in
+      omega (arith, resumed_alike (left_worths p c) ts, resumed_closings p c after ts, stays, each_unslotted_same c is_entry clients gone, without_less c is_entry (Going (length ts)) queued, queue_less c is_entry o.name s.cells)
 
   ended_less : (code : ℤ) (d : Dispatch) → end_left p c (ended_by code d) ≤ end_left p c d
   ended_less code Of_main = omega arith
@@ -127,6 +178,9 @@ module _ (p : Image) (t : Typing) (c : Prices) (linked : IsLinked p) (typed : Is
   ended_less code (Object_left x n) = omega arith
   ended_less code (Asks x) = omega arith
   ended_less code (Answered x n) = omega arith
+  ended_less code (Of_server x client Accepts) = omega arith
+  ended_less code (Of_server x client (Serves o)) = omega arith
+  ended_less code (Of_server x client _) = omega arith
 
   -- the root is of its declared class
   root_pays : (o : Object) (root : Option ℕ) → Fits p (seen s.cells) (Some o) (filled (root_thing root 0) Perhaps) → c.destruction o.thing ≤ root_price c root
@@ -134,15 +188,28 @@ module _ (p : Image) (t : Typing) (c : Prices) (linked : IsLinked p) (typed : Is
       omega (arith, ap (λ r. root_price c r) is, priced.stands_in o.thing (An_object_of x) fits.0))
 
   -- what is pushed, and the root's destruction, which main's end may begin
-  main_left_over : (b : Bool) (o : Option Object) (v : State) → v.cells ≡ s.cells → v.items ≡ s.items → Fits p (seen s.cells) o (filled (root_thing p.header.root 0) Perhaps) →
-      left p c (main_ends p b o v) ≤ root_price c p.header.root + (objects_left c s.cells + operations_left c s.items)
-  main_left_over true (Some o) v same alike f =
-      let destruction = begun_left p t c priced o (length v.items) (Dispatched Of_root ∷ []) in
+  main_left_over :
+      (d : Dispatch) (seats : List Seat) → Good p t s.cells (Dispatching d seats ∷ []) → (b : Bool) (o : Option Object) (v : State) → v.cells ≡ s.cells → v.items ≡ s.items → held s.cells (Elsewhere Root) ≡ o →
+      Fits p (seen s.cells) o (filled (root_thing p.header.root 0) Perhaps) → left p c (main_ends p b o v) ≤ root_price c p.header.root + (objects_left c s.cells + operations_left c s.items)
+  main_left_over d seats last true (Some o) v same alike there f =
+      let below = Dispatched Of_root ∷ [] in
+      let stands = stands_at_going p t c priced s.cells (Dispatching d seats ∷ []) last few o (Elsewhere Root) 1 there (omega arith) in
+      let begins = begun_left p t c priced o (length v.items) below (moved (Elsewhere Root) (Going 1) v.cells)
+      (subst (λ cs. is_server p o.thing ≡ true → (held (moved (Elsewhere Root) (Going 1) cs) (Going 1) ≡ Some o) × (sessions_left c o.name (moved (Elsewhere Root) (Going 1) cs) ≤ sessions_cost p (λ k. c.destruction (An_object_of k)) o.thing)) (sym same) stands) in
       let pushed = ap (λ cs. objects_left c cs) same in
       let operations = ap (λ is. operations_left c is) alike in
-      omega (arith, destruction, moved_less c (Elsewhere Root) (Going (length (Dispatched Of_root ∷ []))) v.cells refl, root_pays o p.header.root f, pushed, operations)
-  main_left_over true None v same alike f = omega (arith, ap (λ cs. objects_left c cs) same, ap (λ is. operations_left c is) alike)
-  main_left_over false o v same alike f = omega (arith, ap (λ cs. objects_left c cs) same, ap (λ is. operations_left c is) alike)
+      omega (arith, begins, moved_less c is_entry (Elsewhere Root) (Going 1) v.cells refl, root_pays o p.header.root f, pushed, operations)
+  main_left_over d seats last true None v same alike there f = omega (arith, ap (λ cs. objects_left c cs) same, ap (λ is. operations_left c is) alike)
+  main_left_over d seats last false o v same alike there f = omega (arith, ap (λ cs. objects_left c cs) same, ap (λ is. operations_left c is) alike)
+
+  -- the stage of a server's dispatch ends
+  stage_left : (x : Seat) (client : ℕ) (stage : Stage) (ts : List Task) → left p c (stage_ends x client stage (counted p s)) ≤ all_left (Dispatched (Of_server x client stage) ∷ ts)
+  stage_left x client Accepts ts = omega arith
+  stage_left x client Accepted ts = omega arith
+  stage_left x client (Accept_left code) ts = omega arith
+  stage_left x client (Serves o) ts = omega arith
+  stage_left x client (Service_left code) ts = omega (arith, without_less c is_entry (Elsewhere In_service) s.cells)
+  stage_left x client Parts ts = omega (arith, served_same c is_entry x.object.name (parted client (service_of s.cells x.object.name)) s.cells)
 
   -- a dispatch that ends stands alone
   abbrev Alone : Dispatch → Type 0
@@ -162,8 +229,9 @@ module _ (p : Image) (t : Typing) (c : Prices) (linked : IsLinked p) (typed : Is
   of_dispatch Of_root ts at goes_on = omega arith
   of_dispatch Of_main ts at goes_on =
       let last = alone Of_main ts at in
-      omega (arith, main_left_over s.rest.stopped (held s.cells (Elsewhere Root)) (counted p s) refl refl (last.1.fits (Elsewhere Root)))
+      omega (arith, main_left_over Of_main last.0 last.1 s.rest.stopped (held s.cells (Elsewhere Root)) (counted p s) refl refl refl (last.1.fits (Elsewhere Root)))
   of_dispatch (Object_left x code) ts at goes_on = omega (arith, asked_left ts x code (part_of p Error x.object.thing) goes_on)
+  of_dispatch (Of_server x client stage) ts at goes_on = stage_left x client stage ts
   of_dispatch _ ts at goes_on = cc
 
   -- ---- the dispatch of an object ends
@@ -177,7 +245,7 @@ module _ (p : Image) (t : Typing) (c : Prices) (linked : IsLinked p) (typed : Is
     object_left_over : left p c (object_ends p (counted p s)) ≤ main_price p c
     object_left_over =
         let bare = none_at_end c p t s.cells s.items d seats last items in
-        omega (arith, bare, root_in_main, main_left_over s.rest.stopped (held s.cells (Elsewhere Root)) (handled (counted p s)) refl refl root)
+        omega (arith, bare, root_in_main, main_left_over d seats last s.rest.stopped (held s.cells (Elsewhere Root)) (handled (counted p s)) refl refl refl root)
 
     answer_left_over : (answer : ℤ) → left p c (answered p answer (counted p s)) ≤ main_price p c
     answer_left_over answer = go (int_eq answer (pos 0))
@@ -210,6 +278,7 @@ module _ (p : Image) (t : Typing) (c : Prices) (linked : IsLinked p) (typed : Is
   restart_pays u (Rests still same) ends = not_over s.tasks u refl ends (still_on s.tasks still)
   restart_pays u (Acts fr ts i e at there met fits same) ends = not_over (Run fr ∷ ts) u at ends refl
   restart_pays u (Vanishes ts o at there owns same) ends = not_over (Destroy ∷ ts) u at ends refl
+  restart_pays u (Empties ts o at there same) ends = not_over (Closing ∷ Destroy ∷ ts) u at ends refl
   restart_pays u (Clears code ts items o at top there same) ends = not_over (Unwind code ∷ ts) u at ends refl
   restart_pays u (Undoes code ts items m x at top same) ends = not_over (Unwind code ∷ ts) u at ends refl
   restart_pays u (Arrives code fr ts items at top same) ends = not_over (Unwind code ∷ Trapped ∷ Run fr ∷ ts) u at ends refl
@@ -225,8 +294,9 @@ module _ (p : Image) (t : Typing) (c : Prices) (linked : IsLinked p) (typed : Is
   move_pays u goes (Rests still same) goes_on = by s.tasks u _ refl same (omega (arith, still_none s.tasks still))
   move_pays u goes (Acts fr ts i e at there met fits same) goes_on =
       by (Run fr ∷ ts) u u at refl (acts w.layers w.tasks w.items w.good fr ts (sym w.tasks ∙ at) i u there (subst (λ l. step_task p ch (counted p s) l ≡ Goes u) at goes))
-  move_pays u goes (Vanishes ts o at there owns same) goes_on = by (Destroy ∷ ts) u _ at same (omega (arith, resumed_alike (left_worths p c) ts, without_less c (Going (length ts)) s.cells))
-  move_pays u goes (Clears code ts items o at top there same) goes_on = by (Unwind code ∷ ts) u _ at same (omega (arith, clears code ts items o top there))
+  move_pays u goes (Vanishes ts o at there owns same) goes_on = by (Destroy ∷ ts) u _ at same (vanishes ts o)
+  move_pays u goes (Empties ts o at there same) goes_on = by (Closing ∷ Destroy ∷ ts) u _ at same (omega (arith, empties ts o (first_session s.cells o.name (service_of s.cells o.name).sessions) at there refl))
+  move_pays u goes (Clears code ts items o at top there same) goes_on = by (Unwind code ∷ ts) u _ at same (omega (arith, clears code ts items o at top there))
   move_pays u goes (Undoes code ts items m x at top same) goes_on =
       let paid : operations_left c s.items ≡ price c m + operations_left c items = ap (λ l. operations_left c l) top in
       by (Unwind code ∷ ts) u _ at same (omega (arith, paid, fresh_rounds c m (method_at p m)))
@@ -249,55 +319,55 @@ boot_within p c = go (main_of p) refl
     go (Some m) e = record { within = rw e (omega (arith, fresh_rounds c m (method_at p m))) }
 
 step_pays :
-    (p : Image) (t : Typing) (c : Prices) → IsLinked p → IsTyped p t → IsPriced p t c → (ch : Choice) (s u : State) → WellTyped p t s → step p ch s ≡ Goes u →
+    (p : Image) (t : Typing) (c : Prices) → IsLinked p → IsTyped p t → IsPriced p t c → (ch : Choice) (s u : State) → WellTyped p t s → IsKept p s → step p ch s ≡ Goes u →
     restarts p s.tasks ≡ false → steps_of s.tasks + left p c u ≤ left p c s
-step_pays p t c linked typed priced ch s u w goes = move_pays p t c linked typed priced ch s w u goes (steps_are_moves p ch s u goes)
+step_pays p t c linked typed priced ch s u w kept goes = move_pays p t c linked typed priced ch s w kept.fit.seats u goes (steps_are_moves p ch s u goes)
 
 restart_left :
-    (p : Image) (t : Typing) (c : Prices) → IsLinked p → IsTyped p t → IsPriced p t c → (ch : Choice) (s u : State) → WellTyped p t s → step p ch s ≡ Goes u →
+    (p : Image) (t : Typing) (c : Prices) → IsLinked p → IsTyped p t → IsPriced p t c → (ch : Choice) (s u : State) → WellTyped p t s → IsKept p s → step p ch s ≡ Goes u →
     restarts p s.tasks ≡ true → left p c u ≤ main_price p c
-restart_left p t c linked typed priced ch s u w goes = restart_pays p t c linked typed priced ch s w u (steps_are_moves p ch s u goes)
+restart_left p t c linked typed priced ch s u w kept goes = restart_pays p t c linked typed priced ch s w kept.fit.seats u (steps_are_moves p ch s u goes)
 
 pub moves_pay : MovesPay
 moves_pay = record {
   pays = step_pays;
   restarts_pay = restart_left;
   payers = payers;
-  within = λ p t c linked typed priced ch s u w goes n enough h. go p t c linked typed priced ch s u w goes n h (restarts p s.tasks) refl enough;
+  within = λ p t c linked typed priced ch s u w kept goes n enough h. go p t c linked typed priced ch s u w kept goes n h (restarts p s.tasks) refl enough;
 }
   where
     go :
-        (p : Image) (t : Typing) (c : Prices) → IsLinked p → IsTyped p t → IsPriced p t c → (ch : Choice) (s u : State) → WellTyped p t s → step p ch s ≡ Goes u →
+        (p : Image) (t : Typing) (c : Prices) → IsLinked p → IsTyped p t → IsPriced p t c → (ch : Choice) (s u : State) → WellTyped p t s → IsKept p s → step p ch s ≡ Goes u →
         (n : ℕ) → WithinBudget p c n s → (b : Bool) → restarts p s.tasks ≡ b → (restarts p s.tasks ≡ true → main_price p c ≤ n) → WithinBudget p c n u
-    go p t c linked typed priced ch s u w goes n h true ends enough = record {
+    go p t c linked typed priced ch s u w kept goes n h true ends enough = record {
       within =
-          omega (arith, restart_left p t c linked typed priced ch s u w goes ends, none_counted p ch s u goes ends, enough ends);
+          omega (arith, restart_left p t c linked typed priced ch s u w kept goes ends, none_counted p ch s u goes ends, enough ends);
     }
-    go p t c linked typed priced ch s u w goes n h false on enough = record {
+    go p t c linked typed priced ch s u w kept goes n h false on enough = record {
       within =
-          omega (arith, step_pays p t c linked typed priced ch s u w goes on, steps_counted p ch s u goes on, h.within);
+          omega (arith, step_pays p t c linked typed priced ch s u w kept goes on, steps_counted p ch s u goes on, h.within);
     }
 
 module _ (p : Image) (t : Typing) (c : Prices) (outside : Outside) (wired : IsWired p) (linked : IsLinked p) (typed : IsTyped p t) (priced : IsPriced p t c) where
-  well : {lines : List Line} {s : State} → Reaches p outside (boot_state p) lines s → WellTyped p t s
-  well {lines = lines} {s = s} reached = well_on p t outside wired typed (boot_state p) (boot_keeps p t wired typed) lines s reached
+  well : {lines : List Line} {s : State} → Reaches p outside (boot_state p) lines s → WellKept p t s
+  well {lines = lines} {s = s} reached = well_on p t outside wired typed (boot_state p) (boot_keeps p t wired typed, clients_keep.boot p) lines s reached
 
   -- within the price of what pays at that state
   abbrev Within : ℕ → State → Type 0
   Within n s = n + left p c s ≤ price_of p c (payer s.tasks)
 
   -- with a move: what was taken is taken still, or steps are counted anew
-  moves_on : (s u : State) (ch : Choice) (n : ℕ) → WellTyped p t s → step p ch s ≡ Goes u → Within n s → (b : Bool) → restarts p s.tasks ≡ b → Within (cond b 0 (n + steps_of s.tasks)) u
+  moves_on : (s u : State) (ch : Choice) (n : ℕ) → WellKept p t s → step p ch s ≡ Goes u → Within n s → (b : Bool) → restarts p s.tasks ≡ b → Within (cond b 0 (n + steps_of s.tasks)) u
   moves_on s u ch n w goes h true ends =
       let main = payers p ch s u goes ∙ ap (λ b. cond b None (payer s.tasks)) ends in
-      omega (arith, restart_left p t c linked typed priced ch s u w goes ends, ap (λ x. price_of p c x) main)
+      omega (arith, restart_left p t c linked typed priced ch s u w.0 w.1 goes ends, ap (λ x. price_of p c x) main)
   moves_on s u ch n w goes h false on =
       let same = payers p ch s u goes ∙ ap (λ b. cond b None (payer s.tasks)) on in
-      omega (arith, h, step_pays p t c linked typed priced ch s u w goes on, ap (λ x. price_of p c x) same)
+      omega (arith, h, step_pays p t c linked typed priced ch s u w.0 w.1 goes on, ap (λ x. price_of p c x) same)
 
   -- and with a turn
   turns_on : (heard : Heard) (s u : State) (n : ℕ) → WellTyped p t s → s.tasks ≡ [] → turn p outside heard s ≡ Goes u → Within n s → (b : Bool) → starts (turning outside heard s) ≡ b → Within (cond b 0 n) u
-  turns_on heard s u n w idle goes h true begun = omega (arith, turns_pay.begins p t c outside heard s u w idle goes begun)
+  turns_on heard s u n w idle goes h true begun = omega (arith, turns_pay.begins p t c linked priced outside heard s u w idle goes begun)
   turns_on heard s u n w idle goes h false on =
       let passed = turns_pay.passes p c outside heard s u idle goes on in
       omega (arith, h, passed.1, ap (λ ts. price_of p c (payer ts)) (passed.0 ∙ sym idle))
@@ -309,46 +379,13 @@ module _ (p : Image) (t : Typing) (c : Prices) (outside : Outside) (wired : IsWi
   stays : {lines : List Line} {s : State} (reached : Reaches p outside (boot_state p) lines s) → Within (taken reached) s
   stays begins = omega (arith, (boot_within p c).within, ap (λ x. price_of p c x) (by_main (main_of p)))
   stays (moves {s = s} {u = u} ch reached busy opened goes) = moves_on s u ch (taken reached) (well reached) goes (stays reached) (restarts p s.tasks) refl
-  stays (turns {s = s} {u = u} heard reached between owed goes) = turns_on heard s u (taken reached) (well reached) between.idle goes (stays reached) (starts (turning outside heard s)) refl
+  stays (turns {s = s} {u = u} heard reached between owed goes) = turns_on heard s u (taken reached) (well reached).0 between.idle goes (stays reached) (starts (turning outside heard s)) refl
 
 -- ---- what is declared
 
--- a class whose objects are dispatched is one of active objects
-active_so : (k : Option ClassKind) → is_active_in k ≡ true → is_active_kind k ≡ true
-unfolding is_active_in
-active_so (Some (Active provider budget)) e = refl
-active_so _ e = cc
-
-module _ (p : Image) (linked : IsLinked p) (x : ℕ) where
-  shaped : (role : Role) (m : ℕ) → role_of p x role ≡ Some m → (d : Method_declared) × HasShape role (kind_of p (Some x)) d
-  unfolding method_at
-  shaped role m e =
-      let w = role_found p x m role e in
-      let all : IsShaped p w.0 = all_there (IsShaped p) p.methods m w.0 linked.shapes w.1 in
-      (w.0, subst (λ k. HasShape role (kind_of p k) w.0) w.2 (subst (λ r. HasShape r (kind_of p w.0.class) w.0) w.3 all.role))
-
-  abbrev IsActive : Type 0
-  IsActive = is_active_kind (kind_of p (Some x)) ≡ true
-
-  -- no other has a price
-  unpriced : (c : Prices) → is_active_kind (kind_of p (Some x)) ≡ false → object_price p c x ≤ 0
-  unpriced c none = go (role_of p x Handles) (role_of p x Error) (λ m e. active_so (kind_of p (Some x)) (shaped Handles m e).1.of) (λ m e. active_so (kind_of p (Some x)) (shaped Error m e).1.of)
-    where
-      go : (a b : Option ℕ) → ((m : ℕ) → a ≡ Some m → IsActive) → ((m : ℕ) → b ≡ Some m → IsActive) → perhaps_price c a + perhaps_price c b ≤ 0
-      go None None runs answers = omega arith
-      go (Some m) b runs answers = let clash : true ≡ false = sym (runs m refl) ∙ none in cc
-      go None (Some m) runs answers = let clash : true ≡ false = sym (answers m refl) ∙ none in cc
-
-  object_declared : (c : Prices) → AffordsObjects p c → object_price p c x ≤ declared_of p (Some x)
-  object_declared c affords = go (is_active_kind (kind_of p (Some x))) refl
-    where
-      go : (b : Bool) → is_active_kind (kind_of p (Some x)) ≡ b → object_price p c x ≤ declared_of p (Some x)
-      go true e = affords.each x e
-      go false e = omega (arith, unpriced c e)
-
-all_declared : (p : Image) (t : Typing) (c : Prices) → IsLinked p → IsAffordable p t c → AffordsObjects p c → (payer : Option ℕ) → price_of p c payer ≤ declared_of p payer
-all_declared p t c linked affords objects None = affords.declared
-all_declared p t c linked affords objects (Some x) = object_declared p linked x c objects
+all_declared : (p : Image) (t : Typing) (c : Prices) → IsAffordable p t c → AffordsObjects p c → (payer : Option ℕ) → price_of p c payer ≤ declared_of p payer
+all_declared p t c affords objects None = affords.declared
+all_declared p t c affords objects (Some x) = objects.each x
 
 -- a declaration is a number of 32 bits
 declared_fits : (p : Image) → WellFormed p → (payer : Option ℕ) → declared_of p payer < 2 ^ 32
@@ -359,8 +396,8 @@ declared_fits p formed (Some x) = of_class (slice_get p.classes x) refl
     of_kind : (d : ClassDecl) → ClassFits (length p.classes) p.header.natives d → (k : ClassKind) → d.kind ≡ k → class_budget (Some k) < 2 ^ 32
     of_kind d fits (Active provider budget) e = (subst (λ k. KindFits (length p.classes) p.header.natives k) e fits.kind).1
     of_kind d fits Plain e = omega arith
-    of_kind d fits (Server most session budget) e = omega arith
-    of_kind d fits Session e = omega arith
+    of_kind d fits (Server most session budget) e = (subst (λ k. KindFits (length p.classes) p.header.natives k) e fits.kind).3
+    of_kind d fits A_session e = omega arith
 
     of_class : (o : Option ClassDecl) → slice_get p.classes x ≡ o → class_budget (kind_in o) < 2 ^ 32
     of_class None e = omega arith
@@ -391,12 +428,26 @@ module _ (limit : ℕ) (p : Image) (t : Typing) (c : Prices) (wired : IsWired p)
           let w = role_found p x m role e in
           omega (arith, are.methods m (subst (λ o. IsSome o) (sym w.1) refl), less)
 
+  same_dispatch : (x : ℕ) (k : Option ClassKind) → dispatch_price p c x k < limit → dispatch_price p are.whole.prices x k ≡ dispatch_price p c x k
+  same_dispatch x None less = refl
+  same_dispatch x (Some Plain) less = refl
+  same_dispatch x (Some A_session) less = refl
+  same_dispatch x (Some (Active provider budget)) less = omega (arith, same_part x Handles (omega (arith, less)), same_part x Error (omega (arith, less)))
+  same_dispatch x (Some (Server most session budget)) less =
+      let a = perhaps_price c (role_of p x Accept) in
+      let b = perhaps_price c (role_of p session Attends) in
+      let d = c.destruction (An_object_of session) in
+      let accepts = same_part x Accept (omega (arith, less, le-max_left a (max b d))) in
+      let attends = same_part session Attends (omega (arith, less, le-max_left b d, le-max_right a (max b d))) in
+      let parts : are.whole.prices.destruction (An_object_of session) ≡ d = omega (arith, are.classes (An_object_of session), less, le-max_right b d, le-max_right a (max b d)) in
+      ap (λ n. max n (max (perhaps_price are.whole.prices (role_of p session Attends)) (are.whole.prices.destruction (An_object_of session)))) accepts
+      ∙ ap (λ n. max a (max n (are.whole.prices.destruction (An_object_of session)))) attends ∙ ap (λ n. max a (max b n)) parts
+
   pub objects_below : ((x : ℕ) → declared_of p (Some x) < limit) → AffordsObjects p c → AffordsObjects p are.whole.prices
   objects_below below affords = record {
-    each = λ x active.
-        let most = affords.each x active in
-        let less = below x in
-        omega (arith, same_part x Handles (omega (arith, most, less)), same_part x Error (omega (arith, most, less)), most);
+    each = λ x.
+        let most = affords.each x in
+        omega (arith, same_dispatch x (kind_of p (Some x)) (omega (arith, most, below x)), most);
   }
 
 pub steps_within : StepsWithin
@@ -420,7 +471,7 @@ steps_within = record { price = by_price; main = of_main; each = by_budget; limi
     }
       where
         within : (lines : List Line) (s : State) (reached : Reaches p outside (boot_state p) lines s) → taken reached ≤ declared_of p (payer s.tasks)
-        within lines s reached = omega (arith, by_price p t c outside formed linked typed affords.priced lines s reached, all_declared p t c linked affords objects (payer s.tasks))
+        within lines s reached = omega (arith, by_price p t c outside formed linked typed affords.priced lines s reached, all_declared p t c affords objects (payer s.tasks))
 
     by_limit :
         (limit : ℕ) (p : Image) (t : Typing) (c : Prices) (outside : Outside) → WellFormed p → IsLinked p → IsTyped p t → ArePricesUpTo limit p t c →

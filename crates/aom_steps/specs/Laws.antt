@@ -1,10 +1,11 @@
 -- The laws of steps.
-use Rattle.std.specs.Prelude.{ℕ, true, false, cond, ◌+◌, ◌≤◌, ◌<◌, ◌≡◌, List, [], Option, Some, None}
+use Rattle.std.specs.Prelude.{ℕ, true, false, cond, ◌+◌, ◌≤◌, ◌<◌, ◌≡◌, List, [], Some, None}
 use Rattle.aom_image.specs.Image.{Image}
 use Rattle.aom_image.specs.WellFormed.{WellFormed}
 use Rattle.aom_classes.specs.Linked.{IsLinked}
 use Rattle.aom_rules.specs.Typing.{Typing, IsTyped}
 use Rattle.aom_sound.specs.Counting.{restarts, starts, steps_of, taken}
+use Rattle.aom_sound.specs.Kept.{IsKept}
 use Rattle.aom_sound.specs.Moves.{step}
 use Rattle.aom_sound.specs.State.{State, Choice, Goes}
 use Rattle.aom_sound.specs.WellTyped.{WellTyped}
@@ -20,25 +21,25 @@ use Rattle.aom_steps.specs.Payers.{AffordsObjects, declared_of, payer, price_of}
 abbrev pub BootWithin : Type 0
 BootWithin = (p : Image) (c : Prices) → WithinBudget p c (main_price p c) (boot_state p)
 
--- a move pays for the steps that it is, so the steps so far and all that may still come stay within what they were within
+-- where clients are kept a move pays for the steps that it is, so the steps so far and all that may still come stay within what they were within
 pub record MovesPay : Type 0 where
   pub pays :
-      (p : Image) (t : Typing) (c : Prices) → IsLinked p → IsTyped p t → IsPriced p t c → (ch : Choice) (s u : State) → WellTyped p t s → step p ch s ≡ Goes u →
+      (p : Image) (t : Typing) (c : Prices) → IsLinked p → IsTyped p t → IsPriced p t c → (ch : Choice) (s u : State) → WellTyped p t s → IsKept p s → step p ch s ≡ Goes u →
       restarts p s.tasks ≡ false → steps_of s.tasks + left p c u ≤ left p c s
   -- as the dispatch of an object ends, steps are counted anew, and what may still come is the root's destruction: main's price pays for it
   pub restarts_pay :
-      (p : Image) (t : Typing) (c : Prices) → IsLinked p → IsTyped p t → IsPriced p t c → (ch : Choice) (s u : State) → WellTyped p t s → step p ch s ≡ Goes u →
+      (p : Image) (t : Typing) (c : Prices) → IsLinked p → IsTyped p t → IsPriced p t c → (ch : Choice) (s u : State) → WellTyped p t s → IsKept p s → step p ch s ≡ Goes u →
       restarts p s.tasks ≡ true → left p c u ≤ main_price p c
   -- the payer stays until then, and is main from then on
   pub payers : (p : Image) (ch : Choice) (s u : State) → step p ch s ≡ Goes u → payer u.tasks ≡ cond (restarts p s.tasks) None (payer s.tasks)
   pub within :
-      (p : Image) (t : Typing) (c : Prices) → IsLinked p → IsTyped p t → IsPriced p t c → (ch : Choice) (s u : State) → WellTyped p t s → step p ch s ≡ Goes u →
+      (p : Image) (t : Typing) (c : Prices) → IsLinked p → IsTyped p t → IsPriced p t c → (ch : Choice) (s u : State) → WellTyped p t s → IsKept p s → step p ch s ≡ Goes u →
       (n : ℕ) → (restarts p s.tasks ≡ true → main_price p c ≤ n) → WithinBudget p c n s → WithinBudget p c n u
 
--- a turn that dispatches an object begins with the price of its class, and any other costs nothing: whatever comes from outside, and whatever a native completes
+-- a turn that dispatches an object or a server begins with the price of its class, and any other costs nothing: whatever comes from outside, whatever a native completes, and whatever a client asks
 pub record TurnsPay : Type 0 where
   pub begins :
-      (p : Image) (t : Typing) (c : Prices) (outside : Outside) (heard : Heard) (s u : State) → WellTyped p t s → s.tasks ≡ [] → turn p outside heard s ≡ Goes u →
+      (p : Image) (t : Typing) (c : Prices) → IsLinked p → IsPriced p t c → (outside : Outside) (heard : Heard) (s u : State) → WellTyped p t s → s.tasks ≡ [] → turn p outside heard s ≡ Goes u →
       starts (turning outside heard s) ≡ true → left p c u ≤ price_of p c (payer u.tasks)
   pub passes :
       (p : Image) (c : Prices) (outside : Outside) (heard : Heard) (s u : State) → s.tasks ≡ [] → turn p outside heard s ≡ Goes u →

@@ -13,7 +13,7 @@ use Rattle.aom_image.specs.declared.method.Role.{Role}
 use Rattle.aom_image.specs.declared.method.Role.TheVariants.{Do}
 use Rattle.aom_image.specs.declared.method.Thing.{Thing}
 use Rattle.aom_image.specs.declared.method.Thing.TheVariants.{Object as An_object_of, Message}
-use Rattle.aom_sound.specs.Places.{Place, Register, Elsewhere, Root, Cell}
+use Rattle.aom_sound.specs.Places.{Place, Register, Elsewhere, Root, Cell, unserved}
 use Rattle.aom_sound.specs.State.{Home, Static, Inside, Frame, frame_of, Task, Run, Trapped, Dispatched, Of_main, Item, A_mark, State, Choice, Need, Outcome, Goes, IsStuck, Stuck, Unbalanced, PopUnder, PushNoTrap, LeaveNoTrap, AlreadyActive, ActiveDestroyed, Stray, AddedWrong, RequestOverlap, CancelHang, CompletedTwice, MessageLost, Orphan, NullOrDead, WrongKind, ClosedWhileOutstanding}
 use Rattle.aom_sound.specs.Moves.{needs, step}
 
@@ -74,7 +74,7 @@ abbrev pub seven : Option ℤ
 seven = Some (pos 7)
 
 abbrev pub a_cell : ℕ → Thing → Place → Cell
-a_cell name thing owner = record { object = record { name = name; thing = thing }; words = []; request = None; session = false; owner = owner }
+a_cell name thing owner = record { object = record { name = name; thing = thing }; words = []; request = None; session = false; service = unserved; owner = owner }
 
 -- main's dispatch under its trap
 abbrev pub at_bottom : List Task
@@ -97,6 +97,7 @@ state_of tasks cells items =
       items = items;
       rest = record { clock = 0; requests = 0; steps = 0; dispatches = 0; announced = true; stopped = false; delivered = 0; polled = 0; ended = None };
       killed = [];
+      clients = [];
     }
 
 -- ---- the cases

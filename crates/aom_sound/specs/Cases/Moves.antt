@@ -94,15 +94,13 @@ standing_cases =
     ∷ at (WrongKind ∷ []) (state_of (Run (frame_of 2 Static 1) ∷ at_bottom) [] (A_mark ∷ []))
     ∷ []
 
--- which is one of those that are done so far
+-- what cancels works on an object, what takes a message serves one, and what is completed is one
 abbrev pub later_cases : List Case
 later_cases =
-    map (λ i. fails i (WrongKind ∷ [])) (
-    Cancel
-    ∷ TakeMessage 0
-    ∷ Reply 0 1
+    fails Cancel (WrongKind ∷ [])
+    ∷ fails (TakeMessage 0) (NullOrDead ∷ NullOrDead ∷ [])
+    ∷ fails (Reply 0 1) (NullOrDead ∷ WrongKind ∷ [])
     ∷ []
-    )
 
 -- each need of a move bites
 pub record MovesBite : Type 0 where

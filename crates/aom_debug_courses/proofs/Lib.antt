@@ -1,0 +1,5 @@
+pub mod Strides
+pub mod Going
+pub mod Turning
+pub mod Passing
+pub mod Leaving

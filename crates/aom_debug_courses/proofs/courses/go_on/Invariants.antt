@@ -1,0 +1,26 @@
+use Rattle.std.proofs.Common.{◌≡◌}
+use Rattle.aom_exec.specs.Steps.{progress}
+use Rattle.aom_machine.specs.Calls.{Stands, natives_of}
+use Rattle.aom_natives.specs.Slots.{AllAgree}
+use Rattle.aom_run.specs.Turns.{hearing}
+use Rattle.aom_debug_moves.specs.Sends.{Sends}
+use Rattle.aom_debug_moves.proofs.Sending.{to_go}
+use Rattle.aom_debug_courses.specs.Courses.{stays_at}
+use Rattle.aom_debug_courses.specs.declared.walking.Until.TheVariants.{Breakpoint}
+use Rattle.aom_debug_courses.proofs.Leaving.{left_in}
+use Rattle.aom_debug_courses.proofs.Passing.{GoesFar}
+use Rattle.aom_debug_courses.proofs.courses.go_on.Given as goal
+
+abbrev pub invariant-loop-progress : goal.invariant-loop-progress
+invariant-loop-progress g l = record {
+  so_far : Sends (GoesFar l.fn.machine.core.image (hearing l.fn.turn.refused l.fn.limit (natives_of l.fn.machine) l.fn.events) (λ s. stays_at l.fn.machine.core.image Breakpoint l.fn.breakpoints s)) l.fn.machine (g.W.Sink.out l.fn.out) (g.W.Sink.out l.out) l.machine;
+  far : l.progress ≡ progress l.machine.core;
+  stands : Stands l.machine;
+  agree : AllAgree (λ x. x.ids) (λ x. (goal.Native-dyn g (x.native.vtable, x.native.value)).owed x.native.value) l.machine.natives.slots.items;
+  image : l.machine.core.image ≡ l.fn.machine.core.image;
+  natives : natives_of l.machine ≡ natives_of l.fn.machine;
+  turn : l.turn ≡ l.fn.turn;
+}
+
+abbrev pub decreases-loop-progress : goal.decreases-loop-progress
+decreases-loop-progress g l = to_go l.progress (left_in l.fn.events l.fn.limit l.machine.core.parts.rest)

@@ -1,0 +1,23 @@
+use Rattle.std.proofs.Common.{◌≡◌}
+use Rattle.aom_exec.specs.Steps.{progress, rank}
+use Rattle.aom_parts.specs.declared.progress.Progress.TheVariants.{Running}
+use Rattle.aom_machine.specs.Calls.{Stands, natives_of}
+use Rattle.aom_natives.specs.Slots.{AllAgree}
+use Rattle.aom_debug_moves.specs.Sends.{Sends}
+use Rattle.aom_debug_courses.specs.Courses.{stays_at}
+use Rattle.aom_debug_courses.proofs.Strides.{Underway}
+use Rattle.aom_debug_courses.proofs.walking.walk.Given as goal
+
+abbrev pub invariant-loop-progress : goal.invariant-loop-progress
+invariant-loop-progress g l = record {
+  so_far : Sends (Underway l.fn.machine.core.image l.fn.turn.refused (λ s. stays_at l.fn.machine.core.image l.fn.until l.fn.breakpoints s)) l.fn.machine (g.W.Sink.out l.fn.out) (g.W.Sink.out l.out) l.machine;
+  running : progress l.machine.core ≡ Running;
+  stands : Stands l.machine;
+  agree : AllAgree (λ x. x.ids) (λ x. (goal.Native-dyn g (x.native.vtable, x.native.value)).owed x.native.value) l.machine.natives.slots.items;
+  image : l.machine.core.image ≡ l.fn.machine.core.image;
+  natives : natives_of l.machine ≡ natives_of l.fn.machine;
+  turn : l.turn ≡ l.fn.turn;
+}
+
+abbrev pub decreases-loop-progress : goal.decreases-loop-progress
+decreases-loop-progress g l = rank l.machine.core

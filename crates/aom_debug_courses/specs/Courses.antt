@@ -1,0 +1,97 @@
+-- How far a debugger goes on.
+use Rattle.std.specs.Prelude.{◌≡◌, ◌≢◌, ◌⊎◌, ◌<◌, ℕ, suc, Bool, true, false, List, [], ◌++◌, Option, Some, None, is_some}
+use Rattle.aom_image.specs.Image.{Image}
+use Rattle.aom_sound.specs.State.{State}
+use Rattle.aom_sound.specs.World.{Outside}
+use Rattle.aom_transcript.specs.declared.line.Line.{Line}
+use Rattle.aom_parts.specs.declared.progress.Progress.TheVariants.{Running}
+use Rattle.aom_parts.specs.Progress.{progress_of}
+use Rattle.aom_exec.specs.Steps.{IsAtHand}
+use Rattle.aom_debug_marks.specs.Marks.{has_spot}
+use Rattle.aom_debug_marks.specs.declared.spot.Spot.{Spot}
+use Rattle.aom_debug_views.specs.Next.{next_of, root_is_due, spot_of}
+use Rattle.aom_debug_moves.specs.Moves.{Arrives, Strides}
+use Rattle.aom_debug_moves.specs.Sends.{Leads, Then}
+use Rattle.aom_debug_courses.specs.declared.walking.Until.{Until}
+use Rattle.aom_debug_courses.specs.declared.walking.Until.TheVariants.{EndOfDispatch, Breakpoint}
+
+-- ---- places to stay
+
+-- an instruction with a breakpoint is next
+abbrev pub is_broken : List Spot → Option Spot → Bool
+is_broken spots None = false
+is_broken spots (Some spot) = has_spot spot spots
+
+-- a place to stay, where something is at hand
+abbrev pub stays_at : Image → Until → List Spot → State → Bool
+stays_at p EndOfDispatch spots s = root_is_due p s
+stays_at p Breakpoint spots s = is_broken spots (spot_of (next_of p s))
+
+-- the run is over
+abbrev pub IsOver : State → Type 0
+IsOver s = is_some s.rest.ended ≡ true
+
+-- nothing is at hand, or it is a place to stay
+abbrev pub IsThere : (State → Bool) → State → Type 0
+IsThere stays s = (progress_of s ≢ Running) ⊎ (stays s ≡ true)
+
+-- nothing is done
+abbrev pub Rests : List Line → State → State → Type 0
+Rests lines u s = (lines ≡ []) × (u ≡ s)
+
+-- ---- steps one after another, in one dispatch
+
+-- so many of them; each but the first from a place that is none to stay at
+pub data Walks (p : Image) (refused : List ℕ) (stays : State → Bool) (s : State) : ℕ → List Line → State → Type 0 where
+  begins : Walks p refused stays s 0 [] s
+  strides : {n : ℕ} {lines more : List Line} {v u : State} → Walks p refused stays s n lines v → IsAtHand v → (n ≢ 0 → stays v ≡ false) → Strides p refused v more u → Walks p refused stays s (suc n) (lines ++ more) u
+
+-- one step at least, until nothing is at hand or it is a place to stay
+abbrev pub WalksThere : Image → List ℕ → (State → Bool) → Leads
+WalksThere p refused stays s lines u = (n : ℕ) × Walks p refused stays s (suc n) lines u × IsThere stays u
+
+-- that where something is at hand, and nothing where nothing is
+abbrev pub WalksIfAny : Image → List ℕ → (State → Bool) → Leads
+WalksIfAny p refused stays s lines u = ((progress_of s ≢ Running) × Rests lines u s) ⊎ WalksThere p refused stays s lines u
+
+-- that where it is no place to stay, and nothing where it is
+abbrev pub WalksOn : Image → List ℕ → (State → Bool) → Leads
+WalksOn p refused stays s lines u = ((stays s ≡ true) × Rests lines u s) ⊎ ((stays s ≡ false) × WalksThere p refused stays s lines u)
+
+-- in the dispatch at hand, or in the next; nothing where there is none, and the run is over
+abbrev pub InDispatch : Image → Outside → Leads → Leads
+InDispatch p outside leads = Then (Arrives p outside) (λ s lines u. (IsOver s × Rests lines u s) ⊎ (IsAtHand s × leads s lines u))
+
+-- to its end; with the root's destruction due it is at its end
+abbrev pub TurnsOver : Image → Outside → Leads
+TurnsOver p outside = InDispatch p outside (WalksThere p outside.refused (λ s. root_is_due p s))
+
+-- ---- so many steps
+
+-- each after the turns that come before it
+pub data Goes (p : Image) (outside : Outside) (s : State) : ℕ → List Line → State → Type 0 where
+  begins : Goes p outside s 0 [] s
+  strides : {n : ℕ} {lines first later : List Line} {v w u : State} → Goes p outside s n lines v → Arrives p outside v first w → IsAtHand w → Strides p outside.refused w later u → Goes p outside s (suc n) (lines ++ (first ++ later)) u
+
+-- so many, or fewer where the run ends before
+abbrev pub GoesBy : Image → Outside → ℕ → Leads
+GoesBy p outside steps s lines u = Goes p outside s steps lines u ⊎ ((n : ℕ) × (n < steps) × Then (λ a ls b. Goes p outside a n ls b) (Arrives p outside) s lines u × IsOver u)
+
+-- ---- to a place to stay, or to the end of the run
+
+-- where something was at hand at first a step was made
+abbrev pub HasBegun : ℕ → State → Type 0
+HasBegun n s = progress_of s ≡ Running → n ≢ 0
+
+-- so many steps, each after the turns that come before it, and, once it has begun, none from a place to stay
+pub data Passes (p : Image) (outside : Outside) (stays : State → Bool) (s : State) : ℕ → List Line → State → Type 0 where
+  begins : Passes p outside stays s 0 [] s
+  strides : {n : ℕ} {lines first later : List Line} {v w u : State} → Passes p outside stays s n lines v → Arrives p outside v first w → IsAtHand w → (HasBegun n s → stays w ≡ false) → Strides p outside.refused w later u → Passes p outside stays s (suc n) (lines ++ (first ++ later)) u
+
+-- some steps and the turns behind them, up to the first place to stay once it has begun, or to the end of the run
+abbrev pub GoesOn : Image → Outside → (State → Bool) → Leads
+GoesOn p outside stays s lines u = (n : ℕ) × Then (λ a ls b. Passes p outside stays a n ls b) (Arrives p outside) s lines u × HasBegun n s × (IsOver u ⊎ (stays u ≡ true))
+
+-- until an instruction with a breakpoint is next, but for where it begins, or to the end of the run
+abbrev pub GoesToBreakpoint : Image → Outside → List Spot → Leads
+GoesToBreakpoint p outside spots = GoesOn p outside (λ s. stays_at p Breakpoint spots s)

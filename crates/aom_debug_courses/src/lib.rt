@@ -1,0 +1,13 @@
+//! How far a debugger goes on: by so many steps, to the end of a dispatch, or to a breakpoint.
+//!
+//! `go_steps`, `go_turn` and `go_on` go by the moves of `aom_debug_moves` one after another. Each promises how many steps were made, where
+//! they end and that nowhere before was a place to stay (`GoesBy`, `TurnsOver` and `GoesToBreakpoint` of `specs/Courses.antt`), and that
+//! the lines that went out are those of these moves, or a beginning of the lines of a run where the sink failed.
+//! Nothing here takes memory, by signature. It knows no commands and no inspections.
+#![tactic(auto)]
+
+mod courses;
+mod walking;
+
+pub use courses::{go_on, go_steps, go_turn};
+pub use walking::{Until, walk};

@@ -1,0 +1,149 @@
+//! Steps one after another, as long as something is at hand.
+ghost use Rattle.std.specs.Prelude.{◌≡◌, ◌≤◌, [], true, IfNone, IfSome};
+ghost use Rattle.aom_exec.specs.Steps.{progress};
+ghost use Rattle.aom_parts.specs.declared.progress.Progress.TheVariants.{Running};
+ghost use Rattle.aom_machine.specs.Calls.{Stands, StandsFor, natives_of};
+ghost use Rattle.aom_natives.specs.Slots.{AllAgree};
+ghost use Rattle.aom_run.specs.Runs.{Moving};
+ghost use Rattle.aom_sound.specs.State.{State};
+ghost use Rattle.aom_debug_views.specs.Next.{next_of, root_is_due, spot_of};
+ghost use Rattle.aom_debug_moves.specs.Sends.{Breaks, Sends};
+ghost use Rattle.aom_debug_courses.specs.Courses.{WalksIfAny, WalksOn, WalksThere, is_broken, stays_at};
+
+use aom_debug_marks::{Breakpoints, Recent};
+use aom_debug_moves::stride;
+use aom_debug_views::{is_due, spot_at};
+use aom_exec::Progress;
+use aom_lines::Turn;
+use aom_machine::Machine;
+use aom_natives::Native;
+use aom_run::Sink;
+use aom_transcript::Page;
+
+/// Where steps end, if not before.
+#[derive(Clone, Copy, PartialEq, Eq, Debug)]
+pub enum Until {
+    EndOfDispatch,
+    Breakpoint,
+}
+
+/// Whether the root's destruction is due.
+fn ends_all(machine: &Machine) -> bool
+    ensures { (s : State) → StandsFor machine.now s → result ≡ root_is_due machine.now.core.image s }
+{
+    is_due(machine.core.parts(), machine.core.accepted().linked())
+}
+
+/// Whether the instruction that is next has a breakpoint.
+fn is_broken(machine: &Machine, breakpoints: &Breakpoints) -> bool
+    requires { Stands machine.now }
+    ensures { (s : State) → StandsFor machine.now s → result ≡ is_broken breakpoints.now (spot_of (next_of machine.now.core.image s)) }
+{
+    match spot_at(machine.core.parts(), machine.core.accepted().linked()) {
+        Some(spot) => breakpoints.has(spot),
+        None => false,
+    }
+}
+
+/// Whether the machine is at a place to stay.
+fn is_there(machine: &Machine, until: Until, breakpoints: &Breakpoints) -> bool
+    requires { Stands machine.now }
+    ensures { (s : State) → StandsFor machine.now s → result ≡ stays_at machine.now.core.image until breakpoints.now s }
+{
+    match until {
+        Until::EndOfDispatch => ends_all(machine),
+        Until::Breakpoint => is_broken(machine, breakpoints),
+    }
+}
+
+/// Steps from something at hand until nothing is, or the machine is at a place to stay; one at least.
+pub fn walk<W: Sink>(
+    machine: &mut Machine,
+    until: Until,
+    breakpoints: &Breakpoints,
+    recent: &mut Recent,
+    turn: &mut Turn,
+    page: &mut Page,
+    out: &mut W,
+) -> Option<Progress>
+    requires agree { AllAgree (λ l. l.ids) (λ l. (⟦<dyn Native as Native>⟧ l.native.vtable).owed l.native.value) machine.old.natives.slots.items }
+    requires stands { Stands machine.old }
+    requires running { progress machine.old.core ≡ Running }
+    requires none { turn.old.lines ≡ [] }
+    requires room { 80 ≤ turn.old.room }
+    ensures agree { AllAgree (λ l. l.ids) (λ l. (⟦<dyn Native as Native>⟧ l.native.vtable).owed l.native.value) machine.new.natives.slots.items }
+    ensures image { machine.new.core.image ≡ machine.old.core.image }
+    ensures natives { natives_of machine.new ≡ natives_of machine.old }
+    ensures stands { Stands machine.new }
+    ensures turn { turn.new ≡ turn.old }
+    ensures none { IfNone result ((W.failed out.new ≡ true) × Breaks (Moving machine.old.core.image turn.old.refused) machine.old (W.out out.old) (W.out out.new) machine.new) }
+    ensures some { IfSome result (λ far. Sends (WalksThere machine.old.core.image turn.old.refused (λ s. stays_at machine.old.core.image until breakpoints.now s)) machine.old (W.out out.old) (W.out out.new) machine.new × (far ≡ progress machine.new.core)) }
+{
+    loop {
+        let progress = stride(machine, recent, turn, page, out)?;
+        match progress {
+            Progress::Running => {}
+            other => return Some(other),
+        }
+        if is_there(machine, until, breakpoints) {
+            return Some(progress);
+        }
+    }
+}
+
+/// Such steps where something is at hand.
+pub fn walk_if_any<W: Sink>(
+    machine: &mut Machine,
+    until: Until,
+    breakpoints: &Breakpoints,
+    recent: &mut Recent,
+    turn: &mut Turn,
+    page: &mut Page,
+    out: &mut W,
+) -> Option<Progress>
+    requires agree { AllAgree (λ l. l.ids) (λ l. (⟦<dyn Native as Native>⟧ l.native.vtable).owed l.native.value) machine.old.natives.slots.items }
+    requires stands { Stands machine.old }
+    requires none { turn.old.lines ≡ [] }
+    requires room { 80 ≤ turn.old.room }
+    ensures agree { AllAgree (λ l. l.ids) (λ l. (⟦<dyn Native as Native>⟧ l.native.vtable).owed l.native.value) machine.new.natives.slots.items }
+    ensures image { machine.new.core.image ≡ machine.old.core.image }
+    ensures natives { natives_of machine.new ≡ natives_of machine.old }
+    ensures stands { Stands machine.new }
+    ensures turn { turn.new ≡ turn.old }
+    ensures none { IfNone result ((W.failed out.new ≡ true) × Breaks (Moving machine.old.core.image turn.old.refused) machine.old (W.out out.old) (W.out out.new) machine.new) }
+    ensures some { IfSome result (λ far. Sends (WalksIfAny machine.old.core.image turn.old.refused (λ s. stays_at machine.old.core.image until breakpoints.now s)) machine.old (W.out out.old) (W.out out.new) machine.new × (far ≡ progress machine.new.core)) }
+{
+    match machine.core.progress() {
+        Progress::Running => walk(machine, until, breakpoints, recent, turn, page, out),
+        other => Some(other),
+    }
+}
+
+/// Such steps, unless the machine is at a place to stay already.
+pub fn walk_on<W: Sink>(
+    machine: &mut Machine,
+    until: Until,
+    breakpoints: &Breakpoints,
+    recent: &mut Recent,
+    turn: &mut Turn,
+    page: &mut Page,
+    out: &mut W,
+) -> Option<Progress>
+    requires agree { AllAgree (λ l. l.ids) (λ l. (⟦<dyn Native as Native>⟧ l.native.vtable).owed l.native.value) machine.old.natives.slots.items }
+    requires stands { Stands machine.old }
+    requires running { progress machine.old.core ≡ Running }
+    requires none { turn.old.lines ≡ [] }
+    requires room { 80 ≤ turn.old.room }
+    ensures agree { AllAgree (λ l. l.ids) (λ l. (⟦<dyn Native as Native>⟧ l.native.vtable).owed l.native.value) machine.new.natives.slots.items }
+    ensures image { machine.new.core.image ≡ machine.old.core.image }
+    ensures natives { natives_of machine.new ≡ natives_of machine.old }
+    ensures stands { Stands machine.new }
+    ensures turn { turn.new ≡ turn.old }
+    ensures none { IfNone result ((W.failed out.new ≡ true) × Breaks (Moving machine.old.core.image turn.old.refused) machine.old (W.out out.old) (W.out out.new) machine.new) }
+    ensures some { IfSome result (λ far. Sends (WalksOn machine.old.core.image turn.old.refused (λ s. stays_at machine.old.core.image until breakpoints.now s)) machine.old (W.out out.old) (W.out out.new) machine.new × (far ≡ progress machine.new.core)) }
+{
+    if is_there(machine, until, breakpoints) {
+        return Some(machine.core.progress());
+    }
+    walk(machine, until, breakpoints, recent, turn, page, out)
+}

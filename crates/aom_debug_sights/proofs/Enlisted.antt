@@ -1,0 +1,117 @@
+-- The entries of the roster are the enlisted objects of each state that the machine stands for, in the order of choice.
+use Rattle.std.proofs.Common.{◌≡◌, ◌∙◌, ℕ, ℤ, Bool, true, List, [], ◌∷◌, Option, Some, None, IsSome, length, slice_get, take, refl, sym, ap, subst}
+use Rattle.std.specs.Prelude.{AllPairs, is_some, map}
+use Rattle.std.proofs.lemmas.List.Elements.{All-map}
+use Rattle.std.proofs.lemmas.List.Kept.{AllPairs-cons}
+use Rattle.std.proofs.lemmas.Option.{get_or_from_slice_get, none-some, same_Some, slice_get_within}
+use Rattle.aom_image.specs.Image.{Image}
+use Rattle.aom_cells.specs.Heap.{class_at}
+use Rattle.aom_requests.specs.Requests.{request_at, state_at, state_of, status_at, status_of}
+use Rattle.aom_requests.specs.declared.request.State.{State as Held_state}
+use Rattle.aom_requests.specs.declared.request.Request.{Request as Held_request}
+use Rattle.aom_requests.specs.declared.request.Request.TheVariants.{Object as Held_object, Server as Held_server}
+use Rattle.aom_scheduler.specs.declared.entry.Entry.{Entry}
+use Rattle.aom_active.specs.Agrees.{GoesBefore, HasPriority, Tells as Tells_request, phase_of}
+use Rattle.aom_scheduler.proofs.Items.{pairs-head, pairs-nil, pairs-tail}
+use Rattle.aom_sound.specs.Places.{Request, named, requested}
+use Rattle.aom_sound.specs.State.{State}
+use Rattle.aom_parts.specs.declared.parts.Parts.{Parts}
+use Rattle.aom_parts.specs.Stands.{Machine, StandsFor}
+use Rattle.aom_run.specs.Runs.{after}
+use Rattle.aom_debug_words.specs.declared.fault.DebugFault.{DebugFault}
+use Rattle.aom_debug_lines.specs.declared.answer.Answer.{Answer}
+use Rattle.aom_debug_lines.specs.declared.answer.Answer.TheVariants.{Active}
+use Rattle.aom_debug_sights.specs.Actives.{InOrderOfChoice, TellsActives, TellsActivesPart, active_answer, active_answers, active_at, active_of, shown_phase}
+use Rattle.aom_debug_sights.specs.Sights.{class_of}
+use Rattle.aom_debug_sights.specs.Telling.{Tells, TellsPart, answers_text, gathered, listed}
+use Rattle.aom_debug_sights.proofs.Showing.{class_named}
+use Rattle.aom_debug_sights.proofs.Telling.{gathered_items}
+
+-- ---- one entry
+
+none_asked : (q : Option Held_request) (r : Option Request) → Tells_request q r → None ≡ state_of q → r ≡ None
+none_asked None None tells is = refl
+none_asked None (Some r) tells is = absurd tells
+none_asked (Some (Held_object state status)) r tells is = absurd (none-some state is)
+none_asked (Some (Held_server has_signal)) r tells is = absurd tells
+
+-- what is asked by a name, as it is told
+asked_shown : (q : Option Held_request) (r : Option Request) (class : ℕ) (priority status : ℤ) (state : Held_state) → Tells_request q r → HasPriority priority r → Some state ≡ state_of q → status_of q ≡ Some status → Some (Active class priority (shown_phase (phase_of state)) status) ≡ active_of (Some class) r
+asked_shown (Some (Held_object held kept)) (Some r) class priority status state tells has is at =
+    ap (λ x. Some (Active class x (shown_phase (phase_of state)) status)) (sym has)
+    ∙ ap (λ x. Some (Active class r.priority (shown_phase x) status)) (ap phase_of (same_Some state held is) ∙ tells.0)
+    ∙ ap (λ x. Some (Active class r.priority (shown_phase r.phase) x)) (sym (same_Some kept status at) ∙ tells.1)
+asked_shown None r class priority status state tells has is at = absurd (none-some state (sym is))
+asked_shown (Some (Held_server has_signal)) r class priority status state tells has is at = absurd tells
+asked_shown (Some (Held_object held kept)) None class priority status state tells has is at = absurd tells
+
+no_class : (r : Option Request) → None ≡ active_of None r
+no_class None = refl
+no_class (Some r) = refl
+
+no_request : (class : Option ℕ) (r : Option Request) → r ≡ None → None ≡ active_of class r
+no_request None r none = no_class r
+no_request (Some class) r none = ap (active_of (Some class)) (sym none)
+
+enlisted_by : (q : Option Held_request) (state : Held_state) → Some state ≡ state_of q → is_some q ≡ true
+enlisted_by None state is = absurd (none-some state (sym is))
+enlisted_by (Some q) state is = refl
+
+module _ (p : Image) (m : Parts) (s : State) (st : StandsFor (record { image = p; parts = m }) s) where
+  tells_of : (n : ℕ) → Tells_request (request_at m.active.table n) (requested s.cells n)
+  tells_of n = st.agrees.requests.stands.tells n
+
+  pub unasked_told : (n : ℕ) → None ≡ state_at m.active.table n → None ≡ active_answer s.cells n
+  unasked_told n none = no_request (class_of (named s.cells n)) (requested s.cells n) (none_asked (request_at m.active.table n) (requested s.cells n) (tells_of n) none)
+
+  pub classless_told : (n : ℕ) → None ≡ class_at m.cells n → None ≡ active_answer s.cells n
+  classless_told n none = no_class (requested s.cells n) ∙ ap (λ c. active_of c (requested s.cells n)) (none ∙ class_named p m s st n)
+
+  pub enlisted_told : (n class : ℕ) (priority status : ℤ) (state : Held_state) → HasPriority priority (requested s.cells n) → Some state ≡ state_at m.active.table n → status_at m.active.table n ≡ Some status → Some class ≡ class_at m.cells n → Some (Active class priority (shown_phase (phase_of state)) status) ≡ active_answer s.cells n
+  enlisted_told n class priority status state has is at told =
+      asked_shown (request_at m.active.table n) (requested s.cells n) class priority status state (tells_of n) has is at ∙ ap (λ c. active_of c (requested s.cells n)) (told ∙ class_named p m s st n)
+
+  -- an entry has the priority of the request of its object
+  pub has_priority : (place : ℕ) (e : Entry) → Some e ≡ slice_get m.active.roster.entries place → HasPriority e.priority (requested s.cells e.id)
+  has_priority place e is =
+      let within = slice_get_within m.active.roster.entries place e (sym is) in
+      subst (λ x. HasPriority x.priority (requested s.cells x.id)) (get_or_from_slice_get m.active.roster.entries place e e (sym is)) (st.agrees.requests.stands.priorities place e within)
+
+-- ---- all entries
+
+abbrev pub names_of : Parts → List ℕ
+names_of m = map (λ e. e.id) m.active.roster.entries
+
+some_by : (priority : ℤ) (r : Option Request) → HasPriority priority r → IsSome r
+some_by priority None has = absurd has
+some_by priority (Some r) has = refl
+
+pairs_by : {A : Type 0} (R : ℕ → ℕ → Type 0) (f : A → ℕ) (xs : List A) → AllPairs (λ x y. R (f x) (f y)) xs → AllPairs R (map f xs)
+pairs_by R f [] pairs = pairs-nil R
+pairs_by R f (x ∷ xs) pairs = AllPairs-cons R (f x) (map f xs) (All-map (R (f x)) f xs (pairs-head (λ y z. R (f y) (f z)) x xs pairs)) (pairs_by R f xs (pairs-tail (λ y z. R (f y) (f z)) x xs pairs))
+
+module _ (m : Machine) where
+  -- they are the enlisted objects in the order of choice
+  pub in_order : (s : State) → StandsFor m s → InOrderOfChoice s.cells (names_of m.parts)
+  in_order s st = record {
+    enlisted = All-map (λ n. IsSome (requested s.cells n)) (λ e. e.id) m.parts.active.roster.entries (λ k d within. some_by _ _ (st.agrees.requests.stands.priorities k d within));
+    order = pairs_by (λ n k. GoesBefore (requested s.cells n) (requested s.cells k)) (λ e. e.id) m.parts.active.roster.entries st.agrees.requests.stands.order;
+  }
+
+  -- what is told of the first so many
+  abbrev pub told_to : State → ℕ → List Answer
+  told_to s n = gathered (λ k. listed (active_at s.cells (slice_get (names_of m.parts) k))) n
+
+  all_told : (s : State) → told_to s (length (names_of m.parts)) ≡ active_answers s.cells (names_of m.parts)
+  all_told s = gathered_items (λ o. listed (active_at s.cells o)) (names_of m.parts)
+
+  pub actives_told : (before now : Option (List ℕ)) → Tells m (λ s. answers_text (told_to s (length (names_of m.parts)))) before now → TellsActives m before now
+  actives_told before now all = record { order = in_order; out = λ s st. all.out s st ∙ ap (λ xs. after before (answers_text xs)) (all_told s) }
+
+  pub actives_cut : (fault : DebugFault) (failed : Bool) (before now : Option (List ℕ)) → TellsPart m (λ s. answers_text (told_to s (length (names_of m.parts)))) fault failed before now → TellsActivesPart m fault failed before now
+  actives_cut fault failed before now cut = record {
+    told = cut.told;
+    fails = cut.fails;
+    order = in_order;
+    out = λ s st. let sent = cut.out s st in (sent.0, sent.1 ∙ ap (λ xs. after before (take sent.0 (answers_text xs))) (all_told s));
+  }

@@ -1,0 +1,9 @@
+pub mod Telling
+pub mod Showing
+pub mod Trees
+pub mod Enlisted
+pub mod Counting
+pub mod Tasks
+pub mod Registers
+pub mod Sums
+pub mod Once

@@ -1,0 +1,57 @@
+-- One item after another, from the lowest.
+use Rattle.std.proofs.Common.{◌≡◌, ℕ, List, ap, arith, length, subst, sym}
+use Rattle.std.proofs.lemmas.Result.{err_from_is_err_and}
+use Rattle.aom_image.specs.Image.{Image}
+use Rattle.aom_sound.specs.Owned.{over}
+use Rattle.aom_sound.specs.Places.{Entry}
+use Rattle.aom_sound.specs.State.{State}
+use Rattle.aom_parts.specs.declared.parts.Parts.{Parts}
+use Rattle.aom_parts.specs.Stands.{StandsFor}
+use Rattle.aom_debug_sights.specs.Owners.{In_entry, Owned, Shows, grown, is_entry, owned_line, owners_text}
+use Rattle.aom_debug_sights.specs.Sights.{counted}
+use Rattle.aom_debug_sights.proofs.Counting.{counted_next}
+use Rattle.aom_debug_sights.proofs.Showing.{as_many_items}
+use Rattle.aom_debug_sights.proofs.Tasks.{entry_shows}
+use Rattle.aom_debug_sights.proofs.Telling.{part_further, part_same, tells_all, tells_further, tells_same}
+use Rattle.aom_debug_sights.proofs.owners.tell_entries.Goals as goal
+
+abbrev hangs : State → ℕ → List Owned
+hangs s k = grown s.cells (In_entry (counted (λ j. is_entry (over s.items j)) k)) (Entry k)
+
+-- the number of the entry is that of each state
+numbered : (p : Image) (m : Parts) (n k : ℕ) → ((p : Image) (s : State) → StandsFor (record { image = p; parts = m }) s → n ≡ counted (λ j. is_entry (over s.items j)) k) → (s : State) → StandsFor (record { image = p; parts = m }) s → owners_text (grown s.cells (In_entry n) (Entry k)) ≡ owners_text (hangs s k)
+numbered p m n k count s st = ap (λ j. owners_text (grown s.cells (In_entry j) (Entry k))) (count p s st)
+
+pub returns-in_err-tell_place-clause-err : goal.returns-in_err-tell_place-clause-err
+returns-in_err-tell_place-clause-err g c =
+    let error = err_from_is_err_and c.from_residual.result c.from_residual.ensures.1 in
+    let m = c.args.parts.now in
+    let k = c.loop-height.height in
+    let within = c.loop-height-test.true in
+    let count = c.len-height-end.ensures.value in
+    rw (error.1, error.2) (λ p.
+    let cut = c.in_err-tell_place.ensures.err p (In_entry c.loop-height.entries) (Entry k) c.entry-way.ensures.text (subst (λ n. Shows (record { image = p; parts = m }) n (Entry k)) (sym c.item_number.ensures) (entry_shows p m k)) in
+    part_further owned_line (record { image = p; parts = m }) hangs (λ s. length s.items) k _ _ _ _ _ (c.loop-height.invariant.out p) (λ s st. let many = as_many_items p m s st in omega (arith, within, count, many))
+    (part_same (record { image = p; parts = m }) _ (λ s. owners_text (hangs s k)) (numbered p m c.loop-height.entries k c.loop-height.invariant.count) _ _ _ _ cut))
+
+pub loop-height-preserved : goal.loop-height-preserved
+loop-height-preserved g c =
+    let m = c.args.parts.now in
+    let k = c.loop-height.height in
+    let few = c.loop-height.invariant.few in
+    let one = c.entries_at-entries.ensures.few in
+    record {
+      few = omega (arith, few, one);
+      count = λ p s st. counted_next (λ j. is_entry (over s.items j)) k c.loop-height.entries c.entries_at-entries.result (c.loop-height.invariant.count p s st) (c.entries_at-entries.ensures.value p s st);
+      out = λ p.
+          let told = c.in_ok-tell_place.ensures.ok p (In_entry c.loop-height.entries) (Entry k) c.entry-way.ensures.text (subst (λ n. Shows (record { image = p; parts = m }) n (Entry k)) (sym c.item_number.ensures) (entry_shows p m k)) in
+          tells_further owned_line (record { image = p; parts = m }) hangs k _ _ _ (c.loop-height.invariant.out p) (tells_same (record { image = p; parts = m }) _ (λ s. owners_text (hangs s k)) (numbered p m c.loop-height.entries k c.loop-height.invariant.count) _ _ told);
+    }
+
+pub returns-clause-ok : goal.returns-clause-ok
+returns-clause-ok g c =
+    let m = c.args.parts.now in
+    let count = c.len-height-end.ensures.value in
+    let most = c.loop-height.auto.height-end in
+    let least = c.loop-height-test.false in
+    λ p. tells_all owned_line (record { image = p; parts = m }) hangs (λ s. length s.items) c.loop-height.height _ _ (c.loop-height.invariant.out p) (λ s st. let many = as_many_items p m s st in omega (arith, count, most, least, many))

@@ -1,0 +1,56 @@
+-- One destruction after another, from the outermost.
+use Rattle.std.proofs.Common.{◌≡◌, ℕ, List, ap, arith, length, subst, sym}
+use Rattle.std.proofs.lemmas.Result.{err_from_is_err_and}
+use Rattle.aom_image.specs.Image.{Image}
+use Rattle.aom_sound.specs.Owned.{over}
+use Rattle.aom_sound.specs.Places.{Going}
+use Rattle.aom_sound.specs.State.{State}
+use Rattle.aom_parts.specs.declared.parts.Parts.{Parts}
+use Rattle.aom_parts.specs.Stands.{StandsFor}
+use Rattle.aom_debug_sights.specs.Owners.{In_going, Owned, Shows, grown, is_going, owned_line, owners_text}
+use Rattle.aom_debug_sights.specs.Sights.{counted}
+use Rattle.aom_debug_sights.proofs.Counting.{counted_next}
+use Rattle.aom_debug_sights.proofs.Tasks.{as_many_tasks, going_shows}
+use Rattle.aom_debug_sights.proofs.Telling.{part_further, part_same, tells_all, tells_further, tells_same}
+use Rattle.aom_debug_sights.proofs.owners.tell_goings.Goals as goal
+
+abbrev hangs : State → ℕ → List Owned
+hangs s k = grown s.cells (In_going (counted (λ j. is_going (over s.tasks j)) k)) (Going k)
+
+-- the number of the destruction is that of each state
+numbered : (p : Image) (m : Parts) (n k : ℕ) → ((p : Image) (s : State) → StandsFor (record { image = p; parts = m }) s → n ≡ counted (λ j. is_going (over s.tasks j)) k) → (s : State) → StandsFor (record { image = p; parts = m }) s → owners_text (grown s.cells (In_going n) (Going k)) ≡ owners_text (hangs s k)
+numbered p m n k count s st = ap (λ j. owners_text (grown s.cells (In_going j) (Going k))) (count p s st)
+
+pub returns-in_err-tell_place-clause-err : goal.returns-in_err-tell_place-clause-err
+returns-in_err-tell_place-clause-err g c =
+    let error = err_from_is_err_and c.from_residual.result c.from_residual.ensures.1 in
+    let m = c.args.parts.now in
+    let k = c.loop-depth.depth in
+    let within = c.loop-depth-test.true in
+    let count = c.len-depth-end.ensures in
+    rw (error.1, error.2) (λ p.
+    let cut = c.in_err-tell_place.ensures.err p (In_going c.loop-depth.goings) (Going k) c.going-way.ensures.text (subst (λ n. Shows (record { image = p; parts = m }) n (Going k)) (sym c.going_number.ensures) (going_shows p m k)) in
+    part_further owned_line (record { image = p; parts = m }) hangs (λ s. length s.tasks) k _ _ _ _ _ (c.loop-depth.invariant.out p) (λ s st. let many = as_many_tasks p m s st in omega (arith, within, count, many))
+    (part_same (record { image = p; parts = m }) _ (λ s. owners_text (hangs s k)) (numbered p m c.loop-depth.goings k c.loop-depth.invariant.count) _ _ _ _ cut))
+
+pub loop-depth-preserved : goal.loop-depth-preserved
+loop-depth-preserved g c =
+    let m = c.args.parts.now in
+    let k = c.loop-depth.depth in
+    let few = c.loop-depth.invariant.few in
+    let one = c.goings_at-goings.ensures.few in
+    record {
+      few = omega (arith, few, one);
+      count = λ p s st. counted_next (λ j. is_going (over s.tasks j)) k c.loop-depth.goings c.goings_at-goings.result (c.loop-depth.invariant.count p s st) (c.goings_at-goings.ensures.value p s st);
+      out = λ p.
+          let told = c.in_ok-tell_place.ensures.ok p (In_going c.loop-depth.goings) (Going k) c.going-way.ensures.text (subst (λ n. Shows (record { image = p; parts = m }) n (Going k)) (sym c.going_number.ensures) (going_shows p m k)) in
+          tells_further owned_line (record { image = p; parts = m }) hangs k _ _ _ (c.loop-depth.invariant.out p) (tells_same (record { image = p; parts = m }) _ (λ s. owners_text (hangs s k)) (numbered p m c.loop-depth.goings k c.loop-depth.invariant.count) _ _ told);
+    }
+
+pub returns-clause-ok : goal.returns-clause-ok
+returns-clause-ok g c =
+    let m = c.args.parts.now in
+    let count = c.len-depth-end.ensures in
+    let most = c.loop-depth.auto.depth-end in
+    let least = c.loop-depth-test.false in
+    λ p. tells_all owned_line (record { image = p; parts = m }) hangs (λ s. length s.tasks) c.loop-depth.depth _ _ (c.loop-depth.invariant.out p) (λ s st. let many = as_many_tasks p m s st in omega (arith, count, most, least, many))

@@ -1,0 +1,60 @@
+-- What a debugger tells of the active objects of a state.
+use Rattle.std.specs.Prelude.{◌≡◌, ℕ, Bool, true, List, Option, Some, None, IsSome, All, AllPairs, map, take}
+use Rattle.std.specs.List.{flat_map}
+use Rattle.aom_active.specs.Agrees.{GoesBefore}
+use Rattle.aom_sound.specs.Places.{Aborted, Active as Waiting, Cancelling, Cell, Idle, Issued, Phase, Request, named, requested}
+use Rattle.aom_sound.specs.State.{State}
+use Rattle.aom_parts.specs.Stands.{Machine, StandsFor}
+use Rattle.aom_run.specs.Runs.{after}
+use Rattle.aom_debug_words.specs.declared.fault.DebugFault.{DebugFault}
+use Rattle.aom_debug_words.specs.declared.fault.DebugFault.TheVariants.{WriteFault}
+use Rattle.aom_debug_lines.specs.declared.answer.Answer.{Answer}
+use Rattle.aom_debug_lines.specs.declared.answer.Answer.TheVariants.{Active}
+use Rattle.aom_debug_lines.specs.declared.answer.Phase.{Phase as Shown_phase}
+use Rattle.aom_debug_lines.specs.declared.answer.Phase.TheVariants as shown
+use Rattle.aom_debug_sights.specs.Sights.{class_of}
+use Rattle.aom_debug_sights.specs.Telling.{answers_text, listed}
+
+-- one whose cancel is at hand is active
+abbrev pub shown_phase : Phase → Shown_phase
+shown_phase Idle = shown.Idle
+shown_phase Issued = shown.Issued
+shown_phase Waiting = shown.Active
+shown_phase Cancelling = shown.Active
+shown_phase Aborted = shown.Active
+
+abbrev pub active_of : Option ℕ → Option Request → Option Answer
+active_of (Some class) (Some r) = Some (Active class r.priority (shown_phase r.phase) r.status)
+active_of _ _ = None
+
+-- the object of that name, if it is enlisted
+abbrev pub active_answer : List Cell → ℕ → Option Answer
+active_answer cs n = active_of (class_of (named cs n)) (requested cs n)
+
+abbrev pub active_at : List Cell → Option ℕ → Option Answer
+active_at cs None = None
+active_at cs (Some n) = active_answer cs n
+
+abbrev pub active_answers : List Cell → List ℕ → List Answer
+active_answers cs names = flat_map (λ n. listed (active_answer cs n)) names
+
+-- these are names of objects that are enlisted, and each goes before those behind it in the choice, so none stands twice
+pub record InOrderOfChoice (cs : List Cell) (names : List ℕ) : Type 0 where
+  pub enlisted : All (λ n. IsSome (requested cs n)) names
+  pub order : AllPairs (λ n m. GoesBefore (requested cs n) (requested cs m)) names
+
+-- the objects that the machine has on its list, in the order of that
+abbrev pub on_list : Machine → List ℕ
+on_list m = map (λ e. e.id) m.parts.active.roster.entries
+
+-- these are in the order of choice of each state that a machine stands for, and their lines are out
+pub record TellsActives (m : Machine) (before now : Option (List ℕ)) : Type 0 where
+  pub order : (s : State) → StandsFor m s → InOrderOfChoice s.cells (on_list m)
+  pub out : (s : State) → StandsFor m s → now ≡ after before (answers_text (active_answers s.cells (on_list m)))
+
+-- or a beginning of them, since the sink failed, and the fault says so
+pub record TellsActivesPart (m : Machine) (fault : DebugFault) (failed : Bool) (before now : Option (List ℕ)) : Type 0 where
+  pub told : fault ≡ WriteFault
+  pub fails : failed ≡ true
+  pub order : (s : State) → StandsFor m s → InOrderOfChoice s.cells (on_list m)
+  pub out : (s : State) → StandsFor m s → (sent : ℕ) × (now ≡ after before (take sent (answers_text (active_answers s.cells (on_list m)))))

@@ -1,0 +1,5 @@
+pub mod Telling
+pub mod Sights
+pub mod Actives
+pub mod Owners
+pub mod Laws

@@ -1,0 +1,177 @@
+-- The map of owners: a line for each place that owns, and below it those of the fields of what it owns.
+use Rattle.std.specs.Prelude.{◌≡◌, ℕ, zero, suc, Bool, true, false, List, [], ◌∷◌, ◌++◌, codes, decimal, length, Option, Some, None, slice_index_or}
+use Rattle.std.specs.List.{flat_map}
+use Rattle.aom_image.specs.declared.method.Thing.{Thing}
+use Rattle.aom_image.specs.declared.method.Thing.TheVariants.{Object as An_object_of, Message}
+use Rattle.aom_cells.specs.Heap.{null}
+use Rattle.aom_cleanup.specs.declared.item.Item.{Item as Held_item}
+use Rattle.aom_cleanup.specs.declared.item.Item.TheVariants.{Object as Holds_object, Operation as Holds_operation, Mark as Is_mark}
+use Rattle.aom_frames.specs.declared.frame.Frame.{Frame as Held_frame}
+use Rattle.aom_frames.specs.declared.task.Task.{Task as Held_task}
+use Rattle.aom_frames.specs.declared.task.Task.TheVariants.{Run as Runs_frame, Destroy as Destroys}
+use Rattle.aom_shape.specs.Kinds.{register}
+use Rattle.aom_shape.specs.Shape.{Shape}
+use Rattle.aom_shape.specs.declared.kind.Kind.{Kind}
+use Rattle.aom_shape.specs.declared.kind.Kind.TheVariants.{Maybe, Null, Own, Unset, Word}
+use Rattle.aom_transcript.specs.Text.{ended}
+use Rattle.aom_sound.specs.Owned.{over}
+use Rattle.aom_sound.specs.Places.{Cell, Elsewhere, Entry, Field, Going, Object, Place, Register, Root, held}
+use Rattle.aom_sound.specs.State.{A_mark, An_object, An_operation, Destroy, Item, Run, State, Task}
+use Rattle.aom_parts.specs.Agrees.{number}
+use Rattle.aom_parts.specs.Stands.{Machine, StandsFor}
+use Rattle.aom_debug_sights.specs.Sights.{counted}
+use Rattle.aom_debug_sights.specs.Telling.{gathered}
+
+-- ---- ways
+
+-- a place that is no cell's, as a debugger numbers it from the bottom
+pub data Outer : Type 0 where
+  At_root : Outer
+  In_register : (frame register : ℕ) → Outer
+  In_entry : (entry : ℕ) → Outer
+  In_going : (going : ℕ) → Outer
+
+-- from an object to one that it owns
+pub data Branch : Type 0 where
+  By_field : (field : ℕ) → Branch
+
+-- the way to an object
+pub record Way : Type 0 where
+  pub outer : Outer
+  -- the outermost first
+  pub branches : List Branch
+
+abbrev pub further : Way → Branch → Way
+further w b = record w { branches = w.branches ++ b ∷ [] }
+
+-- an object that is owned, by the way to it
+pub record Owned : Type 0 where
+  pub way : Way
+  pub object : Object
+
+-- ---- how they are spelled
+
+abbrev pub outer_text : Outer → List ℕ
+outer_text At_root = codes "root"
+outer_text (In_register frame i) = codes "reg " ++ decimal frame ++ codes " r" ++ decimal i
+outer_text (In_entry k) = codes "clean " ++ decimal k
+outer_text (In_going k) = codes "going " ++ decimal k
+
+abbrev pub branch_text : Branch → List ℕ
+branch_text (By_field f) = codes ".f" ++ decimal f
+
+abbrev pub way_text : Way → List ℕ
+way_text w = outer_text w.outer ++ flat_map branch_text w.branches
+
+-- no place owns a message yet
+abbrev pub thing_text : Thing → List ℕ
+thing_text (An_object_of class) = decimal class
+thing_text Message = codes "msg"
+
+abbrev pub owned_line : Owned → List ℕ
+owned_line x = ended (way_text x.way ++ codes " " ++ thing_text x.object.thing)
+
+abbrev pub owners_text : List Owned → List ℕ
+owners_text xs = flat_map owned_line xs
+
+-- ---- what hangs from a place
+
+-- nothing where it holds nothing, and else what it holds, and then what that owns, field by field
+abbrev pub hanging : (Object → ℕ → List Owned) → Way → Option Object → List Owned
+hanging below w None = []
+hanging below w (Some o) = record { way = w; object = o } ∷ gathered (below o) 8
+
+-- so many generations of it
+abbrev pub tree : List Cell → ℕ → Way → Option Object → List Owned
+tree cs zero w there = []
+tree cs (suc n) w there = hanging (λ o f. tree cs n (further w (By_field f)) (held cs (Field o.name f))) w there
+
+-- an object is of a higher class than what it owns, so it has less than 256 generations below it
+unfoldable pub generations : ℕ
+generations = 256
+
+abbrev pub grown : List Cell → Outer → Place → List Owned
+grown cs outer r = tree cs generations (record { outer = outer; branches = [] }) (held cs r)
+
+-- ---- the places in their order
+
+abbrev pub is_frame : Option Task → Bool
+is_frame (Some (Run fr)) = true
+is_frame _ = false
+
+-- the first so many registers at a depth, by how many frames there are below
+abbrev pub frame_registers : List Cell → (depth frames count : ℕ) → List Owned
+frame_registers cs depth frames count = gathered (λ i. grown cs (In_register frames i) (Register depth i)) count
+
+-- of the first so many tasks, the outermost first
+abbrev pub registers_map : State → ℕ → List Owned
+registers_map s n = gathered (λ depth. frame_registers s.cells depth (counted (λ k. is_frame (over s.tasks k)) depth) 16) n
+
+-- marks aside
+abbrev pub is_entry : Option Item → Bool
+is_entry (Some An_object) = true
+is_entry (Some (An_operation m w)) = true
+is_entry (Some A_mark) = false
+is_entry None = false
+
+-- of the first so many items of the cleanup stack, the lowest first
+abbrev pub entries_map : State → ℕ → List Owned
+entries_map s n = gathered (λ height. grown s.cells (In_entry (counted (λ k. is_entry (over s.items k)) height)) (Entry height)) n
+
+abbrev pub is_going : Option Task → Bool
+is_going (Some Destroy) = true
+is_going _ = false
+
+-- of the first so many tasks, the outermost first
+abbrev pub goings_map : State → ℕ → List Owned
+goings_map s n = gathered (λ depth. grown s.cells (In_going (counted (λ k. is_going (over s.tasks k)) depth)) (Going depth)) n
+
+-- all of them: the root, the registers, the cleanup stack and what goes
+abbrev pub owners : State → List Owned
+owners s = grown s.cells At_root (Elsewhere Root) ++ (registers_map s (length s.tasks) ++ (entries_map s (length s.items) ++ goings_map s (length s.tasks)))
+
+-- ---- what a machine shows of them
+
+-- the number of what a place owns, and null where it owns nothing
+pub record Shows (m : Machine) (n : ℕ) (r : Place) : Type 0 where
+  pub each : (s : State) → StandsFor m s → n ≡ number (held s.cells r)
+
+-- a place owns nothing
+pub record ShowsNone (m : Machine) (r : Place) : Type 0 where
+  pub each : (s : State) → StandsFor m s → held s.cells r ≡ None
+
+-- a register has a number, or else it owns nothing
+abbrev pub ShowsIf : Bool → Machine → ℕ → Place → Type 0
+ShowsIf true m n r = Shows m n r
+ShowsIf false m n r = ShowsNone m r
+
+-- whether something of that kind may own an object
+abbrev pub may_own : Kind → Bool
+may_own Unset = false
+may_own Word = false
+may_own Null = false
+may_own (Own t a) = true
+may_own (Maybe t a) = true
+
+-- so are the registers of a frame at that depth, by its abstract state
+pub record ShowsAll (m : Machine) (sh : Shape) (registers : List ℕ) (depth : ℕ) : Type 0 where
+  pub each : (i : ℕ) → ShowsIf (may_own (register sh i)) m (slice_index_or registers i null) (Register depth i)
+
+-- the frame that a task of the machine is
+abbrev pub frame_in : Held_task → Option Held_frame
+frame_in (Runs_frame f) = Some f
+frame_in _ = None
+
+abbrev pub frame_over : Option Held_task → Option Held_frame
+frame_over None = None
+frame_over (Some t) = frame_in t
+
+-- one for a destruction, and for a cleanup entry
+abbrev pub goings_in : Held_task → ℕ
+goings_in (Destroys x) = 1
+goings_in _ = 0
+
+abbrev pub entries_of : Held_item → ℕ
+entries_of (Holds_object n) = 1
+entries_of (Holds_operation m n) = 1
+entries_of Is_mark = 0

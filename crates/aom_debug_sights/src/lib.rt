@@ -1,0 +1,27 @@
+//! What a debugger tells of a machine without moving it: its cells and who owns them, its cleanup stack, its active objects, and
+//! the latest instructions.
+//!
+//! Each call takes the machine's parts by `&` and writes lines to a `Sink`. It promises that what went out is the text of the lines that
+//! its definition says of each state that the machine stands for (`Tells` of `specs/Telling.antt`, with `specs/Sights.antt` and
+//! `specs/Owners.antt`), or a beginning of it where the sink failed (`TellsPart`), and then it answers a write fault. Each object has just one
+//! line in the map of owners (`owners_are_told_once`). Nothing here takes memory, by signature. It knows no commands, no texts of
+//! programs and no natives.
+#![tactic(auto)]
+
+mod actives;
+mod cells;
+mod cleanup;
+mod laws;
+mod owners;
+mod recent;
+mod sending;
+mod tree;
+mod way;
+
+pub use actives::tell_actives;
+pub use cells::tell_cells;
+pub use cleanup::tell_cleanup;
+pub use laws::owners_are_told_once;
+pub use owners::tell_owners;
+pub use recent::tell_recent;
+pub use sending::{send, tell};

@@ -1,0 +1,274 @@
+//! The map of owners.
+ghost use Rattle.std.specs.Prelude.{◌≡◌, ℕ, ◌<◌, ◌≤◌, IfErr, IfOk, cond, length, slice_index_or};
+ghost use Rattle.aom_cells.specs.Heap.{null};
+ghost use Rattle.aom_cleanup.specs.Items.{entry_in, owned_by};
+ghost use Rattle.aom_exec.specs.Agreement.{AgreesInAll};
+ghost use Rattle.aom_image.specs.Image.{Image};
+ghost use Rattle.aom_parts.specs.Places.{going_in, going_of};
+ghost use Rattle.aom_parts.specs.Stands.{Stands, StandsFor};
+ghost use Rattle.aom_shape.specs.Kinds.{register as kind_in};
+ghost use Rattle.aom_sound.specs.Owned.{over};
+ghost use Rattle.aom_sound.specs.Places.{Register};
+ghost use Rattle.aom_sound.specs.State.{State};
+ghost use Rattle.aom_debug_sights.specs.Owners.{In_register, ShowsAll, ShowsIf, entries_map, entries_of, frame_in, frame_over, frame_registers, goings_in, goings_map, grown, is_entry, is_frame, is_going, may_own, owners, owners_text, registers_map};
+ghost use Rattle.aom_debug_sights.specs.Telling.{Tells, TellsPart};
+
+use crate::cleanup::item_at;
+use crate::tree::tell_place;
+use crate::way::Way;
+use aom_budget::Accepted;
+use aom_cells::NULL;
+use aom_cleanup::Item;
+use aom_debug_words::DebugFault;
+use aom_frames::{Frame, Task};
+use aom_parts::Parts;
+use aom_run::Sink;
+use aom_shape::{Kind, Shape};
+use aom_verify::Checked;
+
+/// Whether a register may own an object.
+fn may_own(shape: &Shape<'_>, register: u8) -> bool
+    requires { register < 16 }
+    ensures { result ≡ may_own (kind_in shape.now register) }
+{
+    matches!(
+        shape.kind_at(register as usize),
+        Kind::Own(_, _) | Kind::Maybe(_, _)
+    )
+}
+
+/// Tells what hangs from a register of the frame over so many others, which stands at that depth.
+fn tell_register<W: Sink>(
+    parts: &Parts,
+    shape: &Shape<'_>,
+    frame: &Frame,
+    frames: usize,
+    register: u8,
+    out: &mut W,
+) -> Result<(), DebugFault>
+    requires { register < 16 }
+    ensures ok { IfOk result (λ _. (p : Image) (depth : ℕ) → ShowsIf (may_own (kind_in shape.now register)) (record { image = p; parts = parts.now }) (slice_index_or frame.now.registers register null) (Register depth register) → Tells (record { image = p; parts = parts.now }) (λ s. owners_text (grown s.cells (In_register frames register) (Register depth register))) (W.out out.old) (W.out out.new)) }
+    ensures err { IfErr result (λ fault. (p : Image) (depth : ℕ) → ShowsIf (may_own (kind_in shape.now register)) (record { image = p; parts = parts.now }) (slice_index_or frame.now.registers register null) (Register depth register) → TellsPart (record { image = p; parts = parts.now }) (λ s. owners_text (grown s.cells (In_register frames register) (Register depth register))) fault (W.failed out.new) (W.out out.old) (W.out out.new)) }
+{
+    if may_own(shape, register) {
+        let way = Way::register(frames, register);
+        tell_place(parts, way, frame.register(register), out)
+    } else {
+        Ok(())
+    }
+}
+
+/// Tells what hangs from the registers of a frame.
+fn tell_frame<W: Sink>(
+    parts: &Parts,
+    shape: &Shape<'_>,
+    frame: &Frame,
+    frames: usize,
+    out: &mut W,
+) -> Result<(), DebugFault>
+    ensures ok { IfOk result (λ _. (p : Image) (depth : ℕ) → ShowsAll (record { image = p; parts = parts.now }) shape.now frame.now.registers depth → Tells (record { image = p; parts = parts.now }) (λ s. owners_text (frame_registers s.cells depth frames 16)) (W.out out.old) (W.out out.new)) }
+    ensures err { IfErr result (λ fault. (p : Image) (depth : ℕ) → ShowsAll (record { image = p; parts = parts.now }) shape.now frame.now.registers depth → TellsPart (record { image = p; parts = parts.now }) (λ s. owners_text (frame_registers s.cells depth frames 16)) fault (W.failed out.new) (W.out out.old) (W.out out.new)) }
+{
+    for register in 0..16u8 {
+        tell_register(parts, shape, frame, frames, register, out)?;
+    }
+    Ok(())
+}
+
+/// The frame that a task is, if it is one.
+fn frame_in(task: &Task) -> Option<Frame>
+    ensures { result ≡ frame_in task.now }
+{
+    match task {
+        Task::Run(frame) => Some(*frame),
+        _ => None,
+    }
+}
+
+/// The frame at a depth, if one stands there.
+fn frame_at(parts: &Parts, depth: usize) -> Option<Frame>
+    ensures { result ≡ frame_over (over parts.now.stack.tasks depth) }
+{
+    match parts.stack.task(depth) {
+        Some(task) => frame_in(&task),
+        None => None,
+    }
+}
+
+/// How many frames stand at a depth.
+fn frames_at(parts: &Parts, depth: usize) -> usize
+    ensures few { result ≤ 1 }
+    ensures value { (p : Image) (s : State) → StandsFor (record { image = p; parts = parts.now }) s → result ≡ cond (is_frame (over s.tasks depth)) 1 0 }
+{
+    match frame_at(parts, depth) {
+        Some(_) => 1,
+        None => 0,
+    }
+}
+
+/// Tells what hangs from the registers at a depth.
+fn tell_task<W: Sink>(
+    parts: &Parts,
+    checked: &Checked,
+    depth: usize,
+    frames: usize,
+    out: &mut W,
+) -> Result<(), DebugFault>
+    requires stands { Stands (record { image = checked.now; parts = parts.now }) }
+    requires agrees { AgreesInAll (record { image = checked.now; parts = parts.now }) }
+    ensures ok { IfOk result (λ _. Tells (record { image = checked.now; parts = parts.now }) (λ s. owners_text (frame_registers s.cells depth frames 16)) (W.out out.old) (W.out out.new)) }
+    ensures err { IfErr result (λ fault. TellsPart (record { image = checked.now; parts = parts.now }) (λ s. owners_text (frame_registers s.cells depth frames 16)) fault (W.failed out.new) (W.out out.old) (W.out out.new)) }
+{
+    let Some(frame) = frame_at(parts, depth) else {
+        return Ok(());
+    };
+    match checked.shape(frame.method, frame.place) {
+        Some(shape) => tell_frame(parts, &shape, &frame, frames, out),
+        None => Ok(()),
+    }
+}
+
+/// Tells what hangs from the registers of the methods at hand, the outermost first.
+fn tell_registers<W: Sink>(parts: &Parts, checked: &Checked, out: &mut W) -> Result<(), DebugFault>
+    requires stands { Stands (record { image = checked.now; parts = parts.now }) }
+    requires agrees { AgreesInAll (record { image = checked.now; parts = parts.now }) }
+    ensures ok { IfOk result (λ _. Tells (record { image = checked.now; parts = parts.now }) (λ s. owners_text (registers_map s (length s.tasks))) (W.out out.old) (W.out out.new)) }
+    ensures err { IfErr result (λ fault. TellsPart (record { image = checked.now; parts = parts.now }) (λ s. owners_text (registers_map s (length s.tasks))) fault (W.failed out.new) (W.out out.old) (W.out out.new)) }
+{
+    let mut frames = 0;
+    for depth in 0..parts.stack.len() {
+        tell_task(parts, checked, depth, frames, out)?;
+        frames += frames_at(parts, depth);
+    }
+    Ok(())
+}
+
+/// The number of what an item owns, and null where it owns nothing.
+fn owned_by(item: Item) -> u32
+    ensures { result ≡ owned_by item }
+{
+    match item {
+        Item::Object(number) => number,
+        Item::Operation(_, _) | Item::Mark => NULL,
+    }
+}
+
+/// One for an entry, and none for a mark.
+fn entries_of(item: Item) -> usize
+    ensures { result ≡ entries_of item }
+{
+    match item {
+        Item::Object(_) | Item::Operation(_, _) => 1,
+        Item::Mark => 0,
+    }
+}
+
+/// The number of what that item owns, and null where it owns nothing.
+fn item_number(parts: &Parts, height: usize) -> u32
+    requires { height < length parts.now.entries.items }
+    ensures { result ≡ entry_in parts.now.entries.items height }
+{
+    match item_at(parts, height) {
+        Some(item) => owned_by(item),
+        None => NULL,
+    }
+}
+
+/// How many entries that item is.
+fn entries_at(parts: &Parts, height: usize) -> usize
+    requires { height < length parts.now.entries.items }
+    ensures few { result ≤ 1 }
+    ensures value { (p : Image) (s : State) → StandsFor (record { image = p; parts = parts.now }) s → result ≡ cond (is_entry (over s.items height)) 1 0 }
+{
+    match item_at(parts, height) {
+        Some(item) => entries_of(item),
+        None => 0,
+    }
+}
+
+/// Tells what hangs from the entries of the cleanup stack, the lowest first.
+fn tell_entries<W: Sink>(parts: &Parts, out: &mut W) -> Result<(), DebugFault>
+    ensures ok { IfOk result (λ _. (p : Image) → Tells (record { image = p; parts = parts.now }) (λ s. owners_text (entries_map s (length s.items))) (W.out out.old) (W.out out.new)) }
+    ensures err { IfErr result (λ fault. (p : Image) → TellsPart (record { image = p; parts = parts.now }) (λ s. owners_text (entries_map s (length s.items))) fault (W.failed out.new) (W.out out.old) (W.out out.new)) }
+{
+    let mut entries = 0;
+    for height in 0..parts.entries.len() {
+        let way = Way::entry(entries);
+        tell_place(parts, way, item_number(parts, height), out)?;
+        entries += entries_at(parts, height);
+    }
+    Ok(())
+}
+
+/// The number of what a task lets go, and null where it lets nothing go.
+fn going_of(task: &Task) -> u32
+    ensures { result ≡ going_of task.now }
+{
+    match task {
+        Task::Destroy(number) => *number,
+        _ => NULL,
+    }
+}
+
+/// One for a destruction.
+fn goings_in(task: &Task) -> usize
+    ensures { result ≡ goings_in task.now }
+{
+    match task {
+        Task::Destroy(_) => 1,
+        _ => 0,
+    }
+}
+
+/// The number of what the task at a depth lets go, and null where it lets nothing go.
+fn going_number(parts: &Parts, depth: usize) -> u32
+    ensures { result ≡ going_in parts.now.stack.tasks depth }
+{
+    match parts.stack.task(depth) {
+        Some(task) => going_of(&task),
+        None => NULL,
+    }
+}
+
+/// How many destructions stand at a depth.
+fn goings_at(parts: &Parts, depth: usize) -> usize
+    ensures few { result ≤ 1 }
+    ensures value { (p : Image) (s : State) → StandsFor (record { image = p; parts = parts.now }) s → result ≡ cond (is_going (over s.tasks depth)) 1 0 }
+{
+    match parts.stack.task(depth) {
+        Some(task) => goings_in(&task),
+        None => 0,
+    }
+}
+
+/// Tells what hangs from the destructions at hand, the outermost first.
+fn tell_goings<W: Sink>(parts: &Parts, out: &mut W) -> Result<(), DebugFault>
+    ensures ok { IfOk result (λ _. (p : Image) → Tells (record { image = p; parts = parts.now }) (λ s. owners_text (goings_map s (length s.tasks))) (W.out out.old) (W.out out.new)) }
+    ensures err { IfErr result (λ fault. (p : Image) → TellsPart (record { image = p; parts = parts.now }) (λ s. owners_text (goings_map s (length s.tasks))) fault (W.failed out.new) (W.out out.old) (W.out out.new)) }
+{
+    let mut goings = 0;
+    for depth in 0..parts.stack.len() {
+        let way = Way::going(goings);
+        tell_place(parts, way, going_number(parts, depth), out)?;
+        goings += goings_at(parts, depth);
+    }
+    Ok(())
+}
+
+/// Tells the map of owners, a line for each object that is owned, with the way to it: the root's, those of the registers, of the
+/// cleanup stack and of destructions, and below each object those of its fields.
+pub fn tell_owners<W: Sink>(
+    parts: &Parts,
+    accepted: &Accepted,
+    out: &mut W,
+) -> Result<(), DebugFault>
+    requires stands { Stands (record { image = accepted.now; parts = parts.now }) }
+    requires agrees { AgreesInAll (record { image = accepted.now; parts = parts.now }) }
+    ensures ok { IfOk result (λ _. Tells (record { image = accepted.now; parts = parts.now }) (λ s. owners_text (owners s)) (W.out out.old) (W.out out.new)) }
+    ensures err { IfErr result (λ fault. TellsPart (record { image = accepted.now; parts = parts.now }) (λ s. owners_text (owners s)) fault (W.failed out.new) (W.out out.old) (W.out out.new)) }
+{
+    tell_place(parts, Way::root(), parts.root, out)?;
+    tell_registers(parts, accepted.checked(), out)?;
+    tell_entries(parts, out)?;
+    tell_goings(parts, out)
+}

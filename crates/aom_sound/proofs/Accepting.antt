@@ -1,0 +1,236 @@
+-- A method that accepts returns to its dispatch: what it gives is the session of the client.
+use Rattle.std.proofs.Common.{Bool, List, None, Some, [], ap, cond, false, length, refl, subst, sym, true, ℕ, ◌==◌, ◌∙◌, ◌∷◌, ◌≡◌}
+use Rattle.std.proofs.lemmas.Bool.{eq-eqb, eqb-true}
+use Rattle.std.specs.Prelude.{is_none, is_some, ◌&&◌, ◌++◌, ◌||◌}
+use Rattle.aom_image.specs.Image.{Image}
+use Rattle.aom_image.specs.Views.{gives_of}
+use Rattle.aom_image.specs.declared.method.Gives.{Gives}
+use Rattle.aom_image.specs.declared.method.Gives.TheVariants.{Own as An_own}
+use Rattle.aom_image.specs.declared.method.Thing.{Thing}
+use Rattle.aom_instructions.specs.declared.instr.Instr.TheVariants.{Return}
+use Rattle.aom_rules.specs.Calls.{entries_done, result_moved, rule_result}
+use Rattle.aom_rules.specs.Typing.{Typing}
+use Rattle.aom_shape.specs.Kinds.{filled, is_object_or_null, no_entry, none_owns, register, set_register}
+use Rattle.aom_shape.specs.Needs.{AllTrue}
+use Rattle.aom_shape.specs.Shape.{Shape}
+use Rattle.aom_shape.specs.declared.kind.Age.TheVariants.{Ready}
+use Rattle.aom_shape.specs.declared.kind.Filling.TheVariants.{Full}
+use Rattle.aom_shape.specs.declared.kind.Kind.{Kind}
+use Rattle.aom_shape.specs.declared.kind.Kind.TheVariants.{Null, Own}
+use Rattle.aom_sound.proofs.Claimed.{claim-set_register, claim_rel, fits_age, keep_fits, mark_claims}
+use Rattle.aom_sound.proofs.Finishing.{Returnable, ended, ended_plainly, return_needs, returnable, same_items}
+use Rattle.aom_sound.proofs.Items.{forms_below, mark_on_top, undos_below}
+use Rattle.aom_sound.proofs.Maps.{held_moved, named_moved, requested_moved, same_place-true, tidy_moved}
+use Rattle.aom_sound.proofs.Returning.{held_thing, may_own}
+use Rattle.aom_sound.proofs.Seats.{first_kept, sits_kept}
+use Rattle.aom_sound.proofs.Services.{held_served, named_served, requested_served, service_here, service_moved, service_there, sits_lives, tidy_served}
+use Rattle.aom_sound.proofs.Straight.{At, Law, claim_register, fits_unowning, register_fits, word_of_object}
+use Rattle.aom_sound.proofs.Suiting.{all_returned, known_resting, rests_there, suits_rests}
+use Rattle.aom_sound.specs.Calls.{result_needs}
+use Rattle.aom_sound.specs.Claims.{Dispatching, Layer, Mark, Mark_form, Method, claim, declared, declared_field, tasks_of}
+use Rattle.aom_sound.specs.Places.{Cell, Elsewhere, Entry, Field, Going, In_service, Place, Queued, Register, Root, Service, Session, changed, held, moved, named, requested, same_place, seen, service_of, set_service}
+use Rattle.aom_sound.specs.Requests.{AllSuit, Suits, states_claim, thing_kind}
+use Rattle.aom_sound.specs.Servers.{has_message, has_session, is_among, message_thing, opened, session_thing}
+use Rattle.aom_sound.specs.State.{word, Accepted, Accepts, Choice, Frame, Inside, Of_server, Seat, State}
+use Rattle.aom_sound.specs.WellTyped.{AllSit, Fits, Good, IsApart, NoSeatAt}
+
+-- the client is among those with one more if it is the one, or was among them
+among_new : (c : ℕ) (ss : List ℕ) → is_among c (ss ++ c ∷ []) ≡ true
+among_new c [] = ap (λ b. b || false) (eq-eqb c c refl)
+among_new c (d ∷ ss) = ap (λ b. (d == c) || b) (among_new c ss) ∙ or_true (d == c)
+  where
+    or_true : (b : Bool) → (b || true) ≡ true
+    or_true true = refl
+    or_true false = refl
+
+among_old : (k c : ℕ) (ss : List ℕ) → (c == k) ≡ false → is_among k (ss ++ c ∷ []) ≡ is_among k ss
+among_old k c [] e = ap (λ b. b || false) e
+among_old k c (d ∷ ss) e = ap (λ b. (d == k) || b) (among_old k c ss e)
+
+module _ (p : Image) (t : Typing) (c : Choice) (s : State) (fr : Frame) (sh : Shape) (gv : Gives) (x : Seat) (client : ℕ) (seats : List Seat) (ls : List Layer) (at_hand : At p t s fr sh (Mark gv ∷ Dispatching (Of_server x client Accepts) seats ∷ ls)) (a : ℕ) where
+  abbrev below : List Layer
+  below = Mark gv ∷ Dispatching (Of_server x client Accepts) seats ∷ ls
+
+  abbrev n : ℕ
+  n = x.object.name
+
+  abbrev cs : List Cell
+  cs = s.cells
+
+  abbrev q : Place
+  q = Register (length (tasks_of below)) a
+
+  abbrev to : Place
+  to = Elsewhere (Session n client)
+
+  abbrev cs1 : List Cell
+  cs1 = moved q to cs
+
+  abbrev v : Service
+  v = opened client (service_of cs1 n)
+
+  abbrev cs2 : List Cell
+  cs2 = set_service n v cs1
+
+  lives : named cs n ≡ Some x.object
+  lives = sits_lives cs seats x at_hand.good.stack.4.1.2 at_hand.good.stack.4.1.3
+
+  none_yet : has_session (service_of cs n) client ≡ false
+  none_yet = at_hand.good.stack.4.1.4.1
+
+  abbrev thing : Thing
+  thing = at_hand.good.stack.4.1.0.0
+
+  gives : gives_of p fr.method ≡ An_own thing
+  gives = at_hand.good.stack.4.0.0 ∙ at_hand.good.stack.4.1.0.1
+
+  -- the session has a free place
+  free : held cs to ≡ None
+  free = fits_unowning p (seen cs) _ Null refl (subst (λ k. Fits p (seen cs) (held cs to) k) claims (at_hand.good.fits to))
+    where
+      claims : claim p (declared p cs) (Method fr sh ∷ below) to ≡ Null
+      claims = ap (λ l. claim p (declared p cs) l to) at_hand.good.stack.4.1.1 ∙ ap (λ b. cond b (filled (session_thing p (named cs n)) Full) Null) none_yet
+
+  named_then : (m : ℕ) → named cs2 m ≡ named cs m
+  named_then m = named_served cs1 n v m ∙ named_moved cs q to m
+
+  requested_then : (m : ℕ) → requested cs2 m ≡ requested cs m
+  requested_then m = requested_served cs1 n v m ∙ requested_moved cs q to m
+
+  service_now : service_of cs2 n ≡ opened client (service_of cs n)
+  service_now = service_here cs1 n v x.object (named_moved cs q to n ∙ lives) ∙ ap (opened client) (service_moved cs q to n)
+
+  service_then : (m : ℕ) → (n == m) ≡ false → service_of cs2 m ≡ service_of cs m
+  service_then m other = service_there cs1 n m v other ∙ service_moved cs q to m
+
+  sessions_then : (m k : ℕ) → ((n == m) && (client == k)) ≡ false → has_session (service_of cs2 m) k ≡ has_session (service_of cs m) k
+  sessions_then m k other = go (n == m) refl other
+    where
+      go : (b : Bool) → (n == m) ≡ b → (b && (client == k)) ≡ false → has_session (service_of cs2 m) k ≡ has_session (service_of cs m) k
+      go true e f = subst (λ i. has_session (service_of cs2 i) k ≡ has_session (service_of cs i) k) (eqb-true n m e) (ap (λ w. has_session w k) service_now ∙ among_old k client (service_of cs n).sessions f)
+      go false e f = ap (λ w. has_session w k) (service_then m e)
+
+  messages_then : (m k : ℕ) → has_message (service_of cs2 m) k ≡ has_message (service_of cs m) k
+  messages_then m k = go (n == m) refl
+    where
+      go : (b : Bool) → (n == m) ≡ b → has_message (service_of cs2 m) k ≡ has_message (service_of cs m) k
+      go true e = subst (λ i. has_message (service_of cs2 i) k ≡ has_message (service_of cs i) k) (eqb-true n m e) (ap (λ w. has_message w k) service_now)
+      go false e = ap (λ w. has_message w k) (service_then m e)
+
+  -- nothing but the session is declared anew
+  declared_then : (r : Place) → same_place to r ≡ false → declared p cs2 r ≡ declared p cs r
+  declared_then (Register f i) e = refl
+  declared_then (Entry k) e = refl
+  declared_then (Field m f) e = ap (λ o. declared_field p o f) (named_then m)
+  declared_then (Going k) e = refl
+  declared_then (Elsewhere Root) e = refl
+  declared_then (Elsewhere (Session m k)) e = ap (λ b. cond b (filled (session_thing p (named cs2 m)) Full) Null) (sessions_then m k e) ∙ ap (λ o. cond (has_session (service_of cs m) k) (filled (session_thing p o) Full) Null) (named_then m)
+  declared_then (Elsewhere In_service) e = refl
+  declared_then (Elsewhere (Queued m k)) e = ap (λ b. cond b (filled (message_thing p (named cs2 m)) Full) Null) (messages_then m k) ∙ ap (λ o. cond (has_message (service_of cs m) k) (filled (message_thing p o) Full) Null) (named_then m)
+
+  declared_now : declared p cs2 to ≡ Own thing Ready
+  declared_now =
+      ap (λ b. cond b (filled (session_thing p (named cs2 n)) Full) Null) (ap (λ w. has_session w client) service_now ∙ among_new client (service_of cs n).sessions)
+      ∙ ap (λ o. filled (session_thing p o) Full) (named_then n ∙ lives) ∙ ap (λ y. filled y Full) at_hand.good.stack.4.1.0.2
+
+  -- a dispatch at either stage claims nothing
+  claims_alike : (d : Place → Kind) (r : Place) → claim p d (Dispatching (Of_server x client Accepted) seats ∷ ls) r ≡ claim p d (Dispatching (Of_server x client Accepts) seats ∷ ls) r
+  claims_alike d (Register f i) = refl
+  claims_alike d (Entry k) = refl
+  claims_alike d (Field m f) = refl
+  claims_alike d (Going k) = refl
+  claims_alike d (Elsewhere Root) = refl
+  claims_alike d (Elsewhere (Session m k)) = refl
+  claims_alike d (Elsewhere In_service) = refl
+  claims_alike d (Elsewhere (Queued m k)) = refl
+
+  module _ (r : Returnable p fr sh a) where
+    rule : AllTrue (rule_result p fr.method fr.place sh (An_own thing) a)
+    rule = subst (λ g. AllTrue (rule_result p fr.method fr.place sh g a)) gives r.result
+
+    given : register sh a ≡ Own thing Ready
+    given = may_own p s thing (register sh a) rule.0 rule.1.0
+
+    entries : no_entry sh.entries ≡ true
+    entries = ap (λ g. entries_done p g sh.entries) (sym gives) ∙ r.entries
+
+    rest_free : none_owns (set_register sh a Null).registers ≡ true
+    rest_free = ap (λ g. none_owns (result_moved p fr.method fr.place sh g a).registers) (sym gives) ∙ r.free
+
+    fits_then : (r : Place) → Fits p (seen cs2) (held cs2 r) (claim p (declared p cs2) (Dispatching (Of_server x client Accepted) seats ∷ ls) r)
+    fits_then r =
+        subst (λ o. Fits p (seen cs2) o (claim p (declared p cs2) (Dispatching (Of_server x client Accepted) seats ∷ ls) r)) (sym (held_served cs1 n v r))
+        (fits_age p (seen cs1) (seen cs2) (held cs1 r) _ (λ y e fresh age. (λ f. held_served cs1 n v (Field y.name f) ∙ age.0 f, requested_served cs1 n v y.name ∙ age.1)) (go (same_place to r) refl carried))
+      where
+        k : Place → Kind
+        k = claim p (declared p cs) (Method fr sh ∷ below)
+
+        carried : Fits p (seen cs1) (held cs1 r) (changed (changed k q Null) to (k q) r)
+        carried = keep_fits p (seen cs) (seen cs1) k (changed (changed k q Null) to (k q)) q to (λ r. held_moved cs q to r free) (requested_moved cs q to) (λ r. refl) (λ r y e fresh f. refl) at_hand.good.fits r
+
+        go : (b : Bool) → same_place to r ≡ b → Fits p (seen cs1) (held cs1 r) (cond b (k q) (cond (same_place q r) Null (k r))) → Fits p (seen cs1) (held cs1 r) (claim p (declared p cs2) (Dispatching (Of_server x client Accepted) seats ∷ ls) r)
+        go true e f =
+            let its_claim : claim p (declared p cs2) (Dispatching (Of_server x client Accepted) seats ∷ ls) to ≡ Own thing Ready = ap (λ l. claim p (declared p cs2) l to) at_hand.good.stack.4.1.1 ∙ declared_now in
+            subst (λ y. Fits p (seen cs1) (held cs1 r) (claim p (declared p cs2) (Dispatching (Of_server x client Accepted) seats ∷ ls) y)) (same_place-true to r e)
+            (subst (λ y. Fits p (seen cs1) (held cs1 r) y) (claim_register p (declared p cs) fr sh below a ∙ given ∙ sym its_claim) f)
+        go false e f =
+            let bare = subst (λ y. Fits p (seen cs1) (held cs1 r) y) (sym (claim-set_register p (declared p cs) fr sh below a Null r)) f in
+            let over = ended p cs fr (set_register sh a Null) below at_hand.good.stack.2 at_hand.good.stack.3 refl entries rest_free (λ serving. absurd (at_hand.good.stack.1.message.0 serving)) r (seen cs1) (held cs1 r) bare in
+            subst (λ y. Fits p (seen cs1) (held cs1 r) y)
+            (mark_claims p (declared p cs) gv (Dispatching (Of_server x client Accepts) seats ∷ ls) r ∙ sym (claims_alike (declared p cs) r)
+            ∙ claim_rel (λ y z. y ≡ z) (λ y. refl) p (declared p cs) (declared p cs2) (Dispatching (Of_server x client Accepted) seats ∷ ls) r (sym (declared_then r e)))
+            over
+
+    no_seat_there : (xs : List Seat) → AllSit cs xs → NoSeatAt to xs
+    no_seat_there [] h = tt
+    no_seat_there (y ∷ ys) h = (go (same_place to y.place) refl, no_seat_there ys h.1)
+      where
+        go : (b : Bool) → same_place to y.place ≡ b → b ≡ false
+        go true e = let clash : Some y.object ≡ None = sym h.0.0 ∙ ap (λ r. held cs r) (sym (same_place-true to y.place e)) ∙ free in cc
+        go false e = refl
+
+    sits_then : AllSit cs2 seats
+    sits_then = sits_kept cs cs2 q to seats
+        (λ r o other other' there lives. (held_served cs1 n v r ∙ held_moved cs q to r free ∙ ap (λ b. cond b (held cs q) (cond (same_place q r) None (held cs r))) other' ∙ ap (λ b. cond b None (held cs r)) other ∙ there, named_then o.name ∙ lives))
+        tt (no_seat_there seats at_hand.good.stack.4.1.2) at_hand.good.stack.4.1.2
+
+    suits_then : AllSuit p cs2 (Dispatching (Of_server x client Accepted) seats ∷ ls)
+    suits_then o lives = subst (λ r. Suits (thing_kind p o.thing) (states_claim p o ls) r) (sym (requested_then o.name)) (before o (sym (named_then o.name) ∙ lives))
+      where
+        before : AllSuit p cs below
+        before = all_returned p cs cs fr sh below at_hand.good.suits at_hand.good.stack.2 (λ n. refl) (λ n off. refl) (λ o from e h.
+            let apart : IsApart p (Inside o from) below = subst (λ h. IsApart p h below) e at_hand.good.stack.3 in
+            rests_there p o below (requested cs o.name) apart.3 (suits_rests (thing_kind p o.thing) sh.states (requested cs o.name) r.settled (subst (λ k. Suits (thing_kind p o.thing) k (requested cs o.name)) (known_resting p o fr sh.states below at_hand.good.stack.4.0.2 apart.3) h)))
+
+    good_then : Good p t cs2 (Dispatching (Of_server x client Accepted) seats ∷ ls)
+    good_then = record {
+      stack = (
+        tt,
+        at_hand.good.stack.4.1.1,
+        sits_then,
+        first_kept cs cs2 q (Some x) seats (λ r o other there lives some. ap is_some (requested_then o.name) ∙ some) tt at_hand.good.stack.4.1.2 at_hand.good.stack.4.1.3,
+        (at_hand.good.stack.4.1.4.0, ap (λ w. has_session w client) service_now ∙ among_new client (service_of cs n).sessions),
+      );
+      fits = fits_then;
+      suits = suits_then;
+      tidy = tidy_served cs1 n v (tidy_moved cs q to free at_hand.good.tidy);
+    }
+
+    needs_met : AllTrue (result_needs p fr (tasks_of below) s (An_own thing) a)
+    needs_met =
+        let h = held_thing p s thing (held cs q) (subst (λ k. Fits p (seen cs) (held cs q) k) given (register_fits p cs fr sh below at_hand.good.fits a)) in
+        (ap is_none (word_of_object (word fr a) (register sh a) (ap is_object_or_null given) (at_hand.good.stack.1.words a)), (h.0, (h.1, tt)))
+
+  pub law_return_accepted : Law p t c s fr sh below at_hand (Return a)
+  law_return_accepted needed leads =
+      let r = returnable p fr sh a needed in
+      let items = same_items p t c s fr sh below at_hand (entries r) in (
+        return_needs p t c s fr sh below at_hand a r (subst (λ g. AllTrue (result_needs p fr (tasks_of below) s g a)) (sym gives) (needs_met r)) (mark_on_top s.items _ items, (ap is_none free, tt)),
+        ended_plainly p t c s fr sh below at_hand a r at_hand.good.stack.4.0.2 (record {
+          layers = Dispatching (Of_server x client Accepted) seats ∷ ls;
+          tasks = refl;
+          items = forms_below s.items Mark_form _ items;
+          undos = undos_below p s.items at_hand.undos;
+          good = good_then r;
+        }),
+      )

@@ -1,0 +1,50 @@
+-- Of the message that is served a method claims nothing where it does not serve: by its role.
+use Rattle.std.proofs.Common.{List, ◌∷◌, Bool, Some, ap, cond, false, refl, true, ℕ, ◌≡◌, ◌⊎◌, inl, inr}
+use Rattle.aom_image.specs.Image.{Image}
+use Rattle.aom_image.specs.Views.{method_role}
+use Rattle.aom_image.specs.declared.method.Role.TheVariants.{Construct, Do}
+use Rattle.aom_shape.specs.Shape.{Shape}
+use Rattle.aom_shape.specs.declared.kind.Kind.{Kind}
+use Rattle.aom_shape.specs.declared.kind.Kind.TheVariants.{Null, Own}
+use Rattle.aom_shape.specs.Kinds.{is_ready_kind}
+use Rattle.aom_shape.specs.declared.kind.Age.TheVariants.{Ready}
+use Rattle.aom_image.specs.declared.method.Thing.TheVariants.{Message}
+use Rattle.aom_rules.specs.Requests.{is_service}
+use Rattle.aom_sound.specs.Claims.{Dispatching, Layer, Mark, claim, delivered, serves}
+use Rattle.aom_sound.specs.State.{Of_server, Serves}
+use Rattle.aom_sound.specs.WellTyped.{IsServed}
+use Rattle.aom_sound.specs.Laws.{IsCalled}
+use Rattle.aom_sound.specs.Places.{Elsewhere, Entry, Field, Going, In_service, Place, Queued, Register, Root, Session}
+
+-- what is called does not serve
+pub called_plain : (p : Image) (m : ℕ) → IsCalled p m → serves p m ≡ false
+called_plain p m c = go c.role
+  where
+    go : (method_role p m ≡ Some Do) ⊎ (method_role p m ≡ Some Construct) → serves p m ≡ false
+    go (inl e) = ap is_service e
+    go (inr e) = ap is_service e
+
+pub plain_claim : (b : Bool) (sh : Shape) (below : Kind) → b ≡ false → cond b (delivered sh.delivery) below ≡ below
+plain_claim true sh below e = cc
+plain_claim false sh below e = refl
+
+-- the layers below a method that serves claim the message
+pub served_claim : (p : Image) (d : Place → Kind) (ls : List Layer) → IsServed ls → claim p d ls (Elsewhere In_service) ≡ Own Message Ready
+served_claim p d (Mark gv ∷ Dispatching (Of_server x client (Serves o)) seats ∷ ls) s = refl
+served_claim p d _ s = absurd s
+
+-- with the message that is served, where one is
+abbrev pub with_message : Bool → (Place → Kind) → Place → Kind
+with_message served d (Register f i) = d (Register f i)
+with_message served d (Entry k) = d (Entry k)
+with_message served d (Field n f) = d (Field n f)
+with_message served d (Going k) = d (Going k)
+with_message served d (Elsewhere Root) = d (Elsewhere Root)
+with_message served d (Elsewhere (Session s c)) = d (Elsewhere (Session s c))
+with_message served d (Elsewhere In_service) = cond served (Own Message Ready) (d (Elsewhere In_service))
+with_message served d (Elsewhere (Queued s m)) = d (Elsewhere (Queued s m))
+
+pub with_message_ready : (served : Bool) (q : Place) → is_ready_kind (with_message served (λ r. Null) q) ≡ true
+with_message_ready true (Elsewhere In_service) = refl
+with_message_ready false (Elsewhere In_service) = refl
+with_message_ready served _ = refl

@@ -1,0 +1,214 @@
+-- What a client asks of a server, and what it sends, is kept: by the entry that is queued last.
+use Rattle.std.proofs.Common.{Bool, List, None, Option, Some, [], ap, arith, cond, false, refl, subst, sym, true, ℕ, ◌&&◌, ◌<◌, ◌==◌, ◌∙◌, ◌∷◌, ◌≡◌, ◌≤◌}
+use Rattle.std.proofs.lemmas.Bool.{eq-eqb, eqb-true, le-ltb, ne_eqb, true≢false, ltb-true}
+use Rattle.std.proofs.lemmas.List.Folds.{list_any-append}
+use Rattle.std.specs.List.{list_any}
+use Rattle.std.specs.Prelude.{is_some, nat_lt, ◌||◌}
+use Rattle.aom_image.specs.Image.{Image}
+use Rattle.aom_image.specs.declared.class.ClassKind.{ClassKind}
+use Rattle.aom_image.specs.declared.class.ClassKind.TheVariants.{Server as A_server}
+use Rattle.aom_image.specs.declared.method.Thing.{Thing}
+use Rattle.aom_image.specs.declared.method.Thing.TheVariants.{Message, Object as An_object_of}
+use Rattle.aom_clients.specs.Nodes.{is_connecting_at, is_open_at}
+use Rattle.aom_clients.specs.Table.{row, server_of}
+use Rattle.aom_clients.specs.declared.client.Client.{Client}
+use Rattle.aom_clients.specs.declared.client.Client.TheVariants.{Connecting, Gone, Unconnected}
+use Rattle.aom_clients.specs.declared.refusal.Refusal.{Refusal}
+use Rattle.aom_clients.specs.declared.refusal.Refusal.TheVariants.{ServerBusy}
+use Rattle.aom_roles.specs.Classes.{sessions_in, sessions_of}
+use Rattle.aom_roles.specs.Shapes.{kind_of}
+use Rattle.aom_sound.proofs.ClientsFit.{IsFree, by_server, fit_changed, none_of_free, names_then, servers_then, seats_then}
+use Rattle.aom_sound.proofs.Maps.{same_place-true}
+use Rattle.aom_sound.proofs.Queues.{client_here, none_passes, queue_last, queue_other}
+use Rattle.aom_sound.proofs.Seated.{seats_asked, seats_none}
+use Rattle.aom_sound.proofs.Services.{service_unnamed}
+use Rattle.aom_sound.specs.Clients.{Listed, among_listed, asked_of, client_at, earlier, first_listed, is_of_class, most_of, with_client}
+use Rattle.aom_sound.specs.Enlisted.{thing_kind}
+use Rattle.aom_sound.specs.Kept.{ClientsFit, EntryFits, QueueFits, is_connect_of, is_message_of}
+use Rattle.aom_sound.specs.Places.{Asked, Cell, Close_of, Connect_of, Elsewhere, Message_of, Object, Queued, Request, Service, Tidy, held, named, same_place, service_of}
+use Rattle.aom_sound.specs.Servers.{asked_last, has_session, is_from, is_message, is_server, reserved, seats_taken}
+
+-- ---- the server that is asked stands, and is one
+
+abbrev pub IsListed : ℕ → List Cell → Listed → Type 0
+IsListed class cs x = (o : Object) × (o.name ≡ x.name) × (named cs o.name ≡ Some o) × (is_of_class class o.thing ≡ true)
+
+module _ (class : ℕ) (c : Cell) (cs : List Cell) (t : Tidy (c ∷ cs)) (x : Listed) (rest : first_listed class cs ≡ Some x → IsListed class cs x) where
+  later : IsListed class cs x → IsListed class (c ∷ cs) x
+  later l =
+      let other : (c.object.name == l.0.name) ≡ false = ne_eqb c.object.name l.0.name (λ same. let clash : Some l.0 ≡ None = sym l.2 ∙ sym (ap (λ n. named cs n) same) ∙ t.1 in cc) in
+      (l.0, l.1, ap (λ b. cond b (Some c.object) (named cs l.0.name)) other ∙ l.2, l.3)
+
+  among : (others : Option Listed) → first_listed class cs ≡ others → others ≡ Some x → IsListed class (c ∷ cs) x
+  among others same e = later (rest (same ∙ e))
+
+  abbrev me : ℕ → Listed
+  me order = record { name = c.object.name; order = order }
+
+  here : (order : ℕ) → is_of_class class c.object.thing ≡ true → me order ≡ x → IsListed class (c ∷ cs) x
+  here order of same = (c.object, ap (λ y. y.name) same, ap (λ b. cond b (Some c.object) (named cs c.object.name)) (eq-eqb c.object.name c.object.name refl), of)
+
+  first : (order : ℕ) → is_of_class class c.object.thing ≡ true → (others : Option Listed) → first_listed class cs ≡ others → Some (earlier (me order) others) ≡ Some x → IsListed class (c ∷ cs) x
+  first order of None same e = here order of cc
+  first order of (Some b) same e = go (nat_lt b.order order) e
+    where
+      go : (y : Bool) → Some (cond y b (me order)) ≡ Some x → IsListed class (c ∷ cs) x
+      go true e = among (Some b) same e
+      go false e = here order of cc
+
+  of_class : (order : ℕ) (b : Bool) → is_of_class class c.object.thing ≡ b → cond b (Some (earlier (me order) (first_listed class cs))) (first_listed class cs) ≡ Some x → IsListed class (c ∷ cs) x
+  of_class order true of e = first order of (first_listed class cs) refl e
+  of_class order false of e = among (first_listed class cs) refl e
+
+  of_request : (r : Option Request) → among_listed class c.object r (first_listed class cs) ≡ Some x → IsListed class (c ∷ cs) x
+  of_request None e = among (first_listed class cs) refl e
+  of_request (Some r) e = of_class r.order (is_of_class class c.object.thing) refl e
+
+pub listed_there : (class : ℕ) (cs : List Cell) (x : Listed) → Tidy cs → first_listed class cs ≡ Some x → IsListed class cs x
+listed_there class [] x t e = cc
+listed_there class (c ∷ cs) x t e = of_request class c cs t x (λ e. listed_there class cs x t.2 e) c.request e
+
+-- a class that takes sessions is of servers
+takes_some : (k : Option ClassKind) (n : ℕ) → nat_lt n (most_of k) ≡ true → is_some (sessions_in k) ≡ true
+unfolding sessions_in sessions_of
+takes_some (Some (A_server most session budget)) n e = refl
+takes_some _ n e = absurd (true≢false (sym e ∙ le-ltb n 0 (omega arith)))
+
+pub listed_serves : (p : Image) (class n : ℕ) (x : Thing) → is_of_class class x ≡ true → nat_lt n (most_of (kind_of p (Some class))) ≡ true → is_server p x ≡ true
+listed_serves p class n (An_object_of d) of room = ap (λ k. is_some (sessions_in (kind_of p (Some k)))) (eqb-true d class of) ∙ takes_some (kind_of p (Some class)) n room
+listed_serves p class n Message of room = cc
+
+-- and so it has a seat left
+pub listed_room : (p : Image) (class : ℕ) (v : Service) (x : Thing) → is_of_class class x ≡ true → nat_lt (seats_taken v) (most_of (kind_of p (Some class))) ≡ true → seats_taken v < most_of (thing_kind p x)
+listed_room p class v (An_object_of d) of room = subst (λ k. seats_taken v < most_of (kind_of p (Some k))) (sym (eqb-true d class of)) (ltb-true (seats_taken v) (most_of (kind_of p (Some class))) room)
+listed_room p class v Message of room = cc
+
+-- a connect that is not refused
+pub asked_none : (r : Option Refusal) (most : ℕ) (x : Listed) (cs : List Cell) → asked_of r most (Some x) cs ≡ None → (r ≡ None) × (nat_lt (seats_taken (service_of cs x.name)) most ≡ true)
+asked_none (Some refusal) most x cs e = cc
+asked_none None most x cs e = (refl, go (nat_lt (seats_taken (service_of cs x.name)) most) e)
+  where
+    go : (b : Bool) → cond b None (Some ServerBusy) ≡ None → b ≡ true
+    go true e = refl
+    go false e = cc
+
+pub connects_free : (k : Client) → (row k).connect ≡ None → IsFree k
+connects_free Unconnected e = record { connects = λ n. refl; opens = λ n. refl; leaves = λ n. refl; alone = refl }
+connects_free Gone e = record { connects = λ n. refl; opens = λ n. refl; leaves = λ n. refl; alone = refl }
+connects_free _ e = cc
+
+or_false : (b : Bool) → (b || false) ≡ b
+or_false true = refl
+or_false false = refl
+
+module _ (p : Image) (clients : List Client) (cs : List Cell) (fit : ClientsFit p clients cs) (o : Object) (lives : named cs o.name ≡ Some o) (serves : is_server p o.thing ≡ true) (c : ℕ) where
+  -- ---- a connect
+
+  pub fit_connecting : (slots : ℕ) → IsFree (client_at clients c) → seats_taken (service_of cs o.name) < most_of (thing_kind p o.thing) → ClientsFit p (with_client c (Connecting o.name slots) clients) (reserved (asked_last (Connect_of c)) o.name cs)
+  fit_connecting slots free room = fit_changed p c (Connecting o.name slots) clients cs (reserved (asked_last (Connect_of c)) o.name cs) fit record {
+    queues = by_server p cs o lives (asked_last (Connect_of c)) (λ n v. QueueFits (with_client c (Connecting o.name slots) clients) n v.queue)
+        (queue_last (with_client c (Connecting o.name slots) clients) o.name (Connect_of c) (service_of cs o.name).queue entry (none_passes (is_connect_of c) clients o.name never (service_of cs o.name).queue (fit.queues o.name)) (queues o.name))
+        (λ n e. queues n);
+    others = λ n d e. by_server p cs o lives (asked_last (Connect_of c)) (λ n v. has_session v d ≡ has_session (service_of cs n) d) refl (λ n other. refl) n;
+    has = by_server p cs o lives (asked_last (Connect_of c)) (λ n v. has_session v c ≡ true → server_of (Connecting o.name slots) ≡ Some n) (λ h. unlisted o.name h) (λ n other h. unlisted n h);
+    listed = λ n h. cc;
+    servers = servers_then p cs o lives (asked_last (Connect_of c)) serves clients fit;
+    names = names_then p cs o lives (asked_last (Connect_of c)) serves clients fit;
+    senders = λ n d m. by_server p cs o lives (asked_last (Connect_of c)) (λ n v. list_any (is_message_of d m) v.queue ≡ true → is_from d (service_of (reserved (asked_last (Connect_of c)) o.name cs) m).sender ≡ true)
+        (λ h. senders m d (fit.senders o.name d m (sym (list_any-append (is_message_of d m) (service_of cs o.name).queue (Connect_of c ∷ []) ∙ or_false (list_any (is_message_of d m) (service_of cs o.name).queue)) ∙ h)))
+        (λ n other h. senders m d (fit.senders n d m h)) n;
+    seats = seats_then p cs o lives (asked_last (Connect_of c)) clients fit (let one = seats_asked (Connect_of c) (service_of cs o.name) in omega (arith, room, one));
+  }
+    where
+      queues : (n : ℕ) → QueueFits (with_client c (Connecting o.name slots) clients) n (service_of cs n).queue
+      queues n = queue_other c n (Connecting o.name slots) clients (service_of cs n).queue (none_of_free clients c n free (service_of cs n).queue (fit.queues n)) (fit.queues n)
+
+      entry : is_connecting_at o.name (client_at (with_client c (Connecting o.name slots) clients) c) ≡ true
+      entry = ap (λ x. is_connecting_at o.name x) (client_here c (Connecting o.name slots) clients) ∙ eq-eqb o.name o.name refl
+
+      never : (e : Asked) → is_connect_of c e ≡ true → EntryFits clients o.name e → ⊥
+      never (Connect_of d) at f = true≢false (sym (ap (λ k. is_connecting_at o.name (client_at clients k)) (sym (eqb-true d c at)) ∙ f) ∙ free.connects o.name)
+      never (Message_of d m) at f = cc
+      never (Close_of d) at f = cc
+
+      unlisted : (n : ℕ) → has_session (service_of cs n) c ≡ true → None ≡ Some n
+      unlisted n h = sym free.alone ∙ fit.sessions n c h
+
+      senders : (m d : ℕ) → is_from d (service_of cs m).sender ≡ true → is_from d (service_of (reserved (asked_last (Connect_of c)) o.name cs) m).sender ≡ true
+      senders m d = by_server p cs o lives (asked_last (Connect_of c)) (λ m v. is_from d (service_of cs m).sender ≡ true → is_from d v.sender ≡ true) (λ h. h) (λ n other h. h) m
+
+-- ---- a new cell
+
+pub fit_with : (p : Image) (clients : List Client) (cs : List Cell) (x : Cell) → named cs x.object.name ≡ None → x.service.queue ≡ [] → x.service.sessions ≡ [] → ((n m : ℕ) → x.owner ≡ Elsewhere (Queued n m) → x.object.name ≡ m) → ClientsFit p clients cs → ClientsFit p clients (x ∷ cs)
+fit_with p clients cs x free no_queue no_sessions named_so fit = record {
+  queues = λ n. queues n (x.object.name == n);
+  sessions = λ n c h. fit.sessions n c (sym (session_so n c (x.object.name == n) refl) ∙ h);
+  listed = λ n c h. session_so n c (x.object.name == n) refl ∙ fit.listed n c h;
+  servers = λ o h plain. servers o plain (x.object.name == o.name) h;
+  names = λ n m o h. names n m o (same_place x.owner (Elsewhere (Queued n m))) refl h;
+  senders = λ n c m h. senders n c m (x.object.name == n) (x.object.name == m) refl h;
+  seats = λ o h. seats o (x.object.name == o.name) h;
+}
+  where
+    queues : (n : ℕ) (b : Bool) → QueueFits clients n (cond b x.service (service_of cs n)).queue
+    queues n true = subst (λ q. QueueFits clients n q) (sym no_queue) tt
+    queues n false = fit.queues n
+
+    session_so : (n c : ℕ) (b : Bool) → (x.object.name == n) ≡ b → has_session (cond b x.service (service_of cs n)) c ≡ has_session (service_of cs n) c
+    session_so n c true e =
+        ap (λ xs. list_any (λ d. d == c) xs) no_sessions
+        ∙ sym (ap (λ v. has_session v c) (ap (λ k. service_of cs k) (sym (eqb-true x.object.name n e)) ∙ service_unnamed cs x.object.name free))
+    session_so n c false e = refl
+
+    servers : (o : Object) → is_server p o.thing ≡ false → (b : Bool) → cond b (Some x.object) (named cs o.name) ≡ Some o → ((cond b x.service (service_of cs o.name)).queue ≡ []) × ((cond b x.service (service_of cs o.name)).sessions ≡ [])
+    servers o plain true h = (no_queue, no_sessions)
+    servers o plain false h = fit.servers o h plain
+
+    seats : (o : Object) (b : Bool) → cond b (Some x.object) (named cs o.name) ≡ Some o → seats_taken (cond b x.service (service_of cs o.name)) ≤ most_of (thing_kind p o.thing)
+    seats o true h = let none = seats_none x.service no_queue no_sessions in omega (arith, none)
+    seats o false h = fit.seats o h
+
+    names : (n m : ℕ) (o : Object) (b : Bool) → same_place x.owner (Elsewhere (Queued n m)) ≡ b → cond b (Some x.object) (held cs (Elsewhere (Queued n m))) ≡ Some o → o.name ≡ m
+    names n m o true e h = let same : x.object ≡ o = cc in ap (λ y. y.name) (sym same) ∙ named_so n m (same_place-true x.owner (Elsewhere (Queued n m)) e)
+    names n m o false e h = fit.names n m o h
+
+    senders : (n c m : ℕ) (b d : Bool) → (x.object.name == m) ≡ d → list_any (is_message_of c m) (cond b x.service (service_of cs n)).queue ≡ true → is_from c (cond d x.service (service_of cs m)).sender ≡ true
+    senders n c m true d e h = let none : false ≡ true = ap (λ q. list_any (is_message_of c m) q) (sym no_queue) ∙ h in cc
+    senders n c m false true e h =
+        let was = fit.senders n c m h in
+        let none : is_from c (service_of cs m).sender ≡ false = ap (λ v. is_from c v.sender) (ap (λ k. service_of cs k) (sym (eqb-true x.object.name m e)) ∙ service_unnamed cs x.object.name free) in
+        absurd (true≢false (sym was ∙ none))
+    senders n c m false false e h = fit.senders n c m h
+
+-- ---- a message
+
+module _ (p : Image) (clients : List Client) (cs : List Cell) (fit : ClientsFit p clients cs) (o : Object) (lives : named cs o.name ≡ Some o) (serves : is_server p o.thing ≡ true) (c m : ℕ) where
+  -- it is queued where its client has its session open, and stands already
+  pub fit_sent :
+      is_open_at o.name (client_at clients c) ≡ true → list_any (is_message m) (service_of cs o.name).queue ≡ false → is_from c (service_of cs m).sender ≡ true →
+      ClientsFit p clients (reserved (asked_last (Message_of c m)) o.name cs)
+  fit_sent open_there new from = record {
+    queues = by_server p cs o lives (asked_last (Message_of c m)) (λ n v. QueueFits clients n v.queue) (queue_last clients o.name (Message_of c m) (service_of cs o.name).queue open_there new (fit.queues o.name)) (λ n e. fit.queues n);
+    sessions = by_server p cs o lives (asked_last (Message_of c m)) (λ n v. (d : ℕ) → has_session v d ≡ true → server_of (client_at clients d) ≡ Some n) (fit.sessions o.name) (λ n e. fit.sessions n);
+    listed = by_server p cs o lives (asked_last (Message_of c m)) (λ n v. (d : ℕ) → server_of (client_at clients d) ≡ Some n → has_session v d ≡ true) (fit.listed o.name) (λ n e. fit.listed n);
+    servers = servers_then p cs o lives (asked_last (Message_of c m)) serves clients fit;
+    names = names_then p cs o lives (asked_last (Message_of c m)) serves clients fit;
+    senders = λ n d k. by_server p cs o lives (asked_last (Message_of c m)) (λ n v. list_any (is_message_of d k) v.queue ≡ true → is_from d (service_of (reserved (asked_last (Message_of c m)) o.name cs) k).sender ≡ true)
+        (λ h. senders k d (last d k (list_any (is_message_of d k) (service_of cs o.name).queue) refl (sym (list_any-append (is_message_of d k) (service_of cs o.name).queue (Message_of c m ∷ [])) ∙ h)))
+        (λ n other h. senders k d (fit.senders n d k h)) n;
+    seats = seats_then p cs o lives (asked_last (Message_of c m)) clients fit (let one = seats_asked (Message_of c m) (service_of cs o.name) in let was = fit.seats o lives in omega (arith, one, was));
+  }
+    where
+      senders : (k d : ℕ) → is_from d (service_of cs k).sender ≡ true → is_from d (service_of (reserved (asked_last (Message_of c m)) o.name cs) k).sender ≡ true
+      senders k d = by_server p cs o lives (asked_last (Message_of c m)) (λ k v. is_from d (service_of cs k).sender ≡ true → is_from d v.sender ≡ true) (λ h. h) (λ n other h. h) k
+
+      both : (a b : Bool) → (a && b) ≡ true → (a ≡ true) × (b ≡ true)
+      both true true e = (refl, refl)
+      both true false e = cc
+      both false b e = cc
+
+      last : (d k : ℕ) (b : Bool) → list_any (is_message_of d k) (service_of cs o.name).queue ≡ b → (b || (((c == d) && (m == k)) || false)) ≡ true → is_from d (service_of cs k).sender ≡ true
+      last d k true at h = fit.senders o.name d k at
+      last d k false at h =
+          let own = both (c == d) (m == k) (sym (or_false ((c == d) && (m == k))) ∙ h) in
+          subst (λ i. is_from d (service_of cs i).sender ≡ true) (eqb-true m k own.1) (subst (λ i. is_from i (service_of cs m).sender ≡ true) (eqb-true c d own.0) from)

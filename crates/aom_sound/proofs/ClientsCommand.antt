@@ -1,0 +1,197 @@
+-- What a client's command comes to is kept: it connects, sends, closes or dies, or nothing comes of it.
+use Rattle.std.proofs.Common.{Bool, List, None, Option, Some, [], ap, cond, false, refl, subst, sym, true, ℕ, ℤ, ◌&&◌, ◌==◌, ◌∙◌, ◌∷◌, ◌≡◌}
+use Rattle.std.proofs.lemmas.Bool.{eq-eqb, eqb-true, ne_eqb, true≢false}
+use Rattle.std.specs.List.{list_any}
+use Rattle.std.specs.Prelude.{nat_lt, ◌||◌}
+use Rattle.aom_image.specs.Image.{Image}
+use Rattle.aom_image.specs.declared.method.Thing.TheVariants.{Message}
+use Rattle.aom_clients.specs.Nodes.{is_leaving, is_open_at}
+use Rattle.aom_clients.specs.Table.{row, server_of}
+use Rattle.aom_clients.specs.declared.client.Client.{Client}
+use Rattle.aom_clients.specs.declared.client.Client.TheVariants.{Closing, Connecting, Dead, Dying, Gone, Open, Unconnected}
+use Rattle.aom_clients.specs.declared.refusal.Refusal.{Refusal}
+use Rattle.aom_roles.specs.Shapes.{kind_of}
+use Rattle.aom_sound.proofs.ClientsAsk.{asked_none, connects_free, fit_connecting, fit_sent, fit_with, listed_room, listed_serves, listed_there}
+use Rattle.aom_sound.proofs.ClientsLeave.{empty, fit_told, fit_withdrawn, queue_leaving, queue_left, service_left}
+use Rattle.aom_sound.proofs.Maps.{named_name}
+use Rattle.aom_sound.proofs.Queues.{client_here, front_none, none_passes, none_stays}
+use Rattle.aom_sound.proofs.Services.{service_unnamed}
+use Rattle.aom_sound.proofs.Sifted.{a_cell_of, cell_of, named_cell, named_sifted, service_cell, service_in, withdrawn_so}
+use Rattle.aom_sound.specs.Clients.{Closes, Command, Connects, Dies, Listed, Sends, asked_of, client_at, commanded, connecting, first_listed, leaving, most_of, refusal, sending, told, with_client, with_message}
+use Rattle.aom_sound.specs.Kept.{ClientsFit, EntryFits, is_close_of, is_message_of}
+use Rattle.aom_sound.specs.Places.{Asked, Cell, Close_of, Connect_of, Elsewhere, Message_of, Object, Queued, Tidy, held, named, service_of, set_service, unserved}
+use Rattle.aom_sound.specs.Servers.{asked_last, has_session, is_from, is_message, is_queue, is_server, left_by, reserved, seats_taken, stays, withdrawn}
+use Rattle.aom_sound.specs.State.{State}
+
+-- ---- what stands where clients are
+
+-- no client has a message of that name there, so that none waits
+pub none_named : (m : ℕ) (es : List Asked) → ((d : ℕ) → list_any (is_message_of d m) es ≡ false) → list_any (λ e. is_message m e) es ≡ false
+none_named m [] none = refl
+none_named m (Connect_of c ∷ es) none = none_named m es none
+none_named m (Close_of c ∷ es) none = none_named m es none
+none_named m (Message_of c k ∷ es) none =
+    let own = (front_none ((c == c) && (k == m)) (list_any (is_message_of c m) es) (none c)).0 in
+    ap (λ b. b || list_any (λ e. is_message m e) es) (sym (ap (λ b. b && (k == m)) (eq-eqb c c refl)) ∙ own)
+    ∙ none_named m es (λ d. (front_none ((c == d) && (k == m)) (list_any (is_message_of d m) es) (none d)).1)
+
+module _ (p : Image) (c : ℕ) (s : State) (tidy : Tidy s.cells) (fit : ClientsFit p s.clients s.cells) where
+  abbrev own : Client
+  own = client_at s.clients c
+
+  -- a server with which a client has a session stands, and is one
+  pub server_there : (n : ℕ) → has_session (service_of s.cells n) c ≡ true → (o : Object) × (o.name ≡ n) × (named s.cells o.name ≡ Some o) × (is_server p o.thing ≡ true)
+  server_there n h = go (named s.cells n) refl
+    where
+      go : (x : Option Object) → named s.cells n ≡ x → (o : Object) × (o.name ≡ n) × (named s.cells o.name ≡ Some o) × (is_server p o.thing ≡ true)
+      go None e = let none : false ≡ true = sym (ap (λ v. has_session v c) (service_unnamed s.cells n e)) ∙ h in cc
+      go (Some o) e = (o, name, lives, serves (is_server p o.thing) refl)
+        where
+          name : o.name ≡ n
+          name = named_name s.cells n o e
+
+          lives : named s.cells o.name ≡ Some o
+          lives = ap (λ k. named s.cells k) name ∙ e
+
+          serves : (b : Bool) → is_server p o.thing ≡ b → b ≡ true
+          serves true e = refl
+          serves false f =
+              let none = (fit.servers o lives f).1 in
+              absurd (true≢false (sym h ∙ ap (λ k. has_session (service_of s.cells k) c) (sym name) ∙ ap (λ xs. list_any (λ d. d == c) xs) none))
+
+  -- of a name that is free nothing waits
+  pub nobody : (n name : ℕ) → named s.cells name ≡ None → (d : ℕ) → list_any (is_message_of d name) (service_of s.cells n).queue ≡ false
+  nobody n name free d = go (list_any (is_message_of d name) (service_of s.cells n).queue) refl
+    where
+      go : (b : Bool) → list_any (is_message_of d name) (service_of s.cells n).queue ≡ b → b ≡ false
+      go false e = refl
+      go true e = let none : false ≡ true = sym (ap (λ v. is_from d v.sender) (service_unnamed s.cells name free)) ∙ fit.senders n d name e in cc
+
+  -- ---- it connects
+
+  fit_connects : (class slots : ℕ) (refused : Option Refusal) → asked_of (row own).connect (most_of (kind_of p (Some class))) (first_listed class s.cells) s.cells ≡ refused →
+      ClientsFit p (connecting p c s refused (first_listed class s.cells) slots).clients (connecting p c s refused (first_listed class s.cells) slots).cells
+  fit_connects class slots refused e = go refused (first_listed class s.cells) refl e
+    where
+      go : (r : Option Refusal) (x : Option Listed) → first_listed class s.cells ≡ x → asked_of (row own).connect (most_of (kind_of p (Some class))) x s.cells ≡ r → ClientsFit p (connecting p c s r x slots).clients (connecting p c s r x slots).cells
+      go None (Some x) there e =
+          let asked = asked_none (row own).connect (most_of (kind_of p (Some class))) x s.cells e in
+          let l = listed_there class s.cells x tidy there in
+          subst (λ n. ClientsFit p (with_client c (Connecting n slots) s.clients) (reserved (asked_last (Connect_of c)) n s.cells)) l.1
+          (fit_connecting p s.clients s.cells fit l.0 l.2 (listed_serves p class _ l.0.thing l.3 asked.1) c slots (connects_free own asked.0) (listed_room p class (service_of s.cells l.0.name) l.0.thing l.3 (ap (λ n. nat_lt (seats_taken (service_of s.cells n)) (most_of (kind_of p (Some class)))) l.1 ∙ asked.1)))
+      go None None there e = fit
+      go (Some r) x there e = fit
+
+  -- ---- it sends
+
+  fit_sends : (refused : Option Refusal) (name : ℕ) (words : List ℤ) → named s.cells name ≡ None → (k : Client) → own ≡ k → ClientsFit p (sending p c s refused k name words).clients (sending p c s refused k name words).cells
+  fit_sends None name words free (Open server session slots) at = subst (λ l. ClientsFit p s.clients l) same (subst (λ n. ClientsFit p s.clients (reserved (asked_last (Message_of c name)) n (message ∷ s.cells))) there.1 sent)
+    where
+      message : Cell
+      message = record {
+        object = record { name = name; thing = Message };
+        words = words;
+        request = None;
+        session = false;
+        service = record unserved { sender = Some (record { client = c; holds_slot = true; is_told = true }) };
+        owner = Elsewhere (Queued server name);
+      }
+
+      there : (o : Object) × (o.name ≡ server) × (named s.cells o.name ≡ Some o) × (is_server p o.thing ≡ true)
+      there = server_there server (fit.listed server c (ap server_of at))
+
+      other : (name == there.0.name) ≡ false
+      other = ne_eqb name there.0.name (λ same. let clash : Some there.0 ≡ None = sym there.2 ∙ ap (λ n. named s.cells n) (sym same) ∙ free in cc)
+
+      other_server : (name == server) ≡ false
+      other_server = ap (λ n. name == n) (sym there.1) ∙ other
+
+      same : reserved (asked_last (Message_of c name)) server (message ∷ s.cells) ≡ with_message p c s name words server
+      same = ap (λ b. record message { service = cond b (asked_last (Message_of c name) (cond b message.service (service_of s.cells server))) message.service } ∷ set_service server (asked_last (Message_of c name) (cond b message.service (service_of s.cells server))) s.cells) other_server
+
+      placed : (n m : ℕ) → Elsewhere (Queued server name) ≡ Elsewhere (Queued n m) → name ≡ m
+      placed n m e = cc
+
+      with_it : ClientsFit p s.clients (message ∷ s.cells)
+      with_it = fit_with p s.clients s.cells message free refl refl placed fit
+
+      sent : ClientsFit p s.clients (reserved (asked_last (Message_of c name)) there.0.name (message ∷ s.cells))
+      sent = fit_sent p s.clients (message ∷ s.cells) with_it there.0 (ap (λ b. cond b (Some message.object) (named s.cells there.0.name)) other ∙ there.2) there.3 c name
+          (ap (λ k. is_open_at there.0.name k) at ∙ eq-eqb server there.0.name (sym there.1))
+          (ap (λ b. list_any (λ e. is_message name e) (cond b message.service (service_of s.cells there.0.name)).queue) other ∙ none_named name (service_of s.cells there.0.name).queue (nobody there.0.name name free))
+          (ap (λ b. is_from c (cond b message.service (service_of s.cells name)).sender) (eq-eqb name name refl) ∙ eq-eqb c c refl)
+  fit_sends _ name words free k at = fit
+
+  -- ---- it closes or dies
+
+  module _ (waiting : (n m : ℕ) (o : Object) → held s.cells (Elsewhere (Queued n m)) ≡ Some o → is_server p o.thing ≡ false) where
+    no_close : ((n : ℕ) → is_leaving n own ≡ false) → (n : ℕ) → list_any (is_close_of c) (service_of s.cells n).queue ≡ false
+    no_close stays n = none_passes (is_close_of c) s.clients n never (service_of s.cells n).queue (fit.queues n)
+      where
+        never : (e : Asked) → is_close_of c e ≡ true → EntryFits s.clients n e → ⊥
+        never (Close_of d) at f = true≢false (sym (ap (λ k. is_leaving n (client_at s.clients k)) (sym (eqb-true d c at)) ∙ f) ∙ stays n)
+        never (Connect_of d) at f = cc
+        never (Message_of d m) at f = cc
+
+    -- with no session open
+    goes_alone : (to : Client) → server_of to ≡ server_of own → ((n : ℕ) → is_leaving n own ≡ false) → ClientsFit p (with_client c to s.clients) (withdrawn c s.cells)
+    goes_alone to session stays = fit_withdrawn p s.clients s.cells tidy fit c waiting to session (λ n. queue_left s.clients c n to (service_of s.cells n).queue (no_close stays n) (fit.queues n))
+
+    -- with its close asked for already
+    goes_still : (to : Client) → server_of to ≡ server_of own → ((n : ℕ) → is_leaving n own ≡ true → is_leaving n to ≡ true) → ClientsFit p (with_client c to s.clients) (withdrawn c s.cells)
+    goes_still to session still = fit_withdrawn p s.clients s.cells tidy fit c waiting to session (λ n. queue_leaving s.clients c n to (still n) (service_of s.cells n).queue (fit.queues n))
+
+    -- a server with a session is no message that goes
+    pub server_stays : (o : Object) → named s.cells o.name ≡ Some o → has_session (service_of s.cells o.name) c ≡ true → named (withdrawn c s.cells) o.name ≡ Some o
+    server_stays o lives has =
+        let x = a_cell_of (cell_of s.cells o.name) o (sym (named_cell s.cells o.name) ∙ lives) in
+        go x.0 x.1 x.2 (is_queue x.0.owner && is_from c x.0.service.sender) refl
+      where
+        go : (x : Cell) → cell_of s.cells o.name ≡ Some x → x.object ≡ o → (b : Bool) → (is_queue x.owner && is_from c x.service.sender) ≡ b → named (withdrawn c s.cells) o.name ≡ Some o
+        go x e name true d =
+            let none = (empty p s.clients s.cells tidy fit c waiting o.name x e d).1 in
+            absurd (true≢false (sym has ∙ ap (λ v. has_session v c) (service_cell s.cells o.name ∙ ap service_in e) ∙ ap (λ xs. list_any (λ d. d == c) xs) none))
+        go x e name false d =
+            ap (λ l. named l o.name) (withdrawn_so c s.cells)
+            ∙ named_sifted (λ y. is_queue y.owner && is_from c y.service.sender) (λ y. left_by c y.service) s.cells tidy o.name x e d ∙ ap (λ o. Some o) name
+
+    -- with its session open: a close is asked last
+    goes_told : (server session slots : ℕ) → own ≡ Open server session slots → (to : Client) → server_of to ≡ Some server → is_leaving server to ≡ true → ClientsFit p (with_client c to s.clients) (reserved (asked_last (Close_of c)) server (withdrawn c s.cells))
+    goes_told server session slots at to same leaves = subst (λ n. ClientsFit p (with_client c to s.clients) (reserved (asked_last (Close_of c)) n (withdrawn c s.cells))) there.1
+        (fit_told p (with_client c to s.clients) (withdrawn c s.cells) alone there.0 still_there there.3 c
+        (ap (λ k. is_leaving there.0.name k) (client_here c to s.clients) ∙ ap (λ n. is_leaving n to) there.1 ∙ leaves)
+        (ap (λ q. list_any (is_close_of c) q) (service_left p s.clients s.cells tidy fit c waiting there.0.name).0 ∙ none_stays (is_close_of c) (stays c) (service_of s.cells there.0.name).queue (no_close (λ n. ap (λ k. is_leaving n k) at) there.0.name)))
+      where
+        there : (o : Object) × (o.name ≡ server) × (named s.cells o.name ≡ Some o) × (is_server p o.thing ≡ true)
+        there = server_there server (fit.listed server c (ap server_of at))
+
+        alone : ClientsFit p (with_client c to s.clients) (withdrawn c s.cells)
+        alone = goes_alone to (same ∙ sym (ap server_of at)) (λ n. ap (λ k. is_leaving n k) at)
+
+        still_there : named (withdrawn c s.cells) there.0.name ≡ Some there.0
+        still_there = server_stays there.0 there.2 (fit.listed there.0.name c (ap server_of at ∙ ap (λ n. Some n) (sym there.1)))
+
+    fit_closes : (k : Client) → own ≡ k → ClientsFit p (leaving p c s (row k).close).clients (leaving p c s (row k).close).cells
+    fit_closes Unconnected at = fit
+    fit_closes (Connecting server slots) at = subst (λ k. ClientsFit p (with_client c Unconnected s.clients) (told p c s k (withdrawn c s.cells))) (sym at) (goes_alone Unconnected (sym (ap server_of at)) (λ n. ap (λ k. is_leaving n k) at))
+    fit_closes (Open server session slots) at = subst (λ k. ClientsFit p (with_client c (Closing server session) s.clients) (told p c s k (withdrawn c s.cells))) (sym at) (goes_told server session slots at (Closing server session) refl (eq-eqb server server refl))
+    fit_closes (Closing server session) at = fit
+    fit_closes Gone at = subst (λ k. ClientsFit p (with_client c Unconnected s.clients) (told p c s k (withdrawn c s.cells))) (sym at) (goes_alone Unconnected (sym (ap server_of at)) (λ n. ap (λ k. is_leaving n k) at))
+    fit_closes Dead at = fit
+    fit_closes (Dying server session) at = fit
+
+    fit_dies : (k : Client) → own ≡ k → ClientsFit p (leaving p c s (row k).die).clients (leaving p c s (row k).die).cells
+    fit_dies Unconnected at = subst (λ k. ClientsFit p (with_client c Dead s.clients) (told p c s k (withdrawn c s.cells))) (sym at) (goes_alone Dead (sym (ap server_of at)) (λ n. ap (λ k. is_leaving n k) at))
+    fit_dies (Connecting server slots) at = subst (λ k. ClientsFit p (with_client c Dead s.clients) (told p c s k (withdrawn c s.cells))) (sym at) (goes_alone Dead (sym (ap server_of at)) (λ n. ap (λ k. is_leaving n k) at))
+    fit_dies (Open server session slots) at = subst (λ k. ClientsFit p (with_client c (Dying server session) s.clients) (told p c s k (withdrawn c s.cells))) (sym at) (goes_told server session slots at (Dying server session) refl (eq-eqb server server refl))
+    fit_dies (Closing server session) at = subst (λ k. ClientsFit p (with_client c (Dying server session) s.clients) (told p c s k (withdrawn c s.cells))) (sym at) (goes_still (Dying server session) (sym (ap server_of at)) (λ n h. sym (ap (λ k. is_leaving n k) at) ∙ h))
+    fit_dies Gone at = subst (λ k. ClientsFit p (with_client c Dead s.clients) (told p c s k (withdrawn c s.cells))) (sym at) (goes_alone Dead (sym (ap server_of at)) (λ n. ap (λ k. is_leaving n k) at))
+    fit_dies Dead at = fit
+    fit_dies (Dying server session) at = fit
+
+    -- whatever is commanded
+    pub fit_commanded : (command : Command) (name : ℕ) → named s.cells name ≡ None → ClientsFit p (commanded p c s command name).clients (commanded p c s command name).cells
+    fit_commanded (Connects class slots) name free = fit_connects class slots (refusal p c s (Connects class slots)) refl
+    fit_commanded (Sends words) name free = fit_sends (refusal p c s (Sends words)) name words free own refl
+    fit_commanded Closes name free = fit_closes own refl
+    fit_commanded Dies name free = fit_dies own refl

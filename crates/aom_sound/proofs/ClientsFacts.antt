@@ -1,0 +1,158 @@
+-- What a well-typed state says of queues and of the server that is dispatched.
+use Rattle.std.proofs.Common.{Bool, List, None, Option, Some, [], ap, arith, cond, false, inl, inr, length, refl, subst, sym, true, ℕ, ◌&&◌, ◌==◌, ◌∙◌, ◌∷◌, ◌≡◌, ◌≤◌}
+use Rattle.std.proofs.lemmas.Bool.{ne_eqb, true≢false}
+use Rattle.std.specs.List.{list_any}
+use Rattle.std.specs.Prelude.{◌||◌}
+use Rattle.aom_image.specs.Image.{Image}
+use Rattle.aom_image.specs.declared.method.Thing.{Thing}
+use Rattle.aom_image.specs.declared.method.Thing.TheVariants.{Message}
+use Rattle.aom_clients.specs.declared.client.Client.{Client}
+use Rattle.aom_rules.specs.Typing.{Typing}
+use Rattle.aom_shape.specs.Kinds.{filled}
+use Rattle.aom_shape.specs.declared.kind.Age.TheVariants.{Ready}
+use Rattle.aom_shape.specs.declared.kind.Filling.TheVariants.{Full}
+use Rattle.aom_shape.specs.declared.kind.Kind.{Kind}
+use Rattle.aom_shape.specs.declared.kind.Kind.TheVariants.{Null, Own}
+use Rattle.aom_shape.specs.declared.kind.Delivery.{Delivery}
+use Rattle.aom_shape.specs.declared.kind.Delivery.TheVariants.{Gone as Gone_now, Here}
+use Rattle.aom_sound.proofs.ClientsTurn.{message_plain}
+use Rattle.aom_sound.proofs.Destroying.{Untouched, untouched}
+use Rattle.aom_sound.proofs.Maps.{named_name}
+use Rattle.aom_sound.proofs.Owners.{HasThing, IsQueuedAt, fits_thing, queued_lower, queued_thing_of}
+use Rattle.aom_sound.proofs.Picking.{own_held}
+use Rattle.aom_sound.proofs.Services.{service_unnamed}
+use Rattle.aom_sound.specs.Claims.{Dispatching, Dying, Ending, Layer, Mark, Method, Unwinding, by_stage, claim, declared, delivered, serves, tasks_of}
+use Rattle.aom_sound.specs.Kept.{ClientsFit, is_message_of}
+use Rattle.aom_sound.specs.Laws.{IsWired}
+use Rattle.aom_sound.specs.Places.{Asked, Cell, Close_of, Connect_of, Elsewhere, Going, In_service, Message_of, Object, Place, Queued, held, named, seen, service_of}
+use Rattle.aom_sound.specs.Servers.{has_message, is_message, is_server, message_thing}
+use Rattle.aom_sound.specs.State.{Closing, Destroy, Dispatch, Dispatched, Of_server, Run, Seat, Service_left, Serves, Stage, State, Task, Trapped, Unwind}
+use Rattle.aom_sound.specs.WellTyped.{AllSit, Back, Caught, Fits, Gone, IsAttended, Leaves, Now, Returns, SitsFirst, SomeIn, SomeSits, Stack, WellTyped, seat_of}
+
+-- no layer claims a message that waits
+claim_queued : (p : Image) (d : Place → Kind) (ls : List Layer) (n m : ℕ) → claim p d ls (Elsewhere (Queued n m)) ≡ d (Elsewhere (Queued n m))
+claim_queued p d [] n m = refl
+claim_queued p d (l ∷ ls) n m = claim_queued p d ls n m
+
+message_any : (c m : ℕ) (es : List Asked) → list_any (is_message_of c m) es ≡ true → list_any (λ e. is_message m e) es ≡ true
+message_any c m [] h = cc
+message_any c m (Connect_of d ∷ es) h = message_any c m es h
+message_any c m (Close_of d ∷ es) h = message_any c m es h
+message_any c m (Message_of d k ∷ es) h = go (d == c) (k == m) (message_any c m es) h
+  where
+    go : (a b : Bool) → (list_any (is_message_of c m) es ≡ true → list_any (λ e. is_message m e) es ≡ true) → ((a && b) || list_any (is_message_of c m) es) ≡ true → (b || list_any (λ e. is_message m e) es) ≡ true
+    go a true rest h = refl
+    go true false rest h = rest h
+    go false false rest h = rest h
+
+module _ (p : Image) (t : Typing) (wired : IsWired p) (s : State) (w : WellTyped p t s) where
+  -- what waits in a queue is no server
+  pub waiting_well : (n m : ℕ) (o : Object) → held s.cells (Elsewhere (Queued n m)) ≡ Some o → is_server p o.thing ≡ false
+  waiting_well n m o e = message_plain p o.thing (queued_lower p wired x.0 o.thing x.3).0
+    where
+      x : IsQueuedAt p s.cells n m o.thing
+      x = queued_thing_of p s.cells w.layers n m o.thing (fits_thing p (seen s.cells) o _ (subst (λ y. Fits p (seen s.cells) y (claim p (declared p s.cells) w.layers (Elsewhere (Queued n m)))) e (w.good.fits (Elsewhere (Queued n m)))))
+
+  -- and what a client sent waits there
+  pub queued_well : (clients : List Client) → ClientsFit p clients s.cells → (n c m : ℕ) → list_any (is_message_of c m) (service_of s.cells n).queue ≡ true → (x : Object) × (held s.cells (Elsewhere (Queued n m)) ≡ Some x)
+  queued_well clients fit n c m h = go (named s.cells n) refl
+    where
+      has : has_message (service_of s.cells n) m ≡ true
+      has = message_any c m (service_of s.cells n).queue h
+
+      fits : Fits p (seen s.cells) (held s.cells (Elsewhere (Queued n m))) (declared p s.cells (Elsewhere (Queued n m)))
+      fits = subst (λ k. Fits p (seen s.cells) (held s.cells (Elsewhere (Queued n m))) k) (claim_queued p (declared p s.cells) w.layers n m) (w.good.fits (Elsewhere (Queued n m)))
+
+      at : (o : Object) → named s.cells n ≡ Some o → (b : Bool) → is_server p o.thing ≡ b → (x : Object) × (held s.cells (Elsewhere (Queued n m)) ≡ Some x)
+      at o e true serves =
+          let kind : declared p s.cells (Elsewhere (Queued n m)) ≡ Own Message Ready = ap (λ b. cond b (filled (message_thing p (named s.cells n)) Full) Null) has ∙ ap (λ y. filled (message_thing p y) Full) e ∙ ap (λ b. filled (cond b (Some Message) None) Full) serves in
+          let x = own_held p (seen s.cells) (held s.cells (Elsewhere (Queued n m))) Message (subst (λ k. Fits p (seen s.cells) (held s.cells (Elsewhere (Queued n m))) k) kind fits) in
+          (x.0, x.1)
+      at o e false plain =
+          let name : o.name ≡ n = named_name s.cells n o e in
+          let none = (fit.servers o (ap (λ k. named s.cells k) name ∙ e) plain).0 in
+          absurd (true≢false (sym has ∙ ap (λ k. has_message (service_of s.cells k) m) (sym name) ∙ ap (λ q. list_any (λ e. is_message m e) q) none))
+
+      go : (o : Option Object) → named s.cells n ≡ o → (x : Object) × (held s.cells (Elsewhere (Queued n m)) ≡ Some x)
+      go None e = absurd (true≢false (sym has ∙ ap (λ v. has_message v m) (service_unnamed s.cells n e)))
+      go (Some o) e = at o e (is_server p o.thing) refl
+
+-- ---- the dispatch of a server
+
+abbrev pub IsAt : Dispatch → List Task → Type 0
+IsAt d [] = ⊥
+IsAt d (Run fr ∷ ts) = IsAt d ts
+IsAt d (Trapped ∷ ts) = IsAt d ts
+IsAt d (Destroy ∷ ts) = IsAt d ts
+IsAt d (Closing ∷ ts) = IsAt d ts
+IsAt d (Unwind code ∷ ts) = IsAt d ts
+IsAt d (Dispatched e ∷ ts) = e ≡ d
+
+abbrev pub ServerLives : Image → List Cell → Seat → List Layer → Type 0
+ServerLives p cs x ls = (named cs x.object.name ≡ Some x.object) × (is_server p x.object.thing ≡ true) × SomeIn x.object.name ls
+
+-- its server stands, and sits
+pub server_lives : (p : Image) (t : Typing) (cs : List Cell) (ls : List Layer) (back : Back) (x : Seat) (c : ℕ) (stage : Stage) → Stack p t cs back ls → IsAt (Of_server x c stage) (tasks_of ls) → ServerLives p cs x ls
+server_lives p t cs [] back x c stage s at = absurd at
+server_lives p t cs (Method fr sh ∷ ls) back x c stage s at = let r = server_lives p t cs ls (Returns fr.method fr.home) x c stage s.4 at in (r.0, r.1, inr r.2)
+server_lives p t cs (Mark gv ∷ ls) back x c stage s at = server_lives p t cs ls (Caught gv) x c stage s.1 at
+server_lives p t cs (Dying o ∷ ls) back x c stage s at = server_lives p t cs ls Gone x c stage s.2 at
+server_lives p t cs (Ending o left ∷ ls) back x c stage s at = server_lives p t cs ls Now x c stage s.3 at
+server_lives p t cs (Unwinding code es ∷ ls) back x c stage s at = server_lives p t cs ls Leaves x c stage s.1 at
+server_lives p t cs (Dispatching d seats ∷ ls) back x c stage s at =
+    let first = subst (λ e. SitsFirst cs (seat_of e) seats) at s.3 in
+    let sit : AllSit cs (x ∷ first.1) = subst (λ l. AllSit cs l) first.2 s.2 in
+    let attended = subst (λ e. IsAttended p cs e) at s.4 in
+    (sit.0.1, attended.0, inl (subst (λ l. SomeSits x.object.name l) (sym first.2) (inl refl)))
+
+-- ---- what is served
+
+message_by_stage : (d : Dispatch) (k : Kind) (x : Thing) → (HasThing k x → ⊥) → HasThing (by_stage d k) x → x ≡ Message
+message_by_stage (Of_server y c (Serves o)) k x none h = h
+message_by_stage (Of_server y c (Service_left code)) k x none h = h
+message_by_stage _ k x none h = absurd (none h)
+
+message_delivered : (d : Delivery) (x : Thing) → HasThing (delivered d) x → x ≡ Message
+message_delivered Here x h = h
+message_delivered Gone_now x h = absurd h
+
+-- is a message
+pub service_message : (p : Image) (cs : List Cell) (ls : List Layer) (t : Typing) (back : Back) (x : Thing) → Stack p t cs back ls → HasThing (claim p (declared p cs) ls (Elsewhere In_service)) x → x ≡ Message
+service_message p cs [] t back x s h = absurd h
+service_message p cs (Method fr sh ∷ ls) t back x s h = go (serves p fr.method) (service_message p cs ls t (Returns fr.method fr.home) x s.4) h
+  where
+    go : (b : Bool) → (HasThing (claim p (declared p cs) ls (Elsewhere In_service)) x → x ≡ Message) → HasThing (cond b (delivered sh.delivery) (claim p (declared p cs) ls (Elsewhere In_service))) x → x ≡ Message
+    go true below h = message_delivered sh.delivery x h
+    go false below h = below h
+service_message p cs (Mark gv ∷ ls) t back x s h = service_message p cs ls t (Caught gv) x s.1 h
+service_message p cs (Dying o ∷ ls) t back x s h = service_message p cs ls t Gone x s.2 h
+service_message p cs (Ending o left ∷ ls) t back x s h = service_message p cs ls t Now x s.3 h
+service_message p cs (Unwinding code es ∷ ls) t back x s h = service_message p cs ls t Leaves x s.1 h
+service_message p cs (Dispatching d seats ∷ ls) t back x s h = message_by_stage d (claim p (declared p cs) ls (Elsewhere In_service)) x (λ h. subst (λ l. HasThing (claim p (declared p cs) l (Elsewhere In_service)) x) s.1 h) h
+
+pub serving_plain : (p : Image) (t : Typing) (s : State) (w : WellTyped p t s) (o : Object) → held s.cells (Elsewhere In_service) ≡ Some o → is_server p o.thing ≡ false
+serving_plain p t s w o e =
+    message_plain p o.thing (service_message p s.cells w.layers t Now o.thing w.good.stack
+    (fits_thing p (seen s.cells) o _ (subst (λ y. Fits p (seen s.cells) y (claim p (declared p s.cells) w.layers (Elsewhere In_service))) e (w.good.fits (Elsewhere In_service)))))
+
+-- ---- a cell that goes
+
+pub dying_layers : (ls : List Layer) (ts : List Task) → Destroy ∷ ts ≡ tasks_of ls → (o : Object) × (below : List Layer) × (ls ≡ Dying o ∷ below) × (ts ≡ tasks_of below)
+dying_layers (Dying o ∷ ls) ts e = (o, ls, refl, cc)
+dying_layers _ ts e = cc
+
+-- is not the server that is dispatched
+pub goes_apart : (p : Image) (t : Typing) (s : State) (w : WellTyped p t s) (ts : List Task) → s.tasks ≡ Destroy ∷ ts → (o : Object) → held s.cells (Going (length ts)) ≡ Some o → (x : Seat) (c : ℕ) (stage : Stage) → IsAt (Of_server x c stage) ts → (o.name == x.object.name) ≡ false
+goes_apart p t s w ts tasks o there x c stage at = ne_eqb o.name x.object.name (λ same. u.some (subst (λ n. SomeIn n d.1) (sym same) l.2))
+  where
+    d : (o : Object) × (below : List Layer) × (w.layers ≡ Dying o ∷ below) × (ts ≡ tasks_of below)
+    d = dying_layers w.layers ts (sym tasks ∙ w.tasks)
+
+    stack : Stack p t s.cells Gone d.1
+    stack = (subst (λ ls. Stack p t s.cells Now ls) d.2 w.good.stack).2
+
+    l : ServerLives p s.cells x d.1
+    l = server_lives p t s.cells d.1 Gone x c stage stack (subst (λ l. IsAt (Of_server x c stage) l) d.3 at)
+
+    u : Untouched p (λ f. Null) o.name d.1
+    u = untouched p t s.cells (Going (length ts)) o w.good.tidy there (λ f. Null) d.1 Gone (subst (λ l. length (tasks_of d.1) ≤ length l) (sym d.3) (omega arith)) stack

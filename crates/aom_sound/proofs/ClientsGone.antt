@@ -1,0 +1,388 @@
+-- A server that goes lets go of all clients that are at it, and what is kept of all others stays.
+use Rattle.std.proofs.Common.{Bool, List, None, Option, Some, [], ap, cond, false, refl, subst, sym, true, ℕ, ◌==◌, ◌∙◌, ◌∷◌, ◌≡◌, ◌<◌, ◌≤◌, arith}
+use Rattle.std.proofs.lemmas.Bool.{eq-eqb, eqb-true, ne_eqb, true≢false}
+use Rattle.std.specs.List.{list_any}
+use Rattle.std.specs.Prelude.{◌||◌}
+use Rattle.aom_image.specs.Image.{Image}
+use Rattle.aom_clients.specs.Nodes.{is_connecting_at, is_leaving, is_open_at}
+use Rattle.aom_clients.specs.Table.{at_gone, server_of}
+use Rattle.aom_clients.specs.declared.client.Client.{Client}
+use Rattle.aom_clients.specs.declared.client.Client.TheVariants.{Closing, Connecting, Dead, Dying, Gone, Open, Unconnected}
+use Rattle.aom_sound.proofs.ClientsFit.{connecting_only, leaving_only}
+use Rattle.aom_sound.proofs.Maps.{cond_same, same_place-true, same_place_comm, same_place_refl}
+use Rattle.aom_sound.proofs.Queues.{client_here, client_there, none_passes}
+use Rattle.aom_sound.proofs.Sifted.{a_cell_of, cell_in, cell_lives, cell_name, cell_of, cell_of_sifted, cell_owner, cell_placed, held_cell, held_sifted, kept, named_before, named_cell, object_in, service_cell, service_gone, service_in, service_sifted, sifted, unheld_sifted}
+use Rattle.aom_sound.specs.Clients.{client_at, each_unslotted, queue_ended, sessions_ended, with_client, most_of}
+use Rattle.aom_sound.specs.Kept.{ClientsFit, EntryFits, QueueFits, ConnectKept, StageKept, is_close_of, is_connect_of, is_message_of}
+use Rattle.aom_sound.specs.Places.{Asked, Cell, Close_of, Connect_of, Elsewhere, Message_of, Object, Place, Queued, Sender, Service, Tidy, held, named, same_place, service_of, unserved, without}
+use Rattle.aom_sound.specs.State.{Accept_left, Accepted, Accepts, Parts, Service_left, Serves, Stage}
+use Rattle.aom_sound.specs.Servers.{all_unslotted, has_session, is_from, is_queue_of, is_server, unslotted, without_queue, seats_taken}
+use Rattle.aom_sound.specs.Enlisted.{thing_kind}
+use Rattle.aom_sound.proofs.Seated.{seats_same}
+
+-- ---- what the clients are at
+
+pub queue_ended_at : (q : List Asked) (clients : List Client) (c : ℕ) → client_at (queue_ended q clients) c ≡ cond (list_any (is_connect_of c) q) Unconnected (client_at clients c)
+queue_ended_at [] clients c = refl
+queue_ended_at (Message_of d m ∷ es) clients c = queue_ended_at es clients c
+queue_ended_at (Close_of d ∷ es) clients c = queue_ended_at es clients c
+queue_ended_at (Connect_of d ∷ es) clients c = queue_ended_at es (with_client d Unconnected clients) c ∙ go (d == c) refl (list_any (is_connect_of c) es)
+  where
+    go : (b : Bool) → (d == c) ≡ b → (x : Bool) → cond x Unconnected (client_at (with_client d Unconnected clients) c) ≡ cond (b || x) Unconnected (client_at clients c)
+    go true e x = ap (λ k. cond x Unconnected k) (ap (λ i. client_at (with_client d Unconnected clients) i) (sym (eqb-true d c e)) ∙ client_here d Unconnected clients) ∙ cond_same x Unconnected
+    go false e x = ap (λ k. cond x Unconnected k) (client_there d c Unconnected clients e)
+
+gone_twice : (x : Client) → at_gone (at_gone x) ≡ at_gone x
+gone_twice (Open server session slots) = refl
+gone_twice (Closing server session) = refl
+gone_twice (Dying server session) = refl
+gone_twice Unconnected = refl
+gone_twice (Connecting server slots) = refl
+gone_twice Gone = refl
+gone_twice Dead = refl
+
+pub sessions_ended_at : (xs : List ℕ) (clients : List Client) (c : ℕ) → client_at (sessions_ended xs clients) c ≡ cond (list_any (λ d. d == c) xs) (at_gone (client_at clients c)) (client_at clients c)
+sessions_ended_at [] clients c = refl
+sessions_ended_at (d ∷ ds) clients c = sessions_ended_at ds (with_client d (at_gone (client_at clients d)) clients) c ∙ go (d == c) refl (list_any (λ i. i == c) ds)
+  where
+    then : List Client
+    then = with_client d (at_gone (client_at clients d)) clients
+
+    go : (b : Bool) → (d == c) ≡ b → (x : Bool) → cond x (at_gone (client_at then c)) (client_at then c) ≡ cond (b || x) (at_gone (client_at clients c)) (client_at clients c)
+    go true e x =
+        let same : d ≡ c = eqb-true d c e in
+        let now : client_at then c ≡ at_gone (client_at clients c) = ap (λ i. client_at then i) (sym same) ∙ client_here d (at_gone (client_at clients d)) clients ∙ ap (λ i. at_gone (client_at clients i)) same in
+        ap (λ k. cond x (at_gone k) k) now ∙ ap (λ k. cond x k (at_gone (client_at clients c))) (gone_twice (client_at clients c)) ∙ cond_same x (at_gone (client_at clients c))
+    go false e x = ap (λ k. cond x (at_gone k) k) (client_there d c (at_gone (client_at clients d)) clients e)
+
+gone_alone : (x : Client) → server_of (at_gone x) ≡ None
+gone_alone (Open server session slots) = refl
+gone_alone (Closing server session) = refl
+gone_alone (Dying server session) = refl
+gone_alone Unconnected = refl
+gone_alone (Connecting server slots) = refl
+gone_alone Gone = refl
+gone_alone Dead = refl
+
+pub open_server : (n : ℕ) (x : Client) → is_open_at n x ≡ true → server_of x ≡ Some n
+open_server n (Open server session slots) e = ap (λ k. Some k) (eqb-true server n e)
+open_server n _ e = cc
+
+-- who has a session, or may have one, connects to nobody
+has_server : (k n : ℕ) (x : Client) → server_of x ≡ Some n → is_connecting_at k x ≡ false
+has_server k n (Connecting server slots) e = cc
+has_server k n (Open server session slots) e = refl
+has_server k n (Closing server session) e = refl
+has_server k n (Dying server session) e = refl
+has_server k n Unconnected e = refl
+has_server k n Gone e = refl
+has_server k n Dead e = refl
+
+-- ---- the cells
+
+-- they lose no place and no queue where messages lose their slots
+module _ (p : Image) (clients : List Client) (c : ℕ) where
+  unslot : Cell → Service
+  unslot x = record x.service { sender = unslotted c x.service.sender }
+
+  from_unslotted : (d : ℕ) (x : Option Sender) → is_from d x ≡ true → is_from d (unslotted c x) ≡ true
+  from_unslotted d None h = cc
+  from_unslotted d (Some m) h = go (m.client == c) h
+    where
+      go : (b : Bool) → (m.client == d) ≡ true → ((cond b (record m { holds_slot = false }) m).client == d) ≡ true
+      go true h = h
+      go false h = h
+
+  service_unslotted : (cs : List Cell) (n : ℕ) → service_of (all_unslotted c cs) n ≡ record (service_of cs n) { sender = unslotted c (service_of cs n).sender }
+  service_unslotted [] n = refl
+  service_unslotted (x ∷ cs) n = go (x.object.name == n) (service_unslotted cs n)
+    where
+      go : (b : Bool) → service_of (all_unslotted c cs) n ≡ record (service_of cs n) { sender = unslotted c (service_of cs n).sender } → cond b (record x.service { sender = unslotted c x.service.sender }) (service_of (all_unslotted c cs) n) ≡ record (cond b x.service (service_of cs n)) { sender = unslotted c (cond b x.service (service_of cs n)).sender }
+      go true e = refl
+      go false e = e
+
+  held_unslotted : (cs : List Cell) (q : Place) → held (all_unslotted c cs) q ≡ held cs q
+  held_unslotted [] q = refl
+  held_unslotted (x ∷ cs) q = ap (λ y. cond (same_place x.owner q) (Some x.object) y) (held_unslotted cs q)
+
+  named_unslotted : (cs : List Cell) (n : ℕ) → named (all_unslotted c cs) n ≡ named cs n
+  named_unslotted [] n = refl
+  named_unslotted (x ∷ cs) n = ap (λ y. cond (x.object.name == n) (Some x.object) y) (named_unslotted cs n)
+
+  pub fit_unslotted : (cs : List Cell) → ClientsFit p clients cs → ClientsFit p clients (all_unslotted c cs)
+  fit_unslotted cs fit = record {
+    queues = λ n. subst (λ v. QueueFits clients n v.queue) (sym (service_unslotted cs n)) (fit.queues n);
+    sessions = λ n d h. fit.sessions n d (ap (λ v. has_session v d) (sym (service_unslotted cs n)) ∙ h);
+    listed = λ n d h. ap (λ v. has_session v d) (service_unslotted cs n) ∙ fit.listed n d h;
+    servers = λ o h plain. subst (λ v. (v.queue ≡ []) × (v.sessions ≡ [])) (sym (service_unslotted cs o.name)) (fit.servers o (sym (named_unslotted cs o.name) ∙ h) plain);
+    names = λ n m o h. fit.names n m o (sym (held_unslotted cs (Elsewhere (Queued n m))) ∙ h);
+    senders = λ n d m h. subst (λ v. is_from d v.sender ≡ true) (sym (service_unslotted cs m)) (from_unslotted d (service_of cs m).sender (fit.senders n d m (ap (λ v. list_any (is_message_of d m) v.queue) (sym (service_unslotted cs n)) ∙ h)));
+    seats = λ o h. subst (λ v. seats_taken v ≤ most_of (thing_kind p o.thing)) (sym (service_unslotted cs o.name)) (fit.seats o (sym (named_unslotted cs o.name) ∙ h));
+  }
+
+pub fit_each_unslotted : (p : Image) (clients : List Client) (xs : List ℕ) (cs : List Cell) → ClientsFit p clients cs → ClientsFit p clients (each_unslotted xs cs)
+fit_each_unslotted p clients [] cs fit = fit
+fit_each_unslotted p clients (c ∷ xs) cs fit = fit_each_unslotted p clients xs (all_unslotted c cs) (fit_unslotted p clients c cs fit)
+
+pub queue_unslotted : (p : Image) (clients : List Client) (xs : List ℕ) (cs : List Cell) (n : ℕ) → (service_of (each_unslotted xs cs) n).queue ≡ (service_of cs n).queue
+queue_unslotted p clients [] cs n = refl
+queue_unslotted p clients (c ∷ xs) cs n = queue_unslotted p clients xs (all_unslotted c cs) n ∙ ap (λ v. v.queue) (service_unslotted p clients c cs n)
+
+pub sessions_unslotted : (p : Image) (clients : List Client) (xs : List ℕ) (cs : List Cell) (n : ℕ) → (service_of (each_unslotted xs cs) n).sessions ≡ (service_of cs n).sessions
+sessions_unslotted p clients [] cs n = refl
+sessions_unslotted p clients (c ∷ xs) cs n = sessions_unslotted p clients xs (all_unslotted c cs) n ∙ ap (λ v. v.sessions) (service_unslotted p clients c cs n)
+
+-- what goes with it
+abbrev pub goes_with : ℕ → Place → Cell → Bool
+goes_with n g c = is_queue_of n c.owner || same_place c.owner g
+
+pub gone_so : (n : ℕ) (g : Place) (cs : List Cell) → without g (without_queue n cs) ≡ sifted (goes_with n g) (λ c. c.service) cs
+gone_so n g [] = refl
+gone_so n g (c ∷ cs) = go (is_queue_of n c.owner) (gone_so n g cs)
+  where
+    go : (b : Bool) → without g (without_queue n cs) ≡ sifted (goes_with n g) (λ c. c.service) cs → without g (cond b (without_queue n cs) (c ∷ without_queue n cs)) ≡ cond (b || same_place c.owner g) (sifted (goes_with n g) (λ c. c.service) cs) (c ∷ sifted (goes_with n g) (λ c. c.service) cs)
+    go true e = e
+    go false e = ap (λ l. cond (same_place c.owner g) l (c ∷ l)) e
+
+-- waiting: what is in a queue is no server; queued: what is asked of a server stands in its queue
+module _
+    (p : Image) (clients : List Client) (cs : List Cell) (tidy : Tidy cs) (fit : ClientsFit p clients cs) (o : Object) (g : Place) (there : held cs g ≡ Some o) (apart : (n m : ℕ) → same_place g (Elsewhere (Queued n m)) ≡ false)
+    (waiting : (n m : ℕ) (x : Object) → held cs (Elsewhere (Queued n m)) ≡ Some x → is_server p x.thing ≡ false)
+    (queued : (n c m : ℕ) → list_any (is_message_of c m) (service_of cs n).queue ≡ true → (x : Object) × (held cs (Elsewhere (Queued n m)) ≡ Some x)) where
+  abbrev drops : Cell → Bool
+  drops = goes_with o.name g
+
+  abbrev left : List Cell
+  left = sifted drops (λ c. c.service) cs
+
+  abbrev then : List Client
+  then = sessions_ended (service_of cs o.name).sessions (queue_ended (service_of cs o.name).queue clients)
+
+  -- a client that neither connects to it nor has a session with it is at what it was
+  other_client : (d : ℕ) → is_connecting_at o.name (client_at clients d) ≡ false → has_session (service_of cs o.name) d ≡ false → client_at then d ≡ client_at clients d
+  other_client d connects has =
+      sessions_ended_at (service_of cs o.name).sessions (queue_ended (service_of cs o.name).queue clients) d
+      ∙ ap (λ b. cond b (at_gone (client_at (queue_ended (service_of cs o.name).queue clients) d)) (client_at (queue_ended (service_of cs o.name).queue clients) d)) has
+      ∙ queue_ended_at (service_of cs o.name).queue clients d
+      ∙ ap (λ b. cond b Unconnected (client_at clients d)) (none_passes (is_connect_of d) clients o.name never (service_of cs o.name).queue (fit.queues o.name))
+    where
+      never : (e : Asked) → is_connect_of d e ≡ true → EntryFits clients o.name e → ⊥
+      never (Connect_of k) at f = true≢false (sym (ap (λ i. is_connecting_at o.name (client_at clients i)) (sym (eqb-true k d at)) ∙ f) ∙ connects)
+      never (Message_of k m) at f = cc
+      never (Close_of k) at f = cc
+
+  no_session : (n d : ℕ) → (o.name == n) ≡ false → server_of (client_at clients d) ≡ Some n → has_session (service_of cs o.name) d ≡ false
+  no_session n d other e = go (has_session (service_of cs o.name) d) refl
+    where
+      go : (b : Bool) → has_session (service_of cs o.name) d ≡ b → b ≡ false
+      go true h = let same : Some o.name ≡ Some n = sym (fit.sessions o.name d h) ∙ e in absurd (true≢false (sym (eq-eqb o.name n cc) ∙ other))
+      go false h = refl
+
+  -- of another server
+  with_session : (n d : ℕ) → (o.name == n) ≡ false → server_of (client_at clients d) ≡ Some n → client_at then d ≡ client_at clients d
+  with_session n d other e = other_client d (has_server o.name n (client_at clients d) e) (no_session n d other e)
+
+  with_connect : (n d : ℕ) → (o.name == n) ≡ false → is_connecting_at n (client_at clients d) ≡ true → client_at then d ≡ client_at clients d
+  with_connect n d other e = other_client d connects has
+    where
+      connects : is_connecting_at o.name (client_at clients d) ≡ false
+      connects = go (is_connecting_at o.name (client_at clients d)) refl
+        where
+          go : (b : Bool) → is_connecting_at o.name (client_at clients d) ≡ b → b ≡ false
+          go true h = absurd (true≢false (sym (eq-eqb o.name n (sym ((connecting_only n o.name (client_at clients d) e).3 h))) ∙ other))
+          go false h = refl
+
+      has : has_session (service_of cs o.name) d ≡ false
+      has = go (has_session (service_of cs o.name) d) refl
+        where
+          go : (b : Bool) → has_session (service_of cs o.name) d ≡ b → b ≡ false
+          go true h = let clash : None ≡ Some o.name = sym (connecting_only n o.name (client_at clients d) e).2 ∙ fit.sessions o.name d h in cc
+          go false h = refl
+
+  queue_kept : (n : ℕ) → (o.name == n) ≡ false → (es : List Asked) → QueueFits clients n es → QueueFits then n es
+  queue_kept n other [] fits = tt
+  queue_kept n other (e ∷ es) fits = ((entry e fits.0.0, fits.0.1), queue_kept n other es fits.1)
+    where
+      entry : (e : Asked) → EntryFits clients n e → EntryFits then n e
+      entry (Connect_of d) f = subst (λ x. is_connecting_at n x ≡ true) (sym (with_connect n d other f)) f
+      entry (Message_of d m) f = subst (λ x. is_open_at n x ≡ true) (sym (with_session n d other (open_server n (client_at clients d) f))) f
+      entry (Close_of d) f = subst (λ x. is_leaving n x ≡ true) (sym (with_session n d other (leaving_only n n (client_at clients d) f).2)) f
+
+  -- ---- what clients have at the cells that stay
+
+  o_cell : (x : Cell) × (cell_in cs g ≡ Some x) × (x.object ≡ o)
+  o_cell = a_cell_of (cell_in cs g) o (sym (held_cell cs g) ∙ there)
+
+  -- what goes is the server, or a message that waits in its queue
+  what_goes : (n : ℕ) (x : Cell) → cell_of cs n ≡ Some x → drops x ≡ true → ((o.name == n) ≡ false) → (x.service.queue ≡ []) × (x.service.sessions ≡ [])
+  what_goes n x e goes other = go x.owner refl goes
+    where
+      in_place : cell_in cs x.owner ≡ Some x
+      in_place = cell_placed cs n x tidy e
+
+      name : x.object.name ≡ n
+      name = cell_name cs n x e
+
+      not_it : same_place x.owner g ≡ true → ⊥
+      not_it at =
+          let one : Some x ≡ Some o_cell.0 = sym in_place ∙ ap (λ q. cell_in cs q) (same_place-true x.owner g at) ∙ o_cell.1 in
+          let equal : x ≡ o_cell.0 = cc in
+          true≢false (sym (eq-eqb o.name n (ap (λ y. y.name) (sym o_cell.2) ∙ ap (λ y. y.object.name) (sym equal) ∙ name)) ∙ other)
+
+      waits : (k m : ℕ) → x.owner ≡ Elsewhere (Queued k m) → (x.service.queue ≡ []) × (x.service.sessions ≡ [])
+      waits k m at =
+          let holds : held cs (Elsewhere (Queued k m)) ≡ Some x.object = ap (λ q. held cs q) (sym at) ∙ held_cell cs x.owner ∙ ap object_in in_place in
+          let lives = cell_lives cs x.owner x tidy in_place in
+          let none = fit.servers x.object (named_cell cs x.object.name ∙ ap object_in lives) (waiting k m x.object holds) in
+          let same : service_of cs x.object.name ≡ x.service = service_cell cs x.object.name ∙ ap service_in lives in
+          (ap (λ v. v.queue) (sym same) ∙ none.0, ap (λ v. v.sessions) (sym same) ∙ none.1)
+
+      go : (q : Place) → x.owner ≡ q → (is_queue_of o.name x.owner || same_place x.owner g) ≡ true → (x.service.queue ≡ []) × (x.service.sessions ≡ [])
+      go (Elsewhere (Queued k m)) at h = waits k m at
+      go q at h = absurd (not_it (ap (λ r. is_queue_of o.name r || same_place x.owner g) (sym at) ∙ h))
+
+  service_left : (n : ℕ) → (o.name == n) ≡ false → ((service_of left n).queue ≡ (service_of cs n).queue) × ((service_of left n).sessions ≡ (service_of cs n).sessions)
+  service_left n other = go (cell_of cs n) refl
+    where
+      at : (x : Cell) → cell_of cs n ≡ Some x → (b : Bool) → drops x ≡ b → ((service_of left n).queue ≡ (service_of cs n).queue) × ((service_of left n).sessions ≡ (service_of cs n).sessions)
+      at x e true d =
+          let none = what_goes n x e d other in
+          let was : service_of cs n ≡ x.service = service_cell cs n ∙ ap service_in e in
+          let now = service_gone drops (λ c. c.service) cs n tidy x e d in
+          (ap (λ v. v.queue) now ∙ sym (ap (λ v. v.queue) was ∙ none.0), ap (λ v. v.sessions) now ∙ sym (ap (λ v. v.sessions) was ∙ none.1))
+      at x e false d =
+          let same : service_of left n ≡ service_of cs n = service_sifted drops (λ c. c.service) cs tidy n x e d ∙ sym (service_cell cs n ∙ ap service_in e) in
+          (ap (λ v. v.queue) same, ap (λ v. v.sessions) same)
+
+      go : (x : Option Cell) → cell_of cs n ≡ x → ((service_of left n).queue ≡ (service_of cs n).queue) × ((service_of left n).sessions ≡ (service_of cs n).sessions)
+      go None e =
+          let same : service_of left n ≡ service_of cs n = service_cell left n ∙ ap service_in (cell_of_sifted drops (λ c. c.service) cs n tidy ∙ ap (λ y. kept drops (λ c. c.service) y) e) ∙ sym (service_cell cs n ∙ ap service_in e) in
+          (ap (λ v. v.queue) same, ap (λ v. v.sessions) same)
+      go (Some x) e = at x e (drops x) refl
+
+  or_right : (b : Bool) → (b || true) ≡ true
+  or_right true = refl
+  or_right false = refl
+
+  service_none : service_of left o.name ≡ unserved
+  service_none =
+      let lives : cell_of cs o_cell.0.object.name ≡ Some o_cell.0 = cell_lives cs g o_cell.0 tidy o_cell.1 in
+      let here : cell_of cs o.name ≡ Some o_cell.0 = ap (λ y. cell_of cs y.name) (sym o_cell.2) ∙ lives in
+      let at : same_place o_cell.0.owner g ≡ true = ap (λ q. same_place q g) (cell_owner cs g o_cell.0 o_cell.1) ∙ same_place_refl g in
+      service_gone drops (λ c. c.service) cs o.name tidy o_cell.0 here (ap (λ b. is_queue_of o.name o_cell.0.owner || b) at ∙ or_right (is_queue_of o.name o_cell.0.owner))
+
+  -- a message in the queue of another server stays
+  sender_left : (n d m : ℕ) → (o.name == n) ≡ false → list_any (is_message_of d m) (service_of cs n).queue ≡ true → is_from d (service_of left m).sender ≡ true
+  sender_left n d m other h =
+      let x = queued n d m h in
+      let y = a_cell_of (cell_in cs (Elsewhere (Queued n m))) x.0 (sym (held_cell cs (Elsewhere (Queued n m))) ∙ x.1) in
+      let lives : cell_of cs y.0.object.name ≡ Some y.0 = cell_lives cs (Elsewhere (Queued n m)) y.0 tidy y.1 in
+      let name : y.0.object.name ≡ m = ap (λ z. z.name) y.2 ∙ fit.names n m x.0 x.1 in
+      let here : cell_of cs m ≡ Some y.0 = ap (λ k. cell_of cs k) (sym name) ∙ lives in
+      let owner : y.0.owner ≡ Elsewhere (Queued n m) = cell_owner cs (Elsewhere (Queued n m)) y.0 y.1 in
+      let stays : drops y.0 ≡ false = ap (λ q. is_queue_of o.name q || same_place q g) owner ∙ ap (λ b. b || same_place (Elsewhere (Queued n m)) g) (ne_eqb n o.name (λ same. true≢false (sym (eq-eqb o.name n (sym same)) ∙ other))) ∙ same_place_comm (Elsewhere (Queued n m)) g ∙ apart n m in
+      subst (λ v. is_from d v.sender ≡ true) (service_cell cs m ∙ ap service_in here ∙ sym (service_sifted drops (λ c. c.service) cs tidy m y.0 here stays)) (fit.senders n d m h)
+
+  has_left : (n d : ℕ) → (o.name == n) ≡ false → has_session (service_of left n) d ≡ has_session (service_of cs n) d
+  has_left n d other = ap (λ xs. list_any (λ k. k == d) xs) (service_left n other).1
+
+  sessions_left : (n d : ℕ) → has_session (service_of left n) d ≡ true → server_of (client_at then d) ≡ Some n
+  sessions_left n d h = go (o.name == n) refl
+    where
+      go : (b : Bool) → (o.name == n) ≡ b → server_of (client_at then d) ≡ Some n
+      go true e = let none : false ≡ true = sym (ap (λ v. has_session v d) (ap (λ k. service_of left k) (sym (eqb-true o.name n e)) ∙ service_none)) ∙ h in cc
+      go false e = let was = fit.sessions n d (sym (has_left n d e) ∙ h) in ap server_of (with_session n d e was) ∙ was
+
+  listed_left : (n d : ℕ) → server_of (client_at then d) ≡ Some n → has_session (service_of left n) d ≡ true
+  listed_left n d h = go (has_session (service_of cs o.name) d) (list_any (is_connect_of d) (service_of cs o.name).queue) refl refl (sym (ap server_of at) ∙ h)
+    where
+      at : client_at then d ≡ cond (has_session (service_of cs o.name) d) (at_gone (client_at (queue_ended (service_of cs o.name).queue clients) d)) (cond (list_any (is_connect_of d) (service_of cs o.name).queue) Unconnected (client_at clients d))
+      at = sessions_ended_at (service_of cs o.name).sessions (queue_ended (service_of cs o.name).queue clients) d
+          ∙ ap (λ x. cond (has_session (service_of cs o.name) d) (at_gone (client_at (queue_ended (service_of cs o.name).queue clients) d)) x) (queue_ended_at (service_of cs o.name).queue clients d)
+
+      go :
+          (b x : Bool) → has_session (service_of cs o.name) d ≡ b → list_any (is_connect_of d) (service_of cs o.name).queue ≡ x →
+          server_of (cond b (at_gone (client_at (queue_ended (service_of cs o.name).queue clients) d)) (cond x Unconnected (client_at clients d))) ≡ Some n → has_session (service_of left n) d ≡ true
+      go true x e f h = let clash : None ≡ Some n = sym (gone_alone (client_at (queue_ended (service_of cs o.name).queue clients) d)) ∙ h in cc
+      go false true e f h = cc
+      go false false e f h = has_left n d (ne_eqb o.name n (λ same. true≢false (sym (fit.listed o.name d (h ∙ ap (λ k. Some k) (sym same))) ∙ e))) ∙ fit.listed n d h
+
+  servers_left : (x : Object) → named left x.name ≡ Some x → is_server p x.thing ≡ false → ((service_of left x.name).queue ≡ []) × ((service_of left x.name).sessions ≡ [])
+  servers_left x h plain = go (o.name == x.name) refl
+    where
+      was : named cs x.name ≡ Some x
+      was = let b = named_before drops (λ c. c.service) cs x.name x tidy h in named_cell cs x.name ∙ ap object_in b.1 ∙ ap (λ y. Some y) b.2
+
+      go : (b : Bool) → (o.name == x.name) ≡ b → ((service_of left x.name).queue ≡ []) × ((service_of left x.name).sessions ≡ [])
+      go true e = let none : service_of left x.name ≡ unserved = ap (λ k. service_of left k) (sym (eqb-true o.name x.name e)) ∙ service_none in (ap (λ v. v.queue) none, ap (λ v. v.sessions) none)
+      go false e = let none = fit.servers x was plain in ((service_left x.name e).0 ∙ none.0, (service_left x.name e).1 ∙ none.1)
+
+  names_left : (n m : ℕ) (x : Object) → held left (Elsewhere (Queued n m)) ≡ Some x → x.name ≡ m
+  names_left n m x h = go (cell_in cs (Elsewhere (Queued n m))) refl h
+    where
+      at : (y : Cell) → cell_in cs (Elsewhere (Queued n m)) ≡ Some y → (b : Bool) → cond b None (Some y.object) ≡ Some x → x.name ≡ m
+      at y e true h = cc
+      at y e false h = let same : y.object ≡ x = cc in fit.names n m x (held_cell cs (Elsewhere (Queued n m)) ∙ ap object_in e ∙ ap (λ z. Some z) same)
+
+      go : (y : Option Cell) → cell_in cs (Elsewhere (Queued n m)) ≡ y → held left (Elsewhere (Queued n m)) ≡ Some x → x.name ≡ m
+      go None e h = let clash : None ≡ Some x = sym (unheld_sifted drops (λ c. c.service) cs (Elsewhere (Queued n m)) tidy (held_cell cs (Elsewhere (Queued n m)) ∙ ap object_in e)) ∙ h in cc
+      go (Some y) e h = at y e (drops y) (sym (held_sifted drops (λ c. c.service) cs (Elsewhere (Queued n m)) tidy y e) ∙ h)
+
+  fit_left : ClientsFit p then left
+  fit_left = record {
+    queues = λ n. queues n (o.name == n) refl;
+    sessions = sessions_left;
+    listed = listed_left;
+    servers = servers_left;
+    names = names_left;
+    senders = λ n d m h. senders n d m (o.name == n) refl h;
+    seats = λ x h. seats x h (o.name == x.name) refl;
+  }
+    where
+      queues : (n : ℕ) (b : Bool) → (o.name == n) ≡ b → QueueFits then n (service_of left n).queue
+      queues n true e = subst (λ v. QueueFits then n v.queue) (sym (ap (λ k. service_of left k) (sym (eqb-true o.name n e)) ∙ service_none)) tt
+      queues n false e = subst (λ q. QueueFits then n q) (sym (service_left n e).0) (queue_kept n e (service_of cs n).queue (fit.queues n))
+
+      seats : (x : Object) → named left x.name ≡ Some x → (b : Bool) → (o.name == x.name) ≡ b → seats_taken (service_of left x.name) ≤ most_of (thing_kind p x.thing)
+      seats x h true e = let none : seats_taken (service_of left x.name) ≡ 0 = ap (λ k. seats_taken (service_of left k)) (sym (eqb-true o.name x.name e)) ∙ ap seats_taken service_none in omega (arith, none)
+      seats x h false e =
+          let b = named_before drops (λ c. c.service) cs x.name x tidy h in
+          let was = fit.seats x (named_cell cs x.name ∙ ap object_in b.1 ∙ ap (λ y. Some y) b.2) in
+          let same = seats_same (service_of left x.name) (service_of cs x.name) (service_left x.name e).0 (service_left x.name e).1 in
+          omega (arith, was, same)
+
+      senders : (n d m : ℕ) (b : Bool) → (o.name == n) ≡ b → list_any (is_message_of d m) (service_of left n).queue ≡ true → is_from d (service_of left m).sender ≡ true
+      senders n d m true e h = let none : false ≡ true = sym (ap (λ v. list_any (is_message_of d m) v.queue) (ap (λ k. service_of left k) (sym (eqb-true o.name n e)) ∙ service_none)) ∙ h in cc
+      senders n d m false e h = sender_left n d m e (ap (λ q. list_any (is_message_of d m) q) (sym (service_left n e).0) ∙ h)
+
+  -- with it and its queue gone
+  pub fit_gone : ClientsFit p then (each_unslotted (service_of cs o.name).sessions (without g (without_queue o.name cs)))
+  fit_gone = fit_each_unslotted p then (service_of cs o.name).sessions (without g (without_queue o.name cs)) (subst (λ l. ClientsFit p then l) (sym (gone_so o.name g cs)) fit_left)
+
+  -- a stage of the dispatch of another server stays kept
+  pub stage_gone : (x : Object) (c : ℕ) (stage : Stage) → (o.name == x.name) ≡ false → StageKept p clients cs x c stage → StageKept p then (each_unslotted (service_of cs o.name).sessions (without g (without_queue o.name cs))) x c stage
+  stage_gone x c stage other k = at stage k
+    where
+      n : ℕ
+      n = x.name
+
+      sessions : (service_of (each_unslotted (service_of cs o.name).sessions (without g (without_queue o.name cs))) n).sessions ≡ (service_of cs n).sessions
+      sessions = sessions_unslotted p clients (service_of cs o.name).sessions (without g (without_queue o.name cs)) n ∙ ap (λ l. (service_of l n).sessions) (gone_so o.name g cs) ∙ (service_left n other).1
+
+      queue : (service_of (each_unslotted (service_of cs o.name).sessions (without g (without_queue o.name cs))) n).queue ≡ (service_of cs n).queue
+      queue = queue_unslotted p clients (service_of cs o.name).sessions (without g (without_queue o.name cs)) n ∙ ap (λ l. (service_of l n).queue) (gone_so o.name g cs) ∙ (service_left n other).0
+
+      connect : ConnectKept p clients cs x c → ConnectKept p then (each_unslotted (service_of cs o.name).sessions (without g (without_queue o.name cs))) x c
+      connect k = (
+        ap (λ x. is_connecting_at n x) (with_connect n c other k.0) ∙ k.0,
+        ap (λ q. list_any (is_connect_of c) q) queue ∙ k.1,
+        subst (λ i. i < most_of (thing_kind p x.thing)) (sym (seats_same (service_of (each_unslotted (service_of cs o.name).sessions (without g (without_queue o.name cs))) n) (service_of cs n) queue sessions)) k.2,
+      )
+
+      at : (stage : Stage) → StageKept p clients cs x c stage → StageKept p then (each_unslotted (service_of cs o.name).sessions (without g (without_queue o.name cs))) x c stage
+      at Accepts k = connect k
+      at (Accept_left code) k = connect k
+      at Parts k = (ap (λ x. is_leaving n x) (with_session n c other (leaving_only n n (client_at clients c) k.0).2) ∙ k.0, ap (λ q. list_any (is_close_of c) q) queue ∙ k.1)
+      at Accepted k = tt
+      at (Serves y) k = tt
+      at (Service_left code) k = tt

@@ -1,0 +1,272 @@
+-- Clients, and what they have at servers, say the same in each state of a run: as it boots, in each move and in each turn.
+use Rattle.std.proofs.Common.{Bool, List, None, Option, Some, [], ap, cond, false, length, pos, refl, subst, sym, true, ℕ, ℤ, ◌∙◌, ◌∷◌, ◌≡◌}
+use Rattle.std.specs.List.{list_any}
+use Rattle.std.specs.Ordering.{int_eq}
+use Rattle.aom_image.specs.Image.{Image}
+use Rattle.aom_image.specs.Views.{gives_of, instr_at}
+use Rattle.aom_instructions.specs.declared.instr.Instr.{Instr}
+use Rattle.aom_instructions.specs.declared.instr.Instr.TheVariants as instrs
+use Rattle.aom_image.specs.declared.method.Role.TheVariants.{Error as Answers}
+use Rattle.aom_image.specs.declared.method.Thing.TheVariants.{Message}
+use Rattle.aom_classes.specs.Roles.{main_of, destructor_of}
+use Rattle.aom_clients.specs.declared.client.Client.{Client}
+use Rattle.aom_rules.specs.Typing.{Typing}
+use Rattle.aom_sound.proofs.ClientsEffects.{IsUsual, effect_kept, fine_effect}
+use Rattle.aom_sound.proofs.ClientsFacts.{IsAt, goes_apart, queued_well, server_lives, serving_plain, waiting_well}
+use Rattle.aom_sound.proofs.ClientsFit.{fit_parted}
+use Rattle.aom_sound.proofs.ClientsGone.{fit_gone, stage_gone}
+use Rattle.aom_sound.proofs.ClientsMoves.{fit_steady, fit_unconnected, steady_ended, steady_moved, tasks_steady}
+use Rattle.aom_sound.proofs.ClientsReturn.{fit_without, return_kept, tasks_without}
+use Rattle.aom_sound.proofs.ClientsTurn.{message_plain, tasks_begun, turn_kept}
+use Rattle.aom_sound.proofs.Maps.{without_none}
+use Rattle.aom_sound.proofs.Storing.{ended_alike}
+use Rattle.aom_sound.proofs.Things.{stands_same}
+use Rattle.aom_shape.specs.Needs.{AllTrue}
+use Rattle.aom_image.specs.declared.method.Gives.{Gives}
+use Rattle.aom_sound.specs.Calls.{returned}
+use Rattle.aom_sound.specs.Objects.{is_thing}
+use Rattle.aom_sound.specs.Words.{here}
+use Rattle.aom_sound.proofs.Guarded.{goes_same, guarded_goes, guarded_met}
+use Rattle.aom_sound.specs.Cleanup.{arrived, dealt_with, destroyed, ended_by, top_is_whole, unwound}
+use Rattle.aom_sound.specs.Destruction.{begun, begun_by, closing, first_session, gone, needs_gone, parting, parting_from, vanished}
+use Rattle.aom_sound.specs.Effects.{applied, effect, needs}
+use Rattle.aom_sound.specs.Enlisted.{ended_cells, part_of}
+use Rattle.aom_sound.specs.Kept.{ClientsFit, IsKept, StageKept, TasksKept, is_message_of}
+use Rattle.aom_sound.specs.Laws.{ClientsKeep, IsWired}
+use Rattle.aom_sound.specs.Moves.{answered, asking, counted, step_instr, dispatch_ends, failed, handled, main_ends, needs_end, object_ends, stage_ends, step_task}
+use Rattle.aom_sound.specs.Places.{Cell, Elsewhere, Entry, Going, In_service, Object, Place, Queued, Root, Tidy, held, moved, named, service_of, without}
+use Rattle.aom_sound.specs.Servers.{is_server, without_queue}
+use Rattle.aom_sound.specs.State.{Accept_left, Accepted, Accepts, Answered, Asks, Choice, Closing, Destroy, Dispatch, Dispatched, Frame, Goes, Item, A_mark, An_object, An_operation, IsStuck, Main_left, NullOrDead, Object_left, Of_main, Of_object, Of_root, Of_server, Parts, Run, Seat, Service_left, Serves, Stage, State, Task, Trapped, Unwind, resumed}
+use Rattle.aom_sound.specs.WellTyped.{Now, WellTyped}
+use Rattle.aom_sound.specs.World.{boot_state, main_tasks}
+
+-- ---- as it boots
+
+boot_kept : (p : Image) → IsKept p (boot_state p)
+boot_kept p = record {
+  fit = record { queues = λ n. tt; sessions = λ n c h. cc; listed = λ n c h. cc; servers = λ o h plain. cc; names = λ n m o h. cc; senders = λ n c m h. cc; seats = λ o h. cc };
+  stage = stage (main_of p);
+}
+  where
+    stage : (m : Option ℕ) → TasksKept p [] [] (main_tasks m)
+    stage None = tt
+    stage (Some m) = tt
+
+-- ---- moves that change no cell of a server
+
+module _ (p : Image) (s : State) (fit : ClientsFit p s.clients s.cells) where
+  -- with the same cells
+  same_cells : (u : State) → u.cells ≡ s.cells → u.clients ≡ s.clients → TasksKept p s.clients s.cells u.tasks → IsKept p u
+  same_cells u cells clients stage = record {
+    fit = subst (λ l. ClientsFit p l u.cells) (sym clients) (subst (λ l. ClientsFit p s.clients l) (sym cells) fit);
+    stage = subst (λ l. TasksKept p l u.cells u.tasks) (sym clients) (subst (λ l. TasksKept p s.clients l u.tasks) (sym cells) stage);
+  }
+
+  -- a cell is at hand to go
+  begun_kept : (a : Place) (k : ℕ) (o : Object) (height : ℕ) (ts : List Task) (u : State) → u.cells ≡ moved a (Going k) s.cells → u.clients ≡ s.clients → u.tasks ≡ begun p o height ts → TasksKept p s.clients s.cells ts → IsKept p u
+  begun_kept a k o height ts u cells clients tasks stage =
+      let still = steady_moved s.cells a (Going k) (λ n m. refl) in
+      record {
+        fit = subst (λ l. ClientsFit p l u.cells) (sym clients) (subst (λ l. ClientsFit p s.clients l) (sym cells) (fit_steady p s.clients s.cells (moved a (Going k) s.cells) still fit));
+        stage = subst (λ l. TasksKept p l u.cells u.tasks) (sym clients) (subst (λ l. TasksKept p s.clients l u.tasks) (sym cells) (subst (λ l. TasksKept p s.clients (moved a (Going k) s.cells) l) (sym tasks)
+            (tasks_begun p s.clients (moved a (Going k) s.cells) o height ts (tasks_steady p s.clients s.cells (moved a (Going k) s.cells) still ts stage))));
+      }
+
+  -- ---- a leave
+
+  arrival_stage : (code : ℤ) (d : Dispatch) (ts : List Task) → TasksKept p s.clients s.cells (Dispatched d ∷ ts) → TasksKept p s.clients s.cells (Dispatched (ended_by code d) ∷ ts)
+  arrival_stage code (Of_server x c Accepts) ts k = k
+  arrival_stage code (Of_server x c Accepted) ts k = k
+  arrival_stage code (Of_server x c (Accept_left old)) ts k = k
+  arrival_stage code (Of_server x c (Serves o)) ts k = tt
+  arrival_stage code (Of_server x c (Service_left old)) ts k = k
+  arrival_stage code (Of_server x c Parts) ts k = k
+  arrival_stage code Of_main ts k = tt
+  arrival_stage code (Main_left old) ts k = tt
+  arrival_stage code Of_root ts k = tt
+  arrival_stage code (Of_object x) ts k = tt
+  arrival_stage code (Object_left x old) ts k = tt
+  arrival_stage code (Asks x) ts k = tt
+  arrival_stage code (Answered x answer) ts k = tt
+
+  arrived_kept : (code : ℤ) (ts : List Task) (items : List Item) (u : State) → TasksKept p s.clients s.cells ts → arrived p code ts items s ≡ Goes u → IsKept p u
+  arrived_kept code (Trapped ∷ Run fr ∷ ts) items u stage e = subst (λ v. IsKept p v) (goes_same _ u e) (same_cells _ refl refl stage)
+  arrived_kept code (Trapped ∷ Dispatched d ∷ ts) items u stage e = subst (λ v. IsKept p v) (goes_same _ u e) (same_cells _ refl refl (arrival_stage code d ts stage))
+  arrived_kept code _ items u stage e = cc
+
+  unwound_kept : (code : ℤ) (ts : List Task) (items : List Item) (u : State) → TasksKept p s.clients s.cells ts → unwound p code ts s items ≡ Goes u → IsKept p u
+  unwound_kept code ts [] u stage e = cc
+  unwound_kept code ts (An_object ∷ items) u stage e = go (top_is_whole s.cells (An_object ∷ items)) e
+    where
+      by : (o : Option Object) → IsKept p (destroyed p o items (Unwind code ∷ ts) s)
+      by None = same_cells _ refl refl stage
+      by (Some o) = begun_kept (Entry (length items)) _ o (length items) (Unwind code ∷ ts) _ refl refl refl stage
+
+      go : (b : Bool) → cond b (Goes (dealt_with p (An_object ∷ items) (Unwind code ∷ ts) s)) (IsStuck NullOrDead) ≡ Goes u → IsKept p u
+      go true e = subst (λ v. IsKept p v) (goes_same _ u e) (by (held s.cells (Entry (length items))))
+      go false e = cc
+  unwound_kept code ts (An_operation m w ∷ items) u stage e = subst (λ v. IsKept p v) (goes_same _ u e) (same_cells _ refl refl stage)
+  unwound_kept code ts (A_mark ∷ items) u stage e = arrived_kept code ts items u stage e
+
+  -- ---- a server lets go of a session
+
+  parting_kept : (o : Object) (x : Option Seat) (below : List Task) → TasksKept p s.clients s.cells below → IsKept p (parting p o x below s)
+  parting_kept o None below stage = same_cells _ refl refl (go (destructor_of p o.thing))
+    where
+      go : (m : Option ℕ) → TasksKept p s.clients s.cells (begun_by m o (length s.items) below)
+      go None = stage
+      go (Some m) = stage
+  parting_kept o (Some x) below stage = begun_kept x.place _ x.object (length s.items) (Closing ∷ Destroy ∷ below) _ refl refl refl stage
+
+  closing_kept : (ts : List Task) (u : State) → TasksKept p s.clients s.cells ts → closing p ts s ≡ Goes u → IsKept p u
+  closing_kept (Destroy ∷ below) u stage e = go (held s.cells (Going (length below))) e
+    where
+      go : (o : Option Object) → parting_from p o below s ≡ Goes u → IsKept p u
+      go None e = cc
+      go (Some o) e = subst (λ v. IsKept p v) (goes_same _ u e) (parting_kept o (first_session s.cells o.name (service_of s.cells o.name).sessions) below stage)
+  closing_kept _ u stage e = cc
+
+  -- ---- a dispatch ends
+
+  main_kept : (b : Bool) (root : Option Object) → IsKept p (main_ends p b root s)
+  main_kept true (Some o) = begun_kept (Elsewhere Root) _ o (length s.items) (Dispatched Of_root ∷ []) _ refl refl refl tt
+  main_kept true None = same_cells _ refl refl tt
+  main_kept false root = same_cells _ refl refl tt
+
+module _ (p : Image) (s : State) (fit : ClientsFit p s.clients s.cells) where
+  object_kept : IsKept p (object_ends p s)
+  object_kept = main_kept p (handled s) fit s.rest.stopped (held s.cells (Elsewhere Root))
+
+  answered_kept : (answer : ℤ) → IsKept p (answered p answer s)
+  answered_kept answer = go (int_eq answer (pos 0))
+    where
+      go : (b : Bool) → IsKept p (cond b (object_ends p s) (failed answer s))
+      go true = object_kept
+      go false = same_cells p s fit (failed answer s) refl refl tt
+
+  asking_kept : (m : Option ℕ) (x : Seat) (code : ℤ) → IsKept p (asking p m x code s)
+  asking_kept None x code = answered_kept code
+  asking_kept (Some m) x code = same_cells p s fit _ refl refl tt
+
+  -- of a server: a connect that was left has no session, a message is completed, or a session is closed
+  module _ (tidy : Tidy s.cells) (queued : (n c m : ℕ) → list_any (is_message_of c m) (service_of s.cells n).queue ≡ true → (x : Object) × (held s.cells (Elsewhere (Queued n m)) ≡ Some x)) (plain : (o : Object) → held s.cells (Elsewhere In_service) ≡ Some o → is_server p o.thing ≡ false) where
+    service_gone_kept : ClientsFit p s.clients (without (Elsewhere In_service) s.cells)
+    service_gone_kept = go (held s.cells (Elsewhere In_service)) refl
+      where
+        go : (o : Option Object) → held s.cells (Elsewhere In_service) ≡ o → ClientsFit p s.clients (without (Elsewhere In_service) s.cells)
+        go None e = subst (λ l. ClientsFit p s.clients l) (sym (without_none s.cells (Elsewhere In_service) e)) fit
+        go (Some o) e = fit_without p s.clients s.cells tidy fit o (Elsewhere In_service) e (λ n m. refl) (plain o e) queued
+
+    stage_kept : (x : Seat) (c : ℕ) (stage : Stage) → named s.cells x.object.name ≡ Some x.object → is_server p x.object.thing ≡ true → StageKept p s.clients s.cells x.object c stage → IsKept p (stage_ends x c stage s)
+    stage_kept x c Accepts lives serves k = same_cells p s fit _ refl refl tt
+    stage_kept x c Accepted lives serves k = same_cells p s fit _ refl refl tt
+    stage_kept x c (Serves o) lives serves k = same_cells p s fit _ refl refl tt
+    stage_kept x c (Accept_left code) lives serves k = record { fit = fit_unconnected p s.clients s.cells fit x.object.name c k.0 k.1; stage = tt }
+    stage_kept x c (Service_left code) lives serves k = record { fit = service_gone_kept; stage = tt }
+    stage_kept x c Parts lives serves k = record { fit = fit_parted p s.clients s.cells fit x.object lives serves c k.0 k.1; stage = tt }
+
+    dispatch_kept : (d : Dispatch) (ts : List Task) → ((x : Seat) (c : ℕ) (stage : Stage) → d ≡ Of_server x c stage → (named s.cells x.object.name ≡ Some x.object) × (is_server p x.object.thing ≡ true)) → TasksKept p s.clients s.cells (Dispatched d ∷ ts) → IsKept p (dispatch_ends p d s)
+    dispatch_kept Of_main ts there k = main_kept p s fit s.rest.stopped (held s.cells (Elsewhere Root))
+    dispatch_kept (Main_left code) ts there k = same_cells p s fit _ refl refl tt
+    dispatch_kept Of_root ts there k = same_cells p s fit _ refl refl tt
+    dispatch_kept (Of_object x) ts there k = object_kept
+    dispatch_kept (Object_left x code) ts there k = asking_kept (part_of p Answers x.object.thing) x code
+    dispatch_kept (Asks x) ts there k = object_kept
+    dispatch_kept (Answered x answer) ts there k = answered_kept answer
+    dispatch_kept (Of_server x c stage) ts there k = let l = there x c stage refl in stage_kept x c stage l.0 l.1 k
+
+-- ---- a cell goes
+
+tasks_resumed : (p : Image) (clients : List Client) (cs : List Cell) (ts : List Task) → TasksKept p clients cs ts → TasksKept p clients cs (resumed ts)
+tasks_resumed p clients cs [] k = k
+tasks_resumed p clients cs (Run fr ∷ ts) k = k
+tasks_resumed p clients cs (Trapped ∷ ts) k = k
+tasks_resumed p clients cs (Destroy ∷ ts) k = k
+tasks_resumed p clients cs (Closing ∷ ts) k = k
+tasks_resumed p clients cs (Unwind code ∷ ts) k = k
+tasks_resumed p clients cs (Dispatched d ∷ ts) k = k
+
+-- what a stage has stays kept, so do tasks
+tasks_staged : (p : Image) (clients clients' : List Client) (cs cs' : List Cell) (ts : List Task) → ((x : Seat) (c : ℕ) (stage : Stage) → IsAt (Of_server x c stage) ts → StageKept p clients cs x.object c stage → StageKept p clients' cs' x.object c stage) → TasksKept p clients cs ts → TasksKept p clients' cs' ts
+tasks_staged p clients clients' cs cs' [] still k = tt
+tasks_staged p clients clients' cs cs' (Run fr ∷ ts) still k = tasks_staged p clients clients' cs cs' ts still k
+tasks_staged p clients clients' cs cs' (Trapped ∷ ts) still k = tasks_staged p clients clients' cs cs' ts still k
+tasks_staged p clients clients' cs cs' (Destroy ∷ ts) still k = tasks_staged p clients clients' cs cs' ts still k
+tasks_staged p clients clients' cs cs' (Closing ∷ ts) still k = tasks_staged p clients clients' cs cs' ts still k
+tasks_staged p clients clients' cs cs' (Unwind code ∷ ts) still k = tasks_staged p clients clients' cs cs' ts still k
+tasks_staged p clients clients' cs cs' (Dispatched (Of_server x c stage) ∷ ts) still k = still x c stage refl k
+tasks_staged p clients clients' cs cs' (Dispatched _ ∷ ts) still k = tt
+
+-- ---- each move
+
+module _ (p : Image) (t : Typing) (wired : IsWired p) (c : Choice) (s : State) (w : WellTyped p t s) (free : named s.cells c.name ≡ None) (kept : IsKept p s) where
+  tidy : Tidy s.cells
+  tidy = w.good.tidy
+
+  queued : (n c m : ℕ) → list_any (is_message_of c m) (service_of s.cells n).queue ≡ true → (x : Object) × (held s.cells (Elsewhere (Queued n m)) ≡ Some x)
+  queued = queued_well p t wired s w s.clients kept.fit
+
+  -- the server that is dispatched stands
+  there : (ts : List Task) → s.tasks ≡ ts → (x : Seat) (d : ℕ) (stage : Stage) → IsAt (Of_server x d stage) ts → (named s.cells x.object.name ≡ Some x.object) × (is_server p x.object.thing ≡ true)
+  there ts tasks x d stage at = let l = server_lives p t s.cells w.layers Now x d stage w.good.stack (subst (λ l. IsAt (Of_server x d stage) l) (sym tasks ∙ w.tasks) at) in (l.0, l.1)
+
+  module _ (fr : Frame) (ts : List Task) (tasks : s.tasks ≡ Run fr ∷ ts) where
+    stage_below : TasksKept p s.clients s.cells ts
+    stage_below = subst (λ l. TasksKept p s.clients s.cells l) tasks kept.stage
+
+    -- a message is completed
+    reply_kept : (a b : ℕ) → AllTrue (needs p c fr ts (counted p s) (instrs.Reply a b)) → IsKept p (applied p fr ts (counted p s) (effect p c fr ts (counted p s) (instrs.Reply a b)))
+    reply_kept a b met = go (held s.cells (here fr ts (counted p s) a)) refl met.1.1.0
+      where
+        go : (o : Option Object) → held s.cells (here fr ts (counted p s) a) ≡ o → is_thing p Message (held s.cells (here fr ts (counted p s) a)) ≡ true → IsKept p (applied p fr ts (counted p s) (effect p c fr ts (counted p s) (instrs.Reply a b)))
+        go None e thing = same_cells p s kept.fit _ (without_none s.cells (here fr ts (counted p s) a) e) refl stage_below
+        go (Some o) e thing = record {
+          fit = fit_without p s.clients s.cells tidy kept.fit o (here fr ts (counted p s) a) e (λ n m. refl) (message_plain p o.thing (stands_same p o.thing Message (sym (ap (is_thing p Message) e) ∙ thing))) queued;
+          stage = tasks_without p s.clients s.cells tidy kept.fit o (here fr ts (counted p s) a) e (λ n m. refl) (message_plain p o.thing (stands_same p o.thing Message (sym (ap (is_thing p Message) e) ∙ thing))) queued ts stage_below;
+        }
+
+    -- a method returns
+    returns_kept : (g : Gives) (a : ℕ) → IsKept p (returned p fr ts (record (counted p s) { cells = ended_cells p fr s.cells }) g a ts)
+    returns_kept g a =
+        let still = steady_ended p fr s.cells in
+        return_kept p fr ts (record (counted p s) { cells = ended_cells p fr s.cells }) (fit_steady p s.clients s.cells (ended_cells p fr s.cells) still kept.fit) g a ts
+        (λ x d at. let l = there (Run fr ∷ ts) tasks x d Accepts at in ((ended_alike p fr s.cells).named_so x.object.name ∙ l.0, l.1))
+        tasks (tasks_steady p s.clients s.cells (ended_cells p fr s.cells) still ts stage_below) (tasks_steady p s.clients s.cells (ended_cells p fr s.cells) still ts stage_below)
+
+    act_kept : (i : Instr) → AllTrue (needs p c fr ts (counted p s) i) → IsKept p (applied p fr ts (counted p s) (effect p c fr ts (counted p s) i))
+    act_kept (instrs.Reply a b) met = reply_kept a b met
+    act_kept (instrs.Return a) met = returns_kept (gives_of p fr.method) a
+    act_kept i met = usual i tt
+      where
+        usual : (i : Instr) → IsUsual i → IsKept p (applied p fr ts (counted p s) (effect p c fr ts (counted p s) i))
+        usual i u = effect_kept p fr ts (counted p s) kept.fit stage_below (effect p c fr ts (counted p s) i) (fine_effect p c fr ts (counted p s) free i u)
+
+    run_kept : (i : Option Instr) (u : State) → step_instr p c fr ts (counted p s) i ≡ Goes u → IsKept p u
+    run_kept None u e = cc
+    run_kept (Some i) u e = subst (λ v. IsKept p v) (guarded_goes (needs p c fr ts (counted p s) i) _ u e) (act_kept i (guarded_met (needs p c fr ts (counted p s) i) _ u e))
+
+  gone_kept : (ts : List Task) (u : State) → s.tasks ≡ Destroy ∷ ts → (o : Option Object) → held s.cells (Going (length ts)) ≡ o → gone o ts (counted p s) ≡ Goes u → IsKept p u
+  gone_kept ts u tasks None at e = cc
+  gone_kept ts u tasks (Some o) at e = subst (λ v. IsKept p v) (guarded_goes (needs_gone (without_queue o.name s.cells) o) (vanished o ts (counted p s)) u e) (record {
+    fit = fit_gone p s.clients s.cells tidy kept.fit o (Going (length ts)) at (λ n m. refl) (waiting_well p t wired s w) queued;
+    stage = tasks_resumed p _ _ ts (tasks_staged p s.clients _ s.cells _ ts
+        (λ x d stage below k. stage_gone p s.clients s.cells tidy kept.fit o (Going (length ts)) at (λ n m. refl) (waiting_well p t wired s w) queued x.object d stage (goes_apart p t s w ts tasks o at x d stage below) k)
+        (subst (λ l. TasksKept p s.clients s.cells l) tasks kept.stage));
+  })
+
+  moved_kept : (ts : List Task) → s.tasks ≡ ts → (u : State) → step_task p c (counted p s) ts ≡ Goes u → IsKept p u
+  moved_kept [] tasks u e = subst (λ v. IsKept p v) (goes_same _ u e) (same_cells p s kept.fit _ refl refl kept.stage)
+  moved_kept (Run fr ∷ ts) tasks u e = run_kept fr ts tasks (instr_at p fr.method fr.place) u e
+  moved_kept (Trapped ∷ ts) tasks u e = cc
+  moved_kept (Destroy ∷ ts) tasks u e = gone_kept ts u tasks (held s.cells (Going (length ts))) refl e
+  moved_kept (Closing ∷ ts) tasks u e = closing_kept p (counted p s) kept.fit ts u (subst (λ l. TasksKept p s.clients s.cells l) tasks kept.stage) e
+  moved_kept (Unwind code ∷ ts) tasks u e = unwound_kept p (counted p s) kept.fit code ts s.items u (subst (λ l. TasksKept p s.clients s.cells l) tasks kept.stage) e
+  moved_kept (Dispatched d ∷ ts) tasks u e = subst (λ v. IsKept p v) (guarded_goes (needs_end d s.cells) _ u e)
+      (dispatch_kept p (counted p s) kept.fit tidy queued (serving_plain p t s w) d ts (λ x k stage same. there (Dispatched d ∷ ts) tasks x k stage same) (subst (λ l. TasksKept p s.clients s.cells l) tasks kept.stage))
+
+pub clients_keep : ClientsKeep
+clients_keep = record {
+  boot = boot_kept;
+  moves = λ p t wired typed c s u w free kept e. moved_kept p t wired c s w free kept s.tasks refl u e;
+  turns = λ p t outside wired typed heard s u w between hears kept e. turn_kept p t wired s w between.idle kept outside heard u e;
+}

@@ -1,0 +1,234 @@
+-- A client that closes or dies leaves what is kept: its messages that wait go, and where its session was open a close is asked last.
+use Rattle.std.proofs.Common.{Bool, List, None, Option, Some, [], ap, arith, cond, false, refl, subst, sym, true, ℕ, ◌&&◌, ◌==◌, ◌∙◌, ◌∷◌, ◌≡◌, ◌≤◌}
+use Rattle.std.proofs.lemmas.Bool.{eq-eqb, eqb-true, ne_eqb, true≢false}
+use Rattle.std.proofs.lemmas.List.Folds.{list_any-append}
+use Rattle.std.specs.List.{list_any}
+use Rattle.std.specs.Prelude.{filter, not, ◌||◌}
+use Rattle.aom_image.specs.Image.{Image}
+use Rattle.aom_clients.specs.Nodes.{is_leaving}
+use Rattle.aom_clients.specs.Table.{server_of}
+use Rattle.aom_clients.specs.declared.client.Client.{Client}
+use Rattle.aom_sound.proofs.ClientsFit.{by_server, fit_changed, names_then, seats_then, servers_then}
+use Rattle.aom_sound.proofs.Queues.{client_here, client_of, entry_other, is_of, none_stays, queue_last, queue_other, queue_stays}
+use Rattle.aom_sound.proofs.Seated.{seats_asked, seats_left}
+use Rattle.aom_sound.proofs.Sifted.{cell_in, cell_of_sifted, kept, unheld_sifted, cell_lives, cell_of, cell_placed, held_cell, held_sifted, named_before, named_cell, object_in, service_cell, service_gone, service_in, service_sifted, sifted, withdrawn_so}
+use Rattle.aom_sound.specs.Clients.{client_at, most_of, with_client}
+use Rattle.aom_sound.specs.Enlisted.{thing_kind}
+use Rattle.aom_sound.specs.Kept.{ClientsFit, EntryFits, QueueFits, asked_again, is_close_of, is_message_of}
+use Rattle.aom_sound.specs.Places.{Asked, Cell, Close_of, Connect_of, Elsewhere, Message_of, Object, Place, Queued, Sender, Service, Tidy, held, named, service_of, unserved}
+use Rattle.aom_sound.specs.Servers.{asked_last, discarded, has_session, reserved, is_from, is_queue, is_server, left_by, seats_taken, stays, withdrawn}
+
+-- ---- lists
+
+-- the messages of another stay, and are no more than there were
+message_stays : (c d m : ℕ) (es : List Asked) → list_any (is_message_of d m) (filter (stays c) es) ≡ true → ((c == d) ≡ false) × (list_any (is_message_of d m) es ≡ true)
+message_stays c d m [] h = cc
+message_stays c d m (e ∷ es) h = go (stays c e) refl (message_stays c d m es) h
+  where
+    or_right : (b x : Bool) → x ≡ true → (b || x) ≡ true
+    or_right true x e = refl
+    or_right false x e = e
+
+    other : (e : Asked) → stays c e ≡ true → is_message_of d m e ≡ true → (c == d) ≡ false
+    other (Message_of k i) s at = ne_eqb c d (λ same. own k i s at same)
+      where
+        own : (k i : ℕ) → not (k == c) ≡ true → ((k == d) && (i == m)) ≡ true → c ≡ d → ⊥
+        own k i s at same = go (k == d) refl at
+          where
+            go : (b : Bool) → (k == d) ≡ b → (b && (i == m)) ≡ true → ⊥
+            go true e at = true≢false (sym s ∙ ap not (eq-eqb k c (eqb-true k d e ∙ sym same)))
+            go false e at = cc
+    other (Connect_of k) s at = cc
+    other (Close_of k) s at = cc
+
+    go :
+        (b : Bool) → stays c e ≡ b → (list_any (is_message_of d m) (filter (stays c) es) ≡ true → ((c == d) ≡ false) × (list_any (is_message_of d m) es ≡ true)) →
+        list_any (is_message_of d m) (cond b (e ∷ filter (stays c) es) (filter (stays c) es)) ≡ true → ((c == d) ≡ false) × ((is_message_of d m e || list_any (is_message_of d m) es) ≡ true)
+    go false s rest h = let r = rest h in (r.0, or_right (is_message_of d m e) (list_any (is_message_of d m) es) r.1)
+    go true s rest h = front (is_message_of d m e) refl h
+      where
+        front : (x : Bool) → is_message_of d m e ≡ x → (x || list_any (is_message_of d m) (filter (stays c) es)) ≡ true → ((c == d) ≡ false) × ((x || list_any (is_message_of d m) es) ≡ true)
+        front true at h = (other e s at, refl)
+        front false at h = rest h
+
+-- a client that is leaving or at no server has nothing but its closes there
+none_but_close : (c : ℕ) (es : List Asked) → list_any (is_close_of c) es ≡ false → list_any (is_of c) (filter (stays c) es) ≡ false
+none_but_close c [] none = refl
+none_but_close c (e ∷ es) none = go (stays c e) refl (is_close_of c e) refl none (none_but_close c es)
+  where
+    entry : (e : Asked) → stays c e ≡ true → is_close_of c e ≡ false → is_of c e ≡ false
+    entry (Connect_of d) s n = ne_eqb c d (λ same. true≢false (sym s ∙ ap not (eq-eqb d c (sym same))))
+    entry (Message_of d m) s n = ne_eqb c d (λ same. true≢false (sym s ∙ ap not (eq-eqb d c (sym same))))
+    entry (Close_of d) s n = ne_eqb c d (λ same. true≢false (sym (eq-eqb d c (sym same)) ∙ n))
+
+    go :
+        (b : Bool) → stays c e ≡ b → (x : Bool) → is_close_of c e ≡ x → (x || list_any (is_close_of c) es) ≡ false → (list_any (is_close_of c) es ≡ false → list_any (is_of c) (filter (stays c) es) ≡ false) →
+        list_any (is_of c) (cond b (e ∷ filter (stays c) es) (filter (stays c) es)) ≡ false
+    go true s false at none rest = ap (λ y. y || list_any (is_of c) (filter (stays c) es)) (entry e s at) ∙ rest none
+    go false s false at none rest = rest none
+    go b s true at none rest = cc
+
+-- so that what is left of a queue fits whatever it is at then
+pub queue_left : (clients : List Client) (c n : ℕ) (to : Client) (es : List Asked) → list_any (is_close_of c) es ≡ false → QueueFits clients n es → QueueFits (with_client c to clients) n (filter (stays c) es)
+queue_left clients c n to es none fits = queue_other c n to clients (filter (stays c) es) (none_but_close c es none) (queue_stays clients n (stays c) es fits)
+
+-- or where it is leaving still
+pub queue_leaving : (clients : List Client) (c n : ℕ) (to : Client) → (is_leaving n (client_at clients c) ≡ true → is_leaving n to ≡ true) → (es : List Asked) → QueueFits clients n es → QueueFits (with_client c to clients) n (filter (stays c) es)
+queue_leaving clients c n to still [] fits = tt
+queue_leaving clients c n to still (e ∷ es) fits = go (stays c e) refl (queue_leaving clients c n to still es fits.1)
+  where
+    own : (e : Asked) → stays c e ≡ true → c ≡ client_of e → EntryFits clients n e → EntryFits (with_client c to clients) n e
+    own (Connect_of d) s same f = absurd (true≢false (sym s ∙ ap not (eq-eqb d c (sym same))))
+    own (Message_of d m) s same f = absurd (true≢false (sym s ∙ ap not (eq-eqb d c (sym same))))
+    own (Close_of d) s same f =
+        ap (λ x. is_leaving n x) (ap (λ k. client_at (with_client c to clients) k) (sym same) ∙ client_here c to clients) ∙ still (ap (λ k. is_leaving n (client_at clients k)) same ∙ f)
+
+    entry : (e : Asked) → stays c e ≡ true → EntryFits clients n e → (b : Bool) → is_of c e ≡ b → EntryFits (with_client c to clients) n e
+    entry e s f true at = own e s (eqb-true c (client_of e) at) f
+    entry e s f false at = entry_other c n to clients e at f
+
+    go : (b : Bool) → stays c e ≡ b → QueueFits (with_client c to clients) n (filter (stays c) es) → QueueFits (with_client c to clients) n (cond b (e ∷ filter (stays c) es) (filter (stays c) es))
+    go true s rest = ((entry e s fits.0.0 (is_of c e) refl, none_stays (asked_again e) (stays c) es fits.0.1), rest)
+    go false s rest = rest
+
+-- ---- the cells
+
+from_kept : (c d : ℕ) (x : Option Sender) → is_from d x ≡ true → is_from d (discarded c x) ≡ true
+from_kept c d None h = cc
+from_kept c d (Some m) h = go (m.client == c) h
+  where
+    go : (b : Bool) → (m.client == d) ≡ true → ((cond b (record m { holds_slot = false; is_told = false }) m).client == d) ≡ true
+    go true h = h
+    go false h = h
+
+from_other : (c d : ℕ) (x : Option Sender) → (c == d) ≡ false → is_from d x ≡ true → is_from c x ≡ false
+from_other c d None other h = cc
+from_other c d (Some m) other h = ne_eqb m.client c (λ same. true≢false (sym (eq-eqb c d (sym same ∙ eqb-true m.client d h)) ∙ other))
+
+or_false : (b : Bool) → (b || false) ≡ b
+or_false true = refl
+or_false false = refl
+
+and_false : (b : Bool) → (b && false) ≡ false
+and_false true = refl
+and_false false = refl
+
+module _ (p : Image) (clients : List Client) (cs : List Cell) (tidy : Tidy cs) (fit : ClientsFit p clients cs) (c : ℕ) (waiting : (n m : ℕ) (o : Object) → held cs (Elsewhere (Queued n m)) ≡ Some o → is_server p o.thing ≡ false) where
+  abbrev drops : Cell → Bool
+  drops x = is_queue x.owner && is_from c x.service.sender
+
+  abbrev left : Cell → Service
+  left x = left_by c x.service
+
+  -- what goes is a message that waits, of which clients have nothing
+  pub empty : (n : ℕ) (x : Cell) → cell_of cs n ≡ Some x → drops x ≡ true → (x.service.queue ≡ []) × (x.service.sessions ≡ [])
+  empty n x e goes = go x.owner refl goes
+    where
+      lives : cell_of cs x.object.name ≡ Some x
+      lives = cell_lives cs x.owner x tidy (cell_placed cs n x tidy e)
+
+      go : (q : Place) → x.owner ≡ q → (is_queue q && is_from c x.service.sender) ≡ true → (x.service.queue ≡ []) × (x.service.sessions ≡ [])
+      go (Elsewhere (Queued k m)) at g =
+          let there : held cs (Elsewhere (Queued k m)) ≡ Some x.object = ap (λ q. held cs q) (sym at) ∙ held_cell cs x.owner ∙ ap object_in (cell_placed cs n x tidy e) in
+          let plain = waiting k m x.object there in
+          let none = fit.servers x.object (named_cell cs x.object.name ∙ ap object_in lives) plain in
+          let same : service_of cs x.object.name ≡ x.service = service_cell cs x.object.name ∙ ap service_in lives in
+          (ap (λ v. v.queue) (sym same) ∙ none.0, ap (λ v. v.sessions) (sym same) ∙ none.1)
+      go _ at g = cc
+
+  -- so that each queue loses its entries alone, and sessions stay
+  pub service_left : (n : ℕ) → ((service_of (withdrawn c cs) n).queue ≡ filter (stays c) (service_of cs n).queue) × ((service_of (withdrawn c cs) n).sessions ≡ (service_of cs n).sessions)
+  service_left n = go (cell_of cs n) refl
+    where
+      then : service_of (withdrawn c cs) n ≡ service_of (sifted drops left cs) n
+      then = ap (λ l. service_of l n) (withdrawn_so c cs)
+
+      at : (x : Cell) → cell_of cs n ≡ Some x → (b : Bool) → drops x ≡ b → ((service_of (withdrawn c cs) n).queue ≡ filter (stays c) (service_of cs n).queue) × ((service_of (withdrawn c cs) n).sessions ≡ (service_of cs n).sessions)
+      at x e true d =
+          let none = empty n x e d in
+          let was : service_of cs n ≡ x.service = service_cell cs n ∙ ap service_in e in
+          let now : service_of (withdrawn c cs) n ≡ unserved = then ∙ service_gone drops left cs n tidy x e d in (
+            ap (λ v. v.queue) now ∙ sym (ap (λ q. filter (stays c) q) (ap (λ v. v.queue) was ∙ none.0)),
+            ap (λ v. v.sessions) now ∙ sym (ap (λ v. v.sessions) was ∙ none.1),
+          )
+      at x e false d =
+          let was : service_of cs n ≡ x.service = service_cell cs n ∙ ap service_in e in
+          let now : service_of (withdrawn c cs) n ≡ left_by c x.service = then ∙ service_sifted drops left cs tidy n x e d in (
+            ap (λ v. v.queue) now ∙ ap (λ v. filter (stays c) v.queue) (sym was),
+            ap (λ v. v.sessions) now ∙ ap (λ v. v.sessions) (sym was),
+          )
+
+      go : (x : Option Cell) → cell_of cs n ≡ x → ((service_of (withdrawn c cs) n).queue ≡ filter (stays c) (service_of cs n).queue) × ((service_of (withdrawn c cs) n).sessions ≡ (service_of cs n).sessions)
+      go None e =
+          let was : service_of cs n ≡ unserved = service_cell cs n ∙ ap service_in e in
+          let now : service_of (withdrawn c cs) n ≡ unserved = then ∙ service_cell (sifted drops left cs) n ∙ ap service_in (cell_of_sifted drops left cs n tidy ∙ ap (λ y. kept drops left y) e) in
+          (ap (λ v. v.queue) now ∙ sym (ap (λ v. filter (stays c) v.queue) was), ap (λ v. v.sessions) now ∙ sym (ap (λ v. v.sessions) was))
+      go (Some x) e = at x e (drops x) refl
+
+  -- a message of another client has its sender still
+  sender_left : (d m : ℕ) → (c == d) ≡ false → is_from d (service_of cs m).sender ≡ true → is_from d (service_of (withdrawn c cs) m).sender ≡ true
+  sender_left d m other h = go (cell_of cs m) refl (subst (λ v. is_from d v.sender ≡ true) (service_cell cs m) h)
+    where
+      go : (x : Option Cell) → cell_of cs m ≡ x → is_from d (service_in x).sender ≡ true → is_from d (service_of (withdrawn c cs) m).sender ≡ true
+      go None e h = cc
+      go (Some x) e h =
+          let stays : drops x ≡ false = ap (λ b. is_queue x.owner && b) (from_other c d x.service.sender other h) ∙ and_false (is_queue x.owner) in
+          subst (λ v. is_from d v.sender ≡ true) (sym (ap (λ l. service_of l m) (withdrawn_so c cs) ∙ service_sifted drops left cs tidy m x e stays)) (from_kept c d x.service.sender h)
+
+  -- the client is at something else then, and asks for nothing more
+  module _ (to : Client) (session : server_of to ≡ server_of (client_at clients c)) (queues : (n : ℕ) → QueueFits (with_client c to clients) n (filter (stays c) (service_of cs n).queue)) where
+    pub fit_withdrawn : ClientsFit p (with_client c to clients) (withdrawn c cs)
+    fit_withdrawn = fit_changed p c to clients cs (withdrawn c cs) fit record {
+      queues = λ n. subst (λ q. QueueFits (with_client c to clients) n q) (sym (service_left n).0) (queues n);
+      others = λ n d other. ap (λ xs. list_any (λ k. k == d) xs) (service_left n).1;
+      has = λ n h. session ∙ fit.sessions n c (sym (ap (λ xs. list_any (λ k. k == c) xs) (service_left n).1) ∙ h);
+      listed = λ n h. ap (λ xs. list_any (λ k. k == c) xs) (service_left n).1 ∙ fit.listed n c (sym session ∙ h);
+      servers = servers;
+      names = names;
+      senders = λ n d m h. let parts = message_stays c d m (service_of cs n).queue (ap (λ q. list_any (is_message_of d m) q) (sym (service_left n).0) ∙ h) in sender_left d m parts.0 (fit.senders n d m parts.1);
+      seats = seats;
+    }
+      where
+        before : (o : Object) → named (withdrawn c cs) o.name ≡ Some o → named cs o.name ≡ Some o
+        before o there = let b = named_before drops left cs o.name o tidy (ap (λ l. named l o.name) (sym (withdrawn_so c cs)) ∙ there) in named_cell cs o.name ∙ ap object_in b.1 ∙ ap (λ y. Some y) b.2
+
+        seats : (o : Object) → named (withdrawn c cs) o.name ≡ Some o → seats_taken (service_of (withdrawn c cs) o.name) ≤ most_of (thing_kind p o.thing)
+        seats o there =
+            let was = fit.seats o (before o there) in
+            let less = seats_left c (service_of (withdrawn c cs) o.name) (service_of cs o.name) (service_left o.name).0 (service_left o.name).1 in
+            omega (arith, was, less)
+
+        servers : (o : Object) → named (withdrawn c cs) o.name ≡ Some o → is_server p o.thing ≡ false → ((service_of (withdrawn c cs) o.name).queue ≡ []) × ((service_of (withdrawn c cs) o.name).sessions ≡ [])
+        servers o there plain =
+            let none = fit.servers o (before o there) plain in
+            ((service_left o.name).0 ∙ ap (λ q. filter (stays c) q) none.0, (service_left o.name).1 ∙ none.1)
+
+        names : (n m : ℕ) (o : Object) → held (withdrawn c cs) (Elsewhere (Queued n m)) ≡ Some o → o.name ≡ m
+        names n m o h = go (cell_in cs (Elsewhere (Queued n m))) refl (ap (λ l. held l (Elsewhere (Queued n m))) (sym (withdrawn_so c cs)) ∙ h)
+          where
+            at : (x : Cell) → cell_in cs (Elsewhere (Queued n m)) ≡ Some x → (b : Bool) → cond b None (Some x.object) ≡ Some o → o.name ≡ m
+            at x e true h = cc
+            at x e false h = let same : x.object ≡ o = cc in fit.names n m o (held_cell cs (Elsewhere (Queued n m)) ∙ ap object_in e ∙ ap (λ y. Some y) same)
+
+            go : (x : Option Cell) → cell_in cs (Elsewhere (Queued n m)) ≡ x → held (sifted drops left cs) (Elsewhere (Queued n m)) ≡ Some o → o.name ≡ m
+            go None e h = let clash : None ≡ Some o = sym (unheld_sifted drops left cs (Elsewhere (Queued n m)) tidy (held_cell cs (Elsewhere (Queued n m)) ∙ ap object_in e)) ∙ h in cc
+            go (Some x) e h = at x e (drops x) (sym (held_sifted drops left cs (Elsewhere (Queued n m)) tidy x e) ∙ h)
+
+-- ---- a close is asked last
+
+module _ (p : Image) (clients : List Client) (cs : List Cell) (fit : ClientsFit p clients cs) (o : Object) (lives : named cs o.name ≡ Some o) (serves : is_server p o.thing ≡ true) (c : ℕ) where
+  pub fit_told : is_leaving o.name (client_at clients c) ≡ true → list_any (is_close_of c) (service_of cs o.name).queue ≡ false → ClientsFit p clients (reserved (asked_last (Close_of c)) o.name cs)
+  fit_told leaves new = record {
+    queues = by_server p cs o lives (asked_last (Close_of c)) (λ n v. QueueFits clients n v.queue) (queue_last clients o.name (Close_of c) (service_of cs o.name).queue leaves new (fit.queues o.name)) (λ n e. fit.queues n);
+    sessions = by_server p cs o lives (asked_last (Close_of c)) (λ n v. (d : ℕ) → has_session v d ≡ true → server_of (client_at clients d) ≡ Some n) (fit.sessions o.name) (λ n e. fit.sessions n);
+    listed = by_server p cs o lives (asked_last (Close_of c)) (λ n v. (d : ℕ) → server_of (client_at clients d) ≡ Some n → has_session v d ≡ true) (fit.listed o.name) (λ n e. fit.listed n);
+    servers = servers_then p cs o lives (asked_last (Close_of c)) serves clients fit;
+    names = names_then p cs o lives (asked_last (Close_of c)) serves clients fit;
+    senders = λ n d k. by_server p cs o lives (asked_last (Close_of c)) (λ n v. list_any (is_message_of d k) v.queue ≡ true → is_from d (service_of (reserved (asked_last (Close_of c)) o.name cs) k).sender ≡ true)
+        (λ h. senders k d (fit.senders o.name d k (sym (list_any-append (is_message_of d k) (service_of cs o.name).queue (Close_of c ∷ []) ∙ or_false (list_any (is_message_of d k) (service_of cs o.name).queue)) ∙ h)))
+        (λ n other h. senders k d (fit.senders n d k h)) n;
+    seats = seats_then p cs o lives (asked_last (Close_of c)) clients fit (let one = seats_asked (Close_of c) (service_of cs o.name) in let was = fit.seats o lives in omega (arith, one, was));
+  }
+    where
+      senders : (k d : ℕ) → is_from d (service_of cs k).sender ≡ true → is_from d (service_of (reserved (asked_last (Close_of c)) o.name cs) k).sender ≡ true
+      senders k d = by_server p cs o lives (asked_last (Close_of c)) (λ k v. is_from d (service_of cs k).sender ≡ true → is_from d v.sender ≡ true) (λ h. h) (λ n other h. h) k

@@ -1,0 +1,265 @@
+-- What is kept of clients stays so where a method moves: cells are made, move and change, and no queue and no session of a server does.
+use Rattle.std.proofs.Common.{Bool, List, None, Option, Some, [], ap, cond, false, inl, inr, length, refl, subst, suc, sym, true, ℕ, ℤ, ◌==◌, ◌∙◌, ◌∷◌, ◌≡◌, ◌<◌, ◌≤◌, arith}
+use Rattle.std.proofs.lemmas.Bool.{eqb-true}
+use Rattle.std.specs.List.{list_any}
+use Rattle.std.specs.Prelude.{◌⊎◌}
+use Rattle.aom_image.specs.Image.{Image}
+use Rattle.aom_image.specs.Views.{method_role}
+use Rattle.aom_image.specs.declared.method.Argument.{Argument}
+use Rattle.aom_image.specs.declared.method.Argument.TheVariants.{Own as Takes_own, Word as Takes_word}
+use Rattle.aom_image.specs.declared.method.Gives.{Gives}
+use Rattle.aom_image.specs.declared.method.Gives.TheVariants.{Left, Maybe as A_maybe, Nothing, Own as An_own, Word as A_word}
+use Rattle.aom_image.specs.declared.method.Thing.{Thing}
+use Rattle.aom_clients.specs.Nodes.{is_connecting_at}
+use Rattle.aom_clients.specs.declared.client.Client.{Client}
+use Rattle.aom_clients.specs.declared.client.Client.TheVariants.{Unconnected}
+use Rattle.aom_rules.specs.Requests.{is_cancel}
+use Rattle.aom_sound.proofs.ClientsFit.{connecting_only, fit_changed, none_of_connecting}
+use Rattle.aom_sound.proofs.ClientsTurn.{Same}
+use Rattle.aom_sound.proofs.Maps.{named_moved, same_place-true, same_place_along}
+use Rattle.aom_sound.proofs.Queues.{queue_other}
+use Rattle.aom_sound.proofs.Services.{service_asked, service_moved, service_opened, service_stored, service_unnamed}
+use Rattle.aom_sound.proofs.Storing.{rerequested_alike}
+use Rattle.aom_sound.specs.Cleanup.{top_place}
+use Rattle.aom_sound.specs.Calls.{passed_cells, result_cells}
+use Rattle.aom_sound.specs.Clients.{client_at, with_client, most_of}
+use Rattle.aom_sound.specs.Effects.{Carried, In_field, In_register, Made, Popped, Popped_operation, Pushed, Pushed_operation, Replied, Requested, Same as Unchanged, Sessioned, Spot, The_message, Update, Written, cells_after, spot_place}
+use Rattle.aom_sound.specs.Enlisted.{cancelled, ended_cells, on_request, own_request, rerequested, thing_kind}
+use Rattle.aom_sound.specs.Kept.{ClientsFit, QueueFits, ConnectKept, StageKept, TasksKept, is_close_of, is_connect_of, is_message_of}
+use Rattle.aom_sound.specs.Natives.{resessioned}
+use Rattle.aom_sound.specs.Places.{Cell, Elsewhere, Entry, Object, Place, Queued, Register, Request, held, moved, named, same_place, service_of, set_request, set_session, set_word_field, unserved, with_new}
+use Rattle.aom_sound.specs.Servers.{is_from, is_server, seats_taken}
+use Rattle.aom_sound.specs.State.{Accept_left, Accepted, Accepts, AtRoot, Closing, Destroy, Dispatched, Frame, Home, Inside, Of_server, Parts, Run, Service_left, Serves, Stage, State, Static, Task, Trapped, Unwind, field_place}
+use Rattle.aom_sound.specs.Words.{here, stored}
+use Rattle.aom_sound.proofs.Seated.{seats_none, seats_same}
+
+-- ---- cells of which servers have the same
+
+pub record Steady (cs cs' : List Cell) : Type 0 where
+  pub queues : (n : ℕ) → (service_of cs' n).queue ≡ (service_of cs n).queue
+  pub sessions : (n : ℕ) → (service_of cs' n).sessions ≡ (service_of cs n).sessions
+  -- each cell was there, or no other of its name
+  pub lived : (o : Object) → named cs' o.name ≡ Some o → (named cs o.name ≡ Some o) ⊎ (named cs o.name ≡ None)
+  pub queued : (n m : ℕ) (o : Object) → held cs' (Elsewhere (Queued n m)) ≡ Some o → held cs (Elsewhere (Queued n m)) ≡ Some o
+  pub senders : (c m : ℕ) → is_from c (service_of cs m).sender ≡ true → is_from c (service_of cs' m).sender ≡ true
+
+pub fit_steady : (p : Image) (clients : List Client) (cs cs' : List Cell) → Steady cs cs' → ClientsFit p clients cs → ClientsFit p clients cs'
+fit_steady p clients cs cs' still fit = record {
+  queues = λ n. subst (λ q. QueueFits clients n q) (sym (still.queues n)) (fit.queues n);
+  sessions = λ n c h. fit.sessions n c (ap (λ xs. list_any (λ d. d == c) xs) (sym (still.sessions n)) ∙ h);
+  listed = λ n c h. ap (λ xs. list_any (λ d. d == c) xs) (still.sessions n) ∙ fit.listed n c h;
+  servers = λ o h plain. servers o plain (still.lived o h);
+  names = λ n m o h. fit.names n m o (still.queued n m o h);
+  senders = λ n c m h. still.senders c m (fit.senders n c m (ap (λ q. list_any (is_message_of c m) q) (sym (still.queues n)) ∙ h));
+  seats = λ o h. seats o (still.lived o h);
+}
+  where
+    seats : (o : Object) → (named cs o.name ≡ Some o) ⊎ (named cs o.name ≡ None) → seats_taken (service_of cs' o.name) ≤ most_of (thing_kind p o.thing)
+    seats o (inl e) = let was = fit.seats o e in let same = seats_same (service_of cs' o.name) (service_of cs o.name) (still.queues o.name) (still.sessions o.name) in omega (arith, was, same)
+    seats o (inr e) =
+        let none = seats_none (service_of cs' o.name) (still.queues o.name ∙ ap (λ v. v.queue) (service_unnamed cs o.name e)) (still.sessions o.name ∙ ap (λ v. v.sessions) (service_unnamed cs o.name e)) in
+        omega (arith, none)
+
+    servers : (o : Object) → is_server p o.thing ≡ false → (named cs o.name ≡ Some o) ⊎ (named cs o.name ≡ None) → ((service_of cs' o.name).queue ≡ []) × ((service_of cs' o.name).sessions ≡ [])
+    servers o plain (inl e) = let none = fit.servers o e plain in (still.queues o.name ∙ none.0, still.sessions o.name ∙ none.1)
+    servers o plain (inr e) = (still.queues o.name ∙ ap (λ v. v.queue) (service_unnamed cs o.name e), still.sessions o.name ∙ ap (λ v. v.sessions) (service_unnamed cs o.name e))
+
+module _ (p : Image) (clients : List Client) (cs cs' : List Cell) (queues : (n : ℕ) → (service_of cs' n).queue ≡ (service_of cs n).queue) (sessions : (n : ℕ) → (service_of cs' n).sessions ≡ (service_of cs n).sessions) where
+  connect_queues : (o : Object) (c : ℕ) → ConnectKept p clients cs o c → ConnectKept p clients cs' o c
+  connect_queues o c k = (k.0, ap (λ q. list_any (is_connect_of c) q) (queues o.name) ∙ k.1, subst (λ n. n < most_of (thing_kind p o.thing)) (sym (seats_same (service_of cs' o.name) (service_of cs o.name) (queues o.name) (sessions o.name))) k.2)
+
+  pub stage_queues : (o : Object) (c : ℕ) (stage : Stage) → StageKept p clients cs o c stage → StageKept p clients cs' o c stage
+  stage_queues o c Accepts k = connect_queues o c k
+  stage_queues o c (Accept_left code) k = connect_queues o c k
+  stage_queues o c Parts k = (k.0, ap (λ q. list_any (is_close_of c) q) (queues o.name) ∙ k.1)
+  stage_queues o c Accepted k = tt
+  stage_queues o c (Serves x) k = tt
+  stage_queues o c (Service_left code) k = tt
+
+  pub tasks_queues : (ts : List Task) → TasksKept p clients cs ts → TasksKept p clients cs' ts
+  tasks_queues [] k = tt
+  tasks_queues (Run fr ∷ ts) k = tasks_queues ts k
+  tasks_queues (Trapped ∷ ts) k = tasks_queues ts k
+  tasks_queues (Destroy ∷ ts) k = tasks_queues ts k
+  tasks_queues (Closing ∷ ts) k = tasks_queues ts k
+  tasks_queues (Unwind code ∷ ts) k = tasks_queues ts k
+  tasks_queues (Dispatched (Of_server x c stage) ∷ ts) k = stage_queues x.object c stage k
+  tasks_queues (Dispatched _ ∷ ts) k = tt
+
+pub tasks_steady : (p : Image) (clients : List Client) (cs cs' : List Cell) → Steady cs cs' → (ts : List Task) → TasksKept p clients cs ts → TasksKept p clients cs' ts
+tasks_steady p clients cs cs' still ts k = tasks_queues p clients cs cs' still.queues still.sessions ts k
+
+pub steady_itself : (cs : List Cell) → Steady cs cs
+steady_itself cs = record { queues = λ n. refl; sessions = λ n. refl; lived = λ o h. inl h; queued = λ n m o h. h; senders = λ c m h. h }
+
+pub steady_same : (cs cs' : List Cell) → Same cs cs' → Steady cs cs'
+steady_same cs cs' like = record {
+  queues = λ n. ap (λ v. v.queue) (like.service_so n);
+  sessions = λ n. ap (λ v. v.sessions) (like.service_so n);
+  lived = λ o h. inl (sym (like.named_so o.name) ∙ h);
+  queued = λ n m o h. sym (like.held_so (Elsewhere (Queued n m))) ∙ h;
+  senders = λ c m h. ap (λ v. is_from c v.sender) (like.service_so m) ∙ h;
+}
+
+-- one change after another, where no cell is made
+pub steady_moved_then : (cs cs' cs'' : List Cell) → Steady cs cs' → Steady cs' cs'' → ((n : ℕ) → named cs' n ≡ named cs n) → Steady cs cs''
+steady_moved_then cs cs' cs'' a b names = record {
+  queues = λ n. b.queues n ∙ a.queues n;
+  sessions = λ n. b.sessions n ∙ a.sessions n;
+  lived = λ o h. lived o (b.lived o h);
+  queued = λ n m o h. a.queued n m o (b.queued n m o h);
+  senders = λ c m h. b.senders c m (a.senders c m h);
+}
+  where
+    lived : (o : Object) → (named cs' o.name ≡ Some o) ⊎ (named cs' o.name ≡ None) → (named cs o.name ≡ Some o) ⊎ (named cs o.name ≡ None)
+    lived o (inl e) = inl (sym (names o.name) ∙ e)
+    lived o (inr e) = inr (sym (names o.name) ∙ e)
+
+-- what moves to another place is not in this one, whatever was there
+pub held_elsewhere : (cs : List Cell) (a b r : Place) → same_place b r ≡ false → held (moved a b cs) r ≡ cond (same_place a r) None (held cs r)
+held_elsewhere [] a b r apart = go (same_place a r)
+  where
+    go : (x : Bool) → held [] r ≡ cond x None (held [] r)
+    go true = refl
+    go false = refl
+held_elsewhere (c ∷ cs) a b r apart = go (same_place c.owner a) refl (same_place a r) refl (held_elsewhere cs a b r apart)
+  where
+    go :
+        (x : Bool) → same_place c.owner a ≡ x → (y : Bool) → same_place a r ≡ y → held (moved a b cs) r ≡ cond y None (held cs r) →
+        cond (same_place (cond x b c.owner) r) (Some c.object) (held (moved a b cs) r) ≡ cond y None (cond (same_place c.owner r) (Some c.object) (held cs r))
+    go true e true f ih = ap (λ z. cond z (Some c.object) (held (moved a b cs) r)) apart ∙ ih
+    go true e false f ih = ap (λ z. cond z (Some c.object) (held (moved a b cs) r)) apart ∙ ih ∙ sym (ap (λ z. cond z (Some c.object) (held cs r)) (same_place_along c.owner a r e ∙ f))
+    go false e true f ih = ap (λ z. cond z (Some c.object) (held (moved a b cs) r)) (ap (λ z. same_place c.owner z) (sym (same_place-true a r f)) ∙ e) ∙ ih
+    go false e false f ih = ap (λ z. cond (same_place c.owner r) (Some c.object) z) ih
+
+abbrev pub NoQueue : Place → Type 0
+NoQueue b = (n m : ℕ) → same_place b (Elsewhere (Queued n m)) ≡ false
+
+pub steady_moved : (cs : List Cell) (a b : Place) → NoQueue b → Steady cs (moved a b cs)
+steady_moved cs a b apart = record {
+  queues = λ n. ap (λ v. v.queue) (service_moved cs a b n);
+  sessions = λ n. ap (λ v. v.sessions) (service_moved cs a b n);
+  lived = λ o h. inl (sym (named_moved cs a b o.name) ∙ h);
+  queued = λ n m o h. queued n m o (same_place a (Elsewhere (Queued n m))) (sym (held_elsewhere cs a b (Elsewhere (Queued n m)) (apart n m)) ∙ h);
+  senders = λ c m h. ap (λ v. is_from c v.sender) (service_moved cs a b m) ∙ h;
+}
+  where
+    queued : (n m : ℕ) (o : Object) (x : Bool) → cond x None (held cs (Elsewhere (Queued n m))) ≡ Some o → held cs (Elsewhere (Queued n m)) ≡ Some o
+    queued n m o true h = cc
+    queued n m o false h = h
+
+pub steady_new : (cs : List Cell) (name : ℕ) (x : Thing) (ws : List ℤ) (owner : Place) → NoQueue owner → named cs name ≡ None → Steady cs (with_new name x ws owner cs)
+steady_new cs name x ws owner apart free = record {
+  queues = λ n. ap (λ v. v.queue) (same n (name == n) refl);
+  sessions = λ n. ap (λ v. v.sessions) (same n (name == n) refl);
+  lived = λ o h. lived o (name == o.name) refl h;
+  queued = λ n m o h. sym (ap (λ b. cond b (Some (record { name = name; thing = x })) (held cs (Elsewhere (Queued n m)))) (apart n m)) ∙ h;
+  senders = λ c m h. ap (λ v. is_from c v.sender) (same m (name == m) refl) ∙ h;
+}
+  where
+    same : (n : ℕ) (b : Bool) → (name == n) ≡ b → cond b unserved (service_of cs n) ≡ service_of cs n
+    same n true e = sym (ap (λ k. service_of cs k) (sym (eqb-true name n e)) ∙ service_unnamed cs name free)
+    same n false e = refl
+
+    lived : (o : Object) (b : Bool) → (name == o.name) ≡ b → cond b (Some (record { name = name; thing = x })) (named cs o.name) ≡ Some o → (named cs o.name ≡ Some o) ⊎ (named cs o.name ≡ None)
+    lived o true e h = inr (ap (λ k. named cs k) (sym (eqb-true name o.name e)) ∙ free)
+    lived o false e h = inl h
+
+-- ---- what an update changes
+
+pub steady_asked : (cs : List Cell) (home : Home) (r : Option Request) → Steady cs (rerequested cs home r)
+steady_asked cs Static r = steady_itself cs
+steady_asked cs AtRoot r = steady_itself cs
+steady_asked cs (Inside o from) r = let like = rerequested_alike cs (Inside o from) r in steady_same cs (set_request o.name r cs) (record { service_so = service_asked cs o.name r; named_so = like.named_so; held_so = like.held_so })
+
+held_opened : (cs : List Cell) (m : ℕ) (b : Bool) (q : Place) → held (set_session m b cs) q ≡ held cs q
+held_opened [] m b q = refl
+held_opened (c ∷ cs) m b q = ap (λ x. cond (same_place c.owner q) (Some c.object) x) (held_opened cs m b q)
+
+named_opened : (cs : List Cell) (m : ℕ) (b : Bool) (n : ℕ) → named (set_session m b cs) n ≡ named cs n
+named_opened [] m b n = refl
+named_opened (c ∷ cs) m b n = ap (λ x. cond (c.object.name == n) (Some c.object) x) (named_opened cs m b n)
+
+pub steady_opened : (cs : List Cell) (home : Home) (b : Bool) → Steady cs (resessioned cs home b)
+steady_opened cs Static b = steady_itself cs
+steady_opened cs AtRoot b = steady_itself cs
+steady_opened cs (Inside o from) b = steady_same cs (set_session o.name b cs) (record { service_so = service_opened cs o.name b; named_so = named_opened cs o.name b; held_so = held_opened cs o.name b })
+
+held_stored : (cs : List Cell) (m w : ℕ) (v : ℤ) (q : Place) → held (set_word_field m w v cs) q ≡ held cs q
+held_stored [] m w v q = refl
+held_stored (c ∷ cs) m w v q = ap (λ x. cond (same_place c.owner q) (Some c.object) x) (held_stored cs m w v q)
+
+named_stored : (cs : List Cell) (m w : ℕ) (v : ℤ) (n : ℕ) → named (set_word_field m w v cs) n ≡ named cs n
+named_stored [] m w v n = refl
+named_stored (c ∷ cs) m w v n = ap (λ x. cond (c.object.name == n) (Some c.object) x) (named_stored cs m w v n)
+
+pub steady_stored : (cs : List Cell) (home : Home) (w : ℕ) (v : ℤ) → Steady cs (stored cs home w v)
+steady_stored cs Static w v = steady_itself cs
+steady_stored cs AtRoot w v = steady_itself cs
+steady_stored cs (Inside o from) w v = steady_same cs (set_word_field o.name w v cs) (record { service_so = service_stored cs o.name w v; named_so = named_stored cs o.name w v; held_so = held_stored cs o.name w v })
+
+pub steady_ended : (p : Image) (fr : Frame) (cs : List Cell) → Steady cs (ended_cells p fr cs)
+steady_ended p fr cs = go (is_cancel (method_role p fr.method))
+  where
+    go : (b : Bool) → Steady cs (cond b (rerequested cs fr.home (on_request cancelled (own_request cs fr.home))) cs)
+    go true = steady_asked cs fr.home (on_request cancelled (own_request cs fr.home))
+    go false = steady_itself cs
+
+module _ (p : Image) (fr : Frame) (ts : List Task) (s : State) where
+  field_apart : (home : Home) (f : ℕ) → NoQueue (field_place home f)
+  field_apart Static f n m = refl
+  field_apart AtRoot f n m = refl
+  field_apart (Inside o from) f n m = refl
+
+  spot_apart : (spot : Spot) → NoQueue (spot_place p fr ts s spot)
+  spot_apart (In_register a) n m = refl
+  spot_apart (In_field f) n m = field_apart fr.home f n m
+  spot_apart The_message n m = refl
+
+  -- where it makes a cell its name is free, and a message that it completes is no matter of this lemma
+  abbrev pub IsSteady : Update → Type 0
+  IsSteady (Made name class a) = named s.cells name ≡ None
+  IsSteady (Replied a) = ⊥
+  IsSteady _ = Unit {0}
+
+  pub steady_update : (u : Update) → IsSteady u → Steady s.cells (cells_after p fr ts s u)
+  steady_update (Carried from to) h = steady_moved s.cells (spot_place p fr ts s from) (spot_place p fr ts s to) (spot_apart to)
+  steady_update (Made name class a) h = steady_new s.cells name _ _ (here fr ts s a) (λ n m. refl) h
+  steady_update (Written w v) h = steady_stored s.cells fr.home w v
+  steady_update (Requested r) h = steady_asked s.cells fr.home r
+  steady_update (Sessioned b) h = steady_opened s.cells fr.home b
+  steady_update (Replied a) h = absurd h
+  steady_update (Pushed a) h = steady_moved s.cells (here fr ts s a) (Entry (length s.items)) (λ n m. refl)
+  steady_update (Popped a) h = steady_moved s.cells (top_place s.items) (here fr ts s a) (λ n m. refl)
+  steady_update Unchanged h = steady_itself s.cells
+  steady_update (Pushed_operation m w) h = steady_itself s.cells
+  steady_update Popped_operation h = steady_itself s.cells
+
+  -- arguments are passed, and a result is brought
+  pub steady_passed : (depth : ℕ) (xs : List Argument) (first to : ℕ) (cs : List Cell) → Steady cs (passed_cells p fr ts s depth xs first to cs)
+  steady_passed depth [] first to cs = steady_itself cs
+  steady_passed depth (Takes_word ∷ xs) first to cs = steady_passed depth xs (suc first) (suc to) cs
+  steady_passed depth (Takes_own t ∷ xs) first to cs =
+      steady_moved_then cs (moved (here fr ts s first) (Register depth to) cs) _ (steady_moved cs (here fr ts s first) (Register depth to) (λ n m. refl)) (steady_passed depth xs (suc first) (suc to) (moved (here fr ts s first) (Register depth to) cs)) (named_moved cs (here fr ts s first) (Register depth to))
+
+  pub steady_result : (g : Gives) (a c : ℕ) (below : List Task) → Steady s.cells (result_cells p fr ts s g a c below)
+  steady_result Nothing a c below = steady_itself s.cells
+  steady_result A_word a c below = steady_itself s.cells
+  steady_result (An_own t) a c below = steady_moved s.cells (here fr ts s a) (Register (length below) c) (λ n m. refl)
+  steady_result (A_maybe t) a c below = steady_moved s.cells (here fr ts s a) (Register (length below) c) (λ n m. refl)
+  steady_result (Left x) a c below = steady_itself s.cells
+
+-- ---- the end of a connect that was left: its client has no session
+
+module _ (p : Image) (clients : List Client) (cs : List Cell) (fit : ClientsFit p clients cs) (n c : ℕ) (at : is_connecting_at n (client_at clients c) ≡ true) (none : list_any (is_connect_of c) (service_of cs n).queue ≡ false) where
+  pub fit_unconnected : ClientsFit p (with_client c Unconnected clients) cs
+  fit_unconnected = fit_changed p c Unconnected clients cs cs fit record {
+    queues = λ k. queue_other c k Unconnected clients (service_of cs k).queue (none_of_connecting clients c k n at (service_of cs k).queue (fit.queues k) (λ same. subst (λ i. list_any (is_connect_of c) (service_of cs i).queue ≡ false) same none)) (fit.queues k);
+    others = λ k d other. refl;
+    has = λ k h. let clash : None ≡ Some k = sym (connecting_only n k (client_at clients c) at).2 ∙ fit.sessions k c h in cc;
+    listed = λ k h. cc;
+    servers = fit.servers;
+    names = fit.names;
+    senders = fit.senders;
+    seats = fit.seats;
+  }

@@ -1,0 +1,170 @@
+-- What is kept of clients stays so where a method returns, where a message is completed, and where a dispatch comes to its end.
+use Rattle.std.proofs.Common.{Bool, List, None, Option, Some, [], ap, cond, false, refl, subst, sym, true, ℕ, ℤ, ◌==◌, ◌∙◌, ◌∷◌, ◌≡◌, ◌<◌, ◌≤◌, arith}
+use Rattle.std.specs.List.{list_any}
+use Rattle.aom_image.specs.Image.{Image}
+use Rattle.aom_image.specs.declared.method.Gives.{Gives}
+use Rattle.aom_clients.specs.declared.client.Client.{Client}
+use Rattle.aom_sound.proofs.ClientsFacts.{IsAt}
+use Rattle.aom_sound.proofs.ClientsFit.{fit_accepted}
+use Rattle.aom_sound.proofs.ClientsMoves.{NoQueue, fit_steady, steady_moved, steady_result, tasks_queues, tasks_steady}
+use Rattle.aom_sound.proofs.Maps.{held_without, named_moved, same_place-true, same_place_comm}
+use Rattle.aom_sound.proofs.Sifted.{a_cell_of, cell_in, cell_lives, cell_of, cell_of_sifted, cell_owner, cell_placed, held_cell, kept, named_before, named_cell, object_in, service_cell, service_gone, service_in, service_sifted, sifted}
+use Rattle.aom_sound.specs.Calls.{answered_by, result_cells, returned}
+use Rattle.aom_sound.specs.Clients.{most_of}
+use Rattle.aom_sound.specs.Kept.{ClientsFit, IsKept, QueueFits, TasksKept, is_connect_of, is_message_of}
+use Rattle.aom_sound.specs.Places.{Cell, Elsewhere, Object, Place, Queued, Session, Tidy, held, moved, named, same_place, service_of, without}
+use Rattle.aom_sound.specs.Servers.{is_from, is_server, seats_taken}
+use Rattle.aom_sound.specs.State.{Accept_left, Accepted, Accepts, Answered, Asks, Destroy, Dispatch, Dispatched, Frame, Main_left, Object_left, Of_main, Of_object, Of_root, Of_server, Parts, Run, Seat, Service_left, Serves, State, Task, Trapped, Unwind}
+use Rattle.aom_sound.specs.Words.{here}
+use Rattle.aom_sound.specs.Enlisted.{thing_kind}
+use Rattle.aom_sound.proofs.Seated.{seats_same}
+
+-- ---- a method returns
+
+module _ (p : Image) (fr : Frame) (ts : List Task) (s : State) (fit : ClientsFit p s.clients s.cells) where
+  same_tasks : (u : State) → u.cells ≡ s.cells → u.clients ≡ s.clients → TasksKept p s.clients s.cells u.tasks → IsKept p u
+  same_tasks u cells clients stage = record {
+    fit = subst (λ l. ClientsFit p l u.cells) (sym clients) (subst (λ l. ClientsFit p s.clients l) (sym cells) fit);
+    stage = subst (λ l. TasksKept p l u.cells u.tasks) (sym clients) (subst (λ l. TasksKept p s.clients l u.tasks) (sym cells) stage);
+  }
+
+  result_kept : (g : Gives) (a c : ℕ) (below : List Task) (u : State) → u.cells ≡ result_cells p fr ts s g a c below → u.clients ≡ s.clients → (u.tasks ≡ u.tasks) → ((cs : List Cell) → TasksKept p s.clients cs below → TasksKept p s.clients cs u.tasks) → TasksKept p s.clients s.cells below → IsKept p u
+  result_kept g a c below u cells clients same over stage =
+      let still = steady_result p fr ts s g a c below in
+      record {
+        fit = subst (λ l. ClientsFit p l u.cells) (sym clients) (subst (λ l. ClientsFit p s.clients l) (sym cells) (fit_steady p s.clients s.cells (result_cells p fr ts s g a c below) still fit));
+        stage = subst (λ l. TasksKept p l u.cells u.tasks) (sym clients) (subst (λ l. TasksKept p s.clients l u.tasks) (sym cells) (over (result_cells p fr ts s g a c below) (tasks_steady p s.clients s.cells (result_cells p fr ts s g a c below) still below stage)));
+      }
+
+  -- to the dispatch of a server
+  module _ (g : Gives) (a : ℕ) (below : List Task) where
+    accept_kept : (x : Seat) (c : ℕ) → named s.cells x.object.name ≡ Some x.object → is_server p x.object.thing ≡ true → TasksKept p s.clients s.cells (Dispatched (Of_server x c Accepts) ∷ below) → IsKept p (returned p fr ts s g a (Trapped ∷ Dispatched (Of_server x c Accepts) ∷ below))
+    accept_kept x c lives serves stage =
+        let still = steady_moved s.cells (here fr ts s a) (Elsewhere (Session x.object.name c)) (λ n m. refl) in
+        record {
+          fit = fit_accepted p s.clients (moved (here fr ts s a) (Elsewhere (Session x.object.name c)) s.cells) (fit_steady p s.clients s.cells (moved (here fr ts s a) (Elsewhere (Session x.object.name c)) s.cells) still fit) x.object
+              (named_moved s.cells (here fr ts s a) (Elsewhere (Session x.object.name c)) x.object.name ∙ lives) serves c _ stage.0 (ap (λ q. list_any (is_connect_of c) q) (still.queues x.object.name) ∙ stage.1)
+              (subst (λ n. n < most_of (thing_kind p x.object.thing)) (sym (seats_same (service_of (moved (here fr ts s a) (Elsewhere (Session x.object.name c)) s.cells) x.object.name) (service_of s.cells x.object.name) (still.queues x.object.name) (still.sessions x.object.name))) stage.2);
+          stage = tt;
+        }
+
+    ended_kept : (d : Dispatch) → ((x : Seat) (c : ℕ) → d ≡ Of_server x c Accepts → (named s.cells x.object.name ≡ Some x.object) × (is_server p x.object.thing ≡ true)) → TasksKept p s.clients s.cells (Dispatched d ∷ below) → IsKept p (returned p fr ts s g a (Trapped ∷ Dispatched d ∷ below))
+    ended_kept (Of_server x c Accepts) there stage = let l = there x c refl in accept_kept x c l.0 l.1 stage
+    ended_kept (Of_server x c (Serves o)) there stage = same_tasks _ refl refl tt
+    ended_kept (Of_server x c Accepted) there stage = same_tasks _ refl refl tt
+    ended_kept (Of_server x c (Accept_left code)) there stage = same_tasks _ refl refl stage
+    ended_kept (Of_server x c (Service_left code)) there stage = same_tasks _ refl refl tt
+    ended_kept (Of_server x c Parts) there stage = same_tasks _ refl refl stage
+    ended_kept Of_main there stage = same_tasks _ refl refl tt
+    ended_kept (Main_left code) there stage = same_tasks _ refl refl tt
+    ended_kept Of_root there stage = same_tasks _ refl refl tt
+    ended_kept (Of_object x) there stage = same_tasks _ refl refl tt
+    ended_kept (Object_left x code) there stage = same_tasks _ refl refl tt
+    ended_kept (Asks x) there stage = same_tasks _ refl refl tt
+    ended_kept (Answered x code) there stage = same_tasks _ refl refl tt
+
+  answered_stage : (answer : ℤ) (d : Dispatch) (below : List Task) → TasksKept p s.clients s.cells (Dispatched d ∷ below) → TasksKept p s.clients s.cells (Dispatched (answered_by answer d) ∷ below)
+  answered_stage answer (Asks x) below k = tt
+  answered_stage answer (Of_server x c stage) below k = k
+  answered_stage answer Of_main below k = tt
+  answered_stage answer (Main_left code) below k = tt
+  answered_stage answer Of_root below k = tt
+  answered_stage answer (Of_object x) below k = tt
+  answered_stage answer (Object_left x code) below k = tt
+  answered_stage answer (Answered x code) below k = tt
+
+  -- to whatever is below; where it is the end of `accept`, its server stands
+  pub return_kept : (g : Gives) (a : ℕ) (below : List Task) → ((x : Seat) (c : ℕ) → IsAt (Of_server x c Accepts) below → (named s.cells x.object.name ≡ Some x.object) × (is_server p x.object.thing ≡ true)) → s.tasks ≡ Run fr ∷ ts → TasksKept p s.clients s.cells below → TasksKept p s.clients s.cells ts → IsKept p (returned p fr ts s g a below)
+  return_kept g a (Run caller ∷ below) there tasks stage all = result_kept g a _ below _ refl refl refl (λ cs k. k) stage
+  return_kept g a (Trapped ∷ Run caller ∷ below) there tasks stage all = result_kept g a _ below _ refl refl refl (λ cs k. k) stage
+  return_kept g a (Trapped ∷ Dispatched d ∷ below) there tasks stage all = ended_kept g a below d there stage
+  return_kept g a (Destroy ∷ below) there tasks stage all = same_tasks _ refl refl stage
+  return_kept g a (Unwind code ∷ below) there tasks stage all = same_tasks _ refl refl stage
+  return_kept g a (Dispatched d ∷ below) there tasks stage all = same_tasks _ refl refl (answered_stage _ d below stage)
+  return_kept g a _ there tasks stage all = same_tasks s refl refl (subst (λ l. TasksKept p s.clients s.cells l) (sym tasks) all)
+
+-- ---- a cell goes of which clients have nothing
+
+without_so : (g : Place) (cs : List Cell) → without g cs ≡ sifted (λ c. same_place c.owner g) (λ c. c.service) cs
+without_so g [] = refl
+without_so g (c ∷ cs) = ap (λ l. cond (same_place c.owner g) l (c ∷ l)) (without_so g cs)
+
+module _
+    (p : Image) (clients : List Client) (cs : List Cell) (tidy : Tidy cs) (fit : ClientsFit p clients cs) (o : Object) (g : Place) (there : held cs g ≡ Some o) (apart : NoQueue g) (plain : is_server p o.thing ≡ false)
+    (queued : (n c m : ℕ) → list_any (is_message_of c m) (service_of cs n).queue ≡ true → (x : Object) × (held cs (Elsewhere (Queued n m)) ≡ Some x)) where
+  abbrev drops : Cell → Bool
+  drops c = same_place c.owner g
+
+  abbrev left : List Cell
+  left = sifted drops (λ c. c.service) cs
+
+  -- it is that cell
+  empty : (n : ℕ) (x : Cell) → cell_of cs n ≡ Some x → drops x ≡ true → (x.service.queue ≡ []) × (x.service.sessions ≡ [])
+  empty n x e goes =
+      let in_place : cell_in cs x.owner ≡ Some x = cell_placed cs n x tidy e in
+      let lives = cell_lives cs x.owner x tidy in_place in
+      let one : Some x.object ≡ Some o = sym (held_cell cs x.owner ∙ ap object_in in_place) ∙ ap (λ q. held cs q) (same_place-true x.owner g goes) ∙ there in
+      let equal : x.object ≡ o = cc in
+      let none = fit.servers x.object (named_cell cs x.object.name ∙ ap object_in lives) (ap (λ y. is_server p y.thing) equal ∙ plain) in
+      let same : service_of cs x.object.name ≡ x.service = service_cell cs x.object.name ∙ ap service_in lives in
+      (ap (λ v. v.queue) (sym same) ∙ none.0, ap (λ v. v.sessions) (sym same) ∙ none.1)
+
+  service_left : (n : ℕ) → ((service_of left n).queue ≡ (service_of cs n).queue) × ((service_of left n).sessions ≡ (service_of cs n).sessions)
+  service_left n = go (cell_of cs n) refl
+    where
+      at : (x : Cell) → cell_of cs n ≡ Some x → (b : Bool) → drops x ≡ b → ((service_of left n).queue ≡ (service_of cs n).queue) × ((service_of left n).sessions ≡ (service_of cs n).sessions)
+      at x e true d =
+          let none = empty n x e d in
+          let was : service_of cs n ≡ x.service = service_cell cs n ∙ ap service_in e in
+          let now = service_gone drops (λ c. c.service) cs n tidy x e d in
+          (ap (λ v. v.queue) now ∙ sym (ap (λ v. v.queue) was ∙ none.0), ap (λ v. v.sessions) now ∙ sym (ap (λ v. v.sessions) was ∙ none.1))
+      at x e false d =
+          let same : service_of left n ≡ service_of cs n = service_sifted drops (λ c. c.service) cs tidy n x e d ∙ sym (service_cell cs n ∙ ap service_in e) in
+          (ap (λ v. v.queue) same, ap (λ v. v.sessions) same)
+
+      go : (x : Option Cell) → cell_of cs n ≡ x → ((service_of left n).queue ≡ (service_of cs n).queue) × ((service_of left n).sessions ≡ (service_of cs n).sessions)
+      go None e =
+          let same : service_of left n ≡ service_of cs n = service_cell left n ∙ ap service_in (cell_of_sifted drops (λ c. c.service) cs n tidy ∙ ap (λ y. kept drops (λ c. c.service) y) e) ∙ sym (service_cell cs n ∙ ap service_in e) in
+          (ap (λ v. v.queue) same, ap (λ v. v.sessions) same)
+      go (Some x) e = at x e (drops x) refl
+
+  sender_left : (n d m : ℕ) → list_any (is_message_of d m) (service_of cs n).queue ≡ true → is_from d (service_of left m).sender ≡ true
+  sender_left n d m h =
+      let x = queued n d m h in
+      let y = a_cell_of (cell_in cs (Elsewhere (Queued n m))) x.0 (sym (held_cell cs (Elsewhere (Queued n m))) ∙ x.1) in
+      let lives : cell_of cs y.0.object.name ≡ Some y.0 = cell_lives cs (Elsewhere (Queued n m)) y.0 tidy y.1 in
+      let name : y.0.object.name ≡ m = ap (λ z. z.name) y.2 ∙ fit.names n m x.0 x.1 in
+      let at : cell_of cs m ≡ Some y.0 = ap (λ k. cell_of cs k) (sym name) ∙ lives in
+      let stays : drops y.0 ≡ false = ap (λ q. same_place q g) (cell_owner cs (Elsewhere (Queued n m)) y.0 y.1) ∙ same_place_comm (Elsewhere (Queued n m)) g ∙ apart n m in
+      subst (λ v. is_from d v.sender ≡ true) (service_cell cs m ∙ ap service_in at ∙ sym (service_sifted drops (λ c. c.service) cs tidy m y.0 at stays)) (fit.senders n d m h)
+
+  fit_left : ClientsFit p clients left
+  fit_left = record {
+    queues = λ n. subst (λ q. QueueFits clients n q) (sym (service_left n).0) (fit.queues n);
+    sessions = λ n d h. fit.sessions n d (ap (λ xs. list_any (λ k. k == d) xs) (sym (service_left n).1) ∙ h);
+    listed = λ n d h. ap (λ xs. list_any (λ k. k == d) xs) (service_left n).1 ∙ fit.listed n d h;
+    servers = servers;
+    names = names;
+    senders = λ n d m h. sender_left n d m (ap (λ q. list_any (is_message_of d m) q) (sym (service_left n).0) ∙ h);
+    seats = seats;
+  }
+    where
+      before : (x : Object) → named left x.name ≡ Some x → named cs x.name ≡ Some x
+      before x h = let b = named_before drops (λ c. c.service) cs x.name x tidy h in named_cell cs x.name ∙ ap object_in b.1 ∙ ap (λ y. Some y) b.2
+
+      seats : (x : Object) → named left x.name ≡ Some x → seats_taken (service_of left x.name) ≤ most_of (thing_kind p x.thing)
+      seats x h = let was = fit.seats x (before x h) in let same = seats_same (service_of left x.name) (service_of cs x.name) (service_left x.name).0 (service_left x.name).1 in omega (arith, was, same)
+
+      servers : (x : Object) → named left x.name ≡ Some x → is_server p x.thing ≡ false → ((service_of left x.name).queue ≡ []) × ((service_of left x.name).sessions ≡ [])
+      servers x h plain =
+          let none = fit.servers x (before x h) plain in
+          ((service_left x.name).0 ∙ none.0, (service_left x.name).1 ∙ none.1)
+
+      names : (n m : ℕ) (x : Object) → held left (Elsewhere (Queued n m)) ≡ Some x → x.name ≡ m
+      names n m x h = fit.names n m x (sym (held_without cs g (Elsewhere (Queued n m)) ∙ ap (λ b. cond b None (held cs (Elsewhere (Queued n m)))) (apart n m)) ∙ ap (λ l. held l (Elsewhere (Queued n m))) (without_so g cs) ∙ h)
+
+  pub fit_without : ClientsFit p clients (without g cs)
+  fit_without = subst (λ l. ClientsFit p clients l) (sym (without_so g cs)) fit_left
+
+  pub tasks_without : (ts : List Task) → TasksKept p clients cs ts → TasksKept p clients (without g cs) ts
+  tasks_without ts k = tasks_queues p clients cs (without g cs) (λ n. ap (λ l. (service_of l n).queue) (without_so g cs) ∙ (service_left n).0) (λ n. ap (λ l. (service_of l n).sessions) (without_so g cs) ∙ (service_left n).1) ts k

@@ -1,0 +1,296 @@
+-- What is kept of clients stays so in each turn: as a server is picked, as a client does something, and in all others, where nothing of it changes.
+use Rattle.std.proofs.Common.{Bool, List, None, Option, Some, [], ap, cond, false, refl, subst, sym, true, ℕ, ◌∙◌, ◌∷◌, ◌≡◌, ◌<◌, ◌≤◌, arith}
+use Rattle.std.specs.List.{list_any}
+use Rattle.std.specs.Prelude.{length, nat_le, ◌||◌}
+use Rattle.aom_image.specs.Image.{Image}
+use Rattle.aom_image.specs.declared.method.Role.TheVariants.{Accept as Accepts_role, Run as Handles, Service as Attends_role}
+use Rattle.aom_image.specs.declared.method.Thing.{Thing}
+use Rattle.aom_image.specs.declared.method.Thing.TheVariants.{Message}
+use Rattle.aom_roles.specs.Classes.{sessions_in}
+use Rattle.aom_roles.specs.Shapes.{kind_of}
+use Rattle.aom_shape.specs.declared.kind.Kind.TheVariants.{Null}
+use Rattle.aom_clients.specs.Table.{server_of}
+use Rattle.aom_clients.specs.declared.client.Client.{Client}
+use Rattle.aom_rules.specs.Typing.{Typing}
+use Rattle.aom_sound.proofs.ClientsCommand.{fit_commanded}
+use Rattle.aom_sound.proofs.ClientsFit.{by_server, seats_then}
+use Rattle.aom_sound.proofs.Maps.{held_moved, named_moved}
+use Rattle.aom_sound.proofs.Owners.{IsQueuedAt, in_queue, queued_lower}
+use Rattle.aom_sound.proofs.Services.{held_served, named_served, service_asked, service_bereaved, service_here, service_moved}
+use Rattle.aom_sound.proofs.Signals.{at_rest}
+use Rattle.aom_sound.proofs.Storing.{bereaved_alike, rerequested_alike}
+use Rattle.aom_sound.proofs.Straight.{fits_unowning}
+use Rattle.aom_sound.proofs.Turned.{Polled, answers, commanded_kept, dispatched_so, nothing, polled_so}
+use Rattle.aom_sound.proofs.Guarded.{goes_same}
+use Rattle.aom_sound.proofs.Turning.{found}
+use Rattle.aom_sound.specs.Claims.{declared}
+use Rattle.aom_sound.specs.Clients.{client_at, most_of}
+use Rattle.aom_sound.specs.Destruction.{begun, begun_by}
+use Rattle.aom_classes.specs.Roles.{destructor_of}
+use Rattle.aom_sound.specs.Enlisted.{completed_with, on_request, part_of, recorded, timed_out, thing_kind}
+use Rattle.aom_sound.specs.Natives.{all_bereaved}
+use Rattle.aom_sound.specs.Owned.{NoneGoes}
+use Rattle.aom_sound.specs.Kept.{ClientsFit, IsKept, QueueFits, TasksKept, is_close_of, is_connect_of, is_message_of}
+use Rattle.aom_sound.specs.Laws.{IsWired}
+use Rattle.aom_sound.specs.Places.{Asked, Cell, Close_of, Connect_of, Elsewhere, Going, In_service, Message_of, Object, Place, Queued, Request, Root, Session, held, moved, named, requested, same_place, seen, service_of, set_request}
+use Rattle.aom_sound.specs.Servers.{has_session, is_from, is_server, reserved, rest_of as rest, taken_first, seats_taken}
+use Rattle.aom_sound.specs.State.{Closing, Destroy, Dispatched, Goes, Inside, Of_server, Parts, Seat, State, Task}
+use Rattle.aom_sound.specs.WellTyped.{Fits, Good, WellTyped}
+use Rattle.aom_sound.specs.World.{Candidate, Completes, Completion, Cuts, Heard, Hears, Kills, Obeys, Outside, Passes, Picks, Polls, Strays, Timed, Turning, Waits, accepting, attended, attending, by_event, by_timer, delivers, dispatched, first_due, first_ready, has_signal, heard_one, lives, next_event, next_native, next_time, parting_with, picks, picked, polls, serves_first, taken_from, turn, turned, turning, with_request}
+use Rattle.aom_transcript.specs.declared.event.Event.{Event}
+use Rattle.aom_transcript.specs.declared.event.Event.TheVariants.{Kill, Tell}
+use Rattle.aom_transcript.specs.declared.event.TimedEvent.{TimedEvent}
+use Rattle.aom_sound.proofs.Seated.{seats_first, seats_rest}
+
+-- ---- cells of which clients have the same
+
+pub record Same (cs cs' : List Cell) : Type 0 where
+  pub service_so : (n : ℕ) → service_of cs' n ≡ service_of cs n
+  pub named_so : (n : ℕ) → named cs' n ≡ named cs n
+  pub held_so : (q : Place) → held cs' q ≡ held cs q
+
+pub fit_same : (p : Image) (clients : List Client) (cs cs' : List Cell) → Same cs cs' → ClientsFit p clients cs → ClientsFit p clients cs'
+fit_same p clients cs cs' like fit = record {
+  queues = λ n. subst (λ v. QueueFits clients n v.queue) (sym (like.service_so n)) (fit.queues n);
+  sessions = λ n c h. fit.sessions n c (ap (λ v. has_session v c) (sym (like.service_so n)) ∙ h);
+  listed = λ n c h. ap (λ v. has_session v c) (like.service_so n) ∙ fit.listed n c h;
+  servers = λ o h plain. subst (λ v. (v.queue ≡ []) × (v.sessions ≡ [])) (sym (like.service_so o.name)) (fit.servers o (sym (like.named_so o.name) ∙ h) plain);
+  names = λ n m o h. fit.names n m o (sym (like.held_so (Elsewhere (Queued n m))) ∙ h);
+  senders = λ n c m h. subst (λ v. is_from c v.sender ≡ true) (sym (like.service_so m)) (fit.senders n c m (ap (λ v. list_any (is_message_of c m) v.queue) (sym (like.service_so n)) ∙ h));
+  seats = λ o h. subst (λ v. seats_taken v ≤ most_of (thing_kind p o.thing)) (sym (like.service_so o.name)) (fit.seats o (sym (like.named_so o.name) ∙ h));
+}
+
+pub same_requested : (cs : List Cell) (o : Object) (r : Option Request) → Same cs (set_request o.name r cs)
+same_requested cs o r = let like = rerequested_alike cs (Inside o (Elsewhere Root)) r in record { service_so = service_asked cs o.name r; named_so = like.named_so; held_so = like.held_so }
+
+pub same_bereaved : (p : Image) (n : ℕ) (cs : List Cell) → Same cs (all_bereaved p n cs)
+same_bereaved p n cs = let like = bereaved_alike p n cs in record { service_so = service_bereaved p n cs; named_so = like.named_so; held_so = like.held_so }
+
+-- what is owned elsewhere, but in no queue
+pub fit_moved : (p : Image) (clients : List Client) (cs : List Cell) (a b : Place) → held cs b ≡ None → ((n m : ℕ) → same_place b (Elsewhere (Queued n m)) ≡ false) → ClientsFit p clients cs → ClientsFit p clients (moved a b cs)
+fit_moved p clients cs a b free apart fit = record {
+  queues = λ n. subst (λ v. QueueFits clients n v.queue) (sym (service_moved cs a b n)) (fit.queues n);
+  sessions = λ n c h. fit.sessions n c (ap (λ v. has_session v c) (sym (service_moved cs a b n)) ∙ h);
+  listed = λ n c h. ap (λ v. has_session v c) (service_moved cs a b n) ∙ fit.listed n c h;
+  servers = λ o h plain. subst (λ v. (v.queue ≡ []) × (v.sessions ≡ [])) (sym (service_moved cs a b o.name)) (fit.servers o (sym (named_moved cs a b o.name) ∙ h) plain);
+  names = λ n m o h. names n m o (same_place a (Elsewhere (Queued n m))) (sym (ap (λ x. cond x (held cs a) (cond (same_place a (Elsewhere (Queued n m))) None (held cs (Elsewhere (Queued n m))))) (apart n m)) ∙ sym (held_moved cs a b (Elsewhere (Queued n m)) free) ∙ h);
+  senders = λ n c m h. subst (λ v. is_from c v.sender ≡ true) (sym (service_moved cs a b m)) (fit.senders n c m (ap (λ v. list_any (is_message_of c m) v.queue) (sym (service_moved cs a b n)) ∙ h));
+  seats = λ o h. subst (λ v. seats_taken v ≤ most_of (thing_kind p o.thing)) (sym (service_moved cs a b o.name)) (fit.seats o (sym (named_moved cs a b o.name) ∙ h));
+}
+  where
+    names : (n m : ℕ) (o : Object) (x : Bool) → cond x None (held cs (Elsewhere (Queued n m))) ≡ Some o → o.name ≡ m
+    names n m o true h = cc
+    names n m o false h = fit.names n m o h
+
+-- the first of a queue is taken
+pub fit_taken : (p : Image) (clients : List Client) (cs : List Cell) (o : Object) → named cs o.name ≡ Some o → (e : Asked) (es : List Asked) → (service_of cs o.name).queue ≡ e ∷ es → ClientsFit p clients cs → ClientsFit p clients (reserved taken_first o.name cs)
+fit_taken p clients cs o lives e es queue fit = record {
+  queues = by_server p cs o lives taken_first (λ n v. QueueFits clients n v.queue) (subst (λ q. QueueFits clients o.name (rest q)) (sym queue) (subst (λ q. QueueFits clients o.name q) queue (fit.queues o.name)).1) (λ n other. fit.queues n);
+  sessions = by_server p cs o lives taken_first (λ n v. (d : ℕ) → has_session v d ≡ true → server_of (client_at clients d) ≡ Some n) (fit.sessions o.name) (λ n other. fit.sessions n);
+  listed = by_server p cs o lives taken_first (λ n v. (d : ℕ) → server_of (client_at clients d) ≡ Some n → has_session v d ≡ true) (fit.listed o.name) (λ n other. fit.listed n);
+  servers = λ x h plain. by_server p cs o lives taken_first (λ n v. ((service_of cs n).queue ≡ []) × ((service_of cs n).sessions ≡ []) → (v.queue ≡ []) × (v.sessions ≡ [])) (λ h. (ap rest h.0, h.1)) (λ n other h. h) x.name (fit.servers x (sym (named_served cs o.name (taken_first (service_of cs o.name)) x.name) ∙ h) plain);
+  names = λ n m x h. fit.names n m x (sym (held_served cs o.name (taken_first (service_of cs o.name)) (Elsewhere (Queued n m))) ∙ h);
+  senders = λ n d m. by_server p cs o lives taken_first (λ n v. list_any (is_message_of d m) v.queue ≡ true → is_from d (service_of (reserved taken_first o.name cs) m).sender ≡ true)
+      (λ h. senders m d (fit.senders o.name d m (ap (λ q. list_any (is_message_of d m) q) queue ∙ or_right (is_message_of d m e) (list_any (is_message_of d m) es) (ap (λ q. list_any (is_message_of d m) (rest q)) (sym queue) ∙ h))))
+      (λ n other h. senders m d (fit.senders n d m h)) n;
+  seats = seats_then p cs o lives taken_first clients fit (let less = seats_rest (service_of cs o.name) in let was = fit.seats o lives in omega (arith, less, was));
+}
+  where
+    or_right : (b x : Bool) → x ≡ true → (b || x) ≡ true
+    or_right true x h = refl
+    or_right false x h = h
+
+    senders : (m d : ℕ) → is_from d (service_of cs m).sender ≡ true → is_from d (service_of (reserved taken_first o.name cs) m).sender ≡ true
+    senders m d = by_server p cs o lives taken_first (λ m v. is_from d (service_of cs m).sender ≡ true → is_from d v.sender ≡ true) (λ h. h) (λ n other h. h) m
+
+-- ---- tasks
+
+pub tasks_begun : (p : Image) (clients : List Client) (cs : List Cell) (o : Object) (height : ℕ) (ts : List Task) → TasksKept p clients cs ts → TasksKept p clients cs (begun p o height ts)
+tasks_begun p clients cs o height ts kept = go (is_server p o.thing)
+  where
+    by : (m : Option ℕ) → TasksKept p clients cs (begun_by m o height ts)
+    by None = kept
+    by (Some m) = kept
+
+    go : (b : Bool) → TasksKept p clients cs (cond b (Closing ∷ Destroy ∷ ts) (begun_by (destructor_of p o.thing) o height ts))
+    go true = kept
+    go false = by (destructor_of p o.thing)
+
+-- a message is no server
+pub message_plain : (p : Image) (x : Thing) → x ≡ Message → is_server p x ≡ false
+unfolding kind_of sessions_in
+message_plain p x e = ap (λ y. is_server p y) e
+
+-- ---- turns
+
+module _ (p : Image) (t : Typing) (wired : IsWired p) (s : State) (w : WellTyped p t s) (idle_now : s.tasks ≡ []) (kept : IsKept p s) where
+  good : Good p t s.cells []
+  good = subst (λ ls. Good p t s.cells ls) (at_rest p t s w idle_now) w.good
+
+  stage_idle : (clients : List Client) (cs : List Cell) (ts : List Task) → ts ≡ [] → TasksKept p clients cs ts
+  stage_idle clients cs ts e = subst (λ l. TasksKept p clients cs l) (sym e) tt
+
+  -- what waits in a queue is no server
+  waiting : (n m : ℕ) (o : Object) → held s.cells (Elsewhere (Queued n m)) ≡ Some o → is_server p o.thing ≡ false
+  waiting n m o e = message_plain p o.thing (queued_lower p wired x.0 o.thing x.3).0
+    where
+      x : IsQueuedAt p s.cells n m o.thing
+      x = in_queue p t wired s w (subst (λ ts. NoneGoes ts) (sym idle_now) tt) n m o e
+
+  empty_place : (q : Place) → declared p s.cells q ≡ Null → held s.cells q ≡ None
+  empty_place q e = fits_unowning p (seen s.cells) _ Null refl (subst (λ k. Fits p (seen s.cells) (held s.cells q) k) e (good.fits q))
+
+  -- ---- a pick
+
+  module _ (x : Seat) (there : named s.cells x.object.name ≡ Some x.object) (u : State) where
+    abbrev n : ℕ
+    n = x.object.name
+
+    abbrev cs : List Cell
+    cs = reserved taken_first n s.cells
+
+    empty_now : (q : Place) → declared p s.cells q ≡ Null → held cs q ≡ None
+    empty_now q e = held_served s.cells n (taken_first (service_of s.cells n)) q ∙ empty_place q e
+
+    module _ (e : Asked) (es : List Asked) (queue : (service_of s.cells n).queue ≡ e ∷ es) where
+      taken : ClientsFit p s.clients cs
+      taken = fit_taken p s.clients s.cells x.object there e es queue kept.fit
+
+      first_fits : QueueFits s.clients n (e ∷ es)
+      first_fits = subst (λ q. QueueFits s.clients n q) queue (kept.fit.queues n)
+
+      queue_now : (service_of cs n).queue ≡ es
+      queue_now = ap (λ v. v.queue) (service_here s.cells n (taken_first (service_of s.cells n)) x.object there) ∙ ap rest queue
+
+    connect_kept : (c : ℕ) (es : List Asked) → (service_of s.cells n).queue ≡ Connect_of c ∷ es → (m : Option ℕ) → accepting m x c (taken_from n s) ≡ Goes u → IsKept p u
+    connect_kept c es queue None e = cc
+    connect_kept c es queue (Some m) e =
+        let first = first_fits (Connect_of c) es queue in
+        subst (λ v. IsKept p v) (goes_same _ u e) (record { fit = taken (Connect_of c) es queue; stage = (first.0.0, ap (λ q. list_any (is_connect_of c) q) (queue_now (Connect_of c) es queue) ∙ first.0.1, room) })
+      where
+        room : seats_taken (service_of cs n) < most_of (thing_kind p x.object.thing)
+        room =
+            let was = kept.fit.seats x.object there in
+            let one = seats_first (service_of s.cells n) (Connect_of c) es queue in
+            subst (λ v. seats_taken v < most_of (thing_kind p x.object.thing)) (sym (service_here s.cells n (taken_first (service_of s.cells n)) x.object there)) (omega (arith, was, one))
+
+    message_kept : (c m : ℕ) (es : List Asked) → (service_of s.cells n).queue ≡ Message_of c m ∷ es → (o : Option Object) → attended p x c o m (taken_from n s) ≡ Goes u → IsKept p u
+    message_kept c m es queue None e = cc
+    message_kept c m es queue (Some o) e = go (part_of p Attends_role o.thing) e
+      where
+        go : (k : Option ℕ) → attending k x c o m (taken_from n s) ≡ Goes u → IsKept p u
+        go None e = cc
+        go (Some k) e = subst (λ v. IsKept p v) (goes_same _ u e) (record { fit = fit_moved p s.clients cs (Elsewhere (Queued n m)) (Elsewhere In_service) (empty_now (Elsewhere In_service) refl) (λ i j. refl) (taken (Message_of c m) es queue); stage = tt })
+
+    close_kept : (c : ℕ) (es : List Asked) → (service_of s.cells n).queue ≡ Close_of c ∷ es → (o : Option Object) → parting_with p x c o (taken_from n s) ≡ Goes u → IsKept p u
+    close_kept c es queue None e = cc
+    close_kept c es queue (Some o) e =
+        let first = first_fits (Close_of c) es queue in
+        let then = moved (Elsewhere (Session n c)) (Going 1) cs in
+        subst (λ v. IsKept p v) (goes_same _ u e) (record {
+          fit = fit_moved p s.clients cs (Elsewhere (Session n c)) (Going 1) (empty_now (Going 1) refl) (λ i j. refl) (taken (Close_of c) es queue);
+          stage = tasks_begun p s.clients then o (length s.items) (Dispatched (Of_server x c Parts) ∷ [])
+              (first.0.0, ap (λ q. list_any (is_close_of c) q) (ap (λ v. v.queue) (service_moved cs (Elsewhere (Session n c)) (Going 1) n) ∙ queue_now (Close_of c) es queue) ∙ first.0.1);
+        })
+
+    serves_kept : (queue : List Asked) → (service_of s.cells n).queue ≡ queue → serves_first p x queue s ≡ Goes u → IsKept p u
+    serves_kept [] queue e = cc
+    serves_kept (Connect_of c ∷ es) queue e = connect_kept c es queue (part_of p Accepts_role x.object.thing) e
+    serves_kept (Message_of c m ∷ es) queue e = message_kept c m es queue (held s.cells (Elsewhere (Session n c))) e
+    serves_kept (Close_of c ∷ es) queue e = close_kept c es queue (held s.cells (Elsewhere (Session n c))) e
+
+    picked_kept : picked p x s ≡ Goes u → IsKept p u
+    picked_kept e = go (is_server p x.object.thing) e
+      where
+        requested_fit : (o : Object) (r : Option Request) → ClientsFit p s.clients (set_request o.name r s.cells)
+        requested_fit o r = fit_same p s.clients s.cells (set_request o.name r s.cells) (same_requested s.cells o r) kept.fit
+
+        go : (b : Bool) → cond b (serves_first p x (service_of s.cells n).queue s) (dispatched (part_of p Handles x.object.thing) x s) ≡ Goes u → IsKept p u
+        go true e = serves_kept (service_of s.cells n).queue refl e
+        go false e = let d = dispatched_so p s u x e in subst (λ v. IsKept p v) (sym d.2) (record { fit = requested_fit x.object _; stage = tt })
+
+  -- ---- the others
+
+  -- what is picked stands, and the name that is heard is free
+  abbrev pub IsFound : Turning → Type 0
+  IsFound (Obeys client command name) = named s.cells name ≡ None
+  IsFound (Picks x) = named s.cells x.object.name ≡ Some x.object
+  IsFound _ = Unit {0}
+
+  same_kept : (u : State) → u.cells ≡ s.cells → u.clients ≡ s.clients → u.tasks ≡ [] → IsKept p u
+  same_kept u cells clients tasks = record {
+    fit = subst (λ l. ClientsFit p l u.cells) (sym clients) (subst (λ l. ClientsFit p s.clients l) (sym cells) kept.fit);
+    stage = stage_idle u.clients u.cells u.tasks tasks;
+  }
+
+  requested_kept : (f : Request → Request) (o : Object) (u : State) → u.cells ≡ with_request f o s.cells → u.clients ≡ s.clients → u.tasks ≡ [] → IsKept p u
+  requested_kept f o u cells clients tasks = record {
+    fit = subst (λ l. ClientsFit p l u.cells) (sym clients) (subst (λ l. ClientsFit p s.clients l) (sym cells) (fit_same p s.clients s.cells (with_request f o s.cells) (same_requested s.cells o (on_request f (requested s.cells o.name))) kept.fit));
+    stage = stage_idle u.clients u.cells u.tasks tasks;
+  }
+
+  turned_kept : (k : Turning) → IsFound k → (u : State) → turned p s k ≡ Goes u → IsKept p u
+  turned_kept Cuts f u e = subst (λ v. IsKept p v) (goes_same _ u e) (same_kept _ refl refl idle_now)
+  turned_kept (Completes o) f u e = subst (λ v. IsKept p v) (goes_same _ u e) (requested_kept timed_out o _ refl refl idle_now)
+  turned_kept Hears f u e = subst (λ v. IsKept p v) (goes_same _ u e) (same_kept _ refl refl idle_now)
+  turned_kept (Kills n) f u e = subst (λ v. IsKept p v) (goes_same _ u e) (record { fit = fit_same p s.clients s.cells (all_bereaved p n s.cells) (same_bereaved p n s.cells) kept.fit; stage = stage_idle s.clients (all_bereaved p n s.cells) s.tasks idle_now })
+  turned_kept (Polls n answer) f u e = go u (polled_so p s u n answer e)
+    where
+      go : (u : State) → Polled n s u → IsKept p u
+      go u d = elim d as (λ v d. IsKept p v) [
+        | nothing ↦ same_kept _ refl refl idle_now
+        | answers o code ↦ requested_kept (completed_with (recorded code)) o _ refl refl idle_now
+      ]
+  turned_kept (Obeys client command name) f u e = subst (λ v. IsKept p v) (goes_same _ u e) (record {
+    fit = fit_commanded p client (heard_one s) good.tidy kept.fit waiting command name f;
+    stage = stage_idle _ _ _ ((commanded_kept p client (heard_one s) command name).1 ∙ idle_now);
+  })
+  turned_kept (Picks x) f u e = picked_kept x f u e
+  turned_kept Strays f u e = cc
+  turned_kept (Passes time) f u e = subst (λ v. IsKept p v) (goes_same _ u e) (same_kept _ refl refl idle_now)
+  turned_kept Waits f u e = subst (λ v. IsKept p v) (goes_same _ u e) (same_kept _ refl refl idle_now)
+
+  -- each turn is such
+  picks_found : (b : Bool) (y : Option Candidate) → first_ready s.cells ≡ y → (next : Option ℕ) → IsFound (picks b y next)
+  picks_found true None e next = tt
+  picks_found true (Some y) e next = (found s.cells good.tidy y e).lives
+  picks_found false y e None = tt
+  picks_found false y e (Some time) = tt
+
+  polls_found : (n : Option ℕ) (answer : Option Completion) (after : Turning) → IsFound after → IsFound (polls n answer after)
+  polls_found None answer after f = f
+  polls_found (Some n) answer after f = tt
+
+  delivers_found : (outside : Outside) (event : Event) → IsFound (delivers outside s event)
+  delivers_found outside (Tell n word) = tt
+  delivers_found outside (Kill n) = go (lives outside s n)
+    where
+      go : (b : Bool) → IsFound (cond b (Kills n) Hears)
+      go true = tt
+      go false = tt
+
+  event_found : (outside : Outside) (next : Option TimedEvent) (after : Turning) → IsFound after → IsFound (by_event outside s next after)
+  event_found outside None after f = f
+  event_found outside (Some e) after f = go (nat_le e.time s.rest.clock)
+    where
+      go : (b : Bool) → IsFound (cond b (delivers outside s e.event) after)
+      go true = delivers_found outside e.event
+      go false = f
+
+  timer_found : (next : Option Timed) (after : Turning) → IsFound after → IsFound (by_timer s next after)
+  timer_found None after f = f
+  timer_found (Some x) after f = go (nat_le x.timer.due s.rest.clock)
+    where
+      go : (b : Bool) → IsFound (cond b (Completes x.object) after)
+      go true = tt
+      go false = f
+
+  pub turning_found : (outside : Outside) (heard : Heard) → IsFound (turning outside heard s)
+  turning_found outside heard = go (nat_le outside.limit s.rest.dispatches)
+    where
+      go : (b : Bool) → IsFound (cond b Cuts (by_timer s (first_due s.cells) (by_event outside s (next_event outside s) (polls (next_native outside s) heard.completion (picks (has_signal s.cells) (first_ready s.cells) (next_time outside s))))))
+      go true = tt
+      go false = timer_found (first_due s.cells) _ (event_found outside (next_event outside s) _ (polls_found (next_native outside s) heard.completion _ (picks_found (has_signal s.cells) (first_ready s.cells) refl (next_time outside s))))
+
+  pub turn_kept : (outside : Outside) (heard : Heard) (u : State) → turn p outside heard s ≡ Goes u → IsKept p u
+  turn_kept outside heard u e = turned_kept (turning outside heard s) (turning_found outside heard) u e

@@ -1,0 +1,144 @@
+-- What is kept of clients in closed states: by computation, and by the name of the server where all names are spoken of.
+use Rattle.std.proofs.Common.{Bool, List, None, Some, [], ap, arith, cond, false, refl, subst, sym, true, zero, suc, ℕ, ◌==◌, ◌∙◌, ◌∷◌, ◌≡◌, ◌≤◌, ◌<◌}
+use Rattle.std.proofs.lemmas.Bool.{eqb-true, true≢false}
+use Rattle.aom_clients.specs.Table.{server_of}
+use Rattle.aom_image.specs.Views.{class_at}
+use Rattle.aom_roles.specs.Classes.{kind_in, sessions_in, sessions_of}
+use Rattle.aom_roles.specs.Shapes.{kind_of}
+use Rattle.aom_image.specs.declared.method.Thing.TheVariants.{Message}
+use Rattle.aom_sound.specs.Cases.Building.{keeper, pair}
+use Rattle.aom_sound.specs.Cases.Kept.{Fit, KeptBites, opened, serves, waits}
+use Rattle.aom_sound.specs.Cases.Moves.{an_image}
+use Rattle.aom_sound.specs.Cases.Servers.{a_session}
+use Rattle.aom_sound.specs.Clients.{client_at}
+use Rattle.aom_sound.specs.Enlisted.{thing_kind}
+use Rattle.aom_sound.specs.Kept.{QueueFits, is_message_of}
+use Rattle.aom_sound.specs.Clients.{most_of}
+use Rattle.aom_sound.specs.Places.{Cell, Connect_of, Elsewhere, Message_of, Object, Queued, held, named, service_of, unserved}
+use Rattle.aom_sound.specs.Servers.{has_session, is_from, is_server, seats_taken}
+use Rattle.std.specs.List.{list_any}
+use Rattle.std.specs.Prelude.{◌&&◌, ◌||◌}
+
+-- ---- the state in which they say the same
+
+abbrev cells : List Cell
+cells = serves (Message_of 0 7 ∷ []) (0 ∷ []) ∷ waits 7 0 7 ∷ a_session ∷ []
+
+-- of each name: the server's, the message's, the session's, or none
+module _ (P : ℕ → Type 0) (server : P 5) (message : P 7) (session : P 2) (none : (n : ℕ) → (5 == n) ≡ false → (7 == n) ≡ false → (2 == n) ≡ false → P n) where
+  by_name : (n : ℕ) → P n
+  by_name n = first (5 == n) refl
+    where
+      third : (b : Bool) → (2 == n) ≡ b → (5 == n) ≡ false → (7 == n) ≡ false → P n
+      third true e f g = subst P (eqb-true 2 n e) session
+      third false e f g = none n f g e
+
+      second : (b : Bool) → (7 == n) ≡ b → (5 == n) ≡ false → P n
+      second true e f = subst P (eqb-true 7 n e) message
+      second false e f = third (2 == n) refl f e
+
+      first : (b : Bool) → (5 == n) ≡ b → P n
+      first true e = subst P (eqb-true 5 n e) server
+      first false e = second (7 == n) refl e
+
+unserved_at : (n : ℕ) → (5 == n) ≡ false → (7 == n) ≡ false → (2 == n) ≡ false → service_of cells n ≡ unserved
+unserved_at n e f g =
+    ap (λ b. cond b (serves (Message_of 0 7 ∷ []) (0 ∷ [])).service (service_of (waits 7 0 7 ∷ a_session ∷ []) n)) e
+    ∙ ap (λ b. cond b (waits 7 0 7).service (service_of (a_session ∷ []) n)) f
+    ∙ ap (λ b. cond b a_session.service unserved) g
+
+-- one number is another, where both tests say so
+both : (a b x y : ℕ) → (((a == x) && (b == y)) || false) ≡ true → (a ≡ x) × (b ≡ y)
+both a b x y e = go (a == x) (b == y) refl refl e
+  where
+    go : (c d : Bool) → (a == x) ≡ c → (b == y) ≡ d → ((c && d) || false) ≡ true → (a ≡ x) × (b ≡ y)
+    go true true f g e = (eqb-true a x f, eqb-true b y g)
+    go true false f g e = cc
+    go false d f g e = cc
+
+one : (x : ℕ) → ((0 == x) || false) ≡ true → 0 ≡ x
+one x e = go (0 == x) refl e
+  where
+    go : (b : Bool) → (0 == x) ≡ b → (b || false) ≡ true → 0 ≡ x
+    go true f e = eqb-true 0 x f
+    go false f e = cc
+
+is_listed : (n c : ℕ) → server_of (client_at opened c) ≡ Some n → has_session (service_of cells n) c ≡ true
+is_listed n zero e = let same : 5 ≡ n = cc in subst (λ k. has_session (service_of cells k) 0 ≡ true) same refl
+is_listed n (suc c) e = cc
+
+has_its_own : (n c : ℕ) → has_session (service_of cells n) c ≡ true → server_of (client_at opened c) ≡ Some n
+has_its_own n c h = by_name (λ k. has_session (service_of cells k) c ≡ true → server_of (client_at opened c) ≡ Some k)
+    (λ h. subst (λ i. server_of (client_at opened i) ≡ Some 5) (one c h) refl) (λ h. cc) (λ h. cc)
+    (λ k e f g h. let clash : false ≡ true = ap (λ v. has_session v c) (sym (unserved_at k e f g)) ∙ h in cc) n h
+
+its_server : (o : Object) → named cells 5 ≡ Some o → is_server an_image o.thing ≡ true
+unfolding class_at kind_in kind_of sessions_in sessions_of
+its_server o there = let same : record { name = 5; thing = keeper } ≡ o = cc in subst (λ (y : Object). is_server an_image y.thing ≡ true) same refl
+
+abbrev HasNone : ℕ → Type 0
+HasNone n = ((service_of cells n).queue ≡ []) × ((service_of cells n).sessions ≡ [])
+
+none_else : (o : Object) → named cells o.name ≡ Some o → is_server an_image o.thing ≡ false → HasNone o.name
+none_else o there plain = by_name (λ n. named cells n ≡ Some o → HasNone n) (λ h. absurd (true≢false (sym (its_server o h) ∙ plain))) (λ h. (refl, refl)) (λ h. (refl, refl))
+    (λ n e f g h. subst (λ v. (v.queue ≡ []) × (v.sessions ≡ [])) (sym (unserved_at n e f g)) (refl, refl)) o.name there
+
+stands_there : (n m : ℕ) (o : Object) → held cells (Elsewhere (Queued n m)) ≡ Some o → o.name ≡ m
+stands_there n m o e = go (5 == n) (7 == m) refl e
+  where
+    go : (b d : Bool) → (7 == m) ≡ d → cond (b && d) (Some (record { name = 7; thing = Message })) None ≡ Some o → o.name ≡ m
+    go true true f e = let same : record { name = 7; thing = Message } ≡ o = cc in ap (λ (y : Object). y.name) (sym same) ∙ eqb-true 7 m f
+    go true false f e = cc
+    go false d f e = cc
+
+sent_so : (n c m : ℕ) → list_any (is_message_of c m) (service_of cells n).queue ≡ true → is_from c (service_of cells m).sender ≡ true
+sent_so n c m h = by_name (λ k. list_any (is_message_of c m) (service_of cells k).queue ≡ true → is_from c (service_of cells m).sender ≡ true)
+    (λ h. let is = both 0 7 c m h in subst (λ i. is_from i (service_of cells m).sender ≡ true) is.0 (subst (λ i. is_from 0 (service_of cells i).sender ≡ true) is.1 refl)) (λ h. cc) (λ h. cc)
+    (λ k e f g h. let clash : false ≡ true = ap (λ v. list_any (is_message_of c m) v.queue) (sym (unserved_at k e f g)) ∙ h in cc) n h
+
+seats_so : (o : Object) → named cells o.name ≡ Some o → seats_taken (service_of cells o.name) ≤ most_of (thing_kind an_image o.thing)
+unfolding class_at kind_in kind_of
+seats_so o there = by_name (λ n. named cells n ≡ Some o → seats_taken (service_of cells n) ≤ most_of (thing_kind an_image o.thing))
+    (λ h. let same : record { name = 5; thing = keeper } ≡ o = cc in subst (λ (y : Object). 1 ≤ most_of (thing_kind an_image y.thing)) same (omega arith)) (λ h. omega arith) (λ h. omega arith)
+    (λ n e f g h. omega (arith, ap seats_taken (unserved_at n e f g))) o.name there
+
+they_fit : Fit opened cells
+they_fit = record {
+  queues = by_name (λ n. QueueFits opened n (service_of cells n).queue) ((refl, refl), tt) tt tt (λ n e f g. subst (λ v. QueueFits opened n v.queue) (sym (unserved_at n e f g)) tt);
+  sessions = has_its_own;
+  listed = is_listed;
+  servers = none_else;
+  names = stands_there;
+  senders = sent_so;
+  seats = seats_so;
+}
+
+-- ---- and those in which they do not
+
+pub kept_bites : KeptBites
+unfolding class_at kind_in kind_of sessions_in sessions_of
+kept_bites = record {
+  kept = they_fit;
+  twice_connected = λ fit. let clash : true ≡ false = (fit.queues 5).0.1 in cc;
+  twice_closed = λ fit. let clash : true ≡ false = (fit.queues 5).0.1 in cc;
+  twice_sent = λ fit. let clash : true ≡ false = (fit.queues 5).0.1 in cc;
+  connects_nowhere = λ fit. let clash : false ≡ true = (fit.queues 5).0.0 in cc;
+  connects_elsewhere = λ fit. let clash : false ≡ true = (fit.queues 5).0.0 in cc;
+  sends_while_closing = λ fit. let clash : false ≡ true = (fit.queues 5).0.0 in cc;
+  closes_while_open = λ fit. let clash : false ≡ true = (fit.queues 5).0.0 in cc;
+  session_of_nobody = λ fit. let clash : None ≡ Some 5 = fit.sessions 5 0 refl in cc;
+  session_not_listed = λ fit. let clash : false ≡ true = fit.listed 5 0 refl in cc;
+  plain_queue = λ fit. let clash : Connect_of 0 ∷ [] ≡ [] = (fit.servers (record { name = 5; thing = pair }) refl refl).0 in cc;
+  plain_sessions = λ fit. let clash : 0 ∷ [] ≡ [] = (fit.servers (record { name = 5; thing = pair }) refl refl).1 in cc;
+  misplaced = λ fit. let clash : 7 ≡ 8 = fit.names 5 8 (record { name = 7; thing = Message }) refl in omega arith;
+  sent_by_another = λ fit. let clash : false ≡ true = fit.senders 5 0 7 refl in cc;
+  too_many = λ fit. let many : 2 ≤ 1 = fit.seats (record { name = 5; thing = keeper }) refl in omega arith;
+  accepts = (refl, refl, omega arith);
+  accepts_nobody = λ k. let clash : false ≡ true = k.0 in cc;
+  accepts_again = λ k. let clash : true ≡ false = k.1 in cc;
+  accepts_too_many = λ k. let many : 1 < 1 = k.2 in omega arith;
+  leaves_nobody = λ k. let clash : false ≡ true = k.0 in cc;
+  parts = (refl, refl);
+  parts_with_nobody = λ k. let clash : false ≡ true = k.0 in cc;
+  parts_again = λ k. let clash : true ≡ false = k.1 in cc;
+}

@@ -1,0 +1,176 @@
+-- A message that a client sends is well typed in the queue of its server.
+use Rattle.std.proofs.Common.{Bool, List, None, Some, [], ap, cond, false, refl, subst, sym, true, ℕ, ◌&&◌, ◌==◌, ◌∙◌, ◌∷◌, ◌≡◌}
+use Rattle.std.proofs.lemmas.Bool.{eq-eqb, eqb-true, ne_eqb}
+use Rattle.std.proofs.lemmas.List.Folds.{list_any-append}
+use Rattle.std.specs.List.{list_any}
+use Rattle.std.specs.Prelude.{◌||◌}
+use Rattle.aom_image.specs.Image.{Image}
+use Rattle.aom_image.specs.declared.method.Thing.TheVariants.{Message}
+use Rattle.aom_rules.specs.Typing.{Typing}
+use Rattle.aom_roles.specs.Shapes.{kind_of}
+use Rattle.aom_shape.specs.Kinds.{filled}
+use Rattle.aom_shape.specs.declared.kind.Age.TheVariants.{Ready}
+use Rattle.aom_shape.specs.declared.kind.Filling.TheVariants.{Full}
+use Rattle.aom_shape.specs.declared.kind.Kind.TheVariants.{Null, Own}
+use Rattle.aom_sound.proofs.Claimed.{declared_ready}
+use Rattle.aom_sound.proofs.ClientsFit.{by_server}
+use Rattle.aom_sound.proofs.Picking.{fits_ready}
+use Rattle.aom_sound.proofs.Services.{held_served, named_served, requested_served, service_here, service_unnamed, tidy_served}
+use Rattle.aom_sound.proofs.Straight.{fits_unowning}
+use Rattle.aom_sound.proofs.Things.{stands_itself}
+use Rattle.aom_sound.specs.Claims.{declared, declared_field}
+use Rattle.aom_sound.specs.Places.{Cell, Elsewhere, Entry, Field, Going, In_service, Message_of, Object, Place, Queued, Register, Root, Session, Tidy, held, named, requested, same_place, seen, service_of}
+use Rattle.aom_sound.specs.Requests.{AllSuit, Suits, resting_in, rests_in, thing_kind}
+use Rattle.aom_sound.specs.Servers.{asked_last, has_message, has_session, is_message, is_server, message_thing, reserved, session_thing}
+use Rattle.aom_sound.specs.WellTyped.{Fits, Good}
+
+-- a message is not enlisted
+plain : (p : Image) (y : Object) → y.thing ≡ Message → Suits (thing_kind p y.thing) (resting_in (rests_in p y)) None
+unfolding kind_of
+plain p y e = subst (λ x. Suits (thing_kind p x) (resting_in (rests_in p y)) None) (sym e) refl
+
+-- the message, with nothing in its queue, no session and no request, in the queue of that server
+module _ (p : Image) (t : Typing) (cs : List Cell) (good : Good p t cs []) (o : Object) (lives : named cs o.name ≡ Some o) (server : is_server p o.thing ≡ true) (c name : ℕ) (free : named cs name ≡ None)
+    (message : Cell) (named_so : message.object ≡ record { name = name; thing = Message }) (no_request : message.request ≡ None) (no_queue : message.service.queue ≡ []) (no_session : message.service.sessions ≡ []) (owner : message.owner ≡ Elsewhere (Queued o.name name))
+    (none_waits : has_message (service_of cs o.name) name ≡ false) where
+  abbrev rest : List Cell
+  rest = reserved (asked_last (Message_of c name)) o.name cs
+
+  abbrev then : List Cell
+  then = message ∷ rest
+
+  name_is : message.object.name ≡ name
+  name_is = ap (λ y. y.name) named_so
+
+  held_rest : (q : Place) → held rest q ≡ held cs q
+  held_rest q = held_served cs o.name (asked_last (Message_of c name) (service_of cs o.name)) q
+
+  named_rest : (n : ℕ) → named rest n ≡ named cs n
+  named_rest n = named_served cs o.name (asked_last (Message_of c name) (service_of cs o.name)) n
+
+  held_then : (q : Place) → held then q ≡ cond (same_place (Elsewhere (Queued o.name name)) q) (Some message.object) (held cs q)
+  held_then q = ap (λ r. cond (same_place r q) (Some message.object) (held rest q)) owner ∙ ap (λ y. cond (same_place (Elsewhere (Queued o.name name)) q) (Some message.object) y) (held_rest q)
+
+  named_then : (n : ℕ) → named then n ≡ cond (name == n) (Some message.object) (named cs n)
+  named_then n = ap (λ k. cond (k == n) (Some message.object) (named rest n)) name_is ∙ ap (λ y. cond (name == n) (Some message.object) y) (named_rest n)
+
+  service_then : (n : ℕ) → service_of then n ≡ cond (name == n) message.service (service_of rest n)
+  service_then n = ap (λ k. cond (k == n) message.service (service_of rest n)) name_is
+
+  -- of a name that is another all is as it was, but the message waits
+  sessions_then : (n d : ℕ) → has_session (service_of then n) d ≡ has_session (service_of cs n) d
+  sessions_then n d = ap (λ v. has_session v d) (service_then n) ∙ go (name == n) refl
+    where
+      go : (b : Bool) → (name == n) ≡ b → has_session (cond b message.service (service_of rest n)) d ≡ has_session (service_of cs n) d
+      go true e = ap (λ xs. list_any (λ k. k == d) xs) no_session ∙ sym (ap (λ v. has_session v d) (ap (λ k. service_of cs k) (sym (eqb-true name n e)) ∙ service_unnamed cs name free))
+      go false e = by_server p cs o lives (asked_last (Message_of c name)) (λ n v. has_session v d ≡ has_session (service_of cs n) d) refl (λ n other. refl) n
+
+  or_false : (b : Bool) → (b || false) ≡ b
+  or_false true = refl
+  or_false false = refl
+
+  messages_then : (n m : ℕ) → ((o.name == n) && (name == m)) ≡ false → has_message (service_of then n) m ≡ has_message (service_of cs n) m
+  messages_then n m other = ap (λ v. has_message v m) (service_then n) ∙ go (name == n) refl
+    where
+      go : (b : Bool) → (name == n) ≡ b → has_message (cond b message.service (service_of rest n)) m ≡ has_message (service_of cs n) m
+      go true e = ap (λ q. list_any (λ x. is_message m x) q) no_queue ∙ sym (ap (λ v. has_message v m) (ap (λ k. service_of cs k) (sym (eqb-true name n e)) ∙ service_unnamed cs name free))
+      go false e = by_server p cs o lives (asked_last (Message_of c name)) (λ n v. ((o.name == n) && (name == m)) ≡ false → has_message v m ≡ has_message (service_of cs n) m)
+          (λ other. list_any-append (λ x. is_message m x) (service_of cs o.name).queue (Message_of c name ∷ []) ∙ ap (λ b. list_any (λ x. is_message m x) (service_of cs o.name).queue || (b || false)) (sym (ap (λ b. b && (name == m)) (eq-eqb o.name o.name refl)) ∙ other) ∙ or_false (list_any (λ x. is_message m x) (service_of cs o.name).queue))
+          (λ n apart same. refl) n other
+
+  other_name : (name == o.name) ≡ false
+  other_name = ne_eqb name o.name (λ same. let clash : Some o ≡ None = sym lives ∙ ap (λ k. named cs k) (sym same) ∙ free in cc)
+
+  -- it waits now
+  waits : has_message (service_of then o.name) name ≡ true
+  waits =
+      ap (λ v. has_message v name) (service_then o.name ∙ ap (λ b. cond b message.service (service_of rest o.name)) other_name ∙ service_here cs o.name (asked_last (Message_of c name) (service_of cs o.name)) o lives)
+      ∙ list_any-append (λ x. is_message name x) (service_of cs o.name).queue (Message_of c name ∷ [])
+      ∙ ap (λ b. list_any (λ x. is_message name x) (service_of cs o.name).queue || (b || false)) (eq-eqb name name refl)
+      ∙ or_true (list_any (λ x. is_message name x) (service_of cs o.name).queue)
+    where
+      or_true : (b : Bool) → (b || true) ≡ true
+      or_true true = refl
+      or_true false = refl
+
+  base : (q : Place) → Fits p (seen then) (held cs q) (declared p cs q)
+  base q = fits_ready p (seen cs) (seen then) (held cs q) (declared p cs q) (declared_ready p cs q) (good.fits q)
+
+  there_still : (q : Place) → held then q ≡ held cs q → declared p then q ≡ declared p cs q → Fits p (seen then) (held then q) (declared p then q)
+  there_still q places kinds = subst (λ y. Fits p (seen then) y (declared p then q)) (sym places) (subst (λ k. Fits p (seen then) (held cs q) k) (sym kinds) (base q))
+
+  -- the message has no fields
+  fields_then : (n f : ℕ) → declared_field p (named then n) f ≡ declared_field p (named cs n) f
+  fields_then n f = ap (λ y. declared_field p y f) (named_then n) ∙ go (name == n) refl
+    where
+      go : (b : Bool) → (name == n) ≡ b → declared_field p (cond b (Some message.object) (named cs n)) f ≡ declared_field p (named cs n) f
+      go true e = ap (λ y. declared_field p (Some y) f) named_so ∙ sym (ap (λ y. declared_field p y f) (ap (λ k. named cs k) (sym (eqb-true name n e)) ∙ free))
+      go false e = refl
+
+  session_kind : (n d : ℕ) → declared p then (Elsewhere (Session n d)) ≡ declared p cs (Elsewhere (Session n d))
+  session_kind n d = ap (λ b. cond b (filled (session_thing p (named then n)) Full) Null) (sessions_then n d) ∙ ap (λ y. cond (has_session (service_of cs n) d) (filled (session_thing p y) Full) Null) (named_then n) ∙ go (name == n) refl
+    where
+      go : (b : Bool) → (name == n) ≡ b → cond (has_session (service_of cs n) d) (filled (session_thing p (cond b (Some message.object) (named cs n))) Full) Null ≡ cond (has_session (service_of cs n) d) (filled (session_thing p (named cs n)) Full) Null
+      go false e = refl
+      go true e =
+          let none : has_session (service_of cs n) d ≡ false = ap (λ v. has_session v d) (ap (λ k. service_of cs k) (sym (eqb-true name n e)) ∙ service_unnamed cs name free) in
+          ap (λ b. cond b (filled (session_thing p (Some message.object)) Full) Null) none ∙ sym (ap (λ b. cond b (filled (session_thing p (named cs n)) Full) Null) none)
+
+  queue_kind : (n m : ℕ) → ((o.name == n) && (name == m)) ≡ false → declared p then (Elsewhere (Queued n m)) ≡ declared p cs (Elsewhere (Queued n m))
+  queue_kind n m other = ap (λ b. cond b (filled (message_thing p (named then n)) Full) Null) (messages_then n m other) ∙ ap (λ y. cond (has_message (service_of cs n) m) (filled (message_thing p y) Full) Null) (named_then n) ∙ go (name == n) refl
+    where
+      go : (b : Bool) → (name == n) ≡ b → cond (has_message (service_of cs n) m) (filled (message_thing p (cond b (Some message.object) (named cs n))) Full) Null ≡ cond (has_message (service_of cs n) m) (filled (message_thing p (named cs n)) Full) Null
+      go false e = refl
+      go true e =
+          let none : has_message (service_of cs n) m ≡ false = ap (λ v. has_message v m) (ap (λ k. service_of cs k) (sym (eqb-true name n e)) ∙ service_unnamed cs name free) in
+          ap (λ b. cond b (filled (message_thing p (Some message.object)) Full) Null) none ∙ sym (ap (λ b. cond b (filled (message_thing p (named cs n)) Full) Null) none)
+
+  both : (a b : Bool) → (a && b) ≡ true → (a ≡ true) × (b ≡ true)
+  both true true e = (refl, refl)
+  both true false e = cc
+  both false b e = cc
+
+  own_kind : declared p then (Elsewhere (Queued o.name name)) ≡ Own Message Ready
+  own_kind =
+      ap (λ b. cond b (filled (message_thing p (named then o.name)) Full) Null) waits
+      ∙ ap (λ y. filled (message_thing p y) Full) (named_then o.name ∙ ap (λ b. cond b (Some message.object) (named cs o.name)) other_name ∙ lives)
+      ∙ ap (λ b. filled (cond b (Some Message) None) Full) server
+
+  fits : (q : Place) → Fits p (seen then) (held then q) (declared p then q)
+  fits (Register f i) = there_still (Register f i) (held_then (Register f i)) refl
+  fits (Entry k) = there_still (Entry k) (held_then (Entry k)) refl
+  fits (Field n f) = there_still (Field n f) (held_then (Field n f)) (fields_then n f)
+  fits (Going k) = there_still (Going k) (held_then (Going k)) refl
+  fits (Elsewhere Root) = there_still (Elsewhere Root) (held_then (Elsewhere Root)) refl
+  fits (Elsewhere In_service) = there_still (Elsewhere In_service) (held_then (Elsewhere In_service)) refl
+  fits (Elsewhere (Session n d)) = there_still (Elsewhere (Session n d)) (held_then (Elsewhere (Session n d))) (session_kind n d)
+  fits (Elsewhere (Queued n m)) = go ((o.name == n) && (name == m)) refl
+    where
+      go : (b : Bool) → ((o.name == n) && (name == m)) ≡ b → Fits p (seen then) (held then (Elsewhere (Queued n m))) (declared p then (Elsewhere (Queued n m)))
+      go false e = there_still (Elsewhere (Queued n m)) (held_then (Elsewhere (Queued n m)) ∙ ap (λ b. cond b (Some message.object) (held cs (Elsewhere (Queued n m)))) e) (queue_kind n m e)
+      go true e =
+          let parts = both (o.name == n) (name == m) e in
+          let place : Elsewhere (Queued n m) ≡ Elsewhere (Queued o.name name) = ap (λ k. Elsewhere (Queued k m)) (sym (eqb-true o.name n parts.0)) ∙ ap (λ k. Elsewhere (Queued o.name k)) (sym (eqb-true name m parts.1)) in
+          subst (λ y. Fits p (seen then) y (declared p then (Elsewhere (Queued n m)))) (sym (held_then (Elsewhere (Queued n m)) ∙ ap (λ b. cond b (Some message.object) (held cs (Elsewhere (Queued n m)))) e))
+          (subst (λ k. Fits p (seen then) (Some message.object) k) (sym (ap (λ q. declared p then q) place ∙ own_kind)) (subst (λ y. Fits p (seen then) (Some y) (Own Message Ready)) (sym named_so) (stands_itself p Message, tt)))
+
+  tidy : Tidy then
+  tidy = (
+    ap (λ q. held rest q) owner ∙ held_rest (Elsewhere (Queued o.name name)) ∙ fits_unowning p (seen cs) _ Null refl (subst (λ k. Fits p (seen cs) (held cs (Elsewhere (Queued o.name name))) k) (ap (λ b. cond b (filled (message_thing p (named cs o.name)) Full) Null) none_waits) (good.fits (Elsewhere (Queued o.name name)))),
+    ap (λ n. named rest n) name_is ∙ named_rest name ∙ free,
+    tidy_served cs o.name (asked_last (Message_of c name) (service_of cs o.name)) good.tidy,
+  )
+
+  suits : AllSuit p then []
+  suits y lives' = go (name == y.name) refl (sym (named_then y.name) ∙ lives')
+    where
+      go : (b : Bool) → (name == y.name) ≡ b → cond b (Some message.object) (named cs y.name) ≡ Some y → Suits (thing_kind p y.thing) (resting_in (rests_in p y)) (requested then y.name)
+      go true e same =
+          let one : message.object ≡ y = cc in
+          let asked : requested then y.name ≡ None = ap (λ k. cond (k == y.name) message.request (requested rest y.name)) name_is ∙ ap (λ b. cond b message.request (requested rest y.name)) e ∙ no_request in
+          subst (λ r. Suits (thing_kind p y.thing) (resting_in (rests_in p y)) r) (sym asked) (plain p y (ap (λ z. z.thing) (sym one) ∙ ap (λ z. z.thing) named_so))
+      go false e there = subst (λ r. Suits (thing_kind p y.thing) (resting_in (rests_in p y)) r)
+          (sym (ap (λ k. cond (k == y.name) message.request (requested rest y.name)) name_is ∙ ap (λ b. cond b message.request (requested rest y.name)) e ∙ requested_served cs o.name (asked_last (Message_of c name) (service_of cs o.name)) y.name)) (good.suits y there)
+
+  pub good_sent : Good p t then []
+  good_sent = record { stack = refl; fits = fits; suits = suits; tidy = tidy }

@@ -1,0 +1,225 @@
+-- Cells of which some go, and at the others clients have something else: by the cells one after another.
+use Rattle.std.proofs.Common.{Bool, List, None, Option, Some, [], ap, cond, false, refl, subst, sym, true, ℕ, ◌&&◌, ◌==◌, ◌∙◌, ◌∷◌, ◌≡◌}
+use Rattle.std.proofs.lemmas.Bool.{eq-eqb, eqb-true}
+use Rattle.aom_sound.proofs.Maps.{same_place-true, same_place_refl}
+use Rattle.aom_sound.specs.Places.{Cell, Object, Place, Request, Service, Tidy, held, named, requested, same_place, service_of, unserved}
+use Rattle.aom_sound.specs.Servers.{all_unslotted, is_from, is_queue, is_queue_of, left_by, unslotted, without_queue, withdrawn}
+
+-- ---- the cell in a place, and the cell of a name
+
+abbrev pub cell_in : List Cell → Place → Option Cell
+cell_in [] q = None
+cell_in (c ∷ cs) q = cond (same_place c.owner q) (Some c) (cell_in cs q)
+
+abbrev pub cell_of : List Cell → ℕ → Option Cell
+cell_of [] n = None
+cell_of (c ∷ cs) n = cond (c.object.name == n) (Some c) (cell_of cs n)
+
+abbrev pub object_in : Option Cell → Option Object
+object_in None = None
+object_in (Some c) = Some c.object
+
+abbrev pub request_in : Option Cell → Option Request
+request_in None = None
+request_in (Some c) = c.request
+
+abbrev pub service_in : Option Cell → Service
+service_in None = unserved
+service_in (Some c) = c.service
+
+pub held_cell : (cs : List Cell) (q : Place) → held cs q ≡ object_in (cell_in cs q)
+held_cell [] q = refl
+held_cell (c ∷ cs) q = go (same_place c.owner q) (held_cell cs q)
+  where
+    go : (b : Bool) → held cs q ≡ object_in (cell_in cs q) → cond b (Some c.object) (held cs q) ≡ object_in (cond b (Some c) (cell_in cs q))
+    go true e = refl
+    go false e = e
+
+pub named_cell : (cs : List Cell) (n : ℕ) → named cs n ≡ object_in (cell_of cs n)
+named_cell [] n = refl
+named_cell (c ∷ cs) n = go (c.object.name == n) (named_cell cs n)
+  where
+    go : (b : Bool) → named cs n ≡ object_in (cell_of cs n) → cond b (Some c.object) (named cs n) ≡ object_in (cond b (Some c) (cell_of cs n))
+    go true e = refl
+    go false e = e
+
+pub requested_cell : (cs : List Cell) (n : ℕ) → requested cs n ≡ request_in (cell_of cs n)
+requested_cell [] n = refl
+requested_cell (c ∷ cs) n = go (c.object.name == n) (requested_cell cs n)
+  where
+    go : (b : Bool) → requested cs n ≡ request_in (cell_of cs n) → cond b c.request (requested cs n) ≡ request_in (cond b (Some c) (cell_of cs n))
+    go true e = refl
+    go false e = e
+
+pub service_cell : (cs : List Cell) (n : ℕ) → service_of cs n ≡ service_in (cell_of cs n)
+service_cell [] n = refl
+service_cell (c ∷ cs) n = go (c.object.name == n) (service_cell cs n)
+  where
+    go : (b : Bool) → service_of cs n ≡ service_in (cell_of cs n) → cond b c.service (service_of cs n) ≡ service_in (cond b (Some c) (cell_of cs n))
+    go true e = refl
+    go false e = e
+
+pub no_cell : (x : Option Cell) → object_in x ≡ None → x ≡ None
+no_cell None e = refl
+no_cell (Some c) e = cc
+
+pub a_cell_of : (x : Option Cell) (o : Object) → object_in x ≡ Some o → (c : Cell) × (x ≡ Some c) × (c.object ≡ o)
+a_cell_of None o e = cc
+a_cell_of (Some c) o e = (c, refl, cc)
+
+pub cell_owner : (cs : List Cell) (q : Place) (c : Cell) → cell_in cs q ≡ Some c → c.owner ≡ q
+cell_owner [] q c e = cc
+cell_owner (x ∷ cs) q c e = go (same_place x.owner q) refl (cell_owner cs q c) e
+  where
+    go : (b : Bool) → same_place x.owner q ≡ b → (cell_in cs q ≡ Some c → c.owner ≡ q) → cond b (Some x) (cell_in cs q) ≡ Some c → c.owner ≡ q
+    go true f later e = let same : x ≡ c = cc in subst (λ y. y.owner ≡ q) same (same_place-true x.owner q f)
+    go false f later e = later e
+
+pub cell_name : (cs : List Cell) (n : ℕ) (c : Cell) → cell_of cs n ≡ Some c → c.object.name ≡ n
+cell_name [] n c e = cc
+cell_name (x ∷ cs) n c e = go (x.object.name == n) refl (cell_name cs n c) e
+  where
+    go : (b : Bool) → (x.object.name == n) ≡ b → (cell_of cs n ≡ Some c → c.object.name ≡ n) → cond b (Some x) (cell_of cs n) ≡ Some c → c.object.name ≡ n
+    go true f later e = let same : x ≡ c = cc in subst (λ y. y.object.name ≡ n) same (eqb-true x.object.name n f)
+    go false f later e = later e
+
+-- what stands in a place is of its name, and stands in its owner's place
+pub cell_lives : (cs : List Cell) (q : Place) (c : Cell) → Tidy cs → cell_in cs q ≡ Some c → cell_of cs c.object.name ≡ Some c
+cell_lives [] q c t e = cc
+cell_lives (x ∷ cs) q c t e = go (same_place x.owner q) (x.object.name == c.object.name) refl (cell_lives cs q c t.2) e
+  where
+    go : (b d : Bool) → (x.object.name == c.object.name) ≡ d → (cell_in cs q ≡ Some c → cell_of cs c.object.name ≡ Some c) → cond b (Some x) (cell_in cs q) ≡ Some c → cond d (Some x) (cell_of cs c.object.name) ≡ Some c
+    go true d f later e =
+        let same : x ≡ c = cc in
+        let here : (x.object.name == c.object.name) ≡ true = eq-eqb x.object.name c.object.name (ap (λ y. y.object.name) same) in
+        ap (λ z. cond z (Some x) (cell_of cs c.object.name)) (sym f ∙ here) ∙ ap (λ y. Some y) same
+    go false true f later e =
+        let none : cell_of cs c.object.name ≡ None = ap (λ n. cell_of cs n) (sym (eqb-true x.object.name c.object.name f)) ∙ no_cell (cell_of cs x.object.name) (sym (named_cell cs x.object.name) ∙ t.1) in
+        let clash : Some c ≡ None = sym (later e) ∙ none in
+        cc
+    go false false f later e = later e
+
+pub cell_placed : (cs : List Cell) (n : ℕ) (c : Cell) → Tidy cs → cell_of cs n ≡ Some c → cell_in cs c.owner ≡ Some c
+cell_placed [] n c t e = cc
+cell_placed (x ∷ cs) n c t e = go (x.object.name == n) (same_place x.owner c.owner) refl (cell_placed cs n c t.2) e
+  where
+    go : (b d : Bool) → same_place x.owner c.owner ≡ d → (cell_of cs n ≡ Some c → cell_in cs c.owner ≡ Some c) → cond b (Some x) (cell_of cs n) ≡ Some c → cond d (Some x) (cell_in cs c.owner) ≡ Some c
+    go true d f later e =
+        let same : x ≡ c = cc in
+        let here : same_place x.owner c.owner ≡ true = ap (λ y. same_place x.owner y.owner) (sym same) ∙ same_place_refl x.owner in
+        ap (λ z. cond z (Some x) (cell_in cs c.owner)) (sym f ∙ here) ∙ ap (λ y. Some y) same
+    go false true f later e =
+        let none : cell_in cs c.owner ≡ None = ap (λ q. cell_in cs q) (sym (same_place-true x.owner c.owner f)) ∙ no_cell (cell_in cs x.owner) (sym (held_cell cs x.owner) ∙ t.0) in
+        let clash : Some c ≡ None = sym (later e) ∙ none in
+        cc
+    go false false f later e = later e
+
+-- ---- some go
+
+abbrev pub sifted : (Cell → Bool) → (Cell → Service) → List Cell → List Cell
+sifted drops f [] = []
+sifted drops f (c ∷ cs) = cond (drops c) (sifted drops f cs) (record c { service = f c } ∷ sifted drops f cs)
+
+module _ (drops : Cell → Bool) (f : Cell → Service) where
+  abbrev pub kept : Option Cell → Option Cell
+  kept None = None
+  kept (Some c) = cond (drops c) None (Some (record c { service = f c }))
+
+  pub cell_in_sifted : (cs : List Cell) (q : Place) → Tidy cs → cell_in (sifted drops f cs) q ≡ kept (cell_in cs q)
+  cell_in_sifted [] q t = refl
+  cell_in_sifted (c ∷ cs) q t = go (drops c) (same_place c.owner q) refl refl (cell_in_sifted cs q t.2)
+    where
+      alone : same_place c.owner q ≡ true → cell_in cs q ≡ None
+      alone e = no_cell (cell_in cs q) (sym (held_cell cs q) ∙ ap (λ r. held cs r) (sym (same_place-true c.owner q e)) ∙ t.0)
+
+      go :
+          (d b : Bool) → drops c ≡ d → same_place c.owner q ≡ b → cell_in (sifted drops f cs) q ≡ kept (cell_in cs q) →
+          cell_in (cond d (sifted drops f cs) (record c { service = f c } ∷ sifted drops f cs)) q ≡ kept (cond b (Some c) (cell_in cs q))
+      go true true ed eb ih = ih ∙ ap kept (alone eb) ∙ sym (ap (λ x. cond x None (Some (record c { service = f c }))) ed)
+      go true false ed eb ih = ih
+      go false true ed eb ih = ap (λ x. cond x (Some (record c { service = f c })) (cell_in (sifted drops f cs) q)) eb ∙ sym (ap (λ x. cond x None (Some (record c { service = f c }))) ed)
+      go false false ed eb ih = ap (λ x. cond x (Some (record c { service = f c })) (cell_in (sifted drops f cs) q)) eb ∙ ih
+
+  pub cell_of_sifted : (cs : List Cell) (n : ℕ) → Tidy cs → cell_of (sifted drops f cs) n ≡ kept (cell_of cs n)
+  cell_of_sifted [] n t = refl
+  cell_of_sifted (c ∷ cs) n t = go (drops c) (c.object.name == n) refl refl (cell_of_sifted cs n t.2)
+    where
+      alone : (c.object.name == n) ≡ true → cell_of cs n ≡ None
+      alone e = no_cell (cell_of cs n) (sym (named_cell cs n) ∙ ap (λ r. named cs r) (sym (eqb-true c.object.name n e)) ∙ t.1)
+
+      go :
+          (d b : Bool) → drops c ≡ d → (c.object.name == n) ≡ b → cell_of (sifted drops f cs) n ≡ kept (cell_of cs n) →
+          cell_of (cond d (sifted drops f cs) (record c { service = f c } ∷ sifted drops f cs)) n ≡ kept (cond b (Some c) (cell_of cs n))
+      go true true ed eb ih = ih ∙ ap kept (alone eb) ∙ sym (ap (λ x. cond x None (Some (record c { service = f c }))) ed)
+      go true false ed eb ih = ih
+      go false true ed eb ih = ap (λ x. cond x (Some (record c { service = f c })) (cell_of (sifted drops f cs) n)) eb ∙ sym (ap (λ x. cond x None (Some (record c { service = f c }))) ed)
+      go false false ed eb ih = ap (λ x. cond x (Some (record c { service = f c })) (cell_of (sifted drops f cs) n)) eb ∙ ih
+
+  pub tidy_sifted : (cs : List Cell) → Tidy cs → Tidy (sifted drops f cs)
+  tidy_sifted [] t = tt
+  tidy_sifted (c ∷ cs) t = go (drops c) (tidy_sifted cs t.2)
+    where
+      unheld : held (sifted drops f cs) c.owner ≡ None
+      unheld = held_cell (sifted drops f cs) c.owner ∙ ap object_in (cell_in_sifted cs c.owner t.2 ∙ ap kept (no_cell (cell_in cs c.owner) (sym (held_cell cs c.owner) ∙ t.0)))
+
+      unnamed : named (sifted drops f cs) c.object.name ≡ None
+      unnamed = named_cell (sifted drops f cs) c.object.name ∙ ap object_in (cell_of_sifted cs c.object.name t.2 ∙ ap kept (no_cell (cell_of cs c.object.name) (sym (named_cell cs c.object.name) ∙ t.1)))
+
+      go : (d : Bool) → Tidy (sifted drops f cs) → Tidy (cond d (sifted drops f cs) (record c { service = f c } ∷ sifted drops f cs))
+      go true ih = ih
+      go false ih = (unheld, unnamed, ih)
+
+  -- what a place held goes or stays
+  pub held_sifted : (cs : List Cell) (q : Place) → Tidy cs → (c : Cell) → cell_in cs q ≡ Some c → held (sifted drops f cs) q ≡ cond (drops c) None (Some c.object)
+  held_sifted cs q t c e = held_cell (sifted drops f cs) q ∙ ap object_in (cell_in_sifted cs q t ∙ ap kept e) ∙ go (drops c)
+    where
+      go : (d : Bool) → object_in (cond d None (Some (record c { service = f c }))) ≡ cond d None (Some c.object)
+      go true = refl
+      go false = refl
+
+  pub unheld_sifted : (cs : List Cell) (q : Place) → Tidy cs → held cs q ≡ None → held (sifted drops f cs) q ≡ None
+  unheld_sifted cs q t e = held_cell (sifted drops f cs) q ∙ ap object_in (cell_in_sifted cs q t ∙ ap kept (no_cell (cell_in cs q) (sym (held_cell cs q) ∙ e)))
+
+  -- where it stays, the rest of its cell stays too
+  module _ (cs : List Cell) (t : Tidy cs) (n : ℕ) (c : Cell) (here : cell_of cs n ≡ Some c) (stays : drops c ≡ false) where
+    is_there : cell_of (sifted drops f cs) n ≡ Some (record c { service = f c })
+    is_there = cell_of_sifted cs n t ∙ ap kept here ∙ ap (λ d. cond d None (Some (record c { service = f c }))) stays
+
+    pub named_sifted : named (sifted drops f cs) n ≡ Some c.object
+    named_sifted = named_cell (sifted drops f cs) n ∙ ap object_in is_there
+
+    pub requested_sifted : requested (sifted drops f cs) n ≡ c.request
+    requested_sifted = requested_cell (sifted drops f cs) n ∙ ap request_in is_there
+
+    pub service_sifted : service_of (sifted drops f cs) n ≡ f c
+    service_sifted = service_cell (sifted drops f cs) n ∙ ap service_in is_there
+
+  -- and what is named then was named, and stays
+  pub named_before : (cs : List Cell) (n : ℕ) (o : Object) → Tidy cs → named (sifted drops f cs) n ≡ Some o → (c : Cell) × (cell_of cs n ≡ Some c) × (c.object ≡ o) × (drops c ≡ false)
+  named_before cs n o t e = go (cell_of cs n) refl (sym (ap object_in (cell_of_sifted cs n t)) ∙ sym (named_cell (sifted drops f cs) n) ∙ e)
+    where
+      at : (c : Cell) → cell_of cs n ≡ Some c → (d : Bool) → drops c ≡ d → object_in (cond d None (Some (record c { service = f c }))) ≡ Some o → (c : Cell) × (cell_of cs n ≡ Some c) × (c.object ≡ o) × (drops c ≡ false)
+      at c there true ed e = cc
+      at c there false ed e = (c, there, cc, ed)
+
+      go : (x : Option Cell) → cell_of cs n ≡ x → object_in (kept x) ≡ Some o → (c : Cell) × (cell_of cs n ≡ Some c) × (c.object ≡ o) × (drops c ≡ false)
+      go None there e = cc
+      go (Some c) there e = at c there (drops c) refl e
+
+  -- of what is not there then nothing is served
+  pub service_gone : (cs : List Cell) (n : ℕ) → Tidy cs → (c : Cell) → cell_of cs n ≡ Some c → drops c ≡ true → service_of (sifted drops f cs) n ≡ unserved
+  service_gone cs n t c here goes = service_cell (sifted drops f cs) n ∙ ap service_in (cell_of_sifted cs n t ∙ ap kept here ∙ ap (λ d. cond d None (Some (record c { service = f c }))) goes)
+
+-- ---- the changes of servers and clients are such
+
+pub withdrawn_so : (client : ℕ) (cs : List Cell) → withdrawn client cs ≡ sifted (λ c. is_queue c.owner && is_from client c.service.sender) (λ c. left_by client c.service) cs
+withdrawn_so client [] = refl
+withdrawn_so client (c ∷ cs) = ap (λ l. cond (is_queue c.owner && is_from client c.service.sender) l (record c { service = left_by client c.service } ∷ l)) (withdrawn_so client cs)
+
+pub unqueued_so : (n : ℕ) (cs : List Cell) → without_queue n cs ≡ sifted (λ c. is_queue_of n c.owner) (λ c. c.service) cs
+unqueued_so n [] = refl
+unqueued_so n (c ∷ cs) = ap (λ l. cond (is_queue_of n c.owner) l (c ∷ l)) (unqueued_so n cs)
+
+pub unslotted_so : (client : ℕ) (cs : List Cell) → all_unslotted client cs ≡ sifted (λ c. false) (λ c. record c.service { sender = unslotted client c.service.sender }) cs
+unslotted_so client [] = refl
+unslotted_so client (c ∷ cs) = ap (λ l. record c { service = record c.service { sender = unslotted client c.service.sender } } ∷ l) (unslotted_so client cs)

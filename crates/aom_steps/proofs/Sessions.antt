@@ -1,0 +1,218 @@
+-- A server pays for the sessions with it that are there: they are no more than it may have, and each is of their class.
+use Rattle.std.proofs.Common.{◌≡◌, ◌≤◌, ◌+◌, ◌*◌, ◌∙◌, ℕ, suc, Bool, true, false, cond, List, [], ◌∷◌, length, Option, Some, None, refl, sym, ap, arith, subst}
+use Rattle.std.specs.Prelude.{filter, is_some, not, ◌==◌, ◌&&◌, ◌||◌}
+use Rattle.std.proofs.lemmas.Bool.{eqb-true, ne_eqb}
+use Rattle.std.proofs.Math.Nat.{mul-le-mul_right}
+use Rattle.aom_image.specs.Image.{Image}
+use Rattle.aom_image.specs.declared.class.ClassKind.{ClassKind}
+use Rattle.aom_image.specs.declared.class.ClassKind.TheVariants.{Active, Plain, Server, Session as A_session}
+use Rattle.aom_image.specs.declared.method.Thing.{Thing}
+use Rattle.aom_image.specs.declared.method.Thing.TheVariants.{Message, Object as An_object_of}
+use Rattle.aom_roles.specs.Classes.{kind_at, sessions_in, sessions_of}
+use Rattle.aom_roles.specs.Shapes.{kind_of}
+use Rattle.aom_rules.specs.Typing.{Typing}
+use Rattle.aom_shape.specs.Kinds.{filled}
+use Rattle.aom_shape.specs.declared.kind.Filling.TheVariants.{Full}
+use Rattle.aom_shape.specs.declared.kind.Kind.{Kind}
+use Rattle.aom_shape.specs.declared.kind.Kind.TheVariants.{Null}
+use Rattle.aom_sound.proofs.Claimed.{claim_going_above}
+use Rattle.aom_sound.proofs.Maps.{held_lives, held_moved, same_place_refl, same_place-true}
+use Rattle.aom_sound.proofs.Parting.{among_others}
+use Rattle.aom_sound.proofs.Straight.{fits_unowning}
+use Rattle.aom_sound.specs.Claims.{by_close, Dispatching, Dying, Ending, Layer, Mark, Method, Unwinding, claim, declared, tasks_of}
+use Rattle.aom_sound.specs.Clients.{most_of}
+use Rattle.aom_sound.specs.Enlisted.{thing_kind}
+use Rattle.aom_sound.specs.Places.{Cell, Elsewhere, Entry, Field, Going, In_service, Object, Place, Queued, Register, Root, Session, Tidy, held, moved, named, same_place, seen, service_of}
+use Rattle.aom_sound.specs.Servers.{has_session, is_among, is_other, is_server, of_class, seats_taken, session_class, session_thing}
+use Rattle.aom_sound.specs.State.{Seat, Dispatch, Of_server, Parts}
+use Rattle.aom_sound.specs.WellTyped.{EndsSessions, Back, Caught, Fits, Gone, Good, Leaves, Now, Returns, Stack}
+use Rattle.aom_prices.specs.Prices.{IsPriced, Prices, perhaps_sessions, sessions_cost}
+use Rattle.aom_steps.specs.Left.{due, is_session_with, sessions_left}
+use Rattle.aom_steps.proofs.Pushed.{moved_less}
+use Rattle.aom_sound.specs.Destruction.{first_session, seat_or}
+
+-- ---- a session that is there is among those of its server, and of their class
+
+module _ (p : Image) (t : Typing) (cs : List Cell) (n client : ℕ) (o x : Object) (lives : named cs n ≡ Some o) where
+  abbrev HasIt : Type 0
+  HasIt = (has_session (service_of cs n) client ≡ true) × Fits p (seen cs) (Some x) (filled (session_thing p (Some o)) Full)
+
+  abbrev Has : Kind → Type 0
+  Has k = Fits p (seen cs) (Some x) k → HasIt
+
+  of_declared : Has (declared p cs (Elsewhere (Session n client)))
+  of_declared f = go (has_session (service_of cs n) client) refl (subst (λ y. Fits p (seen cs) (Some x) (cond (has_session (service_of cs n) client) (filled (session_thing p y) Full) Null)) lives f)
+    where
+      go : (b : Bool) → has_session (service_of cs n) client ≡ b → Fits p (seen cs) (Some x) (cond b (filled (session_thing p (Some o)) Full) Null) → HasIt
+      go true e f = (e, f)
+      go false e f = absurd f
+
+  of_cond : (b : Bool) (k : Kind) → Has k → Has (cond b Null k)
+  of_cond true k h f = absurd f
+  of_cond false k h f = h f
+
+  -- a server that goes has those sessions alone that are left
+  of_ending :
+      (y : Object) (left : List ℕ) → EndsSessions p cs y left → (below : Kind) → Has below →
+      Has (cond (y.name == n) (cond (is_among client left) (filled (session_thing p (Some y)) Full) Null) below)
+  of_ending y left ends below has f = go (y.name == n) refl f
+    where
+      ours : y.name ≡ n → (b : Bool) → is_among client left ≡ b → Fits p (seen cs) (Some x) (cond b (filled (session_thing p (Some y)) Full) Null) → HasIt
+      ours e true among f =
+          let one : Some y ≡ Some o = sym ends.lives ∙ ap (λ k. named cs k) e ∙ lives in
+          let same : y ≡ o = cc in
+          (ap (λ k. has_session (service_of cs k) client) (sym e) ∙ ends.listed client among, subst (λ z. Fits p (seen cs) (Some x) (filled (session_thing p (Some z)) Full)) same f)
+      ours e false among f = absurd f
+
+      go : (b : Bool) → (y.name == n) ≡ b → Has (cond b (cond (is_among client left) (filled (session_thing p (Some y)) Full) Null) below)
+      go true e f = ours (eqb-true y.name n e) (is_among client left) refl f
+      go false e f = has f
+
+  of_dispatch : (d : Dispatch) (below : Kind) → Has below → Has (by_close d n client below)
+  of_dispatch (Of_server y c Parts) below has f = of_cond ((y.object.name == n) && (c == client)) below has f
+  of_dispatch _ below has f = has f
+
+  pub of_claim : (back : Back) (ls : List Layer) → Stack p t cs back ls → Has (claim p (declared p cs) ls (Elsewhere (Session n client)))
+  of_claim back [] h f = of_declared f
+  of_claim back (Method fr sh ∷ ls) h f = of_claim (Returns fr.method fr.home) ls h.4 f
+  of_claim back (Mark gv ∷ ls) h f = of_claim (Caught gv) ls h.1 f
+  of_claim back (Unwinding code es ∷ ls) h f = of_claim Leaves ls h.1 f
+  of_claim back (Dying y ∷ ls) h f = of_cond (y.name == n) _ (of_claim Gone ls h.2) f
+  of_claim back (Ending y left ∷ ls) h f = of_ending y left h.0 _ (of_claim Now ls h.3) f
+  of_claim back (Dispatching d seats ∷ ls) h f = of_dispatch d _ (subst (λ l. Has (claim p (declared p cs) l (Elsewhere (Session n client)))) (sym h.1) of_declared) f
+
+-- ---- how many are there
+
+fewer_parted : (client : ℕ) (xs : List ℕ) → is_among client xs ≡ true → 1 + length (filter (is_other client) xs) ≤ length xs
+fewer_parted client [] e = cc
+fewer_parted client (y ∷ xs) e = go (y == client) refl e (λ h. fewer_parted client xs h)
+  where
+    no_more : (ys : List ℕ) → length (filter (is_other client) ys) ≤ length ys
+    no_more [] = omega arith
+    no_more (z ∷ ys) = go (z == client) (no_more ys)
+      where
+        go : (b : Bool) → length (filter (is_other client) ys) ≤ length ys → length (cond (not b) (z ∷ filter (is_other client) ys) (filter (is_other client) ys)) ≤ suc (length ys)
+        go true less = omega (arith, less)
+        go false less = omega (arith, less)
+
+    go :
+        (b : Bool) → (y == client) ≡ b → (b || is_among client xs) ≡ true → (is_among client xs ≡ true → 1 + length (filter (is_other client) xs) ≤ length xs) →
+        1 + length (cond (not b) (y ∷ filter (is_other client) xs) (filter (is_other client) xs)) ≤ suc (length xs)
+    go true is e less = omega (arith, no_more xs)
+    go false is e less = omega (arith, less e)
+
+-- each of them is among those clients' and costs no more than that
+module _ (c : Prices) (n most : ℕ) where
+  abbrev Sessions : List Cell → List ℕ → Type 0
+  Sessions cs xs = (client : ℕ) (x : Object) → held cs (Elsewhere (Session n client)) ≡ Some x → (is_among client xs ≡ true) × (c.destruction x.thing ≤ most)
+
+  one_fewer : (y : Cell) (cs : List Cell) (xs : List ℕ) (client : ℕ) → y.owner ≡ Elsewhere (Session n client) → held cs y.owner ≡ None → Sessions (y ∷ cs) xs → Sessions cs (filter (is_other client) xs)
+  one_fewer y cs xs client at free all k x there =
+      let other : (client == k) ≡ false = ne_eqb client k (λ e. let clash : None ≡ Some x = sym free ∙ ap (λ r. held cs r) at ∙ ap (λ i. held cs (Elsewhere (Session n i))) e ∙ there in cc) in
+      let apart : same_place y.owner (Elsewhere (Session n k)) ≡ false = not_there k x there in
+      let found = all k x (ap (λ b. cond b (Some y.object) (held cs (Elsewhere (Session n k)))) apart ∙ there) in
+      (among_others k client xs other ∙ found.0, found.1)
+    where
+      not_there : (k : ℕ) (x : Object) → held cs (Elsewhere (Session n k)) ≡ Some x → same_place y.owner (Elsewhere (Session n k)) ≡ false
+      not_there k x there = go (same_place y.owner (Elsewhere (Session n k))) refl
+        where
+          go : (b : Bool) → same_place y.owner (Elsewhere (Session n k)) ≡ b → b ≡ false
+          go false e = refl
+          go true e = let clash : None ≡ Some x = sym free ∙ ap (λ r. held cs r) (same_place-true y.owner (Elsewhere (Session n k)) e) ∙ there in cc
+
+  others : (y : Cell) (cs : List Cell) (xs : List ℕ) → held cs y.owner ≡ None → Sessions (y ∷ cs) xs → Sessions cs xs
+  others y cs xs free all k x there = all k x (go (same_place y.owner (Elsewhere (Session n k))) refl)
+    where
+      go : (b : Bool) → same_place y.owner (Elsewhere (Session n k)) ≡ b → cond b (Some y.object) (held cs (Elsewhere (Session n k))) ≡ Some x
+      go false e = there
+      go true e = let clash : None ≡ Some x = sym free ∙ ap (λ r. held cs r) (same_place-true y.owner (Elsewhere (Session n k)) e) ∙ there in cc
+
+  -- one cell more
+  with_one :
+      (y : Cell) (cs : List Cell) (xs : List ℕ) → Tidy (y ∷ cs) → Sessions (y ∷ cs) xs → ((zs : List ℕ) → Sessions cs zs → sessions_left c n cs ≤ length zs * most) → (r : Place) → y.owner ≡ r →
+      due c (is_session_with n) r y.object + sessions_left c n cs ≤ length xs * most
+  with_one y cs xs tidy all rest (Elsewhere (Session s client)) e = go (s == n) refl
+    where
+      here : y.owner ≡ Elsewhere (Session n client) → c.destruction y.object.thing + sessions_left c n cs ≤ length xs * most
+      here at =
+          let this = all client y.object (ap (λ b. cond b (Some y.object) (held cs (Elsewhere (Session n client)))) (ap (λ r. same_place r (Elsewhere (Session n client))) at ∙ same_place_refl (Elsewhere (Session n client)))) in
+          let others = rest (filter (is_other client) xs) (one_fewer y cs xs client at tidy.0 all) in
+          let more : (1 + length (filter (is_other client) xs)) * most ≤ length xs * most = mul-le-mul_right most (fewer_parted client xs this.0) in
+          grind (arith, this.1, others, more)
+
+      go : (b : Bool) → (s == n) ≡ b → cond b (c.destruction y.object.thing) 0 + sessions_left c n cs ≤ length xs * most
+      go true same = here (e ∙ ap (λ k. Elsewhere (Session k client)) (eqb-true s n same))
+      go false other = omega (arith, rest xs (others y cs xs tidy.0 all))
+  with_one y cs xs tidy all rest (Register f i) e = omega (arith, rest xs (others y cs xs tidy.0 all))
+  with_one y cs xs tidy all rest (Entry k) e = omega (arith, rest xs (others y cs xs tidy.0 all))
+  with_one y cs xs tidy all rest (Field m f) e = omega (arith, rest xs (others y cs xs tidy.0 all))
+  with_one y cs xs tidy all rest (Going k) e = omega (arith, rest xs (others y cs xs tidy.0 all))
+  with_one y cs xs tidy all rest (Elsewhere Root) e = omega (arith, rest xs (others y cs xs tidy.0 all))
+  with_one y cs xs tidy all rest (Elsewhere In_service) e = omega (arith, rest xs (others y cs xs tidy.0 all))
+  with_one y cs xs tidy all rest (Elsewhere (Queued s m)) e = omega (arith, rest xs (others y cs xs tidy.0 all))
+
+  pub counted : (cs : List Cell) (xs : List ℕ) → Tidy cs → Sessions cs xs → sessions_left c n cs ≤ length xs * most
+  counted [] xs tidy all = omega arith
+  counted (y ∷ cs) xs tidy all = with_one y cs xs tidy all (λ zs h. counted cs zs tidy.2 h) y.owner refl
+
+-- ---- what a server pays for
+
+-- the seats of each server are no more than it may have
+abbrev pub FewSeats : Image → List Cell → Type 0
+FewSeats p cs = (o : Object) → named cs o.name ≡ Some o → seats_taken (service_of cs o.name) ≤ most_of (thing_kind p o.thing)
+
+sessions_paid : (p : Image) (cost : ℕ → ℕ) (x : Thing) (session : ℕ) → session_class p x ≡ Some session → sessions_cost p cost x ≡ most_of (thing_kind p x) * cost session
+unfolding kind_of sessions_in sessions_of
+sessions_paid p cost Message session e = cc
+sessions_paid p cost (An_object_of k) session e = go (kind_at p k) refl e
+  where
+    go : (d : Option ClassKind) → kind_at p k ≡ d → sessions_in d ≡ Some session → perhaps_sessions cost (kind_at p k) ≡ most_of (kind_at p k) * cost session
+    go (Some (Server most y budget)) at e = let same : y ≡ session = cc in ap (λ d. perhaps_sessions cost d) at ∙ ap (λ i. most * cost i) same ∙ sym (ap (λ d. most_of d * cost session) at)
+    go None at e = cc
+    go (Some Plain) at e = cc
+    go (Some (Active provider budget)) at e = cc
+    go (Some A_session) at e = cc
+
+module _ (p : Image) (t : Typing) (c : Prices) (priced : IsPriced p t c) (cs : List Cell) (ls : List Layer) (good : Good p t cs ls) (few : FewSeats p cs) where
+  few_sessions : (o : Object) → named cs o.name ≡ Some o → is_server p o.thing ≡ true → sessions_left c o.name cs ≤ sessions_cost p (λ k. c.destruction (An_object_of k)) o.thing
+  few_sessions o lives server = go (session_class p o.thing) refl server
+    where
+      go : (k : Option ℕ) → session_class p o.thing ≡ k → is_some k ≡ true → sessions_left c o.name cs ≤ sessions_cost p (λ k. c.destruction (An_object_of k)) o.thing
+      go None at e = cc
+      go (Some k) at e =
+          let most = c.destruction (An_object_of k) in
+          let those = counted c o.name most cs (service_of cs o.name).sessions good.tidy all in
+          let seats = few o lives in
+          let enough : length (service_of cs o.name).sessions * most ≤ most_of (thing_kind p o.thing) * most = mul-le-mul_right most (omega (arith, seats)) in
+          omega (arith, those, enough, sessions_paid p (λ k. c.destruction (An_object_of k)) o.thing k at)
+        where
+          all : Sessions c o.name (c.destruction (An_object_of k)) cs (service_of cs o.name).sessions
+          all client x there =
+              let has = of_claim p t cs o.name client o x lives Now ls good.stack (subst (λ y. Fits p (seen cs) y (claim p (declared p cs) ls (Elsewhere (Session o.name client)))) there (good.fits (Elsewhere (Session o.name client)))) in
+              let fits = subst (λ y. Fits p (seen cs) (Some x) (filled (of_class y) Full)) at has.1 in
+              (has.0, priced.stands_in x.thing (An_object_of k) fits.0)
+
+  -- where it comes to the place of its going, it stands there with them
+  pub stands_at_going :
+      (o : Object) (from : Place) (depth : ℕ) → held cs from ≡ Some o → length (tasks_of ls) ≤ depth → is_server p o.thing ≡ true →
+      (held (moved from (Going depth) cs) (Going depth) ≡ Some o) × (sessions_left c o.name (moved from (Going depth) cs) ≤ sessions_cost p (λ k. c.destruction (An_object_of k)) o.thing)
+  stands_at_going o from depth there deep server =
+      let g = Going depth in
+      let free : held cs g ≡ None = fits_unowning p (seen cs) _ Null refl (subst (λ k. Fits p (seen cs) (held cs g) k) (claim_going_above p cs ls depth deep) (good.fits g)) in (
+        held_moved cs from g g free ∙ ap (λ b. cond b (held cs from) (cond (same_place from g) None (held cs g))) (same_place_refl g) ∙ there,
+        omega (arith, moved_less c (is_session_with o.name) from g cs refl, few_sessions o (held_lives cs from o good.tidy there) server),
+      )
+
+-- ---- the first session that is there
+
+pub first_there : (cs : List Cell) (n : ℕ) (clients : List ℕ) (x : Seat) → first_session cs n clients ≡ Some x → (client : ℕ) × (x.place ≡ Elsewhere (Session n client)) × (held cs x.place ≡ Some x.object)
+first_there cs n [] x e = cc
+first_there cs n (k ∷ clients) x e = go (held cs (Elsewhere (Session n k))) refl e (first_there cs n clients x)
+  where
+    go :
+        (o : Option Object) → held cs (Elsewhere (Session n k)) ≡ o → seat_or o (Elsewhere (Session n k)) (first_session cs n clients) ≡ Some x →
+        (first_session cs n clients ≡ Some x → (client : ℕ) × (x.place ≡ Elsewhere (Session n client)) × (held cs x.place ≡ Some x.object)) → (client : ℕ) × (x.place ≡ Elsewhere (Session n client)) × (held cs x.place ≡ Some x.object)
+    go None there e later = later e
+    go (Some o) there e later =
+        let same : record { object = o; place = Elsewhere (Session n k) } ≡ x = cc in
+        subst (λ (y : Seat). (client : ℕ) × (y.place ≡ Elsewhere (Session n client)) × (held cs y.place ≡ Some y.object)) same (k, refl, there)
