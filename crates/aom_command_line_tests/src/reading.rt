@@ -96,35 +96,37 @@ fn a_fault_is_explained_where_that_is_asked(rt: HostRuntime) -> Result<(), Fail>
     Ok(())
 }
 
-/// The text that a command line names beside its image, or none; nothing where the line is refused.
-fn text_beside(alloc: Global, line: &str) -> Result<Option<Option<String>>, Fail> {
-    Ok(match read_words(alloc, words_of(alloc, line)?) {
-        Ok(Words::Check { text, .. }) => Some(text),
-        Ok(Words::Run { text, .. }) => Some(text),
-        Ok(_) => return Err(Fail::from("another command")),
-        Err(_) => None,
-    })
+/// The text that a command line names beside its image.
+fn text_beside(alloc: Global, line: &str) -> Result<Option<String>, Fail> {
+    match read_words(alloc, words_of(alloc, line)?) {
+        Ok(Words::Check { text, .. }) => Ok(text),
+        Ok(Words::Run { text, .. }) => Ok(text),
+        _ => Err(Fail::from("no image is looked at")),
+    }
+}
+
+fn is_one_text(text: &Option<String>) -> bool {
+    match text {
+        Some(name) => name.as_str() == "one.text",
+        None => false,
+    }
 }
 
 #[test]
 fn a_text_is_named_beside_an_image(rt: HostRuntime) -> Result<(), Fail> {
-    let alloc = rt.alloc();
     for line in [
         "aom check --explain --text one.text one.image",
         "aom check one.image --text=one.text --explain",
         "aom check --prices --explain --text one.text one.image",
         "aom run --text one.text --explain one.image one.script line",
     ] {
-        match text_beside(alloc, line)? {
-            Some(Some(text)) => assert_eq!(rt; text.as_str(), "one.text", "{line}"),
-            _ => return Err(Fail::from("no text is named")),
-        }
+        assert!(rt; is_one_text(&text_beside(rt.alloc(), line)?), "{line}");
     }
     for line in [
         "aom check --explain one.image",
         "aom run one.image one.script",
     ] {
-        assert!(rt; matches!(text_beside(alloc, line)?, Some(None)), "{line}");
+        assert!(rt; text_beside(rt.alloc(), line)?.is_none(), "{line}");
     }
     for line in [
         "aom check --text one.text one.image",
@@ -135,7 +137,7 @@ fn a_text_is_named_beside_an_image(rt: HostRuntime) -> Result<(), Fail> {
         "aom asm --explain --text one.text one.text",
         "aom explore --text one.text one.image one.script",
     ] {
-        assert!(rt; text_beside(alloc, line)?.is_none(), "{line}");
+        assert_eq!(rt; ask(rt.alloc(), line)?, Asked::Text, "{line}");
     }
     Ok(())
 }

@@ -101,6 +101,25 @@ fn a_budget_is_refused_at_its_line(rt: HostRuntime) -> Result<(), Fail> {
     Ok(())
 }
 
+fn is_same(rt: &impl Abort, got: &Answer<ExitStatus>, told: &Answer<ExitStatus>) {
+    assert_eq!(rt; got.status, told.status);
+    assert_eq!(rt; got.out.as_slice(), told.out.as_slice());
+    assert_eq!(rt; got.errors.as_slice(), told.errors.as_slice());
+}
+
+/// Each command that takes a text refuses this one beside that image.
+fn refuses_all(
+    rt: &impl Abort,
+    alloc: Global,
+    image: &[u8],
+    text: &[u8],
+    told: &Answer<ExitStatus>,
+) {
+    is_same(rt, &checked_by(alloc, image, text), told);
+    is_same(rt, &priced_by(alloc, image, text), told);
+    is_same(rt, &runs_by(alloc, image, text, b""), told);
+}
+
 /// A text of another image is refused, and nothing is done with the image, be it accepted or none.
 #[test]
 fn a_text_of_another_image_is_refused(rt: HostRuntime) -> Result<(), Fail> {
@@ -116,11 +135,9 @@ text: The text that --text names denotes an image, and another one than is named
 To mend it: Name the text that the image is of, or assemble the text again and name that image.
 ",
     )?;
-    for image in [other.as_slice(), b"".as_slice(), text] {
-        assert_eq!(rt; checked_by(alloc, image, text), told);
-        assert_eq!(rt; priced_by(alloc, image, text), told);
-        assert_eq!(rt; runs_by(alloc, image, text, b""), told);
-    }
+    refuses_all(&rt, alloc, other.as_slice(), text, &told);
+    refuses_all(&rt, alloc, b"", text, &told);
+    refuses_all(&rt, alloc, text, text, &told);
     Ok(())
 }
 
