@@ -3,3 +3,4 @@ pub mod Going
 pub mod Turning
 pub mod Passing
 pub mod Leaving
+pub mod Runs

@@ -141,7 +141,7 @@ module _ (p : Image) (outside : Outside) (stays : State → Bool) where
       go (inl rests) = inl (is_over u rests goes)
       go (inr is) = inr is
 
-  reaches_far : (s : State) (ls : List Line) (u : State) → GoesFar p outside stays s ls u → Reaches p outside s ls u
+  pub reaches_far : (s : State) (ls : List Line) (u : State) → GoesFar p outside stays s ls u → Reaches p outside s ls u
   reaches_far s ls u x =
       subst (λ l. Reaches p outside s l u) (sym x.1.5)
       (reaches_both p outside s x.1.1 x.1.0 x.1.2 u (reaches_passed p outside stays s x.0 x.1.1 x.1.0 x.1.3) (reaches_arrived p outside x.1.0 x.1.2 u x.1.4))

@@ -7,7 +7,9 @@
 #![tactic(auto)]
 
 mod courses;
+mod laws;
 mod walking;
 
 pub use courses::{go_on, go_steps, go_turn};
+pub use laws::courses_are_a_run;
 pub use walking::{Until, walk};

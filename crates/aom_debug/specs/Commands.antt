@@ -1,0 +1,77 @@
+-- What commands do to a state of the checked machine, and what they tell.
+use Rattle.std.specs.Prelude.{◌≡◌, ◌⊎◌, ℕ, Bool, true, false, not, ◌&&◌, nat_le, nat_lt, if◌then◌else◌, List, [], ◌++◌, length, slice_get, Option, Some, None, is_some}
+use Rattle.aom_text.specs.Numbers.{number_within}
+use Rattle.aom_text.specs.declared.number.Number.{Number}
+use Rattle.aom_image.specs.Image.{Image}
+use Rattle.aom_image.specs.declared.method.Method.{Method}
+use Rattle.aom_sound.specs.Places.{count_cells}
+use Rattle.aom_sound.specs.State.{State}
+use Rattle.aom_transcript.specs.declared.line.Line.{Line}
+use Rattle.aom_transcript.specs.declared.line.Ending.{Ending}
+use Rattle.aom_transcript.specs.Text.{end_text, ended, text_of}
+use Rattle.aom_debug_marks.specs.Marks.{is_set}
+use Rattle.aom_debug_marks.specs.declared.spot.Spot.{Spot}
+use Rattle.aom_debug_lines.specs.Answers.{answer_text}
+use Rattle.aom_debug_views.specs.Next.{next_of}
+use Rattle.aom_debug_sights.specs.Actives.{InOrderOfChoice, active_answers}
+use Rattle.aom_debug_sights.specs.Owners.{owners, owners_text}
+use Rattle.aom_debug_sights.specs.Sights.{cells_answers, cleanup_answers, recent_answers}
+use Rattle.aom_debug_sights.specs.Telling.{answers_text}
+
+-- ---- where a run stands
+
+-- the run's last line, where it is over
+abbrev pub end_by : Option Ending → ℕ → List ℕ
+end_by None cells = []
+end_by (Some ending) cells = ended (end_text ending cells)
+
+-- that, and the step that is next
+abbrev pub place_text : Image → State → List ℕ
+place_text p s = end_by s.rest.ended (count_cells s.cells) ++ ended (answer_text (next_of p s))
+
+-- what is told of moves: their lines, and where they lead
+abbrev pub moved_text : Image → List Line → State → List ℕ
+moved_text p lines u = text_of lines ++ place_text p u
+
+-- ---- numbers
+
+-- so many steps may be asked for
+abbrev pub is_count : ℕ → Bool
+is_count n = nat_lt 0 n && nat_le n 1000000
+
+-- a place of a method, if it has that many
+abbrev pub spot_at : Option Method → ℕ → ℕ → Option Spot
+spot_at None method place = None
+spot_at (Some m) method place = if nat_lt place (length m.code) then Some (record { method = method; place = place }) else None
+
+abbrev pub spot_by : Image → Option ℕ → Option ℕ → Option Spot
+spot_by p (Some method) (Some place) = spot_at (slice_get p.methods method) method place
+spot_by p _ _ = None
+
+-- the place that two numbers name, if they name one. An image has at most 1,024 methods of 1,024 instructions
+abbrev pub spot_named : Image → Number → Number → Option Spot
+spot_named p method place = spot_by p (number_within 0 65535 method) (number_within 0 65535 place)
+
+-- they name none, or there are sixteen others
+abbrev pub NamesNoRoom : Image → Number → Number → List Spot → Type 0
+NamesNoRoom p method place spots = (spot_named p method place ≡ None) ⊎ ((spot : Spot) × (spot_named p method place ≡ Some spot) × (is_set spot spots ≡ false))
+
+-- ---- looks
+
+-- active objects in the order of choice, each on its line
+abbrev pub ShowsActives : State → List ℕ → Type 0
+ShowsActives s text = (names : List ℕ) × InOrderOfChoice s.cells names × (text ≡ answers_text (active_answers s.cells names))
+
+abbrev pub ShowsCells : Image → State → List ℕ → Type 0
+ShowsCells p s text = text ≡ answers_text (cells_answers p s)
+
+abbrev pub ShowsCleanup : State → List ℕ → Type 0
+ShowsCleanup s text = text ≡ answers_text (cleanup_answers s)
+
+-- what each place owns, a parent before its children
+abbrev pub ShowsOwners : State → List ℕ → Type 0
+ShowsOwners s text = text ≡ owners_text (owners s)
+
+-- the latest instructions, the oldest first
+abbrev pub ShowsRecent : List Spot → List ℕ → Type 0
+ShowsRecent spots text = text ≡ answers_text (recent_answers spots)

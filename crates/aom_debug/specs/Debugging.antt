@@ -1,0 +1,152 @@
+-- What each call of a debugger does, from each state that its machine stands for.
+use Rattle.std.specs.Prelude.{◌≡◌, ◌⊎◌, ◌≤◌, ℕ, Bool, true, false, cond, List, [], Option, Some, None, is_some, take, codes, Result, Ok, Err}
+use Rattle.aom_text.specs.declared.number.Number.{Number}
+use Rattle.aom_sound.specs.State.{State}
+use Rattle.aom_sound.specs.World.{Outside, Reaches}
+use Rattle.aom_transcript.specs.declared.line.Line.{Line}
+use Rattle.aom_transcript.specs.Text.{ended}
+use Rattle.aom_machine.specs.Calls.{Stands, StandsFor, natives_of}
+use Rattle.aom_run.specs.Runs.{after}
+use Rattle.aom_run.specs.Turns.{hearing}
+use Rattle.aom_debug_words.specs.declared.command.Command.{Command}
+use Rattle.aom_debug_words.specs.declared.command.Command.TheVariants.{Step, Turn, Go, Break, Cells, Owners, Cleanup, Actives, Recent}
+use Rattle.aom_debug_words.specs.declared.fault.DebugFault.{DebugFault}
+use Rattle.aom_debug_words.specs.declared.fault.DebugFault.TheVariants.{BadCommand, NoSuch, Ended, OutOfMemory, WriteFault}
+use Rattle.aom_debug_marks.specs.Marks.{is_set, with_spot}
+use Rattle.aom_debug_marks.specs.declared.spot.Spot.{Spot}
+use Rattle.aom_debug_lines.specs.declared.answer.Answer.TheVariants.{Done}
+use Rattle.aom_debug_lines.specs.Answers.{answer_text}
+use Rattle.aom_debug_moves.specs.Sends.{Leads}
+use Rattle.aom_debug_courses.specs.Courses.{GoesBy, GoesToBreakpoint, TurnsOver}
+use Rattle.aom_debug_sights.specs.Telling.{Tells, TellsPart}
+use Rattle.aom_debug.specs.Commands.{NamesNoRoom, is_count, moved_text, place_text, spot_named}
+use Rattle.aom_debug.specs.declared.debugger.Debugger.{Debugger}
+
+-- what a call answers
+abbrev pub Answer : Type 0
+Answer = Result (Unit {0}) DebugFault
+
+-- a sink over a call: what was out before it and what is out after it, where the sink tells, and whether it has failed then
+pub record Outgoing : Type 0 where
+  pub before : Option (List ℕ)
+  pub now : Option (List ℕ)
+  pub failed : Bool
+
+module _ {X : Type 0} {B : X → Type 0} where
+  -- the machine stands for a state, and the turn has no lines and room for those of a step
+  pub record IsReady (d : Debugger X B) : Type 0 where
+    pub stands : Stands d.machine
+    pub none : d.turn.lines ≡ []
+    pub room : 80 ≤ d.turn.room
+
+  -- what no command changes
+  pub record Keeps (old new : Debugger X B) : Type 0 where
+    pub image : new.machine.core.image ≡ old.machine.core.image
+    pub natives : natives_of new.machine ≡ natives_of old.machine
+    pub script : new.script ≡ old.script
+    pub turn : new.turn ≡ old.turn
+    pub limit : new.limit ≡ old.limit
+
+  -- what comes from outside of the image
+  abbrev pub outside_of : Debugger X B → Outside
+  outside_of d = hearing d.turn.refused d.limit (natives_of d.machine) d.script.timed
+
+  abbrev pub has_ended : Debugger X B → Bool
+  has_ended d = is_some d.machine.core.parts.rest.ended
+
+  -- a command is refused: it changes nothing and writes nothing
+  pub record Declined (old new : Debugger X B) (out : Outgoing) : Type 0 where
+    pub same : new ≡ old
+    pub silent : out.now ≡ out.before
+
+  -- ---- commands that go on
+
+  -- from each state that the machine stood for such moves lead to one that it stands for, and their lines are out, and then where they lead
+  pub record Moved (leads : Debugger X B → Leads) (old new : Debugger X B) (out : Outgoing) : Type 0 where
+    pub goes : (s : State) → StandsFor old.machine s → (lines : List Line) × (u : State) × leads old s lines u × (out.now ≡ after out.before (moved_text old.machine.core.image lines u)) × StandsFor new.machine u
+    pub spots : new.breakpoints ≡ old.breakpoints
+    pub well : new.has_failed ≡ false
+
+  -- the sink failed: it is a run, and a beginning of what would be told of it is out
+  pub record Cut (old new : Debugger X B) (out : Outgoing) : Type 0 where
+    pub goes : (s : State) → StandsFor old.machine s → (lines : List Line) × (u : State) × Reaches old.machine.core.image (outside_of old) s lines u × ((sent : ℕ) × (out.now ≡ after out.before (take sent (moved_text old.machine.core.image lines u)))) × StandsFor new.machine u
+    pub spots : new.breakpoints ≡ old.breakpoints
+    pub fails : out.failed ≡ true
+    pub ill : new.has_failed ≡ true
+
+  -- the run is not over, and nothing has failed
+  abbrev pub MayGo : Debugger X B → Type 0
+  MayGo d = (d.has_failed ≡ false) × (has_ended d ≡ false)
+
+  abbrev pub Goes : (Debugger X B → Leads) → Debugger X B → Debugger X B → Outgoing → Answer → Type 0
+  Goes leads old new out (Ok done) = MayGo old × Moved leads old new out
+  Goes leads old new out (Err Ended) = ((old.has_failed ≡ true) ⊎ (has_ended old ≡ true)) × Declined old new out
+  Goes leads old new out (Err WriteFault) = MayGo old × Cut old new out
+  Goes leads old new out (Err fault) = ⊥
+
+  -- moves are cut: nothing more is told
+  abbrev pub GivesUp : Debugger X B → Debugger X B → Outgoing → Answer → Type 0
+  GivesUp old new out (Err WriteFault) = (new ≡ record old { has_failed = true }) × (out.now ≡ out.before)
+  GivesUp old new out answer = ⊥
+
+  -- or where they lead is told
+  abbrev pub Shows : Debugger X B → Debugger X B → Outgoing → Answer → Type 0
+  Shows old new out (Ok done) = (new ≡ old) × Tells old.machine.core (λ s. place_text old.machine.core.image s) out.before out.now
+  Shows old new out (Err fault) = (new ≡ record old { has_failed = true }) × TellsPart old.machine.core (λ s. place_text old.machine.core.image s) fault out.failed out.before out.now
+
+  -- no number of steps
+  abbrev pub CountsNot : Debugger X B → Debugger X B → Outgoing → Answer → Type 0
+  CountsNot old new out (Err BadCommand) = (old.has_failed ≡ false) × Declined old new out
+  CountsNot old new out (Err Ended) = (old.has_failed ≡ true) × Declined old new out
+  CountsNot old new out answer = ⊥
+
+  -- so many steps
+  abbrev pub steps_of : ℕ → Debugger X B → Leads
+  steps_of n d = GoesBy d.machine.core.image (outside_of d) n
+
+  abbrev pub Steps : ℕ → Debugger X B → Debugger X B → Outgoing → Answer → Type 0
+  Steps n old new out answer = cond (is_count n) (Goes (steps_of n) old new out answer) (CountsNot old new out answer)
+
+  -- to the end of a dispatch
+  abbrev pub turns_of : Debugger X B → Leads
+  turns_of d = TurnsOver d.machine.core.image (outside_of d)
+
+  abbrev pub Turns : Debugger X B → Debugger X B → Outgoing → Answer → Type 0
+  Turns old new out answer = Goes turns_of old new out answer
+
+  -- to a breakpoint
+  abbrev pub runs_of : Debugger X B → Leads
+  runs_of d = GoesToBreakpoint d.machine.core.image (outside_of d) d.breakpoints
+
+  abbrev pub Runs : Debugger X B → Debugger X B → Outgoing → Answer → Type 0
+  Runs old new out answer = Goes runs_of old new out answer
+
+  -- ---- a breakpoint
+
+  -- the numbers name a place, which can have a breakpoint
+  pub record CanSet (method place : Number) (d : Debugger X B) (spot : Spot) : Type 0 where
+    pub names : spot_named d.machine.core.image method place ≡ Some spot
+    pub room : is_set spot d.breakpoints ≡ true
+
+  -- at a place
+  abbrev pub SetsAt : Spot → Debugger X B → Debugger X B → Outgoing → Answer → Type 0
+  SetsAt spot old new out (Ok done) = (is_set spot old.breakpoints ≡ true) × (new ≡ record old { breakpoints = with_spot spot old.breakpoints }) × (out.now ≡ after out.before (ended (answer_text Done)))
+  SetsAt spot old new out (Err NoSuch) = (is_set spot old.breakpoints ≡ false) × Declined old new out
+  SetsAt spot old new out (Err WriteFault) = (is_set spot old.breakpoints ≡ true) × (new ≡ record old { breakpoints = with_spot spot old.breakpoints; has_failed = true }) × (out.failed ≡ true) × (sent : ℕ) × (out.now ≡ after out.before (take sent (ended (answer_text Done))))
+  SetsAt spot old new out (Err fault) = ⊥
+
+  abbrev pub Sets : Number → Number → Debugger X B → Debugger X B → Outgoing → Answer → Type 0
+  Sets method place old new out (Ok done) = (old.has_failed ≡ false) × (spot : Spot) × CanSet method place old spot × (new ≡ record old { breakpoints = with_spot spot old.breakpoints }) × (out.now ≡ after out.before (ended (answer_text Done)))
+  Sets method place old new out (Err NoSuch) = (old.has_failed ≡ false) × NamesNoRoom old.machine.core.image method place old.breakpoints × Declined old new out
+  Sets method place old new out (Err Ended) = (old.has_failed ≡ true) × Declined old new out
+  Sets method place old new out (Err WriteFault) = (old.has_failed ≡ false) × (spot : Spot) × CanSet method place old spot × (new ≡ record old { breakpoints = with_spot spot old.breakpoints; has_failed = true }) × (out.failed ≡ true) × (sent : ℕ) × (out.now ≡ after out.before (take sent (ended (answer_text Done))))
+  Sets method place old new out (Err fault) = ⊥
+
+  -- ---- looks
+
+  -- what a state shows is out, and nothing is changed
+  abbrev pub Looks : (Debugger X B → State → List ℕ → Type 0) → Debugger X B → Debugger X B → Outgoing → Answer → Type 0
+  Looks shows old new out (Ok done) = (old.has_failed ≡ false) × (new ≡ old) × ((s : State) → StandsFor old.machine s → (text : List ℕ) × shows old s text × (out.now ≡ after out.before text))
+  Looks shows old new out (Err Ended) = (old.has_failed ≡ true) × Declined old new out
+  Looks shows old new out (Err WriteFault) = (old.has_failed ≡ false) × (new ≡ record old { has_failed = true }) × (out.failed ≡ true) × ((s : State) → StandsFor old.machine s → (text : List ℕ) × shows old s text × ((sent : ℕ) × (out.now ≡ after out.before (take sent text))))
+  Looks shows old new out (Err fault) = ⊥

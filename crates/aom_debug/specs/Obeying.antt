@@ -1,0 +1,33 @@
+-- What each command asks of a debugger, and what a line of commands does.
+use Rattle.std.specs.Prelude.{◌≡◌, ℕ, List, Option, Some, None, Result, Ok, Err, true, false}
+use Rattle.aom_debug_words.specs.declared.command.Command.{Command}
+use Rattle.aom_debug_words.specs.declared.command.Command.TheVariants.{Step, Turn, Go, Break, Cells, Owners, Cleanup, Actives, Recent}
+use Rattle.aom_debug_words.specs.declared.fault.DebugFault.{DebugFault}
+use Rattle.aom_debug_words.specs.declared.fault.DebugFault.TheVariants.{Ended}
+use Rattle.aom_debug.specs.Commands.{ShowsActives, ShowsCells, ShowsCleanup, ShowsOwners, ShowsRecent}
+use Rattle.aom_debug.specs.Debugging.{Answer, Declined, Looks, Outgoing, Runs, Sets, Steps, Turns}
+use Rattle.aom_debug.specs.declared.debugger.Debugger.{Debugger}
+
+module _ {X : Type 0} {B : X → Type 0} where
+  -- a command by its call
+  abbrev pub Obeys : Command → Debugger X B → Debugger X B → Outgoing → Answer → Type 0
+  Obeys (Step n) = Steps n
+  Obeys Turn = Turns
+  Obeys Go = Runs
+  Obeys (Break method place) = Sets method place
+  Obeys Cells = Looks (λ d s text. ShowsCells d.machine.core.image s text)
+  Obeys Owners = Looks (λ d s text. ShowsOwners s text)
+  Obeys Cleanup = Looks (λ d s text. ShowsCleanup s text)
+  Obeys Actives = Looks (λ d s text. ShowsActives s text)
+  Obeys Recent = Looks (λ d s text. ShowsRecent d.recent text)
+
+  -- nothing is asked, or nothing that there is
+  abbrev pub Passes : Answer → Debugger X B → Debugger X B → Outgoing → Answer → Type 0
+  Passes says old new out (Err Ended) = (old.has_failed ≡ true) × Declined old new out
+  Passes says old new out answer = (old.has_failed ≡ false) × (answer ≡ says) × Declined old new out
+
+  -- what a line says, which is read before
+  abbrev pub Heeds : Result (Option Command) DebugFault → Debugger X B → Debugger X B → Outgoing → Answer → Type 0
+  Heeds (Err fault) = Passes (Err fault)
+  Heeds (Ok None) = Passes (Ok tt)
+  Heeds (Ok (Some command)) = Obeys command

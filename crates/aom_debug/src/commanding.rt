@@ -1,0 +1,54 @@
+//! Commands by their lines.
+ghost use Rattle.std.specs.Prelude.{◌≡◌};
+ghost use Rattle.aom_natives.specs.Slots.{AllAgree};
+ghost use Rattle.aom_debug_words.specs.Commands.{command_said};
+ghost use Rattle.aom_debug.specs.Debugging.{IsReady, Keeps};
+ghost use Rattle.aom_debug.specs.Obeying.{Heeds, Obeys};
+
+use crate::Debugger;
+use aom_debug_words::{Command, DebugFault, read_command};
+use aom_natives::Native;
+use aom_run::Sink;
+
+impl<'a> Debugger<'a> {
+    /// Does what a line of commands says, which is given without its line feed. A line without words asks nothing.
+    pub fn command<W: Sink>(&mut self, line: &[u8], out: &mut W) -> Result<(), DebugFault>
+        requires agree { AllAgree (λ l. l.ids) (λ l. (⟦<dyn Native as Native>⟧ l.native.vtable).owed l.native.value) self.old.machine.natives.slots.items }
+        requires ready { IsReady self.old }
+        ensures agree { AllAgree (λ l. l.ids) (λ l. (⟦<dyn Native as Native>⟧ l.native.vtable).owed l.native.value) self.new.machine.natives.slots.items }
+        ensures ready { IsReady self.new }
+        ensures keeps { Keeps self.old self.new }
+        ensures answer { Heeds (command_said line.now) self.old self.new (record { before = W.out out.old; now = W.out out.new; failed = W.failed out.new }) result }
+    {
+        if self.has_failed {
+            return Err(DebugFault::Ended);
+        }
+        match read_command(line) {
+            Ok(Some(command)) => self.obey(command, out),
+            Ok(None) => Ok(()),
+            Err(fault) => Err(fault),
+        }
+    }
+
+    /// Does what a command says.
+    pub fn obey<W: Sink>(&mut self, command: Command, out: &mut W) -> Result<(), DebugFault>
+        requires agree { AllAgree (λ l. l.ids) (λ l. (⟦<dyn Native as Native>⟧ l.native.vtable).owed l.native.value) self.old.machine.natives.slots.items }
+        requires ready { IsReady self.old }
+        ensures agree { AllAgree (λ l. l.ids) (λ l. (⟦<dyn Native as Native>⟧ l.native.vtable).owed l.native.value) self.new.machine.natives.slots.items }
+        ensures ready { IsReady self.new }
+        ensures keeps { Keeps self.old self.new }
+        ensures answer { Obeys command self.old self.new (record { before = W.out out.old; now = W.out out.new; failed = W.failed out.new }) result }
+    {
+        match command {
+            Command::Step(steps) => self.step(steps, out),
+            Command::Turn => self.turn(out),
+            Command::Go => self.go(out),
+            Command::Break(method, place) => self.break_at(method, place, out),
+            Command::Cells => self.cells(out),
+            Command::Owners => self.owners(out),
+            Command::Cleanup => self.cleanup(out),
+            Command::Actives => self.actives(out),
+            Command::Recent => self.recent(out),
+        }
+    }
+}

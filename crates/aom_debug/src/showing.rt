@@ -1,0 +1,59 @@
+//! Where a run stands.
+ghost use Rattle.std.specs.Prelude.{◌≡◌, IfErr, IfOk};
+ghost use Rattle.aom_cells.specs.Heap.{count};
+ghost use Rattle.aom_machine.specs.Calls.{Stands};
+ghost use Rattle.aom_debug_sights.specs.Owners.{owners, owners_text};
+ghost use Rattle.aom_debug_sights.specs.Sights.{cells_answers};
+ghost use Rattle.aom_debug_sights.specs.Telling.{Tells, TellsPart, answers_text};
+ghost use Rattle.aom_debug.specs.Commands.{end_by, place_text};
+
+use aom_debug_sights::{send, tell, tell_cells, tell_owners};
+use aom_debug_views::next_of;
+use aom_debug_words::DebugFault;
+use aom_exec::Progress;
+use aom_machine::Machine;
+use aom_run::Sink;
+use aom_transcript::Page;
+
+/// The run's last line, where it is over.
+fn end_page(machine: &Machine) -> Page
+    ensures { result ≡ end_by machine.now.core.parts.rest.ended (count machine.now.core.parts.cells) }
+{
+    let mut page = Page::new();
+    if let Progress::Ended(ending) = machine.core.progress() {
+        page.add_end(ending, machine.core.count());
+    }
+    page
+}
+
+/// Writes how many cells live, and how many of each class.
+pub fn show_cells<W: Sink>(machine: &Machine, out: &mut W) -> Result<(), DebugFault>
+    ensures ok { IfOk result (λ _. Tells machine.now.core (λ s. answers_text (cells_answers machine.now.core.image s)) (W.out out.old) (W.out out.new)) }
+    ensures err { IfErr result (λ fault. TellsPart machine.now.core (λ s. answers_text (cells_answers machine.now.core.image s)) fault (W.failed out.new) (W.out out.old) (W.out out.new)) }
+{
+    tell_cells(machine.core.parts(), machine.core.accepted().linked(), out)
+}
+
+/// Writes what each place owns.
+pub fn show_owners<W: Sink>(machine: &Machine, out: &mut W) -> Result<(), DebugFault>
+    ensures ok { IfOk result (λ _. Tells machine.now.core (λ s. owners_text (owners s)) (W.out out.old) (W.out out.new)) }
+    ensures err { IfErr result (λ fault. TellsPart machine.now.core (λ s. owners_text (owners s)) fault (W.failed out.new) (W.out out.old) (W.out out.new)) }
+{
+    tell_owners(machine.core.parts(), machine.core.accepted(), out)
+}
+
+/// Writes the run's last line where it is over, and then the step that is next.
+pub fn tell_place<W: Sink>(machine: &Machine, out: &mut W) -> Result<(), DebugFault>
+    requires { Stands machine.now }
+    ensures ok { IfOk result (λ _. Tells machine.now.core (λ s. place_text machine.now.core.image s) (W.out out.old) (W.out out.new)) }
+    ensures err { IfErr result (λ fault. TellsPart machine.now.core (λ s. place_text machine.now.core.image s) fault (W.failed out.new) (W.out out.old) (W.out out.new)) }
+{
+    let page = end_page(machine);
+    match send(page.as_bytes(), out) {
+        Ok(()) => tell(
+            next_of(machine.core.parts(), machine.core.accepted().linked()),
+            out,
+        ),
+        Err(fault) => Err(fault),
+    }
+}
