@@ -12,5 +12,5 @@ returns-clause-answer g c =
     let ok = rw c.parts.ensures.parts at c.tell_actives-told.ensures.ok in
     let err = rw c.parts.ensures.parts at c.tell_actives-told.ensures.err in
     looked (λ d s text. ShowsActives s text) old c.kept.new.self (g.W.Sink.out c.args.out.now) (g.W.Sink.out c.tell_actives-told.new.out) (g.W.Sink.failed c.tell_actives-told.new.out) c.tell_actives-told.result c.kept.result c.if-self.false c.kept.ensures.answer c.kept.ensures.ok c.kept.ensures.err
-    (IfOk-weaker c.tell_actives-told.result _ _ (λ done tells. (λ s st. let x = (tells p).out s st.stands in (_, (x.0, x.1, refl), x.2))) ok)
-    (IfErr-weaker c.tell_actives-told.result _ _ (λ fault part. ((part p).told, (part p).fails, (λ s st. let x = (part p).out s st.stands in (_, (x.0, x.1, refl), x.2)))) err)
+    (IfOk-weaker c.tell_actives-told.result _ _ (λ done tells. (λ s st. (_, (_, (tells p).order s st.stands, refl), (tells p).out s st.stands))) ok)
+    (IfErr-weaker c.tell_actives-told.result _ _ (λ fault part. ((part p).told, (part p).fails, (λ s st. (_, (_, (part p).order s st.stands, refl), (part p).out s st.stands)))) err)
