@@ -76,6 +76,7 @@ lacks_explain rows name explain there used unset = record { named = λ none. abs
   where
     some_is_none : Some name ≡ None → ⊥
     some_is_none e = cc
+
     both : explain ≡ true → explain ≡ false → ⊥
     both set out = cc
 
