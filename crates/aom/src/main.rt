@@ -8,11 +8,14 @@ ghost use Rattle.std.specs.Prelude.{◌≤◌};
 ghost use Rattle.aom_command_line.specs.CommandLine.{KeepsLimit};
 
 mod files;
+mod input;
 mod output;
 
 use crate::files::read_file;
+use crate::input::Input;
 use crate::output::Output;
 use aom_command_line::{RunWords, Words, WordsFault, read_words};
+use aom_debugging::debug_bytes;
 use aom_explaining::{
     asm_explained, check_by_text, check_explained, prices_by_text, prices_explained, run_by_text,
     run_explained, tell_explained,
@@ -27,6 +30,9 @@ use std::alloc::Global;
 use std::env;
 use std::io::{self, BufWriter, Write};
 use std::process::ExitCode;
+
+/// The most reads of standard input.
+const MOST_READS: u64 = 1 << 32;
 
 fn main(rt: HostRuntime) -> ExitCode {
     let mut errors = Output::new(rt.stderr());
@@ -151,16 +157,12 @@ fn obey<W: Sink, E: Sink>(
         }
         Words::Run { run, explain, text } => {
             let text = read_text(rt, text)?;
-            let files = RunFiles::read(rt, run)?;
-            run_beside(alloc, run, *explain, &files, &text, out, errors)
+            run_beside(rt, run, Purpose::of_run(&text, *explain), out, errors)
         }
+        Words::Debug { run } => run_beside(rt, run, Purpose::Debug, out, errors),
         Words::Explore { run, first, last } => {
-            let files = RunFiles::read(rt, run)?;
             let (first, last) = (*first, *last);
-            let part = Part { first, last };
-            let kinds = run.natives.as_slice();
-            let (image, script) = (&files.image, &files.script);
-            Ok(explore_bytes(alloc, image, script, run.limit, kinds, part, out, errors))
+            explore_files(rt, run, Part { first, last }, out, errors)
         }
         Words::Asm { text, explain } => {
             let text = read_file(rt, text)?;
@@ -218,18 +220,40 @@ impl RunFiles {
     }
 }
 
-/// Makes the natives that the words name, and runs an image beside them.
+/// What an image and its natives are for.
+#[derive(Clone, Copy)]
+enum Purpose<'a> {
+    Run,
+    Explain,
+    /// As `Explain`, with the lines of this text.
+    ExplainByText(&'a [u8]),
+    /// To run as the commands say that come from standard input.
+    Debug,
+}
+
+impl<'a> Purpose<'a> {
+    /// The purpose of `aom run`.
+    fn of_run(text: &'a Option<Vec<u8>>, explain: bool) -> Purpose<'a> {
+        match text {
+            Some(text) => Purpose::ExplainByText(text),
+            None if explain => Purpose::Explain,
+            None => Purpose::Run,
+        }
+    }
+}
+
+/// Makes the natives that the words name, and runs an image beside them. The answers of a debugger go out as they come.
 fn run_beside<W: Sink, E: Sink>(
-    alloc: Global,
+    rt: &HostRuntime,
     run: &RunWords,
-    explain: bool,
-    files: &RunFiles,
-    text: &Option<Vec<u8>>,
+    purpose: Purpose,
     out: &mut W,
     errors: &mut E,
 ) -> Result<ExitStatus, Fault>
     requires limit { (1 ≤ run.now.limit) × (run.now.limit ≤ 1000000000) }
 {
+    let alloc = rt.alloc();
+    let files = RunFiles::read(rt, run)?;
     let mut boxes: Vec<Box<dyn Native>> = Vec::new(alloc);
     for kind in run.natives.as_slice() {
         match *kind {
@@ -240,9 +264,35 @@ fn run_beside<W: Sink, E: Sink>(
     }
     let limit = run.limit;
     let (image, script) = (&files.image, &files.script);
-    Ok(match text {
-        Some(text) => run_by_text(alloc, image, text, script, limit, boxes, out, errors),
-        None if explain => run_explained(alloc, image, script, limit, boxes, out, errors),
-        None => run_bytes(alloc, image, script, limit, boxes, out, errors),
+    Ok(match purpose {
+        Purpose::Run => run_bytes(alloc, image, script, limit, boxes, out, errors),
+        Purpose::Explain => run_explained(alloc, image, script, limit, boxes, out, errors),
+        Purpose::ExplainByText(text) => {
+            run_by_text(alloc, image, text, script, limit, boxes, out, errors)
+        }
+        Purpose::Debug => {
+            let mut input = Input::new(rt.stdin());
+            let mut out = Output::new(rt.stdout());
+            debug_bytes(
+                alloc, image, script, limit, boxes, &mut input, MOST_READS, &mut out, errors,
+            )
+        }
     })
+}
+
+/// Runs an image again and again, each time with one more allocation request refused.
+fn explore_files<W: Sink, E: Sink>(
+    rt: &HostRuntime,
+    run: &RunWords,
+    part: Part,
+    out: &mut W,
+    errors: &mut E,
+) -> Result<ExitStatus, Fault>
+    requires limit { (1 ≤ run.now.limit) × (run.now.limit ≤ 1000000000) }
+{
+    let alloc = rt.alloc();
+    let files = RunFiles::read(rt, run)?;
+    let kinds = run.natives.as_slice();
+    let (image, script) = (&files.image, &files.script);
+    Ok(explore_bytes(alloc, image, script, run.limit, kinds, part, out, errors))
 }

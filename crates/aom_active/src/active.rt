@@ -1,8 +1,8 @@
 //! The active objects of a machine.
-ghost use Rattle.std.specs.Prelude.{◌≡◌, ◌<◌, ◌≤◌, ℕ, Option, Some, None, IfOk, IfSome, IsTrue, IsFalse, is_some, length, slice_get};
+ghost use Rattle.std.specs.Prelude.{◌≡◌, ◌<◌, ◌≤◌, ℕ, Option, Some, None, IfOk, IfSome, IsSome, IsTrue, IsFalse, is_some, length, slice_get};
 ghost use Rattle.aom_requests.specs.Requests.{request_at, IsEnlisted, state_at, status_at, is_pending};
 ghost use Rattle.aom_scheduler.specs.Pending.{first_due, AreInOrder};
-ghost use Rattle.aom_scheduler.specs.Roster.{IsSound};
+ghost use Rattle.aom_scheduler.specs.Roster.{IsSound, place};
 ghost use Rattle.aom_image.specs.declared.class.Provider.TheVariants.{Own};
 ghost use Rattle.aom_sound.specs.Enlisted.{completed_at_once, completed_with, pending, recorded, waits, cancelling, aborted, cancelled};
 ghost use Rattle.aom_sound.specs.Natives.{is_owed};
@@ -179,9 +179,10 @@ impl ActiveObjects {
         Some(pick)
     }
 
-    /// How many objects are enlisted.
+    /// How many objects are enlisted. Each has an entry.
     pub fn count(&self) -> usize
-        ensures { result ≡ length self.now.roster.entries }
+        ensures value { result ≡ length self.now.roster.entries }
+        ensures all { (n : ℕ) → IsEnlisted self.now.table n → IsSome (place n self.now.roster) }
     {
         self.schedule.count()
     }

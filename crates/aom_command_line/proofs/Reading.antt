@@ -62,7 +62,7 @@ unfolding clap_on_literals
 simple = refl
 
 -- each command that runs an image declines the same
-pub declines_run : (command : Text) (rows : List Row) (fault : WordsFault) → (command ≡ codes "run") ⊎ (command ≡ codes "explore") → DeclinesRun rows fault → Declines true (Some (command, rows)) fault
+pub declines_run : (command : Text) (rows : List Row) (fault : WordsFault) → (command ≡ codes "run") ⊎ (command ≡ codes "explore") ⊎ (command ≡ codes "debug") → DeclinesRun rows fault → Declines true (Some (command, rows)) fault
 declines_run command rows (faults.Text text) runs none = absurd none
 declines_run command rows faults.Native runs none = (runs, none)
 declines_run command rows faults.Memory runs none = none

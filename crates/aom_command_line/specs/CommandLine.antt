@@ -15,7 +15,7 @@ use Rattle.aom_natives.specs.Kinds.{word_of as word_of_kind}
 use Rattle.aom_natives.specs.declared.kind.NativeKind.{NativeKind}
 use Rattle.aom_command_line.specs.declared.words.RunWords.{RunWords}
 use Rattle.aom_command_line.specs.declared.words.Words.{Words}
-use Rattle.aom_command_line.specs.declared.words.Words.TheVariants.{Check, Run, Explore, Asm, Dis, Dot}
+use Rattle.aom_command_line.specs.declared.words.Words.TheVariants.{Check, Run, Explore, Debug, Asm, Dis, Dot}
 use Rattle.aom_command_line.specs.declared.words.WordsFault.{WordsFault}
 use Rattle.aom_command_line.specs.declared.words.WordsFault.TheVariants as faults
 
@@ -105,12 +105,16 @@ run_form = with_files (with_rule (with_rule (with_rule (new_app (codes "run")) l
 abbrev pub explore_form : App
 explore_form = with_files (with_rule (with_rule (with_rule (new_app (codes "explore")) limit_rule) from_rule) to_rule)
 
+-- debug [--limit N] IMAGE SCRIPT [NATIVE]..
+abbrev pub debug_form : App
+debug_form = with_files (with_rule (new_app (codes "debug")) limit_rule)
+
 -- the program's name, and one of these
 abbrev pub bare_form : App
 bare_form = record { top = record (new_app (codes "aom")).top { subcommand_required = true }; subs = [] }
 
 abbrev pub form : App
-form = with_subcommand (with_subcommand (with_subcommand (with_subcommand (with_subcommand (with_subcommand bare_form check_form.top) run_form.top) explore_form.top) asm_form.top) dis_form.top) dot_form.top
+form = with_subcommand (with_subcommand (with_subcommand (with_subcommand (with_subcommand (with_subcommand (with_subcommand bare_form check_form.top) run_form.top) explore_form.top) debug_form.top) asm_form.top) dis_form.top) dot_form.top
 
 -- the texts of words
 abbrev pub texts_of : {A : Type 0} → List (String A) → List Text
@@ -190,6 +194,7 @@ Asks (Some met) (Run run explain text) = (met.0 ≡ codes "run") × AsksRun met.
 Asks (Some met) (Explore run first last) =
     (met.0 ≡ codes "explore") × AsksRun met.1 run
     × IsNumberUpTo 4294967295 (one_of (codes "from") met.1) first × IsNumberUpTo 4294967295 (one_of (codes "to") met.1) last
+Asks (Some met) (Debug run) = (met.0 ≡ codes "debug") × AsksRun met.1 run
 Asks (Some met) (Asm text explain) = (met.0 ≡ codes "asm") × (string_bytes text ≡ word_of (codes "TEXT") met.1) × IsFlag (one_of (codes "explain") met.1) explain
 Asks (Some met) (Dis image) = (met.0 ≡ codes "dis") × (string_bytes image ≡ word_of (codes "IMAGE") met.1)
 Asks (Some met) (Dot image) = (met.0 ≡ codes "dot") × (string_bytes image ≡ word_of (codes "IMAGE") met.1)
@@ -197,12 +202,12 @@ Asks (Some met) (Dot image) = (met.0 ≡ codes "dot") × (string_bytes image ≡
 -- it is one of the program's commands
 abbrev pub IsCommand : Option (Text × List Row) → Type 0
 IsCommand None = ⊥
-IsCommand (Some met) = (met.0 ≡ codes "check") ⊎ (met.0 ≡ codes "run") ⊎ (met.0 ≡ codes "explore") ⊎ (met.0 ≡ codes "asm") ⊎ (met.0 ≡ codes "dis") ⊎ (met.0 ≡ codes "dot")
+IsCommand (Some met) = (met.0 ≡ codes "check") ⊎ (met.0 ≡ codes "run") ⊎ (met.0 ≡ codes "explore") ⊎ (met.0 ≡ codes "debug") ⊎ (met.0 ≡ codes "asm") ⊎ (met.0 ≡ codes "dis") ⊎ (met.0 ≡ codes "dot")
 
 -- it is a command that runs an image, with a word of no native or one word too many
 abbrev pub NamesNoNatives : Option (Text × List Row) → Type 0
 NamesNoNatives None = ⊥
-NamesNoNatives (Some met) = ((met.0 ≡ codes "run") ⊎ (met.0 ≡ codes "explore")) × NamesNoKinds (all_of (codes "NATIVE") met.1)
+NamesNoNatives (Some met) = ((met.0 ≡ codes "run") ⊎ (met.0 ≡ codes "explore") ⊎ (met.0 ≡ codes "debug")) × NamesNoKinds (all_of (codes "NATIVE") met.1)
 
 -- it is a command that explains, with a text and without `--explain`
 abbrev pub IsUnexplained : Option (Text × List Row) → Type 0
@@ -230,6 +235,7 @@ abbrev pub KeepsLimit : Words → Type 0
 KeepsLimit (Check image prices explain text) = Unit {0}
 KeepsLimit (Run run explain text) = (1 ≤ run.limit) × (run.limit ≤ 1000000000)
 KeepsLimit (Explore run first last) = (1 ≤ run.limit) × (run.limit ≤ 1000000000)
+KeepsLimit (Debug run) = (1 ≤ run.limit) × (run.limit ≤ 1000000000)
 KeepsLimit (Asm text explain) = Unit {0}
 KeepsLimit (Dis image) = Unit {0}
 KeepsLimit (Dot image) = Unit {0}

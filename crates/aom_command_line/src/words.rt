@@ -3,7 +3,7 @@ ghost use Rattle.std.specs.Prelude.{◌≡◌, ◌≤◌, IfOk, IfErr, Some, fal
 ghost use Rattle.std.specs.String.{string_bytes};
 ghost use Rattle.clap.specs.declared.builder.command.Command.TheViews.{out-Command as fields_of};
 ghost use Rattle.clap.specs.Words.{all_of, app_of, found_of, kind_of, one_of, rows_of, rule_of, subcommand_of, subcommand_rows_of, takes, with_subcommand};
-ghost use Rattle.aom_command_line.specs.CommandLine.{asm_form, check_form, dis_form, dot_form, explain_rule, explore_form, run_form, form, file_rule, flag_rule, from_rule, limit_rule, native_rule, number_rule, prices_rule, text_rule, to_rule, texts_of, with_files, word_of, Asks, AsksRun, AsksText, Declines, DeclinesNatives, DeclinesRun, DeclinesText, IsFlag, IsNumberUpTo, KeepsLimit, NamesKinds, Says, texts_in};
+ghost use Rattle.aom_command_line.specs.CommandLine.{asm_form, check_form, debug_form, dis_form, dot_form, explain_rule, explore_form, run_form, form, file_rule, flag_rule, from_rule, limit_rule, native_rule, number_rule, prices_rule, text_rule, to_rule, texts_of, with_files, word_of, Asks, AsksRun, AsksText, Declines, DeclinesNatives, DeclinesRun, DeclinesText, IsFlag, IsNumberUpTo, KeepsLimit, NamesKinds, Says, texts_in};
 
 use aom_natives::NativeKind;
 use clap::builder::ValueParser;
@@ -37,6 +37,10 @@ pub enum Words {
         first: u32,
         /// The number of the last one.
         last: u32,
+    },
+    /// Run as commands say that come in.
+    Debug {
+        run: RunWords,
     },
     Asm {
         text: String,
@@ -122,12 +126,13 @@ fn aom_command<'a>(alloc: Global) -> Result<Command<'a>, AllocError>
 
 /// Adds what is done with an image.
 fn with_uses<'a>(alloc: Global, command: Command<'a>) -> Result<Command<'a>, AllocError>
-    ensures { IfOk result (λ c. app_of c ≡ with_subcommand (with_subcommand (with_subcommand (app_of command.entry) check_form.top) run_form.top) explore_form.top) }
+    ensures { IfOk result (λ c. app_of c ≡ with_subcommand (with_subcommand (with_subcommand (with_subcommand (app_of command.entry) check_form.top) run_form.top) explore_form.top) debug_form.top) }
 {
     command
         .subcommand(check_command(alloc)?)?
         .subcommand(run_command(alloc)?)?
-        .subcommand(explore_command(alloc)?)
+        .subcommand(explore_command(alloc)?)?
+        .subcommand(debug_command(alloc)?)
 }
 
 /// Adds what makes an image of a text, and texts of an image.
@@ -201,6 +206,16 @@ fn explore_command<'a>(alloc: Global) -> Result<Command<'a>, AllocError>
         .arg(limit_arg(alloc))?
         .arg(from_arg(alloc))?
         .arg(to_arg(alloc))?;
+    with_files(alloc, command)
+}
+
+fn debug_command<'a>(alloc: Global) -> Result<Command<'a>, AllocError>
+    ensures form { IfOk result (λ c. app_of c ≡ debug_form) }
+    ensures own { IfOk result (λ c. (fields_of c).has_globals ≡ false) }
+{
+    let command = Command::new(alloc, "debug")
+        .about("Runs an image as commands say, which are read from standard input")
+        .arg(limit_arg(alloc))?;
     with_files(alloc, command)
 }
 
@@ -366,6 +381,9 @@ fn command_words(alloc: Global, command: &str, own: &ArgMatches) -> Result<Words
         "check" => check_words(alloc, own),
         "run" => running_words(alloc, own),
         "explore" => explore_words(alloc, own),
+        "debug" => Ok(Words::Debug {
+            run: run_words(alloc, own)?,
+        }),
         "asm" => Ok(Words::Asm {
             text: word_of(alloc, own, "TEXT")?,
             explain: is_set(own, "explain"),

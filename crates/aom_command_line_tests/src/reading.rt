@@ -10,6 +10,7 @@ enum Asked {
     Prices,
     Run(u32),
     Explore(u32, u32, u32),
+    Debug(u32),
     Asm,
     Dis,
     Dot,
@@ -37,6 +38,7 @@ fn named(alloc: Global, line: &str) -> Result<Vec<NativeKind>, Fail> {
     match read_words(alloc, words_of(alloc, line)?) {
         Ok(Words::Run { run, .. }) => Ok(run.natives),
         Ok(Words::Explore { run, .. }) => Ok(run.natives),
+        Ok(Words::Debug { run }) => Ok(run.natives),
         _ => Err(Fail::from("no run")),
     }
 }
@@ -50,6 +52,7 @@ fn ask(alloc: Global, line: &str) -> Result<Asked, Fail> {
         Ok(Words::Explore { run, first, last }) if is_one(run) => {
             Asked::Explore(run.limit, *first, *last)
         }
+        Ok(Words::Debug { run }) if is_one(run) => Asked::Debug(run.limit),
         Ok(Words::Asm { text, .. }) if text.as_str() == "one.text" => Asked::Asm,
         Ok(Words::Dis { image }) if image.as_str() == "one.image" => Asked::Dis,
         Ok(Words::Dot { image }) if image.as_str() == "one.image" => Asked::Dot,
@@ -194,6 +197,12 @@ fn the_command_line_is_read(rt: HostRuntime) -> Result<(), Fail> {
             Asked::Text,
         ),
         ("aom explore one.image", Asked::Text),
+        ("aom debug one.image one.script", Asked::Debug(1_000_000)),
+        ("aom debug --limit 7 one.image one.script", Asked::Debug(7)),
+        ("aom debug --limit 0 one.image one.script", Asked::Text),
+        ("aom debug --explain one.image one.script", Asked::Text),
+        ("aom debug one.image", Asked::Text),
+        ("aom debug one.image one.script clock", Asked::Native),
         ("aom run --from 3 one.image one.script", Asked::Text),
         ("aom check one.image one.script", Asked::Text),
         ("aom", Asked::Text),
@@ -239,6 +248,10 @@ fn natives_are_named_in_their_order(rt: HostRuntime) -> Result<(), Fail> {
         (
             "aom explore --to 3 one.image one.script delay",
             &[Delay][..],
+        ),
+        (
+            "aom debug one.image one.script line delay",
+            &[Line, Delay][..],
         ),
         (
             "aom run one.image one.script line line line line line line line line line line line line line line line line",

@@ -1,7 +1,8 @@
 -- What a call of a debugger answers, by what was told.
 use Rattle.std.proofs.Common.{◌≡◌, ◌≢◌, ◌∙◌, ◌⊎◌, ◌||◌, ℕ, Bool, true, false, cond, List, Option, Result, Ok, Err, IfErr, IfNone, IfOk, IfSome, Some, None, take, refl, sym, ap, subst, inl, inr}
 use Rattle.aom_sound.specs.State.{State}
-use Rattle.aom_sound.specs.World.{Reaches}
+use Rattle.aom_sound.specs.World.{Outside, Reaches}
+use Rattle.aom_transcript.specs.declared.event.TimedEvent.{TimedEvent}
 use Rattle.aom_transcript.specs.declared.line.Line.{Line}
 use Rattle.aom_machine.specs.Calls.{StandsFor, natives_of}
 use Rattle.aom_run.specs.Runs.{after}
@@ -9,8 +10,12 @@ use Rattle.aom_debug_words.specs.declared.fault.DebugFault.{DebugFault}
 use Rattle.aom_debug_words.specs.declared.fault.DebugFault.TheVariants.{BadCommand, NoSuch, Ended, OutOfMemory, WriteFault}
 use Rattle.aom_debug_sights.specs.Telling.{Tells, TellsPart}
 use Rattle.aom_debug.specs.Commands.{place_text}
-use Rattle.aom_debug_moves.specs.Sends.{Breaks, Leads, Sends}
-use Rattle.aom_debug.specs.Debugging.{Answer, Cut, Declined, Goes, GivesUp, Looks, MayGo, Outgoing, Shows, has_ended, outside_of}
+use Rattle.aom_debug_moves.specs.Sends.{Breaks, Sends}
+use Rattle.aom_debug_courses.specs.Courses.{Courses}
+use Rattle.aom_exec.specs.Steps.{progress}
+use Rattle.aom_parts.specs.declared.progress.Progress.{Progress}
+use Rattle.aom_run.specs.Turns.{hearing}
+use Rattle.aom_debug.specs.Debugging.{Answer, Cut, Declined, Goes, GivesUp, Looks, MayGo, Outgoing, Seen, SeenPart, Shows, has_ended, outside_of}
 use Rattle.aom_machine.specs.declared.machine.Machine.{Machine}
 use Rattle.aom_debug.proofs.Moving.{all_out, cut_out, part_out}
 use Rattle.aom_debug.specs.declared.debugger.Debugger.{Debugger}
@@ -39,21 +44,23 @@ module _ {X : Type 0} {B : X → Type 0} where
       go false y e = (refl, e)
 
   -- a course, and then where it has led; or it was cut
-  module _ (leads : Debugger X B → Leads) (old mid new : Debugger X B) (may : MayGo old) (image : mid.machine.core.image ≡ old.machine.core.image)
+  module _ (leads : Debugger X B → Courses) (old mid new : Debugger X B) (may : MayGo old) (image : mid.machine.core.image ≡ old.machine.core.image)
       (spots : mid.breakpoints ≡ old.breakpoints) (well : mid.has_failed ≡ old.has_failed) (before here now : Option (List ℕ)) (failed : Bool) where
     stands_so : (machine : new.machine ≡ mid.machine) (u : State) → StandsFor mid.machine u → StandsFor new.machine u
     stands_so machine u stands = subst (λ (m : Machine X B). StandsFor m u) (sym machine) stands
 
-    pub gone : ((s : State) (lines : List Line) (u : State) → leads old s lines u → Reaches old.machine.core.image (outside_of old) s lines u) → (result : Answer) → Sends (leads old) old.machine before here mid.machine
-        → Shows mid new (record { before = here; now = now; failed = failed }) result → Goes leads old new (record { before = before; now = now; failed = failed }) result
+    gone : ((s : State) (lines : List Line) (u : State) → leads old old.recent mid.recent s lines u → Reaches old.machine.core.image (outside_of old) s lines u) → (result : Answer)
+        → Sends (leads old old.recent mid.recent) old.machine before here mid.machine → Shows mid new (record { before = here; now = now; failed = failed }) result
+        → Goes leads old new (record { before = before; now = now; failed = failed }) result
     gone reaches (Ok done) sends shows =
         let same = shows.0 in
-        let machine = ap (λ (d : Debugger X B). d.machine) same in (
+        let machine = ap (λ (d : Debugger X B). d.machine) same in
+        let recent = ap (λ (d : Debugger X B). d.recent) same in (
           may,
           record {
             goes = λ s st.
-                let f = all_out old.machine.core.image old.machine mid.machine image before here now (leads old) sends shows.1 s st in
-                (f.0, f.1, f.2, f.3, stands_so machine f.1 f.4);
+                let f = all_out old.machine.core.image old.machine mid.machine image before here now (leads old old.recent mid.recent) sends shows.1 s st in
+                (f.0, f.1, subst (λ places. leads old old.recent places s f.0 f.1) (sym recent) f.2, f.3, stands_so machine f.1 f.4);
             spots = ap (λ (d : Debugger X B). d.breakpoints) same ∙ spots;
             well = ap (λ (d : Debugger X B). d.has_failed) same ∙ well ∙ may.0;
           },
@@ -61,10 +68,9 @@ module _ {X : Type 0} {B : X → Type 0} where
     gone reaches (Err fault) sends shows =
         let same = shows.0 in
         let machine = ap (λ (d : Debugger X B). d.machine) same in
-        let all = Reaches old.machine.core.image (outside_of old) in
         let cut : Cut old new (record { before = before; now = now; failed = failed }) = record {
           goes = λ s st.
-              let f = part_out old.machine.core.image old.machine mid.machine image before here now (leads old) (Reaches old.machine.core.image (outside_of old)) reaches fault failed sends shows.1 s st in
+              let f = part_out old.machine.core.image old.machine mid.machine image before here now (leads old old.recent mid.recent) (Reaches old.machine.core.image (outside_of old)) reaches fault failed sends shows.1 s st in
               (f.0, f.1, f.2, f.3, stands_so machine f.1 f.4);
           spots = ap (λ (d : Debugger X B). d.breakpoints) same ∙ spots;
           fails = shows.1.fails;
@@ -72,7 +78,7 @@ module _ {X : Type 0} {B : X → Type 0} where
         } in
         subst (λ f. Goes leads old new (record { before = before; now = now; failed = failed }) (Err f)) (sym shows.1.told) (may, cut)
 
-    pub gave_up : (result : Answer) → failed ≡ true → Breaks (Reaches old.machine.core.image (outside_of old)) old.machine before here mid.machine → GivesUp mid new (record { before = here; now = now; failed = failed }) result
+    gave_up : (result : Answer) → failed ≡ true → Breaks (Reaches old.machine.core.image (outside_of old)) old.machine before here mid.machine → GivesUp mid new (record { before = here; now = now; failed = failed }) result
         → Goes leads old new (record { before = before; now = now; failed = failed }) result
     gave_up (Err WriteFault) fails breaks up =
         let same = up.0 in
@@ -93,22 +99,30 @@ module _ {X : Type 0} {B : X → Type 0} where
     gave_up (Err Ended) fails breaks up = absurd up
     gave_up (Err OutOfMemory) fails breaks up = absurd up
 
+  -- either of the two, by how it went
+  module _ (by : Debugger X B → Outside → Courses) (old mid new : Debugger X B) (may : MayGo old) (image : mid.machine.core.image ≡ old.machine.core.image)
+      (before here now : Option (List ℕ)) (failed : Bool) (events : List TimedEvent) (heard : events ≡ old.script.timed) where
+    abbrev hears : List TimedEvent → Outside
+    hears es = hearing old.turn.refused old.limit (natives_of old.machine) es
+
+    pub answered : ((s : State) (lines : List Line) (u : State) → by old (outside_of old) old.recent mid.recent s lines u → Reaches old.machine.core.image (outside_of old) s lines u)
+        → (spots : mid.breakpoints ≡ old.breakpoints) → (well : mid.has_failed ≡ old.has_failed) → (went : Option Progress) (off : Bool) (result : Answer)
+        → IfNone went ((off ≡ true) × Breaks (Reaches old.machine.core.image (hears events)) old.machine before here mid.machine)
+        → IfSome went (λ far. Sends (by old (hears events) old.recent mid.recent) old.machine before here mid.machine × (far ≡ progress mid.machine.core))
+        → IfNone went (GivesUp mid new (record { before = here; now = now; failed = failed }) result) → IfNone went (failed ≡ off)
+        → IfSome went (λ far. Shows mid new (record { before = here; now = now; failed = failed }) result)
+        → Goes (λ d. by d (outside_of d)) old new (record { before = before; now = now; failed = failed }) result
+    answered reaches spots well None off result none some up same shows =
+        let cut = subst (λ es. Breaks (Reaches old.machine.core.image (hears es)) old.machine before here mid.machine) heard none.1 in
+        gave_up (λ d. by d (outside_of d)) old mid new may image spots well before here now failed result (same ∙ none.0) cut up
+    answered reaches spots well (Some far) off result none some up same shows =
+        let sends = subst (λ es. Sends (by old (hears es) old.recent mid.recent) old.machine before here mid.machine) heard some.0 in
+        gone (λ d. by d (outside_of d)) old mid new may image spots well before here now failed reaches result sends shows
+
 -- a look
-module _ {X : Type 0} {B : X → Type 0} (shows : Debugger X B → State → List ℕ → Type 0) (old new : Debugger X B) (before now : Option (List ℕ)) (failed : Bool) where
-  -- what it shows of each state
-  abbrev pub Sees : Type 0
-  Sees = (s : State) → StandsFor old.machine s → (text : List ℕ) × shows old s text × (now ≡ after before text)
-
-  abbrev pub SeesPart : DebugFault → Type 0
-  SeesPart fault = (fault ≡ WriteFault) × (failed ≡ true) × ((s : State) → StandsFor old.machine s → (text : List ℕ) × shows old s text × ((sent : ℕ) × (now ≡ after before (take sent text))))
-
-  pub looked : (told result : Answer) → old.has_failed ≡ false → result ≡ told → IfOk told (λ _. new ≡ old) → IfErr told (λ _. new ≡ record old { has_failed = true })
-      → IfOk told (λ _. Sees) → IfErr told (λ fault. SeesPart fault) → Looks shows old new (record { before = before; now = now; failed = failed }) result
-  looked (Ok done) result well is same changed sees part = subst (λ r. Looks shows old new (record { before = before; now = now; failed = failed }) r) (sym is) (well, same, sees)
-  looked (Err fault) result well is same changed sees part =
-      subst (λ r. Looks shows old new (record { before = before; now = now; failed = failed }) r) (sym (is ∙ ap (λ f. Err f) part.0)) (well, changed, part.1, part.2)
-
--- one or the other
-pub by_either : {A : Type 0} {N K M T G : Type 0} {S : A → Type 0} (r : Option A) → IfNone r N → IfSome r S → IfNone r M → IfNone r K → IfSome r (λ _. T) → (N → M → K → G) → ((a : A) → S a → T → G) → G
-by_either None n s m k t none some = none n m k
-by_either (Some a) n s m k t none some = some a s t
+pub looked : {X : Type 0} {B : X → Type 0} (shows : Debugger X B → State → List ℕ → Type 0) (old new : Debugger X B) (before now : Option (List ℕ)) (failed : Bool) (told result : Answer) → old.has_failed ≡ false → result ≡ told
+    → IfOk told (λ _. new ≡ old) → IfErr told (λ _. new ≡ record old { has_failed = true }) → IfOk told (λ _. Seen shows old before now) → IfErr told (λ fault. SeenPart shows old fault failed before now)
+    → Looks shows old new (record { before = before; now = now; failed = failed }) result
+looked shows old new before now failed (Ok done) result well is same changed sees part = subst (λ r. Looks shows old new (record { before = before; now = now; failed = failed }) r) (sym is) (well, same, sees)
+looked shows old new before now failed (Err fault) result well is same changed sees part =
+    subst (λ r. Looks shows old new (record { before = before; now = now; failed = failed }) r) (sym (is ∙ ap (λ f. Err f) part.0)) (well, changed, part.1, part.2)

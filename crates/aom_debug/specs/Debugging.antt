@@ -8,19 +8,18 @@ use Rattle.aom_transcript.specs.Text.{ended}
 use Rattle.aom_machine.specs.Calls.{Stands, StandsFor, natives_of}
 use Rattle.aom_run.specs.Runs.{after}
 use Rattle.aom_run.specs.Turns.{hearing}
-use Rattle.aom_debug_words.specs.declared.command.Command.{Command}
-use Rattle.aom_debug_words.specs.declared.command.Command.TheVariants.{Step, Turn, Go, Break, Cells, Owners, Cleanup, Actives, Recent}
 use Rattle.aom_debug_words.specs.declared.fault.DebugFault.{DebugFault}
 use Rattle.aom_debug_words.specs.declared.fault.DebugFault.TheVariants.{BadCommand, NoSuch, Ended, OutOfMemory, WriteFault}
 use Rattle.aom_debug_marks.specs.Marks.{is_set, with_spot}
 use Rattle.aom_debug_marks.specs.declared.spot.Spot.{Spot}
 use Rattle.aom_debug_lines.specs.declared.answer.Answer.TheVariants.{Done}
 use Rattle.aom_debug_lines.specs.Answers.{answer_text}
-use Rattle.aom_debug_moves.specs.Sends.{Leads}
-use Rattle.aom_debug_courses.specs.Courses.{GoesBy, GoesToBreakpoint, TurnsOver}
+use Rattle.aom_debug_courses.specs.Courses.{Courses, GoesBy, GoesToBreakpoint, TurnsOver}
 use Rattle.aom_debug_sights.specs.Telling.{Tells, TellsPart}
-use Rattle.aom_debug.specs.Commands.{NamesNoRoom, is_count, moved_text, place_text, spot_named}
+use Rattle.aom_debug.specs.Commands.{NamesNoRoom, ShowsActives, ShowsCells, ShowsCleanup, ShowsOwners, ShowsRecent, is_count, moved_text, place_text, spot_named}
 use Rattle.aom_debug.specs.declared.debugger.Debugger.{Debugger}
+use Rattle.aom_debug.specs.declared.looking.Look.{Look}
+use Rattle.aom_debug.specs.declared.looking.Look.TheVariants.{Cells as At_cells, Owners as At_owners, Cleanup as At_cleanup, Actives as At_actives, Recent as At_recent}
 
 -- what a call answers
 abbrev pub Answer : Type 0
@@ -61,9 +60,9 @@ module _ {X : Type 0} {B : X → Type 0} where
 
   -- ---- commands that go on
 
-  -- from each state that the machine stood for such moves lead to one that it stands for, and their lines are out, and then where they lead
-  pub record Moved (leads : Debugger X B → Leads) (old new : Debugger X B) (out : Outgoing) : Type 0 where
-    pub goes : (s : State) → StandsFor old.machine s → (lines : List Line) × (u : State) × leads old s lines u × (out.now ≡ after out.before (moved_text old.machine.core.image lines u)) × StandsFor new.machine u
+  -- from each state that the machine stood for such moves lead to one that it stands for, with the latest instructions as they are then, and their lines are out, and then where they lead
+  pub record Moved (leads : Debugger X B → Courses) (old new : Debugger X B) (out : Outgoing) : Type 0 where
+    pub goes : (s : State) → StandsFor old.machine s → (lines : List Line) × (u : State) × leads old old.recent new.recent s lines u × (out.now ≡ after out.before (moved_text old.machine.core.image lines u)) × StandsFor new.machine u
     pub spots : new.breakpoints ≡ old.breakpoints
     pub well : new.has_failed ≡ false
 
@@ -78,7 +77,7 @@ module _ {X : Type 0} {B : X → Type 0} where
   abbrev pub MayGo : Debugger X B → Type 0
   MayGo d = (d.has_failed ≡ false) × (has_ended d ≡ false)
 
-  abbrev pub Goes : (Debugger X B → Leads) → Debugger X B → Debugger X B → Outgoing → Answer → Type 0
+  abbrev pub Goes : (Debugger X B → Courses) → Debugger X B → Debugger X B → Outgoing → Answer → Type 0
   Goes leads old new out (Ok done) = MayGo old × Moved leads old new out
   Goes leads old new out (Err Ended) = ((old.has_failed ≡ true) ⊎ (has_ended old ≡ true)) × Declined old new out
   Goes leads old new out (Err WriteFault) = MayGo old × Cut old new out
@@ -101,21 +100,21 @@ module _ {X : Type 0} {B : X → Type 0} where
   CountsNot old new out answer = ⊥
 
   -- so many steps
-  abbrev pub steps_of : ℕ → Debugger X B → Leads
+  abbrev pub steps_of : ℕ → Debugger X B → Courses
   steps_of n d = GoesBy d.machine.core.image (outside_of d) n
 
   abbrev pub Steps : ℕ → Debugger X B → Debugger X B → Outgoing → Answer → Type 0
   Steps n old new out answer = cond (is_count n) (Goes (steps_of n) old new out answer) (CountsNot old new out answer)
 
   -- to the end of a dispatch
-  abbrev pub turns_of : Debugger X B → Leads
+  abbrev pub turns_of : Debugger X B → Courses
   turns_of d = TurnsOver d.machine.core.image (outside_of d)
 
   abbrev pub Turns : Debugger X B → Debugger X B → Outgoing → Answer → Type 0
   Turns old new out answer = Goes turns_of old new out answer
 
   -- to a breakpoint
-  abbrev pub runs_of : Debugger X B → Leads
+  abbrev pub runs_of : Debugger X B → Courses
   runs_of d = GoesToBreakpoint d.machine.core.image (outside_of d) d.breakpoints
 
   abbrev pub Runs : Debugger X B → Debugger X B → Outgoing → Answer → Type 0
@@ -144,9 +143,29 @@ module _ {X : Type 0} {B : X → Type 0} where
 
   -- ---- looks
 
-  -- what a state shows is out, and nothing is changed
+  -- of a state and the latest instructions
+  abbrev pub Sees : Look → Debugger X B → State → List ℕ → Type 0
+  Sees At_cells d s text = ShowsCells d.machine.core.image s text
+  Sees At_owners d s text = ShowsOwners s text
+  Sees At_cleanup d s text = ShowsCleanup s text
+  Sees At_actives d s text = ShowsActives s text
+  Sees At_recent d s text = ShowsRecent d.recent text
+
+  -- what each state shows that the machine stands for is out
+  abbrev pub Seen : (Debugger X B → State → List ℕ → Type 0) → Debugger X B → Option (List ℕ) → Option (List ℕ) → Type 0
+  Seen shows d before now = (s : State) → StandsFor d.machine s → (text : List ℕ) × shows d s text × (now ≡ after before text)
+
+  -- or a beginning of it
+  abbrev pub SeenCut : (Debugger X B → State → List ℕ → Type 0) → Debugger X B → Option (List ℕ) → Option (List ℕ) → Type 0
+  SeenCut shows d before now = (s : State) → StandsFor d.machine s → (text : List ℕ) × shows d s text × ((sent : ℕ) × (now ≡ after before (take sent text)))
+
+  -- since the sink failed, and the fault says so
+  abbrev pub SeenPart : (Debugger X B → State → List ℕ → Type 0) → Debugger X B → DebugFault → Bool → Option (List ℕ) → Option (List ℕ) → Type 0
+  SeenPart shows d fault failed before now = (fault ≡ WriteFault) × (failed ≡ true) × SeenCut shows d before now
+
+  -- and nothing is changed
   abbrev pub Looks : (Debugger X B → State → List ℕ → Type 0) → Debugger X B → Debugger X B → Outgoing → Answer → Type 0
-  Looks shows old new out (Ok done) = (old.has_failed ≡ false) × (new ≡ old) × ((s : State) → StandsFor old.machine s → (text : List ℕ) × shows old s text × (out.now ≡ after out.before text))
+  Looks shows old new out (Ok done) = (old.has_failed ≡ false) × (new ≡ old) × Seen shows old out.before out.now
   Looks shows old new out (Err Ended) = (old.has_failed ≡ true) × Declined old new out
-  Looks shows old new out (Err WriteFault) = (old.has_failed ≡ false) × (new ≡ record old { has_failed = true }) × (out.failed ≡ true) × ((s : State) → StandsFor old.machine s → (text : List ℕ) × shows old s text × ((sent : ℕ) × (out.now ≡ after out.before (take sent text))))
+  Looks shows old new out (Err WriteFault) = (old.has_failed ≡ false) × (new ≡ record old { has_failed = true }) × (out.failed ≡ true) × SeenCut shows old out.before out.now
   Looks shows old new out (Err fault) = ⊥

@@ -4,9 +4,9 @@ use Rattle.aom_debug_words.specs.declared.command.Command.{Command}
 use Rattle.aom_debug_words.specs.declared.command.Command.TheVariants.{Step, Turn, Go, Break, Cells, Owners, Cleanup, Actives, Recent}
 use Rattle.aom_debug_words.specs.declared.fault.DebugFault.{DebugFault}
 use Rattle.aom_debug_words.specs.declared.fault.DebugFault.TheVariants.{Ended}
-use Rattle.aom_debug.specs.Commands.{ShowsActives, ShowsCells, ShowsCleanup, ShowsOwners, ShowsRecent}
-use Rattle.aom_debug.specs.Debugging.{Answer, Declined, Looks, Outgoing, Runs, Sets, Steps, Turns}
+use Rattle.aom_debug.specs.Debugging.{Answer, Declined, Looks, Outgoing, Runs, Sees, Sets, Steps, Turns}
 use Rattle.aom_debug.specs.declared.debugger.Debugger.{Debugger}
+use Rattle.aom_debug.specs.declared.looking.Look.TheVariants as look
 
 module _ {X : Type 0} {B : X → Type 0} where
   -- a command by its call
@@ -15,11 +15,11 @@ module _ {X : Type 0} {B : X → Type 0} where
   Obeys Turn = Turns
   Obeys Go = Runs
   Obeys (Break method place) = Sets method place
-  Obeys Cells = Looks (λ d s text. ShowsCells d.machine.core.image s text)
-  Obeys Owners = Looks (λ d s text. ShowsOwners s text)
-  Obeys Cleanup = Looks (λ d s text. ShowsCleanup s text)
-  Obeys Actives = Looks (λ d s text. ShowsActives s text)
-  Obeys Recent = Looks (λ d s text. ShowsRecent d.recent text)
+  Obeys Cells = Looks (Sees look.Cells)
+  Obeys Owners = Looks (Sees look.Owners)
+  Obeys Cleanup = Looks (Sees look.Cleanup)
+  Obeys Actives = Looks (Sees look.Actives)
+  Obeys Recent = Looks (Sees look.Recent)
 
   -- nothing is asked, or nothing that there is
   abbrev pub Passes : Answer → Debugger X B → Debugger X B → Outgoing → Answer → Type 0

@@ -5,7 +5,7 @@ ghost use Rattle.aom_debug_words.specs.Commands.{command_said};
 ghost use Rattle.aom_debug.specs.Debugging.{IsReady, Keeps};
 ghost use Rattle.aom_debug.specs.Obeying.{Heeds, Obeys};
 
-use crate::Debugger;
+use crate::{Debugger, Look};
 use aom_debug_words::{Command, DebugFault, read_command};
 use aom_natives::Native;
 use aom_run::Sink;
@@ -44,11 +44,11 @@ impl<'a> Debugger<'a> {
             Command::Turn => self.turn(out),
             Command::Go => self.go(out),
             Command::Break(method, place) => self.break_at(method, place, out),
-            Command::Cells => self.cells(out),
-            Command::Owners => self.owners(out),
-            Command::Cleanup => self.cleanup(out),
-            Command::Actives => self.actives(out),
-            Command::Recent => self.recent(out),
+            Command::Cells => self.look(Look::Cells, out),
+            Command::Owners => self.look(Look::Owners, out),
+            Command::Cleanup => self.look(Look::Cleanup, out),
+            Command::Actives => self.look(Look::Actives, out),
+            Command::Recent => self.look(Look::Recent, out),
         }
     }
 }

@@ -13,4 +13,5 @@ mod marking;
 mod showing;
 
 pub use debugger::Debugger;
+pub use looking::Look;
 pub use showing::tell_place;

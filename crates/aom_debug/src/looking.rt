@@ -1,8 +1,7 @@
-//! Inspections, which change nothing.
-ghost use Rattle.std.specs.Prelude.{◌≡◌};
+//! Looks, which change nothing.
+ghost use Rattle.std.specs.Prelude.{◌≡◌, IfErr, IfOk};
 ghost use Rattle.aom_natives.specs.Slots.{AllAgree};
-ghost use Rattle.aom_debug.specs.Commands.{ShowsActives, ShowsCells, ShowsCleanup, ShowsOwners, ShowsRecent};
-ghost use Rattle.aom_debug.specs.Debugging.{IsReady, Keeps, Looks};
+ghost use Rattle.aom_debug.specs.Debugging.{IsReady, Keeps, Looks, Seen, SeenPart, Sees};
 
 use crate::Debugger;
 use crate::showing::{show_cells, show_owners};
@@ -11,84 +10,49 @@ use aom_debug_words::DebugFault;
 use aom_natives::Native;
 use aom_run::Sink;
 
+/// What a debugger shows of a machine.
+#[derive(Clone, Copy, PartialEq, Eq, Debug)]
+pub enum Look {
+    /// How many cells live, and how many of each class that has any.
+    Cells,
+    /// What each place owns.
+    Owners,
+    /// The items of the cleanup stack, the bottom first.
+    Cleanup,
+    /// The enlisted objects, in the order of choice.
+    Actives,
+    /// The latest instructions, the oldest first.
+    Recent,
+}
+
 impl<'a> Debugger<'a> {
-    /// Tells how many cells live, and how many of each class that has any.
-    pub fn cells<W: Sink>(&mut self, out: &mut W) -> Result<(), DebugFault>
-        requires agree { AllAgree (λ l. l.ids) (λ l. (⟦<dyn Native as Native>⟧ l.native.vtable).owed l.native.value) self.old.machine.natives.slots.items }
-        requires ready { IsReady self.old }
-        ensures agree { AllAgree (λ l. l.ids) (λ l. (⟦<dyn Native as Native>⟧ l.native.vtable).owed l.native.value) self.new.machine.natives.slots.items }
-        ensures ready { IsReady self.new }
-        ensures keeps { Keeps self.old self.new }
-        ensures answer { Looks (λ d s text. ShowsCells d.machine.core.image s text) self.old self.new (record { before = W.out out.old; now = W.out out.new; failed = W.failed out.new }) result }
+    /// Tells it.
+    fn show<W: Sink>(&self, look: Look, out: &mut W) -> Result<(), DebugFault>
+        ensures ok { IfOk result (λ _. Seen (Sees look) self.now (W.out out.old) (W.out out.new)) }
+        ensures err { IfErr result (λ fault. SeenPart (Sees look) self.now fault (W.failed out.new) (W.out out.old) (W.out out.new)) }
     {
-        if self.has_failed {
-            return Err(DebugFault::Ended);
+        match look {
+            Look::Cells => show_cells(&self.machine, out),
+            Look::Owners => show_owners(&self.machine, out),
+            Look::Cleanup => tell_cleanup(self.machine.core.parts(), out),
+            Look::Actives => tell_actives(self.machine.core.parts(), out),
+            Look::Recent => tell_recent(&self.recent, out),
         }
-        let told = show_cells(&self.machine, out);
-        self.kept(told)
     }
 
-    /// Tells what each place owns.
-    pub fn owners<W: Sink>(&mut self, out: &mut W) -> Result<(), DebugFault>
+    /// Tells it, where all that was told before is out.
+    pub fn look<W: Sink>(&mut self, look: Look, out: &mut W) -> Result<(), DebugFault>
         requires agree { AllAgree (λ l. l.ids) (λ l. (⟦<dyn Native as Native>⟧ l.native.vtable).owed l.native.value) self.old.machine.natives.slots.items }
         requires ready { IsReady self.old }
         ensures agree { AllAgree (λ l. l.ids) (λ l. (⟦<dyn Native as Native>⟧ l.native.vtable).owed l.native.value) self.new.machine.natives.slots.items }
         ensures ready { IsReady self.new }
         ensures keeps { Keeps self.old self.new }
-        ensures answer { Looks (λ d s text. ShowsOwners s text) self.old self.new (record { before = W.out out.old; now = W.out out.new; failed = W.failed out.new }) result }
+        ensures answer { Looks (Sees look) self.old self.new (record { before = W.out out.old; now = W.out out.new; failed = W.failed out.new }) result }
     {
         if self.has_failed {
             return Err(DebugFault::Ended);
         }
-        let told = show_owners(&self.machine, out);
-        self.kept(told)
-    }
-
-    /// Tells the items of the cleanup stack, the bottom first.
-    pub fn cleanup<W: Sink>(&mut self, out: &mut W) -> Result<(), DebugFault>
-        requires agree { AllAgree (λ l. l.ids) (λ l. (⟦<dyn Native as Native>⟧ l.native.vtable).owed l.native.value) self.old.machine.natives.slots.items }
-        requires ready { IsReady self.old }
-        ensures agree { AllAgree (λ l. l.ids) (λ l. (⟦<dyn Native as Native>⟧ l.native.vtable).owed l.native.value) self.new.machine.natives.slots.items }
-        ensures ready { IsReady self.new }
-        ensures keeps { Keeps self.old self.new }
-        ensures answer { Looks (λ d s text. ShowsCleanup s text) self.old self.new (record { before = W.out out.old; now = W.out out.new; failed = W.failed out.new }) result }
-    {
-        if self.has_failed {
-            return Err(DebugFault::Ended);
-        }
-        let told = tell_cleanup(self.machine.core.parts(), out);
-        self.kept(told)
-    }
-
-    /// Tells the enlisted objects, in the order of choice.
-    pub fn actives<W: Sink>(&mut self, out: &mut W) -> Result<(), DebugFault>
-        requires agree { AllAgree (λ l. l.ids) (λ l. (⟦<dyn Native as Native>⟧ l.native.vtable).owed l.native.value) self.old.machine.natives.slots.items }
-        requires ready { IsReady self.old }
-        ensures agree { AllAgree (λ l. l.ids) (λ l. (⟦<dyn Native as Native>⟧ l.native.vtable).owed l.native.value) self.new.machine.natives.slots.items }
-        ensures ready { IsReady self.new }
-        ensures keeps { Keeps self.old self.new }
-        ensures answer { Looks (λ d s text. ShowsActives s text) self.old self.new (record { before = W.out out.old; now = W.out out.new; failed = W.failed out.new }) result }
-    {
-        if self.has_failed {
-            return Err(DebugFault::Ended);
-        }
-        let told = tell_actives(self.machine.core.parts(), out);
-        self.kept(told)
-    }
-
-    /// Tells the latest instructions, the oldest first.
-    pub fn recent<W: Sink>(&mut self, out: &mut W) -> Result<(), DebugFault>
-        requires agree { AllAgree (λ l. l.ids) (λ l. (⟦<dyn Native as Native>⟧ l.native.vtable).owed l.native.value) self.old.machine.natives.slots.items }
-        requires ready { IsReady self.old }
-        ensures agree { AllAgree (λ l. l.ids) (λ l. (⟦<dyn Native as Native>⟧ l.native.vtable).owed l.native.value) self.new.machine.natives.slots.items }
-        ensures ready { IsReady self.new }
-        ensures keeps { Keeps self.old self.new }
-        ensures answer { Looks (λ d s text. ShowsRecent d.recent text) self.old self.new (record { before = W.out out.old; now = W.out out.new; failed = W.failed out.new }) result }
-    {
-        if self.has_failed {
-            return Err(DebugFault::Ended);
-        }
-        let told = tell_recent(&self.recent, out);
+        let told = self.show(look, out);
         self.kept(told)
     }
 }

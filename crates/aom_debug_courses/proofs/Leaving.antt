@@ -19,6 +19,7 @@ use Rattle.aom_machine.specs.declared.machine.Machine.{Machine}
 use Rattle.aom_run.specs.Runs.{Moving}
 use Rattle.aom_run.specs.Turns.{LeadTo}
 use Rattle.aom_run.proofs.Spared.{moving_spares}
+use Rattle.aom_debug_marks.specs.declared.spot.Spot.{Spot}
 use Rattle.aom_debug_moves.specs.Moves.{Arrives, TurnsOnce, stays as no_turns, turns}
 use Rattle.aom_debug_moves.specs.Sends.{Sends, Then}
 use Rattle.aom_debug_courses.specs.Courses.{InDispatch, IsOver, Rests, WalksOn, WalksThere}
@@ -118,14 +119,14 @@ module _ (p : Image) (outside : Outside) (few : outside.limit ≤ 2 ^ 64 - 1) wh
   over_not s over idle = let none = ap is_some idle.going in absurd cc
 
   -- steps in the next dispatch
-  pub falls_on : (stays : State → Bool) (s : State) (lines : List Line) (u : State) → IsBetween s → IsBetween u → InDispatch p outside (WalksOn p outside.refused stays) s lines u → left_of u < left_of s
-  falls_on stays s lines u idle again z = go z.4
+  pub falls_on : (stays : State → Bool) (old new : List Spot) (s : State) (lines : List Line) (u : State) → IsBetween s → IsBetween u → InDispatch p outside (WalksOn p outside.refused stays) old new s lines u → left_of u < left_of s
+  falls_on stays old new s lines u idle again z = go z.4
     where
-      by : progress_of z.0 ≡ Running → WalksOn p outside.refused stays z.0 z.2 u → left_of u < left_of s
+      by : progress_of z.0 ≡ Running → WalksOn p outside.refused stays old new z.0 z.2 u → left_of u < left_of s
       by running (inl y) = absurd (between_runs_not z.0 (subst (λ v. IsBetween v) y.1.1 again) running)
-      by running (inr y) = falls_arrived s z.1 z.0 z.2 u idle running again z.3 (moving_walk p outside.refused stays z.0 (suc y.1.0) z.2 u y.1.1)
+      by running (inr y) = falls_arrived s z.1 z.0 z.2 u idle running again z.3 (moving_walk p outside.refused stays old z.0 (suc y.1.0) new z.2 u y.1.1)
 
-      go : (IsOver z.0 × Rests z.2 u z.0) ⊎ (IsAtHand z.0 × WalksOn p outside.refused stays z.0 z.2 u) → left_of u < left_of s
+      go : (IsOver z.0 × Rests old new z.0 z.2 u) ⊎ (IsAtHand z.0 × WalksOn p outside.refused stays old new z.0 z.2 u) → left_of u < left_of s
       go (inl y) = absurd (over_not z.0 y.0 (subst (λ v. IsBetween v) y.1.1 again))
       go (inr y) = by (running_of z.0 y.0) y.1
 
@@ -134,11 +135,11 @@ module _ (p : Image) (outside : Outside) (few : outside.limit ≤ 2 ^ 64 - 1) wh
     left_at : (m : Machine X B) (s : State) → StandsFor m s → left_in outside.events outside.limit m.core.parts.rest ≡ left_of s
     left_at m s stands = ap (λ r. left_in outside.events outside.limit r) stands.stands.agrees.rest
 
-    pub left_falls : (stays : State → Bool) (m c : Machine X B) (mid out : Option (List ℕ)) → Stands m → progress m.core ≡ Turned → Sends (InDispatch p outside (WalksOn p outside.refused stays)) m mid out c → progress c.core ≡ Turned
+    pub left_falls : (stays : State → Bool) (old new : List Spot) (m c : Machine X B) (mid out : Option (List ℕ)) → Stands m → progress m.core ≡ Turned → Sends (InDispatch p outside (WalksOn p outside.refused stays) old new) m mid out c → progress c.core ≡ Turned
         → left_in outside.events outside.limit c.core.parts.rest < left_in outside.events outside.limit m.core.parts.rest
-    left_falls stays m c mid out st resting y again =
+    left_falls stays old new m c mid out st resting y again =
         let g = y st.0 st.1 in
         let idle = between st.0 (sym (is_as_far m.core st.0 st.1.stands) ∙ resting) in
         let there = between g.1 (sym (is_as_far c.core g.1 g.4.stands) ∙ again) in
-        let less = falls_on stays st.0 g.0 g.1 idle there g.2 in
+        let less = falls_on stays old new st.0 g.0 g.1 idle there g.2 in
         omega (arith, less, left_at m st.0 st.1, left_at c g.1 g.4)

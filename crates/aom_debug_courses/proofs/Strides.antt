@@ -1,4 +1,4 @@
--- Steps one after another, with their lines: what goes out, and where they end.
+-- Steps one after another, with their lines and what is noted of them: what goes out, and where they end.
 use Rattle.std.proofs.Common.{◌≡◌, ◌≢◌, ◌⊎◌, ◌∙◌, ℕ, suc, Bool, true, false, List, [], ◌++◌, Option, length, take, refl, sym, ap, subst, inl, inr}
 use Rattle.aom_image.specs.Image.{Image}
 use Rattle.aom_sound.specs.State.{State}
@@ -14,60 +14,68 @@ use Rattle.aom_machine.specs.declared.machine.Machine.{Machine}
 use Rattle.aom_run.specs.Runs.{Moving, after, begins as stays_there}
 use Rattle.aom_run.proofs.Reaching.{moving_both}
 use Rattle.aom_run.proofs.Sending.{after_none}
+use Rattle.aom_debug_marks.specs.declared.spot.Spot.{Spot}
 use Rattle.aom_debug_moves.specs.Moves.{Strides}
 use Rattle.aom_debug_moves.specs.Sends.{Breaks, Leads, Sends}
 use Rattle.aom_debug_moves.proofs.Sending.{breaks_then, moving_stride, sent_both}
-use Rattle.aom_debug_courses.specs.Courses.{IsThere, Walks, WalksIfAny, WalksOn, WalksThere}
+use Rattle.aom_debug_courses.specs.Courses.{Courses, IsThere, Walks, WalksIfAny, WalksOn, WalksThere}
 use Rattle.aom_debug_courses.specs.Courses.Walks.{begins, strides}
 
 -- some steps, from the last of which one may go on
-abbrev pub Underway : Image → List ℕ → (State → Bool) → Leads
-Underway p refused stays s lines u = (n : ℕ) × Walks p refused stays s n lines u × (n ≢ 0 → stays u ≡ false)
+abbrev pub Underway : Image → List ℕ → (State → Bool) → Courses
+Underway p refused stays old new s lines u = (n : ℕ) × Walks p refused stays old s n new lines u × (n ≢ 0 → stays u ≡ false)
+
+-- one at least
+abbrev pub Begun : Image → List ℕ → (State → Bool) → Courses
+Begun p refused stays old new s lines u = (n : ℕ) × Walks p refused stays old s (suc n) new lines u
 
 -- steps are moves
-pub moving_walk : (p : Image) (refused : List ℕ) (stays : State → Bool) (s : State) (n : ℕ) (lines : List Line) (u : State) → Walks p refused stays s n lines u → Moving p refused s lines u
-moving_walk p refused stays s _ _ _ begins = stays_there
-moving_walk p refused stays s _ _ _ (strides {n} {lines} {more} {v} {u} before hand on once) = moving_both p refused s lines v more u (moving_walk p refused stays s n lines v before) (moving_stride p refused v more u once)
+pub moving_walk : (p : Image) (refused : List ℕ) (stays : State → Bool) (old : List Spot) (s : State) (n : ℕ) (new : List Spot) (lines : List Line) (u : State) → Walks p refused stays old s n new lines u → Moving p refused s lines u
+moving_walk p refused stays old s _ _ _ _ begins = stays_there
+moving_walk p refused stays old s _ _ _ _ (strides {n} {mid} {new} {lines} {more} {v} {u} before hand on once) =
+    moving_both p refused s lines v more u (moving_walk p refused stays old s n mid lines v before) (moving_stride p refused mid new v more u once)
 
-module _ {X : Type 0} {B : X → Type 0} where
-  pub nowhere : (refused : List ℕ) (stays : State → Bool) (m : Machine X B) (out : Option (List ℕ)) → Sends (Underway m.core.image refused stays) m out out m
-  nowhere refused stays m out s stands = ([], s, (0, begins, (λ some. absurd (some refl))), after_none out, stands)
+module _ {X : Type 0} {B : X → Type 0} (p : Image) (refused : List ℕ) (stays : State → Bool) where
+  pub nowhere : (spots : List Spot) (m : Machine X B) (out : Option (List ℕ)) → Sends (Underway p refused stays spots spots) m out out m
+  nowhere spots m out s stands = ([], s, (0, begins, (λ some. absurd (some refl))), after_none out, stands)
 
-  module _ (p : Image) (refused : List ℕ) (stays : State → Bool) (a m c : Machine X B) (before mid out : Option (List ℕ)) (x : Sends (Underway p refused stays) a before mid m) where
+  module _ (old mid : List Spot) (a m c : Machine X B) (before here out : Option (List ℕ)) (x : Sends (Underway p refused stays old mid) a before here m) where
     -- one step more
-    pub steps_more : progress m.core ≡ Running → Sends (Strides p refused) m mid out c → Sends (λ s lines u. (n : ℕ) × Walks p refused stays s (suc n) lines u) a before out c
-    steps_more running y s stands =
+    pub steps_more : (new : List Spot) → progress m.core ≡ Running → Sends (Strides p refused mid new) m here out c → Sends (Begun p refused stays old new) a before out c
+    steps_more new running y s stands =
         let f = x s stands in
         let g = y f.1 f.4 in
-        (f.0 ++ g.0, g.1, (f.2.0, strides f.2.1 (at_hand f.1 (sym (is_as_far m.core f.1 f.4.stands) ∙ running)) f.2.2 g.2), sent_both before mid out f.0 g.0 f.3 g.3, g.4)
+        (f.0 ++ g.0, g.1, (f.2.0, strides f.2.1 (at_hand f.1 (sym (is_as_far m.core f.1 f.4.stands) ∙ running)) f.2.2 g.2), sent_both before here out f.0 g.0 f.3 g.3, g.4)
 
-    pub steps_cut : Breaks (Moving p refused) m mid out c → Breaks (Moving p refused) a before out c
+    pub steps_cut : Breaks (Moving p refused) m here out c → Breaks (Moving p refused) a before out c
     steps_cut y =
-        breaks_then a m c before mid out (Underway p refused stays) (Moving p refused) x (Moving p refused) (λ s ls v ks u f k. moving_both p refused s ls v ks u (moving_walk p refused stays s f.0 ls v f.1) k) y
+        breaks_then a m c before here out (Underway p refused stays old mid) (Moving p refused) x (Moving p refused)
+        (λ s ls v ks u f k. moving_both p refused s ls v ks u (moving_walk p refused stays old s f.0 mid ls v f.1) k) y
 
-  module _ (p : Image) (refused : List ℕ) (stays : State → Bool) (a c : Machine X B) (before out : Option (List ℕ)) (x : Sends (λ s lines u. (n : ℕ) × Walks p refused stays s (suc n) lines u) a before out c) where
+  module _ (old new : List Spot) (a c : Machine X B) (before out : Option (List ℕ)) (x : Sends (Begun p refused stays old new) a before out c) where
     -- they end where nothing is at hand
-    pub over : progress c.core ≢ Running → Sends (WalksThere p refused stays) a before out c
+    pub over : progress c.core ≢ Running → Sends (WalksThere p refused stays old new) a before out c
     over rests s stands = let f = x s stands in (f.0, f.1, (f.2.0, f.2.1, inl (λ is. rests (is_as_far c.core f.1 f.4.stands ∙ is))), f.3, f.4)
 
     -- or at a place to stay
-    pub there : (b : Bool) → b ≡ true → ((s : State) → StandsFor c s → b ≡ stays s) → Sends (WalksThere p refused stays) a before out c
+    pub there : (b : Bool) → b ≡ true → ((s : State) → StandsFor c s → b ≡ stays s) → Sends (WalksThere p refused stays old new) a before out c
     there b is told s stands = let f = x s stands in (f.0, f.1, (f.2.0, f.2.1, inr (sym (told f.1 f.4) ∙ is)), f.3, f.4)
 
     -- or they go on
-    pub not_there : (b : Bool) → b ≡ false → ((s : State) → StandsFor c s → b ≡ stays s) → Sends (Underway p refused stays) a before out c
+    pub not_there : (b : Bool) → b ≡ false → ((s : State) → StandsFor c s → b ≡ stays s) → Sends (Underway p refused stays old new) a before out c
     not_there b is told s stands = let f = x s stands in (f.0, f.1, (suc f.2.0, f.2.1, (λ some. sym (told f.1 f.4) ∙ is)), f.3, f.4)
 
   -- ---- where nothing is at hand, or at a place to stay already
 
-  pub at_rest : (p : Image) (refused : List ℕ) (stays : State → Bool) (m : Machine X B) (out : Option (List ℕ)) → progress m.core ≢ Running → Sends (WalksIfAny p refused stays) m out out m
-  at_rest p refused stays m out rests s stands = ([], s, inl ((λ is. rests (is_as_far m.core s stands.stands ∙ is)), (refl, refl)), after_none out, stands)
+  pub at_rest : (spots : List Spot) (m : Machine X B) (out : Option (List ℕ)) → progress m.core ≢ Running → Sends (WalksIfAny p refused stays spots spots) m out out m
+  at_rest spots m out rests s stands = ([], s, inl ((λ is. rests (is_as_far m.core s stands.stands ∙ is)), (refl, refl, refl)), after_none out, stands)
 
-  pub walked : (p : Image) (refused : List ℕ) (stays : State → Bool) (a c : Machine X B) (before out : Option (List ℕ)) → Sends (WalksThere p refused stays) a before out c → Sends (WalksIfAny p refused stays) a before out c
-  walked p refused stays a c before out x s stands = let f = x s stands in (f.0, f.1, inr f.2, f.3, f.4)
+  pub there_already : (spots : List Spot) (m : Machine X B) (out : Option (List ℕ)) (b : Bool) → b ≡ true → ((s : State) → StandsFor m s → b ≡ stays s) → Sends (WalksOn p refused stays spots spots) m out out m
+  there_already spots m out b is told s stands = ([], s, inl (sym (told s stands) ∙ is, (refl, refl, refl)), after_none out, stands)
 
-  pub there_already : (p : Image) (refused : List ℕ) (stays : State → Bool) (m : Machine X B) (out : Option (List ℕ)) (b : Bool) → b ≡ true → ((s : State) → StandsFor m s → b ≡ stays s) → Sends (WalksOn p refused stays) m out out m
-  there_already p refused stays m out b is told s stands = ([], s, inl (sym (told s stands) ∙ is, (refl, refl)), after_none out, stands)
+  module _ (old new : List Spot) (a c : Machine X B) (before out : Option (List ℕ)) (x : Sends (WalksThere p refused stays old new) a before out c) where
+    pub walked : Sends (WalksIfAny p refused stays old new) a before out c
+    walked s stands = let f = x s stands in (f.0, f.1, inr f.2, f.3, f.4)
 
-  pub on_from : (p : Image) (refused : List ℕ) (stays : State → Bool) (a c : Machine X B) (before out : Option (List ℕ)) (b : Bool) → b ≡ false → ((s : State) → StandsFor a s → b ≡ stays s) → Sends (WalksThere p refused stays) a before out c → Sends (WalksOn p refused stays) a before out c
-  on_from p refused stays a c before out b is told x s stands = let f = x s stands in (f.0, f.1, inr (sym (told s stands) ∙ is, f.2), f.3, f.4)
+    pub on_from : (b : Bool) → b ≡ false → ((s : State) → StandsFor a s → b ≡ stays s) → Sends (WalksOn p refused stays old new) a before out c
+    on_from b is told s stands = let f = x s stands in (f.0, f.1, inr (sym (told s stands) ∙ is, f.2), f.3, f.4)

@@ -15,32 +15,32 @@ use Rattle.aom_machine.specs.declared.machine.Machine.{Machine}
 use Rattle.aom_run.specs.Runs.{Moving, after}
 use Rattle.aom_run.proofs.Reaching.{reaches_both}
 use Rattle.aom_run.proofs.Sending.{after_none}
+use Rattle.aom_debug_marks.specs.declared.spot.Spot.{Spot}
 use Rattle.aom_debug_moves.specs.Moves.{Arrives}
 use Rattle.aom_debug_moves.specs.Sends.{Breaks, Leads, Sends, Then}
 use Rattle.aom_debug_moves.proofs.Sending.{breaks_then, reaches_arrived, sent_both}
-use Rattle.aom_debug_courses.specs.Courses.{InDispatch}
+use Rattle.aom_debug_courses.specs.Courses.{Courses, InDispatch}
 use Rattle.aom_debug_courses.proofs.Going.{cut_run, is_over}
 
-module _ {X : Type 0} {B : X → Type 0} (p : Image) (outside : Outside) where
+module _ {X : Type 0} {B : X → Type 0} (p : Image) (outside : Outside) (leads : Courses) where
   -- the run is over before
-  pub over_there : (leads : Leads) (a m : Machine X B) (before mid : Option (List ℕ)) → progress m.core ≢ Running → progress m.core ≢ Turned → Sends (Arrives p outside) a before mid m → Sends (InDispatch p outside leads) a before mid m
-  over_there leads a m before mid rests goes x s stands =
+  pub over_there : (spots : List Spot) (a m : Machine X B) (before mid : Option (List ℕ)) → progress m.core ≢ Running → progress m.core ≢ Turned → Sends (Arrives p outside) a before mid m → Sends (InDispatch p outside leads spots spots) a before mid m
+  over_there spots a m before mid rests goes x s stands =
       let f = x s stands in
       let far = is_as_far m.core f.1 f.4.stands in
       let over = is_over f.1 (λ is. rests (far ∙ is)) (λ is. goes (far ∙ is)) in
-      (f.0 ++ [], f.1, (f.1, f.0, [], f.2, inl (over, (refl, refl)), refl), sent_both before mid mid f.0 [] f.3 (after_none mid), f.4)
+      (f.0 ++ [], f.1, (f.1, f.0, [], f.2, inl (over, (refl, refl, refl)), refl), sent_both before mid mid f.0 [] f.3 (after_none mid), f.4)
 
-  module _ (a m c : Machine X B) (before mid out : Option (List ℕ)) (x : Sends (Arrives p outside) a before mid m) where
-    -- moves that were cut come after turns
-    pub turn_cut : Breaks (Moving p outside.refused) m mid out c → Breaks (Reaches p outside) a before out c
-    turn_cut y =
-        breaks_then a m c before mid out (Arrives p outside) (Reaches p outside) x (Reaches p outside) (λ s ls v ks u f g. reaches_both p outside s ls v ks u (reaches_arrived p outside s ls v f) g)
-        (cut_run p outside m c mid out y)
+  -- a dispatch is at hand
+  pub in_dispatch : (old new : List Spot) (a m c : Machine X B) (before mid out : Option (List ℕ)) → Sends (Arrives p outside) a before mid m → progress m.core ≡ Running → Sends (leads old new) m mid out c → Sends (InDispatch p outside leads old new) a before out c
+  in_dispatch old new a m c before mid out x running y s stands =
+      let f = x s stands in
+      let g = y f.1 f.4 in
+      let hand = at_hand f.1 (sym (is_as_far m.core f.1 f.4.stands) ∙ running) in
+      (f.0 ++ g.0, g.1, (f.1, f.0, g.0, f.2, inr (hand, g.2), refl), sent_both before mid out f.0 g.0 f.3 g.3, g.4)
 
-    -- a dispatch is at hand
-    pub in_dispatch : (leads : Leads) → progress m.core ≡ Running → Sends leads m mid out c → Sends (InDispatch p outside leads) a before out c
-    in_dispatch leads running y s stands =
-        let f = x s stands in
-        let g = y f.1 f.4 in
-        let hand = at_hand f.1 (sym (is_as_far m.core f.1 f.4.stands) ∙ running) in
-        (f.0 ++ g.0, g.1, (f.1, f.0, g.0, f.2, inr (hand, g.2), refl), sent_both before mid out f.0 g.0 f.3 g.3, g.4)
+-- moves that were cut come after turns
+pub turn_cut : {X : Type 0} {B : X → Type 0} (p : Image) (outside : Outside) (a m c : Machine X B) (before mid out : Option (List ℕ)) → Sends (Arrives p outside) a before mid m → Breaks (Moving p outside.refused) m mid out c → Breaks (Reaches p outside) a before out c
+turn_cut p outside a m c before mid out x y =
+    breaks_then a m c before mid out (Arrives p outside) (Reaches p outside) x (Reaches p outside) (λ s ls v ks u f g. reaches_both p outside s ls v ks u (reaches_arrived p outside s ls v f) g)
+    (cut_run p outside m c mid out y)

@@ -4,12 +4,12 @@ use Rattle.aom_image.specs.Image.{Image}
 use Rattle.aom_sound.specs.State.{State}
 use Rattle.aom_sound.specs.World.{Outside, Reaches}
 use Rattle.aom_transcript.specs.declared.line.Line.{Line}
-use Rattle.aom_debug_moves.specs.Sends.{Leads}
-use Rattle.aom_debug_courses.specs.Courses.{GoesBy, GoesOn, TurnsOver}
+use Rattle.aom_debug_marks.specs.declared.spot.Spot.{Spot}
+use Rattle.aom_debug_courses.specs.Courses.{Courses, GoesBy, GoesOn, TurnsOver}
 
 -- what leads so is a run, with the same lines
-abbrev pub AreRuns : Image → Outside → Leads → Type 0
-AreRuns p outside leads = (s : State) (lines : List Line) (u : State) → leads s lines u → Reaches p outside s lines u
+abbrev pub AreRuns : Image → Outside → Courses → Type 0
+AreRuns p outside leads = (old new : List Spot) (s : State) (lines : List Line) (u : State) → leads old new s lines u → Reaches p outside s lines u
 
 abbrev pub StepsRun : Type 0
 StepsRun = (p : Image) (outside : Outside) (steps : ℕ) → AreRuns p outside (GoesBy p outside steps)

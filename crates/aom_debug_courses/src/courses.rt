@@ -41,7 +41,7 @@ pub fn go_steps<W: Sink>(
     ensures stands { Stands machine.new }
     ensures turn { turn.new ≡ turn.old }
     ensures none { IfNone result ((W.failed out.new ≡ true) × Breaks (Reaches machine.old.core.image (hearing turn.old.refused limit (natives_of machine.old) events.now)) machine.old (W.out out.old) (W.out out.new) machine.new) }
-    ensures some { IfSome result (λ far. Sends (GoesBy machine.old.core.image (hearing turn.old.refused limit (natives_of machine.old) events.now) steps) machine.old (W.out out.old) (W.out out.new) machine.new × (far ≡ progress machine.new.core)) }
+    ensures some { IfSome result (λ far. Sends (GoesBy machine.old.core.image (hearing turn.old.refused limit (natives_of machine.old) events.now) steps recent.old recent.new) machine.old (W.out out.old) (W.out out.new) machine.new × (far ≡ progress machine.new.core)) }
 {
     let mut done = 0;
     while done < steps {
@@ -76,7 +76,7 @@ pub fn go_turn<W: Sink>(
     ensures stands { Stands machine.new }
     ensures turn { turn.new ≡ turn.old }
     ensures none { IfNone result ((W.failed out.new ≡ true) × Breaks (Reaches machine.old.core.image (hearing turn.old.refused limit (natives_of machine.old) events.now)) machine.old (W.out out.old) (W.out out.new) machine.new) }
-    ensures some { IfSome result (λ far. Sends (TurnsOver machine.old.core.image (hearing turn.old.refused limit (natives_of machine.old) events.now)) machine.old (W.out out.old) (W.out out.new) machine.new × (far ≡ progress machine.new.core)) }
+    ensures some { IfSome result (λ far. Sends (TurnsOver machine.old.core.image (hearing turn.old.refused limit (natives_of machine.old) events.now) recent.old recent.new) machine.old (W.out out.old) (W.out out.new) machine.new × (far ≡ progress machine.new.core)) }
 {
     match arrive(machine, events, limit, turn, page, out)? {
         Progress::Running => {
@@ -115,7 +115,7 @@ fn pass<W: Sink>(
     ensures stands { Stands machine.new }
     ensures turn { turn.new ≡ turn.old }
     ensures none { IfNone result ((W.failed out.new ≡ true) × Breaks (Reaches machine.old.core.image (hearing turn.old.refused limit (natives_of machine.old) events.now)) machine.old (W.out out.old) (W.out out.new) machine.new) }
-    ensures some { IfSome result (λ far. Sends (InDispatch machine.old.core.image (hearing turn.old.refused limit (natives_of machine.old) events.now) (WalksOn machine.old.core.image turn.old.refused (λ s. stays_at machine.old.core.image Breakpoint breakpoints.now s))) machine.old (W.out out.old) (W.out out.new) machine.new × (far ≡ progress machine.new.core)) }
+    ensures some { IfSome result (λ far. Sends (InDispatch machine.old.core.image (hearing turn.old.refused limit (natives_of machine.old) events.now) (WalksOn machine.old.core.image turn.old.refused (λ s. stays_at machine.old.core.image Breakpoint breakpoints.now s)) recent.old recent.new) machine.old (W.out out.old) (W.out out.new) machine.new × (far ≡ progress machine.new.core)) }
 {
     match arrive(machine, events, limit, turn, page, out)? {
         Progress::Running => {
@@ -154,7 +154,7 @@ pub fn go_on<W: Sink>(
     ensures stands { Stands machine.new }
     ensures turn { turn.new ≡ turn.old }
     ensures none { IfNone result ((W.failed out.new ≡ true) × Breaks (Reaches machine.old.core.image (hearing turn.old.refused limit (natives_of machine.old) events.now)) machine.old (W.out out.old) (W.out out.new) machine.new) }
-    ensures some { IfSome result (λ far. Sends (GoesToBreakpoint machine.old.core.image (hearing turn.old.refused limit (natives_of machine.old) events.now) breakpoints.now) machine.old (W.out out.old) (W.out out.new) machine.new × (far ≡ progress machine.new.core)) }
+    ensures some { IfSome result (λ far. Sends (GoesToBreakpoint machine.old.core.image (hearing turn.old.refused limit (natives_of machine.old) events.now) breakpoints.now recent.old recent.new) machine.old (W.out out.old) (W.out out.new) machine.new × (far ≡ progress machine.new.core)) }
 {
     let mut progress = walk_if_any(
         machine,

@@ -2,8 +2,9 @@
 //!
 //! `go_steps`, `go_turn` and `go_on` go by the moves of `aom_debug_moves` one after another. Each promises how many steps were made, where
 //! they end and that nowhere before was a place to stay (`GoesBy`, `TurnsOver` and `GoesToBreakpoint` of `specs/Courses.antt`), and that
-//! the lines that went out are those of these moves, or a beginning of the lines of a run where the sink failed.
-//! Nothing here takes memory, by signature. It knows no commands and no inspections.
+//! the lines that went out are those of these moves, or a beginning of the lines of a run where the sink failed; and that just the
+//! instructions that were made are noted, after the latest that were there. Nothing here takes memory, by signature. It knows no commands
+//! and no inspections.
 #![tactic(auto)]
 
 mod courses;

@@ -77,7 +77,7 @@ pub fn walk<W: Sink>(
     ensures stands { Stands machine.new }
     ensures turn { turn.new ≡ turn.old }
     ensures none { IfNone result ((W.failed out.new ≡ true) × Breaks (Moving machine.old.core.image turn.old.refused) machine.old (W.out out.old) (W.out out.new) machine.new) }
-    ensures some { IfSome result (λ far. Sends (WalksThere machine.old.core.image turn.old.refused (λ s. stays_at machine.old.core.image until breakpoints.now s)) machine.old (W.out out.old) (W.out out.new) machine.new × (far ≡ progress machine.new.core)) }
+    ensures some { IfSome result (λ far. Sends (WalksThere machine.old.core.image turn.old.refused (λ s. stays_at machine.old.core.image until breakpoints.now s) recent.old recent.new) machine.old (W.out out.old) (W.out out.new) machine.new × (far ≡ progress machine.new.core)) }
 {
     loop {
         let progress = stride(machine, recent, turn, page, out)?;
@@ -111,7 +111,7 @@ pub fn walk_if_any<W: Sink>(
     ensures stands { Stands machine.new }
     ensures turn { turn.new ≡ turn.old }
     ensures none { IfNone result ((W.failed out.new ≡ true) × Breaks (Moving machine.old.core.image turn.old.refused) machine.old (W.out out.old) (W.out out.new) machine.new) }
-    ensures some { IfSome result (λ far. Sends (WalksIfAny machine.old.core.image turn.old.refused (λ s. stays_at machine.old.core.image until breakpoints.now s)) machine.old (W.out out.old) (W.out out.new) machine.new × (far ≡ progress machine.new.core)) }
+    ensures some { IfSome result (λ far. Sends (WalksIfAny machine.old.core.image turn.old.refused (λ s. stays_at machine.old.core.image until breakpoints.now s) recent.old recent.new) machine.old (W.out out.old) (W.out out.new) machine.new × (far ≡ progress machine.new.core)) }
 {
     match machine.core.progress() {
         Progress::Running => walk(machine, until, breakpoints, recent, turn, page, out),
@@ -140,7 +140,7 @@ pub fn walk_on<W: Sink>(
     ensures stands { Stands machine.new }
     ensures turn { turn.new ≡ turn.old }
     ensures none { IfNone result ((W.failed out.new ≡ true) × Breaks (Moving machine.old.core.image turn.old.refused) machine.old (W.out out.old) (W.out out.new) machine.new) }
-    ensures some { IfSome result (λ far. Sends (WalksOn machine.old.core.image turn.old.refused (λ s. stays_at machine.old.core.image until breakpoints.now s)) machine.old (W.out out.old) (W.out out.new) machine.new × (far ≡ progress machine.new.core)) }
+    ensures some { IfSome result (λ far. Sends (WalksOn machine.old.core.image turn.old.refused (λ s. stays_at machine.old.core.image until breakpoints.now s) recent.old recent.new) machine.old (W.out out.old) (W.out out.new) machine.new × (far ≡ progress machine.new.core)) }
 {
     if is_there(machine, until, breakpoints) {
         return Some(machine.core.progress());

@@ -1,5 +1,6 @@
 -- What goes out after what is out: moves one after another, the last of which may be cut.
 use Rattle.std.proofs.Common.{◌≡◌, ◌∙◌, ◌+◌, ◌-◌, ◌^◌, ◌<◌, ◌≤◌, ℕ, suc, ℤ, Bool, true, false, List, [], ◌++◌, Option, Some, None, length, take, refl, sym, ap, subst, arith, IfNone, IfSome}
+use Rattle.aom_debug_marks.specs.declared.spot.Spot.{Spot}
 use Rattle.aom_image.specs.Image.{Image}
 use Rattle.aom_sound.specs.State.{State}
 use Rattle.aom_sound.specs.World.{IsBetween, Outside, Reaches, begins as reaches_begins}
@@ -36,6 +37,13 @@ pub if_none : {A : Type 0} {P Q : Type 0} (r : Option A) → (P → Q) → IfNon
 if_none None by x = by x
 if_none (Some a) by x = tt
 
+-- what is said by what a later call found is said by what the first one did
+pub as_begun : (F : Image → List ℕ → Type 0) {p q : Image} {refused there : List ℕ} → q ≡ p → there ≡ refused → F q there → F p refused
+as_begun F {p} {q} {refused} {there} image same x = subst (λ r. F p r) same (subst (λ i. F i there) image x)
+
+pub as_heard : (F : Image → List ℕ → ℕ → Type 0) {p q : Image} {refused there : List ℕ} {natives many : ℕ} → q ≡ p → there ≡ refused → many ≡ natives → F q there many → F p refused natives
+as_heard F {p} {q} {refused} {there} {natives} {many} image same natives_same x = subst (λ n. F p refused n) natives_same (as_begun (λ i r. F i r many) image same x)
+
 -- something is at hand
 running_of : (s : State) → IsAtHand s → progress_of s ≡ Running
 running_of s hand = ap (λ e. progress_by e s.tasks) hand.going ∙ ap (λ ts. progress_by None ts) hand.busy.2
@@ -49,10 +57,10 @@ moving_if true p refused s lines u x = moving_of p refused s lines u x
 moving_if false p refused s lines u x = subst (λ ls. Moving p refused s ls u) (sym x.0) (subst (λ v. Moving p refused s [] v) (sym x.1) begins)
 
 -- a step of a debugger is moves
-pub moving_stride : (p : Image) (refused : List ℕ) (s : State) (lines : List Line) (u : State) → Strides p refused s lines u → Moving p refused s lines u
-moving_stride p refused s lines u x =
+pub moving_stride : (p : Image) (refused : List ℕ) (old new : List Spot) (s : State) (lines : List Line) (u : State) → Strides p refused old new s lines u → Moving p refused s lines u
+moving_stride p refused old new s lines u x =
     let first = moving_if (root_is_due p s) p refused s x.1 x.0 x.3 in
-    let y = x.4 in
+    let y = x.4.1 in
     let step = moving_of p refused x.0 y.1 y.0 y.3 in
     let last = moving_if (pauses p y.0) p refused y.0 y.2 u y.4 in
     let later = subst (λ ls. Moving p refused x.0 ls u) (sym y.5) (moving_both p refused x.0 y.1 y.0 y.2 u step last) in

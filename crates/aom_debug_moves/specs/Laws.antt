@@ -1,5 +1,6 @@
 -- What a debugger's moves are to a run.
 use Rattle.std.specs.Prelude.{ℕ, List}
+use Rattle.aom_debug_marks.specs.declared.spot.Spot.{Spot}
 use Rattle.aom_image.specs.Image.{Image}
 use Rattle.aom_sound.specs.State.{State}
 use Rattle.aom_sound.specs.World.{Outside, Reaches}
@@ -9,7 +10,7 @@ use Rattle.aom_debug_moves.specs.Moves.{Arrives, Strides}
 
 -- a step of a debugger is moves, with the same lines
 abbrev pub StridesMove : Type 0
-StridesMove = (p : Image) (refused : List ℕ) (s : State) (lines : List Line) (u : State) → Strides p refused s lines u → Moving p refused s lines u
+StridesMove = (p : Image) (refused : List ℕ) (old new : List Spot) (s : State) (lines : List Line) (u : State) → Strides p refused old new s lines u → Moving p refused s lines u
 
 -- turns until something is at hand are a run, with the same lines
 abbrev pub ArrivesRun : Type 0

@@ -21,13 +21,13 @@ noted (Some spot) spots = keep_last 16 (spots ++ spot ∷ [])
 abbrev pub StepsOnce : Image → List ℕ → Leads
 StepsOnce p refused s lines u = (heard : ℤ) × Steps p refused heard s lines u
 
--- a step of a debugger. Where the root's destruction is due it begins first, and an end of a dispatch after which it is not due is no place to stay
-abbrev pub Strides : Image → List ℕ → Leads
-Strides p refused = Then (Where (root_is_due p) (StepsOnce p refused)) (Then (StepsOnce p refused) (Where (pauses p) (StepsOnce p refused)))
+-- that, and the instruction that is next before it, if one is, is noted: such are the latest instructions before and after
+abbrev pub Notes : Image → List Spot → List Spot → Leads → Leads
+Notes p old new leads s lines u = (new ≡ noted (spot_of (next_of p s)) old) × leads s lines u
 
--- the instruction that such a step makes is noted
-abbrev pub Notes : Image → List ℕ → State → List Spot → List Spot → Type 0
-Notes p refused s old new = (v : State) × (lines : List Line) × Where (root_is_due p) (StepsOnce p refused) s lines v × (new ≡ noted (spot_of (next_of p v)) old)
+-- a step of a debugger: what is next is made, and the latest instructions are these before and after. Where the root's destruction is due it begins first, and an end of a dispatch after which it is not due is no place to stay
+abbrev pub Strides : Image → List ℕ → List Spot → List Spot → Leads
+Strides p refused old new = Then (Where (root_is_due p) (StepsOnce p refused)) (Notes p old new (Then (StepsOnce p refused) (Where (pauses p) (StepsOnce p refused))))
 
 -- turns up to a dispatch, a native's end, or the end of the run
 abbrev pub TurnsOnce : Image → Outside → Leads

@@ -8,7 +8,7 @@ ghost use Rattle.aom_machine.specs.Calls.{Stands, StandsFor, natives_of};
 ghost use Rattle.aom_debug_views.specs.Next.{next_of, pauses, root_is_due, spot_of};
 ghost use Rattle.aom_natives.specs.Slots.{AllAgree};
 ghost use Rattle.aom_run.specs.Runs.{Moving, after};
-ghost use Rattle.aom_debug_moves.specs.Moves.{Notes, StepsOnce, Strides, noted};
+ghost use Rattle.aom_debug_moves.specs.Moves.{StepsOnce, Strides, noted};
 ghost use Rattle.aom_debug_moves.specs.Sends.{Breaks, IfSo, Sends};
 
 use aom_debug_marks::Recent;
@@ -133,8 +133,7 @@ pub fn stride<W: Sink>(
     ensures stands { Stands machine.new }
     ensures turn { turn.new ≡ turn.old }
     ensures none { IfNone result ((W.failed out.new ≡ true) × Breaks (Moving machine.old.core.image turn.old.refused) machine.old (W.out out.old) (W.out out.new) machine.new) }
-    ensures some { IfSome result (λ far. Sends (Strides machine.old.core.image turn.old.refused) machine.old (W.out out.old) (W.out out.new) machine.new × (far ≡ progress machine.new.core)) }
-    ensures notes { IfSome result (λ _. (s : State) → StandsFor machine.old s → Notes machine.old.core.image turn.old.refused s recent.old recent.new) }
+    ensures some { IfSome result (λ far. Sends (Strides machine.old.core.image turn.old.refused recent.old recent.new) machine.old (W.out out.old) (W.out out.new) machine.new × (far ≡ progress machine.new.core)) }
     ensures falls { IfSome result (λ _. progress machine.new.core ≡ Running → rank machine.new.core < rank machine.old.core) }
 {
     let begins = starts_end(machine);

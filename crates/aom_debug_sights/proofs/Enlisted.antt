@@ -1,18 +1,20 @@
 -- The entries of the roster are the enlisted objects of each state that the machine stands for, in the order of choice.
-use Rattle.std.proofs.Common.{◌≡◌, ◌∙◌, ℕ, ℤ, Bool, true, List, [], ◌∷◌, Option, Some, None, IsSome, length, slice_get, take, refl, sym, ap, subst}
+use Rattle.std.proofs.Common.{◌≡◌, ◌∙◌, ℕ, ℤ, Bool, true, List, [], ◌∷◌, Option, Some, None, IsSome, length, slice_get, take, refl, sym, ap, subst, suc, arith}
+use Rattle.std.specs.List.{Contains}
 use Rattle.std.specs.Prelude.{AllPairs, is_some, map}
 use Rattle.std.proofs.lemmas.List.Elements.{All-map}
 use Rattle.std.proofs.lemmas.List.Kept.{AllPairs-cons}
 use Rattle.std.proofs.lemmas.Option.{get_or_from_slice_get, none-some, same_Some, slice_get_within}
 use Rattle.aom_image.specs.Image.{Image}
 use Rattle.aom_cells.specs.Heap.{class_at}
-use Rattle.aom_requests.specs.Requests.{request_at, state_at, state_of, status_at, status_of}
+use Rattle.aom_requests.specs.Requests.{IsEnlisted, request_at, state_at, state_of, status_at, status_of}
 use Rattle.aom_requests.specs.declared.request.State.{State as Held_state}
 use Rattle.aom_requests.specs.declared.request.Request.{Request as Held_request}
 use Rattle.aom_requests.specs.declared.request.Request.TheVariants.{Object as Held_object, Server as Held_server}
 use Rattle.aom_scheduler.specs.declared.entry.Entry.{Entry}
 use Rattle.aom_active.specs.Agrees.{GoesBefore, HasPriority, Tells as Tells_request, phase_of}
-use Rattle.aom_scheduler.proofs.Items.{pairs-head, pairs-nil, pairs-tail}
+use Rattle.aom_scheduler.proofs.Items.{IsAt, at_head, in_tail, pairs-head, pairs-nil, pairs-tail, place-at, some_is}
+use Rattle.aom_scheduler.specs.Roster.{place}
 use Rattle.aom_sound.specs.Places.{Request, named, requested}
 use Rattle.aom_sound.specs.State.{State}
 use Rattle.aom_parts.specs.declared.parts.Parts.{Parts}
@@ -90,11 +92,29 @@ pairs_by : {A : Type 0} (R : ℕ → ℕ → Type 0) (f : A → ℕ) (xs : List 
 pairs_by R f [] pairs = pairs-nil R
 pairs_by R f (x ∷ xs) pairs = AllPairs-cons R (f x) (map f xs) (All-map (R (f x)) f xs (pairs-head (λ y z. R (f y) (f z)) x xs pairs)) (pairs_by R f xs (pairs-tail (λ y z. R (f y) (f z)) x xs pairs))
 
-module _ (m : Machine) where
+-- who is asked in the state is enlisted, and has an entry
+listed_by : (q : Option Held_request) (r : Option Request) → Tells_request q r → IsSome r → IsSome q
+listed_by None None tells some = some
+listed_by None (Some r) tells some = absurd tells
+listed_by (Some q) r tells some = refl
+
+at_contains : (n : ℕ) (xs : List Entry) (i : ℕ) → IsAt (λ e. e.id) n xs i → Contains (map (λ e. e.id) xs) n
+at_contains n _ _ (at_head x xs same) = (0, omega arith, same)
+at_contains n _ _ (in_tail {i} x xs other rest) = let there = at_contains n xs i rest in let within = there.1 in (suc there.0, omega (arith, within), there.2)
+
+-- each has a place on the list
+abbrev pub IsListed : Parts → Type 0
+IsListed m = (n : ℕ) → IsEnlisted m.active.table n → IsSome (place n m.active.roster)
+
+module _ (m : Machine) (whole : IsListed m.parts) where
   -- they are the enlisted objects in the order of choice
   pub in_order : (s : State) → StandsFor m s → InOrderOfChoice s.cells (names_of m.parts)
   in_order s st = record {
     enlisted = All-map (λ n. IsSome (requested s.cells n)) (λ e. e.id) m.parts.active.roster.entries (λ k d within. some_by _ _ (st.agrees.requests.stands.priorities k d within));
+    all = λ n some.
+        let enlisted = listed_by (request_at m.parts.active.table n) (requested s.cells n) (st.agrees.requests.stands.tells n) some in
+        let at = some_is (place n m.parts.active.roster) (whole n enlisted) in
+        at_contains n m.parts.active.roster.entries at.0 (place-at (λ e. e.id) n m.parts.active.roster.entries at.0 at.1);
     order = pairs_by (λ n k. GoesBefore (requested s.cells n) (requested s.cells k)) (λ e. e.id) m.parts.active.roster.entries st.agrees.requests.stands.order;
   }
 

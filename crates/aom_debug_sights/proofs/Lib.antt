@@ -2,6 +2,7 @@ pub mod Telling
 pub mod Showing
 pub mod Trees
 pub mod Enlisted
+pub mod Orders
 pub mod Counting
 pub mod Tasks
 pub mod Registers

@@ -1,6 +1,6 @@
 -- What a debugger tells of the active objects of a state.
 use Rattle.std.specs.Prelude.{◌≡◌, ℕ, Bool, true, List, Option, Some, None, IsSome, All, AllPairs, map, take}
-use Rattle.std.specs.List.{flat_map}
+use Rattle.std.specs.List.{Contains, flat_map}
 use Rattle.aom_active.specs.Agrees.{GoesBefore}
 use Rattle.aom_sound.specs.Places.{Aborted, Active as Waiting, Cancelling, Cell, Idle, Issued, Phase, Request, named, requested}
 use Rattle.aom_sound.specs.State.{State}
@@ -38,9 +38,10 @@ active_at cs (Some n) = active_answer cs n
 abbrev pub active_answers : List Cell → List ℕ → List Answer
 active_answers cs names = flat_map (λ n. listed (active_answer cs n)) names
 
--- these are names of objects that are enlisted, and each goes before those behind it in the choice, so none stands twice
+-- these are the names of all objects that are enlisted, and each goes before those behind it in the choice, so none stands twice
 pub record InOrderOfChoice (cs : List Cell) (names : List ℕ) : Type 0 where
   pub enlisted : All (λ n. IsSome (requested cs n)) names
+  pub all : (n : ℕ) → IsSome (requested cs n) → Contains names n
   pub order : AllPairs (λ n m. GoesBefore (requested cs n) (requested cs m)) names
 
 -- the objects that the machine has on its list, in the order of that

@@ -1,7 +1,12 @@
-//! That the map of owners is whole.
-ghost use Rattle.aom_debug_sights.specs.Laws.{ToldOnce};
+//! That the map of owners is whole, and the order of choice is one.
+ghost use Rattle.aom_debug_sights.specs.Laws.{OneOrder, ToldOnce};
 
 /// In each state that a machine stands for, within a dispatch too, each object that lives has just one line of the map of owners, and there is no other line.
 pub fn owners_are_told_once()
     ensures { ToldOnce }
+{}
+
+/// In each state there is at most one list of all enlisted objects in the order of choice; so `tell_actives` can tell no other lines.
+pub fn order_of_choice_is_one()
+    ensures { OneOrder }
 {}

@@ -4,8 +4,8 @@
 //! Each call takes the machine's parts by `&` and writes lines to a `Sink`. It promises that what went out is the text of the lines that
 //! its definition says of each state that the machine stands for (`Tells` of `specs/Telling.antt`, with `specs/Sights.antt` and
 //! `specs/Owners.antt`), or a beginning of it where the sink failed (`TellsPart`), and then it answers a write fault. Each object has just one
-//! line in the map of owners (`owners_are_told_once`). Nothing here takes memory, by signature. It knows no commands, no texts of
-//! programs and no natives.
+//! line in the map of owners (`owners_are_told_once`), and active objects can stand in one order alone (`order_of_choice_is_one`). Nothing
+//! here takes memory, by signature. It knows no commands, no texts of programs and no natives.
 #![tactic(auto)]
 
 mod actives;
@@ -21,7 +21,7 @@ mod way;
 pub use actives::tell_actives;
 pub use cells::tell_cells;
 pub use cleanup::tell_cleanup;
-pub use laws::owners_are_told_once;
+pub use laws::{order_of_choice_is_one, owners_are_told_once};
 pub use owners::tell_owners;
 pub use recent::tell_recent;
 pub use sending::{send, tell};

@@ -18,6 +18,7 @@ mod pricing;
 mod running;
 mod status;
 
+pub use accepting::accept_bytes;
 pub use commands::{asm_bytes, check_bytes, dis_bytes, run_bytes, try_asm, try_check, try_run};
 pub use drawing::dot_bytes;
 pub use exploring::{Part, explore_bytes};

@@ -13,7 +13,7 @@ use Rattle.aom_debug_courses.proofs.courses.go_on.Given as goal
 
 abbrev pub invariant-loop-progress : goal.invariant-loop-progress
 invariant-loop-progress g l = record {
-  so_far : Sends (GoesFar l.fn.machine.core.image (hearing l.fn.turn.refused l.fn.limit (natives_of l.fn.machine) l.fn.events) (λ s. stays_at l.fn.machine.core.image Breakpoint l.fn.breakpoints s)) l.fn.machine (g.W.Sink.out l.fn.out) (g.W.Sink.out l.out) l.machine;
+  so_far : Sends (GoesFar l.fn.machine.core.image (hearing l.fn.turn.refused l.fn.limit (natives_of l.fn.machine) l.fn.events) (λ s. stays_at l.fn.machine.core.image Breakpoint l.fn.breakpoints s) l.fn.recent l.recent) l.fn.machine (g.W.Sink.out l.fn.out) (g.W.Sink.out l.out) l.machine;
   far : l.progress ≡ progress l.machine.core;
   stands : Stands l.machine;
   agree : AllAgree (λ x. x.ids) (λ x. (goal.Native-dyn g (x.native.vtable, x.native.value)).owed x.native.value) l.machine.natives.slots.items;

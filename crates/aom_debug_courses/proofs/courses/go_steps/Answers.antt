@@ -8,13 +8,13 @@ use Rattle.aom_run.specs.Runs.{Moving}
 use Rattle.aom_sound.specs.World.{Reaches}
 use Rattle.aom_debug_moves.specs.Moves.{Arrives, Strides}
 use Rattle.aom_debug_moves.specs.Sends.{Breaks, Sends}
-use Rattle.aom_debug_courses.specs.Courses.{Goes}
-use Rattle.aom_debug_courses.proofs.Going.{all_made, ends_early, goes_cut, no_steps, one_more, step_cut}
+use Rattle.aom_debug_moves.proofs.Sending.{as_begun, as_heard}
+use Rattle.aom_debug_courses.proofs.Going.{GoesSo, all_made, ends_early, goes_cut, no_steps, one_more, step_cut}
 use Rattle.aom_debug_courses.proofs.courses.go_steps.Goals as goal
 
 pub loop-done-init : goal.loop-done-init
 loop-done-init g c = record {
-  so_far = no_steps c.args.machine.now.core.image (hearing c.args.turn.now.refused c.args.limit (natives_of c.args.machine.now) c.args.events.now) c.args.machine.now (g.W.Sink.out c.args.out.now);
+  so_far = no_steps c.args.machine.now.core.image (hearing c.args.turn.now.refused c.args.limit (natives_of c.args.machine.now) c.args.events.now) c.args.recent.now c.args.machine.now (g.W.Sink.out c.args.out.now);
   within = omega arith;
   stands = c.requires.stands;
   agree = c.requires.agree;
@@ -26,107 +26,86 @@ loop-done-init g c = record {
 pub returns-in_err-other-clause-none : goal.returns-in_err-other-clause-none
 returns-in_err-other-clause-none g c =
     let p = c.args.machine.now.core.image in
-    let events = c.args.events.now in
-    let limit = c.args.limit in
-    let outside = hearing c.args.turn.now.refused limit (natives_of c.args.machine.now) events in
-    let a = c.args.machine.now in
+    let outside = hearing c.args.turn.now.refused c.args.limit (natives_of c.args.machine.now) c.args.events.now in
     let i = c.loop-done.invariant in
     let m = c.loop-done.machine in
     let mid = c.arrive.new.machine in
-    let before = g.W.Sink.out c.args.out.now in
     let here = g.W.Sink.out c.loop-done.out in
     let then = g.W.Sink.out c.arrive.new.out in
-    let refused = ap (λ (t : Turn). t.refused) i.turn in
     let off = c.in_err-other.ensures.none in
-    let one = subst (λ q. Breaks (Reaches q (hearing c.loop-done.turn.refused limit (natives_of m) events)) m here then mid) i.image off.1 in
-    let two = subst (λ r. Breaks (Reaches p (hearing r limit (natives_of m) events)) m here then mid) refused one in
-    let cut = subst (λ k. Breaks (Reaches p (hearing c.args.turn.now.refused limit k events)) m here then mid) i.natives two in
-    given_up c.from_residual.result (off.0, goes_cut p outside c.loop-done.done a m mid before here then i.so_far cut)
+    let cut = as_heard (λ q r k. Breaks (Reaches q (hearing r c.args.limit k c.args.events.now)) m here then mid) i.image (ap (λ (t : Turn). t.refused) i.turn) i.natives off.1 in
+    given_up c.from_residual.result (off.0, goes_cut p outside c.loop-done.done c.args.recent.now c.loop-done.recent c.args.machine.now m mid (g.W.Sink.out c.args.out.now) here then i.so_far cut)
 
 pub returns-in_default-clause-some : goal.returns-in_default-clause-some
 returns-in_default-clause-some g c =
     let p = c.args.machine.now.core.image in
-    let events = c.args.events.now in
-    let limit = c.args.limit in
-    let outside = hearing c.args.turn.now.refused limit (natives_of c.args.machine.now) events in
-    let a = c.args.machine.now in
+    let outside = hearing c.args.turn.now.refused c.args.limit (natives_of c.args.machine.now) c.args.events.now in
     let i = c.loop-done.invariant in
     let m = c.loop-done.machine in
     let mid = c.arrive.new.machine in
-    let before = g.W.Sink.out c.args.out.now in
     let here = g.W.Sink.out c.loop-done.out in
     let then = g.W.Sink.out c.arrive.new.out in
-    let refused = ap (λ (t : Turn). t.refused) i.turn in
     let some = c.in_ok-other.ensures.some in
-    let one = subst (λ q. Sends (Arrives q (hearing c.loop-done.turn.refused limit (natives_of m) events)) m here then mid) i.image some.0 in
-    let two = subst (λ r. Sends (Arrives p (hearing r limit (natives_of m) events)) m here then mid) refused one in
-    let comes = subst (λ k. Sends (Arrives p (hearing c.args.turn.now.refused limit k events)) m here then mid) i.natives two in
-    let below = c.loop-done-test.true in
-    (ends_early p outside c.loop-done.done a m mid before here then i.so_far c.args.steps below (λ is. c.in_default.not-Running (some.1 ∙ is)) (λ is. some.2 (some.1 ∙ is)) comes, some.1)
+    let comes = as_heard (λ q r k. Sends (Arrives q (hearing r c.args.limit k c.args.events.now)) m here then mid) i.image (ap (λ (t : Turn). t.refused) i.turn) i.natives some.0 in
+    let below = c.loop-done-test.true in (
+      ends_early p outside c.loop-done.done c.args.recent.now c.loop-done.recent c.args.machine.now m mid (g.W.Sink.out c.args.out.now) here then i.so_far c.args.steps below
+          (λ is. c.in_default.not-Running (some.1 ∙ is)) (λ is. some.2 (some.1 ∙ is)) comes,
+      some.1,
+    )
 
 pub returns-in_err-stride-clause-none : goal.returns-in_err-stride-clause-none
 returns-in_err-stride-clause-none g c =
     let p = c.args.machine.now.core.image in
-    let events = c.args.events.now in
-    let limit = c.args.limit in
-    let outside = hearing c.args.turn.now.refused limit (natives_of c.args.machine.now) events in
-    let a = c.args.machine.now in
+    let outside = hearing c.args.turn.now.refused c.args.limit (natives_of c.args.machine.now) c.args.events.now in
     let i = c.loop-done.invariant in
     let m = c.loop-done.machine in
     let mid = c.arrive.new.machine in
-    let before = g.W.Sink.out c.args.out.now in
+    let n = c.stride.new.machine in
     let here = g.W.Sink.out c.loop-done.out in
     let then = g.W.Sink.out c.arrive.new.out in
-    let refused = ap (λ (t : Turn). t.refused) i.turn in
-    let some = c.in_ok-other.ensures.some in
-    let one = subst (λ q. Sends (Arrives q (hearing c.loop-done.turn.refused limit (natives_of m) events)) m here then mid) i.image some.0 in
-    let two = subst (λ r. Sends (Arrives p (hearing r limit (natives_of m) events)) m here then mid) refused one in
-    let comes = subst (λ k. Sends (Arrives p (hearing c.args.turn.now.refused limit k events)) m here then mid) i.natives two in
-    let n = c.stride.new.machine in
     let out = g.W.Sink.out c.stride.new.out in
-    let still = ap (λ (t : Turn). t.refused) (c.arrive.ensures.turn ∙ i.turn) in
-    let image = c.arrive.ensures.image ∙ i.image in
+    let comes = as_heard (λ q r k. Sends (Arrives q (hearing r c.args.limit k c.args.events.now)) m here then mid) i.image (ap (λ (t : Turn). t.refused) i.turn) i.natives c.in_ok-other.ensures.some.0 in
     let off = c.in_err-stride.ensures.none in
-    let cut = subst (λ r. Breaks (Moving p r) mid then out n) still (subst (λ q. Breaks (Moving q c.arrive.new.turn.refused) mid then out n) image off.1) in
-    given_up c.from_residual-in_err-stride.result (off.0, step_cut p outside c.loop-done.done a m mid before here then i.so_far n out comes cut)
+    let cut = as_begun (λ q r. Breaks (Moving q r) mid then out n) (c.arrive.ensures.image ∙ i.image) (ap (λ (t : Turn). t.refused) (c.arrive.ensures.turn ∙ i.turn)) off.1 in
+    given_up c.from_residual-in_err-stride.result (off.0, step_cut p outside c.loop-done.done c.args.recent.now c.loop-done.recent c.args.machine.now m mid (g.W.Sink.out c.args.out.now) here then i.so_far n out comes cut)
 
 pub loop-done-preserved : goal.loop-done-preserved
 loop-done-preserved g c =
     let p = c.args.machine.now.core.image in
-    let events = c.args.events.now in
-    let limit = c.args.limit in
-    let outside = hearing c.args.turn.now.refused limit (natives_of c.args.machine.now) events in
+    let outside = hearing c.args.turn.now.refused c.args.limit (natives_of c.args.machine.now) c.args.events.now in
     let a = c.args.machine.now in
     let i = c.loop-done.invariant in
     let m = c.loop-done.machine in
     let mid = c.arrive.new.machine in
+    let n = c.stride.new.machine in
+    let old = c.args.recent.now in
+    let far = c.loop-done.recent in
+    let new = c.stride.new.recent in
     let before = g.W.Sink.out c.args.out.now in
     let here = g.W.Sink.out c.loop-done.out in
     let then = g.W.Sink.out c.arrive.new.out in
-    let refused = ap (λ (t : Turn). t.refused) i.turn in
-    let some = c.in_ok-other.ensures.some in
-    let one = subst (λ q. Sends (Arrives q (hearing c.loop-done.turn.refused limit (natives_of m) events)) m here then mid) i.image some.0 in
-    let two = subst (λ r. Sends (Arrives p (hearing r limit (natives_of m) events)) m here then mid) refused one in
-    let comes = subst (λ k. Sends (Arrives p (hearing c.args.turn.now.refused limit k events)) m here then mid) i.natives two in
-    let n = c.stride.new.machine in
     let out = g.W.Sink.out c.stride.new.out in
-    let still = ap (λ (t : Turn). t.refused) (c.arrive.ensures.turn ∙ i.turn) in
+    let some = c.in_ok-other.ensures.some in
+    let comes = as_heard (λ q r k. Sends (Arrives q (hearing r c.args.limit k c.args.events.now)) m here then mid) i.image (ap (λ (t : Turn). t.refused) i.turn) i.natives some.0 in
     let image = c.arrive.ensures.image ∙ i.image in
-    let step = subst (λ r. Sends (Strides p r) mid then out n) still (subst (λ q. Sends (Strides q c.arrive.new.turn.refused) mid then out n) image c.in_ok-stride.ensures.some.0) in
+    let turn = c.arrive.ensures.turn ∙ i.turn in
+    let step = as_begun (λ q r. Sends (Strides q r far new) mid then out n) image (ap (λ (t : Turn). t.refused) turn) c.in_ok-stride.ensures.some.0 in
     let more : suc c.loop-done.done ≡ c.loop-done.done + 1 = omega arith in
     record {
-      so_far = subst (λ k. Sends (λ s ls u. Goes p outside s k ls u) a before out n) more (one_more p outside c.loop-done.done a m mid before here then i.so_far n out comes (sym some.1 ∙ c.in-Running.is) step);
+      so_far = subst (λ k. Sends (GoesSo p outside k old new) a before out n) more (one_more p outside c.loop-done.done old far a m mid before here then i.so_far n out comes new (sym some.1 ∙ c.in-Running.is) step);
       within = omega (arith, c.loop-done-test.true);
       stands = c.stride.ensures.stands;
       agree = c.stride.ensures.agree;
       image = c.stride.ensures.image ∙ image;
       natives = c.stride.ensures.natives ∙ (c.arrive.ensures.natives ∙ i.natives);
-      turn = c.stride.ensures.turn ∙ (c.arrive.ensures.turn ∙ i.turn);
+      turn = c.stride.ensures.turn ∙ turn;
     }
 
 pub returns-clause-some : goal.returns-clause-some
 returns-clause-some g c =
     let i = c.loop-done.invariant in
     let outside = hearing c.args.turn.now.refused c.args.limit (natives_of c.args.machine.now) c.args.events.now in
-    let all : c.loop-done.done ≡ c.args.steps = omega (arith, c.loop-done-test.false, i.within) in
-    (all_made c.args.machine.now.core.image outside c.args.steps c.loop-done.done all c.args.machine.now c.loop-done.machine (g.W.Sink.out c.args.out.now) (g.W.Sink.out c.loop-done.out) i.so_far, c.progress.ensures)
+    let all : c.loop-done.done ≡ c.args.steps = omega (arith, c.loop-done-test.false, i.within) in (
+      all_made c.args.machine.now.core.image outside c.args.steps c.loop-done.done all c.args.recent.now c.loop-done.recent c.args.machine.now c.loop-done.machine (g.W.Sink.out c.args.out.now) (g.W.Sink.out c.loop-done.out) i.so_far,
+      c.progress.ensures,
+    )

@@ -1,18 +1,19 @@
 -- Steps as long as something is at hand and it is no place to stay.
-use Rattle.std.proofs.Common.{ap, refl, subst, ◌∙◌, sym}
+use Rattle.std.proofs.Common.{ap, refl, ◌∙◌, sym}
 use Rattle.aom_lines.specs.Turn.{Turn}
 use Rattle.aom_run.specs.Runs.{Moving}
 use Rattle.aom_run.proofs.Running.{given_up}
 use Rattle.aom_sound.specs.State.{State}
 use Rattle.aom_debug_moves.specs.Moves.{Strides}
 use Rattle.aom_debug_moves.specs.Sends.{Breaks, Sends}
+use Rattle.aom_debug_moves.proofs.Sending.{as_begun}
 use Rattle.aom_debug_courses.specs.Courses.{stays_at}
 use Rattle.aom_debug_courses.proofs.Strides.{not_there, nowhere, over, steps_cut, steps_more, there}
 use Rattle.aom_debug_courses.proofs.walking.walk.Goals as goal
 
 pub loop-progress-init : goal.loop-progress-init
 loop-progress-init g c = record {
-  so_far = nowhere c.args.turn.now.refused (λ s. stays_at c.args.machine.now.core.image c.args.until c.args.breakpoints.now s) c.args.machine.now (g.W.Sink.out c.args.out.now);
+  so_far = nowhere c.args.machine.now.core.image c.args.turn.now.refused (λ s. stays_at c.args.machine.now.core.image c.args.until c.args.breakpoints.now s) c.args.recent.now c.args.machine.now (g.W.Sink.out c.args.out.now);
   running = c.requires.running;
   stands = c.requires.stands;
   agree = c.requires.agree;
@@ -28,11 +29,12 @@ returns-in_err-progress-clause-none g c =
     let refused = c.args.turn.now.refused in
     let m = c.loop-progress.machine in
     let n = c.stride.new.machine in
-    let mid = g.W.Sink.out c.loop-progress.out in
+    let here = g.W.Sink.out c.loop-progress.out in
     let out = g.W.Sink.out c.stride.new.out in
+    let stays = λ (s : State). stays_at p c.args.until c.args.breakpoints.now s in
     let off = c.in_err-progress.ensures.none in
-    let cut = subst (λ r. Breaks (Moving p r) m mid out n) (ap (λ (t : Turn). t.refused) i.turn) (subst (λ q. Breaks (Moving q c.loop-progress.turn.refused) m mid out n) i.image off.1) in
-    given_up c.from_residual.result (off.0, steps_cut p refused (λ s. stays_at p c.args.until c.args.breakpoints.now s) c.args.machine.now m n (g.W.Sink.out c.args.out.now) mid out i.so_far cut)
+    let cut = as_begun (λ q r. Breaks (Moving q r) m here out n) i.image (ap (λ (t : Turn). t.refused) i.turn) off.1 in
+    given_up c.from_residual.result (off.0, steps_cut p refused stays c.args.recent.now c.loop-progress.recent c.args.machine.now m n (g.W.Sink.out c.args.out.now) here out i.so_far cut)
 
 pub returns-in_default-clause-some : goal.returns-in_default-clause-some
 returns-in_default-clause-some g c =
@@ -40,15 +42,18 @@ returns-in_default-clause-some g c =
     let p = c.args.machine.now.core.image in
     let refused = c.args.turn.now.refused in
     let a = c.args.machine.now in
+    let old = c.args.recent.now in
+    let mid = c.loop-progress.recent in
+    let new = c.stride.new.recent in
     let m = c.loop-progress.machine in
     let n = c.stride.new.machine in
     let before = g.W.Sink.out c.args.out.now in
-    let mid = g.W.Sink.out c.loop-progress.out in
+    let here = g.W.Sink.out c.loop-progress.out in
     let out = g.W.Sink.out c.stride.new.out in
-    let some = c.in_ok-progress.ensures.some in
-    let step = subst (λ r. Sends (Strides p r) m mid out n) (ap (λ (t : Turn). t.refused) i.turn) (subst (λ q. Sends (Strides q c.loop-progress.turn.refused) m mid out n) i.image some.0) in
     let stays = λ (s : State). stays_at p c.args.until c.args.breakpoints.now s in
-    (over p refused stays a n before out (steps_more p refused stays a m n before mid out i.so_far i.running step) (λ is. c.in_default.not-Running (some.1 ∙ is)), some.1)
+    let some = c.in_ok-progress.ensures.some in
+    let step = as_begun (λ q r. Sends (Strides q r mid new) m here out n) i.image (ap (λ (t : Turn). t.refused) i.turn) some.0 in
+    (over p refused stays old new a n before out (steps_more p refused stays old mid a m n before here out i.so_far new i.running step) (λ is. c.in_default.not-Running (some.1 ∙ is)), some.1)
 
 pub returns-then-is_there-clause-some : goal.returns-then-is_there-clause-some
 returns-then-is_there-clause-some g c =
@@ -56,16 +61,20 @@ returns-then-is_there-clause-some g c =
     let p = c.args.machine.now.core.image in
     let refused = c.args.turn.now.refused in
     let a = c.args.machine.now in
+    let old = c.args.recent.now in
+    let mid = c.loop-progress.recent in
+    let new = c.stride.new.recent in
     let m = c.loop-progress.machine in
     let n = c.stride.new.machine in
     let before = g.W.Sink.out c.args.out.now in
-    let mid = g.W.Sink.out c.loop-progress.out in
+    let here = g.W.Sink.out c.loop-progress.out in
     let out = g.W.Sink.out c.stride.new.out in
-    let some = c.in_ok-progress.ensures.some in
-    let step = subst (λ r. Sends (Strides p r) m mid out n) (ap (λ (t : Turn). t.refused) i.turn) (subst (λ q. Sends (Strides q c.loop-progress.turn.refused) m mid out n) i.image some.0) in
     let stays = λ (s : State). stays_at p c.args.until c.args.breakpoints.now s in
+    let some = c.in_ok-progress.ensures.some in
+    let step = as_begun (λ q r. Sends (Strides q r mid new) m here out n) i.image (ap (λ (t : Turn). t.refused) i.turn) some.0 in
     let image = c.stride.ensures.image ∙ i.image in (
-      there p refused stays a n before out (steps_more p refused stays a m n before mid out i.so_far i.running step) c.is_there.result c.if-is_there.true (λ s st. c.is_there.ensures s st ∙ ap (λ q. stays_at q c.args.until c.args.breakpoints.now s) image),
+      there p refused stays old new a n before out (steps_more p refused stays old mid a m n before here out i.so_far new i.running step) c.is_there.result c.if-is_there.true
+          (λ s st. c.is_there.ensures s st ∙ ap (λ q. stays_at q c.args.until c.args.breakpoints.now s) image),
       some.1,
     )
 
@@ -75,17 +84,21 @@ loop-progress-preserved g c =
     let p = c.args.machine.now.core.image in
     let refused = c.args.turn.now.refused in
     let a = c.args.machine.now in
+    let old = c.args.recent.now in
+    let mid = c.loop-progress.recent in
+    let new = c.stride.new.recent in
     let m = c.loop-progress.machine in
     let n = c.stride.new.machine in
     let before = g.W.Sink.out c.args.out.now in
-    let mid = g.W.Sink.out c.loop-progress.out in
+    let here = g.W.Sink.out c.loop-progress.out in
     let out = g.W.Sink.out c.stride.new.out in
-    let some = c.in_ok-progress.ensures.some in
-    let step = subst (λ r. Sends (Strides p r) m mid out n) (ap (λ (t : Turn). t.refused) i.turn) (subst (λ q. Sends (Strides q c.loop-progress.turn.refused) m mid out n) i.image some.0) in
     let stays = λ (s : State). stays_at p c.args.until c.args.breakpoints.now s in
+    let some = c.in_ok-progress.ensures.some in
+    let step = as_begun (λ q r. Sends (Strides q r mid new) m here out n) i.image (ap (λ (t : Turn). t.refused) i.turn) some.0 in
     let image = c.stride.ensures.image ∙ i.image in
     record {
-      so_far = not_there p refused stays a n before out (steps_more p refused stays a m n before mid out i.so_far i.running step) c.is_there.result c.if-is_there.false (λ s st. c.is_there.ensures s st ∙ ap (λ q. stays_at q c.args.until c.args.breakpoints.now s) image);
+      so_far = not_there p refused stays old new a n before out (steps_more p refused stays old mid a m n before here out i.so_far new i.running step) c.is_there.result c.if-is_there.false
+          (λ s st. c.is_there.ensures s st ∙ ap (λ q. stays_at q c.args.until c.args.breakpoints.now s) image);
       running = sym some.1 ∙ c.in-Running.is;
       stands = c.stride.ensures.stands;
       agree = c.stride.ensures.agree;

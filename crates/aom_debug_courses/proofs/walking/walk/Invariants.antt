@@ -10,7 +10,7 @@ use Rattle.aom_debug_courses.proofs.walking.walk.Given as goal
 
 abbrev pub invariant-loop-progress : goal.invariant-loop-progress
 invariant-loop-progress g l = record {
-  so_far : Sends (Underway l.fn.machine.core.image l.fn.turn.refused (λ s. stays_at l.fn.machine.core.image l.fn.until l.fn.breakpoints s)) l.fn.machine (g.W.Sink.out l.fn.out) (g.W.Sink.out l.out) l.machine;
+  so_far : Sends (Underway l.fn.machine.core.image l.fn.turn.refused (λ s. stays_at l.fn.machine.core.image l.fn.until l.fn.breakpoints s) l.fn.recent l.recent) l.fn.machine (g.W.Sink.out l.fn.out) (g.W.Sink.out l.out) l.machine;
   running : progress l.machine.core ≡ Running;
   stands : Stands l.machine;
   agree : AllAgree (λ x. x.ids) (λ x. (goal.Native-dyn g (x.native.vtable, x.native.value)).owed x.native.value) l.machine.natives.slots.items;

@@ -10,12 +10,15 @@ pub returns-then-is_there-clause-some : goal.returns-then-is_there-clause-some
 returns-then-is_there-clause-some g c =
     let p = c.args.machine.now.core.image in
     let stays = λ (s : State). stays_at p c.args.until c.args.breakpoints.now s in
-    (there_already p c.args.turn.now.refused stays c.args.machine.now (g.W.Sink.out c.args.out.now) c.is_there.result c.if-is_there.true c.is_there.ensures, c.progress.ensures)
+    (there_already p c.args.turn.now.refused stays c.args.recent.now c.args.machine.now (g.W.Sink.out c.args.out.now) c.is_there.result c.if-is_there.true c.is_there.ensures, c.progress.ensures)
 
 pub returns-clause-some : goal.returns-clause-some
 returns-clause-some g c =
     let p = c.args.machine.now.core.image in
     let stays = λ (s : State). stays_at p c.args.until c.args.breakpoints.now s in
     if_some c.walk.result
-    (λ far x. (on_from p c.args.turn.now.refused stays c.args.machine.now c.walk.new.machine (g.W.Sink.out c.args.out.now) (g.W.Sink.out c.walk.new.out) c.is_there.result c.if-is_there.false c.is_there.ensures x.0, x.1))
+    (λ far x. (
+      on_from p c.args.turn.now.refused stays c.args.recent.now c.walk.new.recent c.args.machine.now c.walk.new.machine (g.W.Sink.out c.args.out.now) (g.W.Sink.out c.walk.new.out) x.0 c.is_there.result c.if-is_there.false c.is_there.ensures,
+      x.1,
+    ))
     c.walk.ensures.some

@@ -5,9 +5,9 @@ use Rattle.aom_run.specs.Runs.{Moving}
 use Rattle.aom_run.proofs.Reaching.{moving_both}
 use Rattle.aom_run.proofs.Running.{given_up}
 use Rattle.aom_debug_views.specs.Next.{next_of, pauses, root_is_due, spot_of}
-use Rattle.aom_debug_moves.specs.Moves.{StepsOnce, noted}
+use Rattle.aom_debug_moves.specs.Moves.{Notes, StepsOnce, noted}
 use Rattle.aom_debug_moves.specs.Sends.{Breaks, IfSo, Sends, Then, Where}
-use Rattle.aom_debug_moves.proofs.Sending.{breaks_then, if_any, if_none, if_some, moving_if, moving_of, sends_then, sends_where}
+use Rattle.aom_debug_moves.proofs.Sending.{breaks_then, if_any, if_none, if_some, moving_if, moving_of, sends_as, sends_then, sends_where}
 use Rattle.aom_debug_moves.proofs.stepping.stride.Goals as goal
 
 pub returns-in_err-step_out-clause-none : goal.returns-in_err-step_out-clause-none
@@ -74,18 +74,11 @@ returns-clause-some g c =
     let last = subst (λ r. Sends (IfSo on (StepsOnce p r)) n then out l) still (subst (λ q. Sends (IfSo on (StepsOnce q c.step_out.new.turn.refused)) n then out l) image y.0) in
     let there = sends_where on (pauses p) (StepsOnce p refused) n l then out (λ s st. c.stays_there-goes_on.ensures s st ∙ ap (λ q. pauses q s) image) last in
     let later = sends_then m n l mid then out (StepsOnce p refused) (Where (pauses p) (StepsOnce p refused)) step there in
-    (sends_then a m l before mid out (Where (root_is_due p) (StepsOnce p refused)) (Then (StepsOnce p refused) (Where (pauses p) (StepsOnce p refused))) first later, y.1))
+    let made = Then (StepsOnce p refused) (Where (pauses p) (StepsOnce p refused)) in
+    let notes = Notes p c.args.recent.now c.note_next.new.recent made in
+    let noting = sends_as m l mid out made notes (λ s st ls u z. (c.note_next.ensures s st ∙ ap (λ q. noted (spot_of (next_of q s)) c.args.recent.now) c.step_if.ensures.image, z)) later in
+    (sends_then a m l before mid out (Where (root_is_due p) (StepsOnce p refused)) notes first noting, y.1))
     c.step_if-2.ensures.some
-
-pub returns-clause-notes : goal.returns-clause-notes
-returns-clause-notes g c =
-    let p = c.args.machine.now.core.image in
-    let first =
-    sends_where c.starts_end-begins.result (root_is_due p) (StepsOnce p c.args.turn.now.refused) c.args.machine.now c.step_if.new.machine (g.W.Sink.out c.args.out.now) (g.W.Sink.out c.step_if.new.out) c.starts_end-begins.ensures c.in_ok-step_if.ensures.some.0
-    in
-    if_any c.step_if-2.result (λ s st.
-    let f = first s st in
-    (f.1, f.0, f.2, c.note_next.ensures f.1 f.4 ∙ ap (λ q. noted (spot_of (next_of q f.1)) c.args.recent.now) c.step_if.ensures.image))
 
 pub returns-clause-falls : goal.returns-clause-falls
 returns-clause-falls g c =

@@ -1,14 +1,10 @@
 -- Moves to the end of a dispatch, and then where they have led.
-use Rattle.std.proofs.Common.{List, ◌∙◌, refl, subst}
-use Rattle.aom_machine.specs.Calls.{natives_of}
-use Rattle.aom_run.specs.Turns.{hearing}
-use Rattle.aom_sound.specs.World.{Reaches}
-use Rattle.aom_transcript.specs.declared.event.TimedEvent.{TimedEvent}
-use Rattle.aom_debug_moves.specs.Sends.{Breaks, Sends}
+use Rattle.std.proofs.Common.{refl}
+use Rattle.aom_sound.specs.World.{Outside}
 use Rattle.aom_debug_courses.specs.Courses.{TurnsOver}
 use Rattle.aom_debug_courses.proofs.Runs.{reaches_over}
-use Rattle.aom_debug.specs.Debugging.{outside_of, turns_of}
-use Rattle.aom_debug.proofs.Answering.{by_either, gave_up, gone, may_go}
+use Rattle.aom_debug.specs.Debugging.{outside_of}
+use Rattle.aom_debug.proofs.Answering.{answered, may_go}
 use Rattle.aom_debug.proofs.debugger.Debugger.turn.Goals as goal
 
 pub returns-clause-agree : goal.returns-clause-agree
@@ -17,18 +13,8 @@ returns-clause-agree g c = rw c.arrived.ensures.machine c.go_turn-went.ensures.a
 pub returns-clause-answer : goal.returns-clause-answer
 returns-clause-answer g c =
     let old = c.args.self.now in
-    let p = old.machine.core.image in
     let mid = record old { machine = c.go_turn-went.new.machine; recent = c.go_turn-went.new.recent; turn = c.go_turn-went.new.turn } in
-    let hears = λ (es : List TimedEvent). hearing old.turn.refused old.limit (natives_of old.machine) es in
     let may = may_go old c.is_done.result c.if-is_done.false c.is_done.ensures in
-    let before = g.W.Sink.out c.args.out.now in
-    let here = g.W.Sink.out c.go_turn-went.new.out in
-    let now = g.W.Sink.out c.arrived.new.out in
-    let failed = g.W.Sink.failed c.arrived.new.out in
-    by_either c.go_turn-went.result c.go_turn-went.ensures.none c.go_turn-went.ensures.some c.arrived.ensures.none c.arrived.ensures.failed c.arrived.ensures.some
-    (λ off up same.
-    let cut = subst (λ es. Breaks (Reaches p (hears es)) old.machine before here mid.machine) c.events.ensures off.1 in
-    gave_up turns_of old mid c.arrived.new.self may c.go_turn-went.ensures.image refl refl before here now failed c.arrived.result (same ∙ off.0) cut up)
-    (λ far some shows.
-    let sends = subst (λ es. Sends (TurnsOver p (hears es)) old.machine before here mid.machine) c.events.ensures some.0 in
-    gone turns_of old mid c.arrived.new.self may c.go_turn-went.ensures.image refl refl before here now failed (reaches_over p (outside_of old)) c.arrived.result sends shows)
+    answered (λ d (outside : Outside). TurnsOver d.machine.core.image outside) old mid c.arrived.new.self may c.go_turn-went.ensures.image (g.W.Sink.out c.args.out.now) (g.W.Sink.out c.go_turn-went.new.out) (g.W.Sink.out c.arrived.new.out) (g.W.Sink.failed c.arrived.new.out)
+    c.events.result.now c.events.ensures (reaches_over old.machine.core.image (outside_of old) old.recent mid.recent) refl refl c.go_turn-went.result (g.W.Sink.failed c.go_turn-went.new.out) c.arrived.result
+    c.go_turn-went.ensures.none c.go_turn-went.ensures.some c.arrived.ensures.none c.arrived.ensures.failed c.arrived.ensures.some

@@ -1,0 +1,42 @@
+-- Each look shows what its definition says of each state.
+use Rattle.std.proofs.Common.{refl}
+use Rattle.std.proofs.lemmas.Result.{IfErr-weaker, IfOk-weaker}
+use Rattle.aom_debug.proofs.debugger.Debugger.show.Goals as goal
+
+pub returns-in-Cells-clause-ok : goal.returns-in-Cells-clause-ok
+returns-in-Cells-clause-ok g c = rw c.in-Cells.is (IfOk-weaker c.show_cells.result _ _ (λ done tells s st. (_, refl, tells.out s st.stands)) c.show_cells.ensures.ok)
+
+pub returns-in-Cells-clause-err : goal.returns-in-Cells-clause-err
+returns-in-Cells-clause-err g c = rw c.in-Cells.is (IfErr-weaker c.show_cells.result _ _ (λ fault part. (part.told, part.fails, (λ s st. (_, refl, part.out s st.stands)))) c.show_cells.ensures.err)
+
+pub returns-in-Owners-clause-ok : goal.returns-in-Owners-clause-ok
+returns-in-Owners-clause-ok g c = rw c.in-Owners.is (IfOk-weaker c.show_owners.result _ _ (λ done tells s st. (_, refl, tells.out s st.stands)) c.show_owners.ensures.ok)
+
+pub returns-in-Owners-clause-err : goal.returns-in-Owners-clause-err
+returns-in-Owners-clause-err g c = rw c.in-Owners.is (IfErr-weaker c.show_owners.result _ _ (λ fault part. (part.told, part.fails, (λ s st. (_, refl, part.out s st.stands)))) c.show_owners.ensures.err)
+
+pub returns-in-Cleanup-clause-ok : goal.returns-in-Cleanup-clause-ok
+returns-in-Cleanup-clause-ok g c =
+    let p = c.args.self.now.machine.core.image in
+    rw c.in-Cleanup.is (IfOk-weaker c.tell_cleanup.result _ _ (λ done tells s st. (_, refl, (tells p).out s st.stands)) (rw c.parts.ensures.parts at c.tell_cleanup.ensures.ok))
+
+pub returns-in-Cleanup-clause-err : goal.returns-in-Cleanup-clause-err
+returns-in-Cleanup-clause-err g c =
+    let p = c.args.self.now.machine.core.image in
+    rw c.in-Cleanup.is (IfErr-weaker c.tell_cleanup.result _ _ (λ fault part. ((part p).told, (part p).fails, (λ s st. (_, refl, (part p).out s st.stands)))) (rw c.parts.ensures.parts at c.tell_cleanup.ensures.err))
+
+pub returns-in-Actives-clause-ok : goal.returns-in-Actives-clause-ok
+returns-in-Actives-clause-ok g c =
+    let p = c.args.self.now.machine.core.image in
+    rw c.in-Actives.is (IfOk-weaker c.tell_actives.result _ _ (λ done tells s st. (_, (_, (tells p).order s st.stands, refl), (tells p).out s st.stands)) (rw c.parts-in-Actives.ensures.parts at c.tell_actives.ensures.ok))
+
+pub returns-in-Actives-clause-err : goal.returns-in-Actives-clause-err
+returns-in-Actives-clause-err g c =
+    let p = c.args.self.now.machine.core.image in
+    rw c.in-Actives.is (IfErr-weaker c.tell_actives.result _ _ (λ fault part. ((part p).told, (part p).fails, (λ s st. (_, (_, (part p).order s st.stands, refl), (part p).out s st.stands)))) (rw c.parts-in-Actives.ensures.parts at c.tell_actives.ensures.err))
+
+pub returns-in-Recent-clause-ok : goal.returns-in-Recent-clause-ok
+returns-in-Recent-clause-ok g c = rw c.in-Recent.is (IfOk-weaker c.tell_recent.result _ _ (λ done tells s st. (_, refl, tells)) c.tell_recent.ensures.ok)
+
+pub returns-in-Recent-clause-err : goal.returns-in-Recent-clause-err
+returns-in-Recent-clause-err g c = rw c.in-Recent.is (IfErr-weaker c.tell_recent.result _ _ (λ fault part. (part.told, part.fails, (λ s st. (_, refl, (part.sent, part.out))))) c.tell_recent.ensures.err)

@@ -1,0 +1,14 @@
+-- A machine that has booted is as fresh as its debugger. Why it does not boot is why there is none.
+use Rattle.std.proofs.Common.{◌≡◌, ◌∙◌, length}
+use Rattle.aom_machine.specs.Calls.{natives_of}
+use Rattle.aom_main.proofs.Tries.{given_all}
+use Rattle.aom_debugging.proofs.Starting.{begun_of}
+use Rattle.aom_debugging.proofs.debugging.begin.Goals as goal
+
+pub returns-in-Ok-new-clause-begun : goal.returns-in-Ok-new-clause-begun
+returns-in-Ok-new-clause-begun g c =
+    let machine = c.in-Ok.machine in
+    let count : natives_of machine ≡ length c.args.boxes.items = given_all (λ l. l.native) machine.natives.slots.items c.args.boxes.items c.in-Ok.ensures.boxes in
+    let new = c.in-Ok-new.ensures in
+    begun_of c.args.accepted.now c.args.script c.args.limit (length c.args.boxes.items) machine c.in-Ok.ensures.image c.in-Ok.ensures.stands count c.in-Ok-new.debugger c.in_ok-turn.turn (c.in_ok-turn.ensures.refused ∙ c.in_ok-refused.ensures.items ∙ c.refused.ensures)
+    new.machine new.script new.turn new.limit new.marks.0 new.marks.1 new.marks.2

@@ -1,0 +1,5 @@
+pub mod Answers
+pub mod Beginning
+pub mod Sessions
+pub mod Hearing
+pub mod Conversing

@@ -1,0 +1,107 @@
+-- What a debugging session tells: commands one after another, from a state of the checked machine on.
+use Rattle.std.specs.Prelude.{◌≡◌, ◌⊎◌, ◌≤◌, ◌==◌, ℕ, Bool, true, false, List, [], ◌∷◌, ◌++◌, length, Option, Some, None, is_some, Result, Ok, Err}
+use Rattle.aom_text.specs.declared.number.Number.{Number}
+use Rattle.aom_text.specs.Words.{has_bytes}
+use Rattle.std.specs.List.{slice_split}
+use Rattle.aom_image.specs.Image.{Image}
+use Rattle.aom_sound.specs.State.{State}
+use Rattle.aom_sound.specs.World.{Outside, Reaches}
+use Rattle.aom_transcript.specs.declared.line.Line.{Line}
+use Rattle.aom_transcript.specs.Text.{ended}
+use Rattle.aom_debug_words.specs.Commands.{command_said}
+use Rattle.aom_debug_words.specs.declared.command.Command.{Command}
+use Rattle.aom_debug_words.specs.declared.command.Command.TheVariants.{Step, Turn, Go, Break, Cells, Owners, Cleanup, Actives, Recent}
+use Rattle.aom_debug_words.specs.declared.fault.DebugFault.{DebugFault}
+use Rattle.aom_debug_words.specs.declared.fault.DebugFault.TheVariants as faults
+use Rattle.aom_debug_marks.specs.Marks.{is_set, with_spot}
+use Rattle.aom_debug_marks.specs.declared.spot.Spot.{Spot}
+use Rattle.aom_debug_lines.specs.declared.answer.Answer.TheVariants.{Done, Fault}
+use Rattle.aom_debug_lines.specs.Answers.{answer_text}
+use Rattle.aom_debug_courses.specs.Courses.{Courses, GoesBy, GoesToBreakpoint, TurnsOver}
+use Rattle.aom_debug.specs.Commands.{NamesNoRoom, ShowsActives, ShowsCells, ShowsCleanup, ShowsOwners, ShowsRecent, is_count, moved_text, spot_named}
+
+-- where a session stands: at a state, with these breakpoints, and these were the latest instructions
+pub record Standing : Type 0 where
+  pub state : State
+  pub spots : List Spot
+  pub recent : List Spot
+
+abbrev pub has_ended : Standing → Bool
+has_ended a = is_some a.state.rest.ended
+
+-- ---- what a command tells, and where it leads
+
+-- nothing is changed
+abbrev pub Shown : (List ℕ → Type 0) → Standing → List ℕ → Standing → Type 0
+Shown shows a text b = (b ≡ a) × shows text
+
+-- it goes on by such moves, and tells their lines and where they lead
+abbrev pub Goes : Image → Courses → Standing → List ℕ → Standing → Type 0
+Goes p leads a text b = (has_ended a ≡ false) × (lines : List Line) × leads a.recent b.recent a.state lines b.state × (b.spots ≡ a.spots) × (text ≡ moved_text p lines b.state)
+
+-- a breakpoint is set
+abbrev pub Sets : Image → Number → Number → Standing → List ℕ → Standing → Type 0
+Sets p method place a text b = (spot : Spot) × (spot_named p method place ≡ Some spot) × (is_set spot a.spots ≡ true) × (b ≡ record a { spots = with_spot spot a.spots }) × (text ≡ ended (answer_text Done))
+
+-- a command that is done
+abbrev pub Does : Image → Outside → Command → Standing → List ℕ → Standing → Type 0
+Does p outside (Step n) a text b = (is_count n ≡ true) × Goes p (GoesBy p outside n) a text b
+Does p outside Turn a text b = Goes p (TurnsOver p outside) a text b
+Does p outside Go a text b = Goes p (GoesToBreakpoint p outside a.spots) a text b
+Does p outside (Break method place) a text b = Sets p method place a text b
+Does p outside Cells a text b = Shown (λ t. ShowsCells p a.state t) a text b
+Does p outside Owners a text b = Shown (λ t. ShowsOwners a.state t) a text b
+Does p outside Cleanup a text b = Shown (λ t. ShowsCleanup a.state t) a text b
+Does p outside Actives a text b = Shown (λ t. ShowsActives a.state t) a text b
+Does p outside Recent a text b = Shown (λ t. ShowsRecent a.recent t) a text b
+
+-- a command that is refused, and why
+abbrev pub Refuses : Image → Command → Standing → DebugFault → Type 0
+Refuses p (Step n) a faults.BadCommand = is_count n ≡ false
+Refuses p (Step n) a faults.Ended = (is_count n ≡ true) × (has_ended a ≡ true)
+Refuses p Turn a faults.Ended = has_ended a ≡ true
+Refuses p Go a faults.Ended = has_ended a ≡ true
+Refuses p (Break method place) a faults.NoSuch = NamesNoRoom p method place a.spots
+Refuses p command a fault = ⊥
+
+-- ---- what a line tells
+
+abbrev pub fault_text : DebugFault → List ℕ
+fault_text fault = ended (answer_text (Fault fault))
+
+-- a fault is told, and nothing is changed
+abbrev pub Told : DebugFault → Standing → List ℕ → Standing → Type 0
+Told fault a text b = (b ≡ a) × (text ≡ fault_text fault)
+
+-- what a line says is done, or refused
+abbrev pub Heeds : Image → Outside → Result (Option Command) DebugFault → Standing → List ℕ → Standing → Type 0
+Heeds p outside (Err fault) a text b = Told fault a text b
+Heeds p outside (Ok None) a text b = (b ≡ a) × (text ≡ [])
+Heeds p outside (Ok (Some command)) a text b = Does p outside command a text b ⊎ ((fault : DebugFault) × Refuses p command a fault × Told fault a text b)
+
+-- lines one after another, and all that they tell
+pub data Session (p : Image) (outside : Outside) (a : Standing) : List (List ℕ) → List ℕ → Standing → Type 0 where
+  begins : Session p outside a [] [] a
+  heeds : {lines : List (List ℕ)} {told : List ℕ} {b c : Standing} (line text : List ℕ) → Session p outside a lines told b → Heeds p outside (command_said line) b text c → Session p outside a (lines ++ line ∷ []) (told ++ text) c
+
+-- a command that goes on, and may
+abbrev pub MovesOn : Result (Option Command) DebugFault → Standing → Type 0
+MovesOn (Ok (Some (Step n))) a = (is_count n ≡ true) × (has_ended a ≡ false)
+MovesOn (Ok (Some Turn)) a = has_ended a ≡ false
+MovesOn (Ok (Some Go)) a = has_ended a ≡ false
+MovesOn said a = ⊥
+
+-- what the next line tells is cut: of moves it is a beginning of what would be told of a run
+abbrev pub Begins : Image → Outside → Result (Option Command) DebugFault → Standing → List ℕ → Type 0
+Begins p outside said a text = ((b : Standing) × Heeds p outside said a text b) ⊎ (MovesOn said a × (lines : List Line) × (u : State) × Reaches p outside a.state lines u × (text ≡ moved_text p lines u))
+
+-- ---- the lines of what has come
+
+-- whole lines, and the beginning of one
+pub record Comes (text : List ℕ) (lines : List (List ℕ)) (rest : List ℕ) : Type 0 where
+  pub parts : slice_split (λ b. b == 10) text ≡ lines ++ rest ∷ []
+
+-- the lines, the last of which may lack its line feed
+abbrev pub all_lines : List (List ℕ) → List ℕ → List (List ℕ)
+all_lines lines [] = lines
+all_lines lines (b ∷ bs) = lines ++ (b ∷ bs) ∷ []

@@ -1,0 +1,137 @@
+//! A debugger over the bytes of files, as commands come.
+ghost use Rattle.std.specs.Prelude.{ℕ, ◌≡◌, IfErr, IfOk, List, Ok, length};
+ghost use Rattle.aom_natives.specs.Owed.{OweNothing};
+ghost use Rattle.aom_natives.specs.Slots.{AllAgree};
+ghost use Rattle.aom_script.specs.Script.{denoted};
+ghost use Rattle.aom_debug.specs.Debugging.{IsReady};
+ghost use Rattle.aom_main.specs.Acceptable.{IsSpelled};
+ghost use Rattle.aom_main.specs.Headline.{RefusesBoot};
+ghost use Rattle.aom_main.specs.Untold.{Untold};
+ghost use Rattle.aom_debugging.specs.Answers.{DebugAnswers};
+ghost use Rattle.aom_debugging.specs.Beginning.{IsBegun};
+
+use crate::Reader;
+use crate::conversing::converse;
+use aom_budget::Accepted;
+use aom_debug::Debugger;
+use aom_lines::Turn;
+use aom_machine::Machine;
+use aom_main::{ExitStatus, Fault, accept_bytes, tell};
+use aom_natives::Native;
+use aom_run::Sink;
+use aom_script::{Script, read_script};
+use std::alloc::Global;
+
+/// Runs an image under a script beside those natives as commands say, which come from a reader, and writes what they tell. The image is looked
+/// at before the script, and the script before the natives. After so many reads that give no end it is a fault.
+pub fn debug_bytes<R: Reader, W: Sink, E: Sink>(
+    alloc: Global,
+    image: &[u8],
+    script: &[u8],
+    limit: u32,
+    boxes: Vec<Box<dyn Native>>,
+    reader: &mut R,
+    reads: u64,
+    out: &mut W,
+    errors: &mut E,
+) -> ExitStatus
+    requires owed { OweNothing (λ b. (⟦<dyn Native as Native>⟧ b.vtable).owed b.value) boxes.items }
+    ensures { DebugAnswers image.now script.now limit (length boxes.items) reads (record { before = R.given reader.old; now = R.given reader.new; ended = R.ended reader.new; failed = R.failed reader.new }) (record { before = W.out out.old; now = W.out out.new; failed = W.failed out.new }) (record { before = E.out errors.old; now = E.out errors.new; failed = E.failed errors.new }) result }
+{
+    match try_debug(alloc, image, script, limit, boxes, reader, reads, out) {
+        Ok(status) => status,
+        Err(fault) => tell(&fault, errors),
+    }
+}
+
+/// Debugs an image, and leaves its fault to be told.
+fn try_debug<R: Reader, W: Sink>(
+    alloc: Global,
+    image: &[u8],
+    script: &[u8],
+    limit: u32,
+    boxes: Vec<Box<dyn Native>>,
+    reader: &mut R,
+    reads: u64,
+    out: &mut W,
+) -> Result<ExitStatus, Fault>
+    requires owed { OweNothing (λ b. (⟦<dyn Native as Native>⟧ b.vtable).owed b.value) boxes.items }
+    ensures { Untold (DebugAnswers image.now script.now limit (length boxes.items) reads (record { before = R.given reader.old; now = R.given reader.new; ended = R.ended reader.new; failed = R.failed reader.new }) (record { before = W.out out.old; now = W.out out.new; failed = W.failed out.new })) result }
+{
+    match accept_bytes(alloc, image) {
+        Ok(accepted) => debug_text(alloc, &accepted, script, limit, boxes, reader, reads, out),
+        Err(refusal) => Err(refusal),
+    }
+}
+
+/// Debugs an accepted image under the script that a text is.
+fn debug_text<R: Reader, W: Sink>(
+    alloc: Global,
+    accepted: &Accepted,
+    text: &[u8],
+    limit: u32,
+    boxes: Vec<Box<dyn Native>>,
+    reader: &mut R,
+    reads: u64,
+    out: &mut W,
+) -> Result<ExitStatus, Fault>
+    requires owed { OweNothing (λ b. (⟦<dyn Native as Native>⟧ b.vtable).owed b.value) boxes.items }
+    ensures { (bytes : List ℕ) → IsSpelled bytes accepted.now → Untold (DebugAnswers bytes text.now limit (length boxes.items) reads (record { before = R.given reader.old; now = R.given reader.new; ended = R.ended reader.new; failed = R.failed reader.new }) (record { before = W.out out.old; now = W.out out.new; failed = W.failed out.new })) result }
+{
+    accepted.facts();
+    match read_script(alloc, text) {
+        Ok(script) => debug_script(alloc, accepted, script, limit, boxes, reader, reads, out),
+        Err(fault) => Err(Fault::from(fault)),
+    }
+}
+
+/// Debugs an accepted image under a script.
+fn debug_script<R: Reader, W: Sink>(
+    alloc: Global,
+    accepted: &Accepted,
+    script: Script,
+    limit: u32,
+    boxes: Vec<Box<dyn Native>>,
+    reader: &mut R,
+    reads: u64,
+    out: &mut W,
+) -> Result<ExitStatus, Fault>
+    requires owed { OweNothing (λ b. (⟦<dyn Native as Native>⟧ b.vtable).owed b.value) boxes.items }
+    ensures { (bytes text : List ℕ) → IsSpelled bytes accepted.now → denoted text ≡ Ok script → Untold (DebugAnswers bytes text limit (length boxes.items) reads (record { before = R.given reader.old; now = R.given reader.new; ended = R.ended reader.new; failed = R.failed reader.new }) (record { before = W.out out.old; now = W.out out.new; failed = W.failed out.new })) result }
+{
+    accepted.facts();
+    let mut debugger = match begin(alloc, accepted, script, limit, boxes) {
+        Ok(debugger) => debugger,
+        Err(fault) => return Err(fault),
+    };
+    match converse(&mut debugger, reader, reads, out) {
+        Ok(()) => Ok(ExitStatus::Done),
+        Err(fault) => Err(fault),
+    }
+}
+
+/// Boots a machine beside those natives, and a debugger of it. All memory is taken before anything is read or written.
+fn begin<'a>(
+    alloc: Global,
+    accepted: &'a Accepted,
+    script: Script,
+    limit: u32,
+    boxes: Vec<Box<dyn Native>>,
+) -> Result<Debugger<'a>, Fault>
+    requires owed { OweNothing (λ b. (⟦<dyn Native as Native>⟧ b.vtable).owed b.value) boxes.items }
+    ensures agree { IfOk result (λ d. AllAgree (λ l. l.ids) (λ l. (⟦<dyn Native as Native>⟧ l.native.vtable).owed l.native.value) d.machine.natives.slots.items) }
+    ensures ready { IfOk result (λ d. IsReady d) }
+    ensures begun { IfOk result (λ d. IsBegun accepted.now script limit (length boxes.items) d) }
+    ensures err { IfErr result (λ fault. RefusesBoot accepted.now (length boxes.items) fault) }
+{
+    let machine = match Machine::boot(alloc, accepted, boxes) {
+        Ok(machine) => machine,
+        Err((fault, _boxes)) => return Err(Fault::from(fault)),
+    };
+    let refused = Vec::from_slice(alloc, script.refused())?;
+    let turn = Turn::new(alloc, accepted, refused)?;
+    match Debugger::new(alloc, machine, script, turn, limit) {
+        Ok(debugger) => Ok(debugger),
+        Err(_) => Err(Fault::Memory),
+    }
+}
