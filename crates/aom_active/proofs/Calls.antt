@@ -6,7 +6,7 @@ use Rattle.std.proofs.lemmas.Bool.{eqb-true, false≢true}
 use Rattle.std.proofs.lemmas.Option.{same_Some}
 use Rattle.std.proofs.lemmas.List.Elements.{All-head, All-tail}
 use Rattle.aom_scheduler.specs.declared.entry.Entry.{Entry}
-use Rattle.aom_requests.specs.Requests.{Table, Changes, holds_signal, is_pending, is_ready, kept_code, pending, request_at, state_at, state_of, taken, with_state, with_status}
+use Rattle.aom_requests.specs.Requests.{Table, Changes, holds_signal, is_pending, is_ready, is_server, kept_code, pending, request_at, state_at, state_of, taken, with_state, with_status}
 use Rattle.aom_requests.specs.declared.request.State.{State}
 use Rattle.aom_requests.specs.declared.request.State.TheVariants.{Idle as Held_idle, Issued as Held_issued, Active as Held_active, Cancelling as Held_cancelling, Aborted as Held_aborted}
 use Rattle.aom_requests.specs.declared.request.Request.{Request as Held_request}
@@ -22,9 +22,9 @@ use Rattle.aom_sound.specs.Natives.{is_owed}
 use Rattle.aom_sound.specs.Places.{Request}
 use Rattle.aom_active.specs.Aborts.{aborted_request}
 use Rattle.aom_active.specs.Agrees.{Active, IsWhole, StandsFor, Tells, due_in, may_stand, phase_of, timer_in}
-use Rattle.aom_active.specs.Meanings.{Completes, Enlists, IsFirstDue, IsFirstReady, IsNewest, IsNewestTimer, Makes, Picks, Removes, Times, asked_anew, begun_with, enlisted_with, is_being_cancelled, timed_for}
+use Rattle.aom_active.specs.Meanings.{Asks, Completes, Enlists, IsFirstDue, IsFirstReady, IsNewest, IsNewestTimer, Makes, Picks, Removes, TakesUp, Times, asked_anew, queued_anew, begun_with, enlisted_with, is_being_cancelled, timed_for}
 use Rattle.aom_active.proofs.Firsts.{first_by, left_none, left_some, none_by, picks_first, picks_none, ready_is_some, ready_signals, set_by}
-use Rattle.aom_active.proofs.Halves.{IsKept, Timely, changes_twice, kept_anew, listed_placed, listed_without, timely_kept, timely_placed, timely_without, timer_anew}
+use Rattle.aom_active.proofs.Halves.{IsKept, Timely, changes_twice, kept_anew, kept_itself, request_anew, listed_placed, listed_without, timely_kept, timely_placed, timely_without, timer_anew}
 use Rattle.aom_active.proofs.Lists.{id_of, standing}
 use Rattle.aom_active.proofs.Turns.{Enters, Follows, Runs, enters_placed, enters_without, follows_marked, follows_same, no_due_no_timer, no_timer, runs_placed, runs_same, runs_without, stand_anew, tells_anew}
 
@@ -45,18 +45,35 @@ record IsObject (h : Option Held_request) : Type 0 where
   state : State
   in_it : IsIn h state
 
-some_object : (h : Option Held_request) → may_stand h ≡ true → is_some h ≡ true → IsObject h
-some_object None stand some = cc
-some_object (Some (Held_object x status)) stand some = record { state = x; in_it = record { status = status; is = refl } }
-some_object (Some (Held_server b)) stand some = cc
+an_object : (x : State) (status : ℤ) → IsObject (Some (Held_object x status))
+an_object x status = record { state = x; in_it = record { status = status; is = refl } }
 
-pending_is_some : (h : Option Held_request) → is_pending h ≡ true → is_some h ≡ true
-pending_is_some None e = cc
-pending_is_some (Some h) e = refl
+-- what is no server's is an object's, so is what is pending and what is being cancelled
+some_object : (h : Option Held_request) → is_server h ≡ false → is_some h ≡ true → IsObject h
+some_object None plain some = cc
+some_object (Some (Held_object x status)) plain some = an_object x status
+some_object (Some (Held_server b)) plain some = cc
 
-cancelled_is_some : (h : Option Held_request) → is_being_cancelled h ≡ true → is_some h ≡ true
-cancelled_is_some None e = cc
-cancelled_is_some (Some h) e = refl
+pending_object : (h : Option Held_request) → is_pending h ≡ true → IsObject h
+pending_object (Some (Held_object x status)) e = an_object x status
+pending_object _ e = cc
+
+cancelled_object : (h : Option Held_request) → is_being_cancelled h ≡ true → IsObject h
+cancelled_object (Some (Held_object x status)) e = an_object x status
+cancelled_object _ e = cc
+
+-- a server has a signal as it is ready
+server_is : (h : Option Held_request) → is_server h ≡ true → h ≡ Some (Held_server (is_ready h))
+server_is (Some (Held_server b)) e = refl
+server_is (Some (Held_object x status)) e = cc
+server_is None e = cc
+
+-- what an object's request becomes is told where its phase and its status are
+object_tells :
+    (x y : State) (u v : ℤ) (r q : Request) (waits : Option Bool) → (phase_of x ≡ r.phase → u ≡ r.status → (phase_of y ≡ q.phase) × (v ≡ q.status)) →
+    Tells (Some (Held_object x u)) (Some r) waits → Tells (Some (Held_object y v)) (Some q) waits
+object_tells x y u v r q None becomes tells = becomes tells.0 tells.1
+object_tells x y u v r q (Some waits) becomes tells = absurd tells
 
 -- what is being cancelled is not ready
 cancelled_waits : (h : Option Held_request) → is_being_cancelled h ≡ true → is_ready h ≡ false
@@ -84,12 +101,14 @@ none_of None e = refl
 none_of (Some x) e = cc
 
 -- a request that is pending is outstanding
-owed : (h : Option Held_request) (r : Option Request) → may_stand h ≡ true → Tells h r → is_pending h ≡ is_owed r
-owed None None stand tells = refl
-owed None (Some r) stand tells = absurd tells
-owed (Some (Held_server b)) r stand tells = absurd tells
-owed (Some (Held_object x status)) None stand tells = absurd tells
-owed (Some (Held_object x status)) (Some r) stand tells =
+owed : (h : Option Held_request) (r : Option Request) (waits : Option Bool) → may_stand h ≡ true → Tells h r waits → is_pending h ≡ is_owed r
+owed None None waits stand tells = refl
+owed None (Some r) waits stand tells = absurd tells
+owed (Some h) None waits stand tells = absurd tells
+owed (Some (Held_server b)) (Some r) None stand tells = absurd tells
+owed (Some (Held_server b)) (Some r) (Some waits) stand tells = sym (ap (λ q. not (is_idle q) && int_eq r.status pending) tells.0)
+owed (Some (Held_object x status)) (Some r) (Some waits) stand tells = absurd tells
+owed (Some (Held_object x status)) (Some r) None stand tells =
     by x stand ∙ ap (λ q. not (is_idle q) && int_eq status pending) tells.0 ∙ ap (λ v. not (is_idle r.phase) && int_eq v pending) tells.1
   where
     over : (b : Bool) → not b ≡ true → false ≡ b
@@ -103,8 +122,8 @@ owed (Some (Held_object x status)) (Some r) stand tells =
     by Held_cancelling stand = refl
     by Held_aborted stand = over (int_eq status pending) stand
 
-pub is_outstanding : {old : Active} (a : Active) → a ≡ old → IsWhole a → (id : ℕ) (asked : ℕ → Option Request) → StandsFor old asked → is_pending (request_at a.table id) ≡ is_owed (asked id)
-is_outstanding a same w id asked s = owed (request_at a.table id) (asked id) (w.requests id) ((subst (λ x. StandsFor x asked) (sym same) s).tells id)
+pub is_outstanding : {old : Active} (a : Active) → a ≡ old → IsWhole a → (id : ℕ) (asked : ℕ → Option Request) (queues : ℕ → Option Bool) → StandsFor old asked queues → is_pending (request_at a.table id) ≡ is_owed (asked id)
+is_outstanding a same w id asked queues s = owed (request_at a.table id) (asked id) (queues id) (w.requests id) ((subst (λ x. StandsFor x asked queues) (sym same) s).tells id)
 
 -- ---- a request that becomes another
 
@@ -129,19 +148,19 @@ Retimes ts us id f = (asked : ℕ → Option Request) (r : Request) → asked id
 made :
     (a new : Active) (id : ℕ) (q : Option Held_request) (f : Request → Request) → IsWhole a → Changes a.table new.table id q → may_stand q ≡ true →
     Follows a.roster new.table new.roster → Runs new.table new.pending → Retimes a.pending.timers new.pending.timers id f →
-    ((r : Request) → Tells (request_at a.table id) (Some r) → Tells q (Some (f r))) → ((r : Request) → IsKept (Some r) (Some (f r))) → Made a new id f
+    ((r : Request) (waits : Option Bool) → Tells (request_at a.table id) (Some r) waits → Tells q (Some (f r)) waits) → ((r : Request) → IsKept (Some r) (Some (f r))) → Made a new id f
 made a new id q f w ch stand follows runs retimes tells kept = record {
   whole = whole_from a new id q w ch stand follows.enters runs;
   makes = record { limit = ch.limit; stands = stands };
 }
   where
-    stands : (asked : ℕ → Option Request) (r : Request) → StandsFor a asked → asked id ≡ Some r → StandsFor new (asked_anew id (Some (f r)) asked)
-    stands asked r s here =
+    stands : (asked : ℕ → Option Request) (queues : ℕ → Option Bool) (r : Request) → StandsFor a asked queues → asked id ≡ Some r → StandsFor new (asked_anew id (Some (f r)) asked) queues
+    stands asked queues r s here =
         let now = asked_anew id (Some (f r)) asked in
         let l = follows.listed asked now (kept_anew id r (f r) asked here (kept r)) (record { priorities = s.priorities; order = s.order }) in
         let t = retimes asked r here (record { dues = s.dues; sooner = s.sooner }) in
         record {
-          tells = tells_anew a.table new.table id q (Some (f r)) asked ch (tells r (subst (Tells (request_at a.table id)) here (s.tells id))) s.tells;
+          tells = tells_anew a.table new.table id q (Some (f r)) asked queues ch (tells r (queues id) (subst (λ o. Tells (request_at a.table id) o (queues id)) here (s.tells id))) s.tells;
           priorities = l.priorities;
           order = l.order;
           dues = t.dues;
@@ -185,7 +204,7 @@ module _ {old : Active} (a : Active) (same : a ≡ old) (w : IsWhole a) (id : �
       subst (λ x. Made x (parts t r a.pending) id waits) same
       (made a (parts t r a.pending) id q waits w ch refl (marked_as t r q ready ch ready_is roster_is (ap is_some o.is) refl)
       (runs_same a w t id q ch (λ e. sym (ap is_pending o.is) ∙ e)) (retimes_same a.pending.timers id waits (λ x. refl))
-      (λ x e. let told : Tells (Some (Held_object Held_issued o.status)) (Some x) = subst (λ h. Tells h (Some x)) o.is e in (refl, told.1)) (λ x. (refl, refl)))
+      (λ x v e. object_tells Held_issued Held_active o.status o.status x (waits x) v (λ phase status. (refl, status)) (subst (λ h. Tells h (Some x) v) o.is e)) (λ x. (refl, refl)))
 
   pub begins_cancel :
       (t : Table) (r : Roster) → state_at old.table id ≡ Some Held_active → Changes a.table t id (with_state Held_cancelling (request_at a.table id)) →
@@ -197,7 +216,7 @@ module _ {old : Active} (a : Active) (same : a ≡ old) (w : IsWhole a) (id : �
       subst (λ x. Made x (parts t r a.pending) id cancelling) same
       (made a (parts t r a.pending) id q cancelling w ch refl (marked_as t r q false ch (sym (ap is_ready ch.here)) roster_is (ap is_some o.is) refl)
       (runs_same a w t id q ch (λ e. sym (ap is_pending o.is) ∙ e)) (retimes_same a.pending.timers id cancelling (λ x. refl))
-      (λ x e. let told : Tells (Some (Held_object Held_active o.status)) (Some x) = subst (λ h. Tells h (Some x)) o.is e in (refl, told.1)) (λ x. (refl, refl)))
+      (λ x v e. object_tells Held_active Held_cancelling o.status o.status x (cancelling x) v (λ phase status. (refl, status)) (subst (λ h. Tells h (Some x) v) o.is e)) (λ x. (refl, refl)))
 
   pub issues_own :
       (s t : Table) (code given : ℤ) → given ≡ code → state_at old.table id ≡ Some Held_idle → Changes a.table s id (Some (Held_object Held_issued pending)) →
@@ -210,7 +229,7 @@ module _ {old : Active} (a : Active) (same : a ≡ old) (w : IsWhole a) (id : �
       subst (λ x. Made x (parts t a.roster a.pending) id (completed_at_once code)) same
       (made a (parts t a.roster a.pending) id q (completed_at_once code) w ch refl (follows_same a w t id q ch (ap is_some o.is) refl (sym (ap is_ready o.is)))
       (runs_same a w t id q ch (λ e. absurd (false≢true (sym over ∙ e)))) (retimes_none a.pending.timers id (completed_at_once code) (no_timer a w t id q ch over) (λ x. refl))
-      (λ x e. (refl, refl)) (λ x. (refl, refl)))
+      (λ x v e. object_tells Held_idle Held_issued o.status (kept_code code) x (completed_at_once code x) v (λ phase status. (refl, refl)) (subst (λ h. Tells h (Some x) v) o.is e)) (λ x. (refl, refl)))
 
   pub ends_cancel :
       (t : Table) → is_being_cancelled (request_at old.table id) ≡ true → is_pending (request_at old.table id) ≡ false →
@@ -218,20 +237,20 @@ module _ {old : Active} (a : Active) (same : a ≡ old) (w : IsWhole a) (id : �
   ends_cancel t being completed change =
       let being_here : is_being_cancelled (request_at a.table id) ≡ true = ap (λ x. is_being_cancelled (request_at x.table id)) same ∙ being in
       let over : is_pending (request_at a.table id) ≡ false = ap (λ x. is_pending (request_at x.table id)) same ∙ completed in
-      let o = some_object (request_at a.table id) (w.requests id) (cancelled_is_some (request_at a.table id) being_here) in
+      let o = cancelled_object (request_at a.table id) being_here in
       let q = Some (Held_object Held_idle o.in_it.status) in
       let ch = subst (λ h. Changes a.table t id (taken h)) o.in_it.is change in
       subst (λ x. Made x (parts t a.roster a.pending) id cancelled) same
       (made a (parts t a.roster a.pending) id q cancelled w ch refl (follows_same a w t id q ch (ap is_some o.in_it.is) refl (sym (cancelled_waits (request_at a.table id) being_here)))
       (runs_same a w t id q ch (λ e. absurd (false≢true (sym over ∙ e)))) (retimes_same a.pending.timers id cancelled (λ x. refl))
-      (λ x e. let told : Tells (Some (Held_object o.state o.in_it.status)) (Some x) = subst (λ h. Tells h (Some x)) o.in_it.is e in (refl, told.1)) (λ x. (refl, refl)))
+      (λ x v e. object_tells o.state Held_idle o.in_it.status o.in_it.status x (cancelled x) v (λ phase status. (refl, status)) (subst (λ h. Tells h (Some x) v) o.in_it.is e)) (λ x. (refl, refl)))
 
   pub aborts :
       (t : Table) (p : Pending) → is_being_cancelled (request_at old.table id) ≡ true → Changes a.table t id (aborted_request (request_at a.table id)) →
       p ≡ record a.pending { timers = without id_of id a.pending.timers } → Made old (parts t a.roster p) id aborted
   aborts t p being change pending_is =
       let being_here : is_being_cancelled (request_at a.table id) ≡ true = ap (λ x. is_being_cancelled (request_at x.table id)) same ∙ being in
-      let o = some_object (request_at a.table id) (w.requests id) (cancelled_is_some (request_at a.table id) being_here) in
+      let o = cancelled_object (request_at a.table id) being_here in
       let code = cond (int_eq o.in_it.status pending) (negsuc 2) o.in_it.status in
       let q = Some (Held_object Held_aborted code) in
       let ch = subst (λ h. Changes a.table t id (aborted_request h)) o.in_it.is change in
@@ -241,7 +260,7 @@ module _ {old : Active} (a : Active) (same : a ≡ old) (w : IsWhole a) (id : �
       (made a (parts t a.roster timers) id q aborted w ch (answered o.in_it.status (int_eq o.in_it.status pending) refl)
       (follows_same a w t id q ch (ap is_some o.in_it.is) refl (sym (cancelled_waits (request_at a.table id) being_here)))
       (runs_without a w t id q ch) (retimes_without a.pending.timers id aborted (λ x. refl))
-      (λ x e. let told : Tells (Some (Held_object o.state o.in_it.status)) (Some x) = subst (λ h. Tells h (Some x)) o.in_it.is e in (refl, ap (λ v. cond (int_eq v pending) (negsuc 2) v) told.1))
+      (λ x v e. object_tells o.state Held_aborted o.in_it.status code x (aborted x) v (λ phase status. (refl, ap (λ y. cond (int_eq y pending) (negsuc 2) y) status)) (subst (λ h. Tells h (Some x) v) o.in_it.is e))
       (λ x. (refl, refl))))
     where
       answered : (status : ℤ) (b : Bool) → int_eq status pending ≡ b → not (int_eq (cond b (negsuc 2) status) pending) ≡ true
@@ -253,8 +272,8 @@ module _ {old : Active} (a : Active) (same : a ≡ old) (w : IsWhole a) (id : �
       Changes a.table t id (with_status (pos 0) (request_at a.table id)) → ready ≡ is_ready (request_at t id) → r ≡ record a.roster { entries = marked id ready a.roster.entries } →
       p ≡ record a.pending { timers = left_by now a.pending.timers } → Made old (parts t r p) id timed_out
   times_out now t r p ready ordered due change ready_is roster_is pending_is =
-      let listed = pending_is_some (request_at a.table id) (w.waits id (set_by now id a.pending.timers due)) in
-      let o = some_object (request_at a.table id) (w.requests id) listed in
+      let o = pending_object (request_at a.table id) (w.waits id (set_by now id a.pending.timers due)) in
+      let listed = ap is_some o.in_it.is in
       let q = Some (Held_object o.state (pos 0)) in
       let ch = subst (λ h. Changes a.table t id (with_status (pos 0) h)) o.in_it.is change in
       let timers = record a.pending { timers = without id_of id a.pending.timers } in
@@ -263,7 +282,7 @@ module _ {old : Active} (a : Active) (same : a ≡ old) (w : IsWhole a) (id : �
       (subst (λ y. Made a (parts t r y) id timed_out) (sym left)
       (made a (parts t r timers) id q timed_out w ch (completed_stands o.state (pos 0) refl) (marked_as t r q ready ch ready_is roster_is listed refl)
       (runs_without a w t id q ch) (retimes_without a.pending.timers id timed_out (λ x. refl))
-      (λ x e. let told : Tells (Some (Held_object o.state o.in_it.status)) (Some x) = subst (λ h. Tells h (Some x)) o.in_it.is e in (told.0, refl)) (λ x. (refl, refl))))
+      (λ x v e. object_tells o.state o.state o.in_it.status (pos 0) x (timed_out x) v (λ phase status. (phase, refl)) (subst (λ h. Tells h (Some x) v) o.in_it.is e)) (λ x. (refl, refl))))
 
   pub issues_native :
       (t : Table) → state_at old.table id ≡ Some Held_idle → Changes a.table t id (Some (Held_object Held_issued pending)) → Made old (parts t a.roster a.pending) id (begun_with pending)
@@ -274,15 +293,15 @@ module _ {old : Active} (a : Active) (same : a ≡ old) (w : IsWhole a) (id : �
       subst (λ x. Made x (parts t a.roster a.pending) id (begun_with pending)) same
       (made a (parts t a.roster a.pending) id q (begun_with pending) w ch refl (follows_same a w t id q ch (ap is_some o.is) refl (sym (ap is_ready o.is)))
       (runs_same a w t id q ch (λ e. absurd (false≢true (sym over ∙ e)))) (retimes_none a.pending.timers id (begun_with pending) (no_timer a w t id q ch over) (λ x. refl))
-      (λ x e. (refl, refl)) (λ x. (refl, refl)))
+      (λ x v e. object_tells Held_idle Held_issued o.status pending x (begun_with pending x) v (λ phase status. (refl, refl)) (subst (λ h. Tells h (Some x) v) o.is e)) (λ x. (refl, refl)))
 
   pub completes_it :
       (t : Table) (r : Roster) (p : Pending) (code given : ℤ) (ready : Bool) → given ≡ code → is_pending (request_at old.table id) ≡ true →
       Changes a.table t id (with_status (kept_code given) (request_at a.table id)) → ready ≡ is_ready (request_at t id) → r ≡ record a.roster { entries = marked id ready a.roster.entries } →
       p ≡ record a.pending { timers = without id_of id a.pending.timers } → Made old (parts t r p) id (completed_with (recorded code))
   completes_it t r p code given ready given_is awaited change ready_is roster_is pending_is =
-      let listed = pending_is_some (request_at a.table id) (ap (λ x. is_pending (request_at x.table id)) same ∙ awaited) in
-      let o = some_object (request_at a.table id) (w.requests id) listed in
+      let o = pending_object (request_at a.table id) (ap (λ x. is_pending (request_at x.table id)) same ∙ awaited) in
+      let listed = ap is_some o.in_it.is in
       let f = completed_with (recorded code) in
       let q = Some (Held_object o.state (kept_code code)) in
       let ch = subst (λ k. Changes a.table t id (with_status (kept_code k) (Some (Held_object o.state o.in_it.status)))) given_is (subst (λ h. Changes a.table t id (with_status (kept_code given) h)) o.in_it.is change) in
@@ -291,7 +310,7 @@ module _ {old : Active} (a : Active) (same : a ≡ old) (w : IsWhole a) (id : �
       (subst (λ y. Made a (parts t r y) id f) (sym pending_is)
       (made a (parts t r timers) id q f w ch (completed_stands o.state (kept_code code) (kept_is_over code)) (marked_as t r q ready ch ready_is roster_is listed refl)
       (runs_without a w t id q ch) (retimes_without a.pending.timers id f (λ x. refl))
-      (λ x e. let told : Tells (Some (Held_object o.state o.in_it.status)) (Some x) = subst (λ h. Tells h (Some x)) o.in_it.is e in (told.0, refl)) (λ x. (refl, refl))))
+      (λ x v e. object_tells o.state o.state o.in_it.status (kept_code code) x (f x) v (λ phase status. (phase, refl)) (subst (λ h. Tells h (Some x) v) o.in_it.is e)) (λ x. (refl, refl))))
 
   -- the first that is ready holds a signal, and is enlisted
   pub pick_is_ready : first_ready a.roster.entries ≡ Some id → is_ready (request_at a.table id) ≡ true
@@ -312,18 +331,18 @@ module _ {old : Active} (a : Active) (same : a ≡ old) (w : IsWhole a) (id : �
   pick_enlisted e = w.enlisted id ∙ ready_is_some (request_at a.table id) (pick_is_ready e)
 
   pub takes_up :
-      (t : Table) (r : Roster) → first_ready a.roster.entries ≡ Some id → Changes a.table t id (taken (request_at a.table id)) →
+      (t : Table) (r : Roster) → is_server (request_at a.table id) ≡ false → first_ready a.roster.entries ≡ Some id → Changes a.table t id (taken (request_at a.table id)) →
       r ≡ record a.roster { entries = marked id false a.roster.entries } → Made old (parts t r a.pending) id taken_up
-  takes_up t r first change roster_is =
+  takes_up t r plain first change roster_is =
       let ready = pick_is_ready first in
       let listed = ready_is_some (request_at a.table id) ready in
-      let o = some_object (request_at a.table id) (w.requests id) listed in
+      let o = some_object (request_at a.table id) plain listed in
       let q = Some (Held_object Held_idle o.in_it.status) in
       let ch = subst (λ h. Changes a.table t id (taken h)) o.in_it.is change in
       subst (λ x. Made x (parts t r a.pending) id taken_up) same
       (made a (parts t r a.pending) id q taken_up w ch refl (marked_as t r q false ch (sym (ap is_ready ch.here)) roster_is listed refl)
       (runs_same a w t id q ch (λ e. absurd (false≢true (sym (ready_is_over (request_at a.table id) ready) ∙ e)))) (retimes_same a.pending.timers id taken_up (λ x. refl))
-      (λ x e. let told : Tells (Some (Held_object o.state o.in_it.status)) (Some x) = subst (λ h. Tells h (Some x)) o.in_it.is e in (refl, told.1)) (λ x. (refl, refl)))
+      (λ x v e. object_tells o.state Held_idle o.in_it.status o.in_it.status x (taken_up x) v (λ phase status. (refl, status)) (subst (λ h. Tells h (Some x) v) o.in_it.is e)) (λ x. (refl, refl)))
     where
       ready_is_over : (h : Option Held_request) → is_ready h ≡ true → is_pending h ≡ false
       ready_is_over (Some (Held_object Held_active status)) e = go (int_eq status pending) e
@@ -341,27 +360,38 @@ module _ {old : Active} (a : Active) (same : a ≡ old) (w : IsWhole a) where
       subst (λ r. Completes now old (parts a.table a.roster p) r) (sym none)
       (subst (λ x. Completes now x (parts a.table a.roster p) None) same (
         ap (λ y. parts a.table a.roster y) (pending_is ∙ ap (λ ts. record a.pending { timers = ts }) (left_none now a.pending.timers due)),
-        λ asked s. none_by asked now a.pending.timers (record { dues = s.dues; sooner = s.sooner }) due,
+        λ asked queues s. none_by asked now a.pending.timers (record { dues = s.dues; sooner = s.sooner }) due,
       ))
 
-  pub is_first_due : (now id : ℕ) → due_by now a.pending.timers ≡ Some id → (asked : ℕ → Option Request) → StandsFor old asked → IsFirstDue now id asked
-  is_first_due now id due asked s =
-      let here = subst (λ x. StandsFor x asked) (sym same) s in
+  pub is_first_due : (now id : ℕ) → due_by now a.pending.timers ≡ Some id → (asked : ℕ → Option Request) (queues : ℕ → Option Bool) → StandsFor old asked queues → IsFirstDue now id asked
+  is_first_due now id due asked queues s =
+      let here = subst (λ x. StandsFor x asked queues) (sym same) s in
       first_by asked now id a.pending.timers (record { dues = here.dues; sooner = here.sooner }) due
 
   pub none_picked : (first result : Option ℕ) → first ≡ None → (IsNone first → All (λ e. e.is_ready ≡ false) a.roster.entries) → result ≡ None → Picks old old result
   none_picked first result none waits is =
       subst (λ r. Picks old old r) (sym is)
-      (refl, λ asked s. picks_none a w asked (subst (λ x. StandsFor x asked) (sym same) s) (waits (subst IsNone (sym none) refl)))
+      (refl, λ asked queues s. picks_none a w asked queues (subst (λ x. StandsFor x asked queues) (sym same) s) (waits (subst IsNone (sym none) refl)))
 
-  pub is_first_ready : (id : ℕ) → first_ready a.roster.entries ≡ Some id → (asked : ℕ → Option Request) → StandsFor old asked → IsFirstReady id asked
-  is_first_ready id first asked s = picks_first a w asked (subst (λ x. StandsFor x asked) (sym same) s) id first
+  pub is_first_ready : (id : ℕ) → first_ready a.roster.entries ≡ Some id → (asked : ℕ → Option Request) (queues : ℕ → Option Bool) → StandsFor old asked queues → IsFirstReady id asked queues
+  is_first_ready id first asked queues s = picks_first a w asked queues (subst (λ x. StandsFor x asked queues) (sym same) s) id first
+
+  -- of a server nothing changes, and an object is idle
+  pub server_picked : (id : ℕ) (b : Bool) → b ≡ is_server (request_at a.table id) → b ≡ true → TakesUp (is_server (request_at old.table id)) old old id
+  server_picked id b is serves = subst (λ x. TakesUp x old old id) (sym (ap (λ x. is_server (request_at x.table id)) (sym same) ∙ sym is ∙ serves)) refl
+
+  pub object_picked : (id : ℕ) (new : Active) (b : Bool) → b ≡ is_server (request_at a.table id) → b ≡ false → Makes old new id taken_up → TakesUp (is_server (request_at old.table id)) old new id
+  object_picked id new b is plain makes = subst (λ x. TakesUp x old new id) (sym (ap (λ x. is_server (request_at x.table id)) (sym same) ∙ sym is ∙ plain)) makes
 
 -- ---- an object that is enlisted, one that is no more, and a timer that is set
 
-pub record Enlisted (old new : Active) (id : ℕ) (priority : ℤ) : Type 0 where
+pub record Enlisted (old new : Active) (id : ℕ) (priority : ℤ) (waits : Option Bool) : Type 0 where
   pub whole : IsWhole new
-  pub enlists : Enlists old new id priority
+  pub enlists : Enlists old new id priority waits
+
+pub record Asked (old new : Active) (id : ℕ) (waits : Bool) : Type 0 where
+  pub whole : IsWhole new
+  pub asks : Asks old new id waits
 
 pub record Removed (old new : Active) (id : ℕ) : Type 0 where
   pub whole : IsWhole new
@@ -373,18 +403,19 @@ pub record Timed (old new : Active) (id due : ℕ) : Type 0 where
 
 module _ {old : Active} (a : Active) (same : a ≡ old) (w : IsWhole a) (id : ℕ) where
   pub enlists_it :
-      (t : Table) (r : Roster) (priority given : ℤ) → given ≡ priority → IsSound old.roster → request_at old.table id ≡ None → Changes a.table t id (Some (Held_object Held_idle (pos 0))) →
-      r ≡ record a.roster { entries = placed before (waiting id given) a.roster.entries } → Enlisted old (parts t r a.pending) id priority
-  enlists_it t r priority given given_is ordered fresh ch roster_is =
-      subst (λ x. Enlisted x (parts t r a.pending) id priority) same
-      (subst (λ x. Enlisted a (parts t x a.pending) id priority) (sym (roster_is ∙ ap (λ p. record a.roster { entries = placed before (waiting id p) a.roster.entries }) given_is))
+      (h : Held_request) (waits : Option Bool) → may_stand (Some h) ≡ true → is_ready (Some h) ≡ false → ((order : ℕ) (priority : ℤ) → Tells (Some h) (Some (enlisted_with order priority)) waits) →
+      (t : Table) (r : Roster) (priority given : ℤ) → given ≡ priority → IsSound old.roster → request_at old.table id ≡ None → Changes a.table t id (Some h) →
+      r ≡ record a.roster { entries = placed before (waiting id given) a.roster.entries } → Enlisted old (parts t r a.pending) id priority waits
+  enlists_it h waits may idles tells t r priority given given_is ordered fresh ch roster_is =
+      subst (λ x. Enlisted x (parts t r a.pending) id priority waits) same
+      (subst (λ x. Enlisted a (parts t x a.pending) id priority waits) (sym (roster_is ∙ ap (λ p. record a.roster { entries = placed before (waiting id p) a.roster.entries }) given_is))
       (record {
-        whole = whole_from a (parts t grown a.pending) id q w ch refl (enters_placed a w t id q ch priority absent refl refl) (runs_same a w t id q ch (λ e. absurd (false≢true (sym (ap is_pending free) ∙ e))));
+        whole = whole_from a (parts t grown a.pending) id q w ch may (enters_placed a w t id q ch priority absent refl idles) (runs_same a w t id q ch (λ e. absurd (false≢true (sym (ap is_pending free) ∙ e))));
         enlists = record { limit = ch.limit; stands = stands };
       }))
     where
       q : Option Held_request
-      q = Some (Held_object Held_idle (pos 0))
+      q = Some h
 
       grown : Roster
       grown = record a.roster { entries = placed before (waiting id priority) a.roster.entries }
@@ -395,17 +426,17 @@ module _ {old : Active} (a : Active) (same : a ≡ old) (w : IsWhole a) (id : �
       absent : IsAbsent (λ e. e.id) id a.roster.entries
       absent = place-absent (λ e. e.id) id a.roster.entries (none_of (place id a.roster) (w.enlisted id ∙ ap is_some free))
 
-      unasked : (o : Option Request) → Tells None o → timer_in o ≡ None
-      unasked None tells = refl
-      unasked (Some x) tells = absurd tells
+      unasked : (o : Option Request) (v : Option Bool) → Tells None o v → timer_in o ≡ None
+      unasked None v tells = refl
+      unasked (Some x) v tells = absurd tells
 
-      stands : (asked : ℕ → Option Request) (order : ℕ) → StandsFor a asked → IsNewest order asked → StandsFor (parts t grown a.pending) (asked_anew id (Some (enlisted_with order priority)) asked)
-      stands asked order s newest =
+      stands : (asked : ℕ → Option Request) (queues : ℕ → Option Bool) (order : ℕ) → StandsFor a asked queues → IsNewest order asked → queues id ≡ waits → StandsFor (parts t grown a.pending) (asked_anew id (Some (enlisted_with order priority)) asked) queues
+      stands asked queues order s newest here =
           let now = asked_anew id (Some (enlisted_with order priority)) asked in
           let l = listed_placed asked id order priority a.roster.entries (record { priorities = s.priorities; order = s.order }) absent (subst (λ x. AllPairs (λ e f. before e f ≡ true) x.roster.entries) (sym same) ordered.sorted) newest in
           let u = timely_kept asked now a.pending.timers (λ n. keeps n (id == n) refl) (record { dues = s.dues; sooner = s.sooner }) in
           record {
-            tells = tells_anew a.table t id q (Some (enlisted_with order priority)) asked ch (refl, refl) s.tells;
+            tells = tells_anew a.table t id q (Some (enlisted_with order priority)) asked queues ch (subst (λ v. Tells q (Some (enlisted_with order priority)) v) (sym here) (tells order priority)) s.tells;
             priorities = l.priorities;
             order = l.order;
             dues = u.dues;
@@ -413,8 +444,42 @@ module _ {old : Active} (a : Active) (same : a ≡ old) (w : IsWhole a) (id : �
           }
         where
           keeps : (n : ℕ) (b : Bool) → (id == n) ≡ b → timer_in (asked n) ≡ timer_in (cond b (Some (enlisted_with order priority)) (asked n))
-          keeps n true equal = ap (λ k. timer_in (asked k)) (sym (eqb-true id n equal)) ∙ unasked (asked id) (subst (λ h. Tells h (asked id)) free (s.tells id))
+          keeps n true equal = ap (λ k. timer_in (asked k)) (sym (eqb-true id n equal)) ∙ unasked (asked id) (queues id) (subst (λ h. Tells h (asked id) (queues id)) free (s.tells id))
           keeps n false other = refl
+
+  -- a server is told that something waits in its queue, or that nothing does
+  pub asks_it :
+      (t : Table) (r : Roster) (b : Bool) → is_server (request_at old.table id) ≡ true → Changes a.table t id (Some (Held_server b)) →
+      r ≡ record a.roster { entries = marked id b a.roster.entries } → Asked old (parts t r a.pending) id b
+  asks_it t r b serves ch roster_is =
+      subst (λ x. Asked x (parts t r a.pending) id b) same
+      (record { whole = whole_from a (parts t r a.pending) id q w ch refl follows.enters runs; asks = record { limit = ch.limit; stands = stands } })
+    where
+      q : Option Held_request
+      q = Some (Held_server b)
+
+      was : request_at a.table id ≡ Some (Held_server (is_ready (request_at a.table id)))
+      was = server_is (request_at a.table id) (ap (λ x. is_server (request_at x.table id)) same ∙ serves)
+
+      follows : Follows a.roster t r
+      follows = marked_as a same w id t r q b ch (sym (ap is_ready ch.here)) roster_is (ap is_some was) refl
+
+      runs : Runs t a.pending
+      runs = runs_same a w t id q ch (λ e. absurd (false≢true (sym (ap is_pending was) ∙ e)))
+
+      signals : (o : Option Request) (v : Option Bool) (x : Bool) → Tells (Some (Held_server x)) o v → Tells (Some (Held_server b)) o (Some b)
+      signals None v x tells = absurd tells
+      signals (Some y) None x tells = absurd tells
+      signals (Some y) (Some v) x tells = (tells.0, refl)
+
+      stands : (asked : ℕ → Option Request) (queues : ℕ → Option Bool) → StandsFor a asked queues → StandsFor (parts t r a.pending) asked (queued_anew id (Some b) queues)
+      stands asked queues s =
+          let l = follows.listed asked asked (λ n. kept_itself (asked n)) (record { priorities = s.priorities; order = s.order }) in
+          record { tells = λ n. subst (λ h. Tells h (asked n) (queued_anew id (Some b) queues n)) (sym (request_anew a.table t id q ch n)) (go n (id == n) refl); priorities = l.priorities; order = l.order; dues = s.dues; sooner = s.sooner }
+        where
+          go : (n : ℕ) (x : Bool) → (id == n) ≡ x → Tells (cond x q (request_at a.table n)) (asked n) (cond x (Some b) (queues n))
+          go n true same = subst (λ k. Tells q (asked k) (Some b)) (eqb-true id n same) (signals (asked id) (queues id) (is_ready (request_at a.table id)) (subst (λ h. Tells h (asked id) (queues id)) was (s.tells id)))
+          go n false other = s.tells n
 
   pub removes_it :
       (t : Table) (r : Roster) (p : Pending) → Changes a.table t id None → r ≡ record a.roster { entries = without (λ e. e.id) id a.roster.entries } →
@@ -434,11 +499,11 @@ module _ {old : Active} (a : Active) (same : a ≡ old) (w : IsWhole a) (id : �
       fewer : Pending
       fewer = record a.pending { timers = without id_of id a.pending.timers }
 
-      stands : (asked : ℕ → Option Request) → StandsFor a asked → StandsFor (parts t less fewer) (asked_anew id None asked)
-      stands asked s =
+      stands : (asked : ℕ → Option Request) (queues : ℕ → Option Bool) → StandsFor a asked queues → StandsFor (parts t less fewer) (asked_anew id None asked) queues
+      stands asked queues s =
           let l = listed_without asked id None a.roster.entries (record { priorities = s.priorities; order = s.order }) in
           let u = timely_without asked id None a.pending.timers refl (record { dues = s.dues; sooner = s.sooner }) in
-          record { tells = tells_anew a.table t id None None asked ch tt s.tells; priorities = l.priorities; order = l.order; dues = u.dues; sooner = u.sooner }
+          record { tells = tells_anew a.table t id None None asked queues ch tt s.tells; priorities = l.priorities; order = l.order; dues = u.dues; sooner = u.sooner }
 
   pub sets_timer :
       (t : Table) (p : Pending) (due : ℕ) → AreInOrder old.pending → state_at old.table id ≡ Some Held_idle → Changes a.table t id (Some (Held_object Held_issued pending)) →
@@ -465,12 +530,12 @@ module _ {old : Active} (a : Active) (same : a ≡ old) (w : IsWhole a) (id : �
       more : Pending
       more = record a.pending { timers = placed no_later (timer_of id due) a.pending.timers }
 
-      stands : (asked : ℕ → Option Request) (r : Request) (order : ℕ) → StandsFor a asked → asked id ≡ Some r → IsNewestTimer order asked → StandsFor (parts t a.roster more) (asked_anew id (Some (timed_for due order r)) asked)
-      stands asked r order s here newest =
+      stands : (asked : ℕ → Option Request) (queues : ℕ → Option Bool) (r : Request) (order : ℕ) → StandsFor a asked queues → asked id ≡ Some r → IsNewestTimer order asked → StandsFor (parts t a.roster more) (asked_anew id (Some (timed_for due order r)) asked) queues
+      stands asked queues r order s here newest =
           let now = asked_anew id (Some (timed_for due order r)) asked in
           let l = (follows_same a w t id q ch (ap is_some o.is) refl (sym (ap is_ready o.is))).listed asked now (kept_anew id r (timed_for due order r) asked here (refl, refl)) (record { priorities = s.priorities; order = s.order }) in
           let u = timely_placed asked id due order r a.pending.timers a.pending.limit (record { dues = s.dues; sooner = s.sooner }) unset (subst (λ x. AreInOrder x.pending) (sym same) ordered) newest in
-          record { tells = tells_anew a.table t id q (Some (timed_for due order r)) asked ch (refl, refl) s.tells; priorities = l.priorities; order = l.order; dues = u.dues; sooner = u.sooner }
+          record { tells = tells_anew a.table t id q (Some (timed_for due order r)) asked queues ch (object_tells Held_idle Held_issued o.status pending r (timed_for due order r) (queues id) (λ phase status. (refl, refl)) (subst (λ h. Tells h (Some r) (queues id)) o.is (subst (λ x. Tells (request_at a.table id) x (queues id)) here (s.tells id)))) s.tells; priorities = l.priorities; order = l.order; dues = u.dues; sooner = u.sooner }
 
   -- an object that is enlisted has a place among the timers
   pub has_place : (s : State) → IsSound old.roster → state_at old.table id ≡ Some s → id < a.pending.limit

@@ -1,58 +1,30 @@
--- The pick: where nothing waits in a queue, what is the first ready request is that of the candidate that the checked machine takes.
+-- The pick: what is ready first is the candidate that the checked machine takes.
 use Rattle.std.proofs.Common.{◌≡◌, ◌≢◌, ◌==◌, ℕ, ℤ, Bool, true, false, cond, List, [], ◌∷◌, Option, Some, None, refl, sym, ap, ◌∙◌, subst, arith}
 use Rattle.std.specs.Prelude.{◌&&◌, ◌||◌, int_lt, is_some, nat_lt}
 use Rattle.std.specs.Ordering.{int_eq}
 use Rattle.std.proofs.lemmas.Bool.{eq-eqb, eqb-true, eqb-false, false≢true}
 use Rattle.std.proofs.lemmas.Int.{ints}
 use Rattle.aom_sound.proofs.Maps.{same_place-true, same_place_refl}
-use Rattle.aom_sound.proofs.Services.{service_unnamed}
 use Rattle.aom_sound.specs.Places.{Cell, Object, Place, Request, Tidy, held, named, requested, same_place, service_of}
 use Rattle.aom_sound.specs.Servers.{has_more}
-use Rattle.aom_sound.specs.World.{Candidate, among_ready, before_others, first_ready, goes_before, is_ready}
-use Rattle.aom_active.proofs.Cells.{asked_first, asked_later, named_first, named_later, other_name}
-use Rattle.aom_active.specs.Meanings.{IsFirstReady, NoneReady}
-
--- nothing waits in a queue
-abbrev pub NoneAsked : List Cell → Type 0
-NoneAsked cs = (n : ℕ) → (service_of cs n).queue ≡ []
+use Rattle.aom_sound.specs.World.{Candidate, among_ready, before_others, first_ready, goes_before, goes_now, is_ready}
+use Rattle.aom_active.proofs.Cells.{asked_first, asked_later, asked_lives, named_first, named_later, other_name}
+use Rattle.aom_active.specs.Meanings.{IsFirstReady, NoneReady, is_wanted}
 
 -- the first cell as a candidate
 abbrev first_seat : Cell → Request → Candidate
 first_seat c r = record { seat = record { object = c.object; place = c.owner }; request = r }
 
--- what is ready by its request alone, and the first of these
-abbrev among_waiting : Cell → Option Request → Option Candidate → Option Candidate
-among_waiting c None others = others
-among_waiting c (Some r) others = cond (is_ready r) (Some (before_others (first_seat c r) others)) others
+-- its request is completed, or something waits in the queue of the cell of that name
+abbrev going : List Cell → ℕ → Request → Bool
+going cs n r = is_ready r || has_more (service_of cs n).queue
 
-abbrev first_waiting : List Cell → Option Candidate
-first_waiting [] = None
-first_waiting (c ∷ cs) = among_waiting c c.request (first_waiting cs)
+-- what clients have at the first cell, and behind it
+service_first : (c : Cell) (cs : List Cell) → service_of (c ∷ cs) c.object.name ≡ c.service
+service_first c cs = ap (λ b. cond b c.service (service_of cs c.object.name)) (eq-eqb c.object.name c.object.name refl)
 
--- where nothing waits in a queue that is the first of all
-queue_first : (c : Cell) (cs : List Cell) → NoneAsked (c ∷ cs) → c.service.queue ≡ []
-queue_first c cs none = sym (ap (λ b. (cond b c.service (service_of cs c.object.name)).queue) (eq-eqb c.object.name c.object.name refl)) ∙ none c.object.name
-
-none_behind : (c : Cell) (cs : List Cell) → Tidy (c ∷ cs) → NoneAsked (c ∷ cs) → NoneAsked cs
-none_behind c cs tidy none n = go (c.object.name == n) refl (none n)
-  where
-    go : (b : Bool) → (c.object.name == n) ≡ b → (cond b c.service (service_of cs n)).queue ≡ [] → (service_of cs n).queue ≡ []
-    go true same e = ap (λ v. v.queue) (service_unnamed cs n (ap (λ m. named cs m) (sym (eqb-true c.object.name n same)) ∙ tidy.1))
-    go false other e = e
-
-alone_ready : (cs : List Cell) → Tidy cs → NoneAsked cs → first_ready cs ≡ first_waiting cs
-alone_ready [] tidy none = refl
-alone_ready (c ∷ cs) tidy none = by_request c.request (alone_ready cs tidy.2 (none_behind c cs tidy none))
-  where
-    plain : (b : Bool) → (b || has_more []) ≡ b
-    plain true = refl
-    plain false = refl
-
-    by_request : (q : Option Request) → first_ready cs ≡ first_waiting cs → among_ready c q (first_ready cs) ≡ among_waiting c q (first_waiting cs)
-    by_request None rest = rest
-    by_request (Some r) rest =
-        ap (λ b. cond b (Some (before_others (first_seat c r) (first_ready cs))) (first_ready cs)) (ap (λ q. is_ready r || has_more q) (queue_first c cs none) ∙ plain (is_ready r))
-        ∙ ap (λ o. cond (is_ready r) (Some (before_others (first_seat c r) o)) o) rest
+service_later : (c : Cell) (cs : List Cell) (n : ℕ) → Tidy (c ∷ cs) → is_some (named cs n) ≡ true → service_of (c ∷ cs) n ≡ service_of cs n
+service_later c cs n tidy lives = ap (λ b. cond b c.service (service_of cs n)) (other_name c cs n tidy lives)
 
 -- what is held behind a cell is held in another place
 held_later : (c : Cell) (cs : List Cell) (p : Place) (o : Object) → Tidy (c ∷ cs) → held cs p ≡ Some o → held (c ∷ cs) p ≡ Some o
@@ -67,14 +39,14 @@ record Seated (cs : List Cell) (x : Candidate) : Type 0 where
   holds : held cs x.seat.place ≡ Some x.seat.object
   lives : named cs x.seat.object.name ≡ Some x.seat.object
   asked : requested cs x.seat.object.name ≡ Some x.request
-  ready : is_ready x.request ≡ true
+  ready : going cs x.seat.object.name x.request ≡ true
 
-seated_first : (c : Cell) (cs : List Cell) (r : Request) → c.request ≡ Some r → is_ready r ≡ true → Seated (c ∷ cs) (first_seat c r)
+seated_first : (c : Cell) (cs : List Cell) (r : Request) → c.request ≡ Some r → goes_now c r ≡ true → Seated (c ∷ cs) (first_seat c r)
 seated_first c cs r here ready = record {
   holds = ap (λ b. cond b (Some c.object) (held cs c.owner)) (same_place_refl c.owner);
   lives = named_first c cs;
   asked = asked_first c cs ∙ here;
-  ready = ready;
+  ready = ap (λ v. is_ready r || has_more v.queue) (service_first c cs) ∙ ready;
 }
 
 seated_later : (c : Cell) (cs : List Cell) (x : Candidate) → Tidy (c ∷ cs) → Seated cs x → Seated (c ∷ cs) x
@@ -82,14 +54,14 @@ seated_later c cs x tidy s = record {
   holds = held_later c cs x.seat.place x.seat.object tidy s.holds;
   lives = named_later c cs x.seat.object.name x.seat.object tidy s.lives;
   asked = asked_later c cs x.seat.object.name x.request tidy s.asked;
-  ready = s.ready;
+  ready = ap (λ v. is_ready x.request || has_more v.queue) (service_later c cs x.seat.object.name tidy (ap is_some s.lives)) ∙ s.ready;
 }
 
-seated : (cs : List Cell) → Tidy cs → (x : Candidate) → first_waiting cs ≡ Some x → Seated cs x
+seated : (cs : List Cell) → Tidy cs → (x : Candidate) → first_ready cs ≡ Some x → Seated cs x
 seated [] tidy x e = cc
 seated (c ∷ cs) tidy x e = by_request c.request refl e (λ f. seated_later c cs x tidy (seated cs tidy.2 x f))
   where
-    by_front : (r : Request) → c.request ≡ Some r → is_ready r ≡ true → (others : Option Candidate) → Some (before_others (first_seat c r) others) ≡ Some x → (others ≡ Some x → Seated (c ∷ cs) x) → Seated (c ∷ cs) x
+    by_front : (r : Request) → c.request ≡ Some r → goes_now c r ≡ true → (others : Option Candidate) → Some (before_others (first_seat c r) others) ≡ Some x → (others ≡ Some x → Seated (c ∷ cs) x) → Seated (c ∷ cs) x
     by_front r here ready None e rest = let same : first_seat c r ≡ x = cc in subst (λ y. Seated (c ∷ cs) y) same (seated_first c cs r here ready)
     by_front r here ready (Some b) e rest = go (goes_before b.request r) e
       where
@@ -97,13 +69,13 @@ seated (c ∷ cs) tidy x e = by_request c.request refl e (λ f. seated_later c c
         go true e = rest e
         go false e = let same : first_seat c r ≡ x = cc in subst (λ y. Seated (c ∷ cs) y) same (seated_first c cs r here ready)
 
-    by_ready : (r : Request) → c.request ≡ Some r → (b : Bool) → is_ready r ≡ b → cond b (Some (before_others (first_seat c r) (first_waiting cs))) (first_waiting cs) ≡ Some x → (first_waiting cs ≡ Some x → Seated (c ∷ cs) x) → Seated (c ∷ cs) x
-    by_ready r here true ready e rest = by_front r here ready (first_waiting cs) e rest
+    by_ready : (r : Request) → c.request ≡ Some r → (b : Bool) → goes_now c r ≡ b → cond b (Some (before_others (first_seat c r) (first_ready cs))) (first_ready cs) ≡ Some x → (first_ready cs ≡ Some x → Seated (c ∷ cs) x) → Seated (c ∷ cs) x
+    by_ready r here true ready e rest = by_front r here ready (first_ready cs) e rest
     by_ready r here false ready e rest = rest e
 
-    by_request : (q : Option Request) → c.request ≡ q → among_waiting c q (first_waiting cs) ≡ Some x → (first_waiting cs ≡ Some x → Seated (c ∷ cs) x) → Seated (c ∷ cs) x
+    by_request : (q : Option Request) → c.request ≡ q → among_ready c q (first_ready cs) ≡ Some x → (first_ready cs ≡ Some x → Seated (c ∷ cs) x) → Seated (c ∷ cs) x
     by_request None here e rest = rest e
-    by_request (Some r) here e rest = by_ready r here (is_ready r) refl e rest
+    by_request (Some r) here e rest = by_ready r here (goes_now c r) refl e rest
 
 -- of two requests one does not go before the other where that goes before it
 not_both : (r q : Request) → goes_before r q ≡ true → goes_before q r ≡ false
@@ -115,31 +87,38 @@ not_both r q e = at r.priority q.priority r.order q.order e
 -- the candidate of that name with that request comes first
 record IsChosen (cs : List Cell) (id : ℕ) (r : Request) : Type 0 where
   candidate : Candidate
-  first : first_waiting cs ≡ Some candidate
+  first : first_ready cs ≡ Some candidate
   name : candidate.seat.object.name ≡ id
   request : candidate.request ≡ r
 
 chosen :
-    (cs : List Cell) (id : ℕ) (r : Request) → Tidy cs → requested cs id ≡ Some r → is_ready r ≡ true →
-    ((n : ℕ) (q : Request) → n ≢ id → requested cs n ≡ Some q → is_ready q ≡ true → goes_before r q ≡ true) → IsChosen cs id r
+    (cs : List Cell) (id : ℕ) (r : Request) → Tidy cs → requested cs id ≡ Some r → going cs id r ≡ true →
+    ((n : ℕ) (q : Request) → n ≢ id → requested cs n ≡ Some q → going cs n q ≡ true → goes_before r q ≡ true) → IsChosen cs id r
 chosen [] id r tidy asked ready first = cc
 chosen (c ∷ cs) id r tidy asked ready first =
-    go (c.object.name == id) refl asked (λ here. chosen cs id r tidy.2 here ready (λ n q other e. first n q other (asked_later c cs n q tidy e)))
+    go (c.object.name == id) refl asked (λ here.
+    chosen cs id r tidy.2 here (sym (behind_going id r here) ∙ ready) (λ n q other e goes. first n q other (asked_later c cs n q tidy e) (behind_going n q e ∙ goes)))
   where
-    alone : (others : Option Candidate) → first_waiting cs ≡ others → c.object.name ≡ id → before_others (first_seat c r) others ≡ first_seat c r
+    behind_going : (n : ℕ) (q : Request) → requested cs n ≡ Some q → going (c ∷ cs) n q ≡ going cs n q
+    behind_going n q e = ap (λ v. is_ready q || has_more v.queue) (service_later c cs n tidy (asked_lives cs n q e))
+
+    alone : (others : Option Candidate) → first_ready cs ≡ others → c.object.name ≡ id → before_others (first_seat c r) others ≡ first_seat c r
     alone None e same = refl
     alone (Some b) e same =
         let s = seated cs tidy.2 b e in
         let other = eqb-false c.object.name b.seat.object.name (other_name c cs b.seat.object.name tidy (ap is_some s.lives)) in
         ap (λ g. cond g b (first_seat c r)) (not_both r b.request
-        (first b.seat.object.name b.request (λ equal. other (same ∙ sym equal)) (asked_later c cs b.seat.object.name b.request tidy s.asked) s.ready))
+        (first b.seat.object.name b.request (λ equal. other (same ∙ sym equal)) (asked_later c cs b.seat.object.name b.request tidy s.asked) (behind_going b.seat.object.name b.request s.asked ∙ s.ready)))
+
+    front_going : c.object.name ≡ id → goes_now c r ≡ true
+    front_going same = sym (ap (λ v. is_ready r || has_more v.queue) (service_first c cs)) ∙ ap (λ n. going (c ∷ cs) n r) same ∙ ready
 
     in_front : c.object.name ≡ id → c.request ≡ Some r → IsChosen (c ∷ cs) id r
     in_front same here = record {
       candidate = first_seat c r;
       first =
-          ap (λ q. among_waiting c q (first_waiting cs)) here ∙ ap (λ b. cond b (Some (before_others (first_seat c r) (first_waiting cs))) (first_waiting cs)) ready
-          ∙ ap Some (alone (first_waiting cs) refl same);
+          ap (λ q. among_ready c q (first_ready cs)) here ∙ ap (λ b. cond b (Some (before_others (first_seat c r) (first_ready cs))) (first_ready cs)) (front_going same)
+          ∙ ap Some (alone (first_ready cs) refl same);
       name = same;
       request = refl;
     }
@@ -147,36 +126,41 @@ chosen (c ∷ cs) id r tidy asked ready first =
     behind : (c.object.name == id) ≡ false → IsChosen cs id r → IsChosen (c ∷ cs) id r
     behind other w = record {
       candidate = w.candidate;
-      first = ap (λ o. among_waiting c c.request o) w.first ∙ by_request c.request refl;
+      first = ap (λ o. among_ready c c.request o) w.first ∙ by_request c.request refl;
       name = w.name;
       request = w.request;
     }
       where
-        by_ready : (q : Request) → c.request ≡ Some q → (b : Bool) → is_ready q ≡ b → cond b (Some (before_others (first_seat c q) (Some w.candidate))) (Some w.candidate) ≡ Some w.candidate
-        by_ready q here true is = ap (λ g. Some (cond g w.candidate (first_seat c q))) (ap (λ p. goes_before p q) w.request ∙ first c.object.name q (eqb-false c.object.name id other) (asked_first c cs ∙ here) is)
+        by_ready : (q : Request) → c.request ≡ Some q → (b : Bool) → goes_now c q ≡ b → cond b (Some (before_others (first_seat c q) (Some w.candidate))) (Some w.candidate) ≡ Some w.candidate
+        by_ready q here true is = ap (λ g. Some (cond g w.candidate (first_seat c q))) (ap (λ p. goes_before p q) w.request ∙ first c.object.name q (eqb-false c.object.name id other) (asked_first c cs ∙ here) (ap (λ v. is_ready q || has_more v.queue) (service_first c cs) ∙ is))
         by_ready q here false is = refl
 
-        by_request : (q : Option Request) → c.request ≡ q → among_waiting c q (Some w.candidate) ≡ Some w.candidate
+        by_request : (q : Option Request) → c.request ≡ q → among_ready c q (Some w.candidate) ≡ Some w.candidate
         by_request None here = refl
-        by_request (Some q) here = by_ready q here (is_ready q) refl
+        by_request (Some q) here = by_ready q here (goes_now c q) refl
 
     go : (b : Bool) → (c.object.name == id) ≡ b → cond b c.request (requested cs id) ≡ Some r → (requested cs id ≡ Some r → IsChosen cs id r) → IsChosen (c ∷ cs) id r
     go true same here rest = in_front (eqb-true c.object.name id same) here
     go false other here rest = behind other (rest here)
 
+-- these are the queues in which something waits
+abbrev pub AreWanted : (ℕ → Option Bool) → List Cell → Type 0
+AreWanted queues cs = (n : ℕ) → is_wanted (queues n) ≡ has_more (service_of cs n).queue
+
 -- the first ready object is the candidate that the checked machine takes
 pub picked :
-    (cs : List Cell) (id : ℕ) → Tidy cs → NoneAsked cs → IsFirstReady id (requested cs) →
+    (cs : List Cell) (queues : ℕ → Option Bool) (id : ℕ) → Tidy cs → AreWanted queues cs → IsFirstReady id (requested cs) queues →
     (x : Candidate) × (first_ready cs ≡ Some x) × (x.seat.object.name ≡ id) × (named cs id ≡ Some x.seat.object) × (held cs x.seat.place ≡ Some x.seat.object) × (requested cs id ≡ Some x.request)
-picked cs id tidy none f =
-    let w = chosen cs id f.request tidy f.stands f.ready f.first in
+picked cs queues id tidy wanted f =
+    let w = chosen cs id f.request tidy f.stands (sym (ap (λ b. is_ready f.request || b) (wanted id)) ∙ f.ready)
+    (λ n q other e goes. f.first n q other e (ap (λ b. is_ready q || b) (wanted n) ∙ goes)) in
     let s = seated cs tidy w.candidate w.first in
-    (w.candidate, alone_ready cs tidy none ∙ w.first, w.name, ap (λ n. named cs n) (sym w.name) ∙ s.lives, s.holds, f.stands ∙ ap Some (sym w.request))
+    (w.candidate, w.first, w.name, ap (λ n. named cs n) (sym w.name) ∙ s.lives, s.holds, f.stands ∙ ap Some (sym w.request))
 
--- and it takes none where none is ready
-pub none_picked : (cs : List Cell) → Tidy cs → NoneAsked cs → NoneReady (requested cs) → first_ready cs ≡ None
-none_picked cs tidy unasked none = alone_ready cs tidy unasked ∙ go (first_waiting cs) refl
+-- where none is ready there is none
+pub none_picked : (cs : List Cell) (queues : ℕ → Option Bool) → Tidy cs → AreWanted queues cs → NoneReady (requested cs) queues → first_ready cs ≡ None
+none_picked cs queues tidy wanted none = go (first_ready cs) refl
   where
-    go : (o : Option Candidate) → first_waiting cs ≡ o → o ≡ None
+    go : (o : Option Candidate) → first_ready cs ≡ o → o ≡ None
     go None e = refl
-    go (Some x) e = let s = seated cs tidy x e in absurd (false≢true (sym (none x.seat.object.name x.request s.asked) ∙ s.ready))
+    go (Some x) e = let s = seated cs tidy x e in absurd (false≢true (sym (none x.seat.object.name x.request s.asked) ∙ ap (λ b. is_ready x.request || b) (wanted x.seat.object.name) ∙ s.ready))

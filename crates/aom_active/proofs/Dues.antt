@@ -132,8 +132,8 @@ pub none_due : (cs : List Cell) (now : ℕ) → Tidy cs → NoneDue now (request
 none_due cs now tidy none x e = let r = running cs tidy x e in none x.object.name x.timer r.runs
 
 -- so the first due time is the one that it passes to
-pub next_due_is : (a : Active) (cs : List Cell) → Tidy cs → StandsFor a (requested cs) → Held.first_due a.pending.timers ≡ option_map (λ x. x.timer.due) (first_due cs)
-next_due_is a cs tidy s = by_timers a.pending.timers (record { dues = s.dues; sooner = s.sooner })
+pub next_due_is : (a : Active) (cs : List Cell) (queues : ℕ → Option Bool) → Tidy cs → StandsFor a (requested cs) queues → Held.first_due a.pending.timers ≡ option_map (λ x. x.timer.due) (first_due cs)
+next_due_is a cs queues tidy s = by_timers a.pending.timers (record { dues = s.dues; sooner = s.sooner })
   where
     no_timer : (o : Option Timed) → first_due cs ≡ o → ((n : ℕ) → None ≡ due_in (requested cs n)) → ◌≡◌ {A = Option ℕ} None (option_map (λ x. x.timer.due) o)
     no_timer None e none = refl
@@ -147,4 +147,4 @@ next_due_is a cs tidy s = by_timers a.pending.timers (record { dues = s.dues; so
         sym (ap (option_map (λ x. x.timer.due)) w.first ∙ ap (λ t. Some t.due) w.timer ∙ ap Some f.due_is)
 
 pub next_due_from : {old : Active} (a : Active) → a ≡ old → (result : Option ℕ) → result ≡ Held.first_due a.pending.timers → IsNextDue old result
-next_due_from a same result is = λ cs tidy s. is ∙ next_due_is a cs tidy (subst (λ x. StandsFor x (requested cs)) (sym same) s)
+next_due_from a same result is = λ cs queues tidy s. is ∙ next_due_is a cs queues tidy (subst (λ x. StandsFor x (requested cs) queues) (sym same) s)

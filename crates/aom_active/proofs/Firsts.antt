@@ -1,5 +1,5 @@
 -- The first of the timers and the first entry that is ready, as they tell of the requests that they stand for.
-use Rattle.std.proofs.Common.{◌≡◌, ◌≢◌, ◌<◌, ◌≤◌, ◌==◌, ℕ, Bool, true, false, cond, List, [], ◌∷◌, length, suc, Option, Some, None, refl, sym, ap, ◌∙◌, subst, arith}
+use Rattle.std.proofs.Common.{◌≡◌, ◌≢◌, ◌<◌, ◌≤◌, ◌==◌, ℕ, ℤ, Bool, true, false, cond, List, [], ◌∷◌, length, suc, Option, Some, None, refl, sym, ap, ◌∙◌, subst, arith}
 use Rattle.std.specs.Prelude.{All, AllPairs, IsSome, is_some, not, ◌&&◌, ◌||◌, nat_le, nat_lt, option_map}
 use Rattle.std.specs.Ordering.{int_eq}
 use Rattle.std.proofs.lemmas.Bool.{eq-eqb, eqb-true, eqb-false, false≢true, true≢false, leb-true, leb-false}
@@ -7,6 +7,7 @@ use Rattle.std.proofs.lemmas.Option.{none-some, same_Some}
 use Rattle.std.proofs.lemmas.List.Elements.{All-cons, All-head, All-tail, All-weaker}
 use Rattle.aom_requests.specs.Requests as Held
 use Rattle.aom_requests.specs.Requests.{holds_signal, pending, request_at}
+use Rattle.aom_requests.specs.declared.request.State.{State}
 use Rattle.aom_requests.specs.declared.request.State.TheVariants.{Idle as Held_idle, Issued as Held_issued, Active as Held_active, Cancelling as Held_cancelling, Aborted as Held_aborted}
 use Rattle.aom_requests.specs.declared.request.Request.{Request as Held_request}
 use Rattle.aom_requests.specs.declared.request.Request.TheVariants.{Object as Held_object, Server as Held_server}
@@ -20,8 +21,8 @@ use Rattle.aom_scheduler.proofs.Timing.{stands-if_set}
 use Rattle.aom_sound.specs.Enlisted.{is_active}
 use Rattle.aom_sound.specs.Places.{Request, Timer}
 use Rattle.aom_sound.specs.World.{goes_before, is_ready, is_sooner}
-use Rattle.aom_active.specs.Agrees.{Active, ComesSooner, GoesBefore, IsSooner, IsWhole, StandsFor, Tells, timer_in}
-use Rattle.aom_active.specs.Meanings.{IsFirstDue, IsFirstReady, NoneDue, NoneReady}
+use Rattle.aom_active.specs.Agrees.{Active, ComesSooner, GoesBefore, IsSooner, IsWhole, StandsFor, Tells, phase_of, timer_in}
+use Rattle.aom_active.specs.Meanings.{IsFirstDue, IsFirstReady, NoneDue, NoneReady, goes}
 use Rattle.aom_active.proofs.Halves.{Timely}
 use Rattle.aom_active.proofs.Lists.{Standing, both, id_of, standing}
 
@@ -168,14 +169,23 @@ first_entry R P id (x ∷ xs) e pairs all = go x.is_ready refl e (λ later. firs
         }
 
 -- a request is ready as the table tells
-same_ready : (h : Option Held_request) (r : Request) → Tells h (Some r) → Held.is_ready h ≡ is_ready r
-same_ready None r tells = absurd tells
-same_ready (Some (Held_object Held_active s)) r tells = ap (λ x. not (int_eq x pending)) tells.1 ∙ ap (λ p. is_active p && not (int_eq r.status pending)) tells.0
-same_ready (Some (Held_object Held_idle s)) r tells = ap (λ p. is_active p && not (int_eq r.status pending)) tells.0
-same_ready (Some (Held_object Held_issued s)) r tells = ap (λ p. is_active p && not (int_eq r.status pending)) tells.0
-same_ready (Some (Held_object Held_cancelling s)) r tells = ap (λ p. is_active p && not (int_eq r.status pending)) tells.0
-same_ready (Some (Held_object Held_aborted s)) r tells = ap (λ p. is_active p && not (int_eq r.status pending)) tells.0
-same_ready (Some (Held_server b)) r tells = absurd tells
+or_nothing : (b : Bool) → b ≡ (b || false)
+or_nothing true = refl
+or_nothing false = refl
+
+object_ready : (s : State) (v : ℤ) (r : Request) → phase_of s ≡ r.phase → v ≡ r.status → Held.is_ready (Some (Held_object s v)) ≡ is_ready r
+object_ready Held_active v r phase status = ap (λ x. not (int_eq x pending)) status ∙ ap (λ p. is_active p && not (int_eq r.status pending)) phase
+object_ready Held_idle v r phase status = ap (λ p. is_active p && not (int_eq r.status pending)) phase
+object_ready Held_issued v r phase status = ap (λ p. is_active p && not (int_eq r.status pending)) phase
+object_ready Held_cancelling v r phase status = ap (λ p. is_active p && not (int_eq r.status pending)) phase
+object_ready Held_aborted v r phase status = ap (λ p. is_active p && not (int_eq r.status pending)) phase
+
+same_ready : (h : Option Held_request) (r : Request) (waits : Option Bool) → Tells h (Some r) waits → Held.is_ready h ≡ goes r waits
+same_ready None r waits tells = absurd tells
+same_ready (Some (Held_object s v)) r None tells = object_ready s v r tells.0 tells.1 ∙ or_nothing (is_ready r)
+same_ready (Some (Held_object s v)) r (Some waits) tells = absurd tells
+same_ready (Some (Held_server b)) r None tells = absurd tells
+same_ready (Some (Held_server b)) r (Some waits) tells = tells.1 ∙ sym (ap (λ p. (is_active p && not (int_eq r.status pending)) || waits) tells.0)
 
 -- what is ready is enlisted, and holds a signal
 pub ready_is_some : (h : Option Held_request) → Held.is_ready h ≡ true → is_some h ≡ true
@@ -188,31 +198,30 @@ ready_signals (Some (Held_server b)) e = e
 ready_signals _ e = cc
 
 -- a request that the table tells
-record Told (o : Option Request) (b : Bool) : Type 0 where
+record Told (o : Option Request) (waits : Option Bool) (b : Bool) : Type 0 where
   request : Request
   is : o ≡ Some request
-  ready : is_ready request ≡ b
+  ready : goes request waits ≡ b
 
-told : (h : Option Held_request) (o : Option Request) → Tells h o → is_some h ≡ true → Told o (Held.is_ready h)
-told h (Some r) tells some = record { request = r; is = refl; ready = sym (same_ready h r tells) }
-told None None tells some = cc
-told (Some (Held_object s v)) None tells some = absurd tells
-told (Some (Held_server b)) None tells some = absurd tells
+told : (h : Option Held_request) (o : Option Request) (waits : Option Bool) → Tells h o waits → is_some h ≡ true → Told o waits (Held.is_ready h)
+told h (Some r) waits tells some = record { request = r; is = refl; ready = sym (same_ready h r waits tells) }
+told None None waits tells some = cc
+told (Some h) None waits tells some = absurd tells
 
-module _ (a : Active) (w : IsWhole a) (asked : ℕ → Option Request) (s : StandsFor a asked) where
+module _ (a : Active) (w : IsWhole a) (asked : ℕ → Option Request) (queues : ℕ → Option Bool) (s : StandsFor a asked queues) where
   -- the entry of a request that is ready
-  entry_of : (P : Entry → Type 0) → All P a.roster.entries → (n : ℕ) (r : Request) → asked n ≡ Some r → is_ready r ≡ true → Standing (λ e. e.id) n (λ e. P e × (e.is_ready ≡ true))
+  entry_of : (P : Entry → Type 0) → All P a.roster.entries → (n : ℕ) (r : Request) → asked n ≡ Some r → goes r (queues n) ≡ true → Standing (λ e. e.id) n (λ e. P e × (e.is_ready ≡ true))
   entry_of P all n r e ready = record { item = found.item; number_is = found.number_is; holds = (found.holds.0, found.holds.1 ∙ ap (λ k. Held.is_ready (request_at a.table k)) found.number_is ∙ held_ready) }
     where
       held_ready : Held.is_ready (request_at a.table n) ≡ true
-      held_ready = same_ready (request_at a.table n) r (subst (Tells (request_at a.table n)) e (s.tells n)) ∙ ready
+      held_ready = same_ready (request_at a.table n) r (queues n) (subst (λ o. Tells (request_at a.table n) o (queues n)) e (s.tells n)) ∙ ready
 
       found : Standing (λ f. f.id) n (λ f. P f × (f.is_ready ≡ Held.is_ready (request_at a.table f.id)))
       found =
           standing (λ f. f.id) n (λ f. P f × (f.is_ready ≡ Held.is_ready (request_at a.table f.id))) a.roster.entries (w.enlisted n ∙ ready_is_some (request_at a.table n) held_ready)
           (both P (λ f. f.is_ready ≡ Held.is_ready (request_at a.table f.id)) a.roster.entries all w.marks)
 
-  pub picks_first : (id : ℕ) → first_ready a.roster.entries ≡ Some id → IsFirstReady id asked
+  pub picks_first : (id : ℕ) → first_ready a.roster.entries ≡ Some id → IsFirstReady id asked queues
   picks_first id e = record { request = own.request; stands = own.is; ready = own.ready ∙ held_ready; first = first }
     where
       f : IsFirstEntry (λ e f. GoesBefore (asked e.id) (asked f.id)) (λ e. e.is_ready ≡ Held.is_ready (request_at a.table e.id)) id a.roster.entries
@@ -221,18 +230,18 @@ module _ (a : Active) (w : IsWhole a) (asked : ℕ → Option Request) (s : Stan
       held_ready : Held.is_ready (request_at a.table id) ≡ true
       held_ready = sym (ap (λ k. Held.is_ready (request_at a.table k)) f.name) ∙ sym f.holds ∙ f.ready
 
-      own : Told (asked id) (Held.is_ready (request_at a.table id))
-      own = told (request_at a.table id) (asked id) (s.tells id) (ready_is_some (request_at a.table id) held_ready)
+      own : Told (asked id) (queues id) (Held.is_ready (request_at a.table id))
+      own = told (request_at a.table id) (asked id) (queues id) (s.tells id) (ready_is_some (request_at a.table id) held_ready)
 
-      first : (n : ℕ) (r : Request) → n ≢ id → asked n ≡ Some r → is_ready r ≡ true → goes_before own.request r ≡ true
+      first : (n : ℕ) (r : Request) → n ≢ id → asked n ≡ Some r → goes r (queues n) ≡ true → goes_before own.request r ≡ true
       first n r other is ready =
           let y = entry_of (λ g. g.id ≢ id → g.is_ready ≡ true → GoesBefore (asked f.entry.id) (asked g.id)) f.first n r is ready in
           subst (λ o. GoesBefore (Some own.request) o) (ap asked y.number_is ∙ is)
           (subst (λ o. GoesBefore o (asked y.item.id)) (ap asked f.name ∙ own.is) (y.holds.0 (λ same. other (sym y.number_is ∙ same)) y.holds.1))
 
-  pub picks_none : All (λ e. e.is_ready ≡ false) a.roster.entries → NoneReady asked
-  picks_none none n r is = go (is_ready r) refl
+  pub picks_none : All (λ e. e.is_ready ≡ false) a.roster.entries → NoneReady asked queues
+  picks_none none n r is = go (goes r (queues n)) refl
     where
-      go : (b : Bool) → is_ready r ≡ b → b ≡ false
+      go : (b : Bool) → goes r (queues n) ≡ b → b ≡ false
       go true ready = let y = entry_of (λ e. e.is_ready ≡ false) none n r is ready in absurd (true≢false (sym y.holds.1 ∙ y.holds.0))
       go false ready = refl

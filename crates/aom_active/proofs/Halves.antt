@@ -55,7 +55,7 @@ IsKept None (Some q) = ⊥
 IsKept (Some r) None = ⊥
 IsKept (Some r) (Some q) = (r.priority ≡ q.priority) × (r.order ≡ q.order)
 
-kept_itself : (r : Option Request) → IsKept r r
+pub kept_itself : (r : Option Request) → IsKept r r
 kept_itself None = tt
 kept_itself (Some r) = (refl, refl)
 

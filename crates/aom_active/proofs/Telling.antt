@@ -1,9 +1,9 @@
 -- What the requests that the active objects stand for tell of the table: what each call requires of it.
-use Rattle.std.proofs.Common.{◌≡◌, ℕ, ℤ, Bool, false, Option, Some, None, refl, ap, ◌∙◌, subst}
-use Rattle.std.specs.Prelude.{is_some}
+use Rattle.std.proofs.Common.{◌≡◌, ℕ, ℤ, Bool, false, true, Option, Some, None, refl, sym, ap, ◌∙◌, subst}
+use Rattle.std.specs.Prelude.{IsSome, is_some}
 use mathlib.Core.Path.{fun_ext}
 use Rattle.std.specs.Ordering.{int_eq}
-use Rattle.aom_requests.specs.Requests.{is_pending, pending, request_at, state_at, state_of, status_at, status_of}
+use Rattle.aom_requests.specs.Requests.{is_pending, is_server, pending, request_at, state_at, state_of, status_at, status_of}
 use Rattle.aom_requests.specs.declared.request.State.{State}
 use Rattle.aom_requests.specs.declared.request.State.TheVariants.{Idle as Held_idle, Issued as Held_issued, Active as Held_active, Cancelling as Held_cancelling, Aborted as Held_aborted}
 use Rattle.aom_requests.specs.declared.request.Request.{Request as Held_request}
@@ -32,39 +32,56 @@ same_state Held_active = refl
 same_state Held_cancelling = refl
 same_state Held_aborted = refl
 
--- a test that agrees on each state tells the same of a request
-same_test : (held : Option Held_request → Bool) (test : Phase → Bool) → held None ≡ false → ((s : State) (v : ℤ) → held (Some (Held_object s v)) ≡ test (phase_of s)) → (h : Option Held_request) (o : Option Request) → Tells h o → held h ≡ in_phase test o
-same_test held test none some None None tells = none
-same_test held test none some None (Some r) tells = absurd tells
-same_test held test none some (Some (Held_object s v)) None tells = absurd tells
-same_test held test none some (Some (Held_object s v)) (Some r) tells = some s v ∙ ap test tells.0
-same_test held test none some (Some (Held_server b)) o tells = absurd tells
+-- a test that agrees on each state, and passes nothing idle and no server, tells the same of a request
+same_test :
+    (held : Option Held_request → Bool) (test : Phase → Bool) → held None ≡ false → ((s : State) (v : ℤ) → held (Some (Held_object s v)) ≡ test (phase_of s)) → ((b : Bool) → held (Some (Held_server b)) ≡ test Idle) →
+    (h : Option Held_request) (o : Option Request) (waits : Option Bool) → Tells h o waits → held h ≡ in_phase test o
+same_test held test none some server None None waits tells = none
+same_test held test none some server None (Some r) waits tells = absurd tells
+same_test held test none some server (Some h) None waits tells = absurd tells
+same_test held test none some server (Some (Held_object s v)) (Some r) None tells = some s v ∙ ap test tells.0
+same_test held test none some server (Some (Held_object s v)) (Some r) (Some waits) tells = absurd tells
+same_test held test none some server (Some (Held_server b)) (Some r) None tells = absurd tells
+same_test held test none some server (Some (Held_server b)) (Some r) (Some waits) tells = server b ∙ ap test (sym tells.0)
 
-tells_some : (h : Option Held_request) (o : Option Request) → Tells h o → is_some h ≡ is_some o
-tells_some None None tells = refl
-tells_some None (Some r) tells = absurd tells
-tells_some (Some (Held_object s v)) None tells = absurd tells
-tells_some (Some (Held_object s v)) (Some r) tells = refl
-tells_some (Some (Held_server b)) o tells = absurd tells
+tells_some : (h : Option Held_request) (o : Option Request) (waits : Option Bool) → Tells h o waits → is_some h ≡ is_some o
+tells_some None None waits tells = refl
+tells_some None (Some r) waits tells = absurd tells
+tells_some (Some h) None waits tells = absurd tells
+tells_some (Some h) (Some r) waits tells = refl
 
-tells_none : (h : Option Held_request) → Tells h None → h ≡ None
-tells_none None tells = refl
-tells_none (Some (Held_object s v)) tells = absurd tells
-tells_none (Some (Held_server b)) tells = absurd tells
+tells_none : (h : Option Held_request) (waits : Option Bool) → Tells h None waits → h ≡ None
+tells_none None waits tells = refl
+tells_none (Some h) waits tells = absurd tells
 
-tells_state : (h : Option Held_request) (r : Request) → Tells h (Some r) → state_of h ≡ Some (held_state r.phase)
+-- whether it is a server's
+tells_server : (h : Option Held_request) (r : Request) (waits : Option Bool) → Tells h (Some r) waits → is_server h ≡ is_some waits
+tells_server None r waits tells = absurd tells
+tells_server (Some (Held_object s v)) r None tells = refl
+tells_server (Some (Held_object s v)) r (Some waits) tells = absurd tells
+tells_server (Some (Held_server b)) r None tells = absurd tells
+tells_server (Some (Held_server b)) r (Some waits) tells = refl
+
+-- what has a state has a status
+pub has_status : (h : Option Held_request) → IsSome (state_of h) → IsSome (status_of h)
+has_status (Some (Held_object s v)) some = refl
+has_status (Some (Held_server b)) some = some
+has_status None some = some
+
+-- an object's, which no server is
+tells_state : (h : Option Held_request) (r : Request) → Tells h (Some r) None → state_of h ≡ Some (held_state r.phase)
 tells_state None r tells = absurd tells
 tells_state (Some (Held_object s v)) r tells = ap Some (same_state s ∙ ap held_state tells.0)
 tells_state (Some (Held_server b)) r tells = absurd tells
 
-tells_status : (h : Option Held_request) (r : Request) → Tells h (Some r) → status_of h ≡ Some r.status
+tells_status : (h : Option Held_request) (r : Request) → Tells h (Some r) None → status_of h ≡ Some r.status
 tells_status None r tells = absurd tells
 tells_status (Some (Held_object s v)) r tells = ap Some tells.1
 tells_status (Some (Held_server b)) r tells = absurd tells
 
-tells_over : (h : Option Held_request) (r : Request) → Tells h (Some r) → int_eq r.status pending ≡ false → is_pending h ≡ false
-tells_over None r tells over = refl
-tells_over (Some (Held_object s v)) r tells over = go s (ap (λ x. int_eq x pending) tells.1 ∙ over)
+tells_over : (h : Option Held_request) (r : Request) (waits : Option Bool) → Tells h (Some r) waits → int_eq r.status pending ≡ false → is_pending h ≡ false
+tells_over None r waits tells over = refl
+tells_over (Some (Held_object s v)) r None tells over = go s (ap (λ x. int_eq x pending) tells.1 ∙ over)
   where
     go : (s : State) → int_eq v pending ≡ false → is_pending (Some (Held_object s v)) ≡ false
     go Held_idle e = refl
@@ -72,28 +89,35 @@ tells_over (Some (Held_object s v)) r tells over = go s (ap (λ x. int_eq x pend
     go Held_active e = e
     go Held_cancelling e = e
     go Held_aborted e = refl
-tells_over (Some (Held_server b)) r tells over = absurd tells
+tells_over (Some (Held_object s v)) r (Some waits) tells over = absurd tells
+tells_over (Some (Held_server b)) r waits tells over = refl
 
 -- ---- all of them
 
-module _ (a : Active) (asked : ℕ → Option Request) (s : StandsFor a asked) (id : ℕ) where
+module _ (a : Active) (asked : ℕ → Option Request) (queues : ℕ → Option Bool) (s : StandsFor a asked queues) (id : ℕ) where
   pub told_enlisted : is_some (request_at a.table id) ≡ is_some (asked id)
-  told_enlisted = tells_some (request_at a.table id) (asked id) (s.tells id)
+  told_enlisted = tells_some (request_at a.table id) (asked id) (queues id) (s.tells id)
 
   pub told_fresh : asked id ≡ None → request_at a.table id ≡ None
-  told_fresh none = tells_none (request_at a.table id) (subst (Tells (request_at a.table id)) none (s.tells id))
+  told_fresh none = tells_none (request_at a.table id) (queues id) (subst (λ o. Tells (request_at a.table id) o (queues id)) none (s.tells id))
 
-  pub told_state : (r : Request) → asked id ≡ Some r → state_at a.table id ≡ Some (held_state r.phase)
-  told_state r is = tells_state (request_at a.table id) r (subst (Tells (request_at a.table id)) is (s.tells id))
+  pub told_server : (r : Request) → asked id ≡ Some r → is_server (request_at a.table id) ≡ is_some (queues id)
+  told_server r is = tells_server (request_at a.table id) r (queues id) (subst (λ o. Tells (request_at a.table id) o (queues id)) is (s.tells id))
 
-  pub told_status : (r : Request) → asked id ≡ Some r → status_at a.table id ≡ Some r.status
-  told_status r is = tells_status (request_at a.table id) r (subst (Tells (request_at a.table id)) is (s.tells id))
+  tells_object : (r : Request) → asked id ≡ Some r → queues id ≡ None → Tells (request_at a.table id) (Some r) None
+  tells_object r is plain = subst (λ v. Tells (request_at a.table id) (Some r) v) plain (subst (λ o. Tells (request_at a.table id) o (queues id)) is (s.tells id))
+
+  pub told_state : (r : Request) → asked id ≡ Some r → queues id ≡ None → state_at a.table id ≡ Some (held_state r.phase)
+  told_state r is plain = tells_state (request_at a.table id) r (tells_object r is plain)
+
+  pub told_status : (r : Request) → asked id ≡ Some r → queues id ≡ None → status_at a.table id ≡ Some r.status
+  told_status r is plain = tells_status (request_at a.table id) r (tells_object r is plain)
 
   pub told_over : (r : Request) → asked id ≡ Some r → int_eq r.status pending ≡ false → is_pending (request_at a.table id) ≡ false
-  told_over r is over = tells_over (request_at a.table id) r (subst (Tells (request_at a.table id)) is (s.tells id)) over
+  told_over r is over = tells_over (request_at a.table id) r (queues id) (subst (λ o. Tells (request_at a.table id) o (queues id)) is (s.tells id)) over
 
   pub told_active : is_waited_for (request_at a.table id) ≡ in_phase is_active (asked id)
-  told_active = same_test is_waited_for is_active refl each (request_at a.table id) (asked id) (s.tells id)
+  told_active = same_test is_waited_for is_active refl each (λ b. refl) (request_at a.table id) (asked id) (queues id) (s.tells id)
     where
       each : (s : State) (v : ℤ) → is_waited_for (Some (Held_object s v)) ≡ is_active (phase_of s)
       each Held_idle v = refl
@@ -103,7 +127,7 @@ module _ (a : Active) (asked : ℕ → Option Request) (s : StandsFor a asked) (
       each Held_aborted v = refl
 
   pub told_cancelling : is_being_cancelled (request_at a.table id) ≡ in_phase is_cancelling (asked id)
-  told_cancelling = same_test is_being_cancelled is_cancelling refl each (request_at a.table id) (asked id) (s.tells id)
+  told_cancelling = same_test is_being_cancelled is_cancelling refl each (λ b. refl) (request_at a.table id) (asked id) (queues id) (s.tells id)
     where
       each : (s : State) (v : ℤ) → is_being_cancelled (Some (Held_object s v)) ≡ is_cancelling (phase_of s)
       each Held_idle v = refl
@@ -113,7 +137,7 @@ module _ (a : Active) (asked : ℕ → Option Request) (s : StandsFor a asked) (
       each Held_aborted v = refl
 
   pub told_busy : is_busy (request_at a.table id) ≡ in_phase Enlisted.is_busy (asked id)
-  told_busy = same_test is_busy Enlisted.is_busy refl each (request_at a.table id) (asked id) (s.tells id)
+  told_busy = same_test is_busy Enlisted.is_busy refl each (λ b. refl) (request_at a.table id) (asked id) (queues id) (s.tells id)
     where
       each : (s : State) (v : ℤ) → is_busy (Some (Held_object s v)) ≡ Enlisted.is_busy (phase_of s)
       each Held_idle v = refl
@@ -122,6 +146,13 @@ module _ (a : Active) (asked : ℕ → Option Request) (s : StandsFor a asked) (
       each Held_cancelling v = refl
       each Held_aborted v = refl
 
--- the function by which the requests are told does not matter
+-- the functions by which they are told do not matter, nor the queue of what is not enlisted
+queue_follows : (h : Option Held_request) (o : Option Request) (v waits : Option Bool) → (is_some o ≡ true → v ≡ waits) → Tells h o v → Tells h o waits
+queue_follows h (Some r) v waits same tells = subst (λ w. Tells h (Some r) w) (same refl) tells
+queue_follows None None v waits same tells = tt
+queue_follows (Some h) None v waits same tells = absurd tells
+
 pub standing_follows : StandingFollows
-standing_follows a asked other same s = subst (StandsFor a) (fun_ext same) s
+standing_follows a asked other queues then same waits s =
+    let t = subst (λ f. StandsFor a f queues) (fun_ext same) s in
+    record { tells = λ n. queue_follows (request_at a.table n) (other n) (queues n) (then n) (waits n) (t.tells n); priorities = t.priorities; order = t.order; dues = t.dues; sooner = t.sooner }

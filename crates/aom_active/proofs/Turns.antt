@@ -30,13 +30,13 @@ stand_anew old new id q ch here others n = ap may_stand (request_anew old new id
     go false = others n
 
 pub tells_anew :
-    (old new : Table) (id : ℕ) (q : Option Held_request) (r : Option Request) (asked : ℕ → Option Request) → Changes old new id q → Tells q r →
-    ((n : ℕ) → Tells (request_at old n) (asked n)) → (n : ℕ) → Tells (request_at new n) (asked_anew id r asked n)
-tells_anew old new id q r asked ch here others n = subst (λ h. Tells h (asked_anew id r asked n)) (sym (request_anew old new id q ch n)) (go (id == n))
+    (old new : Table) (id : ℕ) (q : Option Held_request) (r : Option Request) (asked : ℕ → Option Request) (queues : ℕ → Option Bool) → Changes old new id q → Tells q r (queues id) →
+    ((n : ℕ) → Tells (request_at old n) (asked n) (queues n)) → (n : ℕ) → Tells (request_at new n) (asked_anew id r asked n) (queues n)
+tells_anew old new id q r asked queues ch here others n = subst (λ h. Tells h (asked_anew id r asked n) (queues n)) (sym (request_anew old new id q ch n)) (go (id == n) refl)
   where
-    go : (b : Bool) → Tells (cond b q (request_at old n)) (cond b r (asked n))
-    go true = here
-    go false = others n
+    go : (b : Bool) → (id == n) ≡ b → Tells (cond b q (request_at old n)) (cond b r (asked n)) (queues n)
+    go true same = subst (λ k. Tells q r (queues k)) (eqb-true id n same) here
+    go false other = others n
 
 -- ---- the entries
 

@@ -1,5 +1,5 @@
 -- The active objects of a machine, and when they stand for the requests of the checked machine.
-use Rattle.std.specs.Prelude.{◌≡◌, ℕ, ℤ, Bool, true, false, not, is_some, Option, Some, None, option_map, All, AllPairs, replicate}
+use Rattle.std.specs.Prelude.{◌≡◌, ℕ, ℤ, Bool, true, false, not, cond, is_some, List, Option, Some, None, option_map, All, AllPairs, replicate}
 use Rattle.std.specs.Ordering.{int_eq}
 use Rattle.aom_requests.specs.Requests.{Table, request_at, is_pending, is_ready, pending}
 use Rattle.aom_requests.specs.declared.request.State.{State}
@@ -8,7 +8,9 @@ use Rattle.aom_requests.specs.declared.request.Request.{Request as Held_request}
 use Rattle.aom_requests.specs.declared.request.Request.TheVariants.{Object as Held_object, Server as Held_server}
 use Rattle.aom_scheduler.specs.Roster.{Roster, empty, place}
 use Rattle.aom_scheduler.specs.Pending.{Pending, no_timers, due_of}
-use Rattle.aom_sound.specs.Places.{Phase, Idle, Issued, Active as Waiting, Cancelling, Aborted, Request, Timer}
+use Rattle.aom_image.specs.Image.{Image}
+use Rattle.aom_sound.specs.Places.{Cell, Object, Phase, Idle, Issued, Active as Waiting, Cancelling, Aborted, Request, Service, Timer, named, service_of}
+use Rattle.aom_sound.specs.Servers.{has_more, is_server}
 use Rattle.aom_sound.specs.World.{goes_before, is_sooner}
 
 -- what each object waits for, the order of the picks, and the timers
@@ -23,12 +25,12 @@ nobody limit = record { table = record { slots = replicate limit None; limit = l
 
 -- ---- the three hang together
 
--- an active object's request, completed if it is aborted
+-- an active object's request, completed if it is aborted, or a server's
 abbrev pub may_stand : Option Held_request → Bool
 may_stand None = true
 may_stand (Some (Held_object Held_aborted status)) = not (int_eq status pending)
 may_stand (Some (Held_object _ status)) = true
-may_stand (Some (Held_server has_signal)) = false
+may_stand (Some (Held_server has_signal)) = true
 
 -- who has a request has an entry, which is ready as the request is, and timers run for requests that are pending
 pub record IsWhole (a : Active) : Type 0 where
@@ -48,13 +50,23 @@ phase_of Held_active = Waiting
 phase_of Held_cancelling = Cancelling
 phase_of Held_aborted = Aborted
 
--- the same request, as far as the table tells
-abbrev pub Tells : Option Held_request → Option Request → Type 0
-Tells None None = Unit {0}
-Tells None (Some r) = ⊥
-Tells (Some (Held_object state status)) None = ⊥
-Tells (Some (Held_object state status)) (Some r) = (phase_of state ≡ r.phase) × (status ≡ r.status)
-Tells (Some (Held_server has_signal)) r = ⊥
+-- whether something waits in the queue of what stands there, if it is a server
+abbrev pub queue_in : Image → Option Object → Service → Option Bool
+queue_in p None v = None
+queue_in p (Some o) v = cond (is_server p o.thing) (Some (has_more v.queue)) None
+
+abbrev pub queued : Image → List Cell → ℕ → Option Bool
+queued p cs n = queue_in p (named cs n) (service_of cs n)
+
+-- the same request, as far as the table tells; a server makes none, and has a signal while something waits in its queue
+abbrev pub Tells : Option Held_request → Option Request → Option Bool → Type 0
+Tells None None waits = Unit {0}
+Tells None (Some r) waits = ⊥
+Tells (Some h) None waits = ⊥
+Tells (Some (Held_object state status)) (Some r) None = (phase_of state ≡ r.phase) × (status ≡ r.status)
+Tells (Some (Held_object state status)) (Some r) (Some waits) = ⊥
+Tells (Some (Held_server has_signal)) (Some r) None = ⊥
+Tells (Some (Held_server has_signal)) (Some r) (Some waits) = (r.phase ≡ Idle) × (has_signal ≡ waits)
 
 -- a request of that priority
 abbrev pub HasPriority : ℤ → Option Request → Type 0
@@ -85,9 +97,9 @@ ComesSooner (Some t) (Some u) = is_sooner t u ≡ true
 abbrev pub IsSooner : Option Request → Option Request → Type 0
 IsSooner r q = ComesSooner (timer_in r) (timer_in q)
 
--- these are the requests of the checked machine, and the entries and the timers stand in its order
-pub record StandsFor (a : Active) (asked : ℕ → Option Request) : Type 0 where
-  pub tells : (n : ℕ) → Tells (request_at a.table n) (asked n)
+-- these are the requests of the checked machine and the queues of its servers, and the entries and the timers stand in its order
+pub record StandsFor (a : Active) (asked : ℕ → Option Request) (queues : ℕ → Option Bool) : Type 0 where
+  pub tells : (n : ℕ) → Tells (request_at a.table n) (asked n) (queues n)
   pub priorities : All (λ e. HasPriority e.priority (asked e.id)) a.roster.entries
   pub order : AllPairs (λ e f. GoesBefore (asked e.id) (asked f.id)) a.roster.entries
   pub dues : (n : ℕ) → due_of n a.pending.timers ≡ due_in (asked n)

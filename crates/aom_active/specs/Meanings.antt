@@ -1,5 +1,6 @@
 -- What each call makes of the requests of the checked machine.
-use Rattle.std.specs.Prelude.{◌≡◌, ◌≢◌, ◌<◌, ◌≤◌, ◌==◌, ℕ, ℤ, pos, Bool, true, false, cond, List, Option, Some, None, option_map}
+use Rattle.std.specs.Prelude.{◌≡◌, ◌≢◌, ◌<◌, ◌≤◌, ◌==◌, ℕ, ℤ, pos, Bool, true, false, cond, ◌||◌, List, Option, Some, None, option_map}
+use Rattle.aom_requests.specs.Requests.{is_server, request_at}
 use Rattle.aom_requests.specs.declared.request.State.TheVariants.{Active as Held_active, Cancelling as Held_cancelling, Aborted as Held_aborted}
 use Rattle.aom_requests.specs.declared.request.Request.{Request as Held_request}
 use Rattle.aom_requests.specs.declared.request.Request.TheVariants.{Object as Held_object}
@@ -34,15 +35,24 @@ is_busy _ = false
 abbrev pub asked_anew : ℕ → Option Request → (ℕ → Option Request) → ℕ → Option Request
 asked_anew id r asked n = cond (id == n) r (asked n)
 
+-- something waits in the queue of that server, or nothing
+abbrev pub queued_anew : ℕ → Option Bool → (ℕ → Option Bool) → ℕ → Option Bool
+queued_anew id waits queues n = cond (id == n) waits (queues n)
+
 -- the request of the object becomes this of it, and nothing else changes
 pub record Makes (old new : Active) (id : ℕ) (f : Request → Request) : Type 0 where
   pub limit : new.table.limit ≡ old.table.limit
-  pub stands : (asked : ℕ → Option Request) (r : Request) → StandsFor old asked → asked id ≡ Some r → StandsFor new (asked_anew id (Some (f r)) asked)
+  pub stands : (asked : ℕ → Option Request) (queues : ℕ → Option Bool) (r : Request) → StandsFor old asked queues → asked id ≡ Some r → StandsFor new (asked_anew id (Some (f r)) asked) queues
 
 -- the object is enlisted no more
 pub record Removes (old new : Active) (id : ℕ) : Type 0 where
   pub limit : new.table.limit ≡ old.table.limit
-  pub stands : (asked : ℕ → Option Request) → StandsFor old asked → StandsFor new (asked_anew id None asked)
+  pub stands : (asked : ℕ → Option Request) (queues : ℕ → Option Bool) → StandsFor old asked queues → StandsFor new (asked_anew id None asked) queues
+
+-- something waits in the queue of the server from then on, or nothing does
+pub record Asks (old new : Active) (id : ℕ) (waits : Bool) : Type 0 where
+  pub limit : new.table.limit ≡ old.table.limit
+  pub stands : (asked : ℕ → Option Request) (queues : ℕ → Option Bool) → StandsFor old asked queues → StandsFor new asked (queued_anew id (Some waits) queues)
 
 -- an order after all that are enlisted
 abbrev pub IsNewest : ℕ → (ℕ → Option Request) → Type 0
@@ -52,11 +62,11 @@ IsNewest order asked = (n : ℕ) (r : Request) → asked n ≡ Some r → r.orde
 abbrev pub enlisted_with : ℕ → ℤ → Request
 enlisted_with order priority = record { order = order; priority = priority; phase = Idle; status = pos 0; timer = None }
 
--- the object is enlisted, after all that are
-pub record Enlists (old new : Active) (id : ℕ) (priority : ℤ) : Type 0 where
+-- the object is enlisted, after all that are; a server with nothing in its queue
+pub record Enlists (old new : Active) (id : ℕ) (priority : ℤ) (waits : Option Bool) : Type 0 where
   pub limit : new.table.limit ≡ old.table.limit
-  pub stands : (asked : ℕ → Option Request) (order : ℕ) → StandsFor old asked → IsNewest order asked
-      → StandsFor new (asked_anew id (Some (enlisted_with order priority)) asked)
+  pub stands : (asked : ℕ → Option Request) (queues : ℕ → Option Bool) (order : ℕ) → StandsFor old asked queues → IsNewest order asked → queues id ≡ waits
+      → StandsFor new (asked_anew id (Some (enlisted_with order priority)) asked) queues
 
 -- an order after all timers that run
 abbrev pub IsNewestTimer : ℕ → (ℕ → Option Request) → Type 0
@@ -69,8 +79,8 @@ timed_for due order r = record r { phase = Issued; status = pending; timer = Som
 -- a timer is set for the request of the object, after all that run
 pub record Times (old new : Active) (id due : ℕ) : Type 0 where
   pub limit : new.table.limit ≡ old.table.limit
-  pub stands : (asked : ℕ → Option Request) (r : Request) (order : ℕ) → StandsFor old asked → asked id ≡ Some r → IsNewestTimer order asked
-      → StandsFor new (asked_anew id (Some (timed_for due order r)) asked)
+  pub stands : (asked : ℕ → Option Request) (queues : ℕ → Option Bool) (r : Request) (order : ℕ) → StandsFor old asked queues → asked id ≡ Some r → IsNewestTimer order asked
+      → StandsFor new (asked_anew id (Some (timed_for due order r)) asked) queues
 
 -- a request as it begins at a native with that status, as `issued_by` of a native makes it
 abbrev pub begun_with : ℤ → Request → Request
@@ -91,27 +101,41 @@ NoneDue now asked = (n : ℕ) (t : Timer) → timer_in (asked n) ≡ Some t → 
 
 -- the first timer that is due by now completes the request of its object
 abbrev pub Completes : ℕ → Active → Active → Option ℕ → Type 0
-Completes now old new None = (new ≡ old) × ((asked : ℕ → Option Request) → StandsFor old asked → NoneDue now asked)
-Completes now old new (Some id) = Makes old new id timed_out × ((asked : ℕ → Option Request) → StandsFor old asked → IsFirstDue now id asked)
+Completes now old new None = (new ≡ old) × ((asked : ℕ → Option Request) (queues : ℕ → Option Bool) → StandsFor old asked queues → NoneDue now asked)
+Completes now old new (Some id) = Makes old new id timed_out × ((asked : ℕ → Option Request) (queues : ℕ → Option Bool) → StandsFor old asked queues → IsFirstDue now id asked)
 
 -- the checked machine's first timer is due then, or there is none
 abbrev pub IsNextDue : Active → Option ℕ → Type 0
-IsNextDue a due = (cs : List Cell) → Tidy cs → StandsFor a (requested cs) → due ≡ option_map (λ x. x.timer.due) (first_due cs)
+IsNextDue a due = (cs : List Cell) (queues : ℕ → Option Bool) → Tidy cs → StandsFor a (requested cs) queues → due ≡ option_map (λ x. x.timer.due) (first_due cs)
 
 -- ---- the pick
 
+-- it is a server in whose queue something waits
+abbrev pub is_wanted : Option Bool → Bool
+is_wanted None = false
+is_wanted (Some waits) = waits
+
+-- the request is completed, or something waits in the queue
+abbrev pub goes : Request → Option Bool → Bool
+goes r waits = is_ready r || is_wanted waits
+
 -- the object is ready, and goes before all others that are
-pub record IsFirstReady (id : ℕ) (asked : ℕ → Option Request) : Type 0 where
+pub record IsFirstReady (id : ℕ) (asked : ℕ → Option Request) (queues : ℕ → Option Bool) : Type 0 where
   pub request : Request
   pub stands : asked id ≡ Some request
-  pub ready : is_ready request ≡ true
-  pub first : (n : ℕ) (r : Request) → n ≢ id → asked n ≡ Some r → is_ready r ≡ true → goes_before request r ≡ true
+  pub ready : goes request (queues id) ≡ true
+  pub first : (n : ℕ) (r : Request) → n ≢ id → asked n ≡ Some r → goes r (queues n) ≡ true → goes_before request r ≡ true
 
 -- no object is ready
-abbrev pub NoneReady : (ℕ → Option Request) → Type 0
-NoneReady asked = (n : ℕ) (r : Request) → asked n ≡ Some r → is_ready r ≡ false
+abbrev pub NoneReady : (ℕ → Option Request) → (ℕ → Option Bool) → Type 0
+NoneReady asked queues = (n : ℕ) (r : Request) → asked n ≡ Some r → goes r (queues n) ≡ false
 
--- the first object that is ready is idle, and its signal is taken
+-- an object that is picked is idle, and its signal is taken; a server stays as it is until something is taken from its queue
+abbrev pub TakesUp : (serves : Bool) → Active → Active → ℕ → Type 0
+TakesUp true old new id = new ≡ old
+TakesUp false old new id = Makes old new id taken_up
+
+-- so is the first that is ready
 abbrev pub Picks : Active → Active → Option ℕ → Type 0
-Picks old new None = (new ≡ old) × ((asked : ℕ → Option Request) → StandsFor old asked → NoneReady asked)
-Picks old new (Some id) = Makes old new id taken_up × ((asked : ℕ → Option Request) → StandsFor old asked → IsFirstReady id asked)
+Picks old new None = (new ≡ old) × ((asked : ℕ → Option Request) (queues : ℕ → Option Bool) → StandsFor old asked queues → NoneReady asked queues)
+Picks old new (Some id) = TakesUp (is_server (request_at old.table id)) old new id × ((asked : ℕ → Option Request) (queues : ℕ → Option Bool) → StandsFor old asked queues → IsFirstReady id asked queues)

@@ -1,6 +1,6 @@
 //! The active objects of a machine.
-ghost use Rattle.std.specs.Prelude.{◌≡◌, ◌<◌, ◌≤◌, ℕ, Option, Some, None, IfOk, IfSome, IsSome, IsTrue, IsFalse, is_some, length, slice_get};
-ghost use Rattle.aom_requests.specs.Requests.{request_at, IsEnlisted, state_at, status_at, is_pending};
+ghost use Rattle.std.specs.Prelude.{◌≡◌, ◌<◌, ◌≤◌, ℕ, Bool, false, Option, Some, None, IfOk, IfSome, IsSome, IsTrue, IsFalse, is_some, length, slice_get};
+ghost use Rattle.aom_requests.specs.Requests.{request_at, IsEnlisted, state_at, status_at, is_pending, is_server};
 ghost use Rattle.aom_scheduler.specs.Pending.{first_due, AreInOrder};
 ghost use Rattle.aom_scheduler.specs.Roster.{IsSound, place};
 ghost use Rattle.aom_image.specs.declared.class.Provider.TheVariants.{Own};
@@ -8,16 +8,17 @@ ghost use Rattle.aom_sound.specs.Enlisted.{completed_at_once, completed_with, pe
 ghost use Rattle.aom_sound.specs.Natives.{is_owed};
 ghost use Rattle.aom_sound.specs.Places.{Request as RequestRecord};
 ghost use Rattle.aom_active.specs.Agrees.{StandsFor};
-ghost use Rattle.aom_active.specs.Meanings.{is_waited_for, is_being_cancelled, is_busy, begun_with, Makes, Removes, Enlists, Times, Completes, IsNextDue, Picks};
+ghost use Rattle.aom_active.specs.Meanings.{is_waited_for, is_being_cancelled, is_busy, begun_with, Makes, Removes, Enlists, Asks, Times, Completes, IsNextDue, Picks};
 
-use crate::parts::{abort_request, mark, stop_timer};
+use crate::parts::{abort_request, mark, signal, stop_timer};
 use aom_cells::CellId;
 use aom_requests::{Requests, State};
 use aom_scheduler::{Entry, Schedule, Timers};
 use std::alloc::{AllocError, Global};
 use std::marker::Model;
 
-/// The objects that are enlisted (CActiveScheduler), each with its request (CActive) and its timer (RTimer).
+/// The objects that are enlisted (CActiveScheduler), each with its request (CActive) and its timer (RTimer), and the servers
+/// (CServer2), which are ready while something waits in their queues.
 #[derive(Drop)]
 pub struct ActiveObjects {
     requests: Requests,
@@ -40,7 +41,7 @@ impl ActiveObjects {
     pub fn with_limit(alloc: Global, limit: usize) -> Result<ActiveObjects, AllocError>
         requires { limit ≤ 4096 }
         ensures limit { IfOk result (λ a. a.table.limit ≡ limit) }
-        ensures stands { IfOk result (λ a. StandsFor a (λ n. None)) }
+        ensures stands { (queues : ℕ → Option Bool) → IfOk result (λ a. StandsFor a (λ n. None) queues) }
     {
         let requests = Requests::with_limit(alloc, limit)?;
         let schedule = Schedule::with_limit(alloc, limit)?;
@@ -56,11 +57,31 @@ impl ActiveObjects {
     pub fn enlist(&mut self, id: CellId, priority: i32)
         requires place { id < self.old.table.limit }
         requires fresh { request_at self.old.table id ≡ None }
-        ensures { Enlists self.old self.new id priority }
+        ensures { Enlists self.old self.new id priority None }
     {
         self.in_order();
         self.requests.add(id);
         self.schedule.insert(id, priority);
+    }
+
+    /// Enlists a server, in whose queue nothing waits, and which goes after all of its priority: CActiveScheduler::Add.
+    pub fn enlist_server(&mut self, id: CellId, priority: i32)
+        requires place { id < self.old.table.limit }
+        requires fresh { request_at self.old.table id ≡ None }
+        ensures { Enlists self.old self.new id priority (Some false) }
+    {
+        self.in_order();
+        self.requests.add_server(id);
+        self.schedule.insert(id, priority);
+    }
+
+    /// Something waits in the queue of a server from then on, or nothing does: it is ready, or not. Nothing changes where that was so.
+    pub fn set_asked(&mut self, id: CellId, is_asked: bool)
+        requires { IsTrue (is_server (request_at self.old.table id)) }
+        ensures { Asks self.old self.new id is_asked }
+    {
+        signal(&mut self.requests, id, is_asked);
+        mark(&mut self.schedule, id, is_asked);
     }
 
     /// The object is enlisted no more, and its timer ends: CActive::Deque. A signal that it holds goes with it.
@@ -169,11 +190,15 @@ impl ActiveObjects {
         self.timers.next_due()
     }
 
-    /// The pick among those that are ready, whose RunL is next: its signal is taken, and it is idle.
+    /// The pick among those that are ready. An object's RunL is next: its signal is taken, and it is idle. A server stays ready
+    /// until nothing waits in its queue.
     pub fn pick(&mut self) -> Option<CellId>
         ensures { Picks self.old self.new result }
     {
         let pick = self.schedule.next_ready()?;
+        if self.requests.is_server(pick) {
+            return Some(pick);
+        }
         self.requests.wait_for(pick);
         self.schedule.set_waiting(pick);
         Some(pick)
@@ -196,7 +221,7 @@ impl ActiveObjects {
 
     /// Whether a request of the object is made, and not completed.
     pub fn is_pending(&self, id: CellId) -> bool
-        ensures { (asked : ℕ → Option RequestRecord) → StandsFor self.now asked → result ≡ is_owed (asked id) }
+        ensures { (asked : ℕ → Option RequestRecord) (queues : ℕ → Option Bool) → StandsFor self.now asked queues → result ≡ is_owed (asked id) }
     {
         self.requests.is_pending(id)
     }
@@ -207,29 +232,35 @@ impl ActiveObjects {
         self.requests.is_enlisted(id)
     }
 
+    /// Whether a server with that number is enlisted.
+    pub fn is_server(&self, id: CellId) -> bool
+        ensures { result ≡ is_server (request_at self.now.table id) }
+    {
+        self.requests.is_server(id)
+    }
+
     /// Whether the object waits for its request: CActive::IsActive, but for a cancel.
     pub fn is_active(&self, id: CellId) -> bool
         ensures { result ≡ is_waited_for (request_at self.now.table id) }
     {
-        self.is_enlisted(id) && self.requests.state(id) == State::Active
+        matches!(self.state(id), Some(State::Active))
     }
 
     /// Whether the object waits for its request, or that is being cancelled.
     pub fn is_busy(&self, id: CellId) -> bool
         ensures { result ≡ is_busy (request_at self.now.table id) }
     {
-        self.is_enlisted(id)
-            && matches!(
-                self.requests.state(id),
-                State::Active | State::Cancelling | State::Aborted
-            )
+        matches!(
+            self.state(id),
+            Some(State::Active | State::Cancelling | State::Aborted)
+        )
     }
 
-    /// How far the object's request has come, if it is enlisted.
+    /// How far the object's request has come, if it is enlisted. A server makes none.
     pub fn state(&self, id: CellId) -> Option<State>
         ensures { result ≡ state_at self.now.table id }
     {
-        if self.is_enlisted(id) {
+        if self.is_enlisted(id) && !self.is_server(id) {
             Some(self.requests.state(id))
         } else {
             None
@@ -237,8 +268,9 @@ impl ActiveObjects {
     }
 
     /// The status of the object's last request, 0 before the first: CActive::iStatus.
+    #[tactic(auto, using(crate::proofs::Telling::has_status))]
     pub fn status(&self, id: CellId) -> i32
-        requires { IsEnlisted self.now.table id }
+        requires { IsSome (state_at self.now.table id) }
         ensures { status_at self.now.table id ≡ Some result }
     {
         self.requests.status(id)

@@ -6,7 +6,7 @@
 //! (`StandsFor`, and `specs/Meanings.antt`): each is one change at one number, and the timer that is due first and the object that is
 //! picked are the checked machine's. `with_limit` takes all the memory that is ever taken, and no other call can fail.
 //! This room may touch nothing but its own three parts. It knows no programs, and of cells only their numbers: what makes a request, and
-//! what runs once an object is picked, is the machine's concern. Servers come later: none is enlisted here.
+//! what runs once an object is picked, is the machine's concern; of a server it is told whether something waits in its queue.
 #![tactic(auto)]
 
 mod active;

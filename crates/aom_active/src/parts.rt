@@ -1,6 +1,7 @@
 //! Changes of one of the three parts.
-ghost use Rattle.std.specs.Prelude.{◌≡◌, true, IsTrue};
-ghost use Rattle.aom_requests.specs.Requests.{request_at, Changes};
+ghost use Rattle.std.specs.Prelude.{◌≡◌, Some, true, IsTrue};
+ghost use Rattle.aom_requests.specs.Requests.{request_at, is_server, Changes};
+ghost use Rattle.aom_requests.specs.declared.request.Request.{Request};
 ghost use Rattle.aom_scheduler.specs.Order.{without};
 ghost use Rattle.aom_scheduler.specs.Roster.{IsEnlisted, marked};
 ghost use Rattle.aom_active.specs.Agrees.{may_stand};
@@ -32,6 +33,20 @@ pub fn stop_timer(timers: &mut Timers, id: CellId)
 {
     if timers.is_set(id) {
         timers.cancel(id);
+    }
+}
+
+/// The server has a signal from then on, or none.
+pub fn signal(requests: &mut Requests, id: CellId, is_asked: bool)
+    requires { IsTrue (is_server (request_at requests.old id)) }
+    ensures { Changes requests.old requests.new id (Some (Request.Server is_asked)) }
+{
+    let has_signal = requests.is_ready(id);
+    if is_asked && !has_signal {
+        requests.signal_server(id);
+    }
+    if has_signal && !is_asked {
+        requests.wait_for(id);
     }
 }
 

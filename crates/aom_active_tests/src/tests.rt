@@ -14,6 +14,9 @@ use std::test::Fail;
 enum Act {
     /// With its priority.
     Enlist(i32),
+    EnlistServer(i32),
+    /// Something waits in its queue, or nothing.
+    Ask(bool),
     Remove,
     /// With the code of a request of its own.
     Issue(i32),
@@ -54,7 +57,21 @@ fn carry_out(objects: &mut ActiveObjects, limit: u32, number: u32, act: Act)
                 objects.enlist(id, priority);
             }
         }
-        (Act::Remove, Some(_)) => objects.remove(id),
+        (Act::EnlistServer(priority), None) => {
+            if !objects.is_enlisted(id) {
+                objects.enlist_server(id, priority);
+            }
+        }
+        (Act::Ask(is_asked), None) => {
+            if objects.is_server(id) {
+                objects.set_asked(id, is_asked);
+            }
+        }
+        (Act::Remove, _) => {
+            if objects.is_enlisted(id) {
+                objects.remove(id);
+            }
+        }
         (Act::Issue(code), Some(State::Idle)) => objects.issue_own(id, code),
         (Act::SetTimer(due), Some(State::Idle)) => objects.issue_timer(id, due),
         (Act::Wait, Some(State::Issued)) => objects.set_active(id),
@@ -100,7 +117,7 @@ fn is_told(
         objects.is_busy(id),
         state == Some(State::Active) || is_cancelled
     );
-    if objects.is_enlisted(id) {
+    if objects.state(id).is_some() {
         assert_eq!(rt; objects.status(id), status, "object {number}");
     }
 }
@@ -234,4 +251,31 @@ fn an_object_that_is_removed_is_neither_due_nor_picked(rt: HostRuntime) -> Resul
         Turn::Is(1, None, 0),
     ];
     take_turns(&rt, rt.alloc(), 2, &turns)
+}
+
+#[test]
+fn a_server_is_picked_while_something_waits(rt: HostRuntime) -> Result<(), Fail> {
+    let turns = [
+        Turn::Does(0, Act::Enlist(0)),
+        Turn::Does(1, Act::EnlistServer(5)),
+        Turn::Does(2, Act::EnlistServer(5)),
+        Turn::Does(0, Act::Issue(0)),
+        Turn::Does(0, Act::Wait),
+        Turn::Does(2, Act::Ask(true)),
+        Turn::Picks(Some(2)),
+        Turn::Does(1, Act::Ask(true)),
+        Turn::Is(1, None, 0),
+        Turn::Picks(Some(1)),
+        Turn::Does(1, Act::Ask(true)),
+        Turn::Picks(Some(1)),
+        Turn::Does(1, Act::Ask(false)),
+        Turn::Picks(Some(2)),
+        Turn::Does(2, Act::Ask(false)),
+        Turn::Picks(Some(0)),
+        Turn::Picks(None),
+        Turn::Does(2, Act::Ask(true)),
+        Turn::Does(2, Act::Remove),
+        Turn::Picks(None),
+    ];
+    take_turns(&rt, rt.alloc(), 3, &turns)
 }

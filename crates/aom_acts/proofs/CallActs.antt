@@ -16,7 +16,7 @@ use Rattle.aom_cleanup.specs.declared.item.Item.TheVariants.{Mark as Is_mark}
 use Rattle.aom_frames.specs.declared.task.Task.TheVariants.{Dispatched as Ends}
 use Rattle.aom_frames.specs.declared.dispatch.Dispatch.{Dispatch as Held_dispatch}
 use Rattle.aom_parts.specs.declared.parts.Parts.{Parts}
-use Rattle.aom_parts.specs.Places.{value_in}
+use Rattle.aom_parts.specs.Places.{others, value_in}
 use Rattle.aom_parts.specs.Agrees.{word_at, Shows, SameDispatch, number, Agrees}
 use Rattle.aom_acts.specs.Acts.{Does}
 use Rattle.aom_parts.specs.Places as places
@@ -30,7 +30,7 @@ pub stop_does : (m : Parts) (refused : List ℕ) → Does refused Stop m (places
 stop_does m refused = plain_does m (places.next (record m { rest = record m.rest { stopped = true } })) refused Stop refl (λ p h c met.
     let s = h.state in
     goes_on_as p m h (record m { rest = record m.rest { stopped = true } }) s.cells s.items (record s.rest { stopped = true })
-    (record { stack = refl; cells = h.agrees.cells; entries = h.agrees.entries; requests = h.agrees.requests; natives = h.agrees.natives; rest = ap (λ (r : Rest). record r { stopped = true }) h.agrees.rest; room = h.agrees.entry_room })
+    (record { stack = refl; cells = h.agrees.cells; entries = h.agrees.entries; requests = h.agrees.requests; natives = h.agrees.natives; services = h.agrees.services; rest = ap (λ (r : Rest). record r { stopped = true }) h.agrees.rest; room = h.agrees.entry_room })
     (λ f ms e top. top.values))
 
 -- where a dispatch is at its end, no register, entry or destruction owns
@@ -65,12 +65,13 @@ ended p m es s x d agrees marked same shut = record {
   entries = unmarked m.entries.items es.items s.items (ap (λ (e : Held_items). e.items) marked) agrees.entries;
   requests = agrees.requests;
   natives = agrees.natives;
+  services = agrees.services;
   rest = agrees.rest;
   room = agrees.room;
   entry_room = subst (λ n. 1024 ≤ n) (ap (λ (e : Held_items). e.depth) marked) agrees.entry_room;
 }
   where
-    values : (r : Place) → Shows (value_in (Ends x ∷ []) m.cells es.items m.root r) (word_at (Dispatched d ∷ []) r) (held s.cells r)
+    values : (r : Place) → Shows (value_in (Ends x ∷ []) m.cells es.items (others m) r) (word_at (Dispatched d ∷ []) r) (held s.cells r)
     values (Register k i) = shows_null _ _ _ (cond_same (0 == k) null) (cond_same (0 == k) None) (shut.registers k i)
     values (Entry k) = shows_null _ _ _ (sym (mark_shows_none es.items k) ∙ ap (λ (e : Held_items). entry_in e.items k) (sym marked) ∙ agrees.values (Entry k) ∙ ap number (shut.entries k)) refl (shut.entries k)
     values (Field n f) = agrees.values (Field n f)

@@ -28,11 +28,9 @@ use Rattle.aom_sound.proofs.Requesting.{active_listed, main_of_none, of_object}
 use Rattle.aom_sound.proofs.Storing.{ended_alike}
 use Rattle.aom_sound.proofs.Straight.{At}
 use Rattle.aom_requests.specs.Requests.{is_pending, request_at}
-use Rattle.aom_active.specs.Agrees.{Active, StandsFor}
+use Rattle.aom_active.specs.Agrees.{Active, StandsFor, queued}
 use Rattle.aom_active.specs.Meanings.{asked_anew, is_being_cancelled}
-use Rattle.aom_active.proofs.Asking.{asked_set}
-use Rattle.aom_active.proofs.Cells.{asked_lives}
-use Rattle.aom_active.proofs.Telling.{standing_follows, told_cancelling, told_over}
+use Rattle.aom_active.proofs.Telling.{told_cancelling, told_over}
 use Rattle.aom_frames.specs.Tasks.{Runs, method_here, this_here}
 use Rattle.aom_parts.specs.declared.parts.Parts.{Parts}
 use Rattle.aom_acts.specs.Acts.{At_hand, requested as counted}
@@ -42,6 +40,10 @@ use Rattle.aom_acts.specs.Next.{IsNext, counting}
 use Rattle.aom_parts.specs.Places.{value}
 use Rattle.aom_acts.specs.Requests.{EndsCancel, IsCancelled}
 use Rattle.aom_parts.proofs.CellFields.{cell_of}
+use Rattle.aom_acts.proofs.FieldActs.{housed, inside_object}
+use Rattle.aom_acts.proofs.RequestActs.{requests_set}
+use Rattle.aom_parts.proofs.Services.{services_ended}
+use Rattle.aom_shape.specs.Kinds.{is_object}
 use Rattle.aom_acts.proofs.Housing.{at_hand, needs_met}
 use Rattle.aom_acts.proofs.Standing.{by_top}
 use Rattle.aom_acts.proofs.Stepping.{at_step}
@@ -90,6 +92,7 @@ module _ (p : Image) (m : Parts) (h : At_hand p m) where
     request : Request
     own : requested h.state.cells object.name ≡ Some request
     phase : is_cancelling request.phase ≡ true
+    cell : is_object object.thing ≡ true
     over : int_eq request.status pending ≡ false
 
   cancels : (c : Choice) → is_active_kind (own_kind p h.frame.method) ≡ true → is_cancel (method_role p h.frame.method) ≡ true → not (hangs p h.frame h.below h.state) ≡ true → Cancels
@@ -106,6 +109,7 @@ module _ (p : Image) (m : Parts) (h : At_hand p m) where
         lives = it.lives;
         request = request.0;
         own = sym of_it ∙ request.1;
+        cell = inside_object p m h it.object it.from it.home;
         phase = sym (ap (in_phase is_cancelling) request.1) ∙ phase;
         over = sym (ap (λ r. int_eq (status_of r) pending) request.1) ∙ completed _ _ plays ends;
       })
@@ -116,9 +120,9 @@ module _ (p : Image) (m : Parts) (h : At_hand p m) where
       let n = it.object.name in
       let stands = h.agrees.requests.stands in (
         runs,
-        subst (Lives m.cells) (sym it.number) (ap is_some (cell_of p m.cells h.state.cells n it.object h.agrees.cells it.lives).1),
-        ap (λ k. is_being_cancelled (request_at m.active.table k)) it.number ∙ told_cancelling m.active (requested h.state.cells) stands n ∙ ap (in_phase is_cancelling) it.own ∙ it.phase,
-        ap (λ k. is_pending (request_at m.active.table k)) it.number ∙ told_over m.active (requested h.state.cells) stands n it.request it.own it.over,
+        subst (Lives m.cells) (sym it.number) (ap is_some (cell_of p m.cells h.state.cells n it.object h.agrees.cells it.lives it.cell).1),
+        ap (λ k. is_being_cancelled (request_at m.active.table k)) it.number ∙ told_cancelling m.active (requested h.state.cells) (queued p h.state.cells) stands n ∙ ap (in_phase is_cancelling) it.own ∙ it.phase,
+        ap (λ k. is_pending (request_at m.active.table k)) it.number ∙ told_over m.active (requested h.state.cells) (queued p h.state.cells) stands n it.request it.own it.over,
       )
 
 -- what the active objects are asked for as a method returns
@@ -196,14 +200,11 @@ module _ (p : Image) (m : Parts) (h : At_hand p m) where
       go (Inside o from) is =
           let number : this m ≡ o.name = number_is p m h ∙ ap home_number is in
           let stands = h.agrees.requests.stands in
-          let phase = sym (told_cancelling m.active (requested cells) stands o.name) ∙ ap (λ n. is_being_cancelled (request_at m.active.table n)) (sym number) ∙ was.2 in
+          let phase = sym (told_cancelling m.active (requested cells) (queued p cells) stands o.name) ∙ ap (λ n. is_being_cancelled (request_at m.active.table n)) (sym number) ∙ was.2 in
           let request = made (requested cells o.name) phase in
-          let after = subst (λ n. StandsFor act (asked_anew n (Some (cancelled request.0)) (requested cells))) number
-          (ends.stands (requested cells) request.0 stands (ap (requested cells) number ∙ request.1)) in
-          let set : SameRequests p act (set_request o.name (Some (cancelled request.0)) cells) = record {
-            stands = standing_follows act _ _ (asked_set cells o.name (Some (cancelled request.0)) (asked_lives cells o.name request.0 request.1)) after;
-            limit = ends.limit ∙ h.agrees.requests.limit;
-          } in
+          let after = subst (λ n. StandsFor act (asked_anew n (Some (cancelled request.0)) (requested cells)) (queued p cells)) number
+          (ends.stands (requested cells) (queued p cells) request.0 stands (ap (requested cells) number ∙ request.1)) in
+          let set = requests_set p m.active act cells o (Some (cancelled request.0)) (housed p m h o from is) ends.limit after h.agrees.requests in
           subst (λ r. SameRequests p act (set_request o.name (on_request cancelled r) cells)) (sym request.1) set
   ended_requests act _ plays was same =
       subst (λ b. SameRequests p act (cond b (rerequested cells h.frame.home taken) cells)) (sym (ap is_cancel plays))
@@ -218,6 +219,7 @@ module _ (p : Image) (m : Parts) (h : At_hand p m) where
     entries = h.agrees.entries;
     requests = ended_requests act over.role (ap (method_role p) (sym (method_is p m h)) ∙ over.plays) over.was over.ends;
     natives = by_ended (λ cs. SameNatives p m.sessions cs h.state.killed) h.agrees.natives (λ n r. natives_asked p m.sessions h.state.killed cells n r h.agrees.natives);
+    services = services_ended p h.frame cells (housed p m h) h.agrees.services;
     rest = h.agrees.rest;
     room = h.agrees.room;
     entry_room = h.agrees.entry_room;

@@ -26,13 +26,11 @@ use Rattle.aom_sound.specs.Quiet.{IsCalm, calm, is_clearing}
 use Rattle.aom_sound.specs.State.{A_mark, An_object, An_operation, Closing, Destroy, Dispatched, Frame, Item, Run, State, Task, Trapped, Unwind}
 use Rattle.aom_sound.specs.WellTyped.{Back, Gone, Leaves, Now, Returns, Stack, WellTyped}
 use Rattle.aom_sound.proofs.Layers.{method_layer}
-use Rattle.aom_parts.specs.Room.{AllUnder, HasRoom, IsUnder, entries_in}
+use Rattle.aom_parts.specs.Room.{AllRunUnder, AllUnder, HasRoom, IsUnder, entries_in}
 use Rattle.aom_parts.proofs.Depths.{Roomy}
 use Rattle.aom_parts.proofs.Heights.{stands_here}
 use Rattle.aom_acts.proofs.RoomActs.{may_call, pushes}
-use Rattle.aom_acts.proofs.RoomMoves.{tables_of}
-use Rattle.aom_classes.specs.Admitted.{IsAdmitted}
-use Rattle.aom_parts.proofs.Nobody.{no_server}
+use Rattle.aom_acts.proofs.RoomMoves.{none_going_there, tables_of}
 
 -- ---- methods
 
@@ -96,26 +94,42 @@ one_unwinds p (Closing ∷ ts) h = one_unwinds p ts h
 one_unwinds p (Unwind code ∷ ts) h = let none = none_unwinds ts h.0 in omega (arith, none)
 one_unwinds p (Dispatched d ∷ ts) h = one_unwinds p ts h
 
--- over each method stands at most one task that is none, but for an unwinding and what it stands on
-few_tasks : (p : Image) → IsAdmitted p → (t : Typing) (cs : List Cell) (back : Back) (ls : List Layer) → Stack p t cs back ls → length (tasks_of ls) ≤ (2 * methods_in (tasks_of ls) + 2 * unwindings_in (tasks_of ls) + 2)
-few_tasks p a t cs back [] s = omega arith
-few_tasks p a t cs back (Method fr sh ∷ ls) s = let few = few_tasks p a t cs (Returns fr.method fr.home) ls s.4 in omega (arith, few)
-few_tasks p a t cs back (Mark g ∷ []) s = omega arith
-few_tasks p a t cs back (Mark g ∷ Method fr sh ∷ ls) s = let few = few_tasks p a t cs (Returns fr.method fr.home) ls s.1.4 in omega (arith, few)
-few_tasks p a t cs back (Mark g ∷ Dispatching d seats ∷ ls) s = subst (λ us. length (tasks_of (Mark g ∷ Dispatching d seats ∷ us)) ≤ (2 * methods_in (tasks_of (Mark g ∷ Dispatching d seats ∷ us)) + 2 * unwindings_in (tasks_of (Mark g ∷ Dispatching d seats ∷ us)) + 2)) (sym s.1.1) (omega arith)
-few_tasks p a t cs back (Dying o ∷ []) s = omega arith
-few_tasks p a t cs back (Dying o ∷ Method fr sh ∷ ls) s = let few = few_tasks p a t cs (Returns fr.method fr.home) ls s.2.4 in omega (arith, few)
-few_tasks p a t cs back (Dying o ∷ Unwinding code es ∷ ls) s = let few = few_tasks p a t cs Leaves ls s.2.1 in omega (arith, few)
-few_tasks p a t cs back (Dying o ∷ Dispatching d seats ∷ ls) s = subst (λ us. length (tasks_of (Dying o ∷ Dispatching d seats ∷ us)) ≤ (2 * methods_in (tasks_of (Dying o ∷ Dispatching d seats ∷ us)) + 2 * unwindings_in (tasks_of (Dying o ∷ Dispatching d seats ∷ us)) + 2)) (sym s.2.1) (omega arith)
-few_tasks p a t cs back (Dying o ∷ Ending x left ∷ ls) s = absurd (true≢false (sym s.2.0.server ∙ no_server p a x.thing))
-few_tasks p a t cs back (Ending o left ∷ ls) s = absurd (true≢false (sym s.0.server ∙ no_server p a o.thing))
-few_tasks p a t cs back (Unwinding code es ∷ ls) s = let few = few_tasks p a t cs Leaves ls s.1 in omega (arith, few)
-few_tasks p a t cs back (Dispatching d seats ∷ ls) s = subst (λ us. length (tasks_of (Dispatching d seats ∷ us)) ≤ (2 * methods_in (tasks_of (Dispatching d seats ∷ us)) + 2 * unwindings_in (tasks_of (Dispatching d seats ∷ us)) + 2)) (sym s.1) (omega arith)
-few_tasks p a t cs back _ s = absurd (assumption tt)
+-- over each method stand at most three tasks that are none, a session that goes with its server, and so over an unwinding and what it stands on
+module _ (p : Image) (t : Typing) (depth : ℕ → ℕ) (cs : List Cell) (items : List Item) where
+  abbrev Few : List Task → Type 0
+  Few ts = length ts ≤ (4 * methods_in ts + 4 * unwindings_in ts + 4)
 
-pub tasks_at_hand : (p : Image) → IsAdmitted p → (t : Typing) (depths : HasDepths p) (heights : ℕ → ℕ) (s : State) → WellTyped p t s → IsCalm p s.tasks → HasRoom p (at 0 depths.depths) heights s → length s.tasks ≤ 518
-tasks_at_hand p admitted t depths heights s w is_calm room =
-    let few = few_tasks p admitted t s.cells Now w.layers w.good.stack in
+  abbrev RunUnder : List Layer → Type 0
+  RunUnder ls = AllRunUnder p depth cs items (tasks_of ls)
+
+  few_tasks : (back : Back) (ls : List Layer) → Stack p t cs back ls → RunUnder ls → Few (tasks_of ls)
+  few_tasks back [] s r = omega arith
+  few_tasks back (Method fr sh ∷ ls) s r = let few = few_tasks (Returns fr.method fr.home) ls s.4 r.1 in omega (arith, few)
+  few_tasks back (Mark g ∷ []) s r = omega arith
+  few_tasks back (Mark g ∷ Method fr sh ∷ ls) s r = let few = few_tasks (Returns fr.method fr.home) ls s.1.4 r.1 in omega (arith, few)
+  few_tasks back (Mark g ∷ Dispatching d seats ∷ ls) s r = subst (λ us. Few (tasks_of (Mark g ∷ Dispatching d seats ∷ us))) (sym s.1.1) (omega arith)
+  few_tasks back (Dying o ∷ []) s r = omega arith
+  few_tasks back (Dying o ∷ Method fr sh ∷ ls) s r = let few = few_tasks (Returns fr.method fr.home) ls s.2.4 r.1 in omega (arith, few)
+  few_tasks back (Dying o ∷ Unwinding code es ∷ ls) s r = let few = few_tasks Leaves ls s.2.1 r in omega (arith, few)
+  few_tasks back (Dying o ∷ Dispatching d seats ∷ ls) s r = subst (λ us. Few (tasks_of (Dying o ∷ Dispatching d seats ∷ us))) (sym s.2.1) (omega arith)
+  few_tasks back (Dying o ∷ Ending x left ∷ Dying y ∷ []) s r = omega arith
+  few_tasks back (Dying o ∷ Ending x left ∷ Dying y ∷ Method fr sh ∷ ls) s r = let few = few_tasks (Returns fr.method fr.home) ls s.2.3.2.4 r.1.1 in omega (arith, few)
+  few_tasks back (Dying o ∷ Ending x left ∷ Dying y ∷ Unwinding code es ∷ ls) s r = let few = few_tasks Leaves ls s.2.3.2.1 r.1 in omega (arith, few)
+  few_tasks back (Dying o ∷ Ending x left ∷ Dying y ∷ Dispatching d seats ∷ ls) s r =
+      subst (λ us. Few (tasks_of (Dying o ∷ Ending x left ∷ Dying y ∷ Dispatching d seats ∷ us))) (sym s.2.3.2.1) (omega arith)
+  few_tasks back (Dying o ∷ Ending x left ∷ Dying y ∷ Ending z more ∷ ls) s r = absurd r.0.1
+  few_tasks back (Ending x left ∷ Dying y ∷ []) s r = omega arith
+  few_tasks back (Ending x left ∷ Dying y ∷ Method fr sh ∷ ls) s r = let few = few_tasks (Returns fr.method fr.home) ls s.3.2.4 r.1.1 in omega (arith, few)
+  few_tasks back (Ending x left ∷ Dying y ∷ Unwinding code es ∷ ls) s r = let few = few_tasks Leaves ls s.3.2.1 r.1 in omega (arith, few)
+  few_tasks back (Ending x left ∷ Dying y ∷ Dispatching d seats ∷ ls) s r = subst (λ us. Few (tasks_of (Ending x left ∷ Dying y ∷ Dispatching d seats ∷ us))) (sym s.3.2.1) (omega arith)
+  few_tasks back (Ending x left ∷ Dying y ∷ Ending z more ∷ ls) s r = absurd r.0.1
+  few_tasks back (Unwinding code es ∷ ls) s r = let few = few_tasks Leaves ls s.1 r in omega (arith, few)
+  few_tasks back (Dispatching d seats ∷ ls) s r = subst (λ us. Few (tasks_of (Dispatching d seats ∷ us))) (sym s.1) (omega arith)
+  few_tasks back _ s r = absurd (assumption tt)
+
+pub tasks_at_hand : (p : Image) (t : Typing) (depths : HasDepths p) (heights : ℕ → ℕ) (s : State) → WellTyped p t s → IsCalm p s.tasks → HasRoom p (at 0 depths.depths) heights s → length s.tasks ≤ 1036
+tasks_at_hand p t depths heights s w is_calm room =
+    let few = few_tasks p t (at 0 depths.depths) s.cells s.items Now w.layers w.good.stack (subst (AllRunUnder p (at 0 depths.depths) s.cells s.items) w.tasks room.runs) in
     let methods = few_methods (at 0 depths.depths) depths.are.within (tasks_of w.layers) (subst (AllUnder (at 0 depths.depths)) w.tasks room.under) in
     let one = one_unwinds p (tasks_of w.layers) (calm_below p (tasks_of w.layers) (subst (IsCalm p) w.tasks is_calm)) in
     let same = ap length w.tasks in
@@ -165,39 +179,39 @@ marks_under p t s fr ts w same = method_layer (λ ls. (forms s.items ≡ items_o
     let few = few_marks p t s.cells (Returns fr.method fr.home) ls h.1.4 in
     omega (arith, few, no_marks sh.entries (items_of ls), ap form_marks h.0, marks_told s.items, ap methods_in under))
 
-pub marks_at_hand : (p : Image) (t : Typing) → IsWired p → IsAdmitted p → IsTyped p t → IsStrongest p t → (depths : HasDepths p) (heights : HasHeights p) (s : State) (fr : Frame) (ts : List Task) → WellTyped p t s → s.tasks ≡ Run fr ∷ ts → HasRoom p (at 0 depths.depths) (at 0 heights.heights) s
+pub marks_at_hand : (p : Image) (t : Typing) → IsWired p → IsTyped p t → IsStrongest p t → (depths : HasDepths p) (heights : HasHeights p) (s : State) (fr : Frame) (ts : List Task) → WellTyped p t s → s.tasks ≡ Run fr ∷ ts → HasRoom p (at 0 depths.depths) (at 0 heights.heights) s
     → (target : Target) (m first x : ℕ) → instr_at p fr.method fr.place ≡ Some (Trap target m first x) → marks_in s.items < 256
-marks_at_hand p t wired admitted typed strongest depths heights s fr ts w same room target m first x here =
+marks_at_hand p t wired typed strongest depths heights s fr ts w same room target m first x here =
     let h = stands_here p t s fr ts w same in
     let all = subst (AllUnder (at 0 depths.depths)) same room.under in
     let few = few_under (at 0 depths.depths) depths.are.within (at 0 depths.depths fr.method) ts (depths.are.within fr.method) all.0 all.1 in
     let one = (depths.are.each m (wired.trapped fr.method fr.place target m first x here).there).most 1 (alone (wired.trapped fr.method fr.place target m first x here).there) in
-    let less = may_call p t (at 0 depths.depths) (at 0 heights.heights) (tables_of p t wired admitted strongest depths heights) fr h.shape h.there (Trap target m first x) m here (inl refl) in
+    let less = may_call p t (at 0 depths.depths) (at 0 heights.heights) (tables_of p t wired strongest depths heights) fr h.shape h.there (Trap target m first x) m here (inl refl) in
     omega (arith, few, one, less, marks_under p t s fr ts w same)
 
 -- ---- entries
 
 -- there is room for what is pushed
-pub push_at_hand : (p : Image) (t : Typing) → IsWired p → IsAdmitted p → IsTyped p t → IsStrongest p t → (depths : HasDepths p) (heights : HasHeights p) (s : State) (fr : Frame) (ts : List Task) → WellTyped p t s → s.tasks ≡ Run fr ∷ ts → HasRoom p (at 0 depths.depths) (at 0 heights.heights) s
+pub push_at_hand : (p : Image) (t : Typing) → IsWired p → IsTyped p t → IsStrongest p t → (depths : HasDepths p) (heights : HasHeights p) (s : State) (fr : Frame) (ts : List Task) → WellTyped p t s → s.tasks ≡ Run fr ∷ ts → HasRoom p (at 0 depths.depths) (at 0 heights.heights) s
     → (a : ℕ) → instr_at p fr.method fr.place ≡ Some (Push a) → entries_in s.items < 1024
-push_at_hand p t wired admitted typed strongest depths heights s fr ts w same room a here =
+push_at_hand p t wired typed strongest depths heights s fr ts w same room a here =
     let h = stands_here p t s fr ts w same in
     let x = typed.each fr.method fr.place h.shape h.there in
     let it : x.instr ≡ Push a = let both : Some x.instr ≡ Some (Push a) = sym x.stands ∙ here in cc in
     let needs = subst (λ i. AllTrue (rule_needs p fr.method fr.place h.shape i)) it x.needs in
     let leads = subst (λ i. AllLead t fr.method (flows p fr.method fr.place h.shape i)) it x.flows in
     let roomy = subst (λ l. Roomy p (at 0 depths.depths) (at 0 heights.heights) s.cells s.items l) same (room.under, room.runs, room.fit, room.entries) in
-    let few = pushes p t (at 0 depths.depths) (at 0 heights.heights) (tables_of p t wired admitted strongest depths heights) (record { name = 0; refused = false; answer = pos 0 }) fr ts s w.undos same h roomy (Push a) (with_entry (entry_of (register h.shape a)) (set_register h.shape a Null)) here needs.1.0 leads.0 refl in
+    let few = pushes p t (at 0 depths.depths) (at 0 heights.heights) (tables_of p t wired strongest depths heights) (record { name = 0; refused = false; answer = pos 0 }) fr ts s w.undos same h (none_going_there p t s w (length (Run fr ∷ ts)) (ap length same)) roomy (Push a) (with_entry (entry_of (register h.shape a)) (set_register h.shape a Null)) here needs.1.0 leads.0 refl in
     omega (arith, few)
 
-pub push_operation_at_hand : (p : Image) (t : Typing) → IsWired p → IsAdmitted p → IsTyped p t → IsStrongest p t → (depths : HasDepths p) (heights : HasHeights p) (s : State) (fr : Frame) (ts : List Task) → WellTyped p t s → s.tasks ≡ Run fr ∷ ts → HasRoom p (at 0 depths.depths) (at 0 heights.heights) s
+pub push_operation_at_hand : (p : Image) (t : Typing) → IsWired p → IsTyped p t → IsStrongest p t → (depths : HasDepths p) (heights : HasHeights p) (s : State) (fr : Frame) (ts : List Task) → WellTyped p t s → s.tasks ≡ Run fr ∷ ts → HasRoom p (at 0 depths.depths) (at 0 heights.heights) s
     → (a m : ℕ) → instr_at p fr.method fr.place ≡ Some (PushOperation a m) → entries_in s.items < 1024
-push_operation_at_hand p t wired admitted typed strongest depths heights s fr ts w same room a m here =
+push_operation_at_hand p t wired typed strongest depths heights s fr ts w same room a m here =
     let h = stands_here p t s fr ts w same in
     let x = typed.each fr.method fr.place h.shape h.there in
     let it : x.instr ≡ PushOperation a m = let both : Some x.instr ≡ Some (PushOperation a m) = sym x.stands ∙ here in cc in
     let needs = subst (λ i. AllTrue (rule_needs p fr.method fr.place h.shape i)) it x.needs in
     let leads = subst (λ i. AllLead t fr.method (flows p fr.method fr.place h.shape i)) it x.flows in
     let roomy = subst (λ l. Roomy p (at 0 depths.depths) (at 0 heights.heights) s.cells s.items l) same (room.under, room.runs, room.fit, room.entries) in
-    let few = pushes p t (at 0 depths.depths) (at 0 heights.heights) (tables_of p t wired admitted strongest depths heights) (record { name = 0; refused = false; answer = pos 0 }) fr ts s w.undos same h roomy (PushOperation a m) (with_entry Pushed_operation h.shape) here needs.1.0 leads.0 refl in
+    let few = pushes p t (at 0 depths.depths) (at 0 heights.heights) (tables_of p t wired strongest depths heights) (record { name = 0; refused = false; answer = pos 0 }) fr ts s w.undos same h (none_going_there p t s w (length (Run fr ∷ ts)) (ap length same)) roomy (PushOperation a m) (with_entry Pushed_operation h.shape) here needs.1.0 leads.0 refl in
     omega (arith, few)

@@ -1,5 +1,5 @@
 -- The last item of the cleanup stack is dealt with: an object is destroyed, and an operation is run.
-use Rattle.std.proofs.Common.{◌≡◌, ℕ, ℤ, true, length, List, [], ◌∷◌, Option, Some, None, slice_set, refl, sym, ap, ◌∙◌, subst, arith}
+use Rattle.std.proofs.Common.{◌<◌, ◌≡◌, ℕ, ℤ, true, length, List, [], ◌∷◌, Option, Some, None, slice_set, refl, sym, ap, ◌∙◌, subst, arith}
 use Rattle.std.specs.Int.{w32, cast_signed}
 use Rattle.std.specs.Prelude.{is_some}
 use Rattle.std.proofs.lemmas.List.{length-set, length-replicate}
@@ -10,7 +10,6 @@ use Rattle.aom_cleanup.specs.declared.item.Item.{Item as Held_item}
 use Rattle.aom_cleanup.specs.declared.item.Item.TheVariants.{Object as Holds_object, Operation as Holds_operation}
 use Rattle.aom_rules.specs.Typing.{Typing}
 use Rattle.aom_sound.specs.Cleanup.{dealt_with as deals_with, destroyed, operation_frame, tops_entry, top_is_whole, top_place}
-use Rattle.aom_classes.specs.Roles.{destructor_of}
 use Rattle.aom_sound.specs.Places.{moved, Place, Register, Entry, Going, Object, changed, held}
 use Rattle.aom_sound.proofs.Dealing.{dealing as dealing_effect}
 use Rattle.aom_sound.specs.State.{Static, frame_of, Run, Item, An_object, State}
@@ -25,20 +24,21 @@ use Rattle.aom_parts.specs.declared.parts.Parts.{Parts}
 use Rattle.aom_acts.specs.Acts.{DoesIn}
 use Rattle.aom_parts.specs.Agrees.{Shows, SameFrame, SameItems, word_at, number, Agrees}
 use Rattle.aom_acts.specs.Cleanup.{TopLives, dealing, dealt_with}
-use Rattle.aom_acts.specs.Going.{destroying, destructor_at}
-use Rattle.aom_parts.specs.Places.{value_in, with_items, with_tasks}
+use Rattle.aom_acts.specs.Going.{destructor_at, is_server_class}
+use Rattle.aom_image.specs.WellFormed.{WellFormed}
+use Rattle.aom_cells.specs.Heap.{class_at}
+use Rattle.aom_sound.proofs.Maps.{held_lives}
+use Rattle.aom_acts.proofs.Owned.{entry_object}
+use Rattle.aom_parts.specs.Places.{others, value_in, with_items}
 use Rattle.aom_parts.proofs.Alike.{Entries_alike, entries_alike, entries_own, entries_run}
 use Rattle.aom_parts.proofs.Entries.{owns_none, same_items_length, top_value, value_alike, value_popped}
-use Rattle.aom_acts.proofs.GoingActs.{begins, destructor_same, dying_shows, fresh_value, fresh_word}
+use Rattle.aom_acts.proofs.GoingActs.{aside_moved, begins, destructor_same, server_same, dying_shows, fresh_value, fresh_word}
 use Rattle.aom_acts.proofs.ReturnActs.{none_above}
-use Rattle.aom_acts.proofs.Standing.{begun_frame, nothing_held, reframed}
+use Rattle.aom_acts.proofs.Standing.{begun_frame, nothing_held, object_small, reframed}
 use Rattle.aom_parts.proofs.Values.{going_past, kept, same_length, value_written, word_written, writes}
 use Rattle.aom_acts.proofs.WordActs.{plain_at}
-use Rattle.aom_classes.specs.Admitted.{IsAdmitted}
-use Rattle.aom_parts.proofs.Nobody.{begun_plain}
-use Rattle.aom_sound.specs.Destruction.{destructed}
 
-module _ (p : Image) (admitted : IsAdmitted p) (m : Parts) (t : Typing) (s : State) (typed : WellTyped p t s) (agrees : Agrees p m s) where
+module _ (p : Image) (formed : WellFormed p) (m : Parts) (t : Typing) (s : State) (typed : WellTyped p t s) (agrees : Agrees p m s) where
   deep : length m.stack.tasks ≡ length s.tasks
   deep = same_length m.stack.tasks s.tasks agrees.tasks
 
@@ -51,18 +51,22 @@ module _ (p : Image) (admitted : IsAdmitted p) (m : Parts) (t : Typing) (s : Sta
       let ts = s.tasks in
       let from = Entry (length js) in
       let mid = with_items is m in
-      let below : State = record s { items = js } in
       let even = same_items_length is js same in
       let long = deep in
-      let v = value_in us m.cells (Holds_object n ∷ is) m.root in
-      let old : (q : Place) → Shows (v q) (word_at ts q) (held s.cells q) = λ q. subst (λ es. Shows (value_in us m.cells es m.root q) (word_at ts q) (held s.cells q)) was (agrees.values q) in
-      let there = top_value us m.cells is m.root n (length js) even in
+      let v' = value_in us m.cells (Holds_object n ∷ is) (others m) in
+      let old : (q : Place) → Shows (v' q) (word_at ts q) (held s.cells q) = λ q. subst (λ es. Shows (value_in us m.cells es (others m) q) (word_at ts q) (held s.cells q)) was (agrees.values q) in
+      let there = top_value us m.cells is (others m) n (length js) even in
       let name : n ≡ o.name = sym there ∙ old from ∙ ap number e in
       let empty : held s.cells (Going (length ts)) ≡ None = nothing_held p m t s typed agrees (Going (length ts)) (sym (going_past us (length ts) (omega arith)) ∙ agrees.values (Going (length ts))) in
-      subst (λ ws. Agrees p (with_tasks (destroying (destructor_at p m.cells n) n us) mid) (record s { cells = moved from (Going (length ts)) s.cells; tasks = ws; items = js })) (sym (begun_plain p admitted o (length js) ts))
-      (subst (λ d. Agrees p (with_tasks (destroying d n us) mid) (record s { cells = moved from (Going (length ts)) s.cells; tasks = destructed p o (length js) ts; items = js })) (sym (ap (destructor_at p m.cells) name ∙ destructor_same p m t s typed agrees from o e))
-      (begins p mid below us ts from m.root n (destructor_of p o.thing) o (length js) m.rest s.rest name agrees.rest agrees.tasks agrees.cells same agrees.requests agrees.natives agrees.room agrees.entry_room
-      (dying_shows p mid below us ts from m.root n v (word_at ts) old long refl there empty (value_popped us m.cells is m.root n (length js) even) (λ q. refl))))
+      let lives = held_lives s.cells from o typed.good.tidy e in
+      let cell = entry_object p t s typed o (length js) e in
+      let aside = aside_moved p m s from (Going (length ts)) agrees refl refl in
+      let v : State = record s { cells = moved from (Going (length ts)) s.cells; items = js } in
+      begins p mid v us ts n (class_at m.cells n) o (length js) name (subst (λ i. i < 4096) (sym name) (object_small p m s formed agrees o lives cell))
+      (ap (λ i. is_server_class p (class_at m.cells i)) name ∙ server_same p m s agrees o lives cell) (ap (λ i. destructor_at p m.cells i) name ∙ destructor_same p m s agrees o lives cell)
+      agrees.tasks
+      (record { cells = aside.cells; entries = same; requests = aside.requests; natives = aside.natives; services = aside.services; rest = aside.rest; room = aside.room; entry_room = aside.entry_room })
+      (dying_shows p mid v us ts n s.cells from v' (word_at ts) refl old long refl there empty (value_popped us m.cells is (others m) n (length js) even) (λ q. refl))
 
   -- an operation is run
   operation_runs : (k n k' : ℕ) (w : ℤ) (is : List Held_item) (js : List Item) → m.entries.items ≡ Holds_operation k n ∷ is → k ≡ k' → cast_signed w32 n ≡ w → SameItems is js
@@ -75,20 +79,21 @@ module _ (p : Image) (admitted : IsAdmitted p) (m : Parts) (t : Typing) (s : Sta
       let f = fresh k null in
       let fr = frame_of k' Static (length js) in
       let long = deep in
-      let begun = subst (λ x. SameFrame f (frame_of x Static (length js))) which (begun_frame k null Static (length js) refl) in
-      let base : (q : Place) → Shows (value_in (Runs_frame f ∷ us) m.cells is m.root q) (word_at (Run fr ∷ ts) q) (held s.cells q) = λ q.
-      subst (λ x. Shows x (word_at (Run fr ∷ ts) q) (held s.cells q)) (sym (fresh_value k null us m.cells is m.root q ∙ sym (value_alike us m.cells (Holds_operation k n ∷ is) is m.root (λ e. owns_none (Holds_operation k n) is e refl) q) ∙ sym (ap (λ es. value_in us m.cells es m.root q) was)))
-      (subst (λ x. Shows (value_in us m.cells m.entries.items m.root q) x (held s.cells q)) (sym (fresh_word k' Static (length js) ts q)) (agrees.values q)) in
+      let begun = subst (λ x. SameFrame f (frame_of x Static (length js))) which (begun_frame k null Static (length js) refl (λ there. absurd (there refl))) in
+      let base : (q : Place) → Shows (value_in (Runs_frame f ∷ us) m.cells is (others m) q) (word_at (Run fr ∷ ts) q) (held s.cells q) = λ q.
+      subst (λ x. Shows x (word_at (Run fr ∷ ts) q) (held s.cells q)) (sym (fresh_value k null us m.cells is (others m) q ∙ sym (value_alike us m.cells (Holds_operation k n ∷ is) is (others m) (λ e. owns_none (Holds_operation k n) is e refl) q) ∙ sym (ap (λ es. value_in us m.cells es (others m) q) was)))
+      (subst (λ x. Shows (value_in us m.cells m.entries.items (others m) q) x (held s.cells q)) (sym (fresh_word k' Static (length js) ts q)) (agrees.values q)) in
       record {
         tasks = (reframed f fr (slice_set f.registers 0 n) (Some w ∷ []) 0 0 begun (length-set f.registers 0 n ∙ length-replicate 16 null) refl, agrees.tasks);
         values = writes _ _ _ _ (held s.cells) _ q0 n (Some w) None base word
-            (value_written f us m.cells is m.root d 0 n 0 long (let wide = length-replicate 16 null in omega arith))
+            (value_written f us m.cells is (others m) d 0 n 0 long (let wide = length-replicate 16 null in omega arith))
             (word_written fr ts 0 0 (Some w))
             (λ q. kept (held s.cells) q0 q ∙ ap (λ o. changed (held s.cells) q0 o q) (none_above p t s d 0 typed (omega arith)));
         cells = agrees.cells;
         entries = same;
         requests = agrees.requests;
         natives = agrees.natives;
+        services = agrees.services;
         rest = agrees.rest;
         room = agrees.room;
         entry_room = agrees.entry_room;
@@ -115,4 +120,4 @@ pop_delete_does p m refused h here =
     plain_at p m _ refused PopDelete refl h (λ c needs typed.
     let s = h.state in
     subst (Agrees p (dealt_with p m)) (dealing_effect p h.frame h.below s s.items (held s.cells (top_place s.items)) refl refl needs.0 needs.1.0)
-    (subst (λ us. Agrees p (dealt_with p m) (deals_with p s.items us s)) h.top (deals p h.admitted m h.typing s h.typed h.agrees needs.0 needs.1.0)))
+    (subst (λ us. Agrees p (dealt_with p m) (deals_with p s.items us s)) h.top (deals p h.formed m h.typing s h.typed h.agrees needs.0 needs.1.0)))

@@ -8,14 +8,14 @@ use Rattle.std.proofs.lemmas.Int.{to_z-of_z}
 use Rattle.std.proofs.lemmas.List.{length-replicate, length-set}
 use Rattle.aom_image.specs.Image.{Image}
 use Rattle.aom_image.specs.declared.method.Role.TheVariants.{Error as Answers}
-use Rattle.aom_cells.specs.Heap.{Heap, null}
+use Rattle.aom_cells.specs.Heap.{null}
 use Rattle.aom_classes.specs.Roles.{role_of}
-use Rattle.aom_cleanup.specs.declared.item.Item.{Item as Held_item}
 use Rattle.aom_rules.specs.Typing.{Typing}
 use Rattle.aom_sound.proofs.View.{under_dispatch}
 use Rattle.aom_sound.specs.Places.{Cell, Place, Register, Entry, Field, Going, Elsewhere, Root, Object, changed, held}
 use Rattle.aom_transcript.specs.declared.line.Ending.TheVariants.{Stopped, MainLeft as Left_with}
-use Rattle.aom_sound.specs.State.{guarded, Home, Inside, Frame, frame_of, Seat, Asks, Task, Run, Dispatched, Rest, State, Choice, Goes, raised}
+use Rattle.aom_sound.specs.State.{Dispatch, guarded, Home, Inside, Frame, frame_of, Seat, Asks, Task, Run, Dispatched, Rest, State, Choice, raised}
+use Rattle.aom_sound.specs.Lines.{dispatch_lines}
 use Rattle.aom_sound.specs.Moves.{needs_end, answered, asked, asking, is_counted, closed, error_frame, failed, main_ends, object_ends, dispatch_ends, step, step_task, written_task}
 use Rattle.aom_sound.specs.WellTyped.{WellTyped, Keeps}
 use Rattle.aom_lines.specs.Turn.{Turn}
@@ -24,25 +24,33 @@ use Rattle.aom_frames.specs.declared.frame.Frame.{Frame as Held_frame}
 use Rattle.aom_frames.specs.declared.task.Task.{Task as Held_task}
 use Rattle.aom_frames.specs.declared.task.Task.TheVariants.{Run as Runs_frame, Dispatched as Ends}
 use Rattle.aom_frames.specs.declared.dispatch.Dispatch.{Dispatch as Held_dispatch}
-use Rattle.aom_frames.specs.declared.dispatch.Dispatch.TheVariants.{Answered as One_answered, Asks as One_asks, Main, MainLeft, Object as Of_one, ObjectLeft as One_left, Root as End_of_run}
+use Rattle.aom_frames.specs.declared.dispatch.Dispatch.TheVariants.{Answered as One_answered, Asks as One_asks, Main, MainLeft, Object as Of_one, ObjectLeft as One_left, Root as End_of_run, Server as Of_one_served}
 use Rattle.aom_frames.specs.declared.dispatch.Subject.{Subject}
 use Rattle.aom_parts.specs.declared.parts.Parts.{Parts}
 use Rattle.aom_acts.specs.Ends as ends
 use Rattle.aom_acts.specs.Ends.{CanEnd, closed_counts, ended_answered, ended_dispatch, failed_counts, handled_counts}
-use Rattle.aom_parts.specs.Places.{value_in, with_tasks, IsEnding}
+use Rattle.aom_parts.specs.Places.{others, value_in, with_tasks, IsEnding}
 use Rattle.aom_acts.specs.Going.{ending_here, uprooted}
 use Rattle.aom_parts.specs.Agrees.{word_at, Shows, dispatch_of, number, seat_of, Agrees}
 use Rattle.aom_parts.specs.Stands.{Stands}
 use Rattle.aom_acts.specs.Moves.{Moves}
 use Rattle.aom_parts.proofs.Alike.{Alike, An_end, Tops, alike, both_end, end_on_top, tops}
 use Rattle.aom_acts.proofs.Finding.{class_fits, root_lives}
+use Rattle.aom_acts.proofs.Standing.{object_small}
+use Rattle.aom_sound.proofs.Layers.{dispatch_layer}
+use Rattle.aom_sound.proofs.Services.{sits_lives}
+use Rattle.aom_sound.specs.WellTyped.{Good, SitsFirst}
+use Rattle.aom_sound.specs.WellTyped.{seat_of as checked_seat}
+use Rattle.aom_sound.specs.State.{Object_left}
+use Rattle.aom_parts.specs.Agrees.{subject_of}
+use Rattle.aom_sound.specs.Places.{named}
 use Rattle.aom_parts.proofs.Values.{kept, none_alike, value_written, word_written, writes}
 use Rattle.aom_acts.proofs.Standing.{an_open, begun_frame, not_null, reframed}
 use Rattle.aom_acts.proofs.CallActs.{Closing, closing, shows_null}
 use Rattle.aom_acts.proofs.OnTop.{ending_of}
-use Rattle.aom_acts.proofs.GoingActs.{end_word, fresh_value, fresh_word, uproots}
+use Rattle.aom_acts.proofs.GoingActs.{end_value, end_word, fresh_value, fresh_word, uproots}
 use Rattle.aom_acts.proofs.Stepping.{counted_by}
-use Rattle.aom_classes.specs.Admitted.{IsAdmitted}
+use Rattle.aom_image.specs.WellFormed.{WellFormed}
 
 -- a dispatch that is at its end, on both sides
 pub record AtEnd (m : Parts) (s : State) : Type 0 where
@@ -58,6 +66,10 @@ at_end p t m s typed agrees ending = go refl refl (tops An_end m.stack.tasks end
     go e f (end_on_top x _) (both_end _ d ms ts same rest _) =
         let below = under_dispatch p t s d ts typed f in
         record { dispatch = x; place = same.0; held = e ∙ ap (λ us. Ends x ∷ us) (none_alike ms ts rest below); state = f ∙ ap (λ us. Dispatched d ∷ us) below ∙ ap (λ y. Dispatched y ∷ []) (sym same.1) }
+
+-- who is dispatched lives
+pub seat_lives : (p : Image) (t : Typing) (s : State) → WellTyped p t s → (d : Dispatch) (x : Seat) → s.tasks ≡ Dispatched d ∷ [] → checked_seat d ≡ Some x → named s.cells x.object.name ≡ Some x.object
+seat_lives p t s typed d x top is = dispatch_layer (Good p t s.cells) d [] typed.layers (sym typed.tasks ∙ top) typed.good (λ seats ls _ good. sits_lives s.cells seats x good.stack.2 (subst (λ y. SitsFirst s.cells y seats) is good.stack.3))
 
 -- the root's destruction and its destructor find room there
 pub uproot_room : (p : Image) (m : Parts) → Stands (record { image = p; parts = m }) → IsEnding m.stack.tasks → length (below_first m.stack.tasks) + 2 < m.stack.depth
@@ -83,12 +95,13 @@ emptied p m s r r' agrees shut same = record {
   entries = agrees.entries;
   requests = agrees.requests;
   natives = agrees.natives;
+  services = agrees.services;
   rest = same;
   room = agrees.room;
   entry_room = agrees.entry_room;
 }
   where
-    values : (q : Place) → Shows (value_in [] m.cells m.entries.items m.root q) (word_at [] q) (held s.cells q)
+    values : (q : Place) → Shows (value_in [] m.cells m.entries.items (others m) q) (word_at [] q) (held s.cells q)
     values (Register k i) = shows_null _ _ _ refl refl (shut.registers k i)
     values (Entry k) = agrees.values (Entry k)
     values (Field n f) = agrees.values (Field n f)
@@ -99,19 +112,35 @@ emptied p m s r r' agrees shut same = record {
 abbrev pub at_close : State → State
 at_close s = record s { rest = record s.rest { announced = true } }
 
--- the end of such a dispatch needs nothing
-needs_none : (q : Place) (x : Held_dispatch) (cs : List Cell) → needs_end (dispatch_of q x) cs ≡ []
-needs_none q Main cs = refl
-needs_none q (MainLeft code) cs = refl
-needs_none q End_of_run cs = refl
-needs_none q (Of_one x) cs = refl
-needs_none q (One_left x code) cs = refl
-needs_none q (One_asks x) cs = refl
-needs_none q (One_answered x answer) cs = refl
+-- it is no server's
+abbrev pub IsPlain : Held_dispatch → Type 0
+IsPlain (Of_one_served x client stage) = ⊥
+IsPlain x = Unit {0}
 
-pub step_of_end : (p : Image) (c : Choice) (s : State) (q : Place) (x : Held_dispatch) → s.tasks ≡ Dispatched (dispatch_of q x) ∷ [] → step p c s ≡ Goes (dispatch_ends p (dispatch_of q x) (at_close s))
-step_of_end p c s q x top =
-    ap (λ us. step_task p c (counted_by s (asked p us) (is_counted us)) us) top ∙ ap (λ ns. guarded ns (dispatch_ends p (dispatch_of q x) (at_close s))) (needs_none q x s.cells)
+-- the end of such a dispatch needs nothing
+needs_none : (q : Place) (x : Held_dispatch) (cs : List Cell) → IsPlain x → needs_end (dispatch_of q x) cs ≡ []
+needs_none q Main cs plain = refl
+needs_none q (MainLeft code) cs plain = refl
+needs_none q End_of_run cs plain = refl
+needs_none q (Of_one x) cs plain = refl
+needs_none q (One_left x code) cs plain = refl
+needs_none q (One_asks x) cs plain = refl
+needs_none q (One_answered x answer) cs plain = refl
+needs_none q (Of_one_served x client stage) cs plain = absurd plain
+
+-- and writes nothing
+tells_none : (q : Place) (x : Held_dispatch) (cs : List Cell) → IsPlain x → dispatch_lines cs (dispatch_of q x) ≡ []
+tells_none q Main cs plain = refl
+tells_none q (MainLeft code) cs plain = refl
+tells_none q End_of_run cs plain = refl
+tells_none q (Of_one x) cs plain = refl
+tells_none q (One_left x code) cs plain = refl
+tells_none q (One_asks x) cs plain = refl
+tells_none q (One_answered x answer) cs plain = refl
+tells_none q (Of_one_served x client stage) cs plain = absurd plain
+
+pub step_of_end : (p : Image) (c : Choice) (s : State) (d : Dispatch) → s.tasks ≡ Dispatched d ∷ [] → step p c s ≡ guarded (needs_end d s.cells) (dispatch_ends p d (at_close s))
+step_of_end p c s d top = ap (λ us. step_task p c (counted_by s (asked p us) (is_counted us)) us) top
 
 -- the counts of both sides
 abbrev over_counts : Rest → Rest
@@ -123,16 +152,8 @@ left_counts code r = record r { clock = raised r.clock; ended = Some (Left_with 
 abbrev uprooted_counts : Rest → Rest
 uprooted_counts r = record r { clock = raised r.clock }
 
--- the end of a dispatch shows nothing
-end_value : (x y : Held_dispatch) (h : Heap) (es : List Held_item) (root : ℕ) (q : Place) → value_in (Ends x ∷ []) h es root q ≡ value_in (Ends y ∷ []) h es root q
-end_value x y h es root (Register d i) = refl
-end_value x y h es root (Entry k) = refl
-end_value x y h es root (Field n f) = refl
-end_value x y h es root (Going k) = refl
-end_value x y h es root (Elsewhere o) = refl
-
 -- what is left of a dispatch at its end, on both sides
-module _ (p : Image) (admitted : IsAdmitted p) (m : Parts) (announced : m.rest.announced ≡ true) (t : Typing) (s : State) (typed : WellTyped p t s) (agrees : Agrees p m s) (e : AtEnd m s) where
+module _ (p : Image) (formed : WellFormed p) (m : Parts) (announced : m.rest.announced ≡ true) (t : Typing) (s : State) (typed : WellTyped p t s) (agrees : Agrees p m s) (e : AtEnd m s) where
   abbrev now : Rest
   now = record s.rest { announced = true }
 
@@ -167,7 +188,7 @@ module _ (p : Image) (admitted : IsAdmitted p) (m : Parts) (announced : m.rest.a
           let name : m.root ≡ o.name = agrees.values (Elsewhere Root) ∙ ap number is in
           let rooted : m.root ≡ null → ⊥ = λ n. not_null p m t s typed agrees (Elsewhere Root) o is (sym name ∙ n) in
           subst (λ b. Agrees p (cond (not b) (uprooted p old) (ends.closed old)) (main_ends p true (Some o) new)) (sym (ne_eqb m.root null rooted))
-          (uproots p admitted m t s e.dispatch (dispatch_of e.place e.dispatch) o r (uprooted_counts r') typed agrees e.held e.state is (ap uprooted_counts same))
+          (uproots p formed m t s e.dispatch (dispatch_of e.place e.dispatch) o r (uprooted_counts r') typed agrees e.held e.state is (ap uprooted_counts same))
 
   -- the dispatch of an object counts
   object_alike : Agrees p (ended_dispatch p (ends.handled m)) (object_ends p (at_close s))
@@ -182,7 +203,7 @@ module _ (p : Image) (admitted : IsAdmitted p) (m : Parts) (announced : m.rest.a
       go false = left_alone (failed_counts answer m.rest) (failed_counts answer now) (same_counts (failed_counts answer))
 
   -- its `error` method runs on the code
-  module _ (x : Subject) (code : ℤ) (k : ℕ) where
+  module _ (x : Subject) (sits : named s.cells x.number ≡ Some (subject_of x)) (code : ℤ) (k : ℕ) where
     abbrev asked_seat : Seat
     asked_seat = seat_of e.place x
 
@@ -201,50 +222,51 @@ module _ (p : Image) (admitted : IsAdmitted p) (m : Parts) (announced : m.rest.a
     abbrev ts : List Task
     ts = Dispatched (Asks asked_seat) ∷ []
 
-    at_rest : (q : Place) → Shows (value_in (Ends e.dispatch ∷ []) m.cells m.entries.items m.root q) (word_at (Dispatched (dispatch_of e.place e.dispatch) ∷ []) q) (held s.cells q)
+    at_rest : (q : Place) → Shows (value_in (Ends e.dispatch ∷ []) m.cells m.entries.items (others m) q) (word_at (Dispatched (dispatch_of e.place e.dispatch) ∷ []) q) (held s.cells q)
     at_rest q =
-        subst (λ vs. Shows (value_in (Ends e.dispatch ∷ []) m.cells m.entries.items m.root q) (word_at vs q) (held s.cells q)) e.state
-        (subst (λ vs. Shows (value_in vs m.cells m.entries.items m.root q) (word_at s.tasks q) (held s.cells q)) e.held (agrees.values q))
+        subst (λ vs. Shows (value_in (Ends e.dispatch ∷ []) m.cells m.entries.items (others m) q) (word_at vs q) (held s.cells q)) e.state
+        (subst (λ vs. Shows (value_in vs m.cells m.entries.items (others m) q) (word_at s.tasks q) (held s.cells q)) e.held (agrees.values q))
 
-    base : (q : Place) → Shows (value_in (Runs_frame f ∷ us) m.cells m.entries.items m.root q) (word_at (Run fr ∷ ts) q) (held s.cells q)
+    base : (q : Place) → Shows (value_in (Runs_frame f ∷ us) m.cells m.entries.items (others m) q) (word_at (Run fr ∷ ts) q) (held s.cells q)
     base q =
-        subst (λ v. Shows v (word_at (Run fr ∷ ts) q) (held s.cells q)) (sym (fresh_value k x.number us m.cells m.entries.items m.root q ∙ end_value (One_asks x) e.dispatch m.cells m.entries.items m.root q))
-        (subst (λ w. Shows (value_in (Ends e.dispatch ∷ []) m.cells m.entries.items m.root q) w (held s.cells q)) (sym (fresh_word k home (length s.items) ts q ∙ end_word (Asks asked_seat) (dispatch_of e.place e.dispatch) q)) (at_rest q))
+        subst (λ v. Shows v (word_at (Run fr ∷ ts) q) (held s.cells q)) (sym (fresh_value k x.number us m.cells m.entries.items (others m) q ∙ end_value (One_asks x) e.dispatch m.cells m.entries.items (others m) q))
+        (subst (λ w. Shows (value_in (Ends e.dispatch ∷ []) m.cells m.entries.items (others m) q) w (held s.cells q)) (sym (fresh_word k home (length s.items) ts q ∙ end_word (Asks asked_seat) (dispatch_of e.place e.dispatch) q)) (at_rest q))
 
     error_runs : FitsSigned w32 code → Agrees p (with_tasks (Runs_frame (with_register 0 (cast_unsigned w32 code) f) ∷ us) m) (record (at_close s) { tasks = Run (error_frame k asked_seat code (length s.items)) ∷ ts })
     error_runs fits =
         let n = cast_unsigned w32 code in
         let here = Register 1 0 in
         record {
-          tasks = (reframed f fr (slice_set f.registers 0 n) (Some code ∷ []) 0 0 (begun_frame k x.number home (length s.items) refl) (length-set f.registers 0 n ∙ length-replicate 16 null) refl, ((e.place, refl), tt));
+          tasks = (reframed f fr (slice_set f.registers 0 n) (Some code ∷ []) 0 0 (begun_frame k x.number home (length s.items) refl (λ there. object_small p m s formed agrees (subject_of x) sits refl)) (length-set f.registers 0 n ∙ length-replicate 16 null) refl, ((e.place, refl), tt));
           values = writes _ _ _ _ (held s.cells) _ here n (Some code) None base (to_z-of_z w32 code fits)
-              (value_written f us m.cells m.entries.items m.root 1 0 n 0 refl (let wide = length-replicate 16 null in omega arith))
+              (value_written f us m.cells m.entries.items (others m) 1 0 n 0 refl (let wide = length-replicate 16 null in omega arith))
               (word_written fr ts 0 0 (Some code))
               (λ q. kept (held s.cells) here q ∙ ap (λ o. changed (held s.cells) here o q) (shut.registers 1 0));
           cells = agrees.cells;
           entries = agrees.entries;
           requests = agrees.requests;
           natives = agrees.natives;
+          services = agrees.services;
           rest = same_counts (λ r. r);
           room = agrees.room;
           entry_room = agrees.entry_room;
         }
 
-  asking_alike : (method : Option ℕ) (x : Subject) (code : ℤ) → FitsSigned w32 code → Agrees p (ends.asking p method x code m) (asking p method (seat_of e.place x) code (at_close s))
-  asking_alike None x code fits = answered_alike code
-  asking_alike (Some k) x code fits =
+  asking_alike : (method : Option ℕ) (x : Subject) (code : ℤ) → named s.cells x.number ≡ Some (subject_of x) → FitsSigned w32 code → Agrees p (ends.asking p method x code m) (asking p method (seat_of e.place x) code (at_close s))
+  asking_alike None x code sits fits = answered_alike code
+  asking_alike (Some k) x code sits fits =
       let frame = with_register 0 (cast_unsigned w32 code) (fresh k x.number) in
       let asks = record (at_close s) { tasks = Run (error_frame k (seat_of e.place x) code (length s.items)) ∷ Dispatched (Asks (seat_of e.place x)) ∷ [] } in
-      subst (λ us. Agrees p (with_tasks (Runs_frame frame ∷ Ends (One_asks x) ∷ us) m) asks) (sym (ap below_first e.held)) (error_runs x code k fits)
+      subst (λ us. Agrees p (with_tasks (Runs_frame frame ∷ Ends (One_asks x) ∷ us) m) asks) (sym (ap below_first e.held)) (error_runs x sits code k fits)
 
 module _ (p : Image) (m : Parts) (told : Turn) (announced : m.rest.announced ≡ true) where
   -- the end of a dispatch writes nothing
-  by_end : (new : Parts) (x : Held_dispatch) → ending_here m.stack.tasks ≡ Some x → ((t : Typing) (s : State) → IsAdmitted p → WellTyped p t s → Agrees p m s → (e : AtEnd m s) → Agrees p new (dispatch_ends p (dispatch_of e.place x) (at_close s))) → Moves p m told told new
-  by_end new x ending ends t s sound typed agrees =
+  by_end : (new : Parts) (x : Held_dispatch) → IsPlain x → ending_here m.stack.tasks ≡ Some x → ((t : Typing) (s : State) → WellFormed p → WellTyped p t s → Agrees p m s → (e : AtEnd m s) → Agrees p new (dispatch_ends p (dispatch_of e.place x) (at_close s))) → Moves p m told told new
+  by_end new x plain ending ends t s sound typed kept agrees =
       let e = at_end p t m s typed agrees (ending_of m.stack.tasks ending) in
       let c = an_open p told.refused m s agrees in
       let after = dispatch_ends p (dispatch_of e.place e.dispatch) (at_close s) in
-      let is = step_of_end p c.0 s e.place e.dispatch e.state in (
+      let is = step_of_end p c.0 s (dispatch_of e.place e.dispatch) e.state ∙ ap (λ ns. guarded ns after) (needs_none e.place e.dispatch s.cells (subst IsPlain (sym (which m s e x ending)) plain)) in (
         record {
           choice = c.0;
           state = after;
@@ -252,28 +274,30 @@ module _ (p : Image) (m : Parts) (told : Turn) (announced : m.rest.announced ≡
           hears = c.2;
           goes = is;
           typed = subst (Keeps p t) is (sound.keeps c.0 s typed c.1.name);
-          agrees = subst (λ y. Agrees p new (dispatch_ends p (dispatch_of e.place y) (at_close s))) (sym (which m s e x ending)) (ends t s sound.admitted typed agrees e);
+          agrees = subst (λ y. Agrees p new (dispatch_ends p (dispatch_of e.place y) (at_close s))) (sym (which m s e x ending)) (ends t s sound.formed typed agrees e);
         },
-        ap (λ ls. record told { lines = ls }) (sym (ap (λ us. told.lines ++ written_task p s us) e.state ∙ append-nil told.lines)),
+        ap (λ ls. record told { lines = ls }) (sym (ap (λ us. told.lines ++ written_task p s us) e.state ∙ ap (λ ls. told.lines ++ ls) (tells_none e.place e.dispatch s.cells (subst IsPlain (sym (which m s e x ending)) plain)) ∙ append-nil told.lines)),
       )
 
   pub main_moves : ending_here m.stack.tasks ≡ Some Main → Moves p m told told (ended_dispatch p m)
-  main_moves is = by_end _ Main is (λ t s admitted typed agrees e. ends_alike p admitted m announced t s typed agrees e m.rest (now p admitted m announced t s typed agrees e) (same_counts p admitted m announced t s typed agrees e (λ r. r)))
+  main_moves is = by_end _ Main tt is (λ t s formed typed agrees e. ends_alike p formed m announced t s typed agrees e m.rest (now p formed m announced t s typed agrees e) (same_counts p formed m announced t s typed agrees e (λ r. r)))
 
   pub over_moves : ending_here m.stack.tasks ≡ Some End_of_run → Moves p m told told (record m { stack = record m.stack { tasks = below_first m.stack.tasks }; rest = over_counts m.rest })
-  over_moves is = by_end _ End_of_run is (λ t s admitted typed agrees e. left_alone p admitted m announced t s typed agrees e (over_counts m.rest) _ (same_counts p admitted m announced t s typed agrees e over_counts))
+  over_moves is = by_end _ End_of_run tt is (λ t s formed typed agrees e. left_alone p formed m announced t s typed agrees e (over_counts m.rest) _ (same_counts p formed m announced t s typed agrees e over_counts))
 
   pub left_moves : (code : ℤ) → ending_here m.stack.tasks ≡ Some (MainLeft code) → Moves p m told told (record m { stack = record m.stack { tasks = below_first m.stack.tasks }; rest = left_counts code m.rest })
-  left_moves code is = by_end _ (MainLeft code) is (λ t s admitted typed agrees e. left_alone p admitted m announced t s typed agrees e (left_counts code m.rest) _ (same_counts p admitted m announced t s typed agrees e (left_counts code)))
+  left_moves code is = by_end _ (MainLeft code) tt is (λ t s formed typed agrees e. left_alone p formed m announced t s typed agrees e (left_counts code m.rest) _ (same_counts p formed m announced t s typed agrees e (left_counts code)))
 
   pub object_moves : (x : Subject) → ending_here m.stack.tasks ≡ Some (Of_one x) → Moves p m told told (ended_dispatch p (ends.handled m))
-  object_moves x is = by_end _ (Of_one x) is (λ t s admitted. object_alike p admitted m announced t s)
+  object_moves x is = by_end _ (Of_one x) tt is (λ t s formed. object_alike p formed m announced t s)
 
   pub asks_moves : (x : Subject) → ending_here m.stack.tasks ≡ Some (One_asks x) → Moves p m told told (ended_dispatch p (ends.handled m))
-  asks_moves x is = by_end _ (One_asks x) is (λ t s admitted. object_alike p admitted m announced t s)
+  asks_moves x is = by_end _ (One_asks x) tt is (λ t s formed. object_alike p formed m announced t s)
 
   pub object_left_moves : (x : Subject) (code : ℤ) → FitsSigned w32 code → ending_here m.stack.tasks ≡ Some (One_left x code) → Moves p m told told (ends.asking p (role_of p x.class Answers) x code m)
-  object_left_moves x code fits is = by_end _ (One_left x code) is (λ t s admitted typed agrees e. asking_alike p admitted m announced t s typed agrees e (role_of p x.class Answers) x code fits)
+  object_left_moves x code fits is = by_end _ (One_left x code) tt is (λ t s formed typed agrees e.
+      let at : s.tasks ≡ Dispatched (Object_left (seat_of e.place x) code) ∷ [] = e.state ∙ ap (λ y. Dispatched (dispatch_of e.place y) ∷ []) (which m s e (One_left x code) is) in
+      asking_alike p formed m announced t s typed agrees e (role_of p x.class Answers) x code (seat_lives p t s typed (Object_left (seat_of e.place x) code) (seat_of e.place x) at refl) fits)
 
   pub answered_moves : (x : Subject) (answer : ℤ) → ending_here m.stack.tasks ≡ Some (One_answered x answer) → Moves p m told told (ended_answered p answer m)
-  answered_moves x answer is = by_end _ (One_answered x answer) is (λ t s admitted typed agrees e. answered_alike p admitted m announced t s typed agrees e answer)
+  answered_moves x answer is = by_end _ (One_answered x answer) tt is (λ t s formed typed agrees e. answered_alike p formed m announced t s typed agrees e answer)

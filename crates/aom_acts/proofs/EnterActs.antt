@@ -1,7 +1,7 @@
 -- A method is called: it begins over the one that runs, with its arguments in its first registers.
-use Rattle.std.proofs.Common.{zero, suc, ◌≡◌, ◌==◌, ◌&&◌, ℕ, ℤ, ◌<◌, ◌≤◌, ◌+◌, Bool, true, false, cond, length, List, [], ◌∷◌, ◌++◌, Option, Some, None, slice_index_or, slice_set, refl, sym, ap, ◌∙◌, subst, arith, append-nil, append_assoc}
+use Rattle.std.proofs.Common.{zero, suc, ◌≢◌, ◌≡◌, ◌==◌, ◌&&◌, ℕ, ℤ, ◌<◌, ◌≤◌, ◌+◌, Bool, true, false, cond, length, List, [], ◌∷◌, ◌++◌, Option, Some, None, slice_index_or, slice_set, refl, sym, ap, ◌∙◌, subst, arith, append-nil, append_assoc}
 use Rattle.std.specs.Prelude.{IsSome, is_some, nat_le}
-use Rattle.std.proofs.lemmas.Bool.{eq-eqb, eqb-true, ne_eqb}
+use Rattle.std.proofs.lemmas.Bool.{eq-eqb, eqb-true, false≢true, ne_eqb}
 use Rattle.std.proofs.lemmas.Bool.Decides.{leb_tells}
 use Rattle.std.proofs.lemmas.List.{length-set}
 use Rattle.aom_image.specs.Image.{Image}
@@ -15,7 +15,7 @@ use Rattle.aom_image.specs.declared.method.Method.{Method as Method_decl}
 use Rattle.aom_cells.specs.Heap.{Heap, null}
 use Rattle.aom_shape.specs.Needs.{AllTrue}
 use Rattle.aom_shape.specs.Tables.{put_at}
-use Rattle.aom_sound.specs.Calls.{entered, entry_place, home_at, needs_each, needs_target, passed_cells, passed_words, target_home}
+use Rattle.aom_sound.specs.Calls.{is_worked_on, own_home, entered, entry_place, home_at, needs_each, needs_target, passed_cells, passed_words, target_home}
 use Rattle.aom_sound.specs.Places.{Place, Register, Entry, Going, Object, Cell, changed, held, moved, same_place}
 use Rattle.aom_sound.specs.State.{Frame, Task, Run, Trapped, A_mark, State, field_place, frame_of, word}
 use Rattle.aom_sound.proofs.Finishing.{all_parts}
@@ -29,7 +29,7 @@ use Rattle.aom_cleanup.specs.declared.item.Item.{Item}
 use Rattle.aom_parts.proofs.Asking.{requests_passed}
 use Rattle.aom_parts.specs.declared.parts.Parts.{Parts}
 use Rattle.aom_acts.specs.Next.{IsNext, counting}
-use Rattle.aom_parts.specs.Places.{value_in, register_in, going_in, with_items, with_tasks}
+use Rattle.aom_parts.specs.Places.{others, Others, value_in, register_in, going_in, with_items, with_tasks}
 use Rattle.aom_parts.specs.Agrees.{word_at, word_in, Shows, SameCells, SameFrame, home_number, number, Agrees}
 use Rattle.aom_acts.specs.Acts.{At_hand, DoesIn, requested}
 use Rattle.aom_acts.specs.Calls.{target_here}
@@ -42,7 +42,11 @@ use Rattle.aom_acts.proofs.ObjectActs.{shown}
 use Rattle.aom_parts.proofs.Overs.{held_over, higher, over_deep, over_register, over_value, over_word, over_words, tasks_over}
 use Rattle.aom_acts.proofs.ReturnActs.{none_above}
 use Rattle.aom_acts.proofs.WordActs.{plain_at}
-use Rattle.aom_acts.proofs.Standing.{Top, by_top, begun_frame, reframed, no_word}
+use Rattle.aom_parts.proofs.Services.{services_passed}
+use Rattle.aom_acts.proofs.Owned.{object_for}
+use Rattle.aom_sound.proofs.Maps.{held_lives}
+use Rattle.aom_acts.proofs.FieldActs.{this_is}
+use Rattle.aom_acts.proofs.Standing.{Top, by_top, begun_frame, object_small, reframed, no_word}
 use Rattle.aom_acts.proofs.Stepping.{at_step}
 use Rattle.aom_parts.proofs.Values.{kept, moves, value_here, value_written, word_written, writes}
 use Rattle.aom_parts.proofs.Sessions.{natives_passed}
@@ -74,7 +78,7 @@ going_kept false f f' g ms k = refl
 
 -- ---- the arguments go over one after the other
 
-module _ (p : Image) (trapped : Bool) (heap : Heap) (es : List Item) (root : ℕ) (ms : List Held_task) (ts : List Task) (fr cal : Frame) (s : State) (deep : length ms ≡ length ts) where
+module _ (p : Image) (trapped : Bool) (heap : Heap) (es : List Item) (rest : Others) (ms : List Held_task) (ts : List Task) (fr cal : Frame) (s : State) (deep : length ms ≡ length ts) where
   abbrev pub lower : ℕ → Place
   lower i = Register (length ts) i
 
@@ -101,7 +105,7 @@ module _ (p : Image) (trapped : Bool) (heap : Heap) (es : List Item) (root : ℕ
 
   -- so many have gone
   pub record Passing (f g : Held_frame) (cs : List Cell) (ws : List (Option ℤ)) (to : ℕ) : Type 0 where
-    pub values : (r : Place) → Shows (value_in (Runs_frame g ∷ held_tops f) heap es root r) (word_at (Run (with_words ws) ∷ tops) r) (held cs r)
+    pub values : (r : Place) → Shows (value_in (Runs_frame g ∷ held_tops f) heap es rest r) (word_at (Run (with_words ws) ∷ tops) r) (held cs r)
     pub cells : SameCells p heap cs
     pub free : (i : ℕ) → to ≤ i → held cs (upper i) ≡ None
     pub even : length ws ≡ to
@@ -109,16 +113,16 @@ module _ (p : Image) (trapped : Bool) (heap : Heap) (es : List Item) (root : ℕ
     pub called : SameFrame g (with_words ws)
 
   -- what a register at that depth holds, past the method that is called
-  past_called : (f g : Held_frame) (e j : ℕ) → value_in (Runs_frame g ∷ held_tops f) heap es root (Register e j) ≡ cond (length (held_tops f) == e) (slice_index_or g.registers j null) (register_in (Runs_frame f ∷ ms) e j)
+  past_called : (f g : Held_frame) (e j : ℕ) → value_in (Runs_frame g ∷ held_tops f) heap es rest (Register e j) ≡ cond (length (held_tops f) == e) (slice_index_or g.registers j null) (register_in (Runs_frame f ∷ ms) e j)
   past_called f g e j = ap (λ x. cond (length (held_tops f) == e) (slice_index_or g.registers j null) x) (over_register trapped (Runs_frame f ∷ ms) e j)
 
-  lower_value : (f g : Held_frame) (i : ℕ) → value_in (Runs_frame g ∷ held_tops f) heap es root (lower i) ≡ slice_index_or f.registers i null
+  lower_value : (f g : Held_frame) (i : ℕ) → value_in (Runs_frame g ∷ held_tops f) heap es rest (lower i) ≡ slice_index_or f.registers i null
   lower_value f g i =
       let above = high in
       let even = even_tops f in
       past_called f g (length ts) i
       ∙ ap (λ b. cond b (slice_index_or g.registers i null) (register_in (Runs_frame f ∷ ms) (length ts) i)) (ne_eqb (length (held_tops f)) (length ts) (λ e. absurd (omega arith)))
-      ∙ value_here f ms heap es root (length ts) i deep
+      ∙ value_here f ms heap es rest (length ts) i deep
 
   lower_word : (c : Frame) (i : ℕ) → word_at (Run c ∷ tops) (lower i) ≡ word fr i
   lower_word c i =
@@ -129,13 +133,13 @@ module _ (p : Image) (trapped : Bool) (heap : Heap) (es : List Item) (root : ℕ
 
   -- the register of the caller is null from then on
   lower_written : (f g : Held_frame) (i : ℕ) → i < length f.registers → (r : Place)
-      → value_in (Runs_frame g ∷ held_tops (record f { registers = slice_set f.registers i null })) heap es root r ≡ changed (value_in (Runs_frame g ∷ held_tops f) heap es root) (lower i) null r
+      → value_in (Runs_frame g ∷ held_tops (record f { registers = slice_set f.registers i null })) heap es rest r ≡ changed (value_in (Runs_frame g ∷ held_tops f) heap es rest) (lower i) null r
   lower_written f g i small (Going k) = going_kept trapped f (record f { registers = slice_set f.registers i null }) g ms k
   lower_written f g i small (Register e j) =
       let f' = record f { registers = slice_set f.registers i null } in
       past_called f' g e j
       ∙ ap (λ n. cond (n == e) (slice_index_or g.registers j null) (register_in (Runs_frame f' ∷ ms) e j)) (same_tops f' f)
-      ∙ ap (λ n. cond (length (held_tops f) == e) (slice_index_or g.registers j null) n) (value_written f ms heap es root (length ts) i null f.place deep small (Register e j))
+      ∙ ap (λ n. cond (length (held_tops f) == e) (slice_index_or g.registers j null) n) (value_written f ms heap es rest (length ts) i null f.place deep small (Register e j))
       ∙ go (length (held_tops f) == e) refl
       ∙ ap (λ x. cond ((length ts == e) && (i == j)) null x) (sym (past_called f g e j))
     where
@@ -155,8 +159,8 @@ module _ (p : Image) (trapped : Bool) (heap : Heap) (es : List Item) (root : ℕ
       ∙ word_written (with_words ws) tops to cal.place w r
 
   upper_written : (f g : Held_frame) (to n : ℕ) → to < length g.registers → (r : Place)
-      → value_in (Runs_frame (with_register to n g) ∷ held_tops f) heap es root r ≡ changed (value_in (Runs_frame g ∷ held_tops f) heap es root) (upper to) n r
-  upper_written f g to n small = value_written g (held_tops f) heap es root (length tops) to n g.place (even_tops f) small
+      → value_in (Runs_frame (with_register to n g) ∷ held_tops f) heap es rest r ≡ changed (value_in (Runs_frame g ∷ held_tops f) heap es rest) (upper to) n r
+  upper_written f g to n small = value_written g (held_tops f) heap es rest (length tops) to n g.place (even_tops f) small
 
   called_on : (g : Held_frame) (ws : List (Option ℤ)) (to n : ℕ) (w : Option ℤ) → SameFrame g (with_words ws) → SameFrame (with_register to n g) (with_words (ws ++ w ∷ []))
   called_on g ws to n w same = let wide = same.wide in reframed g (with_words ws) (slice_set g.registers to n) (ws ++ w ∷ []) g.place cal.place same (length-set g.registers to n ∙ wide) same.place
@@ -170,7 +174,7 @@ module _ (p : Image) (trapped : Bool) (heap : Heap) (es : List Item) (root : ℕ
   word_goes f g cs ws first to small some passing =
       let wide = passing.called.wide in
       let n = slice_index_or f.registers first null in
-      let shows = subst (λ k. Shows k (word fr first) (held cs (lower first))) (lower_value f g first) (subst (λ w. Shows (value_in (Runs_frame g ∷ held_tops f) heap es root (lower first)) w (held cs (lower first))) (lower_word (with_words ws) first) (passing.values (lower first))) in
+      let shows = subst (λ k. Shows k (word fr first) (held cs (lower first))) (lower_value f g first) (subst (λ w. Shows (value_in (Runs_frame g ∷ held_tops f) heap es rest (lower first)) w (held cs (lower first))) (lower_word (with_words ws) first) (passing.values (lower first))) in
       record {
         values = writes _ _ _ _ _ _ (upper to) n (word fr first) None passing.values (word_alone n (word fr first) (held cs (lower first)) some shows)
             (upper_written f g to n (omega arith))
@@ -190,7 +194,7 @@ module _ (p : Image) (trapped : Bool) (heap : Heap) (es : List Item) (root : ℕ
       let wide = passing.called.wide in
       let broad = passing.caller.wide in
       let n = slice_index_or f.registers first null in
-      let v = value_in (Runs_frame g ∷ held_tops f) heap es root in
+      let v = value_in (Runs_frame g ∷ held_tops f) heap es rest in
       let there = passing.free to (omega arith) in
       let above = high in
       record {
@@ -259,6 +263,27 @@ home_of p m h (On_entry k) class first count needs =
     owner None q = refl
     owner (Some o) q = refl
 
+-- and it is no message
+module _ (p : Image) (m : Parts) (h : At_hand p m) (class : Option ℕ) where
+  worked_small : (class : Option ℕ) (o : Option Object) (q : Place) → held h.state.cells q ≡ o → is_worked_on p class o ≡ true → home_number (home_at o q) ≢ null → home_number (home_at o q) < 4096
+  worked_small class None q e worked there = absurd (there refl)
+  worked_small None (Some o) q e worked there = absurd (false≢true worked)
+  worked_small (Some c) (Some o) q e worked there = object_small p m h.state h.formed h.agrees o (held_lives h.state.cells q o h.typed.good.tidy e) (object_for p o.thing c worked)
+
+  home_small : (target : Target) (first count : ℕ) → AllTrue (needs_target p h.frame h.below h.state target class first count) → home_number (target_home p h.frame h.below h.state target class) ≢ null → home_number (target_home p h.frame h.below h.state target class) < 4096
+  home_small This first count needs = own class
+    where
+      own : (class : Option ℕ) → home_number (own_home class h.frame.home) ≢ null → home_number (own_home class h.frame.home) < 4096
+      own None there = absurd (there refl)
+      own (Some c) there = subst (λ n. n < 4096) (this_is p m h) (by_top p m h (λ us. this_here us ≢ null → this_here us < 4096) (λ f ms top. top.frame.housed) (λ none. there (sym (this_is p m h) ∙ none)))
+  home_small (On_register r) first count needs = worked_small class (held h.state.cells (Register (length h.below) r)) (Register (length h.below) r) refl needs.1.1.0
+  home_small (On_field g) first count needs = worked_small class (held h.state.cells (field_place h.frame.home g)) (field_place h.frame.home g) refl needs.1.1.0
+  home_small (On_entry k) first count needs = worked_small class (held h.state.cells (entry_place h.state.items k)) (entry_place h.state.items k) refl needs.1.1.1.0
+
+housed_by : (p : Image) (m : Parts) (h : At_hand p m) (target : Target) (class : Option ℕ) (first count : ℕ) → AllTrue (needs_target p h.frame h.below h.state target class first count) → target_here target class m ≡ home_number (target_home p h.frame h.below h.state target class)
+    → target_here target class m ≢ null → target_here target class m < 4096
+housed_by p m h target class first count needs home there = subst (λ n. n < 4096) (sym home) (home_small p m h class target first count needs (λ none. there (home ∙ none)))
+
 -- what a method that is called finds, over the caller or over a trap on it
 module _ (p : Image) (m : Parts) (h : At_hand p m) (trapped : Bool) (target : Target) (k first height : ℕ) where
   abbrev xs : List Argument
@@ -273,25 +298,25 @@ module _ (p : Image) (m : Parts) (h : At_hand p m) (trapped : Bool) (target : Ta
   abbrev over : List Task
   over = tasks_over trapped (Run h.frame ∷ h.below)
 
-  pub enters : (f : Held_frame) (ms : List Held_task) (top : Top m h.state h.frame h.below f ms) → this ≡ home_number (target_home p h.frame h.below h.state target (method_class p k)) → (first + length xs) ≤ 16 → AllTrue (needs_each p h.frame h.below h.state xs first)
-      → Passing p trapped m.cells m.entries.items m.root ms h.below h.frame called h.state top.deep (passed_on xs first f) (given xs first 0 f (fresh k this)) (passed_cells p h.frame h.below h.state (length over) xs first 0 h.state.cells) (passed_words p h.frame h.below h.state xs first) (0 + length xs)
-  enters f ms top home fits each =
+  pub enters : (f : Held_frame) (ms : List Held_task) (top : Top m h.state h.frame h.below f ms) → this ≡ home_number (target_home p h.frame h.below h.state target (method_class p k)) → (this ≢ null → this < 4096) → (first + length xs) ≤ 16 → AllTrue (needs_each p h.frame h.below h.state xs first)
+      → Passing p trapped m.cells m.entries.items (others m) ms h.below h.frame called h.state top.deep (passed_on xs first f) (given xs first 0 f (fresh k this)) (passed_cells p h.frame h.below h.state (length over) xs first 0 h.state.cells) (passed_words p h.frame h.below h.state xs first) (0 + length xs)
+  enters f ms top home housed fits each =
       let s = h.state in
       let fr = h.frame in
       let ts = h.below in
       let us = held_over trapped (Runs_frame f ∷ ms) in
       let layers = ap length h.top in
       let above = higher trapped (Run fr ∷ ts) {n = length ts} (omega arith) in
-      let begun : Passing p trapped m.cells m.entries.items m.root ms ts fr called s top.deep f (fresh k this) s.cells [] 0 = record {
-        values = λ r. subst (λ n. Shows n (word_at (Run called ∷ over) r) (held s.cells r)) (sym (fresh_value k this us m.cells m.entries.items m.root r ∙ over_value trapped (Runs_frame f ∷ ms) m.cells m.entries.items m.root r))
-            (subst (λ w. Shows (value_in (Runs_frame f ∷ ms) m.cells m.entries.items m.root r) w (held s.cells r)) (sym (fresh_word k (target_home p fr ts s target (method_class p k)) height over r ∙ over_words trapped (Run fr ∷ ts) r)) (top.values r));
+      let begun : Passing p trapped m.cells m.entries.items (others m) ms ts fr called s top.deep f (fresh k this) s.cells [] 0 = record {
+        values = λ r. subst (λ n. Shows n (word_at (Run called ∷ over) r) (held s.cells r)) (sym (fresh_value k this us m.cells m.entries.items (others m) r ∙ over_value trapped (Runs_frame f ∷ ms) m.cells m.entries.items (others m) r))
+            (subst (λ w. Shows (value_in (Runs_frame f ∷ ms) m.cells m.entries.items (others m) r) w (held s.cells r)) (sym (fresh_word k (target_home p fr ts s target (method_class p k)) height over r ∙ over_words trapped (Run fr ∷ ts) r)) (top.values r));
         cells = h.agrees.cells;
         free = λ i le. none_above p h.typing s (length over) i h.typed (omega arith);
         even = refl;
         caller = top.frame;
-        called = begun_frame k this (target_home p fr ts s target (method_class p k)) height home;
+        called = begun_frame k this (target_home p fr ts s target (method_class p k)) height home housed;
       } in
-      all_go p trapped m.cells m.entries.items m.root ms ts fr called s top.deep xs first 0 f (fresh k this) s.cells [] fits (omega arith) each begun
+      all_go p trapped m.cells m.entries.items (others m) ms ts fr called s top.deep xs first 0 f (fresh k this) s.cells [] fits (omega arith) each begun
 
 pub within : (a n : ℕ) → nat_le (a + n) 16 ≡ true → (a + n) ≤ 16
 within a n e = grind (arith, leb_tells (a + n) 16)
@@ -308,10 +333,12 @@ call_does p m refused target k first x h here =
     let parts = all_parts (needs_target p fr ts s target (method_class p k) first (length xs)) _ needs in
     let fits = within first (length xs) parts.1.0 in
     let each = (all_parts (needs_each p fr ts s xs first) _ parts.1.1).0 in
+    let home = home_of p m h target (method_class p k) first (length xs) parts.0 in
+    let housed = housed_by p m h target (method_class p k) first (length xs) parts.0 home in
     by_top p m h
     (λ us. Agrees p (with_tasks (Runs_frame (given_here xs first us (fresh k this)) ∷ on_top (passed_on xs first) us) m) (record s { cells = passed_cells p fr ts s (suc (length ts)) xs first 0 s.cells; tasks = Run (entered p fr ts s target k first (length s.items)) ∷ Run fr ∷ ts }))
     (λ f ms top.
-    let done = enters p m h false target k first (length s.items) f ms top (home_of p m h target (method_class p k) first (length xs) parts.0) fits each in
+    let done = enters p m h false target k first (length s.items) f ms top home housed fits each in
     record {
       tasks = (done.called, (done.caller, top.below));
       values = done.values;
@@ -319,15 +346,16 @@ call_does p m refused target k first x h here =
       entries = h.agrees.entries;
       requests = requests_passed p fr ts s m.active (suc (length ts)) xs first 0 s.cells h.agrees.requests;
       natives = natives_passed p fr ts s m.sessions (suc (length ts)) xs first 0 s.cells h.agrees.natives;
+      services = services_passed p fr ts s (suc (length ts)) xs first 0 s.cells h.agrees.services;
       rest = h.agrees.rest;
       room = h.agrees.room;
       entry_room = h.agrees.entry_room;
     }))
 
 -- under a trap, whose mark owns nothing
-marked_value : (us : List Held_task) (h : Heap) (es : List Item) (root : ℕ) (r : Place) → value_in us h (Is_mark ∷ es) root r ≡ value_in us h es root r
-marked_value us h es root (Entry k) = mark_shows_none es k
-marked_value us h es root _ = refl
+marked_value : (us : List Held_task) (h : Heap) (es : List Item) (rest : Others) (r : Place) → value_in us h (Is_mark ∷ es) rest r ≡ value_in us h es rest r
+marked_value us h es rest (Entry k) = mark_shows_none es k
+marked_value us h es rest _ = refl
 
 pub trap_does : (p : Image) (m : Parts) (refused : List ℕ) (target : Target) (k first x : ℕ)
     → DoesIn p refused (Trap target k first x) m (with_items (Is_mark ∷ m.entries.items) (with_tasks (Runs_frame (given_here (arguments_of p k) first m.stack.tasks (fresh k (target_here target (method_class p k) m))) ∷ Is_trap ∷ on_top (passed_on (arguments_of p k) first) m.stack.tasks) m))
@@ -341,17 +369,20 @@ trap_does p m refused target k first x h here =
     let parts = all_parts (needs_target p fr ts s target (method_class p k) first (length xs)) _ needs in
     let fits = within first (length xs) parts.1.0 in
     let each = (all_parts (needs_each p fr ts s xs first) _ parts.1.1).0 in
+    let home = home_of p m h target (method_class p k) first (length xs) parts.0 in
+    let housed = housed_by p m h target (method_class p k) first (length xs) parts.0 home in
     by_top p m h
     (λ us. Agrees p (with_items (Is_mark ∷ m.entries.items) (with_tasks (Runs_frame (given_here xs first us (fresh k this)) ∷ Is_trap ∷ on_top (passed_on xs first) us) m)) (record s { cells = passed_cells p fr ts s (suc (suc (length ts))) xs first 0 s.cells; tasks = Run (entered p fr ts s target k first (suc (length s.items))) ∷ Trapped ∷ Run fr ∷ ts; items = A_mark ∷ s.items }))
     (λ f ms top.
-    let done = enters p m h true target k first (suc (length s.items)) f ms top (home_of p m h target (method_class p k) first (length xs) parts.0) fits each in
+    let done = enters p m h true target k first (suc (length s.items)) f ms top home housed fits each in
     record {
       tasks = (done.called, (tt, (done.caller, top.below)));
-      values = λ r. subst (λ n. Shows n (word_at (Run (entered p fr ts s target k first (suc (length s.items))) ∷ Trapped ∷ Run fr ∷ ts) r) (held (passed_cells p fr ts s (suc (suc (length ts))) xs first 0 s.cells) r)) (sym (marked_value (Runs_frame (given xs first 0 f (fresh k this)) ∷ Is_trap ∷ Runs_frame (passed_on xs first f) ∷ ms) m.cells m.entries.items m.root r)) (done.values r);
+      values = λ r. subst (λ n. Shows n (word_at (Run (entered p fr ts s target k first (suc (length s.items))) ∷ Trapped ∷ Run fr ∷ ts) r) (held (passed_cells p fr ts s (suc (suc (length ts))) xs first 0 s.cells) r)) (sym (marked_value (Runs_frame (given xs first 0 f (fresh k this)) ∷ Is_trap ∷ Runs_frame (passed_on xs first f) ∷ ms) m.cells m.entries.items (others m) r)) (done.values r);
       cells = done.cells;
       entries = (tt, h.agrees.entries);
       requests = requests_passed p fr ts s m.active (suc (suc (length ts))) xs first 0 s.cells h.agrees.requests;
       natives = natives_passed p fr ts s m.sessions (suc (suc (length ts))) xs first 0 s.cells h.agrees.natives;
+      services = services_passed p fr ts s (suc (suc (length ts))) xs first 0 s.cells h.agrees.services;
       rest = h.agrees.rest;
       room = h.agrees.room;
       entry_room = h.agrees.entry_room;

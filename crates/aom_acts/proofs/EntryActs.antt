@@ -25,15 +25,16 @@ use Rattle.aom_frames.specs.declared.task.Task.TheVariants.{Run as Runs_frame}
 use Rattle.aom_parts.proofs.Asking.{requests_moved}
 use Rattle.aom_parts.specs.declared.parts.Parts.{Parts}
 use Rattle.aom_acts.specs.Acts.{At_hand, requested, leaving, Does}
-use Rattle.aom_parts.specs.Places.{set_register, value_in, with_items}
+use Rattle.aom_parts.specs.Places.{others, set_register, value_in, with_items}
 use Rattle.aom_parts.specs.Cells.{refuses, refuses_entry, Made}
 use Rattle.aom_parts.specs.Places as places
 use Rattle.aom_parts.specs.Agrees.{Shows, SameItems, word_at, Agrees}
 use Rattle.aom_parts.proofs.Cells.{cells_moved}
 use Rattle.aom_parts.proofs.Entries.{and_true, entry_past, owns_none, same_items_length, top_value, value_alike, value_popped, value_pushed, below_same}
 use Rattle.aom_acts.proofs.LeavingActs.{leaves, leaves_at}
-use Rattle.aom_acts.proofs.ObjectActs.{asks_one, made_agrees, same_entry_refusal, same_refusal}
-use Rattle.aom_acts.proofs.Standing.{Top, word_here, no_word, free, nothing_held, unnamed}
+use Rattle.aom_parts.proofs.Services.{services_moved}
+use Rattle.aom_acts.proofs.ObjectActs.{asks_one, made_agrees, new_small, same_entry_refusal, same_refusal}
+use Rattle.aom_acts.proofs.Standing.{Top, word_here, no_word, free, nothing_held, null_unnamed, unnamed}
 use Rattle.aom_acts.proofs.Stepping.{agrees_rest}
 use Rattle.aom_parts.proofs.Values.{kept, moves, value_here, value_written, word_written}
 use Rattle.aom_acts.proofs.WordActs.{plain_does, word_read}
@@ -79,17 +80,17 @@ module _ (p : Image) (m : Parts) (h : At_hand p m) (r : Rest) (rest : record m.r
       let was = word_here fr ts a ∙ wordless in
       goes_on_with p m h (with_items (Holds_object n ∷ m.entries.items) (asked m)) (moved here there s.cells) (An_object ∷ s.items) r (put_at None fr.words a None)
       (on_top (with_register a null)) (with_register a null) (λ f ms. refl)
-      (record { stack = refl; cells = cells_moved p m.cells s.cells here there h.agrees.cells; entries = (tt, h.agrees.entries); requests = requests_moved p m.active s.cells here there h.agrees.requests; natives = natives_moved p m.sessions s.killed s.cells here there h.agrees.natives; rest = rest; room = h.agrees.entry_room })
+      (record { stack = refl; cells = cells_moved p m.cells s.cells here there h.agrees.cells; entries = (tt, h.agrees.entries); requests = requests_moved p m.active s.cells here there h.agrees.requests; natives = natives_moved p m.sessions s.killed s.cells here there h.agrees.natives; services = services_moved p s.cells here there refl refl h.agrees.services; rest = rest; room = h.agrees.entry_room })
       (λ f ms e top.
       let wide = top.frame.wide in
-      let v = value_in (Runs_frame f ∷ ms) m.cells m.entries.items m.root in
+      let v = value_in (Runs_frame f ∷ ms) m.cells m.entries.items (others m) in
       record {
         frame = framed p m h f ms _ a null top;
         values = moves v _ _ _ (held s.cells) _ here there top.values was
             (λ q.
-            value_pushed (Runs_frame (with_register a null f) ∷ ms) m.cells m.entries.items m.root n (length s.items) (same_items_length m.entries.items s.items h.agrees.entries) q
-            ∙ ap (λ x. changed (λ z. x) there n q) (value_written f ms m.cells m.entries.items m.root (length ts) a null f.place top.deep (omega arith) q)
-            ∙ ap (λ x. changed (changed v here null) there x q) (ap (λ us. register_here us a) e ∙ sym (value_here f ms m.cells m.entries.items m.root (length ts) a top.deep)))
+            value_pushed (Runs_frame (with_register a null f) ∷ ms) m.cells m.entries.items (others m) n (length s.items) (same_items_length m.entries.items s.items h.agrees.entries) q
+            ∙ ap (λ x. changed (λ z. x) there n q) (value_written f ms m.cells m.entries.items (others m) (length ts) a null f.place top.deep (omega arith) q)
+            ∙ ap (λ x. changed (changed v here null) there x q) (ap (λ us. register_here us a) e ∙ sym (value_here f ms m.cells m.entries.items (others m) (length ts) a top.deep)))
             (λ q. word_written fr ts a fr.place None q ∙ sym (kept (word_at (Run fr ∷ ts)) here q ∙ ap (λ x. changed (word_at (Run fr ∷ ts)) here x q) was) ∙ entry_words (Run fr ∷ ts) (length s.items) q)
             (λ q. held_moved s.cells here there q (none_over p m h f ms top));
       })
@@ -100,8 +101,8 @@ module _ (p : Image) (m : Parts) (h : At_hand p m) (r : Rest) (rest : record m.r
       let s = h.state in
       let i = Holds_operation k (register_here m.stack.tasks a) in
       goes_on_as p m h (with_items (i ∷ m.entries.items) (asked m)) s.cells (An_operation k (read h.frame h.below s a) ∷ s.items) r
-      (record { stack = refl; cells = h.agrees.cells; entries = ((refl, is), h.agrees.entries); requests = h.agrees.requests; natives = h.agrees.natives; rest = rest; room = h.agrees.entry_room })
-      (λ f ms e top q. subst (λ n. Shows n (word_at (Run h.frame ∷ h.below) q) (held s.cells q)) (sym (value_alike (Runs_frame f ∷ ms) m.cells (i ∷ m.entries.items) m.entries.items m.root (λ d. owns_none i m.entries.items d refl) q)) (top.values q))
+      (record { stack = refl; cells = h.agrees.cells; entries = ((refl, is), h.agrees.entries); requests = h.agrees.requests; natives = h.agrees.natives; services = h.agrees.services; rest = rest; room = h.agrees.entry_room })
+      (λ f ms e top q. subst (λ n. Shows n (word_at (Run h.frame ∷ h.below) q) (held s.cells q)) (sym (value_alike (Runs_frame f ∷ ms) m.cells (i ∷ m.entries.items) m.entries.items (others m) (λ d. owns_none i m.entries.items d refl) q)) (top.values q))
 
 -- where the request is refused the machine leaves
 leaves_if : (p : Image) (m : Parts) (fr : Frame) (ts : List Task) (s : State) (b : Bool) (off : Update) (on : Effect) → Agrees p m (applied p fr ts s on)
@@ -116,7 +117,7 @@ module _ (m : Parts) (turn : Turn) where
       let s = h.state in
       let c : Choice = record { name = null; refused = refused; answer = m.heard } in (
         c,
-        record { name = unnamed p m s null h.agrees h.agrees.cells.null_is_none; refusal = same ∙ same_entry_refusal p turn m h (Push a) here refl },
+        record { name = null_unnamed p m s h.agrees; refusal = same ∙ same_entry_refusal p turn m h (Push a) here refl },
         refl,
         λ needs typed.
             let was = no_word _ needs.0 in
@@ -129,7 +130,7 @@ module _ (m : Parts) (turn : Turn) where
       let s = h.state in
       let c : Choice = record { name = null; refused = refused; answer = m.heard } in (
         c,
-        record { name = unnamed p m s null h.agrees h.agrees.cells.null_is_none; refusal = same ∙ same_entry_refusal p turn m h (PushOperation a k) here refl },
+        record { name = null_unnamed p m s h.agrees; refusal = same ∙ same_entry_refusal p turn m h (PushOperation a k) here refl },
         refl,
         λ needs typed.
             let is = word_read p m h a needs.0 in
@@ -141,7 +142,7 @@ module _ (m : Parts) (turn : Turn) where
   pub newl_refused : (a class : ℕ) → true ≡ refuses turn m → Does turn.refused (NewOrLeave a class) m (leaving (negsuc 3) (asked m))
   newl_refused a class full p h here = (
     record { name = null; refused = true; answer = m.heard },
-    record { name = unnamed p m h.state null h.agrees h.agrees.cells.null_is_none; refusal = full ∙ same_refusal p turn m h (NewOrLeave a class) here refl },
+    record { name = null_unnamed p m h.state h.agrees; refusal = full ∙ same_refusal p turn m h (NewOrLeave a class) here refl },
     refl,
     λ needs typed. leaves_at p (asked m) (requested (NewOrLeave a class) h.state) h.frame h.below no_memory h.top (agrees_rest p m h.state _ _ (asks_one m turn h.state.rest h.agrees.rest) h.agrees) needs.1.1.0,
   )
@@ -151,7 +152,7 @@ module _ (m : Parts) (turn : Turn) where
     | inl none ↦ absurd (true≢false (sym none.0))
     | inr it ↦ (
       record { name = n; refused = false; answer = m.heard },
-      record { name = unnamed p m h.state n h.agrees it.2; refusal = granted ∙ same_refusal p turn m h (NewOrLeave a class) here refl },
+      record { name = unnamed p m h.state n h.agrees (new_small p m h heap n class it.4 it.6) it.2; refusal = granted ∙ same_refusal p turn m h (NewOrLeave a class) here refl },
       refl,
       λ needs typed. made_agrees m turn p h a class n heap _ small (asks_one m turn h.state.rest h.agrees.rest) needs.0 it.1 it.2 it.3 it.4 it.5 it.6,
     )
@@ -175,17 +176,17 @@ module _ (m : Parts) (refused : List ℕ) (es : Held_items) where
       let same = subst (λ is. SameItems is s.items) was h.agrees.entries in
       let deep = same_items_length es.items items (below_same (Holds_object n) es.items s.items same) in
       goes_on_with p m h (record m { entries = es }) (moved from here s.cells) items s.rest (put_at None fr.words a None) (on_top (with_register a n)) (with_register a n) (λ f ms. refl)
-      (record { stack = refl; cells = cells_moved p m.cells s.cells from here h.agrees.cells; entries = below_same (Holds_object n) es.items s.items same; requests = requests_moved p m.active s.cells from here h.agrees.requests; natives = natives_moved p m.sessions s.killed s.cells from here h.agrees.natives; rest = h.agrees.rest; room = deep_enough m.entries es _ h.agrees.entry_room popped })
+      (record { stack = refl; cells = cells_moved p m.cells s.cells from here h.agrees.cells; entries = below_same (Holds_object n) es.items s.items same; requests = requests_moved p m.active s.cells from here h.agrees.requests; natives = natives_moved p m.sessions s.killed s.cells from here h.agrees.natives; services = services_moved p s.cells from here refl refl h.agrees.services; rest = h.agrees.rest; room = deep_enough m.entries es _ h.agrees.entry_room popped })
       (λ f ms e top.
       let wide = top.frame.wide in
-      let v = value_in (Runs_frame f ∷ ms) m.cells (Holds_object n ∷ es.items) m.root in
-      let old : (q : Place) → Shows (v q) (word_at (Run fr ∷ ts) q) (held s.cells q) = λ q. subst (λ is. Shows (value_in (Runs_frame f ∷ ms) m.cells is m.root q) (word_at (Run fr ∷ ts) q) (held s.cells q)) was (top.values q) in
+      let v = value_in (Runs_frame f ∷ ms) m.cells (Holds_object n ∷ es.items) (others m) in
+      let old : (q : Place) → Shows (v q) (word_at (Run fr ∷ ts) q) (held s.cells q) = λ q. subst (λ is. Shows (value_in (Runs_frame f ∷ ms) m.cells is (others m) q) (word_at (Run fr ∷ ts) q) (held s.cells q)) was (top.values q) in
       record {
         frame = framed p m h f ms _ a n top;
         values = moves v _ _ _ (held s.cells) _ from here old refl
-            (λ q. value_written f ms m.cells es.items m.root (length ts) a n f.place top.deep (omega arith) q
-            ∙ ap (λ x. changed (λ z. x) here n q) (value_popped (Runs_frame f ∷ ms) m.cells es.items m.root n (length items) deep q)
-            ∙ ap (λ x. changed (changed v from null) here x q) (sym (top_value (Runs_frame f ∷ ms) m.cells es.items m.root n (length items) deep)))
+            (λ q. value_written f ms m.cells es.items (others m) (length ts) a n f.place top.deep (omega arith) q
+            ∙ ap (λ x. changed (λ z. x) here n q) (value_popped (Runs_frame f ∷ ms) m.cells es.items (others m) n (length items) deep q)
+            ∙ ap (λ x. changed (changed v from null) here x q) (sym (top_value (Runs_frame f ∷ ms) m.cells es.items (others m) n (length items) deep)))
             (word_written fr ts a fr.place None)
             (λ q. held_moved s.cells from here q (free _ met.0));
       }))
@@ -198,11 +199,11 @@ module _ (m : Parts) (refused : List ℕ) (es : Held_items) where
       let was : m.entries.items ≡ i ∷ es.items = ap (λ (e : Held_items). e.items) popped in
       let same = subst (λ is. SameItems is s.items) was h.agrees.entries in
       goes_on_as p m h (record m { entries = es }) s.cells (below_top s.items) s.rest
-      (record { stack = refl; cells = h.agrees.cells; entries = below_same i es.items s.items same; requests = h.agrees.requests; natives = h.agrees.natives; rest = h.agrees.rest; room = deep_enough m.entries es _ h.agrees.entry_room popped })
+      (record { stack = refl; cells = h.agrees.cells; entries = below_same i es.items s.items same; requests = h.agrees.requests; natives = h.agrees.natives; services = h.agrees.services; rest = h.agrees.rest; room = deep_enough m.entries es _ h.agrees.entry_room popped })
       (λ f ms e top q.
       subst (λ k. Shows k (word_at (Run fr ∷ ts) q) (held s.cells q))
-      (value_alike (Runs_frame f ∷ ms) m.cells (i ∷ es.items) es.items m.root (λ d. owns_none i es.items d (operation_owns i es.items s.items same met.1.0)) q)
-      (subst (λ is. Shows (value_in (Runs_frame f ∷ ms) m.cells is m.root q) (word_at (Run fr ∷ ts) q) (held s.cells q)) was (top.values q))))
+      (value_alike (Runs_frame f ∷ ms) m.cells (i ∷ es.items) es.items (others m) (λ d. owns_none i es.items d (operation_owns i es.items s.items same met.1.0)) q)
+      (subst (λ is. Shows (value_in (Runs_frame f ∷ ms) m.cells is (others m) q) (word_at (Run fr ∷ ts) q) (held s.cells q)) was (top.values q))))
     where
       operation_owns : (i : Held_item) (is : List Held_item) (js : List Item) → SameItems (i ∷ is) js → tops_operation js ≡ true → owned_by i ≡ null
       operation_owns (Holds_operation k n) is js same e = refl

@@ -1,6 +1,6 @@
 -- Instructions on the words and the owning fields of what a method works on: of its cell, or of main's, the root.
 use Rattle.std.proofs.lemmas.Option.{none-some}
-use Rattle.std.proofs.Common.{inl, inr, ◌≡◌, ◌≢◌, ℕ, ℤ, ◌<◌, true, cond, length, List, ◌∷◌, Option, Some, None, refl, sym, ap, ◌∙◌, subst, arith}
+use Rattle.std.proofs.Common.{false, inl, inr, ◌≡◌, ◌≢◌, ℕ, ℤ, ◌<◌, true, cond, length, List, ◌∷◌, Option, Some, None, refl, sym, ap, ◌∙◌, subst, arith}
 use Rattle.std.specs.Prelude.{is_some, nat_lt}
 use Rattle.std.specs.Int.{w32, cast_signed}
 use Rattle.std.proofs.lemmas.Bool.{eq-eqb, false≢true, ltb-true, ne_eqb}
@@ -24,13 +24,16 @@ use Rattle.aom_frames.specs.declared.task.Task.{Task as Held_task}
 use Rattle.aom_frames.specs.declared.task.Task.TheVariants.{Run as Runs_frame}
 use Rattle.aom_parts.proofs.Asking.{requests_moved, requests_stored}
 use Rattle.aom_parts.specs.declared.parts.Parts.{Parts}
-use Rattle.aom_parts.specs.Places.{value_in, WritesWord, set_register}
+use Rattle.aom_parts.specs.Places.{others, value_in, WritesWord, set_register}
 use Rattle.aom_parts.specs.Agrees.{word_at, home_number, Shows, number, SameCells, Agrees}
 use Rattle.aom_acts.specs.Acts.{At_hand, Does}
 use Rattle.aom_parts.specs.Places as places
 use Rattle.aom_parts.specs.Fields.{this, ThisLives, field_here, PutsWord, PutsField, WritesField}
 use Rattle.aom_parts.proofs.Values.{kept, value_here, value_written, word_written, moves}
-use Rattle.aom_acts.proofs.Standing.{by_top, word_here, free, no_word, unnamed}
+use Rattle.aom_parts.proofs.Services.{services_moved, services_stored}
+use Rattle.aom_shape.specs.Kinds.{is_object}
+use Rattle.aom_sound.specs.Servers.{is_queue}
+use Rattle.aom_acts.proofs.Standing.{by_top, word_here, free, no_word, null_unnamed, object_there}
 use Rattle.aom_parts.proofs.CellFields.{field_written, root_written, word_put_elsewhere, cell_of, cells_put, cells_stored}
 use Rattle.aom_acts.proofs.WordActs.{word_read, word_put, plain_does}
 use Rattle.aom_acts.proofs.ObjectActs.{jumps_empty, passes_full}
@@ -56,14 +59,21 @@ module _ (p : Image) (m : Parts) (h : At_hand p m) where
   inside_number o from e = this_is ∙ ap home_number e
 
   pub inside_there : (o : Object) (from : Place) → h.frame.home ≡ Inside o from → this m ≢ null
-  inside_there o from e n = none-some _ (sym (sym (housed o from e) ∙ ap (named h.state.cells) (sym (inside_number o from e) ∙ n) ∙ unnamed p m h.state null h.agrees h.agrees.cells.null_is_none))
+  inside_there o from e n = none-some _ (sym (sym (housed o from e) ∙ ap (named h.state.cells) (sym (inside_number o from e) ∙ n) ∙ null_unnamed p m h.state h.agrees))
+
+  -- and it is no message
+  pub inside_small : (o : Object) (from : Place) → h.frame.home ≡ Inside o from → o.name < 4096
+  inside_small o from e = subst (λ n. n < 4096) (inside_number o from e) (by_top p m h (λ us. this_here us ≢ null → this_here us < 4096) (λ f ms top. top.frame.housed) (inside_there o from e))
+
+  pub inside_object : (o : Object) (from : Place) → h.frame.home ≡ Inside o from → is_object o.thing ≡ true
+  inside_object o from e = object_there p m h.state h.agrees o (housed o from e) (inside_small o from e)
 
   pub is_housed : ThisLives m
   is_housed there = go h.frame.home refl
     where
       go : (home : Home) → h.frame.home ≡ home → Lives m.cells (this m)
       go (Inside o from) e =
-          let c = cell_of p m.cells h.state.cells o.name o h.agrees.cells (housed o from e) in
+          let c = cell_of p m.cells h.state.cells o.name o h.agrees.cells (housed o from e) (inside_object o from e) in
           subst (Lives m.cells) (sym (inside_number o from e)) (ap is_some c.1)
       go _ e = absurd (there (this_is ∙ ap home_number e))
 
@@ -87,7 +97,7 @@ module _ (p : Image) (m : Parts) (h : At_hand p m) where
       go : (home : Home) → h.frame.home ≡ home → nat_lt w (word_count p (home_holder home)) ≡ true → cell_word m.cells (this m) w ≡ loaded h.state.cells home w
       go Static e has = no_words w has
       go AtRoot e has = no_words w has
-      go (Inside o from) e has = ap (λ n. cell_word m.cells n w) (inside_number o from e) ∙ h.agrees.cells.words o.name w
+      go (Inside o from) e has = ap (λ n. cell_word m.cells n w) (inside_number o from e) ∙ h.agrees.cells.words o.name w (inside_small o from e)
 
   held_stored : (home : Home) (w : ℕ) (v : ℤ) (r : Place) → held (stored h.state.cells home w v) r ≡ held h.state.cells r
   held_stored Static w v r = refl
@@ -100,7 +110,7 @@ module _ (p : Image) (m : Parts) (h : At_hand p m) where
       go : (home : Home) → h.frame.home ≡ home → nat_lt w (word_count p (home_holder home)) ≡ true → SameCells p heap (stored h.state.cells home w v)
       go Static e has = no_words w has
       go AtRoot e has = no_words w has
-      go (Inside o from) e has = cells_stored p m.cells heap h.state.cells o.name w v o h.agrees.cells (housed o from e) (subst (λ n. PutsWord n w v m.cells heap) (inside_number o from e) puts)
+      go (Inside o from) e has = cells_stored p m.cells heap h.state.cells o.name w v o h.agrees.cells (housed o from e) (inside_object o from e) (subst (λ n. PutsWord n w v m.cells heap) (inside_number o from e) puts)
 
   -- ---- owning fields
 
@@ -109,14 +119,19 @@ module _ (p : Image) (m : Parts) (h : At_hand p m) where
   no_word_there AtRoot f us = refl
   no_word_there (Inside o from) f us = refl
 
+  pub field_no_queue : (home : Home) (f : ℕ) → is_queue (field_place home f) ≡ false
+  field_no_queue Static f = refl
+  field_no_queue AtRoot f = refl
+  field_no_queue (Inside o from) f = refl
+
   -- a field's number is read from its place
   here_at_root : (f : ℕ) → this m ≡ null → m.root ≡ field_here f m
   here_at_root f n = ap (λ b. cond b m.root (field_at m.cells (this m) f)) (sym (eq-eqb (this m) null n))
 
-  pub field_read_here : (f : ℕ) (us : List Held_task) → is_some (field_thing p (home_holder h.frame.home) f) ≡ true → value_in us m.cells m.entries.items m.root (field_place h.frame.home f) ≡ field_here f m
+  pub field_read_here : (f : ℕ) (us : List Held_task) → is_some (field_thing p (home_holder h.frame.home) f) ≡ true → value_in us m.cells m.entries.items (others m) (field_place h.frame.home f) ≡ field_here f m
   field_read_here f us has = go h.frame.home refl has
     where
-      go : (home : Home) → h.frame.home ≡ home → is_some (field_thing p (home_holder home) f) ≡ true → value_in us m.cells m.entries.items m.root (field_place home f) ≡ field_here f m
+      go : (home : Home) → h.frame.home ≡ home → is_some (field_thing p (home_holder home) f) ≡ true → value_in us m.cells m.entries.items (others m) (field_place home f) ≡ field_here f m
       go Static e has = cc
       go AtRoot e has = here_at_root f (this_is ∙ ap home_number e)
       go (Inside o from) e has =
@@ -125,7 +140,7 @@ module _ (p : Image) (m : Parts) (h : At_hand p m) where
 
   -- and written in its place
   pub record Written (mid : Parts) (q : Place) (x : ℕ) : Type 0 where
-    pub values : (us : List Held_task) (r : Place) → value_in us mid.cells m.entries.items mid.root r ≡ changed (value_in us m.cells m.entries.items m.root) q x r
+    pub values : (us : List Held_task) (r : Place) → value_in us mid.cells m.entries.items (record (others m) { root = mid.root }) r ≡ changed (value_in us m.cells m.entries.items (others m)) q x r
     pub cells : SameCells p mid.cells h.state.cells
     pub rest : mid ≡ record m { cells = mid.cells; root = mid.root }
 
@@ -133,16 +148,15 @@ module _ (p : Image) (m : Parts) (h : At_hand p m) where
   field_written_here mid f x has writes = go h.frame.home refl has
     where
       at_root : mid ≡ record m { root = x } → Written mid (Elsewhere Root) x
-      at_root e = subst (λ k. Written k (Elsewhere Root) x) (sym e) (record { values = λ us r. root_written us m.cells m.entries.items m.root x r; cells = h.agrees.cells; rest = refl })
+      at_root e = subst (λ k. Written k (Elsewhere Root) x) (sym e) (record { values = λ us r. root_written us m.cells m.entries.items (others m) x r; cells = h.agrees.cells; rest = refl })
 
       in_cell : (o : Object) (from : Place) → h.frame.home ≡ Inside o from → PutsField (this m) f x m.cells mid.cells → mid ≡ record m { cells = mid.cells } → Written mid (Field o.name f) x
       in_cell o from e puts same =
           let at = subst (λ n. PutsField n f x m.cells mid.cells) (inside_number o from e) puts in
-          let root : mid.root ≡ m.root = ap (λ (k : Parts). k.root) same in
           record {
-            values = λ us r. ap (λ n. value_in us mid.cells m.entries.items n r) root ∙ field_written us m.cells mid.cells m.entries.items m.root o.name f x at r;
-            cells = cells_put p m.cells mid.cells h.state.cells o.name f x o h.agrees.cells (housed o from e) at;
-            rest = same ∙ ap (λ n. record m { cells = mid.cells; root = n }) (sym root);
+            values = λ us r. ap (λ (k : Parts). value_in us mid.cells m.entries.items (record (others m) { root = k.root }) r) same ∙ field_written us m.cells mid.cells m.entries.items (others m) o.name f x at r;
+            cells = cells_put p m.cells mid.cells h.state.cells o.name f x o h.agrees.cells (housed o from e) (inside_object o from e) at;
+            rest = same ∙ ap (λ n. record m { cells = mid.cells; root = n }) (sym (ap (λ (k : Parts). k.root) same));
           }
 
       go : (home : Home) → h.frame.home ≡ home → is_some (field_thing p (home_holder home) f) ≡ true → Written mid (field_place home f) x
@@ -154,7 +168,7 @@ module _ (p : Image) (m : Parts) (h : At_hand p m) where
   pub field_shown : (f : ℕ) → is_some (field_thing p (home_holder h.frame.home) f) ≡ true → field_here f m ≡ number (held h.state.cells (field_place h.frame.home f))
   field_shown f has =
       let q = field_place h.frame.home f in
-      sym (field_read_here f m.stack.tasks has) ∙ subst (λ w. Shows (value_in m.stack.tasks m.cells m.entries.items m.root q) w (held h.state.cells q)) (no_word_there h.frame.home f h.state.tasks) (h.agrees.values q)
+      sym (field_read_here f m.stack.tasks has) ∙ subst (λ w. Shows (value_in m.stack.tasks m.cells m.entries.items (others m) q) w (held h.state.cells q)) (no_word_there h.frame.home f h.state.tasks) (h.agrees.values q)
 
 -- ---- the instructions
 
@@ -173,10 +187,10 @@ store_does m refused w b heap puts =
     let cs = stored s.cells fr.home w v in
     let written = subst (λ v. PutsWord (this m) w v m.cells heap) (word_read p m h b met.1.0) puts in
     goes_on_as p m h (record m { cells = heap }) cs s.items s.rest
-    (record { stack = refl; cells = cells_after_store p m h heap w v met.0 written; entries = h.agrees.entries; requests = requests_stored p m.active s.cells fr.home w v h.agrees.requests; natives = natives_stored p m.sessions s.killed s.cells fr.home w v h.agrees.natives; rest = h.agrees.rest; room = h.agrees.entry_room })
+    (record { stack = refl; cells = cells_after_store p m h heap w v met.0 written; entries = h.agrees.entries; requests = requests_stored p m.active s.cells fr.home w v h.agrees.requests; natives = natives_stored p m.sessions s.killed s.cells fr.home w v h.agrees.natives; services = services_stored p s.cells fr.home w v (inside_small p m h) h.agrees.services; rest = h.agrees.rest; room = h.agrees.entry_room })
     (λ f ms e top q.
-    subst (λ n. Shows n (word_at (Run fr ∷ ts) q) (held cs q)) (sym (word_put_elsewhere (Runs_frame f ∷ ms) m.cells heap m.entries.items m.root (this m) w v written q))
-    (subst (λ o. Shows (value_in (Runs_frame f ∷ ms) m.cells m.entries.items m.root q) (word_at (Run fr ∷ ts) q) o) (sym (held_stored p m h fr.home w v q)) (top.values q))))
+    subst (λ n. Shows n (word_at (Run fr ∷ ts) q) (held cs q)) (sym (word_put_elsewhere (Runs_frame f ∷ ms) m.cells heap m.entries.items (others m) (this m) w v written q))
+    (subst (λ o. Shows (value_in (Runs_frame f ∷ ms) m.cells m.entries.items (others m) q) (word_at (Run fr ∷ ts) q) o) (sym (held_stored p m h fr.home w v q)) (top.values q))))
 
 pub take_does : (m mid : Parts) (refused : List ℕ) (a g n : ℕ) → a < 16 → n ≡ field_here g m → WritesField g null m mid → Does refused (Take a g) m (places.next (set_register a n mid))
 take_does m mid refused a g n small reads writes =
@@ -190,15 +204,15 @@ take_does m mid refused a g n small reads writes =
     let mid' = record m { cells = mid.cells; root = mid.root } in
     subst (λ k. Agrees p (places.next (set_register a n k)) (record s { cells = moved q here s.cells; tasks = Run (next (set_word fr a None)) ∷ ts })) (sym written.rest)
     (goes_on_with p m h mid' (moved q here s.cells) s.items s.rest (put_at None fr.words a None) (on_top (with_register a n)) (with_register a n) (λ f ms. refl)
-    (record { stack = refl; cells = cells_moved p mid.cells s.cells q here written.cells; entries = h.agrees.entries; requests = requests_moved p m.active s.cells q here h.agrees.requests; natives = natives_moved p m.sessions s.killed s.cells q here h.agrees.natives; rest = h.agrees.rest; room = h.agrees.entry_room })
+    (record { stack = refl; cells = cells_moved p mid.cells s.cells q here written.cells; entries = h.agrees.entries; requests = requests_moved p m.active s.cells q here h.agrees.requests; natives = natives_moved p m.sessions s.killed s.cells q here h.agrees.natives; services = services_moved p s.cells q here (field_no_queue p m h fr.home g) refl h.agrees.services; rest = h.agrees.rest; room = h.agrees.entry_room })
     (λ f ms e top.
     let wide = top.frame.wide in
-    let v = value_in (Runs_frame f ∷ ms) m.cells m.entries.items m.root in
+    let v = value_in (Runs_frame f ∷ ms) m.cells m.entries.items (others m) in
     record {
       frame = framed p m h f ms _ a n top;
       values = moves v _ _ _ (held s.cells) _ q here top.values (no_word_there p m h fr.home g (Run fr ∷ ts))
           (λ r.
-          value_written f ms mid.cells m.entries.items mid.root (length ts) a n f.place top.deep (omega arith) r
+          value_written f ms mid.cells m.entries.items (record (others m) { root = mid.root }) (length ts) a n f.place top.deep (omega arith) r
           ∙ ap (λ y. changed (λ z. y) here n r) (written.values (Runs_frame f ∷ ms) r)
           ∙ ap (λ y. changed (changed v q null) here y r) (reads ∙ sym (field_read_here p m h g (Runs_frame f ∷ ms) met.0)))
           (word_written fr ts a fr.place None)
@@ -221,17 +235,17 @@ put_does m mid refused g b x small reads writes =
     let mid' = record m { cells = mid.cells; root = mid.root } in
     subst (λ k. Agrees p (places.next (set_register b null k)) (record s { cells = moved here q s.cells; tasks = Run (next fr) ∷ ts })) (sym written.rest)
     (goes_on_with p m h mid' (moved here q s.cells) s.items s.rest fr.words (on_top (with_register b null)) (with_register b null) (λ f ms. refl)
-    (record { stack = refl; cells = cells_moved p mid.cells s.cells here q written.cells; entries = h.agrees.entries; requests = requests_moved p m.active s.cells here q h.agrees.requests; natives = natives_moved p m.sessions s.killed s.cells here q h.agrees.natives; rest = h.agrees.rest; room = h.agrees.entry_room })
+    (record { stack = refl; cells = cells_moved p mid.cells s.cells here q written.cells; entries = h.agrees.entries; requests = requests_moved p m.active s.cells here q h.agrees.requests; natives = natives_moved p m.sessions s.killed s.cells here q h.agrees.natives; services = services_moved p s.cells here q refl (field_no_queue p m h fr.home g) h.agrees.services; rest = h.agrees.rest; room = h.agrees.entry_room })
     (λ f ms e top.
     let wide = top.frame.wide in
-    let v = value_in (Runs_frame f ∷ ms) m.cells m.entries.items m.root in
+    let v = value_in (Runs_frame f ∷ ms) m.cells m.entries.items (others m) in
     record {
       frame = framed p m h f ms _ b null top;
       values = moves v _ _ _ (held s.cells) _ here q top.values (word_here fr ts b ∙ no_word _ met.0)
           (λ r.
           written.values (Runs_frame (with_register b null f) ∷ ms) r
-          ∙ ap (λ y. changed (λ z. y) q x r) (value_written f ms m.cells m.entries.items m.root (length ts) b null f.place top.deep (omega arith) r)
-          ∙ ap (λ y. changed (changed v here null) q y r) (reads ∙ ap (λ us. register_here us b) e ∙ sym (value_here f ms m.cells m.entries.items m.root (length ts) b top.deep)))
+          ∙ ap (λ y. changed (λ z. y) q x r) (value_written f ms m.cells m.entries.items (others m) (length ts) b null f.place top.deep (omega arith) r)
+          ∙ ap (λ y. changed (changed v here null) q y r) (reads ∙ ap (λ us. register_here us b) e ∙ sym (value_here f ms m.cells m.entries.items (others m) (length ts) b top.deep)))
           (λ r. kept (word_at (Run fr ∷ ts)) q r ∙ ap (λ y. changed (word_at (Run fr ∷ ts)) q y r) (no_word_there p m h fr.home g (Run fr ∷ ts)))
           (λ r. held_moved s.cells here q r (free _ met.1.1.0));
     })))

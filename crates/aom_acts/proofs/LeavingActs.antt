@@ -12,15 +12,15 @@ use Rattle.aom_sound.specs.Calls.{is_register_but, none_owns_but}
 use Rattle.aom_sound.specs.Cleanup.{above_trap_is_free, leave_needs, to_trap}
 use Rattle.aom_sound.specs.Places.{Place, Register, Going, Cell, held}
 use Rattle.aom_sound.specs.Effects.{Leaves, Same, applied, updates}
-use Rattle.aom_sound.specs.State.{Task, Run, Trapped, Destroy, Unwind, Dispatched, State, word, Frame}
+use Rattle.aom_sound.specs.State.{Closing, Task, Run, Trapped, Destroy, Unwind, Dispatched, State, word, Frame}
 use Rattle.aom_sound.specs.Words.{read}
 use Rattle.aom_frames.specs.Tasks.{Runs, register_here, to_trap as held_to_trap}
 use Rattle.aom_frames.specs.declared.task.Task.{Task as Held_task}
-use Rattle.aom_frames.specs.declared.task.Task.TheVariants.{Run as Runs_frame, Trapped as Is_trap, Destroy as Destroys, Unwind as Unwinds, Dispatched as Ends}
+use Rattle.aom_frames.specs.declared.task.Task.TheVariants.{Run as Runs_frame, Trapped as Is_trap, Destroy as Destroys, Closing as Closes, Unwind as Unwinds, Dispatched as Ends}
 use Rattle.aom_parts.specs.declared.parts.Parts.{Parts}
 use Rattle.aom_acts.specs.Acts.{At_hand, leaving, Does}
 use Rattle.aom_parts.specs.Places as places
-use Rattle.aom_parts.specs.Places.{value_in, register_in, going_in}
+use Rattle.aom_parts.specs.Places.{others, Others, value_in, register_in, going_in}
 use Rattle.aom_parts.specs.Agrees.{word_in, word_at, Shows, SameTasks, Agrees}
 use Rattle.aom_parts.proofs.Alike.{A_method, Tops, method_on_top, tops}
 use Rattle.aom_parts.proofs.Cells.{unowned}
@@ -29,10 +29,10 @@ use Rattle.aom_acts.proofs.WordActs.{plain_does, word_read, passes}
 use Rattle.aom_parts.proofs.Values.{at_depth, going_past, register_past, same_length, word_past}
 
 -- a leave is no place
-pub unwinds_value : (us : List Held_task) (h : Heap) (es : List Item) (root : ℕ) (code : ℤ) (r : Place) → value_in (Unwinds code ∷ us) h es root r ≡ value_in us h es root r
-unwinds_value us h es root code (Register d i) = at_depth (length us) d null (register_in us d i) (λ k. register_past us d i (omega arith))
-unwinds_value us h es root code (Going k) = at_depth (length us) k null (going_in us k) (λ e. going_past us k (omega arith))
-unwinds_value us h es root code _ = refl
+pub unwinds_value : (us : List Held_task) (h : Heap) (es : List Item) (rest : Others) (code : ℤ) (r : Place) → value_in (Unwinds code ∷ us) h es rest r ≡ value_in us h es rest r
+unwinds_value us h es rest code (Register d i) = at_depth (length us) d null (register_in us d i) (λ k. register_past us d i (omega arith))
+unwinds_value us h es rest code (Going k) = at_depth (length us) k null (going_in us k) (λ e. going_past us k (omega arith))
+unwinds_value us h es rest code _ = refl
 
 pub unwinds_word : (us : List Task) (code : ℤ) (r : Place) → word_at (Unwind code ∷ us) r ≡ word_at us r
 unwinds_word us code (Register d i) = at_depth (length us) d None (word_in us d i) (λ k. word_past us d i (omega arith))
@@ -57,36 +57,38 @@ to_trap_shorter us runs = go (tops A_method us runs)
     go (method_on_top f us) = let few = no_longer us in omega arith
 
 -- the tasks that stay, and what they hold
-pub record Stays (cs : List Cell) (heap : Heap) (es : List Item) (root : ℕ) (ms : List Held_task) (ts : List Task) : Type 0 where
+pub record Stays (cs : List Cell) (heap : Heap) (es : List Item) (rest : Others) (ms : List Held_task) (ts : List Task) : Type 0 where
   pub tasks : SameTasks ms ts
-  pub values : (r : Place) → Shows (value_in ms heap es root r) (word_at ts r) (held cs r)
+  pub values : (r : Place) → Shows (value_in ms heap es rest r) (word_at ts r) (held cs r)
 
-pub stays_to_trap : (cs : List Cell) (heap : Heap) (es : List Item) (root : ℕ) (ms : List Held_task) (ts : List Task) → above_trap_is_free cs ts ≡ true → Stays cs heap es root ms ts → Stays cs heap es root (held_to_trap ms) (to_trap ts)
-stays_to_trap cs heap es root [] [] free stays = stays
-stays_to_trap cs heap es root (Runs_frame f ∷ ms) (Run fr ∷ ts) free stays =
+pub stays_to_trap : (cs : List Cell) (heap : Heap) (es : List Item) (rest : Others) (ms : List Held_task) (ts : List Task) → above_trap_is_free cs ts ≡ true → Stays cs heap es rest ms ts → Stays cs heap es rest (held_to_trap ms) (to_trap ts)
+stays_to_trap cs heap es rest [] [] free stays = stays
+stays_to_trap cs heap es rest (Runs_frame f ∷ ms) (Run fr ∷ ts) free stays =
     let both = and_parts (none_owns_but cs (length ts) None) (above_trap_is_free cs ts) free in
-    stays_to_trap cs heap es root ms ts both.1 (record {
+    stays_to_trap cs heap es rest ms ts both.1 (record {
       tasks = stays.tasks.1;
-      values = λ r. subst (Shows (value_in ms heap es root r) (word_at ts r)) (cleared_none (length ts) (held cs) (λ i. none_owned cs (length ts) i both.0) r) (beneath f ms fr ts heap es root (held cs) (same_length ms ts stays.tasks.1) stays.values r);
+      values = λ r. subst (Shows (value_in ms heap es rest r) (word_at ts r)) (cleared_none (length ts) (held cs) (λ i. none_owned cs (length ts) i both.0) r) (beneath f ms fr ts heap es rest (held cs) (same_length ms ts stays.tasks.1) stays.values r);
     })
-stays_to_trap cs heap es root (Is_trap ∷ ms) (Trapped ∷ ts) free stays = stays
-stays_to_trap cs heap es root (Destroys x ∷ ms) (Destroy ∷ ts) free stays = stays
-stays_to_trap cs heap es root (Unwinds code ∷ ms) (Unwind c ∷ ts) free stays = stays
-stays_to_trap cs heap es root (Ends d ∷ ms) (Dispatched x ∷ ts) free stays = stays
-stays_to_trap cs heap es root _ _ free stays = absurd (assumption tt)
+stays_to_trap cs heap es rest (Is_trap ∷ ms) (Trapped ∷ ts) free stays = stays
+stays_to_trap cs heap es rest (Destroys x ∷ ms) (Destroy ∷ ts) free stays = stays
+stays_to_trap cs heap es rest (Closes ∷ ms) (Closing ∷ ts) free stays = stays
+stays_to_trap cs heap es rest (Unwinds code ∷ ms) (Unwind c ∷ ts) free stays = stays
+stays_to_trap cs heap es rest (Ends d ∷ ms) (Dispatched x ∷ ts) free stays = stays
+stays_to_trap cs heap es rest _ _ free stays = absurd (assumption tt)
 
 -- the machine leaves
 pub leaves : (p : Image) (m : Parts) (s : State) (code : ℤ) → Agrees p m s → above_trap_is_free s.cells s.tasks ≡ true → Agrees p (leaving code m) (record s { tasks = Unwind code ∷ to_trap s.tasks })
 leaves p m s code agrees free =
-    let stays = stays_to_trap s.cells m.cells m.entries.items m.root m.stack.tasks s.tasks free (record { tasks = agrees.tasks; values = agrees.values }) in
+    let stays = stays_to_trap s.cells m.cells m.entries.items (others m) m.stack.tasks s.tasks free (record { tasks = agrees.tasks; values = agrees.values }) in
     record {
       tasks = (refl, stays.tasks);
-      values = λ r. subst (λ n. Shows n (word_at (Unwind code ∷ to_trap s.tasks) r) (held s.cells r)) (sym (unwinds_value (held_to_trap m.stack.tasks) m.cells m.entries.items m.root code r))
-          (subst (λ w. Shows (value_in (held_to_trap m.stack.tasks) m.cells m.entries.items m.root r) w (held s.cells r)) (sym (unwinds_word (to_trap s.tasks) code r)) (stays.values r));
+      values = λ r. subst (λ n. Shows n (word_at (Unwind code ∷ to_trap s.tasks) r) (held s.cells r)) (sym (unwinds_value (held_to_trap m.stack.tasks) m.cells m.entries.items (others m) code r))
+          (subst (λ w. Shows (value_in (held_to_trap m.stack.tasks) m.cells m.entries.items (others m) r) w (held s.cells r)) (sym (unwinds_word (to_trap s.tasks) code r)) (stays.values r));
       cells = agrees.cells;
       entries = agrees.entries;
       requests = agrees.requests;
       natives = agrees.natives;
+      services = agrees.services;
       rest = agrees.rest;
       room = agrees.room;
       entry_room = agrees.entry_room;

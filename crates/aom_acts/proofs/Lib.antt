@@ -7,10 +7,13 @@ pub mod ObjectActs
 pub mod MoveActs
 pub mod FieldActs
 pub mod RequestActs
+pub mod EnlistActs
 pub mod NativeActs
 pub mod CallActs
 pub mod CancelEnds
+pub mod ServeActs
 pub mod ReturnActs
+pub mod GoneActs
 pub mod GoingActs
 pub mod Stepping
 pub mod Housing
@@ -19,7 +22,10 @@ pub mod RoomMoves
 pub mod Counts
 pub mod Rooms
 pub mod Ends
+pub mod StageEnds
 pub mod Finding
+pub mod Firsts
+pub mod LetGo
 pub mod EnterActs
 pub mod Traps
 pub mod LeavingActs
@@ -27,3 +33,6 @@ pub mod EntryActs
 pub mod DealActs
 pub mod Topping
 pub mod UnwindActs
+mod Vanishing
+pub mod Owned
+pub mod MessageActs

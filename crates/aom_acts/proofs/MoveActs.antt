@@ -9,7 +9,7 @@ use Rattle.aom_frames.specs.Tasks.{on_top, with_register, register_here}
 use Rattle.aom_frames.specs.declared.task.Task.TheVariants.{Run as Runs_frame}
 use Rattle.aom_parts.proofs.Asking.{requests_moved}
 use Rattle.aom_parts.specs.declared.parts.Parts.{Parts}
-use Rattle.aom_parts.specs.Places.{value_in, set_register}
+use Rattle.aom_parts.specs.Places.{others, value_in, set_register}
 use Rattle.aom_acts.specs.Acts.{Does}
 use Rattle.aom_parts.specs.Places as places
 use Rattle.aom_parts.proofs.Values.{value_here, value_written, word_written, moves}
@@ -17,6 +17,7 @@ use Rattle.aom_acts.proofs.Standing.{word_here, free, no_word, reframed}
 use Rattle.aom_acts.proofs.WordActs.{plain_does}
 use Rattle.aom_acts.proofs.GoingOn.{goes_on_with}
 use Rattle.aom_parts.proofs.Cells.{cells_moved}
+use Rattle.aom_parts.proofs.Services.{services_moved}
 use Rattle.aom_shape.specs.Tables.{put_at}
 use Rattle.aom_parts.proofs.Sessions.{natives_moved}
 
@@ -30,7 +31,7 @@ module _ (m : Parts) (refused : List ℕ) where
       let to = Register (length ts) a in
       goes_on_with p m h m (moved from to s.cells) s.items s.rest (put_at None h.frame.words a None) (λ us. on_top (with_register a x) (on_top (with_register b null) us))
       (λ f. with_register a x (with_register b null f)) (λ f ms. refl)
-      (record { stack = refl; cells = cells_moved p m.cells s.cells from to h.agrees.cells; entries = h.agrees.entries; requests = requests_moved p m.active s.cells from to h.agrees.requests; natives = natives_moved p m.sessions s.killed s.cells from to h.agrees.natives; rest = h.agrees.rest; room = h.agrees.entry_room })
+      (record { stack = refl; cells = cells_moved p m.cells s.cells from to h.agrees.cells; entries = h.agrees.entries; requests = requests_moved p m.active s.cells from to h.agrees.requests; natives = natives_moved p m.sessions s.killed s.cells from to h.agrees.natives; services = services_moved p s.cells from to refl refl h.agrees.services; rest = h.agrees.rest; room = h.agrees.entry_room })
       (λ f ms e top.
       let wide = top.frame.wide in
       let left = with_register b null f in
@@ -39,10 +40,10 @@ module _ (m : Parts) (refused : List ℕ) where
         frame = reframed f h.frame (slice_set left.registers a x) _ f.place h.frame.place top.frame (length-set left.registers a x ∙ still) top.frame.place;
         values = moves _ _ _ _ (held s.cells) _ from to top.values (word_here h.frame ts b ∙ no_word _ met.0)
             (λ r.
-            value_written left ms m.cells m.entries.items m.root (length ts) a x f.place top.deep (omega arith) r
-            ∙ ap (λ y. changed (λ q. y) to x r) (value_written f ms m.cells m.entries.items m.root (length ts) b null f.place top.deep (omega arith) r)
-            ∙ ap (λ y. changed (changed (value_in (Runs_frame f ∷ ms) m.cells m.entries.items m.root) from null) to y r)
-            (ap (λ us. register_here us b) e ∙ sym (value_here f ms m.cells m.entries.items m.root (length ts) b top.deep)))
+            value_written left ms m.cells m.entries.items (others m) (length ts) a x f.place top.deep (omega arith) r
+            ∙ ap (λ y. changed (λ q. y) to x r) (value_written f ms m.cells m.entries.items (others m) (length ts) b null f.place top.deep (omega arith) r)
+            ∙ ap (λ y. changed (changed (value_in (Runs_frame f ∷ ms) m.cells m.entries.items (others m)) from null) to y r)
+            (ap (λ us. register_here us b) e ∙ sym (value_here f ms m.cells m.entries.items (others m) (length ts) b top.deep)))
             (word_written h.frame ts a h.frame.place None)
             (λ r. held_moved s.cells from to r (free _ met.1.0));
       }))

@@ -21,14 +21,17 @@ use Rattle.aom_frames.specs.Tasks.{on_top, with_register}
 use Rattle.aom_frames.specs.declared.task.Task.TheVariants.{Run as Runs_frame}
 use Rattle.aom_parts.specs.declared.parts.Parts.{Parts}
 use Rattle.aom_acts.specs.Acts.{At_hand, Does, DoesIn}
-use Rattle.aom_parts.specs.Places.{WritesWord, value_in}
+use Rattle.aom_parts.specs.Places.{others, WritesWord, value_in}
 use Rattle.aom_parts.specs.Places as places
 use Rattle.aom_parts.specs.Agrees.{Agrees, SameNatives, Shows, word_at}
 use Rattle.aom_parts.specs.Fields.{this}
 use Rattle.aom_acts.specs.Next.{IsNext, counting}
 use Rattle.aom_parts.specs.Stands.{Stands}
 use Rattle.aom_acts.specs.Requests.{kind_here, provider_of}
-use Rattle.aom_parts.proofs.Asking.{requests_as}
+use Rattle.aom_parts.proofs.Asking.{requests_alike}
+use Rattle.aom_parts.proofs.Services.{services_resessioned}
+use Rattle.aom_parts.proofs.Still.{still_opened}
+use Rattle.aom_sound.specs.Places.{Service}
 use Rattle.aom_acts.proofs.GoingOn.{Beside, goes_on_as, goes_on_with, still_none, written}
 use Rattle.aom_acts.proofs.Housing.{needs_met}
 use Rattle.aom_acts.proofs.RequestActs.{OnObject, finds_cell, finds_object, heard_told, kind_told, on_object}
@@ -90,10 +93,12 @@ module _ (p : Image) (m : Parts) (h : At_hand p m) (on : OnObject p m h) (w : St
     stack = refl;
     cells = cells_resessioned p m.cells h.state.cells h.frame.home b h.agrees.cells;
     entries = h.agrees.entries;
-    requests = requests_as p m.active h.state.cells (resessioned h.state.cells h.frame.home b) (λ n. sym (resessioned_requests h.state.cells h.frame.home b n)) h.agrees.requests;
+    requests = requests_alike p m.active h.state.cells (resessioned h.state.cells h.frame.home b) (λ n. resessioned_requests h.state.cells h.frame.home b n) (λ n. (resessioned_alike h.state.cells h.frame.home b).named_so n)
+        (λ n. ap (λ (v : Service). v.queue) ((still_opened h.state.cells h.frame.home b).services n)) h.agrees.requests;
     natives =
         subst (λ home. SameNatives p w (resessioned h.state.cells home b) h.state.killed) (sym on.home)
         (natives_set p m.sessions w h.state.killed h.state.cells on.object b on.lives (subst (λ k. Sets m.sessions w k b) on.number set) h.agrees.natives);
+    services = services_resessioned p h.state.cells h.frame.home b h.agrees.services;
     rest = h.agrees.rest;
     room = h.agrees.entry_room;
   }
@@ -111,7 +116,7 @@ module _ (p : Image) (m : Parts) (h : At_hand p m) (on : OnObject p m h) (w : St
   session_passes : Agrees p (places.next (record m { sessions = w })) (applied p h.frame h.below h.state (updates h.frame (Sessioned b)))
   session_passes =
       goes_on_as p m h (record m { sessions = w }) (resessioned h.state.cells h.frame.home b) h.state.items h.state.rest beside
-      (λ f ms e top q. subst (λ o. Shows (value_in (Runs_frame f ∷ ms) m.cells m.entries.items m.root q) (word_at (Run h.frame ∷ h.below) q) o) (sym ((resessioned_alike h.state.cells h.frame.home b).held_so q)) (top.values q))
+      (λ f ms e top q. subst (λ o. Shows (value_in (Runs_frame f ∷ ms) m.cells m.entries.items (others m) q) (word_at (Run h.frame ∷ h.below) q) o) (sym ((resessioned_alike h.state.cells h.frame.home b).held_so q)) (top.values q))
 
 module _ (p : Image) (m new : Parts) (refused : List ℕ) (n : ℕ) (serves : native_of (kind_here p m) ≡ Some n) where
   pub connect_does : (a : ℕ) (w : Standing) → Sets m.sessions w (this m) (opens (is_killed m.sessions n) (is_open m.sessions (this m)) m.heard)

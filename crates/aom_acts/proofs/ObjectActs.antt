@@ -23,13 +23,14 @@ use Rattle.aom_frames.specs.declared.task.Task.{Task as Held_task}
 use Rattle.aom_frames.specs.declared.task.Task.TheVariants.{Run as Runs_frame}
 use Rattle.aom_parts.proofs.Asking.{requests_made}
 use Rattle.aom_parts.specs.declared.parts.Parts.{Parts}
-use Rattle.aom_parts.specs.Places.{value_in, set_register}
+use Rattle.aom_parts.specs.Places.{Others, others, value_in, set_register}
 use Rattle.aom_parts.specs.Agrees.{Shows, number, SameCells, thing_in, thing_of, Agrees}
 use Rattle.aom_acts.specs.Acts.{At_hand, requested, Does, DoesIn}
 use Rattle.aom_parts.specs.Cells.{refuses, refuses_entry, Made}
 use Rattle.aom_parts.specs.Places as places
 use Rattle.aom_parts.proofs.Values.{cases}
-use Rattle.aom_acts.proofs.Standing.{Top, by_top, register_shows, free, no_word, unnamed, nothing_held, some_held}
+use Rattle.aom_parts.proofs.Services.{services_made}
+use Rattle.aom_acts.proofs.Standing.{Top, by_top, register_shows, free, no_word, null_unnamed, unnamed, nothing_held, some_held}
 use Rattle.aom_parts.proofs.CellWords.{all_same, zeros_at}
 use Rattle.aom_acts.proofs.GoingOn.{goes_on_with, still_none, written}
 use Rattle.aom_acts.proofs.WordActs.{jumps, passes, plain_does, plain_at}
@@ -72,7 +73,7 @@ module _ (m : Parts) (refused : List ℕ) where
       let s = h.state in
       let mid = record m { rest = r } in
       goes_on_with p m h mid s.cells s.items r' (put_at None h.frame.words a None) (on_top (with_register a null)) (with_register a null) (λ f ms. refl)
-      (record { stack = refl; cells = h.agrees.cells; entries = h.agrees.entries; requests = h.agrees.requests; natives = h.agrees.natives; rest = rest; room = h.agrees.entry_room })
+      (record { stack = refl; cells = h.agrees.cells; entries = h.agrees.entries; requests = h.agrees.requests; natives = h.agrees.natives; services = h.agrees.services; rest = rest; room = h.agrees.entry_room })
       (λ f ms e top. written p m h mid s.cells a null None None small refl f ms top (λ q. refl) (still_none p m h a none))
 
   pub delete_null_does : (p : Image) (a : ℕ) → a < 16 → register_here m.stack.tasks a ≡ null → DoesIn p refused (Delete a) m (places.next (set_register a null m))
@@ -83,13 +84,13 @@ module _ (m : Parts) (refused : List ℕ) where
       (nulled p h a m.rest _ small h.agrees.rest none))
 
 -- the fields of a new cell are null, and so are those of one that is not there
-values_kept : (ms : List Held_task) (h h' : Heap) (es : List Item) (root n class : ℕ) → cell_at h n ≡ None → Changes h h' n (Some (blank class)) → (r : Place) → value_in ms h' es root r ≡ value_in ms h es root r
-values_kept ms h h' es root n class none ch (Field k g) = cases (n == k)
+values_kept : (ms : List Held_task) (h h' : Heap) (es : List Item) (rest : Others) (n class : ℕ) → cell_at h n ≡ None → Changes h h' n (Some (blank class)) → (r : Place) → value_in ms h' es rest r ≡ value_in ms h es rest r
+values_kept ms h h' es rest n class none ch (Field k g) = cases (n == k)
     (λ e.
     let same = eqb-true n k e in
     ap (λ i. field_of (cell_at h' i) g) (sym same) ∙ ap (λ o. field_of o g) ch.here ∙ all_same 8 g null ∙ ap (λ o. field_of o g) (sym none) ∙ ap (λ i. field_of (cell_at h i) g) same)
     (λ e. ap (λ o. field_of o g) (ch.others k (λ d. false≢true (sym e ∙ eq-eqb n k (sym d)))))
-values_kept ms h h' es root n class none ch _ = refl
+values_kept ms h h' es rest n class none ch _ = refl
 
 -- the words of a new object
 abbrev zeros : Image → ℕ → List ℤ
@@ -101,9 +102,9 @@ cells_made p h h' cs n class ws q same zeros small none some ch more within = re
   things = λ k. cases (n == k)
       (λ e. ap (λ i. thing_in (cell_at h' i)) (sym (eqb-true n k e)) ∙ ap thing_in ch.here ∙ ap (λ b. thing_of (cond b (Some (record { name = n; thing = An_object_of class })) (named cs k))) (sym e))
       (λ e. ap thing_in (other k e) ∙ same.things k ∙ ap (λ b. thing_of (cond b (Some (record { name = n; thing = An_object_of class })) (named cs k))) (sym e));
-  words = λ k w. cases (n == k)
+  words = λ k w below. cases (n == k)
       (λ e. ap (λ i. word_of (cell_at h' i) w) (sym (eqb-true n k e)) ∙ ap (λ c. word_of c w) ch.here ∙ all_same 8 w (pos 0) ∙ sym (zeros w) ∙ ap (λ b. cond b (at (pos 0) ws w) (word_field cs k w)) (sym e))
-      (λ e. ap (λ c. word_of c w) (other k e) ∙ same.words k w ∙ ap (λ b. cond b (at (pos 0) ws w) (word_field cs k w)) (sym e));
+      (λ e. ap (λ c. word_of c w) (other k e) ∙ same.words k w below ∙ ap (λ b. cond b (at (pos 0) ws w) (word_field cs k w)) (sym e));
   count = (let c = same.count in omega arith);
   limit = ch.limit ∙ same.limit;
   wide = λ k c is. cases (n == k)
@@ -152,6 +153,10 @@ module _ (p : Image) (turn : Turn) (m : Parts) (h : At_hand p m) (i : Instr) (he
       alone true = refl
       alone false = refl
 
+-- a new cell's number is below those of messages
+pub new_small : (p : Image) (m : Parts) (h : At_hand p m) (heap : Heap) (n class : ℕ) → Changes m.cells heap n (Some (blank class)) → n < heap.limit → n < 4096
+new_small p m h heap n class ch within = let few = h.formed.header.cells in omega (arith, within, ch.limit, h.agrees.cells.limit, few)
+
 module _ (m : Parts) (turn : Turn) where
   -- the machine whose request is counted, with these cells
   abbrev pub asked : Heap → Parts
@@ -160,7 +165,7 @@ module _ (m : Parts) (turn : Turn) where
   refused_does : (a class : ℕ) → a < 16 → true ≡ refuses turn m → Does turn.refused (New a class) m (places.next (set_register a null (asked m.cells)))
   refused_does a class small full p h here = (
     record { name = null; refused = true; answer = m.heard },
-    record { name = unnamed p m h.state null h.agrees h.agrees.cells.null_is_none; refusal = full ∙ same_refusal p turn m h (New a class) here refl },
+    record { name = null_unnamed p m h.state h.agrees; refusal = full ∙ same_refusal p turn m h (New a class) here refl },
     refl,
     λ needs typed. nulled m turn.refused p h a _ _ small (ap (λ (r : Rest). record r { requests = raised r.requests }) h.agrees.rest) (free _ needs.0),
   )
@@ -173,18 +178,21 @@ module _ (m : Parts) (turn : Turn) where
       let s = h.state in
       let here = Register (length h.below) a in
       let cs = with_new n (An_object_of class) (zeros p class) here s.cells in
+      let below = new_small p m h heap n class ch within in
+      let fresh = unnamed p m s n h.agrees below none in
       goes_on_with p m h (asked heap) cs s.items r (put_at None h.frame.words a None) (on_top (with_register a n)) (with_register a n) (λ f ms. refl)
       (record {
         stack = refl;
         cells = cells_made p m.cells heap s.cells n class (zeros p class) here h.agrees.cells (zeros_at (words_of p class)) fits none some ch more within;
         entries = h.agrees.entries;
-        requests = requests_made p m.active s.cells n (An_object_of class) (zeros p class) here (unnamed p m s n h.agrees none) h.agrees.requests;
-        natives = natives_made p m.sessions s.killed s.cells n (An_object_of class) (zeros p class) here (unnamed p m s n h.agrees none) h.agrees.natives;
+        requests = requests_made p m.active s.cells n (An_object_of class) (zeros p class) here fresh h.agrees.requests;
+        natives = natives_made p m.sessions s.killed s.cells n (An_object_of class) (zeros p class) here fresh h.agrees.natives;
+        services = services_made p s.cells n class (zeros p class) here fresh below h.agrees.services;
         rest = rest;
         room = h.agrees.entry_room;
       })
       (λ f ms e top. written p m h (asked heap) cs a n None (Some (record { name = n; thing = An_object_of class })) small refl f ms top
-      (values_kept (Runs_frame f ∷ ms) m.cells heap m.entries.items m.root n class none ch) (λ q. refl))
+      (values_kept (Runs_frame f ∷ ms) m.cells heap m.entries.items (others m) n class none ch) (λ q. refl))
 
   pub asks_one : (r : Rest) → m.rest ≡ r → record m.rest { requests = raised m.rest.requests } ≡ record r { requests = raised r.requests }
   asks_one r e = ap (λ (q : Rest). record q { requests = raised q.requests }) e
@@ -193,7 +201,7 @@ module _ (m : Parts) (turn : Turn) where
       → Does turn.refused (New a class) m (places.next (set_register a n (asked heap)))
   made_does a class n heap small granted fits none some ch more within p h here = (
     record { name = n; refused = false; answer = m.heard },
-    record { name = unnamed p m h.state n h.agrees none; refusal = granted ∙ same_refusal p turn m h (New a class) here refl },
+    record { name = unnamed p m h.state n h.agrees (new_small p m h heap n class ch within) none; refusal = granted ∙ same_refusal p turn m h (New a class) here refl },
     refl,
     λ needs typed. made_agrees p h a class n heap _ small (asks_one h.state.rest h.agrees.rest) needs.0 fits none some ch more within,
   )

@@ -1,6 +1,6 @@
 -- Instructions on the request of what a method works on: the machine's table stands for the requests that the checked machine then has.
-use Rattle.std.proofs.Common.{◌≡◌, ◌==◌, ℕ, ℤ, Bool, true, false, cond, length, List, ◌∷◌, Option, Some, None, IsSome, refl, sym, ap, ◌∙◌, subst}
-use Rattle.std.specs.Prelude.{is_some}
+use Rattle.std.proofs.Common.{◌≡◌, ◌≢◌, ◌<◌, ◌==◌, ℕ, ℤ, Bool, true, false, cond, length, List, ◌∷◌, Option, Some, None, IsSome, refl, sym, ap, ◌∙◌, subst}
+use Rattle.std.specs.Prelude.{is_some, option_map}
 use Rattle.std.specs.Int.{w32, cast_signed}
 use Rattle.std.specs.List.{list_any}
 use Rattle.std.proofs.lemmas.Bool.{false≢true}
@@ -20,9 +20,9 @@ use Rattle.aom_instructions.specs.declared.instr.Instr.TheVariants.{Abort, Cance
 use Rattle.aom_sessions.specs.Sessions.{is_killed, is_open}
 use Rattle.aom_sound.specs.Natives.{has_died, is_served_by_dead, native_of, own_session, started}
 use Rattle.aom_classes.specs.Roles.{role_of}
-use Rattle.aom_cells.specs.Heap.{Heap, Lives, cell_at, class_at, class_of}
+use Rattle.aom_cells.specs.Heap.{null, Heap, Lives, cell_at, class_at, class_of}
 use Rattle.aom_cells.specs.declared.cell.Cell.{Cell as Held_cell}
-use Rattle.aom_roles.specs.Classes.{kind_in}
+use Rattle.aom_roles.specs.Classes.{kind_in, sessions_in, sessions_of}
 use Rattle.aom_roles.specs.Shapes.{kind_of}
 use Rattle.aom_rules.specs.Requests.{is_active_kind, is_listed_kind}
 use Rattle.aom_shape.specs.Needs.{AllTrue}
@@ -31,37 +31,43 @@ use Rattle.aom_requests.specs.Requests as table
 use Rattle.aom_requests.specs.declared.request.State.TheVariants.{Active as Held_active}
 use Rattle.aom_requests.specs.declared.request.Request.{Request as Held_request}
 use Rattle.aom_requests.specs.declared.request.Request.TheVariants.{Object as Held_object}
-use Rattle.aom_active.specs.Agrees.{Active, StandsFor}
+use Rattle.aom_active.specs.Agrees.{Active, StandsFor, queue_in, queued}
 use Rattle.aom_active.specs.Meanings.{Enlists, Makes, Times, asked_anew, begun_with, is_being_cancelled, is_busy, is_waited_for}
-use Rattle.aom_active.proofs.Asking.{asked_set, newest, newest_timer}
+use Rattle.aom_active.proofs.Asking.{asked_set, newest, newest_timer, queued_same}
 use Rattle.aom_active.proofs.Telling.{held_state, standing_follows, told_active, told_busy, told_cancelling, told_enlisted, told_fresh, told_state, told_status}
 use Rattle.aom_sound.specs.Effects.{applied, cancels_if, jumps_if, updates, Cancels, Requested, writes as writes_word, asking_with, heard}
 use Rattle.aom_sound.specs.Enlisted as enlisted
 use Rattle.aom_sound.specs.Enlisted.{aborted, begun_cells, cancel_method, cancel_of, cancelling, due_after, first_request, home_kind, in_phase, is_cancelling, is_idle, is_issued, issued_by, issued_of, next_order, next_timer, on_request, own_request, rerequested, status_of, thing_kind, waits, Asking, completed_at_once}
-use Rattle.aom_sound.specs.Places.{Cell, Idle, Issued, Object, Phase, Place, Request, held, in_session, named, requested, set_request}
+use Rattle.aom_sound.specs.Places.{Register, Service, service_of, Cell, Idle, Issued, Object, Phase, Place, Request, held, in_session, named, requested, set_request}
 use Rattle.aom_sound.specs.State.{AtRoot, Choice, Frame, Home, Inside, Rest, Run, State, Static, Task, frame_of}
 use Rattle.aom_sound.specs.Moves.{needs}
 use Rattle.aom_sound.specs.Words.{read, word_or_zero}
 use Rattle.aom_sound.proofs.Requesting.{active_listed}
 use Rattle.aom_sound.proofs.Storing.{rerequested_alike}
-use Rattle.aom_frames.specs.Tasks.{fresh, register_here}
+use Rattle.aom_sound.proofs.Services.{service_asked}
+use Rattle.aom_sound.specs.Servers.{has_more}
+use Rattle.aom_queues.specs.Lists.{Table}
+use Rattle.aom_parts.proofs.Services.{services_rerequested}
+use Rattle.aom_parts.specs.Services.{SameServices}
+use Rattle.aom_frames.specs.Tasks.{fresh, register_here, this_here}
 use Rattle.aom_frames.specs.declared.task.Task.TheVariants.{Run as Runs_frame}
 use Rattle.aom_parts.specs.declared.parts.Parts.{Parts}
 use Rattle.aom_acts.specs.Acts.{At_hand, Does, DoesIn}
-use Rattle.aom_parts.specs.Places.{WritesWord, value_in, with_tasks}
+use Rattle.aom_parts.specs.Places.{others, WritesWord, value_in, with_tasks}
 use Rattle.aom_parts.specs.Places as places
 use Rattle.aom_acts.specs.Acts as acts
-use Rattle.aom_parts.specs.Agrees.{Agrees, SameCells, SameRequests, Shows, home_number, thing_in, thing_of, word_at}
+use Rattle.aom_parts.specs.Agrees.{Agrees, SameCells, SameRequests, Shows, home_number, thing_in, word_at}
 use Rattle.aom_parts.specs.Fields.{this}
 use Rattle.aom_acts.specs.Next.{IsNext, counting}
 use Rattle.aom_parts.specs.Stands.{Stands}
 use Rattle.aom_acts.specs.Requests.{Issues, kind_here, provider_of}
 use Rattle.aom_parts.proofs.CellFields.{cell_of}
-use Rattle.aom_acts.proofs.FieldActs.{housed, inside_number}
+use Rattle.aom_acts.proofs.FieldActs.{housed, inside_number, inside_object}
+use Rattle.aom_shape.specs.Kinds.{is_object}
 use Rattle.aom_acts.proofs.GoingActs.{fresh_value, fresh_word, thing_is}
 use Rattle.aom_acts.proofs.GoingOn.{goes_on_as}
 use Rattle.aom_acts.proofs.Housing.{at_hand, needs_met}
-use Rattle.aom_acts.proofs.Standing.{begun_frame, by_top, free}
+use Rattle.aom_acts.proofs.Standing.{begun_frame, by_top, free, object_class}
 use Rattle.aom_acts.proofs.Stepping.{at_step}
 use Rattle.aom_acts.proofs.WordActs.{heard_at, jumps, passes, plain_at, plain_does, word_put, word_read}
 use Rattle.aom_parts.proofs.Asking.{cells_asked}
@@ -75,9 +81,10 @@ cells_rerequested p h cs AtRoot r same = same
 cells_rerequested p h cs (Inside o from) r same = cells_asked p h cs o.name r same
 
 -- the table that has that request under its name stands for them
-pub requests_set : (p : Image) (old new : Active) (cs : List Cell) (o : Object) (r : Option Request) → named cs o.name ≡ Some o → new.table.limit ≡ old.table.limit → StandsFor new (asked_anew o.name r (requested cs)) → SameRequests p old cs → SameRequests p new (set_request o.name r cs)
+pub requests_set : (p : Image) (old new : Active) (cs : List Cell) (o : Object) (r : Option Request) → named cs o.name ≡ Some o → new.table.limit ≡ old.table.limit → StandsFor new (asked_anew o.name r (requested cs)) (queued p cs) → SameRequests p old cs → SameRequests p new (set_request o.name r cs)
 requests_set p old new cs o r lives limit stands same = record {
-  stands = standing_follows new (asked_anew o.name r (requested cs)) (requested (set_request o.name r cs)) (asked_set cs o.name r (ap is_some lives)) stands;
+  stands = standing_follows new (asked_anew o.name r (requested cs)) (requested (set_request o.name r cs)) (queued p cs) (queued p (set_request o.name r cs)) (asked_set cs o.name r (ap is_some lives))
+      (λ n there. sym (queued_same p cs (set_request o.name r cs) (λ k. (rerequested_alike cs (Inside o (Register 0 0)) r).named_so k) (λ k. ap (λ (v : Service). v.queue) (service_asked cs o.name r k)) n)) stands;
   limit = limit ∙ same.limit;
 }
 
@@ -100,7 +107,23 @@ pub waits_active : (h : Option Held_request) → is_waited_for h ≡ true → st
 waits_active (Some (Held_object Held_active status)) e = refl
 waits_active _ e = cc
 
+-- a change that keeps the order of a request
+order_kept : (f : Request → Request) → ((r : Request) → (f r).order ≡ r.order) → (o : Option Request) → option_map (λ x. x.order) (on_request f o) ≡ option_map (λ x. x.order) o
+order_kept f same None = refl
+order_kept f same (Some r) = ap (λ n. Some n) (same r)
+
+issued_order : (q : Provider) (asking : Asking) (w : ℤ) (r : Request) → (issued_by q asking w r).order ≡ r.order
+issued_order Own asking w r = refl
+issued_order A_timer asking w r = refl
+issued_order (Native n) asking w r = refl
+
 -- ---- what a class of active objects makes its requests of
+
+-- an active object is no server
+unserving : (k k' : Option ClassKind) → k ≡ k' → is_active_kind k' ≡ true → is_some (sessions_in k) ≡ false
+unfolding sessions_in sessions_of
+unserving k (Some (An_active q budget)) e active = ap (λ k. is_some (sessions_in k)) e
+unserving k _ e active = absurd (false≢true active)
 
 -- the provider of a kind, and how a request is made of it
 provided : (k : Option ClassKind) (q : Provider) → provider_of k ≡ Some q → (budget : ℕ) × (k ≡ Some (An_active q budget))
@@ -148,6 +171,7 @@ pub record OnObject (p : Image) (m : Parts) (h : At_hand p m) : Type 0 where
   pub home : h.frame.home ≡ Inside object from
   pub lives : named h.state.cells object.name ≡ Some object
   pub number : this m ≡ object.name
+  pub cell : is_object object.thing ≡ true
 
 -- the machine's cell is of the same kind
 pub kind_same : (p : Image) (c : Option Held_cell) (t : Thing) → thing_in c ≡ Some t → thing_kind p t ≡ kind_of p (class_of c)
@@ -160,68 +184,79 @@ module _ (p : Image) (m : Parts) (h : At_hand p m) where
       go : (home : Home) → h.frame.home ≡ home → is_listed_kind (home_kind p home) ≡ true → OnObject p m h
       go Static e listed = absurd (false≢true listed)
       go AtRoot e listed = absurd (false≢true listed)
-      go (Inside o from) e listed = record { object = o; from = from; home = e; lives = housed p m h o from e; number = inside_number p m h o from e }
+      go (Inside o from) e listed = record { object = o; from = from; home = e; lives = housed p m h o from e; number = inside_number p m h o from e; cell = inside_object p m h o from e }
 
   module _ (x : OnObject p m h) where
     pub object_lives : Lives m.cells (this m)
-    object_lives = subst (Lives m.cells) (sym x.number) (ap is_some (cell_of p m.cells h.state.cells x.object.name x.object h.agrees.cells x.lives).1)
+    object_lives = subst (Lives m.cells) (sym x.number) (ap is_some (cell_of p m.cells h.state.cells x.object.name x.object h.agrees.cells x.lives x.cell).1)
 
     -- its request stands under the machine's number
     pub own_told : own_request h.state.cells h.frame.home ≡ requested h.state.cells (this m)
     own_told = ap (own_request h.state.cells) x.home ∙ ap (requested h.state.cells) (sym x.number)
 
-    named_here : named h.state.cells (this m) ≡ Some x.object
+    pub named_here : named h.state.cells (this m) ≡ Some x.object
     named_here = ap (named h.state.cells) x.number ∙ x.lives
 
+    pub thing_here : thing_in (cell_at m.cells (this m)) ≡ Some x.object.thing
+    thing_here = ap (λ n. thing_in (cell_at m.cells n)) x.number ∙ object_class p m h.state h.agrees x.object x.lives x.cell
+
     pub kind_told : home_kind p h.frame.home ≡ kind_here p m
-    kind_told = ap (home_kind p) x.home ∙ kind_same p _ x.object.thing (h.agrees.cells.things (this m) ∙ ap thing_of named_here)
+    kind_told = ap (home_kind p) x.home ∙ kind_same p _ x.object.thing thing_here
 
     -- the method that cancels is the one that the machine finds
     pub cancel_told : (class : ℕ) → class_at m.cells (this m) ≡ Some class → cancel_method p h.frame.home ≡ role_of p class Cancels_role
-    cancel_told class is = ap (cancel_method p) x.home ∙ ap (cancel_of p) (thing_is x.object.thing class _ is (h.agrees.cells.things (this m) ∙ ap thing_of named_here))
+    cancel_told class is = ap (cancel_method p) x.home ∙ ap (cancel_of p) (thing_is x.object.thing class _ is thing_here)
 
     -- what the table tells of it
     pub active_told : is_waited_for (request_at m.active.table (this m)) ≡ in_phase enlisted.is_active (own_request h.state.cells h.frame.home)
-    active_told = told_active m.active (requested h.state.cells) h.agrees.requests.stands (this m) ∙ sym (ap (in_phase enlisted.is_active) own_told)
+    active_told = told_active m.active (requested h.state.cells) (queued p h.state.cells) h.agrees.requests.stands (this m) ∙ sym (ap (in_phase enlisted.is_active) own_told)
 
     pub busy_told : is_busy (request_at m.active.table (this m)) ≡ in_phase enlisted.is_busy (own_request h.state.cells h.frame.home)
-    busy_told = told_busy m.active (requested h.state.cells) h.agrees.requests.stands (this m) ∙ sym (ap (in_phase enlisted.is_busy) own_told)
+    busy_told = told_busy m.active (requested h.state.cells) (queued p h.state.cells) h.agrees.requests.stands (this m) ∙ sym (ap (in_phase enlisted.is_busy) own_told)
 
     pub cancelling_told : is_being_cancelled (request_at m.active.table (this m)) ≡ in_phase is_cancelling (own_request h.state.cells h.frame.home)
-    cancelling_told = told_cancelling m.active (requested h.state.cells) h.agrees.requests.stands (this m) ∙ sym (ap (in_phase is_cancelling) own_told)
+    cancelling_told = told_cancelling m.active (requested h.state.cells) (queued p h.state.cells) h.agrees.requests.stands (this m) ∙ sym (ap (in_phase is_cancelling) own_told)
 
     pub added_told : is_some (request_at m.active.table (this m)) ≡ is_some (own_request h.state.cells h.frame.home)
-    added_told = told_enlisted m.active (requested h.state.cells) h.agrees.requests.stands (this m) ∙ sym (ap is_some own_told)
+    added_told = told_enlisted m.active (requested h.state.cells) (queued p h.state.cells) h.agrees.requests.stands (this m) ∙ sym (ap is_some own_told)
 
-    pub state_told : (r : Request) → own_request h.state.cells h.frame.home ≡ Some r → state_at m.active.table (this m) ≡ Some (held_state r.phase)
-    state_told r is = told_state m.active (requested h.state.cells) h.agrees.requests.stands (this m) r (sym own_told ∙ is)
+    -- at an active object nothing waits
+    active_unqueued : is_active_kind (home_kind p h.frame.home) ≡ true → queued p h.state.cells (this m) ≡ None
+    active_unqueued active = ap (λ o. queue_in p o (service_of h.state.cells (this m))) named_here ∙ ap (λ b. cond b (Some (has_more (service_of h.state.cells (this m)).queue)) None) (unserving (thing_kind p x.object.thing) (home_kind p h.frame.home) (sym (ap (home_kind p) x.home)) active)
+
+    pub state_told : is_active_kind (home_kind p h.frame.home) ≡ true → (r : Request) → own_request h.state.cells h.frame.home ≡ Some r → state_at m.active.table (this m) ≡ Some (held_state r.phase)
+    state_told active r is = told_state m.active (requested h.state.cells) (queued p h.state.cells) h.agrees.requests.stands (this m) r (sym own_told ∙ is) (active_unqueued active)
 
     pub fresh_told : own_request h.state.cells h.frame.home ≡ None → request_at m.active.table (this m) ≡ None
-    fresh_told none = told_fresh m.active (requested h.state.cells) h.agrees.requests.stands (this m) (sym own_told ∙ none)
+    fresh_told none = told_fresh m.active (requested h.state.cells) (queued p h.state.cells) h.agrees.requests.stands (this m) (sym own_told ∙ none)
 
-    pub status_told : word_or_zero (status_at m.active.table (this m)) ≡ status_of (own_request h.state.cells h.frame.home)
-    status_told = go (own_request h.state.cells h.frame.home) refl
+    pub status_told : is_active_kind (home_kind p h.frame.home) ≡ true → word_or_zero (status_at m.active.table (this m)) ≡ status_of (own_request h.state.cells h.frame.home)
+    status_told active = go (own_request h.state.cells h.frame.home) refl
       where
         go : (o : Option Request) → own_request h.state.cells h.frame.home ≡ o → word_or_zero (status_at m.active.table (this m)) ≡ status_of o
         go None e = ap (λ x. word_or_zero (table.status_of x)) (fresh_told e)
-        go (Some r) e = ap word_or_zero (told_status m.active (requested h.state.cells) h.agrees.requests.stands (this m) r (sym own_told ∙ e))
+        go (Some r) e = ap word_or_zero (told_status m.active (requested h.state.cells) (queued p h.state.cells) h.agrees.requests.stands (this m) r (sym own_told ∙ e) (active_unqueued active))
 
     -- the requests with another one of this object
-    requests_asked : (a : Active) (r : Option Request) → a.table.limit ≡ m.active.table.limit → StandsFor a (asked_anew (this m) r (requested h.state.cells)) → SameRequests p a (rerequested h.state.cells h.frame.home r)
+    requests_asked : (a : Active) (r : Option Request) → a.table.limit ≡ m.active.table.limit → StandsFor a (asked_anew (this m) r (requested h.state.cells)) (queued p h.state.cells) → SameRequests p a (rerequested h.state.cells h.frame.home r)
     requests_asked a r limit stands =
         subst (λ home. SameRequests p a (rerequested h.state.cells home r)) (sym x.home)
-        (requests_set p m.active a h.state.cells x.object r x.lives limit (subst (λ n. StandsFor a (asked_anew n r (requested h.state.cells))) x.number stands) h.agrees.requests)
+        (requests_set p m.active a h.state.cells x.object r x.lives limit (subst (λ n. StandsFor a (asked_anew n r (requested h.state.cells)) (queued p h.state.cells)) x.number stands) h.agrees.requests)
 
     -- it becomes this of it
     pub requests_become : (a : Active) (f : Request → Request) (r : Request) → own_request h.state.cells h.frame.home ≡ Some r → Makes m.active a (this m) f → SameRequests p a (rerequested h.state.cells h.frame.home (on_request f (own_request h.state.cells h.frame.home)))
     requests_become a f r is makes =
         subst (λ o. SameRequests p a (rerequested h.state.cells h.frame.home (on_request f o))) (sym is)
-        (requests_asked a (Some (f r)) makes.limit (makes.stands (requested h.state.cells) r h.agrees.requests.stands (sym own_told ∙ is)))
+        (requests_asked a (Some (f r)) makes.limit (makes.stands (requested h.state.cells) (queued p h.state.cells) r h.agrees.requests.stands (sym own_told ∙ is)))
 
-    pub requests_enlisted : (a : Active) (priority : ℤ) → Enlists m.active a (this m) priority → SameRequests p a (rerequested h.state.cells h.frame.home (Some (first_request h.state.cells priority)))
-    requests_enlisted a priority enlists =
+    pub requests_enlisted : (a : Active) (priority : ℤ) (waits : Option Bool) → queued p h.state.cells (this m) ≡ waits → Enlists m.active a (this m) priority waits → SameRequests p a (rerequested h.state.cells h.frame.home (Some (first_request h.state.cells priority)))
+    requests_enlisted a priority waits is enlists =
         requests_asked a (Some (first_request h.state.cells priority)) enlists.limit
-        (enlists.stands (requested h.state.cells) (next_order h.state.cells) h.agrees.requests.stands (newest h.state.cells h.typed.good.tidy))
+        (enlists.stands (requested h.state.cells) (queued p h.state.cells) (next_order h.state.cells) h.agrees.requests.stands (newest h.state.cells h.typed.good.tidy) is)
+
+    -- and so what clients have, where it keeps its order
+    pub services_become : (f : Request → Request) → ((r : Request) → (f r).order ≡ r.order) → SameServices p m.clients m.messages m.listed (rerequested h.state.cells h.frame.home (on_request f (own_request h.state.cells h.frame.home))) h.state.clients
+    services_become f same = services_rerequested p h.state.cells h.frame.home (on_request f (own_request h.state.cells h.frame.home)) (housed p m h) (order_kept f same (own_request h.state.cells h.frame.home)) h.agrees.services
 
     -- what a request is made with, and with which status a native would begin it
     abbrev pub made_with : ℤ → Asking
@@ -232,15 +267,15 @@ module _ (p : Image) (m : Parts) (h : At_hand p m) where
     requests_timed a w started r is times =
         subst (λ o. SameRequests p a (rerequested h.state.cells h.frame.home (on_request (issued_by A_timer (made_with started) w) o))) (sym is)
         (requests_asked a (Some (issued_by A_timer (made_with started) w r)) times.limit
-        (times.stands (requested h.state.cells) r (next_timer h.state.cells) h.agrees.requests.stands (sym own_told ∙ is) (newest_timer h.state.cells h.typed.good.tidy)))
+        (times.stands (requested h.state.cells) (queued p h.state.cells) r (next_timer h.state.cells) h.agrees.requests.stands (sym own_told ∙ is) (newest_timer h.state.cells h.typed.good.tidy)))
 
   -- the object's request is another, and the method goes on
-  asks_on : (a : Active) (r : Option Request) → SameRequests p a (rerequested h.state.cells h.frame.home r) → Agrees p (places.next (record m { active = a })) (applied p h.frame h.below h.state (updates h.frame (Requested r)))
-  asks_on a r requests =
+  pub asks_on : (a : Active) (t : Table) (r : Option Request) → SameRequests p a (rerequested h.state.cells h.frame.home r) → SameServices p m.clients m.messages t (rerequested h.state.cells h.frame.home r) h.state.clients → Agrees p (places.next (record m { active = a; listed = t })) (applied p h.frame h.below h.state (updates h.frame (Requested r)))
+  asks_on a t r requests services =
       let cs = rerequested h.state.cells h.frame.home r in
-      goes_on_as p m h (record m { active = a }) cs h.state.items h.state.rest
-      (record { stack = refl; cells = cells_rerequested p m.cells h.state.cells h.frame.home r h.agrees.cells; entries = h.agrees.entries; requests = requests; natives = natives_rerequested p m.sessions h.state.killed h.state.cells h.frame.home r h.agrees.natives; rest = h.agrees.rest; room = h.agrees.entry_room })
-      (λ f ms e top q. subst (λ o. Shows (value_in (Runs_frame f ∷ ms) m.cells m.entries.items m.root q) (word_at (Run h.frame ∷ h.below) q) o) (sym ((rerequested_alike h.state.cells h.frame.home r).held_so q)) (top.values q))
+      goes_on_as p m h (record m { active = a; listed = t }) cs h.state.items h.state.rest
+      (record { stack = refl; cells = cells_rerequested p m.cells h.state.cells h.frame.home r h.agrees.cells; entries = h.agrees.entries; requests = requests; natives = natives_rerequested p m.sessions h.state.killed h.state.cells h.frame.home r h.agrees.natives; services = services; rest = h.agrees.rest; room = h.agrees.entry_room })
+      (λ f ms e top q. subst (λ o. Shows (value_in (Runs_frame f ∷ ms) m.cells m.entries.items (others m) q) (word_at (Run h.frame ∷ h.below) q) o) (sym ((rerequested_alike h.state.cells h.frame.home r).held_so q)) (top.values q))
 
 -- ---- what the code needs to know of an instruction that is next
 
@@ -299,7 +334,7 @@ module _ (p : Image) (m : Parts) where
       let n = needs_met p m (Issue a b) next in
       let x = finds_object p m (Issue a b) next (λ c fr ts s n. active_listed (home_kind p fr.home) n.1.1.0) in
       let r = in_one is_idle _ n.1.1.1.1.1.0 in
-      state_told p _ _ x r.0 r.1 ∙ ap (λ x. Some (held_state x)) (idle_only r.0.phase r.2)
+      state_told p _ _ x n.1.1.1.0 r.0 r.1 ∙ ap (λ x. Some (held_state x)) (idle_only r.0.phase r.2)
 
   pub issue_provided : (a b : ℕ) → IsNext p (Issue a b) m → is_active_kind (kind_here p m) ≡ true
   issue_provided a b next =
@@ -313,7 +348,7 @@ module _ (p : Image) (m : Parts) where
       let n = needs_met p m SetActive next in
       let x = finds_object p m SetActive next (λ c fr ts s n. active_listed (home_kind p fr.home) n.0) in
       let r = in_one is_issued _ n.1.1.1.1.0 in
-      state_told p _ _ x r.0 r.1 ∙ ap (λ x. Some (held_state x)) (issued_only r.0.phase r.2)
+      state_told p _ _ x n.1.0 r.0 r.1 ∙ ap (λ x. Some (held_state x)) (issued_only r.0.phase r.2)
 
   -- the class of one that cancels has a method that does
   pub cancel_kind : IsNext p Cancel m → is_active_kind (kind_here p m) ≡ true
@@ -352,24 +387,22 @@ module _ (m : Parts) (refused : List ℕ) where
   pub status_does : (new : Parts) (a : ℕ) → WritesWord a (word_or_zero (status_at m.active.table (this m))) m new → Does refused (Status a) m new
   status_does new a x =
       plain_does m new refused (Status a) refl (λ p h c met.
-      subst (λ v. Agrees p new (applied p h.frame h.below h.state (writes_word h.frame a v))) (status_told p m h (on_object p m h (active_listed _ met.0))) (word_put p m new h a _ (free _ met.1.0) x))
+      subst (λ v. Agrees p new (applied p h.frame h.below h.state (writes_word h.frame a v))) (status_told p m h (on_object p m h (active_listed _ met.0)) met.0) (word_put p m new h a _ (free _ met.1.0) x))
 
 module _ (m : Parts) (refused : List ℕ) (a : Active) where
-  pub enlist_does : (priority : ℤ) → Enlists m.active a (this m) priority → Does refused (Enlist priority) m (places.next (record m { active = a }))
-  enlist_does priority enlists =
-      plain_does m _ refused (Enlist priority) refl (λ p h c met. asks_on p m h a _ (requests_enlisted p m h (on_object p m h met.0) a priority enlists))
-
   pub set_active_does : Makes m.active a (this m) waits → Does refused SetActive m (places.next (record m { active = a }))
   set_active_does makes =
       plain_does m _ refused SetActive refl (λ p h c met.
       let r = in_one is_issued _ met.1.1.1.0 in
-      asks_on p m h a _ (requests_become p m h (on_object p m h (active_listed _ met.0)) a waits r.0 r.1 makes))
+      let on = on_object p m h (active_listed _ met.0) in
+      asks_on p m h a m.listed _ (requests_become p m h on a waits r.0 r.1 makes) (services_become p m h on waits (λ r. refl)))
 
   pub abort_does : Makes m.active a (this m) aborted → Does refused Abort m (places.next (record m { active = a }))
   abort_does makes =
       plain_does m _ refused Abort refl (λ p h c met.
       let r = in_one is_cancelling _ met.1.0 in
-      asks_on p m h a _ (requests_become p m h (on_object p m h (active_listed _ met.0)) a aborted r.0 r.1 makes))
+      let on = on_object p m h (active_listed _ met.0) in
+      asks_on p m h a m.listed _ (requests_become p m h on a aborted r.0 r.1 makes) (services_become p m h on aborted (λ r. refl)))
 
 -- what a native has answered is what the checked machine hears
 module _ (p : Image) (m : Parts) (h : At_hand p m) (on : OnObject p m h) (n : ℕ) (serves : native_of (kind_here p m) ≡ Some n) where
@@ -406,8 +439,8 @@ issue_does p m refused a q b x provider issues h here =
     let same : m.rest.clock ≡ clock = ap (λ r. r.clock) h.agrees.rest in
     let it = subst (λ n. Issues q m.sessions m.heard n w m.active a (this m)) same (subst (λ v. Issues q m.sessions m.heard m.rest.clock v m.active a (this m)) (word_read p m h b met.0) issues) in
     subst (λ f. Agrees p (places.next (record m { active = a })) (applied p h.frame h.below h.state (updates h.frame (Requested (on_request f (own_request h.state.cells h.frame.home)))))) (sym made)
-    (asks_on p m h a _ (requests_made p m h on a q w asking.started r.0 r.1
-    (λ n native. heard_told p m h on n (native_provided (kind_here p m) n (provider ∙ ap (λ v. Some v) native)) started c hears) it)))
+    (asks_on p m h a m.listed _ (requests_made p m h on a q w asking.started r.0 r.1
+    (λ n native. heard_told p m h on n (native_provided (kind_here p m) n (provider ∙ ap (λ v. Some v) native)) started c hears) it) (services_become p m h on (issued_by q asking w) (issued_order q asking w))))
 
 -- a request that is not active is left alone
 pub cancel_idle_does : (m : Parts) (refused : List ℕ) → is_waited_for (request_at m.active.table (this m)) ≡ false → Does refused Cancel m (places.next m)
@@ -430,17 +463,19 @@ module _ (p : Image) (m : Parts) (refused : List ℕ) (a : Active) (k : ℕ) whe
       let r = on_request cancelling (own_request s.cells fr.home) in
       let cs = begun_cells fr s.cells in
       let called = frame_of k fr.home (length s.items) in
+      let top_housed = by_top p m h (λ us. this_here us ≢ null → this_here us < 4096) (λ f ms top. top.frame.housed) in
       by_top p m h (λ us. Agrees p (record m { stack = record m.stack { tasks = Runs_frame (fresh k n) ∷ us }; active = a }) (record s { cells = cs; tasks = Run called ∷ Run fr ∷ ts }))
       (λ f ms top. record {
-        tasks = (begun_frame k n fr.home (length s.items) number, (top.frame, top.below));
+        tasks = (begun_frame k n fr.home (length s.items) number top_housed, (top.frame, top.below));
         values = λ q.
-            subst (λ x. Shows x (word_at (Run called ∷ Run fr ∷ ts) q) (held cs q)) (sym (fresh_value k n (Runs_frame f ∷ ms) m.cells m.entries.items m.root q))
-            (subst (λ w. Shows (value_in (Runs_frame f ∷ ms) m.cells m.entries.items m.root q) w (held cs q)) (sym (fresh_word k fr.home (length s.items) (Run fr ∷ ts) q))
-            (subst (λ o. Shows (value_in (Runs_frame f ∷ ms) m.cells m.entries.items m.root q) (word_at (Run fr ∷ ts) q) o) (sym ((rerequested_alike s.cells fr.home r).held_so q)) (top.values q)));
+            subst (λ x. Shows x (word_at (Run called ∷ Run fr ∷ ts) q) (held cs q)) (sym (fresh_value k n (Runs_frame f ∷ ms) m.cells m.entries.items (others m) q))
+            (subst (λ w. Shows (value_in (Runs_frame f ∷ ms) m.cells m.entries.items (others m) q) w (held cs q)) (sym (fresh_word k fr.home (length s.items) (Run fr ∷ ts) q))
+            (subst (λ o. Shows (value_in (Runs_frame f ∷ ms) m.cells m.entries.items (others m) q) (word_at (Run fr ∷ ts) q) o) (sym ((rerequested_alike s.cells fr.home r).held_so q)) (top.values q)));
         cells = cells_rerequested p m.cells s.cells fr.home r h.agrees.cells;
         entries = h.agrees.entries;
         requests = requests;
         natives = natives_rerequested p m.sessions s.killed s.cells fr.home r h.agrees.natives;
+        services = services_rerequested p s.cells fr.home r (housed p m h) (order_kept cancelling (λ r. refl) (own_request s.cells fr.home)) h.agrees.services;
         rest = h.agrees.rest;
         room = h.agrees.room;
         entry_room = h.agrees.entry_room;

@@ -1,6 +1,6 @@
 -- A method returns: to the method that called it, through a trap, to the going of its cell, to an unwinding, or to the dispatch that has asked it.
-use Rattle.std.proofs.Common.{Bool, List, None, Option, Some, [], ap, arith, cond, false, length, pos, refl, slice_index_or, slice_set, subst, suc, sym, true, ℕ, ℤ, ◌&&◌, ◌<◌, ◌==◌, ◌∙◌, ◌∷◌, ◌≡◌, ◌≤◌}
-use Rattle.std.proofs.lemmas.Bool.{OnTrue_at, eq-eqb, eqb-true, ne_eqb}
+use Rattle.std.proofs.Common.{Bool, ◌⊎◌, inl, inr, List, None, Option, Some, [], ap, arith, cond, false, length, pos, refl, slice_index_or, slice_set, subst, suc, sym, true, ℕ, ℤ, ◌&&◌, ◌<◌, ◌==◌, ◌∙◌, ◌∷◌, ◌≡◌, ◌≤◌}
+use Rattle.std.proofs.lemmas.Bool.{OnTrue_at, eq-eqb, eqb-true, false≢true, ne_eqb}
 use Rattle.std.proofs.lemmas.List.{length-set}
 use Rattle.aom_image.specs.Image.{Image}
 use Rattle.aom_image.specs.Views.{gives_in, gives_of, instr_at, method_at}
@@ -16,14 +16,14 @@ use Rattle.aom_shape.specs.Needs.{AllTrue}
 use Rattle.aom_shape.specs.Shape.{Shape}
 use Rattle.aom_rules.specs.Typing.{Typing}
 use Rattle.aom_sound.proofs.View.{under_dispatch}
-use Rattle.aom_sound.specs.Calls.{answered_by, below_top, result_needs, result_register, returned, told_answer}
+use Rattle.aom_sound.specs.Calls.{answered_by, below_top, end_needs, ended_well, result_needs, result_register, returned, told_answer}
 use Rattle.aom_sound.specs.Claims.{Method, Mark, tasks_of, claim, declared}
-use Rattle.aom_sound.specs.Places.{Cell, Elsewhere, Entry, Field, Going, Object, Place, Register, changed, held, moved, same_place, seen}
-use Rattle.aom_sound.specs.State.{Answered, Destroy, Dispatch, Dispatched, Frame, Run, State, Task, Trapped, Unwind, next, set_word, word}
+use Rattle.aom_sound.specs.Places.{Cell, named, Session, Tidy, Elsewhere, Entry, Field, Going, Object, Place, Register, changed, held, moved, same_place, seen}
+use Rattle.aom_sound.specs.State.{Accepted, Accepts, Of_server, Seat, Answered, Destroy, Dispatch, Dispatched, Frame, Run, State, Task, Trapped, Unwind, next, set_word, word}
 use Rattle.aom_sound.specs.WellTyped.{Awaits, Fits, Good, WellTyped, WordFits}
 use Rattle.aom_sound.proofs.Claimed.{claim_register_above}
 use Rattle.aom_sound.proofs.Finishing.{all_parts}
-use Rattle.aom_sound.proofs.Maps.{at-put_at, held_moved}
+use Rattle.aom_sound.proofs.Maps.{at-put_at, held_lives, held_moved}
 use Rattle.aom_sound.proofs.Straight.{claim_register, fits_unowning}
 use Rattle.aom_sound.proofs.Layers.{mark_layer, method_layer}
 use Rattle.aom_cleanup.specs.Items.{Stack as Held_items}
@@ -34,7 +34,7 @@ use Rattle.aom_frames.specs.declared.frame.Frame.{Frame as Held_frame}
 use Rattle.aom_frames.specs.declared.task.Task.{Task as Held_task}
 use Rattle.aom_frames.specs.declared.task.Task.TheVariants.{Run as Runs_frame, Trapped as Is_trap, Destroy as Destroys, Dispatched as Ends, Unwind as Unwinds}
 use Rattle.aom_frames.specs.declared.dispatch.Dispatch.{Dispatch as Held_dispatch}
-use Rattle.aom_frames.specs.declared.dispatch.Dispatch.TheVariants.{Answered as One_answered, Asks as One_asks, Main, MainLeft, Object as Of_one, ObjectLeft as One_left, Root as End_of_run}
+use Rattle.aom_frames.specs.declared.dispatch.Dispatch.TheVariants.{Answered as One_answered, Asks as One_asks, Main, MainLeft, Object as Of_one, ObjectLeft as One_left, Root as End_of_run, Server as Of_one_served}
 use Rattle.aom_active.specs.Agrees.{Active}
 use Rattle.aom_sound.specs.Enlisted.{ended_cells}
 use Rattle.aom_sound.proofs.Storing.{ended_alike}
@@ -44,22 +44,48 @@ use Rattle.aom_parts.proofs.Asking.{requests_moved}
 use Rattle.aom_acts.proofs.CancelEnds.{IsOver, ended_agrees, method_is}
 use Rattle.aom_acts.proofs.OnTop.{ending_of}
 use Rattle.aom_parts.specs.declared.parts.Parts.{Parts}
-use Rattle.aom_parts.specs.Places.{value_in, register_in, going_in, with_tasks, IsDestroying, IsEnding, IsTrapped, IsUnwinding}
-use Rattle.aom_parts.specs.Agrees.{word_at, word_in, Shows, SameCells, SameDispatch, SameFrame, SameTasks, Agrees, SameRequests, dispatch_of, seat_of, SameNatives}
+use Rattle.aom_parts.specs.Places.{others, Others, value_in, register_in, going_in, with_tasks, IsDestroying, IsEnding, IsTrapped, IsUnwinding}
+use Rattle.aom_parts.specs.Agrees.{subject_of, word_at, word_in, Shows, SameCells, SameDispatch, SameFrame, SameTasks, Agrees, SameRequests, dispatch_of, seat_of, SameNatives}
 use Rattle.aom_acts.specs.Acts.{At_hand, resulted, DoesIn}
 use Rattle.aom_parts.specs.Places as places
 use Rattle.aom_parts.proofs.Entries.{mark_shows_none, unmarked, value_alike}
 use Rattle.aom_parts.proofs.Overs.{held_over, higher, over_value, over_words, tasks_over}
 use Rattle.aom_acts.proofs.CallActs.{closing, ended, fits_null, shows_null}
-use Rattle.aom_parts.proofs.Cells.{cells_moved}
-use Rattle.aom_acts.proofs.Standing.{Top, by_top, goes_on, moved_on, register_shows, no_word}
+use Rattle.aom_image.specs.declared.method.Thing.{Thing}
+use Rattle.aom_image.specs.declared.method.Thing.TheVariants.{Object as An_object_of}
+use Rattle.aom_cells.specs.Heap.{cell_at}
+use Rattle.aom_clients.specs.Clients as kept_clients
+use Rattle.aom_frames.specs.declared.dispatch.Stage.TheVariants as stages
+use Rattle.aom_frames.specs.declared.dispatch.Subject.{Subject}
+use Rattle.aom_image.proofs.Given.{some_given}
+use Rattle.aom_shape.specs.Kinds.{is_object}
+use Rattle.aom_sound.proofs.ClientsMoves.{fit_steady, steady_ended, tasks_steady}
+use Rattle.aom_sound.proofs.Layers.{dispatch_layer}
+use Rattle.aom_sound.proofs.Services.{sits_lives}
+use Rattle.aom_sound.proofs.Things.{stands_same}
+use Rattle.aom_sound.specs.Kept.{StageKept, TasksKept}
+use Rattle.aom_sound.specs.Objects.{is_thing}
+use Rattle.aom_sound.specs.Servers.{of_class, session_class}
+use Rattle.aom_acts.proofs.ServeActs.{accepts}
+use Rattle.aom_acts.specs.Ends as ends
+use Rattle.aom_acts.specs.Serving.{CanServe, opened_by, served}
+use Rattle.aom_acts.specs.Acts.{requested as counted}
+use Rattle.aom_acts.specs.Next.{IsNext, counting}
+use Rattle.aom_acts.proofs.Housing.{at_hand, needs_met}
+use Rattle.aom_acts.proofs.Stepping.{at_step}
+use Rattle.aom_parts.proofs.Premises.{connecting_below}
+use Rattle.aom_parts.proofs.Cells.{cell_small, cells_moved}
+use Rattle.aom_acts.proofs.Standing.{Top, by_top, free, goes_on, moved_on, no_word, object_lives_at, register_shows}
 use Rattle.std.specs.Bool.{OnTrue}
+use Rattle.std.specs.Prelude.{IsSome, is_some}
 use Rattle.std.proofs.lemmas.Option.{none-some}
 use Rattle.aom_image.proofs.Given.{none_given}
 use Rattle.aom_parts.proofs.Alike.{A_catcher, A_going, A_last_trap, A_leave, A_method, An_end, Alike, Tops, alike, both_end, both_go, both_run, both_trapped, both_unwind, catcher_on_top, end_on_top, going_on_top, last_trap_on_top, leave_on_top, method_on_top, tops}
 use Rattle.aom_parts.proofs.Values.{at_depth, cases, going_past, kept, none_alike, register_past, value_kept, value_written, word_next, word_past, word_written, writes}
 use Rattle.aom_acts.proofs.WordActs.{plain_at, word_read}
+use Rattle.aom_parts.proofs.Services.{services_moved}
 use Rattle.aom_parts.proofs.Sessions.{natives_moved}
+use Rattle.aom_parts.specs.Services.{SameServices}
 
 -- what a method gives back
 pub gives_here : (p : Image) (k : ℕ) (d : Method_decl) → method_at p k ≡ Some d → gives_of p k ≡ d.gives
@@ -87,18 +113,18 @@ cleared_none d h none (Register e i) = cases (d == e)
 cleared_none d h none _ = refl
 
 -- the other places stand for what they stood for
-pub beneath : (f : Held_frame) (us : List Held_task) (fr : Frame) (ts : List Task) (heap : Heap) (es : List Item) (root : ℕ) (h : Place → Option Object) → length us ≡ length ts
-    → ((r : Place) → Shows (value_in (Runs_frame f ∷ us) heap es root r) (word_at (Run fr ∷ ts) r) (h r))
-    → (r : Place) → Shows (value_in us heap es root r) (word_at ts r) (cleared (length ts) h r)
-beneath f us fr ts heap es root h deep old (Register e i) = go (length ts == e) refl (subst (λ d. Shows (cond (d == e) (slice_index_or f.registers i null) (register_in us e i)) (cond (length ts == e) (word fr i) (word_in ts e i)) (h (Register e i))) deep (old (Register e i)))
+pub beneath : (f : Held_frame) (us : List Held_task) (fr : Frame) (ts : List Task) (heap : Heap) (es : List Item) (rest : Others) (h : Place → Option Object) → length us ≡ length ts
+    → ((r : Place) → Shows (value_in (Runs_frame f ∷ us) heap es rest r) (word_at (Run fr ∷ ts) r) (h r))
+    → (r : Place) → Shows (value_in us heap es rest r) (word_at ts r) (cleared (length ts) h r)
+beneath f us fr ts heap es rest h deep old (Register e i) = go (length ts == e) refl (subst (λ d. Shows (cond (d == e) (slice_index_or f.registers i null) (register_in us e i)) (cond (length ts == e) (word fr i) (word_in ts e i)) (h (Register e i))) deep (old (Register e i)))
   where
     go : (b : Bool) → (length ts == e) ≡ b → Shows (cond b (slice_index_or f.registers i null) (register_in us e i)) (cond b (word fr i) (word_in ts e i)) (h (Register e i)) → Shows (register_in us e i) (word_in ts e i) (cond b None (h (Register e i)))
     go false is shows = shows
     go true is shows = let at = eqb-true (length ts) e is in shows_null _ _ _ (register_past us e i (omega arith)) (word_past ts e i (omega arith)) refl
-beneath f us fr ts heap es root h deep old (Going k) = subst (λ n. Shows n None (h (Going k))) (at_depth (length us) k null (going_in us k) (λ e. going_past us k (omega arith))) (old (Going k))
-beneath f us fr ts heap es root h deep old (Entry k) = old (Entry k)
-beneath f us fr ts heap es root h deep old (Field n g) = old (Field n g)
-beneath f us fr ts heap es root h deep old (Elsewhere o) = old (Elsewhere o)
+beneath f us fr ts heap es rest h deep old (Going k) = subst (λ n. Shows n None (h (Going k))) (at_depth (length us) k null (going_in us k) (λ e. going_past us k (omega arith))) (old (Going k))
+beneath f us fr ts heap es rest h deep old (Entry k) = old (Entry k)
+beneath f us fr ts heap es rest h deep old (Field n g) = old (Field n g)
+beneath f us fr ts heap es rest h deep old (Elsewhere o) = old (Elsewhere o)
 
 -- past the tasks at hand no register owns
 pub none_above : (p : Image) (t : Typing) (s : State) (d i : ℕ) → WellTyped p t s → length s.tasks ≤ d → held s.cells (Register d i) ≡ None
@@ -187,11 +213,12 @@ module _ (p : Image) (m : Parts) (t : Typing) (s : State) (fr : Frame) (agrees :
       → Agrees p (with_tasks ms m) (record s { tasks = ts })
   to_waiting ms ts top clear = record {
     tasks = top.below;
-    values = λ r. subst (Shows (value_in ms m.cells m.entries.items m.root r) (word_at ts r)) (cleared_none _ (held s.cells) clear r) (beneath f ms fr ts m.cells m.entries.items m.root (held s.cells) top.deep top.values r);
+    values = λ r. subst (Shows (value_in ms m.cells m.entries.items (others m) r) (word_at ts r)) (cleared_none _ (held s.cells) clear r) (beneath f ms fr ts m.cells m.entries.items (others m) (held s.cells) top.deep top.values r);
     cells = agrees.cells;
     entries = agrees.entries;
     requests = agrees.requests;
     natives = agrees.natives;
+    services = agrees.services;
     rest = agrees.rest;
     room = agrees.room;
     entry_room = agrees.entry_room;
@@ -241,21 +268,22 @@ module _ (p : Image) (m : Parts) (t : Typing) (s : State) (fr : Frame) (agrees :
         apart true e = e.1.1
         apart false e = e.1
 
-    base : (r : Place) → Shows (value_in (Runs_frame g ∷ ms) m.cells m.entries.items m.root r) (word_at (Run caller ∷ ts) r) (under r)
+    base : (r : Place) → Shows (value_in (Runs_frame g ∷ ms) m.cells m.entries.items (others m) r) (word_at (Run caller ∷ ts) r) (under r)
     base r =
-        subst (λ k. Shows k (word_at (Run caller ∷ ts) r) (under r)) (over_value trapped (Runs_frame g ∷ ms) m.cells m.entries.items m.root r)
-        (subst (λ w. Shows (value_in (held_over trapped (Runs_frame g ∷ ms)) m.cells m.entries.items m.root r) w (under r)) (over_words trapped (Run caller ∷ ts) r)
-        (beneath f (held_over trapped (Runs_frame g ∷ ms)) fr over m.cells m.entries.items m.root (held s.cells) top.deep top.values r))
+        subst (λ k. Shows k (word_at (Run caller ∷ ts) r) (under r)) (over_value trapped (Runs_frame g ∷ ms) m.cells m.entries.items (others m) r)
+        (subst (λ w. Shows (value_in (held_over trapped (Runs_frame g ∷ ms)) m.cells m.entries.items (others m) r) w (under r)) (over_words trapped (Run caller ∷ ts) r)
+        (beneath f (held_over trapped (Runs_frame g ∷ ms)) fr over m.cells m.entries.items (others m) (held s.cells) top.deep top.values r))
 
     number_shows : Shows n (word fr a) (held s.cells from)
     number_shows = register_shows m s fr over f (held_over trapped (Runs_frame g ∷ ms)) top a
 
     -- the result has come
     record Landed (rs : List ℕ) (ws : List (Option ℤ)) (cs : List Cell) : Type 0 where
-      values : (r : Place) → Shows (value_in (Runs_frame (record g { registers = rs }) ∷ ms) m.cells m.entries.items m.root r) (word_at (Run (record caller { words = ws }) ∷ ts) r) (held cs r)
+      values : (r : Place) → Shows (value_in (Runs_frame (record g { registers = rs }) ∷ ms) m.cells m.entries.items (others m) r) (word_at (Run (record caller { words = ws }) ∷ ts) r) (held cs r)
       cells : SameCells p m.cells cs
       requests : SameRequests p m.active cs
       natives : SameNatives p m.sessions cs s.killed
+      services : SameServices p m.clients m.messages m.listed cs s.clients
       wide : length rs ≡ 16
 
     abbrev IsClear : List Cell → Type 0
@@ -264,38 +292,40 @@ module _ (p : Image) (m : Parts) (t : Typing) (s : State) (fr : Frame) (agrees :
     -- with nothing
     lands_bare : IsClear s.cells → Landed g.registers caller.words s.cells
     lands_bare clear = record {
-      values = λ r. subst (Shows (value_in (Runs_frame g ∷ ms) m.cells m.entries.items m.root r) (word_at (Run caller ∷ ts) r)) (cleared_none _ (held s.cells) clear r) (base r);
+      values = λ r. subst (Shows (value_in (Runs_frame g ∷ ms) m.cells m.entries.items (others m) r) (word_at (Run caller ∷ ts) r)) (cleared_none _ (held s.cells) clear r) (base r);
       cells = agrees.cells;
       requests = agrees.requests;
       natives = agrees.natives;
+      services = agrees.services;
       wide = same_frame.wide;
     }
 
     -- with a number
-    lands : (cs : List Cell) (w : Option ℤ) (o : Option Object) → SameCells p m.cells cs → SameRequests p m.active cs → SameNatives p m.sessions cs s.killed → Shows n w o → ((r : Place) → held cs r ≡ changed under to o r) → Landed (slice_set g.registers x n) (set_word caller x w).words cs
-    lands cs w o cells requests natives shows holds =
+    lands : (cs : List Cell) (w : Option ℤ) (o : Option Object) → SameCells p m.cells cs → SameRequests p m.active cs → SameNatives p m.sessions cs s.killed → SameServices p m.clients m.messages m.listed cs s.clients → Shows n w o → ((r : Place) → held cs r ≡ changed under to o r) → Landed (slice_set g.registers x n) (set_word caller x w).words cs
+    lands cs w o cells requests natives services shows holds =
         let wide = same_frame.wide in
         record {
           values = writes _ _ _ _ _ _ to n w o base shows
-              (value_written g ms m.cells m.entries.items m.root (length ts) x n g.place deep (omega arith))
+              (value_written g ms m.cells m.entries.items (others m) (length ts) x n g.place deep (omega arith))
               (word_written caller ts x caller.place w)
               holds;
           cells = cells;
           requests = requests;
           natives = natives;
+          services = services;
           wide = length-set g.registers x n ∙ wide;
         }
 
     -- with a word
     lands_word : IsClear s.cells → held s.cells to ≡ None → Landed (slice_set g.registers x n) (set_word caller x (word fr a)).words s.cells
     lands_word clear empty =
-        lands s.cells (word fr a) None agrees.cells agrees.requests agrees.natives (subst (Shows n (word fr a)) (clear a) number_shows)
+        lands s.cells (word fr a) None agrees.cells agrees.requests agrees.natives agrees.services (subst (Shows n (word fr a)) (clear a) number_shows)
         (λ r. kept (held s.cells) to r ∙ ap (λ o. changed (held s.cells) to o r) empty ∙ ap (λ o. cond (same_place to r) None o) (sym (cleared_none _ (held s.cells) clear r)))
 
     -- with an object
     lands_object : IsClear (moved from to s.cells) → held s.cells to ≡ None → word fr a ≡ None → Landed (slice_set g.registers x n) (set_word caller x None).words (moved from to s.cells)
     lands_object clear empty wordless =
-        lands (moved from to s.cells) None (held s.cells from) (cells_moved p m.cells s.cells from to agrees.cells) (requests_moved p m.active s.cells from to agrees.requests) (natives_moved p m.sessions s.killed s.cells from to agrees.natives) (subst (λ w. Shows n w (held s.cells from)) wordless number_shows) holds
+        lands (moved from to s.cells) None (held s.cells from) (cells_moved p m.cells s.cells from to agrees.cells) (requests_moved p m.active s.cells from to agrees.requests) (natives_moved p m.sessions s.killed s.cells from to agrees.natives) (services_moved p s.cells from to refl refl agrees.services) (subst (λ w. Shows n w (held s.cells from)) wordless number_shows) holds
       where
         elsewhere : (r : Place) → same_place from r ≡ false → under r ≡ held s.cells r → held (moved from to s.cells) r ≡ changed under to (held s.cells from) r
         elsewhere r e same = held_moved s.cells from to r empty ∙ ap (λ b. cond (same_place to r) (held s.cells from) (cond b None (held s.cells r))) e ∙ ap (λ o. cond (same_place to r) (held s.cells from) o) (sym same)
@@ -319,9 +349,9 @@ module _ (p : Image) (m : Parts) (t : Typing) (s : State) (fr : Frame) (agrees :
     lands_next rs ws cs landed =
         let g' = record g { registers = rs } in
         let caller' = record caller { words = ws } in
-        goes_on p m s m.cells cs m.rest s.rest (record g' { place = suc g.place }) ms (next caller') ts agrees landed.cells landed.requests landed.natives agrees.rest same_below (moved_on g caller rs ws same_frame landed.wide)
-        (λ r. subst (λ k. Shows k (word_at (Run (next caller') ∷ ts) r) (held cs r)) (sym (value_kept g' ms m.cells m.entries.items m.root (suc g.place) r))
-        (subst (λ w. Shows (value_in (Runs_frame g' ∷ ms) m.cells m.entries.items m.root r) w (held cs r)) (sym (word_next caller' ts (suc caller.place) r)) (landed.values r)))
+        goes_on p m s m.cells cs m.rest s.rest (record g' { place = suc g.place }) ms (next caller') ts agrees landed.cells landed.requests landed.natives landed.services agrees.rest same_below (moved_on g caller rs ws same_frame landed.wide)
+        (λ r. subst (λ k. Shows k (word_at (Run (next caller') ∷ ts) r) (held cs r)) (sym (value_kept g' ms m.cells m.entries.items (others m) (suc g.place) r))
+        (subst (λ w. Shows (value_in (Runs_frame g' ∷ ms) m.cells m.entries.items (others m) r) w (held cs r)) (sym (word_next caller' ts (suc caller.place) r)) (landed.values r)))
 
     -- through its trap, with 0 for the code
     lands_coded : (es : Held_items) → m.entries ≡ record es { items = Is_mark ∷ es.items } → suc x < 16 → (rs : List ℕ) (ws : List (Option ℤ)) (cs : List Cell) → held cs (Register (length ts) (suc x)) ≡ None → Landed rs ws cs
@@ -332,17 +362,18 @@ module _ (p : Image) (m : Parts) (t : Typing) (s : State) (fr : Frame) (agrees :
         let q = Register (length ts) (suc x) in
         let wide = landed.wide in
         let was : m.entries.items ≡ Is_mark ∷ es.items = ap (λ (e : Held_items). e.items) marked in
-        let old : (r : Place) → Shows (value_in (Runs_frame g' ∷ ms) m.cells es.items m.root r) (word_at (Run caller' ∷ ts) r) (held cs r) = λ r. subst (λ k. Shows k (word_at (Run caller' ∷ ts) r) (held cs r)) (ap (λ is. value_in (Runs_frame g' ∷ ms) m.cells is m.root r) was ∙ value_alike (Runs_frame g' ∷ ms) m.cells (Is_mark ∷ es.items) es.items m.root (λ k. mark_shows_none es.items k) r) (landed.values r) in
+        let old : (r : Place) → Shows (value_in (Runs_frame g' ∷ ms) m.cells es.items (others m) r) (word_at (Run caller' ∷ ts) r) (held cs r) = λ r. subst (λ k. Shows k (word_at (Run caller' ∷ ts) r) (held cs r)) (ap (λ is. value_in (Runs_frame g' ∷ ms) m.cells is (others m) r) was ∙ value_alike (Runs_frame g' ∷ ms) m.cells (Is_mark ∷ es.items) es.items (others m) (λ k. mark_shows_none es.items k) r) (landed.values r) in
         record {
           tasks = (moved_on g caller (slice_set rs (suc x) 0) (set_word caller' (suc x) (Some (pos 0))).words same_frame (length-set rs (suc x) 0 ∙ wide), same_below);
           values = writes _ _ _ _ (held cs) _ q 0 (Some (pos 0)) None old refl
-              (value_written g' ms m.cells es.items m.root (length ts) (suc x) 0 (suc g.place) deep (omega arith))
+              (value_written g' ms m.cells es.items (others m) (length ts) (suc x) 0 (suc g.place) deep (omega arith))
               (word_written caller' ts (suc x) (suc caller.place) (Some (pos 0)))
               (λ r. kept (held cs) q r ∙ ap (λ o. changed (held cs) q o r) empty);
           cells = landed.cells;
           entries = unmarked m.entries.items es.items s.items was agrees.entries;
           requests = landed.requests;
           natives = landed.natives;
+          services = landed.services;
           rest = agrees.rest;
           room = agrees.room;
           entry_room = subst (λ k. 1024 ≤ k) (ap (λ (e : Held_items). e.depth) marked) agrees.entry_room;
@@ -397,22 +428,104 @@ module _ (p : Image) (m : Parts) (t : Typing) (s : State) (fr : Frame) (agrees :
     through (A_maybe thing) met same typed = lands_coded true g ms caller ts top small_too es marked coded _ _ _ (code_alone _ (set_word caller z None) _ typed) (lands_object true g ms caller ts top small_too (λ i. none_above p t _ _ i typed (omega arith)) (empty (sym same)) met)
     through (Left thing) met same typed = lands_coded true g ms caller ts top small_too es marked coded _ _ _ (code_alone _ caller _ typed) (lands_bare true g ms caller ts top small_too (λ i. none_above p t _ _ i typed (omega arith)))
 
--- ---- a return to a dispatch of the machine's, which is no server's
+-- ---- a return to a dispatch of the machine's
 
+-- it is no server's that opens a session
+abbrev pub AcceptsNot : Held_dispatch → Type 0
+AcceptsNot (Of_one_served x client stages.Accepts) = ⊥
+AcceptsNot x = Unit {0}
+
+-- which it is
+abbrev pub Accepting : Held_dispatch → Type 0
+Accepting x = AcceptsNot x ⊎ ((y : Subject) × (c : ℕ) × (x ≡ Of_one_served y c stages.Accepts))
+
+accepting_or : (x : Held_dispatch) → Accepting x
+accepting_or (Of_one_served x c stages.Accepts) = inr (x, c, refl)
+accepting_or (Of_one_served x c stages.Accepted) = inl tt
+accepting_or (Of_one_served x c (stages.AcceptLeft code)) = inl tt
+accepting_or (Of_one_served x c (stages.Serves o)) = inl tt
+accepting_or (Of_one_served x c (stages.ServiceLeft code)) = inl tt
+accepting_or (Of_one_served x c stages.Parts) = inl tt
+accepting_or Main = inl tt
+accepting_or (MainLeft code) = inl tt
+accepting_or End_of_run = inl tt
+accepting_or (Of_one x) = inl tt
+accepting_or (One_left x code) = inl tt
+accepting_or (One_asks x) = inl tt
+accepting_or (One_answered x answer) = inl tt
+
+-- it is served on both sides, and all else stays
 returned_plain :
-    (p : Image) (fr : Frame) (s : State) (g : Gives) (a : ℕ) (ts : List Task) (x : Held_dispatch) (d : Dispatch) → SameDispatch x d →
-    returned p fr (Trapped ∷ Dispatched d ∷ ts) s g a (Trapped ∷ Dispatched d ∷ ts) ≡ record s { tasks = Dispatched d ∷ ts; items = below_top s.items }
-returned_plain p fr s g a ts x d same =
-    subst (λ e. returned p fr (Trapped ∷ Dispatched e ∷ ts) s g a (Trapped ∷ Dispatched e ∷ ts) ≡ record s { tasks = Dispatched e ∷ ts; items = below_top s.items }) same.1 (go same.0 x)
+    (p : Image) (fr : Frame) (s : State) (g : Gives) (a : ℕ) (ts : List Task) (q : Place) (x : Held_dispatch) → AcceptsNot x →
+    returned p fr (Trapped ∷ Dispatched (dispatch_of q x) ∷ ts) s g a (Trapped ∷ Dispatched (dispatch_of q x) ∷ ts) ≡ record s { tasks = Dispatched (dispatch_of q (ends.served x)) ∷ ts; items = below_top s.items }
+returned_plain p fr s g a ts q Main plain = refl
+returned_plain p fr s g a ts q (MainLeft code) plain = refl
+returned_plain p fr s g a ts q End_of_run plain = refl
+returned_plain p fr s g a ts q (Of_one x) plain = refl
+returned_plain p fr s g a ts q (One_left x code) plain = refl
+returned_plain p fr s g a ts q (One_asks x) plain = refl
+returned_plain p fr s g a ts q (One_answered x answer) plain = refl
+returned_plain p fr s g a ts q (Of_one_served x c stages.Accepts) plain = absurd plain
+returned_plain p fr s g a ts q (Of_one_served x c stages.Accepted) plain = refl
+returned_plain p fr s g a ts q (Of_one_served x c (stages.AcceptLeft code)) plain = refl
+returned_plain p fr s g a ts q (Of_one_served x c (stages.Serves o)) plain = refl
+returned_plain p fr s g a ts q (Of_one_served x c (stages.ServiceLeft code)) plain = refl
+returned_plain p fr s g a ts q (Of_one_served x c stages.Parts) plain = refl
+
+opened_plain : (n : ℕ) (x : Held_dispatch) (us : List Held_task) (k : kept_clients.State) → AcceptsNot x → opened_by n (Ends x ∷ us) k ≡ k
+opened_plain n Main us k plain = refl
+opened_plain n (MainLeft code) us k plain = refl
+opened_plain n End_of_run us k plain = refl
+opened_plain n (Of_one x) us k plain = refl
+opened_plain n (One_left x code) us k plain = refl
+opened_plain n (One_asks x) us k plain = refl
+opened_plain n (One_answered x answer) us k plain = refl
+opened_plain n (Of_one_served x c stages.Accepts) us k plain = absurd plain
+opened_plain n (Of_one_served x c stages.Accepted) us k plain = refl
+opened_plain n (Of_one_served x c (stages.AcceptLeft code)) us k plain = refl
+opened_plain n (Of_one_served x c (stages.Serves o)) us k plain = refl
+opened_plain n (Of_one_served x c (stages.ServiceLeft code)) us k plain = refl
+opened_plain n (Of_one_served x c stages.Parts) us k plain = refl
+
+-- `accept` gives an object, a session with its server
+record Gives_session (p : Image) (s : State) (fr : Frame) (x : Seat) : Type 0 where
+  thing : Thing
+  gives : gives_of p fr.method ≡ An_own thing
+  object : is_object thing ≡ true
+  lives : named s.cells x.object.name ≡ Some x.object
+
+gives_session : (p : Image) (t : Typing) (s : State) (fr : Frame) (x : Seat) (c : ℕ) (ts : List Task) → WellTyped p t s → s.tasks ≡ Run fr ∷ Trapped ∷ Dispatched (Of_server x c Accepts) ∷ ts → Gives_session p s fr x
+gives_session p t s fr x c ts typed top =
+    method_layer (Good p t s.cells) fr (Trapped ∷ Dispatched (Of_server x c Accepts) ∷ ts) typed.layers (sym typed.tasks ∙ top) typed.good (λ sh ls under good.
+    mark_layer (λ ls. Good p t s.cells (Method fr sh ∷ ls)) (Dispatched (Of_server x c Accepts) ∷ ts) ls under good (λ gv ls under good.
+    dispatch_layer (λ ls. Good p t s.cells (Method fr sh ∷ Mark gv ∷ ls)) (Of_server x c Accepts) ts ls under good (λ seats ls _ good.
+    let mark = good.stack.4 in
+    let dispatch = mark.1 in
+    record {
+      thing = dispatch.0.0;
+      gives = mark.0.0 ∙ dispatch.0.1;
+      object = session_is (session_class p x.object.thing) dispatch.0.0 dispatch.0.2;
+      lives = sits_lives s.cells seats x dispatch.2 dispatch.3;
+    })))
   where
-    go : (q : Place) (x : Held_dispatch) → returned p fr (Trapped ∷ Dispatched (dispatch_of q x) ∷ ts) s g a (Trapped ∷ Dispatched (dispatch_of q x) ∷ ts) ≡ record s { tasks = Dispatched (dispatch_of q x) ∷ ts; items = below_top s.items }
-    go q Main = refl
-    go q (MainLeft code) = refl
-    go q End_of_run = refl
-    go q (Of_one x) = refl
-    go q (One_left x code) = refl
-    go q (One_asks x) = refl
-    go q (One_answered x answer) = refl
+    session_is : (o : Option ℕ) (y : Thing) → of_class o ≡ Some y → is_object y ≡ true
+    session_is (Some k) y e = let is : An_object_of k ≡ y = cc in ap is_object (sym is)
+    session_is None y e = cc
+
+-- the number of what a register owns then is that of a cell
+owned_number : (p : Image) (m : Parts) (s : State) → p.header.cells ≤ 4096 → Agrees p m s → (r : Place) (n : ℕ) (y : Thing) → is_object y ≡ true → Tidy s.cells → is_some (held s.cells r) ≡ true → is_thing p y (held s.cells r) ≡ true → Shows n None (held s.cells r) → n < 4096
+owned_number p m s few agrees r n y object tidy some thing shows = go (held s.cells r) refl some thing shows
+  where
+    go : (o : Option Object) → held s.cells r ≡ o → is_some o ≡ true → is_thing p y o ≡ true → Shows n None o → n < 4096
+    go None e some thing shows = absurd (false≢true some)
+    go (Some o) e some thing shows =
+        let lives = held_lives s.cells r o tidy e in
+        let is : is_object o.thing ≡ true = ap is_object (stands_same p o.thing y thing) ∙ object in
+        subst (λ k. k < 4096) (sym shows) (some_given (λ c. IsSome c) (cell_at m.cells o.name) (object_lives_at p m s agrees o lives is) (λ none. cc) (λ c there some. cell_small p m.cells s.cells agrees.cells few o.name c there))
+
+-- and below that of cells
+pub lives_within : (p : Image) (m : Parts) (s : State) → Agrees p m s → (o : Object) → named s.cells o.name ≡ Some o → is_object o.thing ≡ true → o.name < p.header.cells
+lives_within p m s agrees o lives object = some_given (λ c. IsSome c) (cell_at m.cells o.name) (object_lives_at p m s agrees o lives object) (λ none. cc) (λ c there some. subst (λ k. o.name < k) agrees.cells.limit (agrees.cells.below o.name c there))
 
 -- ---- a dispatch that has asked hears the answer
 
@@ -433,12 +546,13 @@ redispatched p m s x y ms d e ts same agrees = record {
   entries = agrees.entries;
   requests = agrees.requests;
   natives = agrees.natives;
+  services = agrees.services;
   rest = agrees.rest;
   room = agrees.room;
   entry_room = agrees.entry_room;
 }
   where
-    values : (r : Place) → Shows (value_in (Ends y ∷ ms) m.cells m.entries.items m.root r) (word_at (Dispatched e ∷ ts) r) (held s.cells r)
+    values : (r : Place) → Shows (value_in (Ends y ∷ ms) m.cells m.entries.items (others m) r) (word_at (Dispatched e ∷ ts) r) (held s.cells r)
     values (Register k i) = agrees.values (Register k i)
     values (Entry k) = agrees.values (Entry k)
     values (Field n g) = agrees.values (Field n g)
@@ -475,25 +589,25 @@ module _ (p : Image) (m : Parts) (refused : List ℕ) (a : ℕ) (act : Active) (
     frame = top.frame;
     below = top.below;
     deep = top.deep;
-    values = λ r. subst (Shows (value_in (Runs_frame f ∷ ms) m.cells m.entries.items m.root r) (word_at (Run h.frame ∷ ts) r)) (sym (still h r)) (top.values r);
+    values = λ r. subst (Shows (value_in (Runs_frame f ∷ ms) m.cells m.entries.items (others m) r) (word_at (Run h.frame ∷ ts) r)) (sym (still h r)) (top.values r);
   }
 
   -- what holds of the machine's tasks tells what is below its method
   by_return : (P : List Held_task → Type 0) (G : List Held_task → Parts) → P m.stack.tasks
-      → ((h : At_hand p m) (f : Held_frame) (ms : List Held_task) → Top mid (past h) h.frame h.below f ms → Alike ms h.below → AllTrue (result_needs p h.frame h.below h.state (gives_of p h.frame.method) a)
+      → ((h : At_hand p m) (f : Held_frame) (ms : List Held_task) → Top mid (past h) h.frame h.below f ms → Alike ms h.below → AllTrue (result_needs p h.frame h.below h.state (gives_of p h.frame.method) a) → AllTrue (end_needs p h.frame h.below h.state h.below)
       → WellTyped p h.typing (after h h.below) → P (Runs_frame f ∷ ms) → Agrees p (G (Runs_frame f ∷ ms)) (after h h.below))
       → DoesIn p refused (Return a) m (G m.stack.tasks)
   by_return P G has each h here =
       plain_at p m (G m.stack.tasks) refused (Return a) refl h (λ c needs typed.
-      let met = (all_parts (result_needs p h.frame h.below h.state (gives_of p h.frame.method) a) _ needs).0 in
-      by_top p m h (λ us. P us → Agrees p (G us) (after h h.below)) (λ f ms top has. each h f ms (top_over h h.below f ms top) (alike ms h.below top.below) met typed has) has)
+      let met = all_parts (result_needs p h.frame h.below h.state (gives_of p h.frame.method) a) _ needs in
+      by_top p m h (λ us. P us → Agrees p (G us) (after h h.below)) (λ f ms top has. each h f ms (top_over h h.below f ms top) (alike ms h.below top.below) met.0 met.1.1.1.1 typed has) has)
 
   pub return_to_method : (x : ℕ) → Runs (below_first m.stack.tasks) → x < 16 → x ≡ result_register (instr_at p (method_here (below_first m.stack.tasks)) (place_here (below_first m.stack.tasks)))
       → DoesIn p refused (Return a) m (places.next (resulted (gives_of p (method_here m.stack.tasks)) x (register_here m.stack.tasks a) (with_tasks (below_first m.stack.tasks) mid)))
   return_to_method x runs small is =
       by_return (λ us. Runs (below_first us) × (x ≡ result_register (instr_at p (method_here (below_first us)) (place_here (below_first us)))))
       (λ us. places.next (resulted (gives_of p (method_here us)) x (register_here us a) (with_tasks (below_first us) mid))) (runs, is)
-      (λ h f ms top same met typed has. go h f ms h.below h.top top (tops A_method ms has.0) same has.1 (wordless p h.frame h.below h.state (gives_of p h.frame.method) a met) typed)
+      (λ h f ms top same met last typed has. go h f ms h.below h.top top (tops A_method ms has.0) same has.1 (wordless p h.frame h.below h.state (gives_of p h.frame.method) a met) typed)
     where
       go : (h : At_hand p m) (f : Held_frame) (ms : List Held_task) (ts : List Task) → h.state.tasks ≡ Run h.frame ∷ ts → Top mid (past h) h.frame ts f ms
           → Tops A_method ms → Alike ms ts → x ≡ result_register (instr_at p (method_here ms) (place_here ms))
@@ -512,7 +626,7 @@ module _ (p : Image) (m : Parts) (refused : List ℕ) (a : ℕ) (act : Active) (
   return_through es x trapped runs marked small is =
       by_return (λ us. IsTrapped (below_first us) × Runs (below_first (below_first us)) × (x ≡ result_register (instr_at p (method_here (below_first (below_first us))) (place_here (below_first (below_first us))))))
       (λ us. places.next (places.set_register (suc x) 0 (resulted (gives_of p (method_here us)) x (register_here us a) (record (with_tasks (below_first (below_first us)) mid) { entries = es })))) (trapped, runs, is)
-      (λ h f ms top same met typed has. go h f ms h.below h.top top (tops A_catcher ms (has.0, has.1)) same has.2 (wordless p h.frame h.below h.state (gives_of p h.frame.method) a met) typed)
+      (λ h f ms top same met last typed has. go h f ms h.below h.top top (tops A_catcher ms (has.0, has.1)) same has.2 (wordless p h.frame h.below h.state (gives_of p h.frame.method) a met) typed)
     where
       go : (h : At_hand p m) (f : Held_frame) (ms : List Held_task) (ts : List Task) → h.state.tasks ≡ Run h.frame ∷ ts → Top mid (past h) h.frame ts f ms
           → Tops A_catcher ms → Alike ms ts → x ≡ result_register (instr_at p (method_here (below_first ms)) (place_here (below_first ms)))
@@ -528,17 +642,17 @@ module _ (p : Image) (m : Parts) (refused : List ℕ) (a : ℕ) (act : Active) (
   pub return_to_going : IsDestroying (below_first m.stack.tasks) → DoesIn p refused (Return a) m (with_tasks (below_first m.stack.tasks) mid)
   return_to_going destroying =
       by_return (λ us. IsDestroying (below_first us)) (λ us. with_tasks (below_first us) mid) destroying
-      (λ h f ms top same met typed has. go h f ms h.below top (tops A_going ms has) same typed)
+      (λ h f ms top same met last typed has. go h f ms h.below top (tops A_going ms has) same typed)
     where
       go : (h : At_hand p m) (f : Held_frame) (ms : List Held_task) (ts : List Task) → Top mid (past h) h.frame ts f ms → Tops A_going ms → Alike ms ts
           → WellTyped p h.typing (after h ts) → Agrees p (with_tasks ms mid) (after h ts)
-      go h f _ _ top (going_on_top x ms) (both_go _ _ ts _ _) typed = to_waiting p mid h.typing (past h) h.frame (agree h) f a (Destroys x ∷ ms) (Destroy ∷ ts) top
+      go h f _ _ top (going_on_top x ms) (both_go _ _ ts _ _ _) typed = to_waiting p mid h.typing (past h) h.frame (agree h) f a (Destroys x ∷ ms) (Destroy ∷ ts) top
           (λ i. none_above p h.typing (after h (Destroy ∷ ts)) _ i typed (omega arith))
 
   pub return_to_unwinding : IsUnwinding (below_first m.stack.tasks) → DoesIn p refused (Return a) m (with_tasks (below_first m.stack.tasks) mid)
   return_to_unwinding unwinding =
       by_return (λ us. IsUnwinding (below_first us)) (λ us. with_tasks (below_first us) mid) unwinding
-      (λ h f ms top same met typed has. go h f ms h.below top (tops A_leave ms has) same typed)
+      (λ h f ms top same met last typed has. go h f ms h.below top (tops A_leave ms has) same typed)
     where
       go : (h : At_hand p m) (f : Held_frame) (ms : List Held_task) (ts : List Task) → Top mid (past h) h.frame ts f ms → Tops A_leave ms → Alike ms ts
           → WellTyped p h.typing (after h ts) → Agrees p (with_tasks ms mid) (after h ts)
@@ -549,7 +663,7 @@ module _ (p : Image) (m : Parts) (refused : List ℕ) (a : ℕ) (act : Active) (
       → DoesIn p refused (Return a) m (with_tasks (Ends (heard (told_by g (register_here m.stack.tasks a)) d) ∷ below_first (below_first m.stack.tasks)) mid)
   return_to_dispatch g d gives ending =
       by_return (λ us. ending_here (below_first us) ≡ Some d) (λ us. with_tasks (Ends (heard answer d) ∷ below_first (below_first us)) mid) ending
-      (λ h f ms top same met typed has.
+      (λ h f ms top same met last typed has.
       let told = ap (λ k. told_by k (register_here m.stack.tasks a)) (sym gives ∙ ap (gives_of p) (method_is p m h)) ∙ told_same p m h (gives_of p h.frame.method) a met in
       go h f ms h.below top (tops An_end ms (ending_of ms has)) same has told typed)
     where
@@ -565,22 +679,112 @@ module _ (p : Image) (m : Parts) (refused : List ℕ) (a : ℕ) (act : Active) (
           redispatched p mid (past h) x (heard answer d) ms e _ ts (heard_same answer _ d e told (subst (λ x. SameDispatch x e) at same)) waits
 
   pub return_to_end : (es : Held_items) → IsEnding (below_first (below_first m.stack.tasks)) → IsTrapped (below_first m.stack.tasks) → m.entries ≡ record es { items = Is_mark ∷ es.items }
-      → DoesIn p refused (Return a) m (record (with_tasks (below_first (below_first m.stack.tasks)) mid) { entries = es })
+      → DoesIn p refused (Return a) m (served (register_here m.stack.tasks a) (record (with_tasks (below_first (below_first m.stack.tasks)) mid) { entries = es }))
   return_to_end es ending trapped marked =
-      by_return (λ us. IsTrapped (below_first us) × IsEnding (below_first (below_first us))) (λ us. record (with_tasks (below_first (below_first us)) mid) { entries = es }) (trapped, ending)
-      (λ h f ms top same met typed has. go h ms h.below (tops A_last_trap ms has) same typed)
+      by_return (λ us. IsTrapped (below_first us) × IsEnding (below_first (below_first us))) (λ us. served (register_here us a) (record (with_tasks (below_first (below_first us)) mid) { entries = es })) (trapped, ending)
+      (λ h f ms top same met last typed has. go h f ms h.below top h.top (tops A_last_trap ms has) same met last typed)
     where
-      ends_with : Held_dispatch → List Held_task → Parts
-      ends_with x ms = record (with_tasks (Ends x ∷ ms) mid) { entries = es }
+      -- the dispatch on top, and the machine with it
+      Ended : At_hand p m → Held_frame → Held_dispatch → List Held_task → Dispatch → List Task → Type 0
+      Ended h f x ms d ts =
+          Top mid (past h) h.frame (Trapped ∷ Dispatched d ∷ ts) f (Is_trap ∷ Ends x ∷ ms) → h.state.tasks ≡ Run h.frame ∷ Trapped ∷ Dispatched d ∷ ts
+          → AllTrue (result_needs p h.frame (Trapped ∷ Dispatched d ∷ ts) h.state (gives_of p h.frame.method) a) → AllTrue (end_needs p h.frame (Trapped ∷ Dispatched d ∷ ts) h.state (Trapped ∷ Dispatched d ∷ ts))
+          → WellTyped p h.typing (after h (Trapped ∷ Dispatched d ∷ ts))
+          → Agrees p (served (slice_index_or f.registers a null) (record (with_tasks (Ends x ∷ ms) mid) { entries = es })) (after h (Trapped ∷ Dispatched d ∷ ts))
 
-      ended_state : At_hand p m → Dispatch → List Task → State
-      ended_state h d ts = record (past h) { tasks = Dispatched d ∷ ts; items = below_top h.state.items }
+      plainly : (h : At_hand p m) (f : Held_frame) (x : Held_dispatch) (q : Place) → AcceptsNot x → Ended h f x [] (dispatch_of q x) []
+      plainly h f x q plain top tasks met last typed =
+          let is = returned_plain p h.frame (past h) (gives_of p h.frame.method) a [] q x plain in
+          let shut = closing p h.typing _ (dispatch_of q (ends.served x)) (subst (λ v. WellTyped p h.typing v) is typed) refl in
+          subst (λ v. Agrees p (served (slice_index_or f.registers a null) (record (with_tasks (Ends x ∷ []) mid) { entries = es })) v) (sym is)
+          (subst (λ k. Agrees p (record (with_tasks (Ends (ends.served x) ∷ []) mid) { entries = es; clients = k }) (record (past h) { tasks = Dispatched (dispatch_of q (ends.served x)) ∷ []; items = below_top h.state.items })) (sym (opened_plain (slice_index_or f.registers a null) x [] m.clients plain))
+          (ended p mid es (past h) (ends.served x) (dispatch_of q (ends.served x)) (agree h) marked (q, refl) shut))
 
-      go : (h : At_hand p m) (ms : List Held_task) (ts : List Task) → Tops A_last_trap ms → Alike ms ts → WellTyped p h.typing (after h ts) → Agrees p (record (with_tasks (below_first ms) mid) { entries = es }) (after h ts)
-      go h _ _ (last_trap_on_top x ms) (both_trapped _ _ _ (both_end _ d _ ts same below _)) typed =
-          let plain = subst (λ v. WellTyped p h.typing v) (returned_plain p h.frame (past h) (gives_of p h.frame.method) a ts x d same) typed in
-          let last = under_dispatch p h.typing (ended_state h d ts) d ts plain refl in
-          let shut = closing p h.typing _ d (subst (λ us. WellTyped p h.typing (ended_state h d us)) last plain) refl in
-          subst (λ v. Agrees p (ends_with x ms) v) (sym (returned_plain p h.frame (past h) (gives_of p h.frame.method) a ts x d same))
-          (subst (λ us. Agrees p (ends_with x us) (ended_state h d ts)) (sym (none_alike ms ts below last))
-          (subst (λ us. Agrees p (ends_with x []) (ended_state h d us)) (sym last) (ended p mid es (past h) x d (agree h) marked same shut)))
+      opens : (h : At_hand p m) (f : Held_frame) (y : Subject) (c : ℕ) (q : Place) → Ended h f (Of_one_served y c stages.Accepts) [] (Of_server (seat_of q y) c Accepts) []
+      opens h f y c q top tasks met last typed =
+          let n = slice_index_or f.registers a null in
+          let from = Register 2 a in
+          let over = ended_alike p h.frame h.state.cells in
+          let g = gives_session p h.typing h.state h.frame (seat_of q y) c [] h.typed tasks in
+          let owned = subst (λ g. AllTrue (result_needs p h.frame (Trapped ∷ Dispatched (Of_server (seat_of q y) c Accepts) ∷ []) h.state g a)) g.gives met in
+          let wordless : word h.frame a ≡ None = no_word _ owned.0 in
+          let tidy = over.tidy h.typed.good.tidy in
+          let still = steady_ended p h.frame h.state.cells in
+          let fit = fit_steady p h.state.clients h.state.cells (past h).cells still h.kept.fit in
+          let stage = subst (λ us. TasksKept p h.state.clients h.state.cells us) tasks h.kept.stage in
+          let connects : StageKept p h.state.clients (past h).cells (subject_of y) c Accepts = tasks_steady p h.state.clients h.state.cells (past h).cells still (Dispatched (Of_server (seat_of q y) c Accepts) ∷ []) stage in
+          let there = over.named_so y.number ∙ g.lives in
+          let few = h.formed.header.cells in
+          let shows : Shows n None (held (past h).cells from) = subst (λ w. Shows n w (held (past h).cells from)) wordless (register_shows mid (past h) h.frame (Trapped ∷ Dispatched (Of_server (seat_of q y) c Accepts) ∷ []) f (Is_trap ∷ Ends (Of_one_served y c stages.Accepts) ∷ []) top a) in
+          let small = owned_number p mid (past h) few (agree h) from n g.thing g.object tidy (ap is_some (over.held_so from) ∙ owned.1.0) (ap (is_thing p g.thing) (over.held_so from) ∙ owned.1.1.0) shows in
+          let empty : held (past h).cells (Elsewhere (Session y.number c)) ≡ None = over.held_so (Elsewhere (Session y.number c)) ∙ free _ last.1.0 in
+          accepts p few mid (past h) tidy fit (agree h) y q c there (lives_within p mid (past h) (agree h) (subject_of y) there refl) connects 2 a n (omega arith) shows empty es marked
+          (closing p h.typing _ (Of_server (seat_of q y) c Accepted) typed refl)
+
+      by_kind : (h : At_hand p m) (f : Held_frame) (x : Held_dispatch) (q : Place) → Accepting x → Ended h f x [] (dispatch_of q x) []
+      by_kind h f x q (inl plain) = plainly h f x q plain
+      by_kind h f x q (inr y) = subst (λ x. Ended h f x [] (dispatch_of q x) []) (sym y.2) (opens h f y.0 y.1 q)
+
+      go : (h : At_hand p m) (f : Held_frame) (ms : List Held_task) (ts : List Task) → Top mid (past h) h.frame ts f ms → h.state.tasks ≡ Run h.frame ∷ ts → Tops A_last_trap ms → Alike ms ts
+          → AllTrue (result_needs p h.frame ts h.state (gives_of p h.frame.method) a) → AllTrue (end_needs p h.frame ts h.state ts) → WellTyped p h.typing (after h ts)
+          → Agrees p (served (slice_index_or f.registers a null) (record (with_tasks (below_first ms) mid) { entries = es })) (after h ts)
+      go h f _ _ top tasks (last_trap_on_top x ms) (both_trapped _ _ _ (both_end _ d _ ts same below _)) met last typed =
+          let none = under_dispatch p h.typing (after h (Trapped ∷ Dispatched d ∷ ts)) (ended_well d) ts typed refl in
+          (subst (λ us. Ended h f x us d ts) (sym (none_alike ms ts below none)) (subst (λ us. Ended h f x [] d us) (sym none) (subst (λ e. Ended h f x [] e []) same.1 (by_kind h f x same.0 (accepting_or x))))) top tasks met last typed
+
+-- ---- what `accept` gives is the number of a cell, and its client is one
+
+can_plain : (n : ℕ) (x : Held_dispatch) (us : List Held_task) → AcceptsNot x → CanServe n (Ends x ∷ us)
+can_plain n Main us plain = tt
+can_plain n (MainLeft code) us plain = tt
+can_plain n End_of_run us plain = tt
+can_plain n (Of_one x) us plain = tt
+can_plain n (One_left x code) us plain = tt
+can_plain n (One_asks x) us plain = tt
+can_plain n (One_answered x answer) us plain = tt
+can_plain n (Of_one_served x c stages.Accepts) us plain = absurd plain
+can_plain n (Of_one_served x c stages.Accepted) us plain = tt
+can_plain n (Of_one_served x c (stages.AcceptLeft code)) us plain = tt
+can_plain n (Of_one_served x c (stages.Serves o)) us plain = tt
+can_plain n (Of_one_served x c (stages.ServiceLeft code)) us plain = tt
+can_plain n (Of_one_served x c stages.Parts) us plain = tt
+
+module _ (p : Image) (m : Parts) (h : At_hand p m) (a : ℕ) where
+  abbrev Can : Held_frame → Held_dispatch → List Held_task → Dispatch → List Task → Type 0
+  Can f x ms d ts =
+      Top m h.state h.frame (Trapped ∷ Dispatched d ∷ ts) f (Is_trap ∷ Ends x ∷ ms) → h.state.tasks ≡ Run h.frame ∷ Trapped ∷ Dispatched d ∷ ts
+      → AllTrue (result_needs p h.frame (Trapped ∷ Dispatched d ∷ ts) h.state (gives_of p h.frame.method) a) → CanServe (slice_index_or f.registers a null) (Ends x ∷ ms)
+
+  accepts_one : (f : Held_frame) (y : Subject) (c : ℕ) (ms : List Held_task) (q : Place) (ts : List Task) → Can f (Of_one_served y c stages.Accepts) ms (Of_server (seat_of q y) c Accepts) ts
+  accepts_one f y c ms q ts top tasks met =
+      let d = suc (length ts) in
+      let from = Register (suc d) a in
+      let n = slice_index_or f.registers a null in
+      let g = gives_session p h.typing h.state h.frame (seat_of q y) c ts h.typed tasks in
+      let owned = subst (λ g. AllTrue (result_needs p h.frame (Trapped ∷ Dispatched (Of_server (seat_of q y) c Accepts) ∷ ts) h.state g a)) g.gives met in
+      let wordless : word h.frame a ≡ None = no_word _ owned.0 in
+      let shows : Shows n None (held h.state.cells from) = subst (λ w. Shows n w (held h.state.cells from)) wordless (register_shows m h.state h.frame (Trapped ∷ Dispatched (Of_server (seat_of q y) c Accepts) ∷ ts) f (Is_trap ∷ Ends (Of_one_served y c stages.Accepts) ∷ ms) top a) in
+      let small = owned_number p m h.state h.formed.header.cells h.agrees from n g.thing g.object h.typed.good.tidy owned.1.0 owned.1.1.0 shows in
+      let connects = subst (λ us. TasksKept p h.state.clients h.state.cells us) tasks h.kept.stage in
+      (connecting_below h.state.cells h.state.clients m.clients h.agrees.services.clients c y.number connects.0, omega (arith, small))
+
+  can_by_kind : (f : Held_frame) (x : Held_dispatch) (ms : List Held_task) (q : Place) (ts : List Task) → Accepting x → Can f x ms (dispatch_of q x) ts
+  can_by_kind f x ms q ts (inl plain) = λ top tasks met. can_plain (slice_index_or f.registers a null) x ms plain
+  can_by_kind f x ms q ts (inr y) = subst (λ x. Can f x ms (dispatch_of q x) ts) (sym y.2) (accepts_one f y.0 y.1 ms q ts)
+
+  can_give : AllTrue (result_needs p h.frame h.below h.state (gives_of p h.frame.method) a) → IsTrapped (below_first m.stack.tasks) → IsEnding (below_first (below_first m.stack.tasks)) → CanServe (register_here m.stack.tasks a) (below_first (below_first m.stack.tasks))
+  can_give met trapped ending =
+      by_top p m h (λ us. (IsTrapped (below_first us) × IsEnding (below_first (below_first us))) → CanServe (register_here us a) (below_first (below_first us)))
+      (λ f ms top has. go f ms h.below top h.top (tops A_last_trap ms has) (alike ms h.below top.below) met) (trapped, ending)
+    where
+      go : (f : Held_frame) (ms : List Held_task) (ts : List Task) → Top m h.state h.frame ts f ms → h.state.tasks ≡ Run h.frame ∷ ts → Tops A_last_trap ms → Alike ms ts
+          → AllTrue (result_needs p h.frame ts h.state (gives_of p h.frame.method) a) → CanServe (slice_index_or f.registers a null) (below_first ms)
+      go f _ _ top tasks (last_trap_on_top x ms) (both_trapped _ _ _ (both_end _ d _ ts same below _)) met =
+          (subst (λ e. Can f x ms e ts) same.1 (can_by_kind f x ms same.0 ts (accepting_or x))) top tasks met
+
+pub can_serve : (p : Image) (m : Parts) (a : ℕ) → IsNext p (Return a) m → IsTrapped (below_first m.stack.tasks) → IsEnding (below_first (below_first m.stack.tasks)) → CanServe (register_here m.stack.tasks a) (below_first (below_first m.stack.tasks))
+can_serve p m a next trapped ending =
+    let n = needs_met p m (Return a) next in
+    let k = counting next.counts m in
+    let h = at_hand p k next.stands next.runs in
+    can_give p k h a (all_parts (result_needs p h.frame h.below (counted (Return a) (at_step h.state)) (gives_of p h.frame.method) a) _ n.1).0 trapped ending

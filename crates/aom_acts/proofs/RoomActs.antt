@@ -30,7 +30,7 @@ use Rattle.aom_shape.specs.declared.kind.Entry.TheVariants.{Operation}
 use Rattle.aom_shape.specs.declared.kind.Kind.{Kind}
 use Rattle.aom_shape.specs.declared.kind.Kind.TheVariants.{Maybe, Null, Own}
 use Rattle.aom_verify.specs.Strongest.{IsStrongest}
-use Rattle.aom_budget.specs.Calls.{Among, MayCall, callees, destructors, listed, object_class, sessions_with}
+use Rattle.aom_budget.specs.Calls.{Among, MayCall, callees, destructors, listed, object_class, sessions_with, thing_class}
 use Rattle.aom_budget.specs.Calls as budget
 use Rattle.aom_budget.specs.Heights.{CallsOver, Enters, StandsWith}
 use Rattle.aom_sound.proofs.Claimed.{length_objects}
@@ -44,37 +44,35 @@ use Rattle.aom_sound.specs.Calls.{ended_well, accepted_cells, below_top, entered
 use Rattle.aom_sound.specs.Claims.{objects}
 use Rattle.aom_sound.specs.Cleanup.{operation_frame, top_place}
 use Rattle.aom_classes.specs.Roles.{destructor_of}
-use Rattle.aom_sound.specs.Destruction.{begun, begun_by}
+use Rattle.aom_sound.specs.Destruction.{begun, begun_by, destructed}
 use Rattle.aom_sound.specs.Effects.{The_message, Replied, Calls, Cancels, Carried, Counts, Destroys, Destroys_last, Effect, Goes_on, In_field, In_register, Jumps, Leaves, Made, Operates, Popped, Popped_operation, Pushed, Pushed_operation, Repeats, Requested, Returns, Same, Sets_trap, Spot, Update, Written, applied, cells_after, items_after, spot_place, with_words, Sessioned}
 use Rattle.aom_sound.specs.Laws.{IsWired}
 use Rattle.aom_sound.specs.Steps.{Fits as May, FitsUpdate}
 use Rattle.aom_sound.specs.Places.{service_of, Session, Place, Elsewhere, Cell, Entry, Going, Object, Register, Sight, held, moved, same_place, seen}
-use Rattle.aom_sound.specs.State.{Of_server, Dispatch, Accepts, A_mark, An_object, An_operation, AtRoot, Choice, Destroy, Dispatched, Frame, Home, Inside, Item, Run, State, Static, Task, Trapped, Unwind, field_place, frame_of, next, set_word}
+use Rattle.aom_sound.specs.State.{Of_server, Dispatch, Accepts, A_mark, An_object, An_operation, AtRoot, Choice, Closing, Destroy, Dispatched, Frame, Home, Inside, Item, Run, State, Static, Task, Trapped, Unwind, field_place, frame_of, next, set_word}
 use Rattle.aom_sound.specs.WellTyped.{AllUndo, Fits, IsUndo}
 use Rattle.aom_sound.specs.Words.{here, stored}
-use Rattle.aom_parts.specs.Room.{IsUnder, below_height, destructor_in, entries_in, may_push}
-use Rattle.aom_parts.proofs.Depths.{AllLow, Roomy, SameEntries, begins, dropped, held_apart, item_pushed, lower, off_to_trap, popped, popped_top, recelled, top_under}
+use Rattle.aom_parts.specs.Room.{Destructs, IsUnder, NoClosing, below_height, entries_in, may_push}
+use Rattle.aom_parts.proofs.Depths.{AllLow, Roomy, SameBelow, begins, closing_begins, dropped, held_apart, item_pushed, lower, off_to_trap, popped, popped_top, recelled, top_under}
 use Rattle.aom_parts.proofs.Heights.{LowUnder, Stands_here, own_entries}
 use Rattle.aom_sound.specs.Enlisted.{begun_cells, cancel_method, cancelling, ended_cells, on_request, own_request}
 use Rattle.aom_sound.proofs.Callees.{cancel_class, cancel_quiet}
-use Rattle.aom_classes.specs.Admitted.{IsAdmitted}
 use Rattle.aom_sound.proofs.Services.{held_served}
-use Rattle.aom_parts.proofs.Nobody.{begun_plain}
-use Rattle.aom_sound.specs.Servers.{opened}
+use Rattle.aom_sound.specs.Servers.{is_server, opened}
 
--- the destructor of an object is that of the class which its register's kind tells
-destructor_among : (p : Image) (h : Sight) (o : Object) (k : Kind) (m : ℕ) → Fits p h (Some o) k → destructor_of p o.thing ≡ Some m → Among m (destructors p (object_class k))
-destructor_among p h o (Own t a) m fits e = of_thing t (ap (destructor_of p) (sym (stands_same p o.thing t fits.0)) ∙ e)
+-- what runs as an object goes is told by the class that its register's kind tells
+destructs_as : (p : Image) (h : Sight) (o : Object) (k : Kind) (m : ℕ) → Fits p h (Some o) k → Destructs p (Some o) m → Among m (destructors p (object_class k))
+destructs_as p h o (Own t a) m fits e = subst (λ x. Among m (destructors p (thing_class x))) (stands_same p o.thing t fits.0) e
+destructs_as p h o (Maybe t a) m fits e = subst (λ x. Among m (destructors p (thing_class x))) (stands_same p o.thing t fits.0) e
+destructs_as p h o _ m fits e = absurd (assumption tt)
+
+-- its own destructor does
+own_destructs : (p : Image) (o : Object) (m : ℕ) → destructor_of p o.thing ≡ Some m → Destructs p (Some o) m
+own_destructs p o m e = go o.thing e
   where
-    of_thing : (t : Thing) → destructor_of p t ≡ Some m → Among m (destructors p (object_class (Own t a)))
-    of_thing (An_object_of c) e = subst (λ d. Among m (listed d ++ listed (budget.destructor_of p (sessions_with p (Some c))))) (sym e) (inl refl)
-    of_thing Message e = cc
-destructor_among p h o (Maybe t a) m fits e = of_thing t (ap (destructor_of p) (sym (stands_same p o.thing t fits.0)) ∙ e)
-  where
-    of_thing : (t : Thing) → destructor_of p t ≡ Some m → Among m (destructors p (object_class (Maybe t a)))
-    of_thing (An_object_of c) e = subst (λ d. Among m (listed d ++ listed (budget.destructor_of p (sessions_with p (Some c))))) (sym e) (inl refl)
-    of_thing Message e = cc
-destructor_among p h o _ m fits e = absurd (assumption tt)
+    go : (x : Thing) → destructor_of p x ≡ Some m → Among m (destructors p (thing_class x))
+    go (An_object_of c) e = subst (λ d. Among m (listed d ++ listed (budget.destructor_of p (sessions_with p (Some c))))) (sym e) (inl refl)
+    go Message e = cc
 
 -- what comes to no entries calls nothing that may
 pushes_from : (quiet quiet' leave leave' : Bool) → only_if quiet quiet' ≡ true → only_if leave' leave ≡ true → (not quiet' || leave') ≡ true → (not quiet || leave) ≡ true
@@ -102,38 +100,75 @@ field_apart Static f k = refl
 field_apart AtRoot f k = refl
 field_apart (Inside o from) f k = refl
 
-entry_apart : (j k : ℕ) → k < j → same_place (Entry j) (Entry k) ≡ false
+-- nor one where a cell goes
+field_stays : (home : Home) (f k : ℕ) → same_place (field_place home f) (Going k) ≡ false
+field_stays Static f k = refl
+field_stays AtRoot f k = refl
+field_stays (Inside o from) f k = refl
+
+pub entry_apart : (j k : ℕ) → k < j → same_place (Entry j) (Entry k) ≡ false
 entry_apart j k lt = ap (λ b. b && (0 == 0)) (ne_eqb j k (λ e. absurd (omega (arith, lt, e))))
 
--- the entries are as they were
-stored_same : (cs : List Cell) (home : Home) (w n : ℕ) (v : ℤ) → SameEntries cs (stored cs home w v) n
-stored_same cs Static w n v k lt = refl
-stored_same cs AtRoot w n v k lt = refl
-stored_same cs (Inside o from) w n v k lt = held_set_word cs o.name w v (Entry k)
+pub going_apart : (j k : ℕ) → k < j → same_place (Going j) (Going k) ≡ false
+going_apart j k lt = ap (λ b. b && (0 == 0)) (ne_eqb j k (λ e. absurd (omega (arith, lt, e))))
 
-passed_same : (p : Image) (fr : Frame) (ts : List Task) (s : State) (d : ℕ) (xs : List Argument) (first to : ℕ) (cs : List Cell) (k : ℕ) → held (passed_cells p fr ts s d xs first to cs) (Entry k) ≡ held cs (Entry k)
-passed_same p fr ts s d [] first to cs k = refl
-passed_same p fr ts s d (Takes_word ∷ xs) first to cs k = passed_same p fr ts s d xs (suc first) (suc to) cs k
-passed_same p fr ts s d (Takes_own t ∷ xs) first to cs k =
-    passed_same p fr ts s d xs (suc first) (suc to) (moved (here fr ts s first) (Register d to) cs) k
-    ∙ held_apart cs (here fr ts s first) (Register d to) (Entry k) refl refl
+-- an entry of the cleanup stack, or where a cell goes
+abbrev pub IsDealt : Place → Type 0
+IsDealt (Entry k) = Unit {0}
+IsDealt (Going k) = Unit {0}
+IsDealt _ = ⊥
 
-result_same : (p : Image) (fr : Frame) (ts : List Task) (s : State) (g : Gives) (a x : ℕ) (below : List Task) (n : ℕ) → SameEntries s.cells (result_cells p fr ts s g a x below) n
-result_same p fr ts s (An_own t) a x below n k lt = held_apart s.cells (here fr ts s a) (Register (length below) x) (Entry k) refl refl
-result_same p fr ts s (A_maybe t) a x below n k lt = held_apart s.cells (here fr ts s a) (Register (length below) x) (Entry k) refl refl
-result_same p fr ts s _ a x below n k lt = refl
+-- what goes from another place goes there
+pub goes_there_now : (cs : List Cell) (q : Place) (d : ℕ) → held cs (Going d) ≡ None → same_place q (Going d) ≡ false → held (moved q (Going d) cs) (Going d) ≡ held cs q
+goes_there_now cs q d free apart =
+    held_moved cs q (Going d) (Going d) free ∙ ap (λ b. cond b (held cs q) (cond (same_place q (Going d)) None (held cs (Going d)))) (same_place_refl (Going d))
 
--- a session moves to its place, and no entry
-accepted_same : (d : Dispatch) (from : Place) (cs : List Cell) (n : ℕ) → ((k : ℕ) → same_place from (Entry k) ≡ false) → SameEntries cs (accepted_cells d from cs) n
-accepted_same (Of_server x c Accepts) from cs n apart k lt =
+-- where all these are as they were
+pub same_all : (cs cs' : List Cell) (n d : ℕ) → ((r : Place) → IsDealt r → held cs' r ≡ held cs r) → SameBelow cs cs' n d
+same_all cs cs' n d same = (λ k lt. same (Entry k) tt, λ k lt. same (Going k) tt)
+
+-- a move between two other places
+moved_apart : (cs : List Cell) (q r : Place) → ((e : Place) → IsDealt e → (same_place q e ≡ false) × (same_place r e ≡ false)) → (e : Place) → IsDealt e → held (moved q r cs) e ≡ held cs e
+moved_apart cs q r apart e dealt = let a = apart e dealt in held_apart cs q r e a.0 a.1
+
+register_apart : (d a : ℕ) (e : Place) → IsDealt e → same_place (Register d a) e ≡ false
+register_apart d a (Entry k) dealt = refl
+register_apart d a (Going k) dealt = refl
+register_apart d a _ dealt = absurd (assumption tt)
+
+-- what is dealt with is as it was
+stored_same : (cs : List Cell) (home : Home) (w : ℕ) (v : ℤ) (e : Place) → held (stored cs home w v) e ≡ held cs e
+stored_same cs Static w v e = refl
+stored_same cs AtRoot w v e = refl
+stored_same cs (Inside o from) w v e = held_set_word cs o.name w v e
+
+passed_same : (p : Image) (fr : Frame) (ts : List Task) (s : State) (d : ℕ) (xs : List Argument) (first to : ℕ) (cs : List Cell) (e : Place) → IsDealt e → held (passed_cells p fr ts s d xs first to cs) e ≡ held cs e
+passed_same p fr ts s d [] first to cs e dealt = refl
+passed_same p fr ts s d (Takes_word ∷ xs) first to cs e dealt = passed_same p fr ts s d xs (suc first) (suc to) cs e dealt
+passed_same p fr ts s d (Takes_own t ∷ xs) first to cs e dealt =
+    passed_same p fr ts s d xs (suc first) (suc to) (moved (here fr ts s first) (Register d to) cs) e dealt
+    ∙ held_apart cs (here fr ts s first) (Register d to) e (register_apart (length ts) first e dealt) (register_apart d to e dealt)
+
+result_same : (p : Image) (fr : Frame) (ts : List Task) (s : State) (g : Gives) (a x : ℕ) (below : List Task) (e : Place) → IsDealt e → held (result_cells p fr ts s g a x below) e ≡ held s.cells e
+result_same p fr ts s (An_own t) a x below e dealt = held_apart s.cells (here fr ts s a) (Register (length below) x) e (register_apart (length ts) a e dealt) (register_apart (length below) x e dealt)
+result_same p fr ts s (A_maybe t) a x below e dealt = held_apart s.cells (here fr ts s a) (Register (length below) x) e (register_apart (length ts) a e dealt) (register_apart (length below) x e dealt)
+result_same p fr ts s _ a x below e dealt = refl
+
+-- a session moves to its place
+pub session_apart : (n c : ℕ) (e : Place) → IsDealt e → same_place (Elsewhere (Session n c)) e ≡ false
+session_apart n c (Entry k) dealt = refl
+session_apart n c (Going k) dealt = refl
+session_apart n c _ dealt = absurd (assumption tt)
+
+accepted_same : (d : Dispatch) (from : Place) (cs : List Cell) → ((e : Place) → IsDealt e → same_place from e ≡ false) → (e : Place) → IsDealt e → held (accepted_cells d from cs) e ≡ held cs e
+accepted_same (Of_server x c Accepts) from cs apart e dealt =
     let there = Elsewhere (Session x.object.name c) in
-    held_served (moved from there cs) x.object.name (opened c (service_of (moved from there cs) x.object.name)) (Entry k) ∙ held_apart cs from there (Entry k) (apart k) refl
-accepted_same _ from cs n apart k lt = refl
+    held_served (moved from there cs) x.object.name (opened c (service_of (moved from there cs) x.object.name)) e ∙ held_apart cs from there e (apart e dealt) (session_apart x.object.name c e dealt)
+accepted_same _ from cs apart e dealt = refl
 
 -- the tables of depths and of heights
 pub record Tables (p : Image) (t : Typing) (depth heights : ℕ → ℕ) : Type 0 where
   pub wired : IsWired p
-  pub admitted : IsAdmitted p
   pub strongest : IsStrongest p t
   pub less : (m k : ℕ) → MayCall p m k → depth k < depth m
   pub own : (m n : ℕ) → StandsWith p m n → n ≤ heights m
@@ -142,22 +177,37 @@ pub record Tables (p : Image) (t : Typing) (depth heights : ℕ → ℕ) : Type 
 module _ (p : Image) (t : Typing) (depth heights : ℕ → ℕ) (tables : Tables p t depth heights) where
   -- ---- what leaves the cleanup stack is dealt with
 
-  pub begins_over : (cs : List Cell) (items : List Item) (o : Object) (ts : List Task) → ((m : ℕ) → destructor_of p o.thing ≡ Some m → IsUnder depth (depth m) ts) → Roomy p depth heights cs items ts → Roomy p depth heights cs items (begun p o (length items) ts)
-  begins_over cs items o ts under w = subst (λ us. Roomy p depth heights cs items us) (sym (begun_plain p tables.admitted o (length items) ts)) (go (destructor_of p o.thing) refl)
+  -- its destructor begins, if it has one
+  pub destructed_over : (cs : List Cell) (items : List Item) (o : Object) (ts : List Task) → ((m : ℕ) → Destructs p (Some o) m → IsUnder depth (depth m) ts) → Roomy p depth heights cs items ts → Roomy p depth heights cs items (destructed p o (length items) ts)
+  destructed_over cs items o ts under w = go (destructor_of p o.thing) refl
     where
       go : (d : Option ℕ) → destructor_of p o.thing ≡ d → Roomy p depth heights cs items (begun_by d o (length items) ts)
       go None e = w
       go (Some m) e =
           let x = destroys p tables.wired o.thing m e in
-          begins p depth heights cs items (frame_of m (Inside o (Going (length ts))) (length items)) (Destroy ∷ ts) refl (under m e) (λ may. absurd (pushes_none (is_quiet p m) (leaves p m) x.quiet x.stays may)) w
+          begins p depth heights cs items (frame_of m (Inside o (Going (length ts))) (length items)) (Destroy ∷ ts) refl (under m (own_destructs p o m e)) (λ may. absurd (pushes_none (is_quiet p m) (leaves p m) x.quiet x.stays may)) w
 
-  pub clears : (cs : List Cell) (items : List Item) (o : Object) (ts : List Task) → held cs (Entry (length items)) ≡ Some o → AllLow (length items) ts → Roomy p depth heights cs (An_object ∷ items) ts
+  -- of a server nothing is begun over another that lets go of its sessions
+  pub begins_over :
+      (cs : List Cell) (items : List Item) (o : Object) (ts : List Task) → held cs (Going (length ts)) ≡ Some o → ((m : ℕ) → Destructs p (Some o) m → IsUnder depth (depth m) ts) → (is_server p o.thing ≡ true → NoClosing ts) →
+      Roomy p depth heights cs items ts → Roomy p depth heights cs items (begun p o (length items) ts)
+  begins_over cs items o ts there under lone w = over (is_server p o.thing) refl
+    where
+      over : (b : Bool) → is_server p o.thing ≡ b → Roomy p depth heights cs items (cond b (Closing ∷ Destroy ∷ ts) (destructed p o (length items) ts))
+      over true server = closing_begins p depth heights cs items ts (λ m e. under m (subst (λ x. Destructs p x m) there e)) (lone server) w
+      over false plain = destructed_over cs items o ts under w
+
+  pub clears : (cs : List Cell) (items : List Item) (o : Object) (ts : List Task) → held cs (Entry (length items)) ≡ Some o → held cs (Going (length ts)) ≡ None → NoClosing ts → AllLow (length items) ts → Roomy p depth heights cs (An_object ∷ items) ts
       → Roomy p depth heights (moved (Entry (length items)) (Going (length ts)) cs) items (begun p o (length items) ts)
-  clears cs items o ts there low w =
+  clears cs items o ts there free lone low w =
       let cells' = moved (Entry (length items)) (Going (length ts)) cs in
-      begins_over cells' items o ts
-      (λ m d. top_under p depth heights cs An_object items ts m low (ap (destructor_in p) there ∙ d) w.1)
-      (recelled p depth heights cs cells' items ts (λ k lt. held_apart cs (Entry (length items)) (Going (length ts)) (Entry k) (entry_apart (length items) k lt) refl) (popped p depth heights cs An_object items ts low w))
+      begins_over cells' items o ts (goes_there_now cs (Entry (length items)) (length ts) free refl ∙ there)
+      (λ m d. top_under p depth heights cs An_object items ts m low (subst (λ x. Destructs p x m) (sym there) d) w.1)
+      (λ server. lone)
+      (recelled p depth heights cs cells' items ts (
+        λ k lt. held_apart cs (Entry (length items)) (Going (length ts)) (Entry k) (entry_apart (length items) k lt) refl,
+        λ k lt. held_apart cs (Entry (length items)) (Going (length ts)) (Going k) refl (going_apart (length ts) k lt),
+      ) (popped p depth heights cs An_object items ts low w))
 
   pub undoes : (cs : List Cell) (items : List Item) (m : ℕ) (w : ℤ) (ts : List Task) → IsUndo p m → AllLow (length items) ts → Roomy p depth heights cs (An_operation m w ∷ items) ts
       → Roomy p depth heights cs items (Run (operation_frame m w (length items)) ∷ ts)
@@ -178,7 +228,7 @@ module _ (p : Image) (t : Typing) (depth heights : ℕ → ℕ) (tables : Tables
 
   -- ---- a method's move
 
-  module _ (c : Choice) (fr : Frame) (ts : List Task) (s : State) (undos : AllUndo p s.items) (at_hand : s.tasks ≡ Run fr ∷ ts) (h : Stands_here p t s fr ts) (w : Roomy p depth heights s.cells s.items (Run fr ∷ ts)) where
+  module _ (c : Choice) (fr : Frame) (ts : List Task) (s : State) (undos : AllUndo p s.items) (at_hand : s.tasks ≡ Run fr ∷ ts) (h : Stands_here p t s fr ts) (unheld : held s.cells (Going (length (Run fr ∷ ts))) ≡ None) (w : Roomy p depth heights s.cells s.items (Run fr ∷ ts)) where
     abbrev R : State → Type 0
     R u = Roomy p depth heights u.cells u.items u.tasks
 
@@ -202,8 +252,8 @@ module _ (p : Image) (t : Typing) (depth heights : ℕ → ℕ) (tables : Tables
     counted_own : entries_in s.items ≡ length h.shape.entries + entries_in (below_height fr.height s.items)
     counted_own = own_entries h.shape.entries h.below s.items h.items ∙ ap (λ n. length h.shape.entries + entries_in (below_height n s.items)) (sym h.height)
 
-    moves : (cs' : List Cell) → SameEntries s.cells cs' (length s.items) → Roomy p depth heights cs' s.items (Run fr ∷ ts)
-    moves cs' same = recelled p depth heights s.cells cs' s.items (Run fr ∷ ts) same w
+    moves : (cs' : List Cell) → ((e : Place) → IsDealt e → held cs' e ≡ held s.cells e) → Roomy p depth heights cs' s.items (Run fr ∷ ts)
+    moves cs' same = recelled p depth heights s.cells cs' s.items (Run fr ∷ ts) (same_all s.cells cs' (length s.items) (length (Run fr ∷ ts)) same) w
 
     -- ---- calls
 
@@ -231,7 +281,7 @@ module _ (p : Image) (t : Typing) (depth heights : ℕ → ℕ) (tables : Tables
         begins p depth heights (given_cells p fr ts s (over_caller p fr ts s) m first) s.items (entered p fr ts s target m first (length s.items)) (Run fr ∷ ts) refl
         (may_call fr h.shape h.there (Call target m first x) m stands (inl refl))
         (λ may. finds (Call target m first x) m stands refl (pushes_from (is_quiet p fr.method) (is_quiet p m) (leaves p fr.method) (leaves p m) more.1.1.0 more.1.1.1.1.0 may))
-        (moves (given_cells p fr ts s (over_caller p fr ts s) m first) (λ k lt. passed_same p fr ts s _ (arguments_of p m) first 0 s.cells k))
+        (moves (given_cells p fr ts s (over_caller p fr ts s) m first) (λ e dealt. passed_same p fr ts s _ (arguments_of p m) first 0 s.cells e dealt))
 
     trap_room : (target : Target) (m first x : ℕ) → instr_at p fr.method fr.place ≡ Some (Trap target m first x) → not (is_quiet p fr.method) ≡ true → R (applied p fr ts s (Sets_trap target m first))
     trap_room target m first x stands loud =
@@ -240,7 +290,7 @@ module _ (p : Image) (t : Typing) (depth heights : ℕ → ℕ) (tables : Tables
         begins p depth heights cells' (A_mark ∷ s.items) (entered p fr ts s target m first (length (A_mark ∷ s.items))) (Trapped ∷ Run fr ∷ ts) refl
         (may_call fr h.shape h.there (Trap target m first x) m stands (inl refl))
         (λ _. finds (Trap target m first x) m stands refl may)
-        (item_pushed p depth heights cells' A_mark s.items (Run fr ∷ ts) all_low (λ k e. cc) w.3 (moves cells' (λ k lt. passed_same p fr ts s _ (arguments_of p m) first 0 s.cells k)))
+        (item_pushed p depth heights cells' A_mark s.items (Run fr ∷ ts) all_low (λ k e. absurd e) w.3 (moves cells' (λ e dealt. passed_same p fr ts s _ (arguments_of p m) first 0 s.cells e dealt)))
 
     -- ---- returns
 
@@ -270,29 +320,31 @@ module _ (p : Image) (t : Typing) (depth heights : ℕ → ℕ) (tables : Tables
     abbrev over : State
     over = record s { cells = ended_cells p fr s.cells }
 
-    ended_same : SameEntries s.cells over.cells (length s.items)
-    ended_same k lt = (ended_alike p fr s.cells).held_so (Entry k)
+    ended_same : (e : Place) → held over.cells e ≡ held s.cells e
+    ended_same e = (ended_alike p fr s.cells).held_so e
+
+    -- these tasks find the cells as they were
+    again : (cs' : List Cell) (items : List Item) (us : List Task) → ((e : Place) → IsDealt e → held cs' e ≡ held over.cells e) → Roomy p depth heights s.cells items us → Roomy p depth heights cs' items us
+    again cs' items us same v = recelled p depth heights s.cells cs' items us (same_all s.cells cs' (length items) (length us) (λ e dealt. same e dealt ∙ ended_same e)) v
 
     return_room : (g : Gives) (a : ℕ) (below : List Task) → LowUnder fr.height below → Roomy p depth heights s.cells s.items below → R (returned p fr ts over g a below)
     return_room g a (Run caller ∷ below) low v =
         let x = result_register (instr_at p caller.method caller.place) in
         let cells' = result_cells p fr ts over g a x below in
-        let v' = recelled p depth heights s.cells over.cells s.items (Run caller ∷ below) ended_same v in
-        goes_back cells' s.items g a x caller below (recelled p depth heights over.cells cells' s.items (Run caller ∷ below) (result_same p fr ts over g a x below (length s.items)) v')
+        goes_back cells' s.items g a x caller below (again cells' s.items (Run caller ∷ below) (result_same p fr ts over g a x below) v)
     return_room g a (Trapped ∷ Run caller ∷ below) low v =
         let x = result_register (instr_at p caller.method caller.place) in
         let cells' = result_cells p fr ts over g a x below in
-        let v' = recelled p depth heights s.cells over.cells s.items (Run caller ∷ below) ended_same v in
         goes_back_trapped cells' (below_top s.items) g a x caller below (Some (pos 0))
-        (popped_top p depth heights cells' s.items (Run caller ∷ below) (low_top (Run caller ∷ below) low) (recelled p depth heights over.cells cells' s.items (Run caller ∷ below) (result_same p fr ts over g a x below (length s.items)) v'))
+        (popped_top p depth heights cells' s.items (Run caller ∷ below) (low_top (Run caller ∷ below) low) (again cells' s.items (Run caller ∷ below) (result_same p fr ts over g a x below) v))
     return_room g a (Trapped ∷ Dispatched d ∷ below) low v =
         let cells' = accepted_cells d (here fr ts over a) over.cells in
         popped_top p depth heights cells' s.items (Dispatched (ended_well d) ∷ below) (low_top (Dispatched d ∷ below) low)
-        (recelled p depth heights over.cells cells' s.items (Dispatched (ended_well d) ∷ below) (accepted_same d (here fr ts over a) over.cells (length s.items) (λ k. refl)) (recelled p depth heights s.cells over.cells s.items (Dispatched d ∷ below) ended_same v))
-    return_room g a (Destroy ∷ below) low v = recelled p depth heights s.cells over.cells s.items (Destroy ∷ below) ended_same v
-    return_room g a (Dispatched d ∷ below) low v = recelled p depth heights s.cells over.cells s.items (Dispatched d ∷ below) ended_same v
-    return_room g a (Unwind code ∷ below) low v = recelled p depth heights s.cells over.cells s.items (Unwind code ∷ below) ended_same v
-    return_room g a _ low v = recelled p depth heights s.cells over.cells s.items s.tasks ended_same given
+        (again cells' s.items (Dispatched (ended_well d) ∷ below) (accepted_same d (here fr ts over a) over.cells (register_apart (length ts) a)) v)
+    return_room g a (Destroy ∷ below) low v = again over.cells s.items (Destroy ∷ below) (λ e dealt. refl) v
+    return_room g a (Dispatched d ∷ below) low v = again over.cells s.items (Dispatched d ∷ below) (λ e dealt. refl) v
+    return_room g a (Unwind code ∷ below) low v = again over.cells s.items (Unwind code ∷ below) (λ e dealt. refl) v
+    return_room g a _ low v = again over.cells s.items s.tasks (λ e dealt. refl) given
 
     -- ---- cancels
 
@@ -306,7 +358,7 @@ module _ (p : Image) (t : Typing) (depth heights : ℕ → ℕ) (tables : Tables
         begins p depth heights (begun_cells fr s.cells) s.items (frame_of m fr.home (length s.items)) (Run fr ∷ ts) refl
         (may_call fr h.shape h.there Cancel m stands among)
         (λ may. absurd (pushes_none (is_quiet p m) (leaves p m) quiet stays may))
-        (moves (begun_cells fr s.cells) (λ k lt. (rerequested_alike s.cells fr.home (on_request cancelling (own_request s.cells fr.home))).held_so (Entry k)))
+        (moves (begun_cells fr s.cells) (λ e dealt. (rerequested_alike s.cells fr.home (on_request cancelling (own_request s.cells fr.home))).held_so e))
 
     -- ---- the cleanup stack
 
@@ -327,9 +379,12 @@ module _ (p : Image) (t : Typing) (depth heights : ℕ → ℕ) (tables : Tables
         Leads t fr.method (suc fr.place) (with_entry (entry_of (register h.shape a)) (set_register h.shape a Null)) → After (Pushed a)
     push_room a stands leave leads =
         item_pushed p depth heights (moved (here fr ts s a) (Entry (length s.items)) s.cells) An_object s.items (Run fr ∷ ts) all_low
-        (λ m e. some_given (λ o. (Fits p (seen s.cells) o (register h.shape a)) × (destructor_in p o ≡ Some m)) (held s.cells (here fr ts s a)) (h.fits a, sym (ap (destructor_in p) there_now) ∙ e) (λ given. cc) (λ o _ given. may_call fr h.shape h.there (Push a) m stands (destructor_among p (seen s.cells) o (register h.shape a) m given.0 given.1)))
+        (λ m e. some_given (λ o. (Fits p (seen s.cells) o (register h.shape a)) × Destructs p o m) (held s.cells (here fr ts s a)) (h.fits a, subst (λ x. Destructs p x m) there_now e) (λ given. given.1) (λ o _ given. may_call fr h.shape h.there (Push a) m stands (destructs_as p (seen s.cells) o (register h.shape a) m given.0 given.1)))
         (let few = pushes (Push a) (with_entry (entry_of (register h.shape a)) (set_register h.shape a Null)) stands leave leads refl in omega (arith, few))
-        (moves (moved (here fr ts s a) (Entry (length s.items)) s.cells) (λ k lt. held_apart s.cells (here fr ts s a) (Entry (length s.items)) (Entry k) refl (entry_apart (length s.items) k lt)))
+        (recelled p depth heights s.cells (moved (here fr ts s a) (Entry (length s.items)) s.cells) s.items (Run fr ∷ ts) (
+          λ k lt. held_apart s.cells (here fr ts s a) (Entry (length s.items)) (Entry k) refl (entry_apart (length s.items) k lt),
+          λ k lt. held_apart s.cells (here fr ts s a) (Entry (length s.items)) (Going k) refl refl,
+        ) w)
       where
         -- what the register owned is in the entry's place
         there_now : held (moved (here fr ts s a) (Entry (length s.items)) s.cells) (Entry (length s.items)) ≡ held s.cells (here fr ts s a)
@@ -340,7 +395,7 @@ module _ (p : Image) (t : Typing) (depth heights : ℕ → ℕ) (tables : Tables
         After (Pushed_operation m v)
     push_operation_room a m v stands leave leads =
         item_pushed p depth heights s.cells (An_operation m v) s.items (Run fr ∷ ts) all_low
-        (λ k e. let same : m ≡ k = cc in subst (λ x. depth x < depth fr.method) same (may_call fr h.shape h.there (PushOperation a m) m stands (inl refl)))
+        (λ k e. subst (λ x. depth x < depth fr.method) (sym e) (may_call fr h.shape h.there (PushOperation a m) m stands (inl refl)))
         (let few = pushes (PushOperation a m) (with_entry Operation h.shape) stands leave leads refl in omega (arith, few))
         w
 
@@ -361,7 +416,7 @@ module _ (p : Image) (t : Typing) (depth heights : ℕ → ℕ) (tables : Tables
         go items low room =
             let cells' = moved (top_place items) (here fr ts s a) s.cells in
             recelled p depth heights s.cells cells' (below_top items) (Run fr ∷ ts)
-            (λ k lt. held_apart s.cells (top_place items) (here fr ts s a) (Entry k) (entry_apart (length (below_top items)) k lt) refl)
+            (λ k lt. held_apart s.cells (top_place items) (here fr ts s a) (Entry k) (entry_apart (length (below_top items)) k lt) refl, λ k lt. held_apart s.cells (top_place items) (here fr ts s a) (Going k) refl refl)
             (popped_top p depth heights s.cells items (Run fr ∷ ts) low room)
 
     -- ---- the effects
@@ -375,20 +430,34 @@ module _ (p : Image) (t : Typing) (depth heights : ℕ → ℕ) (tables : Tables
     stands_as : (i j : Instr) → instr_at p fr.method fr.place ≡ Some i → i ≡ j → instr_at p fr.method fr.place ≡ Some j
     stands_as i j stands e = stands ∙ ap (λ x. Some x) e
 
-    spot_apart : (x : Spot) (k : ℕ) → same_place (spot_place p fr ts s x) (Entry k) ≡ false
-    spot_apart (In_register a) k = refl
-    spot_apart (In_field f) k = field_apart fr.home f k
-    spot_apart The_message k = refl
+    spot_apart : (x : Spot) (e : Place) → IsDealt e → same_place (spot_place p fr ts s x) e ≡ false
+    spot_apart (In_register a) e dealt = register_apart (length ts) a e dealt
+    spot_apart (In_field f) (Entry k) dealt = field_apart fr.home f k
+    spot_apart (In_field f) (Going k) dealt = field_stays fr.home f k
+    spot_apart (In_field f) _ dealt = absurd (assumption tt)
+    spot_apart The_message (Entry k) dealt = refl
+    spot_apart The_message (Going k) dealt = refl
+    spot_apart The_message _ dealt = absurd (assumption tt)
+
+    made_same : (name x a : ℕ) (e : Place) → IsDealt e → held (cells_after p fr ts s (Made name x a)) e ≡ held s.cells e
+    made_same name x a (Entry k) dealt = refl
+    made_same name x a (Going k) dealt = refl
+    made_same name x a _ dealt = absurd (assumption tt)
+
+    replied_same : (a : ℕ) (e : Place) → IsDealt e → held (cells_after p fr ts s (Replied a)) e ≡ held s.cells e
+    replied_same a (Entry k) dealt = held_without s.cells (here fr ts s a) (Entry k)
+    replied_same a (Going k) dealt = held_without s.cells (here fr ts s a) (Going k)
+    replied_same a _ dealt = absurd (assumption tt)
 
     -- after an update, with the method on top
     updated_room : (i : Instr) → instr_at p fr.method fr.place ≡ Some i → Ruled i → Leading i → (u : Update) → FitsUpdate ts s.items i u → After u
     updated_room i stands r n Same f = w
-    updated_room i stands r n (Carried from to) f = moves (cells_after p fr ts s (Carried from to)) (λ k lt. held_apart s.cells (spot_place p fr ts s from) (spot_place p fr ts s to) (Entry k) (spot_apart from k) (spot_apart to k))
-    updated_room i stands r n (Made name x a) f = moves (cells_after p fr ts s (Made name x a)) (λ k lt. refl)
-    updated_room i stands r n (Written x v) f = moves (cells_after p fr ts s (Written x v)) (stored_same s.cells fr.home x (length s.items) v)
-    updated_room i stands r n (Requested q) f = moves (cells_after p fr ts s (Requested q)) (λ k lt. (rerequested_alike s.cells fr.home q).held_so (Entry k))
-    updated_room i stands r n (Sessioned b) f = moves (cells_after p fr ts s (Sessioned b)) (λ k lt. (resessioned_alike s.cells fr.home b).held_so (Entry k))
-    updated_room i stands r n (Replied a) f = moves (cells_after p fr ts s (Replied a)) (λ k lt. held_without s.cells (here fr ts s a) (Entry k))
+    updated_room i stands r n (Carried from to) f = moves (cells_after p fr ts s (Carried from to)) (λ e dealt. held_apart s.cells (spot_place p fr ts s from) (spot_place p fr ts s to) e (spot_apart from e dealt) (spot_apart to e dealt))
+    updated_room i stands r n (Made name x a) f = moves (cells_after p fr ts s (Made name x a)) (made_same name x a)
+    updated_room i stands r n (Written x v) f = moves (cells_after p fr ts s (Written x v)) (λ e dealt. stored_same s.cells fr.home x v e)
+    updated_room i stands r n (Requested q) f = moves (cells_after p fr ts s (Requested q)) (λ e dealt. (rerequested_alike s.cells fr.home q).held_so e)
+    updated_room i stands r n (Sessioned b) f = moves (cells_after p fr ts s (Sessioned b)) (λ e dealt. (resessioned_alike s.cells fr.home b).held_so e)
+    updated_room i stands r n (Replied a) f = moves (cells_after p fr ts s (Replied a)) (replied_same a)
     updated_room i stands r n (Pushed a) f = push_room a (stands_as i _ stands f.0) (subst Ruled f.0 r).1.0 (subst Leading f.0 n).0
     updated_room i stands r n (Pushed_operation m v) f = push_operation_room f.0 m v (stands_as i _ stands f.1) (subst Ruled f.1 r).1.0 (subst Leading f.1 n).0
     updated_room i stands r n (Popped a) f = pop_room a (subst Ruled f.0 r).1.0
@@ -396,12 +465,17 @@ module _ (p : Image) (t : Typing) (depth heights : ℕ → ℕ) (tables : Tables
 
     -- an object of a register goes
     delete_room :
-        (o : Object) (a : ℕ) (words : List (Option ℤ)) → instr_at p fr.method fr.place ≡ Some (Delete a) → Fits p (seen s.cells) (Some o) (register h.shape a) →
+        (o : Object) (a : ℕ) (words : List (Option ℤ)) → instr_at p fr.method fr.place ≡ Some (Delete a) → held s.cells (here fr ts s a) ≡ Some o → Fits p (seen s.cells) (Some o) (register h.shape a) →
         R (applied p fr ts s (Destroys o a words))
-    delete_room o a words stands fits =
+    delete_room o a words stands there fits =
         begins_over (moved (here fr ts s a) (Going (length (Run fr ∷ ts))) s.cells) s.items o (Run (with_words fr words) ∷ ts)
-        (λ m e. may_call fr h.shape h.there (Delete a) m stands (destructor_among p (seen s.cells) o (register h.shape a) m fits e))
-        (moves (moved (here fr ts s a) (Going (length (Run fr ∷ ts))) s.cells) (λ k lt. held_apart s.cells (here fr ts s a) (Going (length (Run fr ∷ ts))) (Entry k) refl refl))
+        (goes_there_now s.cells (here fr ts s a) (length (Run fr ∷ ts)) unheld refl ∙ there)
+        (λ m e. may_call fr h.shape h.there (Delete a) m stands (destructs_as p (seen s.cells) o (register h.shape a) m fits e))
+        (λ server. tt)
+        (recelled p depth heights s.cells (moved (here fr ts s a) (Going (length (Run fr ∷ ts))) s.cells) s.items (Run fr ∷ ts) (
+          λ k lt. held_apart s.cells (here fr ts s a) (Going (length (Run fr ∷ ts))) (Entry k) refl refl,
+          λ k lt. held_apart s.cells (here fr ts s a) (Going (length (Run fr ∷ ts))) (Going k) refl (going_apart (length (Run fr ∷ ts)) k lt),
+        ) w)
 
     pub acts_room : (i : Instr) → instr_at p fr.method fr.place ≡ Some i → Ruled i → Leading i → (e : Effect) → May p c fr ts s i e → R (applied p fr ts s e)
     acts_room i stands r n (Goes_on ch) f = updated_room i stands r n ch.update f.1
@@ -416,6 +490,6 @@ module _ (p : Image) (t : Typing) (depth heights : ℕ → ℕ) (tables : Tables
         let cs = cells_after p fr ts s u in
         let items = items_after u s.items in
         off_to_trap p depth heights cs items ts (dropped p depth heights cs items fr ts (updated_room i stands r n u f.2))
-    acts_room i stands r n (Destroys o a words) f = delete_room o a words (stands_as i _ stands f.0) (subst (λ x. Fits p (seen s.cells) x (register h.shape a)) f.1 (h.fits a))
-    acts_room i stands r n (Destroys_last o) f = clears s.cells (below_top s.items) o (Run fr ∷ ts) f.2 (low_below (subst Ruled f.0 r).0) (subst (λ is. Roomy p depth heights s.cells is (Run fr ∷ ts)) f.1 w)
+    acts_room i stands r n (Destroys o a words) f = delete_room o a words (stands_as i _ stands f.0) f.1 (subst (λ x. Fits p (seen s.cells) x (register h.shape a)) f.1 (h.fits a))
+    acts_room i stands r n (Destroys_last o) f = clears s.cells (below_top s.items) o (Run fr ∷ ts) f.2 unheld tt (low_below (subst Ruled f.0 r).0) (subst (λ is. Roomy p depth heights s.cells is (Run fr ∷ ts)) f.1 w)
     acts_room i stands r n (Operates m v) f = undoes s.cells (below_top s.items) m v (Run fr ∷ ts) (subst (λ is. AllUndo p is) f.1 undos).0 (low_below (subst Ruled f.0 r).0) (subst (λ is. Roomy p depth heights s.cells is (Run fr ∷ ts)) f.1 w)

@@ -1,6 +1,9 @@
 -- Each move of a well-typed state keeps the room that a run needs.
-use Rattle.std.proofs.lemmas.Option.{same_Some}
-use Rattle.std.proofs.Common.{Bool, List, None, Option, Some, [], ap, arith, cond, false, length, pos, refl, subst, sym, true, ℕ, ℤ, ◌∙◌, ◌∷◌, ◌≡◌, ◌≤◌}
+use Rattle.std.proofs.lemmas.Option.{none-some, same_Some}
+use Rattle.std.proofs.Common.{Bool, List, None, Option, Some, [], ap, arith, cond, false, inr, length, pos, refl, subst, sym, true, ℕ, ℤ, ◌++◌, ◌∙◌, ◌∷◌, ◌≡◌, ◌≤◌}
+use Rattle.std.proofs.lemmas.Bool.{eq-eqb, true≢false}
+use Rattle.std.proofs.lemmas.List.{append-nil}
+use Rattle.std.specs.Prelude.{is_some}
 use Rattle.std.specs.Ordering.{int_eq}
 use Rattle.aom_image.specs.declared.method.Role.TheVariants.{Error as Answers}
 use Rattle.aom_image.specs.Image.{Image}
@@ -18,31 +21,110 @@ use Rattle.aom_budget.specs.Depths.{HasDepths}
 use Rattle.aom_budget.specs.Heights.{HasHeights}
 use Rattle.aom_sound.proofs.Moving.{steps_are_moves}
 use Rattle.aom_sound.specs.Effects.{Effect, applied}
+use Rattle.aom_roles.specs.Classes.{sessions_at, sessions_in}
+use Rattle.aom_roles.specs.Shapes.{kind_of}
+use Rattle.aom_image.specs.declared.method.Thing.{Thing}
+use Rattle.aom_image.specs.declared.method.Thing.TheVariants.{Object as An_object_of, Message}
+use Rattle.aom_budget.specs.Calls.{Among, destructors, listed, thing_class, destructor_of as budget_destructor}
+use Rattle.aom_shape.specs.Kinds.{filled}
+use Rattle.aom_shape.specs.declared.kind.Filling.TheVariants.{Full}
+use Rattle.aom_shape.specs.declared.kind.Kind.TheVariants.{Null}
+use Rattle.aom_sound.proofs.Claimed.{claim_going_above}
+use Rattle.aom_sound.proofs.Straight.{fits_unowning}
+use Rattle.aom_sound.proofs.Things.{stands_same}
+use Rattle.aom_sound.specs.Destruction.{first_session, parting, seat_or}
 use Rattle.aom_sound.specs.Steps.{Empties, Acts, Arrives, Clears, Comes_out, Ends, Fits, Move, Rests, Undoes, Vanishes}
 use Rattle.aom_sound.proofs.Maps.{held_without}
 use Rattle.aom_sound.specs.Calls.{called, result_register}
 use Rattle.aom_sound.specs.Cleanup.{code_told}
 use Rattle.aom_sound.specs.Laws.{IsWired}
 use Rattle.aom_sound.proofs.Layers.{closing_layer, dispatch_layer}
-use Rattle.aom_sound.specs.Claims.{Dispatching, forms, items_of}
+use Rattle.aom_sound.specs.Claims.{Dispatching, Dying, Ending, Layer, claim, declared, forms, items_of, tasks_of}
 use Rattle.aom_sound.specs.Enlisted.{part_of}
 use Rattle.aom_sound.specs.Moves.{answered, asking, counted, dispatch_ends, error_frame, failed, handled, main_ends, object_ends, step}
-use Rattle.aom_sound.specs.Places.{service_of, Entry, Cell, Elsewhere, Going, Object, Root, held, moved, without}
-use Rattle.aom_sound.specs.State.{Parts, Service_left, Serves, Of_server, Destroy, Accepts, Accepted, Accept_left, A_mark, An_object, An_operation, Answered, Asks, Choice, Dispatch, Dispatched, Frame, Goes, Home, Item, Main_left, Object_left, Of_main, Of_object, Of_root, Rest, Run, Seat, State, Task, Trapped, Unwind, frame_of, next}
-use Rattle.aom_sound.specs.WellTyped.{AllUndo, Good, WellTyped}
+use Rattle.aom_sound.specs.Places.{service_of, Entry, Cell, Elsewhere, Going, Object, Place, Root, Session, held, moved, same_place, seen, without}
+use Rattle.aom_sound.specs.State.{Parts, Service_left, Serves, Of_server, Closing, Destroy, Accepts, Accepted, Accept_left, A_mark, An_object, An_operation, Answered, Asks, Choice, Dispatch, Dispatched, Frame, Goes, Home, Item, Main_left, Object_left, Of_main, Of_object, Of_root, Rest, Run, Seat, State, Task, Trapped, Unwind, frame_of, next}
+use Rattle.aom_sound.specs.WellTyped.{AllUndo, Fits as Fits_kind, Good, IsOverDying, WellTyped}
 use Rattle.aom_sound.specs.World.{boot_state, main_tasks}
-use Rattle.aom_parts.specs.Room.{HasRoom, entries_in}
-use Rattle.aom_parts.proofs.Depths.{SameEntries, Roomy, on_again, popped, recelled}
+use Rattle.aom_parts.specs.Room.{Destructs, HasRoom, entries_in}
+use Rattle.aom_parts.proofs.Depths.{Roomy, held_apart, on_again, popped, recelled}
 use Rattle.aom_parts.proofs.Heights.{Stands_here, low_unwinding, stands_here}
-use Rattle.aom_acts.proofs.RoomActs.{Tables, acts_room, begins_over, clears, undoes}
-use Rattle.aom_classes.specs.Admitted.{IsAdmitted}
+use Rattle.aom_acts.proofs.RoomActs.{IsDealt, Tables, acts_room, begins_over, clears, destructed_over, goes_there_now, going_apart, session_apart, undoes}
 use Rattle.aom_clients.specs.declared.client.Client.{Client}
-use Rattle.aom_sound.proofs.Dropping.{queue_dropped, held_dropped}
+use Rattle.aom_sound.proofs.Dropping.{dropped, queue_dropped, held_dropped}
 use Rattle.aom_sound.proofs.Unslotting.{each_unslotted_alike}
 use Rattle.aom_sound.specs.Clients.{each_unslotted}
-use Rattle.aom_sound.specs.Servers.{without_queue, is_queue_of}
-use Rattle.aom_parts.proofs.Nobody.{no_server}
-use Rattle.std.proofs.lemmas.Bool.{true≢false}
+use Rattle.aom_sound.specs.Servers.{is_among, is_queue_of, is_server, of_class, session_class, without_queue}
+
+-- ---- sessions
+
+-- what runs as a session goes runs as its server does, and a session is no server
+pub record SessionOf (p : Image) (o so : Object) : Type 0 where
+  pub destructs : (m : ℕ) → Destructs p (Some so) m → Destructs p (Some o) m
+  pub plain : is_server p so.thing ≡ false
+
+among_right : (m : ℕ) (xs ys : List ℕ) → Among m ys → Among m (xs ++ ys)
+among_right m [] ys h = h
+among_right m (x ∷ xs) ys h = inr (among_right m xs ys h)
+
+session_so : (p : Image) → IsWired p → (o so : Object) (class : ℕ) → session_class p o.thing ≡ Some class → so.thing ≡ An_object_of class → SessionOf p o so
+unfolding kind_of sessions_in
+session_so p wired o so class has is = go o.thing has
+  where
+    none : (k : ℕ) → sessions_at p k ≡ Some class → sessions_at p class ≡ None
+    none k e = (wired.sessions k class e).1
+
+    go : (x : Thing) → session_class p x ≡ Some class → SessionOf p (record { name = o.name; thing = x }) so
+    go (An_object_of k) has = record {
+      destructs = λ m d.
+          let own : Among m (listed (budget_destructor p (Some class)) ++ []) =
+          subst (λ j. Among m (listed (budget_destructor p (Some class)) ++ listed (budget_destructor p j))) (none k has) (subst (λ y. Among m (destructors p (thing_class y))) is d) in
+          among_right m (listed (budget_destructor p (Some k))) (listed (budget_destructor p (sessions_at p k))) (subst (λ j. Among m (listed (budget_destructor p j))) (sym has) (subst (Among m) (append-nil (listed (budget_destructor p (Some class)))) own));
+      plain = ap (is_server p) is ∙ ap is_some (none k has);
+    }
+    go Message has = absurd (none-some class has)
+
+-- the first of a server's sessions stands at its client's place
+pub first_held : (cs : List Cell) (n : ℕ) (clients : List ℕ) (x : Seat) → first_session cs n clients ≡ Some x → (c : ℕ) × (x.place ≡ Elsewhere (Session n c)) × (held cs (Elsewhere (Session n c)) ≡ Some x.object)
+first_held cs n [] x e = cc
+first_held cs n (d ∷ clients) x e = go (held cs (Elsewhere (Session n d))) refl e (λ e. first_held cs n clients x e)
+  where
+    go :
+        (o : Option Object) → held cs (Elsewhere (Session n d)) ≡ o → seat_or o (Elsewhere (Session n d)) (first_session cs n clients) ≡ Some x →
+        (first_session cs n clients ≡ Some x → (c : ℕ) × (x.place ≡ Elsewhere (Session n c)) × (held cs (Elsewhere (Session n c)) ≡ Some x.object)) →
+        (c : ℕ) × (x.place ≡ Elsewhere (Session n c)) × (held cs (Elsewhere (Session n c)) ≡ Some x.object)
+    go None there e later = later e
+    go (Some o) there e later =
+        let same : record { object = o; place = Elsewhere (Session n d) } ≡ x = cc in
+        (d, sym (ap (λ (y : Seat). y.place) same), there ∙ ap (λ (y : Seat). Some y.object) same)
+
+-- of what lets go of its sessions
+pub session_told : (p : Image) (t : Typing) → IsWired p → (s : State) → WellTyped p t s → (ts : List Task) (o : Object) → s.tasks ≡ Closing ∷ Destroy ∷ ts → held s.cells (Going (length ts)) ≡ Some o → (c : ℕ) (so : Object)
+    → held s.cells (Elsewhere (Session o.name c)) ≡ Some so → SessionOf p o so
+session_told p t wired s w ts o at there c so holds = closing_layer (λ ls. Good p t s.cells ls) (Destroy ∷ ts) w.layers (sym w.tasks ∙ at) w.good over
+  where
+    its_thing : (x : Option ℕ) → session_class p o.thing ≡ x → (b : Bool) → Fits_kind p (seen s.cells) (Some so) (cond b (filled (of_class x) Full) Null) → SessionOf p o so
+    its_thing (Some class) e true f = session_so p wired o so class e (stands_same p so.thing (An_object_of class) f.0)
+    its_thing None e true f = absurd f
+    its_thing x e false f = absurd f
+
+    of_server : (left : List ℕ) (ls : List Layer) → Good p t s.cells (Ending o left ∷ ls) → SessionOf p o so
+    of_server left ls good = its_thing (session_class p o.thing) refl (is_among c left)
+        (subst (λ b. Fits_kind p (seen s.cells) (Some so) (cond b (cond (is_among c left) (filled (of_class (session_class p o.thing)) Full) Null) (claim p (declared p s.cells) ls (Elsewhere (Session o.name c))))) (eq-eqb o.name o.name refl)
+        (subst (λ y. Fits_kind p (seen s.cells) y (claim p (declared p s.cells) (Ending o left ∷ ls) (Elsewhere (Session o.name c)))) holds (good.fits (Elsewhere (Session o.name c)))))
+
+    right_under : (x : Object) (left : List ℕ) (ls : List Layer) → tasks_of ls ≡ Destroy ∷ ts → Good p t s.cells (Ending x left ∷ ls) → IsOverDying x ls → SessionOf p o so
+    right_under x left (Dying y ∷ ls) under good same =
+        let below : tasks_of ls ≡ ts = cc in
+        let held_there : held s.cells (Going (length ts)) ≡ Some y = ap (λ us. held s.cells (Going (length us))) (sym below) ∙ good.stack.3.0.1 in
+        let is : x ≡ o = sym same ∙ same_Some y o (sym held_there ∙ there) in
+        of_server left (Dying y ∷ ls) (subst (λ z. Good p t s.cells (Ending z left ∷ Dying y ∷ ls)) is good)
+    right_under x left _ under good same = absurd same
+
+    over : (x : Object) (left : List ℕ) (ls : List Layer) → tasks_of ls ≡ Destroy ∷ ts → Good p t s.cells (Ending x left ∷ ls) → SessionOf p o so
+    over x left ls under good = right_under x left ls under good good.stack.2
+
+-- ---- ends
 
 -- where a dispatch is at its end nothing is on the cleanup stack
 pub none_formed : (items : List Item) → forms items ≡ [] → items ≡ []
@@ -52,6 +134,15 @@ none_formed (i ∷ items) e = cc
 pub bare_end : (p : Image) (t : Typing) (s : State) (d : Dispatch) (ts : List Task) → WellTyped p t s → s.tasks ≡ Dispatched d ∷ ts → s.items ≡ []
 bare_end p t s d ts typed at = dispatch_layer (λ ls. (forms s.items ≡ items_of ls) × Good p t s.cells ls) d ts typed.layers (sym typed.tasks ∙ at) (typed.items, typed.good)
     (λ seats ls _ h. none_formed s.items (h.0 ∙ ap (λ b. items_of (Dispatching d seats ∷ b)) h.1.stack.1))
+
+pub lone_end : (p : Image) (t : Typing) (s : State) (d : Dispatch) (ts : List Task) → WellTyped p t s → s.tasks ≡ Dispatched d ∷ ts → length s.tasks ≡ 1
+lone_end p t s d ts typed at = dispatch_layer (λ ls. (length s.tasks ≡ length (tasks_of ls)) × Good p t s.cells ls) d ts typed.layers (sym typed.tasks ∙ at) (ap length typed.tasks, typed.good)
+    (λ seats ls _ h. h.0 ∙ ap (λ b. length (tasks_of (Dispatching d seats ∷ b))) h.1.stack.1)
+
+-- nothing is at hand to go past the tasks
+pub none_going_there : (p : Image) (t : Typing) (s : State) → WellTyped p t s → (k : ℕ) → length s.tasks ≡ k → held s.cells (Going k) ≡ None
+none_going_there p t s w k is =
+    fits_unowning p (seen s.cells) (held s.cells (Going k)) Null refl (subst (λ x. Fits_kind p (seen s.cells) (held s.cells (Going k)) x) (claim_going_above p s.cells w.layers k (omega (arith, ap length w.tasks, is))) (w.good.fits (Going k)))
 
 module _ (p : Image) (t : Typing) (depth heights : ℕ → ℕ) (tables : Tables p t depth heights) where
   abbrev RoomyState : State → Type 0
@@ -70,18 +161,20 @@ module _ (p : Image) (t : Typing) (depth heights : ℕ → ℕ) (tables : Tables
   told s (Left y) x code fr items ts w = w
 
   -- a dispatch ends, and its method that answers finds all the room that there is
-  module _ (within : (m : ℕ) → heights m ≤ 1024) (s : State) (bare : s.items ≡ []) where
-    root_roomy : (v : State) → v.cells ≡ s.cells → v.items ≡ s.items → (b : Bool) (root : Option Object) → RoomyState (main_ends p b root v)
-    root_roomy v cells items true (Some o) =
-        begins_over p t depth heights tables (moved (Elsewhere Root) (Going 1) v.cells) v.items o (Dispatched Of_root ∷ []) (λ m e. tt) (tt, tt, tt, few v (items ∙ bare))
-    root_roomy v cells items true None = (tt, tt, tt, few v (items ∙ bare))
-    root_roomy v cells items false root = (tt, tt, tt, few v (items ∙ bare))
+  module _ (within : (m : ℕ) → heights m ≤ 1024) (s : State) (bare : s.items ≡ []) (free : held s.cells (Going 1) ≡ None) where
+    root_roomy : (v : State) → v.cells ≡ s.cells → v.items ≡ s.items → (b : Bool) (root : Option Object) → held s.cells (Elsewhere Root) ≡ root → RoomyState (main_ends p b root v)
+    root_roomy v cells items true (Some o) holds =
+        begins_over p t depth heights tables (moved (Elsewhere Root) (Going 1) v.cells) v.items o (Dispatched Of_root ∷ [])
+        (goes_there_now v.cells (Elsewhere Root) 1 (ap (λ cs. held cs (Going 1)) cells ∙ free) refl ∙ ap (λ cs. held cs (Elsewhere Root)) cells ∙ holds)
+        (λ m e. tt) (λ server. tt) (tt, tt, tt, few v (items ∙ bare))
+    root_roomy v cells items true None holds = (tt, tt, tt, few v (items ∙ bare))
+    root_roomy v cells items false root holds = (tt, tt, tt, few v (items ∙ bare))
 
     answer_roomy : (answer : ℤ) → RoomyState (answered p answer s)
     answer_roomy answer = go (int_eq answer (pos 0))
       where
         go : (b : Bool) → RoomyState (cond b (object_ends p s) (failed answer s))
-        go true = root_roomy (handled s) refl refl s.rest.stopped (held s.cells (Elsewhere Root))
+        go true = root_roomy (handled s) refl refl s.rest.stopped (held s.cells (Elsewhere Root)) refl
         go false = (tt, tt, tt, few s bare)
 
     asking_roomy : (m : Option ℕ) (x : Seat) (code : ℤ) → RoomyState (asking p m x code s)
@@ -93,10 +186,10 @@ module _ (p : Image) (t : Typing) (depth heights : ℕ → ℕ) (tables : Tables
     ends : (d : Dispatch) → RoomyState (dispatch_ends p d s)
     ends Of_root = (tt, tt, tt, few s bare)
     ends (Main_left code) = (tt, tt, tt, few s bare)
-    ends Of_main = root_roomy s refl refl s.rest.stopped (held s.cells (Elsewhere Root))
-    ends (Of_object x) = root_roomy (handled s) refl refl s.rest.stopped (held s.cells (Elsewhere Root))
+    ends Of_main = root_roomy s refl refl s.rest.stopped (held s.cells (Elsewhere Root)) refl
+    ends (Of_object x) = root_roomy (handled s) refl refl s.rest.stopped (held s.cells (Elsewhere Root)) refl
     ends (Object_left x code) = asking_roomy (part_of p Answers x.object.thing) x code
-    ends (Asks x) = root_roomy (handled s) refl refl s.rest.stopped (held s.cells (Elsewhere Root))
+    ends (Asks x) = root_roomy (handled s) refl refl s.rest.stopped (held s.cells (Elsewhere Root)) refl
     ends (Answered x answer) = answer_roomy answer
     ends (Of_server x client Accepts) = (tt, tt, tt, few s bare)
     ends (Of_server x client Accepted) = (tt, tt, tt, few s bare)
@@ -113,7 +206,7 @@ module _ (p : Image) (t : Typing) (depth heights : ℕ → ℕ) (tables : Tables
       let h = stands_here p t s fr ts w at in
       let x = typed.each fr.method fr.place h.shape h.there in
       let is : x.instr ≡ i = same_Some x.instr i (sym x.stands ∙ there) in
-      acts_room p t depth heights tables c fr ts (counted p s) w.undos at (again h) (subst (λ us. Roomy p depth heights s.cells s.items us) at room) i there
+      acts_room p t depth heights tables c fr ts (counted p s) w.undos at (again h) (none_going_there p t s w (length (Run fr ∷ ts)) (ap length at)) (subst (λ us. Roomy p depth heights s.cells s.items us) at room) i there
       (subst (λ j. AllTrue (rule_needs p fr.method fr.place h.shape j)) is x.needs) (subst (λ j. AllLead t fr.method (flows p fr.method fr.place h.shape j)) is x.flows) e fits
     where
       -- what a move counts is no part of it
@@ -126,20 +219,44 @@ module _ (p : Image) (t : Typing) (depth heights : ℕ → ℕ) (tables : Tables
       Roomy p depth heights s.cells (i ∷ items) (Unwind code ∷ ts)
   with_top code ts i items s room at top = subst (λ is. Roomy p depth heights s.cells is (Unwind code ∷ ts)) top (subst (λ us. Roomy p depth heights s.cells s.items us) at room)
 
+  -- a server lets go of a session, or its destructor begins
+  emptied :
+      (c : Choice) (s : State) → WellTyped p t s → (ts : List Task) (o : Object) → s.tasks ≡ Closing ∷ Destroy ∷ ts → held s.cells (Going (length ts)) ≡ Some o → Roomy p depth heights s.cells s.items (Closing ∷ Destroy ∷ ts) →
+      (x : Option Seat) → first_session s.cells o.name (service_of s.cells o.name).sessions ≡ x → RoomyState (parting p o x ts (counted p s))
+  emptied c s w ts o at there room None e =
+      destructed_over p t depth heights tables s.cells s.items o ts (λ m d. room.1.0.0 m (subst (λ y. Destructs p y m) (sym there) d)) (room.0, room.1.1, room.2, room.3)
+  emptied c s w ts o at there room (Some x) e =
+      let f = first_held s.cells o.name (service_of s.cells o.name).sessions x e in
+      let k = length (Closing ∷ Destroy ∷ ts) in
+      let its = session_told p t tables.wired s w ts o at there f.0 x.object f.2 in
+      let from : held s.cells x.place ≡ Some x.object = ap (held s.cells) f.1 ∙ f.2 in
+      let apart : (e : Place) → IsDealt e → same_place x.place e ≡ false = λ e dealt. ap (λ q. same_place q e) f.1 ∙ session_apart o.name f.0 e dealt in
+      let cells' = moved x.place (Going k) s.cells in
+      begins_over p t depth heights tables cells' s.items x.object (Closing ∷ Destroy ∷ ts)
+      (goes_there_now s.cells x.place k (none_going_there p t s w k (ap length at)) (apart (Going k) tt) ∙ from)
+      (λ m d. room.1.0.0 m (subst (λ y. Destructs p y m) (sym there) (its.destructs m d)))
+      (λ server. absurd (true≢false (sym server ∙ its.plain)))
+      (recelled p depth heights s.cells cells' s.items (Closing ∷ Destroy ∷ ts) (
+        λ j lt. held_apart s.cells x.place (Going k) (Entry j) (apart (Entry j) tt) refl,
+        λ j lt. held_apart s.cells x.place (Going k) (Going j) (apart (Going j) tt) (going_apart k j lt),
+      ) room)
+
   roomy_moves : ((m : ℕ) → heights m ≤ 1024) → IsTyped p t → (c : Choice) (s u : State) → WellTyped p t s → RoomyState s → Move p c s u → RoomyState u
   roomy_moves within typed c s u w room (Rests still same) = subst RoomyState (sym same) room
   roomy_moves within typed c s u w room (Acts fr ts i e at there met fits same) = subst RoomyState (sym same) (acts typed c s w room fr ts i e at there fits)
   roomy_moves within typed c s u w room (Vanishes ts o at there owns same) =
       let left = without_queue o.name s.cells in
       let cells' = each_unslotted (service_of s.cells o.name).sessions (without (Going (length ts)) left) in
-      let still : SameEntries s.cells cells' (length s.items) = λ k lt.
-      (each_unslotted_alike (service_of s.cells o.name).sessions (without (Going (length ts)) left)).held_so (Entry k) ∙ held_without left (Going (length ts)) (Entry k)
-      ∙ ap (λ cs. held cs (Entry k)) (queue_dropped o.name s.cells) ∙ held_dropped (is_queue_of o.name) s.cells (Entry k) in
-      subst RoomyState (sym same) (on_again p depth heights cells' s.items ts (recelled p depth heights s.cells cells' s.items ts still (subst (λ us. Roomy p depth heights s.cells s.items us) at room)))
+      let still : (e : Place) → held cells' e ≡ held (without (Going (length ts)) left) e = λ e. (each_unslotted_alike (service_of s.cells o.name).sessions (without (Going (length ts)) left)).held_so e in
+      let before : (e : Place) → held left e ≡ held (dropped (is_queue_of o.name) s.cells) e = λ e. ap (λ cs. held cs e) (queue_dropped o.name s.cells) in
+      subst RoomyState (sym same) (on_again p depth heights cells' s.items ts (recelled p depth heights s.cells cells' s.items ts (
+        λ k lt. still (Entry k) ∙ held_without left (Going (length ts)) (Entry k) ∙ before (Entry k) ∙ held_dropped (is_queue_of o.name) s.cells (Entry k),
+        λ k lt. still (Going k) ∙ held_without left (Going (length ts)) (Going k) ∙ ap (λ b. cond b None (held left (Going k))) (going_apart (length ts) k lt) ∙ before (Going k) ∙ held_dropped (is_queue_of o.name) s.cells (Going k),
+      ) (subst (λ us. Roomy p depth heights s.cells s.items us) at room)))
   roomy_moves within typed c s u w room (Empties ts o at there same) =
-      closing_layer (λ ls. Good p t s.cells ls) (Destroy ∷ ts) w.layers (sym w.tasks ∙ at) w.good (λ x left below _ good. absurd (true≢false (sym good.stack.0.server ∙ no_server p tables.admitted x.thing)))
+      subst RoomyState (sym same) (emptied c s w ts o at there (subst (λ us. Roomy p depth heights s.cells s.items us) at room) (first_session s.cells o.name (service_of s.cells o.name).sessions) refl)
   roomy_moves within typed c s u w room (Clears code ts items o at top there same) =
-      subst RoomyState (sym same) (clears p t depth heights tables s.cells items o (Unwind code ∷ ts) there (low_unwinding p t s code ts An_object items w at top) (with_top code ts An_object items s room at top))
+      subst RoomyState (sym same) (clears p t depth heights tables s.cells items o (Unwind code ∷ ts) there (none_going_there p t s w (length (Unwind code ∷ ts)) (ap length at)) tt (low_unwinding p t s code ts An_object items w at top) (with_top code ts An_object items s room at top))
   roomy_moves within typed c s u w room (Undoes code ts items m x at top same) =
       subst RoomyState (sym same) (undoes p t depth heights tables s.cells items m x (Unwind code ∷ ts) (subst (λ is. AllUndo p is) top w.undos).0 (low_unwinding p t s code ts (An_operation m x) items w at top) (with_top code ts (An_operation m x) items s room at top))
   roomy_moves within typed c s u w room (Arrives code fr ts items at top same) =
@@ -148,16 +265,16 @@ module _ (p : Image) (t : Typing) (depth heights : ℕ → ℕ) (tables : Tables
       subst RoomyState (sym same) (told s (called p i) (result_register i) code fr items ts (popped p depth heights s.cells A_mark items (Run fr ∷ ts) low (with_top code (Trapped ∷ Run fr ∷ ts) A_mark items s room at top)))
   roomy_moves within typed c s u w room (Comes_out code d ts items at top same) =
       subst RoomyState (sym same) (popped p depth heights s.cells A_mark items (Dispatched d ∷ ts) (low_unwinding p t s code (Trapped ∷ Dispatched d ∷ ts) A_mark items w at top) (with_top code (Trapped ∷ Dispatched d ∷ ts) A_mark items s room at top))
-  roomy_moves within typed c s u w room (Ends d ts at same) = subst RoomyState (sym same) (ends within (counted p s) (bare_end p t s d ts w at) d)
+  roomy_moves within typed c s u w room (Ends d ts at same) = subst RoomyState (sym same) (ends within (counted p s) (bare_end p t s d ts w at) (none_going_there p t s w 1 (lone_end p t s d ts w at)) d)
 
 -- the tables of an accepted image
-pub tables_of : (p : Image) (t : Typing) → IsWired p → IsAdmitted p → IsStrongest p t → (depths : HasDepths p) (heights : HasHeights p) → Tables p t (at 0 depths.depths) (at 0 heights.heights)
-tables_of p t wired admitted strongest depths heights = record { wired = wired; admitted = admitted; strongest = strongest; less = depths.are.less; own = heights.are.own; under = heights.are.under }
+pub tables_of : (p : Image) (t : Typing) → IsWired p → IsStrongest p t → (depths : HasDepths p) (heights : HasHeights p) → Tables p t (at 0 depths.depths) (at 0 heights.heights)
+tables_of p t wired strongest depths heights = record { wired = wired; strongest = strongest; less = depths.are.less; own = heights.are.own; under = heights.are.under }
 
 -- each move keeps it
-pub keeps_room : (p : Image) (t : Typing) → IsWired p → IsAdmitted p → IsTyped p t → IsStrongest p t → (depths : HasDepths p) (heights : HasHeights p) (c : Choice) (s u : State) → WellTyped p t s → HasRoom p (at 0 depths.depths) (at 0 heights.heights) s → step p c s ≡ Goes u → HasRoom p (at 0 depths.depths) (at 0 heights.heights) u
-keeps_room p t wired admitted typed strongest depths heights c s u w room e =
-    let after = roomy_moves p t (at 0 depths.depths) (at 0 heights.heights) (tables_of p t wired admitted strongest depths heights) (λ m. heights.are.within m) typed c s u w (room.under, room.runs, room.fit, room.entries) (steps_are_moves p c s u e) in
+pub keeps_room : (p : Image) (t : Typing) → IsWired p → IsTyped p t → IsStrongest p t → (depths : HasDepths p) (heights : HasHeights p) (c : Choice) (s u : State) → WellTyped p t s → HasRoom p (at 0 depths.depths) (at 0 heights.heights) s → step p c s ≡ Goes u → HasRoom p (at 0 depths.depths) (at 0 heights.heights) u
+keeps_room p t wired typed strongest depths heights c s u w room e =
+    let after = roomy_moves p t (at 0 depths.depths) (at 0 heights.heights) (tables_of p t wired strongest depths heights) (λ m. heights.are.within m) typed c s u w (room.under, room.runs, room.fit, room.entries) (steps_are_moves p c s u e) in
     record { under = after.0; runs = after.1; fit = after.2; entries = after.3 }
 
 -- the boot state has it
@@ -168,7 +285,7 @@ boots_with_room p depth heights = go (main_of p)
     go None = record { under = tt; runs = tt; fit = tt; entries = omega arith }
     go (Some m) = record {
       under = (tt, tt);
-      runs = ((λ le k e. cc, tt), tt);
+      runs = ((λ le k e. absurd e, tt), tt);
       fit = (λ may. let most = heights.are.within m in omega (arith, most), tt);
       entries = omega arith;
     }
@@ -181,7 +298,7 @@ dispatches_with_room p depth heights cs m home d items r dead clients bare =
     subst (λ is. HasRoom p depth (at 0 heights.heights) (record { cells = cs; tasks = Run (frame_of m home (length (A_mark ∷ is))) ∷ Trapped ∷ Dispatched d ∷ []; items = A_mark ∷ is; rest = r; killed = dead; clients = clients })) (sym bare)
     (record {
       under = (tt, tt);
-      runs = ((λ le k e. cc, tt), tt);
+      runs = ((λ le k e. absurd e, tt), tt);
       fit = (λ may. let most = heights.are.within m in omega (arith, most), tt);
       entries = omega arith;
     })

@@ -31,7 +31,7 @@ use Rattle.aom_parts.proofs.Alike.{by_item, by_items}
 -- each move keeps the room
 pub room_kept : (p : Image) (t : Typing) (s u : State) (sound : Sound p t) → WellTyped p t s → IsCalm p s.tasks → (c : Choice) → HasRoom p (at 0 sound.depths.depths) (at 0 sound.heights.heights) s → step p c s ≡ Goes u
     → HasRoom p (at 0 sound.depths.depths) (at 0 sound.heights.heights) u
-room_kept p t s u sound typed calm c room e = keeps_room p t sound.wired sound.admitted sound.typed sound.strongest sound.depths sound.heights c s u typed room e
+room_kept p t s u sound typed calm c room e = keeps_room p t sound.wired sound.typed sound.strongest sound.depths sound.heights c s u typed room e
 
 -- the boot state has it
 pub boot_room : (p : Image) (t : Typing) (sound : Sound p t) → HasRoom p (at 0 sound.depths.depths) (at 0 sound.heights.heights) (boot_state p)
@@ -46,13 +46,16 @@ same_marks = by_items (λ is js. marks_in is ≡ counts.marks_in js) (omega arit
     by_item (λ i j. marks_in (i ∷ is) ≡ counts.marks_in (j ∷ js)) (λ n. rest) (λ m n k w _ _. rest) (ap suc rest) i j same)
 
 module _ (p : Image) (m : Parts) (st : Stands (record { image = p; parts = m })) where
-  -- there is room for two tasks more
-  pub has_room : (length m.stack.tasks + 1) < m.stack.depth
-  has_room =
-      let few = tasks_at_hand p st.1.sound.admitted st.1.typing st.1.sound.depths (at 0 st.1.sound.heights.heights) st.0 st.1.typed st.1.calm st.1.room in
+  -- there is room for a thousand tasks more
+  pub has_much_room : (length m.stack.tasks + 1000) < m.stack.depth
+  has_much_room =
+      let few = tasks_at_hand p st.1.typing st.1.sound.depths (at 0 st.1.sound.heights.heights) st.0 st.1.typed st.1.calm st.1.room in
       let same = same_length m.stack.tasks st.0.tasks st.1.agrees.tasks in
       let deep = st.1.agrees.room in
       omega (arith, few, same, deep)
+
+  pub has_room : (length m.stack.tasks + 1) < m.stack.depth
+  has_room = let much = has_much_room in omega (arith, much)
 
   -- the instruction at hand is that of the checked machine
   at_hand : Runs m.stack.tasks → (i : Instr) → instr_at p (method_here m.stack.tasks) (place_here m.stack.tasks) ≡ Some i → (fr : Frame) × (ts : List Task) × (st.0.tasks ≡ Run fr ∷ ts) × (instr_at p fr.method fr.place ≡ Some i)
@@ -72,14 +75,14 @@ push_room p m a next =
     let st = next.stands in
     let sound = st.1.sound in
     let f = at_hand p (counting next.counts m) st next.runs (Push a) next.here in
-    entry_room p (counting next.counts m) st (push_at_hand p st.1.typing sound.wired sound.admitted sound.typed sound.strongest sound.depths sound.heights st.0 f.0 f.1 st.1.typed f.2 st.1.room a f.3)
+    entry_room p (counting next.counts m) st (push_at_hand p st.1.typing sound.wired sound.typed sound.strongest sound.depths sound.heights st.0 f.0 f.1 st.1.typed f.2 st.1.room a f.3)
 
 pub push_operation_room : (p : Image) (m : Parts) (a k : ℕ) → IsNext p (PushOperation a k) m → entries_in m.entries.items < m.entries.depth
 push_operation_room p m a k next =
     let st = next.stands in
     let sound = st.1.sound in
     let f = at_hand p (counting next.counts m) st next.runs (PushOperation a k) next.here in
-    entry_room p (counting next.counts m) st (push_operation_at_hand p st.1.typing sound.wired sound.admitted sound.typed sound.strongest sound.depths sound.heights st.0 f.0 f.1 st.1.typed f.2 st.1.room a k f.3)
+    entry_room p (counting next.counts m) st (push_operation_at_hand p st.1.typing sound.wired sound.typed sound.strongest sound.depths sound.heights st.0 f.0 f.1 st.1.typed f.2 st.1.room a k f.3)
 
 -- and for a mark where a trap is set
 pub mark_room : (p : Image) (m : Parts) (target : Target) (k first x : ℕ) → IsNext p (Trap target k first x) m → marks_in m.entries.items < 256
@@ -87,6 +90,6 @@ mark_room p m target k first x next =
     let st = next.stands in
     let sound = st.1.sound in
     let f = at_hand p (counting next.counts m) st next.runs (Trap target k first x) next.here in
-    let few = marks_at_hand p st.1.typing sound.wired sound.admitted sound.typed sound.strongest sound.depths sound.heights st.0 f.0 f.1 st.1.typed f.2 st.1.room target k first x f.3 in
+    let few = marks_at_hand p st.1.typing sound.wired sound.typed sound.strongest sound.depths sound.heights st.0 f.0 f.1 st.1.typed f.2 st.1.room target k first x f.3 in
     let same = same_marks m.entries.items st.0.items st.1.agrees.entries in
     omega (arith, few, same)

@@ -30,13 +30,14 @@ use Rattle.aom_acts.specs.Acts.{requested}
 use Rattle.aom_parts.specs.Agrees.{SameItems, SameTasks, number, Agrees}
 use Rattle.aom_acts.specs.Cleanup.{ItemLives, TopLives, TopsObject}
 use Rattle.aom_acts.specs.Next.{IsNext, counting}
-use Rattle.aom_parts.specs.Places.{value_in, IsEnding, IsTrapped}
+use Rattle.aom_parts.specs.Places.{others, value_in, IsEnding, IsTrapped}
 use Rattle.aom_parts.specs.Room.{ReturnsTo}
 use Rattle.std.specs.Bool.{OnFalse}
 use Rattle.std.proofs.lemmas.Bool.{false≢true}
 use Rattle.aom_image.proofs.Given.{some_given}
 use Rattle.aom_parts.proofs.Alike.{A_catcher, A_method, A_trap, Alike, Alike_items, Tops, alike, both_objects, both_trapped, by_item, by_items, catcher_on_top, items_alike, method_on_top, same_below, tops, trap_on_top}
 use Rattle.aom_parts.proofs.Entries.{same_items_length, top_value}
+use Rattle.aom_acts.proofs.Owned.{entry_object}
 use Rattle.aom_acts.proofs.Finding.{class_fits, object_lives}
 use Rattle.aom_acts.proofs.Housing.{at_hand, needs_met}
 use Rattle.aom_acts.proofs.Stepping.{at_step}
@@ -64,9 +65,9 @@ top_lives p m t s typed agrees whole = go refl (items_alike m.entries.items s.it
     go : {is : List Held_item} {js : List Item} → m.entries.items ≡ is → Alike_items is js → top_is_whole s.cells js ≡ true → ItemLives m.cells is
     go was (both_objects n is js same) whole =
         some_given (λ o. is_some o ≡ true) (held s.cells (Entry (length js))) whole (λ none. false≢true none) (λ o e _.
-        let value_here = ap (λ es. value_in m.stack.tasks m.cells es m.root (Entry (length js))) was in
-        let name : n ≡ o.name = sym (top_value m.stack.tasks m.cells is m.root n (length js) (same_items_length is js same)) ∙ sym value_here ∙ agrees.values (Entry (length js)) ∙ ap number e in
-        (object_lives p m t s typed agrees (Entry (length js)) o n e name, class_fits p m s agrees n))
+        let value_here = ap (λ es. value_in m.stack.tasks m.cells es (others m) (Entry (length js))) was in
+        let name : n ≡ o.name = sym (top_value m.stack.tasks m.cells is (others m) n (length js) (same_items_length is js same)) ∙ sym value_here ∙ agrees.values (Entry (length js)) ∙ ap number e in
+        (object_lives p m t s typed agrees (Entry (length js)) o n e (entry_object p t s typed o (length js) e) name, class_fits p m s agrees n))
     go was _ whole = tt
 
 module _ (p : Image) (m : Parts) where

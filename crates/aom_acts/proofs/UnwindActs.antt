@@ -38,13 +38,14 @@ use Rattle.aom_frames.specs.declared.frame.Frame.{Frame as Held_frame}
 use Rattle.aom_frames.specs.declared.task.Task.{Task as Held_task}
 use Rattle.aom_frames.specs.declared.task.Task.TheVariants.{Run as Runs_frame, Trapped as Is_trap, Unwind as Unwinds, Dispatched as Ends}
 use Rattle.aom_frames.specs.declared.dispatch.Dispatch.{Dispatch as Held_dispatch}
-use Rattle.aom_frames.specs.declared.dispatch.Dispatch.TheVariants.{Answered as One_answered, Asks as One_asks, Main, MainLeft, Object as Of_one, ObjectLeft as One_left, Root as End_of_run}
+use Rattle.aom_frames.specs.declared.dispatch.Dispatch.TheVariants.{Answered as One_answered, Asks as One_asks, Main, MainLeft, Object as Of_one, ObjectLeft as One_left, Root as End_of_run, Server as Of_one_served}
+use Rattle.aom_frames.specs.declared.dispatch.Stage.TheVariants as stages
 use Rattle.aom_parts.specs.declared.parts.Parts.{Parts}
 use Rattle.aom_parts.specs.Places as places
 use Rattle.aom_parts.specs.Agrees.{Shows, SameFrame, SameItems, SameTasks, dispatch_of, word_at, Agrees}
 use Rattle.aom_acts.specs.Cleanup.{TopLives, Unwinds as Unwinds_by, dealt_with, lost, told}
 use Rattle.aom_acts.specs.Ends.{left, left_by}
-use Rattle.aom_parts.specs.Places.{code_here, value_in, with_tasks, IsEnding, IsTrapped, IsUnwinding}
+use Rattle.aom_parts.specs.Places.{others, code_here, value_in, with_tasks, IsEnding, IsTrapped, IsUnwinding}
 use Rattle.aom_parts.specs.Room.{CalleeThere, CallsThere, ReturnsTo}
 use Rattle.aom_parts.specs.Stands.{Stands}
 use Rattle.aom_acts.proofs.CallActs.{closing, ended}
@@ -74,7 +75,7 @@ deals_move p m told above h u e typed = go (entries_alike m.entries.items h.stat
     done : (js : List Item) → s.items ≡ js → tops_entry js ≡ true → top_is_whole s.cells js ≡ true → deals_with p js (Unwind h.code ∷ h.below) s ≡ u → arrival h.code s.items ≡ [] → Agrees p (dealt_with p m) u × (told ≡ record told { lines = told.lines ++ arrival h.code s.items })
     done js is some whole same none = (
       subst (Agrees p (dealt_with p m)) (ap (λ us. deals_with p s.items us s) h.top ∙ ap (λ is. deals_with p is (Unwind h.code ∷ h.below) s) is ∙ same)
-          (deals p h.admitted m h.typing s h.typed h.agrees (ap tops_entry is ∙ some) (ap (λ is. top_is_whole s.cells is) is ∙ whole)),
+          (deals p h.formed m h.typing s h.typed h.agrees (ap tops_entry is ∙ some) (ap (λ is. top_is_whole s.cells is) is ∙ whole)),
       ap (λ ls. record told { lines = ls }) (sym (ap (λ ls. told.lines ++ ls) none ∙ append-nil told.lines)),
     )
 
@@ -170,15 +171,21 @@ left_alike code q (Of_one x) = refl
 left_alike code q (One_left x c) = refl
 left_alike code q (One_asks x) = refl
 left_alike code q (One_answered x answer) = refl
+left_alike code q (Of_one_served x client stages.Accepts) = refl
+left_alike code q (Of_one_served x client stages.Accepted) = refl
+left_alike code q (Of_one_served x client (stages.AcceptLeft c)) = refl
+left_alike code q (Of_one_served x client (stages.Serves o)) = refl
+left_alike code q (Of_one_served x client (stages.ServiceLeft c)) = refl
+left_alike code q (Of_one_served x client stages.Parts) = refl
 
 module _ (p : Image) (m : Parts) (s : State) (agrees : Agrees p m s) (es : Held_items) (marked : m.entries ≡ record es { items = Is_mark ∷ es.items }) (g : Held_frame) (ms : List Held_task) (caller : Frame) (ts : List Task) (same_frame : SameFrame g caller) (same_below : SameTasks ms ts) (x : ℕ) (coded : suc x < 16)
-    (base : (r : Place) → Shows (value_in (Runs_frame g ∷ ms) m.cells es.items m.root r) (word_at (Run caller ∷ ts) r) (held s.cells r)) where
+    (base : (r : Place) → Shows (value_in (Runs_frame g ∷ ms) m.cells es.items (others m) r) (word_at (Run caller ∷ ts) r) (held s.cells r)) where
   deep : length ms ≡ length ts
   deep = same_length ms ts same_below
 
   -- the result's register is cleared
   record Cleared (rs : List ℕ) (ws : List (Option ℤ)) : Type 0 where
-    values : (r : Place) → Shows (value_in (Runs_frame (record g { registers = rs }) ∷ ms) m.cells es.items m.root r) (word_at (Run (record caller { words = ws }) ∷ ts) r) (held s.cells r)
+    values : (r : Place) → Shows (value_in (Runs_frame (record g { registers = rs }) ∷ ms) m.cells es.items (others m) r) (word_at (Run (record caller { words = ws }) ∷ ts) r) (held s.cells r)
     wide : length rs ≡ 16
 
   clears : (n : ℕ) (w : Option ℤ) → Shows n w None → held s.cells (Register (length ts) x) ≡ None → Cleared (slice_set g.registers x n) (set_word caller x w).words
@@ -187,7 +194,7 @@ module _ (p : Image) (m : Parts) (s : State) (agrees : Agrees p m s) (es : Held_
       let wide = same_frame.wide in
       record {
         values = writes _ _ _ _ (held s.cells) _ q n w None base shows
-            (value_written g ms m.cells es.items m.root (length ts) x n g.place deep (omega arith))
+            (value_written g ms m.cells es.items (others m) (length ts) x n g.place deep (omega arith))
             (word_written caller ts x caller.place w)
             (λ r. kept (held s.cells) q r ∙ ap (λ o. changed (held s.cells) q o r) none);
         wide = length-set g.registers x n ∙ wide;
@@ -206,13 +213,14 @@ module _ (p : Image) (m : Parts) (s : State) (agrees : Agrees p m s) (es : Held_
       record {
         tasks = (moved_on g caller (slice_set rs (suc x) n) (set_word caller' (suc x) (Some code)).words same_frame (length-set rs (suc x) n ∙ wide), same_below);
         values = writes _ _ _ _ (held s.cells) _ q n (Some code) None cleared.values (to_z-of_z w32 code fits)
-            (value_written g' ms m.cells es.items m.root (length ts) (suc x) n (suc g.place) deep (omega arith))
+            (value_written g' ms m.cells es.items (others m) (length ts) (suc x) n (suc g.place) deep (omega arith))
             (word_written caller' ts (suc x) (suc caller.place) (Some code))
             (λ r. kept (held s.cells) q r ∙ ap (λ o. changed (held s.cells) q o r) none);
         cells = agrees.cells;
         entries = unmarked m.entries.items es.items s.items was agrees.entries;
         requests = agrees.requests;
         natives = agrees.natives;
+        services = agrees.services;
         rest = agrees.rest;
         room = agrees.room;
         entry_room = subst (λ k. 1024 ≤ k) (ap (λ (e : Held_items). e.depth) marked) agrees.entry_room;
@@ -260,7 +268,7 @@ module _ (p : Image) (m : Parts) (es : Held_items) (marked : m.entries ≡ recor
       let k = top_mark h.state.items h.agrees.entries in
       go m.stack.tasks h.code h.below refl h.top (tops A_caught_leave m.stack.tasks (unwinding, trapped, runs)) coded fits
       (alike m.stack.tasks (Unwind h.code ∷ h.below) (subst (SameTasks m.stack.tasks) h.top h.agrees.tasks))
-      (λ r. subst (λ us. Shows (value_in m.stack.tasks m.cells m.entries.items m.root r) (word_at us r) (held h.state.cells r)) h.top (h.agrees.values r))
+      (λ r. subst (λ us. Shows (value_in m.stack.tasks m.cells m.entries.items (others m) r) (word_at us r) (held h.state.cells r)) h.top (h.agrees.values r))
       k.0 k.1 (subst (λ is. unwound p h.code h.below h.state is ≡ Goes u) k.1 e)
     where
       s : State
@@ -272,7 +280,7 @@ module _ (p : Image) (m : Parts) (es : Held_items) (marked : m.entries ≡ recor
           Agrees p (told p (instr_at p (method_here v) (place_here v)) (code_here us) (record (with_tasks v m) { entries = es })) u × (record t { lines = t.lines ++ Leave (code_here us) ∷ [] } ≡ record t { lines = t.lines ++ arrival code s.items })
 
       go : (us : List Held_task) (code : ℤ) (below : List Task) → m.stack.tasks ≡ us → s.tasks ≡ Unwind code ∷ below → Tops A_caught_leave us → suc (result_register (instr_at p (method_here (below_first (below_first us))) (place_here (below_first (below_first us))))) < 16 → FitsSigned w32 (code_here us)
-          → Alike us (Unwind code ∷ below) → ((r : Place) → Shows (value_in us m.cells m.entries.items m.root r) (word_at (Unwind code ∷ below) r) (held s.cells r))
+          → Alike us (Unwind code ∷ below) → ((r : Place) → Shows (value_in us m.cells m.entries.items (others m) r) (word_at (Unwind code ∷ below) r) (held s.cells r))
           → (ks : List Item) → s.items ≡ A_mark ∷ ks → unwound p code below s (A_mark ∷ ks) ≡ Goes u → Done us code
       go _ code _ held_tasks top (caught_leave_on_top c g ms) coded fits (both_unwind _ _ _ _ same _ (both_trapped _ _ _ (both_run _ caller _ ts frame rest _))) values ks items e =
           let i = instr_at p caller.method caller.place in
@@ -284,10 +292,10 @@ module _ (p : Image) (m : Parts) (es : Held_items) (marked : m.entries ≡ recor
           let fresh = subst (WellTyped p h.typing) (sym is) typed in
           let small : suc x < 16 = subst (λ o. suc (result_register o) < 16) alike coded in
           let was : m.entries.items ≡ Is_mark ∷ es.items = ap (λ (e : Held_items). e.items) marked in
-          let base : (r : Place) → Shows (value_in (Runs_frame g ∷ ms) m.cells es.items m.root r) (word_at (Run caller ∷ ts) r) (held s.cells r) = λ r.
+          let base : (r : Place) → Shows (value_in (Runs_frame g ∷ ms) m.cells es.items (others m) r) (word_at (Run caller ∷ ts) r) (held s.cells r) = λ r.
           subst (λ n. Shows n (word_at (Run caller ∷ ts) r) (held s.cells r))
-          (unwinds_value (Is_trap ∷ Runs_frame g ∷ ms) m.cells m.entries.items m.root c r ∙ over_value true (Runs_frame g ∷ ms) m.cells m.entries.items m.root r ∙ ap (λ is. value_in (Runs_frame g ∷ ms) m.cells is m.root r) was ∙ value_alike (Runs_frame g ∷ ms) m.cells (Is_mark ∷ es.items) es.items m.root (λ d. mark_shows_none es.items d) r)
-          (subst (λ w. Shows (value_in (Unwinds c ∷ Is_trap ∷ Runs_frame g ∷ ms) m.cells m.entries.items m.root r) w (held s.cells r)) (unwinds_word (Trapped ∷ Run caller ∷ ts) code r ∙ over_words true (Run caller ∷ ts) r) (values r)) in
+          (unwinds_value (Is_trap ∷ Runs_frame g ∷ ms) m.cells m.entries.items (others m) c r ∙ over_value true (Runs_frame g ∷ ms) m.cells m.entries.items (others m) r ∙ ap (λ is. value_in (Runs_frame g ∷ ms) m.cells is (others m) r) was ∙ value_alike (Runs_frame g ∷ ms) m.cells (Is_mark ∷ es.items) es.items (others m) (λ d. mark_shows_none es.items d) r)
+          (subst (λ w. Shows (value_in (Unwinds c ∷ Is_trap ∷ Runs_frame g ∷ ms) m.cells m.entries.items (others m) r) w (held s.cells r)) (unwinds_word (Trapped ∷ Run caller ∷ ts) code r ∙ over_words true (Run caller ∷ ts) r) (values r)) in
           let told_all = tells p m s h.agrees es marked g ms caller ts frame rest x small base code gv (subst (FitsSigned w32) same fits) (awaited_caught p h.typing s code caller ts h.typed top) (code_alone p h.typing gv x code caller ts v fresh refl) in (
             subst (λ o. Agrees p (told p o c (record (with_tasks (Runs_frame g ∷ ms) m) { entries = es })) u) (sym alike)
                 (subst (λ w. Agrees p (told p i w (record (with_tasks (Runs_frame g ∷ ms) m) { entries = es })) u) (sym same)

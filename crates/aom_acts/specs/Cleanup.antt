@@ -2,6 +2,7 @@
 use Rattle.std.specs.Prelude.{ℕ, suc, ℤ, ◌≡◌, ◌<◌, ◌++◌, List, [], ◌∷◌, Option, IfSome}
 use Rattle.std.specs.Int.{w32, cast_unsigned}
 use Rattle.aom_image.specs.Image.{Image}
+use Rattle.aom_image.specs.WellFormed.{WellFormed}
 use Rattle.aom_instructions.specs.declared.instr.Instr.{Instr}
 use Rattle.aom_image.specs.declared.method.Gives.{Gives}
 use Rattle.aom_image.specs.declared.method.Gives.TheVariants.{Nothing, Word as A_word, Own as An_own, Maybe as A_maybe, Left}
@@ -12,15 +13,15 @@ use Rattle.aom_rules.specs.Typing.{Typing}
 use Rattle.aom_sound.specs.Calls.{called, result_register}
 use Rattle.aom_sound.specs.Cleanup.{arrival, unwound}
 use Rattle.aom_sound.specs.State.{State, Task, Unwind, Goes}
+use Rattle.aom_sound.specs.Kept.{IsKept}
 use Rattle.aom_sound.specs.WellTyped.{WellTyped}
 use Rattle.aom_lines.specs.Turn.{Turn}
 use Rattle.aom_frames.specs.Tasks.{fresh, with_register}
 use Rattle.aom_frames.specs.declared.task.Task.TheVariants.{Run}
 use Rattle.aom_parts.specs.declared.parts.Parts.{Parts}
-use Rattle.aom_acts.specs.Going.{destructor_at, destroying}
+use Rattle.aom_acts.specs.Going.{dying}
 use Rattle.aom_parts.specs.Places.{with_items, with_tasks, next, set_register}
 use Rattle.aom_parts.specs.Agrees.{Agrees}
-use Rattle.aom_classes.specs.Admitted.{IsAdmitted}
 
 -- an object is last
 abbrev pub TopsObject : List Item → Type 0
@@ -46,7 +47,7 @@ operating method word m = with_tasks (Run (with_register 0 word (fresh method nu
 -- the last item is dealt with over the tasks at hand: an object is destroyed, and an operation is run
 abbrev pub dealing : Image → List Item → Parts → Parts
 dealing p [] m = m
-dealing p (Object n ∷ items) m = with_tasks (destroying (destructor_at p m.cells n) n m.stack.tasks) (with_items items m)
+dealing p (Object n ∷ items) m = with_tasks (dying p m.cells n m.stack.tasks) (with_items items m)
 dealing p (Operation k w ∷ items) m = operating k w (with_items items m)
 dealing p (Mark ∷ items) m = m
 
@@ -72,8 +73,9 @@ pub record In_unwinding (p : Image) (m : Parts) : Type 0 where
   pub code : ℤ
   pub below : List Task
   pub top : state.tasks ≡ Unwind code ∷ below
-  pub admitted : IsAdmitted p
+  pub formed : WellFormed p
   pub typed : WellTyped p typing state
+  pub kept : IsKept p state
   pub agrees : Agrees p m state
 
 -- one move of it, with its line

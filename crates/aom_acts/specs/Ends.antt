@@ -10,7 +10,8 @@ use Rattle.aom_transcript.specs.declared.line.Ending.TheVariants.{Error, Stopped
 use Rattle.aom_sound.specs.State.{Rest, raised}
 use Rattle.aom_frames.specs.Tasks.{below_first, fresh, with_register}
 use Rattle.aom_frames.specs.declared.dispatch.Dispatch.{Dispatch}
-use Rattle.aom_frames.specs.declared.dispatch.Dispatch.TheVariants.{Main, MainLeft, Root, Object, ObjectLeft, Asks, Answered}
+use Rattle.aom_frames.specs.declared.dispatch.Dispatch.TheVariants.{Main, MainLeft, Root, Object, ObjectLeft, Asks, Answered, Server}
+use Rattle.aom_frames.specs.declared.dispatch.Stage.TheVariants.{Accepted, Accepts, AcceptLeft, Serves, ServiceLeft}
 use Rattle.aom_frames.specs.declared.dispatch.Subject.{Subject}
 use Rattle.aom_frames.specs.declared.task.Task.{Task}
 use Rattle.aom_frames.specs.declared.task.Task.TheVariants.{Run, Dispatched}
@@ -67,11 +68,23 @@ asking p (Some method) x code m = with_tasks (Run (with_register 0 (cast_unsigne
 abbrev pub left : ℤ → Dispatch → Dispatch
 left code Main = MainLeft code
 left code (Object x) = ObjectLeft x code
+left code (Server x client Accepts) = Server x client (AcceptLeft code)
+left code (Server x client (Serves o)) = Server x client (ServiceLeft code)
 left code d = d
+
+-- the method that a server's dispatch ran has returned: a session is given, or a message is served
+abbrev pub served : Dispatch → Dispatch
+served (Server x client Accepts) = Server x client Accepted
+served (Server x client (Serves o)) = Object x
+served d = d
 
 abbrev pub left_by : ℤ → List Task → List Task
 left_by code (Dispatched d ∷ ts) = Dispatched (left code d) ∷ ts
 left_by code ts = ts
+
+abbrev pub served_by : List Task → List Task
+served_by (Dispatched d ∷ ts) = Dispatched (served d) ∷ ts
+served_by ts = ts
 
 -- its `error` method has answered
 abbrev pub heard : ℤ → Dispatch → Dispatch
@@ -83,10 +96,11 @@ abbrev pub told_by : Gives → ℕ → ℤ
 told_by A_word n = cast_signed w32 n
 told_by _ n = pos 0
 
--- once `stop` was run the machine stays there until the next step, but where main left, and where the root is gone
+-- once `stop` was run the machine stays there until the next step, but where main left, where the root is gone, and where a server's dispatch is to end as an object's
 abbrev pub is_last : Dispatch → Bool
 is_last (MainLeft code) = false
 is_last Root = false
+is_last (Server x client stage) = false
 is_last _ = true
 
 abbrev pub halts : Rest → Dispatch → Bool

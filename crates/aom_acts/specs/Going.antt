@@ -1,13 +1,15 @@
 -- Where a destruction begins.
-use Rattle.std.specs.Prelude.{ℕ, List, [], ◌∷◌, Option, Some, None}
+use Rattle.std.specs.Prelude.{ℕ, Bool, cond, is_some, List, [], ◌∷◌, Option, Some, None}
 use Rattle.aom_image.specs.Image.{Image}
 use Rattle.aom_image.specs.declared.method.Role.TheVariants.{Destruct}
 use Rattle.aom_classes.specs.Roles.{role_of}
+use Rattle.aom_roles.specs.Classes.{sessions_in}
+use Rattle.aom_roles.specs.Shapes.{kind_of}
 use Rattle.aom_cells.specs.Heap.{Heap, null, class_at}
 use Rattle.aom_sound.specs.State.{raised}
 use Rattle.aom_frames.specs.Tasks.{fresh, below_first}
 use Rattle.aom_frames.specs.declared.task.Task.{Task}
-use Rattle.aom_frames.specs.declared.task.Task.TheVariants.{Run, Trapped, Destroy, Unwind, Dispatched}
+use Rattle.aom_frames.specs.declared.task.Task.TheVariants.{Run, Trapped, Destroy, Closing, Unwind, Dispatched}
 use Rattle.aom_frames.specs.declared.dispatch.Dispatch.{Dispatch}
 use Rattle.aom_frames.specs.declared.dispatch.Dispatch.TheVariants.{Root}
 use Rattle.aom_parts.specs.declared.parts.Parts.{Parts}
@@ -21,10 +23,22 @@ destructor_in p (Some class) = role_of p class Destruct
 abbrev pub destructor_at : Image → Heap → ℕ → Option ℕ
 destructor_at p h n = destructor_in p (class_at h n)
 
--- the destruction of a cell over these tasks, with its destructor if there is one
-abbrev pub destroying : Option ℕ → ℕ → List Task → List Task
-destroying None n ts = Destroy n ∷ ts
-destroying (Some method) n ts = Run (fresh method n) ∷ Destroy n ∷ ts
+-- over these tasks the destructor of a cell runs, if there is one
+abbrev pub destructed : Option ℕ → ℕ → List Task → List Task
+destructed None n ts = ts
+destructed (Some method) n ts = Run (fresh method n) ∷ ts
+
+-- objects of that class are servers
+abbrev pub is_server_class : Image → Option ℕ → Bool
+is_server_class p class = is_some (sessions_in (kind_of p class))
+
+-- the destruction of a cell of that class begins over these tasks: of a server the sessions with it go first
+abbrev pub begun : Image → Option ℕ → ℕ → List Task → List Task
+begun p class n ts = cond (is_server_class p class) (Closing ∷ Destroy n ∷ ts) (destructed (destructor_in p class) n (Destroy n ∷ ts))
+
+-- the destruction of the cell at a number begins
+abbrev pub dying : Image → Heap → ℕ → List Task → List Task
+dying p h n ts = begun p (class_at h n) n ts
 
 -- the dispatch that is at its end
 abbrev pub ending_here : List Task → Option Dispatch
@@ -32,6 +46,7 @@ ending_here [] = None
 ending_here (Run f ∷ ts) = None
 ending_here (Trapped ∷ ts) = None
 ending_here (Destroy x ∷ ts) = None
+ending_here (Closing ∷ ts) = None
 ending_here (Unwind code ∷ ts) = None
 ending_here (Dispatched d ∷ ts) = Some d
 
@@ -39,7 +54,7 @@ ending_here (Dispatched d ∷ ts) = Some d
 abbrev pub uprooted : Image → Parts → Parts
 uprooted p m =
     record m {
-      stack = record m.stack { tasks = destroying (destructor_at p m.cells m.root) m.root (Dispatched Root ∷ below_first m.stack.tasks) };
+      stack = record m.stack { tasks = dying p m.cells m.root (Dispatched Root ∷ below_first m.stack.tasks) };
       root = null;
       rest = record m.rest { clock = raised m.rest.clock };
     }

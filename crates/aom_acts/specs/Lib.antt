@@ -7,3 +7,4 @@ pub mod Ends
 pub mod Cleanup
 pub mod Requests
 pub mod Natives
+pub mod Serving

@@ -15,6 +15,7 @@ ghost use Rattle.aom_acts.specs.Acts.{Does, DoesIn, resulted};
 ghost use Rattle.aom_acts.specs.Calls.{target_here};
 ghost use Rattle.aom_acts.specs.Next.{IsNext};
 
+use crate::serving;
 use aom_cells::NULL;
 use aom_classes::Linked;
 use aom_cleanup::Item;
@@ -171,8 +172,8 @@ fn hear(parts: &mut Parts, dispatch: Dispatch, gives: Gives, number: u32)
         .push(Task::Dispatched(Dispatch::Answered(subject, answer)));
 }
 
-/// A method returns: to the one that called it, through a trap, to the going of its cell, to an unwinding, or to the
-/// dispatch that has asked it.
+/// A method returns: to the one that called it, through a trap to it or to the dispatch, to the going of its cell, to an unwinding, or to
+/// the dispatch that has asked it.
 pub fn give_back(parts: &mut Parts, from: Register, linked: &Linked)
     requires { IsNext linked.now (Return from) parts.old }
     ensures { (refused : List ℕ) → DoesIn linked.now refused (Return from) parts.old parts.new }
@@ -189,11 +190,14 @@ pub fn give_back(parts: &mut Parts, from: Register, linked: &Linked)
             parts.entries.unmark();
             if parts.is_running() {
                 receive_trapped(parts, gives, number, linked);
+            } else {
+                serving::serve(parts, number);
             }
         }
         Some(TaskKind::Destroy(_)) => {}
         Some(TaskKind::Unwind(_)) => {}
         Some(TaskKind::Dispatched(dispatch)) => hear(parts, dispatch, gives, number),
+        Some(TaskKind::Closing) => unreachable!(),
         None => unreachable!(),
     }
 }

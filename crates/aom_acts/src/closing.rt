@@ -1,18 +1,18 @@
 //! How a dispatch ends.
-ghost use Rattle.std.specs.Prelude.{◌≡◌, true};
+ghost use Rattle.std.specs.Prelude.{◌≡◌, ◌<◌, Some, length, true};
 ghost use Rattle.aom_classes.specs.Roles.{role_of};
 ghost use Rattle.aom_image.specs.declared.method.Role.TheVariants.{Error};
-ghost use Rattle.aom_lines.specs.Turn.{Turn as TurnRecord};
 ghost use Rattle.aom_acts.specs.Ends.{CanEnd, ended_answered, ended_dispatch, asking, handled};
 ghost use Rattle.aom_acts.specs.Going.{ending_here};
 ghost use Rattle.aom_acts.specs.Moves.{Moves};
 ghost use Rattle.aom_parts.specs.Stands.{Stands};
 
-use crate::going;
+use crate::{going, serving};
 use aom_cells::NULL;
 use aom_classes::Linked;
 use aom_frames::{Dispatch, Frame, Subject, Task};
 use aom_image::Role;
+use aom_lines::Turn;
 use aom_parts::Parts;
 
 /// Nothing of the dispatch is left. Where `stop` was run, the root is at hand to go, if there is one.
@@ -67,12 +67,13 @@ fn ask(parts: &mut Parts, subject: Subject, code: i32, linked: &Linked)
     parts.stack.push(Task::Run(frame));
 }
 
-/// The dispatch that is at hand ends, or asks for an answer.
-pub fn close(parts: &mut Parts, dispatch: Dispatch, linked: &Linked)
+/// The dispatch that is at hand ends, or asks for an answer. One of a server is one of an object from then on.
+pub fn close(parts: &mut Parts, dispatch: Dispatch, linked: &Linked, turn: &mut Turn)
     requires ending { ending_here parts.old.stack.tasks ≡ Some dispatch }
     requires announced { parts.old.rest.announced ≡ true }
     requires stands { Stands (record { image = linked.now; parts = parts.old }) }
-    ensures { (told : TurnRecord) → Moves linked.now parts.old told told parts.new }
+    requires room { length turn.old.lines < turn.old.room }
+    ensures { Moves linked.now parts.old turn.old turn.new parts.new }
 {
     match dispatch {
         Dispatch::Main => end_dispatch(parts, linked),
@@ -87,5 +88,9 @@ pub fn close(parts: &mut Parts, dispatch: Dispatch, linked: &Linked)
         Dispatch::Object(_) | Dispatch::Asks(_) => end_object(parts, linked),
         Dispatch::ObjectLeft(subject, code) => ask(parts, subject, code, linked),
         Dispatch::Answered(_, answer) => end_answered(parts, answer, linked),
+        Dispatch::Server(subject, client, stage) => {
+            serving::end_stage(parts, client, stage, turn);
+            serving::redispatch(parts, Dispatch::Object(subject));
+        }
     }
 }

@@ -1,34 +1,61 @@
-//! Destruction: a cell is at hand, its destructor runs first, and then it goes.
-ghost use Rattle.std.specs.Prelude.{◌≡◌, ◌<◌, ◌+◌, ◌^◌, ℕ, List, IfSome, length};
+//! Destruction: a cell is at hand, of a server the sessions with it go first, its destructor runs, and then it goes.
+ghost use Rattle.std.specs.Prelude.{◌≡◌, ◌<◌, ◌+◌, ◌^◌, ℕ, List, IfSome, Some, length, true};
 ghost use Rattle.aom_cells.specs.Heap.{Lives, class_at};
 ghost use Rattle.aom_instructions.specs.declared.instr.Instr.TheVariants.{Delete};
+ghost use Rattle.aom_clients.specs.Clients.{queue_at};
 ghost use Rattle.aom_frames.specs.Tasks.{place_here, below_first};
 ghost use Rattle.aom_acts.specs.Acts.{DoesIn, GoesAway};
-ghost use Rattle.aom_parts.specs.Places.{next, with_tasks, IsDestroying, going_here};
-ghost use Rattle.aom_acts.specs.Going.{destroying, destructor_at, uprooted};
+ghost use Rattle.aom_parts.specs.Places.{next, with_tasks, IsClosing, IsDestroying, going_here};
+ghost use Rattle.aom_acts.specs.Going.{destructed, destructor_in, dying, is_server_class, uprooted};
+ghost use Rattle.aom_acts.specs.Moves.{Moves};
 ghost use Rattle.aom_acts.specs.Next.{IsNext};
+ghost use Rattle.aom_acts.specs.Serving.{CanVanish, answers};
+ghost use Rattle.aom_lines.specs.Turn.{Turn as TurnRecord};
+ghost use Rattle.aom_parts.specs.Stands.{Stands};
 
+use crate::serving;
 use aom_cells::NULL;
 use aom_classes::Linked;
-use aom_frames::{Dispatch, Frame, Task};
-use aom_image::{Register, Role};
+use aom_frames::{Dispatch, Frame, Task, TaskKind};
+use aom_image::{ClassNumber, Register, Role};
 use aom_lines::Turn;
 use aom_parts::Parts;
+use aom_roles::sessions_at;
 use aom_transcript::Line;
 
-/// The destruction of that cell is at hand, and over it its destructor, if it has one.
-pub fn begin(parts: &mut Parts, number: u32, linked: &Linked)
-    requires lives { Lives parts.old.cells number }
-    requires small { IfSome (class_at parts.old.cells number) (λ class. class < 256) }
-    requires room { length parts.old.stack.tasks + 1 < parts.old.stack.depth }
-    ensures { parts.new ≡ with_tasks (destroying (destructor_at linked.now parts.old.cells number) number parts.old.stack.tasks) parts.old }
+/// The destructor of a cell of that class runs over the tasks at hand, if it has one.
+fn destruct(parts: &mut Parts, number: u32, class: ClassNumber, linked: &Linked)
+    requires room { length parts.old.stack.tasks < parts.old.stack.depth }
+    ensures { parts.new ≡ with_tasks (destructed (destructor_in linked.now (Some class)) number parts.old.stack.tasks) parts.old }
 {
-    let class = parts.class(number);
-    parts.stack.push(Task::Destroy(number));
     if let Some(destructor) = linked.role(class, Role::Destruct) {
         parts
             .stack
             .push(Task::Run(Frame::begin(destructor, number)));
+    }
+}
+
+/// Whether the objects of a class are servers.
+#[tactic(auto, unfolding(aom_roles::specs::Shapes::kind_of))]
+pub fn is_server(class: ClassNumber, linked: &Linked) -> bool
+    ensures { result ≡ is_server_class linked.now (Some class) }
+{
+    sessions_at(linked.image(), class).is_some()
+}
+
+/// The destruction of that cell is at hand. Over it its destructor runs, if it has one; of a server the sessions with it are at hand to go.
+pub fn begin(parts: &mut Parts, number: u32, linked: &Linked)
+    requires lives { Lives parts.old.cells number }
+    requires small { IfSome (class_at parts.old.cells number) (λ class. class < 256) }
+    requires room { length parts.old.stack.tasks + 1 < parts.old.stack.depth }
+    ensures { parts.new ≡ with_tasks (dying linked.now parts.old.cells number parts.old.stack.tasks) parts.old }
+{
+    let class = parts.class(number);
+    parts.stack.push(Task::Destroy(number));
+    if is_server(class, linked) {
+        parts.stack.push(Task::Closing);
+    } else {
+        destruct(parts, number, class, linked);
     }
 }
 
@@ -69,17 +96,43 @@ fn resume(parts: &mut Parts)
     }
 }
 
-/// The cell of that number goes, whose destruction is at hand. The method below goes on, if there is one.
+/// The first session with the server whose going is at hand goes before it, and once none is left the server's destructor runs.
+pub fn let_go(parts: &mut Parts, linked: &Linked)
+    requires closing { IsClosing parts.old.stack.tasks }
+    requires announced { parts.old.rest.announced ≡ true }
+    requires stands { Stands (record { image = linked.now; parts = parts.old }) }
+    ensures { (told : TurnRecord) → Moves linked.now parts.old told told parts.new }
+{
+    parts.drop_task();
+    let Some(TaskKind::Destroy(number)) = parts.stack.top() else {
+        unreachable!();
+    };
+    match serving::take_session(parts, number as u16) {
+        Some(session) => {
+            parts.stack.push(Task::Closing);
+            begin(parts, session, linked);
+        }
+        None => {
+            let class = parts.class(number);
+            destruct(parts, number, class, linked);
+        }
+    }
+}
+
+/// The cell of that number goes, whose destruction is at hand, and with a server all that waits in its queue. The method below goes on, if
+/// there is one.
 pub fn go(parts: &mut Parts, number: u32, turn: &mut Turn)
     requires destroying { IsDestroying parts.old.stack.tasks }
     requires going { number ≡ going_here parts.old.stack.tasks }
     requires lives { Lives parts.old.cells (going_here parts.old.stack.tasks) }
     requires small { IfSome (class_at parts.old.cells (going_here parts.old.stack.tasks)) (λ class. class < 256) }
+    requires vanishes { CanVanish (going_here parts.old.stack.tasks) parts.old }
     requires within { place_here (below_first parts.old.stack.tasks) + 1 < 2 ^ 64 }
-    requires room { length turn.old.lines < turn.old.room }
+    requires room { length turn.old.lines + answers (queue_at parts.old.clients (going_here parts.old.stack.tasks)) < turn.old.room }
     ensures { GoesAway parts.old parts.new turn.old turn.new }
 {
     parts.drop_task();
+    serving::end_server(parts, number as u16, turn);
     let class = parts.release(number);
     turn.push(Line::Gone(class));
     resume(parts);

@@ -16,10 +16,10 @@ ghost use Rattle.aom_acts.specs.Moves.{Moves};
 ghost use Rattle.aom_parts.specs.Stands.{Stands};
 
 use crate::calls::result_of;
-use crate::cleanup;
+use crate::{cleanup, serving};
 use aom_cells::NULL;
 use aom_classes::Linked;
-use aom_frames::{Dispatch, Task, TaskKind};
+use aom_frames::{Dispatch, Stage, Task, TaskKind};
 use aom_image::{Gives, Instr, Register};
 use aom_lines::Turn;
 use aom_parts::Parts;
@@ -106,12 +106,10 @@ fn leave_dispatch(parts: &mut Parts, code: i32)
     ensures { parts.new ≡ with_tasks (left_by code parts.old.stack.tasks) parts.old }
 {
     match parts.stack.top() {
-        Some(TaskKind::Dispatched(dispatch)) => {
-            parts.drop_task();
-            parts
-                .stack
-                .push(Task::Dispatched(left_with(dispatch, code)));
-        }
+        Some(TaskKind::Dispatched(dispatch)) => serving::redispatch(
+            parts,
+            left_with(dispatch, code),
+        ),
         _ => unreachable!(),
     }
 }
@@ -153,6 +151,16 @@ fn left_with(dispatch: Dispatch, code: i32) -> Dispatch
     match dispatch {
         Dispatch::Main => Dispatch::MainLeft(code),
         Dispatch::Object(subject) => Dispatch::ObjectLeft(subject, code),
+        Dispatch::Server(subject, client, Stage::Accepts) => Dispatch::Server(
+            subject,
+            client,
+            Stage::AcceptLeft(code),
+        ),
+        Dispatch::Server(subject, client, Stage::Serves(_)) => Dispatch::Server(
+            subject,
+            client,
+            Stage::ServiceLeft(code),
+        ),
         other => other,
     }
 }

@@ -1,5 +1,5 @@
-//! The instructions of the machine, group by group, and what else is one move: the going of a cell, a leave that
-//! unwinds, and the end of a dispatch.
+//! The instructions of the machine, group by group, and what else is one move: the going of a cell, of a server's sessions
+//! before it, a leave that unwinds, and the end of a dispatch or of a stage of one.
 //!
 //! Each is a function over the `Parts`. An instruction does as it does in the checked machine (`DoesIn` of
 //! `specs/Acts.antt`), and so does each move (`Moves` of `specs/Moves.antt`); no instruction tests what a number stands
@@ -12,14 +12,16 @@ mod closing;
 mod fields;
 mod going;
 mod leaving;
+mod messages;
 mod natives;
 mod objects;
 mod performing;
 mod requests;
+mod serving;
 mod words;
 
 pub use closing::close;
-pub use going::go;
+pub use going::{begin, go, let_go};
 pub use leaving::unwind;
 pub use natives::TERMINATED;
 pub use performing::perform;

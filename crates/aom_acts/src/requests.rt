@@ -15,7 +15,7 @@ ghost use Rattle.aom_requests.specs.declared.request.State.{State};
 ghost use Rattle.aom_sound.specs.Words.{word_or_zero};
 ghost use Rattle.aom_rules.specs.Requests.{is_active_kind};
 
-use crate::natives;
+use crate::{going, natives};
 use aom_cells::CellId;
 use aom_classes::Linked;
 use aom_frames::{Frame, Task};
@@ -62,7 +62,7 @@ pub fn jump_added(parts: &mut Parts, place: Place)
 fn last_status(parts: &Parts, id: CellId) -> i32
     ensures { result ≡ word_or_zero (status_at parts.now.active.table id) }
 {
-    if parts.active.is_enlisted(id) {
+    if parts.active.state(id).is_some() {
         parts.active.status(id)
     } else {
         0
@@ -77,13 +77,19 @@ pub fn status(parts: &mut Parts, to: Register)
     parts.write_word(to, status);
 }
 
-pub fn enlist(parts: &mut Parts, priority: i32)
-    requires { (p : Image) × IsNext p (Enlist priority) parts.old }
-    ensures { (refused : List ℕ) → Does refused (Enlist priority) parts.old parts.new }
+pub fn enlist(parts: &mut Parts, priority: i32, linked: &Linked)
+    requires { IsNext linked.now (Enlist priority) parts.old }
+    ensures { (refused : List ℕ) → DoesIn linked.now refused (Enlist priority) parts.old parts.new }
 {
     // Of a living cell the number is below the limit, so there is a place for its request.
     let id = parts.cells.living(parts.stack.this());
-    parts.active.enlist(id, priority);
+    let class = parts.class(id.number());
+    if going::is_server(class, linked) {
+        parts.active.enlist_server(id, priority);
+        parts.listed.push_last(class.number(), id.number() as u16);
+    } else {
+        parts.active.enlist(id, priority);
+    }
     parts.next();
 }
 

@@ -1,7 +1,6 @@
 //! Accepted images.
 ghost use Rattle.std.specs.Prelude.{◌≡◌, IfOk, IfErr, IsSome};
 ghost use Rattle.aom_image.specs.Views.{method_at};
-ghost use Rattle.aom_classes.specs.Admitted.{IsAdmitted};
 ghost use Rattle.aom_classes.specs.Linked.{IsLinked};
 ghost use Rattle.aom_rules.specs.Typing.{Typing, IsTyped};
 ghost use Rattle.aom_verify.specs.Strongest.{IsStrongest};
@@ -61,13 +60,11 @@ impl Accepted {
         &self.figures
     }
 
-    /// It is linked, has nothing that is not admitted yet, and has a typing. Each dispatch takes at most the steps that
-    /// are declared of it. What an instruction that its strongest
-    /// typing reaches may call is less deep than its own method, so no stack of such frames is higher than 256, and no
-    /// method comes to more than 1,024 cleanup entries.
+    /// It is linked and has a typing. Each dispatch takes at most the steps that are declared of it. What an instruction
+    /// that its strongest typing reaches may call is less deep than its own method, so no stack of such frames is higher
+    /// than 256, and no method comes to more than 1,024 cleanup entries.
     pub fn facts(&self)
         ensures linked { IsLinked self.now }
-        ensures admitted { IsAdmitted self.now }
         ensures typed { (t : Typing) × IsTyped self.now t }
         ensures strongest { (t : Typing) × IsStrongest self.now t }
         ensures budgets { BudgetsWithin self.now }

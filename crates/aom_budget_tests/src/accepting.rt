@@ -134,3 +134,23 @@ fn loops_cost_their_rounds(rt: HostRuntime) -> Result<(), Fail> {
     }
     Ok(())
 }
+
+/// A server that takes four sessions, and a main that makes it the root, with what both declare.
+fn served(alloc: Global, class: u32, main: u32) -> Result<String, AllocError> {
+    format!(in alloc;
+        "image cells 4 messages 4 budget {main} root V;class S session;class V server S max 4 budget {class}
+method serve service of S leaves;leaveif r0;takemsg r5;reply r5 r0;ret;end
+method acc accept of V leaves;newl r0 S;ret r0;end;method vn construct of V;enlist 0;ret;end
+method main main leaves;newl r0 V;push r0;call c0 vn;pop r0;put f0 r0;ret;end"
+    )
+}
+
+/// A server declares the dearest that it serves, here a message, and main pays for all the sessions that may go with it.
+#[test]
+fn a_server_and_its_sessions_are_paid_for(rt: HostRuntime) -> Result<(), Fail> {
+    for (class, main, wanted) in [(4, 18, 0), (3, 18, 1), (4, 17, 1)] {
+        let text = served(rt.alloc(), class, main)?;
+        assert_eq!(rt; answer_of(rt.alloc(), text.as_str()), wanted);
+    }
+    Ok(())
+}

@@ -1,16 +1,13 @@
 -- What is known of the parts of a linked image, by their numbers.
-use Rattle.std.proofs.Common.{◌≡◌, ℕ, List, All, length, IsTrue, IfSome, Some, None, slice_get, refl, subst}
-use Rattle.std.specs.List.{list_all}
+use Rattle.std.proofs.Common.{◌≡◌, ℕ, List, All, length, IfSome, Some, None, slice_get, refl, subst}
 use Rattle.std.proofs.lemmas.List.Elements.{All-get_or}
 use Rattle.std.proofs.lemmas.Option.{get_or_from_slice_get, slice_get_within}
 use Rattle.aom_image.specs.Image.{Image}
 use Rattle.aom_image.specs.Views.{method_at, instr_at, instr_in}
 use Rattle.aom_image.specs.declared.method.Method.{Method}
 use Rattle.aom_instructions.specs.declared.instr.Instr.{Instr}
-use Rattle.aom_classes.specs.Admitted.{IsAdmitted, admits_role, admits_argument, admits_result, admits_method, admits_instr}
 use Rattle.aom_classes.specs.Jumps.{KeepsWithin, JumpsWell}
 use Rattle.aom_classes.specs.Linked.{IsLinked}
-use Rattle.aom_classes.proofs.Each.{all_four, each_passes}
 
 -- what holds at each place of a list holds of an element
 pub at_place : {X : Type 0} (P : ℕ → X → Type 0) (xs : List X) (k : ℕ) (x : X) → ((j : ℕ) → IfSome (slice_get xs j) (P j)) → slice_get xs k ≡ Some x → P k x
@@ -28,17 +25,6 @@ of_method p m place i e =
       | None ↦ λ f. cc
       | Some d ↦ λ f. (d, refl, f)
     ] e
-
-pub admitted_method : (p : Image) (m : ℕ) (d : Method) → IsAdmitted p → method_at p m ≡ Some d → IsTrue (admits_method d)
-unfolding method_at
-admitted_method p m d a e = at_place (λ _ x. IsTrue (admits_method x)) p.methods m d a.methods e
-
-pub admitted_instr : (p : Image) (m place : ℕ) (i : Instr) → IsAdmitted p → instr_at p m place ≡ Some i → IsTrue (admits_instr i)
-unfolding admits_method
-admitted_instr p m place i a e =
-    let w = of_method p m place i e in
-    let t = all_four (admits_role w.0.role) (list_all admits_argument w.0.arguments) (admits_result w.0.gives) (list_all admits_instr w.0.code) (admitted_method p m w.0 a w.1) in
-    at_place (λ _ x. IsTrue (admits_instr x)) w.0.code place i (each_passes admits_instr w.0.code t.3) w.2
 
 -- an instruction's jump and next place are within its method
 pub linked_place : (p : Image) (m place : ℕ) (d : Method) (i : Instr) → IsLinked p → method_at p m ≡ Some d → slice_get d.code place ≡ Some i → KeepsWithin (length d.code) place i

@@ -1,18 +1,16 @@
 -- What the faults say.
 use Rattle.std.specs.Prelude.{ℕ}
 use Rattle.aom_image.specs.Image.{Image}
-use Rattle.aom_classes.specs.Admitted.{IsAdmitted}
 use Rattle.aom_classes.specs.Calls.{AllCallsOrdered}
 use Rattle.aom_roles.specs.Classes.{ClassesOrdered}
 use Rattle.aom_classes.specs.Linked.{AllJumpWell, AllLoopsNest, HasMain, IsLinked}
 use Rattle.aom_classes.specs.Needs.{AllNeedsMet, RolesSingle}
 use Rattle.aom_roles.specs.Shapes.{AllShaped}
 use Rattle.aom_classes.specs.declared.fault.LinkFault.{LinkFault}
-use Rattle.aom_classes.specs.declared.fault.LinkFault.TheVariants.{NotYet, ClassOrder, CallOrder, MissingRole, DoubleRole, RoleShape, BadJump, BadLoop, NoMain, OutOfMemory}
+use Rattle.aom_classes.specs.declared.fault.LinkFault.TheVariants.{ClassOrder, CallOrder, MissingRole, DoubleRole, RoleShape, BadJump, BadLoop, NoMain, OutOfMemory}
 
 -- the number of a fault
 unfoldable pub number_of : LinkFault → ℕ
-number_of NotYet = 0
 number_of ClassOrder = 1
 number_of CallOrder = 2
 number_of MissingRole = 3
@@ -23,7 +21,7 @@ number_of BadLoop = 7
 number_of NoMain = 8
 number_of OutOfMemory = 9
 
--- the image fails the fault's condition, and keeps all of lower numbers
+-- the image fails the fault's condition, and keeps all of lower numbers. Want of memory is no reason to refuse one
 unfoldable pub Fails : Image → LinkFault → Type 0
 Fails p ClassOrder = ¬ ClassesOrdered p
 Fails p CallOrder = ClassesOrdered p × ¬ AllCallsOrdered p
@@ -35,13 +33,7 @@ Fails p BadLoop = ClassesOrdered p × AllCallsOrdered p × AllNeedsMet p × Role
 Fails p NoMain = ClassesOrdered p × AllCallsOrdered p × AllNeedsMet p × RolesSingle p × AllShaped p × AllJumpWell p × AllLoopsNest p × ¬ HasMain p
 Fails p _ = ⊥
 
--- why an image is refused: it is not admitted, or fails a condition. Want of memory is no reason
-unfoldable pub Refuses : Image → LinkFault → Type 0
-Refuses p NotYet = ¬ IsAdmitted p
-Refuses p OutOfMemory = ⊥
-Refuses p fault = IsAdmitted p × Fails p fault
-
--- what a fault says of the image: why it is refused, or that memory was wanting once it was found admitted and linked
+-- what a fault says of the image: the condition that it fails, or that memory was wanting once it was found linked
 unfoldable pub RefusesOrWants : Image → LinkFault → Type 0
-RefusesOrWants p OutOfMemory = IsAdmitted p × IsLinked p
-RefusesOrWants p fault = Refuses p fault
+RefusesOrWants p OutOfMemory = IsLinked p
+RefusesOrWants p fault = Fails p fault

@@ -1,4 +1,3 @@
-pub mod Admitted
 pub mod Bodies
 pub mod Calls
 pub mod Faults

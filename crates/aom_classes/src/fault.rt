@@ -9,9 +9,6 @@ use thiserror::Error;
 /// The first condition that an image fails, in the order of their numbers.
 #[derive(Clone, Copy, PartialEq, Eq, Debug, Error)]
 pub enum LinkFault {
-    /// It has something that is not admitted yet.
-    #[error("link 0")]
-    NotYet,
     #[error("link 1")]
     ClassOrder,
     #[error("link 2")]
@@ -38,7 +35,6 @@ impl LinkFault {
         ensures { result ≡ number_of self }
     {
         match self {
-            LinkFault::NotYet => 0,
             LinkFault::ClassOrder => 1,
             LinkFault::CallOrder => 2,
             LinkFault::MissingRole => 3,

@@ -5,7 +5,6 @@
 //! Nothing here knows of cells, frames or the state of a register.
 #![tactic(auto)]
 
-mod admitted;
 mod call_order;
 mod fault;
 mod jumps;

@@ -1,13 +1,11 @@
 //! A linked image.
 ghost use Rattle.std.specs.Prelude.{◌≡◌, IfOk, IfErr, IsSome, Some, slice_get};
 ghost use Rattle.aom_image.specs.Views.{class_at, method_at, instr_at, fields_of};
-ghost use Rattle.aom_classes.specs.Admitted.{IsAdmitted};
 ghost use Rattle.aom_classes.specs.Linked.{IsLinked};
 ghost use Rattle.aom_classes.specs.Roles.{main_of, role_of};
 ghost use Rattle.aom_classes.specs.Faults.{Fails, RefusesOrWants};
 
 use crate::LinkFault;
-use crate::admitted::is_admitted;
 use crate::call_order::calls_are_ordered;
 use crate::jumps::all_jump_well;
 use crate::loops::all_loops_nest;
@@ -32,7 +30,6 @@ pub struct Linked {
 impl Model for Linked {
     ghost use Rattle.std.specs.Prelude.{◌≡◌, Some};
     ghost use Rattle.aom_image.specs.Image.{Image};
-    ghost use Rattle.aom_classes.specs.Admitted.{IsAdmitted};
     ghost use Rattle.aom_classes.specs.Linked.{IsLinked};
     ghost use Rattle.aom_classes.specs.Roles.{main_of};
     ghost use Rattle.aom_classes.specs.Table.{IsTable};
@@ -41,25 +38,22 @@ impl Model for Linked {
 
     ghost view = { λ l. l.image };
 
-    ghost invariant = { λ l. IsAdmitted l.image × IsLinked l.image × (main_of l.image ≡ Some l.main) × IsTable l.image l.roles.rows.items };
+    ghost invariant = { λ l. IsLinked l.image × (main_of l.image ≡ Some l.main) × IsTable l.image l.roles.rows.items };
 }
 
 /// Links an image: the image as it was, or the first condition that it fails. A refused image is dropped. Memory is
 /// wanted for the table of roles alone, and only of an image that keeps them all.
-#[tactic(auto, unfolding(crate::specs::Faults::Refuses, crate::specs::Faults::RefusesOrWants))]
+#[tactic(auto, unfolding(crate::specs::Faults::RefusesOrWants))]
 pub fn link(alloc: Global, image: Image) -> Result<Linked, LinkFault>
-    ensures ok { IfOk result (λ l. (l ≡ image) × IsAdmitted image × IsLinked image) }
+    ensures ok { IfOk result (λ l. (l ≡ image) × IsLinked image) }
     ensures err { IfErr result (λ fault. RefusesOrWants image fault) }
 {
-    if !is_admitted(&image) {
-        return Err(LinkFault::NotYet);
-    }
     let main = check_conditions(&image)?;
     let roles = RoleTable::of_image(alloc, &image)?;
     Ok(Linked { image, roles, main })
 }
 
-/// The main of an image that keeps the conditions, whatever is admitted.
+/// The main of an image that keeps the conditions.
 #[tactic(auto, unfolding(crate::specs::Roles::main_of, crate::specs::Faults::Fails))]
 pub fn check_conditions(image: &Image) -> Result<MethodNumber, LinkFault>
     ensures ok { IfOk result (λ main. IsLinked image.now × (main_of image.now ≡ Some main)) }
@@ -100,10 +94,9 @@ impl Linked {
         &self.image
     }
 
-    /// It keeps what is asked of a linked image, and has nothing that is not admitted.
+    /// It keeps what is asked of a linked image.
     pub fn facts(&self)
         ensures linked { IsLinked self.now }
-        ensures admitted { IsAdmitted self.now }
     {
         let _ = &self.image;
     }

@@ -405,18 +405,49 @@ fn what_link_refuses(rt: HostRuntime) {
     assert!(rt; link_fault(alloc, mainless) == Some(8));
 }
 
+/// A session whose service takes its message and replies, and a main.
+fn serving(alloc: Global) -> ImageDraft {
+    let code = [
+        Instr::TakeMessage(register(5)),
+        Instr::Reply(register(5), register(0)),
+        ret(),
+    ];
+    ImageDraft::new(alloc)
+        .class(alloc, ClassKind::Session)
+        .method(
+            alloc,
+            draft(Role::Service).of(0).taking(5, Argument::Word),
+            &code,
+        )
+        .method(alloc, main(), &[ret()])
+}
+
 #[test]
-fn what_is_not_admitted_yet(rt: HostRuntime) {
+fn servers_and_sessions_are_linked(rt: HostRuntime) {
+    let alloc = rt.alloc();
+    assert!(rt; link_fault(alloc, whole(alloc)).is_none());
+    assert!(rt; link_fault(alloc, serving(alloc)).is_none());
+    let unserved = alone(alloc, &[ret()]).class(alloc, ClassKind::Session);
+    assert!(rt; link_fault(alloc, unserved) == Some(3));
+    let unaccepted = serving(alloc).class(alloc, server(0));
+    assert!(rt; link_fault(alloc, unaccepted) == Some(3));
+    let root = serving(alloc).root(0);
+    assert!(rt; link_fault(alloc, root) == Some(1));
+}
+
+#[test]
+fn messages_are_linked(rt: HostRuntime) {
     let alloc = rt.alloc();
     let code = [ret()];
     let message = Argument::Own(Thing::Message);
-    assert!(rt; fault_beside(alloc, work().taking(1, message)) == Some(0));
-    assert!(rt; fault_beside(alloc, work().giving(Gives::Own(Thing::Message))) == Some(0));
-    let holder = alone(alloc, &code).owner(alloc, Thing::Message);
-    assert!(rt; link_fault(alloc, holder) == Some(0));
-    let session = alone(alloc, &code).class(alloc, ClassKind::Session);
-    assert!(rt; link_fault(alloc, session) == Some(0));
-    assert!(rt; link_fault(alloc, whole(alloc)) == Some(0));
+    assert!(rt; fault_beside(alloc, work().taking(1, message)).is_none());
+    assert!(rt; fault_beside(alloc, work().giving(Gives::Own(Thing::Message))).is_none());
+    assert!(rt; fault_beside(alloc, work().giving(Gives::Maybe(Thing::Message))).is_none());
+    let holder = ImageDraft::new(alloc).owner(alloc, Thing::Message);
+    let holder = holder.method(alloc, destruct(0), &code);
+    assert!(rt; link_fault(alloc, holder.method(alloc, main(), &code)).is_none());
+    let leaking = alone(alloc, &code).owner(alloc, Thing::Message);
+    assert!(rt; link_fault(alloc, leaking) == Some(3));
 }
 
 /// An active class whose requests are made of that, with its methods.

@@ -233,7 +233,7 @@ impl ImageDraft {
         Some(Image::make(self.header, self.classes, self.methods))
     }
 
-    /// The lowest condition that it fails, whatever is admitted.
+    /// The lowest condition that it fails.
     pub fn answer(self) -> Answer {
         if self.no_memory {
             return Answer::NoMemory;

@@ -7,6 +7,8 @@ pub mod Steps
 pub mod Services
 pub mod Slots
 pub mod Goings
+pub mod Releases
+pub mod Looking
 pub mod Departures
 pub mod Draining
 pub mod Same

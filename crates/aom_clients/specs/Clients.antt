@@ -10,7 +10,7 @@ use Rattle.aom_clients.specs.declared.server.Server.{Server}
 use Rattle.aom_clients.specs.declared.entry.Entry.{Entry}
 use Rattle.aom_clients.specs.declared.entry.Entry.TheVariants.{Connect, Message, Close}
 use Rattle.aom_clients.specs.declared.entry.Taken.{Taken}
-use Rattle.aom_clients.specs.Table.{row, at_gone, sender, is_queued, is_out_of, is_waiting_of, closed_place, held_place}
+use Rattle.aom_clients.specs.Table.{row, at_gone, has_cell, released, sender, is_queued, is_out_of, is_waiting_of, closed_place, held_place}
 
 -- what each client is at, what each message place has, the queue of each server, first in, first out, the clients that have a session with
 -- each server, in order of connection, and of each client the messages that hold a slot of it, the first sent first
@@ -186,6 +186,10 @@ taken k (e ∷ es) s = taking e (with_queue k es s)
 abbrev pub after_next : ℕ → State → State
 after_next k s = taken k (queue_at s k) s
 
+-- the cell of the client's session is at hand to go
+abbrev pub after_release : ℕ → State → State
+after_release c s = with_client c (released (client_at s c)) s
+
 -- no connect of the client is in a queue, and no close
 abbrev pub is_no_connect_of : ℕ → Entry → Bool
 is_no_connect_of c (Connect client) = not (client == c)
@@ -269,3 +273,8 @@ first_client (c ∷ cs) = Some c
 abbrev pub client_after : ℕ → List ℕ → Option ℕ
 client_after c [] = None
 client_after c (d ∷ ds) = if d == c then first_client ds else client_after c ds
+
+-- the first of these clients whose session has its cell still
+abbrev pub first_there : State → List ℕ → Option ℕ
+first_there s [] = None
+first_there s (c ∷ cs) = if has_cell (client_at s c) then Some c else first_there s cs

@@ -1,5 +1,5 @@
 -- What a client may do in each state, and what a message place has.
-use Rattle.std.specs.Prelude.{◌==◌, ℕ, ℤ, negsuc, Bool, true, false, Option, Some, None}
+use Rattle.std.specs.Prelude.{◌==◌, ℕ, ℤ, negsuc, Bool, true, false, not, Option, Some, None}
 use Rattle.aom_clients.specs.declared.client.Client.{Client}
 use Rattle.aom_clients.specs.declared.client.Client.TheVariants.{Unconnected, Connecting, Open, Closing, Gone, Dead, Dying}
 use Rattle.aom_clients.specs.declared.refusal.Refusal.{Refusal}
@@ -55,6 +55,24 @@ session_of (Open server session slots) = Some session
 session_of (Closing server session) = Some session
 session_of (Dying server session) = Some session
 session_of other = None
+
+-- no cell has that number
+abbrev pub no_cell : ℕ
+no_cell = 65535
+
+-- the client names a cell for its session
+abbrev pub has_cell : Client → Bool
+has_cell (Open server session slots) = not (session == no_cell)
+has_cell (Closing server session) = not (session == no_cell)
+has_cell (Dying server session) = not (session == no_cell)
+has_cell other = false
+
+-- the same once the cell of its session is at hand to go: the client names none any more
+abbrev pub released : Client → Client
+released (Open server session slots) = Open server no_cell slots
+released (Closing server session) = Closing server no_cell
+released (Dying server session) = Dying server no_cell
+released other = other
 
 -- the server of its session
 abbrev pub server_of : Client → Option ℕ

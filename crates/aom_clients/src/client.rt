@@ -1,8 +1,11 @@
 //! What a client is at, and what it may do then.
 ghost use Rattle.std.specs.Prelude.{◌≡◌};
-ghost use Rattle.aom_clients.specs.Table.{row, session_of, at_gone};
+ghost use Rattle.aom_clients.specs.Table.{row, session_of, has_cell, released, at_gone};
 
 use crate::Refusal;
+
+/// The number of a session whose cell goes: no cell has it.
+pub const NO_CELL: u16 = 65535;
 
 /// What a client is at.
 #[derive(Clone, Copy, PartialEq, Eq, Debug)]
@@ -101,6 +104,40 @@ impl Client {
             Client::Open { .. } => Client::Gone,
             Client::Closing { .. } => Client::Unconnected,
             Client::Dying { .. } => Client::Dead,
+            other => other,
+        }
+    }
+
+    /// Whether it names a cell for its session.
+    pub(crate) fn has_cell(self) -> bool
+        ensures { result ≡ has_cell self }
+    {
+        match self {
+            Client::Open { session, .. }
+            | Client::Closing { session, .. }
+            | Client::Dying { session, .. } => session != NO_CELL,
+            _ => false,
+        }
+    }
+
+    /// The same once the cell of its session is at hand to go.
+    pub(crate) fn released(self) -> Client
+        ensures { result ≡ released self }
+    {
+        match self {
+            Client::Open { server, slots, .. } => Client::Open {
+                server,
+                session: NO_CELL,
+                slots,
+            },
+            Client::Closing { server, .. } => Client::Closing {
+                server,
+                session: NO_CELL,
+            },
+            Client::Dying { server, .. } => Client::Dying {
+                server,
+                session: NO_CELL,
+            },
             other => other,
         }
     }

@@ -1,7 +1,8 @@
 //! The calls.
-ghost use Rattle.std.specs.Prelude.{◌≡◌, ◌<◌, ◌≤◌, ◌++◌, ◌∷◌, [], true, false, Some, None, IfOk, IfSome, IsSome, IsNone, All, length, replicate, is_some};
+ghost use Rattle.aom_queues.specs.Lists.{IsIn, IsOnce};
+ghost use Rattle.std.specs.Prelude.{ℕ, ◌≡◌, ◌<◌, ◌≤◌, ◌++◌, ◌∷◌, [], true, false, Some, None, IfOk, IfSome, IsSome, IsNone, All, length, replicate, is_some};
 ghost use Rattle.aom_clients.specs.Table.{row, completion, session_of, server_of};
-ghost use Rattle.aom_clients.specs.Clients.{at_first, IsNumbered, client_at, place_at, queue_at, sessions_at, sent_at, with_client, with_place, with_sent, queued, answer, has_room, connect_refusal, after_connect, has_slot, send_refusal, after_send, leaving, after_close, after_die, freed, first_entry, after_next, opened, after_connected, parted, after_closed, after_complete, after_next_gone, after_session_gone, first_client, client_after};
+ghost use Rattle.aom_clients.specs.Clients.{at_first, IsNumbered, client_at, place_at, queue_at, sessions_at, sent_at, with_client, with_place, with_sent, queued, answer, has_room, connect_refusal, after_connect, has_slot, send_refusal, after_send, leaving, after_close, after_die, freed, first_entry, after_next, opened, after_connected, after_release, parted, after_closed, after_complete, after_next_gone, after_session_gone, first_client, client_after, first_there};
 ghost use Rattle.aom_clients.specs.Nodes.{is_open_at, named_by};
 ghost use Rattle.aom_clients.specs.Parts.{IsLeft, is_connecting, is_ending, is_apart};
 
@@ -105,6 +106,14 @@ impl Clients {
         self.queues.count(server) > 0
     }
 
+    /// How much waits in the server's queue.
+    pub fn queued(&self, server: u16) -> usize
+        requires { server < length self.now.queues }
+        ensures { result ≡ length (queue_at self.now server) }
+    {
+        usize::from(self.queues.count(server))
+    }
+
     /// Whether the server takes one session more.
     pub fn has_room(&self, server: Server) -> bool
         requires { server.cell < length self.now.queues }
@@ -133,6 +142,31 @@ impl Clients {
     {
         let next = self.sessions.next(server, client as u16)?;
         Some(next as u8)
+    }
+
+    /// For proofs alone: no client stands twice among the sessions of a server, and each of them has its session there.
+    pub fn are_apart(&self)
+        ensures once { (n : ℕ) → IsOnce (sessions_at self.now n) }
+        ensures there { (n c : ℕ) → IsIn c (sessions_at self.now n) → server_of (client_at self.now c) ≡ Some n }
+    {
+        self.sessions.in_order();
+    }
+
+    /// The client that has been connected longest to the server, of those whose session's cell does not go.
+    pub fn first_there(&self, server: u16) -> Option<u8>
+        requires { server < length self.now.queues }
+        ensures value { result ≡ first_there self.now (sessions_at self.now server) }
+        ensures below { IfSome result (λ c. c < 64) }
+    {
+        self.sessions.in_order();
+        let mut next = self.first_session(server);
+        while let Some(client) = next {
+            if self.client(client).has_cell() {
+                return Some(client);
+            }
+            next = self.next_session(server, client);
+        }
+        None
     }
 
     /// Why a connect to the server, if one was found, is refused.
@@ -337,6 +371,17 @@ impl Clients {
         self.queues.remove(connect_node(client));
         self.connects.remove(client as u16);
         self.clients[client as usize] = Client::Unconnected;
+    }
+
+    /// The cell of a client's session is at hand to go, and is nobody's from then on.
+    pub fn release_session(&mut self, client: u8) -> Option<u16>
+        requires { client < 64 }
+        ensures session { result ≡ session_of (client_at self.old client) }
+        ensures after { self.new ≡ after_release client self.old }
+    {
+        let was = self.clients[client as usize];
+        self.clients[client as usize] = was.released();
+        was.session()
     }
 
     /// A client's close was served: its session is none of the server's any more. Nothing comes of it where the client closes none.

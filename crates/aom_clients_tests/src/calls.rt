@@ -176,6 +176,22 @@ pub fn first_session(clients: &Clients, cell: u16) -> Option<u8> {
     }
 }
 
+pub fn first_there(clients: &Clients, cell: u16) -> Option<u8> {
+    if (cell as usize) < clients.cells() {
+        clients.first_there(cell)
+    } else {
+        None
+    }
+}
+
+pub fn release_session(clients: &mut Clients, client: u8) -> Option<u16> {
+    if client < 64 {
+        clients.release_session(client)
+    } else {
+        None
+    }
+}
+
 /// The client that was connected right after this one to the same server.
 pub fn next_session(clients: &Clients, client: u8) -> Option<u8> {
     if client >= 64 {

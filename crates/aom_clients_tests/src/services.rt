@@ -1,7 +1,7 @@
 //! Messages on their way, and the going of a server.
 use crate::calls::{
-    at, close, closed, complete, connect, connected, die, gone, next_kind, next_session, open,
-    place, send,
+    at, close, closed, complete, connect, connected, die, first_there, gone, next_kind,
+    next_session, open, place, release_session, send,
 };
 use aom_clients::{Client, Clients, Completion, Place};
 use std::test::Fail;
@@ -176,5 +176,20 @@ fn a_server_takes_so_many_sessions(rt: HostRuntime) -> Result<(), Fail> {
     assert_eq!(rt; connect(&mut clients, 2, 2, 2, 1), 0);
     close(&mut clients, 0);
     assert_eq!(rt; connect(&mut clients, 1, 2, 2, 1), -16);
+    Ok(())
+}
+
+#[test]
+fn sessions_go_one_after_another(rt: HostRuntime) -> Result<(), Fail> {
+    let mut clients = Clients::with_limit(rt.alloc(), 8)?;
+    open(&mut clients, 4, 2, 5, 2);
+    open(&mut clients, 1, 2, 6, 2);
+    close(&mut clients, 1);
+    assert_eq!(rt; first_there(&clients, 2), Some(4));
+    assert_eq!(rt; release_session(&mut clients, 4), Some(5));
+    assert_eq!(rt; first_there(&clients, 2), Some(1));
+    assert_eq!(rt; release_session(&mut clients, 1), Some(6));
+    assert_eq!(rt; first_there(&clients, 2), None);
+    assert_eq!(rt; release_session(&mut clients, 7), None);
     Ok(())
 }

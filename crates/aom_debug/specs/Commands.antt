@@ -58,9 +58,9 @@ NamesNoRoom p method place spots = (spot_named p method place ≡ None) ⊎ ((sp
 
 -- ---- looks
 
--- active objects in the order of choice, each on its line
-abbrev pub ShowsActives : State → List ℕ → Type 0
-ShowsActives s text = (names : List ℕ) × InOrderOfChoice s.cells names × (text ≡ answers_text (active_answers s.cells names))
+-- what is enlisted in the order of choice, each on its line
+abbrev pub ShowsActives : Image → State → List ℕ → Type 0
+ShowsActives p s text = (names : List ℕ) × InOrderOfChoice s.cells names × (text ≡ answers_text (active_answers p s.cells names))
 
 abbrev pub ShowsCells : Image → State → List ℕ → Type 0
 ShowsCells p s text = text ≡ answers_text (cells_answers p s)

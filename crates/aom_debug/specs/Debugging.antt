@@ -1,13 +1,15 @@
 -- What each call of a debugger does, from each state that its machine stands for.
-use Rattle.std.specs.Prelude.{◌≡◌, ◌⊎◌, ◌≤◌, ℕ, Bool, true, false, cond, List, [], Option, Some, None, is_some, take, codes, Result, Ok, Err}
+use Rattle.std.specs.Prelude.{◌≡◌, ◌⊎◌, ◌≤◌, ◌+◌, ℕ, Bool, true, false, cond, List, [], Option, Some, None, is_some, take, codes, Result, Ok, Err}
 use Rattle.aom_text.specs.declared.number.Number.{Number}
 use Rattle.aom_sound.specs.State.{State}
 use Rattle.aom_sound.specs.World.{Outside, Reaches}
 use Rattle.aom_transcript.specs.declared.line.Line.{Line}
 use Rattle.aom_transcript.specs.Text.{ended}
+use Rattle.aom_lines.specs.Turn.{step_lines}
 use Rattle.aom_machine.specs.Calls.{Stands, StandsFor, natives_of}
 use Rattle.aom_run.specs.Runs.{after}
 use Rattle.aom_run.specs.Turns.{hearing}
+use Rattle.aom_script.specs.Script.{IsTimely}
 use Rattle.aom_debug_words.specs.declared.fault.DebugFault.{DebugFault}
 use Rattle.aom_debug_words.specs.declared.fault.DebugFault.TheVariants.{BadCommand, NoSuch, Ended, OutOfMemory, WriteFault}
 use Rattle.aom_debug_marks.specs.Marks.{is_set, with_spot}
@@ -32,11 +34,12 @@ pub record Outgoing : Type 0 where
   pub failed : Bool
 
 module _ {X : Type 0} {B : X → Type 0} where
-  -- the machine stands for a state, and the turn has no lines and room for those of a step
+  -- the machine stands for a state, the turn has no lines and room for those of a step, and the events of the script are as a machine needs them
   pub record IsReady (d : Debugger X B) : Type 0 where
     pub stands : Stands d.machine
     pub none : d.turn.lines ≡ []
-    pub room : 80 ≤ d.turn.room
+    pub room : 64 + step_lines d.machine.core.image.header.messages ≤ d.turn.room
+    pub timely : IsTimely d.script.timed
 
   -- what no command changes
   pub record Keeps (old new : Debugger X B) : Type 0 where
@@ -148,7 +151,7 @@ module _ {X : Type 0} {B : X → Type 0} where
   Sees At_cells d s text = ShowsCells d.machine.core.image s text
   Sees At_owners d s text = ShowsOwners s text
   Sees At_cleanup d s text = ShowsCleanup s text
-  Sees At_actives d s text = ShowsActives s text
+  Sees At_actives d s text = ShowsActives d.machine.core.image s text
   Sees At_recent d s text = ShowsRecent d.recent text
 
   -- what each state shows that the machine stands for is out

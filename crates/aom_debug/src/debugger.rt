@@ -1,7 +1,9 @@
 //! A debugger.
-ghost use Rattle.std.specs.Prelude.{◌≡◌, ◌≤◌, ◌||◌, [], false, true, IfErr, IfNone, IfOk, IfSome};
+ghost use Rattle.std.specs.Prelude.{◌≡◌, ◌≤◌, ◌+◌, ◌||◌, [], false, true, IfErr, IfNone, IfOk, IfSome};
+ghost use Rattle.aom_lines.specs.Turn.{step_lines};
 ghost use Rattle.aom_machine.specs.Calls.{Stands};
 ghost use Rattle.aom_natives.specs.Slots.{AllAgree};
+ghost use Rattle.aom_script.specs.Script.{IsTimely};
 ghost use Rattle.aom_debug_words.specs.declared.fault.DebugFault.TheVariants.{OutOfMemory};
 ghost use Rattle.aom_debug.specs.Debugging.{GivesUp, Goes, IsReady, Keeps, Runs, Sets, SetsAt, Shows, Steps, Turns, has_ended, steps_of};
 
@@ -50,7 +52,8 @@ impl<'a> Debugger<'a> {
     ) -> Result<Debugger<'a>, DebugFault>
         requires agree { AllAgree (λ l. l.ids) (λ l. (⟦<dyn Native as Native>⟧ l.native.vtable).owed l.native.value) machine.natives.slots.items }
         requires stands { Stands machine }
-        requires room { 80 ≤ turn.room }
+        requires room { 64 + step_lines machine.core.image.header.messages ≤ turn.room }
+        requires timely { IsTimely script.timed }
         ensures agree { IfOk result (λ d. AllAgree (λ l. l.ids) (λ l. (⟦<dyn Native as Native>⟧ l.native.vtable).owed l.native.value) d.machine.natives.slots.items) }
         ensures ready { IfOk result (λ d. IsReady d) }
         ensures machine { IfOk result (λ d. d.machine ≡ machine.entry) }

@@ -18,7 +18,7 @@ use Rattle.aom_debug_marks.specs.declared.spot.Spot.{Spot}
 use Rattle.aom_debug_moves.specs.Moves.{Strides}
 use Rattle.aom_debug_moves.specs.Sends.{Breaks, Leads, Sends}
 use Rattle.aom_debug_moves.proofs.Sending.{breaks_then, moving_stride, sent_both}
-use Rattle.aom_debug_courses.specs.Courses.{Courses, IsThere, Walks, WalksIfAny, WalksOn, WalksThere}
+use Rattle.aom_debug_courses.specs.Courses.{Courses, IsThere, Walks, WalksIfAny, WalksOn, WalksThere, WalksUnless}
 use Rattle.aom_debug_courses.specs.Courses.Walks.{begins, strides}
 
 -- some steps, from the last of which one may go on
@@ -67,15 +67,17 @@ module _ {X : Type 0} {B : X → Type 0} (p : Image) (refused : List ℕ) (stays
 
   -- ---- where nothing is at hand, or at a place to stay already
 
-  pub at_rest : (spots : List Spot) (m : Machine X B) (out : Option (List ℕ)) → progress m.core ≢ Running → Sends (WalksIfAny p refused stays spots spots) m out out m
-  at_rest spots m out rests s stands = ([], s, inl ((λ is. rests (is_as_far m.core s stands.stands ∙ is)), (refl, refl, refl)), after_none out, stands)
+  pub rests_here : (spots : List Spot) (m : Machine X B) (out : Option (List ℕ)) (b : Bool) → b ≡ true → Sends (WalksUnless b p refused stays spots spots) m out out m
+  rests_here spots m out b is = subst (λ z. Sends (WalksUnless z p refused stays spots spots) m out out m) (sym is) (λ s stands. ([], s, (refl, refl, refl), after_none out, stands))
 
-  pub there_already : (spots : List Spot) (m : Machine X B) (out : Option (List ℕ)) (b : Bool) → b ≡ true → ((s : State) → StandsFor m s → b ≡ stays s) → Sends (WalksOn p refused stays spots spots) m out out m
-  there_already spots m out b is told s stands = ([], s, inl (sym (told s stands) ∙ is, (refl, refl, refl)), after_none out, stands)
+  module _ (old new : List Spot) (a c : Machine X B) (before out : Option (List ℕ)) where
+    pub goes_on : (b : Bool) → b ≡ false → Sends (WalksThere p refused stays old new) a before out c → Sends (WalksUnless b p refused stays old new) a before out c
+    goes_on b is x = subst (λ z. Sends (WalksUnless z p refused stays old new) a before out c) (sym is) x
 
-  module _ (old new : List Spot) (a c : Machine X B) (before out : Option (List ℕ)) (x : Sends (WalksThere p refused stays old new) a before out c) where
-    pub walked : Sends (WalksIfAny p refused stays old new) a before out c
-    walked s stands = let f = x s stands in (f.0, f.1, inr f.2, f.3, f.4)
+    pub walked_if_any : (b : Bool) → (b ≡ true → progress a.core ≢ Running) → Sends (WalksUnless b p refused stays old new) a before out c → Sends (WalksIfAny p refused stays old new) a before out c
+    walked_if_any true idle x s stands = let f = x s stands in (f.0, f.1, inl ((λ is. idle refl (is_as_far a.core s stands.stands ∙ is)), f.2), f.3, f.4)
+    walked_if_any false idle x s stands = let f = x s stands in (f.0, f.1, inr f.2, f.3, f.4)
 
-    pub on_from : (b : Bool) → b ≡ false → ((s : State) → StandsFor a s → b ≡ stays s) → Sends (WalksOn p refused stays old new) a before out c
-    on_from b is told s stands = let f = x s stands in (f.0, f.1, inr (sym (told s stands) ∙ is, f.2), f.3, f.4)
+    pub walked_on : (b : Bool) → ((s : State) → StandsFor a s → b ≡ stays s) → Sends (WalksUnless b p refused stays old new) a before out c → Sends (WalksOn p refused stays old new) a before out c
+    walked_on true told x s stands = let f = x s stands in (f.0, f.1, inl (sym (told s stands), f.2), f.3, f.4)
+    walked_on false told x s stands = let f = x s stands in (f.0, f.1, inr (sym (told s stands), f.2), f.3, f.4)

@@ -54,6 +54,11 @@ pub data Walks (p : Image) (refused : List ℕ) (stays : State → Bool) (old : 
 abbrev pub WalksThere : Image → List ℕ → (State → Bool) → Courses
 WalksThere p refused stays old new s lines u = (n : ℕ) × Walks p refused stays old s (suc n) new lines u × IsThere stays u
 
+-- that, or nothing where it is to rest
+abbrev pub WalksUnless : Bool → Image → List ℕ → (State → Bool) → Courses
+WalksUnless true p refused stays = Rests
+WalksUnless false p refused stays = WalksThere p refused stays
+
 -- that where something is at hand, and nothing where nothing is
 abbrev pub WalksIfAny : Image → List ℕ → (State → Bool) → Courses
 WalksIfAny p refused stays old new s lines u = ((progress_of s ≢ Running) × Rests old new s lines u) ⊎ WalksThere p refused stays old new s lines u

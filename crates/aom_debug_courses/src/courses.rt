@@ -1,8 +1,9 @@
 //! So many steps, the end of a dispatch, and the next breakpoint.
-ghost use Rattle.std.specs.Prelude.{◌≡◌, ◌≢◌, ◌≤◌, ◌<◌, [], true, IfNone, IfSome};
+ghost use Rattle.std.specs.Prelude.{◌≡◌, ◌≢◌, ◌≤◌, ◌<◌, ◌+◌, [], true, All, IfNone, IfSome};
 ghost use Rattle.aom_exec.specs.Steps.{progress};
 ghost use Rattle.aom_parts.specs.declared.progress.Progress.TheVariants.{Turned};
-ghost use Rattle.aom_machine.specs.Calls.{Stands, natives_of};
+ghost use Rattle.aom_machine.specs.Calls.{EventInRange, Stands, natives_of};
+ghost use Rattle.aom_lines.specs.Turn.{step_lines};
 ghost use Rattle.aom_natives.specs.Slots.{AllAgree};
 ghost use Rattle.aom_sound.specs.World.{Reaches};
 ghost use Rattle.aom_run.specs.Turns.{hearing};
@@ -10,7 +11,7 @@ ghost use Rattle.aom_debug_moves.specs.Sends.{Breaks, Sends};
 ghost use Rattle.aom_debug_courses.specs.Courses.{GoesBy, GoesToBreakpoint, InDispatch, TurnsOver, WalksOn, stays_at};
 ghost use Rattle.aom_debug_courses.specs.declared.walking.Until.TheVariants.{Breakpoint};
 
-use crate::walking::{Until, walk, walk_if_any, walk_on};
+use crate::walking::{Until, is_idle, is_there, walk, walk_unless};
 use aom_debug_marks::{Breakpoints, Recent};
 use aom_debug_moves::{arrive, stride};
 use aom_exec::Progress;
@@ -33,8 +34,9 @@ pub fn go_steps<W: Sink>(
 ) -> Option<Progress>
     requires agree { AllAgree (λ l. l.ids) (λ l. (⟦<dyn Native as Native>⟧ l.native.vtable).owed l.native.value) machine.old.natives.slots.items }
     requires stands { Stands machine.old }
+    requires ranged { All (λ e. EventInRange e.event) events.now }
     requires none { turn.old.lines ≡ [] }
-    requires room { 80 ≤ turn.old.room }
+    requires room { 64 + step_lines machine.old.core.image.header.messages ≤ turn.old.room }
     ensures agree { AllAgree (λ l. l.ids) (λ l. (⟦<dyn Native as Native>⟧ l.native.vtable).owed l.native.value) machine.new.natives.slots.items }
     ensures image { machine.new.core.image ≡ machine.old.core.image }
     ensures natives { natives_of machine.new ≡ natives_of machine.old }
@@ -68,8 +70,9 @@ pub fn go_turn<W: Sink>(
 ) -> Option<Progress>
     requires agree { AllAgree (λ l. l.ids) (λ l. (⟦<dyn Native as Native>⟧ l.native.vtable).owed l.native.value) machine.old.natives.slots.items }
     requires stands { Stands machine.old }
+    requires ranged { All (λ e. EventInRange e.event) events.now }
     requires none { turn.old.lines ≡ [] }
-    requires room { 80 ≤ turn.old.room }
+    requires room { 64 + step_lines machine.old.core.image.header.messages ≤ turn.old.room }
     ensures agree { AllAgree (λ l. l.ids) (λ l. (⟦<dyn Native as Native>⟧ l.native.vtable).owed l.native.value) machine.new.natives.slots.items }
     ensures image { machine.new.core.image ≡ machine.old.core.image }
     ensures natives { natives_of machine.new ≡ natives_of machine.old }
@@ -107,8 +110,9 @@ fn pass<W: Sink>(
 ) -> Option<Progress>
     requires agree { AllAgree (λ l. l.ids) (λ l. (⟦<dyn Native as Native>⟧ l.native.vtable).owed l.native.value) machine.old.natives.slots.items }
     requires stands { Stands machine.old }
+    requires ranged { All (λ e. EventInRange e.event) events.now }
     requires none { turn.old.lines ≡ [] }
-    requires room { 80 ≤ turn.old.room }
+    requires room { 64 + step_lines machine.old.core.image.header.messages ≤ turn.old.room }
     ensures agree { AllAgree (λ l. l.ids) (λ l. (⟦<dyn Native as Native>⟧ l.native.vtable).owed l.native.value) machine.new.natives.slots.items }
     ensures image { machine.new.core.image ≡ machine.old.core.image }
     ensures natives { natives_of machine.new ≡ natives_of machine.old }
@@ -119,7 +123,9 @@ fn pass<W: Sink>(
 {
     match arrive(machine, events, limit, turn, page, out)? {
         Progress::Running => {
-            walk_on(
+            let rests = is_there(machine, Until::Breakpoint, breakpoints);
+            walk_unless(
+                rests,
                 machine,
                 Until::Breakpoint,
                 breakpoints,
@@ -146,8 +152,9 @@ pub fn go_on<W: Sink>(
 ) -> Option<Progress>
     requires agree { AllAgree (λ l. l.ids) (λ l. (⟦<dyn Native as Native>⟧ l.native.vtable).owed l.native.value) machine.old.natives.slots.items }
     requires stands { Stands machine.old }
+    requires ranged { All (λ e. EventInRange e.event) events.now }
     requires none { turn.old.lines ≡ [] }
-    requires room { 80 ≤ turn.old.room }
+    requires room { 64 + step_lines machine.old.core.image.header.messages ≤ turn.old.room }
     ensures agree { AllAgree (λ l. l.ids) (λ l. (⟦<dyn Native as Native>⟧ l.native.vtable).owed l.native.value) machine.new.natives.slots.items }
     ensures image { machine.new.core.image ≡ machine.old.core.image }
     ensures natives { natives_of machine.new ≡ natives_of machine.old }
@@ -156,7 +163,9 @@ pub fn go_on<W: Sink>(
     ensures none { IfNone result ((W.failed out.new ≡ true) × Breaks (Reaches machine.old.core.image (hearing turn.old.refused limit (natives_of machine.old) events.now)) machine.old (W.out out.old) (W.out out.new) machine.new) }
     ensures some { IfSome result (λ far. Sends (GoesToBreakpoint machine.old.core.image (hearing turn.old.refused limit (natives_of machine.old) events.now) breakpoints.now recent.old recent.new) machine.old (W.out out.old) (W.out out.new) machine.new × (far ≡ progress machine.new.core)) }
 {
-    let mut progress = walk_if_any(
+    let rests = is_idle(machine);
+    let mut progress = walk_unless(
+        rests,
         machine,
         Until::Breakpoint,
         breakpoints,

@@ -1,14 +1,15 @@
 //! Steps one after another, as long as something is at hand.
-ghost use Rattle.std.specs.Prelude.{◌≡◌, ◌≤◌, [], true, IfNone, IfSome};
+ghost use Rattle.std.specs.Prelude.{◌≡◌, ◌≢◌, ◌≤◌, ◌+◌, [], true, false, IfNone, IfSome};
 ghost use Rattle.aom_exec.specs.Steps.{progress};
 ghost use Rattle.aom_parts.specs.declared.progress.Progress.TheVariants.{Running};
 ghost use Rattle.aom_machine.specs.Calls.{Stands, StandsFor, natives_of};
+ghost use Rattle.aom_lines.specs.Turn.{step_lines};
 ghost use Rattle.aom_natives.specs.Slots.{AllAgree};
 ghost use Rattle.aom_run.specs.Runs.{Moving};
 ghost use Rattle.aom_sound.specs.State.{State};
 ghost use Rattle.aom_debug_views.specs.Next.{next_of, root_is_due, spot_of};
 ghost use Rattle.aom_debug_moves.specs.Sends.{Breaks, Sends};
-ghost use Rattle.aom_debug_courses.specs.Courses.{WalksIfAny, WalksOn, WalksThere, is_broken, stays_at};
+ghost use Rattle.aom_debug_courses.specs.Courses.{WalksThere, WalksUnless, is_broken, stays_at};
 
 use aom_debug_marks::{Breakpoints, Recent};
 use aom_debug_moves::stride;
@@ -46,7 +47,7 @@ fn is_broken(machine: &Machine, breakpoints: &Breakpoints) -> bool
 }
 
 /// Whether the machine is at a place to stay.
-fn is_there(machine: &Machine, until: Until, breakpoints: &Breakpoints) -> bool
+pub fn is_there(machine: &Machine, until: Until, breakpoints: &Breakpoints) -> bool
     requires { Stands machine.now }
     ensures { (s : State) → StandsFor machine.now s → result ≡ stays_at machine.now.core.image until breakpoints.now s }
 {
@@ -54,6 +55,14 @@ fn is_there(machine: &Machine, until: Until, breakpoints: &Breakpoints) -> bool
         Until::EndOfDispatch => ends_all(machine),
         Until::Breakpoint => is_broken(machine, breakpoints),
     }
+}
+
+/// Whether nothing is at hand.
+pub fn is_idle(machine: &Machine) -> bool
+    ensures rests { result ≡ true → progress machine.now.core ≢ Running }
+    ensures goes { result ≡ false → progress machine.now.core ≡ Running }
+{
+    !matches!(machine.core.progress(), Progress::Running)
 }
 
 /// Steps from something at hand until nothing is, or the machine is at a place to stay; one at least.
@@ -70,7 +79,7 @@ pub fn walk<W: Sink>(
     requires stands { Stands machine.old }
     requires running { progress machine.old.core ≡ Running }
     requires none { turn.old.lines ≡ [] }
-    requires room { 80 ≤ turn.old.room }
+    requires room { 64 + step_lines machine.old.core.image.header.messages ≤ turn.old.room }
     ensures agree { AllAgree (λ l. l.ids) (λ l. (⟦<dyn Native as Native>⟧ l.native.vtable).owed l.native.value) machine.new.natives.slots.items }
     ensures image { machine.new.core.image ≡ machine.old.core.image }
     ensures natives { natives_of machine.new ≡ natives_of machine.old }
@@ -91,8 +100,9 @@ pub fn walk<W: Sink>(
     }
 }
 
-/// Such steps where something is at hand.
-pub fn walk_if_any<W: Sink>(
+/// Such steps, unless the machine is to rest where it is.
+pub fn walk_unless<W: Sink>(
+    rests: bool,
     machine: &mut Machine,
     until: Until,
     breakpoints: &Breakpoints,
@@ -103,46 +113,18 @@ pub fn walk_if_any<W: Sink>(
 ) -> Option<Progress>
     requires agree { AllAgree (λ l. l.ids) (λ l. (⟦<dyn Native as Native>⟧ l.native.vtable).owed l.native.value) machine.old.natives.slots.items }
     requires stands { Stands machine.old }
+    requires running { rests ≡ false → progress machine.old.core ≡ Running }
     requires none { turn.old.lines ≡ [] }
-    requires room { 80 ≤ turn.old.room }
+    requires room { 64 + step_lines machine.old.core.image.header.messages ≤ turn.old.room }
     ensures agree { AllAgree (λ l. l.ids) (λ l. (⟦<dyn Native as Native>⟧ l.native.vtable).owed l.native.value) machine.new.natives.slots.items }
     ensures image { machine.new.core.image ≡ machine.old.core.image }
     ensures natives { natives_of machine.new ≡ natives_of machine.old }
     ensures stands { Stands machine.new }
     ensures turn { turn.new ≡ turn.old }
     ensures none { IfNone result ((W.failed out.new ≡ true) × Breaks (Moving machine.old.core.image turn.old.refused) machine.old (W.out out.old) (W.out out.new) machine.new) }
-    ensures some { IfSome result (λ far. Sends (WalksIfAny machine.old.core.image turn.old.refused (λ s. stays_at machine.old.core.image until breakpoints.now s) recent.old recent.new) machine.old (W.out out.old) (W.out out.new) machine.new × (far ≡ progress machine.new.core)) }
+    ensures some { IfSome result (λ far. Sends (WalksUnless rests machine.old.core.image turn.old.refused (λ s. stays_at machine.old.core.image until breakpoints.now s) recent.old recent.new) machine.old (W.out out.old) (W.out out.new) machine.new × (far ≡ progress machine.new.core)) }
 {
-    match machine.core.progress() {
-        Progress::Running => walk(machine, until, breakpoints, recent, turn, page, out),
-        other => Some(other),
-    }
-}
-
-/// Such steps, unless the machine is at a place to stay already.
-pub fn walk_on<W: Sink>(
-    machine: &mut Machine,
-    until: Until,
-    breakpoints: &Breakpoints,
-    recent: &mut Recent,
-    turn: &mut Turn,
-    page: &mut Page,
-    out: &mut W,
-) -> Option<Progress>
-    requires agree { AllAgree (λ l. l.ids) (λ l. (⟦<dyn Native as Native>⟧ l.native.vtable).owed l.native.value) machine.old.natives.slots.items }
-    requires stands { Stands machine.old }
-    requires running { progress machine.old.core ≡ Running }
-    requires none { turn.old.lines ≡ [] }
-    requires room { 80 ≤ turn.old.room }
-    ensures agree { AllAgree (λ l. l.ids) (λ l. (⟦<dyn Native as Native>⟧ l.native.vtable).owed l.native.value) machine.new.natives.slots.items }
-    ensures image { machine.new.core.image ≡ machine.old.core.image }
-    ensures natives { natives_of machine.new ≡ natives_of machine.old }
-    ensures stands { Stands machine.new }
-    ensures turn { turn.new ≡ turn.old }
-    ensures none { IfNone result ((W.failed out.new ≡ true) × Breaks (Moving machine.old.core.image turn.old.refused) machine.old (W.out out.old) (W.out out.new) machine.new) }
-    ensures some { IfSome result (λ far. Sends (WalksOn machine.old.core.image turn.old.refused (λ s. stays_at machine.old.core.image until breakpoints.now s) recent.old recent.new) machine.old (W.out out.old) (W.out out.new) machine.new × (far ≡ progress machine.new.core)) }
-{
-    if is_there(machine, until, breakpoints) {
+    if rests {
         return Some(machine.core.progress());
     }
     walk(machine, until, breakpoints, recent, turn, page, out)

@@ -6,7 +6,7 @@ use Rattle.aom_debug_marks.specs.declared.spot.Spot.{Spot}
 use Rattle.aom_debug_lines.specs.declared.answer.Phase.{Phase}
 use Rattle.aom_debug_lines.specs.declared.answer.Phase.TheVariants as phases
 use Rattle.aom_debug_lines.specs.declared.answer.Answer.{Answer}
-use Rattle.aom_debug_lines.specs.declared.answer.Answer.TheVariants.{Done, Fault, At, Gone, Between, Ended, Cells, OfClass, Trap, Object, Operation, Active, Ran}
+use Rattle.aom_debug_lines.specs.declared.answer.Answer.TheVariants.{Done, Fault, At, Gone, Between, Ended, Cells, OfClass, Trap, Object, Operation, Active, Server, Ran}
 
 -- two numbers, parted by a space
 abbrev pub numbers_text : ℕ → ℕ → List ℕ
@@ -25,6 +25,9 @@ phase_text phases.Active = codes " active "
 abbrev pub active_text : ℕ → ℤ → Phase → ℤ → List ℕ
 active_text class priority phase status = decimal class ++ codes " " ++ signed_decimal priority ++ phase_text phase ++ signed_decimal status
 
+abbrev pub server_text : ℕ → ℤ → ℕ → List ℕ
+server_text class priority queued = decimal class ++ codes " " ++ signed_decimal priority ++ codes " server " ++ decimal queued
+
 -- an answer, without its line feed
 abbrev pub answer_text : Answer → List ℕ
 answer_text Done = codes "ok"
@@ -39,4 +42,5 @@ answer_text Trap = codes "trap"
 answer_text (Object class) = codes "object " ++ decimal class
 answer_text (Operation method word) = codes "op " ++ decimal method ++ codes " " ++ signed_decimal word
 answer_text (Active class priority phase status) = active_text class priority phase status
+answer_text (Server class priority queued) = server_text class priority queued
 answer_text (Ran spot) = spot_text spot

@@ -35,6 +35,8 @@ pub enum Answer {
     Operation(u16, i32),
     /// An enlisted object of a class, with its priority, how far its request has come, and the status of that.
     Active(u16, i32, Phase, i32),
+    /// An enlisted server of a class, with its priority, and how many connects, messages and closes wait in its queue.
+    Server(u16, i32, usize),
     /// An instruction that ran.
     Ran(Spot),
 }

@@ -2,7 +2,7 @@
 ghost use Rattle.std.specs.Prelude.{◌≡◌, ◌+◌, ◌≤◌, [], ◌++◌, length, decimal, codes};
 ghost use Rattle.std.specs.Fmt.{signed_decimal};
 ghost use Rattle.aom_transcript.specs.Text.{ended};
-ghost use Rattle.aom_debug_lines.specs.Answers.{active_text, answer_text, numbers_text, phase_text, spot_text};
+ghost use Rattle.aom_debug_lines.specs.Answers.{active_text, answer_text, numbers_text, phase_text, server_text, spot_text};
 
 use crate::{Answer, Phase};
 use aom_debug_marks::Spot;
@@ -65,6 +65,7 @@ impl AnswerLine {
             Answer::Active(class, priority, phase, status) => {
                 self.add_active(class, priority, phase, status);
             }
+            Answer::Server(class, priority, queued) => self.add_server(class, priority, queued),
             Answer::Ran(spot) => self.add_two(u64::from(spot.method), spot.place as u64),
         }
     }
@@ -99,6 +100,18 @@ impl AnswerLine {
         self.add_word(priority);
         self.add_phase(phase);
         self.add_word(status);
+    }
+
+    fn add_server(&mut self, class: u16, priority: i32, queued: usize)
+        requires { self.old ≡ [] }
+        ensures text { self.new ≡ server_text class priority queued }
+        ensures short { length self.new ≤ 60 }
+    {
+        self.add_number(u64::from(class));
+        self.add(b" ");
+        self.add_word(priority);
+        self.add(b" server ");
+        self.add_number(queued as u64);
     }
 
     fn add_phase(&mut self, phase: Phase)

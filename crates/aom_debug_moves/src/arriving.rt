@@ -1,9 +1,9 @@
 //! What comes between dispatches, whose lines go out.
-ghost use Rattle.std.specs.Prelude.{◌≡◌, ◌≢◌, ◌≤◌, ◌<◌, [], true, IfNone, IfSome, Option, length};
+ghost use Rattle.std.specs.Prelude.{◌≡◌, ◌≢◌, ◌≤◌, ◌<◌, ◌+◌, [], true, All, IfNone, IfSome, Option, length};
 ghost use Rattle.aom_exec.specs.Steps.{progress};
-ghost use Rattle.aom_lines.specs.Turn.{Turn as TurnRecord};
+ghost use Rattle.aom_lines.specs.Turn.{Turn as TurnRecord, step_lines};
 ghost use Rattle.aom_parts.specs.declared.progress.Progress.TheVariants.{Turned};
-ghost use Rattle.aom_machine.specs.Calls.{Stands, natives_of};
+ghost use Rattle.aom_machine.specs.Calls.{EventInRange, Stands, natives_of};
 ghost use Rattle.aom_natives.specs.Slots.{AllAgree};
 ghost use Rattle.aom_sound.specs.World.{Reaches};
 ghost use Rattle.aom_transcript.specs.declared.line.Ending.{Ending as EndingRecord};
@@ -19,7 +19,7 @@ use aom_natives::Native;
 use aom_run::{Sink, take_turns};
 use aom_transcript::{Page, TimedEvent};
 
-/// Between dispatches: turns, until an object is dispatched, a native is killed, or the run ends, whose line goes out.
+/// Between dispatches: turns, until an object or a server is dispatched, an event is told by a line, or the run ends; the line goes out.
 pub fn turn_out<W: Sink>(
     machine: &mut Machine,
     events: &[TimedEvent],
@@ -30,9 +30,10 @@ pub fn turn_out<W: Sink>(
 ) -> Option<Progress>
     requires agree { AllAgree (λ l. l.ids) (λ l. (⟦<dyn Native as Native>⟧ l.native.vtable).owed l.native.value) machine.old.natives.slots.items }
     requires stands { Stands machine.old }
+    requires ranged { All (λ e. EventInRange e.event) events.now }
     requires between { progress machine.old.core ≡ Turned }
     requires none { turn.old.lines ≡ [] }
-    requires room { 80 ≤ turn.old.room }
+    requires room { 64 + step_lines machine.old.core.image.header.messages ≤ turn.old.room }
     ensures agree { AllAgree (λ l. l.ids) (λ l. (⟦<dyn Native as Native>⟧ l.native.vtable).owed l.native.value) machine.new.natives.slots.items }
     ensures image { machine.new.core.image ≡ machine.old.core.image }
     ensures natives { natives_of machine.new ≡ natives_of machine.old }
@@ -61,8 +62,9 @@ pub fn arrive<W: Sink>(
 ) -> Option<Progress>
     requires agree { AllAgree (λ l. l.ids) (λ l. (⟦<dyn Native as Native>⟧ l.native.vtable).owed l.native.value) machine.old.natives.slots.items }
     requires stands { Stands machine.old }
+    requires ranged { All (λ e. EventInRange e.event) events.now }
     requires none { turn.old.lines ≡ [] }
-    requires room { 80 ≤ turn.old.room }
+    requires room { 64 + step_lines machine.old.core.image.header.messages ≤ turn.old.room }
     ensures agree { AllAgree (λ l. l.ids) (λ l. (⟦<dyn Native as Native>⟧ l.native.vtable).owed l.native.value) machine.new.natives.slots.items }
     ensures image { machine.new.core.image ≡ machine.old.core.image }
     ensures natives { natives_of machine.new ≡ natives_of machine.old }

@@ -1,11 +1,12 @@
 //! A step at hand, whose lines go out.
-ghost use Rattle.std.specs.Prelude.{◌≡◌, ◌<◌, ◌≤◌, ◌++◌, ◌∷◌, ℕ, [], Bool, true, false, IfNone, IfSome, Some, length, take};
+ghost use Rattle.std.specs.Prelude.{◌≡◌, ◌<◌, ◌≤◌, ◌++◌, ◌∷◌, ◌+◌, ℕ, [], Bool, true, false, IfNone, IfSome, Some, length, take};
 ghost use Rattle.aom_transcript.specs.Text.{text_of};
 ghost use Rattle.aom_exec.specs.Steps.{progress, rank};
 ghost use Rattle.aom_parts.specs.declared.progress.Progress.TheVariants.{Running};
 ghost use Rattle.aom_sound.specs.State.{State};
 ghost use Rattle.aom_machine.specs.Calls.{Stands, StandsFor, natives_of};
 ghost use Rattle.aom_debug_views.specs.Next.{next_of, pauses, root_is_due, spot_of};
+ghost use Rattle.aom_lines.specs.Turn.{step_lines};
 ghost use Rattle.aom_natives.specs.Slots.{AllAgree};
 ghost use Rattle.aom_run.specs.Runs.{Moving, after};
 ghost use Rattle.aom_debug_moves.specs.Moves.{StepsOnce, Strides, noted};
@@ -32,36 +33,7 @@ pub fn send<W: Sink>(turn: &mut Turn, page: &mut Page, out: &mut W) -> bool
     !out.has_failed()
 }
 
-/// One step of the machine, whose lines go out.
-pub fn step_out<W: Sink>(
-    machine: &mut Machine,
-    turn: &mut Turn,
-    page: &mut Page,
-    out: &mut W,
-) -> Option<Progress>
-    requires agree { AllAgree (λ l. l.ids) (λ l. (⟦<dyn Native as Native>⟧ l.native.vtable).owed l.native.value) machine.old.natives.slots.items }
-    requires stands { Stands machine.old }
-    requires none { turn.old.lines ≡ [] }
-    requires room { 80 ≤ turn.old.room }
-    ensures agree { AllAgree (λ l. l.ids) (λ l. (⟦<dyn Native as Native>⟧ l.native.vtable).owed l.native.value) machine.new.natives.slots.items }
-    ensures image { machine.new.core.image ≡ machine.old.core.image }
-    ensures natives { natives_of machine.new ≡ natives_of machine.old }
-    ensures stands { Stands machine.new }
-    ensures turn { turn.new ≡ turn.old }
-    ensures none { IfNone result ((W.failed out.new ≡ true) × Breaks (Moving machine.old.core.image turn.old.refused) machine.old (W.out out.old) (W.out out.new) machine.new) }
-    ensures some { IfSome result (λ far. Sends (StepsOnce machine.old.core.image turn.old.refused) machine.old (W.out out.old) (W.out out.new) machine.new × (far ≡ progress machine.new.core)) }
-    ensures was { progress machine.new.core ≡ Running → progress machine.old.core ≡ Running }
-    ensures falls { progress machine.new.core ≡ Running → rank machine.new.core < rank machine.old.core }
-{
-    let progress = machine.step(turn);
-    if send(turn, page, out) {
-        Some(progress)
-    } else {
-        None
-    }
-}
-
-/// One such step, if it is asked for.
+/// One step of the machine, if it is asked for, whose lines go out.
 fn step_if<W: Sink>(
     asked: bool,
     machine: &mut Machine,
@@ -72,7 +44,7 @@ fn step_if<W: Sink>(
     requires agree { AllAgree (λ l. l.ids) (λ l. (⟦<dyn Native as Native>⟧ l.native.vtable).owed l.native.value) machine.old.natives.slots.items }
     requires stands { Stands machine.old }
     requires none { turn.old.lines ≡ [] }
-    requires room { 80 ≤ turn.old.room }
+    requires room { 64 + step_lines machine.old.core.image.header.messages ≤ turn.old.room }
     ensures agree { AllAgree (λ l. l.ids) (λ l. (⟦<dyn Native as Native>⟧ l.native.vtable).owed l.native.value) machine.new.natives.slots.items }
     ensures image { machine.new.core.image ≡ machine.old.core.image }
     ensures natives { natives_of machine.new ≡ natives_of machine.old }
@@ -81,12 +53,17 @@ fn step_if<W: Sink>(
     ensures none { IfNone result ((W.failed out.new ≡ true) × Breaks (Moving machine.old.core.image turn.old.refused) machine.old (W.out out.old) (W.out out.new) machine.new) }
     ensures some { IfSome result (λ far. Sends (IfSo asked (StepsOnce machine.old.core.image turn.old.refused)) machine.old (W.out out.old) (W.out out.new) machine.new × (far ≡ progress machine.new.core)) }
     ensures was { progress machine.new.core ≡ Running → progress machine.old.core ≡ Running }
-    ensures falls { progress machine.new.core ≡ Running → rank machine.new.core ≤ rank machine.old.core }
+    ensures keeps { progress machine.new.core ≡ Running → rank machine.new.core ≤ rank machine.old.core }
+    ensures falls { asked ≡ true → progress machine.new.core ≡ Running → rank machine.new.core < rank machine.old.core }
 {
-    if asked {
-        step_out(machine, turn, page, out)
+    if !asked {
+        return Some(machine.core.progress());
+    }
+    let progress = machine.step(turn);
+    if send(turn, page, out) {
+        Some(progress)
     } else {
-        Some(machine.core.progress())
+        None
     }
 }
 
@@ -126,7 +103,7 @@ pub fn stride<W: Sink>(
     requires agree { AllAgree (λ l. l.ids) (λ l. (⟦<dyn Native as Native>⟧ l.native.vtable).owed l.native.value) machine.old.natives.slots.items }
     requires stands { Stands machine.old }
     requires none { turn.old.lines ≡ [] }
-    requires room { 80 ≤ turn.old.room }
+    requires room { 64 + step_lines machine.old.core.image.header.messages ≤ turn.old.room }
     ensures agree { AllAgree (λ l. l.ids) (λ l. (⟦<dyn Native as Native>⟧ l.native.vtable).owed l.native.value) machine.new.natives.slots.items }
     ensures image { machine.new.core.image ≡ machine.old.core.image }
     ensures natives { natives_of machine.new ≡ natives_of machine.old }
@@ -139,7 +116,7 @@ pub fn stride<W: Sink>(
     let begins = starts_end(machine);
     step_if(begins, machine, turn, page, out)?;
     note_next(machine, recent);
-    step_out(machine, turn, page, out)?;
+    step_if(true, machine, turn, page, out)?;
     let goes_on = stays_there(machine);
     step_if(goes_on, machine, turn, page, out)
 }

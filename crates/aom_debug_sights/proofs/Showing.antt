@@ -5,7 +5,9 @@ use Rattle.std.specs.Int.{w32, cast_signed}
 use Rattle.std.proofs.lemmas.Bool.{eqb-false, eqb-true}
 use Rattle.std.proofs.lemmas.Option.{none-some, same_Some}
 use Rattle.aom_image.specs.Image.{Image}
-use Rattle.aom_image.specs.declared.method.Thing.TheVariants.{Object as An_object_of}
+use Rattle.aom_image.specs.declared.method.Thing.{Thing}
+use Rattle.aom_image.specs.declared.method.Thing.TheVariants.{Object as An_object_of, Message}
+use Rattle.aom_shape.specs.Kinds.{is_object}
 use Rattle.aom_cells.specs.Heap.{Heap, cell_at, class_at, null}
 use Rattle.aom_cells.specs.Heap.{class_of as class_of_cell}
 use Rattle.aom_cells.specs.declared.cell.Cell.{Cell as Held_cell}
@@ -49,9 +51,14 @@ module _ {A : Type 0} where
 -- what the machine has under a number is of the class of what has that name
 class_shown : (c : Option Held_cell) (o : Option Object) → thing_in c ≡ thing_of o → class_of_cell c ≡ class_of o
 class_shown None None is = refl
-class_shown None (Some o) is = absurd (none-some o.thing is)
 class_shown (Some c) None is = absurd (none-some (An_object_of c.class) (sym is))
-class_shown (Some c) (Some o) is = ap class_in (same_Some (An_object_of c.class) o.thing is)
+class_shown c (Some o) is = go c o.thing is
+  where
+    go : (c : Option Held_cell) (th : Thing) → thing_in c ≡ cond (is_object th) (Some th) None → class_of_cell c ≡ class_in th
+    go None (An_object_of k) is = absurd (none-some (An_object_of k) is)
+    go None Message is = refl
+    go (Some c) (An_object_of k) is = ap class_in (same_Some (An_object_of c.class) (An_object_of k) is)
+    go (Some c) Message is = absurd (none-some (An_object_of c.class) (sym is))
 
 module _ (p : Image) (m : Parts) (s : State) (st : StandsFor (record { image = p; parts = m }) s) where
   -- the class of the cell of a name

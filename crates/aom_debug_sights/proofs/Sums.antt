@@ -1,6 +1,7 @@
--- Sums over the first numbers.
-use Rattle.std.proofs.Common.{◌≡◌, ◌<◌, ℕ, zero, suc, ◌+◌, Bool, true, false, cond, ◌==◌, refl, ap, arith}
-use Rattle.std.proofs.lemmas.Bool.{eqb-false, eqb-true, ne_eqb}
+-- Sums over the first numbers, and over a list.
+use Rattle.std.proofs.Common.{◌≡◌, ◌≢◌, ◌⊎◌, ◌∙◌, ◌<◌, ℕ, zero, suc, ◌+◌, Bool, true, false, cond, ◌==◌, List, [], ◌∷◌, inl, inr, refl, sym, ap, subst, arith}
+use Rattle.std.proofs.lemmas.Bool.{cases_eq, eqb-false, eqb-true, ne_eqb}
+use Rattle.aom_queues.specs.Lists.{IsIn, IsOnce}
 
 abbrev pub sum_to : (ℕ → ℕ) → ℕ → ℕ
 sum_to f zero = 0
@@ -36,4 +37,38 @@ sum_one f at (suc n) less none = go (sum_one f at n) (n == at) refl
         let differs = eqb-false n at other in
         let rest : sum_to f n ≡ f at = below (omega (arith, differs, less)) none in
         let here : f n ≡ 0 = none n other in
+        omega (arith, rest, here)
+
+-- ---- over a list
+
+abbrev pub sum_of : (ℕ → ℕ) → List ℕ → ℕ
+sum_of f [] = 0
+sum_of f (x ∷ xs) = f x + sum_of f xs
+
+pub sum_of_same : (f g : ℕ → ℕ) (xs : List ℕ) → ((x : ℕ) → f x ≡ g x) → sum_of f xs ≡ sum_of g xs
+sum_of_same f g [] same = refl
+sum_of_same f g (x ∷ xs) same = let one = same x in let rest = sum_of_same f g xs same in omega (arith, one, rest)
+
+pub sum_of_none : (f : ℕ → ℕ) (xs : List ℕ) → ((x : ℕ) → IsIn x xs → f x ≡ 0) → sum_of f xs ≡ 0
+sum_of_none f [] none = refl
+sum_of_none f (x ∷ xs) none = let one = none x (inl refl) in let rest = sum_of_none f xs (λ y there. none y (inr there)) in omega (arith, one, rest)
+
+pub sum_of_add : (f g : ℕ → ℕ) (xs : List ℕ) → sum_of (λ x. f x + g x) xs ≡ sum_of f xs + sum_of g xs
+sum_of_add f g [] = refl
+sum_of_add f g (x ∷ xs) = let rest = sum_of_add f g xs in omega (arith, rest)
+
+-- where one alone, which stands there once, gives anything
+pub sum_of_one : (f : ℕ → ℕ) (at : ℕ) (xs : List ℕ) → IsOnce xs → IsIn at xs → ((x : ℕ) → (x == at) ≡ false → f x ≡ 0) → sum_of f xs ≡ f at
+sum_of_one f at [] once there none = absurd there
+sum_of_one f at (x ∷ xs) once there none = go (cases_eq x at) there (λ later. sum_of_one f at xs once.1 later none)
+  where
+    go : (x ≡ at) ⊎ (x ≢ at) → (x ≡ at) ⊎ IsIn at xs → (IsIn at xs → sum_of f xs ≡ f at) → f x + sum_of f xs ≡ f at
+    go (inl same) there below =
+        let rest = sum_of_none f xs (λ y among. none y (ne_eqb y at (λ e. once.0 (subst (λ z. IsIn z xs) (e ∙ sym same) among)))) in
+        let here : f x ≡ f at = ap f same in
+        omega (arith, rest, here)
+    go (inr apart) (inl e) below = absurd (apart e)
+    go (inr apart) (inr later) below =
+        let rest = below later in
+        let here = none x (ne_eqb x at apart) in
         omega (arith, rest, here)

@@ -11,7 +11,7 @@ use Rattle.aom_frames.specs.declared.frame.Frame.{Frame as Held_frame}
 use Rattle.aom_frames.specs.declared.task.Task.{Task as Held_task}
 use Rattle.aom_frames.specs.declared.task.Task.TheVariants.{Run as Runs_frame, Trapped as Is_trap, Destroy as Destroys, Unwind as Unwinds, Dispatched as Ends}
 use Rattle.aom_sound.specs.Owned.{over}
-use Rattle.aom_sound.specs.Places.{Elsewhere, Entry, Going, Object, Register, Root, held}
+use Rattle.aom_sound.specs.Places.{Elsewhere, Entry, Going, In_service, Object, Register, Root, held}
 use Rattle.aom_sound.specs.State.{Destroy, Dispatched, Frame, Run, State, Task, Trapped, Unwind}
 use Rattle.aom_parts.specs.declared.parts.Parts.{Parts}
 use Rattle.aom_cleanup.specs.Items.{entry_in}
@@ -197,6 +197,10 @@ module _ (p : Image) (m : Parts) where
 
   pub root_shows : Shows M m.root (Elsewhere Root)
   root_shows = record { each = λ s st. st.agrees.values (Elsewhere Root) }
+
+  -- and so is the message that is served
+  pub service_shows : Shows M m.served (Elsewhere In_service)
+  service_shows = record { each = λ s st. st.agrees.values (Elsewhere In_service) }
 
   -- what is no frame owns nothing in registers
   pub no_registers : (k : ℕ) → None ≡ frame_over (over tasks k) → (i : ℕ) → ShowsNone M (Register k i)

@@ -1,24 +1,37 @@
 -- What hangs from a place: the line of what it holds, and then what hangs from its fields, is what goes out.
-use Rattle.std.proofs.Common.{◌≡◌, ◌∙◌, ℕ, zero, suc, Bool, List, [], ◌∷◌, ◌++◌, Option, Some, None, codes, decimal, take, refl, sym, ap, append_assoc}
+use Rattle.std.proofs.Common.{◌≡◌, ◌∙◌, ◌<◌, ◌-◌, ℕ, zero, suc, Bool, true, false, cond, nat_lt, List, [], ◌∷◌, ◌++◌, Option, Some, None, codes, decimal, length, take, refl, sym, ap, append_assoc, arith}
+use Rattle.std.specs.Prelude.{is_some, not}
+use Rattle.std.proofs.lemmas.Bool.{false≢true, ltb-false, ltb-true}
 use Rattle.std.specs.List.{flat_map}
 use Rattle.std.proofs.lemmas.Grind.{flat_map-append}
-use Rattle.std.proofs.lemmas.List.{append-nil}
+use Rattle.std.proofs.lemmas.List.{append-nil, get_or_past}
 use Rattle.std.proofs.lemmas.Option.{none-some, same_Some}
 use Rattle.aom_image.specs.Image.{Image}
 use Rattle.aom_image.specs.declared.method.Thing.{Thing}
 use Rattle.aom_image.specs.declared.method.Thing.TheVariants.{Object as An_object_of, Message}
-use Rattle.aom_cells.specs.Heap.{Lives, class_at, field_at}
+use Rattle.aom_cells.specs.Heap.{Lives, cell_at, class_at, field_at}
+use Rattle.aom_cells.specs.Heap.{class_of as class_of_cell}
+use Rattle.aom_cells.specs.declared.cell.Cell.{Cell as Held_cell}
+use Rattle.aom_clients.specs.Clients.{client_at, place_at, sessions_at}
+use Rattle.aom_clients.specs.declared.place.Place.{Place as Message_place}
+use Rattle.aom_clients.specs.declared.place.Place.TheVariants.{Discarded, Free, Held, Queued}
+use Rattle.aom_shape.specs.Kinds.{is_object}
 use Rattle.aom_transcript.specs.Text.{ended}
-use Rattle.aom_sound.specs.Places.{Cell, Field, Object, Place, Register, held}
+use Rattle.aom_sound.proofs.Maps.{held_lives}
+use Rattle.aom_sound.specs.Places.{Cell, Elsewhere, Field, Object, Place, Register, Sender, Session, held, named, service_of}
 use Rattle.aom_sound.specs.State.{State}
 use Rattle.aom_parts.specs.declared.parts.Parts.{Parts}
 use Rattle.aom_parts.specs.Agrees.{number}
+use Rattle.aom_parts.specs.Messages.{is_a_message}
+use Rattle.aom_parts.specs.Places.{session_with}
+use Rattle.aom_parts.specs.Serving.{SameClients, holds, is_taken, message_name, sent_by}
 use Rattle.aom_parts.specs.Stands.{Machine, StandsFor}
 use Rattle.aom_run.specs.Runs.{after}
 use Rattle.aom_acts.proofs.Finding.{object_lives}
+use Rattle.aom_acts.proofs.Standing.{null_unnamed}
 use Rattle.aom_debug_words.specs.declared.fault.DebugFault.{DebugFault}
 use Rattle.aom_debug_sights.specs.Sights.{class_in, class_of}
-use Rattle.aom_debug_sights.specs.Owners.{Branch, By_field, In_register, Outer, Owned, Shows, ShowsNone, Way, branch_text, frame_registers, further, generations, grown, outer_text, owned_line, owners_text, thing_text, tree, way_text}
+use Rattle.aom_debug_sights.specs.Owners.{Branch, By_field, By_session, In_register, Outer, Owned, Shows, ShowsNone, Way, beneath, branch_text, frame_registers, further, generations, grown, message_text, outer_text, owned_line, owners_text, sender_at, sender_of, thing_text, tree, way_text}
 use Rattle.aom_debug_sights.specs.Telling.{IsCut, Tells, TellsPart, gathered}
 use Rattle.aom_debug_sights.proofs.Telling.{cut_on, none_sent, sent_on}
 use Rattle.aom_debug_sights.proofs.Showing.{class_held}
@@ -49,17 +62,53 @@ pub tree_none : (cs : List Cell) (n : ℕ) (w : Way) (o : Option Object) → o �
 tree_none cs zero w o none = refl
 tree_none cs (suc n) w o none = ap (tree cs (suc n) w) none
 
+-- a message has a sender
+message_sent : (p : Image) (m : Parts) (s : State) → StandsFor (record { image = p; parts = m }) s → (o : Object) → named s.cells o.name ≡ Some o → o.thing ≡ Message → sender_at m.clients o.name ≡ None → ⊥
+message_sent p m s st o lives message unsent = low (nat_lt o.name 4096) refl unsent
+  where
+    said : is_a_message (named s.cells o.name) ≡ true
+    said = ap is_a_message lives ∙ ap (λ th. not (is_object th)) message
+
+    same : SameClients m.clients s.cells s.clients
+    same = st.agrees.services.clients
+
+    taken : (j : ℕ) → o.name ≡ message_name j → is_taken (place_at m.clients j) ≡ true
+    taken j name = same.taken j ∙ ap is_some (ap (named s.cells) (sym name) ∙ lives)
+
+    sends : (x : Message_place) → is_taken x ≡ true → sender_of x ≡ None → ⊥
+    sends Free some none = false≢true some
+    sends (Queued d) some none = none-some d (sym none)
+    sends (Held d) some none = none-some d (sym none)
+    sends (Discarded d) some none = none-some d (sym none)
+
+    -- a message place is below 1,024, since others are free
+    within : (j : ℕ) → is_taken (place_at m.clients j) ≡ true → j < 1024
+    within j some = go (nat_lt j 1024) refl
+      where
+        go : (b : Bool) → nat_lt j 1024 ≡ b → j < 1024
+        go true less = ltb-true j 1024 less
+        go false past =
+            let sized = st.agrees.services.sized.places in
+            let free = get_or_past m.clients.places j Free (omega (arith, sized, ltb-false j 1024 past)) in
+            absurd (false≢true (sym (ap is_taken free) ∙ some))
+
+    high : (b : Bool) → nat_lt o.name 5120 ≡ b → nat_lt o.name 4096 ≡ false → cond b (sender_of (place_at m.clients (o.name - 4096))) None ≡ None → ⊥
+    high true less past none =
+        let most = ltb-false o.name 4096 past in
+        sends (place_at m.clients (o.name - 4096)) (taken (o.name - 4096) (omega (arith, most))) none
+    high false more past none =
+        let most = ltb-false o.name 4096 past in
+        let beyond = ltb-false o.name 5120 more in
+        let less = within (o.name - 4096) (taken (o.name - 4096) (omega (arith, most))) in
+        omega (arith, less, most, beyond)
+
+    low : (b : Bool) → nat_lt o.name 4096 ≡ b → cond b None (cond (nat_lt o.name 5120) (sender_of (place_at m.clients (o.name - 4096))) None) ≡ None → ⊥
+    low true less none = false≢true (sym (st.agrees.services.messages.past o.name (ltb-true o.name 4096 less)) ∙ said)
+    low false past none = high (nat_lt o.name 5120) refl past none
+
 module _ (p : Image) (m : Parts) where
   abbrev M : Machine
   M = record { image = p; parts = m }
-
-  -- a number that no cell has is that of a place that holds nothing
-  pub none_lives : (n : ℕ) (r : Place) → (Lives m.cells n → ⊥) → Shows M n r → ShowsNone M r
-  none_lives n r none shows = record { each = λ s st. go s st (held s.cells r) refl (shows.each s st) }
-    where
-      go : (s : State) → StandsFor M s → (o : Option Object) → held s.cells r ≡ o → n ≡ number o → o ≡ None
-      go s st None holds is = refl
-      go s st (Some o) holds is = absurd (none (object_lives p m st.typing s st.typed st.agrees r o n holds is))
 
   -- a cell's number is that of a place that holds an object of that name and class
   found : (n class : ℕ) (r : Place) (s : State) → StandsFor M s → Shows M n r → class_at m.cells n ≡ Some class → (o : Object) × (held s.cells r ≡ Some o) × (o.thing ≡ An_object_of class) × (o.name ≡ n)
@@ -73,23 +122,156 @@ module _ (p : Image) (m : Parts) where
   pub field_shows : (n f k : ℕ) → k ≡ field_at m.cells n f → Shows M k (Field n f)
   field_shows n f k is = record { each = λ s st. is ∙ st.agrees.values (Field n f) }
 
-  -- what hangs from the fields of the cell of that number
+  -- and the session of a client with it
+  pub session_shows : (n c k : ℕ) → k ≡ session_with n (client_at m.clients c) → Shows M k (Elsewhere (Session n c))
+  session_shows n c k is = record { each = λ s st. is ∙ st.agrees.values (Elsewhere (Session n c)) }
+
+  -- what hangs from the fields of the cell of that number, and from its sessions
   abbrev pub below : ℕ → ℕ → Way → State → ℕ → List Owned
   below n depth w s f = tree s.cells depth (further w (By_field f)) (held s.cells (Field n f))
 
+  abbrev pub beyond : ℕ → ℕ → Way → State → ℕ → List Owned
+  beyond n depth w s c = tree s.cells depth (further w (By_session c)) (held s.cells (Elsewhere (Session n c)))
+
+  abbrev pub seats_of : ℕ → State → List ℕ
+  seats_of n s = (service_of s.cells n).sessions
+
+  abbrev under : ℕ → ℕ → Way → State → List Owned
+  under n depth w s = gathered (below n depth w s) 8 ++ flat_map (beyond n depth w s) (seats_of n s)
+
   -- what hangs from a place is the line of what it holds, and then that
   tree_found : (n class depth : ℕ) (w : Way) (r : Place) (t : List ℕ) (s : State) → StandsFor M s → Shows M n r → class_at m.cells n ≡ Some class → t ≡ way_text w →
-      owners_text (tree s.cells (suc depth) w (held s.cells r)) ≡ ended (t ++ codes " " ++ decimal class) ++ flat_map owned_line (gathered (below n depth w s) 8)
+      owners_text (tree s.cells (suc depth) w (held s.cells r)) ≡ ended (t ++ codes " " ++ decimal class) ++ (flat_map owned_line (gathered (below n depth w s) 8) ++ flat_map owned_line (flat_map (beyond n depth w s) (seats_of n s)))
   tree_found n class depth w r t s st shows told is =
       let x = found n class r s st shows told in
+      let sender = (service_of s.cells x.0.name).sender in
       ap (λ o. owners_text (tree s.cells (suc depth) w o)) x.1
-      ∙ ap (λ k. owned_line (record { way = w; object = x.0 }) ++ flat_map owned_line (gathered (λ f. tree s.cells depth (further w (By_field f)) (held s.cells (Field k f))) 8)) x.3
-      ∙ ap (λ (u : List ℕ). u ++ flat_map owned_line (gathered (below n depth w s) 8)) (line x.0 x.2)
-    where
-      line : (o : Object) → o.thing ≡ An_object_of class → owned_line (record { way = w; object = o }) ≡ ended (t ++ codes " " ++ decimal class)
-      line o thing = ap (λ th. ended (way_text w ++ codes " " ++ thing_text th)) thing ∙ ap (λ (u : List ℕ). ended (u ++ codes " " ++ decimal class)) (sym is)
+      ∙ ap (λ th. ended (way_text w ++ codes " " ++ thing_text th sender) ++ flat_map owned_line (beneath th (under x.0.name depth w s))) x.2
+      ∙ ap (λ k. ended (way_text w ++ codes " " ++ decimal class) ++ flat_map owned_line (under k depth w s)) x.3
+      ∙ ap (λ (u : List ℕ). ended (way_text w ++ codes " " ++ decimal class) ++ u) (flat_map-append owned_line (gathered (below n depth w s) 8) (flat_map (beyond n depth w s) (seats_of n s)))
+      ∙ ap (λ (u : List ℕ). ended (u ++ codes " " ++ decimal class) ++ (flat_map owned_line (gathered (below n depth w s) 8) ++ flat_map owned_line (flat_map (beyond n depth w s) (seats_of n s)))) (sym is)
 
-  -- so all that hangs there is out, or a beginning of it, by the line and by what hangs from the fields
+  -- ---- messages
+
+  -- the place that a message is kept at has a sender
+  at_place : (n client : ℕ) → sender_at m.clients n ≡ Some client → (j : ℕ) × (n ≡ message_name j) × (sender_of (place_at m.clients j) ≡ Some client)
+  at_place n client is = low (nat_lt n 4096) refl is
+    where
+      high : (b : Bool) → (nat_lt n 4096 ≡ false) → cond b (sender_of (place_at m.clients (n - 4096))) None ≡ Some client → (j : ℕ) × (n ≡ message_name j) × (sender_of (place_at m.clients j) ≡ Some client)
+      high true past is = let most = ltb-false n 4096 past in (n - 4096, omega (arith, most), is)
+      high false past is = absurd (none-some client is)
+
+      low : (b : Bool) → nat_lt n 4096 ≡ b → cond b None (cond (nat_lt n 5120) (sender_of (place_at m.clients (n - 4096))) None) ≡ Some client → (j : ℕ) × (n ≡ message_name j) × (sender_of (place_at m.clients j) ≡ Some client)
+      low true less is = absurd (none-some client is)
+      low false past is = high (nat_lt n 5120) past is
+
+  place_taken : (x : Message_place) (client : ℕ) → sender_of x ≡ Some client → is_taken x ≡ true
+  place_taken Free client is = absurd (none-some client is)
+  place_taken (Queued d) client is = refl
+  place_taken (Held d) client is = refl
+  place_taken (Discarded d) client is = refl
+
+  sent_client : (slot : Bool) (x : Message_place) (client : ℕ) → sender_of x ≡ Some client → (sd : Sender) × (sent_by slot x ≡ Some sd) × (sd.client ≡ client)
+  sent_client slot Free client is = absurd (none-some client is)
+  sent_client slot (Queued d) client is = (record { client = d; holds_slot = slot; is_told = true }, refl, same_Some d client is)
+  sent_client slot (Held d) client is = (record { client = d; holds_slot = slot; is_told = true }, refl, same_Some d client is)
+  sent_client slot (Discarded d) client is = (record { client = d; holds_slot = slot; is_told = false }, refl, same_Some d client is)
+
+  -- so a number that no cell has, and that a sender has, is that of a place that holds a message of that name
+  message_found : (n client : ℕ) (r : Place) (s : State) → StandsFor M s → Shows M n r → class_at m.cells n ≡ None → sender_at m.clients n ≡ Some client →
+      (o : Object) × (held s.cells r ≡ Some o) × (o.thing ≡ Message) × (sd : Sender) × ((service_of s.cells o.name).sender ≡ Some sd) × (sd.client ≡ client)
+  message_found n client r s st shows none is =
+      let at = at_place n client is in
+      let same = st.agrees.services.clients in
+      let sent = sent_client (holds m.clients at.0) (place_at m.clients at.0) client at.2 in
+      let lives : is_some (named s.cells n) ≡ true = ap (λ k. is_some (named s.cells k)) at.1 ∙ sym (same.taken at.0) ∙ place_taken (place_at m.clients at.0) client at.2 in
+      let sender : (service_of s.cells n).sender ≡ Some sent.0 = ap (λ k. (service_of s.cells k).sender) at.1 ∙ sym (same.senders at.0) ∙ sent.1 in
+      go lives sender sent.0 sent.2 (held s.cells r) refl (shows.each s st) (sym (class_held p m s st r n (shows.each s st)) ∙ none)
+    where
+      plain : (th : Thing) → class_in th ≡ None → th ≡ Message
+      plain (An_object_of c) told = absurd (none-some c (sym told))
+      plain Message told = refl
+
+      go : is_some (named s.cells n) ≡ true → (sd : Sender) → (service_of s.cells n).sender ≡ Some sd → sd.client ≡ client → (o : Option Object) → held s.cells r ≡ o → n ≡ number o → class_of o ≡ None →
+          (x : Object) × (held s.cells r ≡ Some x) × (x.thing ≡ Message) × (sd : Sender) × ((service_of s.cells x.name).sender ≡ Some sd) × (sd.client ≡ client)
+      go lives sd sender by None holds same told = absurd (false≢true (sym (ap is_some (ap (named s.cells) same ∙ null_unnamed p m s st.agrees)) ∙ lives))
+      go lives sd sender by (Some o) holds same told = (o, holds, plain o.thing told, sd, ap (λ k. (service_of s.cells k).sender) (sym same) ∙ sender, by)
+
+  tree_message : (n client depth : ℕ) (w : Way) (r : Place) (t : List ℕ) (s : State) → StandsFor M s → Shows M n r → class_at m.cells n ≡ None → sender_at m.clients n ≡ Some client → t ≡ way_text w →
+      owners_text (tree s.cells (suc depth) w (held s.cells r)) ≡ ended (t ++ codes " " ++ (codes "msg " ++ decimal client))
+  tree_message n client depth w r t s st shows none sent is =
+      let x = message_found n client r s st shows none sent in
+      let sender = (service_of s.cells x.0.name).sender in
+      ap (λ o. owners_text (tree s.cells (suc depth) w o)) x.1
+      ∙ ap (λ th. ended (way_text w ++ codes " " ++ thing_text th sender) ++ flat_map owned_line (beneath th (under x.0.name depth w s))) x.2
+      ∙ append-nil (ended (way_text w ++ codes " " ++ thing_text Message sender))
+      ∙ ap (λ sd. ended (way_text w ++ codes " " ++ thing_text Message sd)) x.4
+      ∙ ap (λ k. ended (way_text w ++ codes " " ++ (codes "msg " ++ decimal k))) x.5
+      ∙ ap (λ (u : List ℕ). ended (u ++ codes " " ++ (codes "msg " ++ decimal client))) (sym is)
+
+  -- a number that neither has is that of a place that holds nothing
+  none_sends : (n : ℕ) (r : Place) → (Lives m.cells n → ⊥) → sender_at m.clients n ≡ None → Shows M n r → ShowsNone M r
+  none_sends n r none unsent shows = record { each = λ s st. go s st (held s.cells r) refl (shows.each s st) }
+    where
+      placed : (s : State) → StandsFor M s → (o : Object) → named s.cells o.name ≡ Some o → o.thing ≡ Message → n ≡ o.name → ⊥
+      placed s st o lives message same = message_sent p m s st o lives message (ap (sender_at m.clients) (sym same) ∙ unsent)
+
+      go : (s : State) → StandsFor M s → (o : Option Object) → held s.cells r ≡ o → n ≡ number o → o ≡ None
+      go s st None holds is = refl
+      go s st (Some o) holds is = absurd (by o.thing refl)
+        where
+          lives : named s.cells o.name ≡ Some o
+          lives = held_lives s.cells r o st.typed.good.tidy holds
+
+          by : (th : Thing) → o.thing ≡ th → ⊥
+          by (An_object_of c) thing = none (object_lives p m st.typing s st.typed st.agrees r o n holds (ap is_object thing) is)
+          by Message thing = placed s st o lives thing is
+
+  -- ---- what is out
+
+  -- the line of a message is all that hangs there
+  pub message_told : (n client depth d : ℕ) (w : Way) (r : Place) (t : List ℕ) → Shows M n r → class_at m.cells n ≡ None → sender_at m.clients n ≡ Some client → t ≡ way_text w → d ≡ suc depth → (before now : Option (List ℕ)) →
+      now ≡ after before (ended (t ++ codes " " ++ (codes "msg " ++ decimal client))) → Tells M (λ s. owners_text (tree s.cells d w (held s.cells r))) before now
+  message_told n client depth d w r t shows none sent is deep before now put = record {
+    out = λ s st. put ∙ ap (λ u. after before u) (sym (ap (λ k. owners_text (tree s.cells k w (held s.cells r))) deep ∙ tree_message n client depth w r t s st shows none sent is));
+  }
+
+  pub message_unsent : (n client depth d : ℕ) (w : Way) (r : Place) (t : List ℕ) → Shows M n r → class_at m.cells n ≡ None → sender_at m.clients n ≡ Some client → t ≡ way_text w → d ≡ suc depth → (before now : Option (List ℕ)) (fault : DebugFault) (failed : Bool) →
+      IsCut (ended (t ++ codes " " ++ (codes "msg " ++ decimal client))) fault failed before now → TellsPart M (λ s. owners_text (tree s.cells d w (held s.cells r))) fault failed before now
+  message_unsent n client depth d w r t shows none sent is deep before now fault failed cut = record {
+    told = cut.told;
+    fails = cut.fails;
+    out = λ s st. (cut.sent, cut.out ∙ ap (λ u. after before (take cut.sent u)) (sym (ap (λ k. owners_text (tree s.cells k w (held s.cells r))) deep ∙ tree_message n client depth w r t s st shows none sent is)));
+  }
+
+  -- where no cell has the number, a message's line is all that hangs there, if there is one
+  module _ (n depth d : ℕ) (w : Way) (r : Place) (t : List ℕ) (shows : Shows M n r) (none : Lives m.cells n → ⊥) (is : t ≡ way_text w) (deep : d ≡ suc depth) (before now : Option (List ℕ)) where
+    classless : class_at m.cells n ≡ None
+    classless = go (cell_at m.cells n) refl
+      where
+        go : (c : Option Held_cell) → cell_at m.cells n ≡ c → class_of_cell c ≡ None
+        go None at = refl
+        go (Some c) at = absurd (none (ap is_some at))
+
+    pub uncelled_told : now ≡ after before (message_text t (sender_at m.clients n)) → Tells M (λ s. owners_text (tree s.cells d w (held s.cells r))) before now
+    uncelled_told put = go (sender_at m.clients n) refl put
+      where
+        go : (o : Option ℕ) → sender_at m.clients n ≡ o → now ≡ after before (message_text t o) → Tells M (λ s. owners_text (tree s.cells d w (held s.cells r))) before now
+        go None unsent put = record { out = λ s st. put ∙ ap (λ xs. after before (owners_text xs)) (sym (tree_none s.cells d w (held s.cells r) ((none_sends n r none unsent shows).each s st))) }
+        go (Some client) sent put = message_told n client depth d w r t shows classless sent is deep before now put
+
+    pub uncelled_cut : (fault : DebugFault) (failed : Bool) → IsCut (message_text t (sender_at m.clients n)) fault failed before now → TellsPart M (λ s. owners_text (tree s.cells d w (held s.cells r))) fault failed before now
+    uncelled_cut fault failed cut = go (sender_at m.clients n) refl cut
+      where
+        go : (o : Option ℕ) → sender_at m.clients n ≡ o → IsCut (message_text t o) fault failed before now → TellsPart M (λ s. owners_text (tree s.cells d w (held s.cells r))) fault failed before now
+        go None unsent cut = record {
+          told = cut.told;
+          fails = cut.fails;
+          out = λ s st. (cut.sent, cut.out ∙ ap (λ xs. after before (take cut.sent (owners_text xs))) (sym (tree_none s.cells d w (held s.cells r) ((none_sends n r none unsent shows).each s st))));
+        }
+        go (Some client) sent cut = message_unsent n client depth d w r t shows classless sent is deep before now fault failed cut
+
+  -- all that hangs from an object is out, or a beginning of it, by the line, by what hangs from the fields, and by what hangs from the sessions
   module _ (n class depth d : ℕ) (w : Way) (r : Place) (t : List ℕ) (shows : Shows M n r) (told : class_at m.cells n ≡ Some class) (is : t ≡ way_text w) (deep : d ≡ suc depth) where
     abbrev line_text : List ℕ
     line_text = ended (t ++ codes " " ++ decimal class)
@@ -97,21 +279,42 @@ module _ (p : Image) (m : Parts) where
     abbrev fields_text : State → List ℕ
     fields_text s = flat_map owned_line (gathered (below n depth w s) 8)
 
+    abbrev sessions_text : State → List ℕ
+    sessions_text s = flat_map owned_line (flat_map (beyond n depth w s) (seats_of n s))
+
     abbrev Tree : State → List ℕ
     Tree s = owners_text (tree s.cells d w (held s.cells r))
 
-    parts_of : (s : State) → StandsFor M s → line_text ++ fields_text s ≡ Tree s
+    parts_of : (s : State) → StandsFor M s → line_text ++ (fields_text s ++ sessions_text s) ≡ Tree s
     parts_of s st = sym (ap (λ k. owners_text (tree s.cells k w (held s.cells r))) deep ∙ tree_found n class depth w r t s st shows told is)
 
-    pub tree_told : (before now new : Option (List ℕ)) → now ≡ after before line_text → Tells M fields_text now new → Tells M Tree before new
-    tree_told before now new first later = record { out = λ s st. sent_on before now new line_text (fields_text s) first (later.out s st) ∙ ap (λ u. after before u) (parts_of s st) }
+    module _ (before now mid : Option (List ℕ)) (first : now ≡ after before line_text) (fields : Tells M fields_text now mid) where
+      so_far : (s : State) → StandsFor M s → mid ≡ after before (line_text ++ fields_text s)
+      so_far s st = sent_on before now mid line_text (fields_text s) first (fields.out s st)
+
+      pub tree_told : (new : Option (List ℕ)) → Tells M sessions_text mid new → Tells M Tree before new
+      tree_told new later = record {
+        out = λ s st.
+            sent_on before mid new (line_text ++ fields_text s) (sessions_text s) (so_far s st) (later.out s st)
+            ∙ ap (λ u. after before u) (append_assoc line_text (fields_text s) (sessions_text s) ∙ parts_of s st);
+      }
+
+      pub sessions_unsent : (new : Option (List ℕ)) (fault : DebugFault) (failed : Bool) → TellsPart M sessions_text fault failed mid new → TellsPart M Tree fault failed before new
+      sessions_unsent new fault failed later = record {
+        told = later.told;
+        fails = later.fails;
+        out = λ s st.
+            let sent = later.out s st in
+            let all = cut_on before mid new (line_text ++ fields_text s) (sessions_text s) [] sent.0 (so_far s st) sent.1 in
+            (all.0, all.1 ∙ ap (λ u. after before (take all.0 u)) (ap (λ (u : List ℕ). (line_text ++ fields_text s) ++ u) (append-nil (sessions_text s)) ∙ append_assoc line_text (fields_text s) (sessions_text s) ∙ parts_of s st));
+      }
 
     pub line_unsent : (before new : Option (List ℕ)) (fault : DebugFault) (failed : Bool) → IsCut line_text fault failed before new → TellsPart M Tree fault failed before new
     line_unsent before new fault failed cut = record {
       told = cut.told;
       fails = cut.fails;
       out = λ s st.
-          let all = cut_on before before new [] line_text (fields_text s) cut.sent (none_sent before) cut.out in
+          let all = cut_on before before new [] line_text (fields_text s ++ sessions_text s) cut.sent (none_sent before) cut.out in
           (all.0, all.1 ∙ ap (λ u. after before (take all.0 u)) (parts_of s st));
     }
 
@@ -121,20 +324,73 @@ module _ (p : Image) (m : Parts) where
       fails = later.fails;
       out = λ s st.
           let sent = later.out s st in
-          let all = cut_on before now new line_text (fields_text s) [] sent.0 first sent.1 in
-          (all.0, all.1 ∙ ap (λ u. after before (take all.0 u)) (ap (λ (u : List ℕ). line_text ++ u) (append-nil (fields_text s)) ∙ parts_of s st));
+          let all = cut_on before now new line_text (fields_text s) (sessions_text s) sent.0 first sent.1 in
+          (all.0, all.1 ∙ ap (λ u. after before (take all.0 u)) (parts_of s st));
     }
+
+  -- ---- the sessions one after another
+
+  -- a cell's number is below that of the lists of servers
+  pub listed_there : (n : ℕ) → Lives m.cells n → (s : State) → StandsFor M s → n < length m.clients.sessions
+  listed_there n lives s st = go (cell_at m.cells n) refl lives
+    where
+      go : (c : Option Held_cell) → cell_at m.cells n ≡ c → is_some c ≡ true → n < length m.clients.sessions
+      go None at some = absurd (false≢true some)
+      go (Some c) at some =
+          let below = st.agrees.cells.below n c at in
+          let limit = st.agrees.cells.limit in
+          let sized = st.agrees.services.sized.sessions in
+          omega (arith, below, limit, sized)
+
+  module _ (n depth : ℕ) (w : Way) where
+    abbrev pub done_text : List ℕ → State → List ℕ
+    done_text clients s = flat_map owned_line (flat_map (beyond n depth w s) clients)
+
+    one_more : (clients : List ℕ) (c : ℕ) (s : State) → done_text (clients ++ c ∷ []) s ≡ done_text clients s ++ flat_map owned_line (beyond n depth w s c)
+    one_more clients c s =
+        ap (flat_map owned_line) (flat_map-append (beyond n depth w s) clients (c ∷ []))
+        ∙ flat_map-append owned_line (flat_map (beyond n depth w s) clients) (beyond n depth w s c ++ [])
+        ∙ ap (λ (xs : List Owned). done_text clients s ++ flat_map owned_line xs) (append-nil (beyond n depth w s c))
+
+    pub seat_told : (clients : List ℕ) (c : ℕ) (before now new : Option (List ℕ)) → Tells M (done_text clients) before now → Tells M (λ s. flat_map owned_line (beyond n depth w s c)) now new → Tells M (done_text (clients ++ c ∷ [])) before new
+    seat_told clients c before now new was later = record {
+      out = λ s st. sent_on before now new (done_text clients s) (flat_map owned_line (beyond n depth w s c)) (was.out s st) (later.out s st) ∙ ap (λ u. after before u) (sym (one_more clients c s));
+    }
+
+    -- those that come behind them
+    pub seat_cut : (clients : List ℕ) (c : ℕ) (others : List ℕ) → ((s : State) → StandsFor M s → (clients ++ c ∷ []) ++ others ≡ seats_of n s) → (before now new : Option (List ℕ)) (fault : DebugFault) (failed : Bool) →
+        Tells M (done_text clients) before now → TellsPart M (λ s. flat_map owned_line (beyond n depth w s c)) fault failed now new → TellsPart M (λ s. flat_map owned_line (flat_map (beyond n depth w s) (seats_of n s))) fault failed before new
+    seat_cut clients c others all before now new fault failed was cut = record {
+      told = cut.told;
+      fails = cut.fails;
+      out = λ s st.
+          let sent = cut.out s st in
+          let here = flat_map owned_line (beyond n depth w s c) in
+          let rest = flat_map owned_line (flat_map (beyond n depth w s) others) in
+          let part = cut_on before now new (done_text clients s) here rest sent.0 (was.out s st) sent.1 in
+          let whole : done_text clients s ++ (here ++ rest) ≡ flat_map owned_line (flat_map (beyond n depth w s) (seats_of n s)) =
+          sym (append_assoc (done_text clients s) here rest)
+          ∙ ap (λ (u : List ℕ). u ++ rest) (sym (one_more clients c s))
+          ∙ sym (flat_map-append owned_line (flat_map (beyond n depth w s) (clients ++ c ∷ [])) (flat_map (beyond n depth w s) others))
+          ∙ ap (flat_map owned_line) (sym (flat_map-append (beyond n depth w s) (clients ++ c ∷ []) others))
+          ∙ ap (λ cs. flat_map owned_line (flat_map (beyond n depth w s) cs)) (all s st)
+          in
+          (part.0, part.1 ∙ ap (λ u. after before (take part.0 u)) whole);
+    }
+
+    pub seats_told : (clients : List ℕ) → clients ≡ sessions_at m.clients n → (before now : Option (List ℕ)) → Tells M (done_text clients) before now → Tells M (λ s. flat_map owned_line (flat_map (beyond n depth w s) (seats_of n s))) before now
+    seats_told clients all before now was = record { out = λ s st. was.out s st ∙ ap (λ cs. after before (done_text cs s)) (all ∙ st.agrees.services.clients.sessions n) }
 
   -- where nothing is held, nothing hangs
   pub tree_untold : (d : ℕ) (w : Way) (r : Place) (out : Option (List ℕ)) → ShowsNone M r → Tells M (λ s. owners_text (tree s.cells d w (held s.cells r))) out out
   tree_untold d w r out none = record { out = λ s st. none_sent out ∙ ap (λ xs. after out (owners_text xs)) (sym (tree_none s.cells d w (held s.cells r) (none.each s st))) }
 
   -- as many generations as there are hang from an outer place
-  pub grown_told : (outer : Outer) (r : Place) (before now : Option (List ℕ)) → Tells M (λ s. owners_text (tree s.cells 256 (record { outer = outer; branches = [] }) (held s.cells r))) before now → Tells M (λ s. owners_text (grown s.cells outer r)) before now
+  pub grown_told : (outer : Outer) (r : Place) (before now : Option (List ℕ)) → Tells M (λ s. owners_text (tree s.cells 257 (record { outer = outer; branches = [] }) (held s.cells r))) before now → Tells M (λ s. owners_text (grown s.cells outer r)) before now
   unfolding generations
   grown_told outer r before now told = told
 
-  pub grown_cut : (outer : Outer) (r : Place) (fault : DebugFault) (failed : Bool) (before now : Option (List ℕ)) → TellsPart M (λ s. owners_text (tree s.cells 256 (record { outer = outer; branches = [] }) (held s.cells r))) fault failed before now → TellsPart M (λ s. owners_text (grown s.cells outer r)) fault failed before now
+  pub grown_cut : (outer : Outer) (r : Place) (fault : DebugFault) (failed : Bool) (before now : Option (List ℕ)) → TellsPart M (λ s. owners_text (tree s.cells 257 (record { outer = outer; branches = [] }) (held s.cells r))) fault failed before now → TellsPart M (λ s. owners_text (grown s.cells outer r)) fault failed before now
   unfolding generations
   grown_cut outer r fault failed before now cut = cut
 

@@ -1,9 +1,12 @@
 -- The map of owners: a line for each place that owns, and below it those of the fields of what it owns.
-use Rattle.std.specs.Prelude.{◌≡◌, ℕ, zero, suc, Bool, true, false, List, [], ◌∷◌, ◌++◌, codes, decimal, length, Option, Some, None, slice_index_or}
+use Rattle.std.specs.Prelude.{◌≡◌, ◌-◌, ℕ, zero, suc, Bool, true, false, cond, nat_lt, List, [], ◌∷◌, ◌++◌, codes, decimal, length, Option, Some, None, slice_index_or}
 use Rattle.std.specs.List.{flat_map}
 use Rattle.aom_image.specs.declared.method.Thing.{Thing}
 use Rattle.aom_image.specs.declared.method.Thing.TheVariants.{Object as An_object_of, Message}
 use Rattle.aom_cells.specs.Heap.{null}
+use Rattle.aom_clients.specs.Clients.{State as Kept_clients, place_at}
+use Rattle.aom_clients.specs.declared.place.Place.{Place as Message_place}
+use Rattle.aom_clients.specs.declared.place.Place.TheVariants.{Discarded, Free, Held, Queued}
 use Rattle.aom_cleanup.specs.declared.item.Item.{Item as Held_item}
 use Rattle.aom_cleanup.specs.declared.item.Item.TheVariants.{Object as Holds_object, Operation as Holds_operation, Mark as Is_mark}
 use Rattle.aom_frames.specs.declared.frame.Frame.{Frame as Held_frame}
@@ -15,7 +18,7 @@ use Rattle.aom_shape.specs.declared.kind.Kind.{Kind}
 use Rattle.aom_shape.specs.declared.kind.Kind.TheVariants.{Maybe, Null, Own, Unset, Word}
 use Rattle.aom_transcript.specs.Text.{ended}
 use Rattle.aom_sound.specs.Owned.{over}
-use Rattle.aom_sound.specs.Places.{Cell, Elsewhere, Entry, Field, Going, Object, Place, Register, Root, held}
+use Rattle.aom_sound.specs.Places.{Cell, Elsewhere, Entry, Field, Going, In_service, Object, Place, Register, Root, Sender, Session, held, service_of}
 use Rattle.aom_sound.specs.State.{A_mark, An_object, An_operation, Destroy, Item, Run, State, Task}
 use Rattle.aom_parts.specs.Agrees.{number}
 use Rattle.aom_parts.specs.Stands.{Machine, StandsFor}
@@ -29,11 +32,13 @@ pub data Outer : Type 0 where
   At_root : Outer
   In_register : (frame register : ℕ) → Outer
   In_entry : (entry : ℕ) → Outer
+  At_service : Outer
   In_going : (going : ℕ) → Outer
 
--- from an object to one that it owns
+-- from an object to one that it owns: by a field, and from a server by the session of a client
 pub data Branch : Type 0 where
   By_field : (field : ℕ) → Branch
+  By_session : (client : ℕ) → Branch
 
 -- the way to an object
 pub record Way : Type 0 where
@@ -44,10 +49,11 @@ pub record Way : Type 0 where
 abbrev pub further : Way → Branch → Way
 further w b = record w { branches = w.branches ++ b ∷ [] }
 
--- an object that is owned, by the way to it
+-- what is owned, by the way to it; of a message also who sent it
 pub record Owned : Type 0 where
   pub way : Way
   pub object : Object
+  pub sender : Option Sender
 
 -- ---- how they are spelled
 
@@ -55,40 +61,48 @@ abbrev pub outer_text : Outer → List ℕ
 outer_text At_root = codes "root"
 outer_text (In_register frame i) = codes "reg " ++ decimal frame ++ codes " r" ++ decimal i
 outer_text (In_entry k) = codes "clean " ++ decimal k
+outer_text At_service = codes "service"
 outer_text (In_going k) = codes "going " ++ decimal k
 
 abbrev pub branch_text : Branch → List ℕ
 branch_text (By_field f) = codes ".f" ++ decimal f
+branch_text (By_session c) = codes ".s" ++ decimal c
 
 abbrev pub way_text : Way → List ℕ
 way_text w = outer_text w.outer ++ flat_map branch_text w.branches
 
--- no place owns a message yet
-abbrev pub thing_text : Thing → List ℕ
-thing_text (An_object_of class) = decimal class
-thing_text Message = codes "msg"
+-- an object by its class, and a message by the client that sent it
+abbrev pub thing_text : Thing → Option Sender → List ℕ
+thing_text (An_object_of class) sender = decimal class
+thing_text Message (Some m) = codes "msg " ++ decimal m.client
+thing_text Message None = codes "msg"
 
 abbrev pub owned_line : Owned → List ℕ
-owned_line x = ended (way_text x.way ++ codes " " ++ thing_text x.object.thing)
+owned_line x = ended (way_text x.way ++ codes " " ++ thing_text x.object.thing x.sender)
 
 abbrev pub owners_text : List Owned → List ℕ
 owners_text xs = flat_map owned_line xs
 
 -- ---- what hangs from a place
 
--- nothing where it holds nothing, and else what it holds, and then what that owns, field by field
-abbrev pub hanging : (Object → ℕ → List Owned) → Way → Option Object → List Owned
-hanging below w None = []
-hanging below w (Some o) = record { way = w; object = o } ∷ gathered (below o) 8
+-- a message owns nothing
+abbrev pub beneath : Thing → List Owned → List Owned
+beneath (An_object_of class) xs = xs
+beneath Message xs = []
+
+-- nothing where it holds nothing, and else what it holds, and then what that owns, field by field, and session by session in the order in which they were connected
+abbrev pub hanging : List Cell → (fields sessions : Object → ℕ → List Owned) → Way → Option Object → List Owned
+hanging cs fields sessions w None = []
+hanging cs fields sessions w (Some o) = record { way = w; object = o; sender = (service_of cs o.name).sender } ∷ beneath o.thing (gathered (fields o) 8 ++ flat_map (sessions o) (service_of cs o.name).sessions)
 
 -- so many generations of it
 abbrev pub tree : List Cell → ℕ → Way → Option Object → List Owned
 tree cs zero w there = []
-tree cs (suc n) w there = hanging (λ o f. tree cs n (further w (By_field f)) (held cs (Field o.name f))) w there
+tree cs (suc n) w there = hanging cs (λ o f. tree cs n (further w (By_field f)) (held cs (Field o.name f))) (λ o c. tree cs n (further w (By_session c)) (held cs (Elsewhere (Session o.name c)))) w there
 
--- an object is of a higher class than what it owns, so it has less than 256 generations below it
+-- an object is of a higher class than an object that it owns, and a message owns nothing, so that there are less than 257 generations below one
 unfoldable pub generations : ℕ
-generations = 256
+generations = 257
 
 abbrev pub grown : List Cell → Outer → Place → List Owned
 grown cs outer r = tree cs generations (record { outer = outer; branches = [] }) (held cs r)
@@ -126,11 +140,29 @@ is_going _ = false
 abbrev pub goings_map : State → ℕ → List Owned
 goings_map s n = gathered (λ depth. grown s.cells (In_going (counted (λ k. is_going (over s.tasks k)) depth)) (Going depth)) n
 
--- all of them: the root, the registers, the cleanup stack and what goes
+-- all of them: the root, the registers, the cleanup stack, the message that is served and what goes. What waits in a queue has no line
 abbrev pub owners : State → List Owned
-owners s = grown s.cells At_root (Elsewhere Root) ++ (registers_map s (length s.tasks) ++ (entries_map s (length s.items) ++ goings_map s (length s.tasks)))
+owners s =
+    grown s.cells At_root (Elsewhere Root)
+    ++ (registers_map s (length s.tasks) ++ (entries_map s (length s.items) ++ (grown s.cells At_service (Elsewhere In_service) ++ goings_map s (length s.tasks))))
 
 -- ---- what a machine shows of them
+
+-- the line of a message at the end of a way, if there is one
+abbrev pub message_text : List ℕ → Option ℕ → List ℕ
+message_text way None = []
+message_text way (Some client) = ended (way ++ codes " " ++ (codes "msg " ++ decimal client))
+
+-- the client that sent what a message place has
+abbrev pub sender_of : Message_place → Option ℕ
+sender_of Free = None
+sender_of (Queued client) = Some client
+sender_of (Held client) = Some client
+sender_of (Discarded client) = Some client
+
+-- and the message of that number, if there is one; the numbers of messages are those past the numbers of cells
+abbrev pub sender_at : Kept_clients → ℕ → Option ℕ
+sender_at s n = cond (nat_lt n 4096) None (cond (nat_lt n 5120) (sender_of (place_at s (n - 4096))) None)
 
 -- the number of what a place owns, and null where it owns nothing
 pub record Shows (m : Machine) (n : ℕ) (r : Place) : Type 0 where

@@ -2,7 +2,7 @@
 ghost use Rattle.std.specs.Prelude.{◌≡◌, IfErr, IfOk, map, slice_get};
 ghost use Rattle.aom_active.specs.Agrees.{HasPriority, phase_of};
 ghost use Rattle.aom_image.specs.Image.{Image};
-ghost use Rattle.aom_parts.specs.Stands.{StandsFor};
+ghost use Rattle.aom_parts.specs.Stands.{Stands, StandsFor};
 ghost use Rattle.aom_sound.specs.Places.{requested};
 ghost use Rattle.aom_sound.specs.State.{State as StateRecord};
 ghost use Rattle.aom_debug_sights.specs.Actives.{TellsActives, TellsActivesPart, active_answer, active_at, shown_phase};
@@ -29,19 +29,28 @@ fn phase_of(state: State) -> Phase
 
 /// An enlisted object, as it is told.
 fn entry_answer(parts: &Parts, entry: Entry) -> Option<Answer>
-    ensures { (p : Image) (s : StateRecord) → StandsFor (record { image = p; parts = parts.now }) s → HasPriority entry.priority (requested s.cells entry.id) → result ≡ active_answer s.cells entry.id }
+    requires { (p : Image) × Stands (record { image = p; parts = parts.now }) }
+    ensures { (p : Image) (s : StateRecord) → StandsFor (record { image = p; parts = parts.now }) s → HasPriority entry.priority (requested s.cells entry.id) → result ≡ active_answer p s.cells entry.id }
 {
+    let class = class_of(parts, entry.id.number())?;
+    if parts.active.is_server(entry.id) {
+        let queued = parts.clients.queued(entry.id.number() as u16);
+        return Some(Answer::Server(class, entry.priority, queued));
+    }
     let state = parts.active.state(entry.id)?;
     let status = parts.active.status(entry.id);
-    match class_of(parts, entry.id.number()) {
-        Some(class) => Some(Answer::Active(class, entry.priority, phase_of(state), status)),
-        None => None,
-    }
+    Some(Answer::Active(
+        class,
+        entry.priority,
+        phase_of(state),
+        status,
+    ))
 }
 
 /// The object at a place in the order of choice, as it is told.
 fn place_answer(parts: &Parts, place: usize) -> Option<Answer>
-    ensures { (p : Image) (s : StateRecord) → StandsFor (record { image = p; parts = parts.now }) s → result ≡ active_at s.cells (slice_get (map (λ e. e.id) parts.now.active.roster.entries) place) }
+    requires { (p : Image) × Stands (record { image = p; parts = parts.now }) }
+    ensures { (p : Image) (s : StateRecord) → StandsFor (record { image = p; parts = parts.now }) s → result ≡ active_at p s.cells (slice_get (map (λ e. e.id) parts.now.active.roster.entries) place) }
 {
     match parts.active.entry(place) {
         Some(entry) => entry_answer(parts, entry),
@@ -49,8 +58,9 @@ fn place_answer(parts: &Parts, place: usize) -> Option<Answer>
     }
 }
 
-/// Tells the enlisted objects in the order of choice: one of a higher priority first, and of two of the same the one that was enlisted first.
+/// Tells the enlisted objects, and of a server how much waits in its queue, in the order of choice: one of a higher priority first, and of two of the same the one that was enlisted first.
 pub fn tell_actives<W: Sink>(parts: &Parts, out: &mut W) -> Result<(), DebugFault>
+    requires { (p : Image) × Stands (record { image = p; parts = parts.now }) }
     ensures ok { IfOk result (λ _. (p : Image) → TellsActives (record { image = p; parts = parts.now }) (W.out out.old) (W.out out.new)) }
     ensures err { IfErr result (λ fault. (p : Image) → TellsActivesPart (record { image = p; parts = parts.now }) fault (W.failed out.new) (W.out out.old) (W.out out.new)) }
 {

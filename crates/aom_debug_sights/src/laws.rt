@@ -1,7 +1,7 @@
 //! That the map of owners is whole, and the order of choice is one.
 ghost use Rattle.aom_debug_sights.specs.Laws.{OneOrder, ToldOnce};
 
-/// In each state that a machine stands for, within a dispatch too, each object that lives has just one line of the map of owners, and there is no other line.
+/// In each state that a machine stands for, within a dispatch too, each object and message that lives has just one line of the map of owners, but for messages in a queue, and there is no other line. That the machine's sessions are apart `tell_owners` says.
 pub fn owners_are_told_once()
     ensures { ToldOnce }
 {}

@@ -10,6 +10,7 @@ ghost use Rattle.aom_shape.specs.Kinds.{register as kind_in};
 ghost use Rattle.aom_sound.specs.Owned.{over};
 ghost use Rattle.aom_sound.specs.Places.{Register};
 ghost use Rattle.aom_sound.specs.State.{State};
+ghost use Rattle.aom_debug_sights.specs.Laws.{SessionsApart};
 ghost use Rattle.aom_debug_sights.specs.Owners.{In_register, ShowsAll, ShowsIf, entries_map, entries_of, frame_in, frame_over, frame_registers, goings_in, goings_map, grown, is_entry, is_frame, is_going, may_own, owners, owners_text, registers_map};
 ghost use Rattle.aom_debug_sights.specs.Telling.{Tells, TellsPart};
 
@@ -46,7 +47,8 @@ fn tell_register<W: Sink>(
     register: u8,
     out: &mut W,
 ) -> Result<(), DebugFault>
-    requires { register < 16 }
+    requires register { register < 16 }
+    requires stands { (p : Image) × Stands (record { image = p; parts = parts.now }) }
     ensures ok { IfOk result (λ _. (p : Image) (depth : ℕ) → ShowsIf (may_own (kind_in shape.now register)) (record { image = p; parts = parts.now }) (slice_index_or frame.now.registers register null) (Register depth register) → Tells (record { image = p; parts = parts.now }) (λ s. owners_text (grown s.cells (In_register frames register) (Register depth register))) (W.out out.old) (W.out out.new)) }
     ensures err { IfErr result (λ fault. (p : Image) (depth : ℕ) → ShowsIf (may_own (kind_in shape.now register)) (record { image = p; parts = parts.now }) (slice_index_or frame.now.registers register null) (Register depth register) → TellsPart (record { image = p; parts = parts.now }) (λ s. owners_text (grown s.cells (In_register frames register) (Register depth register))) fault (W.failed out.new) (W.out out.old) (W.out out.new)) }
 {
@@ -66,6 +68,7 @@ fn tell_frame<W: Sink>(
     frames: usize,
     out: &mut W,
 ) -> Result<(), DebugFault>
+    requires stands { (p : Image) × Stands (record { image = p; parts = parts.now }) }
     ensures ok { IfOk result (λ _. (p : Image) (depth : ℕ) → ShowsAll (record { image = p; parts = parts.now }) shape.now frame.now.registers depth → Tells (record { image = p; parts = parts.now }) (λ s. owners_text (frame_registers s.cells depth frames 16)) (W.out out.old) (W.out out.new)) }
     ensures err { IfErr result (λ fault. (p : Image) (depth : ℕ) → ShowsAll (record { image = p; parts = parts.now }) shape.now frame.now.registers depth → TellsPart (record { image = p; parts = parts.now }) (λ s. owners_text (frame_registers s.cells depth frames 16)) fault (W.failed out.new) (W.out out.old) (W.out out.new)) }
 {
@@ -188,6 +191,7 @@ fn entries_at(parts: &Parts, height: usize) -> usize
 
 /// Tells what hangs from the entries of the cleanup stack, the lowest first.
 fn tell_entries<W: Sink>(parts: &Parts, out: &mut W) -> Result<(), DebugFault>
+    requires stands { (p : Image) × Stands (record { image = p; parts = parts.now }) }
     ensures ok { IfOk result (λ _. (p : Image) → Tells (record { image = p; parts = parts.now }) (λ s. owners_text (entries_map s (length s.items))) (W.out out.old) (W.out out.new)) }
     ensures err { IfErr result (λ fault. (p : Image) → TellsPart (record { image = p; parts = parts.now }) (λ s. owners_text (entries_map s (length s.items))) fault (W.failed out.new) (W.out out.old) (W.out out.new)) }
 {
@@ -243,6 +247,7 @@ fn goings_at(parts: &Parts, depth: usize) -> usize
 
 /// Tells what hangs from the destructions at hand, the outermost first.
 fn tell_goings<W: Sink>(parts: &Parts, out: &mut W) -> Result<(), DebugFault>
+    requires stands { (p : Image) × Stands (record { image = p; parts = parts.now }) }
     ensures ok { IfOk result (λ _. (p : Image) → Tells (record { image = p; parts = parts.now }) (λ s. owners_text (goings_map s (length s.tasks))) (W.out out.old) (W.out out.new)) }
     ensures err { IfErr result (λ fault. (p : Image) → TellsPart (record { image = p; parts = parts.now }) (λ s. owners_text (goings_map s (length s.tasks))) fault (W.failed out.new) (W.out out.old) (W.out out.new)) }
 {
@@ -255,8 +260,9 @@ fn tell_goings<W: Sink>(parts: &Parts, out: &mut W) -> Result<(), DebugFault>
     Ok(())
 }
 
-/// Tells the map of owners, a line for each object that is owned, with the way to it: the root's, those of the registers, of the
-/// cleanup stack and of destructions, and below each object those of its fields.
+/// Tells the map of owners, a line for each object and message that is owned, with the way to it: the root's, those of the
+/// registers, of the cleanup stack, of the service at hand and of destructions, and below each object those of its fields and
+/// of its sessions. What waits in the queue of a server has no line.
 pub fn tell_owners<W: Sink>(
     parts: &Parts,
     accepted: &Accepted,
@@ -264,11 +270,14 @@ pub fn tell_owners<W: Sink>(
 ) -> Result<(), DebugFault>
     requires stands { Stands (record { image = accepted.now; parts = parts.now }) }
     requires agrees { AgreesInAll (record { image = accepted.now; parts = parts.now }) }
+    ensures apart { SessionsApart parts.now }
     ensures ok { IfOk result (λ _. Tells (record { image = accepted.now; parts = parts.now }) (λ s. owners_text (owners s)) (W.out out.old) (W.out out.new)) }
     ensures err { IfErr result (λ fault. TellsPart (record { image = accepted.now; parts = parts.now }) (λ s. owners_text (owners s)) fault (W.failed out.new) (W.out out.old) (W.out out.new)) }
 {
+    parts.clients.are_apart();
     tell_place(parts, Way::root(), parts.root, out)?;
     tell_registers(parts, accepted.checked(), out)?;
     tell_entries(parts, out)?;
+    tell_place(parts, Way::service(), parts.served, out)?;
     tell_goings(parts, out)
 }

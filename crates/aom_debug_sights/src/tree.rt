@@ -1,20 +1,27 @@
 //! What hangs from a place: the line of what it owns, and then those of all that is below.
-ghost use Rattle.std.specs.Prelude.{◌≡◌, ◌≤◌, ◌+◌, ◌*◌, ◌++◌, IfErr, IfOk, codes, decimal, length};
+ghost use Rattle.std.specs.Prelude.{◌≡◌, ◌<◌, ◌≤◌, ◌+◌, ◌*◌, ◌++◌, IfErr, IfOk, IfSome, codes, decimal, length};
+ghost use Rattle.aom_cells.specs.Heap.{Lives};
+ghost use Rattle.aom_clients.specs.Clients.{client_after, client_at, first_client, sessions_at};
 ghost use Rattle.aom_image.specs.Image.{Image};
+ghost use Rattle.aom_parts.specs.Places.{session_with};
+ghost use Rattle.aom_parts.specs.Stands.{Stands};
+ghost use Rattle.aom_queues.specs.Lists.{IsIn};
 ghost use Rattle.aom_run.specs.Runs.{after};
-ghost use Rattle.aom_sound.specs.Places.{Place, held};
+ghost use Rattle.aom_sound.specs.Places.{Place as PlaceOf, held};
 ghost use Rattle.aom_transcript.specs.Text.{ended};
-ghost use Rattle.aom_debug_sights.specs.Owners.{Outer, Shows, Way as WayRecord, grown, outer_text, owners_text, tree, way_text};
+ghost use Rattle.aom_debug_sights.specs.Owners.{Outer, Shows, Way as WayRecord, grown, message_text, outer_text, owners_text, sender_at, tree, way_text};
 ghost use Rattle.aom_debug_sights.specs.Telling.{IsCut, Tells, TellsPart};
 
 use crate::sending::send;
 use crate::way::Way;
+use aom_cells::{CellId, NULL};
+use aom_clients::{Client, NO_CELL, Place};
 use aom_debug_words::DebugFault;
 use aom_parts::Parts;
 use aom_run::Sink;
 
-/// How many generations may hang from a place: what an object owns is of a lower class.
-const GENERATIONS: usize = 256;
+/// How many generations may hang from a place: an object that another owns is of a lower class, and a message owns nothing.
+const GENERATIONS: usize = 257;
 
 /// Writes the line of an object of a class.
 fn tell_owned<W: Sink>(way: &mut Way, class: u16, out: &mut W) -> Result<(), DebugFault>
@@ -30,7 +37,95 @@ fn tell_owned<W: Sink>(way: &mut Way, class: u16, out: &mut W) -> Result<(), Deb
     done
 }
 
-/// Writes the line of the object of that number, if it is one's, and so many generations of what hangs from it.
+/// Writes the line of a message of a client.
+fn tell_sent<W: Sink>(way: &mut Way, client: u8, out: &mut W) -> Result<(), DebugFault>
+    requires { length way.old + 11 ≤ 1536 }
+    ensures same { way.new ≡ way.old }
+    ensures ok { IfOk result (λ _. W.out out.new ≡ after (W.out out.old) (ended (way.old ++ codes " " ++ (codes "msg " ++ decimal client)))) }
+    ensures err { IfErr result (λ fault. IsCut (ended (way.old ++ codes " " ++ (codes "msg " ++ decimal client))) fault (W.failed out.new) (W.out out.old) (W.out out.new)) }
+{
+    let length = way.len();
+    way.add_message(client);
+    let done = send(way.as_bytes(), out);
+    way.cut(length);
+    done
+}
+
+/// The client that sent the message of that number, if there is one. The numbers of messages are those past the numbers of cells.
+fn sender_at(parts: &Parts, number: u32) -> Option<u8>
+    requires { (p : Image) × Stands (record { image = p; parts = parts.now }) }
+    ensures { result ≡ sender_at parts.now.clients number }
+{
+    if number < 4096 || number >= 5120 {
+        return None;
+    }
+    match parts.clients.place((number - 4096) as u16) {
+        Place::Free => None,
+        Place::Queued { client } | Place::Held { client } | Place::Discarded { client } => {
+            Some(client)
+        }
+    }
+}
+
+/// Writes the line of the message of that number, if there is one.
+fn tell_message<W: Sink>(
+    parts: &Parts,
+    way: &mut Way,
+    number: u32,
+    out: &mut W,
+) -> Result<(), DebugFault>
+    requires room { length way.old + 11 ≤ 1536 }
+    requires stands { (p : Image) × Stands (record { image = p; parts = parts.now }) }
+    ensures same { way.new ≡ way.old }
+    ensures ok { IfOk result (λ _. W.out out.new ≡ after (W.out out.old) (message_text way.old (sender_at parts.now.clients number))) }
+    ensures err { IfErr result (λ fault. IsCut (message_text way.old (sender_at parts.now.clients number)) fault (W.failed out.new) (W.out out.old) (W.out out.new)) }
+{
+    match sender_at(parts, number) {
+        Some(client) => tell_sent(way, client, out),
+        None => Ok(()),
+    }
+}
+
+/// The client that has been connected longest to what lives there, if it is a server.
+fn first_session(parts: &Parts, id: CellId) -> Option<u8>
+    requires stands { (p : Image) × Stands (record { image = p; parts = parts.now }) }
+    requires lives { Lives parts.now.cells id }
+    ensures value { result ≡ first_client (sessions_at parts.now.clients id) }
+    ensures below { IfSome result (λ c. c < 64) }
+{
+    parts.clients.first_session(id.number() as u16)
+}
+
+/// The client that was connected right after this one.
+fn next_session(parts: &Parts, id: CellId, client: u8) -> Option<u8>
+    requires { IsIn client (sessions_at parts.now.clients id) }
+    ensures value { result ≡ client_after client (sessions_at parts.now.clients id) }
+    ensures below { IfSome result (λ c. c < 64) }
+{
+    parts.clients.are_apart();
+    parts.clients.next_session(id.number() as u16, client)
+}
+
+/// The number of the session of a client with the server of that number, and null where it has none there.
+fn session_number(parts: &Parts, id: CellId, client: u8) -> u32
+    requires { client < 64 }
+    ensures { result ≡ session_with id (client_at parts.now.clients client) }
+{
+    match parts.clients.client(client) {
+        Client::Open { server, session, .. }
+        | Client::Closing { server, session }
+        | Client::Dying { server, session } => {
+            if u32::from(server) == id.number() && session != NO_CELL {
+                u32::from(session)
+            } else {
+                NULL
+            }
+        }
+        _ => NULL,
+    }
+}
+
+/// Writes the line of what has that number, if it is one's, and so many generations of what hangs from it.
 fn tell_tree<W: Sink>(
     parts: &Parts,
     way: &mut Way,
@@ -38,16 +133,17 @@ fn tell_tree<W: Sink>(
     depth: usize,
     out: &mut W,
 ) -> Result<(), DebugFault>
-    requires { length way.old + 5 * depth + 7 ≤ 1536 }
+    requires room { length way.old + 5 * depth + 11 ≤ 1536 }
+    requires stands { (p : Image) × Stands (record { image = p; parts = parts.now }) }
     ensures same { IfOk result (λ _. way.new ≡ way.old) }
-    ensures ok { IfOk result (λ _. (p : Image) (w : WayRecord) (r : Place) → way.old ≡ way_text w → Shows (record { image = p; parts = parts.now }) number r → Tells (record { image = p; parts = parts.now }) (λ s. owners_text (tree s.cells depth w (held s.cells r))) (W.out out.old) (W.out out.new)) }
-    ensures err { IfErr result (λ fault. (p : Image) (w : WayRecord) (r : Place) → way.old ≡ way_text w → Shows (record { image = p; parts = parts.now }) number r → TellsPart (record { image = p; parts = parts.now }) (λ s. owners_text (tree s.cells depth w (held s.cells r))) fault (W.failed out.new) (W.out out.old) (W.out out.new)) }
+    ensures ok { IfOk result (λ _. (p : Image) (w : WayRecord) (r : PlaceOf) → way.old ≡ way_text w → Shows (record { image = p; parts = parts.now }) number r → Tells (record { image = p; parts = parts.now }) (λ s. owners_text (tree s.cells depth w (held s.cells r))) (W.out out.old) (W.out out.new)) }
+    ensures err { IfErr result (λ fault. (p : Image) (w : WayRecord) (r : PlaceOf) → way.old ≡ way_text w → Shows (record { image = p; parts = parts.now }) number r → TellsPart (record { image = p; parts = parts.now }) (λ s. owners_text (tree s.cells depth w (held s.cells r))) fault (W.failed out.new) (W.out out.old) (W.out out.new)) }
 {
     if depth == 0 {
         return Ok(());
     }
     let Some(id) = parts.cells.find(number) else {
-        return Ok(());
+        return tell_message(parts, way, number, out);
     };
     tell_owned(way, parts.cells.class(id), out)?;
     let length = way.len();
@@ -55,6 +151,14 @@ fn tell_tree<W: Sink>(
         way.enter(field);
         tell_tree(parts, way, parts.cells.field(id, field), depth - 1, out)?;
         way.cut(length);
+    }
+    parts.clients.are_apart();
+    let mut next = first_session(parts, id);
+    while let Some(client) = next {
+        way.enter_session(client);
+        tell_tree(parts, way, session_number(parts, id, client), depth - 1, out)?;
+        way.cut(length);
+        next = next_session(parts, id, client);
     }
     Ok(())
 }
@@ -66,9 +170,10 @@ pub(crate) fn tell_place<W: Sink>(
     number: u32,
     out: &mut W,
 ) -> Result<(), DebugFault>
-    requires { length way ≤ 48 }
-    ensures ok { IfOk result (λ _. (p : Image) (outer : Outer) (r : Place) → way ≡ outer_text outer → Shows (record { image = p; parts = parts.now }) number r → Tells (record { image = p; parts = parts.now }) (λ s. owners_text (grown s.cells outer r)) (W.out out.old) (W.out out.new)) }
-    ensures err { IfErr result (λ fault. (p : Image) (outer : Outer) (r : Place) → way ≡ outer_text outer → Shows (record { image = p; parts = parts.now }) number r → TellsPart (record { image = p; parts = parts.now }) (λ s. owners_text (grown s.cells outer r)) fault (W.failed out.new) (W.out out.old) (W.out out.new)) }
+    requires short { length way ≤ 48 }
+    requires stands { (p : Image) × Stands (record { image = p; parts = parts.now }) }
+    ensures ok { IfOk result (λ _. (p : Image) (outer : Outer) (r : PlaceOf) → way ≡ outer_text outer → Shows (record { image = p; parts = parts.now }) number r → Tells (record { image = p; parts = parts.now }) (λ s. owners_text (grown s.cells outer r)) (W.out out.old) (W.out out.new)) }
+    ensures err { IfErr result (λ fault. (p : Image) (outer : Outer) (r : PlaceOf) → way ≡ outer_text outer → Shows (record { image = p; parts = parts.now }) number r → TellsPart (record { image = p; parts = parts.now }) (λ s. owners_text (grown s.cells outer r)) fault (W.failed out.new) (W.out out.old) (W.out out.new)) }
 {
     tell_tree(parts, &mut way, number, GENERATIONS, out)
 }

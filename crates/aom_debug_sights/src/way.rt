@@ -2,13 +2,13 @@
 ghost use Rattle.std.specs.Prelude.{◌≡◌, ◌≤◌, ◌<◌, ◌+◌, ◌++◌, codes, decimal, length, take};
 ghost use Rattle.aom_transcript.specs.Text.{ended};
 ghost use Rattle.aom_debug_sights.specs.Owners.{branch_text, outer_text};
-ghost use Rattle.aom_debug_sights.specs.Owners.{At_root, By_field, In_entry, In_going, In_register};
+ghost use Rattle.aom_debug_sights.specs.Owners.{At_root, At_service, By_field, By_session, In_entry, In_going, In_register};
 
 use arrayvec::ArrayVec;
 use itoa::Buffer;
 use std::marker::Model;
 
-/// An outer place takes at most 48 bytes, each of 256 fields at most 5, and a class at most 7.
+/// An outer place takes at most 48 bytes, each of 257 fields or sessions at most 5, and what is there at most 11.
 const LONGEST: usize = 1536;
 
 /// The text of a way, with room for any.
@@ -61,6 +61,14 @@ impl Way {
         Way::numbered(b"going ", goings)
     }
 
+    /// The message that is served.
+    pub(crate) fn service() -> Way
+        ensures text { result ≡ outer_text At_service }
+        ensures short { length result ≤ 48 }
+    {
+        Way::of(b"service")
+    }
+
     fn of(word: &[u8]) -> Way
         requires { length word.now ≤ 8 }
         ensures { result ≡ word.now }
@@ -104,6 +112,27 @@ impl Way {
         self.add(b".f");
         let mut buffer = Buffer::new();
         self.add(buffer.format(field).as_bytes());
+    }
+
+    /// On to the session of a client.
+    pub(crate) fn enter_session(&mut self, client: u8)
+        requires { length self.old + 7 ≤ 1536 }
+        ensures text { self.new ≡ self.old ++ branch_text (By_session client) }
+        ensures short { length self.new ≤ length self.old + 5 }
+    {
+        self.add(b".s");
+        let mut buffer = Buffer::new();
+        self.add(buffer.format(client).as_bytes());
+    }
+
+    /// The client that sent the message which is there, behind the way, and the end of its line.
+    pub(crate) fn add_message(&mut self, client: u8)
+        requires { length self.old + 11 ≤ 1536 }
+        ensures { self.new ≡ ended (self.old ++ codes " " ++ (codes "msg " ++ decimal client)) }
+    {
+        self.add(b" msg ");
+        self.add_small(u16::from(client));
+        self.add(b"\n");
     }
 
     /// The class of what is there, behind the way, and the end of its line.

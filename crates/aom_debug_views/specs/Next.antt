@@ -1,5 +1,5 @@
 -- What is next in a state of the checked machine, and where the root's destruction is due.
-use Rattle.std.specs.Prelude.{ℕ, pos, Bool, true, false, not, ◌&&◌, List, [], ◌∷◌, length, Option, Some, None, is_some}
+use Rattle.std.specs.Prelude.{ℕ, pos, ◌≡◌, ◌<◌, Bool, true, false, not, ◌&&◌, List, [], ◌∷◌, length, Option, Some, None, is_some}
 use Rattle.std.specs.Ordering.{int_eq}
 use Rattle.aom_image.specs.Image.{Image}
 use Rattle.aom_image.specs.declared.method.Role.TheVariants.{Destruct, Error as Answers}
@@ -10,6 +10,12 @@ use Rattle.aom_sound.specs.Destruction.{first_session}
 use Rattle.aom_sound.specs.Places.{Cell, Elsewhere, Going, Object, Root, held, service_of}
 use Rattle.aom_sound.specs.State.{Answered, Asks, Closing, Destroy, Dispatch, Dispatched, Main_left, Object_left, Of_main, Of_object, Of_root, Of_server, Run, Seat, State, Task, Trapped, Unwind}
 use Rattle.aom_transcript.specs.declared.line.Ending.{Ending}
+use Rattle.aom_acts.specs.Serving.{session_there}
+use Rattle.aom_cells.specs.Heap.{null}
+use Rattle.aom_clients.specs.Clients.{first_there, sessions_at}
+use Rattle.aom_frames.specs.declared.task.Task.{Task as Held_task}
+use Rattle.aom_frames.specs.declared.task.Task.TheVariants.{Destroy as Destroys}
+use Rattle.aom_parts.specs.declared.parts.Parts.{Parts}
 use Rattle.aom_debug_marks.specs.declared.spot.Spot.{Spot}
 use Rattle.aom_debug_lines.specs.declared.answer.Answer.{Answer}
 use Rattle.aom_debug_lines.specs.declared.answer.Answer.TheVariants.{At, Gone, Between, Ended}
@@ -43,6 +49,26 @@ gone_by Message = Ended
 abbrev pub going_of : Option Object → Answer
 going_of None = Ended
 going_of (Some o) = gone_by o.thing
+
+-- ---- what a machine shows of it
+
+-- the number of the cell that goes first as that one is destroyed: of the first session with a server that is there, or itself
+abbrev pub first_number : Option ℕ → ℕ → ℕ
+first_number None n = n
+first_number (Some session) n = session
+
+pub record GoesFirst (m : Parts) (n first : ℕ) : Type 0 where
+  pub number : first ≡ first_number (session_there (first_there m.clients (sessions_at m.clients n)) m.clients) n
+  pub below : first < null
+
+-- the cell that the task right under the one on top lets go
+abbrev pub destroyed : Held_task → Option ℕ
+destroyed (Destroys x) = Some x
+destroyed _ = None
+
+abbrev pub destroyed_under : List Held_task → Option ℕ
+destroyed_under (t ∷ u ∷ ts) = destroyed u
+destroyed_under _ = None
 
 -- ---- what is next
 

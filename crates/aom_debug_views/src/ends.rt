@@ -30,7 +30,8 @@ fn ends_all(dispatch: Dispatch, linked: &Linked) -> bool
 {
     match dispatch {
         Dispatch::Main | Dispatch::Object(_) | Dispatch::Asks(_) => true,
-        Dispatch::MainLeft(_) | Dispatch::Root => false,
+        // That of a server ends as one of an object first.
+        Dispatch::MainLeft(_) | Dispatch::Root | Dispatch::Server(_, _, _) => false,
         Dispatch::ObjectLeft(subject, code) => {
             code == 0 && linked.role(subject.class(), Role::Error).is_none()
         }
@@ -76,7 +77,10 @@ fn all_of(first: bool, second: bool, third: bool) -> bool
 fn is_last(dispatch: Dispatch) -> bool
     ensures { (q : Place) → result ≡ is_last (dispatch_of q dispatch) }
 {
-    !matches!(dispatch, Dispatch::MainLeft(_) | Dispatch::Root)
+    !matches!(
+        dispatch,
+        Dispatch::MainLeft(_) | Dispatch::Root | Dispatch::Server(_, _, _)
+    )
 }
 
 /// Whether a dispatch is at its end, after which the run may go on.

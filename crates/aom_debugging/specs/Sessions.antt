@@ -52,7 +52,7 @@ Does p outside (Break method place) a text b = Sets p method place a text b
 Does p outside Cells a text b = Shown (λ t. ShowsCells p a.state t) a text b
 Does p outside Owners a text b = Shown (λ t. ShowsOwners a.state t) a text b
 Does p outside Cleanup a text b = Shown (λ t. ShowsCleanup a.state t) a text b
-Does p outside Actives a text b = Shown (λ t. ShowsActives a.state t) a text b
+Does p outside Actives a text b = Shown (λ t. ShowsActives p a.state t) a text b
 Does p outside Recent a text b = Shown (λ t. ShowsRecent a.recent t) a text b
 
 -- a command that is refused, and why

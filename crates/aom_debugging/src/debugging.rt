@@ -2,7 +2,7 @@
 ghost use Rattle.std.specs.Prelude.{ℕ, ◌≡◌, IfErr, IfOk, List, Ok, length};
 ghost use Rattle.aom_natives.specs.Owed.{OweNothing};
 ghost use Rattle.aom_natives.specs.Slots.{AllAgree};
-ghost use Rattle.aom_script.specs.Script.{denoted};
+ghost use Rattle.aom_script.specs.Script.{IsTimely, denoted};
 ghost use Rattle.aom_debug.specs.Debugging.{IsReady};
 ghost use Rattle.aom_main.specs.Acceptable.{IsSpelled};
 ghost use Rattle.aom_main.specs.Headline.{RefusesBoot};
@@ -97,6 +97,7 @@ fn debug_script<R: Reader, W: Sink>(
     out: &mut W,
 ) -> Result<ExitStatus, Fault>
     requires owed { OweNothing (λ b. (⟦<dyn Native as Native>⟧ b.vtable).owed b.value) boxes.items }
+    requires timely { IsTimely script.timed }
     ensures { (bytes text : List ℕ) → IsSpelled bytes accepted.now → denoted text ≡ Ok script → Untold (DebugAnswers bytes text limit (length boxes.items) reads (record { before = R.given reader.old; now = R.given reader.new; ended = R.ended reader.new; failed = R.failed reader.new }) (record { before = W.out out.old; now = W.out out.new; failed = W.failed out.new })) result }
 {
     accepted.facts();
@@ -119,6 +120,7 @@ fn begin<'a>(
     boxes: Vec<Box<dyn Native>>,
 ) -> Result<Debugger<'a>, Fault>
     requires owed { OweNothing (λ b. (⟦<dyn Native as Native>⟧ b.vtable).owed b.value) boxes.items }
+    requires timely { IsTimely script.timed }
     ensures agree { IfOk result (λ d. AllAgree (λ l. l.ids) (λ l. (⟦<dyn Native as Native>⟧ l.native.vtable).owed l.native.value) d.machine.natives.slots.items) }
     ensures ready { IfOk result (λ d. IsReady d) }
     ensures begun { IfOk result (λ d. IsBegun accepted.now script limit (length boxes.items) d) }

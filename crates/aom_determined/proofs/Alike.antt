@@ -115,12 +115,12 @@ module _
   pub turn_alike : AlikeOutcomes (turn p outside heard s) (turn p outside other u)
   turn_alike = subst (AlikeOutcomes (turn p outside heard s)) same_turned (alike_renamed turn_names (exchanged_one p t s u well kept there alike heard.name other.name free_heard free_other) (turn p outside heard s))
 
-pub turn_writes_alike : (outside : Outside) (s u : State) → AreAlike s u → written_turn outside s ≡ written_turn outside u
-turn_writes_alike outside s u alike = sym (writes_turn_so alike.names alike.one_to_one outside s) ∙ ap (written_turn outside) (sym alike.same)
+pub turn_writes_alike : (p : Image) (outside : Outside) (s u : State) → AreAlike s u → written_turn p outside s ≡ written_turn p outside u
+turn_writes_alike p outside s u alike = sym (writes_turn_so alike.names alike.one_to_one p outside s) ∙ ap (written_turn p outside) (sym alike.same)
 
 pub turns_stay_alike : TurnsStayAlike
 turns_stay_alike p t outside heard other s u well kept there alike free_heard free_other answers =
-    (turn_alike p t outside heard other s u well kept there alike free_heard free_other answers, turn_writes_alike outside s u alike)
+    (turn_alike p t outside heard other s u well kept there alike free_heard free_other answers, turn_writes_alike p outside s u alike)
 
 -- they have as many cells
 pub alike_counted : (s u : State) → AreAlike s u → count_cells s.cells ≡ count_cells u.cells

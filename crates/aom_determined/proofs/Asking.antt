@@ -12,16 +12,18 @@ use Rattle.aom_clients.specs.declared.client.Client.{Client}
 use Rattle.aom_clients.specs.declared.client.Client.TheVariants.{Closing as Closing_client, Connecting, Dead, Dying as Dying_client, Gone, Open, Unconnected}
 use Rattle.aom_clients.specs.declared.refusal.Refusal.{Refusal}
 use Rattle.aom_sound.proofs.ClientsLeave.{service_left}
-use Rattle.aom_sound.proofs.ClientsAsk.{listed_there}
-use Rattle.aom_sound.proofs.ClientsTurn.{Same, same_requested}
+use Rattle.aom_sound.proofs.ClientsAsk.{asked_there}
+use Rattle.aom_sound.proofs.ClientsTurn.{Same, on_none, same_requested}
 use Rattle.aom_sound.proofs.Guarded.{goes_same}
 use Rattle.aom_sound.proofs.Queues.{client_here, client_there}
 use Rattle.aom_sound.proofs.Services.{held_served, service_here, service_moved, service_there, service_unnamed}
 use Rattle.aom_sound.proofs.Turned.{dispatched_so}
-use Rattle.aom_sound.specs.Clients.{Closes, Command, Connects, Dies, Listed, Sends, client_at, commanded, connecting, first_listed, leaving, own, sending, told, with_client, with_message}
-use Rattle.aom_sound.specs.Enlisted.{part_of}
+use Rattle.aom_transcript.specs.declared.event.Command.{Command}
+use Rattle.aom_transcript.specs.declared.event.Command.TheVariants.{Close, Connect, Die, Send}
+use Rattle.aom_sound.specs.Clients.{Listed, asked_server, client_at, commanded, connecting, leaving, own, sending, told, with_client, with_message}
+use Rattle.aom_sound.specs.Enlisted.{on_request, part_of, taken_up}
 use Rattle.aom_sound.specs.Kept.{ClientsFit, is_connect_of}
-use Rattle.aom_sound.specs.Places.{Asked, Cell, Close_of, Connect_of, Elsewhere, Going, In_service, Message_of, Object, Queued, Service, Session, Tidy, held, moved, named, service_of, unserved}
+use Rattle.aom_sound.specs.Places.{Asked, Cell, Close_of, Connect_of, Elsewhere, Going, In_service, Message_of, Object, Queued, Service, Session, Tidy, held, moved, named, requested, service_of, unserved}
 use Rattle.aom_sound.specs.Servers.{asked_last, is_other, is_server, reserved, rest_of, stays, taken_first, withdrawn}
 use Rattle.aom_sound.specs.State.{Accepts, Dispatched, Goes, Of_object, Of_server, Parts, Seat, State}
 use Rattle.aom_sound.specs.World.{picked, serves_first, accepting, attended, attending, parting_with, taken_from, dispatched}
@@ -136,7 +138,7 @@ module _ (p : Image) (s u : State) (all : AllWait s.clients s.cells) (x : Seat) 
     where
       go : (b : Bool) → cond b (serves_first p x (service_of s.cells n).queue s) (dispatched (part_of p Handles x.object.thing) x s) ≡ Goes u → AllThere u
       go true e = serves_there (service_of s.cells n).queue refl e
-      go false e = let d = dispatched_so p s u x e in subst AllThere (sym d.2) (plain_there s.clients _ (Some (Of_object x)) tt (same_waits s.clients s.cells _ (same_requested s.cells x.object _) all))
+      go false e = let d = dispatched_so p s u x e in subst AllThere (sym d.2) (plain_there s.clients _ (Some (Of_object x)) tt (same_waits s.clients s.cells _ (same_requested s.cells x.object (on_request taken_up (requested s.cells x.object.name)) (λ e. on_none taken_up (requested s.cells x.object.name) e)) all))
 
 -- ---- a client does something
 
@@ -188,7 +190,7 @@ module _
   abbrev StillWait : State → Type 0
   StillWait u = AllWait u.clients u.cells
 
-  connecting_waits : (r : Option Refusal) (class : ℕ) (l : Option Listed) → first_listed class s.cells ≡ l → (slots : ℕ) → StillWait (connecting p client s r l slots)
+  connecting_waits : (r : Option Refusal) (class : ℕ) (l : Option Listed) → asked_server p class s.cells ≡ l → (slots : ℕ) → StillWait (connecting p client s r l slots)
   connecting_waits (Some r) class l listed slots n d e = all n d e
   connecting_waits None class None listed slots n d e = all n d e
   connecting_waits None class (Some x) listed slots n d e = go (client == d) refl
@@ -201,7 +203,7 @@ module _
 
       its_own : x.name ≡ n → client ≡ d → waits cells n d ≡ true
       its_own at same =
-          let l = listed_there class s.cells x tidy listed in
+          let l = asked_there p class s.cells x tidy listed in
           let lives : named s.cells x.name ≡ Some l.0 = ap (λ k. named s.cells k) (sym l.1) ∙ l.2 in
           let q = (service_of s.cells x.name).queue in
           ap (λ k. waits cells k d) (sym at)
@@ -256,7 +258,7 @@ module _
           told_keeps (own p client s) (withdrawn client s.cells) (ap (λ q. list_any (is_connect_of d) q) left.0 ∙ stays_connects client d (service_of s.cells n).queue other before)
 
   pub commanded_waits : (command : Command) (name : ℕ) → named s.cells name ≡ None → StillWait (commanded p client s command name)
-  commanded_waits (Connects class slots) name free = connecting_waits _ class (first_listed class s.cells) refl slots
-  commanded_waits (Sends words) name free = sending_waits _ _ name free words
-  commanded_waits Closes name free = leaving_waits _ (λ n k e. closes_done n (own p client s) k e)
-  commanded_waits Dies name free = leaving_waits _ (λ n k e. dies_done n (own p client s) k e)
+  commanded_waits (Connect class slots) name free = connecting_waits _ class (asked_server p class s.cells) refl slots
+  commanded_waits (Send words) name free = sending_waits _ _ name free words
+  commanded_waits Close name free = leaving_waits _ (λ n k e. closes_done n (own p client s) k e)
+  commanded_waits Die name free = leaving_waits _ (λ n k e. dies_done n (own p client s) k e)

@@ -3,7 +3,7 @@ use Rattle.std.proofs.Common.{Bool, List, None, Option, Some, [], ap, cond, fals
 use Rattle.std.proofs.lemmas.List.{length-map}
 use Rattle.std.specs.Prelude.{filter, nat_lt, option_map, ◌+◌}
 use Rattle.aom_image.specs.Image.{Image}
-use Rattle.aom_image.specs.declared.method.Thing.TheVariants.{Message}
+use Rattle.aom_image.specs.declared.method.Thing.TheVariants.{Message, Object as An_object_of}
 use Rattle.aom_clients.specs.Table.{row}
 use Rattle.aom_clients.specs.declared.client.Client.{Client}
 use Rattle.aom_clients.specs.declared.client.Client.TheVariants.{Closing as Closing_client, Connecting, Dying, Open}
@@ -11,9 +11,11 @@ use Rattle.aom_clients.specs.declared.refusal.Refusal.{Refusal}
 use Rattle.aom_clients.specs.declared.refusal.Refusal.TheVariants.{ServerBusy}
 use Rattle.aom_roles.specs.Shapes.{kind_of}
 use Rattle.aom_shape.specs.Kinds.{is_object}
-use Rattle.aom_sound.specs.Clients.{Closes, Command, Connects, Dies, Listed, Sends, among_listed, asked_of, commanded, connecting, count_messages, earlier, first_listed, is_of_class, leaving, most_of, own, refusal, room, sending, slots_of, told, with_client, with_message}
+use Rattle.aom_transcript.specs.declared.event.Command.{Command}
+use Rattle.aom_transcript.specs.declared.event.Command.TheVariants.{Close, Connect, Die, Send}
+use Rattle.aom_sound.specs.Clients.{Listed, among_listed, asked_of, asked_server, commanded, connecting, count_messages, earlier, first_listed, is_of_class, leaving, most_of, own, refusal, room, sending, slots_of, told, with_client, with_message}
 use Rattle.aom_sound.specs.Places.{Asked, Cell, Close_of, Connect_of, Elsewhere, Message_of, Object, Place, Queued, Request, Service, service_of, unserved}
-use Rattle.aom_sound.specs.Servers.{asked_last, discarded, holds_slot, is_connect, is_from, is_queue, left_by, reserved, seats_taken, slots_taken, stays, withdrawn}
+use Rattle.aom_sound.specs.Servers.{asked_last, discarded, holds_slot, is_connect, is_from, is_queue, is_server, left_by, reserved, seats_taken, slots_taken, stays, withdrawn}
 use Rattle.aom_sound.specs.State.{State}
 use Rattle.aom_determined.proofs.Cells.{cond_applied, cond_mapped}
 use Rattle.aom_determined.proofs.Serving.{asks_renamed, client_renamed, service_renamed, with_client_renamed}
@@ -91,6 +93,13 @@ module _ (names : ℕ → ℕ) where
   listed_renamed class [] = refl
   listed_renamed class (c ∷ cs) = ap (among_listed class (renamed_object names c.object) c.request) (listed_renamed class cs) ∙ among_renamed class c.object c.request (first_listed class cs)
 
+  server_renamed : (p : Image) (class : ℕ) (cs : List Cell) → asked_server p class (renamed_cells names cs) ≡ option_map renamed_listed (asked_server p class cs)
+  server_renamed p class cs = go (is_server p (An_object_of class))
+    where
+      go : (b : Bool) → cond b (first_listed class (renamed_cells names cs)) None ≡ option_map renamed_listed (cond b (first_listed class cs) None)
+      go true = listed_renamed class cs
+      go false = refl
+
   -- ---- what it may do
 
   connects_kept : (x : Client) → (row (renamed_client names x)).connect ≡ (row x).connect
@@ -148,15 +157,15 @@ module _ (names : ℕ → ℕ) (one_to_one : IsOneToOne names) where
         ∙ ap (λ n. cond (nat_lt (slots_taken client s.cells) n && nat_lt (count_messages s'.cells) p.header.messages) None (Some ServerBusy)) (ap slots_of own_renamed ∙ slots_of_kept names (own p client s))
         ∙ ap (λ n. cond (nat_lt (slots_taken client s.cells) (slots_of (own p client s)) && nat_lt n p.header.messages) None (Some ServerBusy)) (messages_kept names s.cells)
 
-    refusal_kept : (command : Command) → refusal p client s' command ≡ refusal p client s command
-    refusal_kept (Connects class slots) =
+    pub refusal_kept : (command : Command) → refusal p client s' command ≡ refusal p client s command
+    refusal_kept (Connect class slots) =
         let most = most_of (kind_of p (Some class)) in
-        ap (λ r. asked_of r most (first_listed class s'.cells) s'.cells) (ap (λ x. (row x).connect) own_renamed ∙ connects_kept names (own p client s))
-        ∙ ap (λ l. asked_of (row (own p client s)).connect most l s'.cells) (listed_renamed names class s.cells)
-        ∙ asked_kept (row (own p client s)).connect most (first_listed class s.cells) s.cells
-    refusal_kept (Sends words) = ap (room p client s') (ap (λ x. (row x).send) own_renamed ∙ sends_kept names (own p client s)) ∙ room_kept (row (own p client s)).send
-    refusal_kept Closes = refl
-    refusal_kept Dies = refl
+        ap (λ r. asked_of r most (asked_server p class s'.cells) s'.cells) (ap (λ x. (row x).connect) own_renamed ∙ connects_kept names (own p client s))
+        ∙ ap (λ l. asked_of (row (own p client s)).connect most l s'.cells) (server_renamed names p class s.cells)
+        ∙ asked_kept (row (own p client s)).connect most (asked_server p class s.cells) s.cells
+    refusal_kept (Send words) = ap (room p client s') (ap (λ x. (row x).send) own_renamed ∙ sends_kept names (own p client s)) ∙ room_kept (row (own p client s)).send
+    refusal_kept Close = refl
+    refusal_kept Die = refl
 
     connecting_renamed : (r : Option Refusal) (l : Option Listed) (slots : ℕ) → connecting p client s' r (option_map (renamed_listed names) l) slots ≡ renamed names (connecting p client s r l slots)
     connecting_renamed (Some r) l slots = refl
@@ -203,13 +212,13 @@ module _ (names : ℕ → ℕ) (one_to_one : IsOneToOne names) where
         ∙ ap (λ l. record s' { cells = renamed_cells names (told p client s (own p client s) (withdrawn client s.cells)); clients = l }) (with_client_renamed names client to s.clients)
 
     pub commanded_renamed : (command : Command) (name : ℕ) → commanded p client s' command (names name) ≡ renamed names (commanded p client s command name)
-    commanded_renamed (Connects class slots) name =
-        ap (λ r. connecting p client s' r (first_listed class s'.cells) slots) (refusal_kept (Connects class slots))
-        ∙ ap (λ l. connecting p client s' (refusal p client s (Connects class slots)) l slots) (listed_renamed names class s.cells)
-        ∙ connecting_renamed (refusal p client s (Connects class slots)) (first_listed class s.cells) slots
-    commanded_renamed (Sends words) name =
-        ap (λ r. sending p client s' r (own p client s') (names name) words) (refusal_kept (Sends words))
-        ∙ ap (λ x. sending p client s' (refusal p client s (Sends words)) x (names name) words) own_renamed
-        ∙ sending_renamed (refusal p client s (Sends words)) (own p client s) name words
-    commanded_renamed Closes name = ap (λ x. leaving p client s' (row x).close) own_renamed ∙ ap (leaving p client s') (closes_renamed names (own p client s)) ∙ leaving_renamed (row (own p client s)).close
-    commanded_renamed Dies name = ap (λ x. leaving p client s' (row x).die) own_renamed ∙ ap (leaving p client s') (dies_renamed names (own p client s)) ∙ leaving_renamed (row (own p client s)).die
+    commanded_renamed (Connect class slots) name =
+        ap (λ r. connecting p client s' r (asked_server p class s'.cells) slots) (refusal_kept (Connect class slots))
+        ∙ ap (λ l. connecting p client s' (refusal p client s (Connect class slots)) l slots) (server_renamed names p class s.cells)
+        ∙ connecting_renamed (refusal p client s (Connect class slots)) (asked_server p class s.cells) slots
+    commanded_renamed (Send words) name =
+        ap (λ r. sending p client s' r (own p client s') (names name) words) (refusal_kept (Send words))
+        ∙ ap (λ x. sending p client s' (refusal p client s (Send words)) x (names name) words) own_renamed
+        ∙ sending_renamed (refusal p client s (Send words)) (own p client s) name words
+    commanded_renamed Close name = ap (λ x. leaving p client s' (row x).close) own_renamed ∙ ap (leaving p client s') (closes_renamed names (own p client s)) ∙ leaving_renamed (row (own p client s)).close
+    commanded_renamed Die name = ap (λ x. leaving p client s' (row x).die) own_renamed ∙ ap (leaving p client s') (dies_renamed names (own p client s)) ∙ leaving_renamed (row (own p client s)).die

@@ -92,11 +92,11 @@ module _ (p : Image) (fr : Frame) (ts : List Task) (s : State) where
   place_stored AtRoot w v q = refl
   place_stored (Inside o from) w v q = held_set_word s.cells o.name w v q
 
-  pub calm_update : (u : Update) → IsFine s u → Calm s.cells (cells_after p fr ts s u)
+  pub calm_update : (u : Update) → IsFine fr s u → Calm s.cells (cells_after p fr ts s u)
   calm_update (Carried from to) f = calm_steady s.cells _ (steady_update p fr ts s (Carried from to) tt) (place_moved s.cells (spot_place p fr ts s from) (spot_place p fr ts s to) (spot_alone from) (spot_alone to))
   calm_update (Made name class a) f = calm_steady s.cells _ (steady_update p fr ts s (Made name class a) f) (λ n c. refl)
   calm_update (Written w v) f = calm_steady s.cells _ (steady_update p fr ts s (Written w v) tt) (λ n c. place_stored fr.home w v (Elsewhere (Session n c)))
-  calm_update (Requested r) f = calm_steady s.cells _ (steady_update p fr ts s (Requested r) tt) (λ n c. (rerequested_alike s.cells fr.home r).held_so (Elsewhere (Session n c)))
+  calm_update (Requested r) f = calm_steady s.cells _ (steady_update p fr ts s (Requested r) f) (λ n c. (rerequested_alike s.cells fr.home r).held_so (Elsewhere (Session n c)))
   calm_update (Sessioned b) f = calm_steady s.cells _ (steady_update p fr ts s (Sessioned b) tt) (λ n c. (resessioned_alike s.cells fr.home b).held_so (Elsewhere (Session n c)))
   calm_update (Replied a) f = absurd f
   calm_update (Pushed a) f = calm_steady s.cells _ (steady_update p fr ts s (Pushed a) tt) (place_moved s.cells (here fr ts s a) (Entry (length s.items)) (λ n c. refl) (λ n c. refl))

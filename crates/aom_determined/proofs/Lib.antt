@@ -1,6 +1,8 @@
 pub mod Cells
 pub mod Serving
 pub mod Commands
+pub mod Lines
+pub mod Naming
 pub mod Needs
 pub mod Doing
 pub mod Turning

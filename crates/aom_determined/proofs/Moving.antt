@@ -27,6 +27,7 @@ use Rattle.aom_sound.specs.Servers.{is_server, opened}
 use Rattle.aom_sound.specs.State.{A_mark, Accept_left, Accepted, Accepts, An_object, An_operation, Answered, Asks, Closing, Destroy, Dispatch, Dispatched, Frame, Goes, IsStuck, Item, Main_left, NullOrDead, Object_left, Of_main, Of_object, Of_root, Of_server, Parts, Run, Service_left, Serves, State, Task, Trapped, Unwind, resumed}
 use Rattle.aom_sound.specs.Words.{here}
 use Rattle.aom_sound.proofs.ClientsMoves.{steady_asked}
+use Rattle.aom_sound.proofs.ClientsTurn.{on_none}
 use Rattle.aom_determined.proofs.Keeping.{Calm, calm_itself, calm_moved, calm_passed, calm_reserved, calm_result, calm_steady, calm_update, there_by}
 use Rattle.aom_determined.specs.There.{AllThere, AreThere, dispatch_of, waits}
 
@@ -67,7 +68,7 @@ module _ (p : Image) (fr : Frame) (ts : List Task) (s : State) (there : AreThere
   by : (u : State) → u.clients ≡ s.clients → Calm s.cells u.cells → dispatch_of u.tasks ≡ dispatch_of ts → AllThere u
   by u same calm below = there_by s.clients s.cells (dispatch_of ts) u.clients u.cells (dispatch_of u.tasks) same calm below there
 
-  pub effect_there : (e : Effect) → Fine s e → AllThere (applied p fr ts s e)
+  pub effect_there : (e : Effect) → Fine fr s e → AllThere (applied p fr ts s e)
   effect_there (Goes_on ch) f = by (applied p fr ts s (Goes_on ch)) refl (calm_update p fr ts s ch.update f) refl
   effect_there (Jumps to) f = by (applied p fr ts s (Jumps to)) refl (calm_itself s.cells) refl
   effect_there (Counts depth rounds) f = by (applied p fr ts s (Counts depth rounds)) refl (calm_itself s.cells) refl
@@ -76,7 +77,7 @@ module _ (p : Image) (fr : Frame) (ts : List Task) (s : State) (there : AreThere
   effect_there (Sets_trap target m first) f = by (applied p fr ts s (Sets_trap target m first)) refl (calm_passed p fr ts s _ (arguments_of p m) first 0 s.cells) refl
   effect_there (Cancels m) f =
       let r = on_request cancelling (own_request s.cells fr.home) in
-      by (applied p fr ts s (Cancels m)) refl (calm_steady s.cells (begun_cells fr s.cells) (steady_asked s.cells fr.home r) (λ n c. (rerequested_alike s.cells fr.home r).held_so (Elsewhere (Session n c)))) refl
+      by (applied p fr ts s (Cancels m)) refl (calm_steady s.cells (begun_cells fr s.cells) (steady_asked s.cells fr.home r (λ e. on_none cancelling (own_request s.cells fr.home) e)) (λ n c. (rerequested_alike s.cells fr.home r).held_so (Elsewhere (Session n c)))) refl
   effect_there (Returns g a) f = absurd f
   effect_there (Leaves code u) f = by (applied p fr ts s (Leaves code u)) refl (calm_update p fr ts s u f) (dispatch_to_trap ts)
   effect_there (Destroys x a words) f =

@@ -1,7 +1,8 @@
 -- What a native completes counts only where one is polled, and where no native serves a class of the image it completes nothing.
 use Rattle.std.proofs.Common.{arith, Bool, List, None, Option, Some, ap, cond, false, refl, sym, true, ℕ, ◌-◌, ◌∙◌, ◌≡◌, subst}
 use Rattle.std.proofs.lemmas.Bool.{true≢false}
-use Rattle.std.specs.Prelude.{nat_le}
+use Rattle.std.specs.Prelude.{nat_le, nat_lt}
+use Rattle.aom_sound.specs.Clients.{client_count}
 use Rattle.aom_image.specs.Image.{Image}
 use Rattle.aom_image.specs.declared.class.ClassKind.{ClassKind}
 use Rattle.aom_image.specs.declared.class.ClassKind.TheVariants.{Active as An_active}
@@ -11,12 +12,13 @@ use Rattle.aom_sound.specs.Enlisted.{thing_kind}
 use Rattle.aom_sound.specs.Natives.{is_outstanding_at, native_of}
 use Rattle.aom_sound.specs.Places.{Cell}
 use Rattle.aom_sound.specs.State.{Choice, State}
-use Rattle.aom_sound.specs.World.{AnswersWell, Candidate, Completes, Completion, Cuts, Heard, Hears, Kills, Outside, Polls, Reaches, Timed, Turning, begins, by_event, by_timer, delivers, first_due, first_living, first_ready, has_signal, lives, moves, next_event, next_native, next_time, nothing_heard, passes, picks, polls, turn, turned, turning, turns}
+use Rattle.aom_sound.specs.World.{AnswersWell, Candidate, Completes, Completion, Cuts, Heard, Hears, Kills, Obeys, Outside, Polls, Reaches, Timed, Turning, begins, by_event, by_timer, delivers, first_due, first_living, first_ready, has_signal, lives, moves, next_event, next_native, next_time, nothing_heard, passes, picks, polls, turn, turned, turning, turns}
 use Rattle.aom_transcript.specs.declared.event.Event.{Event}
-use Rattle.aom_transcript.specs.declared.event.Event.TheVariants.{Kill, Tell}
+use Rattle.aom_transcript.specs.declared.event.Event.TheVariants.{Client as Of_client, Kill, Tell}
 use Rattle.aom_transcript.specs.declared.event.TimedEvent.{TimedEvent}
 use Rattle.aom_transcript.specs.declared.line.Line.{Line}
 use Rattle.aom_determined.proofs.Cells.{cond_applied}
+use Rattle.aom_determined.proofs.Naming.{polling_named}
 use Rattle.aom_determined.proofs.Hearing.{none_heard, thing_unserved, unnamed_unserved}
 use Rattle.aom_determined.specs.Hearing.{Follows, HasNoNative, Oracle, is_heard, is_polling, stages}
 use Rattle.aom_determined.specs.Laws.{NothingIsHeard}
@@ -40,15 +42,16 @@ module _ (heard : Heard) where
   told_polls None after same = same
   told_polls (Some n) after same = refl
 
-  told_delivers : (outside : Outside) (s : State) (e : Event) → delivers outside s e ≡ told heard.completion (delivers outside s e)
+  told_delivers : (outside : Outside) (s : State) (e : Event) → delivers outside heard.name s e ≡ told heard.completion (delivers outside heard.name s e)
   told_delivers outside s (Tell n word) = refl
   told_delivers outside s (Kill n) = cond_applied (told heard.completion) (lives outside s n) (Kills n) Hears
+  told_delivers outside s (Of_client c command) = cond_applied (told heard.completion) (nat_lt c client_count) (Obeys c command heard.name) Hears
 
-  told_by_event : (outside : Outside) (s : State) (e : Option TimedEvent) (after : Turning) → by_event outside s e (told heard.completion after) ≡ told heard.completion (by_event outside s e after)
+  told_by_event : (outside : Outside) (s : State) (e : Option TimedEvent) (after : Turning) → by_event outside heard.name s e (told heard.completion after) ≡ told heard.completion (by_event outside heard.name s e after)
   told_by_event outside s None after = refl
   told_by_event outside s (Some e) after =
       let due = nat_le e.time s.rest.clock in
-      ap (λ x. cond due x (told heard.completion after)) (told_delivers outside s e.event) ∙ cond_applied (told heard.completion) due (delivers outside s e.event) after
+      ap (λ x. cond due x (told heard.completion after)) (told_delivers outside s e.event) ∙ cond_applied (told heard.completion) due (delivers outside heard.name s e.event) after
 
   told_by_timer : (s : State) (x : Option Timed) (after : Turning) → by_timer s x (told heard.completion after) ≡ told heard.completion (by_timer s x after)
   told_by_timer s None after = refl
@@ -59,8 +62,8 @@ module _ (heard : Heard) where
       let cut = nat_le outside.limit s.rest.dispatches in
       let after = picks (has_signal s.cells) (first_ready s.cells) (next_time outside s) in
       let polled = polls (next_native outside s) None after in
-      let delivered = by_event outside s (next_event outside s) polled in
-      ap (λ t. cond cut Cuts (by_timer s (first_due s.cells) (by_event outside s (next_event outside s) t))) (told_polls (next_native outside s) after (told_picks (has_signal s.cells) (first_ready s.cells) (next_time outside s)))
+      let delivered = by_event outside heard.name s (next_event outside s) polled in
+      ap (λ t. cond cut Cuts (by_timer s (first_due s.cells) (by_event outside heard.name s (next_event outside s) t))) (told_polls (next_native outside s) after (told_picks (has_signal s.cells) (first_ready s.cells) (next_time outside s)))
       ∙ ap (λ t. cond cut Cuts (by_timer s (first_due s.cells) t)) (told_by_event outside s (next_event outside s) polled)
       ∙ ap (cond cut Cuts) (told_by_timer s (first_due s.cells) delivered)
       ∙ cond_applied (told heard.completion) cut Cuts (by_timer s (first_due s.cells) delivered)
@@ -70,7 +73,7 @@ module _ (heard : Heard) where
   untold _ e = refl
 
   pub turn_unpolled : (p : Image) (outside : Outside) (s : State) → is_polling (turning outside nothing_heard s) ≡ false → turn p outside heard s ≡ turn p outside (record nothing_heard { name = heard.name }) s
-  turn_unpolled p outside s e = ap (turned p s) (told_turning outside s ∙ untold (turning outside (record nothing_heard { name = heard.name }) s) e)
+  turn_unpolled p outside s e = ap (turned p s) (told_turning outside s ∙ untold (turning outside (record nothing_heard { name = heard.name }) s) (polling_named outside nothing_heard heard.name s ∙ e))
 
 -- ---- where there is no native none is polled
 
@@ -88,13 +91,14 @@ unpolled_cond : (b : Bool) (x y : Turning) → is_polling x ≡ false → is_pol
 unpolled_cond true x y e f = e
 unpolled_cond false x y e f = f
 
-unpolled_event : (outside : Outside) (s : State) (e : Option TimedEvent) (after : Turning) → is_polling after ≡ false → is_polling (by_event outside s e after) ≡ false
-unpolled_event outside s None after h = h
-unpolled_event outside s (Some e) after h = unpolled_cond (nat_le e.time s.rest.clock) (delivers outside s e.event) after (go e.event) h
+unpolled_event : (outside : Outside) (name : ℕ) (s : State) (e : Option TimedEvent) (after : Turning) → is_polling after ≡ false → is_polling (by_event outside name s e after) ≡ false
+unpolled_event outside name s None after h = h
+unpolled_event outside name s (Some e) after h = unpolled_cond (nat_le e.time s.rest.clock) (delivers outside name s e.event) after (go e.event) h
   where
-    go : (e : Event) → is_polling (delivers outside s e) ≡ false
+    go : (e : Event) → is_polling (delivers outside name s e) ≡ false
     go (Tell n word) = refl
     go (Kill n) = unpolled_cond (lives outside s n) (Kills n) Hears refl refl
+    go (Of_client c command) = unpolled_cond (nat_lt c client_count) (Obeys c command name) Hears refl refl
 
 unpolled_timer : (s : State) (x : Option Timed) (after : Turning) → is_polling after ≡ false → is_polling (by_timer s x after) ≡ false
 unpolled_timer s None after h = h
@@ -109,9 +113,9 @@ none_polled : (outside : Outside) (s : State) → outside.natives ≡ 0 → is_p
 none_polled outside s none =
     let after = picks (has_signal s.cells) (first_ready s.cells) (next_time outside s) in
     let unpolled = ap (λ n. is_polling (polls n None after)) (none_living outside s none) ∙ unpolled_picks (has_signal s.cells) (first_ready s.cells) (next_time outside s) in
-    let heard = unpolled_event outside s (next_event outside s) (polls (next_native outside s) None after) unpolled in
-    unpolled_cond (nat_le outside.limit s.rest.dispatches) Cuts (by_timer s (first_due s.cells) (by_event outside s (next_event outside s) (polls (next_native outside s) None after)))
-    refl (unpolled_timer s (first_due s.cells) (by_event outside s (next_event outside s) (polls (next_native outside s) None after)) heard)
+    let heard = unpolled_event outside 0 s (next_event outside s) (polls (next_native outside s) None after) unpolled in
+    unpolled_cond (nat_le outside.limit s.rest.dispatches) Cuts (by_timer s (first_due s.cells) (by_event outside 0 s (next_event outside s) (polls (next_native outside s) None after)))
+    refl (unpolled_timer s (first_due s.cells) (by_event outside 0 s (next_event outside s) (polls (next_native outside s) None after)) heard)
 
 -- ---- and where there is one that serves no class it completes nothing
 
@@ -142,7 +146,7 @@ module _ (p : Image) (natives : HasNoNative p) where
     idle nothing begins = tt
     idle nothing (moves {s = s} c reached busy opened goes) = (idle nothing reached, unheard_moves c s (stages reached))
     idle nothing (turns {s = s} heard reached between well goes) =
-        (idle nothing reached, λ polled. nothing_completed s heard.completion (turning outside nothing_heard s) polled (subst (λ t. AnswersWell p s t) (told_turning heard outside s) well.completion) ∙ sym (nothing (stages reached)))
+        (idle nothing reached, λ polled. nothing_completed s heard.completion (turning outside (record nothing_heard { name = heard.name }) s) (polling_named outside nothing_heard heard.name s ∙ polled) (subst (λ t. AnswersWell p s t) (told_turning heard outside s) well.completion) ∙ sym (nothing (stages reached)))
 
 pub nothing_is_heard : NothingIsHeard
 nothing_is_heard = record {

@@ -40,7 +40,7 @@ module _ (p : Image) (t : Typing) (outside : Outside) (wired : IsWired p) (typed
     between : IsBetween v
     free : named v.cells heard.name ≡ None
     goes : turn p outside heard v ≡ Goes s
-    lines : new ≡ written_turn outside v
+    lines : new ≡ written_turn p outside v
     hears : is_polling (turning outside nothing_heard v) ≡ true → heard.completion ≡ oracle.completes n
 
   abbrev Stage : ℕ → State → State → List Line → Type 0
@@ -56,7 +56,7 @@ module _ (p : Image) (t : Typing) (outside : Outside) (wired : IsWired p) (typed
   staged (moves {lines = lines} {s = s} c before busy choice e) follows =
       (lines, s, written p s, staged before follows.0, before, inl (record { choice = c; busy = busy; open_so = choice; goes = e; lines = refl; hears = follows.1 }), refl)
   staged (turns {lines = lines} {s = s} heard before between owed e) follows =
-      (lines, s, written_turn outside s, staged before follows.0, before, inr (record { heard = heard; between = between; free = owed.name; goes = e; lines = refl; hears = follows.1 }), refl)
+      (lines, s, written_turn p outside s, staged before follows.0, before, inr (record { heard = heard; between = between; free = owed.name; goes = e; lines = refl; hears = follows.1 }), refl)
 
   well : (lines : List Line) (s : State) → Reaches p outside (boot_state p) lines s → WellKept p t s
   well lines s r = well_on p t outside wired typed (boot_state p) (boot_keeps p t wired typed, clients_keep.boot p) lines s r
@@ -93,7 +93,7 @@ module _ (p : Image) (t : Typing) (outside : Outside) (wired : IsWired p) (typed
   stage_alike n v w s u new new' k there alike (inl one) (inr other) = absurd (busy_idle v w alike one.busy other.between.idle)
   stage_alike n v w s u new new' k there alike (inr one) (inl other) = absurd (idle_busy v w alike one.between.idle other.busy)
   stage_alike n v w s u new new' k there alike (inr one) (inr other) = (
-    one.lines ∙ turn_writes_alike outside v w alike ∙ sym other.lines,
+    one.lines ∙ turn_writes_alike p outside v w alike ∙ sym other.lines,
     goes_alike _ _ s u one.goes other.goes (turn_alike p t outside one.heard other.heard v w k.0 k.1 there alike one.free other.free (polls_alike n v w s u new new' alike one other)),
   )
 

@@ -12,9 +12,9 @@ use Rattle.aom_rules.specs.Typing.{Typing}
 use Rattle.aom_shape.specs.Needs.{AllTrue}
 use Rattle.aom_sound.proofs.ClientsEffects.{IsUsual, fine_effect}
 use Rattle.aom_sound.proofs.ClientsFacts.{serving_plain, waiting_well}
-use Rattle.aom_sound.proofs.ClientsTurn.{IsFound, message_plain, same_bereaved, same_requested, turning_found}
+use Rattle.aom_sound.proofs.ClientsTurn.{IsFound, on_none, same_bereaved, same_requested, turning_found}
 use Rattle.aom_sound.proofs.Guarded.{goes_same, guarded_goes, guarded_met}
-use Rattle.aom_sound.proofs.Things.{stands_same}
+use Rattle.aom_sound.proofs.Things.{message_plain, stands_same}
 use Rattle.aom_sound.proofs.Turned.{Polled, answers, commanded_kept, nothing, polled_so}
 use Rattle.aom_sound.specs.Destruction.{gone, needs_gone, vanished}
 use Rattle.aom_sound.specs.Effects.{Returns, applied, effect, needs}
@@ -111,7 +111,7 @@ module _ (p : Image) (t : Typing) (wired : IsWired p) (s : State) (w : WellTyped
   by_idle clients cs ts none all = subst (λ l. AreThere clients cs (dispatch_of l)) (sym none) (plain_there clients cs None tt all)
 
   requested_there : (f : Request → Request) (o : Object) → AllWait s.clients (with_request f o s.cells)
-  requested_there f o = same_waits s.clients s.cells (with_request f o s.cells) (same_requested s.cells o (on_request f (requested s.cells o.name))) waiting
+  requested_there f o = same_waits s.clients s.cells (with_request f o s.cells) (same_requested s.cells o (on_request f (requested s.cells o.name)) (λ e. on_none f (requested s.cells o.name) e)) waiting
 
   turned_there : (k : Turning) → IsFound p t wired s w idle kept k → (u : State) → turned p s k ≡ Goes u → AllThere u
   turned_there Cuts f u e = subst AllThere (goes_same _ u e) (by_idle s.clients s.cells s.tasks idle waiting)
@@ -126,7 +126,7 @@ module _ (p : Image) (t : Typing) (wired : IsWired p) (s : State) (w : WellTyped
         | answers o code ↦ by_idle s.clients (with_request (completed_with (recorded code)) o s.cells) s.tasks idle (requested_there (completed_with (recorded code)) o)
       ]
   turned_there (Obeys client command name) f u e = subst AllThere (goes_same _ u e) (by_idle _ _ _ ((commanded_kept p client (heard_one s) command name).1 ∙ idle) (commanded_waits p client (heard_one s) w.good.tidy kept.fit (waiting_well p t wired s w) waiting command name f))
-  turned_there (Picks x) f u e = picked_there p s u waiting x f e
+  turned_there (Picks x) f u e = picked_there p s u waiting x f.0 e
   turned_there Strays f u e = cc
   turned_there (Passes time) f u e = subst AllThere (goes_same _ u e) (by_idle s.clients s.cells s.tasks idle waiting)
   turned_there Waits f u e = subst AllThere (goes_same _ u e) (by_idle s.clients s.cells s.tasks idle waiting)
@@ -135,5 +135,5 @@ pub all_stays_there : AllStaysThere
 all_stays_there = record {
   boot = boot_there;
   moves = λ p t wired typed c s u w free kept there e. moved_there p t wired c s w free kept there s.tasks refl u e;
-  turns = λ p t outside wired typed heard s u w between hears kept there e. turned_there p t wired s w between.idle kept there (turning outside heard s) (turning_found p t wired s w between.idle kept outside heard) u e;
+  turns = λ p t outside wired typed heard s u w between hears kept there e. turned_there p t wired s w between.idle kept there (turning outside heard s) (turning_found p t wired s w between.idle kept outside heard hears.name) u e;
 }

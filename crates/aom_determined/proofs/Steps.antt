@@ -1,12 +1,14 @@
 -- A move under other names, by the task at hand: the same move, and the same lines.
 use Rattle.std.proofs.Common.{Bool, List, None, Option, Some, [], ap, cond, false, length, pos, refl, sym, true, ℕ, ℤ, ◌∙◌, ◌∷◌, ◌≡◌}
-use Rattle.std.specs.Prelude.{option_map}
+use Rattle.std.specs.Prelude.{option_map, ◌++◌}
+use Rattle.aom_sound.specs.Lines.{message_line, queue_lines}
+use Rattle.aom_sound.specs.Words.{read}
 use Rattle.std.specs.Ordering.{int_eq}
 use Rattle.aom_image.specs.Image.{Image}
 use Rattle.aom_image.specs.declared.method.Role.TheVariants.{Error as Answers}
 use Rattle.aom_image.specs.Views.{instr_at}
 use Rattle.aom_instructions.specs.declared.instr.Instr.{Instr}
-use Rattle.aom_instructions.specs.declared.instr.Instr.TheVariants.{Print}
+use Rattle.aom_instructions.specs.declared.instr.Instr.TheVariants.{Print, Reply}
 use Rattle.aom_sound.specs.World.{Heard, HearsWell, Outside}
 use Rattle.aom_sound.specs.Calls.{called, result_register}
 use Rattle.aom_sound.specs.Cleanup.{arrived, dealt_with, ended_by, top_is_whole, unwound}
@@ -16,11 +18,12 @@ use Rattle.aom_sound.specs.Destruction.{closing, first_session, gone, needs_gone
 use Rattle.aom_sound.specs.Servers.{parted, reserved, without_queue}
 use Rattle.aom_sound.specs.Enlisted.{part_of}
 use Rattle.aom_sound.specs.Moves.{IsOpen, answered, asked, asking, counted, dispatch_ends, does, failed, goes_line, handled, is_counted, is_refused, main_ends, makes_cell, needs, needs_end, object_ends, served_so, stage_ends, step, step_instr, step_task, written, written_instr, written_task}
-use Rattle.aom_sound.specs.Places.{Cell, Elsewhere, Going, In_service, Object, Root, held, named, service_of, without}
+use Rattle.aom_sound.specs.Places.{Cell, Elsewhere, Going, In_service, Object, Register, Root, held, named, service_of, without}
 use Rattle.aom_sound.specs.State.{A_mark, Accept_left, Accepted, Accepts, An_object, An_operation, Answered, Asks, Choice, Closing, CompletedTwice, Destroy, Dispatch, Dispatched, Frame, Goes, IsStuck, Item, Main_left, NullOrDead, Object_left, Of_main, Of_object, Of_root, Of_server, Parts, Run, Seat, Service_left, Serves, Stage, State, Task, Trapped, Unwind, guarded, resumed}
 use Rattle.aom_determined.proofs.Cells.{cells_counted, cond_applied, held_renamed, moved_renamed, named_renamed, owns_nothing_kept, requested_kept, tasks_counted, without_renamed}
 use Rattle.aom_determined.proofs.Doing.{begun_renamed, dealt_renamed, destructed_renamed, does_renamed, needs_kept, told_renamed}
-use Rattle.aom_determined.proofs.Needs.{guarded_renamed, place_owns, whole_kept}
+use Rattle.aom_determined.proofs.Needs.{guarded_renamed, place_owns, register_renamed, whole_kept}
+use Rattle.aom_determined.proofs.Lines.{dispatch_lines_kept, message_line_kept, queue_lines_kept}
 use Rattle.aom_determined.proofs.Serving.{each_unslotted_renamed, first_session_renamed, parted_client_renamed, parts_renamed, queue_ended_renamed, service_renamed, sessions_ended_renamed, with_client_renamed, without_queue_renamed}
 use Rattle.aom_determined.proofs.Turning.{turns_so, writes_turn_so, answers_so}
 use Rattle.aom_determined.specs.Laws.{NamesMeanNothing}
@@ -222,15 +225,20 @@ module _ (names : ℕ → ℕ) (one_to_one : IsOneToOne names) where
   instr_writes : (fr : Frame) (ts : List Task) (s : State) (i : Option Instr) → written_instr (renamed_frame names fr) (renamed_tasks names ts) (renamed names s) i ≡ written_instr fr ts s i
   instr_writes fr ts s None = refl
   instr_writes fr ts s (Some (Print a)) = refl
+  instr_writes fr ts s (Some (Reply a b)) =
+      ap (λ o. message_line (renamed_cells names s.cells) o (read fr ts s b)) (register_renamed names one_to_one s.cells ts a) ∙ message_line_kept names one_to_one s.cells (held s.cells (Register (length ts) a)) (read fr ts s b)
   instr_writes fr ts s (Some _) = refl
 
   task_writes : (p : Image) (s : State) (ts : List Task) → written_task p (renamed names s) (renamed_tasks names ts) ≡ written_task p s ts
   task_writes p s (Run fr ∷ ts) = instr_writes fr ts s (instr_at p fr.method fr.place)
   task_writes p s (Destroy ∷ ts) =
-      ap (λ n. goes_line (held (renamed_cells names s.cells) (Going n))) (tasks_counted names ts)
-      ∙ ap goes_line (held_renamed names one_to_one s.cells (Going (length ts)))
-      ∙ gone_line_kept (held s.cells (Going (length ts)))
+      let o = held s.cells (Going (length ts)) in
+      ap (λ n. queue_lines (renamed_cells names s.cells) (held (renamed_cells names s.cells) (Going n)) ++ goes_line (held (renamed_cells names s.cells) (Going n))) (tasks_counted names ts)
+      ∙ ap (λ x. queue_lines (renamed_cells names s.cells) x ++ goes_line x) (held_renamed names one_to_one s.cells (Going (length ts)))
+      ∙ ap (λ l. l ++ goes_line (option_map (renamed_object names) o)) (queue_lines_kept names one_to_one s.cells o)
+      ∙ ap (λ l. queue_lines s.cells o ++ l) (gone_line_kept o)
   task_writes p s (Unwind code ∷ ts) = refl
+  task_writes p s (Dispatched d ∷ ts) = dispatch_lines_kept names one_to_one s.cells d
   task_writes p s _ = refl
 
   pub writes_so : (p : Image) (s : State) → written p (renamed names s) ≡ written p s
@@ -258,5 +266,5 @@ names_mean_nothing = record {
   writes = λ p names one_to_one s. writes_so names one_to_one p s;
   turns = λ p outside heard names one_to_one s. turns_so names one_to_one p outside heard s;
   hears = λ p outside heard names one_to_one s well. hears_so names one_to_one p outside heard s well;
-  writes_turn = λ outside names one_to_one s. writes_turn_so names one_to_one outside s;
+  writes_turn = λ p outside names one_to_one s. writes_turn_so names one_to_one p outside s;
 }

@@ -1,21 +1,25 @@
 -- A turn under other names: orders, priorities, times and numbers decide, so the same timer is due first, the same native is polled or killed, the same object is picked, and the lines are the same.
 use Rattle.std.proofs.Common.{Bool, List, None, Option, Some, [], ap, cond, false, refl, true, ℕ, ℤ, ◌∙◌, ◌∷◌, ◌≡◌, ◌||◌, length, subst, sym}
-use Rattle.std.specs.Prelude.{nat_le, option_map}
+use Rattle.std.specs.Prelude.{nat_le, nat_lt, option_map}
 use Rattle.aom_image.specs.Image.{Image}
 use Rattle.aom_image.specs.declared.method.Role.TheVariants.{Accept as Accepts_role, Run as Handles, Service as Attends}
 use Rattle.aom_image.specs.declared.method.Thing.{Thing}
 use Rattle.aom_image.specs.declared.method.Thing.TheVariants.{Message, Object as An_object_of}
+use Rattle.aom_sound.specs.Clients.{client_count}
+use Rattle.aom_sound.specs.Lines.{refusal_line, serve_line}
 use Rattle.aom_sound.specs.Enlisted.{completed_with, on_request, part_of, recorded, taken_up, timed_out}
 use Rattle.aom_sound.specs.Natives.{all_bereaved, bereaved, is_outstanding_at}
 use Rattle.aom_sound.specs.Places.{Asked, Cell, Close_of, Connect_of, Elsewhere, Going, In_service, Message_of, Object, Queued, Request, Session, Timer, held, requested, service_of, set_request}
 use Rattle.aom_sound.specs.Servers.{is_server}
 use Rattle.aom_sound.specs.State.{CompletedTwice, Dispatched, Goes, Of_server, Parts, Seat, State, guarded}
-use Rattle.aom_sound.specs.World.{Candidate, Completes, Completion, Cuts, Heard, Hears, Kills, Obeys, Outside, Picks, Polls, Timed, Turning, accepting, among_ready, among_timers, answered_by, attended, attending, before_others, by_event, by_timer, cell_at, delivers, dispatched, due_of, first_due, first_ready, goes_before, goes_now, has_signal, heard_one, is_ready, is_signalled, is_sooner, lives, message_words, nearer, next_event, next_native, next_time, nothing_heard, parting_with, passes, past_native, picked, picks, polled, polls, run_line, serves_first, signals, sooner, taken_from, time_of, turn, turned, turning, with_request, written_by, written_turn, AnswersWell}
+use Rattle.aom_sound.specs.World.{Candidate, Completes, Completion, Cuts, Heard, Hears, Kills, Obeys, Outside, Picks, Polls, Timed, Turning, accepting, among_ready, among_timers, answered_by, attended, attending, before_others, by_event, by_timer, cell_at, delivers, dispatched, due_of, first_due, first_ready, goes_before, goes_now, has_signal, heard_one, is_ready, is_signalled, is_sooner, lives, message_words, nearer, next_event, next_native, next_time, nothing_heard, parting_with, passes, past_native, picked, picks, polled, polls, pick_line, run_line, serves_first, signals, sooner, taken_from, time_of, turn, turned, turning, with_request, written_by, written_turn, AnswersWell}
 use Rattle.aom_transcript.specs.declared.event.Event.{Event}
-use Rattle.aom_transcript.specs.declared.event.Event.TheVariants.{Kill, Tell}
+use Rattle.aom_transcript.specs.declared.event.Event.TheVariants.{Client as Of_client, Kill, Tell}
 use Rattle.aom_transcript.specs.declared.event.TimedEvent.{TimedEvent}
 use Rattle.aom_determined.proofs.Cells.{cell_at_renamed, cond_applied, cond_mapped, each_renamed, held_renamed, moved_renamed, requested_kept, set_request_renamed, word_field_kept}
-use Rattle.aom_determined.proofs.Commands.{commanded_renamed}
+use Rattle.aom_determined.proofs.Commands.{commanded_renamed, refusal_kept}
+use Rattle.aom_determined.proofs.Lines.{serve_kept}
+use Rattle.aom_determined.proofs.Naming.{polling_named, written_named}
 use Rattle.aom_determined.proofs.Doing.{begun_renamed}
 use Rattle.aom_determined.proofs.Serving.{more_kept, service_renamed, takes_renamed}
 use Rattle.aom_determined.proofs.Needs.{guarded_renamed}
@@ -115,15 +119,16 @@ module _ (names : ℕ → ℕ) where
   polls_renamed None answer after = refl
   polls_renamed (Some n) answer after = refl
 
-  delivers_renamed : (outside : Outside) (s : State) (e : Event) → delivers outside s e ≡ renamed_turning (delivers outside s e)
-  delivers_renamed outside s (Tell n word) = refl
-  delivers_renamed outside s (Kill n) = cond_applied renamed_turning (lives outside s n) (Kills n) Hears
+  delivers_renamed : (outside : Outside) (name : ℕ) (s : State) (e : Event) → delivers outside (names name) s e ≡ renamed_turning (delivers outside name s e)
+  delivers_renamed outside name s (Tell n word) = refl
+  delivers_renamed outside name s (Kill n) = cond_applied renamed_turning (lives outside s n) (Kills n) Hears
+  delivers_renamed outside name s (Of_client c command) = cond_applied renamed_turning (nat_lt c client_count) (Obeys c command name) Hears
 
-  by_event_renamed : (outside : Outside) (s : State) (e : Option TimedEvent) (after : Turning) → by_event outside s e (renamed_turning after) ≡ renamed_turning (by_event outside s e after)
-  by_event_renamed outside s None after = refl
-  by_event_renamed outside s (Some e) after =
+  by_event_renamed : (outside : Outside) (name : ℕ) (s : State) (e : Option TimedEvent) (after : Turning) → by_event outside (names name) s e (renamed_turning after) ≡ renamed_turning (by_event outside name s e after)
+  by_event_renamed outside name s None after = refl
+  by_event_renamed outside name s (Some e) after =
       let due = nat_le e.time s.rest.clock in
-      ap (λ x. cond due x (renamed_turning after)) (delivers_renamed outside s e.event) ∙ cond_applied renamed_turning due (delivers outside s e.event) after
+      ap (λ x. cond due x (renamed_turning after)) (delivers_renamed outside name s e.event) ∙ cond_applied renamed_turning due (delivers outside name s e.event) after
 
   by_timer_renamed : (s : State) (x : Option Timed) (after : Turning) → by_timer s (option_map renamed_timed x) (renamed_turning after) ≡ renamed_turning (by_timer s x after)
   by_timer_renamed s None after = refl
@@ -133,10 +138,10 @@ module _ (names : ℕ → ℕ) where
   turning_renamed outside heard s =
       let cut = nat_le outside.limit s.rest.dispatches in
       let polled = polls (next_native outside s) heard.completion (picking outside s) in
-      let delivered = by_event outside s (next_event outside s) polled in
-      ap (λ t. cond cut Cuts (by_timer s (first_due (renamed_cells names s.cells)) (by_event outside s (next_event outside s) (polls (next_native outside s) heard.completion t)))) (picking_renamed outside s)
-      ∙ ap (λ t. cond cut Cuts (by_timer s (first_due (renamed_cells names s.cells)) (by_event outside s (next_event outside s) t))) (polls_renamed (next_native outside s) heard.completion (picking outside s))
-      ∙ ap (λ t. cond cut Cuts (by_timer s (first_due (renamed_cells names s.cells)) t)) (by_event_renamed outside s (next_event outside s) polled)
+      let delivered = by_event outside heard.name s (next_event outside s) polled in
+      ap (λ t. cond cut Cuts (by_timer s (first_due (renamed_cells names s.cells)) (by_event outside (names heard.name) s (next_event outside s) (polls (next_native outside s) heard.completion t)))) (picking_renamed outside s)
+      ∙ ap (λ t. cond cut Cuts (by_timer s (first_due (renamed_cells names s.cells)) (by_event outside (names heard.name) s (next_event outside s) t))) (polls_renamed (next_native outside s) heard.completion (picking outside s))
+      ∙ ap (λ t. cond cut Cuts (by_timer s (first_due (renamed_cells names s.cells)) t)) (by_event_renamed outside heard.name s (next_event outside s) polled)
       ∙ ap (λ x. cond cut Cuts (by_timer s x (renamed_turning delivered))) (due_renamed s.cells)
       ∙ ap (cond cut Cuts) (by_timer_renamed s (first_due s.cells) delivered)
       ∙ cond_applied renamed_turning cut Cuts (by_timer s (first_due s.cells) delivered)
@@ -147,7 +152,8 @@ module _ (names : ℕ → ℕ) where
 
   -- a native is polled under other names too
   pub polling_kept : (outside : Outside) (s : State) → is_polling (turning outside nothing_heard (renamed names s)) ≡ is_polling (turning outside nothing_heard s)
-  polling_kept outside s = ap is_polling (turning_renamed outside nothing_heard s) ∙ polling_renamed (turning outside nothing_heard s)
+  polling_kept outside s =
+      sym (polling_named outside nothing_heard (names 0) (renamed names s)) ∙ ap is_polling (turning_renamed outside nothing_heard s) ∙ polling_renamed (turning outside nothing_heard s)
 
 module _ (names : ℕ → ℕ) (one_to_one : IsOneToOne names) where
   -- ---- where it leads
@@ -265,9 +271,19 @@ module _ (names : ℕ → ℕ) (one_to_one : IsOneToOne names) where
       go (An_object_of c) = rw (requested_kept names one_to_one s.cells o.name)
       go Message = refl
 
-  by_kept : (s : State) (t : Turning) → written_by (renamed names s) (renamed_turning names t) ≡ written_by s t
-  by_kept s (Picks x) = line_kept s x.object
-  by_kept s _ = refl
+  -- of an object, or of a server for the first of its queue
+  pick_kept : (p : Image) (s : State) (o : Object) → pick_line p (renamed names s) (renamed_object names o) ≡ pick_line p s o
+  pick_kept p s o =
+      let serves = is_server p o.thing in
+      ap (λ v. cond serves (serve_line s.rest.clock o.thing v.queue) (run_line (renamed names s) (renamed_object names o))) (service_renamed names one_to_one s.cells o.name)
+      ∙ ap (λ l. cond serves l (run_line (renamed names s) (renamed_object names o))) (serve_kept names s.rest.clock o.thing (service_of s.cells o.name).queue)
+      ∙ ap (cond serves (serve_line s.rest.clock o.thing (service_of s.cells o.name).queue)) (line_kept s o)
 
-  pub writes_turn_so : (outside : Outside) (s : State) → written_turn outside (renamed names s) ≡ written_turn outside s
-  writes_turn_so outside s = ap (written_by (renamed names s)) (turning_renamed names outside nothing_heard s) ∙ by_kept s (turning outside nothing_heard s)
+  by_kept : (p : Image) (s : State) (t : Turning) → written_by p (renamed names s) (renamed_turning names t) ≡ written_by p s t
+  by_kept p s (Picks x) = pick_kept p s x.object
+  by_kept p s (Obeys client command name) = ap (refusal_line client) (refusal_kept names one_to_one p client s command)
+  by_kept p s _ = refl
+
+  pub writes_turn_so : (p : Image) (outside : Outside) (s : State) → written_turn p outside (renamed names s) ≡ written_turn p outside s
+  writes_turn_so p outside s =
+      sym (written_named p outside nothing_heard (names 0) (renamed names s)) ∙ ap (written_by p (renamed names s)) (turning_renamed names outside nothing_heard s) ∙ by_kept p s (turning outside nothing_heard s)

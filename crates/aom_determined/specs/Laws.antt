@@ -24,7 +24,7 @@ pub record NamesMeanNothing : Type 0 where
   -- whatever a native completes, which names its cell by the place in the list of cells
   pub turns : (p : Image) (outside : Outside) (heard : Heard) (names : ℕ → ℕ) → IsOneToOne names → (s : State) → turn p outside (renamed_heard names heard) (renamed names s) ≡ renamed_outcome names (turn p outside heard s)
   pub hears : (p : Image) (outside : Outside) (heard : Heard) (names : ℕ → ℕ) → IsOneToOne names → (s : State) → HearsWell p outside heard s → HearsWell p outside (renamed_heard names heard) (renamed names s)
-  pub writes_turn : (outside : Outside) (names : ℕ → ℕ) → IsOneToOne names → (s : State) → written_turn outside (renamed names s) ≡ written_turn outside s
+  pub writes_turn : (p : Image) (outside : Outside) (names : ℕ → ℕ) → IsOneToOne names → (s : State) → written_turn p outside (renamed names s) ≡ written_turn p outside s
 
 -- two states that are the same but for names, of which one is well typed, keeps what clients have, and has what they say, move alike, each with any free name for a new cell, and write the same, where both hear the same of a native that answers
 abbrev pub MovesStayAlike : Type 0
@@ -38,7 +38,7 @@ abbrev pub TurnsStayAlike : Type 0
 TurnsStayAlike =
     (p : Image) (t : Typing) (outside : Outside) (heard other : Heard) (s u : State) →
     WellTyped p t u → IsKept p u → AllThere u → AreAlike s u → named s.cells heard.name ≡ None → named u.cells other.name ≡ None → (is_polling (turning outside nothing_heard s) ≡ true → heard.completion ≡ other.completion) →
-    AlikeOutcomes (turn p outside heard s) (turn p outside other u) × (written_turn outside s ≡ written_turn outside u)
+    AlikeOutcomes (turn p outside heard s) (turn p outside other u) × (written_turn p outside s ≡ written_turn p outside u)
 
 -- what clients and the dispatch at hand say is of cells that are there in each state of a run
 pub record AllStaysThere : Type 0 where

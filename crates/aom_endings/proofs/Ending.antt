@@ -1,6 +1,6 @@
 -- A run can always be brought to an end: each move lowers the rank, turns take of what is left, and there are only so many dispatches of objects.
 use Rattle.std.proofs.Common.{◌≡◌, ℕ, zero, suc, ◌+◌, ◌-◌, ◌^◌, ◌<◌, ◌≤◌, ◌==◌, Bool, true, false, List, [], ◌∷◌, ◌++◌, Option, Some, None, ap, refl, sym, subst, cond, ◌∙◌, arith, append-nil, append_assoc, length, pos}
-use Rattle.std.specs.Prelude.{is_some, nat_le}
+use Rattle.std.specs.Prelude.{is_some, nat_le, nat_lt}
 use Rattle.std.proofs.lemmas.Bool.{ne_eqb}
 use Rattle.aom_image.specs.Image.{Image}
 use Rattle.aom_classes.specs.Linked.{IsLinked}
@@ -17,11 +17,12 @@ use Rattle.aom_sound.specs.Places.{Cell, named}
 use Rattle.aom_sound.specs.State.{Rest, Task, State, Choice, Goes}
 use Rattle.aom_sound.specs.Moves.{step, written, is_refused, IsOpen}
 use Rattle.aom_sound.specs.WellTyped.{WellTyped}
-use Rattle.aom_sound.proofs.Turned.{answers, nothing, polled_rest, polled_so}
+use Rattle.aom_sound.specs.Clients.{client_count}
+use Rattle.aom_sound.proofs.Turned.{answers, commanded_kept, nothing, polled_rest, polled_so}
 use Rattle.aom_sound.specs.Enlisted.{recorded}
-use Rattle.aom_sound.specs.World.{AnswersWell, boot_state, Candidate, Completes, Completion, Cuts, Heard, Hears, HearsWell, Kills, Outside, Reaches, Timed, Turning, by_event, by_timer, delivers, first_due, first_ready, has_signal, lives, moves, next_event, next_native, next_time, picks, polled, polls, turn, turned, turning, turns, Run_of, IsBusy, written_turn, IsBetween}
+use Rattle.aom_sound.specs.World.{AnswersWell, boot_state, Candidate, Completes, Completion, Cuts, Heard, Hears, HearsWell, Kills, Obeys, Outside, heard_one, Reaches, Timed, Turning, by_event, by_timer, delivers, first_due, first_ready, has_signal, lives, moves, next_event, next_native, next_time, picks, polled, polls, turn, turned, turning, turns, Run_of, IsBusy, written_turn, IsBetween}
 use Rattle.aom_transcript.specs.declared.event.Event.{Event}
-use Rattle.aom_transcript.specs.declared.event.Event.TheVariants.{Kill, Tell}
+use Rattle.aom_transcript.specs.declared.event.Event.TheVariants.{Client, Kill, Tell}
 use Rattle.aom_transcript.specs.declared.event.TimedEvent.{TimedEvent}
 use Rattle.aom_transcript.specs.declared.line.Line.{Line}
 use Rattle.aom_transcript.specs.declared.line.Ending.{Ending}
@@ -29,8 +30,8 @@ use Rattle.aom_transcript.specs.declared.line.Ending.TheVariants.{Limit, Waiting
 use Rattle.aom_ranks.specs.Ranks.{rank}
 use Rattle.aom_ranks.proofs.Ranking.{moves_lower_ranks}
 use Rattle.aom_ranks.proofs.Arriving.{leads_on}
-use Rattle.aom_endings.proofs.Sorts.{Kind, completes_one, cuts, hears_one, kills_one, kind_of, passes_on, picks_one, polls_one, strays, waits}
-use Rattle.aom_endings.proofs.Lefts.{bereaved_no_more, completed_fewer, completed_no_more, event_there, events_left, fewer_left, later_left, left, natives_left, no_more_left, passed_late, timers_in}
+use Rattle.aom_endings.proofs.Sorts.{Kind, completes_one, cuts, hears_one, kills_one, kind_of, obeys_one, passes_on, picks_one, polls_one, strays, waits}
+use Rattle.aom_endings.proofs.Lefts.{bereaved_no_more, commanded_no_more, completed_fewer, completed_no_more, event_there, events_left, fewer_left, later_left, left, natives_left, no_more_left, passed_late, timers_in}
 use Rattle.aom_endings.proofs.Spending.{moved_spares, picked_spares}
 use Rattle.aom_endings.specs.Endings.{CanEnd, RunsCanEnd, one_where, spare}
 use Rattle.aom_steps.specs.Payers.{payer}
@@ -63,20 +64,25 @@ module _ (p : Image) (outside : Outside) (s : State) where
   polls_well None after then = then
   polls_well (Some n) after then = tt
 
-  delivers_well : (event : Event) → AnswersWell p s (delivers outside s event)
-  delivers_well (Tell n word) = tt
-  delivers_well (Kill n) = go (lives outside s n)
+  delivers_well : (name : ℕ) (event : Event) → AnswersWell p s (delivers outside name s event)
+  delivers_well name (Tell n word) = tt
+  delivers_well name (Kill n) = go (lives outside s n)
     where
       go : (b : Bool) → AnswersWell p s (cond b (Kills n) Hears)
       go true = tt
       go false = tt
-
-  event_well : (next : Option TimedEvent) (after : Turning) → AnswersWell p s after → AnswersWell p s (by_event outside s next after)
-  event_well None after then = then
-  event_well (Some e) after then = go (nat_le e.time s.rest.clock)
+  delivers_well name (Client c command) = go (nat_lt c client_count)
     where
-      go : (b : Bool) → AnswersWell p s (cond b (delivers outside s e.event) after)
-      go true = delivers_well e.event
+      go : (b : Bool) → AnswersWell p s (cond b (Obeys c command name) Hears)
+      go true = tt
+      go false = tt
+
+  event_well : (name : ℕ) (next : Option TimedEvent) (after : Turning) → AnswersWell p s after → AnswersWell p s (by_event outside name s next after)
+  event_well name None after then = then
+  event_well name (Some e) after then = go (nat_le e.time s.rest.clock)
+    where
+      go : (b : Bool) → AnswersWell p s (cond b (delivers outside name s e.event) after)
+      go true = delivers_well name e.event
       go false = then
 
   timer_well : (next : Option Timed) (after : Turning) → AnswersWell p s after → AnswersWell p s (by_timer s next after)
@@ -90,9 +96,9 @@ module _ (p : Image) (outside : Outside) (s : State) where
   completes_nothing : AnswersWell p s (turning outside (quiet s) s)
   completes_nothing = go (nat_le outside.limit s.rest.dispatches)
     where
-      go : (b : Bool) → AnswersWell p s (cond b Cuts (by_timer s (first_due s.cells) (by_event outside s (next_event outside s) (polls (next_native outside s) None (picks (has_signal s.cells) (first_ready s.cells) (next_time outside s))))))
+      go : (b : Bool) → AnswersWell p s (cond b Cuts (by_timer s (first_due s.cells) (by_event outside (top s.cells) s (next_event outside s) (polls (next_native outside s) None (picks (has_signal s.cells) (first_ready s.cells) (next_time outside s))))))
       go true = tt
-      go false = timer_well (first_due s.cells) _ (event_well (next_event outside s) _ (polls_well (next_native outside s) _ (picks_well (has_signal s.cells) (first_ready s.cells) (next_time outside s))))
+      go false = timer_well (first_due s.cells) _ (event_well (top s.cells) (next_event outside s) _ (polls_well (next_native outside s) _ (picks_well (has_signal s.cells) (first_ready s.cells) (next_time outside s))))
 
   hears_nothing : HearsWell p outside (quiet s) s
   hears_nothing = record { completion = completes_nothing; name = above s.cells (top s.cells) (omega arith) }
@@ -179,6 +185,13 @@ module _ (p : Image) (t : Typing) (outside : Outside) (few : outside.limit ≤ 2
       let timers = bereaved_no_more p native s.cells in
       let falls = fewer_left outside s u (omega (arith, there, timers, ap (λ (v : State). timers_in v.cells) same, ap (λ (v : State). v.rest.delivered) same)) in
       less_left n k again lines s u most falls spares (ap (λ (v : State). v.tasks) same) (ap (λ (v : State). v.rest.dispatches) same) (ap (λ (v : State). v.rest.ended) same) between r typed
+  by_kind n k j ends again polling lines s most few_natives spares w between _ (obeys_one e c command name next) u goes r typed =
+      let same = sym (goes_same _ u goes) in
+      let rest = commanded_kept p c (heard_one s) command name in
+      let there = event_there outside.events s.rest.delivered e next in
+      let timers = commanded_no_more p c (heard_one s) command name in
+      let falls = fewer_left outside s u (omega (arith, there, timers, ap (λ (v : State). timers_in v.cells) same, ap (λ (v : State). v.rest.delivered) same, ap (λ (x : Rest). x.delivered) rest.0)) in
+      less_left n k again lines s u most falls spares (ap (λ (v : State). v.tasks) same ∙ rest.1) (ap (λ (v : State). v.rest.dispatches) same ∙ ap (λ (x : Rest). x.dispatches) rest.0) (ap (λ (v : State). v.rest.ended) same ∙ ap (λ (x : Rest). x.ended) rest.0) between r typed
   by_kind n k j ends again polling lines s most few_natives spares w between _ (passes_on time next early) u goes r typed =
       let same = sym (goes_same _ u goes) in
       let late = passed_late outside s u time next (ap (λ (v : State). v.cells) same) (ap (λ (v : State). v.rest.clock) same) (ap (λ (v : State). v.rest.delivered) same) in
@@ -205,8 +218,8 @@ module _ (p : Image) (t : Typing) (outside : Outside) (few : outside.limit ≤ 2
       let owed = hears_nothing p outside s in
       let heard = quiet s in
       let next = leads_on p t (turn p outside heard s) (turn_goes_on p t outside wired is_typed heard s w between owed (kept lines s r).fit) in
-      further lines (written_turn outside s)
-      (by_kind n k j ends (λ i. by_turns n k i ends) (by_turns n (suc k) j ends) (lines ++ written_turn outside s) s (omega (arith, less)) (omega (arith, few_natives)) spares w between
+      further lines (written_turn p outside s)
+      (by_kind n k j ends (λ i. by_turns n k i ends) (by_turns n (suc k) j ends) (lines ++ written_turn p outside s) s (omega (arith, less)) (omega (arith, few_natives)) spares w between
       (turning outside heard s) (kind_of outside s heard) next.0 next.1 (turns heard r between owed next.1) next.2)
 
   -- ---- moves

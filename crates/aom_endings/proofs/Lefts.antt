@@ -1,15 +1,22 @@
 -- What is left between dispatches: timers that run, events to come, natives to poll. Each turn that dispatches nothing takes of it.
-use Rattle.std.proofs.Common.{◌≡◌, ◌<◌, ◌≤◌, ◌+◌, ◌-◌, ◌*◌, ◌==◌, ℕ, zero, suc, ℤ, Bool, true, false, List, [], ◌∷◌, Option, Some, None, ap, arith, cond, length, refl, ◌∙◌}
+use Rattle.std.proofs.Common.{◌≡◌, ◌&&◌, ◌<◌, ◌≤◌, ◌+◌, ◌-◌, ◌*◌, ◌==◌, ℕ, zero, suc, ℤ, Bool, true, false, List, [], ◌∷◌, Option, Some, None, ap, arith, cond, length, refl, ◌∙◌}
 use Rattle.std.specs.Prelude.{is_some, min, nat_le, not, ◌||◌}
 use Rattle.std.proofs.lemmas.Bool.{le-leb, leb-false, leb-true}
 use Rattle.aom_active.proofs.Dues.{running}
 use Rattle.aom_active.specs.Agrees.{timer_in}
 use Rattle.aom_image.specs.Image.{Image}
+use Rattle.aom_clients.specs.declared.client.Client.{Client}
+use Rattle.aom_clients.specs.declared.client.Client.TheVariants.{Open}
+use Rattle.aom_clients.specs.declared.refusal.Refusal.{Refusal}
+use Rattle.aom_sound.specs.Clients.{Listed, client_at, commanded, connecting, leaving, sending, told}
+use Rattle.aom_sound.specs.Servers.{asked_last, is_from, is_queue, left_by, withdrawn}
 use Rattle.aom_sound.specs.Enlisted.{completed_with, on_request}
 use Rattle.aom_sound.specs.Natives.{all_bereaved, is_dead, is_owed, is_served_by, terminated, terminated_request}
-use Rattle.aom_sound.specs.Places.{Cell, Object, Request, Tidy, requested, set_request}
+use Rattle.aom_sound.specs.Places.{Cell, Close_of, Connect_of, Message_of, Object, Request, Service, Tidy, requested, service_of, set_request, set_service}
 use Rattle.aom_sound.specs.State.{State}
 use Rattle.aom_sound.specs.World.{Outside, Timed, due_of, event_at, first_due, first_living, nearer, next_event, next_time, time_of, with_request}
+use Rattle.aom_transcript.specs.declared.event.Command.{Command}
+use Rattle.aom_transcript.specs.declared.event.Command.TheVariants.{Close, Connect, Die, Send}
 use Rattle.aom_transcript.specs.declared.event.TimedEvent.{TimedEvent}
 use Rattle.aom_endings.specs.Endings.{one_where}
 use Rattle.aom_endings.proofs.Spending.{one_at_most}
@@ -64,6 +71,46 @@ ended_timed true r = go (is_owed r)
 pub bereaved_no_more : (p : Image) (n : ℕ) (cs : List Cell) → timers_in (all_bereaved p n cs) ≤ timers_in cs
 bereaved_no_more p n [] = omega arith
 bereaved_no_more p n (c ∷ cs) = omega (arith, ended_timed (is_served_by p n c.object.thing) c.request, bereaved_no_more p n cs)
+
+-- nor does a client
+served_timers : (cs : List Cell) (n : ℕ) (v : Service) → timers_in (set_service n v cs) ≡ timers_in cs
+served_timers [] n v = refl
+served_timers (c ∷ cs) n v = ap (λ k. timed c.request + k) (served_timers cs n v)
+
+withdrawn_no_more : (c : ℕ) (cs : List Cell) → timers_in (withdrawn c cs) ≤ timers_in cs
+withdrawn_no_more c [] = omega arith
+withdrawn_no_more c (x ∷ xs) = go (is_queue x.owner && is_from c x.service.sender) (withdrawn_no_more c xs)
+  where
+    go : (b : Bool) → timers_in (withdrawn c xs) ≤ timers_in xs → timers_in (cond b (withdrawn c xs) (record x { service = left_by c x.service } ∷ withdrawn c xs)) ≤ timed x.request + timers_in xs
+    go true rest = omega (arith, rest)
+    go false rest = omega (arith, rest)
+
+module _ (p : Image) (client : ℕ) (s : State) where
+  abbrev StartsNone : State → Type 0
+  StartsNone u = timers_in u.cells ≤ timers_in s.cells
+
+  connecting_no_more : (refused : Option Refusal) (server : Option Listed) (slots : ℕ) → StartsNone (connecting p client s refused server slots)
+  connecting_no_more None (Some x) slots = omega (arith, served_timers s.cells x.name (asked_last (Connect_of client) (service_of s.cells x.name)))
+  connecting_no_more None None slots = omega arith
+  connecting_no_more (Some r) server slots = omega arith
+
+  sending_no_more : (refused : Option Refusal) (own : Client) (name : ℕ) (words : List ℤ) → StartsNone (sending p client s refused own name words)
+  sending_no_more None (Open server session slots) name words = omega (arith, served_timers s.cells server (asked_last (Message_of client name) (service_of s.cells server)))
+  sending_no_more _ _ name words = omega arith
+
+  told_timers : (own : Client) (cs : List Cell) → timers_in (told p client s own cs) ≡ timers_in cs
+  told_timers (Open server session slots) cs = served_timers cs server (asked_last (Close_of client) (service_of cs server))
+  told_timers _ cs = refl
+
+  leaving_no_more : (to : Option Client) → StartsNone (leaving p client s to)
+  leaving_no_more None = omega arith
+  leaving_no_more (Some to) = omega (arith, told_timers (client_at s.clients client) (withdrawn client s.cells), withdrawn_no_more client s.cells)
+
+  pub commanded_no_more : (command : Command) (name : ℕ) → StartsNone (commanded p client s command name)
+  commanded_no_more (Connect class slots) name = connecting_no_more _ _ slots
+  commanded_no_more (Send words) name = sending_no_more _ _ name words
+  commanded_no_more Close name = leaving_no_more _
+  commanded_no_more Die name = leaving_no_more _
 
 -- ---- what has come by a time
 

@@ -1,11 +1,13 @@
 -- What a turn is, by what is due, what has come, what is left to poll and what is ready.
 use Rattle.std.proofs.Common.{◌≡◌, ◌<◌, ◌≤◌, ◌-◌, ◌+◌, ℕ, Bool, true, false, Option, Some, None, ap, cond, refl, ◌∙◌}
-use Rattle.std.specs.Prelude.{nat_le}
+use Rattle.std.specs.Prelude.{nat_le, nat_lt}
 use Rattle.std.proofs.lemmas.Bool.{leb-false}
+use Rattle.aom_sound.specs.Clients.{client_count}
 use Rattle.aom_sound.specs.State.{State}
-use Rattle.aom_sound.specs.World.{Candidate, Completes, Completion, Cuts, Heard, Hears, Kills, Outside, Passes, Picks, Polls, Strays, Timed, Turning, Waits, by_event, by_timer, delivers, due_of, first_due, first_ready, has_signal, lives, next_event, next_native, next_time, picks, polls, time_of, turning}
+use Rattle.aom_sound.specs.World.{Candidate, Completes, Completion, Cuts, Heard, Hears, Kills, Obeys, Outside, Passes, Picks, Polls, Strays, Timed, Turning, Waits, by_event, by_timer, delivers, due_of, first_due, first_ready, has_signal, lives, next_event, next_native, next_time, picks, polls, time_of, turning}
+use Rattle.aom_transcript.specs.declared.event.Command.{Command}
 use Rattle.aom_transcript.specs.declared.event.Event.{Event}
-use Rattle.aom_transcript.specs.declared.event.Event.TheVariants.{Kill, Tell}
+use Rattle.aom_transcript.specs.declared.event.Event.TheVariants.{Client, Kill, Tell}
 use Rattle.aom_transcript.specs.declared.event.TimedEvent.{TimedEvent}
 use Rattle.aom_endings.proofs.Lefts.{early_both, is_late, living_within, reached}
 
@@ -14,6 +16,7 @@ pub data Kind (outside : Outside) (s : State) : Turning → Type 0 where
   completes_one : (x : Timed) → first_due s.cells ≡ Some x → Kind outside s (Completes x.object)
   hears_one : (e : TimedEvent) → next_event outside s ≡ Some e → Kind outside s Hears
   kills_one : (e : TimedEvent) (n : ℕ) → next_event outside s ≡ Some e → Kind outside s (Kills n)
+  obeys_one : (e : TimedEvent) (c : ℕ) (command : Command) (name : ℕ) → next_event outside s ≡ Some e → Kind outside s (Obeys c command name)
   polls_one : (n : ℕ) (answer : Option Completion) → s.rest.polled ≤ n → n < s.rest.polled + (outside.natives - s.rest.polled) → is_late outside s ≡ false → Kind outside s (Polls n answer)
   picks_one : (x : Candidate) → s.rest.dispatches < outside.limit → Kind outside s (Picks x.seat)
   strays : Kind outside s Strays
@@ -40,20 +43,25 @@ module _ (outside : Outside) (s : State) where
       let within = living_within s.killed (outside.natives - s.rest.polled) s.rest.polled n is in
       polls_one n answer within.0 within.1 early
 
-  delivers_kind : (e : TimedEvent) → next_event outside s ≡ Some e → (event : Event) → Kind outside s (delivers outside s event)
-  delivers_kind e is (Tell n word) = hears_one e is
-  delivers_kind e is (Kill n) = go (lives outside s n)
+  delivers_kind : (name : ℕ) (e : TimedEvent) → next_event outside s ≡ Some e → (event : Event) → Kind outside s (delivers outside name s event)
+  delivers_kind name e is (Tell n word) = hears_one e is
+  delivers_kind name e is (Kill n) = go (lives outside s n)
     where
       go : (b : Bool) → Kind outside s (cond b (Kills n) Hears)
       go true = kills_one e n is
       go false = hears_one e is
-
-  event_kind : (next : Option TimedEvent) → next_event outside s ≡ next → (after : Turning) → (event_early → Kind outside s after) → Kind outside s (by_event outside s next after)
-  event_kind None is after then = then (ap (λ e. reached (time_of e) s.rest.clock) is)
-  event_kind (Some e) is after then = go (nat_le e.time s.rest.clock) refl
+  delivers_kind name e is (Client c command) = go (nat_lt c client_count)
     where
-      go : (b : Bool) → nat_le e.time s.rest.clock ≡ b → Kind outside s (cond b (delivers outside s e.event) after)
-      go true come = delivers_kind e is e.event
+      go : (b : Bool) → Kind outside s (cond b (Obeys c command name) Hears)
+      go true = obeys_one e c command name is
+      go false = hears_one e is
+
+  event_kind : (name : ℕ) (next : Option TimedEvent) → next_event outside s ≡ next → (after : Turning) → (event_early → Kind outside s after) → Kind outside s (by_event outside name s next after)
+  event_kind name None is after then = then (ap (λ e. reached (time_of e) s.rest.clock) is)
+  event_kind name (Some e) is after then = go (nat_le e.time s.rest.clock) refl
+    where
+      go : (b : Bool) → nat_le e.time s.rest.clock ≡ b → Kind outside s (cond b (delivers outside name s e.event) after)
+      go true come = delivers_kind name e is e.event
       go false early = then (ap (λ e. reached (time_of e) s.rest.clock) is ∙ early)
 
   timer_kind : (next : Option Timed) → first_due s.cells ≡ next → (after : Turning) → (timer_early → Kind outside s after) → Kind outside s (by_timer s next after)
@@ -68,10 +76,10 @@ module _ (outside : Outside) (s : State) where
   kind_of heard = go (nat_le outside.limit s.rest.dispatches) refl
     where
       go : (b : Bool) → nat_le outside.limit s.rest.dispatches ≡ b
-          → Kind outside s (cond b Cuts (by_timer s (first_due s.cells) (by_event outside s (next_event outside s) (polls (next_native outside s) heard.completion (picks (has_signal s.cells) (first_ready s.cells) (next_time outside s))))))
+          → Kind outside s (cond b Cuts (by_timer s (first_due s.cells) (by_event outside heard.name s (next_event outside s) (polls (next_native outside s) heard.completion (picks (has_signal s.cells) (first_ready s.cells) (next_time outside s))))))
       go true at = cuts
       go false at =
           timer_kind (first_due s.cells) refl _ (λ timer.
-          event_kind (next_event outside s) refl _ (λ event.
+          event_kind heard.name (next_event outside s) refl _ (λ event.
           polls_kind (next_native outside s) refl heard.completion _ (early_both outside s timer event)
           (picks_kind (has_signal s.cells) (first_ready s.cells) (next_time outside s) (leb-false outside.limit s.rest.dispatches at) refl (early_both outside s timer event))))

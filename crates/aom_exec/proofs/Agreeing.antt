@@ -31,7 +31,7 @@ use Rattle.aom_parts.specs.Agrees.{Shows, number, word_at, word_in, word_of}
 use Rattle.aom_parts.specs.Places.{value}
 use Rattle.aom_parts.specs.Stands.{Machine, StandsFor}
 use Rattle.aom_parts.specs.Waits.{AllWait, KindSays, OthersWait, Waits}
-use Rattle.aom_acts.proofs.Standing.{unnamed}
+use Rattle.aom_acts.proofs.Standing.{null_unnamed}
 use Rattle.aom_exec.proofs.Waiting.{runs_typed}
 
 -- ---- registers
@@ -220,7 +220,7 @@ module _ (m : Machine) (s : State) (st : StandsFor m s) where
   shows_owner r x lives none is = go (held s.cells r) refl (sym is ∙ plain r none)
     where
       go : (o : Option Object) → held s.cells r ≡ o → x.name ≡ number o → o ≡ Some x
-      go None holds e = let nobody = unnamed p m.parts s null st.agrees st.agrees.cells.null_is_none in let clash : Some x ≡ None = sym lives ∙ ap (λ n. named s.cells n) e ∙ nobody in cc
+      go None holds e = let nobody = null_unnamed p m.parts s st.agrees in let clash : Some x ≡ None = sym lives ∙ ap (λ n. named s.cells n) e ∙ nobody in cc
       go (Some y) holds e = sym (held_lives s.cells r y st.typed.good.tidy holds) ∙ ap (λ n. named s.cells n) (sym e) ∙ lives
 
   shown : (above : List Task) (fr : Frame) (below : List Task) → s.tasks ≡ above ++ Run fr ∷ below → (i : ℕ)

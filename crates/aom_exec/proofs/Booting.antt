@@ -1,7 +1,7 @@
 -- A machine that has booted stands for the boot state.
 use Rattle.std.proofs.Common.{◌≡◌, ◌==◌, ℕ, Bool, true, false, cond, [], ◌∷◌, Some, None, refl, sym, ap, ◌∙◌, subst, arith, length, replicate, slice_index_or}
+use Rattle.std.specs.List.{list_any}
 use Rattle.aom_image.specs.Image.{Image}
-use Rattle.aom_classes.specs.Admitted.{IsAdmitted}
 use Rattle.aom_classes.specs.Linked.{IsLinked}
 use Rattle.aom_classes.specs.Roles.{main_of}
 use Rattle.aom_cells.specs.Heap.{Heap, null, cell_at, word_of, field_at, count}
@@ -28,7 +28,9 @@ use Rattle.aom_sound.proofs.Standing.{boot as boots_at_traps}
 use Rattle.aom_sound.proofs.Maps.{cond_same}
 use Rattle.aom_parts.specs.declared.parts.Parts.{Parts}
 use Rattle.aom_parts.specs.Boot.{Booted}
-use Rattle.aom_parts.specs.Places.{register_in, going_in, value}
+use Rattle.aom_clients.specs.Clients.{client_at, queue_at}
+use Rattle.aom_parts.proofs.Beginning.{first_client, first_queue, services_begin}
+use Rattle.aom_parts.specs.Places.{is_numbered, register_in, going_in, session_with, value}
 use Rattle.aom_parts.specs.Agrees.{SameTasks, SameItems, word_in, word_at, thing_in, Agrees}
 use Rattle.aom_exec.proofs.Affording.{affords}
 use Rattle.aom_acts.proofs.CallActs.{shows_null}
@@ -63,9 +65,9 @@ module _ (p : Image) (m : Parts) (booted : Booted p m) where
   no_value (Field n f) = ap (λ h. field_at h n f) booted.cells
   no_value (Going k) = ap (λ us. going_in us k) booted.tasks ∙ all_none (2 == k) (1 == k) (0 == k) null null refl
   no_value (Elsewhere Root) = booted.root
-  no_value (Elsewhere (Session s c)) = refl
-  no_value (Elsewhere In_service) = refl
-  no_value (Elsewhere (Queued s n)) = refl
+  no_value (Elsewhere (Session s c)) = ap (λ k. session_with s (client_at k c)) booted.clients ∙ ap (session_with s) (first_client p.header.cells c)
+  no_value (Elsewhere In_service) = booted.served
+  no_value (Elsewhere (Queued s n)) = ap (λ k. cond (list_any (is_numbered n) (queue_at k s)) n null) booted.clients ∙ ap (λ q. cond (list_any (is_numbered n) q) n null) (first_queue p.header.cells s)
 
   no_word_yet : (r : Place) → word_at (main_tasks (main_of p)) r ≡ None
   no_word_yet (Register d i) = ap (λ us. word_in us d i) (boot_tasks p booted.main booted.is_main) ∙ all_none (2 == d) (1 == d) (0 == d) None None refl
@@ -77,11 +79,11 @@ module _ (p : Image) (m : Parts) (booted : Booted p m) where
   boot_agrees : Agrees p m (boot_state p)
   boot_agrees = record {
     tasks = subst (λ us. SameTasks us (main_tasks (main_of p))) (sym booted.tasks) (subst (λ us. SameTasks (Runs_frame (fresh booted.main null) ∷ Is_trap ∷ Ends Main ∷ []) us) (sym (boot_tasks p booted.main booted.is_main))
-        (begun_frame booted.main null AtRoot 1 refl, (tt, ((Elsewhere Root, refl), tt))));
+        (begun_frame booted.main null AtRoot 1 refl (λ other. absurd (other refl)), (tt, ((Elsewhere Root, refl), tt))));
     values = λ r. shows_null _ _ _ (no_value r) (no_word_yet r) refl;
     cells = record {
       things = λ n. ap thing_in (no_cell n);
-      words = λ n w. ap (λ c. word_of c w) (no_cell n);
+      words = λ n w small. ap (λ c. word_of c w) (no_cell n);
       count = ap count booted.cells;
       limit = ap (λ (h : Heap). h.limit) booted.cells;
       wide = λ n c e. absurd (never n c e);
@@ -96,6 +98,7 @@ module _ (p : Image) (m : Parts) (booted : Booted p m) where
       dead = ap (λ (w : Standing). w.killed) booted.sessions;
       limit = ap (λ (w : Standing). length w.flags) booted.sessions ∙ length-replicate p.header.cells false;
     };
+    services = services_begin p m.clients m.messages m.listed booted.clients booted.messages booted.listed;
     rest = booted.rest;
     room = (let d = booted.depth in omega arith);
     entry_room = (let d = ap (λ (e : Held_items). e.depth) booted.entries in omega arith);
@@ -108,14 +111,13 @@ module _ (p : Image) (m : Parts) (booted : Booted p m) where
 abbrev pub Afforded : Image → Type 0
 Afforded p = (t : Typing) × IsStrongest p t × (c : Prices) × IsAffordable p t c × CostsWithin p c
 
-pub boots : (p : Image) (m : Parts) → IsLinked p → IsAdmitted p → Afforded p → HasDepths p → HasHeights p → BootKeeps → StepKeeps → CalmKeeps → LinkedIsWired → BootWithin → MovesPay
+pub boots : (p : Image) (m : Parts) → IsLinked p → Afforded p → HasDepths p → HasHeights p → BootKeeps → StepKeeps → CalmKeeps → LinkedIsWired → BootWithin → MovesPay
     → Booted p m → StandsFor (record { image = p; parts = m }) (boot_state p)
-boots p m linked admitted (t, strongest, prices, affordable, costs) depths heights boot_keeps step_keeps calm_keeps wired boot_within moves_pay booted =
+boots p m linked (t, strongest, prices, affordable, costs) depths heights boot_keeps step_keeps calm_keeps wired boot_within moves_pay booted =
     let w = wired p booted.formed linked in
     let sound : Sound p t = record {
       formed = booted.formed;
       linked = linked;
-      admitted = admitted;
       wired = w;
       strongest = strongest;
       depths = depths;

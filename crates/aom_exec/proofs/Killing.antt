@@ -3,13 +3,18 @@
 use Rattle.std.proofs.Common.{ap, arith, Bool, cond, false, length, List, None, Option, pos, refl, Some, subst, suc, sym, true, ℕ, ◌++◌, ◌+◌, ◌<◌, ◌==◌, ◌∙◌, ◌∷◌, ◌≡◌, []}
 use Rattle.std.specs.Prelude.{◌&&◌, ◌||◌, is_some, nat_lt, not}
 use Rattle.std.proofs.lemmas.Bool.{and_parts, eqb-false, eqb-true, false≢true}
+use Rattle.std.proofs.lemmas.Option.{none-some}
+use Rattle.std.specs.Prelude.{option_map}
+use Rattle.aom_image.specs.declared.method.Thing.{Thing}
+use Rattle.aom_shape.specs.Kinds.{is_object}
 use Rattle.aom_image.specs.Image.{Image}
 use Rattle.aom_cells.specs.Heap.{Heap, Lives, cell_at, class_at}
 use Rattle.aom_cells.specs.declared.cell.Cell.{Cell as Held_cell}
 use Rattle.aom_lines.specs.Turn.{Turn}
 use Rattle.aom_active.proofs.Cells.{asked_lives}
+use Rattle.aom_active.proofs.Asking.{queued_same}
 use Rattle.aom_active.proofs.Telling.{standing_follows}
-use Rattle.aom_active.specs.Agrees.{Active, StandsFor as Asks_for, timer_in}
+use Rattle.aom_active.specs.Agrees.{Active, StandsFor as Asks_for, queued, timer_in}
 use Rattle.aom_active.specs.Meanings.{Makes, asked_anew}
 use Rattle.aom_owed.specs.Owed.{serves, serves_object}
 use Rattle.aom_sessions.specs.Sessions.{Sets, Standing, is_open}
@@ -34,24 +39,37 @@ use Rattle.aom_parts.specs.Progress.{progress_by}
 use Rattle.aom_exec.specs.Serving.{Bereaves, KeepsOthers, serves_class}
 use Rattle.aom_parts.specs.Stands.{Machine, Stands, StandsFor}
 use Rattle.aom_exec.specs.Turns.{Takes}
-use Rattle.aom_exec.proofs.Served.{class_told, coded, untimed}
+use Rattle.aom_exec.proofs.Served.{class_told, coded, message_silent, unserved_message, untimed}
+use Rattle.aom_clients.specs.Clients.{State as Kept_state}
+use Rattle.aom_clients.specs.declared.client.Client.{Client}
+use Rattle.aom_messages.specs.Store.{Store}
+use Rattle.aom_queues.specs.Lists.{Table}
+use Rattle.aom_sound.specs.Clients.{count_messages}
+use Rattle.aom_parts.specs.Messages.{is_a_message}
+use Rattle.aom_parts.specs.Services.{SameServices}
+use Rattle.aom_parts.specs.Serving.{message_name}
+use Rattle.aom_parts.proofs.Listing.{listed_alike}
+use Rattle.aom_parts.proofs.Messages.{messages_as}
+use Rattle.aom_parts.proofs.Services.{services_still}
+use Rattle.aom_parts.proofs.Still.{still_bereaved}
 use Rattle.aom_parts.proofs.Sessions.{unnamed_closed}
+use Rattle.aom_exec.proofs.Idle.{stands_idle}
 use Rattle.aom_exec.proofs.Timers.{timers_same}
-use Rattle.aom_exec.proofs.Turning.{machine_between, stands_as}
+use Rattle.aom_exec.proofs.Turning.{machine_between}
 
 -- ---- one request
 
 -- what is outstanding is completed, and all else stays
-pub terminates : (old new : Active) (id : ℕ) (asked : ℕ → Option Request) → Asks_for old asked → is_owed (asked id) ≡ true → Makes old new id (completed_with terminated) → Asks_for new (asked_anew id (terminated_request (asked id)) asked)
-terminates old new id asked stands owed makes = go (asked id) refl owed
+pub terminates : (old new : Active) (id : ℕ) (asked : ℕ → Option Request) (queues : ℕ → Option Bool) → Asks_for old asked queues → is_owed (asked id) ≡ true → Makes old new id (completed_with terminated) → Asks_for new (asked_anew id (terminated_request (asked id)) asked) queues
+terminates old new id asked queues stands owed makes = go (asked id) refl owed
   where
-    go : (q : Option Request) → asked id ≡ q → is_owed q ≡ true → Asks_for new (asked_anew id (terminated_request (asked id)) asked)
+    go : (q : Option Request) → asked id ≡ q → is_owed q ≡ true → Asks_for new (asked_anew id (terminated_request (asked id)) asked) queues
     go None e owed = absurd (false≢true owed)
     go (Some r) e owed =
-        subst (λ q. Asks_for new (asked_anew id q asked)) (sym (ap terminated_request e ∙ ap (λ b. cond b (Some (completed_with terminated r)) (Some r)) owed)) (makes.stands asked r stands e)
+        subst (λ q. Asks_for new (asked_anew id q asked) queues) (sym (ap terminated_request e ∙ ap (λ b. cond b (Some (completed_with terminated r)) (Some r)) owed)) (makes.stands asked queues r stands e)
 
-pub spares : (a : Active) (id : ℕ) (asked : ℕ → Option Request) → Asks_for a asked → is_owed (asked id) ≡ false → Asks_for a (asked_anew id (terminated_request (asked id)) asked)
-spares a id asked stands owed = standing_follows a asked (asked_anew id (terminated_request (asked id)) asked) (λ n. go n (id == n) refl) stands
+pub spares : (a : Active) (id : ℕ) (asked : ℕ → Option Request) (queues : ℕ → Option Bool) → Asks_for a asked queues → is_owed (asked id) ≡ false → Asks_for a (asked_anew id (terminated_request (asked id)) asked) queues
+spares a id asked queues stands owed = standing_follows a asked (asked_anew id (terminated_request (asked id)) asked) queues queues (λ n. go n (id == n) refl) (λ n there. refl) stands
   where
     go : (n : ℕ) (b : Bool) → (id == n) ≡ b → asked n ≡ cond b (terminated_request (asked id)) (asked n)
     go n true same = ap asked (sym (eqb-true id n same)) ∙ sym (ap (λ b. cond b (on_request (completed_with terminated) (asked id)) (asked id)) owed)
@@ -91,7 +109,7 @@ module _ (p : Image) (native : ℕ) where
   cells_after : (h : Heap) (cs : List Cell) → SameCells p h cs → SameCells p h (after cs)
   cells_after h cs same = record {
     things = λ n. same.things n ∙ ap thing_of (sym ((bereaved_alike p native cs).named_so n));
-    words = λ n w. same.words n w ∙ sym (words_after cs n w);
+    words = λ n w small. same.words n w small ∙ sym (words_after cs n w);
     count = same.count ∙ sym (count_bereaved p native cs);
     limit = same.limit;
     wide = same.wide;
@@ -127,6 +145,29 @@ module _ (p : Image) (native : ℕ) where
       go false false true = refl
       go false false false = refl
 
+  -- what clients have is as it was
+  many_after : (cs : List Cell) → count_messages (after cs) ≡ count_messages cs
+  many_after [] = refl
+  many_after (c ∷ cs) = ap (λ n. cond (is_object c.object.thing) n (suc n)) (many_after cs)
+
+  order_after : (cs : List Cell) (id : ℕ) → option_map (λ r. r.order) (requested (after cs) id) ≡ option_map (λ r. r.order) (requested cs id)
+  order_after cs id = ap (option_map (λ r. r.order)) (request_after cs id) ∙ go (serves p cs native id) (requested cs id)
+    where
+      ended : (b : Bool) (r : Request) → option_map (λ r. r.order) (cond b (Some (completed_with terminated r)) (Some r)) ≡ Some r.order
+      ended true r = refl
+      ended false r = refl
+
+      go : (b : Bool) (q : Option Request) → option_map (λ r. r.order) (cond b (terminated_request q) q) ≡ option_map (λ r. r.order) q
+      go true None = refl
+      go true (Some r) = ended (is_owed (Some r)) r
+      go false q = refl
+
+  services_bereaved : (k : Kept_state) (store : Store) (table : Table) (clients : List Client) (cs : List Cell) → SameServices p k store table cs clients → SameServices p k store table (after cs) clients
+  services_bereaved k store table clients cs same =
+      services_still p cs (after cs) (still_bereaved p native cs)
+      (messages_as p store cs (after cs) (λ n. ap is_a_message ((bereaved_alike p native cs).named_so n)) (λ m w. words_after cs (message_name m) w) (many_after cs))
+      (listed_alike p table cs (after cs) (bereaved_alike p native cs).named_so (order_after cs)) same
+
 -- ---- one cell after another
 
 -- what is below a number is as it comes to be, and all else as it was
@@ -154,13 +195,15 @@ up_to_next k now was n = go (k == n) refl
 
 -- the cells below a number are bereaved
 pub record BereavesBelow (p : Image) (native k : ℕ) (old new : Parts) : Type 0 where
-  pub requests : (s : State) → StandsFor (record { image = p; parts = old }) s → Asks_for new.active (up_to k (requested (all_bereaved p native s.cells)) (requested s.cells))
+  pub requests : (s : State) → StandsFor (record { image = p; parts = old }) s → Asks_for new.active (up_to k (requested (all_bereaved p native s.cells)) (requested s.cells)) (queued p s.cells)
   pub sessions : (s : State) → StandsFor (record { image = p; parts = old }) s → (n : ℕ) → is_open new.sessions n ≡ up_to k (in_session (all_bereaved p native s.cells)) (in_session s.cells) n
   pub others : KeepsOthers old new
 
 pub none_yet : (p : Image) (native : ℕ) (m : Parts) → BereavesBelow p native 0 m m
 none_yet p native m = record {
-  requests = λ s st. standing_follows m.active (requested s.cells) (up_to 0 (requested (all_bereaved p native s.cells)) (requested s.cells)) (λ n. ap (λ b. cond b (requested (all_bereaved p native s.cells) n) (requested s.cells n)) (sym (none_below n))) st.agrees.requests.stands;
+  requests = λ s st.
+      standing_follows m.active (requested s.cells) (up_to 0 (requested (all_bereaved p native s.cells)) (requested s.cells)) (queued p s.cells) (queued p s.cells)
+      (λ n. ap (λ b. cond b (requested (all_bereaved p native s.cells) n) (requested s.cells n)) (sym (none_below n))) (λ n there. refl) st.agrees.requests.stands;
   sessions = λ s st n. st.agrees.natives.sessions n ∙ ap (λ b. cond b (in_session (all_bereaved p native s.cells) n) (in_session s.cells n)) (sym (none_below n));
   others = record { numbers = refl; places = refl; killed = refl; rest = refl };
 }
@@ -204,12 +247,16 @@ module _ (p : Image) (native : ℕ) (old : Parts) (k : ℕ) (now : Parts) (so_fa
         go None f = absurd (false≢true (sym (ap (λ b. b || in_session s.cells k) (no_request (requested s.cells k) f refl) ∙ unnamed_closed s.cells k f) ∙ e))
 
     lives_here : (is_owed (asked k) || is_open now.sessions k) ≡ true → Lives now.cells k
-    lives_here e = go (cell_at now.cells k) (named s.cells k) (ap (λ h. thing_in (cell_at h k)) same_cells ∙ st.agrees.cells.things k) (something_lives (sym something ∙ e))
+    lives_here e = go (cell_at now.cells k) (named s.cells k) refl (ap (λ h. thing_in (cell_at h k)) same_cells ∙ st.agrees.cells.things k) (something_lives (sym something ∙ e))
       where
-        go : (c : Option Held_cell) (o : Option Object) → thing_in c ≡ thing_of o → is_some o ≡ true → is_some c ≡ true
-        go (Some c) o f some = refl
-        go None None f some = some
-        go None (Some o) f some = cc
+        by_kind : (o : Object) → named s.cells k ≡ Some o → (b : Bool) → is_object o.thing ≡ b → None ≡ cond b (Some o.thing) None → is_some {T = Held_cell} None ≡ true
+        by_kind o there true is f = absurd (none-some _ f)
+        by_kind o there false is f = absurd (false≢true (sym (message_silent p old s st native k o there is) ∙ sym something ∙ e))
+
+        go : (c : Option Held_cell) (o : Option Object) → named s.cells k ≡ o → thing_in c ≡ thing_of o → is_some o ≡ true → is_some c ≡ true
+        go (Some c) o there f some = refl
+        go None None there f some = some
+        go None (Some o) there f some = by_kind o there (is_object o.thing) refl f
 
     coded_here : is_hit p native s.cells k ≡ true → is_unanswered (asked k) ≡ false
     coded_here hit = ap is_unanswered own_request ∙ coded p old s st native k (and_parts (is_owed (requested s.cells k) || in_session s.cells k) (serves p s.cells native k) hit).1
@@ -227,23 +274,23 @@ module _ (p : Image) (native : ℕ) (old : Parts) (k : ℕ) (now : Parts) (so_fa
         go false other = refl
 
   -- what the machine needs to know of the cell
-  pub needs_life : Stands first → (asked : ℕ → Option Request) × Asks_for now.active asked × ((is_owed (asked k) || is_open now.sessions k) ≡ true → Lives now.cells k)
-  needs_life (s, st) = (asked s st, so_far.requests s st, lives_here s st)
+  pub needs_life : Stands first → (asked : ℕ → Option Request) × (queues : ℕ → Option Bool) × Asks_for now.active asked queues × ((is_owed (asked k) || is_open now.sessions k) ≡ true → Lives now.cells k)
+  needs_life (s, st) = (asked s st, queued p s.cells, so_far.requests s st, lives_here s st)
 
   abbrev pub IsHit : Bool → Type 0
-  IsHit b = (asked : ℕ → Option Request) → Asks_for now.active asked → b ≡ ((is_owed (asked k) || is_open now.sessions k) && serves_class p native (class_at now.cells k))
+  IsHit b = (asked : ℕ → Option Request) (queues : ℕ → Option Bool) → Asks_for now.active asked queues → b ≡ ((is_owed (asked k) || is_open now.sessions k) && serves_class p native (class_at now.cells k))
 
   hit_in : (b : Bool) → IsHit b → (s : State) (st : StandsFor first s) → is_hit p native s.cells k ≡ b
-  hit_in b hit s st = sym (hit (asked s st) (so_far.requests s st) ∙ hit_told s st)
+  hit_in b hit s st = sym (hit (asked s st) (queued p s.cells) (so_far.requests s st) ∙ hit_told s st)
 
-  pub needs_code : Stands first → IsHit true → (asked : ℕ → Option Request) × Asks_for now.active asked × (is_unanswered (asked k) ≡ false)
-  needs_code (s, st) hit = (asked s st, so_far.requests s st, coded_here s st (hit_in true hit s st))
+  pub needs_code : Stands first → IsHit true → (asked : ℕ → Option Request) × (queues : ℕ → Option Bool) × Asks_for now.active asked queues × (is_unanswered (asked k) ≡ false)
+  needs_code (s, st) hit = (asked s st, queued p s.cells, so_far.requests s st, coded_here s st (hit_in true hit s st))
 
   -- the cell is hit
-  pub hits_next : (new : Parts) → IsHit true → ((asked : ℕ → Option Request) → Asks_for now.active asked → Asks_for new.active (asked_anew k (terminated_request (asked k)) asked)) →
+  pub hits_next : (new : Parts) → IsHit true → ((asked : ℕ → Option Request) (queues : ℕ → Option Bool) → Asks_for now.active asked queues → Asks_for new.active (asked_anew k (terminated_request (asked k)) asked) queues) →
       new.active.table.limit ≡ now.active.table.limit → Sets now.sessions new.sessions k false → new ≡ record now { active = new.active; sessions = new.sessions } → BereavesBelow p native (k + 1) old new
   hits_next new hit makes numbers sets rest = record {
-    requests = λ s st. standing_follows new.active _ _ (requests_next s st true (hit_in true hit s st)) (makes (asked s st) (so_far.requests s st));
+    requests = λ s st. standing_follows new.active _ _ (queued p s.cells) (queued p s.cells) (requests_next s st true (hit_in true hit s st)) (λ n there. refl) (makes (asked s st) (queued p s.cells) (so_far.requests s st));
     sessions = λ s st n. open_next s st n (k == n) refl ∙ sym (up_to_next k (in_session (all_bereaved p native s.cells)) (in_session s.cells) n);
     others = record {
       numbers = numbers ∙ so_far.others.numbers;
@@ -263,7 +310,7 @@ module _ (p : Image) (native : ℕ) (old : Parts) (k : ℕ) (now : Parts) (so_fa
   -- the cell is not
   pub misses_next : IsHit false → BereavesBelow p native (k + 1) old now
   misses_next hit = record {
-    requests = λ s st. standing_follows now.active (asked s st) _ (λ n. same_request s st n ∙ requests_next s st false (hit_in false hit s st) n) (so_far.requests s st);
+    requests = λ s st. standing_follows now.active (asked s st) _ (queued p s.cells) (queued p s.cells) (λ n. same_request s st n ∙ requests_next s st false (hit_in false hit s st) n) (λ n there. refl) (so_far.requests s st);
     sessions = λ s st n. so_far.sessions s st n ∙ same_session s st n (k == n) refl ∙ sym (up_to_next k (in_session (all_bereaved p native s.cells)) (in_session s.cells) n);
     others = so_far.others;
   }
@@ -286,7 +333,10 @@ module _ (p : Image) (native : ℕ) (old : Parts) (k : ℕ) (now : Parts) (so_fa
   -- no cell has a number past the limit
   pub all_hit : k ≡ old.cells.limit → Bereaves p native old now
   all_hit end = record {
-    requests = λ s st. standing_follows now.active (asked s st) (requested (all_bereaved p native s.cells)) (λ n. request_of s st n (nat_lt n k) refl) (so_far.requests s st);
+    requests = λ s st.
+        let like = bereaved_alike p native s.cells in
+        standing_follows now.active (asked s st) (requested (all_bereaved p native s.cells)) (queued p s.cells) (queued p (all_bereaved p native s.cells)) (λ n. request_of s st n (nat_lt n k) refl)
+        (λ n there. sym (queued_same p s.cells (all_bereaved p native s.cells) like.named_so like.queues_so n)) (so_far.requests s st);
     sessions = λ s st n. so_far.sessions s st n ∙ session_of s st n (nat_lt n k) refl;
     others = so_far.others;
   }
@@ -294,9 +344,13 @@ module _ (p : Image) (native : ℕ) (old : Parts) (k : ℕ) (now : Parts) (so_fa
       unnamed : (s : State) → StandsFor first s → (n : ℕ) → nat_lt n k ≡ false → serves p s.cells native n ≡ false
       unnamed s st n past = go (cell_at old.cells n) refl (named s.cells n) (st.agrees.cells.things n)
         where
+          no_object : (b : Bool) (t : Thing) → ◌≡◌ {A = Option Thing} None (cond b (Some t) None) → b ≡ false
+          no_object true t f = absurd (none-some _ f)
+          no_object false t f = refl
+
           go : (c : Option Held_cell) → cell_at old.cells n ≡ c → (o : Option Object) → thing_in c ≡ thing_of o → serves_object p native o ≡ false
           go None e None f = refl
-          go None e (Some o) f = cc
+          go None e (Some o) f = unserved_message p native o.thing (no_object (is_object o.thing) o.thing f)
           go (Some c) e o f = let less = st.agrees.cells.below n c e in absurd (false≢true (sym past ∙ is_below n k (omega (arith, less, end))))
 
       request_of : (s : State) → StandsFor first s → (n : ℕ) (b : Bool) → nat_lt n k ≡ b → cond b (requested (all_bereaved p native s.cells) n) (requested s.cells n) ≡ requested (all_bereaved p native s.cells) n
@@ -339,6 +393,7 @@ module _ (p : Image) (native : ℕ) (m b : Parts) (bereaves : Bereaves p native 
         dead = ap (λ ks. ks ++ native ∷ []) st.agrees.natives.dead;
         limit = bereaves.others.places ∙ st.agrees.natives.limit;
       };
+      services = services_bereaved p native m.clients m.messages m.listed s.clients s.cells st.agrees.services;
       rest = ap (λ (r : Rest). record r { delivered = suc r.delivered }) st.agrees.rest;
       room = st.agrees.room;
       entry_room = st.agrees.entry_room;
@@ -346,13 +401,13 @@ module _ (p : Image) (native : ℕ) (m b : Parts) (bereaves : Bereaves p native 
 
     killed_stands : s.tasks ≡ [] → StandsFor (record { image = p; parts = killed_parts }) (without_native p native (heard_one s))
     killed_stands idle =
-        stands_as p m s st idle killed_parts cs (heard_one s).rest (s.killed ++ native ∷ []) (bereaved_well p st.typing s st.typed idle native (heard_one s).rest (s.killed ++ native ∷ []))
+        stands_idle p m s st idle killed_parts cs s.clients (heard_one s).rest (s.killed ++ native ∷ []) (bereaved_well p st.typing s st.typed idle native (heard_one s).rest (s.killed ++ native ∷ []))
         (fit_same p s.clients s.cells cs (same_bereaved p native s.cells) st.kept.fit)
         (reset_same st.sound.prices is_entry (λ c. (bereaved p native c).request) (λ c. (bereaved p native c).session) s.cells) refl killed_agrees
 
     -- what the native served has no timer
     killed_timers : b.active.pending.timers ≡ m.active.pending.timers
-    killed_timers = timers_same m.active b.active (requested s.cells) (requested cs) same st.agrees.requests.stands (bereaves.requests s st)
+    killed_timers = timers_same m.active b.active (requested s.cells) (requested cs) (queued p s.cells) (queued p cs) same st.agrees.requests.stands (bereaves.requests s st)
       where
         ended : (q : Option Request) → timer_in q ≡ None → timer_in (terminated_request q) ≡ None
         ended None e = refl

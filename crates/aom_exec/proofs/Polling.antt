@@ -7,10 +7,10 @@ use Rattle.aom_cells.specs.Heap.{Lives}
 use Rattle.aom_lines.specs.Turn.{Turn}
 use Rattle.aom_requests.specs.Requests.{is_pending, request_at}
 use Rattle.aom_active.proofs.Halves.{timer_anew}
-use Rattle.aom_active.specs.Agrees.{Active, timer_in}
+use Rattle.aom_active.specs.Agrees.{Active, queued, timer_in}
 use Rattle.aom_active.specs.Meanings.{Makes}
 use Rattle.aom_owed.specs.Owed.{owes, serves, serves_object}
-use Rattle.aom_sound.proofs.ClientsTurn.{fit_same, same_requested}
+use Rattle.aom_sound.proofs.ClientsTurn.{fit_same, on_none, same_requested}
 use Rattle.aom_sound.proofs.Turned.{recorded_so}
 use Rattle.aom_sound.proofs.Turning.{completed}
 use Rattle.aom_sound.specs.Enlisted.{completed_with, on_request, recorded}
@@ -29,10 +29,12 @@ use Rattle.aom_exec.specs.Serving.{Finishes}
 use Rattle.aom_parts.specs.Stands.{Machine, Stands, StandsFor}
 use Rattle.aom_exec.specs.Turns.{Answers, Takes}
 use Rattle.aom_parts.proofs.CellFields.{cell_of}
-use Rattle.aom_exec.proofs.Served.{Placed, coded, its_place, owes_in_all, pending_told, untimed}
+use Rattle.aom_exec.proofs.Served.{Placed, coded, its_place, owes_in_all, pending_told, served_object, untimed}
+use Rattle.aom_parts.proofs.Services.{services_asked}
 use Rattle.aom_parts.proofs.Sessions.{natives_asked}
+use Rattle.aom_exec.proofs.Idle.{stands_idle}
 use Rattle.aom_exec.proofs.Timers.{timers_same}
-use Rattle.aom_exec.proofs.Turning.{alike, cells_then, machine_between, requests_asked, silent, stands_as, stands_rest}
+use Rattle.aom_exec.proofs.Turning.{alike, cells_then, machine_between, order_same, requests_asked, silent, stands_rest}
 
 -- what a native completes is outstanding there, in some state that the machine stands for
 abbrev pub IsOwed : Machine → (native : ℕ) → Option (ℕ × ℤ) → Type 0
@@ -69,8 +71,8 @@ module _ (p : Image) (m : Parts) (native : ℕ) where
 
     lives_pending : Lives m.cells id × IsTrue (is_pending (request_at m.active.table id))
     lives_pending = (
-      ap is_some (cell_of p m.cells s.cells id it.cell.object st.agrees.cells it.lives).1,
-      pending_told (request_at m.active.table id) (requested s.cells id) (st.agrees.requests.stands.tells id) (coded p m s st native id both.0) both.1,
+      ap is_some (cell_of p m.cells s.cells id it.cell.object st.agrees.cells it.lives (served_object p native it.cell.object.thing (sym (ap (serves_object p native) it.lives) ∙ both.0))).1,
+      pending_told (request_at m.active.table id) (requested s.cells id) (queued p s.cells id) (st.agrees.requests.stands.tells id) (coded p m s st native id both.0) both.1,
     )
 
     module _ (code : ℤ) (a : Active) (makes : Makes m.active a id (completed_with (recorded code))) where
@@ -79,8 +81,8 @@ module _ (p : Image) (m : Parts) (native : ℕ) where
       one_timers =
           let r = request.0 in
           let none : r.timer ≡ None = sym (ap timer_in request.1) ∙ untimed p m s st native id both.0 in
-          timers_same m.active a (requested s.cells) _ (timer_anew id r (completed_with (recorded code) r) (requested s.cells) request.1 none) st.agrees.requests.stands
-          (makes.stands (requested s.cells) r st.agrees.requests.stands request.1)
+          timers_same m.active a (requested s.cells) _ (queued p s.cells) (queued p s.cells) (timer_anew id r (completed_with (recorded code) r) (requested s.cells) request.1 none) st.agrees.requests.stands
+          (makes.stands (requested s.cells) (queued p s.cells) r st.agrees.requests.stands request.1)
 
       module _ (idle : s.tasks ≡ []) where
         abbrev object : Object
@@ -109,6 +111,7 @@ module _ (p : Image) (m : Parts) (native : ℕ) where
           entries = st.agrees.entries;
           requests = requests_asked s.cells object f p m.active a request.0 lives asked (subst (λ n. Makes m.active a n f) (sym it.name) makes) st.agrees.requests;
           natives = natives_asked p m.sessions s.killed s.cells object.name _ st.agrees.natives;
+          services = services_asked p s.cells object (on_request f (requested s.cells object.name)) lives (order_same f (λ r. refl) (requested s.cells object.name)) st.agrees.services;
           rest = ap (λ (r : Rest). record r { polled = suc native }) st.agrees.rest;
           room = st.agrees.room;
           entry_room = st.agrees.entry_room;
@@ -116,8 +119,8 @@ module _ (p : Image) (m : Parts) (native : ℕ) where
 
         polled_stands : StandsFor (now a) then
         polled_stands =
-            stands_as p m s st idle (now a).parts (with_request f object s.cells) counts s.killed (completed p st.typing s st.typed idle (recorded code) (recorded_so code) object counts)
-            (fit_same p s.clients s.cells _ (same_requested s.cells object (on_request f (requested s.cells object.name))) st.kept.fit)
+            stands_idle p m s st idle (now a).parts (with_request f object s.cells) s.clients counts s.killed (completed p st.typing s st.typed idle (recorded code) (recorded_so code) object counts)
+            (fit_same p s.clients s.cells _ (same_requested s.cells object (on_request f (requested s.cells object.name)) (λ e. on_none f (requested s.cells object.name) e)) st.kept.fit)
             (asked_same st.sound.prices is_entry object.name (on_request f (requested s.cells object.name)) s.cells) refl polled_agrees
 
         outstanding : is_outstanding_at p native it.cell ≡ true

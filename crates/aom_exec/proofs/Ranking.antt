@@ -4,27 +4,28 @@ use Rattle.std.specs.Prelude.{map}
 use Rattle.aom_image.specs.Image.{Image}
 use Rattle.aom_image.specs.Views.{method_at}
 use Rattle.aom_image.specs.declared.method.Method.{Method}
+use Rattle.aom_messages.specs.Store.{count as count_messages}
 use Rattle.aom_cells.specs.Heap.{count}
 use Rattle.aom_shape.specs.Tables.{at}
 use Rattle.aom_rules.specs.Typing.{Typing}
-use Rattle.aom_sound.specs.State.{Dispatch, Frame, Task, Trapped, Destroy, Unwind, Dispatched, Item, State, next}
+use Rattle.aom_sound.specs.State.{Closing, Dispatch, Frame, Task, Trapped, Destroy, Unwind, Dispatched, Item, State, next}
 use Rattle.aom_sound.specs.WellTyped.{WellTyped}
 use Rattle.aom_frames.specs.declared.frame.Frame.{Frame as Held_frame}
 use Rattle.aom_frames.specs.declared.task.Task.{Task as Held_task}
-use Rattle.aom_frames.specs.declared.task.Task.TheVariants.{Trapped as Is_trap, Destroy as Destroys, Unwind as Unwinds, Dispatched as Ends}
+use Rattle.aom_frames.specs.declared.task.Task.TheVariants.{Trapped as Is_trap, Closing as Closes, Destroy as Destroys, Unwind as Unwinds, Dispatched as Ends}
 use Rattle.aom_cleanup.specs.declared.item.Item.{Item as Held_item}
 use Rattle.aom_ranks.specs.Within.{rounds_weight, weight}
-use Rattle.aom_ranks.specs.Ranks.{price, left_in, frame_rank, end_rank, waiting_rank, tasks_rank, standing, destructions, operations, cell_rank, rank}
+use Rattle.aom_ranks.specs.Ranks.{closing_rank, price, left_in, frame_rank, end_rank, waiting_rank, tasks_rank, standing, destructions, operations, cell_rank, rank}
 use Rattle.aom_ranks.proofs.Goings.{cells_stand_or_go}
 use Rattle.aom_ranks.proofs.Ranking.{moves_lower_ranks}
 use Rattle.aom_ranks.proofs.Rounds.{worth_alike}
 use Rattle.aom_sound.specs.Places.{Elsewhere, Place, Root}
-use Rattle.aom_parts.proofs.Cells.{all_counted}
+use Rattle.aom_parts.proofs.Messages.{all_counted}
 use Rattle.aom_parts.specs.Agrees.{SameDispatch, dispatch_of, SameFrame, SameTasks, SameItems, Agrees}
 use Rattle.aom_parts.specs.declared.parts.Parts.{Parts}
 use Rattle.aom_frames.specs.declared.dispatch.Dispatch.{Dispatch as Held_dispatch}
-use Rattle.aom_frames.specs.declared.dispatch.Dispatch.TheVariants.{Answered as One_answered, Asks as One_asks, Main, MainLeft, Object as Of_one, ObjectLeft as One_left, Root as End_of_run}
-use Rattle.aom_exec.specs.Ranks.{ranked, operations_in, rank_of}
+use Rattle.aom_frames.specs.declared.dispatch.Dispatch.TheVariants.{Answered as One_answered, Asks as One_asks, Main, MainLeft, Object as Of_one, ObjectLeft as One_left, Root as End_of_run, Server as One_served}
+use Rattle.aom_exec.specs.Ranks.{ranked, operations_in, rank_in}
 use Rattle.aom_parts.specs.Stands.{Sound}
 use Rattle.aom_acts.specs.Moves.{Moved}
 use Rattle.aom_parts.proofs.Alike.{by_task, by_tasks, by_item, by_items}
@@ -59,6 +60,7 @@ placed_alike p q r (Of_one x) = refl
 placed_alike p q r (One_left x code) = refl
 placed_alike p q r (One_asks x) = refl
 placed_alike p q r (One_answered x answer) = refl
+placed_alike p q r (One_served x client stage) = refl
 
 end_alike : (p : Image) (x : Held_dispatch) (d : Dispatch) → SameDispatch x d → end_rank p (dispatch_of (Elsewhere Root) x) ≡ end_rank p d
 end_alike p x d same = placed_alike p (Elsewhere Root) same.0 x ∙ ap (end_rank p) same.1
@@ -68,7 +70,8 @@ waits_alike p = by_tasks (λ ms us. waiting_rank p (map ranked ms) ≡ waiting_r
     by_task (λ m u. waiting_rank p (map ranked (m ∷ ms)) ≡ waiting_rank p (u ∷ us)) (record {
       runs = λ f fr same. ap (λ k. k + waiting_rank p (map ranked ms)) (frame_alike p f fr (suc f.place) (suc fr.place) same (ap suc same.place)) ∙ ap (λ k. frame_rank p (next fr) + k) e;
       trapped = ap (λ k. 1 + k) e;
-      destroys = λ x. ap (λ k. 1 + k) e;
+      destroys = λ x small. ap (λ k. 1 + k) e;
+      closes = ap (λ k. closing_rank p + k) e;
       unwinds = λ code c same. ap (λ k. 1 + k) e;
       ends = λ x d same. ap (λ k. k + waiting_rank p (map ranked ms)) (end_alike p x d same) ∙ ap (λ k. end_rank p d + k) e;
     }) m u same)
@@ -78,7 +81,8 @@ tasks_alike p = by_tasks (λ ms us. tasks_rank p (map ranked ms) ≡ tasks_rank 
     by_task (λ m u. tasks_rank p (map ranked (m ∷ ms)) ≡ tasks_rank p (u ∷ us)) (record {
       runs = λ f fr same. ap (λ k. k + waiting_rank p (map ranked ms)) (frame_alike p f fr f.place fr.place same same.place) ∙ ap (λ k. frame_rank p fr + k) (waits_alike p ms us rest);
       trapped = waits_alike p (Is_trap ∷ ms) (Trapped ∷ us) (tt, rest);
-      destroys = λ x. waits_alike p (Destroys x ∷ ms) (Destroy ∷ us) (tt, rest);
+      destroys = λ x small. waits_alike p (Destroys x ∷ ms) (Destroy ∷ us) (small, rest);
+      closes = waits_alike p (Closes ∷ ms) (Closing ∷ us) (tt, rest);
       unwinds = λ code c same. waits_alike p (Unwinds code ∷ ms) (Unwind c ∷ us) (same, rest);
       ends = λ x d same. waits_alike p (Ends x ∷ ms) (Dispatched d ∷ us) (same, rest);
     }) m u same)
@@ -88,7 +92,8 @@ destructions_alike = by_tasks (λ ms us. destructions (map ranked ms) ≡ destru
     by_task (λ m u. destructions (map ranked (m ∷ ms)) ≡ destructions (u ∷ us)) (record {
       runs = λ f fr same. e;
       trapped = e;
-      destroys = λ x. ap suc e;
+      destroys = λ x small. ap suc e;
+      closes = e;
       unwinds = λ code c same. e;
       ends = λ x d same. e;
     }) m u same)
@@ -99,14 +104,16 @@ operations_alike = by_items (λ is js. operations_in is ≡ operations js) refl 
     by_item (λ i j. operations_in (i ∷ is) ≡ operations (j ∷ js)) (λ n. e) (λ m n k w _ _. ap suc e) e i j same)
 
 -- the machine's rank is its state's
-pub same_rank : (p : Image) (t : Typing) (m : Parts) (s : State) → WellTyped p t s → Agrees p m s → rank_of p m.stack.tasks m.entries.items (count m.cells) ≡ rank p s
+pub same_rank : (p : Image) (t : Typing) (m : Parts) (s : State) → WellTyped p t s → Agrees p m s → rank_in p m ≡ rank p s
 same_rank p t m s typed agrees =
     let gone = destructions_alike m.stack.tasks s.tasks agrees.tasks in
-    let live = agrees.cells.count ∙ all_counted p m.cells s.cells agrees.cells typed.good.tidy in
+    let cells = agrees.cells.count in
+    let messages = agrees.services.messages.count in
+    let live = all_counted s.cells in
     let all = cells_stand_or_go p t s typed in
-    let stand : count m.cells - destructions (map ranked m.stack.tasks) ≡ standing s.cells = omega (arith, gone, live, all) in
+    let stand : (count m.cells + count_messages m.messages) - destructions (map ranked m.stack.tasks) ≡ standing s.cells = omega (arith, gone, cells, messages, live, all) in
     let run = operations_alike m.entries.items s.items agrees.entries in
-    ap (λ k. k + ((count m.cells - destructions (map ranked m.stack.tasks)) + operations_in m.entries.items) * cell_rank p) (tasks_alike p m.stack.tasks s.tasks agrees.tasks)
+    ap (λ k. k + (((count m.cells + count_messages m.messages) - destructions (map ranked m.stack.tasks)) + operations_in m.entries.items) * cell_rank p) (tasks_alike p m.stack.tasks s.tasks agrees.tasks)
     ∙ ap (λ k. tasks_rank p s.tasks + (k + operations_in m.entries.items) * cell_rank p) stand
     ∙ ap (λ k. tasks_rank p s.tasks + (standing s.cells + k) * cell_rank p) run
 
@@ -116,7 +123,7 @@ busy_state : (ms : List Held_task) (us : List Task) → SameTasks ms us → 0 < 
 busy_state ms us same busy = cons_given (λ vs. 0 < length vs) us (let even = same_length ms us same in omega arith) (λ none. omega arith) (λ u vs e _. (u, vs, e))
 
 pub moved_falls : (p : Image) (t : Typing) (refused : List ℕ) (m new : Parts) (s : State) → Sound p t → WellTyped p t s → Agrees p m s → Moved p refused m.heard t s new → 0 < length m.stack.tasks
-    → rank_of p new.stack.tasks new.entries.items (count new.cells) < rank_of p m.stack.tasks m.entries.items (count m.cells)
+    → rank_in p new < rank_in p m
 moved_falls p t refused m new s sound typed agrees moved busy =
     let before = same_rank p t m s typed agrees in
     let after = same_rank p t new moved.state moved.typed moved.agrees in

@@ -1,13 +1,19 @@
 -- What is known of a cell that a native serves: its place, and its request, which has no timer.
-use Rattle.std.proofs.Common.{ap, Bool, cond, false, List, None, Option, refl, Some, subst, suc, sym, true, zero, ℕ, ◌==◌, ◌∙◌, ◌∷◌, ◌≡◌, []}
-use Rattle.std.specs.Prelude.{◌&&◌, is_none, is_some, not}
+use Rattle.std.proofs.Common.{ap, arith, Bool, cond, false, List, None, Option, refl, Some, subst, suc, sym, true, zero, ℕ, ◌==◌, ◌∙◌, ◌∷◌, ◌≡◌, []}
+use Rattle.std.specs.Prelude.{◌&&◌, ◌||◌, ◌≤◌, is_none, is_some, nat_lt, not}
 use Rattle.std.specs.Ordering.{int_eq}
-use Rattle.std.proofs.lemmas.Bool.{eqb-true, true≢false}
-use Rattle.std.proofs.lemmas.Option.{same_Some}
+use Rattle.std.proofs.lemmas.Bool.{eqb-true, false≢true, ltb-false, ltb-true, true≢false}
+use Rattle.std.proofs.lemmas.List.{get_or_past}
+use Rattle.std.proofs.lemmas.Option.{none-some, same_Some}
 use Rattle.aom_image.specs.Image.{Image}
 use Rattle.aom_image.specs.declared.class.ClassKind.{ClassKind}
 use Rattle.aom_image.specs.declared.class.ClassKind.TheVariants.{Active as An_active}
 use Rattle.aom_image.specs.declared.class.Provider.TheVariants.{Native, Own, Timer as A_timer}
+use Rattle.aom_image.specs.declared.method.Thing.{Thing}
+use Rattle.aom_image.specs.declared.method.Thing.TheVariants.{Message, Object as An_object_of}
+use Rattle.aom_roles.specs.Shapes.{kind_of}
+use Rattle.aom_shape.specs.Kinds.{is_object}
+use Rattle.aom_sound.proofs.Maps.{named_name}
 use Rattle.aom_cells.specs.Heap.{cell_at, class_at, class_of}
 use Rattle.aom_cells.specs.declared.cell.Cell.{Cell as Held_cell}
 use Rattle.aom_requests.specs.Requests.{is_pending, request_at}
@@ -15,17 +21,18 @@ use Rattle.aom_requests.specs.declared.request.State.{State as Held_state}
 use Rattle.aom_requests.specs.declared.request.State.TheVariants.{Aborted as Held_aborted, Active as Held_active, Cancelling as Held_cancelling, Idle as Held_idle, Issued as Held_issued}
 use Rattle.aom_requests.specs.declared.request.Request.{Request as Held_request}
 use Rattle.aom_requests.specs.declared.request.Request.TheVariants.{Object as Held_object, Server as Held_server}
-use Rattle.aom_active.specs.Agrees.{Tells, phase_of, timer_in}
+use Rattle.aom_active.specs.Agrees.{Tells, phase_of, queued, timer_in}
 use Rattle.aom_owed.proofs.Cells.{native_served}
 use Rattle.aom_owed.specs.Owed.{owes, serves, serves_object}
 use Rattle.aom_sound.specs.Enlisted.{is_aborted, is_idle, is_unanswered, pending, thing_kind}
 use Rattle.aom_sound.specs.Natives.{is_owed, is_served_by, native_of}
-use Rattle.aom_sound.specs.Places.{Cell, Object, Request, Timer, named, requested}
+use Rattle.aom_sound.specs.Places.{Cell, Object, Request, Timer, in_session, named, requested}
 use Rattle.aom_sound.specs.Requests.{Known, Suits, states_claim}
 use Rattle.aom_sound.specs.State.{State}
 use Rattle.aom_sound.specs.World.{cell_at as standing_at}
 use Rattle.aom_parts.specs.declared.parts.Parts.{Parts}
 use Rattle.aom_parts.specs.Agrees.{thing_in, thing_of}
+use Rattle.aom_parts.specs.Messages.{is_a_message}
 use Rattle.aom_exec.specs.Serving.{serves_class}
 use Rattle.aom_parts.specs.Stands.{StandsFor}
 
@@ -82,6 +89,22 @@ answered_by (Some (An_active Own budget)) n known (Some r) native suits = cc
 answered_by (Some (An_active A_timer budget)) n known (Some r) native suits = cc
 answered_by _ n known (Some r) native suits = cc
 
+-- a message is served by no native, and has no request
+pub unserved_message : (p : Image) (native : ℕ) (t : Thing) → is_object t ≡ false → is_served_by p native t ≡ false
+unfolding kind_of
+unserved_message p native (An_object_of c) e = cc
+unserved_message p native Message e = refl
+
+unrequested : (p : Image) (t : Thing) → is_object t ≡ false → (known : Known) (q : Option Request) → Suits (thing_kind p t) known q → q ≡ None
+unfolding kind_of
+unrequested p (An_object_of c) e known q suits = cc
+unrequested p Message e known q suits = suits
+
+-- so what is served is an object
+pub served_object : (p : Image) (native : ℕ) (t : Thing) → is_served_by p native t ≡ true → is_object t ≡ true
+served_object p native (An_object_of c) served = refl
+served_object p native Message served = absurd (true≢false (sym served ∙ unserved_message p native Message refl))
+
 module _ (p : Image) (m : Parts) (s : State) (st : StandsFor (record { image = p; parts = m }) s) (native id : ℕ) where
   lives_served : serves p s.cells native id ≡ true → is_some (named s.cells id) ≡ true
   lives_served served = go (named s.cells id) served
@@ -112,21 +135,53 @@ module _ (p : Image) (m : Parts) (s : State) (st : StandsFor (record { image = p
   pub class_told : serves_class p native (class_at m.cells id) ≡ serves p s.cells native id
   class_told = go (cell_at m.cells id) (named s.cells id) (st.agrees.cells.things id)
     where
+      by_none : (b : Bool) (t : Thing) → ◌≡◌ {A = Option Thing} None (cond b (Some t) None) → b ≡ false
+      by_none true t e = absurd (none-some _ e)
+      by_none false t e = refl
+
+      by_class : (k : ℕ) (t : Thing) → Some (An_object_of k) ≡ cond (is_object t) (Some t) None → is_served_by p native (An_object_of k) ≡ is_served_by p native t
+      by_class k (An_object_of j) e = ap (is_served_by p native) (same_Some _ _ e)
+      by_class k Message e = cc
+
       go : (c : Option Held_cell) (o : Option Object) → thing_in c ≡ thing_of o → serves_class p native (class_of c) ≡ serves_object p native o
       go None None e = refl
-      go None (Some o) e = cc
+      go None (Some o) e = sym (unserved_message p native o.thing (by_none (is_object o.thing) o.thing e))
       go (Some c) None e = cc
-      go (Some c) (Some o) e = ap (is_served_by p native) (same_Some _ _ e)
+      go (Some c) (Some o) e = by_class c.class o.thing e
+
+  -- a message has no request, and no session
+  pub message_silent : (o : Object) → named s.cells id ≡ Some o → is_object o.thing ≡ false → (is_owed (requested s.cells id) || in_session s.cells id) ≡ false
+  message_silent o lives message = ap (λ q. is_owed q || in_session s.cells id) none ∙ closed
+    where
+      name : o.name ≡ id
+      name = named_name s.cells id o lives
+
+      none : requested s.cells id ≡ None
+      none =
+          unrequested p o.thing message (states_claim p o st.typed.layers) (requested s.cells id)
+          (subst (λ n. Suits (thing_kind p o.thing) (states_claim p o st.typed.layers) (requested s.cells n)) name (st.typed.good.suits o (ap (named s.cells) name ∙ lives)))
+
+      past : (b : Bool) → nat_lt id 4096 ≡ b → p.header.cells ≤ id
+      past true e = absurd (false≢true (sym (st.agrees.services.messages.past id (ltb-true id 4096 e)) ∙ ap is_a_message lives ∙ ap (λ b. not b) message))
+      past false e = let far = ltb-false id 4096 e in let few = st.sound.formed.header.cells in omega (arith, far, few)
+
+      closed : in_session s.cells id ≡ false
+      closed =
+          let many = past (nat_lt id 4096) refl in
+          let long = st.agrees.natives.limit in
+          sym (st.agrees.natives.sessions id) ∙ get_or_past m.sessions.flags id false (omega (arith, many, long))
 
 -- ---- what the table tells of it
 
 -- a request that is outstanding is pending
-pub pending_told : (h : Option Held_request) (q : Option Request) → Tells h q → is_unanswered q ≡ false → is_owed q ≡ true → is_pending h ≡ true
-pending_told None None tells coded owed = cc
-pending_told None (Some r) tells coded owed = absurd tells
-pending_told (Some (Held_server b)) q tells coded owed = absurd tells
-pending_told (Some (Held_object x status)) None tells coded owed = absurd tells
-pending_told (Some (Held_object x status)) (Some r) tells coded owed =
+pub pending_told : (h : Option Held_request) (q : Option Request) (waits : Option Bool) → Tells h q waits → is_unanswered q ≡ false → is_owed q ≡ true → is_pending h ≡ true
+pending_told None None waits tells coded owed = cc
+pending_told None (Some r) waits tells coded owed = absurd tells
+pending_told (Some h) None waits tells coded owed = absurd tells
+pending_told (Some (Held_server b)) (Some r) None tells coded owed = absurd tells
+pending_told (Some (Held_server b)) (Some r) (Some waits) tells coded owed = absurd (true≢false (sym owed ∙ ap (λ q. not (is_idle q) && int_eq r.status pending) tells.0))
+pending_told (Some (Held_object x status)) (Some r) (Some waits) tells coded owed = absurd tells
+pending_told (Some (Held_object x status)) (Some r) None tells coded owed =
     go x (ap (λ q. is_aborted q && int_eq status pending) tells.0 ∙ ap (λ v. is_aborted r.phase && int_eq v pending) tells.1 ∙ coded)
     (ap (λ q. not (is_idle q) && int_eq status pending) tells.0 ∙ ap (λ v. not (is_idle r.phase) && int_eq v pending) tells.1 ∙ owed)
   where
@@ -143,19 +198,21 @@ held_owed None = false
 held_owed (Some (Held_object x status)) = not (is_idle (phase_of x)) && int_eq status pending
 held_owed (Some (Held_server b)) = false
 
-told_owed : (h : Option Held_request) (q : Option Request) → Tells h q → is_owed q ≡ held_owed h
+told_owed : (h : Option Held_request) (q : Option Request) (waits : Option Bool) → Tells h q waits → is_owed q ≡ held_owed h
 unfolding held_owed
-told_owed None None tells = refl
-told_owed None (Some r) tells = absurd tells
-told_owed (Some (Held_server b)) q tells = absurd tells
-told_owed (Some (Held_object x status)) None tells = absurd tells
-told_owed (Some (Held_object x status)) (Some r) tells = sym (ap (λ q. not (is_idle q) && int_eq status pending) tells.0 ∙ ap (λ v. not (is_idle r.phase) && int_eq v pending) tells.1)
+told_owed None None waits tells = refl
+told_owed None (Some r) waits tells = absurd tells
+told_owed (Some h) None waits tells = absurd tells
+told_owed (Some (Held_server b)) (Some r) None tells = absurd tells
+told_owed (Some (Held_server b)) (Some r) (Some waits) tells = ap (λ q. not (is_idle q) && int_eq r.status pending) tells.0
+told_owed (Some (Held_object x status)) (Some r) (Some waits) tells = absurd tells
+told_owed (Some (Held_object x status)) (Some r) None tells = sym (ap (λ q. not (is_idle q) && int_eq status pending) tells.0 ∙ ap (λ v. not (is_idle r.phase) && int_eq v pending) tells.1)
 
 module _ (p : Image) (m : Parts) (native id : ℕ) where
   owes_told : (s : State) → StandsFor (record { image = p; parts = m }) s → owes p s.cells native id ≡ (serves_class p native (class_at m.cells id) && held_owed (request_at m.active.table id))
   owes_told s st =
       ap (λ b. b && is_owed (requested s.cells id)) (sym (class_told p m s st native id))
-      ∙ ap (λ b. serves_class p native (class_at m.cells id) && b) (told_owed _ (requested s.cells id) (st.agrees.requests.stands.tells id))
+      ∙ ap (λ b. serves_class p native (class_at m.cells id) && b) (told_owed _ (requested s.cells id) (queued p s.cells id) (st.agrees.requests.stands.tells id))
 
   pub owes_in_all : (s u : State) → StandsFor (record { image = p; parts = m }) s → StandsFor (record { image = p; parts = m }) u → owes p s.cells native id ≡ true → owes p u.cells native id ≡ true
   owes_in_all s u st su owed = owes_told u su ∙ sym (owes_told s st) ∙ owed

@@ -7,7 +7,7 @@ use Rattle.aom_active.proofs.Dues.{next_due_is}
 use Rattle.aom_active.proofs.Firsts.{first_timer}
 use Rattle.aom_active.proofs.Halves.{Timely, timely_kept, timely_without}
 use Rattle.aom_active.proofs.Lists.{id_of}
-use Rattle.aom_active.specs.Agrees.{Active, ComesSooner, StandsFor as Asks_for, timer_in}
+use Rattle.aom_active.specs.Agrees.{Active, ComesSooner, StandsFor as Asks_for, queued, timer_in}
 use Rattle.aom_active.specs.Meanings.{asked_anew}
 use Rattle.aom_scheduler.proofs.Items.{AreDistinct, at_head, without-at}
 use Rattle.aom_scheduler.specs.Pending as Held
@@ -63,8 +63,8 @@ one_list asked (t ∷ ts) (u ∷ us) a b = go (t.id == u.id) refl (λ same. one_
         absurd (true≢false (sym (g.first t.id f.timer other f.runs) ∙ not_both f.timer g.timer (f.first u.id g.timer (λ same. other (sym same)) g.runs)))
 
 -- requests whose timers are the same
-pub timers_same : (old new : Active) (asked other : ℕ → Option Request) → ((n : ℕ) → timer_in (asked n) ≡ timer_in (other n)) → Asks_for old asked → Asks_for new other → new.pending.timers ≡ old.pending.timers
-timers_same old new asked other same a b =
+pub timers_same : (old new : Active) (asked other : ℕ → Option Request) (queues then : ℕ → Option Bool) → ((n : ℕ) → timer_in (asked n) ≡ timer_in (other n)) → Asks_for old asked queues → Asks_for new other then → new.pending.timers ≡ old.pending.timers
+timers_same old new asked other queues then same a b =
     one_list other new.pending.timers old.pending.timers (record { dues = b.dues; sooner = b.sooner }) (timely_kept asked other old.pending.timers same (record { dues = a.dues; sooner = a.sooner }))
 
 -- ---- none is due
@@ -80,8 +80,8 @@ none_due_still old new stands same clock none s st x e = go (first_due first.cel
 
     due : Some x.timer.due ≡ option_map (λ y. y.timer.due) (first_due first.cells)
     due =
-        sym (next_due_is new.parts.active s.cells st.typed.good.tidy st.agrees.requests.stands ∙ ap (option_map (λ y. y.timer.due)) e)
-        ∙ ap Held.first_due same ∙ next_due_is old.parts.active first.cells stands.1.typed.good.tidy stands.1.agrees.requests.stands
+        sym (next_due_is new.parts.active s.cells (queued new.image s.cells) st.typed.good.tidy st.agrees.requests.stands ∙ ap (option_map (λ y. y.timer.due)) e)
+        ∙ ap Held.first_due same ∙ next_due_is old.parts.active first.cells (queued old.image first.cells) stands.1.typed.good.tidy stands.1.agrees.requests.stands
 
     go : (o : Option Timed) → first_due first.cells ≡ o → s.rest.clock < x.timer.due
     go None f = absurd (none-some _ (sym (due ∙ ap (option_map (λ y. y.timer.due)) f)))

@@ -1,6 +1,6 @@
 -- The parts of a turn: what the machine does between dispatches is what the checked machine does.
 use Rattle.std.proofs.Common.{ap, append-nil, arith, Bool, cond, false, length, List, None, Option, pos, refl, Some, subst, suc, sym, true, ℕ, ◌<◌, ◌≤◌, ◌∙◌, ◌∷◌, ◌++◌, ◌≡◌, []}
-use Rattle.std.specs.Prelude.{IfSome, IsSome, IsTrue, is_some, not, option_map}
+use Rattle.std.specs.Prelude.{IfSome, IsSome, IsTrue, is_some, not, option_map, ◌||◌, ◌≢◌}
 use Rattle.std.specs.Ordering.{int_eq}
 use Rattle.std.proofs.lemmas.Bool.{and_parts, eq-eqb, true≢false}
 use Rattle.std.proofs.lemmas.List.{nil_from_length}
@@ -16,7 +16,7 @@ use Rattle.aom_roles.specs.States.{server_states}
 use Rattle.aom_rules.specs.Requests.{is_active_kind}
 use Rattle.aom_rules.specs.Typing.{Typing}
 use Rattle.aom_shape.specs.Tables.{at}
-use Rattle.aom_cells.specs.Heap.{Heap, cell_at, class_at, class_of, null}
+use Rattle.aom_cells.specs.Heap.{Heap, Lives, cell_at, class_at, class_of, null}
 use Rattle.aom_cells.specs.declared.cell.Cell.{Cell as Held_cell}
 use Rattle.aom_cleanup.specs.declared.item.Item.{Item as Held_item}
 use Rattle.aom_cleanup.specs.declared.item.Item.TheVariants.{Mark as Is_mark}
@@ -29,36 +29,39 @@ use Rattle.aom_frames.specs.declared.task.Task.TheVariants.{Dispatched as Ends, 
 use Rattle.aom_lines.specs.Turn.{Turn}
 use Rattle.aom_transcript.specs.declared.line.Ending.TheVariants.{Limit, Waiting}
 use Rattle.aom_transcript.specs.declared.line.Line.TheVariants.{Run as Run_line}
-use Rattle.aom_active.proofs.Asking.{asked_set}
+use Rattle.aom_active.proofs.Asking.{are_wanted, asked_set, queued_same}
 use Rattle.aom_active.proofs.Choosing as choosing
 use Rattle.aom_active.proofs.Dues.{due_first, none_due}
-use Rattle.aom_active.proofs.Telling.{standing_follows, told_enlisted, told_status}
-use Rattle.aom_active.specs.Agrees.{Active, StandsFor as Asks_for, timer_in}
+use Rattle.aom_active.proofs.Telling.{standing_follows, told_enlisted, told_server, told_status}
+use Rattle.aom_active.specs.Agrees.{Active, StandsFor as Asks_for, queue_in, queued, timer_in}
 use Rattle.aom_active.specs.Meanings.{IsFirstDue, IsFirstReady, Makes, asked_anew}
 use Rattle.aom_active.specs.Meanings as meanings
+use Rattle.aom_requests.specs.Requests.{is_server as is_served, request_at}
 use Rattle.aom_sound.proofs.Signals.{at_rest, signals_are_ready}
 use Rattle.aom_sound.proofs.Storing.{Alike, rerequested_alike}
-use Rattle.aom_sound.proofs.ClientsTurn.{fit_same, same_requested}
+use Rattle.aom_sound.proofs.ClientsTurn.{fit_same, on_none, same_requested}
 use Rattle.aom_sound.proofs.Turned.{picked}
 use Rattle.aom_sound.proofs.Turning.{completed, picked_well}
 use Rattle.aom_sound.specs.Claims.{items_of}
+use Rattle.aom_sound.specs.Lines.{serve_line}
 use Rattle.aom_sound.specs.Enlisted.{is_active, on_request, part_of, pending, status_of, taken_up, thing_kind, timed_out}
-use Rattle.aom_sound.specs.Places.{Active as Waits_for, Cell, Elsewhere, Entry, Object, Phase, Going, Place, Register, Request, Root, Timer, held, named, requested}
+use Rattle.aom_shape.specs.Kinds.{is_object}
+use Rattle.aom_sound.specs.Servers.{has_more, is_server}
+use Rattle.aom_sound.specs.Places.{Active as Waits_for, Cell, Elsewhere, Entry, Object, Phase, Going, Place, Register, Request, Root, Timer, held, named, requested, service_of}
 use Rattle.aom_sound.specs.Requests.{Known, Suits, phase_state, states_claim}
 use Rattle.aom_sound.specs.State.{Dispatch, Dispatched, Goes, Inside, Of_object, Rest, Seat, State, Trapped}
 use Rattle.aom_sound.specs.WellTyped.{Keeps, WellTyped}
-use Rattle.aom_sound.specs.World.{Candidate, Cuts, Hears, IsBetween, Passes, Picks, Timed, Turning, Waits, dispatched, due_of, ends_as, first_due, heard_one, first_ready, is_ready, run_line, turned, with_request}
+use Rattle.aom_sound.specs.World.{Candidate, Cuts, Hears, IsBetween, Passes, Picks, Timed, Turning, Waits, dispatched, serves_first, due_of, ends_as, first_due, heard_one, first_ready, is_ready, picked as any_picked, run_line, turned, with_request, written_by}
 use Rattle.aom_steps.proofs.Pushed.{asked_same}
 use Rattle.aom_steps.proofs.Turns.{picking}
 use Rattle.aom_sound.specs.Kept.{ClientsFit, TasksKept}
-use Rattle.aom_parts.proofs.Nobody.{none_asked, picked_plain}
 use Rattle.aom_steps.specs.Left.{closings_left, is_entry, objects_left}
 use Rattle.aom_steps.specs.Payers as payers
 use Rattle.aom_steps.specs.Payers.{declared_of, payer, price_of}
 use Rattle.aom_parts.specs.declared.parts.Parts.{Parts}
 use Rattle.aom_parts.specs.declared.progress.Progress.TheVariants.{Turned}
 use Rattle.aom_parts.specs.Agrees.{Agrees, SameCells, SameRequests, SameTasks, Shows, seat_of, thing_in, thing_of, word_at}
-use Rattle.aom_parts.specs.Places.{going_in, register_in, value, value_in}
+use Rattle.aom_parts.specs.Places.{Others, going_in, others, register_in, value, value_in}
 use Rattle.aom_parts.specs.Progress.{progress_by}
 use Rattle.aom_parts.specs.Room.{AllRunUnder}
 use Rattle.aom_parts.specs.Stands.{KeepsWithin, Machine, Stands, StandsFor}
@@ -69,12 +72,14 @@ use Rattle.aom_parts.proofs.Entries.{mark_shows_none, same_items_length}
 use Rattle.aom_acts.proofs.Finding.{class_fits}
 use Rattle.aom_acts.proofs.GoingActs.{fresh_value, fresh_word}
 use Rattle.aom_parts.proofs.Overs.{over_value, over_words}
+use Rattle.aom_exec.proofs.Idle.{stands_idle}
 use Rattle.aom_exec.proofs.Progressing.{between, is_as_far}
 use Rattle.aom_acts.proofs.RoomMoves.{dispatches_with_room, none_formed}
-use Rattle.aom_acts.proofs.Standing.{begun_frame}
+use Rattle.aom_acts.proofs.Standing.{begun_frame, lives_below}
 use Rattle.aom_acts.proofs.Stepping.{agrees_rest, room_rest, typed_rest, within_rest}
 use Rattle.aom_parts.proofs.Values.{at_depth, going_past, none_alike, register_past}
 use Rattle.aom_parts.proofs.Asking.{cells_asked}
+use Rattle.aom_parts.proofs.Services.{services_asked}
 use Rattle.aom_parts.proofs.Sessions.{natives_asked}
 
 -- ---- another request of a cell
@@ -88,12 +93,19 @@ module _ (cs : List Cell) (o : Object) (f : Request → Request) where
 
   pub requests_asked : (p : Image) (old new : Active) (r : Request) → named cs o.name ≡ Some o → requested cs o.name ≡ Some r → Makes old new o.name f → SameRequests p old cs → SameRequests p new (with_request f o cs)
   requests_asked p old new r lives is makes h = record {
-    stands = standing_follows new (asked_anew o.name (Some (f r)) (requested cs)) (requested (with_request f o cs)) now (makes.stands (requested cs) r h.stands is);
+    stands =
+        standing_follows new (asked_anew o.name (Some (f r)) (requested cs)) (requested (with_request f o cs)) (queued p cs) (queued p (with_request f o cs)) now
+        (λ n there. sym (queued_same p cs (with_request f o cs) alike.named_so alike.queues_so n)) (makes.stands (requested cs) (queued p cs) r h.stands is);
     limit = makes.limit ∙ h.limit;
   }
     where
       now : (n : ℕ) → asked_anew o.name (Some (f r)) (requested cs) n ≡ requested (with_request f o cs) n
       now n = ap (λ q. asked_anew o.name (on_request f q) (requested cs) n) (sym is) ∙ asked_set cs o.name (on_request f (requested cs o.name)) (ap is_some lives) n
+
+-- where the request keeps its order
+pub order_same : (f : Request → Request) → ((r : Request) → (f r).order ≡ r.order) → (q : Option Request) → option_map (λ x. x.order) (on_request f q) ≡ option_map (λ x. x.order) q
+order_same f same None = refl
+order_same f same (Some r) = ap (λ n. Some n) (same r)
 
 -- ---- nothing is at hand
 
@@ -170,32 +182,13 @@ module _ (p : Image) (m : Parts) (turned : progress_by m.rest.ended m.stack.task
     stands = stands_rest p m s (record m.rest { ended = Some Limit }) (record s.rest { ended = Some Limit }) (ap (λ (r : Rest). record r { ended = Some Limit }) st.agrees.rest) refl st;
   }
 
--- nothing is at hand, and other cells have as much outstanding on the cleanup stack
-module _ (p : Image) (m : Parts) (s : State) (st : StandsFor (record { image = p; parts = m }) s) (idle : s.tasks ≡ []) where
-  pub stands_as :
-      (new : Parts) (cs : List Cell) (r : Rest) (killed : List ℕ) → WellTyped p st.typing (record s { cells = cs; rest = r; killed = killed }) → ClientsFit p s.clients cs →
-      objects_left st.sound.prices cs ≡ objects_left st.sound.prices s.cells → r.steps ≡ s.rest.steps → Agrees p new (record s { cells = cs; rest = r; killed = killed }) →
-      StandsFor (record { image = p; parts = new }) (record s { cells = cs; rest = r; killed = killed })
-  stands_as new cs r killed typed fits as_many steps agrees = record {
-    typing = st.typing;
-    sound = st.sound;
-    typed = typed;
-    calm = st.calm;
-    traps = st.traps;
-    room = record { under = st.room.under; runs = subst (λ ts. AllRunUnder p (at 0 st.sound.depths.depths) cs s.items ts) (sym idle) tt; fit = st.room.fit; entries = st.room.entries };
-    waits = subst (λ ts. OthersWait p st.typing cs ts) (sym idle) tt;
-    kept = record { fit = fits; stage = subst (λ ts. TasksKept p s.clients cs ts) (sym idle) tt };
-    within = record { within = omega (arith, st.within.within, as_many, steps, ap (λ ts. closings_left p st.sound.prices cs ts) idle, ap (λ ts. closings_left p st.sound.prices s.cells ts) idle) };
-    agrees = agrees;
-  }
-
 -- when the timer that is due first is due
 due_same : (o : Option Timed) → option_map (λ x. x.timer.due) o ≡ due_of o
 due_same None = refl
 due_same (Some x) = refl
 
 pub next_due_told : (m : Machine) (due : Option ℕ) → meanings.IsNextDue m.parts.active due → (s : State) → StandsFor m s → due ≡ due_of (first_due s.cells)
-next_due_told m due next s st = next s.cells st.typed.good.tidy st.agrees.requests.stands ∙ due_same (first_due s.cells)
+next_due_told m due next s st = next s.cells (queued m.image s.cells) st.typed.good.tidy st.agrees.requests.stands ∙ due_same (first_due s.cells)
 
 -- ---- a timer completes a request
 
@@ -218,6 +211,7 @@ module _ (p : Image) (m : Parts) (a : Active) (turned : progress_by m.rest.ended
       entries = st.agrees.entries;
       requests = requests_asked s.cells o timed_out p m.active a r lives is makes st.agrees.requests;
       natives = natives_asked p m.sessions s.killed s.cells o.name _ st.agrees.natives;
+      services = services_asked p s.cells o (on_request timed_out (requested s.cells o.name)) lives (order_same timed_out (λ r. refl) (requested s.cells o.name)) st.agrees.services;
       rest = st.agrees.rest;
       room = st.agrees.room;
       entry_room = st.agrees.entry_room;
@@ -227,13 +221,13 @@ module _ (p : Image) (m : Parts) (a : Active) (turned : progress_by m.rest.ended
     timed_stands =
         let idle = (machine_between before s st turned).idle in
         let cs = with_request timed_out o s.cells in
-        stands_as p m s st idle (record m { active = a }) cs s.rest s.killed (completed p st.typing s st.typed idle (pos 0) refl o s.rest)
-        (fit_same p s.clients s.cells cs (same_requested s.cells o (on_request timed_out (requested s.cells o.name))) st.kept.fit)
+        stands_idle p m s st idle (record m { active = a }) cs s.clients s.rest s.killed (completed p st.typing s st.typed idle (pos 0) refl o s.rest)
+        (fit_same p s.clients s.cells cs (same_requested s.cells o (on_request timed_out (requested s.cells o.name)) (λ e. on_none timed_out (requested s.cells o.name) e)) st.kept.fit)
         (asked_same st.sound.prices is_entry o.name (on_request timed_out (requested s.cells o.name)) s.cells) refl timed_agrees
 
-  timer_completes : (id : ℕ) → Makes m.active a id timed_out → ((asked : ℕ → Option Request) → Asks_for m.active asked → IsFirstDue m.rest.clock id asked) → Completed before true after
+  timer_completes : (id : ℕ) → Makes m.active a id timed_out → ((asked : ℕ → Option Request) (queues : ℕ → Option Bool) → Asks_for m.active asked queues → IsFirstDue m.rest.clock id asked) → Completed before true after
   timer_completes id makes first told s st =
-      let f = first (requested s.cells) st.agrees.requests.stands in
+      let f = first (requested s.cells) (queued p s.cells) st.agrees.requests.stands in
       let d = due_first s.cells m.rest.clock id st.typed.good.tidy f in
       let r = has_timer (requested s.cells id) f.timer f.runs in
       let o = d.0.object in
@@ -257,11 +251,11 @@ module _ (p : Image) (m : Parts) (a : Active) (turned : progress_by m.rest.ended
       has_timer None t e = absurd (none-some _ e)
       has_timer (Some r) t e = (r, refl)
 
-  nothing_due : a ≡ m.active → ((asked : ℕ → Option Request) → Asks_for m.active asked → meanings.NoneDue m.rest.clock asked) → Completed before false after
+  nothing_due : a ≡ m.active → ((asked : ℕ → Option Request) (queues : ℕ → Option Bool) → Asks_for m.active asked queues → meanings.NoneDue m.rest.clock asked) → Completed before false after
   nothing_due same none = (
     ap (λ x. record { image = p; parts = record m { active = x } }) same,
     λ s st x e.
-        let now = none_due s.cells m.rest.clock st.typed.good.tidy (none (requested s.cells) st.agrees.requests.stands) x e in
+        let now = none_due s.cells m.rest.clock st.typed.good.tidy (none (requested s.cells) (queued p s.cells) st.agrees.requests.stands) x e in
         subst (λ n. n < x.timer.due) (ap (λ (r : Rest). r.clock) st.agrees.rest) now,
   )
 
@@ -298,11 +292,11 @@ dispatch_line : (s : State) (o : Object) (class : ℕ) → o.thing ≡ An_object
 dispatch_line s o class e = ap (λ (t : Thing). run_line s (record o { thing = t })) e
 
 -- no task of a dispatch that begins shows anything, and nor does its mark
-begun_value : (d : Held_dispatch) (us : List Held_task) (h : Heap) (es : List Held_item) (root : ℕ) (q : Place) → value_in (Ends d ∷ us) h (Is_mark ∷ es) root q ≡ value_in us h es root q
-begun_value d us h es root (Register k i) = at_depth (length us) k null (register_in us k i) (λ e. register_past us k i (omega arith))
-begun_value d us h es root (Going k) = at_depth (length us) k null (going_in us k) (λ e. going_past us k (omega arith))
-begun_value d us h es root (Entry k) = mark_shows_none es k
-begun_value d us h es root _ = refl
+begun_value : (d : Held_dispatch) (us : List Held_task) (h : Heap) (es : List Held_item) (others : Others) (q : Place) → value_in (Ends d ∷ us) h (Is_mark ∷ es) others q ≡ value_in us h es others q
+begun_value d us h es others (Register k i) = at_depth (length us) k null (register_in us k i) (λ e. register_past us k i (omega arith))
+begun_value d us h es others (Going k) = at_depth (length us) k null (going_in us k) (λ e. going_past us k (omega arith))
+begun_value d us h es others (Entry k) = mark_shows_none es k
+begun_value d us h es others _ = refl
 
 no_word : (d : Dispatch) (q : Place) → word_at (Dispatched d ∷ []) q ≡ word_at [] q
 no_word d (Register k i) = at_depth 0 k None None (λ e. refl)
@@ -319,7 +313,64 @@ module _ (p : Image) (m : Parts) (s : State) (st : StandsFor (record { image = p
   none_running : m.stack.tasks ≡ []
   none_running = none_alike m.stack.tasks s.tasks st.agrees.tasks idle
 
-  -- the object that is picked, as the checked machine finds it
+  -- what is picked, as the checked machine finds it
+  pub record Found (id : ℕ) : Type 0 where
+    pub candidate : Candidate
+    pub first : first_ready s.cells ≡ Some candidate
+    pub name : candidate.seat.object.name ≡ id
+    pub lives : named s.cells id ≡ Some candidate.seat.object
+    pub holds : held s.cells candidate.seat.place ≡ Some candidate.seat.object
+    pub asked : requested s.cells id ≡ Some candidate.request
+    pub goes : meanings.goes candidate.request (queued p s.cells id) ≡ true
+    pub keeps : Keeps p st.typing (any_picked p candidate.seat s)
+
+  -- the queues in which something waits are those of servers
+  wanted : choosing.AreWanted (queued p s.cells) s.cells
+  wanted = are_wanted p s.cells (λ o lives plain. (st.kept.fit.servers o lives plain).0)
+
+  pub found_of : (id : ℕ) → IsFirstReady id (requested s.cells) (queued p s.cells) → Found id
+  found_of id f =
+      let x = choosing.picked s.cells (queued p s.cells) id st.typed.good.tidy wanted f in
+      record {
+        candidate = x.0;
+        first = x.1;
+        name = x.2;
+        lives = x.3;
+        holds = x.4;
+        asked = x.5;
+        goes = subst (λ r. meanings.goes r (queued p s.cells id) ≡ true) (same_Some _ _ (sym f.stands ∙ x.5)) f.ready;
+        keeps = picked_well p st.typing s st.typed idle st.sound.wired st.sound.typed st.kept.fit x.0 x.1;
+      }
+
+  pub none_found : meanings.NoneReady (requested s.cells) (queued p s.cells) → first_ready s.cells ≡ None
+  none_found none = choosing.none_picked s.cells (queued p s.cells) st.typed.good.tidy wanted none
+
+  -- what waits at it
+  queue_told : (id : ℕ) (k : Found id) (b : Bool) → is_server p k.candidate.seat.object.thing ≡ b → queued p s.cells id ≡ cond b (Some (has_more (service_of s.cells id).queue)) None
+  queue_told id k b e = ap (λ o. queue_in p o (service_of s.cells id)) k.lives ∙ ap (λ b. cond b (Some (has_more (service_of s.cells id).queue)) None) e
+
+  -- whether it is a server the table tells
+  pub serving_told : (id : ℕ) (k : Found id) → is_served (request_at m.active.table id) ≡ is_server p k.candidate.seat.object.thing
+  serving_told id k =
+      told_server m.active (requested s.cells) (queued p s.cells) st.agrees.requests.stands id k.candidate.request k.asked ∙ ap is_some (queue_told id k (is_server p k.candidate.seat.object.thing) refl) ∙ some (is_server p k.candidate.seat.object.thing)
+    where
+      some : (b : Bool) → is_some (cond b (Some (has_more (service_of s.cells id).queue)) None) ≡ b
+      some true = refl
+      some false = refl
+
+  -- and so it does once the pick has taken the signal of an object
+  pub serving_after : (id : ℕ) (k : Found id) (a : Active) → meanings.TakesUp (is_served (request_at m.active.table id)) m.active a id → is_served (request_at a.table id) ≡ is_server p k.candidate.seat.object.thing
+  serving_after id k a takes = go (is_served (request_at m.active.table id)) refl takes
+    where
+      go : (b : Bool) → is_served (request_at m.active.table id) ≡ b → meanings.TakesUp b m.active a id → is_served (request_at a.table id) ≡ is_server p k.candidate.seat.object.thing
+      go true e same = ap (λ x. is_served (request_at x.table id)) same ∙ serving_told id k
+      go false e makes =
+          let stands = makes.stands (requested s.cells) (queued p s.cells) k.candidate.request st.agrees.requests.stands k.asked in
+          let then = here id (Some (taken_up k.candidate.request)) (requested s.cells) in
+          let plain = sym (serving_told id k) ∙ e in
+          told_server a (asked_anew id (Some (taken_up k.candidate.request)) (requested s.cells)) (queued p s.cells) stands id (taken_up k.candidate.request) then ∙ ap is_some (queue_told id k false plain) ∙ sym plain
+
+  -- an object that is no server
   record Pick (id : ℕ) : Type 0 where
     candidate : Candidate
     first : first_ready s.cells ≡ Some candidate
@@ -328,54 +379,62 @@ module _ (p : Image) (m : Parts) (s : State) (st : StandsFor (record { image = p
     holds : held s.cells candidate.seat.place ≡ Some candidate.seat.object
     asked : requested s.cells id ≡ Some candidate.request
     ready : is_ready candidate.request ≡ true
+    plain : is_server p candidate.seat.object.thing ≡ false
+    unqueued : queued p s.cells id ≡ None
     keeps : Keeps p st.typing (dispatched (part_of p Handles candidate.seat.object.thing) candidate.seat s)
 
-  pick_of : (id : ℕ) → IsFirstReady id (requested s.cells) → Pick id
-  pick_of id f =
-      let x = choosing.picked s.cells id st.typed.good.tidy (none_asked p st.sound.admitted st.typing s st.typed st.kept.fit) f in
+  or_false : (b : Bool) → (b || false) ≡ b
+  or_false true = refl
+  or_false false = refl
+
+  pick_of : (id : ℕ) (k : Found id) → is_server p k.candidate.seat.object.thing ≡ false → Pick id
+  pick_of id k plain =
+      let none = queue_told id k false plain in
       record {
-        candidate = x.0;
-        first = x.1;
-        name = x.2;
-        lives = x.3;
-        holds = x.4;
-        asked = x.5;
-        ready = subst (λ r. is_ready r ≡ true) (same_Some _ _ (sym f.stands ∙ x.5)) f.ready;
-        keeps = subst (λ o. Keeps p st.typing o) (picked_plain p st.sound.admitted x.0.seat s) (picked_well p st.typing s st.typed idle st.sound.wired st.sound.typed st.kept.fit x.0 x.1);
+        candidate = k.candidate;
+        first = k.first;
+        name = k.name;
+        lives = k.lives;
+        holds = k.holds;
+        asked = k.asked;
+        ready = sym (or_false (is_ready k.candidate.request)) ∙ ap (λ q. meanings.goes k.candidate.request q) (sym none) ∙ k.goes;
+        plain = plain;
+        unqueued = none;
+        keeps = subst (λ b. Keeps p st.typing (cond b (serves_first p k.candidate.seat (service_of s.cells k.candidate.seat.object.name).queue s) (dispatched (part_of p Handles k.candidate.seat.object.thing) k.candidate.seat s))) plain k.keeps;
       }
 
   module _ (id : ℕ) (k : Pick id) where
     abbrev object : Object
     object = k.candidate.seat.object
 
-    its_thing : thing_in (cell_at m.cells id) ≡ Some object.thing
-    its_thing = st.agrees.cells.things id ∙ ap thing_of k.lives
-
     its_method : IsSome (part_of p Handles object.thing)
     its_method = has_method p st.typing k.candidate.seat s (part_of p Handles object.thing) k.keeps
+
+    its_class : (c : ℕ) × (object.thing ≡ An_object_of c)
+    its_class = has_class p object.thing its_method
+
+    its_thing : thing_in (cell_at m.cells id) ≡ Some object.thing
+    its_thing = st.agrees.cells.things id ∙ ap thing_of k.lives ∙ ap (λ b. cond b (Some object.thing) None) (ap is_object its_class.1)
 
     -- what the machine needs to know of it
     can_dispatch : (a : Active) → Makes m.active a id taken_up → CanDispatch p (record m { active = a }) id
     can_dispatch a makes = record {
-      class = class.0;
+      class = its_class.0;
       is = is;
       small = subst (λ o. IfSome o (λ c. c < 256)) is (class_fits p m s st.agrees id);
-      handled = subst (λ t. IsSome (part_of p Handles t)) class.1 its_method;
-      enlisted = told_enlisted a _ (makes.stands (requested s.cells) k.candidate.request st.agrees.requests.stands k.asked) id ∙ ap is_some (here id (Some (taken_up k.candidate.request)) (requested s.cells));
+      handled = subst (λ t. IsSome (part_of p Handles t)) its_class.1 its_method;
+      enlisted = told_enlisted a _ _ (makes.stands (requested s.cells) (queued p s.cells) k.candidate.request st.agrees.requests.stands k.asked) id ∙ ap is_some (here id (Some (taken_up k.candidate.request)) (requested s.cells));
       idle = none_running;
       bare = none_marked;
-      room = st.agrees.room;
+      room = (let deep = st.agrees.room in omega (arith, deep));
     }
       where
-        class : (c : ℕ) × (object.thing ≡ An_object_of c)
-        class = has_class p object.thing its_method
-
-        class_in : (o : Option Held_cell) → thing_in o ≡ Some (An_object_of class.0) → class_of o ≡ Some class.0
+        class_in : (o : Option Held_cell) → thing_in o ≡ Some (An_object_of its_class.0) → class_of o ≡ Some its_class.0
         class_in None e = cc
         class_in (Some c) e = ap payers.class_of (same_Some _ _ e)
 
-        is : class_at m.cells id ≡ Some class.0
-        is = class_in (cell_at m.cells id) (its_thing ∙ ap Some class.1)
+        is : class_at m.cells id ≡ Some its_class.0
+        is = class_in (cell_at m.cells id) (its_thing ∙ ap Some its_class.1)
 
     -- the dispatch that the machine begins is that of the checked machine
     module _ (a : Active) (told now : Turn) (new : Parts) (makes : Makes m.active a id taken_up) (d : Dispatches p id (record m { active = a }) told now new) where
@@ -392,7 +451,7 @@ module _ (p : Image) (m : Parts) (s : State) (st : StandsFor (record { image = p
       method = ap (part_of p Handles) thing ∙ d.handles
 
       goes : turned p s (Picks k.candidate.seat) ≡ Goes then
-      goes = picked_plain p st.sound.admitted k.candidate.seat s ∙ ap (λ h. dispatched h k.candidate.seat s) method
+      goes = ap (λ b. cond b (serves_first p k.candidate.seat (service_of s.cells object.name).queue s) (dispatched (part_of p Handles object.thing) k.candidate.seat s)) k.plain ∙ ap (λ h. dispatched h k.candidate.seat s) method
 
       lives : named s.cells object.name ≡ Some object
       lives = ap (named s.cells) k.name ∙ k.lives
@@ -400,17 +459,26 @@ module _ (p : Image) (m : Parts) (s : State) (st : StandsFor (record { image = p
       asked : requested s.cells object.name ≡ Some k.candidate.request
       asked = ap (requested s.cells) k.name ∙ k.asked
 
+      -- its cell lives, below all messages
+      small : id ≢ null → id < 4096
+      small there = lives_below p m s st.sound.formed st.agrees id (cell_there (cell_at m.cells id) d.is)
+        where
+          cell_there : (o : Option Held_cell) → class_of o ≡ Some d.class → IsSome o
+          cell_there None e = cc
+          cell_there (Some c) e = refl
+
       made : Makes m.active a object.name taken_up
       made = subst (λ n. Makes m.active a n taken_up) name makes
 
       dispatch_agrees : Agrees p (running d.method d.class id (record m { active = a })) then
       dispatch_agrees = record {
-        tasks = (begun_frame d.method id (Inside object k.candidate.seat.place) (length then.items) name, (tt, ((k.candidate.seat.place, seat), subst (λ us. SameTasks us []) (sym none_running) tt)));
+        tasks = (begun_frame d.method id (Inside object k.candidate.seat.place) (length then.items) name small, (tt, ((k.candidate.seat.place, seat), subst (λ us. SameTasks us []) (sym none_running) tt)));
         values = values;
         cells = cells_then s.cells object taken_up p m.cells st.agrees.cells;
         entries = (tt, st.agrees.entries);
         requests = requests_asked s.cells object taken_up p m.active a k.candidate.request lives asked made st.agrees.requests;
         natives = natives_asked p m.sessions s.killed s.cells object.name _ st.agrees.natives;
+        services = services_asked p s.cells object (on_request taken_up (requested s.cells object.name)) lives (order_same taken_up (λ r. refl) (requested s.cells object.name)) st.agrees.services;
         rest = ap (λ (r : Rest). record r { steps = 0; polled = 0 }) st.agrees.rest;
         room = st.agrees.room;
         entry_room = st.agrees.entry_room;
@@ -427,17 +495,17 @@ module _ (p : Image) (m : Parts) (s : State) (st : StandsFor (record { image = p
           dispatch : List Held_task
           dispatch = Ends (Of_one subject) ∷ m.stack.tasks
 
-          shown : (q : Place) → value_in (Runs_frame (fresh d.method id) ∷ Is_trap ∷ dispatch) m.cells (Is_mark ∷ m.entries.items) m.root q ≡ value m q
+          shown : (q : Place) → value_in (Runs_frame (fresh d.method id) ∷ Is_trap ∷ dispatch) m.cells (Is_mark ∷ m.entries.items) (others m) q ≡ value m q
           shown q =
-              fresh_value d.method id (Is_trap ∷ dispatch) m.cells (Is_mark ∷ m.entries.items) m.root q ∙ over_value true dispatch m.cells (Is_mark ∷ m.entries.items) m.root q
-              ∙ begun_value (Of_one subject) m.stack.tasks m.cells m.entries.items m.root q
+              fresh_value d.method id (Is_trap ∷ dispatch) m.cells (Is_mark ∷ m.entries.items) (others m) q ∙ over_value true dispatch m.cells (Is_mark ∷ m.entries.items) (others m) q
+              ∙ begun_value (Of_one subject) m.stack.tasks m.cells m.entries.items (others m) q
 
           worded : (q : Place) → word_at then.tasks q ≡ word_at s.tasks q
           worded q =
               fresh_word d.method (Inside object k.candidate.seat.place) (length then.items) (Trapped ∷ Dispatched (Of_object k.candidate.seat) ∷ []) q
               ∙ over_words true (Dispatched (Of_object k.candidate.seat) ∷ []) q ∙ no_word (Of_object k.candidate.seat) q ∙ ap (λ ts. word_at ts q) (sym idle)
 
-          values : (q : Place) → Shows (value_in (Runs_frame (fresh d.method id) ∷ Is_trap ∷ dispatch) m.cells (Is_mark ∷ m.entries.items) m.root q) (word_at then.tasks q) (held then.cells q)
+          values : (q : Place) → Shows (value_in (Runs_frame (fresh d.method id) ∷ Is_trap ∷ dispatch) m.cells (Is_mark ∷ m.entries.items) (others m) q) (word_at then.tasks q) (held then.cells q)
           values q =
               subst (λ n. Shows n (word_at then.tasks q) (held then.cells q)) (sym (shown q))
               (subst (λ w. Shows (value m q) w (held then.cells q)) (sym (worded q))
@@ -459,14 +527,14 @@ module _ (p : Image) (m : Parts) (s : State) (st : StandsFor (record { image = p
         traps = (tt, (tt, tt));
         room = dispatches_with_room p (at 0 st.sound.depths.depths) st.sound.heights then.cells d.method (Inside object k.candidate.seat.place) (Of_object k.candidate.seat) s.items then.rest s.killed s.clients none_pushed;
         waits = tt;
-        kept = record { fit = fit_same p s.clients s.cells then.cells (same_requested s.cells object (on_request taken_up (requested s.cells object.name))) st.kept.fit; stage = tt };
+        kept = record { fit = fit_same p s.clients s.cells then.cells (same_requested s.cells object (on_request taken_up (requested s.cells object.name)) (λ e. on_none taken_up (requested s.cells object.name) e)) st.kept.fit; stage = tt };
         within = dispatch_within;
         agrees = dispatch_agrees;
       }
 
       same_status : d.status ≡ status_of (requested s.cells object.name)
       same_status =
-          same_Some _ _ (sym d.completed ∙ told_status a _ (makes.stands (requested s.cells) k.candidate.request st.agrees.requests.stands k.asked) id (taken_up k.candidate.request) (here id (Some (taken_up k.candidate.request)) (requested s.cells)))
+          same_Some _ _ (sym d.completed ∙ told_status a _ _ (makes.stands (requested s.cells) (queued p s.cells) k.candidate.request st.agrees.requests.stands k.asked) id (taken_up k.candidate.request) (here id (Some (taken_up k.candidate.request)) (requested s.cells)) k.unqueued)
           ∙ sym (ap status_of asked)
 
       same_line : Run_line m.rest.clock d.class d.status ∷ [] ≡ run_line s object
@@ -477,27 +545,46 @@ module _ (p : Image) (m : Parts) (turned : progress_by m.rest.ended m.stack.task
   abbrev was : Machine
   was = record { image = p; parts = m }
 
-  -- what the machine needs to know of the object that it picks
-  pub picks_can : (a : Active) (id : ℕ) → Stands was → meanings.Picks m.active a (Some id) → CanDispatch p (record m { active = a }) id
-  picks_can a id (s, st) c =
-      let idle = (machine_between was s st turned).idle in
-      can_dispatch p m s st idle id (pick_of p m s st idle id (c.1 (requested s.cells) st.agrees.requests.stands)) a c.0
+  -- what is picked, in each state that the machine stands for
+  pub found_in : (a : Active) (id : ℕ) → meanings.Picks m.active a (Some id) → (s : State) (st : StandsFor was s) → Found p m s st (machine_between was s st turned).idle id
+  found_in a id c s st = found_of p m s st (machine_between was s st turned).idle id (c.1 (requested s.cells) (queued p s.cells) st.agrees.requests.stands)
 
-  pub picks_one : (a : Active) (id : ℕ) (told now : Turn) (new : Parts) → meanings.Picks m.active a (Some id) → Dispatches p id (record m { active = a }) told now new → Picked was true told now (record { image = p; parts = new })
-  picks_one a id told now new c d s st =
+  -- an object that is no server
+  plain_in : (a : Active) (id : ℕ) (c : meanings.Picks m.active a (Some id)) → is_served (request_at a.table id) ≡ false → (s : State) (st : StandsFor was s) → is_server p (found_in a id c s st).candidate.seat.object.thing ≡ false
+  plain_in a id c plain s st = sym (serving_after p m s st (machine_between was s st turned).idle id (found_in a id c s st) a c.0) ∙ plain
+
+  -- the pick has taken its signal
+  makes_in : (a : Active) (id : ℕ) (c : meanings.Picks m.active a (Some id)) → is_served (request_at a.table id) ≡ false → (s : State) (st : StandsFor was s) → Makes m.active a id taken_up
+  makes_in a id c plain s st =
       let idle = (machine_between was s st turned).idle in
-      let k = pick_of p m s st idle id (c.1 (requested s.cells) st.agrees.requests.stands) in (
+      subst (λ b. meanings.TakesUp b m.active a id) (serving_told p m s st idle id (found_in a id c s st) ∙ plain_in a id c plain s st) c.0
+
+  -- what the machine needs to know of the object that it picks
+  pub picks_can : (a : Active) (id : ℕ) → Stands was → meanings.Picks m.active a (Some id) → is_served (request_at a.table id) ≡ false → CanDispatch p (record m { active = a }) id
+  picks_can a id (s, st) c plain =
+      let idle = (machine_between was s st turned).idle in
+      can_dispatch p m s st idle id (pick_of p m s st idle id (found_in a id c s st) (plain_in a id c plain s st)) a (makes_in a id c plain s st)
+
+  pub picks_one : (a : Active) (id : ℕ) (told now : Turn) (new : Parts) → meanings.Picks m.active a (Some id) → is_served (request_at a.table id) ≡ false → Dispatches p id (record m { active = a }) told now new → Picked was true told now (record { image = p; parts = new })
+  picks_one a id told now new c plain d s st =
+      let idle = (machine_between was s st turned).idle in
+      let k = pick_of p m s st idle id (found_in a id c s st) (plain_in a id c plain s st) in
+      let makes = makes_in a id c plain s st in (
         k.candidate,
         k.first,
         (signals_are_ready p st.typing s st.typed idle).1 ∙ ap is_some k.first,
         record {
           between = machine_between was s st turned;
-          state = then p m s st idle id k a told now new c.0 d;
-          goes = goes p m s st idle id k a told now new c.0 d;
-          lines = d.lines ∙ ap (λ ls. record told { lines = told.lines ++ ls }) (same_line p m s st idle id k a told now new c.0 d);
-          stands = subst (λ x. StandsFor (record { image = p; parts = x }) (then p m s st idle id k a told now new c.0 d)) (sym d.runs) (dispatch_stands p m s st idle id k a told now new c.0 d);
+          state = then p m s st idle id k a told now new makes d;
+          goes = goes p m s st idle id k a told now new makes d;
+          lines = d.lines ∙ ap (λ ls. record told { lines = told.lines ++ ls }) (same_line p m s st idle id k a told now new makes d ∙ written_plain s k.candidate.seat k.plain);
+          stands = subst (λ x. StandsFor (record { image = p; parts = x }) (then p m s st idle id k a told now new makes d)) (sym d.runs) (dispatch_stands p m s st idle id k a told now new makes d);
         },
       )
+    where
+      -- it is the line of an object
+      written_plain : (s : State) (x : Seat) → is_server p x.object.thing ≡ false → run_line s x.object ≡ written_by p s (Picks x)
+      written_plain s x plain = sym (ap (λ b. cond b (serve_line s.rest.clock x.object.thing (service_of s.cells x.object.name).queue) (run_line s x.object)) plain)
 
   pub picks_none : (a : Active) (told : Turn) (o : Option ℕ) → ((id : ℕ) → o ≡ Some id → ⊥) → meanings.Picks m.active a o → Picked was false told told (record { image = p; parts = record m { active = a } })
   picks_none a told (Some id) not c = absurd (not id refl)
@@ -506,7 +593,7 @@ module _ (p : Image) (m : Parts) (turned : progress_by m.rest.ended m.stack.task
     refl,
     λ s st.
         let idle = (machine_between was s st turned).idle in
-        (signals_are_ready p st.typing s st.typed idle).1 ∙ ap is_some (choosing.none_picked s.cells st.typed.good.tidy (none_asked p st.sound.admitted st.typing s st.typed st.kept.fit) (c.1 (requested s.cells) st.agrees.requests.stands)),
+        (signals_are_ready p st.typing s st.typed idle).1 ∙ ap is_some (none_found p m s st idle (c.1 (requested s.cells) (queued p s.cells) st.agrees.requests.stands)),
   )
 
 -- and the machine stands for a state again

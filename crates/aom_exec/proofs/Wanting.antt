@@ -6,7 +6,8 @@ use Rattle.aom_image.specs.Image.{Image}
 use Rattle.aom_image.specs.Views.{instr_at}
 use Rattle.aom_instructions.specs.declared.instr.Instr.{Instr}
 use Rattle.aom_instructions.specs.declared.instr.Instr.TheVariants.{Abort, Ask, Close, Connect, Issue}
-use Rattle.aom_cells.specs.Heap.{class_at, null, Lives}
+use Rattle.aom_cells.specs.Heap.{cell_at, class_at, null, Lives}
+use Rattle.aom_shape.specs.Kinds.{is_object}
 use Rattle.aom_image.specs.Views.{class_at as declared_at}
 use Rattle.aom_image.specs.declared.class.ClassDecl.{ClassDecl}
 use Rattle.aom_roles.specs.Classes.{kind_in}
@@ -28,15 +29,15 @@ use Rattle.aom_exec.specs.declared.wanted.Wanted.TheVariants.{Open, Start, Ask a
 use Rattle.aom_acts.specs.Acts.{At_hand, In_going}
 use Rattle.aom_acts.specs.Acts as acts
 use Rattle.aom_parts.specs.Places.{IsDestroying, going_here}
-use Rattle.aom_parts.specs.Agrees.{home_number, thing_of}
+use Rattle.aom_parts.specs.Agrees.{home_number, thing_in}
 use Rattle.aom_parts.specs.Fields.{this}
 use Rattle.aom_parts.specs.Stands.{StandsFor}
 use Rattle.aom_exec.specs.Wanted.{as_wanted, wanted_of, word_here}
-use Rattle.aom_acts.proofs.FieldActs.{housed, inside_number, inside_there, this_is}
+use Rattle.aom_acts.proofs.FieldActs.{housed, inside_number, inside_object, inside_there, this_is}
 use Rattle.aom_acts.proofs.RequestActs.{kind_same}
 use Rattle.aom_acts.proofs.Finding.{object_lives}
-use Rattle.aom_acts.proofs.GoingActs.{by_going, number_of}
-use Rattle.aom_acts.proofs.Standing.{an_open}
+use Rattle.aom_acts.proofs.GoingActs.{by_going, going_object, number_of}
+use Rattle.aom_acts.proofs.Standing.{an_open, object_class}
 use Rattle.aom_acts.proofs.Stepping.{at_step, cell_found, frame_of, going_of, met, step_of_instr}
 use Rattle.aom_sound.proofs.Maps.{held_lives}
 use Rattle.aom_acts.proofs.WordActs.{word_read}
@@ -53,7 +54,7 @@ module _ (p : Image) (m : Parts) (s : State) (st : StandsFor (record { image = p
   abbrev h : At_hand p m
   h =
       let f = frame_of m.stack.tasks s.tasks runs st.agrees.tasks in
-      record { typing = st.typing; state = s; frame = f.0; below = f.1; top = f.2; wired = st.sound.wired; admitted = st.sound.admitted; typed = st.typed; agrees = st.agrees }
+      record { typing = st.typing; state = s; frame = f.0; below = f.1; top = f.2; formed = st.sound.formed; wired = st.sound.wired; typed = st.typed; kept = st.kept; agrees = st.agrees }
 
   by_home : wanted p s ≡ wanted_by s p h.frame h.below h.frame.home (instr_at p h.frame.method h.frame.place)
   by_home = ap (wanted_task s p) h.top
@@ -67,8 +68,8 @@ module _ (p : Image) (m : Parts) (s : State) (st : StandsFor (record { image = p
       go AtRoot e = refl
       go (Inside o from) e = absurd (inside_there p m h o from e none)
 
-  kind_told : (o : Object) → this m ≡ o.name → named s.cells o.name ≡ Some o → native_of (thing_kind p o.thing) ≡ native_of (kind_of p (class_at m.cells (this m)))
-  kind_told o number lives = ap native_of (kind_same p _ o.thing (st.agrees.cells.things (this m) ∙ ap thing_of (ap (named s.cells) number ∙ lives)))
+  kind_told : (o : Object) → this m ≡ o.name → named s.cells o.name ≡ Some o → is_object o.thing ≡ true → native_of (thing_kind p o.thing) ≡ native_of (kind_of p (class_at m.cells (this m)))
+  kind_told o number lives object = ap native_of (kind_same p _ o.thing (ap (λ n. thing_in (cell_at m.cells n)) number ∙ object_class p m s st.agrees o lives object))
 
   pub unserved_wants : native_of (kind_of p (class_at m.cells (this m))) ≡ None → wanted p s ≡ None
   unserved_wants none = by_home ∙ go h.frame.home refl
@@ -77,7 +78,7 @@ module _ (p : Image) (m : Parts) (s : State) (st : StandsFor (record { image = p
       go Static e = refl
       go AtRoot e = refl
       go (Inside o from) e =
-          ap (λ n. wanted_at s h.frame h.below o n (instr_at p h.frame.method h.frame.place)) (kind_told o (inside_number p m h o from e) (housed p m h o from e) ∙ none)
+          ap (λ n. wanted_at s h.frame h.below o n (instr_at p h.frame.method h.frame.place)) (kind_told o (inside_number p m h o from e) (housed p m h o from e) (inside_object p m h o from e) ∙ none)
 
   -- the instruction that is next, and its needs
   module _ (i : Instr) (here : instr_at p (method_here m.stack.tasks) (place_here m.stack.tasks) ≡ Some i) where
@@ -137,7 +138,7 @@ module _ (p : Image) (m : Parts) (s : State) (st : StandsFor (record { image = p
         go AtRoot e = absurd (some (this_is p m h ∙ ap home_number e))
         go (Inside o from) e =
             let number = inside_number p m h o from e in
-            ap (λ k. wanted_at s h.frame h.below o k (Some i)) (kind_told o number (housed p m h o from e) ∙ serves)
+            ap (λ k. wanted_at s h.frame h.below o k (Some i)) (kind_told o number (housed p m h o from e) (inside_object p m h o from e) ∙ serves)
             ∙ ap (λ name. wanted_here s h.frame h.below n name i) (sym number) ∙ wanted_so i here
 
 -- ---- the going of a cell
@@ -154,21 +155,25 @@ module _ (p : Image) (m : Parts) (s : State) (st : StandsFor (record { image = p
   object = let k = cell_found p m st.typing s below st.sound st.typed st.agrees top in (k.0, k.1)
 
   hand : In_going p m
-  hand = record { typing = st.typing; state = s; below = below; top = top; typed = st.typed; agrees = st.agrees }
+  hand = record { typing = st.typing; state = s; below = below; top = top; formed = st.sound.formed; wired = st.sound.wired; typed = st.typed; kept = st.kept; agrees = st.agrees }
 
   number : going_here m.stack.tasks ≡ object.0.name
   unfolding hand
   number = by_going p m hand (λ us. going_here us ≡ object.0.name) (λ x ms over. number_of p m hand object.0 x ms over object.1)
 
+  is_one : is_object object.0.thing ≡ true
+  unfolding hand
+  is_one = by_going p m hand (λ us. is_object object.0.thing ≡ true) (λ x ms over. going_object p m hand object.0 x ms over object.1)
+
   wanted_is : wanted p s ≡ wanted_going s object.0 (native_of (kind_of p (class_at m.cells (going_here m.stack.tasks))))
   wanted_is =
       let o = object.0 in
       let lives = held_lives s.cells _ o st.typed.good.tidy object.1 in
-      let kind = kind_same p _ o.thing (st.agrees.cells.things (going_here m.stack.tasks) ∙ ap thing_of (ap (named s.cells) number ∙ lives)) in
+      let kind = kind_same p _ o.thing (ap (λ n. thing_in (cell_at m.cells n)) number ∙ object_class p m s st.agrees o lives is_one) in
       ap (wanted_task s p) top ∙ ap (wanted_gone s p) object.1 ∙ ap (wanted_going s o) (ap native_of kind)
 
   pub going_lives : Lives m.cells (going_here m.stack.tasks)
-  going_lives = object_lives p m st.typing s st.typed st.agrees _ object.0 _ object.1 number
+  going_lives = object_lives p m st.typing s st.typed st.agrees _ object.0 _ object.1 is_one number
 
   pub nothing_going : native_of (kind_of p (class_at m.cells (going_here m.stack.tasks))) ≡ None → wanted p s ≡ None
   nothing_going none = wanted_is ∙ ap (wanted_going s object.0) none
@@ -209,5 +214,5 @@ heard_stands p m answer s st =
       waits = st.waits;
       within = st.within;
       kept = st.kept;
-      agrees = record { tasks = a.tasks; values = a.values; cells = a.cells; entries = a.entries; requests = a.requests; natives = a.natives; rest = a.rest; room = a.room; entry_room = a.entry_room };
+      agrees = record { tasks = a.tasks; values = a.values; cells = a.cells; entries = a.entries; requests = a.requests; natives = a.natives; services = a.services; rest = a.rest; room = a.room; entry_room = a.entry_room };
     }

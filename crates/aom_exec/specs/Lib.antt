@@ -5,3 +5,5 @@ pub mod Turns
 pub mod WordMoves
 pub mod Wanted
 pub mod Serving
+pub mod Servers
+pub mod Clients

@@ -1,9 +1,12 @@
 -- A number that falls with each step, while something is at hand: the rank of the states that a machine stands for.
 use Rattle.std.specs.Prelude.{ℕ, ◌+◌, ◌-◌, ◌*◌, suc, List, [], ◌∷◌, map}
+use Rattle.aom_cells.specs.Heap.{count}
 use Rattle.aom_image.specs.Image.{Image}
-use Rattle.aom_sound.specs.State.{Static, Task, Run, Trapped, Destroy, Unwind, Dispatched}
+use Rattle.aom_messages.specs.Store.{count as count_messages}
+use Rattle.aom_parts.specs.declared.parts.Parts.{Parts}
+use Rattle.aom_sound.specs.State.{Static, Task, Run, Trapped, Destroy, Closing, Unwind, Dispatched}
 use Rattle.aom_frames.specs.declared.task.Task.{Task as Held_task}
-use Rattle.aom_frames.specs.declared.task.Task.TheVariants.{Run as Runs_frame, Trapped as Is_trap, Destroy as Destroys, Unwind as Unwinds, Dispatched as Ends}
+use Rattle.aom_frames.specs.declared.task.Task.TheVariants.{Run as Runs_frame, Trapped as Is_trap, Destroy as Destroys, Closing as Closes, Unwind as Unwinds, Dispatched as Ends}
 use Rattle.aom_cleanup.specs.declared.item.Item.{Item as Held_item}
 use Rattle.aom_cleanup.specs.declared.item.Item.TheVariants.{Object as Holds_object, Operation as Holds_operation, Mark as Is_mark}
 use Rattle.aom_ranks.specs.Ranks.{tasks_rank, destructions, cell_rank}
@@ -15,6 +18,7 @@ abbrev pub ranked : Held_task → Task
 ranked (Runs_frame f) = Run (record { method = f.method; place = f.place; words = []; counters = f.counters; home = Static; height = 0 })
 ranked Is_trap = Trapped
 ranked (Destroys x) = Destroy
+ranked Closes = Closing
 ranked (Unwinds code) = Unwind code
 -- where its object sits its rank does not tell
 ranked (Ends d) = Dispatched (dispatch_of (Elsewhere Root) d)
@@ -26,6 +30,9 @@ operations_in (Holds_object n ∷ is) = operations_in is
 operations_in (Holds_operation m n ∷ is) = suc (operations_in is)
 operations_in (Is_mark ∷ is) = operations_in is
 
--- so many cells live, and those that go have paid; an operation pays for its run
+-- so many cells and messages live, and those that go have paid; an operation pays for its run
 abbrev pub rank_of : Image → List Held_task → List Held_item → ℕ → ℕ
 rank_of p tasks items cells = tasks_rank p (map ranked tasks) + ((cells - destructions (map ranked tasks)) + operations_in items) * cell_rank p
+
+abbrev pub rank_in : Image → Parts → ℕ
+rank_in p m = rank_of p m.stack.tasks m.entries.items (count m.cells + count_messages m.messages)

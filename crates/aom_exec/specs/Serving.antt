@@ -2,7 +2,7 @@
 use Rattle.std.specs.Prelude.{◌≡◌, ℕ, ℤ, Bool, false, length, Option, Some, None}
 use Rattle.aom_image.specs.Image.{Image}
 use Rattle.aom_image.specs.declared.method.Thing.TheVariants.{Object as An_object_of}
-use Rattle.aom_active.specs.Agrees.{Active, StandsFor as Asks_for}
+use Rattle.aom_active.specs.Agrees.{Active, StandsFor as Asks_for, queued}
 use Rattle.aom_active.specs.Meanings.{Makes}
 use Rattle.aom_sessions.specs.Sessions.{is_open}
 use Rattle.aom_sound.specs.Enlisted.{completed_with, recorded}
@@ -35,6 +35,6 @@ pub record KeepsOthers (old new : Parts) : Type 0 where
 
 -- the requests and the sessions are those that the cells have once the native is killed
 pub record Bereaves (p : Image) (native : ℕ) (old new : Parts) : Type 0 where
-  pub requests : (s : State) → StandsFor (record { image = p; parts = old }) s → Asks_for new.active (requested (all_bereaved p native s.cells))
+  pub requests : (s : State) → StandsFor (record { image = p; parts = old }) s → Asks_for new.active (requested (all_bereaved p native s.cells)) (queued p (all_bereaved p native s.cells))
   pub sessions : (s : State) → StandsFor (record { image = p; parts = old }) s → (n : ℕ) → is_open new.sessions n ≡ in_session (all_bereaved p native s.cells) n
   pub others : KeepsOthers old new

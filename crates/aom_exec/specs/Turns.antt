@@ -8,7 +8,9 @@ use Rattle.aom_requests.specs.Requests.{IsEnlisted, status_at}
 use Rattle.aom_transcript.specs.declared.line.Line.TheVariants.{Run as Run_line}
 use Rattle.aom_frames.specs.Tasks.{fresh}
 use Rattle.aom_frames.specs.declared.task.Task.TheVariants.{Run, Trapped, Dispatched}
+use Rattle.aom_frames.specs.declared.dispatch.Dispatch.{Dispatch}
 use Rattle.aom_frames.specs.declared.dispatch.Dispatch.TheVariants.{Object as Of_one}
+use Rattle.aom_frames.specs.declared.frame.Frame.{Frame}
 use Rattle.aom_cleanup.specs.declared.item.Item.TheVariants.{Mark}
 use Rattle.aom_sound.specs.Places.{Cell}
 use Rattle.aom_sound.specs.State.{Goes, State}
@@ -22,7 +24,7 @@ pub record Takes (old : Machine) (s : State) (part : Turning) (told now : Turn) 
   pub between : IsBetween s
   pub state : State
   pub goes : turned old.image s part ≡ Goes state
-  pub lines : now ≡ record told { lines = told.lines ++ written_by s part }
+  pub lines : now ≡ record told { lines = told.lines ++ written_by old.image s part }
   pub stands : StandsFor new state
 
 -- so from each state that it stands for
@@ -38,7 +40,7 @@ abbrev pub Completed : Machine → Bool → Machine → Type 0
 Completed old true new = (told : Turn) (s : State) → StandsFor old s → (x : Timed) × (first_due s.cells ≡ Some x) × (x.timer.due ≤ s.rest.clock) × Takes old s (Completes x.object) told told new
 Completed old false new = (new ≡ old) × ((s : State) → StandsFor old s → NoneDue s)
 
--- the ready object that goes before all others is dispatched, with its line; there is none where nothing signals
+-- the ready object or server that goes before all others is dispatched, with its line; there is none where nothing signals
 abbrev pub Picked : Machine → Bool → Turn → Turn → Machine → Type 0
 Picked old true told now new = (s : State) → StandsFor old s → (x : Candidate) × (first_ready s.cells ≡ Some x) × (has_signal s.cells ≡ true) × Takes old s (Picks x.seat) told now new
 Picked old false told now new = (new ≡ old) × (now ≡ told) × ((s : State) → StandsFor old s → has_signal s.cells ≡ false)
@@ -63,14 +65,19 @@ pub record CanDispatch (p : Image) (m : Parts) (id : ℕ) : Type 0 where
   pub bare : m.entries.items ≡ []
   pub room : 1024 ≤ m.stack.depth
 
--- the method runs under the trap of its dispatch, which has taken no step
+-- nothing is at hand, and there is room
+pub record IsIdle (m : Parts) : Type 0 where
+  pub idle : m.stack.tasks ≡ []
+  pub bare : m.entries.items ≡ []
+  pub room : 1024 ≤ m.stack.depth
+
+-- a method runs under the trap of that dispatch
+abbrev pub begins_under : Dispatch → Frame → Parts → Parts
+begins_under d f m = record m { stack = record m.stack { tasks = Run f ∷ Trapped ∷ Dispatched d ∷ m.stack.tasks }; entries = record m.entries { items = Mark ∷ m.entries.items } }
+
+-- that of an object, which has taken no step
 abbrev pub running : (method class id : ℕ) → Parts → Parts
-running method class id m =
-    record m {
-      stack = record m.stack { tasks = Run (fresh method id) ∷ Trapped ∷ Dispatched (Of_one (record { number = id; class = class })) ∷ m.stack.tasks };
-      entries = record m.entries { items = Mark ∷ m.entries.items };
-      rest = record m.rest { steps = 0; polled = 0 };
-    }
+running method class id m = begins_under (Of_one (record { number = id; class = class })) (fresh method id) (record m { rest = record m.rest { steps = 0; polled = 0 } })
 
 -- the cell of that number is dispatched, by its class, with its line
 pub record Dispatches (p : Image) (id : ℕ) (old : Parts) (told now : Turn) (new : Parts) : Type 0 where

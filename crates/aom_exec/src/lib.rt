@@ -6,8 +6,10 @@
 //! its move; lines go out as values in a `Turn`.
 #![tactic(auto)]
 
+mod clients;
 mod machine;
 mod moves;
+mod servers;
 mod serving;
 mod turns;
 mod wanted;

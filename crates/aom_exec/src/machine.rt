@@ -2,9 +2,10 @@
 ghost use Rattle.std.specs.Prelude.{◌≡◌, ◌<◌, ◌≤◌, ◌+◌, ◌++◌, ◌∷◌, ◌^◌, ◌↔◌, ◌⊎◌, [], IfOk, IfSome, IsTrue, Option, false, length, option_map, suc, true};
 ghost use Rattle.aom_cells.specs.Heap.{count};
 ghost use Rattle.aom_sound.specs.World.{AnswersWell, Completion, Cuts, Hears, Kills, Passes, Polls, Waits, boot_state, due_of, first_due};
-ghost use Rattle.aom_lines.specs.Turn.{Turn as TurnRecord};
+ghost use Rattle.aom_lines.specs.Turn.{Turn as TurnRecord, step_lines};
 ghost use Rattle.aom_owed.specs.Owed.{owes};
 ghost use Rattle.aom_exec.specs.Agreement.{AgreesInAll};
+ghost use Rattle.aom_exec.specs.Clients.{IsInRange, Obeyed};
 ghost use Rattle.aom_parts.specs.Stands.{Stands, StandsFor};
 ghost use Rattle.aom_exec.specs.Steps.{Stepped, SteppedOn, Wants, progress, rank, timers};
 ghost use Rattle.aom_exec.specs.Turns.{Answers, Completed, NoneDue, Picked, Takes, TakesAll};
@@ -16,10 +17,11 @@ ghost use Rattle.aom_steps.specs.Payers.{declared_of, payer};
 ghost use Rattle.aom_parts.specs.declared.progress.Progress.TheVariants.{Running, Turned};
 
 use crate::wanted::{self, Wanted};
-use crate::{moves, serving, turns};
+use crate::{clients, moves, serving, turns};
 use aom_budget::Accepted;
 use aom_lines::Turn;
 use aom_parts::{Parts, Progress};
+use aom_transcript::Command;
 use std::alloc::{AllocError, Global};
 use std::marker::Model;
 
@@ -62,7 +64,7 @@ impl<'a> Machine<'a> {
     /// One instruction, or the going of one cell, with what counts as no step after it: a leave's next move, and the end of
     /// the dispatch. The first step writes main's line before all else. Where nothing is at hand, nothing changes.
     pub fn step(&mut self, turn: &mut Turn) -> Progress
-        requires room { length turn.old.lines + 2 < turn.old.room }
+        requires room { length turn.old.lines + step_lines self.old.image.header.messages < turn.old.room }
         ensures image { self.new.image ≡ self.old.image }
         ensures steps { Stepped self.old result turn.old turn.new self.new }
         ensures agrees { AgreesInAll self.new }
@@ -73,7 +75,7 @@ impl<'a> Machine<'a> {
 
     /// Steps until something is written, nothing is at hand, or the next step asks something of a native. The first step alone hears one.
     pub fn step_on(&mut self, turn: &mut Turn) -> Progress
-        requires room { length turn.old.lines + 2 < turn.old.room }
+        requires room { length turn.old.lines + step_lines self.old.image.header.messages < turn.old.room }
         ensures image { self.new.image ≡ self.old.image }
         ensures steps { SteppedOn self.old result turn.old turn.new self.new }
         ensures agrees { AgreesInAll self.new }
@@ -111,7 +113,7 @@ impl<'a> Machine<'a> {
     }
 
     /// Between dispatches: the ready object that goes before all others is dispatched, with its line (CActiveScheduler::Start's
-    /// RunL). Answers false where nothing signals.
+    /// RunL), and a server for the first of its queue. Answers false where nothing signals.
     pub fn pick(&mut self, turn: &mut Turn) -> bool
         requires between { progress self.old ≡ Turned }
         requires room { length turn.old.lines < turn.old.room }
@@ -170,6 +172,26 @@ impl<'a> Machine<'a> {
         ensures agrees { AgreesInAll self.new }
     {
         serving::kill(&mut self.parts, native, self.accepted.linked(), turn);
+    }
+
+    /// Between dispatches the client of that number does what it is told, with a line where that is refused. Answers whether it was.
+    pub fn obey(&mut self, client: u8, command: Command, turn: &mut Turn) -> bool
+        requires between { progress self.old ≡ Turned }
+        requires few { self.old.parts.rest.delivered + 1 < 2 ^ 64 }
+        requires client { client < 64 }
+        requires ranged { IsInRange command }
+        requires room { length turn.old.lines < turn.old.room }
+        ensures image { self.new.image ≡ self.old.image }
+        ensures obeyed { (s : State) → StandsFor self.old s → Obeyed self.old s client command turn.old turn.new self.new }
+        ensures told { length turn.new.lines ≤ length turn.old.lines + 1 }
+        ensures quiet { result ≡ false → turn.new ≡ turn.old }
+        ensures rest { self.new.parts.rest ≡ record self.old.parts.rest { delivered = suc self.old.parts.rest.delivered } }
+        ensures sessions { self.new.parts.sessions ≡ self.old.parts.sessions }
+        ensures none_due { ((s : State) → StandsFor self.old s → NoneDue s) → (s : State) → StandsFor self.new s → NoneDue s }
+        ensures timers { timers self.new ≡ timers self.old }
+        ensures agrees { AgreesInAll self.new }
+    {
+        clients::obey(&mut self.parts, client, command, self.accepted.linked(), turn)
     }
 
     /// Between dispatches a native is polled: it completes the request of the cell of that number with a code, or nothing.

@@ -14,7 +14,7 @@ ghost use Rattle.aom_sound.specs.Natives.{is_owed, terminated_request};
 ghost use Rattle.aom_sound.specs.Places.{Request};
 ghost use Rattle.aom_sound.specs.State.{State};
 ghost use Rattle.aom_sound.specs.World.{Kills};
-ghost use Rattle.std.specs.Prelude.{◌≡◌, ◌<◌, ◌+◌, ◌^◌, ◌&&◌, ◌||◌, ◌++◌, ◌∷◌, [], ℕ, IfSome, IsTrue, Option, false, length, suc, true};
+ghost use Rattle.std.specs.Prelude.{◌≡◌, ◌<◌, ◌+◌, ◌^◌, ◌&&◌, ◌||◌, ◌++◌, ◌∷◌, [], ℕ, IfSome, IsTrue, Bool, Option, false, length, suc, true};
 
 use crate::wanted;
 use aom_acts::TERMINATED;
@@ -26,9 +26,9 @@ use aom_transcript::Line;
 
 /// Whether the native serves a cell that has a request outstanding, or a session.
 fn is_engaged(parts: &Parts, id: CellId, native: usize, linked: &Linked) -> bool
-    requires lives { (asked : ℕ → Option Request) × Asks_for parts.now.active asked × ((is_owed (asked id) || is_open parts.now.sessions id) ≡ true → Lives parts.now.cells id) }
+    requires lives { (asked : ℕ → Option Request) × (queues : ℕ → Option Bool) × Asks_for parts.now.active asked queues × ((is_owed (asked id) || is_open parts.now.sessions id) ≡ true → Lives parts.now.cells id) }
     requires small { IfSome (class_at parts.now.cells id) (λ class. class < 256) }
-    ensures { (asked : ℕ → Option Request) → Asks_for parts.now.active asked → result ≡ ((is_owed (asked id) || is_open parts.now.sessions id) && serves_class linked.now native (class_at parts.now.cells id)) }
+    ensures { (asked : ℕ → Option Request) (queues : ℕ → Option Bool) → Asks_for parts.now.active asked queues → result ≡ ((is_owed (asked id) || is_open parts.now.sessions id) && serves_class linked.now native (class_at parts.now.cells id)) }
 {
     if !parts.active.is_pending(id) && !parts.sessions.is_open(id) {
         return false;
@@ -41,8 +41,8 @@ fn is_engaged(parts: &Parts, id: CellId, native: usize, linked: &Linked) -> bool
 
 /// What a cell has outstanding is completed as its native is killed, and its session is over.
 fn bereave(parts: &mut Parts, id: CellId)
-    requires { (asked : ℕ → Option Request) × Asks_for parts.old.active asked × (is_unanswered (asked id) ≡ false) }
-    ensures requests { (asked : ℕ → Option Request) → Asks_for parts.old.active asked → Asks_for parts.new.active (asked_anew id (terminated_request (asked id)) asked) }
+    requires { (asked : ℕ → Option Request) × (queues : ℕ → Option Bool) × Asks_for parts.old.active asked queues × (is_unanswered (asked id) ≡ false) }
+    ensures requests { (asked : ℕ → Option Request) (queues : ℕ → Option Bool) → Asks_for parts.old.active asked queues → Asks_for parts.new.active (asked_anew id (terminated_request (asked id)) asked) queues }
     ensures numbers { parts.new.active.table.limit ≡ parts.old.active.table.limit }
     ensures sessions { Sets parts.old.sessions parts.new.sessions id false }
     ensures rest { parts.new ≡ record parts.old { active = parts.new.active; sessions = parts.new.sessions } }

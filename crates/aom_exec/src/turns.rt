@@ -4,8 +4,9 @@ ghost use Rattle.aom_parts.specs.Progress.{progress_by};
 ghost use Rattle.aom_parts.specs.declared.progress.Progress.TheVariants.{Turned};
 ghost use Rattle.std.specs.Prelude.{◌≡◌, ◌<◌, length, true};
 ghost use Rattle.aom_parts.specs.Stands.{Stands};
-ghost use Rattle.aom_exec.specs.Turns.{CanDispatch, Completed, Dispatches, Picked};
+ghost use Rattle.aom_exec.specs.Turns.{CanDispatch, Completed, Dispatches, IsIdle, Picked, begins_under};
 
+use crate::servers;
 use aom_cells::CellId;
 use aom_classes::Linked;
 use aom_frames::{Dispatch, Frame, Subject, Task};
@@ -24,7 +25,7 @@ pub fn due(parts: &mut Parts) -> bool
     parts.active.due(parts.rest.clock()).is_some()
 }
 
-/// The first object that is ready is dispatched, with its line.
+/// The first object that is ready is dispatched, or the first server in whose queue something waits, with its line.
 pub fn pick(parts: &mut Parts, linked: &Linked, turn: &mut Turn) -> bool
     requires stands { Stands (record { image = linked.now; parts = parts.old }) }
     requires between { progress_by parts.old.rest.ended parts.old.stack.tasks ≡ Turned }
@@ -34,7 +35,11 @@ pub fn pick(parts: &mut Parts, linked: &Linked, turn: &mut Turn) -> bool
     let Some(id) = parts.active.pick() else {
         return false;
     };
-    dispatch(parts, id, linked, turn);
+    if parts.active.is_server(id) {
+        servers::serve(parts, id, linked, turn);
+    } else {
+        dispatch(parts, id, linked, turn);
+    }
     true
 }
 
@@ -51,8 +56,17 @@ fn dispatch(parts: &mut Parts, id: CellId, linked: &Linked, turn: &mut Turn)
     };
     turn.push(Line::Run(parts.rest.clock(), class, parts.active.status(id)));
     parts.rest.count_anew();
+    let subject = Subject::new(number, class);
+    run_under(parts, Dispatch::Object(subject), Frame::begin(method, number));
+}
+
+/// A method is at hand under the trap of that dispatch, and nothing else is.
+pub fn run_under(parts: &mut Parts, dispatch: Dispatch, frame: Frame)
+    requires { IsIdle parts.old }
+    ensures { parts.new ≡ begins_under dispatch frame parts.old }
+{
     parts.entries.mark();
-    parts.stack.push(Task::Dispatched(Dispatch::Object(Subject::new(number, class))));
+    parts.stack.push(Task::Dispatched(dispatch));
     parts.stack.push(Task::Trapped);
-    parts.stack.push(Task::Run(Frame::begin(method, number)));
+    parts.stack.push(Task::Run(frame));
 }

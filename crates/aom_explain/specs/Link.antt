@@ -1,35 +1,30 @@
 -- What is told of an image whose parts do not go together.
 use Rattle.std.specs.Prelude.{codes}
 use Rattle.aom_classes.specs.declared.fault.LinkFault.{LinkFault}
-use Rattle.aom_classes.specs.declared.fault.LinkFault.TheVariants.{NotYet, ClassOrder, CallOrder, MissingRole, DoubleRole, RoleShape, BadJump, BadLoop, NoMain, OutOfMemory}
+use Rattle.aom_classes.specs.declared.fault.LinkFault.TheVariants.{ClassOrder, CallOrder, MissingRole, DoubleRole, RoleShape, BadJump, BadLoop, NoMain, OutOfMemory}
 use Rattle.aom_explain.specs.Entries.{Texts}
 use Rattle.aom_explain.specs.Word.{memory_texts}
 
 -- by the fault, in the order of the numbers
 abbrev pub link_texts : LinkFault → Texts
-link_texts NotYet = record {
-  name = codes "not admitted yet";
-  meaning = codes "The image has something that this stage does not take: servers and sessions, the roles of their methods, messages as arguments, results or fields, or an instruction of messages.";
-  mend = codes "Leave it out; linking.md has the list of what is admitted. aom dis lists such an image all the same.";
-}
 link_texts ClassOrder = record {
   name = codes "order of classes";
-  meaning = codes "A class owns objects of a class that does not come before it (its own is none that does), or owns sessions, or the root is a session.";
-  mend = codes "Declare what is owned first. A class cannot own its like, so chains are made of several classes.";
+  meaning = codes "A class owns objects of a class that does not come before it (its own is none that does), or owns sessions; the sessions of a server are of a class that does not come before it, or is none of sessions; or the root is a session.";
+  mend = codes "Declare what is owned first, and the class of its sessions before a server. A class cannot own its like, so chains are made of several classes.";
 }
 link_texts CallOrder = record {
   name = codes "order of calls";
-  meaning = codes "A method calls, traps or pushes one that does not come before it, or has to do with a class whose destructor does not come before it.";
+  meaning = codes "A method calls, traps or pushes one that does not come before it, has to do with a class whose destructor, or that of whose sessions, does not come before it, or cancels before the cancel method of its class.";
   mend = codes "Put destructors first, then each method before those that call it, and main last. A method cannot call itself: use a loop.";
 }
 link_texts MissingRole = record {
   name = codes "missing method";
-  meaning = codes "A class with owning fields has no destruct method.";
-  mend = codes "Write a destructor that takes what each field owns and deletes it.";
+  meaning = codes "A class with owning fields has no destruct method; one of active objects lacks run, cancel or destruct; a server has no accept method, or a session no service.";
+  mend = codes "Write it. A destructor takes what each field owns and deletes it, accept gives a new session, and service takes its message.";
 }
 link_texts DoubleRole = record {
   name = codes "one method too many";
-  meaning = codes "A class has two construct or two destruct methods, or there are two mains.";
+  meaning = codes "A class has two methods of one role, do aside, or there are two mains.";
   mend = codes "Keep one; make the other a do.";
 }
 link_texts RoleShape = record {

@@ -14,8 +14,8 @@ script_texts NotAscii = record {
 }
 script_texts BadLine = record {
   name = codes "no line";
-  meaning = codes "The words make no line that is admitted. A script has no comments.";
-  mend = codes "Write refuse N, T event N W, T kill N, or nothing. Lines of clients come later.";
+  meaning = codes "The words make no line. A script has no comments.";
+  mend = codes "Write refuse N, T event N W, T kill N, T connect C CLASS SLOTS, T send C F I0 I1 I2 I3, T close C, T die C, or nothing.";
 }
 script_texts BadNumber = record {
   name = codes "no number";
@@ -30,6 +30,6 @@ script_texts TimeBack = record {
 script_texts LimitPassed = record {
   name = codes "past a limit";
   meaning = codes "A number is out of its range and no time goes back, the script has more than 65,536 lines, or, told of line 1, more than 1 MiB.";
-  mend = codes "Requests are counted from 1, to 4,294,967,295; a time is at most 10^15, a native from 0 to 15, a word from -2^31 to 2^31 - 1.";
+  mend = codes "Requests are counted from 1, to 4,294,967,295; a time is at most 10^15, a native from 0 to 15, a word from -2^31 to 2^31 - 1, a client from 0 to 63, its slots from 0 to 64, a class from 0 to 255.";
 }
 script_texts OutOfMemory = memory_texts

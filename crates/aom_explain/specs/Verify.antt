@@ -88,13 +88,13 @@ verify_texts NotCancelled = record {
 }
 verify_texts MessageAtLeave = record {
   name = codes "message at a leave";
-  meaning = codes "The instruction may leave, and the message is taken.";
-  mend = codes "Comes with messages.";
+  meaning = codes "The instruction may leave, and the service has taken its message, so that no code of the leave could reach the client.";
+  mend = codes "Do what may leave before takemsg, or under a trap; behind it reply with the code.";
 }
 verify_texts MessageAtReturn = record {
   name = codes "message at a return";
   meaning = codes "A service method ends and has not taken its message, or ways come together here on which it is taken and is not.";
-  mend = codes "Comes with messages.";
+  mend = codes "takemsg on each way, and reply to it or keep it in a field; leave where it is to be completed with a code and nothing else.";
 }
 verify_texts NotAdded = record {
   name = codes "not enlisted";

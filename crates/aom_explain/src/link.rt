@@ -6,33 +6,27 @@ use crate::Entry;
 use crate::word::MEMORY;
 use aom_classes::LinkFault;
 
-const NOT_YET: Entry = Entry {
-    name: b"not admitted yet",
-    meaning: b"The image has something that this stage does not take: servers and sessions, the roles of their methods, messages as arguments, results or fields, or an instruction of messages.",
-    mend: b"Leave it out; linking.md has the list of what is admitted. aom dis lists such an image all the same.",
-};
-
 const CLASS_ORDER: Entry = Entry {
     name: b"order of classes",
-    meaning: b"A class owns objects of a class that does not come before it (its own is none that does), or owns sessions, or the root is a session.",
-    mend: b"Declare what is owned first. A class cannot own its like, so chains are made of several classes.",
+    meaning: b"A class owns objects of a class that does not come before it (its own is none that does), or owns sessions; the sessions of a server are of a class that does not come before it, or is none of sessions; or the root is a session.",
+    mend: b"Declare what is owned first, and the class of its sessions before a server. A class cannot own its like, so chains are made of several classes.",
 };
 
 const CALL_ORDER: Entry = Entry {
     name: b"order of calls",
-    meaning: b"A method calls, traps or pushes one that does not come before it, or has to do with a class whose destructor does not come before it.",
+    meaning: b"A method calls, traps or pushes one that does not come before it, has to do with a class whose destructor, or that of whose sessions, does not come before it, or cancels before the cancel method of its class.",
     mend: b"Put destructors first, then each method before those that call it, and main last. A method cannot call itself: use a loop.",
 };
 
 const MISSING_ROLE: Entry = Entry {
     name: b"missing method",
-    meaning: b"A class with owning fields has no destruct method.",
-    mend: b"Write a destructor that takes what each field owns and deletes it.",
+    meaning: b"A class with owning fields has no destruct method; one of active objects lacks run, cancel or destruct; a server has no accept method, or a session no service.",
+    mend: b"Write it. A destructor takes what each field owns and deletes it, accept gives a new session, and service takes its message.",
 };
 
 const DOUBLE_ROLE: Entry = Entry {
     name: b"one method too many",
-    meaning: b"A class has two construct or two destruct methods, or there are two mains.",
+    meaning: b"A class has two methods of one role, do aside, or there are two mains.",
     mend: b"Keep one; make the other a do.",
 };
 
@@ -65,7 +59,6 @@ pub fn link_entry(fault: LinkFault) -> Entry
     ensures { result ≡ link_texts fault }
 {
     match fault {
-        LinkFault::NotYet => NOT_YET,
         LinkFault::ClassOrder => CLASS_ORDER,
         LinkFault::CallOrder => CALL_ORDER,
         LinkFault::MissingRole => MISSING_ROLE,

@@ -103,14 +103,14 @@ const NOT_CANCELLED: Entry = Entry {
 
 const MESSAGE_AT_LEAVE: Entry = Entry {
     name: b"message at a leave",
-    meaning: b"The instruction may leave, and the message is taken.",
-    mend: b"Comes with messages.",
+    meaning: b"The instruction may leave, and the service has taken its message, so that no code of the leave could reach the client.",
+    mend: b"Do what may leave before takemsg, or under a trap; behind it reply with the code.",
 };
 
 const MESSAGE_AT_RETURN: Entry = Entry {
     name: b"message at a return",
     meaning: b"A service method ends and has not taken its message, or ways come together here on which it is taken and is not.",
-    mend: b"Comes with messages.",
+    mend: b"takemsg on each way, and reply to it or keep it in a field; leave where it is to be completed with a code and nothing else.",
 };
 
 const NOT_ADDED: Entry = Entry {

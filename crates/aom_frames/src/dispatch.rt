@@ -28,6 +28,20 @@ impl Subject {
     }
 }
 
+/// How far the dispatch of a server has come with the first of its queue.
+#[derive(Clone, Copy, PartialEq, Eq, Debug)]
+pub enum Stage {
+    /// Of a connect: its accept runs, has given a session, or has left with that code.
+    Accepts,
+    Accepted,
+    AcceptLeft(i32),
+    /// Of a message: the service of that session runs, or has left with that code.
+    Serves(Subject),
+    ServiceLeft(i32),
+    /// Of a close: the session goes, or is gone.
+    Parts,
+}
+
 /// What a dispatch is of.
 #[derive(Clone, Copy, PartialEq, Eq, Debug)]
 pub enum Dispatch {
@@ -44,4 +58,6 @@ pub enum Dispatch {
     Asks(Subject),
     /// The end of an object's, whose RunError gave that answer.
     Answered(Subject, i32),
+    /// A server's, for that client. Once all is served it is an object's.
+    Server(Subject, u8, Stage),
 }

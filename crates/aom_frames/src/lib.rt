@@ -1,4 +1,4 @@
-//! The stack of what is at hand: methods, traps, destructions and dispatches, the innermost on top.
+//! The stack of what is at hand: methods, traps, destructions, leaves and dispatches, the innermost on top.
 //!
 //! A `Frame` is where a method stands, its sixteen registers and the counters of its loops: plain numbers, with nothing
 //! that tells a word from the number of a cell. Registers begin with null. `Tasks::with_depth` takes all the memory that
@@ -14,7 +14,7 @@ mod task;
 mod tasks;
 mod words;
 
-pub use dispatch::{Dispatch, Subject};
+pub use dispatch::{Dispatch, Stage, Subject};
 pub use frame::Frame;
 pub use task::{Task, TaskKind};
 pub use tasks::Tasks;

@@ -1,6 +1,7 @@
 //! The lines of a turn, and the room for them.
 ghost use Rattle.std.specs.Prelude.{◌≡◌, ◌+◌, ◌<◌, ◌==◌, [], ◌∷◌, ◌++◌, length, IfOk};
 ghost use Rattle.std.specs.List.{list_any};
+ghost use Rattle.aom_lines.specs.Turn.{step_lines};
 
 use crate::refusals::Refusals;
 use aom_budget::Accepted;
@@ -8,8 +9,12 @@ use aom_transcript::Line;
 use std::alloc::{AllocError, Global};
 use std::marker::Model;
 
-/// How many lines one call of the machine can write beside those of the messages.
-const OTHER_LINES: usize = 80;
+/// How many lines of earlier steps may be there as a step begins.
+const EARLIER_LINES: usize = 64;
+
+/// How many lines one step can write beside those of the messages: of the connects in the queue of a server that goes, one for
+/// each client, and main's line, that of the cell that goes, that of the leave that arrives, and the answer to a client.
+const OTHER_LINES: usize = 68;
 
 /// The lines that were written since it was cleared, with room for more, and the refused requests.
 #[derive(Drop)]
@@ -31,14 +36,14 @@ impl Model for Turn {
 }
 
 impl Turn {
-    /// No lines, and room for all that one call of the image's machine can write.
+    /// No lines, and room for all that one step of the image's machine can write, after as many as may be there before.
     pub fn new(alloc: Global, accepted: &Accepted, refused: Vec<u32>) -> Result<Turn, AllocError>
         ensures lines { IfOk result (λ t. t.lines ≡ []) }
         ensures refused { IfOk result (λ t. t.refused ≡ refused.items) }
-        ensures room { IfOk result (λ t. t.room ≡ accepted.now.header.messages + 80) }
+        ensures room { IfOk result (λ t. t.room ≡ 64 + step_lines accepted.now.header.messages) }
     {
         let header = accepted.checked().linked().image().header();
-        let room = header.messages as usize + OTHER_LINES;
+        let room = header.messages as usize + EARLIER_LINES + OTHER_LINES;
         let lines = Vec::with_capacity(alloc, room)?;
         let refused = Refusals::new(alloc, refused)?;
         Ok(Turn {

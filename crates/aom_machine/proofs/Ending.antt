@@ -21,7 +21,7 @@ use Rattle.aom_machine.specs.Calls.{Delivered, StandsFor, Takes, natives_of}
 use Rattle.aom_machine.specs.Standing.{KeptSame}
 use Rattle.aom_machine.proofs.Asked.{one_there}
 use Rattle.aom_machine.proofs.Named.{there}
-use Rattle.aom_machine.proofs.Serving.{heard_plain, kept_but, serves_completed, serves_killed, tale_of, takes_plainly, takes_so, untouched}
+use Rattle.aom_machine.proofs.Serving.{heard_plain, kept_but, serves_completed, serves_killed, tale_of, takes_plainly, takes_so, untouched, with_any_name}
 
 -- a slot beyond the last has no native
 beyond : {L : Type 0} (slots : List (Option L)) (n : ℕ) → length slots ≤ n → is_some (living_at slots n) ≡ false
@@ -61,26 +61,28 @@ module _ {X : Type 0} {B : X → Type 0} (old : Machine X B) (s : State) (st : S
   pub not_killed : (n : ℕ) → IsSome (living_at old.natives.slots.items n) → is_killed old.core.parts.sessions n ≡ false
   not_killed n alive = ap (λ l. is_dead l n) st.stands.agrees.natives.dead ∙ not-true (is_dead s.killed n) (sym (st.serves.lives n (within old.natives.slots.items n alive)) ∙ alive)
 
-  pub kills_it : (outside : Outside) → outside.natives ≡ natives_of old → (n : ℕ) → IsSome (living_at old.natives.slots.items n) → delivers outside s (Kill n) ≡ Kills n
-  kills_it outside same n alive = ap (λ b. cond b (Kills n) Hears) (lives_is outside same n ∙ alive)
+  pub kills_it : (outside : Outside) → outside.natives ≡ natives_of old → (name n : ℕ) → IsSome (living_at old.natives.slots.items n) → delivers outside name s (Kill n) ≡ Kills n
+  kills_it outside same name n alive = ap (λ b. cond b (Kills n) Hears) (lives_is outside same n ∙ alive)
 
-  pub kills_none : (outside : Outside) → outside.natives ≡ natives_of old → (n : ℕ) → is_some (living_at old.natives.slots.items n) ≡ false → delivers outside s (Kill n) ≡ Hears
-  kills_none outside same n dead = ap (λ b. cond b (Kills n) Hears) (lives_is outside same n ∙ dead)
+  pub kills_none : (outside : Outside) → outside.natives ≡ natives_of old → (name n : ℕ) → is_some (living_at old.natives.slots.items n) ≡ false → delivers outside name s (Kill n) ≡ Hears
+  kills_none outside same name n dead = ap (λ b. cond b (Kills n) Hears) (lives_is outside same n ∙ dead)
 
 -- a native that does not live is killed no more
 pub kills_nothing : {X : Type 0} {B : X → Type 0} (old : Machine X B) (core : Core) (image : core.image ≡ old.core.image) (n : ℕ) → is_some (living_at old.natives.slots.items n) ≡ false →
     ((now : Turn) (s : State) → (st : StandsFor old s) → Core_takes old.core s Hears now now core) → (now : Turn) → Delivered old (Kill n) now now (record { core = core; natives = old.natives })
 kills_nothing old core image n dead all now outside same s st =
-    subst (λ part. Takes old s part now now (record { core = core; natives = old.natives })) (sym (kills_none old s st outside same n dead))
-    (takes_plainly old (record { core = core; natives = old.natives }) s st Hears (heard_plain s) tt tt (untouched (λ l. l.ids) old.natives.slots.items) image now now (all now s st))
+    with_any_name s (λ name. Takes old s (delivers outside name s (Kill n)) now now (record { core = core; natives = old.natives })) (λ name.
+    subst (λ part. Takes old s part now now (record { core = core; natives = old.natives })) (sym (kills_none old s st outside same name n dead))
+    (takes_plainly old (record { core = core; natives = old.natives }) s st Hears (heard_plain s) tt tt (untouched (λ l. l.ids) old.natives.slots.items) image now now (all now s st)))
 
 -- one that lives is
 pub kills_one : {X : Type 0} {B : X → Type 0} (old new : Machine X B) (image : new.core.image ≡ old.core.image) (n : ℕ) → IsSome (living_at old.natives.slots.items n) → living_at new.natives.slots.items n ≡ None → KeepsOthers old.natives.slots.items new.natives.slots.items n →
     (before now : Turn) → ((s : State) (st : StandsFor old s) → Core_takes old.core s (Kills n) before now new.core) → Delivered old (Kill n) before now new
 kills_one old new image n alive dead others before now all outside same s st =
     let core = all s st in
-    subst (λ part. Takes old s part before now new) (sym (kills_it old s st outside same n alive))
-    (takes_so old new s st (Kills n) others.count image before now core (serves_killed (λ l. l.ids) old.natives.slots.items new.natives.slots.items old.core.image s core.state n st.serves (tale_of old new s st (Kills n) tt tt before now core) dead others))
+    with_any_name s (λ name. Takes old s (delivers outside name s (Kill n)) before now new) (λ name.
+    subst (λ part. Takes old s part before now new) (sym (kills_it old s st outside same name n alive))
+    (takes_so old new s st (Kills n) others.count image before now core (serves_killed (λ l. l.ids) old.natives.slots.items new.natives.slots.items old.core.image s core.state n st.serves (tale_of old new s st (Kills n) tt tt before now core) dead others)))
 
 -- with one line
 pub line_more : (old new : Core) (s : State) (n : ℕ) (before now : Turn) → Core_takes old s (Kills n) before now new → length now.lines ≤ length before.lines + 1

@@ -1,25 +1,31 @@
 -- What is kept of natives fits the state that a part of a turn leads to.
-use Rattle.std.proofs.Common.{◌≡◌, ◌<◌, ℕ, suc, Bool, true, false, List, [], ◌∷◌, ◌++◌, Option, Some, None, refl, sym, ap, subst, ◌∙◌, length, inl, inr, arith}
+use Rattle.std.proofs.Common.{◌≡◌, ◌<◌, ◌≤◌, ℕ, cond, suc, Bool, true, false, List, [], ◌∷◌, ◌++◌, Option, Some, None, refl, sym, ap, subst, ◌∙◌, length, inl, inr, arith}
 use Rattle.std.specs.Prelude.{IsSome, is_some, not, ◌&&◌, ◌||◌, ◌==◌}
-use Rattle.std.proofs.lemmas.Bool.{cases_eq, eq-eqb, eqb-true, ne_eqb}
+use Rattle.std.proofs.lemmas.Bool.{cases_eq, eq-eqb, eqb-true, le-ltb, lt-ltb, ne_eqb}
 use Rattle.std.proofs.lemmas.List.Folds.{list_any-append}
 use Rattle.aom_natives.proofs.Ids.{same-out}
 use Rattle.aom_machine.proofs.Named.{at_most_one, elsewhere, there, turned_false}
 use Rattle.aom_image.specs.Image.{Image}
+use Rattle.aom_endings.proofs.Ending.{above, top}
 use Rattle.aom_endings.specs.Endings.{one_where}
 use Rattle.aom_natives.specs.Owed.{TakesOut, times}
 use Rattle.aom_natives.specs.Slots.{KeepsOthers, ids_at, ids_of, living_at}
 use Rattle.aom_owed.specs.Owed.{has_name, killed_turned, owes, owes_turned}
 use Rattle.aom_owed.proofs.Found.{IsAbout}
 use Rattle.aom_owed.proofs.Turns.{Tale, sessions_turned, told}
+use Rattle.aom_sound.specs.Clients.{client_count}
 use Rattle.aom_sound.specs.Natives.{is_dead}
+use Rattle.aom_sound.specs.Places.{named}
 use Rattle.aom_sound.specs.State.{Rest, State}
-use Rattle.aom_sound.specs.World.{AnswersWell, Completes, Completion, Cuts, Hears, Kills, Passes, Picks, Polls, Turning, Waits, cell_at}
+use Rattle.aom_sound.specs.World.{AnswersWell, Completes, Completion, Cuts, Hears, Kills, Obeys, Passes, Picks, Polls, Turning, Waits, cell_at, delivers}
+use Rattle.aom_transcript.specs.declared.event.Command.{Command}
+use Rattle.aom_transcript.specs.declared.event.Event.TheVariants.{Client}
 use Rattle.aom_lines.specs.Turn.{Turn}
 use Rattle.aom_parts.specs.Stands.{Machine as Core, StandsFor as Core_stands}
+use Rattle.aom_exec.specs.Clients.{Obeyed}
 use Rattle.aom_exec.specs.Turns.{NoneDue, Completed as Core_completed, Picked as Core_picked, Takes as Core_takes, TakesAll as Core_takes_all}
 use Rattle.aom_machine.specs.declared.machine.Machine.{Machine}
-use Rattle.aom_machine.specs.Calls.{Completed, Picked, StandsFor, Takes, TakesAll}
+use Rattle.aom_machine.specs.Calls.{Completed, Delivered, Picked, StandsFor, Takes, TakesAll}
 use Rattle.aom_machine.specs.Standing.{KeptSame, Serves}
 
 -- a part of a turn that neither kills nor completes anything at a native
@@ -155,6 +161,10 @@ none_due_still old new k rest back none s st x e =
 pub heard_plain : (s : State) → IsPlain s Hears
 heard_plain s = record { owes = λ n m b. refl; killed = refl }
 
+-- where nothing is sent any free name will do
+pub with_any_name : (s : State) (P : ℕ → Type 0) → ((name : ℕ) → P name) → (name : ℕ) × (named s.cells name ≡ None) × P name
+with_any_name s P for_all = (top s.cells, above s.cells (top s.cells) (omega arith), for_all (top s.cells))
+
 -- the same natives
 pub untouched : {L : Type 0} (kept : L → List ℕ) (slots : List (Option L)) → KeptSame kept slots slots
 untouched kept slots = record { count = refl; living = λ k. refl; ids = λ k. refl }
@@ -177,6 +187,22 @@ module _ {X : Type 0} {B : X → Type 0} (old : Machine X B) (core : Core) (imag
       let d = done now s st.stands in
       (d.0, d.1, d.2, plainly (Completes d.0.object) s st (record { owes = λ n m b. refl; killed = refl }) (d.0, d.1, refl) tt now now d.3)
   completed_so false done = (ap (λ (c : Core). record { core = c; natives = old.natives }) done.0, done.1)
+
+  -- what a client is told it does, if it is one
+  pub obeyed_so : (client : ℕ) (command : Command) (before now : Turn) → client < 64 → ((s : State) → Core_stands old.core s → Obeyed old.core s client command before now core) → Delivered old (Client client command) before now (record { core = core; natives = old.natives })
+  obeyed_so client command before now less done = λ outside same s st.
+      let d = done s st.stands in (
+        d.0,
+        d.1,
+        subst (λ part. Takes old s part before now (record { core = core; natives = old.natives })) (sym (ap (λ b. cond b (Obeys client command d.0) Hears) (lt-ltb client client_count less)))
+        (plainly (Obeys client command d.0) s st (record { owes = λ n m b. refl; killed = refl }) d.1 tt before now d.2),
+      )
+
+  pub obeyed_none : (client : ℕ) (command : Command) → 64 ≤ client → Core_takes_all old.core Hears core → (now : Turn) → Delivered old (Client client command) now now (record { core = core; natives = old.natives })
+  obeyed_none client command past all now = λ outside same s st.
+      with_any_name s (λ name. Takes old s (delivers outside name s (Client client command)) now now (record { core = core; natives = old.natives })) (λ name.
+      subst (λ part. Takes old s part now now (record { core = core; natives = old.natives })) (sym (ap (λ b. cond b (Obeys client command name) Hears) (le-ltb client client_count past)))
+      (plainly Hears s st (heard_plain s) tt tt now now (all now s st.stands)))
 
   pub picked_so : (b : Bool) (before now : Turn) → Core_picked old.core b before now core → Picked old b before now (record { core = core; natives = old.natives })
   picked_so true before now done = λ s st.

@@ -2,16 +2,24 @@
 use Rattle.std.specs.Prelude.{ℕ, ℤ, ◌≡◌, ◌≤◌, ◌-◌, ◌++◌, Bool, true, false, List, length, Option, Some, None}
 use Rattle.aom_lines.specs.Turn.{Turn}
 use Rattle.aom_transcript.specs.declared.event.Event.{Event}
+use Rattle.aom_transcript.specs.declared.event.Event.TheVariants.{Client}
 use Rattle.aom_transcript.specs.declared.line.Line.{Line}
+use Rattle.aom_sound.specs.Places.{named}
 use Rattle.aom_sound.specs.State.{Goes, State}
 use Rattle.aom_sound.specs.World.{AnswersWell, Candidate, Completes, Completion, IsBetween, Outside, Picks, Polls, Timed, Turning, delivers, first_due, first_living, first_ready, has_signal, turned, written_by}
 use Rattle.aom_parts.specs.declared.progress.Progress.{Progress}
 use Rattle.aom_parts.specs.Progress.{progress_of}
+use Rattle.aom_exec.specs.Clients.{IsInRange}
 use Rattle.aom_exec.specs.Steps.{Quiet, Steps}
 use Rattle.aom_parts.specs.Stands.{StandsFor as Core_stands}
 use Rattle.aom_exec.specs.Turns.{Answers, NoneDue}
 use Rattle.aom_machine.specs.declared.machine.Machine.{Machine}
 use Rattle.aom_machine.specs.Standing.{StandsBeside}
+
+-- an event as a script has it
+abbrev pub EventInRange : Event → Type 0
+EventInRange (Client client command) = IsInRange command
+EventInRange _ = Unit {0}
 
 module _ {X : Type 0} {B : X → Type 0} where
   abbrev pub StandsFor : Machine X B → State → Type 0
@@ -53,7 +61,7 @@ module _ {X : Type 0} {B : X → Type 0} where
     pub between : IsBetween s
     pub state : State
     pub goes : turned old.core.image s part ≡ Goes state
-    pub lines : now ≡ record told { lines = told.lines ++ written_by s part }
+    pub lines : now ≡ record told { lines = told.lines ++ written_by old.core.image s part }
     pub stands : StandsFor new state
 
   -- so from each state that it stands for
@@ -65,9 +73,11 @@ module _ {X : Type 0} {B : X → Type 0} where
   Completed old true new = (told : Turn) (s : State) → StandsFor old s → (x : Timed) × (first_due s.cells ≡ Some x) × (x.timer.due ≤ s.rest.clock) × Takes old s (Completes x.object) told told new
   Completed old false new = (new ≡ old) × NoneIsDue old
 
-  -- an event comes, and is for a native, or kills one, or changes nothing
+  -- an event comes, and is for a native, or kills one, or is a command of a client, or changes nothing; with some name that is free for what is sent
   abbrev pub Delivered : Machine X B → Event → Turn → Turn → Machine X B → Type 0
-  Delivered old event told now new = (outside : Outside) → outside.natives ≡ natives_of old → (s : State) → StandsFor old s → Takes old s (delivers outside s event) told now new
+  Delivered old event told now new =
+      (outside : Outside) → outside.natives ≡ natives_of old → (s : State) → StandsFor old s
+      → (name : ℕ) × (named s.cells name ≡ None) × Takes old s (delivers outside name s event) told now new
 
   -- the native that comes next in the turn at hand is polled, and answers what it may; there is none where all are
   abbrev pub Polled : (may : ℕ → Option (ℕ × ℤ) → Type 0) → Machine X B → Bool → Machine X B → Type 0
@@ -81,7 +91,7 @@ module _ {X : Type 0} {B : X → Type 0} where
       × ((told : Turn) → Takes old s (Polls n completion) told told new)
   Polled may old false new = (new ≡ old) × ((s : State) → StandsFor old s → first_living s.killed (natives_of old - s.rest.polled) s.rest.polled ≡ None)
 
-  -- the ready object that goes before all others is dispatched, with its line; there is none where nothing signals
+  -- the ready object or server that goes before all others is dispatched, with its line; there is none where nothing signals
   abbrev pub Picked : Machine X B → Bool → Turn → Turn → Machine X B → Type 0
   Picked old true told now new = (s : State) → StandsFor old s → (x : Candidate) × (first_ready s.cells ≡ Some x) × (has_signal s.cells ≡ true) × Takes old s (Picks x.seat) told now new
   Picked old false told now new = (new ≡ old) × (now ≡ told) × ((s : State) → StandsFor old s → has_signal s.cells ≡ false)

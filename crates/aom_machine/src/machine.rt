@@ -1,6 +1,7 @@
 //! A machine and the natives beside it.
-ghost use Rattle.std.specs.Prelude.{ℤ, ◌≡◌, ◌<◌, ◌+◌, ◌↔◌, IfErr, IfOk, map, option_map, length, Some};
+ghost use Rattle.std.specs.Prelude.{ℤ, ◌≡◌, ◌<◌, ◌≤◌, ◌+◌, ◌↔◌, IfErr, IfOk, map, option_map, length, Some};
 ghost use Rattle.aom_exec.specs.Steps.{rank};
+ghost use Rattle.aom_lines.specs.Turn.{step_lines};
 ghost use Rattle.aom_parts.specs.declared.progress.Progress.TheVariants.{Running};
 ghost use Rattle.aom_machine.specs.Answers.{MayHear, asked_of};
 ghost use Rattle.aom_machine.specs.Calls.{Stands, StandsFor, SteppedOn, SteppedOnce, natives_of};
@@ -57,7 +58,7 @@ impl<'a> Machine<'a> {
     pub fn step_on(&mut self, turn: &mut Turn) -> Progress
         requires agree { AllAgree (λ l. l.ids) (λ l. (⟦<dyn Native as Native>⟧ l.native.vtable).owed l.native.value) self.old.natives.slots.items }
         requires stands { Stands self.old }
-        requires room { length turn.old.lines + 2 < turn.old.room }
+        requires room { length turn.old.lines + step_lines self.old.core.image.header.messages < turn.old.room }
         ensures agree { AllAgree (λ l. l.ids) (λ l. (⟦<dyn Native as Native>⟧ l.native.vtable).owed l.native.value) self.new.natives.slots.items }
         ensures image { self.new.core.image ≡ self.old.core.image }
         ensures natives { natives_of self.new ≡ natives_of self.old }
@@ -72,7 +73,7 @@ impl<'a> Machine<'a> {
     pub fn step(&mut self, turn: &mut Turn) -> Progress
         requires agree { AllAgree (λ l. l.ids) (λ l. (⟦<dyn Native as Native>⟧ l.native.vtable).owed l.native.value) self.old.natives.slots.items }
         requires stands { Stands self.old }
-        requires room { length turn.old.lines + 2 < turn.old.room }
+        requires room { length turn.old.lines + step_lines self.old.core.image.header.messages < turn.old.room }
         ensures agree { AllAgree (λ l. l.ids) (λ l. (⟦<dyn Native as Native>⟧ l.native.vtable).owed l.native.value) self.new.natives.slots.items }
         ensures image { self.new.core.image ≡ self.old.core.image }
         ensures natives { natives_of self.new ≡ natives_of self.old }

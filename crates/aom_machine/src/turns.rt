@@ -1,18 +1,22 @@
 //! What is done between dispatches: timers, events, polls and the pick.
 ghost use Rattle.std.specs.Prelude.{◌≡◌, ◌<◌, ◌≤◌, ◌+◌, ◌-◌, ◌^◌, IfSome, IsSome, length, suc, true, false, None, Some};
+ghost use Rattle.aom_exec.specs.Clients.{IsInRange};
 ghost use Rattle.aom_exec.specs.Steps.{progress, timers};
 ghost use Rattle.aom_parts.specs.declared.progress.Progress.TheVariants.{Turned};
-ghost use Rattle.aom_machine.specs.Calls.{Completed, Delivered, NoneIsDue, Picked, Polled, Stands, StandsFor, TakesAll, natives_of, to_poll};
+ghost use Rattle.aom_machine.specs.Calls.{Completed, Delivered, EventInRange, NoneIsDue, Picked, Polled, Stands, StandsFor, TakesAll, natives_of, to_poll};
 ghost use Rattle.aom_machine.specs.Standing.{KeptSame};
 ghost use Rattle.aom_natives.specs.Slots.{AllAgree, living_at};
 ghost use Rattle.aom_sound.specs.State.{State};
-ghost use Rattle.aom_transcript.specs.declared.event.Event.TheVariants.{Kill};
+ghost use Rattle.aom_transcript.specs.declared.event.Event.TheVariants.{Client, Kill};
 ghost use Rattle.aom_sound.specs.World.{Cuts, Hears, first_living, Passes, Waits};
 
 use crate::Machine;
 use aom_lines::Turn;
 use aom_natives::{Native, Natives};
-use aom_transcript::Event;
+use aom_transcript::{Command, Event};
+
+/// How many clients there are, numbered from 0.
+const CLIENTS: u8 = 64;
 
 /// A word comes for a native, which hears it if it lives.
 fn inform(natives: &mut Natives, native: usize, word: i32)
@@ -39,13 +43,15 @@ impl<'a> Machine<'a> {
         self.core.due()
     }
 
-    /// Between dispatches an event comes from outside: a word for a native, or its end, whose line is written. One for a native that is
-    /// killed, or that is none, changes nothing. Answers whether a native was killed.
+    /// Between dispatches an event comes from outside: a word for a native, or its end, whose line is written, or a command of a client, with
+    /// a line where that is refused. One for a native that is killed, or that is none, or of a number that is no client's, changes nothing.
+    /// Answers whether a line was written.
     pub fn deliver(&mut self, event: Event, turn: &mut Turn) -> bool
         requires agree { AllAgree (λ l. l.ids) (λ l. (⟦<dyn Native as Native>⟧ l.native.vtable).owed l.native.value) self.old.natives.slots.items }
         requires stands { Stands self.old }
         requires between { progress self.old.core ≡ Turned }
         requires few { self.old.core.parts.rest.delivered + 1 < 2 ^ 64 }
+        requires ranged { EventInRange event }
         requires room { length turn.old.lines < turn.old.room }
         ensures agree { AllAgree (λ l. l.ids) (λ l. (⟦<dyn Native as Native>⟧ l.native.vtable).owed l.native.value) self.new.natives.slots.items }
         ensures image { self.new.core.image ≡ self.old.core.image }
@@ -63,6 +69,7 @@ impl<'a> Machine<'a> {
                 false
             }
             Event::Kill(native) => self.kill(native, turn),
+            Event::Client(client, command) => self.obey(client, command, turn),
         }
     }
 
@@ -182,6 +189,31 @@ impl<'a> Machine<'a> {
         self.natives.kill(native as usize);
         self.core.kill(native, turn);
         true
+    }
+
+    /// The client of that number does what it is told, if there is one. Answers whether that is refused.
+    fn obey(&mut self, client: u8, command: Command, turn: &mut Turn) -> bool
+        requires agree { AllAgree (λ l. l.ids) (λ l. (⟦<dyn Native as Native>⟧ l.native.vtable).owed l.native.value) self.old.natives.slots.items }
+        requires stands { Stands self.old }
+        requires between { progress self.old.core ≡ Turned }
+        requires few { self.old.core.parts.rest.delivered + 1 < 2 ^ 64 }
+        requires ranged { IsInRange command }
+        requires room { length turn.old.lines < turn.old.room }
+        ensures agree { AllAgree (λ l. l.ids) (λ l. (⟦<dyn Native as Native>⟧ l.native.vtable).owed l.native.value) self.new.natives.slots.items }
+        ensures image { self.new.core.image ≡ self.old.core.image }
+        ensures natives { natives_of self.new ≡ natives_of self.old }
+        ensures delivered { Delivered self.old (Client client command) turn.old turn.new self.new }
+        ensures rest { self.new.core.parts.rest ≡ record self.old.core.parts.rest { delivered = suc self.old.core.parts.rest.delivered } }
+        ensures timers { timers self.new.core ≡ timers self.old.core }
+        ensures told { length turn.new.lines ≤ length turn.old.lines + 1 }
+        ensures quiet { result ≡ false → turn.new ≡ turn.old }
+        ensures none_due { result ≡ false → NoneIsDue self.old → NoneIsDue self.new }
+    {
+        if client >= CLIENTS {
+            self.core.hear_event();
+            return false;
+        }
+        self.core.obey(client, command, turn)
     }
 
     /// The living native that comes next in the turn at hand.

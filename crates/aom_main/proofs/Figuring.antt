@@ -5,7 +5,6 @@ use Rattle.aom_codec.specs.declared.fault.LoadFault.TheVariants as loads
 use Rattle.aom_classes.specs.declared.fault.LinkFault.{LinkFault}
 use Rattle.aom_classes.specs.declared.fault.LinkFault.TheVariants as links
 use Rattle.aom_image.specs.Image.{Image}
-use Rattle.aom_classes.specs.Admitted.{IsAdmitted}
 use Rattle.aom_classes.specs.Linked.{IsLinked}
 use Rattle.aom_rules.specs.Typing.{Typing, IsTyped}
 use Rattle.aom_budget.specs.Budgets.{BudgetsWithin}
@@ -41,7 +40,6 @@ load_early loads.NotZero = tt
 load_early loads.OutOfMemory = tt
 
 pub link_early : (fault : LinkFault) → IsEarly (of_link fault)
-link_early links.NotYet = tt
 link_early links.ClassOrder = tt
 link_early links.CallOrder = tt
 link_early links.MissingRole = tt
@@ -103,7 +101,7 @@ unpriced bytes fault out errors status refuses early complete silent told = to_p
 pub within : (bytes text : List ℕ) → (r : IsFigured bytes text) → BudgetsWithin r.image → HasDepths r.image → HasHeights r.image → IsWithin bytes text
 within bytes text r budgets depths heights = record {
   figured = r;
-  acceptable = record { admitted = r.admitted; linked = r.linked; typing = r.typing; typed = r.typed; budgets = budgets; depths = all_within r.image depths; heights = all_high r.image heights };
+  acceptable = record { linked = r.linked; typing = r.typing; typed = r.typed; budgets = budgets; depths = all_within r.image depths; heights = all_high r.image heights };
 }
 
 -- or it does not: the bytes are no other image, so they are none that is accepted
@@ -117,12 +115,12 @@ beyond bytes text r fault only refuses = record {
 }
 
 -- so what is written of the image is what is written of the bytes
-pub written : (bytes : List ℕ) (p : Image) (t : Typing) → IsSpelled bytes p → IsAdmitted p → IsLinked p → IsTyped p t → ((q : Image) → IsSpelled bytes q → p ≡ q)
+pub written : (bytes : List ℕ) (p : Image) (t : Typing) → IsSpelled bytes p → IsLinked p → IsTyped p t → ((q : Image) → IsSpelled bytes q → p ≡ q)
     → (text : List ℕ) (refusal : Option BudgetFault) → IsPriced p text refusal → IsWritten bytes text refusal
-written bytes p t spelled admitted linked typed only text refusal priced = go refusal priced
+written bytes p t spelled linked typed only text refusal priced = go refusal priced
   where
     figured : (told : List ℕ) → AreTold p told → IsFigured bytes told
-    figured told a = record { image = p; spelled = spelled; admitted = admitted; linked = linked; typing = t; typed = typed; figures = a.figures; are = a.are; told = a.told }
+    figured told a = record { image = p; spelled = spelled; linked = linked; typing = t; typed = typed; figures = a.figures; are = a.are; told = a.told }
 
     go : (refusal : Option BudgetFault) → IsPriced p text refusal → IsWritten bytes text refusal
     go None (told, a, budgets, depths, heights, is) = (told, within bytes told (figured told a) budgets depths heights, is)

@@ -1,7 +1,6 @@
 -- What is known of the graph that was sent, or of the fault that was told, is what the status answers.
 use Rattle.std.proofs.Common.{◌≡◌, ℕ, List, sym, subst, inl, inr}
 use Rattle.aom_image.specs.Image.{Image}
-use Rattle.aom_classes.specs.Admitted.{IsAdmitted}
 use Rattle.aom_classes.specs.Linked.{IsLinked}
 use Rattle.aom_rules.specs.Typing.{Typing, IsTyped}
 use Rattle.aom_main.specs.declared.status.ExitStatus.{ExitStatus}
@@ -28,5 +27,5 @@ pub undrawn : (bytes : List ℕ) (fault : Fault) (out errors : Sent) (status : E
 undrawn bytes fault out errors status refuses early complete silent told = to_dot bytes out errors status (turned bytes fault out errors status refuses early complete silent told)
 
 -- the graph of the image that the bytes are
-pub drawn_of : (bytes text : List ℕ) (p : Image) (t : Typing) → IsSpelled bytes p → IsAdmitted p → IsLinked p → IsTyped p t → IsGraph p text → IsDrawn bytes text
-drawn_of bytes text p t spelled admitted linked typed graph = record { image = p; spelled = spelled; admitted = admitted; linked = linked; typing = t; typed = typed; graph = graph }
+pub drawn_of : (bytes text : List ℕ) (p : Image) (t : Typing) → IsSpelled bytes p → IsLinked p → IsTyped p t → IsGraph p text → IsDrawn bytes text
+drawn_of bytes text p t spelled linked typed graph = record { image = p; spelled = spelled; linked = linked; typing = t; typed = typed; graph = graph }

@@ -4,10 +4,9 @@ use Rattle.aom_codec.specs.Format.{first_fault}
 use Rattle.aom_codec.specs.declared.fault.LoadFault.{LoadFault}
 use Rattle.aom_codec.specs.declared.fault.LoadFault.TheVariants as loads
 use Rattle.aom_image.specs.Image.{Image}
-use Rattle.aom_classes.specs.Faults.{Fails, Refuses as RefusesLink, RefusesOrWants as RefusesOrWantsLink}
+use Rattle.aom_classes.specs.Faults.{Fails, RefusesOrWants as RefusesOrWantsLink}
 use Rattle.aom_classes.specs.declared.fault.LinkFault.{LinkFault}
-use Rattle.aom_classes.specs.declared.fault.LinkFault.TheVariants.{NotYet, ClassOrder, CallOrder, MissingRole, DoubleRole, RoleShape, BadJump, BadLoop, NoMain, OutOfMemory}
-use Rattle.aom_classes.specs.Admitted.{IsAdmitted}
+use Rattle.aom_classes.specs.declared.fault.LinkFault.TheVariants.{ClassOrder, CallOrder, MissingRole, DoubleRole, RoleShape, BadJump, BadLoop, NoMain, OutOfMemory}
 use Rattle.aom_classes.specs.Linked.{IsLinked}
 use Rattle.aom_rules.specs.Typing.{Typing, IsTyped}
 use Rattle.aom_verify.specs.Strongest.{IsStrongest}
@@ -25,16 +24,15 @@ load_refused bytes loads.OutOfMemory is = tt
 load_refused bytes fault is = is (λ e. cc)
 
 pub linked_memory : (p : Image) (fault : LinkFault) → RefusesOrWantsLink p fault → IsAcceptable p → of_link fault ≡ Memory
-unfolding RefusesOrWantsLink RefusesLink Fails
-linked_memory p NotYet refused a = absurd (refused a.admitted)
-linked_memory p ClassOrder refused a = absurd (refused.1 a.linked.classes)
-linked_memory p CallOrder refused a = absurd (refused.1.1 a.linked.calls)
-linked_memory p MissingRole refused a = absurd (refused.1.2 a.linked.needs)
-linked_memory p DoubleRole refused a = absurd (refused.1.3 a.linked.single)
-linked_memory p RoleShape refused a = absurd (refused.1.4 a.linked.shapes)
-linked_memory p BadJump refused a = absurd (refused.1.5 a.linked.jumps)
-linked_memory p BadLoop refused a = absurd (refused.1.6 a.linked.loops)
-linked_memory p NoMain refused a = absurd (refused.1.7 a.linked.main)
+unfolding RefusesOrWantsLink Fails
+linked_memory p ClassOrder refused a = absurd (refused a.linked.classes)
+linked_memory p CallOrder refused a = absurd (refused.1 a.linked.calls)
+linked_memory p MissingRole refused a = absurd (refused.2 a.linked.needs)
+linked_memory p DoubleRole refused a = absurd (refused.3 a.linked.single)
+linked_memory p RoleShape refused a = absurd (refused.4 a.linked.shapes)
+linked_memory p BadJump refused a = absurd (refused.5 a.linked.jumps)
+linked_memory p BadLoop refused a = absurd (refused.6 a.linked.loops)
+linked_memory p NoMain refused a = absurd (refused.7 a.linked.main)
 linked_memory p OutOfMemory refused a = refl
 
 -- a fault of linking is one on the way
@@ -47,9 +45,9 @@ link_refused bytes p fault spelled refused = (p, spelled, refused)
 has_typing : (p q : Image) → q ≡ p → (t : Typing) × IsStrongest q t → (t : Typing) × IsTyped p t
 has_typing p q same typing = subst (λ (r : Image). (t : Typing) × IsTyped r t) same (typing.0, typing.1.typed)
 
-pub budget_refused : (bytes : List ℕ) (p q : Image) (fault : BudgetFault) → IsSpelled bytes p → IsAdmitted p → IsLinked p → q ≡ p → (t : Typing) × IsStrongest q t → RefusesBudget q fault → RefusesOrWants bytes (of_budget fault)
-budget_refused bytes p q (OverBudget payer price declared) spelled admitted linked same typing h =
-    (p, spelled, admitted, linked, has_typing p q same typing, subst (λ (r : Image). RefusesBudget r (OverBudget payer price declared)) same h)
-budget_refused bytes p q TooDeep spelled admitted linked same typing h = (p, spelled, admitted, linked, has_typing p q same typing, subst (λ (r : Image). RefusesBudget r TooDeep) same h)
-budget_refused bytes p q CleanupTooDeep spelled admitted linked same typing h = (p, spelled, admitted, linked, has_typing p q same typing, subst (λ (r : Image). RefusesBudget r CleanupTooDeep) same h)
-budget_refused bytes p q budgets.OutOfMemory spelled admitted linked same typing h = tt
+pub budget_refused : (bytes : List ℕ) (p q : Image) (fault : BudgetFault) → IsSpelled bytes p → IsLinked p → q ≡ p → (t : Typing) × IsStrongest q t → RefusesBudget q fault → RefusesOrWants bytes (of_budget fault)
+budget_refused bytes p q (OverBudget payer price declared) spelled linked same typing h =
+    (p, spelled, linked, has_typing p q same typing, subst (λ (r : Image). RefusesBudget r (OverBudget payer price declared)) same h)
+budget_refused bytes p q TooDeep spelled linked same typing h = (p, spelled, linked, has_typing p q same typing, subst (λ (r : Image). RefusesBudget r TooDeep) same h)
+budget_refused bytes p q CleanupTooDeep spelled linked same typing h = (p, spelled, linked, has_typing p q same typing, subst (λ (r : Image). RefusesBudget r CleanupTooDeep) same h)
+budget_refused bytes p q budgets.OutOfMemory spelled linked same typing h = tt

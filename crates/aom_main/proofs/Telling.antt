@@ -46,16 +46,15 @@ use Rattle.aom_main.specs.Explored.{AcceptedExplores, BreaksOff, ExploreAnswers,
 use Rattle.aom_main.specs.Explored.ExploreBreaks.{script_wants_memory as wants_for_script, machine_wants_memory as wants_for_machine, output_fails as fails}
 use Rattle.aom_main.specs.declared.exploring.Part.{Part}
 use Rattle.aom_main.specs.Headline.RunBreaks.{machine_wants_memory, output_fails, script_wants_memory}
-use Rattle.aom_classes.specs.Admitted.{IsAdmitted}
 use Rattle.aom_main.proofs.Tries.{nothing}
 
 -- ---- a run
 
 -- what the laws of runs say of an accepted image
 pub all_run_well :
-    (p : Image) → IsLinked p → IsAdmitted p → (t : Typing) × IsStrongest p t × (c : Prices) × IsAffordable p t c × CostsWithin p c →
+    (p : Image) → IsLinked p → (t : Typing) × IsStrongest p t × (c : Prices) × IsAffordable p t c × CostsWithin p c →
     TypedRunsWell → StepsWithin → LinkedIsWired → TextIsDetermined → AllRunWell p
-all_run_well p linked admitted table law steps wired determined =
+all_run_well p linked table law steps wired determined =
     record {
       each = λ bytes spelled outside. law.each p table.0 outside spelled.formed linked table.1.typed;
       within = λ bytes spelled outside. steps.each p table.0 table.2 outside spelled.formed linked table.1.typed table.3 (affords p table.2 table.4);

@@ -1,7 +1,6 @@
 -- What `dot` promises of its sinks and its status, from bytes to bytes.
 use Rattle.std.specs.Prelude.{ℕ, ◌≡◌, ◌⊎◌, true, List}
 use Rattle.aom_image.specs.Image.{Image}
-use Rattle.aom_classes.specs.Admitted.{IsAdmitted}
 use Rattle.aom_classes.specs.Linked.{IsLinked}
 use Rattle.aom_rules.specs.Typing.{Typing, IsTyped}
 use Rattle.aom_budget.specs.Figures.{Figures, AreFigures}
@@ -24,7 +23,6 @@ pub record IsGraph (p : Image) (text : List ℕ) : Type 0 where
 pub record IsDrawn (bytes text : List ℕ) : Type 0 where
   pub image : Image
   pub spelled : IsSpelled bytes image
-  pub admitted : IsAdmitted image
   pub linked : IsLinked image
   pub typing : Typing
   pub typed : IsTyped image typing

@@ -1,7 +1,6 @@
 -- What `check --prices` promises of its sinks and its status, from bytes to bytes.
 use Rattle.std.specs.Prelude.{ℕ, ◌≡◌, ◌⊎◌, true, List, ◌++◌, Option, Some, None}
 use Rattle.aom_image.specs.Image.{Image}
-use Rattle.aom_classes.specs.Admitted.{IsAdmitted}
 use Rattle.aom_classes.specs.Linked.{IsLinked}
 use Rattle.aom_rules.specs.Typing.{Typing, IsTyped}
 use Rattle.aom_budget.specs.Budgets.{BudgetsWithin}
@@ -23,7 +22,6 @@ use Rattle.aom_main.specs.Headline.{Sent, IsSilent, Says, Tells, ImageWantsMemor
 pub record IsFigured (bytes text : List ℕ) : Type 0 where
   pub image : Image
   pub spelled : IsSpelled bytes image
-  pub admitted : IsAdmitted image
   pub linked : IsLinked image
   pub typing : Typing
   pub typed : IsTyped image typing

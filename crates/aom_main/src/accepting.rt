@@ -1,7 +1,6 @@
 //! From bytes to an accepted image.
 ghost use Rattle.std.specs.Prelude.{◌≡◌, IfOk, IfErr};
 ghost use Rattle.aom_image.specs.Image.{Image};
-ghost use Rattle.aom_classes.specs.Admitted.{IsAdmitted};
 ghost use Rattle.aom_classes.specs.Linked.{IsLinked};
 ghost use Rattle.aom_main.specs.Acceptable.{IsSpelled, IsAcceptable, RefusesOrWants};
 ghost use Rattle.aom_main.specs.Prices.{IsEarly};
@@ -29,7 +28,7 @@ pub fn accept_bytes(alloc: Global, bytes: &[u8]) -> Result<Accepted, Fault>
 
 /// The linked image that the bytes are, or the first fault on the way.
 pub fn link_bytes(alloc: Global, bytes: &[u8]) -> Result<Linked, Fault>
-    ensures ok { IfOk result (λ linked. IsSpelled bytes.now linked × IsAdmitted linked × IsLinked linked) }
+    ensures ok { IfOk result (λ linked. IsSpelled bytes.now linked × IsLinked linked) }
     ensures err { IfErr result (λ fault. RefusesOrWants bytes.now fault) }
     ensures early { IfErr result (λ fault. IsEarly fault) }
     ensures only { (p : Image) → IsSpelled bytes.now p → IfOk result (λ linked. linked ≡ p) }

@@ -1,7 +1,7 @@
 //! The commands, over the bytes of files.
 ghost use Rattle.std.specs.Prelude.{ℕ, ◌≡◌, ◌≤◌, List, Ok, length};
 ghost use Rattle.aom_natives.specs.Owed.{OweNothing};
-ghost use Rattle.aom_script.specs.Script.{denoted};
+ghost use Rattle.aom_script.specs.Script.{IsTimely, denoted};
 ghost use Rattle.aom_main.specs.Acceptable.{IsSpelled};
 ghost use Rattle.aom_main.specs.Assembly.{AsmAnswers, DisAnswers};
 ghost use Rattle.aom_main.specs.Headline.{AcceptedAnswers, Ends, RunAnswers, CheckAnswers, Sends};
@@ -87,6 +87,7 @@ fn run_script<W: Sink>(
     out: &mut W,
 ) -> Result<ExitStatus, Fault>
     requires limit { (1 ≤ limit) × (limit ≤ 1000000000) }
+    requires timely { IsTimely script.now.timed }
     requires owed { OweNothing (λ b. (⟦<dyn Native as Native>⟧ b.vtable).owed b.value) boxes.items }
     ensures { (bytes text : List ℕ) → IsSpelled bytes accepted.now → denoted text ≡ Ok script.now → Untold (AcceptedAnswers bytes text limit (length boxes.items) (record { before = W.out out.old; now = W.out out.new; failed = W.failed out.new })) result }
 {

@@ -3,7 +3,7 @@ ghost use Rattle.std.specs.Prelude.{ℕ, ◌≡◌, ◌≤◌, ◌<◌, List, If
 ghost use Rattle.aom_natives.specs.Owed.{OweNothing};
 ghost use Rattle.aom_run.specs.Turns.{hearing};
 ghost use Rattle.aom_run.specs.Outcomes.{outcome_of};
-ghost use Rattle.aom_script.specs.Script.{denoted};
+ghost use Rattle.aom_script.specs.Script.{IsTimely, denoted};
 ghost use Rattle.aom_run.specs.declared.outcome.Outcome.TheVariants.{WriteFault};
 ghost use Rattle.aom_main.specs.Acceptable.{IsSpelled};
 ghost use Rattle.aom_main.specs.Explored.{AcceptedExplores, BreaksOff, ExploreAnswers, Explored, IsLast, RefusesTry, Tried};
@@ -80,6 +80,7 @@ fn last_beside(
     boxes: Vec<Box<dyn Native>>,
 ) -> Result<Last, Fault>
     requires limit { (1 ≤ limit) × (limit ≤ 1000000000) }
+    requires timely { IsTimely script.now.timed }
     requires owed { OweNothing (λ b. (⟦<dyn Native as Native>⟧ b.vtable).owed b.value) boxes.items }
     ensures ok { IfOk result (λ last. IsLast accepted.now (hearing refused.items limit (length boxes.items) script.now.timed) last) }
     ensures enough { IfOk result (λ _. HasNatives accepted.now (length boxes.items)) }
@@ -108,6 +109,7 @@ fn last_of(
     kinds: &[NativeKind],
 ) -> Result<Last, Fault>
     requires limit { (1 ≤ limit) × (limit ≤ 1000000000) }
+    requires timely { IsTimely script.now.timed }
     ensures ok { IfOk result (λ last. IsLast accepted.now (hearing refused.items limit (length kinds.now) script.now.timed) last) }
     ensures enough { IfOk result (λ _. HasNatives accepted.now (length kinds.now)) }
     ensures err { IfErr result (λ fault. RefusesTry accepted.now (length kinds.now) fault) }
@@ -134,6 +136,7 @@ fn try_one<W: Sink>(
     out: &mut W,
 ) -> Result<(), Fault>
     requires limit { (1 ≤ limit) × (limit ≤ 1000000000) }
+    requires timely { IsTimely script.now.timed }
     requires enough { HasNatives accepted.now (length kinds.now) }
     ensures ok { IfOk result (λ _. (line : List ℕ) × Tried accepted.now script.now limit (length kinds.now) number line × Says line (record { before = W.out out.old; now = W.out out.new; failed = W.failed out.new })) }
     ensures err { IfErr result (λ fault. (fault ≡ Fault.Memory) × (W.out out.new ≡ W.out out.old) × (W.failed out.new ≡ W.failed out.old)) }
@@ -161,6 +164,7 @@ fn explore<W: Sink>(
     out: &mut W,
 ) -> Result<(), Fault>
     requires limit { (1 ≤ limit) × (limit ≤ 1000000000) }
+    requires timely { IsTimely script.now.timed }
     ensures ok { IfOk result (λ _. Explored accepted.now script.now limit (length kinds.now) part (record { before = W.out out.old; now = W.out out.new; failed = W.failed out.new })) }
     ensures enough { IfOk result (λ _. HasNatives accepted.now (length kinds.now)) }
     ensures err { IfErr result (λ fault. BreaksOff accepted.now script.now limit (length kinds.now) part.first (record { before = W.out out.old; now = W.out out.new; failed = W.failed out.new }) fault) }
@@ -231,6 +235,7 @@ fn explore_script<W: Sink, E: Sink>(
     errors: &mut E,
 ) -> ExitStatus
     requires limit { (1 ≤ limit) × (limit ≤ 1000000000) }
+    requires timely { IsTimely script.now.timed }
     ensures { (bytes text : List ℕ) → IsSpelled bytes accepted.now → denoted text ≡ Ok script.now → AcceptedExplores bytes text limit (length kinds.now) part (record { before = W.out out.old; now = W.out out.new; failed = W.failed out.new }) (record { before = E.out errors.old; now = E.out errors.new; failed = E.failed errors.new }) result }
 {
     accepted.facts();

@@ -1,7 +1,6 @@
 //! The figures of an image that has been checked, accepted or not.
 ghost use Rattle.std.specs.Prelude.{◌≡◌, ◌++◌, IfOk, IfErr};
 ghost use Rattle.aom_image.specs.Image.{Image};
-ghost use Rattle.aom_classes.specs.Admitted.{IsAdmitted};
 ghost use Rattle.aom_classes.specs.Linked.{IsLinked};
 ghost use Rattle.aom_main.specs.Acceptable.{IsSpelled, IsAcceptable, RefusesOrWants};
 ghost use Rattle.aom_main.specs.Headline.{accepted_text};
@@ -104,7 +103,7 @@ fn with_accepted(alloc: Global, figures: &[u8]) -> Result<Vec<u8>, AllocError>
 
 /// The checked image that the bytes are, or the first fault on the way.
 pub(crate) fn check_image(alloc: Global, bytes: &[u8]) -> Result<Checked, Fault>
-    ensures ok { IfOk result (λ checked. IsSpelled bytes.now checked × IsAdmitted checked × IsLinked checked) }
+    ensures ok { IfOk result (λ checked. IsSpelled bytes.now checked × IsLinked checked) }
     ensures err { IfErr result (λ fault. RefusesOrWants bytes.now fault) }
     ensures early { IfErr result (λ fault. IsEarly fault) }
     ensures only { (p : Image) → IsSpelled bytes.now p → IfOk result (λ checked. checked ≡ p) }

@@ -1,6 +1,7 @@
 //! The run of an accepted image.
 ghost use Rattle.std.specs.Prelude.{◌≡◌, ◌≤◌, IfOk, IfErr, length};
 ghost use Rattle.aom_natives.specs.Owed.{OweNothing};
+ghost use Rattle.aom_script.specs.Script.{IsTimely};
 ghost use Rattle.aom_main.specs.Headline.{AllRunWell, HasNatives, RefusesBoot, Shows, outside_of};
 
 use crate::Fault;
@@ -22,6 +23,7 @@ pub fn run_accepted<W: Sink>(
     out: &mut W,
 ) -> Result<Outcome, Fault>
     requires limit { (1 ≤ limit) × (limit ≤ 1000000000) }
+    requires timely { IsTimely script.now.timed }
     requires owed { OweNothing (λ b. (⟦<dyn Native as Native>⟧ b.vtable).owed b.value) boxes.items }
     ensures ok { IfOk result (λ outcome. Shows accepted.now (outside_of script.now limit (length boxes.items)) outcome (record { before = W.out out.old; now = W.out out.new; failed = W.failed out.new })) }
     ensures enough { IfOk result (λ _. HasNatives accepted.now (length boxes.items)) }

@@ -1,13 +1,15 @@
 -- The cell that a turn is about: whose timer is due, that is ready, or that stands at a place.
 use Rattle.std.proofs.Common.{Bool, List, None, Option, Some, [], ap, cond, false, refl, subst, suc, sym, true, zero, ℕ, ℤ, ◌==◌, ◌∙◌, ◌∷◌, ◌≡◌}
 use Rattle.std.proofs.lemmas.Bool.{eq-eqb, ne_eqb}
-use Rattle.std.specs.Prelude.{nat_le, ◌||◌}
+use Rattle.std.specs.Prelude.{nat_le, nat_lt, ◌||◌}
+use Rattle.aom_sound.specs.Clients.{client_count}
 use Rattle.aom_sound.specs.Places.{Cell, Object, Phase, Request, Tidy, Timer, named, requested, service_of}
 use Rattle.aom_sound.specs.Servers.{has_more}
 use Rattle.aom_sound.specs.State.{State}
 use Rattle.aom_sound.specs.World.{Candidate, Completes, Completion, Cuts, Heard, Hears, Kills, Obeys, Outside, Picks, Polls, Timed, Turning, among_ready, among_timers, before_others, by_event, by_timer, cell_at, delivers, first_due, first_ready, goes_before, goes_now, has_signal, is_ready, is_sooner, lives, next_event, next_native, next_time, passes, picks, polls, sooner, turning}
+use Rattle.aom_transcript.specs.declared.event.Command.{Command}
 use Rattle.aom_transcript.specs.declared.event.Event.{Event}
-use Rattle.aom_transcript.specs.declared.event.Event.TheVariants.{Kill, Tell}
+use Rattle.aom_transcript.specs.declared.event.Event.TheVariants.{Client, Kill, Tell}
 use Rattle.aom_transcript.specs.declared.event.TimedEvent.{TimedEvent}
 
 -- that object is there, with that request
@@ -144,19 +146,24 @@ module _ (outside : Outside) (heard : Heard) (s : State) where
       polled : (a : Option Completion) → IsAbout s (Polls n a)
       polled a = tt
 
-  about_event : (next : Option TimedEvent) (after : Turning) → IsAbout s after → IsAbout s (by_event outside s next after)
-  about_event None after h = h
-  about_event (Some e) after h = go (nat_le e.time s.rest.clock)
+  about_event : (name : ℕ) (next : Option TimedEvent) (after : Turning) → named s.cells name ≡ None → IsAbout s after → IsAbout s (by_event outside name s next after)
+  about_event name None after free h = h
+  about_event name (Some e) after free h = go (nat_le e.time s.rest.clock)
     where
       killed : (b : Bool) (n : ℕ) → IsAbout s (cond b (Kills n) Hears)
       killed true n = tt
       killed false n = tt
 
-      delivered : (event : Event) → IsAbout s (delivers outside s event)
+      obeyed : (b : Bool) (c : ℕ) (command : Command) → IsAbout s (cond b (Obeys c command name) Hears)
+      obeyed true c command = free
+      obeyed false c command = tt
+
+      delivered : (event : Event) → IsAbout s (delivers outside name s event)
       delivered (Tell n word) = tt
       delivered (Kill n) = killed (lives outside s n) n
+      delivered (Client c command) = obeyed (nat_lt c client_count) c command
 
-      go : (b : Bool) → IsAbout s (cond b (delivers outside s e.event) after)
+      go : (b : Bool) → IsAbout s (cond b (delivers outside name s e.event) after)
       go true = delivered e.event
       go false = h
 
@@ -170,14 +177,14 @@ module _ (outside : Outside) (heard : Heard) (s : State) where
 
   -- where the limit is not reached
   abbrev within : Turning
-  within = by_timer s (first_due s.cells) (by_event outside s (next_event outside s) (polls (next_native outside s) heard.completion (picks (has_signal s.cells) (first_ready s.cells) (next_time outside s))))
+  within = by_timer s (first_due s.cells) (by_event outside heard.name s (next_event outside s) (polls (next_native outside s) heard.completion (picks (has_signal s.cells) (first_ready s.cells) (next_time outside s))))
 
-  about_within : IsAbout s within
-  about_within = about_timer (first_due s.cells) _ refl (about_event (next_event outside s) _ (about_native (next_native outside s) _ (about_ready (has_signal s.cells) (first_ready s.cells) (next_time outside s) refl)))
+  about_within : named s.cells heard.name ≡ None → IsAbout s within
+  about_within free = about_timer (first_due s.cells) _ refl (about_event heard.name (next_event outside s) _ free (about_native (next_native outside s) _ (about_ready (has_signal s.cells) (first_ready s.cells) (next_time outside s) refl)))
 
-  pub turn_about : IsAbout s (turning outside heard s)
-  turn_about = go (nat_le outside.limit s.rest.dispatches)
+  pub turn_about : named s.cells heard.name ≡ None → IsAbout s (turning outside heard s)
+  turn_about free = go (nat_le outside.limit s.rest.dispatches)
     where
       go : (b : Bool) → IsAbout s (cond b Cuts within)
       go true = tt
-      go false = about_within
+      go false = about_within free

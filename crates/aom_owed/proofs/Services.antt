@@ -17,7 +17,9 @@ use Rattle.aom_sound.proofs.Maps.{same_place-true}
 use Rattle.aom_sound.proofs.Services.{named_served, requested_served}
 use Rattle.aom_sound.proofs.Sifted.{a_cell_of, cell_in, cell_in_sifted, cell_lives, cell_of, cell_of_sifted, cell_owner, cell_placed, held_cell, kept, named_cell, object_in, request_in, requested_cell, sifted, tidy_sifted, unqueued_so, unslotted_so, withdrawn_so}
 use Rattle.aom_sound.specs.Claims.{Layer, claim, declared}
-use Rattle.aom_sound.specs.Clients.{Command, Closes, Connects, Dies, Listed, Sends, commanded, connecting, each_unslotted, first_listed, leaving, own, refusal, sending, told}
+use Rattle.aom_transcript.specs.declared.event.Command.{Command}
+use Rattle.aom_transcript.specs.declared.event.Command.TheVariants.{Close, Connect, Die, Send}
+use Rattle.aom_sound.specs.Clients.{Listed, asked_server, commanded, connecting, each_unslotted, leaving, own, refusal, sending, told}
 use Rattle.aom_sound.specs.Natives.{is_owed, is_served_by}
 use Rattle.aom_sound.specs.Places.{Message_of, Cell, Elsewhere, Entry, Field, Going, In_service, Object, Place, Queued, Register, Root, Service, Session, Tidy, held, in_session, named, requested, same_place, seen, service_of, set_service, with_new, without}
 use Rattle.aom_sound.specs.Servers.{all_unslotted, asked_last, has_message, is_from, is_queue, is_queue_of, reserved, without_queue, withdrawn}
@@ -209,10 +211,10 @@ module _ (p : Image) (t : Typing) (s : State) (ls : List Layer) (good : Good p t
       close_told _ = unchanged_itself p (withdrawn client s.cells)
 
   pub unchanged_commanded : (command : Command) → Unchanged p s.cells (commanded p client s command name).cells
-  unchanged_commanded (Connects class slots) = connecting_same (refusal p client s (Connects class slots)) (first_listed class s.cells) slots
-  unchanged_commanded (Sends words) = sending_same (refusal p client s (Sends words)) (own p client s) words
-  unchanged_commanded Closes = leaving_same (row (own p client s)).close
-  unchanged_commanded Dies = leaving_same (row (own p client s)).die
+  unchanged_commanded (Connect class slots) = connecting_same (refusal p client s (Connect class slots)) (asked_server p class s.cells) slots
+  unchanged_commanded (Send words) = sending_same (refusal p client s (Send words)) (own p client s) words
+  unchanged_commanded Close = leaving_same (row (own p client s)).close
+  unchanged_commanded Die = leaving_same (row (own p client s)).die
 
 -- it kills no native
 module _ (p : Image) (s : State) (client name : ℕ) where
@@ -230,7 +232,7 @@ module _ (p : Image) (s : State) (client name : ℕ) where
   leaving_killed (Some to) = refl
 
   pub commanded_killed : (command : Command) → (commanded p client s command name).killed ≡ s.killed
-  commanded_killed (Connects class slots) = connecting_killed (refusal p client s (Connects class slots)) (first_listed class s.cells) slots
-  commanded_killed (Sends words) = sending_killed (refusal p client s (Sends words)) (own p client s) words
-  commanded_killed Closes = leaving_killed (row (own p client s)).close
-  commanded_killed Dies = leaving_killed (row (own p client s)).die
+  commanded_killed (Connect class slots) = connecting_killed (refusal p client s (Connect class slots)) (asked_server p class s.cells) slots
+  commanded_killed (Send words) = sending_killed (refusal p client s (Send words)) (own p client s) words
+  commanded_killed Close = leaving_killed (row (own p client s)).close
+  commanded_killed Die = leaving_killed (row (own p client s)).die

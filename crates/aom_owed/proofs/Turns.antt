@@ -241,5 +241,5 @@ module _ (p : Image) (s : State) (holds : SessionsHold p s) where
 
 pub turns_kill_or_complete : TurnsKillOrComplete
 turns_kill_or_complete p t outside heard s u w well fit holds e =
-    let tale = told p t s u w (turning outside heard s) fit (turn_about outside heard s) well.completion e in
+    let tale = told p t s u w (turning outside heard s) fit (turn_about outside heard s well.name) well.completion e in
     record { completes = tale.completes; owes = tale.owes; meets = tale.meets; killed = tale.killed; sessions = sessions_turned p s holds u (turning outside heard s) tale }

@@ -4,12 +4,12 @@ use Rattle.std.specs.Int.{w32, cast_signed}
 use Rattle.aom_image.proofs.Given.{cons_given}
 use Rattle.aom_cleanup.specs.Items.{IsAboveMark}
 use Rattle.aom_frames.specs.Tasks.{Runs, below_first}
-use Rattle.aom_parts.specs.Places.{IsDestroying, IsEnding, IsTrapped, IsUnwinding}
-use Rattle.aom_sound.specs.State.{Frame, Task, Run, Trapped, Destroy, Unwind, Dispatch, Dispatched, Item, An_object, An_operation, A_mark}
+use Rattle.aom_parts.specs.Places.{IsClosing, IsDestroying, IsEnding, IsTrapped, IsUnwinding}
+use Rattle.aom_sound.specs.State.{Frame, Task, Run, Trapped, Destroy, Closing, Unwind, Dispatch, Dispatched, Item, An_object, An_operation, A_mark}
 use Rattle.aom_frames.specs.declared.frame.Frame.{Frame as Held_frame}
 use Rattle.aom_frames.specs.declared.dispatch.Dispatch.{Dispatch as Held_dispatch}
 use Rattle.aom_frames.specs.declared.task.Task.{Task as Held_task}
-use Rattle.aom_frames.specs.declared.task.Task.TheVariants.{Run as Runs_frame, Trapped as Is_trap, Destroy as Destroys, Unwind as Unwinds, Dispatched as Ends}
+use Rattle.aom_frames.specs.declared.task.Task.TheVariants.{Run as Runs_frame, Trapped as Is_trap, Destroy as Destroys, Closing as Closes, Unwind as Unwinds, Dispatched as Ends}
 use Rattle.aom_cleanup.specs.declared.item.Item.{Item as Held_item}
 use Rattle.aom_cleanup.specs.declared.item.Item.TheVariants.{Object as Holds_object, Operation as Holds_operation, Mark as Is_mark}
 use Rattle.aom_parts.specs.Agrees.{SameFrame, SameTask, SameTasks, SameDispatch, SameItem, SameItems}
@@ -18,14 +18,16 @@ use Rattle.aom_parts.specs.Agrees.{SameFrame, SameTask, SameTasks, SameDispatch,
 pub record EachTask (P : Held_task → Task → Type 0) : Type 0 where
   pub runs : (f : Held_frame) (fr : Frame) → SameFrame f fr → P (Runs_frame f) (Run fr)
   pub trapped : P Is_trap Trapped
-  pub destroys : (x : ℕ) → P (Destroys x) Destroy
+  pub destroys : (x : ℕ) → x < 4096 → P (Destroys x) Destroy
+  pub closes : P Closes Closing
   pub unwinds : (code c : ℤ) → code ≡ c → P (Unwinds code) (Unwind c)
   pub ends : (x : Held_dispatch) (d : Dispatch) → SameDispatch x d → P (Ends x) (Dispatched d)
 
 pub by_task : (P : Held_task → Task → Type 0) → EachTask P → (m : Held_task) (u : Task) → SameTask m u → P m u
 by_task P each (Runs_frame f) (Run fr) same = each.runs f fr same
 by_task P each Is_trap Trapped same = each.trapped
-by_task P each (Destroys x) Destroy same = each.destroys x
+by_task P each (Destroys x) Destroy same = each.destroys x same
+by_task P each Closes Closing same = each.closes
 by_task P each (Unwinds code) (Unwind c) same = each.unwinds code c same
 by_task P each (Ends x) (Dispatched d) same = each.ends x d same
 by_task P each _ _ same = absurd same
@@ -53,7 +55,8 @@ pub data Alike : List Held_task → List Task → Type 0 where
   no_tasks : Alike [] []
   both_run : (f : Held_frame) (fr : Frame) (ms : List Held_task) (ts : List Task) → SameFrame f fr → SameTasks ms ts → Alike ms ts → Alike (Runs_frame f ∷ ms) (Run fr ∷ ts)
   both_trapped : (ms : List Held_task) (ts : List Task) → SameTasks ms ts → Alike ms ts → Alike (Is_trap ∷ ms) (Trapped ∷ ts)
-  both_go : (x : ℕ) (ms : List Held_task) (ts : List Task) → SameTasks ms ts → Alike ms ts → Alike (Destroys x ∷ ms) (Destroy ∷ ts)
+  both_go : (x : ℕ) (ms : List Held_task) (ts : List Task) → x < 4096 → SameTasks ms ts → Alike ms ts → Alike (Destroys x ∷ ms) (Destroy ∷ ts)
+  both_close : (ms : List Held_task) (ts : List Task) → SameTasks ms ts → Alike ms ts → Alike (Closes ∷ ms) (Closing ∷ ts)
   both_unwind : (code c : ℤ) (ms : List Held_task) (ts : List Task) → code ≡ c → SameTasks ms ts → Alike ms ts → Alike (Unwinds code ∷ ms) (Unwind c ∷ ts)
   both_end : (x : Held_dispatch) (d : Dispatch) (ms : List Held_task) (ts : List Task) → SameDispatch x d → SameTasks ms ts → Alike ms ts → Alike (Ends x ∷ ms) (Dispatched d ∷ ts)
 
@@ -61,7 +64,8 @@ pub alike : (ms : List Held_task) (us : List Task) → SameTasks ms us → Alike
 alike = by_tasks Alike no_tasks (λ m u ms us same below more. by_task (λ m u. Alike (m ∷ ms) (u ∷ us)) (record {
   runs = λ f fr e. both_run f fr ms us e below more;
   trapped = both_trapped ms us below more;
-  destroys = λ x. both_go x ms us below more;
+  destroys = λ x small. both_go x ms us small below more;
+  closes = both_close ms us below more;
   unwinds = λ code c e. both_unwind code c ms us e below more;
   ends = λ x d e. both_end x d ms us e below more;
 }) m u same)
@@ -96,6 +100,7 @@ pub data Kind : Type 0 where
   A_method : Kind
   A_trap : Kind
   A_going : Kind
+  A_closing : Kind
   A_leave : Kind
   An_end : Kind
   -- a trap over the method that set it, or over the end of a dispatch
@@ -109,6 +114,7 @@ abbrev pub IsOn : Kind → List Held_task → Type 0
 IsOn A_method ms = Runs ms
 IsOn A_trap ms = IsTrapped ms
 IsOn A_going ms = IsDestroying ms
+IsOn A_closing ms = IsClosing ms
 IsOn A_leave ms = IsUnwinding ms
 IsOn An_end ms = IsEnding ms
 IsOn A_catcher ms = IsTrapped ms × Runs (below_first ms)
@@ -120,6 +126,7 @@ pub data Tops : Kind → List Held_task → Type 0 where
   method_on_top : (f : Held_frame) (ms : List Held_task) → Tops A_method (Runs_frame f ∷ ms)
   trap_on_top : (ms : List Held_task) → Tops A_trap (Is_trap ∷ ms)
   going_on_top : (x : ℕ) (ms : List Held_task) → Tops A_going (Destroys x ∷ ms)
+  closing_on_top : (ms : List Held_task) → Tops A_closing (Closes ∷ ms)
   leave_on_top : (code : ℤ) (ms : List Held_task) → Tops A_leave (Unwinds code ∷ ms)
   end_on_top : (x : Held_dispatch) (ms : List Held_task) → Tops An_end (Ends x ∷ ms)
   catcher_on_top : (f : Held_frame) (ms : List Held_task) → Tops A_catcher (Is_trap ∷ Runs_frame f ∷ ms)
@@ -131,6 +138,7 @@ pub tops : (k : Kind) (ms : List Held_task) → IsOn k ms → Tops k ms
 tops A_method (Runs_frame f ∷ ms) on = method_on_top f ms
 tops A_trap (Is_trap ∷ ms) on = trap_on_top ms
 tops A_going (Destroys x ∷ ms) on = going_on_top x ms
+tops A_closing (Closes ∷ ms) on = closing_on_top ms
 tops A_leave (Unwinds code ∷ ms) on = leave_on_top code ms
 tops An_end (Ends x ∷ ms) on = end_on_top x ms
 tops A_catcher (Is_trap ∷ Runs_frame f ∷ ms) on = catcher_on_top f ms

@@ -1,5 +1,5 @@
 -- The words of cells: what moves, goes, is made and is written leaves all others as they were.
-use Rattle.std.proofs.Common.{zero, suc, inl, inr, ◌≡◌, ℕ, ℤ, pos, Bool, true, false, cond, ◌==◌, ◌&&◌, List, [], ◌∷◌, Option, Some, None, replicate, slice_index_or, refl, sym, ap, ◌∙◌, arith}
+use Rattle.std.proofs.Common.{zero, suc, inl, inr, ◌≡◌, ℕ, ℤ, pos, Bool, true, false, cond, ◌==◌, ◌&&◌, List, [], ◌∷◌, Option, Some, None, replicate, slice_index_or, refl, sym, ap, ◌∙◌, arith, ◌<◌, subst}
 use Rattle.std.specs.Prelude.{is_some}
 use Rattle.std.proofs.lemmas.Bool.{cases_lt, eq-eqb, eqb-true, false≢true}
 use Rattle.std.proofs.lemmas.List.{get_or_past, get_or-replicate, get_or-set_other, length-replicate}
@@ -59,16 +59,16 @@ word_left : (c : Option Held_cell) (w x : ℕ) (v : ℤ) → (w == x) ≡ false 
 word_left None w x v d = refl
 word_left (Some c) w x v d = get_or-set_other c.words w x v (pos 0) (λ e. false≢true (sym d ∙ eq-eqb w x (sym e)))
 
-pub words_stored : (h h' : Heap) (cs : List Cell) (n w : ℕ) (v : ℤ) (o : Object) → ((k x : ℕ) → cell_word h k x ≡ word_field cs k x) → named cs n ≡ Some o → Changes h h' n (with_word (cell_at h n) w v) → cell_word h' n w ≡ v
-    → (k x : ℕ) → cell_word h' k x ≡ word_field (set_word_field n w v cs) k x
-words_stored h h' cs n w v o same lives ch here k x = cases (n == k)
-    (λ e. ap (λ i. cell_word h' i x) (sym (eqb-true n k e)) ∙ this ∙ ap (λ i. word_field (set_word_field n w v cs) i x) (eqb-true n k e))
-    (λ e. ap (λ c. word_of c x) (ch.others k (λ d. false≢true (sym e ∙ eq-eqb n k (sym d)))) ∙ same k x ∙ sym (words_other cs n w v k x e))
+pub words_stored : (h h' : Heap) (cs : List Cell) (n w : ℕ) (v : ℤ) (o : Object) → ((k x : ℕ) → k < 4096 → cell_word h k x ≡ word_field cs k x) → named cs n ≡ Some o → Changes h h' n (with_word (cell_at h n) w v) → cell_word h' n w ≡ v
+    → (k x : ℕ) → k < 4096 → cell_word h' k x ≡ word_field (set_word_field n w v cs) k x
+words_stored h h' cs n w v o same lives ch here k x small = cases (n == k)
+    (λ e. ap (λ i. cell_word h' i x) (sym (eqb-true n k e)) ∙ this (subst (λ i. i < 4096) (sym (eqb-true n k e)) small) ∙ ap (λ i. word_field (set_word_field n w v cs) i x) (eqb-true n k e))
+    (λ e. ap (λ c. word_of c x) (ch.others k (λ d. false≢true (sym e ∙ eq-eqb n k (sym d)))) ∙ same k x small ∙ sym (words_other cs n w v k x e))
   where
     now : (b : Bool) → (w == x) ≡ b → word_field (set_word_field n w v cs) n x ≡ cond b v (word_field cs n x)
     now b e = words_here cs n w v x ∙ ap (λ o. cond (is_some o && (w == x)) v (word_field cs n x)) lives ∙ ap (λ b. cond b v (word_field cs n x)) e
 
-    this : cell_word h' n x ≡ word_field (set_word_field n w v cs) n x
-    this = cases (w == x)
+    this : n < 4096 → cell_word h' n x ≡ word_field (set_word_field n w v cs) n x
+    this few = cases (w == x)
         (λ e. ap (λ i. cell_word h' n i) (sym (eqb-true w x e)) ∙ here ∙ sym (now true e))
-        (λ e. ap (λ c. word_of c x) ch.here ∙ word_left (cell_at h n) w x v e ∙ same n x ∙ sym (now false e))
+        (λ e. ap (λ c. word_of c x) ch.here ∙ word_left (cell_at h n) w x v e ∙ same n x few ∙ sym (now false e))

@@ -1,35 +1,43 @@
 -- The machine's cells, where owners move and where a cell goes.
-use Rattle.std.proofs.Common.{◌≡◌, ℕ, pos, ◌+◌, Bool, true, false, cond, not, ◌==◌, length, List, [], ◌∷◌, Option, Some, None, refl, sym, ap, ◌∙◌, arith, subst, ◌<◌}
+use Rattle.std.proofs.Common.{◌≡◌, ℕ, pos, ◌+◌, Bool, true, false, cond, not, ◌==◌, List, [], ◌∷◌, Option, Some, None, refl, sym, ap, ◌∙◌, arith, subst, ◌<◌, ◌≤◌}
+use Rattle.std.specs.Prelude.{IsSome}
 use Rattle.std.proofs.lemmas.Bool.{eqb-true, eq-eqb, false≢true, false_from_ne_true, not-true, true≢false}
 use Rattle.aom_image.specs.Image.{Image}
 use Rattle.aom_cells.specs.declared.cell.Cell.{Cell as Held_cell}
 use Rattle.aom_cells.specs.Heap.{Heap, null, cell_at, word_of, count, Changes}
 use Rattle.aom_shape.specs.Tables.{at}
-use Rattle.aom_image.specs.declared.method.Thing.TheVariants.{Object as An_object_of}
 use Rattle.aom_shape.specs.Kinds.{is_object}
 use Rattle.aom_sound.specs.Places.{Place, Object, Cell, count_cells, same_place, held, named, moved, without, Tidy, word_field}
-use Rattle.aom_sound.proofs.Counts.{all_objects, count_moved, count_objects, count_without, counted_in}
-use Rattle.aom_sound.proofs.Maps.{held_lives, same_place-true, named_moved, named_without, unnamed, without_none}
+use Rattle.aom_sound.proofs.Counts.{count_moved, count_without, counted_in}
+use Rattle.aom_sound.proofs.Maps.{same_place-true, named_moved, named_without, unnamed, without_none}
 use Rattle.aom_parts.specs.Agrees.{SameCells, thing_in, thing_of}
 use Rattle.aom_parts.proofs.Values.{cases}
 use Rattle.aom_parts.proofs.CellWords.{words_moved, words_unnamed}
 
--- what the machine has is an object
-pub is_an_object : (p : Image) (h : Heap) (cs : List Cell) (n : ℕ) (o : Object) → SameCells p h cs → named cs n ≡ Some o → is_object o.thing ≡ true
-is_an_object p h cs n o same lives = go (cell_at h n) (same.things n ∙ ap thing_of lives)
-  where
-    go : (c : Option Held_cell) → thing_in c ≡ Some o.thing → is_object o.thing ≡ true
-    go None e = absurd cc
-    go (Some c) e = let object : o.thing ≡ An_object_of c.class = cc in ap is_object object
+-- the machine has the cell of an object
+pub class_told : (p : Image) (h : Heap) (cs : List Cell) (n : ℕ) (o : Object) → SameCells p h cs → named cs n ≡ Some o → is_object o.thing ≡ true → thing_in (cell_at h n) ≡ Some o.thing
+class_told p h cs n o same lives object = same.things n ∙ ap thing_of lives ∙ ap (λ b. cond b (Some o.thing) None) object
 
--- and so is each cell
-pub all_counted : (p : Image) (h : Heap) (cs : List Cell) → SameCells p h cs → Tidy cs → count_cells cs ≡ length cs
-all_counted p h cs same tidy = count_objects cs (all_objects cs tidy (λ n o lives. is_an_object p h cs n o same lives))
+-- and what it has the cell of is one
+pub is_an_object : (p : Image) (h : Heap) (cs : List Cell) (n : ℕ) (o : Object) → SameCells p h cs → named cs n ≡ Some o → IsSome (cell_at h n) → is_object o.thing ≡ true
+is_an_object p h cs n o same lives there = go (cell_at h n) there (same.things n ∙ ap thing_of lives) (is_object o.thing) refl
+  where
+    go : (c : Option Held_cell) → IsSome c → thing_in c ≡ cond (is_object o.thing) (Some o.thing) None → (b : Bool) → is_object o.thing ≡ b → b ≡ true
+    go c some e true object = refl
+    go None some e false object = absurd (false≢true some)
+    go (Some c) some e false object = absurd (some≢none (e ∙ ap (λ b. cond b (Some o.thing) None) object))
+      where
+        some≢none : {A : Type 0} {x : A} → Some x ≡ None → ⊥
+        some≢none clash = cc
+
+-- a cell's number is below all messages'
+pub cell_small : (p : Image) (h : Heap) (cs : List Cell) → SameCells p h cs → p.header.cells ≤ 4096 → (n : ℕ) (c : Held_cell) → cell_at h n ≡ Some c → n < 4096
+cell_small p h cs same few n c there = let low = same.below n c there in let limit = same.limit in omega (arith, low, limit, few)
 
 pub cells_moved : (p : Image) (h : Heap) (cs : List Cell) (from to : Place) → SameCells p h cs → SameCells p h (moved from to cs)
 cells_moved p h cs from to same = record {
   things = λ n. same.things n ∙ ap thing_of (sym (named_moved cs from to n));
-  words = λ n w. same.words n w ∙ sym (words_moved cs from to n w);
+  words = λ n w small. same.words n w small ∙ sym (words_moved cs from to n w);
   count = same.count ∙ sym (count_moved cs from to);
   limit = same.limit;
   wide = same.wide;
@@ -45,7 +53,7 @@ unowned c cs r is here other none =
     ap (λ b. cond b (Some c.object) (held cs r)) apart ∙ none
 
 -- the words of another cell than the one that goes
-words_without : (cs : List Cell) (g : Place) (o : Object) (n w : ℕ) → Tidy cs → held cs g ≡ Some o → (o.name == n) ≡ false → word_field (without g cs) n w ≡ word_field cs n w
+pub words_without : (cs : List Cell) (g : Place) (o : Object) (n w : ℕ) → Tidy cs → held cs g ≡ Some o → (o.name == n) ≡ false → word_field (without g cs) n w ≡ word_field cs n w
 words_without [] g o n w t e d = refl
 words_without (c ∷ cs) g o n w t e d = go (same_place c.owner g) refl (words_without cs g o n w t.2) e
   where
@@ -57,15 +65,15 @@ words_without (c ∷ cs) g o n w t e d = go (same_place c.owner g) refl (words_w
     go false f rest e = ap (λ x. cond (c.object.name == n) (at (pos 0) c.words w) x) (rest e d)
 
 -- the cell that a place owned goes
-pub cells_without : (p : Image) (h h' : Heap) (cs : List Cell) (g : Place) (o : Object) → SameCells p h cs → Tidy cs → held cs g ≡ Some o → Changes h h' o.name None → count h' + 1 ≡ count h → SameCells p h' (without g cs)
-cells_without p h h' cs g o same tidy is ch less = record {
+pub cells_without : (p : Image) (h h' : Heap) (cs : List Cell) (g : Place) (o : Object) → SameCells p h cs → Tidy cs → held cs g ≡ Some o → is_object o.thing ≡ true → Changes h h' o.name None → count h' + 1 ≡ count h → SameCells p h' (without g cs)
+cells_without p h h' cs g o same tidy is object ch less = record {
   things = λ k. cases (o.name == k)
       (λ e. ap (λ i. thing_in (cell_at h' i)) (sym (eqb-true o.name k e)) ∙ ap thing_in ch.here ∙ sym (ap thing_of (ap (named (without g cs)) (sym (eqb-true o.name k e)) ∙ unnamed cs g o tidy is)))
       (λ e. ap thing_in (other k e) ∙ same.things k ∙ ap thing_of (sym (named_without cs g o k tidy is e)));
-  words = λ k w. cases (o.name == k)
+  words = λ k w small. cases (o.name == k)
       (λ e. ap (λ i. word_of (cell_at h' i) w) (sym (eqb-true o.name k e)) ∙ ap (λ c. word_of c w) ch.here ∙ sym (words_unnamed (without g cs) k w (ap (named (without g cs)) (sym (eqb-true o.name k e)) ∙ unnamed cs g o tidy is)))
-      (λ e. ap (λ c. word_of c w) (other k e) ∙ same.words k w ∙ sym (words_without cs g o k w tidy is e));
-  count = (let a = count_without cs g tidy ∙ ap (λ o. counted_in o + count_cells (without g cs)) is in let one = ap {B = ℕ} (λ b. cond b 1 0) (is_an_object p h cs o.name o same (held_lives cs g o tidy is)) in let b = same.count in omega (arith, a, one, b));
+      (λ e. ap (λ c. word_of c w) (other k e) ∙ same.words k w small ∙ sym (words_without cs g o k w tidy is e));
+  count = (let a = count_without cs g tidy ∙ ap (λ o. counted_in o + count_cells (without g cs)) is in let one = ap {B = ℕ} (λ b. cond b 1 0) object in let b = same.count in omega (arith, a, one, b));
   limit = ch.limit ∙ same.limit;
   wide = λ k c e. same.wide k c (sym (still k c e) ∙ e);
   classes = λ k c e. same.classes k c (sym (still k c e) ∙ e);

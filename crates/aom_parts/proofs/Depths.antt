@@ -1,13 +1,13 @@
 -- The room that a run needs, and what a move does to it: a frame begins or ends, an item comes or goes, cells move.
-use Rattle.std.proofs.Common.{Bool, List, Some, [], ap, arith, cond, false, length, refl, subst, sym, true, ℕ, ◌+◌, ◌<◌, ◌∙◌, ◌∷◌, ◌≡◌, ◌≤◌}
+use Rattle.std.proofs.Common.{Bool, List, Some, [], ap, arith, cond, false, length, refl, subst, suc, sym, true, ℕ, ◌+◌, ◌<◌, ◌∙◌, ◌∷◌, ◌≡◌, ◌≤◌}
 use Rattle.std.proofs.lemmas.Bool.{le-ltb, lt-ltb}
 use Rattle.aom_image.specs.Image.{Image}
 use Rattle.aom_sound.proofs.Maps.{same_place-true}
 use Rattle.aom_sound.specs.Cleanup.{to_trap}
 use Rattle.aom_sound.specs.Calls.{below_top}
-use Rattle.aom_sound.specs.Places.{Cell, Entry, Place, held, moved, same_place}
+use Rattle.aom_sound.specs.Places.{Cell, Entry, Going, Place, held, moved, same_place}
 use Rattle.aom_sound.specs.State.{A_mark, An_object, An_operation, Closing, Destroy, Dispatched, Frame, Item, Run, Task, Trapped, Unwind, resumed}
-use Rattle.aom_parts.specs.Room.{AllFit, AllRunUnder, AllUnder, IsUnder, RunsUnder, below_height, destructor_in, entries_in, may_push, run_by}
+use Rattle.aom_parts.specs.Room.{AllFit, AllRunUnder, AllUnder, ClosesUnder, Destructs, IsUnder, NoClosing, RunsBy, RunsUnder, below_height, entries_in, may_push}
 
 -- each method at hand began where the cleanup stack had no more items than that
 abbrev pub AllLow : ℕ → List Task → Type 0
@@ -28,9 +28,9 @@ lower n k (Closing ∷ ts) le w = lower n k ts le w
 lower n k (Unwind code ∷ ts) le w = lower n k ts le w
 lower n k (Dispatched d ∷ ts) le w = lower n k ts le w
 
--- entries below that number own what they owned
-abbrev pub SameEntries : List Cell → List Cell → ℕ → Type 0
-SameEntries cs cs' n = (k : ℕ) → k < n → held cs' (Entry k) ≡ held cs (Entry k)
+-- entries below one number own what they owned, and below another the same cells go
+abbrev pub SameBelow : List Cell → List Cell → (entries goings : ℕ) → Type 0
+SameBelow cs cs' n d = ((k : ℕ) → k < n → held cs' (Entry k) ≡ held cs (Entry k)) × ((k : ℕ) → k < d → held cs' (Going k) ≡ held cs (Going k))
 
 -- what moves from one place to another leaves the others as they are
 pub held_apart : (cs : List Cell) (q r e : Place) → same_place q e ≡ false → same_place r e ≡ false → held (moved q r cs) e ≡ held cs e
@@ -72,25 +72,40 @@ module _ (p : Image) (depth heights : ℕ → ℕ) where
 
   -- ---- cells move
 
-  same_runs : (cs cs' : List Cell) (height n : ℕ) (items : List Item) → SameEntries cs cs' (length items) → RunsUnder p depth cs height n items → RunsUnder p depth cs' height n items
+  same_runs : (cs cs' : List Cell) (height n : ℕ) (items : List Item) → ((k : ℕ) → k < length items → held cs' (Entry k) ≡ held cs (Entry k)) → RunsUnder p depth cs height n items → RunsUnder p depth cs' height n items
   same_runs cs cs' height n [] same w = tt
-  same_runs cs cs' height n (i ∷ items) same w = (λ le m e. w.0 le m (sym (same_run i) ∙ e), same_runs cs cs' height n items (λ k lt. same k (omega (arith, lt))) w.1)
+  same_runs cs cs' height n (i ∷ items) same w = (λ le m e. w.0 le m (same_run i m e), same_runs cs cs' height n items (λ k lt. same k (omega (arith, lt))) w.1)
     where
-      same_run : (i : Item) → run_by p cs' i (length items) ≡ run_by p cs i (length items)
-      same_run An_object = ap (destructor_in p) (same (length items) (omega arith))
-      same_run (An_operation m w) = refl
-      same_run A_mark = refl
+      same_run : (i : Item) (m : ℕ) → RunsBy p cs' i (length items) m → RunsBy p cs i (length items) m
+      same_run An_object m e = subst (λ o. Destructs p o m) (same (length items) (omega arith)) e
+      same_run (An_operation k w) m e = e
+      same_run A_mark m e = e
 
-  all_same : (cs cs' : List Cell) (items : List Item) (ts : List Task) → SameEntries cs cs' (length items) → AllRunUnder p depth cs items ts → AllRunUnder p depth cs' items ts
+  same_closing : (cs cs' : List Cell) (ts : List Task) → ((k : ℕ) → k < length ts → held cs' (Going k) ≡ held cs (Going k)) → ClosesUnder p depth cs ts → ClosesUnder p depth cs' ts
+  same_closing cs cs' (Destroy ∷ ts) same w = (λ m e. w.0 m (subst (λ o. Destructs p o m) (same (length ts) (omega arith)) e), w.1)
+  same_closing cs cs' [] same w = tt
+  same_closing cs cs' (Run fr ∷ ts) same w = tt
+  same_closing cs cs' (Trapped ∷ ts) same w = tt
+  same_closing cs cs' (Closing ∷ ts) same w = tt
+  same_closing cs cs' (Unwind code ∷ ts) same w = tt
+  same_closing cs cs' (Dispatched d ∷ ts) same w = tt
+
+  -- below one task less
+  fewer : (cs cs' : List Cell) (n d : ℕ) → SameBelow cs cs' n (suc d) → SameBelow cs cs' n d
+  fewer cs cs' n d same = (same.0, λ k lt. same.1 k (omega (arith, lt)))
+
+  all_same : (cs cs' : List Cell) (items : List Item) (ts : List Task) → SameBelow cs cs' (length items) (length ts) → AllRunUnder p depth cs items ts → AllRunUnder p depth cs' items ts
   all_same cs cs' items [] same w = tt
-  all_same cs cs' items (Run fr ∷ ts) same w = (same_runs cs cs' fr.height (depth fr.method) items same w.0, all_same cs cs' items ts same w.1)
-  all_same cs cs' items (Trapped ∷ ts) same w = all_same cs cs' items ts same w
-  all_same cs cs' items (Destroy ∷ ts) same w = all_same cs cs' items ts same w
-  all_same cs cs' items (Closing ∷ ts) same w = all_same cs cs' items ts same w
-  all_same cs cs' items (Unwind code ∷ ts) same w = all_same cs cs' items ts same w
-  all_same cs cs' items (Dispatched d ∷ ts) same w = all_same cs cs' items ts same w
+  all_same cs cs' items (Run fr ∷ ts) same w = (same_runs cs cs' fr.height (depth fr.method) items same.0 w.0, all_same cs cs' items ts (fewer cs cs' (length items) (length ts) same) w.1)
+  all_same cs cs' items (Trapped ∷ ts) same w = all_same cs cs' items ts (fewer cs cs' (length items) (length ts) same) w
+  all_same cs cs' items (Destroy ∷ ts) same w = all_same cs cs' items ts (fewer cs cs' (length items) (length ts) same) w
+  all_same cs cs' items (Closing ∷ ts) same w =
+      let less = fewer cs cs' (length items) (length ts) same in
+      (same_closing cs cs' ts less.1 w.0, all_same cs cs' items ts less w.1)
+  all_same cs cs' items (Unwind code ∷ ts) same w = all_same cs cs' items ts (fewer cs cs' (length items) (length ts) same) w
+  all_same cs cs' items (Dispatched d ∷ ts) same w = all_same cs cs' items ts (fewer cs cs' (length items) (length ts) same) w
 
-  pub recelled : (cs cs' : List Cell) (items : List Item) (ts : List Task) → SameEntries cs cs' (length items) → Roomy cs items ts → Roomy cs' items ts
+  pub recelled : (cs cs' : List Cell) (items : List Item) (ts : List Task) → SameBelow cs cs' (length items) (length ts) → Roomy cs items ts → Roomy cs' items ts
   recelled cs cs' items ts same w = (w.0, all_same cs cs' items ts same w.1, w.2, w.3)
 
   -- ---- the last item goes
@@ -100,7 +115,7 @@ module _ (p : Image) (depth heights : ℕ → ℕ) where
   runs_below cs i items (Run fr ∷ ts) w = (w.0.1, runs_below cs i items ts w.1)
   runs_below cs i items (Trapped ∷ ts) w = runs_below cs i items ts w
   runs_below cs i items (Destroy ∷ ts) w = runs_below cs i items ts w
-  runs_below cs i items (Closing ∷ ts) w = runs_below cs i items ts w
+  runs_below cs i items (Closing ∷ ts) w = (w.0, runs_below cs i items ts w.1)
   runs_below cs i items (Unwind code ∷ ts) w = runs_below cs i items ts w
   runs_below cs i items (Dispatched d ∷ ts) w = runs_below cs i items ts w
 
@@ -127,16 +142,16 @@ module _ (p : Image) (depth heights : ℕ → ℕ) where
 
   -- ---- an item is pushed
 
-  pushed_runs : (cs : List Cell) (i : Item) (items : List Item) (ts : List Task) → AllUnder depth ts → ((m : ℕ) → run_by p cs i (length items) ≡ Some m → IsUnder depth (depth m) ts) → AllRunUnder p depth cs items ts → AllRunUnder p depth cs (i ∷ items) ts
+  pushed_runs : (cs : List Cell) (i : Item) (items : List Item) (ts : List Task) → AllUnder depth ts → ((m : ℕ) → RunsBy p cs i (length items) m → IsUnder depth (depth m) ts) → AllRunUnder p depth cs items ts → AllRunUnder p depth cs (i ∷ items) ts
   pushed_runs cs i items [] u h w = tt
   pushed_runs cs i items (Run fr ∷ ts) u h w = ((λ le m e. h m e, w.0), pushed_runs cs i items ts u.1 (λ m e. under_less (depth m) (depth fr.method) ts (h m e) u.0) w.1)
   pushed_runs cs i items (Trapped ∷ ts) u h w = pushed_runs cs i items ts u h w
   pushed_runs cs i items (Destroy ∷ ts) u h w = pushed_runs cs i items ts u h w
-  pushed_runs cs i items (Closing ∷ ts) u h w = pushed_runs cs i items ts u h w
+  pushed_runs cs i items (Closing ∷ ts) u h w = (w.0, pushed_runs cs i items ts u h w.1)
   pushed_runs cs i items (Unwind code ∷ ts) u h w = pushed_runs cs i items ts u h w
   pushed_runs cs i items (Dispatched d ∷ ts) u h w = pushed_runs cs i items ts u h w
 
-  pub item_pushed : (cs : List Cell) (i : Item) (items : List Item) (ts : List Task) → AllLow (length items) ts → ((m : ℕ) → run_by p cs i (length items) ≡ Some m → IsUnder depth (depth m) ts) → entries_in (i ∷ items) ≤ 1024 → Roomy cs items ts → Roomy cs (i ∷ items) ts
+  pub item_pushed : (cs : List Cell) (i : Item) (items : List Item) (ts : List Task) → AllLow (length items) ts → ((m : ℕ) → RunsBy p cs i (length items) m → IsUnder depth (depth m) ts) → entries_in (i ∷ items) ≤ 1024 → Roomy cs items ts → Roomy cs (i ∷ items) ts
   item_pushed cs i items ts low h few w = (
     w.0,
     pushed_runs cs i items ts w.0 h w.1,
@@ -160,14 +175,18 @@ module _ (p : Image) (depth heights : ℕ → ℕ) where
       )
 
   -- what the last item runs is less deep than the method below
-  pub top_under : (cs : List Cell) (i : Item) (items : List Item) (ts : List Task) (m : ℕ) → AllLow (length items) ts → run_by p cs i (length items) ≡ Some m → AllRunUnder p depth cs (i ∷ items) ts → IsUnder depth (depth m) ts
+  pub top_under : (cs : List Cell) (i : Item) (items : List Item) (ts : List Task) (m : ℕ) → AllLow (length items) ts → RunsBy p cs i (length items) m → AllRunUnder p depth cs (i ∷ items) ts → IsUnder depth (depth m) ts
   top_under cs i items [] m low e w = tt
   top_under cs i items (Run fr ∷ ts) m low e w = w.0.0 low.0 m e
   top_under cs i items (Trapped ∷ ts) m low e w = top_under cs i items ts m low e w
   top_under cs i items (Destroy ∷ ts) m low e w = top_under cs i items ts m low e w
-  top_under cs i items (Closing ∷ ts) m low e w = top_under cs i items ts m low e w
+  top_under cs i items (Closing ∷ ts) m low e w = top_under cs i items ts m low e w.1
   top_under cs i items (Unwind code ∷ ts) m low e w = top_under cs i items ts m low e w
   top_under cs i items (Dispatched d ∷ ts) m low e w = top_under cs i items ts m low e w
+
+  -- a server is at hand to go, whose sessions go first
+  pub closing_begins : (cs : List Cell) (items : List Item) (ts : List Task) → ((m : ℕ) → Destructs p (held cs (Going (length ts))) m → IsUnder depth (depth m) ts) → NoClosing ts → Roomy cs items ts → Roomy cs items (Closing ∷ Destroy ∷ ts)
+  closing_begins cs items ts under lone w = (w.0, ((under, lone), w.1), w.2, w.3)
 
   -- ---- methods end
 

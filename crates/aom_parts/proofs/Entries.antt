@@ -10,7 +10,7 @@ use Rattle.aom_sound.specs.Calls.{below_top, entry_at}
 use Rattle.aom_sound.specs.Places.{Place, Entry, changed}
 use Rattle.aom_sound.specs.State.{Item, An_object, An_operation}
 use Rattle.aom_frames.specs.declared.task.Task.{Task as Held_task}
-use Rattle.aom_parts.specs.Places.{number_in, value_in}
+use Rattle.aom_parts.specs.Places.{Others, number_in, value_in}
 use Rattle.aom_parts.specs.Agrees.{SameItems}
 use Rattle.aom_parts.proofs.Values.{at_depth, cases}
 use Rattle.aom_image.proofs.Given.{cons_given}
@@ -31,9 +31,9 @@ owns_none i is k none = at_depth (length is) k (owned_by i) (entry_in is k) (λ 
 pub mark_shows_none : (is : List Held_item) (k : ℕ) → entry_in (Is_mark ∷ is) k ≡ entry_in is k
 mark_shows_none is k = owns_none Is_mark is k refl
 
-pub value_alike : (us : List Held_task) (h : Heap) (es es' : List Held_item) (root : ℕ) → ((k : ℕ) → entry_in es k ≡ entry_in es' k) → (r : Place) → value_in us h es root r ≡ value_in us h es' root r
-value_alike us h es es' root same (Entry k) = same k
-value_alike us h es es' root same _ = refl
+pub value_alike : (us : List Held_task) (h : Heap) (es es' : List Held_item) (others : Others) → ((k : ℕ) → entry_in es k ≡ entry_in es' k) → (r : Place) → value_in us h es others r ≡ value_in us h es' others r
+value_alike us h es es' others same (Entry k) = same k
+value_alike us h es es' others same _ = refl
 
 -- the items below what is last
 pub below_same : (i : Held_item) (is : List Held_item) (js : List Item) → SameItems (i ∷ is) js → SameItems is (below_top js)
@@ -48,22 +48,22 @@ and_true true x y = refl
 and_true false x y = refl
 
 -- an object is pushed, and popped
-pub value_pushed : (us : List Held_task) (h : Heap) (es : List Held_item) (root n d : ℕ) → length es ≡ d → (r : Place) → value_in us h (Holds_object n ∷ es) root r ≡ changed (value_in us h es root) (Entry d) n r
-value_pushed us h es root n d deep (Entry k) = ap (λ z. cond (z == k) n (entry_in es k)) deep ∙ and_true (d == k) n (entry_in es k)
-value_pushed us h es root n d deep _ = refl
+pub value_pushed : (us : List Held_task) (h : Heap) (es : List Held_item) (others : Others) (n d : ℕ) → length es ≡ d → (r : Place) → value_in us h (Holds_object n ∷ es) others r ≡ changed (value_in us h es others) (Entry d) n r
+value_pushed us h es others n d deep (Entry k) = ap (λ z. cond (z == k) n (entry_in es k)) deep ∙ and_true (d == k) n (entry_in es k)
+value_pushed us h es others n d deep _ = refl
 
-pub value_popped : (us : List Held_task) (h : Heap) (es : List Held_item) (root n d : ℕ) → length es ≡ d → (r : Place) → value_in us h es root r ≡ changed (value_in us h (Holds_object n ∷ es) root) (Entry d) null r
-value_popped us h es root n d deep (Entry k) = cases (d == k)
+pub value_popped : (us : List Held_task) (h : Heap) (es : List Held_item) (others : Others) (n d : ℕ) → length es ≡ d → (r : Place) → value_in us h es others r ≡ changed (value_in us h (Holds_object n ∷ es) others) (Entry d) null r
+value_popped us h es others n d deep (Entry k) = cases (d == k)
     (λ b. entry_past es k (let same = eqb_same b in omega arith) ∙ ap (λ c. cond (c && true) null (entry_in (Holds_object n ∷ es) k)) (sym b))
     (λ b. sym (ap (λ c. cond c n (entry_in es k)) (ap (λ z. z == k) deep ∙ b)) ∙ ap (λ c. cond (c && true) null (entry_in (Holds_object n ∷ es) k)) (sym b))
   where
     eqb_same : (d == k) ≡ true → d ≡ k
     eqb_same b = eqb-true d k b
-value_popped us h es root n d deep _ = refl
+value_popped us h es others n d deep _ = refl
 
 -- what it owns is found there
-pub top_value : (us : List Held_task) (h : Heap) (es : List Held_item) (root n d : ℕ) → length es ≡ d → value_in us h (Holds_object n ∷ es) root (Entry d) ≡ n
-top_value us h es root n d deep = ap (λ b. cond b n (entry_in es d)) (eq-eqb (length es) d deep)
+pub top_value : (us : List Held_task) (h : Heap) (es : List Held_item) (others : Others) (n d : ℕ) → length es ≡ d → value_in us h (Holds_object n ∷ es) others (Entry d) ≡ n
+top_value us h es others n d deep = ap (λ b. cond b n (entry_in es d)) (eq-eqb (length es) d deep)
 
 some_entry : (js : List Item) (k : ℕ) → is_some (entry_at js k) ≡ true → 0 < length js
 some_entry js k e = some_members (λ xs. is_some (entry_at xs k) ≡ true) js e (λ none. false≢true none)

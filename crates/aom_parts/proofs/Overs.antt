@@ -6,7 +6,7 @@ use Rattle.aom_sound.specs.Places.{Place, Register, Going}
 use Rattle.aom_sound.specs.State.{Task, Trapped}
 use Rattle.aom_frames.specs.declared.task.Task.{Task as Held_task}
 use Rattle.aom_frames.specs.declared.task.Task.TheVariants.{Trapped as Is_trap}
-use Rattle.aom_parts.specs.Places.{register_in, going_in, value_in}
+use Rattle.aom_parts.specs.Places.{Others, register_in, going_in, value_in}
 use Rattle.aom_parts.specs.Agrees.{word_in, word_at}
 use Rattle.aom_parts.proofs.Values.{at_depth, going_past, register_past, word_past}
 
@@ -38,10 +38,10 @@ pub over_word : (b : Bool) (us : List Task) (d i : ℕ) → word_in (tasks_over 
 over_word true us d i = at_depth (length us) d None (word_in us d i) (λ k. word_past us d i (omega arith))
 over_word false us d i = refl
 
-pub over_value : (b : Bool) (us : List Held_task) (h : Heap) (es : List Item) (root : ℕ) (r : Place) → value_in (held_over b us) h es root r ≡ value_in us h es root r
-over_value b us h es root (Register d i) = over_register b us d i
-over_value b us h es root (Going k) = over_going b us k
-over_value b us h es root _ = refl
+pub over_value : (b : Bool) (us : List Held_task) (h : Heap) (es : List Item) (others : Others) (r : Place) → value_in (held_over b us) h es others r ≡ value_in us h es others r
+over_value b us h es others (Register d i) = over_register b us d i
+over_value b us h es others (Going k) = over_going b us k
+over_value b us h es others _ = refl
 
 pub over_words : (b : Bool) (us : List Task) (r : Place) → word_at (tasks_over b us) r ≡ word_at us r
 over_words b us (Register d i) = over_word b us d i

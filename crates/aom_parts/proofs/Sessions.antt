@@ -136,7 +136,7 @@ natives_set p old new killed cs o b lives set h = record {
     by n false other = set.others n (λ e. eqb-false o.name n other (sym e)) ∙ h.sessions n ∙ sym (session_there cs o.name b n other)
 
 -- it changes no word and no count
-words_opened : (cs : List Cell) (n : ℕ) (b : Bool) (k w : ℕ) → word_field (set_session n b cs) k w ≡ word_field cs k w
+pub words_opened : (cs : List Cell) (n : ℕ) (b : Bool) (k w : ℕ) → word_field (set_session n b cs) k w ≡ word_field cs k w
 words_opened [] n b k w = refl
 words_opened (c ∷ cs) n b k w = ap (λ x. cond (c.object.name == k) (at (pos 0) c.words w) x) (words_opened cs n b k w)
 
@@ -146,7 +146,7 @@ cells_resessioned p h cs Static b same = same
 cells_resessioned p h cs AtRoot b same = same
 cells_resessioned p h cs (Inside o from) b same = record {
   things = λ k. same.things k ∙ ap thing_of (sym ((resessioned_alike cs (Inside o from) b).named_so k));
-  words = λ k w. same.words k w ∙ sym (words_opened cs o.name b k w);
+  words = λ k w small. same.words k w small ∙ sym (words_opened cs o.name b k w);
   count = same.count ∙ sym (count_opened cs o.name b);
   limit = same.limit;
   wide = same.wide;

@@ -23,7 +23,7 @@ session_unslotted : (c : ℕ) (cs : List Cell) (n : ℕ) → in_session (all_uns
 session_unslotted c [] n = refl
 session_unslotted c (x ∷ xs) n = ap (λ b. cond (x.object.name == n) x.session b) (session_unslotted c xs n)
 
-each_words : (clients : List ℕ) (cs : List Cell) (n w : ℕ) → word_field (each_unslotted clients cs) n w ≡ word_field cs n w
+pub each_words : (clients : List ℕ) (cs : List Cell) (n w : ℕ) → word_field (each_unslotted clients cs) n w ≡ word_field cs n w
 each_words [] cs n w = refl
 each_words (c ∷ clients) cs n w = each_words clients (all_unslotted c cs) n w ∙ words_unslotted c cs n w
 
@@ -38,7 +38,7 @@ each_session (c ∷ clients) cs n = each_session clients (all_unslotted c cs) n 
 pub cells_unslotted : (p : Image) (h : Heap) (clients : List ℕ) (cs : List Cell) → SameCells p h cs → SameCells p h (each_unslotted clients cs)
 cells_unslotted p h clients cs same = record {
   things = λ n. same.things n ∙ ap thing_of (sym ((each_unslotted_alike clients cs).named_so n));
-  words = λ n w. same.words n w ∙ sym (each_words clients cs n w);
+  words = λ n w small. same.words n w small ∙ sym (each_words clients cs n w);
   count = same.count ∙ sym (each_count clients cs);
   limit = same.limit;
   wide = same.wide;

@@ -11,7 +11,7 @@ use Rattle.aom_frames.specs.Tasks.{register_of}
 use Rattle.aom_frames.specs.declared.frame.Frame.{Frame as Held_frame}
 use Rattle.aom_frames.specs.declared.task.Task.{Task as Held_task}
 use Rattle.aom_frames.specs.declared.task.Task.TheVariants.{Run as Runs_frame, Destroy as Destroys}
-use Rattle.aom_parts.specs.Places.{register_in, going_of, going_in, value_in}
+use Rattle.aom_parts.specs.Places.{Others, register_in, going_of, going_in, value_in}
 use Rattle.aom_parts.specs.Agrees.{word_of, word_in, word_at, Shows, SameTasks}
 use Rattle.aom_cleanup.specs.declared.item.Item.{Item}
 use Rattle.std.proofs.lemmas.List.{nil_from_length}
@@ -55,25 +55,25 @@ at_depth n d x y h = cases (n == d)
     (λ e. ap (λ b. cond b x y) e)
 
 -- a register of the frame that runs is read, and written
-pub value_here : (f : Held_frame) (ms : List Held_task) (h : Heap) (es : List Item) (root d i : ℕ) → length ms ≡ d → value_in (Runs_frame f ∷ ms) h es root (Register d i) ≡ slice_index_or f.registers i null
-value_here f ms h es root d i e = ap (λ b. cond b (slice_index_or f.registers i null) (register_in ms d i)) (eq-eqb (length ms) d e)
+pub value_here : (f : Held_frame) (ms : List Held_task) (h : Heap) (es : List Item) (others : Others) (d i : ℕ) → length ms ≡ d → value_in (Runs_frame f ∷ ms) h es others (Register d i) ≡ slice_index_or f.registers i null
+value_here f ms h es others d i e = ap (λ b. cond b (slice_index_or f.registers i null) (register_in ms d i)) (eq-eqb (length ms) d e)
 
-pub value_written : (f : Held_frame) (ms : List Held_task) (h : Heap) (es : List Item) (root d i x place : ℕ) → length ms ≡ d → i < length f.registers → (r : Place)
-    → value_in (Runs_frame (record f { registers = slice_set f.registers i x; place = place }) ∷ ms) h es root r ≡ changed (value_in (Runs_frame f ∷ ms) h es root) (Register d i) x r
-value_written f ms h es root d i x place deep small (Register e j) =
+pub value_written : (f : Held_frame) (ms : List Held_task) (h : Heap) (es : List Item) (others : Others) (d i x place : ℕ) → length ms ≡ d → i < length f.registers → (r : Place)
+    → value_in (Runs_frame (record f { registers = slice_set f.registers i x; place = place }) ∷ ms) h es others r ≡ changed (value_in (Runs_frame f ∷ ms) h es others) (Register d i) x r
+value_written f ms h es others d i x place deep small (Register e j) =
     ap (λ n. cond (length ms == e) n (register_in ms e j)) (slot_set null f.registers i j x small) ∙ go (length ms == e) ∙ ap (λ k. cond ((k == e) && (i == j)) x (cond (length ms == e) (slice_index_or f.registers j null) (register_in ms e j))) deep
   where
     go : (b : Bool) → cond b (cond (i == j) x (slice_index_or f.registers j null)) (register_in ms e j) ≡ cond (b && (i == j)) x (cond b (slice_index_or f.registers j null) (register_in ms e j))
     go true = refl
     go false = refl
-value_written f ms h es root d i x place deep small _ = refl
+value_written f ms h es others d i x place deep small _ = refl
 
 -- counters and the method's place are no places of values
-pub value_counted : (f : Held_frame) (ms : List Held_task) (h : Heap) (es : List Item) (root : ℕ) (counters : List ℕ) (place : ℕ) (r : Place) → value_in (Runs_frame (record f { counters = counters; place = place }) ∷ ms) h es root r ≡ value_in (Runs_frame f ∷ ms) h es root r
-value_counted f ms h es root counters place _ = refl
+pub value_counted : (f : Held_frame) (ms : List Held_task) (h : Heap) (es : List Item) (others : Others) (counters : List ℕ) (place : ℕ) (r : Place) → value_in (Runs_frame (record f { counters = counters; place = place }) ∷ ms) h es others r ≡ value_in (Runs_frame f ∷ ms) h es others r
+value_counted f ms h es others counters place _ = refl
 
-pub value_kept : (f : Held_frame) (ms : List Held_task) (h : Heap) (es : List Item) (root place : ℕ) (r : Place) → value_in (Runs_frame (record f { place = place }) ∷ ms) h es root r ≡ value_in (Runs_frame f ∷ ms) h es root r
-value_kept f ms h es root place r = value_counted f ms h es root f.counters place r
+pub value_kept : (f : Held_frame) (ms : List Held_task) (h : Heap) (es : List Item) (others : Others) (place : ℕ) (r : Place) → value_in (Runs_frame (record f { place = place }) ∷ ms) h es others r ≡ value_in (Runs_frame f ∷ ms) h es others r
+value_kept f ms h es others place r = value_counted f ms h es others f.counters place r
 
 -- a word is written in the checked machine
 pub word_written : (fr : Frame) (ts : List Task) (i place : ℕ) (w : Option ℤ) (r : Place)
@@ -93,14 +93,14 @@ pub word_next : (fr : Frame) (ts : List Task) (place : ℕ) (r : Place) → word
 word_next fr ts place r = word_counted fr ts fr.counters place r
 
 -- a destruction is at hand
-pub destroys_value : (us : List Held_task) (h : Heap) (es : List Item) (root n d : ℕ) → length us ≡ d → (r : Place) → value_in (Destroys n ∷ us) h es root r ≡ changed (value_in us h es root) (Going d) n r
-destroys_value us h es root n d deep (Register e i) = at_depth (length us) e null (register_in us e i) (λ k. register_past us e i (omega arith))
-destroys_value us h es root n d deep (Going k) = ap (λ z. cond (z == k) n (going_in us k)) deep ∙ same (d == k)
+pub destroys_value : (us : List Held_task) (h : Heap) (es : List Item) (others : Others) (n d : ℕ) → length us ≡ d → (r : Place) → value_in (Destroys n ∷ us) h es others r ≡ changed (value_in us h es others) (Going d) n r
+destroys_value us h es others n d deep (Register e i) = at_depth (length us) e null (register_in us e i) (λ k. register_past us e i (omega arith))
+destroys_value us h es others n d deep (Going k) = ap (λ z. cond (z == k) n (going_in us k)) deep ∙ same (d == k)
   where
     same : (b : Bool) → cond b n (going_in us k) ≡ cond (b && true) n (going_in us k)
     same true = refl
     same false = refl
-destroys_value us h es root n d deep _ = refl
+destroys_value us h es others n d deep _ = refl
 
 pub destroys_word : (us : List Task) (d : ℕ) (r : Place) → word_at (Destroy ∷ us) r ≡ changed (word_at us) (Going d) None r
 destroys_word us d (Register e i) = at_depth (length us) e None (word_in us e i) (λ k. word_past us e i (omega arith))

@@ -1,10 +1,11 @@
 -- How a cell comes, and what becomes of its request as it goes.
-use Rattle.std.specs.Prelude.{◌≡◌, ◌≢◌, ◌⊎◌, ◌+◌, ℕ, Some, None, true, ◌<◌, Bool, ◌||◌, nat_le, ◌==◌, false}
+use Rattle.std.specs.Prelude.{◌≡◌, ◌≢◌, ◌⊎◌, ◌+◌, ℕ, Some, None, true, ◌<◌, Bool, ◌||◌, nat_le, ◌==◌, false, map}
 use Rattle.std.specs.List.{list_any}
 use Rattle.aom_cells.specs.Heap.{Heap, null, cell_at, count, blank, Changes}
 use Rattle.aom_sound.specs.State.{raised}
 use Rattle.aom_lines.specs.Turn.{Turn}
 use Rattle.aom_parts.specs.declared.parts.Parts.{Parts}
+use Rattle.aom_queues.specs.Lists.{Table, without}
 use Rattle.aom_requests.specs.Requests.{request_at}
 use Rattle.aom_active.specs.Agrees.{Active}
 use Rattle.aom_active.specs.Meanings.{Removes}
@@ -25,3 +26,7 @@ Made class refused id old new =
 -- the object is enlisted no more, if it was
 abbrev pub Delists : Active → Active → ℕ → Type 0
 Delists old new id = ((request_at old.table id ≡ None) × (new ≡ old)) ⊎ Removes old new id
+
+-- and is in no list of servers
+abbrev pub unlisted : ℕ → Table → Table
+unlisted n t = record t { lists = map (without n) t.lists }

@@ -8,3 +8,7 @@ pub mod Fields
 pub mod Waits
 pub mod Stands
 pub mod Boot
+pub mod Serving
+pub mod Messages
+pub mod Listing
+pub mod Services

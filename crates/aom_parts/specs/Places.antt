@@ -1,12 +1,21 @@
 -- The number in each place of the machine.
-use Rattle.std.specs.Prelude.{ℕ, ℤ, pos, cond, ◌==◌, List, [], ◌∷◌, length, Option, Some, None, ◌≡◌, suc, ◌<◌}
+use Rattle.std.specs.Prelude.{ℕ, ℤ, pos, Bool, false, cond, ◌==◌, List, [], ◌∷◌, length, Option, Some, None, ◌≡◌, suc, ◌<◌}
+use Rattle.std.specs.List.{list_any}
 use Rattle.aom_cells.specs.Heap.{Heap, null, field_at}
 use Rattle.aom_sound.specs.Places.{Place, Register, Entry, Field, Going, Elsewhere, Other, Root, Session, In_service, Queued}
 use Rattle.aom_frames.specs.Tasks.{register_of, on_top, with_register, with_counter, with_place, place_here}
 use Rattle.aom_frames.specs.declared.task.Task.{Task}
-use Rattle.aom_frames.specs.declared.task.Task.TheVariants.{Run, Trapped, Destroy, Unwind, Dispatched}
+use Rattle.aom_frames.specs.declared.task.Task.TheVariants.{Run, Trapped, Destroy, Closing, Unwind, Dispatched}
 use Rattle.aom_cleanup.specs.Items.{entry_in, item_at, owned_by}
 use Rattle.aom_cleanup.specs.declared.item.Item.{Item}
+use Rattle.aom_clients.specs.Clients.{client_at, queue_at}
+use Rattle.aom_clients.specs.Clients as kept
+use Rattle.aom_clients.specs.Table.{no_cell}
+use Rattle.aom_clients.specs.declared.client.Client.{Client}
+use Rattle.aom_clients.specs.declared.client.Client.TheVariants as client
+use Rattle.aom_clients.specs.declared.entry.Entry.{Entry as Queue_entry}
+use Rattle.aom_clients.specs.declared.entry.Entry.TheVariants as entry
+use Rattle.aom_parts.specs.Serving.{message_name}
 use Rattle.aom_parts.specs.declared.parts.Parts.{Parts}
 use Rattle.std.specs.Int.{w32, cast_signed}
 
@@ -20,6 +29,7 @@ abbrev pub going_of : Task → ℕ
 going_of (Run f) = null
 going_of Trapped = null
 going_of (Destroy x) = x
+going_of Closing = null
 going_of (Unwind code) = null
 going_of (Dispatched d) = null
 
@@ -27,23 +37,49 @@ abbrev pub going_in : List Task → ℕ → ℕ
 going_in [] d = null
 going_in (t ∷ ts) d = cond (length ts == d) (going_of t) (going_in ts d)
 
--- the root's: no server has a session or a message
-abbrev pub other_in : ℕ → Other → ℕ
-other_in root Root = root
-other_in root (Session s c) = null
-other_in root In_service = null
-other_in root (Queued s m) = null
+-- what no task, no entry and no cell has: the root, the message that is served, and what clients are at
+pub record Others : Type 0 where
+  pub root : ℕ
+  pub served : ℕ
+  pub clients : kept.State
+
+-- the number of a session's cell, and null where it is at hand to go
+abbrev pub session_number : ℕ → ℕ
+session_number n = cond (n == no_cell) null n
+
+-- the session of a client, if it is one with the server of that number
+abbrev pub session_with : ℕ → Client → ℕ
+session_with n (client.Open server session slots) = cond (server == n) (session_number session) null
+session_with n (client.Closing server session) = cond (server == n) (session_number session) null
+session_with n (client.Dying server session) = cond (server == n) (session_number session) null
+session_with n other = null
+
+-- the entry is the message of that number
+abbrev pub is_numbered : ℕ → Queue_entry → Bool
+is_numbered m (entry.Connect c) = false
+is_numbered m (entry.Message place) = message_name place == m
+is_numbered m (entry.Close c) = false
+
+-- a message is its number where it waits
+abbrev pub other_in : Others → Other → ℕ
+other_in o Root = o.root
+other_in o (Session n c) = session_with n (client_at o.clients c)
+other_in o In_service = o.served
+other_in o (Queued n m) = cond (list_any (is_numbered m) (queue_at o.clients n)) m null
 
 -- the number in a place
-abbrev pub value_in : List Task → Heap → List Item → ℕ → Place → ℕ
-value_in tasks heap entries root (Register d i) = register_in tasks d i
-value_in tasks heap entries root (Entry k) = entry_in entries k
-value_in tasks heap entries root (Field n f) = field_at heap n f
-value_in tasks heap entries root (Going k) = going_in tasks k
-value_in tasks heap entries root (Elsewhere o) = other_in root o
+abbrev pub value_in : List Task → Heap → List Item → Others → Place → ℕ
+value_in tasks heap entries others (Register d i) = register_in tasks d i
+value_in tasks heap entries others (Entry k) = entry_in entries k
+value_in tasks heap entries others (Field n f) = field_at heap n f
+value_in tasks heap entries others (Going k) = going_in tasks k
+value_in tasks heap entries others (Elsewhere o) = other_in others o
+
+abbrev pub others : Parts → Others
+others m = record { root = m.root; served = m.served; clients = m.clients }
 
 abbrev pub value : Parts → Place → ℕ
-value m = value_in m.stack.tasks m.cells m.entries.items m.root
+value m = value_in m.stack.tasks m.cells m.entries.items (others m)
 
 -- the machine with other tasks
 abbrev pub with_tasks : List Task → Parts → Parts
@@ -55,6 +91,7 @@ IsDestroying [] = ⊥
 IsDestroying (Run f ∷ ts) = ⊥
 IsDestroying (Trapped ∷ ts) = ⊥
 IsDestroying (Destroy x ∷ ts) = Unit {0}
+IsDestroying (Closing ∷ ts) = ⊥
 IsDestroying (Unwind code ∷ ts) = ⊥
 IsDestroying (Dispatched d ∷ ts) = ⊥
 
@@ -64,8 +101,19 @@ IsTrapped [] = ⊥
 IsTrapped (Run f ∷ ts) = ⊥
 IsTrapped (Trapped ∷ ts) = Unit {0}
 IsTrapped (Destroy x ∷ ts) = ⊥
+IsTrapped (Closing ∷ ts) = ⊥
 IsTrapped (Unwind code ∷ ts) = ⊥
 IsTrapped (Dispatched d ∷ ts) = ⊥
+
+-- the innermost task is right over the going of a server, whose sessions go first
+abbrev pub IsClosing : List Task → Type 0
+IsClosing [] = ⊥
+IsClosing (Run f ∷ ts) = ⊥
+IsClosing (Trapped ∷ ts) = ⊥
+IsClosing (Destroy x ∷ ts) = ⊥
+IsClosing (Closing ∷ ts) = Unit {0}
+IsClosing (Unwind code ∷ ts) = ⊥
+IsClosing (Dispatched d ∷ ts) = ⊥
 
 abbrev pub going_here : List Task → ℕ
 going_here [] = null
@@ -77,6 +125,7 @@ IsEnding [] = ⊥
 IsEnding (Run f ∷ ts) = ⊥
 IsEnding (Trapped ∷ ts) = ⊥
 IsEnding (Destroy x ∷ ts) = ⊥
+IsEnding (Closing ∷ ts) = ⊥
 IsEnding (Unwind code ∷ ts) = ⊥
 IsEnding (Dispatched d ∷ ts) = Unit {0}
 
@@ -86,6 +135,7 @@ IsUnwinding [] = ⊥
 IsUnwinding (Run f ∷ ts) = ⊥
 IsUnwinding (Trapped ∷ ts) = ⊥
 IsUnwinding (Destroy x ∷ ts) = ⊥
+IsUnwinding (Closing ∷ ts) = ⊥
 IsUnwinding (Unwind code ∷ ts) = Unit {0}
 IsUnwinding (Dispatched d ∷ ts) = ⊥
 
@@ -94,6 +144,7 @@ code_here [] = pos 0
 code_here (Run f ∷ ts) = pos 0
 code_here (Trapped ∷ ts) = pos 0
 code_here (Destroy x ∷ ts) = pos 0
+code_here (Closing ∷ ts) = pos 0
 code_here (Unwind code ∷ ts) = code
 code_here (Dispatched d ∷ ts) = pos 0
 

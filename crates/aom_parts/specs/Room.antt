@@ -7,8 +7,8 @@ use Rattle.aom_instructions.specs.declared.instr.Instr.TheVariants.{Call, Trap}
 use Rattle.aom_frames.specs.declared.task.Task.{Task as Held_task}
 use Rattle.aom_frames.specs.declared.task.Task.TheVariants.{Run as Runs_frame, Trapped as Is_trap, Destroy as Destroys, Unwind as Unwinds, Dispatched as Ends}
 use Rattle.aom_sound.specs.Calls.{result_register}
-use Rattle.aom_classes.specs.Roles.{destructor_of}
-use Rattle.aom_sound.specs.Places.{Entry, Object, Cell, held}
+use Rattle.aom_budget.specs.Calls.{Among, destructors, thing_class}
+use Rattle.aom_sound.specs.Places.{Entry, Going, Object, Cell, held}
 use Rattle.aom_sound.specs.State.{Task, Run, Trapped, Closing, Destroy, Unwind, Dispatched, Item, An_object, An_operation, A_mark, State}
 
 -- ---- methods, by a table of depths
@@ -35,28 +35,42 @@ AllUnder depth (Dispatched d ∷ ts) = AllUnder depth ts
 
 -- ---- what the cleanup stack runs
 
-abbrev pub destructor_in : Image → Option Object → Option ℕ
-destructor_in p None = None
-destructor_in p (Some o) = destructor_of p o.thing
+abbrev pub class_in : Option Object → Option ℕ
+class_in None = None
+class_in (Some o) = thing_class o.thing
 
--- the method that runs as the item over so many others is dealt with
-abbrev pub run_by : Image → List Cell → Item → ℕ → Option ℕ
-run_by p cs An_object k = destructor_in p (held cs (Entry k))
-run_by p cs (An_operation m w) k = Some m
-run_by p cs A_mark k = None
+-- as that goes, the method runs: its destructor, or, where it is a server, that of its sessions
+abbrev pub Destructs : Image → Option Object → ℕ → Type 0
+Destructs p o m = Among m (destructors p (class_in o))
+
+-- as the item over so many others is dealt with, the method runs
+abbrev pub RunsBy : Image → List Cell → Item → ℕ → ℕ → Type 0
+RunsBy p cs An_object k m = Destructs p (held cs (Entry k)) m
+RunsBy p cs (An_operation n w) k m = m ≡ n
+RunsBy p cs A_mark k m = ⊥
 
 -- what the items from that height on run is less deep than n
 abbrev pub RunsUnder : Image → (ℕ → ℕ) → List Cell → (height n : ℕ) → List Item → Type 0
 RunsUnder p depth cs height n [] = Unit {0}
-RunsUnder p depth cs height n (i ∷ items) = (height ≤ length items → (m : ℕ) → run_by p cs i (length items) ≡ Some m → depth m < n) × RunsUnder p depth cs height n items
+RunsUnder p depth cs height n (i ∷ items) = (height ≤ length items → (m : ℕ) → RunsBy p cs i (length items) m → depth m < n) × RunsUnder p depth cs height n items
 
--- so is it for the items that were pushed since each method at hand began
+-- no server's sessions are going right there
+abbrev pub NoClosing : List Task → Type 0
+NoClosing (Closing ∷ ts) = ⊥
+NoClosing _ = Unit {0}
+
+-- what runs as a server and its sessions go is less deep than the nearest method below, and the server is no session that goes with another
+abbrev pub ClosesUnder : Image → (ℕ → ℕ) → List Cell → List Task → Type 0
+ClosesUnder p depth cs (Destroy ∷ ts) = ((m : ℕ) → Destructs p (held cs (Going (length ts))) m → IsUnder depth (depth m) ts) × NoClosing ts
+ClosesUnder p depth cs _ = Unit {0}
+
+-- so is it for the items that were pushed since each method at hand began, and for each server that is at hand to go
 abbrev pub AllRunUnder : Image → (ℕ → ℕ) → List Cell → List Item → List Task → Type 0
 AllRunUnder p depth cs items [] = Unit {0}
 AllRunUnder p depth cs items (Run fr ∷ ts) = RunsUnder p depth cs fr.height (depth fr.method) items × AllRunUnder p depth cs items ts
 AllRunUnder p depth cs items (Trapped ∷ ts) = AllRunUnder p depth cs items ts
 AllRunUnder p depth cs items (Destroy ∷ ts) = AllRunUnder p depth cs items ts
-AllRunUnder p depth cs items (Closing ∷ ts) = AllRunUnder p depth cs items ts
+AllRunUnder p depth cs items (Closing ∷ ts) = ClosesUnder p depth cs ts × AllRunUnder p depth cs items ts
 AllRunUnder p depth cs items (Unwind code ∷ ts) = AllRunUnder p depth cs items ts
 AllRunUnder p depth cs items (Dispatched d ∷ ts) = AllRunUnder p depth cs items ts
 

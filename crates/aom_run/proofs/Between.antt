@@ -1,4 +1,4 @@
--- Turns of the machine, one after another: what is due completes requests, events are heard, natives are polled, and time passes, until an object is dispatched, a native's end is told, or the run ends.
+-- Turns of the machine, one after another: what is due completes requests, events are heard, natives are polled, and time passes, until an object is dispatched, an event is told by a line, or the run ends.
 use Rattle.std.proofs.Common.{◌≡◌, ◌⊎◌, inl, inr, ◌<◌, ◌≤◌, ◌-◌, ℕ, ℤ, suc, Bool, true, false, List, [], Option, Some, None, length, ap, append-nil, arith, refl, subst, sym, ◌∙◌}
 use Rattle.std.proofs.lemmas.List.{append_cancel_left}
 use Rattle.aom_exec.proofs.Progressing.{is_as_far}
@@ -9,12 +9,13 @@ use Rattle.aom_parts.specs.declared.rest.Rest.{Rest}
 use Rattle.aom_lines.specs.Turn.{Turn}
 use Rattle.aom_machine.specs.Calls.{Completed as Completes_one, Delivered, NoneIsDue, Polled, Stands, StandsFor, Takes, natives_of}
 use Rattle.aom_machine.specs.declared.machine.Machine.{Machine}
+use Rattle.aom_sound.specs.Places.{named}
 use Rattle.aom_sound.specs.State.{Goes, State}
 use Rattle.aom_sound.specs.World.{Completes, IsBetween, Outside, Reaches, Turning, begins, delivers, event_at, turned, written_by}
 use Rattle.aom_transcript.specs.declared.line.Line.{Line}
 use Rattle.aom_transcript.specs.declared.event.TimedEvent.{TimedEvent}
 use Rattle.aom_endings.proofs.Lefts.{event_there}
-use Rattle.aom_run.proofs.Parts.{completed_same, delivered_same, delivers_alike, delivers_well, no_turn, polled_same, polls_by, still_between, turns_by}
+use Rattle.aom_run.proofs.Parts.{completed_same, delivered_same, delivers_alike, delivers_by, delivers_well, no_turn, polled_same, polls_by, still_between, turns_by}
 use Rattle.aom_run.proofs.Reaching.{reaches_both}
 use Rattle.aom_run.proofs.Turnings.{NoneCome, completes_so, delivers_so, polls_so}
 use Rattle.aom_run.specs.Turns.{AllPolled, CompletesDue, HasCome, IsDue, IsLate, NoneHasCome, Settles, TellsEnd, hearing, to_come, waiting}
@@ -160,28 +161,39 @@ module _ {X : Type 0} {B : X → Type 0} where
 
     -- an event is delivered
     module _ (m new : Machine X B) (told now : Turn) (none : NoneIsDue m) (come : HasCome events m) (takes : Delivered m come.0.event told now new) (rest : new.core.parts.rest ≡ record m.core.parts.rest { delivered = suc m.core.parts.rest.delivered }) where
-      part : State → Turning
-      part s = delivers (hearing [] 0 (natives_of m) events) s come.0.event
+      -- with the name for what is sent
+      name : (s : State) → StandsFor m s → ℕ
+      name s stands = (takes (hearing [] 0 (natives_of m) events) refl s stands).0
 
-      taken : (s : State) → StandsFor m s → Takes m s (part s) told now new
-      unfolding part
-      taken s stands = takes (hearing [] 0 (natives_of m) events) refl s stands
+      free : (s : State) (stands : StandsFor m s) → named s.cells (name s stands) ≡ None
+      unfolding name
+      free s stands = (takes (hearing [] 0 (natives_of m) events) refl s stands).1
+
+      part : (s : State) → StandsFor m s → Turning
+      part s stands = delivers (hearing [] 0 (natives_of m) events) (name s stands) s come.0.event
+
+      taken : (s : State) (stands : StandsFor m s) → Takes m s (part s stands) told now new
+      unfolding part, name
+      taken s stands = (takes (hearing [] 0 (natives_of m) events) refl s stands).2
 
       same_after : (s : State) (stands : StandsFor m s) → ((taken s stands).state.tasks ≡ s.tasks) × ((taken s stands).state.rest ≡ record s.rest { delivered = suc s.rest.delivered })
       unfolding part
-      same_after s stands = delivered_same m.core.image (hearing [] 0 (natives_of m) events) s (taken s stands).state come.0.event (taken s stands).goes
+      same_after s stands = delivered_same m.core.image (hearing [] 0 (natives_of m) events) (name s stands) s (taken s stands).state come.0.event (taken s stands).goes
 
       far_after : (s : State) (stands : StandsFor m s) → IsBetween (taken s stands).state
       far_after s stands = let same = same_after s stands in still_between s (taken s stands).state same.0 (ap (λ r. r.ended) same.1) (taken s stands).between
 
-      on : (s : State) (stands : StandsFor m s) (refused : List ℕ) (limit : ℕ) → s.rest.dispatches < limit → Reaches m.core.image (hearing refused limit (natives_of m) events) s (written_by s (part s)) (taken s stands).state
+      on : (s : State) (stands : StandsFor m s) (refused : List ℕ) (limit : ℕ) → s.rest.dispatches < limit → Reaches m.core.image (hearing refused limit (natives_of m) events) s (written_by m.core.image s (part s stands)) (taken s stands).state
       unfolding part
       on s stands refused limit below =
           let outside = hearing refused limit (natives_of m) events in
           let is = subst (λ r. event_at events r.delivered ≡ Some come.0) stands.stands.agrees.rest come.1 in
           let at = subst (λ r. come.0.time ≤ r.clock) stands.stands.agrees.rest come.2 in
-          let next = delivers_so outside s below (none s stands.stands) come.0 is at ∙ delivers_alike outside (hearing [] 0 (natives_of m) events) refl s come.0.event in
-          turns_by m.core.image outside s [] s (taken s stands).state (part s) begins (taken s stands).between next (delivers_well m.core.image (hearing [] 0 (natives_of m) events) s come.0.event).0 (taken s stands).goes
+          let next = delivers_so outside s below (none s stands.stands) come.0 is at in
+          let same = delivers_alike outside (hearing [] 0 (natives_of m) events) refl (name s stands) s come.0.event in
+          let goes = ap (turned m.core.image s) same ∙ (taken s stands).goes in
+          subst (λ x. Reaches m.core.image outside s (written_by m.core.image s x) (taken s stands).state) same
+          (delivers_by m.core.image outside s [] s (taken s stands).state come.0.event (name s stands) begins (taken s stands).between next (free s stands) goes)
 
       within : m.core.parts.rest.delivered < length events
       within = come_within m come
@@ -191,7 +203,7 @@ module _ {X : Type 0} {B : X → Type 0} where
       heard_settles quiet s stands =
           let t = taken s stands in
           let same = same_after s stands in
-          let none : written_by s (part s) ≡ [] = append_cancel_left told.lines (written_by s (part s)) [] (sym (ap (λ (x : Turn). x.lines) t.lines) ∙ ap (λ (x : Turn). x.lines) quiet ∙ sym (append-nil told.lines)) in
+          let none : written_by m.core.image s (part s stands) ≡ [] = append_cancel_left told.lines (written_by m.core.image s (part s stands)) [] (sym (ap (λ (x : Turn). x.lines) t.lines) ∙ ap (λ (x : Turn). x.lines) quiet ∙ sym (append-nil told.lines)) in
           let one = ap (λ r. r.delivered) same.1 in (
             t.state,
             λ refused limit below. subst (λ ls. Reaches m.core.image (hearing refused limit (natives_of m) events) s ls t.state) none (on s stands refused limit below),
@@ -209,11 +221,11 @@ module _ {X : Type 0} {B : X → Type 0} where
           let one = ap (λ r. r.delivered) same.1 in
           let was = ap (λ r. r.delivered) stands.stands.agrees.rest in
           let some = within in (
-            written_by s (part s),
+            written_by m.core.image s (part s stands),
             t.state,
             on s stands,
             t.lines,
-            (delivers_well m.core.image (hearing [] 0 (natives_of m) events) s come.0.event).1,
+            (delivers_well m.core.image (hearing [] 0 (natives_of m) events) (name s stands) s come.0.event).1,
             ap (λ r. r.dispatches) same.1,
             (far_after s stands, omega (arith, one, was, some)),
             t.stands,

@@ -57,7 +57,7 @@ reaches_both p outside b lines s _ _ r begins = subst (λ ls. Reaches p outside 
 reaches_both p outside b lines s _ _ r (moved {lines = more} {s = v} {u = u} c before busy free goes) =
     subst (λ ls. Reaches p outside b ls u) (append_assoc lines more (written p v)) (moved c (reaches_both p outside b lines s more v r before) busy free goes)
 reaches_both p outside b lines s _ _ r (turns {lines = more} {s = v} {u = u} heard before between owed goes) =
-    subst (λ ls. Reaches p outside b ls u) (append_assoc lines more (written_turn outside v)) (turns heard (reaches_both p outside b lines s more v r before) between owed goes)
+    subst (λ ls. Reaches p outside b ls u) (append_assoc lines more (written_turn p outside v)) (turns heard (reaches_both p outside b lines s more v r before) between owed goes)
 
 module _ {X : Type 0} {B : X → Type 0} where
   -- what steps do, whatever they hear

@@ -1,5 +1,5 @@
 -- The machine rests between dispatches, with all that is due by now settled: an object is dispatched, or time passes, or the run ends.
-use Rattle.std.proofs.Common.{◌≡◌, ◌⊎◌, inl, inr, ◌<◌, ◌≤◌, ◌-◌, ℕ, min, Bool, true, false, List, [], Option, Some, None, length, ap, arith, refl, subst, sym, ◌∙◌}
+use Rattle.std.proofs.Common.{◌≡◌, ◌⊎◌, inl, inr, ◌<◌, ◌≤◌, ◌-◌, ℕ, min, Bool, true, false, cond, List, [], ◌∷◌, ◌++◌, Option, Some, None, length, ap, arith, refl, subst, sym, ◌∙◌}
 use Rattle.std.proofs.lemmas.Bool.{cases_lt}
 use Rattle.aom_parts.specs.declared.progress.Progress.TheVariants.{Turned}
 use Rattle.aom_exec.specs.Steps.{progress}
@@ -10,9 +10,11 @@ use Rattle.aom_machine.specs.Calls.{NoneIsDue, Picked, Stands, StandsFor, Takes,
 use Rattle.aom_machine.specs.declared.machine.Machine.{Machine}
 use Rattle.aom_sound.proofs.Counting.{dispatches_are_counted}
 use Rattle.aom_sound.proofs.Guarded.{goes_same}
-use Rattle.aom_sound.specs.Places.{Object}
+use Rattle.aom_sound.specs.Lines.{serve_line}
+use Rattle.aom_sound.specs.Places.{Asked, Object, service_of}
+use Rattle.aom_sound.specs.Servers.{is_server}
 use Rattle.aom_sound.specs.State.{Goes, State}
-use Rattle.aom_sound.specs.World.{AnswersWell, Cuts, IsBetween, Outside, Passes, Picks, Reaches, Timed, Turning, Waits, begins, due_of, event_at, first_due, first_living, has_signal, nearer, next_event, next_native, next_time, nothing_heard, run_line, time_of, turned, turning, written_by}
+use Rattle.aom_sound.specs.World.{AnswersWell, Cuts, IsBetween, Outside, Passes, Picks, Reaches, Timed, Turning, Waits, begins, due_of, event_at, first_due, first_living, has_signal, Heard, nearer, next_event, next_native, next_time, nothing_heard, pick_line, run_line, time_of, turned, turning, written_by}
 use Rattle.aom_transcript.specs.declared.line.Ending.TheVariants.{Limit, Waiting}
 use Rattle.aom_transcript.specs.declared.event.TimedEvent.{TimedEvent}
 use Rattle.aom_endings.proofs.Spending.{picked_pays}
@@ -50,7 +52,7 @@ module _ {X : Type 0} {B : X → Type 0} where
   below_so : (m : Machine X B) (limit : ℕ) (s : State) → StandsFor m s → Below m limit → s.rest.dispatches < limit
   below_so m limit s stands below = subst (λ r. r.dispatches < limit) stands.stands.agrees.rest below
 
-  -- a native's end is told
+  -- an event is told by a line
   pub ends_told : (old new : Machine X B) (events : List TimedEvent) (refused : List ℕ) (limit : ℕ) (told now : Turn) → Below old limit → TellsEnd events old told now new → TakesTurns old (hearing refused limit (natives_of old) events) None told now new
   ends_told old new events refused limit told now below tells s stands =
       let x = tells s stands in
@@ -90,31 +92,43 @@ module _ {X : Type 0} {B : X → Type 0} where
     all_polled s stands = ap (λ n. first_living s.killed (n - s.rest.polled) s.rest.polled) (sym rests.natives) ∙ rests.polled s stands
 
     -- a part of a turn
-    one_part : (s : State) (stands : StandsFor old s) (x : Turning) (u : State) → turning outside nothing_heard (rests.far s stands).0 ≡ x → AnswersWell old.core.image (rests.far s stands).0 x → IsBetween (rests.far s stands).0
-        → turned m.core.image (rests.far s stands).0 x ≡ Goes u → Reaches old.core.image outside s (written_by (rests.far s stands).0 x) u
+    one_part : (s : State) (stands : StandsFor old s) (x : Turning) (u : State) → ((heard : Heard) → turning outside heard (rests.far s stands).0 ≡ x) → AnswersWell old.core.image (rests.far s stands).0 x → IsBetween (rests.far s stands).0
+        → turned m.core.image (rests.far s stands).0 x ≡ Goes u → Reaches old.core.image outside s (written_by old.core.image (rests.far s stands).0 x) u
     one_part s stands x u is owed between goes =
         let w = rests.far s stands in
         turns_by old.core.image outside s [] w.0 u x (w.1 refused limit (below_so old limit s stands rests.below)) between is owed (subst (λ q. turned q w.0 x ≡ Goes u) rests.image goes)
 
-    one_line : (o : Object) (s : State) → length (run_line s o) ≤ 1
-    one_line o s = go o.thing refl
+    one_run : (o : Object) (s : State) → length (run_line s o) ≤ 1
+    one_run o s = go o.thing refl
       where
         go : (t : Thing) → o.thing ≡ t → length (run_line s o) ≤ 1
         go (An_object_of c) is = rw is (omega arith)
         go Message is = rw is (omega arith)
 
-    -- an object is dispatched
+    one_serve : (time : ℕ) (t : Thing) (es : List Asked) → length (serve_line time t es) ≤ 1
+    one_serve time (An_object_of class) [] = omega arith
+    one_serve time (An_object_of class) (e ∷ es) = omega arith
+    one_serve time Message es = omega arith
+
+    one_line : (o : Object) (s : State) → length (pick_line old.core.image s o) ≤ 1
+    one_line o s = go (is_server old.core.image o.thing)
+      where
+        go : (b : Bool) → length (cond b (serve_line s.rest.clock o.thing (service_of s.cells o.name).queue) (run_line s o)) ≤ 1
+        go true = one_serve s.rest.clock o.thing (service_of s.cells o.name).queue
+        go false = one_run o s
+
+    -- an object is dispatched, or a server
     pub dispatches_one : (told now : Turn) (new : Machine X B) → Picked m true told now new → TakesTurns old outside None told now new
     dispatches_one told now new picked s stands =
         let w = rests.far s stands in
         let x = picked w.0 w.4 in
         let t = x.3 in
         let is = picks_so outside w.0 (still_below s stands) (rests.none_due w.0 w.4.stands) (early w.0 w.4) (all_polled w.0 w.4) x.0 x.2 x.1 in
-        let same = dispatches_are_counted.turns m.core.image outside nothing_heard w.0 t.state (ap (turned m.core.image w.0) is ∙ t.goes) in (
-          run_line w.0 x.0.seat.object,
+        let same = dispatches_are_counted.turns m.core.image outside nothing_heard w.0 t.state (ap (turned m.core.image w.0) (is nothing_heard) ∙ t.goes) in (
+          pick_line old.core.image w.0 x.0.seat.object,
           t.state,
           one_part s stands (Picks x.0.seat) t.state is tt t.between t.goes,
-          t.lines,
+          t.lines ∙ ap (λ q. record told { lines = told.lines ++ pick_line q w.0 x.0.seat.object }) rests.image,
           (one_line x.0.seat.object w.0, below_so old limit s stands rests.below, same ∙ w.2, inl (picked_pays m.core.image w.0 t.state x.0.seat t.goes)),
           t.stands,
         )
@@ -196,7 +210,7 @@ module _ {X : Type 0} {B : X → Type 0} where
                 inr (x.0, ap (λ r. event_at events r.delivered) rest ∙ x.1, omega (arith, at, by, clock))
 
         module _ (all : natives_of passed ≡ natives_of m) (new : Machine X B) where
-          -- a native is killed then
+          -- an event is told by a line then
           pub tells_on : (told now : Turn) → TellsEnd events passed told now new → TakesTurns old outside None told now new
           tells_on told now tells = ends_told old new events refused limit told now rests.below (tells_after events old passed (again ∙ rests.image) (all ∙ rests.natives) passes_on told now new tells)
 

@@ -238,7 +238,7 @@ module _ {X : Type 0} {B : X → Type 0} where
   abbrev pub left : List TimedEvent → ℕ → Machine X B → ℕ
   left events limit m = rounds limit m * suc (length events) + to_come events m
 
-  -- a native's end leaves as many dispatches, and fewer events
+  -- an event that is told by a line leaves as many dispatches, and fewer events
   fewer_to_come : (events : List TimedEvent) (limit : ℕ) (m new : Machine X B) (s u v : State) → StandsFor m s → StandsFor new v → v ≡ u → reached m.core ≡ progresses.Turned → u.rest.dispatches ≡ s.rest.dispatches
       → u.rest.ended ≡ None → length events - u.rest.delivered < length events - s.rest.delivered → left events limit new < left events limit m
   fewer_to_come events limit m new s u v stands then_stands none between same going fewer =

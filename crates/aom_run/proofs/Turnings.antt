@@ -3,7 +3,7 @@ use Rattle.std.proofs.Common.{◌≡◌, ◌<◌, ◌≤◌, ℕ, true, false, O
 use Rattle.std.proofs.lemmas.Bool.{le-leb, lt-leb}
 use Rattle.aom_exec.specs.Turns.{NoneDue}
 use Rattle.aom_sound.specs.State.{State}
-use Rattle.aom_sound.specs.World.{Candidate, Completes, Completion, Cuts, Heard, Outside, Passes, Picks, Polls, Timed, Turning, Waits, by_event, by_timer, delivers, first_due, first_ready, has_signal, next_event, next_native, next_time, nothing_heard, passes, picks, polls, turning}
+use Rattle.aom_sound.specs.World.{Candidate, Completes, Completion, Cuts, Heard, Outside, Passes, Picks, Polls, Timed, Turning, Waits, by_event, by_timer, delivers, first_due, first_ready, has_signal, next_event, next_native, next_time, passes, picks, polls, turning}
 use Rattle.aom_transcript.specs.declared.event.TimedEvent.{TimedEvent}
 
 -- the next event comes later, if there is one
@@ -18,19 +18,19 @@ module _ (outside : Outside) (s : State) where
   abbrev then_natives : Option Completion → Turning
   then_natives answer = polls (next_native outside s) answer at_last
 
-  abbrev then_events : Option Completion → Turning
-  then_events answer = by_event outside s (next_event outside s) (then_natives answer)
+  abbrev then_events : Heard → Turning
+  then_events heard = by_event outside heard.name s (next_event outside s) (then_natives heard.completion)
 
-  pub cuts_so : outside.limit ≤ s.rest.dispatches → turning outside nothing_heard s ≡ Cuts
-  cuts_so at = ap (λ b. cond b Cuts (by_timer s (first_due s.cells) (then_events None))) (le-leb outside.limit s.rest.dispatches at)
+  pub cuts_so : outside.limit ≤ s.rest.dispatches → (heard : Heard) → turning outside heard s ≡ Cuts
+  cuts_so at heard = ap (λ b. cond b Cuts (by_timer s (first_due s.cells) (then_events heard))) (le-leb outside.limit s.rest.dispatches at)
 
   module _ (below : s.rest.dispatches < outside.limit) where
-    by_first : (heard : Heard) (next : Option Timed) → first_due s.cells ≡ next → turning outside heard s ≡ by_timer s next (then_events heard.completion)
+    by_first : (heard : Heard) (next : Option Timed) → first_due s.cells ≡ next → turning outside heard s ≡ by_timer s next (then_events heard)
     by_first heard next first =
-        ap (λ b. cond b Cuts (by_timer s (first_due s.cells) (then_events heard.completion))) (lt-leb outside.limit s.rest.dispatches below) ∙ ap (λ x. by_timer s x (then_events heard.completion)) first
+        ap (λ b. cond b Cuts (by_timer s (first_due s.cells) (then_events heard))) (lt-leb outside.limit s.rest.dispatches below) ∙ ap (λ x. by_timer s x (then_events heard)) first
 
-    pub completes_so : (x : Timed) → first_due s.cells ≡ Some x → x.timer.due ≤ s.rest.clock → turning outside nothing_heard s ≡ Completes x.object
-    completes_so x first late = by_first nothing_heard (Some x) first ∙ ap (λ b. cond b (Completes x.object) (then_events None)) (le-leb x.timer.due s.rest.clock late)
+    pub completes_so : (x : Timed) → first_due s.cells ≡ Some x → x.timer.due ≤ s.rest.clock → (heard : Heard) → turning outside heard s ≡ Completes x.object
+    completes_so x first late heard = by_first heard (Some x) first ∙ ap (λ b. cond b (Completes x.object) (then_events heard)) (le-leb x.timer.due s.rest.clock late)
 
     -- nothing is due
     module _ (none : NoneDue s) where
@@ -38,38 +38,38 @@ module _ (outside : Outside) (s : State) where
       early after None first = refl
       early after (Some x) first = ap (λ b. cond b (Completes x.object) after) (lt-leb x.timer.due s.rest.clock (none x first))
 
-      by_next : (heard : Heard) (next : Option TimedEvent) → next_event outside s ≡ next → turning outside heard s ≡ by_event outside s next (then_natives heard.completion)
+      by_next : (heard : Heard) (next : Option TimedEvent) → next_event outside s ≡ next → turning outside heard s ≡ by_event outside heard.name s next (then_natives heard.completion)
       by_next heard next is =
-          by_first heard (first_due s.cells) refl ∙ early (then_events heard.completion) (first_due s.cells) refl ∙ ap (λ e. by_event outside s e (then_natives heard.completion)) is
+          by_first heard (first_due s.cells) refl ∙ early (then_events heard) (first_due s.cells) refl ∙ ap (λ e. by_event outside heard.name s e (then_natives heard.completion)) is
 
-      pub delivers_so : (e : TimedEvent) → next_event outside s ≡ Some e → e.time ≤ s.rest.clock → turning outside nothing_heard s ≡ delivers outside s e.event
-      delivers_so e is come = by_next nothing_heard (Some e) is ∙ ap (λ b. cond b (delivers outside s e.event) (then_natives None)) (le-leb e.time s.rest.clock come)
+      pub delivers_so : (e : TimedEvent) → next_event outside s ≡ Some e → e.time ≤ s.rest.clock → (heard : Heard) → turning outside heard s ≡ delivers outside heard.name s e.event
+      delivers_so e is come heard = by_next heard (Some e) is ∙ ap (λ b. cond b (delivers outside heard.name s e.event) (then_natives heard.completion)) (le-leb e.time s.rest.clock come)
 
       -- and nothing has come
       module _ (none_come : NoneCome outside s) where
-        later : (after : Turning) (next : Option TimedEvent) → next_event outside s ≡ next → by_event outside s next after ≡ after
-        later after None is = refl
-        later after (Some e) is = ap (λ b. cond b (delivers outside s e.event) after) (lt-leb e.time s.rest.clock (none_come e is))
+        later : (name : ℕ) (after : Turning) (next : Option TimedEvent) → next_event outside s ≡ next → by_event outside name s next after ≡ after
+        later name after None is = refl
+        later name after (Some e) is = ap (λ b. cond b (delivers outside name s e.event) after) (lt-leb e.time s.rest.clock (none_come e is))
 
         settled : (heard : Heard) → turning outside heard s ≡ then_natives heard.completion
-        settled heard = by_next heard (next_event outside s) refl ∙ later (then_natives heard.completion) (next_event outside s) refl
+        settled heard = by_next heard (next_event outside s) refl ∙ later heard.name (then_natives heard.completion) (next_event outside s) refl
 
         pub polls_so : (heard : Heard) (n : ℕ) → next_native outside s ≡ Some n → turning outside heard s ≡ Polls n heard.completion
         polls_so heard n next = settled heard ∙ ap (λ k. polls k heard.completion at_last) next
 
         -- and all natives are polled
         module _ (polled : next_native outside s ≡ None) where
-          last_is : turning outside nothing_heard s ≡ at_last
-          last_is = settled nothing_heard ∙ ap (λ k. polls k None at_last) polled
+          last_is : (heard : Heard) → turning outside heard s ≡ at_last
+          last_is heard = settled heard ∙ ap (λ k. polls k heard.completion at_last) polled
 
-          pub picks_so : (x : Candidate) → has_signal s.cells ≡ true → first_ready s.cells ≡ Some x → turning outside nothing_heard s ≡ Picks x.seat
-          picks_so x signal ready = last_is ∙ ap (λ b. picks b (first_ready s.cells) (next_time outside s)) signal ∙ ap (λ r. picks true r (next_time outside s)) ready
+          pub picks_so : (x : Candidate) → has_signal s.cells ≡ true → first_ready s.cells ≡ Some x → (heard : Heard) → turning outside heard s ≡ Picks x.seat
+          picks_so x signal ready heard = last_is heard ∙ ap (λ b. picks b (first_ready s.cells) (next_time outside s)) signal ∙ ap (λ r. picks true r (next_time outside s)) ready
 
-          quiet : has_signal s.cells ≡ false → (next : Option ℕ) → next_time outside s ≡ next → turning outside nothing_heard s ≡ passes next
-          quiet no_signal next is = last_is ∙ ap (λ b. picks b (first_ready s.cells) (next_time outside s)) no_signal ∙ ap (λ n. picks false (first_ready s.cells) n) is
+          quiet : has_signal s.cells ≡ false → (next : Option ℕ) → next_time outside s ≡ next → (heard : Heard) → turning outside heard s ≡ passes next
+          quiet no_signal next is heard = last_is heard ∙ ap (λ b. picks b (first_ready s.cells) (next_time outside s)) no_signal ∙ ap (λ n. picks false (first_ready s.cells) n) is
 
-          pub passes_so : has_signal s.cells ≡ false → (time : ℕ) → next_time outside s ≡ Some time → turning outside nothing_heard s ≡ Passes time
-          passes_so no_signal time is = quiet no_signal (Some time) is
+          pub passes_so : has_signal s.cells ≡ false → (time : ℕ) → next_time outside s ≡ Some time → (heard : Heard) → turning outside heard s ≡ Passes time
+          passes_so no_signal time is heard = quiet no_signal (Some time) is heard
 
-          pub waits_so : has_signal s.cells ≡ false → next_time outside s ≡ None → turning outside nothing_heard s ≡ Waits
-          waits_so no_signal is = quiet no_signal None is
+          pub waits_so : has_signal s.cells ≡ false → next_time outside s ≡ None → (heard : Heard) → turning outside heard s ≡ Waits
+          waits_so no_signal is heard = quiet no_signal None is heard

@@ -1,4 +1,4 @@
--- What comes between dispatches, until an object is dispatched, a native's end is told, or the run ends.
+-- What comes between dispatches, until an object or a server is dispatched, an event is told by a line, or the run ends.
 use Rattle.std.specs.Prelude.{◌≡◌, ◌⊎◌, ◌<◌, ◌≤◌, ◌+◌, ◌-◌, ◌++◌, is_some, ℕ, true, List, [], Option, Some, None, length}
 use Rattle.aom_sound.specs.State.{State}
 use Rattle.aom_sound.specs.World.{IsBetween, Outside, Reaches, Timed, event_at, first_due, first_living}
@@ -17,7 +17,7 @@ hearing refused limit natives events = record { refused = refused; limit = limit
 
 -- ---- what turns lead to
 
--- an object is dispatched, or a native's end was told, so that fewer events are to come; or the run is over
+-- an object or a server is dispatched, or an event was told by a line, so that fewer events are to come; or the run is over
 abbrev pub LeadTo : Outside → Option Ending → State → List Line → State → Type 0
 LeadTo outside None s lines u =
     (length lines ≤ 1) × (s.rest.dispatches < outside.limit) × (u.rest.dispatches ≡ s.rest.dispatches)
@@ -66,7 +66,7 @@ module _ {X : Type 0} {B : X → Type 0} where
       × (s.rest.delivered ≤ u.rest.delivered)
       × StandsFor new u
 
-  -- turns that dispatch nothing, of which the last kills a native and writes its line
+  -- turns that dispatch nothing, of which the last hears an event and writes its line
   abbrev pub TellsEnd : List TimedEvent → Machine X B → Turn → Turn → Machine X B → Type 0
   TellsEnd events old told now new =
       (s : State) → StandsFor old s

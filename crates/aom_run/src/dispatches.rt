@@ -1,8 +1,9 @@
 //! A dispatch, from where it begins until nothing is at hand, and its lines.
-ghost use Rattle.std.specs.Prelude.{ℕ, true, false, ◌≡◌, ◌<◌, ◌≤◌, length, take, IfNone, IfSome};
+ghost use Rattle.std.specs.Prelude.{ℕ, true, false, ◌≡◌, ◌<◌, ◌≤◌, ◌+◌, length, take, IfNone, IfSome};
 ghost use Rattle.aom_transcript.specs.Text.{text_of};
 ghost use Rattle.aom_run.specs.Runs.{CutOff, Filled, Sent, after};
 ghost use Rattle.aom_exec.specs.Steps.{rank};
+ghost use Rattle.aom_lines.specs.Turn.{step_lines};
 ghost use Rattle.aom_machine.specs.Calls.{Stands, natives_of};
 ghost use Rattle.aom_natives.specs.Slots.{AllAgree};
 
@@ -13,7 +14,7 @@ use aom_machine::Machine;
 use aom_natives::Native;
 use aom_transcript::{Line, Page};
 
-/// How many lines the machine writes, at least, before they are sent out. A turn has room for them and for one call more.
+/// How many lines the machine writes, at least, before they are sent out. A turn has room for them and for one step more.
 const MANY_LINES: usize = 64;
 
 /// Runs what is at hand until nothing is, and writes its lines after those of the turn, or gives up where the sink fails.
@@ -26,7 +27,7 @@ pub fn run_dispatch<W: Sink>(
     requires agree { AllAgree (λ l. l.ids) (λ l. (⟦<dyn Native as Native>⟧ l.native.vtable).owed l.native.value) machine.old.natives.slots.items }
     requires stands { Stands machine.old }
     requires few { length turn.old.lines < 64 }
-    requires room { 80 ≤ turn.old.room }
+    requires room { 64 + step_lines machine.old.core.image.header.messages ≤ turn.old.room }
     ensures agree { AllAgree (λ l. l.ids) (λ l. (⟦<dyn Native as Native>⟧ l.native.vtable).owed l.native.value) machine.new.natives.slots.items }
     ensures image { machine.new.core.image ≡ machine.old.core.image }
     ensures natives { natives_of machine.new ≡ natives_of machine.old }
@@ -52,7 +53,7 @@ fn fill(machine: &mut Machine, turn: &mut Turn) -> Progress
     requires agree { AllAgree (λ l. l.ids) (λ l. (⟦<dyn Native as Native>⟧ l.native.vtable).owed l.native.value) machine.old.natives.slots.items }
     requires stands { Stands machine.old }
     requires few { length turn.old.lines < 64 }
-    requires room { 80 ≤ turn.old.room }
+    requires room { 64 + step_lines machine.old.core.image.header.messages ≤ turn.old.room }
     ensures agree { AllAgree (λ l. l.ids) (λ l. (⟦<dyn Native as Native>⟧ l.native.vtable).owed l.native.value) machine.new.natives.slots.items }
     ensures image { machine.new.core.image ≡ machine.old.core.image }
     ensures natives { natives_of machine.new ≡ natives_of machine.old }

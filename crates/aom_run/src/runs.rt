@@ -1,13 +1,15 @@
 //! A run, from a fresh machine to its end, with its transcript.
-ghost use Rattle.std.specs.Prelude.{ℕ, true, ◌≡◌, ◌+◌, ◌<◌, ◌≤◌, take, IfNone, IfSome};
+ghost use Rattle.std.specs.Prelude.{ℕ, true, ◌≡◌, ◌+◌, ◌<◌, ◌≤◌, All, take, IfNone, IfSome};
 ghost use Rattle.aom_sound.specs.Places.{count_cells};
 ghost use Rattle.aom_sound.specs.State.{State};
 ghost use Rattle.aom_determined.specs.Laws.{IsDetermined};
 ghost use Rattle.aom_transcript.specs.Text.{ended, end_text};
+ghost use Rattle.aom_lines.specs.Turn.{step_lines};
 ghost use Rattle.aom_run.specs.Outcomes.{outcome_of};
 ghost use Rattle.aom_run.specs.Turns.{hearing};
 ghost use Rattle.aom_run.specs.Runs.{IsFresh, Ran, Ended, CutShort, after};
-ghost use Rattle.aom_machine.specs.Calls.{StandsFor, natives_of};
+ghost use Rattle.aom_script.specs.Script.{IsTimely};
+ghost use Rattle.aom_machine.specs.Calls.{EventInRange, StandsFor, natives_of};
 ghost use Rattle.aom_natives.specs.Slots.{AllAgree};
 
 use crate::dispatches::run_dispatch;
@@ -34,8 +36,9 @@ pub fn run<W: Sink>(
 ) -> Outcome
     requires agree { AllAgree (λ l. l.ids) (λ l. (⟦<dyn Native as Native>⟧ l.native.vtable).owed l.native.value) machine.old.natives.slots.items }
     requires fresh { IsFresh machine.old }
-    requires room { machine.old.core.image.header.messages + 80 ≤ turn.old.room }
+    requires room { 64 + step_lines machine.old.core.image.header.messages ≤ turn.old.room }
     requires limit { (1 ≤ limit) × (limit ≤ 1000000000) }
+    requires timely { IsTimely script.now.timed }
     ensures agree { AllAgree (λ l. l.ids) (λ l. (⟦<dyn Native as Native>⟧ l.native.vtable).owed l.native.value) machine.new.natives.slots.items }
     ensures image { machine.new.core.image ≡ machine.old.core.image }
     ensures ran { Ran machine.old (hearing turn.old.refused limit (natives_of machine.old) script.now.timed) result (W.failed out.new) (W.out out.old) (W.out out.new) machine.new }
@@ -58,7 +61,8 @@ fn run_lines<W: Sink>(
 ) -> Option<Ending>
     requires agree { AllAgree (λ l. l.ids) (λ l. (⟦<dyn Native as Native>⟧ l.native.vtable).owed l.native.value) machine.old.natives.slots.items }
     requires fresh { IsFresh machine.old }
-    requires room { machine.old.core.image.header.messages + 80 ≤ turn.old.room }
+    requires room { 64 + step_lines machine.old.core.image.header.messages ≤ turn.old.room }
+    requires ranged { All (λ e. EventInRange e.event) events.now }
     ensures agree { AllAgree (λ l. l.ids) (λ l. (⟦<dyn Native as Native>⟧ l.native.vtable).owed l.native.value) machine.new.natives.slots.items }
     ensures image { machine.new.core.image ≡ machine.old.core.image }
     ensures none { IfNone result ((W.failed out.new ≡ true) × CutShort machine.old.core.image (hearing turn.old.refused limit (natives_of machine.old) events.now) (W.out out.old) (W.out out.new)) }

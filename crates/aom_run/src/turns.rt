@@ -1,10 +1,10 @@
 //! What comes between dispatches: timers, events, polls, picks and the passing of time.
-ghost use Rattle.std.specs.Prelude.{◌≡◌, ◌<◌, ◌≤◌, true, false, List, IfNone, IfSome, length};
+ghost use Rattle.std.specs.Prelude.{◌≡◌, ◌<◌, ◌≤◌, true, false, All, List, IfNone, IfSome, length};
 ghost use Rattle.aom_sound.specs.State.{State};
 ghost use Rattle.aom_sound.specs.World.{due_of, event_at, first_due, nearer, time_of};
 ghost use Rattle.aom_exec.specs.Steps.{progress, timers};
 ghost use Rattle.aom_parts.specs.declared.progress.Progress.TheVariants.{Turned};
-ghost use Rattle.aom_machine.specs.Calls.{NoneIsDue, Stands, StandsFor, natives_of};
+ghost use Rattle.aom_machine.specs.Calls.{EventInRange, NoneIsDue, Stands, StandsFor, natives_of};
 ghost use Rattle.aom_natives.specs.Slots.{AllAgree};
 ghost use Rattle.aom_transcript.specs.declared.event.TimedEvent.{TimedEvent};
 ghost use Rattle.aom_run.specs.Turns.{AllPolled, CompletesDue, HasCome, IsDue, IsLate, NoneHasCome, Settles, TakesTurns, TellsEnd, hearing, to_come, waiting};
@@ -14,8 +14,8 @@ use aom_machine::Machine;
 use aom_natives::Native;
 use aom_transcript::{Ending, Event, TimedEvent};
 
-/// Between dispatches: turns, until an object is dispatched, a native is killed, or the run ends. What begins or is killed has its line, and
-/// nothing else is written.
+/// Between dispatches: turns, until an object or a server is dispatched, an event is told by a line, or the run ends. What begins has its
+/// line, and so has a native that is killed and a client's command that is refused; nothing else is written.
 pub fn take_turns(
     machine: &mut Machine,
     events: &[TimedEvent],
@@ -25,6 +25,7 @@ pub fn take_turns(
     requires agree { AllAgree (λ l. l.ids) (λ l. (⟦<dyn Native as Native>⟧ l.native.vtable).owed l.native.value) machine.old.natives.slots.items }
     requires stands { Stands machine.old }
     requires between { progress machine.old.core ≡ Turned }
+    requires ranged { All (λ e. EventInRange e.event) events.now }
     requires room { length turn.old.lines < turn.old.room }
     ensures agree { AllAgree (λ l. l.ids) (λ l. (⟦<dyn Native as Native>⟧ l.native.vtable).owed l.native.value) machine.new.natives.slots.items }
     ensures image { machine.new.core.image ≡ machine.old.core.image }
@@ -66,16 +67,17 @@ fn next_time(machine: &Machine, events: &[TimedEvent]) -> Option<u64>
 }
 
 /// All that is due by now: each timer completes the request of its object, each event is heard, and then each native is polled. Answers
-/// whether an event killed a native; then the rest waits until its line is out.
+/// whether an event was told by a line; then the rest waits until that is out.
 fn settle(machine: &mut Machine, events: &[TimedEvent], turn: &mut Turn) -> bool
     requires agree { AllAgree (λ l. l.ids) (λ l. (⟦<dyn Native as Native>⟧ l.native.vtable).owed l.native.value) machine.old.natives.slots.items }
     requires stands { Stands machine.old }
     requires between { progress machine.old.core ≡ Turned }
+    requires ranged { All (λ e. EventInRange e.event) events.now }
     requires room { length turn.old.lines < turn.old.room }
     ensures agree { AllAgree (λ l. l.ids) (λ l. (⟦<dyn Native as Native>⟧ l.native.vtable).owed l.native.value) machine.new.natives.slots.items }
     ensures image { machine.new.core.image ≡ machine.old.core.image }
     ensures natives { natives_of machine.new ≡ natives_of machine.old }
-    ensures killed { result ≡ true → TellsEnd events.now machine.old turn.old turn.new machine.new }
+    ensures told { result ≡ true → TellsEnd events.now machine.old turn.old turn.new machine.new }
     ensures quiet { result ≡ false → turn.new ≡ turn.old }
     ensures settled { result ≡ false → Settles events.now machine.old machine.new }
     ensures between { progress machine.new.core ≡ Turned }
@@ -130,17 +132,18 @@ fn come_event(machine: &Machine, events: &[TimedEvent]) -> Option<Event>
     }
 }
 
-/// Each event that has come is heard, where no timer is due, up to one that kills a native. Answers whether one did.
+/// Each event that has come is heard, where no timer is due, up to one that is told by a line. Answers whether one was.
 fn hear_due(machine: &mut Machine, events: &[TimedEvent], turn: &mut Turn) -> bool
     requires agree { AllAgree (λ l. l.ids) (λ l. (⟦<dyn Native as Native>⟧ l.native.vtable).owed l.native.value) machine.old.natives.slots.items }
     requires stands { Stands machine.old }
     requires between { progress machine.old.core ≡ Turned }
     requires none_due { NoneIsDue machine.old }
+    requires ranged { All (λ e. EventInRange e.event) events.now }
     requires room { length turn.old.lines < turn.old.room }
     ensures agree { AllAgree (λ l. l.ids) (λ l. (⟦<dyn Native as Native>⟧ l.native.vtable).owed l.native.value) machine.new.natives.slots.items }
     ensures image { machine.new.core.image ≡ machine.old.core.image }
     ensures natives { natives_of machine.new ≡ natives_of machine.old }
-    ensures killed { result ≡ true → TellsEnd events.now machine.old turn.old turn.new machine.new }
+    ensures told { result ≡ true → TellsEnd events.now machine.old turn.old turn.new machine.new }
     ensures quiet { result ≡ false → turn.new ≡ turn.old }
     ensures settled { result ≡ false → Settles events.now machine.old machine.new }
     ensures between { progress machine.new.core ≡ Turned }

@@ -6,11 +6,13 @@ use Rattle.aom_text.specs.Numbers.{number_of}
 use Rattle.aom_text.specs.Text.{lines_of}
 use Rattle.aom_text.specs.Words.{is_plain, words}
 use Rattle.aom_text.specs.declared.number.Number.{Number}
-use Rattle.aom_script.specs.Script.{Script, counted, denoted, denoted_by, event_says, fault_in, fault_of, faults_after, in_line, in_place, is_back, is_refusal, kill_numbers, kill_says, last_time, line_says, reading_of, refusal_says, refused_in, said_by, tell_numbers, timed_in, timed_says, unless, words_say}
+use Rattle.aom_script.specs.Script.{Script, client_says, command_numbers, connect_numbers, connect_says, counted, denoted, denoted_by, event_says, fault_in, fault_of, faults_after, in_line, in_place, is_back, is_refusal, kill_numbers, kill_says, last_time, leaving_says, line_says, message_says, reading_of, refusal_says, refused_in, said_by, send_says, tell_numbers, timed_in, timed_says, unless, words_say}
 use Rattle.aom_script.specs.declared.fault.ScriptFault.{ScriptFault}
 use Rattle.aom_script.specs.declared.fault.ScriptFaultKind.{ScriptFaultKind}
 use Rattle.aom_script.specs.declared.fault.ScriptFaultKind.TheVariants.{NotAscii, BadLine, BadNumber, TimeBack, LimitPassed, OutOfMemory}
 use Rattle.aom_script.specs.declared.line.ScriptLine.{ScriptLine}
+use Rattle.aom_script.specs.declared.reading.CommandNumbers.{CommandNumbers}
+use Rattle.aom_script.specs.declared.reading.CommandNumbers.TheVariants.{ToClose, ToDie}
 use Rattle.aom_script.specs.declared.reading.Reading.{Reading}
 
 -- a fault of the text itself
@@ -72,10 +74,58 @@ ends (time ∷ []) = tt
 ends (time ∷ native ∷ []) = kills (number_of time) (number_of native)
 ends (time ∷ native ∷ other ∷ ws) = tt
 
+commands : (time client : Option Number) (command : Option CommandNumbers) → Fails_so (command_numbers time client command)
+commands (Some time) (Some client) (Some command) = tt
+commands (Some time) (Some client) None = tt
+commands (Some time) None command = tt
+commands None client command = tt
+
+connected : (time client class slots : Option Number) → Fails_so (connect_numbers time client class slots)
+connected (Some time) (Some client) (Some class) (Some slots) = tt
+connected (Some time) (Some client) (Some class) None = tt
+connected (Some time) (Some client) None slots = tt
+connected (Some time) None class slots = tt
+connected None client class slots = tt
+
+connects : (ws : List (List ℕ)) → Fails_so (connect_says ws)
+connects [] = tt
+connects (time ∷ []) = tt
+connects (time ∷ client ∷ []) = tt
+connects (time ∷ client ∷ class ∷ []) = tt
+connects (time ∷ client ∷ class ∷ slots ∷ []) = connected (number_of time) (number_of client) (number_of class) (number_of slots)
+connects (time ∷ client ∷ class ∷ slots ∷ other ∷ ws) = tt
+
+messages : (time client : List ℕ) (ws : List (List ℕ)) → Fails_so (message_says time client ws)
+messages time client [] = tt
+messages time client (a ∷ []) = tt
+messages time client (a ∷ b ∷ []) = tt
+messages time client (a ∷ b ∷ c ∷ []) = tt
+messages time client (a ∷ b ∷ c ∷ d ∷ []) = tt
+messages time client (a ∷ b ∷ c ∷ d ∷ e ∷ []) = commands (number_of time) (number_of client) _
+messages time client (a ∷ b ∷ c ∷ d ∷ e ∷ f ∷ ws) = tt
+
+sends : (ws : List (List ℕ)) → Fails_so (send_says ws)
+sends [] = tt
+sends (time ∷ []) = tt
+sends (time ∷ client ∷ ws) = messages time client ws
+
+leavings : (command : CommandNumbers) (ws : List (List ℕ)) → Fails_so (leaving_says command ws)
+leavings command [] = tt
+leavings command (time ∷ []) = tt
+leavings command (time ∷ client ∷ []) = commands (number_of time) (number_of client) (Some command)
+leavings command (time ∷ client ∷ other ∷ ws) = tt
+
+clients : (kind : List ℕ) (ws : List (List ℕ)) → Fails_so (client_says kind ws)
+clients kind ws =
+    let of_death = either Fails_so (bytes_eq kind (codes "die")) (leaving_says ToDie ws) (Err BadLine) (leavings ToDie ws) tt in
+    let of_close = either Fails_so (bytes_eq kind (codes "close")) (leaving_says ToClose ws) _ (leavings ToClose ws) of_death in
+    let of_send = either Fails_so (bytes_eq kind (codes "send")) (send_says ws) _ (sends ws) of_close in
+    either Fails_so (bytes_eq kind (codes "connect")) (connect_says ws) _ (connects ws) of_send
+
 timed : (kind : List ℕ) (ws : List (List ℕ)) → Fails_so (timed_says kind ws)
 timed kind ws =
-    let not_event = either Fails_so (bytes_eq kind (codes "kill")) (kill_says ws) (Err BadLine) (ends ws) tt in
-    either Fails_so (bytes_eq kind (codes "event")) (event_says ws) (if bytes_eq kind (codes "kill") then kill_says ws else Err BadLine) (events ws) not_event
+    let not_event = either Fails_so (bytes_eq kind (codes "kill")) (kill_says ws) (client_says kind ws) (ends ws) (clients kind ws) in
+    either Fails_so (bytes_eq kind (codes "event")) (event_says ws) (if bytes_eq kind (codes "kill") then kill_says ws else client_says kind ws) (events ws) not_event
 
 of_words : (ws : List (List ℕ)) → Fails_so (words_say ws)
 of_words [] = tt

@@ -6,18 +6,22 @@ use Rattle.std.specs.List.{All}
 use Rattle.std.proofs.lemmas.List.Elements.{All-nil, All-cons}
 use Rattle.aom_text.specs.Numbers.{number_below, number_within, number_signed}
 use Rattle.aom_text.specs.declared.number.Number.{Number}
+use Rattle.aom_transcript.specs.declared.event.Command.{Command}
+use Rattle.aom_transcript.specs.declared.event.Command.TheVariants.{Connect, Send, Close, Die}
 use Rattle.aom_transcript.specs.declared.event.Event.{Event}
-use Rattle.aom_transcript.specs.declared.event.Event.TheVariants.{Tell, Kill}
+use Rattle.aom_transcript.specs.declared.event.Event.TheVariants.{Tell, Kill, Client}
 use Rattle.aom_transcript.specs.declared.event.TimedEvent.{TimedEvent}
 use Rattle.aom_script.specs.declared.fault.ScriptFault.{ScriptFault}
 use Rattle.aom_script.specs.declared.fault.ScriptFaultKind.{ScriptFaultKind}
 use Rattle.aom_script.specs.declared.line.ScriptLine.{ScriptLine}
 use Rattle.aom_script.specs.declared.line.ScriptLine.TheVariants.{Empty, Refuse, Timed}
+use Rattle.aom_script.specs.declared.reading.CommandNumbers.{CommandNumbers}
+use Rattle.aom_script.specs.declared.reading.CommandNumbers.TheVariants.{ToConnect, ToSend, ToClose, ToDie}
 use Rattle.aom_script.specs.declared.reading.EventNumbers.{EventNumbers}
-use Rattle.aom_script.specs.declared.reading.EventNumbers.TheVariants.{ToTell, ToKill}
+use Rattle.aom_script.specs.declared.reading.EventNumbers.TheVariants.{ToTell, ToKill, OfClient}
 use Rattle.aom_script.specs.declared.reading.Reading.{Reading}
 use Rattle.aom_script.specs.declared.reading.Reading.TheVariants.{Blank, Refusal, At}
-use Rattle.aom_script.specs.Script.{Script, reading_of, said_by, said_in, event_within, is_back, both, at_time, line_says, time_after, last_time, fault_in, timed_by, refused_in, timed_in, in_line, faults_after, unless, denoted_by, Rises, native_of, InRange, IsTimely}
+use Rattle.aom_script.specs.Script.{Script, reading_of, said_by, said_in, event_within, is_back, both, at_time, command_within, send_of, line_says, time_after, last_time, fault_in, timed_by, refused_in, timed_in, in_line, faults_after, unless, denoted_by, Rises, NumbersFit, SlotsFit, InRange, IsTimely}
 use Rattle.aom_script.proofs.Lines.{Said, is_said}
 
 -- ---- numbers
@@ -31,20 +35,43 @@ in_range low high n k e = go ((not n.is_negative || n.size == 0) && nat_le low n
 not_below : (last : ℕ) (n : Number) → number_below last n ≡ false → last ≤ n.size
 not_below last n c = search (rules, tests, c)
 
-native_small : (event : EventNumbers) (e : Event) → event_within event ≡ Some e → native_of e < 16
-native_small (ToTell native word) e is = go (number_within 0 15 native) (number_signed word) refl is where
-  go : (n : Option ℕ) (w : Option ℤ) → number_within 0 15 native ≡ n → both Tell n w ≡ Some e → native_of e < 16
-  go (Some n) (Some w) within is = let small = (in_range 0 15 native n within).1 in subst (λ e. native_of e < 16) (the_event is) (omega (arith, small)) where
-    the_event : Some (Tell n w) ≡ Some e → Tell n w ≡ e
-    the_event is = cc
-  go (Some n) None within is = absurd cc
-  go None w within is = absurd cc
-native_small (ToKill native) e is = go (number_within 0 15 native) refl is where
-  go : (n : Option ℕ) → number_within 0 15 native ≡ n → option_map Kill n ≡ Some e → native_of e < 16
-  go (Some n) within is = let small = (in_range 0 15 native n within).1 in subst (λ e. native_of e < 16) (the_event is) (omega (arith, small)) where
-    the_event : Some (Kill n) ≡ Some e → Kill n ≡ e
-    the_event is = cc
-  go None within is = absurd cc
+-- what both make, of two numbers in their ranges
+made : {A B C : Type 0} (P : C → Type 0) (make : A → B → C) (a : Option A) (b : Option B) (e : C) → ((x : A) (y : B) → a ≡ Some x → b ≡ Some y → P (make x y)) → both make a b ≡ Some e → P e
+made P make (Some x) (Some y) e holds is = subst P (same is) (holds x y refl refl) where
+  same : Some (make x y) ≡ Some e → make x y ≡ e
+  same is = cc
+made P make (Some x) None e holds is = absurd cc
+made P make None b e holds is = absurd cc
+
+mapped : {A C : Type 0} (P : C → Type 0) (make : A → C) (a : Option A) (e : C) → ((x : A) → a ≡ Some x → P (make x)) → option_map make a ≡ Some e → P e
+mapped P make (Some x) e holds is = subst P (same is) (holds x refl) where
+  same : Some (make x) ≡ Some e → make x ≡ e
+  same is = cc
+mapped P make None e holds is = absurd cc
+
+below : (low high : ℕ) (n : Number) (k : ℕ) → number_within low high n ≡ Some k → k < high + 1
+below low high n k is = let small = (in_range low high n k is).1 in omega (arith, small)
+
+send_fits : (a b c d e : Option ℤ) (command : Command) → send_of a b c d e ≡ Some command → SlotsFit command
+send_fits (Some a) (Some b) (Some c) (Some d) (Some e) command is = subst SlotsFit (same is) tt where
+  same : Some (Send (a ∷ b ∷ c ∷ d ∷ e ∷ [])) ≡ Some command → Send (a ∷ b ∷ c ∷ d ∷ e ∷ []) ≡ command
+  same is = cc
+send_fits None b c d e command is = absurd cc
+send_fits (Some a) None c d e command is = absurd cc
+send_fits (Some a) (Some b) None d e command is = absurd cc
+send_fits (Some a) (Some b) (Some c) None e command is = absurd cc
+send_fits (Some a) (Some b) (Some c) (Some d) None command is = absurd cc
+
+slots_fit : (numbers : CommandNumbers) (command : Command) → command_within numbers ≡ Some command → SlotsFit command
+slots_fit (ToConnect class slots) command is = made SlotsFit Connect (number_within 0 255 class) (number_within 0 64 slots) command (λ k n at few. (in_range 0 64 slots n few).1) is
+slots_fit (ToSend a b c d e) command is = send_fits (number_signed a) (number_signed b) (number_signed c) (number_signed d) (number_signed e) command is
+slots_fit ToClose command is = let same : Close ≡ command = cc in subst SlotsFit same tt
+slots_fit ToDie command is = let same : Die ≡ command = cc in subst SlotsFit same tt
+
+numbers_fit : (event : EventNumbers) (e : Event) → event_within event ≡ Some e → NumbersFit e
+numbers_fit (ToTell native word) e is = made NumbersFit Tell (number_within 0 15 native) (number_signed word) e (λ n w within said. below 0 15 native n within) is
+numbers_fit (ToKill native) e is = mapped NumbersFit Kill (number_within 0 15 native) e (λ n within. below 0 15 native n within) is
+numbers_fit (OfClient client command) e is = made NumbersFit Client (number_within 0 63 client) (command_within command) e (λ c x within said. (below 0 63 client c within, slots_fit command x said)) is
 
 -- ---- one line
 
@@ -68,7 +95,7 @@ timed_fits last time event said on_time is = go (number_within 0 (10 ^ 15) time)
   go (Some t) (Some e) at comes is =
       let within = in_range 0 (10 ^ 15) time t at in
       let later = subst (λ k. last ≤ k) (sym within.0) (not_below last time on_time) in
-      subst (Fits last) (the_line is) (one last (record { time = t; event = e }) later (record { time = within.1; native = native_small event e comes })) where
+      subst (Fits last) (the_line is) (one last (record { time = t; event = e }) later (record { time = within.1; numbers = numbers_fit event e comes })) where
         the_line : Some (at_time t e) ≡ Some said → at_time t e ≡ said
         the_line is = cc
   go (Some t) None at comes is = absurd cc

@@ -1,21 +1,25 @@
 -- What the text of a script denotes.
-use Rattle.std.specs.Prelude.{◌≡◌, ℕ, ◌≤◌, ◌<◌, ◌+◌, ◌-◌, ◌^◌, ◌⊎◌, ◌&&◌, Bool, true, false, nat_le, if◌then◌else◌, List, [], ◌∷◌, ◌++◌, length, codes, Option, Some, None, option_map, Result, Ok, Err}
+use Rattle.std.specs.Prelude.{◌≡◌, ℕ, ℤ, ◌≤◌, ◌<◌, ◌+◌, ◌-◌, ◌^◌, ◌⊎◌, ◌&&◌, Bool, true, false, nat_le, if◌then◌else◌, List, [], ◌∷◌, ◌++◌, length, codes, Option, Some, None, option_map, Result, Ok, Err}
 use Rattle.std.specs.List.{list_all, flat_map, fold, All}
 use Rattle.std.specs.Str.{bytes_eq}
 use Rattle.aom_text.specs.Words.{is_plain, is_none_left, words}
 use Rattle.aom_text.specs.Text.{lines_of}
 use Rattle.aom_text.specs.Numbers.{number_of, number_below, number_within, number_signed}
 use Rattle.aom_text.specs.declared.number.Number.{Number}
+use Rattle.aom_transcript.specs.declared.event.Command.{Command}
+use Rattle.aom_transcript.specs.declared.event.Command.TheVariants.{Connect, Send, Close, Die}
 use Rattle.aom_transcript.specs.declared.event.Event.{Event}
-use Rattle.aom_transcript.specs.declared.event.Event.TheVariants.{Tell, Kill}
+use Rattle.aom_transcript.specs.declared.event.Event.TheVariants.{Tell, Kill, Client}
 use Rattle.aom_transcript.specs.declared.event.TimedEvent.{TimedEvent}
 use Rattle.aom_script.specs.declared.fault.ScriptFault.{ScriptFault}
 use Rattle.aom_script.specs.declared.fault.ScriptFaultKind.{ScriptFaultKind}
 use Rattle.aom_script.specs.declared.fault.ScriptFaultKind.TheVariants.{NotAscii, BadLine, BadNumber, TimeBack, LimitPassed, OutOfMemory}
 use Rattle.aom_script.specs.declared.line.ScriptLine.{ScriptLine}
 use Rattle.aom_script.specs.declared.line.ScriptLine.TheVariants.{Empty, Refuse, Timed}
+use Rattle.aom_script.specs.declared.reading.CommandNumbers.{CommandNumbers}
+use Rattle.aom_script.specs.declared.reading.CommandNumbers.TheVariants.{ToConnect, ToSend, ToClose, ToDie}
 use Rattle.aom_script.specs.declared.reading.EventNumbers.{EventNumbers}
-use Rattle.aom_script.specs.declared.reading.EventNumbers.TheVariants.{ToTell, ToKill}
+use Rattle.aom_script.specs.declared.reading.EventNumbers.TheVariants.{ToTell, ToKill, OfClient}
 use Rattle.aom_script.specs.declared.reading.Reading.{Reading}
 use Rattle.aom_script.specs.declared.reading.Reading.TheVariants.{Blank, Refusal, At}
 
@@ -41,6 +45,18 @@ abbrev pub kill_numbers : Option Number → Option Number → Result Reading Scr
 kill_numbers (Some time) (Some native) = Ok (At time (ToKill native))
 kill_numbers _ _ = Err BadNumber
 
+abbrev pub connect_numbers : Option Number → Option Number → Option Number → Option Number → Result Reading ScriptFaultKind
+connect_numbers (Some time) (Some client) (Some class) (Some slots) = Ok (At time (OfClient client (ToConnect class slots)))
+connect_numbers _ _ _ _ = Err BadNumber
+
+abbrev pub message_numbers : Option Number → Option Number → Option Number → Option Number → Option Number → Option CommandNumbers
+message_numbers (Some function) (Some first) (Some second) (Some third) (Some fourth) = Some (ToSend function first second third fourth)
+message_numbers _ _ _ _ _ = None
+
+abbrev pub command_numbers : Option Number → Option Number → Option CommandNumbers → Result Reading ScriptFaultKind
+command_numbers (Some time) (Some client) (Some command) = Ok (At time (OfClient client command))
+command_numbers _ _ _ = Err BadNumber
+
 -- the words of each kind of line, without the one that names the kind
 abbrev pub event_says : List (List ℕ) → Result Reading ScriptFaultKind
 event_says (time ∷ native ∷ word ∷ []) = tell_numbers (number_of time) (number_of native) (number_of word)
@@ -50,12 +66,39 @@ abbrev pub kill_says : List (List ℕ) → Result Reading ScriptFaultKind
 kill_says (time ∷ native ∷ []) = kill_numbers (number_of time) (number_of native)
 kill_says _ = Err BadLine
 
+abbrev pub connect_says : List (List ℕ) → Result Reading ScriptFaultKind
+connect_says (time ∷ client ∷ class ∷ slots ∷ []) = connect_numbers (number_of time) (number_of client) (number_of class) (number_of slots)
+connect_says _ = Err BadLine
+
+-- a message has a function and four words
+abbrev pub message_says : List ℕ → List ℕ → List (List ℕ) → Result Reading ScriptFaultKind
+message_says time client (function ∷ first ∷ second ∷ third ∷ fourth ∷ []) =
+    command_numbers (number_of time) (number_of client) (message_numbers (number_of function) (number_of first) (number_of second) (number_of third) (number_of fourth))
+message_says time client _ = Err BadLine
+
+abbrev pub send_says : List (List ℕ) → Result Reading ScriptFaultKind
+send_says (time ∷ client ∷ words) = message_says time client words
+send_says _ = Err BadLine
+
+abbrev pub leaving_says : CommandNumbers → List (List ℕ) → Result Reading ScriptFaultKind
+leaving_says command (time ∷ client ∷ []) = command_numbers (number_of time) (number_of client) (Some command)
+leaving_says command _ = Err BadLine
+
+-- the kinds of lines of clients
+abbrev pub client_says : List ℕ → List (List ℕ) → Result Reading ScriptFaultKind
+client_says kind others =
+    if bytes_eq kind (codes "connect") then connect_says others
+    else if bytes_eq kind (codes "send") then send_says others
+    else if bytes_eq kind (codes "close") then leaving_says ToClose others
+    else if bytes_eq kind (codes "die") then leaving_says ToDie others
+    else Err BadLine
+
 -- the kinds of timed lines
 abbrev pub timed_says : List ℕ → List (List ℕ) → Result Reading ScriptFaultKind
 timed_says kind others =
     if bytes_eq kind (codes "event") then event_says others
     else if bytes_eq kind (codes "kill") then kill_says others
-    else Err BadLine
+    else client_says kind others
 
 -- `refuse`, with one word behind it and these others
 abbrev pub is_refusal : List ℕ → List (List ℕ) → Bool
@@ -78,10 +121,23 @@ abbrev pub both : {A B C : Type 0} → (A → B → C) → Option A → Option B
 both make (Some a) (Some b) = Some (make a b)
 both make _ _ = None
 
--- a native's number is below 16, a word has 32 bits with its sign
+-- all five words of a message
+abbrev pub send_of : Option ℤ → Option ℤ → Option ℤ → Option ℤ → Option ℤ → Option Command
+send_of (Some function) (Some first) (Some second) (Some third) (Some fourth) = Some (Send (function ∷ first ∷ second ∷ third ∷ fourth ∷ []))
+send_of _ _ _ _ _ = None
+
+-- a class has a number below 256, and a session 64 slots at most
+abbrev pub command_within : CommandNumbers → Option Command
+command_within (ToConnect class slots) = both Connect (number_within 0 255 class) (number_within 0 64 slots)
+command_within (ToSend function first second third fourth) = send_of (number_signed function) (number_signed first) (number_signed second) (number_signed third) (number_signed fourth)
+command_within ToClose = Some Close
+command_within ToDie = Some Die
+
+-- a native's number is below 16 and a client's below 64, a word has 32 bits with its sign
 abbrev pub event_within : EventNumbers → Option Event
 event_within (ToTell native word) = both Tell (number_within 0 15 native) (number_signed word)
 event_within (ToKill native) = option_map Kill (number_within 0 15 native)
+event_within (OfClient client command) = both Client (number_within 0 63 client) (command_within command)
 
 abbrev pub at_time : ℕ → Event → ScriptLine
 at_time time event = Timed (record { time = time; event = event })
@@ -181,13 +237,19 @@ abbrev pub Rises : ℕ → List TimedEvent → Type 0
 Rises time [] = Unit {0}
 Rises time (event ∷ events) = (time ≤ event.time) × Rises event.time events
 
-abbrev pub native_of : Event → ℕ
-native_of (Tell native word) = native
-native_of (Kill native) = native
+abbrev pub SlotsFit : Command → Type 0
+SlotsFit (Connect class slots) = slots ≤ 64
+SlotsFit _ = Unit {0}
+
+-- there are 16 natives, 64 clients, and as many slots at most
+abbrev pub NumbersFit : Event → Type 0
+NumbersFit (Tell native word) = native < 16
+NumbersFit (Kill native) = native < 16
+NumbersFit (Client client command) = (client < 64) × SlotsFit command
 
 pub record InRange (event : TimedEvent) : Type 0 where
   pub time : event.time ≤ 10 ^ 15
-  pub native : native_of event.event < 16
+  pub numbers : NumbersFit event.event
 
 -- the times never fall, and each number is in its range
 pub record IsTimely (events : List TimedEvent) : Type 0 where

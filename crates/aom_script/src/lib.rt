@@ -5,6 +5,7 @@
 //! its range. It knows the words of a text and the events of a run, and nothing of images or machines.
 #![tactic(auto)]
 
+mod clients;
 mod fault;
 mod line;
 mod reading;

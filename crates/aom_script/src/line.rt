@@ -1,12 +1,12 @@
 //! What a line of a script says.
 ghost use Rattle.std.specs.Prelude.{◌≡◌};
-ghost use Rattle.aom_text.specs.Numbers.{number_within};
-ghost use Rattle.aom_script.specs.Script.{event_within, line_says, said_by};
+ghost use Rattle.aom_text.specs.Numbers.{number_signed, number_within};
+ghost use Rattle.aom_script.specs.Script.{command_within, event_within, line_says, said_by, send_of};
 
 use crate::ScriptFaultKind;
-use crate::reading::{EventNumbers, Reading};
+use crate::reading::{CommandNumbers, EventNumbers, Reading};
 use aom_text::Number;
-use aom_transcript::{Event, TimedEvent};
+use aom_transcript::{Command, Event, TimedEvent};
 
 /// The most lines of a script's text.
 const MOST_LINES: u32 = 65536;
@@ -61,7 +61,46 @@ fn event_within(numbers: EventNumbers) -> Option<Event>
             word.signed()?,
         )),
         EventNumbers::ToKill(native) => Some(Event::Kill(native_within(native)?)),
+        EventNumbers::OfClient(client, command) => Some(Event::Client(
+            client.within(0, 63)? as u8,
+            command_within(command)?,
+        )),
     }
+}
+
+fn command_within(numbers: CommandNumbers) -> Option<Command>
+    ensures { result ≡ command_within numbers }
+{
+    match numbers {
+        CommandNumbers::ToConnect(class, slots) => Some(Command::Connect(
+            class.within(0, 255)? as u8,
+            slots.within(0, 64)? as u8,
+        )),
+        CommandNumbers::ToSend(function, first, second, third, fourth) => {
+            message_within(function, first, second, third, fourth)
+        }
+        CommandNumbers::ToClose => Some(Command::Close),
+        CommandNumbers::ToDie => Some(Command::Die),
+    }
+}
+
+/// The words of a message.
+fn message_within(
+    function: Number,
+    first: Number,
+    second: Number,
+    third: Number,
+    fourth: Number,
+) -> Option<Command>
+    ensures { result ≡ send_of (number_signed function) (number_signed first) (number_signed second) (number_signed third) (number_signed fourth) }
+{
+    Some(Command::Send([
+        function.signed()?,
+        first.signed()?,
+        second.signed()?,
+        third.signed()?,
+        fourth.signed()?,
+    ]))
 }
 
 /// The number of a native.

@@ -4,7 +4,19 @@ ghost use Rattle.aom_text.specs.Numbers.{number_of};
 ghost use Rattle.aom_script.specs.Script.{event_says, is_back, is_refusal, kill_numbers, kill_says, reading_of, refusal_says, tell_numbers, timed_says, words_say};
 
 use crate::ScriptFaultKind;
+use crate::clients::read_client;
 use aom_text::{Number, Words, is_text_word};
+
+/// The numbers of what a client does.
+#[derive(Clone, Copy, PartialEq, Eq, Debug)]
+pub enum CommandNumbers {
+    /// A class, and slots.
+    ToConnect(Number, Number),
+    /// The words of a message, its function first.
+    ToSend(Number, Number, Number, Number, Number),
+    ToClose,
+    ToDie,
+}
 
 /// The numbers of an event, without its time.
 #[derive(Clone, Copy, PartialEq, Eq, Debug)]
@@ -13,6 +25,8 @@ pub enum EventNumbers {
     ToTell(Number, Number),
     /// A native.
     ToKill(Number),
+    /// A client, and what it does.
+    OfClient(Number, CommandNumbers),
 }
 
 /// The numbers of a line.
@@ -91,7 +105,7 @@ fn read_timed(kind: &[u8], time: &[u8], words: Words) -> Result<Reading, ScriptF
     } else if kind == b"kill".as_slice() {
         read_kill(time, words)
     } else {
-        Err(ScriptFaultKind::BadLine)
+        read_client(kind, time, words)
     }
 }
 

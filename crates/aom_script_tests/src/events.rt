@@ -77,7 +77,6 @@ fn the_first_fault_of_a_timed_line_is_told(rt: HostRuntime) -> Result<(), Fail> 
         (b"-1 kill 0 0", 1, ScriptFaultKind::BadLine),
         (b"x event 16", 1, ScriptFaultKind::BadLine),
         (b"1 event 0 0 0", 1, ScriptFaultKind::BadLine),
-        (b"1 connect 0 0 0", 1, ScriptFaultKind::BadLine),
         (b"kill 1 0", 1, ScriptFaultKind::BadLine),
         (b"x kill 0", 1, ScriptFaultKind::BadNumber),
         (b"refuse kill 0", 1, ScriptFaultKind::BadNumber),

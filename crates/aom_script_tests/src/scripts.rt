@@ -37,7 +37,7 @@ fn requests_are_refused_in_the_order_of_the_text(rt: HostRuntime) -> Result<(), 
 #[test]
 fn a_bad_line_is_told_first(rt: HostRuntime) -> Result<(), Fail> {
     for (text, line, kind) in [
-        ("0 close 0".as_bytes(), 1, ScriptFaultKind::BadLine),
+        ("0 closes 0".as_bytes(), 1, ScriptFaultKind::BadLine),
         (b"foo", 1, ScriptFaultKind::BadLine),
         (b"\n\n \nrefuse 1\n\x00", 5, ScriptFaultKind::NotAscii),
         (b"\n\x0b\nword", 2, ScriptFaultKind::NotAscii),

@@ -17,27 +17,27 @@ use Rattle.aom_clients.specs.declared.refusal.Refusal.{Refusal}
 use Rattle.aom_clients.specs.declared.refusal.Refusal.TheVariants.{ServerBusy}
 use Rattle.aom_roles.specs.Classes.{sessions_in, sessions_of}
 use Rattle.aom_roles.specs.Shapes.{kind_of}
-use Rattle.aom_sound.proofs.ClientsFit.{IsFree, by_server, fit_changed, none_of_free, names_then, servers_then, seats_then}
+use Rattle.aom_sound.proofs.ClientsFit.{IsFree, by_server, fit_changed, none_of_free, names_then, servers_then, seats_then, enlisted_then}
 use Rattle.aom_sound.proofs.Maps.{same_place-true}
 use Rattle.aom_sound.proofs.Queues.{client_here, none_passes, queue_last, queue_other}
 use Rattle.aom_sound.proofs.Seated.{seats_asked, seats_none}
 use Rattle.aom_sound.proofs.Services.{service_unnamed}
-use Rattle.aom_sound.specs.Clients.{Listed, among_listed, asked_of, client_at, earlier, first_listed, is_of_class, most_of, with_client}
+use Rattle.aom_sound.specs.Clients.{Listed, among_listed, asked_of, asked_server, client_at, earlier, first_listed, is_of_class, most_of, with_client}
 use Rattle.aom_sound.specs.Enlisted.{thing_kind}
 use Rattle.aom_sound.specs.Kept.{ClientsFit, EntryFits, QueueFits, is_connect_of, is_message_of}
-use Rattle.aom_sound.specs.Places.{Asked, Cell, Close_of, Connect_of, Elsewhere, Message_of, Object, Queued, Request, Service, Tidy, held, named, same_place, service_of}
+use Rattle.aom_sound.specs.Places.{Asked, Cell, Close_of, Connect_of, Elsewhere, Message_of, Object, Queued, Request, Service, Tidy, held, named, same_place, service_of, requested}
 use Rattle.aom_sound.specs.Servers.{asked_last, has_session, is_from, is_message, is_server, reserved, seats_taken}
 
 -- ---- the server that is asked stands, and is one
 
 abbrev pub IsListed : ℕ → List Cell → Listed → Type 0
-IsListed class cs x = (o : Object) × (o.name ≡ x.name) × (named cs o.name ≡ Some o) × (is_of_class class o.thing ≡ true)
+IsListed class cs x = (o : Object) × (o.name ≡ x.name) × (named cs o.name ≡ Some o) × (is_of_class class o.thing ≡ true) × (is_some (requested cs o.name) ≡ true)
 
 module _ (class : ℕ) (c : Cell) (cs : List Cell) (t : Tidy (c ∷ cs)) (x : Listed) (rest : first_listed class cs ≡ Some x → IsListed class cs x) where
   later : IsListed class cs x → IsListed class (c ∷ cs) x
   later l =
       let other : (c.object.name == l.0.name) ≡ false = ne_eqb c.object.name l.0.name (λ same. let clash : Some l.0 ≡ None = sym l.2 ∙ sym (ap (λ n. named cs n) same) ∙ t.1 in cc) in
-      (l.0, l.1, ap (λ b. cond b (Some c.object) (named cs l.0.name)) other ∙ l.2, l.3)
+      (l.0, l.1, ap (λ b. cond b (Some c.object) (named cs l.0.name)) other ∙ l.2, l.3, ap (λ b. is_some (cond b c.request (requested cs l.0.name))) other ∙ l.4)
 
   among : (others : Option Listed) → first_listed class cs ≡ others → others ≡ Some x → IsListed class (c ∷ cs) x
   among others same e = later (rest (same ∙ e))
@@ -45,28 +45,45 @@ module _ (class : ℕ) (c : Cell) (cs : List Cell) (t : Tidy (c ∷ cs)) (x : Li
   abbrev me : ℕ → Listed
   me order = record { name = c.object.name; order = order }
 
-  here : (order : ℕ) → is_of_class class c.object.thing ≡ true → me order ≡ x → IsListed class (c ∷ cs) x
-  here order of same = (c.object, ap (λ y. y.name) same, ap (λ b. cond b (Some c.object) (named cs c.object.name)) (eq-eqb c.object.name c.object.name refl), of)
+  here : (order : ℕ) → is_of_class class c.object.thing ≡ true → is_some c.request ≡ true → me order ≡ x → IsListed class (c ∷ cs) x
+  here order of listed same = (
+    c.object,
+    ap (λ y. y.name) same,
+    ap (λ b. cond b (Some c.object) (named cs c.object.name)) (eq-eqb c.object.name c.object.name refl),
+    of,
+    ap (λ b. is_some (cond b c.request (requested cs c.object.name))) (eq-eqb c.object.name c.object.name refl) ∙ listed,
+  )
 
-  first : (order : ℕ) → is_of_class class c.object.thing ≡ true → (others : Option Listed) → first_listed class cs ≡ others → Some (earlier (me order) others) ≡ Some x → IsListed class (c ∷ cs) x
-  first order of None same e = here order of cc
-  first order of (Some b) same e = go (nat_lt b.order order) e
+  first : (order : ℕ) → is_of_class class c.object.thing ≡ true → is_some c.request ≡ true → (others : Option Listed) → first_listed class cs ≡ others → Some (earlier (me order) others) ≡ Some x → IsListed class (c ∷ cs) x
+  first order of listed None same e = here order of listed cc
+  first order of listed (Some b) same e = go (nat_lt b.order order) e
     where
       go : (y : Bool) → Some (cond y b (me order)) ≡ Some x → IsListed class (c ∷ cs) x
       go true e = among (Some b) same e
-      go false e = here order of cc
+      go false e = here order of listed cc
 
-  of_class : (order : ℕ) (b : Bool) → is_of_class class c.object.thing ≡ b → cond b (Some (earlier (me order) (first_listed class cs))) (first_listed class cs) ≡ Some x → IsListed class (c ∷ cs) x
-  of_class order true of e = first order of (first_listed class cs) refl e
-  of_class order false of e = among (first_listed class cs) refl e
+  of_class : (order : ℕ) → is_some c.request ≡ true → (b : Bool) → is_of_class class c.object.thing ≡ b → cond b (Some (earlier (me order) (first_listed class cs))) (first_listed class cs) ≡ Some x → IsListed class (c ∷ cs) x
+  of_class order listed true of e = first order of listed (first_listed class cs) refl e
+  of_class order listed false of e = among (first_listed class cs) refl e
 
-  of_request : (r : Option Request) → among_listed class c.object r (first_listed class cs) ≡ Some x → IsListed class (c ∷ cs) x
-  of_request None e = among (first_listed class cs) refl e
-  of_request (Some r) e = of_class r.order (is_of_class class c.object.thing) refl e
+  of_request : (r : Option Request) → c.request ≡ r → among_listed class c.object r (first_listed class cs) ≡ Some x → IsListed class (c ∷ cs) x
+  of_request None is e = among (first_listed class cs) refl e
+  of_request (Some r) is e = of_class r.order (ap is_some is) (is_of_class class c.object.thing) refl e
 
 pub listed_there : (class : ℕ) (cs : List Cell) (x : Listed) → Tidy cs → first_listed class cs ≡ Some x → IsListed class cs x
 listed_there class [] x t e = cc
-listed_there class (c ∷ cs) x t e = of_request class c cs t x (λ e. listed_there class cs x t.2 e) c.request e
+listed_there class (c ∷ cs) x t e = of_request class c cs t x (λ e. listed_there class cs x t.2 e) c.request refl e
+
+-- who is asked is the first that is enlisted
+asked_listed : (p : Image) (class : ℕ) (cs : List Cell) (x : Listed) → asked_server p class cs ≡ Some x → first_listed class cs ≡ Some x
+asked_listed p class cs x = go (is_server p (An_object_of class))
+  where
+    go : (b : Bool) → cond b (first_listed class cs) None ≡ Some x → first_listed class cs ≡ Some x
+    go true e = e
+    go false e = cc
+
+pub asked_there : (p : Image) (class : ℕ) (cs : List Cell) (x : Listed) → Tidy cs → asked_server p class cs ≡ Some x → IsListed class cs x
+asked_there p class cs x t e = listed_there class cs x t (asked_listed p class cs x e)
 
 -- a class that takes sessions is of servers
 takes_some : (k : Option ClassKind) (n : ℕ) → nat_lt n (most_of k) ≡ true → is_some (sessions_in k) ≡ true
@@ -101,7 +118,7 @@ or_false : (b : Bool) → (b || false) ≡ b
 or_false true = refl
 or_false false = refl
 
-module _ (p : Image) (clients : List Client) (cs : List Cell) (fit : ClientsFit p clients cs) (o : Object) (lives : named cs o.name ≡ Some o) (serves : is_server p o.thing ≡ true) (c : ℕ) where
+module _ (p : Image) (clients : List Client) (cs : List Cell) (fit : ClientsFit p clients cs) (o : Object) (lives : named cs o.name ≡ Some o) (serves : is_server p o.thing ≡ true) (listed : is_some (requested cs o.name) ≡ true) (c : ℕ) where
   -- ---- a connect
 
   pub fit_connecting : (slots : ℕ) → IsFree (client_at clients c) → seats_taken (service_of cs o.name) < most_of (thing_kind p o.thing) → ClientsFit p (with_client c (Connecting o.name slots) clients) (reserved (asked_last (Connect_of c)) o.name cs)
@@ -117,6 +134,7 @@ module _ (p : Image) (clients : List Client) (cs : List Cell) (fit : ClientsFit 
     senders = λ n d m. by_server p cs o lives (asked_last (Connect_of c)) (λ n v. list_any (is_message_of d m) v.queue ≡ true → is_from d (service_of (reserved (asked_last (Connect_of c)) o.name cs) m).sender ≡ true)
         (λ h. senders m d (fit.senders o.name d m (sym (list_any-append (is_message_of d m) (service_of cs o.name).queue (Connect_of c ∷ []) ∙ or_false (list_any (is_message_of d m) (service_of cs o.name).queue)) ∙ h)))
         (λ n other h. senders m d (fit.senders n d m h)) n;
+    enlisted = enlisted_then p cs o lives (asked_last (Connect_of c)) listed clients fit;
     seats = seats_then p cs o lives (asked_last (Connect_of c)) clients fit (let one = seats_asked (Connect_of c) (service_of cs o.name) in omega (arith, room, one));
   }
     where
@@ -147,6 +165,7 @@ fit_with p clients cs x free no_queue no_sessions named_so fit = record {
   servers = λ o h plain. servers o plain (x.object.name == o.name) h;
   names = λ n m o h. names n m o (same_place x.owner (Elsewhere (Queued n m))) refl h;
   senders = λ n c m h. senders n c m (x.object.name == n) (x.object.name == m) refl h;
+  enlisted = λ o h e. enlisted o (x.object.name == o.name) h e;
   seats = λ o h. seats o (x.object.name == o.name) h;
 }
   where
@@ -163,6 +182,10 @@ fit_with p clients cs x free no_queue no_sessions named_so fit = record {
     servers : (o : Object) → is_server p o.thing ≡ false → (b : Bool) → cond b (Some x.object) (named cs o.name) ≡ Some o → ((cond b x.service (service_of cs o.name)).queue ≡ []) × ((cond b x.service (service_of cs o.name)).sessions ≡ [])
     servers o plain true h = (no_queue, no_sessions)
     servers o plain false h = fit.servers o h plain
+
+    enlisted : (o : Object) (b : Bool) → cond b (Some x.object) (named cs o.name) ≡ Some o → cond b x.request (requested cs o.name) ≡ None → ((cond b x.service (service_of cs o.name)).queue ≡ []) × ((cond b x.service (service_of cs o.name)).sessions ≡ [])
+    enlisted o true h e = (no_queue, no_sessions)
+    enlisted o false h e = fit.enlisted o h e
 
     seats : (o : Object) (b : Bool) → cond b (Some x.object) (named cs o.name) ≡ Some o → seats_taken (cond b x.service (service_of cs o.name)) ≤ most_of (thing_kind p o.thing)
     seats o true h = let none = seats_none x.service no_queue no_sessions in omega (arith, none)
@@ -182,7 +205,7 @@ fit_with p clients cs x free no_queue no_sessions named_so fit = record {
 
 -- ---- a message
 
-module _ (p : Image) (clients : List Client) (cs : List Cell) (fit : ClientsFit p clients cs) (o : Object) (lives : named cs o.name ≡ Some o) (serves : is_server p o.thing ≡ true) (c m : ℕ) where
+module _ (p : Image) (clients : List Client) (cs : List Cell) (fit : ClientsFit p clients cs) (o : Object) (lives : named cs o.name ≡ Some o) (serves : is_server p o.thing ≡ true) (listed : is_some (requested cs o.name) ≡ true) (c m : ℕ) where
   -- it is queued where its client has its session open, and stands already
   pub fit_sent :
       is_open_at o.name (client_at clients c) ≡ true → list_any (is_message m) (service_of cs o.name).queue ≡ false → is_from c (service_of cs m).sender ≡ true →
@@ -196,6 +219,7 @@ module _ (p : Image) (clients : List Client) (cs : List Cell) (fit : ClientsFit 
     senders = λ n d k. by_server p cs o lives (asked_last (Message_of c m)) (λ n v. list_any (is_message_of d k) v.queue ≡ true → is_from d (service_of (reserved (asked_last (Message_of c m)) o.name cs) k).sender ≡ true)
         (λ h. senders k d (last d k (list_any (is_message_of d k) (service_of cs o.name).queue) refl (sym (list_any-append (is_message_of d k) (service_of cs o.name).queue (Message_of c m ∷ [])) ∙ h)))
         (λ n other h. senders k d (fit.senders n d k h)) n;
+    enlisted = enlisted_then p cs o lives (asked_last (Message_of c m)) listed clients fit;
     seats = seats_then p cs o lives (asked_last (Message_of c m)) clients fit (let one = seats_asked (Message_of c m) (service_of cs o.name) in let was = fit.seats o lives in omega (arith, one, was));
   }
     where

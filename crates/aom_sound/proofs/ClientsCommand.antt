@@ -2,7 +2,7 @@
 use Rattle.std.proofs.Common.{Bool, List, None, Option, Some, [], ap, cond, false, refl, subst, sym, true, ℕ, ℤ, ◌&&◌, ◌==◌, ◌∙◌, ◌∷◌, ◌≡◌}
 use Rattle.std.proofs.lemmas.Bool.{eq-eqb, eqb-true, ne_eqb, true≢false}
 use Rattle.std.specs.List.{list_any}
-use Rattle.std.specs.Prelude.{nat_lt, ◌||◌}
+use Rattle.std.specs.Prelude.{nat_lt, ◌||◌, is_some}
 use Rattle.aom_image.specs.Image.{Image}
 use Rattle.aom_image.specs.declared.method.Thing.TheVariants.{Message}
 use Rattle.aom_clients.specs.Nodes.{is_leaving, is_open_at}
@@ -11,17 +11,19 @@ use Rattle.aom_clients.specs.declared.client.Client.{Client}
 use Rattle.aom_clients.specs.declared.client.Client.TheVariants.{Closing, Connecting, Dead, Dying, Gone, Open, Unconnected}
 use Rattle.aom_clients.specs.declared.refusal.Refusal.{Refusal}
 use Rattle.aom_roles.specs.Shapes.{kind_of}
-use Rattle.aom_sound.proofs.ClientsAsk.{asked_none, connects_free, fit_connecting, fit_sent, fit_with, listed_room, listed_serves, listed_there}
+use Rattle.aom_sound.proofs.ClientsAsk.{asked_none, connects_free, fit_connecting, fit_sent, fit_with, listed_room, listed_serves, asked_there}
 use Rattle.aom_sound.proofs.ClientsLeave.{empty, fit_told, fit_withdrawn, queue_leaving, queue_left, service_left}
 use Rattle.aom_sound.proofs.Maps.{named_name}
 use Rattle.aom_sound.proofs.Queues.{client_here, front_none, none_passes, none_stays}
 use Rattle.aom_sound.proofs.Services.{service_unnamed}
-use Rattle.aom_sound.proofs.Sifted.{a_cell_of, cell_of, named_cell, named_sifted, service_cell, service_in, withdrawn_so}
-use Rattle.aom_sound.specs.Clients.{Closes, Command, Connects, Dies, Listed, Sends, asked_of, client_at, commanded, connecting, first_listed, leaving, most_of, refusal, sending, told, with_client, with_message}
+use Rattle.aom_sound.proofs.Sifted.{a_cell_of, cell_of, named_cell, named_sifted, service_cell, service_in, withdrawn_so, requested_before}
+use Rattle.aom_sound.specs.Clients.{asked_server, Listed, asked_of, client_at, commanded, connecting, leaving, most_of, refusal, sending, told, with_client, with_message}
 use Rattle.aom_sound.specs.Kept.{ClientsFit, EntryFits, is_close_of, is_message_of}
-use Rattle.aom_sound.specs.Places.{Asked, Cell, Close_of, Connect_of, Elsewhere, Message_of, Object, Queued, Tidy, held, named, service_of, set_service, unserved}
+use Rattle.aom_sound.specs.Places.{Asked, Cell, Close_of, Connect_of, Elsewhere, Message_of, Object, Queued, Tidy, held, named, service_of, set_service, unserved, requested, Request}
 use Rattle.aom_sound.specs.Servers.{asked_last, has_session, is_from, is_message, is_queue, is_server, left_by, reserved, seats_taken, stays, withdrawn}
 use Rattle.aom_sound.specs.State.{State}
+use Rattle.aom_transcript.specs.declared.event.Command.{Command}
+use Rattle.aom_transcript.specs.declared.event.Command.TheVariants.{Close, Connect, Die, Send}
 
 -- ---- what stands where clients are
 
@@ -59,6 +61,14 @@ module _ (p : Image) (c : ℕ) (s : State) (tidy : Tidy s.cells) (fit : ClientsF
               let none = (fit.servers o lives f).1 in
               absurd (true≢false (sym h ∙ ap (λ k. has_session (service_of s.cells k) c) (sym name) ∙ ap (λ xs. list_any (λ d. d == c) xs) none))
 
+  -- and is enlisted
+  pub server_listed : (o : Object) → named s.cells o.name ≡ Some o → has_session (service_of s.cells o.name) c ≡ true → is_some (requested s.cells o.name) ≡ true
+  server_listed o lives h = go (requested s.cells o.name) refl
+    where
+      go : (r : Option Request) → requested s.cells o.name ≡ r → is_some r ≡ true
+      go (Some r) e = refl
+      go None e = absurd (true≢false (sym h ∙ ap (λ xs. list_any (λ d. d == c) xs) (fit.enlisted o lives e).1))
+
   -- of a name that is free nothing waits
   pub nobody : (n name : ℕ) → named s.cells name ≡ None → (d : ℕ) → list_any (is_message_of d name) (service_of s.cells n).queue ≡ false
   nobody n name free d = go (list_any (is_message_of d name) (service_of s.cells n).queue) refl
@@ -69,16 +79,16 @@ module _ (p : Image) (c : ℕ) (s : State) (tidy : Tidy s.cells) (fit : ClientsF
 
   -- ---- it connects
 
-  fit_connects : (class slots : ℕ) (refused : Option Refusal) → asked_of (row own).connect (most_of (kind_of p (Some class))) (first_listed class s.cells) s.cells ≡ refused →
-      ClientsFit p (connecting p c s refused (first_listed class s.cells) slots).clients (connecting p c s refused (first_listed class s.cells) slots).cells
-  fit_connects class slots refused e = go refused (first_listed class s.cells) refl e
+  fit_connects : (class slots : ℕ) (refused : Option Refusal) → asked_of (row own).connect (most_of (kind_of p (Some class))) (asked_server p class s.cells) s.cells ≡ refused →
+      ClientsFit p (connecting p c s refused (asked_server p class s.cells) slots).clients (connecting p c s refused (asked_server p class s.cells) slots).cells
+  fit_connects class slots refused e = go refused (asked_server p class s.cells) refl e
     where
-      go : (r : Option Refusal) (x : Option Listed) → first_listed class s.cells ≡ x → asked_of (row own).connect (most_of (kind_of p (Some class))) x s.cells ≡ r → ClientsFit p (connecting p c s r x slots).clients (connecting p c s r x slots).cells
+      go : (r : Option Refusal) (x : Option Listed) → asked_server p class s.cells ≡ x → asked_of (row own).connect (most_of (kind_of p (Some class))) x s.cells ≡ r → ClientsFit p (connecting p c s r x slots).clients (connecting p c s r x slots).cells
       go None (Some x) there e =
           let asked = asked_none (row own).connect (most_of (kind_of p (Some class))) x s.cells e in
-          let l = listed_there class s.cells x tidy there in
+          let l = asked_there p class s.cells x tidy there in
           subst (λ n. ClientsFit p (with_client c (Connecting n slots) s.clients) (reserved (asked_last (Connect_of c)) n s.cells)) l.1
-          (fit_connecting p s.clients s.cells fit l.0 l.2 (listed_serves p class _ l.0.thing l.3 asked.1) c slots (connects_free own asked.0) (listed_room p class (service_of s.cells l.0.name) l.0.thing l.3 (ap (λ n. nat_lt (seats_taken (service_of s.cells n)) (most_of (kind_of p (Some class)))) l.1 ∙ asked.1)))
+          (fit_connecting p s.clients s.cells fit l.0 l.2 (listed_serves p class _ l.0.thing l.3 asked.1) l.4 c slots (connects_free own asked.0) (listed_room p class (service_of s.cells l.0.name) l.0.thing l.3 (ap (λ n. nat_lt (seats_taken (service_of s.cells n)) (most_of (kind_of p (Some class)))) l.1 ∙ asked.1)))
       go None None there e = fit
       go (Some r) x there e = fit
 
@@ -100,6 +110,9 @@ module _ (p : Image) (c : ℕ) (s : State) (tidy : Tidy s.cells) (fit : ClientsF
       there : (o : Object) × (o.name ≡ server) × (named s.cells o.name ≡ Some o) × (is_server p o.thing ≡ true)
       there = server_there server (fit.listed server c (ap server_of at))
 
+      listed : is_some (requested s.cells there.0.name) ≡ true
+      listed = server_listed there.0 there.2 (ap (λ n. has_session (service_of s.cells n) c) there.1 ∙ fit.listed server c (ap server_of at))
+
       other : (name == there.0.name) ≡ false
       other = ne_eqb name there.0.name (λ same. let clash : Some there.0 ≡ None = sym there.2 ∙ ap (λ n. named s.cells n) (sym same) ∙ free in cc)
 
@@ -116,7 +129,7 @@ module _ (p : Image) (c : ℕ) (s : State) (tidy : Tidy s.cells) (fit : ClientsF
       with_it = fit_with p s.clients s.cells message free refl refl placed fit
 
       sent : ClientsFit p s.clients (reserved (asked_last (Message_of c name)) there.0.name (message ∷ s.cells))
-      sent = fit_sent p s.clients (message ∷ s.cells) with_it there.0 (ap (λ b. cond b (Some message.object) (named s.cells there.0.name)) other ∙ there.2) there.3 c name
+      sent = fit_sent p s.clients (message ∷ s.cells) with_it there.0 (ap (λ b. cond b (Some message.object) (named s.cells there.0.name)) other ∙ there.2) there.3 (ap (λ b. is_some (cond b None (requested s.cells there.0.name))) other ∙ listed) c name
           (ap (λ k. is_open_at there.0.name k) at ∙ eq-eqb server there.0.name (sym there.1))
           (ap (λ b. list_any (λ e. is_message name e) (cond b message.service (service_of s.cells there.0.name)).queue) other ∙ none_named name (service_of s.cells there.0.name).queue (nobody there.0.name name free))
           (ap (λ b. is_from c (cond b message.service (service_of s.cells name)).sender) (eq-eqb name name refl) ∙ eq-eqb c c refl)
@@ -158,7 +171,7 @@ module _ (p : Image) (c : ℕ) (s : State) (tidy : Tidy s.cells) (fit : ClientsF
     -- with its session open: a close is asked last
     goes_told : (server session slots : ℕ) → own ≡ Open server session slots → (to : Client) → server_of to ≡ Some server → is_leaving server to ≡ true → ClientsFit p (with_client c to s.clients) (reserved (asked_last (Close_of c)) server (withdrawn c s.cells))
     goes_told server session slots at to same leaves = subst (λ n. ClientsFit p (with_client c to s.clients) (reserved (asked_last (Close_of c)) n (withdrawn c s.cells))) there.1
-        (fit_told p (with_client c to s.clients) (withdrawn c s.cells) alone there.0 still_there there.3 c
+        (fit_told p (with_client c to s.clients) (withdrawn c s.cells) alone there.0 still_there there.3 still_listed c
         (ap (λ k. is_leaving there.0.name k) (client_here c to s.clients) ∙ ap (λ n. is_leaving n to) there.1 ∙ leaves)
         (ap (λ q. list_any (is_close_of c) q) (service_left p s.clients s.cells tidy fit c waiting there.0.name).0 ∙ none_stays (is_close_of c) (stays c) (service_of s.cells there.0.name).queue (no_close (λ n. ap (λ k. is_leaving n k) at) there.0.name)))
       where
@@ -168,8 +181,17 @@ module _ (p : Image) (c : ℕ) (s : State) (tidy : Tidy s.cells) (fit : ClientsF
         alone : ClientsFit p (with_client c to s.clients) (withdrawn c s.cells)
         alone = goes_alone to (same ∙ sym (ap server_of at)) (λ n. ap (λ k. is_leaving n k) at)
 
+        has : has_session (service_of s.cells there.0.name) c ≡ true
+        has = fit.listed there.0.name c (ap server_of at ∙ ap (λ n. Some n) (sym there.1))
+
         still_there : named (withdrawn c s.cells) there.0.name ≡ Some there.0
-        still_there = server_stays there.0 there.2 (fit.listed there.0.name c (ap server_of at ∙ ap (λ n. Some n) (sym there.1)))
+        still_there = server_stays there.0 there.2 has
+
+        still_listed : is_some (requested (withdrawn c s.cells) there.0.name) ≡ true
+        still_listed =
+            ap (λ l. is_some (requested l there.0.name)) (withdrawn_so c s.cells)
+            ∙ ap is_some (requested_before (λ y. is_queue y.owner && is_from c y.service.sender) (λ y. left_by c y.service) s.cells there.0.name there.0 tidy (ap (λ l. named l there.0.name) (sym (withdrawn_so c s.cells)) ∙ still_there))
+            ∙ server_listed there.0 there.2 has
 
     fit_closes : (k : Client) → own ≡ k → ClientsFit p (leaving p c s (row k).close).clients (leaving p c s (row k).close).cells
     fit_closes Unconnected at = fit
@@ -191,7 +213,7 @@ module _ (p : Image) (c : ℕ) (s : State) (tidy : Tidy s.cells) (fit : ClientsF
 
     -- whatever is commanded
     pub fit_commanded : (command : Command) (name : ℕ) → named s.cells name ≡ None → ClientsFit p (commanded p c s command name).clients (commanded p c s command name).cells
-    fit_commanded (Connects class slots) name free = fit_connects class slots (refusal p c s (Connects class slots)) refl
-    fit_commanded (Sends words) name free = fit_sends (refusal p c s (Sends words)) name words free own refl
-    fit_commanded Closes name free = fit_closes own refl
-    fit_commanded Dies name free = fit_dies own refl
+    fit_commanded (Connect class slots) name free = fit_connects class slots (refusal p c s (Connect class slots)) refl
+    fit_commanded (Send words) name free = fit_sends (refusal p c s (Send words)) name words free own refl
+    fit_commanded Close name free = fit_closes own refl
+    fit_commanded Die name free = fit_dies own refl

@@ -6,7 +6,7 @@ use Rattle.aom_clients.specs.declared.client.Client.{Client}
 use Rattle.aom_instructions.specs.declared.instr.Instr.{Instr}
 use Rattle.aom_instructions.specs.declared.instr.Instr.TheVariants as instrs
 use Rattle.aom_sound.proofs.ClientsMoves.{Steady, fit_steady, steady_asked, steady_moved, steady_passed, steady_update, tasks_steady}
-use Rattle.aom_sound.proofs.ClientsTurn.{tasks_begun}
+use Rattle.aom_sound.proofs.ClientsTurn.{tasks_begun, on_none}
 use Rattle.aom_sound.specs.Cleanup.{is_negative, to_trap, top_place}
 use Rattle.aom_sound.specs.Effects.{Calls, Cancels, Carried, Counts, Destroys, Destroys_last, Effect, Goes_on, Jumps, Leaves, Made, Operates, Popped, Popped_operation, Pushed, Pushed_operation, Repeats, Replied, Requested, Returns, Same as Unchanged, Sessioned, Sets_trap, Update, Written, applied, cancels_if, cells_after, deals, deletes, effect, jumps_unless, makes_unless, round, updates}
 use Rattle.aom_sound.specs.Enlisted.{cancelling, on_request, own_request}
@@ -17,10 +17,11 @@ use Rattle.aom_sound.specs.Words.{here, read}
 
 -- ---- the effects that this is of
 
--- a cell that is made has the name that is free; no message is completed, and no method returns
-module _ (s : State) where
+-- a cell that is made has the name that is free; no request is taken away, no message is completed, and no method returns
+module _ (fr : Frame) (s : State) where
   abbrev pub IsFine : Update → Type 0
   IsFine (Made name class a) = named s.cells name ≡ None
+  IsFine (Requested r) = r ≡ None → own_request s.cells fr.home ≡ None
   IsFine (Replied a) = ⊥
   IsFine _ = Unit {0}
 
@@ -36,39 +37,39 @@ IsUsual (instrs.Return a) = ⊥
 IsUsual _ = Unit {0}
 
 module _ (p : Image) (c : Choice) (fr : Frame) (ts : List Task) (s : State) (free : named s.cells c.name ≡ None) where
-  fine_cond : (b : Bool) (x y : Effect) → Fine s x → Fine s y → Fine s (cond b x y)
+  fine_cond : (b : Bool) (x y : Effect) → Fine fr s x → Fine fr s y → Fine fr s (cond b x y)
   fine_cond true x y h k = h
   fine_cond false x y h k = k
 
-  fine_unless : (o : Option Object) (to : ℕ) → Fine s (jumps_unless fr o to)
+  fine_unless : (o : Option Object) (to : ℕ) → Fine fr s (jumps_unless fr o to)
   fine_unless None to = tt
   fine_unless (Some o) to = tt
 
-  fine_round : (n depth to : ℕ) → Fine s (round n depth to)
+  fine_round : (n depth to : ℕ) → Fine fr s (round n depth to)
   fine_round zero depth to = tt
   fine_round (suc n) depth to = tt
 
-  fine_cancels : (b : Bool) (m : Option ℕ) → Fine s (cancels_if fr b m)
+  fine_cancels : (b : Bool) (m : Option ℕ) → Fine fr s (cancels_if fr b m)
   fine_cancels true (Some m) = tt
   fine_cancels true None = tt
   fine_cancels false m = tt
 
-  fine_deletes : (o : Option Object) (a : ℕ) → Fine s (deletes fr o a)
+  fine_deletes : (o : Option Object) (a : ℕ) → Fine fr s (deletes fr o a)
   fine_deletes None a = tt
   fine_deletes (Some o) a = tt
 
-  fine_deals : (items : List Item) (o : Option Object) → Fine s (deals fr items o)
+  fine_deals : (items : List Item) (o : Option Object) → Fine fr s (deals fr items o)
   fine_deals (An_object ∷ items) (Some o) = tt
   fine_deals (An_object ∷ items) None = tt
   fine_deals (An_operation m w ∷ items) o = tt
   fine_deals (A_mark ∷ items) o = tt
   fine_deals [] o = tt
 
-  fine_makes : (b : Bool) (x a : ℕ) → IsFine s (makes_unless b c.name x a)
+  fine_makes : (b : Bool) (x a : ℕ) → IsFine fr s (makes_unless b c.name x a)
   fine_makes true x a = tt
   fine_makes false x a = free
 
-  pub fine_effect : (i : Instr) → IsUsual i → Fine s (effect p c fr ts s i)
+  pub fine_effect : (i : Instr) → IsUsual i → Fine fr s (effect p c fr ts s i)
   fine_effect (instrs.JumpEqual a b to) usual = fine_cond _ (Jumps to) (updates fr Unchanged) tt tt
   fine_effect (instrs.JumpLess a b to) usual = fine_cond _ (Jumps to) (updates fr Unchanged) tt tt
   fine_effect (instrs.JumpActive to) usual = fine_cond _ (Jumps to) (updates fr Unchanged) tt tt
@@ -84,6 +85,10 @@ module _ (p : Image) (c : Choice) (fr : Frame) (ts : List Task) (s : State) (fre
   fine_effect instrs.PopDelete usual = fine_deals s.items _
   fine_effect (instrs.LeaveIf a) usual = fine_cond (is_negative p c fr ts s (read fr ts s a)) (Leaves (read fr ts s a) Unchanged) (updates fr Unchanged) tt tt
   fine_effect instrs.Cancel usual = fine_cancels _ _
+  fine_effect (instrs.Enlist priority) usual = λ e. cc
+  fine_effect (instrs.Issue a b) usual = λ e. on_none _ (own_request s.cells fr.home) e
+  fine_effect instrs.SetActive usual = λ e. on_none _ (own_request s.cells fr.home) e
+  fine_effect instrs.Abort usual = λ e. on_none _ (own_request s.cells fr.home) e
   fine_effect (instrs.Reply a b) usual = absurd usual
   fine_effect (instrs.Return a) usual = absurd usual
   fine_effect _ usual = tt
@@ -100,11 +105,11 @@ tasks_to_trap p clients cs (Unwind code ∷ ts) k = k
 tasks_to_trap p clients cs (Dispatched d ∷ ts) k = k
 
 module _ (p : Image) (fr : Frame) (ts : List Task) (s : State) (fit : ClientsFit p s.clients s.cells) (stage : TasksKept p s.clients s.cells ts) where
-  steady : (u : Update) → IsFine s u → Steady s.cells (cells_after p fr ts s u)
+  steady : (u : Update) → IsFine fr s u → Steady s.cells (cells_after p fr ts s u)
   steady (Made name class a) f = steady_update p fr ts s (Made name class a) f
   steady (Carried from to) f = steady_update p fr ts s (Carried from to) tt
   steady (Written w v) f = steady_update p fr ts s (Written w v) tt
-  steady (Requested r) f = steady_update p fr ts s (Requested r) tt
+  steady (Requested r) f = steady_update p fr ts s (Requested r) f
   steady (Sessioned b) f = steady_update p fr ts s (Sessioned b) tt
   steady (Replied a) f = absurd f
   steady (Pushed a) f = steady_update p fr ts s (Pushed a) tt
@@ -120,14 +125,14 @@ module _ (p : Image) (fr : Frame) (ts : List Task) (s : State) (fit : ClientsFit
     stage = subst (λ l. TasksKept p l u.cells u.tasks) (sym clients) (over (tasks_steady p s.clients s.cells u.cells still ts stage));
   }
 
-  pub effect_kept : (e : Effect) → Fine s e → IsKept p (applied p fr ts s e)
+  pub effect_kept : (e : Effect) → Fine fr s e → IsKept p (applied p fr ts s e)
   effect_kept (Goes_on ch) f = kept_by (applied p fr ts s (Goes_on ch)) refl (steady ch.update f) (λ k. k)
   effect_kept (Jumps to) f = kept_by (applied p fr ts s (Jumps to)) refl (steady Unchanged tt) (λ k. k)
   effect_kept (Counts depth rounds) f = kept_by (applied p fr ts s (Counts depth rounds)) refl (steady Unchanged tt) (λ k. k)
   effect_kept (Repeats depth rounds to) f = kept_by (applied p fr ts s (Repeats depth rounds to)) refl (steady Unchanged tt) (λ k. k)
   effect_kept (Calls target m first) f = kept_by (applied p fr ts s (Calls target m first)) refl (steady_passed p fr ts s _ (arguments_of p m) first 0 s.cells) (λ k. k)
   effect_kept (Sets_trap target m first) f = kept_by (applied p fr ts s (Sets_trap target m first)) refl (steady_passed p fr ts s _ (arguments_of p m) first 0 s.cells) (λ k. k)
-  effect_kept (Cancels m) f = kept_by (applied p fr ts s (Cancels m)) refl (steady_asked s.cells fr.home (on_request cancelling (own_request s.cells fr.home))) (λ k. k)
+  effect_kept (Cancels m) f = kept_by (applied p fr ts s (Cancels m)) refl (steady_asked s.cells fr.home (on_request cancelling (own_request s.cells fr.home)) (λ e. on_none cancelling (own_request s.cells fr.home) e)) (λ k. k)
   effect_kept (Returns g a) f = absurd f
   effect_kept (Leaves code u) f = kept_by (applied p fr ts s (Leaves code u)) refl (steady u f) (λ k. tasks_to_trap p s.clients _ ts k)
   effect_kept (Destroys x a words) f = kept_by (applied p fr ts s (Destroys x a words)) refl (steady_moved s.cells (here fr ts s a) (Going (suc (length ts))) (λ n m. refl)) (λ k. tasks_begun p s.clients _ x _ _ k)

@@ -2,7 +2,7 @@
 use Rattle.std.proofs.Common.{Bool, List, None, Option, Some, [], ap, arith, cond, false, inl, inr, length, refl, subst, sym, true, ℕ, ◌&&◌, ◌==◌, ◌∙◌, ◌∷◌, ◌≡◌, ◌≤◌}
 use Rattle.std.proofs.lemmas.Bool.{ne_eqb, true≢false}
 use Rattle.std.specs.List.{list_any}
-use Rattle.std.specs.Prelude.{◌||◌}
+use Rattle.std.specs.Prelude.{◌||◌, is_some}
 use Rattle.aom_image.specs.Image.{Image}
 use Rattle.aom_image.specs.declared.method.Thing.{Thing}
 use Rattle.aom_image.specs.declared.method.Thing.TheVariants.{Message}
@@ -15,7 +15,6 @@ use Rattle.aom_shape.specs.declared.kind.Kind.{Kind}
 use Rattle.aom_shape.specs.declared.kind.Kind.TheVariants.{Null, Own}
 use Rattle.aom_shape.specs.declared.kind.Delivery.{Delivery}
 use Rattle.aom_shape.specs.declared.kind.Delivery.TheVariants.{Gone as Gone_now, Here}
-use Rattle.aom_sound.proofs.ClientsTurn.{message_plain}
 use Rattle.aom_sound.proofs.Destroying.{Untouched, untouched}
 use Rattle.aom_sound.proofs.Maps.{named_name}
 use Rattle.aom_sound.proofs.Owners.{HasThing, IsQueuedAt, fits_thing, queued_lower, queued_thing_of}
@@ -24,10 +23,11 @@ use Rattle.aom_sound.proofs.Services.{service_unnamed}
 use Rattle.aom_sound.specs.Claims.{Dispatching, Dying, Ending, Layer, Mark, Method, Unwinding, by_stage, claim, declared, delivered, serves, tasks_of}
 use Rattle.aom_sound.specs.Kept.{ClientsFit, is_message_of}
 use Rattle.aom_sound.specs.Laws.{IsWired}
-use Rattle.aom_sound.specs.Places.{Asked, Cell, Close_of, Connect_of, Elsewhere, Going, In_service, Message_of, Object, Place, Queued, held, named, seen, service_of}
+use Rattle.aom_sound.specs.Places.{Asked, Cell, Close_of, Connect_of, Elsewhere, Going, In_service, Message_of, Object, Place, Queued, held, named, seen, service_of, requested}
 use Rattle.aom_sound.specs.Servers.{has_message, is_message, is_server, message_thing}
 use Rattle.aom_sound.specs.State.{Closing, Destroy, Dispatch, Dispatched, Of_server, Run, Seat, Service_left, Serves, Stage, State, Task, Trapped, Unwind}
 use Rattle.aom_sound.specs.WellTyped.{AllSit, Back, Caught, Fits, Gone, IsAttended, Leaves, Now, Returns, SitsFirst, SomeIn, SomeSits, Stack, WellTyped, seat_of}
+use Rattle.aom_sound.proofs.Things.{message_plain}
 
 -- no layer claims a message that waits
 claim_queued : (p : Image) (d : Place → Kind) (ls : List Layer) (n m : ℕ) → claim p d ls (Elsewhere (Queued n m)) ≡ d (Elsewhere (Queued n m))
@@ -89,12 +89,12 @@ IsAt d (Unwind code ∷ ts) = IsAt d ts
 IsAt d (Dispatched e ∷ ts) = e ≡ d
 
 abbrev pub ServerLives : Image → List Cell → Seat → List Layer → Type 0
-ServerLives p cs x ls = (named cs x.object.name ≡ Some x.object) × (is_server p x.object.thing ≡ true) × SomeIn x.object.name ls
+ServerLives p cs x ls = (named cs x.object.name ≡ Some x.object) × (is_server p x.object.thing ≡ true) × SomeIn x.object.name ls × (is_some (requested cs x.object.name) ≡ true)
 
 -- its server stands, and sits
 pub server_lives : (p : Image) (t : Typing) (cs : List Cell) (ls : List Layer) (back : Back) (x : Seat) (c : ℕ) (stage : Stage) → Stack p t cs back ls → IsAt (Of_server x c stage) (tasks_of ls) → ServerLives p cs x ls
 server_lives p t cs [] back x c stage s at = absurd at
-server_lives p t cs (Method fr sh ∷ ls) back x c stage s at = let r = server_lives p t cs ls (Returns fr.method fr.home) x c stage s.4 at in (r.0, r.1, inr r.2)
+server_lives p t cs (Method fr sh ∷ ls) back x c stage s at = let r = server_lives p t cs ls (Returns fr.method fr.home) x c stage s.4 at in (r.0, r.1, inr r.2, r.3)
 server_lives p t cs (Mark gv ∷ ls) back x c stage s at = server_lives p t cs ls (Caught gv) x c stage s.1 at
 server_lives p t cs (Dying o ∷ ls) back x c stage s at = server_lives p t cs ls Gone x c stage s.2 at
 server_lives p t cs (Ending o left ∷ ls) back x c stage s at = server_lives p t cs ls Now x c stage s.3 at
@@ -103,7 +103,7 @@ server_lives p t cs (Dispatching d seats ∷ ls) back x c stage s at =
     let first = subst (λ e. SitsFirst cs (seat_of e) seats) at s.3 in
     let sit : AllSit cs (x ∷ first.1) = subst (λ l. AllSit cs l) first.2 s.2 in
     let attended = subst (λ e. IsAttended p cs e) at s.4 in
-    (sit.0.1, attended.0, inl (subst (λ l. SomeSits x.object.name l) (sym first.2) (inl refl)))
+    (sit.0.1, attended.0, inl (subst (λ l. SomeSits x.object.name l) (sym first.2) (inl refl)), first.0)
 
 -- ---- what is served
 

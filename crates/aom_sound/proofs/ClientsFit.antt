@@ -4,7 +4,7 @@ use Rattle.std.proofs.lemmas.Bool.{eq-eqb, eqb-true, ne_eqb, true≢false}
 use Rattle.std.proofs.lemmas.List.Folds.{list_any-append}
 use Rattle.std.proofs.lemmas.Map.Views.{any-filter_same}
 use Rattle.std.specs.List.{list_any}
-use Rattle.std.specs.Prelude.{not, ◌++◌, ◌||◌}
+use Rattle.std.specs.Prelude.{not, ◌++◌, ◌||◌, is_some}
 use Rattle.aom_image.specs.Image.{Image}
 use Rattle.aom_clients.specs.Nodes.{is_connecting_at, is_leaving, is_open_at}
 use Rattle.aom_clients.specs.Table.{server_of}
@@ -12,11 +12,11 @@ use Rattle.aom_clients.specs.declared.client.Client.{Client}
 use Rattle.aom_clients.specs.declared.client.Client.TheVariants.{Closing, Connecting, Dying}
 use Rattle.aom_sound.proofs.Queues.{client_here, client_of, client_there, front_none, is_of, none_passes, queue_other}
 use Rattle.aom_sound.proofs.Seated.{seats_opened, seats_parted}
-use Rattle.aom_sound.proofs.Services.{held_served, named_served, service_here, service_there}
+use Rattle.aom_sound.proofs.Services.{held_served, named_served, service_here, service_there, requested_served}
 use Rattle.aom_sound.specs.Clients.{at_opening, at_parting, client_at, most_of, with_client}
 use Rattle.aom_sound.specs.Enlisted.{thing_kind}
 use Rattle.aom_sound.specs.Kept.{ClientsFit, EntryFits, QueueFits, is_close_of, is_connect_of, is_message_of}
-use Rattle.aom_sound.specs.Places.{Asked, Cell, Close_of, Connect_of, Elsewhere, Message_of, Object, Queued, Service, held, named, service_of}
+use Rattle.aom_sound.specs.Places.{Asked, Cell, Close_of, Connect_of, Elsewhere, Message_of, Object, Queued, Service, held, named, service_of, requested}
 use Rattle.aom_sound.specs.Servers.{has_session, is_from, is_other, is_server, opened, parted, reserved, seats_taken}
 
 -- ---- what a client that connects, closes or has its session open is not
@@ -106,10 +106,11 @@ pub record Changes (p : Image) (c : ℕ) (to : Client) (clients : List Client) (
   pub servers : (o : Object) → named cs' o.name ≡ Some o → is_server p o.thing ≡ false → ((service_of cs' o.name).queue ≡ []) × ((service_of cs' o.name).sessions ≡ [])
   pub names : (n m : ℕ) (o : Object) → held cs' (Elsewhere (Queued n m)) ≡ Some o → o.name ≡ m
   pub senders : (n d m : ℕ) → list_any (is_message_of d m) (service_of cs' n).queue ≡ true → is_from d (service_of cs' m).sender ≡ true
+  pub enlisted : (o : Object) → named cs' o.name ≡ Some o → requested cs' o.name ≡ None → ((service_of cs' o.name).queue ≡ []) × ((service_of cs' o.name).sessions ≡ [])
   pub seats : (o : Object) → named cs' o.name ≡ Some o → seats_taken (service_of cs' o.name) ≤ most_of (thing_kind p o.thing)
 
 pub fit_changed : (p : Image) (c : ℕ) (to : Client) (clients : List Client) (cs cs' : List Cell) → ClientsFit p clients cs → Changes p c to clients cs cs' → ClientsFit p (with_client c to clients) cs'
-fit_changed p c to clients cs cs' fit ch = record { queues = ch.queues; sessions = λ n d. sessions n d (c == d) refl; listed = λ n d. listed n d (c == d) refl; servers = ch.servers; names = ch.names; senders = ch.senders; seats = ch.seats }
+fit_changed p c to clients cs cs' fit ch = record { queues = ch.queues; sessions = λ n d. sessions n d (c == d) refl; listed = λ n d. listed n d (c == d) refl; servers = ch.servers; names = ch.names; senders = ch.senders; seats = ch.seats; enlisted = ch.enlisted }
   where
     sessions : (n d : ℕ) (b : Bool) → (c == d) ≡ b → has_session (service_of cs' n) d ≡ true → server_of (client_at (with_client c to clients) d) ≡ Some n
     sessions n d true e h =
@@ -137,6 +138,16 @@ module _ (p : Image) (cs : List Cell) (o : Object) (lives : named cs o.name ≡ 
       go true e = subst (λ k. P k (service_of then k)) (eqb-true o.name n e) (subst (λ v. P o.name v) (sym (service_here cs o.name (f (service_of cs o.name)) o lives)) here)
       go false e = subst (λ v. P n v) (sym (service_there cs o.name n (f (service_of cs o.name)) e)) (others n e)
 
+  -- it is enlisted
+  pub enlisted_then :
+      is_some (requested cs o.name) ≡ true → (clients : List Client) → ClientsFit p clients cs → (x : Object) → named then x.name ≡ Some x → requested then x.name ≡ None →
+      ((service_of then x.name).queue ≡ []) × ((service_of then x.name).sessions ≡ [])
+  enlisted_then listed clients fit x there none =
+      let was : named cs x.name ≡ Some x = sym (named_served cs o.name (f (service_of cs o.name)) x.name) ∙ there in
+      let unasked : requested cs x.name ≡ None = sym (requested_served cs o.name (f (service_of cs o.name)) x.name) ∙ none in
+      let other : (o.name == x.name) ≡ false = ne_eqb o.name x.name (λ same. true≢false (sym listed ∙ ap (λ k. is_some (requested cs k)) same ∙ ap is_some unasked)) in
+      subst (λ v. (v.queue ≡ []) × (v.sessions ≡ [])) (sym (service_there cs o.name x.name (f (service_of cs o.name)) other)) (fit.enlisted x was unasked)
+
   -- as long as it has seats
   pub seats_then : (clients : List Client) → ClientsFit p clients cs → seats_taken (f (service_of cs o.name)) ≤ most_of (thing_kind p o.thing) → (x : Object) → named then x.name ≡ Some x → seats_taken (service_of then x.name) ≤ most_of (thing_kind p x.thing)
   seats_then clients fit room x there = by_server (λ n v. named cs n ≡ Some x → n ≡ x.name → seats_taken v ≤ most_of (thing_kind p x.thing)) here others x.name (sym (named_served cs o.name (f (service_of cs o.name)) x.name) ∙ there) refl
@@ -159,7 +170,7 @@ module _ (p : Image) (cs : List Cell) (o : Object) (lives : named cs o.name ≡ 
 
 -- ---- `accept` has given a session
 
-module _ (p : Image) (clients : List Client) (cs : List Cell) (fit : ClientsFit p clients cs) (o : Object) (lives : named cs o.name ≡ Some o) (serves : is_server p o.thing ≡ true) (c : ℕ) where
+module _ (p : Image) (clients : List Client) (cs : List Cell) (fit : ClientsFit p clients cs) (o : Object) (lives : named cs o.name ≡ Some o) (serves : is_server p o.thing ≡ true) (listed : is_some (requested cs o.name) ≡ true) (c : ℕ) where
   abbrev own : Client
   own = client_at clients c
 
@@ -192,6 +203,7 @@ module _ (p : Image) (clients : List Client) (cs : List Cell) (fit : ClientsFit 
       servers = servers_then p cs o lives (opened c) serves clients fit;
       names = names_then p cs o lives (opened c) serves clients fit;
       senders = λ n d m. by_server p cs o lives (opened c) (λ n v. list_any (is_message_of d m) v.queue ≡ true → is_from d (service_of (reserved (opened c) o.name cs) m).sender ≡ true) (λ h. senders m d (fit.senders o.name d m h)) (λ n other h. senders m d (fit.senders n d m h)) n;
+      enlisted = enlisted_then p cs o lives (opened c) listed clients fit;
       seats = seats_then p cs o lives (opened c) clients fit (let one = seats_opened c (service_of cs o.name) in omega (arith, room, one));
     }
       where
@@ -222,6 +234,7 @@ module _ (p : Image) (clients : List Client) (cs : List Cell) (fit : ClientsFit 
       servers = servers_then p cs o lives (parted c) serves clients fit;
       names = names_then p cs o lives (parted c) serves clients fit;
       senders = λ n d m. by_server p cs o lives (parted c) (λ n v. list_any (is_message_of d m) v.queue ≡ true → is_from d (service_of (reserved (parted c) o.name cs) m).sender ≡ true) (λ h. senders m d (fit.senders o.name d m h)) (λ n other h. senders m d (fit.senders n d m h)) n;
+      enlisted = enlisted_then p cs o lives (parted c) listed clients fit;
       seats = seats_then p cs o lives (parted c) clients fit (let less = seats_parted c (service_of cs o.name) in let was = fit.seats o lives in omega (arith, less, was));
     }
       where

@@ -11,10 +11,10 @@ use Rattle.aom_clients.specs.declared.client.Client.TheVariants.{Closing, Connec
 use Rattle.aom_sound.proofs.ClientsFit.{connecting_only, leaving_only}
 use Rattle.aom_sound.proofs.Maps.{cond_same, same_place-true, same_place_comm, same_place_refl}
 use Rattle.aom_sound.proofs.Queues.{client_here, client_there, none_passes}
-use Rattle.aom_sound.proofs.Sifted.{a_cell_of, cell_in, cell_lives, cell_name, cell_of, cell_of_sifted, cell_owner, cell_placed, held_cell, held_sifted, kept, named_before, named_cell, object_in, service_cell, service_gone, service_in, service_sifted, sifted, unheld_sifted}
+use Rattle.aom_sound.proofs.Sifted.{a_cell_of, cell_in, cell_lives, cell_name, cell_of, cell_of_sifted, cell_owner, cell_placed, held_cell, held_sifted, kept, named_before, named_cell, object_in, service_cell, service_gone, service_in, service_sifted, sifted, unheld_sifted, requested_before}
 use Rattle.aom_sound.specs.Clients.{client_at, each_unslotted, queue_ended, sessions_ended, with_client, most_of}
 use Rattle.aom_sound.specs.Kept.{ClientsFit, EntryFits, QueueFits, ConnectKept, StageKept, is_close_of, is_connect_of, is_message_of}
-use Rattle.aom_sound.specs.Places.{Asked, Cell, Close_of, Connect_of, Elsewhere, Message_of, Object, Place, Queued, Sender, Service, Tidy, held, named, same_place, service_of, unserved, without}
+use Rattle.aom_sound.specs.Places.{Asked, Cell, Close_of, Connect_of, Elsewhere, Message_of, Object, Place, Queued, Sender, Service, Tidy, held, named, same_place, service_of, unserved, without, requested}
 use Rattle.aom_sound.specs.State.{Accept_left, Accepted, Accepts, Parts, Service_left, Serves, Stage}
 use Rattle.aom_sound.specs.Servers.{all_unslotted, has_session, is_from, is_queue_of, is_server, unslotted, without_queue, seats_taken}
 use Rattle.aom_sound.specs.Enlisted.{thing_kind}
@@ -109,6 +109,10 @@ module _ (p : Image) (clients : List Client) (c : ℕ) where
   named_unslotted [] n = refl
   named_unslotted (x ∷ cs) n = ap (λ y. cond (x.object.name == n) (Some x.object) y) (named_unslotted cs n)
 
+  requested_unslotted : (cs : List Cell) (n : ℕ) → requested (all_unslotted c cs) n ≡ requested cs n
+  requested_unslotted [] n = refl
+  requested_unslotted (x ∷ cs) n = ap (λ y. cond (x.object.name == n) x.request y) (requested_unslotted cs n)
+
   pub fit_unslotted : (cs : List Cell) → ClientsFit p clients cs → ClientsFit p clients (all_unslotted c cs)
   fit_unslotted cs fit = record {
     queues = λ n. subst (λ v. QueueFits clients n v.queue) (sym (service_unslotted cs n)) (fit.queues n);
@@ -118,6 +122,7 @@ module _ (p : Image) (clients : List Client) (c : ℕ) where
     names = λ n m o h. fit.names n m o (sym (held_unslotted cs (Elsewhere (Queued n m))) ∙ h);
     senders = λ n d m h. subst (λ v. is_from d v.sender ≡ true) (sym (service_unslotted cs m)) (from_unslotted d (service_of cs m).sender (fit.senders n d m (ap (λ v. list_any (is_message_of d m) v.queue) (sym (service_unslotted cs n)) ∙ h)));
     seats = λ o h. subst (λ v. seats_taken v ≤ most_of (thing_kind p o.thing)) (sym (service_unslotted cs o.name)) (fit.seats o (sym (named_unslotted cs o.name) ∙ h));
+    enlisted = λ o h e. subst (λ v. (v.queue ≡ []) × (v.sessions ≡ [])) (sym (service_unslotted cs o.name)) (fit.enlisted o (sym (named_unslotted cs o.name) ∙ h) (sym (requested_unslotted cs o.name) ∙ e));
   }
 
 pub fit_each_unslotted : (p : Image) (clients : List Client) (xs : List ℕ) (cs : List Cell) → ClientsFit p clients cs → ClientsFit p clients (each_unslotted xs cs)
@@ -337,11 +342,19 @@ module _
     names = names_left;
     senders = λ n d m h. senders n d m (o.name == n) refl h;
     seats = λ x h. seats x h (o.name == x.name) refl;
+    enlisted = λ x h e. enlisted x h e (o.name == x.name) refl;
   }
     where
       queues : (n : ℕ) (b : Bool) → (o.name == n) ≡ b → QueueFits then n (service_of left n).queue
       queues n true e = subst (λ v. QueueFits then n v.queue) (sym (ap (λ k. service_of left k) (sym (eqb-true o.name n e)) ∙ service_none)) tt
       queues n false e = subst (λ q. QueueFits then n q) (sym (service_left n e).0) (queue_kept n e (service_of cs n).queue (fit.queues n))
+
+      enlisted : (x : Object) → named left x.name ≡ Some x → requested left x.name ≡ None → (b : Bool) → (o.name == x.name) ≡ b → ((service_of left x.name).queue ≡ []) × ((service_of left x.name).sessions ≡ [])
+      enlisted x h e true f = let none : service_of left x.name ≡ unserved = ap (λ k. service_of left k) (sym (eqb-true o.name x.name f)) ∙ service_none in (ap (λ v. v.queue) none, ap (λ v. v.sessions) none)
+      enlisted x h e false f =
+          let b = named_before drops (λ c. c.service) cs x.name x tidy h in
+          let none = fit.enlisted x (named_cell cs x.name ∙ ap object_in b.1 ∙ ap (λ y. Some y) b.2) (sym (requested_before drops (λ c. c.service) cs x.name x tidy h) ∙ e) in
+          ((service_left x.name f).0 ∙ none.0, (service_left x.name f).1 ∙ none.1)
 
       seats : (x : Object) → named left x.name ≡ Some x → (b : Bool) → (o.name == x.name) ≡ b → seats_taken (service_of left x.name) ≤ most_of (thing_kind p x.thing)
       seats x h true e = let none : seats_taken (service_of left x.name) ≡ 0 = ap (λ k. seats_taken (service_of left k)) (sym (eqb-true o.name x.name e)) ∙ ap seats_taken service_none in omega (arith, none)

@@ -17,10 +17,10 @@ use Rattle.aom_sound.proofs.ClientsFit.{fit_parted}
 use Rattle.aom_sound.proofs.ClientsGone.{fit_gone, stage_gone}
 use Rattle.aom_sound.proofs.ClientsMoves.{fit_steady, fit_unconnected, steady_ended, steady_moved, tasks_steady}
 use Rattle.aom_sound.proofs.ClientsReturn.{fit_without, return_kept, tasks_without}
-use Rattle.aom_sound.proofs.ClientsTurn.{message_plain, tasks_begun, turn_kept}
+use Rattle.aom_sound.proofs.ClientsTurn.{tasks_begun, turn_kept}
 use Rattle.aom_sound.proofs.Maps.{without_none}
 use Rattle.aom_sound.proofs.Storing.{ended_alike}
-use Rattle.aom_sound.proofs.Things.{stands_same}
+use Rattle.aom_sound.proofs.Things.{stands_same, message_plain}
 use Rattle.aom_shape.specs.Needs.{AllTrue}
 use Rattle.aom_image.specs.declared.method.Gives.{Gives}
 use Rattle.aom_sound.specs.Calls.{returned}
@@ -34,23 +34,30 @@ use Rattle.aom_sound.specs.Enlisted.{ended_cells, part_of}
 use Rattle.aom_sound.specs.Kept.{ClientsFit, IsKept, StageKept, TasksKept, is_message_of}
 use Rattle.aom_sound.specs.Laws.{ClientsKeep, IsWired}
 use Rattle.aom_sound.specs.Moves.{answered, asking, counted, step_instr, dispatch_ends, failed, handled, main_ends, needs_end, object_ends, stage_ends, step_task}
-use Rattle.aom_sound.specs.Places.{Cell, Elsewhere, Entry, Going, In_service, Object, Place, Queued, Root, Tidy, held, moved, named, service_of, without}
+use Rattle.aom_sound.specs.Places.{Cell, Elsewhere, Entry, Going, In_service, Object, Place, Queued, Root, Tidy, held, moved, named, service_of, without, requested, Request}
 use Rattle.aom_sound.specs.Servers.{is_server, without_queue}
 use Rattle.aom_sound.specs.State.{Accept_left, Accepted, Accepts, Answered, Asks, Choice, Closing, Destroy, Dispatch, Dispatched, Frame, Goes, Item, A_mark, An_object, An_operation, IsStuck, Main_left, NullOrDead, Object_left, Of_main, Of_object, Of_root, Of_server, Parts, Run, Seat, Service_left, Serves, Stage, State, Task, Trapped, Unwind, resumed}
 use Rattle.aom_sound.specs.WellTyped.{Now, WellTyped}
 use Rattle.aom_sound.specs.World.{boot_state, main_tasks}
+use Rattle.std.specs.Prelude.{is_some}
+use Rattle.std.proofs.lemmas.Bool.{true≢false}
 
 -- ---- as it boots
 
 boot_kept : (p : Image) → IsKept p (boot_state p)
 boot_kept p = record {
-  fit = record { queues = λ n. tt; sessions = λ n c h. cc; listed = λ n c h. cc; servers = λ o h plain. cc; names = λ n m o h. cc; senders = λ n c m h. cc; seats = λ o h. cc };
+  fit = record { queues = λ n. tt; sessions = λ n c h. cc; listed = λ n c h. cc; servers = λ o h plain. cc; names = λ n m o h. cc; senders = λ n c m h. cc; seats = λ o h. cc; enlisted = λ o h e. cc };
   stage = stage (main_of p);
 }
   where
     stage : (m : Option ℕ) → TasksKept p [] [] (main_tasks m)
     stage None = tt
     stage (Some m) = tt
+
+-- what is enlisted stays so
+stays_listed : (old new : Option Request) → (new ≡ None → old ≡ None) → is_some old ≡ true → is_some new ≡ true
+stays_listed old None keeps some = absurd (true≢false (sym some ∙ ap is_some (keeps refl)))
+stays_listed old (Some r) keeps some = refl
 
 -- ---- moves that change no cell of a server
 
@@ -157,15 +164,15 @@ module _ (p : Image) (s : State) (fit : ClientsFit p s.clients s.cells) where
         go None e = subst (λ l. ClientsFit p s.clients l) (sym (without_none s.cells (Elsewhere In_service) e)) fit
         go (Some o) e = fit_without p s.clients s.cells tidy fit o (Elsewhere In_service) e (λ n m. refl) (plain o e) queued
 
-    stage_kept : (x : Seat) (c : ℕ) (stage : Stage) → named s.cells x.object.name ≡ Some x.object → is_server p x.object.thing ≡ true → StageKept p s.clients s.cells x.object c stage → IsKept p (stage_ends x c stage s)
-    stage_kept x c Accepts lives serves k = same_cells p s fit _ refl refl tt
-    stage_kept x c Accepted lives serves k = same_cells p s fit _ refl refl tt
-    stage_kept x c (Serves o) lives serves k = same_cells p s fit _ refl refl tt
-    stage_kept x c (Accept_left code) lives serves k = record { fit = fit_unconnected p s.clients s.cells fit x.object.name c k.0 k.1; stage = tt }
-    stage_kept x c (Service_left code) lives serves k = record { fit = service_gone_kept; stage = tt }
-    stage_kept x c Parts lives serves k = record { fit = fit_parted p s.clients s.cells fit x.object lives serves c k.0 k.1; stage = tt }
+    stage_kept : (x : Seat) (c : ℕ) (stage : Stage) → named s.cells x.object.name ≡ Some x.object → is_server p x.object.thing ≡ true → is_some (requested s.cells x.object.name) ≡ true → StageKept p s.clients s.cells x.object c stage → IsKept p (stage_ends x c stage s)
+    stage_kept x c Accepts lives serves listed k = same_cells p s fit _ refl refl tt
+    stage_kept x c Accepted lives serves listed k = same_cells p s fit _ refl refl tt
+    stage_kept x c (Serves o) lives serves listed k = same_cells p s fit _ refl refl tt
+    stage_kept x c (Accept_left code) lives serves listed k = record { fit = fit_unconnected p s.clients s.cells fit x.object.name c k.0 k.1; stage = tt }
+    stage_kept x c (Service_left code) lives serves listed k = record { fit = service_gone_kept; stage = tt }
+    stage_kept x c Parts lives serves listed k = record { fit = fit_parted p s.clients s.cells fit x.object lives serves listed c k.0 k.1; stage = tt }
 
-    dispatch_kept : (d : Dispatch) (ts : List Task) → ((x : Seat) (c : ℕ) (stage : Stage) → d ≡ Of_server x c stage → (named s.cells x.object.name ≡ Some x.object) × (is_server p x.object.thing ≡ true)) → TasksKept p s.clients s.cells (Dispatched d ∷ ts) → IsKept p (dispatch_ends p d s)
+    dispatch_kept : (d : Dispatch) (ts : List Task) → ((x : Seat) (c : ℕ) (stage : Stage) → d ≡ Of_server x c stage → (named s.cells x.object.name ≡ Some x.object) × (is_server p x.object.thing ≡ true) × (is_some (requested s.cells x.object.name) ≡ true)) → TasksKept p s.clients s.cells (Dispatched d ∷ ts) → IsKept p (dispatch_ends p d s)
     dispatch_kept Of_main ts there k = main_kept p s fit s.rest.stopped (held s.cells (Elsewhere Root))
     dispatch_kept (Main_left code) ts there k = same_cells p s fit _ refl refl tt
     dispatch_kept Of_root ts there k = same_cells p s fit _ refl refl tt
@@ -173,7 +180,7 @@ module _ (p : Image) (s : State) (fit : ClientsFit p s.clients s.cells) where
     dispatch_kept (Object_left x code) ts there k = asking_kept (part_of p Answers x.object.thing) x code
     dispatch_kept (Asks x) ts there k = object_kept
     dispatch_kept (Answered x answer) ts there k = answered_kept answer
-    dispatch_kept (Of_server x c stage) ts there k = let l = there x c stage refl in stage_kept x c stage l.0 l.1 k
+    dispatch_kept (Of_server x c stage) ts there k = let l = there x c stage refl in stage_kept x c stage l.0 l.1 l.2 k
 
 -- ---- a cell goes
 
@@ -207,8 +214,8 @@ module _ (p : Image) (t : Typing) (wired : IsWired p) (c : Choice) (s : State) (
   queued = queued_well p t wired s w s.clients kept.fit
 
   -- the server that is dispatched stands
-  there : (ts : List Task) → s.tasks ≡ ts → (x : Seat) (d : ℕ) (stage : Stage) → IsAt (Of_server x d stage) ts → (named s.cells x.object.name ≡ Some x.object) × (is_server p x.object.thing ≡ true)
-  there ts tasks x d stage at = let l = server_lives p t s.cells w.layers Now x d stage w.good.stack (subst (λ l. IsAt (Of_server x d stage) l) (sym tasks ∙ w.tasks) at) in (l.0, l.1)
+  there : (ts : List Task) → s.tasks ≡ ts → (x : Seat) (d : ℕ) (stage : Stage) → IsAt (Of_server x d stage) ts → (named s.cells x.object.name ≡ Some x.object) × (is_server p x.object.thing ≡ true) × (is_some (requested s.cells x.object.name) ≡ true)
+  there ts tasks x d stage at = let l = server_lives p t s.cells w.layers Now x d stage w.good.stack (subst (λ l. IsAt (Of_server x d stage) l) (sym tasks ∙ w.tasks) at) in (l.0, l.1, l.3)
 
   module _ (fr : Frame) (ts : List Task) (tasks : s.tasks ≡ Run fr ∷ ts) where
     stage_below : TasksKept p s.clients s.cells ts
@@ -230,7 +237,7 @@ module _ (p : Image) (t : Typing) (wired : IsWired p) (c : Choice) (s : State) (
     returns_kept g a =
         let still = steady_ended p fr s.cells in
         return_kept p fr ts (record (counted p s) { cells = ended_cells p fr s.cells }) (fit_steady p s.clients s.cells (ended_cells p fr s.cells) still kept.fit) g a ts
-        (λ x d at. let l = there (Run fr ∷ ts) tasks x d Accepts at in ((ended_alike p fr s.cells).named_so x.object.name ∙ l.0, l.1))
+        (λ x d at. let l = there (Run fr ∷ ts) tasks x d Accepts at in ((ended_alike p fr s.cells).named_so x.object.name ∙ l.0, l.1, stays_listed (requested s.cells x.object.name) (requested (ended_cells p fr s.cells) x.object.name) (still.listed x.object.name) l.2))
         tasks (tasks_steady p s.clients s.cells (ended_cells p fr s.cells) still ts stage_below) (tasks_steady p s.clients s.cells (ended_cells p fr s.cells) still ts stage_below)
 
     act_kept : (i : Instr) → AllTrue (needs p c fr ts (counted p s) i) → IsKept p (applied p fr ts (counted p s) (effect p c fr ts (counted p s) i))
@@ -268,5 +275,5 @@ pub clients_keep : ClientsKeep
 clients_keep = record {
   boot = boot_kept;
   moves = λ p t wired typed c s u w free kept e. moved_kept p t wired c s w free kept s.tasks refl u e;
-  turns = λ p t outside wired typed heard s u w between hears kept e. turn_kept p t wired s w between.idle kept outside heard u e;
+  turns = λ p t outside wired typed heard s u w between hears kept e. turn_kept p t wired s w between.idle kept outside heard u hears.name e;
 }

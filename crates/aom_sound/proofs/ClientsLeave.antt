@@ -3,19 +3,19 @@ use Rattle.std.proofs.Common.{Bool, List, None, Option, Some, [], ap, arith, con
 use Rattle.std.proofs.lemmas.Bool.{eq-eqb, eqb-true, ne_eqb, true≢false}
 use Rattle.std.proofs.lemmas.List.Folds.{list_any-append}
 use Rattle.std.specs.List.{list_any}
-use Rattle.std.specs.Prelude.{filter, not, ◌||◌}
+use Rattle.std.specs.Prelude.{filter, not, ◌||◌, is_some}
 use Rattle.aom_image.specs.Image.{Image}
 use Rattle.aom_clients.specs.Nodes.{is_leaving}
 use Rattle.aom_clients.specs.Table.{server_of}
 use Rattle.aom_clients.specs.declared.client.Client.{Client}
-use Rattle.aom_sound.proofs.ClientsFit.{by_server, fit_changed, names_then, seats_then, servers_then}
+use Rattle.aom_sound.proofs.ClientsFit.{by_server, fit_changed, names_then, seats_then, servers_then, enlisted_then}
 use Rattle.aom_sound.proofs.Queues.{client_here, client_of, entry_other, is_of, none_stays, queue_last, queue_other, queue_stays}
 use Rattle.aom_sound.proofs.Seated.{seats_asked, seats_left}
-use Rattle.aom_sound.proofs.Sifted.{cell_in, cell_of_sifted, kept, unheld_sifted, cell_lives, cell_of, cell_placed, held_cell, held_sifted, named_before, named_cell, object_in, service_cell, service_gone, service_in, service_sifted, sifted, withdrawn_so}
+use Rattle.aom_sound.proofs.Sifted.{cell_in, cell_of_sifted, kept, unheld_sifted, cell_lives, cell_of, cell_placed, held_cell, held_sifted, named_before, named_cell, object_in, service_cell, service_gone, service_in, service_sifted, sifted, withdrawn_so, requested_before}
 use Rattle.aom_sound.specs.Clients.{client_at, most_of, with_client}
 use Rattle.aom_sound.specs.Enlisted.{thing_kind}
 use Rattle.aom_sound.specs.Kept.{ClientsFit, EntryFits, QueueFits, asked_again, is_close_of, is_message_of}
-use Rattle.aom_sound.specs.Places.{Asked, Cell, Close_of, Connect_of, Elsewhere, Message_of, Object, Place, Queued, Sender, Service, Tidy, held, named, service_of, unserved}
+use Rattle.aom_sound.specs.Places.{Asked, Cell, Close_of, Connect_of, Elsewhere, Message_of, Object, Place, Queued, Sender, Service, Tidy, held, named, service_of, unserved, requested}
 use Rattle.aom_sound.specs.Servers.{asked_last, discarded, has_session, reserved, is_from, is_queue, is_server, left_by, seats_taken, stays, withdrawn}
 
 -- ---- lists
@@ -186,11 +186,18 @@ module _ (p : Image) (clients : List Client) (cs : List Cell) (tidy : Tidy cs) (
       servers = servers;
       names = names;
       senders = λ n d m h. let parts = message_stays c d m (service_of cs n).queue (ap (λ q. list_any (is_message_of d m) q) (sym (service_left n).0) ∙ h) in sender_left d m parts.0 (fit.senders n d m parts.1);
+      enlisted = λ o there none. enlisted o there none;
       seats = seats;
     }
       where
         before : (o : Object) → named (withdrawn c cs) o.name ≡ Some o → named cs o.name ≡ Some o
         before o there = let b = named_before drops left cs o.name o tidy (ap (λ l. named l o.name) (sym (withdrawn_so c cs)) ∙ there) in named_cell cs o.name ∙ ap object_in b.1 ∙ ap (λ y. Some y) b.2
+
+        enlisted : (o : Object) → named (withdrawn c cs) o.name ≡ Some o → requested (withdrawn c cs) o.name ≡ None → ((service_of (withdrawn c cs) o.name).queue ≡ []) × ((service_of (withdrawn c cs) o.name).sessions ≡ [])
+        enlisted o there none =
+            let same = requested_before drops left cs o.name o tidy (ap (λ l. named l o.name) (sym (withdrawn_so c cs)) ∙ there) in
+            let empties = fit.enlisted o (before o there) (sym same ∙ ap (λ l. requested l o.name) (sym (withdrawn_so c cs)) ∙ none) in
+            ((service_left o.name).0 ∙ ap (λ q. filter (stays c) q) empties.0, (service_left o.name).1 ∙ empties.1)
 
         seats : (o : Object) → named (withdrawn c cs) o.name ≡ Some o → seats_taken (service_of (withdrawn c cs) o.name) ≤ most_of (thing_kind p o.thing)
         seats o there =
@@ -216,7 +223,7 @@ module _ (p : Image) (clients : List Client) (cs : List Cell) (tidy : Tidy cs) (
 
 -- ---- a close is asked last
 
-module _ (p : Image) (clients : List Client) (cs : List Cell) (fit : ClientsFit p clients cs) (o : Object) (lives : named cs o.name ≡ Some o) (serves : is_server p o.thing ≡ true) (c : ℕ) where
+module _ (p : Image) (clients : List Client) (cs : List Cell) (fit : ClientsFit p clients cs) (o : Object) (lives : named cs o.name ≡ Some o) (serves : is_server p o.thing ≡ true) (listed : is_some (requested cs o.name) ≡ true) (c : ℕ) where
   pub fit_told : is_leaving o.name (client_at clients c) ≡ true → list_any (is_close_of c) (service_of cs o.name).queue ≡ false → ClientsFit p clients (reserved (asked_last (Close_of c)) o.name cs)
   fit_told leaves new = record {
     queues = by_server p cs o lives (asked_last (Close_of c)) (λ n v. QueueFits clients n v.queue) (queue_last clients o.name (Close_of c) (service_of cs o.name).queue leaves new (fit.queues o.name)) (λ n e. fit.queues n);
@@ -227,6 +234,7 @@ module _ (p : Image) (clients : List Client) (cs : List Cell) (fit : ClientsFit 
     senders = λ n d k. by_server p cs o lives (asked_last (Close_of c)) (λ n v. list_any (is_message_of d k) v.queue ≡ true → is_from d (service_of (reserved (asked_last (Close_of c)) o.name cs) k).sender ≡ true)
         (λ h. senders k d (fit.senders o.name d k (sym (list_any-append (is_message_of d k) (service_of cs o.name).queue (Close_of c ∷ []) ∙ or_false (list_any (is_message_of d k) (service_of cs o.name).queue)) ∙ h)))
         (λ n other h. senders k d (fit.senders n d k h)) n;
+    enlisted = enlisted_then p cs o lives (asked_last (Close_of c)) listed clients fit;
     seats = seats_then p cs o lives (asked_last (Close_of c)) clients fit (let one = seats_asked (Close_of c) (service_of cs o.name) in let was = fit.seats o lives in omega (arith, one, was));
   }
     where

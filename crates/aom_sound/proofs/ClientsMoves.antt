@@ -15,8 +15,8 @@ use Rattle.aom_clients.specs.declared.client.Client.{Client}
 use Rattle.aom_clients.specs.declared.client.Client.TheVariants.{Unconnected}
 use Rattle.aom_rules.specs.Requests.{is_cancel}
 use Rattle.aom_sound.proofs.ClientsFit.{connecting_only, fit_changed, none_of_connecting}
-use Rattle.aom_sound.proofs.ClientsTurn.{Same}
-use Rattle.aom_sound.proofs.Maps.{named_moved, same_place-true, same_place_along}
+use Rattle.aom_sound.proofs.ClientsTurn.{Same, on_none, same_requested}
+use Rattle.aom_sound.proofs.Maps.{named_moved, same_place-true, same_place_along, requested_moved}
 use Rattle.aom_sound.proofs.Queues.{queue_other}
 use Rattle.aom_sound.proofs.Services.{service_asked, service_moved, service_opened, service_stored, service_unnamed}
 use Rattle.aom_sound.proofs.Storing.{rerequested_alike}
@@ -27,11 +27,12 @@ use Rattle.aom_sound.specs.Effects.{Carried, In_field, In_register, Made, Popped
 use Rattle.aom_sound.specs.Enlisted.{cancelled, ended_cells, on_request, own_request, rerequested, thing_kind}
 use Rattle.aom_sound.specs.Kept.{ClientsFit, QueueFits, ConnectKept, StageKept, TasksKept, is_close_of, is_connect_of, is_message_of}
 use Rattle.aom_sound.specs.Natives.{resessioned}
-use Rattle.aom_sound.specs.Places.{Cell, Elsewhere, Entry, Object, Place, Queued, Register, Request, held, moved, named, same_place, service_of, set_request, set_session, set_word_field, unserved, with_new}
+use Rattle.aom_sound.specs.Places.{Cell, Elsewhere, Entry, Object, Place, Queued, Register, Request, held, moved, named, same_place, service_of, set_request, set_session, set_word_field, unserved, with_new, requested}
 use Rattle.aom_sound.specs.Servers.{is_from, is_server, seats_taken}
 use Rattle.aom_sound.specs.State.{Accept_left, Accepted, Accepts, AtRoot, Closing, Destroy, Dispatched, Frame, Home, Inside, Of_server, Parts, Run, Service_left, Serves, Stage, State, Static, Task, Trapped, Unwind, field_place}
 use Rattle.aom_sound.specs.Words.{here, stored}
 use Rattle.aom_sound.proofs.Seated.{seats_none, seats_same}
+use Rattle.aom_sound.proofs.Dropping.{requested_unnamed}
 
 -- ---- cells of which servers have the same
 
@@ -42,6 +43,8 @@ pub record Steady (cs cs' : List Cell) : Type 0 where
   pub lived : (o : Object) → named cs' o.name ≡ Some o → (named cs o.name ≡ Some o) ⊎ (named cs o.name ≡ None)
   pub queued : (n m : ℕ) (o : Object) → held cs' (Elsewhere (Queued n m)) ≡ Some o → held cs (Elsewhere (Queued n m)) ≡ Some o
   pub senders : (c m : ℕ) → is_from c (service_of cs m).sender ≡ true → is_from c (service_of cs' m).sender ≡ true
+  -- what is enlisted stays so
+  pub listed : (n : ℕ) → requested cs' n ≡ None → requested cs n ≡ None
 
 pub fit_steady : (p : Image) (clients : List Client) (cs cs' : List Cell) → Steady cs cs' → ClientsFit p clients cs → ClientsFit p clients cs'
 fit_steady p clients cs cs' still fit = record {
@@ -52,8 +55,13 @@ fit_steady p clients cs cs' still fit = record {
   names = λ n m o h. fit.names n m o (still.queued n m o h);
   senders = λ n c m h. still.senders c m (fit.senders n c m (ap (λ q. list_any (is_message_of c m) q) (sym (still.queues n)) ∙ h));
   seats = λ o h. seats o (still.lived o h);
+  enlisted = λ o h e. enlisted o (still.listed o.name e) (still.lived o h);
 }
   where
+    enlisted : (o : Object) → requested cs o.name ≡ None → (named cs o.name ≡ Some o) ⊎ (named cs o.name ≡ None) → ((service_of cs' o.name).queue ≡ []) × ((service_of cs' o.name).sessions ≡ [])
+    enlisted o e (inl h) = let none = fit.enlisted o h e in (still.queues o.name ∙ none.0, still.sessions o.name ∙ none.1)
+    enlisted o e (inr h) = (still.queues o.name ∙ ap (λ v. v.queue) (service_unnamed cs o.name h), still.sessions o.name ∙ ap (λ v. v.sessions) (service_unnamed cs o.name h))
+
     seats : (o : Object) → (named cs o.name ≡ Some o) ⊎ (named cs o.name ≡ None) → seats_taken (service_of cs' o.name) ≤ most_of (thing_kind p o.thing)
     seats o (inl e) = let was = fit.seats o e in let same = seats_same (service_of cs' o.name) (service_of cs o.name) (still.queues o.name) (still.sessions o.name) in omega (arith, was, same)
     seats o (inr e) =
@@ -90,7 +98,7 @@ pub tasks_steady : (p : Image) (clients : List Client) (cs cs' : List Cell) → 
 tasks_steady p clients cs cs' still ts k = tasks_queues p clients cs cs' still.queues still.sessions ts k
 
 pub steady_itself : (cs : List Cell) → Steady cs cs
-steady_itself cs = record { queues = λ n. refl; sessions = λ n. refl; lived = λ o h. inl h; queued = λ n m o h. h; senders = λ c m h. h }
+steady_itself cs = record { queues = λ n. refl; sessions = λ n. refl; lived = λ o h. inl h; queued = λ n m o h. h; senders = λ c m h. h; listed = λ n e. e }
 
 pub steady_same : (cs cs' : List Cell) → Same cs cs' → Steady cs cs'
 steady_same cs cs' like = record {
@@ -99,6 +107,7 @@ steady_same cs cs' like = record {
   lived = λ o h. inl (sym (like.named_so o.name) ∙ h);
   queued = λ n m o h. sym (like.held_so (Elsewhere (Queued n m))) ∙ h;
   senders = λ c m h. ap (λ v. is_from c v.sender) (like.service_so m) ∙ h;
+  listed = like.listed_so;
 }
 
 -- one change after another, where no cell is made
@@ -109,6 +118,7 @@ steady_moved_then cs cs' cs'' a b names = record {
   lived = λ o h. lived o (b.lived o h);
   queued = λ n m o h. a.queued n m o (b.queued n m o h);
   senders = λ c m h. b.senders c m (a.senders c m h);
+  listed = λ n e. a.listed n (b.listed n e);
 }
   where
     lived : (o : Object) → (named cs' o.name ≡ Some o) ⊎ (named cs' o.name ≡ None) → (named cs o.name ≡ Some o) ⊎ (named cs o.name ≡ None)
@@ -142,6 +152,7 @@ steady_moved cs a b apart = record {
   lived = λ o h. inl (sym (named_moved cs a b o.name) ∙ h);
   queued = λ n m o h. queued n m o (same_place a (Elsewhere (Queued n m))) (sym (held_elsewhere cs a b (Elsewhere (Queued n m)) (apart n m)) ∙ h);
   senders = λ c m h. ap (λ v. is_from c v.sender) (service_moved cs a b m) ∙ h;
+  listed = λ n e. sym (requested_moved cs a b n) ∙ e;
 }
   where
     queued : (n m : ℕ) (o : Object) (x : Bool) → cond x None (held cs (Elsewhere (Queued n m))) ≡ Some o → held cs (Elsewhere (Queued n m)) ≡ Some o
@@ -155,11 +166,16 @@ steady_new cs name x ws owner apart free = record {
   lived = λ o h. lived o (name == o.name) refl h;
   queued = λ n m o h. sym (ap (λ b. cond b (Some (record { name = name; thing = x })) (held cs (Elsewhere (Queued n m)))) (apart n m)) ∙ h;
   senders = λ c m h. ap (λ v. is_from c v.sender) (same m (name == m) refl) ∙ h;
+  listed = λ n e. listed n (name == n) refl e;
 }
   where
     same : (n : ℕ) (b : Bool) → (name == n) ≡ b → cond b unserved (service_of cs n) ≡ service_of cs n
     same n true e = sym (ap (λ k. service_of cs k) (sym (eqb-true name n e)) ∙ service_unnamed cs name free)
     same n false e = refl
+
+    listed : (n : ℕ) (b : Bool) → (name == n) ≡ b → cond b None (requested cs n) ≡ None → requested cs n ≡ None
+    listed n true same e = requested_unnamed cs n (ap (λ k. named cs k) (sym (eqb-true name n same)) ∙ free)
+    listed n false other e = e
 
     lived : (o : Object) (b : Bool) → (name == o.name) ≡ b → cond b (Some (record { name = name; thing = x })) (named cs o.name) ≡ Some o → (named cs o.name ≡ Some o) ⊎ (named cs o.name ≡ None)
     lived o true e h = inr (ap (λ k. named cs k) (sym (eqb-true name o.name e)) ∙ free)
@@ -167,10 +183,10 @@ steady_new cs name x ws owner apart free = record {
 
 -- ---- what an update changes
 
-pub steady_asked : (cs : List Cell) (home : Home) (r : Option Request) → Steady cs (rerequested cs home r)
-steady_asked cs Static r = steady_itself cs
-steady_asked cs AtRoot r = steady_itself cs
-steady_asked cs (Inside o from) r = let like = rerequested_alike cs (Inside o from) r in steady_same cs (set_request o.name r cs) (record { service_so = service_asked cs o.name r; named_so = like.named_so; held_so = like.held_so })
+pub steady_asked : (cs : List Cell) (home : Home) (r : Option Request) → (r ≡ None → own_request cs home ≡ None) → Steady cs (rerequested cs home r)
+steady_asked cs Static r keeps = steady_itself cs
+steady_asked cs AtRoot r keeps = steady_itself cs
+steady_asked cs (Inside o from) r keeps = steady_same cs (set_request o.name r cs) (same_requested cs o r keeps)
 
 held_opened : (cs : List Cell) (m : ℕ) (b : Bool) (q : Place) → held (set_session m b cs) q ≡ held cs q
 held_opened [] m b q = refl
@@ -180,10 +196,14 @@ named_opened : (cs : List Cell) (m : ℕ) (b : Bool) (n : ℕ) → named (set_se
 named_opened [] m b n = refl
 named_opened (c ∷ cs) m b n = ap (λ x. cond (c.object.name == n) (Some c.object) x) (named_opened cs m b n)
 
+requested_opened : (cs : List Cell) (m : ℕ) (b : Bool) (n : ℕ) → requested (set_session m b cs) n ≡ requested cs n
+requested_opened [] m b n = refl
+requested_opened (c ∷ cs) m b n = ap (λ x. cond (c.object.name == n) c.request x) (requested_opened cs m b n)
+
 pub steady_opened : (cs : List Cell) (home : Home) (b : Bool) → Steady cs (resessioned cs home b)
 steady_opened cs Static b = steady_itself cs
 steady_opened cs AtRoot b = steady_itself cs
-steady_opened cs (Inside o from) b = steady_same cs (set_session o.name b cs) (record { service_so = service_opened cs o.name b; named_so = named_opened cs o.name b; held_so = held_opened cs o.name b })
+steady_opened cs (Inside o from) b = steady_same cs (set_session o.name b cs) (record { service_so = service_opened cs o.name b; named_so = named_opened cs o.name b; held_so = held_opened cs o.name b; listed_so = λ n e. sym (requested_opened cs o.name b n) ∙ e })
 
 held_stored : (cs : List Cell) (m w : ℕ) (v : ℤ) (q : Place) → held (set_word_field m w v cs) q ≡ held cs q
 held_stored [] m w v q = refl
@@ -193,16 +213,20 @@ named_stored : (cs : List Cell) (m w : ℕ) (v : ℤ) (n : ℕ) → named (set_w
 named_stored [] m w v n = refl
 named_stored (c ∷ cs) m w v n = ap (λ x. cond (c.object.name == n) (Some c.object) x) (named_stored cs m w v n)
 
+requested_stored : (cs : List Cell) (m w : ℕ) (v : ℤ) (n : ℕ) → requested (set_word_field m w v cs) n ≡ requested cs n
+requested_stored [] m w v n = refl
+requested_stored (c ∷ cs) m w v n = ap (λ x. cond (c.object.name == n) c.request x) (requested_stored cs m w v n)
+
 pub steady_stored : (cs : List Cell) (home : Home) (w : ℕ) (v : ℤ) → Steady cs (stored cs home w v)
 steady_stored cs Static w v = steady_itself cs
 steady_stored cs AtRoot w v = steady_itself cs
-steady_stored cs (Inside o from) w v = steady_same cs (set_word_field o.name w v cs) (record { service_so = service_stored cs o.name w v; named_so = named_stored cs o.name w v; held_so = held_stored cs o.name w v })
+steady_stored cs (Inside o from) w v = steady_same cs (set_word_field o.name w v cs) (record { service_so = service_stored cs o.name w v; named_so = named_stored cs o.name w v; held_so = held_stored cs o.name w v; listed_so = λ n e. sym (requested_stored cs o.name w v n) ∙ e })
 
 pub steady_ended : (p : Image) (fr : Frame) (cs : List Cell) → Steady cs (ended_cells p fr cs)
 steady_ended p fr cs = go (is_cancel (method_role p fr.method))
   where
     go : (b : Bool) → Steady cs (cond b (rerequested cs fr.home (on_request cancelled (own_request cs fr.home))) cs)
-    go true = steady_asked cs fr.home (on_request cancelled (own_request cs fr.home))
+    go true = steady_asked cs fr.home (on_request cancelled (own_request cs fr.home)) (λ e. on_none cancelled (own_request cs fr.home) e)
     go false = steady_itself cs
 
 module _ (p : Image) (fr : Frame) (ts : List Task) (s : State) where
@@ -216,9 +240,10 @@ module _ (p : Image) (fr : Frame) (ts : List Task) (s : State) where
   spot_apart (In_field f) n m = field_apart fr.home f n m
   spot_apart The_message n m = refl
 
-  -- where it makes a cell its name is free, and a message that it completes is no matter of this lemma
+  -- where it makes a cell its name is free, a request is not taken away, and a message that it completes is no matter of this lemma
   abbrev pub IsSteady : Update → Type 0
   IsSteady (Made name class a) = named s.cells name ≡ None
+  IsSteady (Requested r) = r ≡ None → own_request s.cells fr.home ≡ None
   IsSteady (Replied a) = ⊥
   IsSteady _ = Unit {0}
 
@@ -226,7 +251,7 @@ module _ (p : Image) (fr : Frame) (ts : List Task) (s : State) where
   steady_update (Carried from to) h = steady_moved s.cells (spot_place p fr ts s from) (spot_place p fr ts s to) (spot_apart to)
   steady_update (Made name class a) h = steady_new s.cells name _ _ (here fr ts s a) (λ n m. refl) h
   steady_update (Written w v) h = steady_stored s.cells fr.home w v
-  steady_update (Requested r) h = steady_asked s.cells fr.home r
+  steady_update (Requested r) h = steady_asked s.cells fr.home r h
   steady_update (Sessioned b) h = steady_opened s.cells fr.home b
   steady_update (Replied a) h = absurd h
   steady_update (Pushed a) h = steady_moved s.cells (here fr ts s a) (Entry (length s.items)) (λ n m. refl)
@@ -262,4 +287,5 @@ module _ (p : Image) (clients : List Client) (cs : List Cell) (fit : ClientsFit 
     names = fit.names;
     senders = fit.senders;
     seats = fit.seats;
+    enlisted = fit.enlisted;
   }

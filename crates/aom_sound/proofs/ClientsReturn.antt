@@ -7,17 +7,18 @@ use Rattle.aom_clients.specs.declared.client.Client.{Client}
 use Rattle.aom_sound.proofs.ClientsFacts.{IsAt}
 use Rattle.aom_sound.proofs.ClientsFit.{fit_accepted}
 use Rattle.aom_sound.proofs.ClientsMoves.{NoQueue, fit_steady, steady_moved, steady_result, tasks_queues, tasks_steady}
-use Rattle.aom_sound.proofs.Maps.{held_without, named_moved, same_place-true, same_place_comm}
-use Rattle.aom_sound.proofs.Sifted.{a_cell_of, cell_in, cell_lives, cell_of, cell_of_sifted, cell_owner, cell_placed, held_cell, kept, named_before, named_cell, object_in, service_cell, service_gone, service_in, service_sifted, sifted}
+use Rattle.aom_sound.proofs.Maps.{held_without, named_moved, same_place-true, same_place_comm, requested_moved}
+use Rattle.aom_sound.proofs.Sifted.{a_cell_of, cell_in, cell_lives, cell_of, cell_of_sifted, cell_owner, cell_placed, held_cell, kept, named_before, named_cell, object_in, service_cell, service_gone, service_in, service_sifted, sifted, requested_before}
 use Rattle.aom_sound.specs.Calls.{answered_by, result_cells, returned}
 use Rattle.aom_sound.specs.Clients.{most_of}
 use Rattle.aom_sound.specs.Kept.{ClientsFit, IsKept, QueueFits, TasksKept, is_connect_of, is_message_of}
-use Rattle.aom_sound.specs.Places.{Cell, Elsewhere, Object, Place, Queued, Session, Tidy, held, moved, named, same_place, service_of, without}
+use Rattle.aom_sound.specs.Places.{Cell, Elsewhere, Object, Place, Queued, Session, Tidy, held, moved, named, same_place, service_of, without, requested}
 use Rattle.aom_sound.specs.Servers.{is_from, is_server, seats_taken}
 use Rattle.aom_sound.specs.State.{Accept_left, Accepted, Accepts, Answered, Asks, Destroy, Dispatch, Dispatched, Frame, Main_left, Object_left, Of_main, Of_object, Of_root, Of_server, Parts, Run, Seat, Service_left, Serves, State, Task, Trapped, Unwind}
 use Rattle.aom_sound.specs.Words.{here}
 use Rattle.aom_sound.specs.Enlisted.{thing_kind}
 use Rattle.aom_sound.proofs.Seated.{seats_same}
+use Rattle.std.specs.Prelude.{is_some}
 
 -- ---- a method returns
 
@@ -38,18 +39,19 @@ module _ (p : Image) (fr : Frame) (ts : List Task) (s : State) (fit : ClientsFit
 
   -- to the dispatch of a server
   module _ (g : Gives) (a : ℕ) (below : List Task) where
-    accept_kept : (x : Seat) (c : ℕ) → named s.cells x.object.name ≡ Some x.object → is_server p x.object.thing ≡ true → TasksKept p s.clients s.cells (Dispatched (Of_server x c Accepts) ∷ below) → IsKept p (returned p fr ts s g a (Trapped ∷ Dispatched (Of_server x c Accepts) ∷ below))
-    accept_kept x c lives serves stage =
+    accept_kept : (x : Seat) (c : ℕ) → named s.cells x.object.name ≡ Some x.object → is_server p x.object.thing ≡ true → is_some (requested s.cells x.object.name) ≡ true → TasksKept p s.clients s.cells (Dispatched (Of_server x c Accepts) ∷ below) → IsKept p (returned p fr ts s g a (Trapped ∷ Dispatched (Of_server x c Accepts) ∷ below))
+    accept_kept x c lives serves listed stage =
         let still = steady_moved s.cells (here fr ts s a) (Elsewhere (Session x.object.name c)) (λ n m. refl) in
         record {
           fit = fit_accepted p s.clients (moved (here fr ts s a) (Elsewhere (Session x.object.name c)) s.cells) (fit_steady p s.clients s.cells (moved (here fr ts s a) (Elsewhere (Session x.object.name c)) s.cells) still fit) x.object
-              (named_moved s.cells (here fr ts s a) (Elsewhere (Session x.object.name c)) x.object.name ∙ lives) serves c _ stage.0 (ap (λ q. list_any (is_connect_of c) q) (still.queues x.object.name) ∙ stage.1)
+              (named_moved s.cells (here fr ts s a) (Elsewhere (Session x.object.name c)) x.object.name ∙ lives) serves
+              (ap is_some (requested_moved s.cells (here fr ts s a) (Elsewhere (Session x.object.name c)) x.object.name) ∙ listed) c _ stage.0 (ap (λ q. list_any (is_connect_of c) q) (still.queues x.object.name) ∙ stage.1)
               (subst (λ n. n < most_of (thing_kind p x.object.thing)) (sym (seats_same (service_of (moved (here fr ts s a) (Elsewhere (Session x.object.name c)) s.cells) x.object.name) (service_of s.cells x.object.name) (still.queues x.object.name) (still.sessions x.object.name))) stage.2);
           stage = tt;
         }
 
-    ended_kept : (d : Dispatch) → ((x : Seat) (c : ℕ) → d ≡ Of_server x c Accepts → (named s.cells x.object.name ≡ Some x.object) × (is_server p x.object.thing ≡ true)) → TasksKept p s.clients s.cells (Dispatched d ∷ below) → IsKept p (returned p fr ts s g a (Trapped ∷ Dispatched d ∷ below))
-    ended_kept (Of_server x c Accepts) there stage = let l = there x c refl in accept_kept x c l.0 l.1 stage
+    ended_kept : (d : Dispatch) → ((x : Seat) (c : ℕ) → d ≡ Of_server x c Accepts → (named s.cells x.object.name ≡ Some x.object) × (is_server p x.object.thing ≡ true) × (is_some (requested s.cells x.object.name) ≡ true)) → TasksKept p s.clients s.cells (Dispatched d ∷ below) → IsKept p (returned p fr ts s g a (Trapped ∷ Dispatched d ∷ below))
+    ended_kept (Of_server x c Accepts) there stage = let l = there x c refl in accept_kept x c l.0 l.1 l.2 stage
     ended_kept (Of_server x c (Serves o)) there stage = same_tasks _ refl refl tt
     ended_kept (Of_server x c Accepted) there stage = same_tasks _ refl refl tt
     ended_kept (Of_server x c (Accept_left code)) there stage = same_tasks _ refl refl stage
@@ -74,7 +76,7 @@ module _ (p : Image) (fr : Frame) (ts : List Task) (s : State) (fit : ClientsFit
   answered_stage answer (Answered x code) below k = tt
 
   -- to whatever is below; where it is the end of `accept`, its server stands
-  pub return_kept : (g : Gives) (a : ℕ) (below : List Task) → ((x : Seat) (c : ℕ) → IsAt (Of_server x c Accepts) below → (named s.cells x.object.name ≡ Some x.object) × (is_server p x.object.thing ≡ true)) → s.tasks ≡ Run fr ∷ ts → TasksKept p s.clients s.cells below → TasksKept p s.clients s.cells ts → IsKept p (returned p fr ts s g a below)
+  pub return_kept : (g : Gives) (a : ℕ) (below : List Task) → ((x : Seat) (c : ℕ) → IsAt (Of_server x c Accepts) below → (named s.cells x.object.name ≡ Some x.object) × (is_server p x.object.thing ≡ true) × (is_some (requested s.cells x.object.name) ≡ true)) → s.tasks ≡ Run fr ∷ ts → TasksKept p s.clients s.cells below → TasksKept p s.clients s.cells ts → IsKept p (returned p fr ts s g a below)
   return_kept g a (Run caller ∷ below) there tasks stage all = result_kept g a _ below _ refl refl refl (λ cs k. k) stage
   return_kept g a (Trapped ∷ Run caller ∷ below) there tasks stage all = result_kept g a _ below _ refl refl refl (λ cs k. k) stage
   return_kept g a (Trapped ∷ Dispatched d ∷ below) there tasks stage all = ended_kept g a below d there stage
@@ -147,10 +149,14 @@ module _
     names = names;
     senders = λ n d m h. sender_left n d m (ap (λ q. list_any (is_message_of d m) q) (sym (service_left n).0) ∙ h);
     seats = seats;
+    enlisted = enlisted;
   }
     where
       before : (x : Object) → named left x.name ≡ Some x → named cs x.name ≡ Some x
       before x h = let b = named_before drops (λ c. c.service) cs x.name x tidy h in named_cell cs x.name ∙ ap object_in b.1 ∙ ap (λ y. Some y) b.2
+
+      enlisted : (x : Object) → named left x.name ≡ Some x → requested left x.name ≡ None → ((service_of left x.name).queue ≡ []) × ((service_of left x.name).sessions ≡ [])
+      enlisted x h e = let none = fit.enlisted x (before x h) (sym (requested_before drops (λ c. c.service) cs x.name x tidy h) ∙ e) in ((service_left x.name).0 ∙ none.0, (service_left x.name).1 ∙ none.1)
 
       seats : (x : Object) → named left x.name ≡ Some x → seats_taken (service_of left x.name) ≤ most_of (thing_kind p x.thing)
       seats x h = let was = fit.seats x (before x h) in let same = seats_same (service_of left x.name) (service_of cs x.name) (service_left x.name).0 (service_left x.name).1 in omega (arith, was, same)

@@ -1,7 +1,7 @@
 -- What is kept of clients stays so in each turn: as a server is picked, as a client does something, and in all others, where nothing of it changes.
-use Rattle.std.proofs.Common.{Bool, List, None, Option, Some, [], ap, cond, false, refl, subst, sym, true, ℕ, ◌∙◌, ◌∷◌, ◌≡◌, ◌<◌, ◌≤◌, arith}
+use Rattle.std.proofs.Common.{Bool, List, None, Option, Some, [], ap, cond, false, refl, subst, sym, true, ℕ, ◌∙◌, ◌∷◌, ◌≡◌, ◌<◌, ◌≤◌, arith, ◌==◌}
 use Rattle.std.specs.List.{list_any}
-use Rattle.std.specs.Prelude.{length, nat_le, ◌||◌}
+use Rattle.std.specs.Prelude.{length, nat_le, ◌||◌, nat_lt, is_some}
 use Rattle.aom_image.specs.Image.{Image}
 use Rattle.aom_image.specs.declared.method.Role.TheVariants.{Accept as Accepts_role, Run as Handles, Service as Attends_role}
 use Rattle.aom_image.specs.declared.method.Thing.{Thing}
@@ -13,22 +13,22 @@ use Rattle.aom_clients.specs.Table.{server_of}
 use Rattle.aom_clients.specs.declared.client.Client.{Client}
 use Rattle.aom_rules.specs.Typing.{Typing}
 use Rattle.aom_sound.proofs.ClientsCommand.{fit_commanded}
-use Rattle.aom_sound.proofs.ClientsFit.{by_server, seats_then}
-use Rattle.aom_sound.proofs.Maps.{held_moved, named_moved}
+use Rattle.aom_sound.proofs.ClientsFit.{by_server, seats_then, enlisted_then}
+use Rattle.aom_sound.proofs.Maps.{held_moved, named_moved, requested_moved}
 use Rattle.aom_sound.proofs.Owners.{IsQueuedAt, in_queue, queued_lower}
 use Rattle.aom_sound.proofs.Services.{held_served, named_served, service_asked, service_bereaved, service_here, service_moved}
 use Rattle.aom_sound.proofs.Signals.{at_rest}
-use Rattle.aom_sound.proofs.Storing.{bereaved_alike, rerequested_alike}
+use Rattle.aom_sound.proofs.Storing.{bereaved_alike, rerequested_alike, requested_here, requested_there}
 use Rattle.aom_sound.proofs.Straight.{fits_unowning}
 use Rattle.aom_sound.proofs.Turned.{Polled, answers, commanded_kept, dispatched_so, nothing, polled_so}
 use Rattle.aom_sound.proofs.Guarded.{goes_same}
 use Rattle.aom_sound.proofs.Turning.{found}
 use Rattle.aom_sound.specs.Claims.{declared}
-use Rattle.aom_sound.specs.Clients.{client_at, most_of}
+use Rattle.aom_sound.specs.Clients.{client_at, most_of, client_count}
 use Rattle.aom_sound.specs.Destruction.{begun, begun_by}
 use Rattle.aom_classes.specs.Roles.{destructor_of}
-use Rattle.aom_sound.specs.Enlisted.{completed_with, on_request, part_of, recorded, timed_out, thing_kind}
-use Rattle.aom_sound.specs.Natives.{all_bereaved}
+use Rattle.aom_sound.specs.Enlisted.{completed_with, on_request, part_of, recorded, timed_out, thing_kind, taken_up}
+use Rattle.aom_sound.specs.Natives.{all_bereaved, is_served_by, terminated_request, is_owed, terminated}
 use Rattle.aom_sound.specs.Owned.{NoneGoes}
 use Rattle.aom_sound.specs.Kept.{ClientsFit, IsKept, QueueFits, TasksKept, is_close_of, is_connect_of, is_message_of}
 use Rattle.aom_sound.specs.Laws.{IsWired}
@@ -38,9 +38,12 @@ use Rattle.aom_sound.specs.State.{Closing, Destroy, Dispatched, Goes, Inside, Of
 use Rattle.aom_sound.specs.WellTyped.{Fits, Good, WellTyped}
 use Rattle.aom_sound.specs.World.{Candidate, Completes, Completion, Cuts, Heard, Hears, Kills, Obeys, Outside, Passes, Picks, Polls, Strays, Timed, Turning, Waits, accepting, attended, attending, by_event, by_timer, delivers, dispatched, first_due, first_ready, has_signal, heard_one, lives, next_event, next_native, next_time, parting_with, picks, picked, polls, serves_first, taken_from, turn, turned, turning, with_request}
 use Rattle.aom_transcript.specs.declared.event.Event.{Event}
-use Rattle.aom_transcript.specs.declared.event.Event.TheVariants.{Kill, Tell}
+use Rattle.aom_transcript.specs.declared.event.Event.TheVariants.{Client as From_client, Kill, Tell}
 use Rattle.aom_transcript.specs.declared.event.TimedEvent.{TimedEvent}
 use Rattle.aom_sound.proofs.Seated.{seats_first, seats_rest}
+use Rattle.aom_sound.proofs.Things.{message_plain}
+use Rattle.aom_sound.proofs.Dropping.{requested_unnamed}
+use Rattle.std.proofs.lemmas.Bool.{eqb-true, false≢true}
 
 -- ---- cells of which clients have the same
 
@@ -48,6 +51,8 @@ pub record Same (cs cs' : List Cell) : Type 0 where
   pub service_so : (n : ℕ) → service_of cs' n ≡ service_of cs n
   pub named_so : (n : ℕ) → named cs' n ≡ named cs n
   pub held_so : (q : Place) → held cs' q ≡ held cs q
+  -- what is enlisted stays so
+  pub listed_so : (n : ℕ) → requested cs' n ≡ None → requested cs n ≡ None
 
 pub fit_same : (p : Image) (clients : List Client) (cs cs' : List Cell) → Same cs cs' → ClientsFit p clients cs → ClientsFit p clients cs'
 fit_same p clients cs cs' like fit = record {
@@ -58,13 +63,53 @@ fit_same p clients cs cs' like fit = record {
   names = λ n m o h. fit.names n m o (sym (like.held_so (Elsewhere (Queued n m))) ∙ h);
   senders = λ n c m h. subst (λ v. is_from c v.sender ≡ true) (sym (like.service_so m)) (fit.senders n c m (ap (λ v. list_any (is_message_of c m) v.queue) (sym (like.service_so n)) ∙ h));
   seats = λ o h. subst (λ v. seats_taken v ≤ most_of (thing_kind p o.thing)) (sym (like.service_so o.name)) (fit.seats o (sym (like.named_so o.name) ∙ h));
+  enlisted = λ o h e. subst (λ v. (v.queue ≡ []) × (v.sessions ≡ [])) (sym (like.service_so o.name)) (fit.enlisted o (sym (like.named_so o.name) ∙ h) (like.listed_so o.name e));
 }
 
-pub same_requested : (cs : List Cell) (o : Object) (r : Option Request) → Same cs (set_request o.name r cs)
-same_requested cs o r = let like = rerequested_alike cs (Inside o (Elsewhere Root)) r in record { service_so = service_asked cs o.name r; named_so = like.named_so; held_so = like.held_so }
+-- a request that changes is there still
+pub on_none : (f : Request → Request) (r : Option Request) → on_request f r ≡ None → r ≡ None
+on_none f None e = refl
+on_none f (Some r) e = cc
+
+pub listed_asked : (cs : List Cell) (m : ℕ) (r : Option Request) → (r ≡ None → requested cs m ≡ None) → (n : ℕ) → requested (set_request m r cs) n ≡ None → requested cs n ≡ None
+listed_asked cs m r keeps n e = go (m == n) refl
+  where
+    here : (o : Option Object) → named cs m ≡ o → requested (set_request m r cs) m ≡ None → requested cs m ≡ None
+    here None there e = requested_unnamed cs m there
+    here (Some o) there e = keeps (sym (requested_here cs m r o there) ∙ e)
+
+    go : (b : Bool) → (m == n) ≡ b → requested cs n ≡ None
+    go true same =
+        let equal : m ≡ n = eqb-true m n same in
+        ap (λ k. requested cs k) (sym equal) ∙ here (named cs m) refl (ap (λ k. requested (set_request m r cs) k) equal ∙ e)
+    go false other = sym (requested_there cs m n r other) ∙ e
+
+listed_bereaved : (p : Image) (n : ℕ) (cs : List Cell) (m : ℕ) → requested (all_bereaved p n cs) m ≡ None → requested cs m ≡ None
+listed_bereaved p n [] m e = e
+listed_bereaved p n (c ∷ cs) m e = go (c.object.name == m) e (listed_bereaved p n cs m)
+  where
+    ends : (b : Bool) (r : Option Request) → cond b (terminated_request r) r ≡ None → r ≡ None
+    ends true None e = refl
+    ends true (Some r) e = owed (is_owed (Some r)) e
+      where
+        owed : (b : Bool) → cond b (on_request (completed_with terminated) (Some r)) (Some r) ≡ None → Some r ≡ None
+        owed true e = cc
+        owed false e = e
+    ends false r e = e
+
+    go :
+        (b : Bool) → cond b (cond (is_served_by p n c.object.thing) (terminated_request c.request) c.request) (requested (all_bereaved p n cs) m) ≡ None →
+        (requested (all_bereaved p n cs) m ≡ None → requested cs m ≡ None) → cond b c.request (requested cs m) ≡ None
+    go true e rest = ends (is_served_by p n c.object.thing) c.request e
+    go false e rest = rest e
+
+pub same_requested : (cs : List Cell) (o : Object) (r : Option Request) → (r ≡ None → requested cs o.name ≡ None) → Same cs (set_request o.name r cs)
+same_requested cs o r keeps =
+    let like = rerequested_alike cs (Inside o (Elsewhere Root)) r in
+    record { service_so = service_asked cs o.name r; named_so = like.named_so; held_so = like.held_so; listed_so = listed_asked cs o.name r keeps }
 
 pub same_bereaved : (p : Image) (n : ℕ) (cs : List Cell) → Same cs (all_bereaved p n cs)
-same_bereaved p n cs = let like = bereaved_alike p n cs in record { service_so = service_bereaved p n cs; named_so = like.named_so; held_so = like.held_so }
+same_bereaved p n cs = let like = bereaved_alike p n cs in record { service_so = service_bereaved p n cs; named_so = like.named_so; held_so = like.held_so; listed_so = listed_bereaved p n cs }
 
 -- what is owned elsewhere, but in no queue
 pub fit_moved : (p : Image) (clients : List Client) (cs : List Cell) (a b : Place) → held cs b ≡ None → ((n m : ℕ) → same_place b (Elsewhere (Queued n m)) ≡ false) → ClientsFit p clients cs → ClientsFit p clients (moved a b cs)
@@ -76,6 +121,7 @@ fit_moved p clients cs a b free apart fit = record {
   names = λ n m o h. names n m o (same_place a (Elsewhere (Queued n m))) (sym (ap (λ x. cond x (held cs a) (cond (same_place a (Elsewhere (Queued n m))) None (held cs (Elsewhere (Queued n m))))) (apart n m)) ∙ sym (held_moved cs a b (Elsewhere (Queued n m)) free) ∙ h);
   senders = λ n c m h. subst (λ v. is_from c v.sender ≡ true) (sym (service_moved cs a b m)) (fit.senders n c m (ap (λ v. list_any (is_message_of c m) v.queue) (sym (service_moved cs a b n)) ∙ h));
   seats = λ o h. subst (λ v. seats_taken v ≤ most_of (thing_kind p o.thing)) (sym (service_moved cs a b o.name)) (fit.seats o (sym (named_moved cs a b o.name) ∙ h));
+  enlisted = λ o h e. subst (λ v. (v.queue ≡ []) × (v.sessions ≡ [])) (sym (service_moved cs a b o.name)) (fit.enlisted o (sym (named_moved cs a b o.name) ∙ h) (sym (requested_moved cs a b o.name) ∙ e));
 }
   where
     names : (n m : ℕ) (o : Object) (x : Bool) → cond x None (held cs (Elsewhere (Queued n m))) ≡ Some o → o.name ≡ m
@@ -83,8 +129,8 @@ fit_moved p clients cs a b free apart fit = record {
     names n m o false h = fit.names n m o h
 
 -- the first of a queue is taken
-pub fit_taken : (p : Image) (clients : List Client) (cs : List Cell) (o : Object) → named cs o.name ≡ Some o → (e : Asked) (es : List Asked) → (service_of cs o.name).queue ≡ e ∷ es → ClientsFit p clients cs → ClientsFit p clients (reserved taken_first o.name cs)
-fit_taken p clients cs o lives e es queue fit = record {
+pub fit_taken : (p : Image) (clients : List Client) (cs : List Cell) (o : Object) → named cs o.name ≡ Some o → is_some (requested cs o.name) ≡ true → (e : Asked) (es : List Asked) → (service_of cs o.name).queue ≡ e ∷ es → ClientsFit p clients cs → ClientsFit p clients (reserved taken_first o.name cs)
+fit_taken p clients cs o lives listed e es queue fit = record {
   queues = by_server p cs o lives taken_first (λ n v. QueueFits clients n v.queue) (subst (λ q. QueueFits clients o.name (rest q)) (sym queue) (subst (λ q. QueueFits clients o.name q) queue (fit.queues o.name)).1) (λ n other. fit.queues n);
   sessions = by_server p cs o lives taken_first (λ n v. (d : ℕ) → has_session v d ≡ true → server_of (client_at clients d) ≡ Some n) (fit.sessions o.name) (λ n other. fit.sessions n);
   listed = by_server p cs o lives taken_first (λ n v. (d : ℕ) → server_of (client_at clients d) ≡ Some n → has_session v d ≡ true) (fit.listed o.name) (λ n other. fit.listed n);
@@ -93,6 +139,7 @@ fit_taken p clients cs o lives e es queue fit = record {
   senders = λ n d m. by_server p cs o lives taken_first (λ n v. list_any (is_message_of d m) v.queue ≡ true → is_from d (service_of (reserved taken_first o.name cs) m).sender ≡ true)
       (λ h. senders m d (fit.senders o.name d m (ap (λ q. list_any (is_message_of d m) q) queue ∙ or_right (is_message_of d m e) (list_any (is_message_of d m) es) (ap (λ q. list_any (is_message_of d m) (rest q)) (sym queue) ∙ h))))
       (λ n other h. senders m d (fit.senders n d m h)) n;
+  enlisted = enlisted_then p cs o lives taken_first listed clients fit;
   seats = seats_then p cs o lives taken_first clients fit (let less = seats_rest (service_of cs o.name) in let was = fit.seats o lives in omega (arith, less, was));
 }
   where
@@ -116,11 +163,6 @@ tasks_begun p clients cs o height ts kept = go (is_server p o.thing)
     go true = kept
     go false = by (destructor_of p o.thing)
 
--- a message is no server
-pub message_plain : (p : Image) (x : Thing) → x ≡ Message → is_server p x ≡ false
-unfolding kind_of sessions_in
-message_plain p x e = ap (λ y. is_server p y) e
-
 -- ---- turns
 
 module _ (p : Image) (t : Typing) (wired : IsWired p) (s : State) (w : WellTyped p t s) (idle_now : s.tasks ≡ []) (kept : IsKept p s) where
@@ -142,7 +184,7 @@ module _ (p : Image) (t : Typing) (wired : IsWired p) (s : State) (w : WellTyped
 
   -- ---- a pick
 
-  module _ (x : Seat) (there : named s.cells x.object.name ≡ Some x.object) (u : State) where
+  module _ (x : Seat) (there : named s.cells x.object.name ≡ Some x.object) (listed : is_some (requested s.cells x.object.name) ≡ true) (u : State) where
     abbrev n : ℕ
     n = x.object.name
 
@@ -154,7 +196,7 @@ module _ (p : Image) (t : Typing) (wired : IsWired p) (s : State) (w : WellTyped
 
     module _ (e : Asked) (es : List Asked) (queue : (service_of s.cells n).queue ≡ e ∷ es) where
       taken : ClientsFit p s.clients cs
-      taken = fit_taken p s.clients s.cells x.object there e es queue kept.fit
+      taken = fit_taken p s.clients s.cells x.object there listed e es queue kept.fit
 
       first_fits : QueueFits s.clients n (e ∷ es)
       first_fits = subst (λ q. QueueFits s.clients n q) queue (kept.fit.queues n)
@@ -202,19 +244,19 @@ module _ (p : Image) (t : Typing) (wired : IsWired p) (s : State) (w : WellTyped
     picked_kept : picked p x s ≡ Goes u → IsKept p u
     picked_kept e = go (is_server p x.object.thing) e
       where
-        requested_fit : (o : Object) (r : Option Request) → ClientsFit p s.clients (set_request o.name r s.cells)
-        requested_fit o r = fit_same p s.clients s.cells (set_request o.name r s.cells) (same_requested s.cells o r) kept.fit
+        requested_fit : (o : Object) (f : Request → Request) → ClientsFit p s.clients (with_request f o s.cells)
+        requested_fit o f = fit_same p s.clients s.cells (with_request f o s.cells) (same_requested s.cells o (on_request f (requested s.cells o.name)) (λ e. on_none f (requested s.cells o.name) e)) kept.fit
 
         go : (b : Bool) → cond b (serves_first p x (service_of s.cells n).queue s) (dispatched (part_of p Handles x.object.thing) x s) ≡ Goes u → IsKept p u
         go true e = serves_kept (service_of s.cells n).queue refl e
-        go false e = let d = dispatched_so p s u x e in subst (λ v. IsKept p v) (sym d.2) (record { fit = requested_fit x.object _; stage = tt })
+        go false e = let d = dispatched_so p s u x e in subst (λ v. IsKept p v) (sym d.2) (record { fit = requested_fit x.object taken_up; stage = tt })
 
   -- ---- the others
 
   -- what is picked stands, and the name that is heard is free
   abbrev pub IsFound : Turning → Type 0
   IsFound (Obeys client command name) = named s.cells name ≡ None
-  IsFound (Picks x) = named s.cells x.object.name ≡ Some x.object
+  IsFound (Picks x) = (named s.cells x.object.name ≡ Some x.object) × (is_some (requested s.cells x.object.name) ≡ true)
   IsFound _ = Unit {0}
 
   same_kept : (u : State) → u.cells ≡ s.cells → u.clients ≡ s.clients → u.tasks ≡ [] → IsKept p u
@@ -225,7 +267,7 @@ module _ (p : Image) (t : Typing) (wired : IsWired p) (s : State) (w : WellTyped
 
   requested_kept : (f : Request → Request) (o : Object) (u : State) → u.cells ≡ with_request f o s.cells → u.clients ≡ s.clients → u.tasks ≡ [] → IsKept p u
   requested_kept f o u cells clients tasks = record {
-    fit = subst (λ l. ClientsFit p l u.cells) (sym clients) (subst (λ l. ClientsFit p s.clients l) (sym cells) (fit_same p s.clients s.cells (with_request f o s.cells) (same_requested s.cells o (on_request f (requested s.cells o.name))) kept.fit));
+    fit = subst (λ l. ClientsFit p l u.cells) (sym clients) (subst (λ l. ClientsFit p s.clients l) (sym cells) (fit_same p s.clients s.cells (with_request f o s.cells) (same_requested s.cells o (on_request f (requested s.cells o.name)) (λ e. on_none f (requested s.cells o.name) e)) kept.fit));
     stage = stage_idle u.clients u.cells u.tasks tasks;
   }
 
@@ -245,7 +287,7 @@ module _ (p : Image) (t : Typing) (wired : IsWired p) (s : State) (w : WellTyped
     fit = fit_commanded p client (heard_one s) good.tidy kept.fit waiting command name f;
     stage = stage_idle _ _ _ ((commanded_kept p client (heard_one s) command name).1 ∙ idle_now);
   })
-  turned_kept (Picks x) f u e = picked_kept x f u e
+  turned_kept (Picks x) f u e = picked_kept x f.0 f.1 u e
   turned_kept Strays f u e = cc
   turned_kept (Passes time) f u e = subst (λ v. IsKept p v) (goes_same _ u e) (same_kept _ refl refl idle_now)
   turned_kept Waits f u e = subst (λ v. IsKept p v) (goes_same _ u e) (same_kept _ refl refl idle_now)
@@ -253,7 +295,7 @@ module _ (p : Image) (t : Typing) (wired : IsWired p) (s : State) (w : WellTyped
   -- each turn is such
   picks_found : (b : Bool) (y : Option Candidate) → first_ready s.cells ≡ y → (next : Option ℕ) → IsFound (picks b y next)
   picks_found true None e next = tt
-  picks_found true (Some y) e next = (found s.cells good.tidy y e).lives
+  picks_found true (Some y) e next = let it_is = found s.cells good.tidy y e in (it_is.lives, ap is_some it_is.asked)
   picks_found false y e None = tt
   picks_found false y e (Some time) = tt
 
@@ -261,20 +303,25 @@ module _ (p : Image) (t : Typing) (wired : IsWired p) (s : State) (w : WellTyped
   polls_found None answer after f = f
   polls_found (Some n) answer after f = tt
 
-  delivers_found : (outside : Outside) (event : Event) → IsFound (delivers outside s event)
-  delivers_found outside (Tell n word) = tt
-  delivers_found outside (Kill n) = go (lives outside s n)
+  delivers_found : (outside : Outside) (name : ℕ) (event : Event) → named s.cells name ≡ None → IsFound (delivers outside name s event)
+  delivers_found outside name (Tell n word) free = tt
+  delivers_found outside name (Kill n) free = go (lives outside s n)
     where
       go : (b : Bool) → IsFound (cond b (Kills n) Hears)
       go true = tt
       go false = tt
-
-  event_found : (outside : Outside) (next : Option TimedEvent) (after : Turning) → IsFound after → IsFound (by_event outside s next after)
-  event_found outside None after f = f
-  event_found outside (Some e) after f = go (nat_le e.time s.rest.clock)
+  delivers_found outside name (From_client c command) free = go (nat_lt c client_count)
     where
-      go : (b : Bool) → IsFound (cond b (delivers outside s e.event) after)
-      go true = delivers_found outside e.event
+      go : (b : Bool) → IsFound (cond b (Obeys c command name) Hears)
+      go true = free
+      go false = tt
+
+  event_found : (outside : Outside) (name : ℕ) (next : Option TimedEvent) (after : Turning) → named s.cells name ≡ None → IsFound after → IsFound (by_event outside name s next after)
+  event_found outside name None after free f = f
+  event_found outside name (Some e) after free f = go (nat_le e.time s.rest.clock)
+    where
+      go : (b : Bool) → IsFound (cond b (delivers outside name s e.event) after)
+      go true = delivers_found outside name e.event free
       go false = f
 
   timer_found : (next : Option Timed) (after : Turning) → IsFound after → IsFound (by_timer s next after)
@@ -285,12 +332,12 @@ module _ (p : Image) (t : Typing) (wired : IsWired p) (s : State) (w : WellTyped
       go true = tt
       go false = f
 
-  pub turning_found : (outside : Outside) (heard : Heard) → IsFound (turning outside heard s)
-  turning_found outside heard = go (nat_le outside.limit s.rest.dispatches)
+  pub turning_found : (outside : Outside) (heard : Heard) → named s.cells heard.name ≡ None → IsFound (turning outside heard s)
+  turning_found outside heard free = go (nat_le outside.limit s.rest.dispatches)
     where
-      go : (b : Bool) → IsFound (cond b Cuts (by_timer s (first_due s.cells) (by_event outside s (next_event outside s) (polls (next_native outside s) heard.completion (picks (has_signal s.cells) (first_ready s.cells) (next_time outside s))))))
+      go : (b : Bool) → IsFound (cond b Cuts (by_timer s (first_due s.cells) (by_event outside heard.name s (next_event outside s) (polls (next_native outside s) heard.completion (picks (has_signal s.cells) (first_ready s.cells) (next_time outside s))))))
       go true = tt
-      go false = timer_found (first_due s.cells) _ (event_found outside (next_event outside s) _ (polls_found (next_native outside s) heard.completion _ (picks_found (has_signal s.cells) (first_ready s.cells) refl (next_time outside s))))
+      go false = timer_found (first_due s.cells) _ (event_found outside heard.name (next_event outside s) _ free (polls_found (next_native outside s) heard.completion _ (picks_found (has_signal s.cells) (first_ready s.cells) refl (next_time outside s))))
 
-  pub turn_kept : (outside : Outside) (heard : Heard) (u : State) → turn p outside heard s ≡ Goes u → IsKept p u
-  turn_kept outside heard u e = turned_kept (turning outside heard s) (turning_found outside heard) u e
+  pub turn_kept : (outside : Outside) (heard : Heard) (u : State) → named s.cells heard.name ≡ None → turn p outside heard s ≡ Goes u → IsKept p u
+  turn_kept outside heard u free e = turned_kept (turning outside heard s) (turning_found outside heard free) u e

@@ -29,11 +29,13 @@ use Rattle.aom_sound.specs.Words.{here, stored}
 use Rattle.aom_rules.specs.Requests.{is_cancel}
 use Rattle.aom_sound.specs.Natives.{all_bereaved, resessioned}
 use Rattle.aom_sound.specs.Servers.{withdrawn, without_queue, is_queue, is_from, left_by, is_queue_of, all_unslotted}
-use Rattle.aom_sound.specs.Clients.{each_unslotted, Command, commanded, Connects, Sends, Closes, Dies, Listed, connecting, sending, leaving, told, client_at}
+use Rattle.aom_sound.specs.Clients.{each_unslotted, commanded, Listed, connecting, sending, leaving, told, client_at}
 use Rattle.aom_clients.specs.declared.client.Client.{Client}
 use Rattle.aom_clients.specs.declared.client.Client.TheVariants.{Open}
 use Rattle.aom_clients.specs.declared.refusal.Refusal.{Refusal}
 use Rattle.std.specs.Prelude.{◌&&◌}
+use Rattle.aom_transcript.specs.declared.event.Command.{Command}
+use Rattle.aom_transcript.specs.declared.event.Command.TheVariants.{Connect, Send, Close, Die}
 
 move_in_range : (p q : Place) (cs : List Cell) → IsInRange q → AllInRange cs → AllInRange (moved p q cs)
 move_in_range p q [] fits all = tt
@@ -285,10 +287,10 @@ module _ (p : Image) (client : ℕ) (s : State) (all : AllInRange s.cells) where
   leaves_in_range (Some to) = tells_in_range (client_at s.clients client) (withdrawn client s.cells) (withdrawn_in_range client s.cells all)
 
   commands_in_range : (command : Command) (name : ℕ) → AllInRange (commanded p client s command name).cells
-  commands_in_range (Connects class slots) name = connects_in_range _ _ slots
-  commands_in_range (Sends words) name = sends_in_range _ _ name words
-  commands_in_range Closes name = leaves_in_range _
-  commands_in_range Dies name = leaves_in_range _
+  commands_in_range (Connect class slots) name = connects_in_range _ _ slots
+  commands_in_range (Send words) name = sends_in_range _ _ name words
+  commands_in_range Close name = leaves_in_range _
+  commands_in_range Die name = leaves_in_range _
 
 moves : (p : Image) → IsWired p → (c : Choice) (s u : State) → AllInRange s.cells → step p c s ≡ Goes u → AllInRange u.cells
 moves p wired c s u all e = go s.tasks e

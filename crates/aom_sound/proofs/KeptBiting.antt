@@ -14,10 +14,10 @@ use Rattle.aom_sound.specs.Clients.{client_at}
 use Rattle.aom_sound.specs.Enlisted.{thing_kind}
 use Rattle.aom_sound.specs.Kept.{QueueFits, is_message_of}
 use Rattle.aom_sound.specs.Clients.{most_of}
-use Rattle.aom_sound.specs.Places.{Cell, Connect_of, Elsewhere, Message_of, Object, Queued, held, named, service_of, unserved}
+use Rattle.aom_sound.specs.Places.{Cell, Connect_of, Elsewhere, Message_of, Object, Queued, held, named, requested, service_of, unserved}
 use Rattle.aom_sound.specs.Servers.{has_session, is_from, is_server, seats_taken}
 use Rattle.std.specs.List.{list_any}
-use Rattle.std.specs.Prelude.{◌&&◌, ◌||◌}
+use Rattle.std.specs.Prelude.{is_some, ◌&&◌, ◌||◌}
 
 -- ---- the state in which they say the same
 
@@ -83,6 +83,10 @@ none_else : (o : Object) → named cells o.name ≡ Some o → is_server an_imag
 none_else o there plain = by_name (λ n. named cells n ≡ Some o → HasNone n) (λ h. absurd (true≢false (sym (its_server o h) ∙ plain))) (λ h. (refl, refl)) (λ h. (refl, refl))
     (λ n e f g h. subst (λ v. (v.queue ≡ []) × (v.sessions ≡ [])) (sym (unserved_at n e f g)) (refl, refl)) o.name there
 
+none_unlisted : (o : Object) → named cells o.name ≡ Some o → requested cells o.name ≡ None → HasNone o.name
+none_unlisted o there idle = by_name (λ n. requested cells n ≡ None → HasNone n) (λ h. absurd (true≢false (ap is_some h))) (λ h. (refl, refl)) (λ h. (refl, refl))
+    (λ n e f g h. subst (λ v. (v.queue ≡ []) × (v.sessions ≡ [])) (sym (unserved_at n e f g)) (refl, refl)) o.name idle
+
 stands_there : (n m : ℕ) (o : Object) → held cells (Elsewhere (Queued n m)) ≡ Some o → o.name ≡ m
 stands_there n m o e = go (5 == n) (7 == m) refl e
   where
@@ -108,6 +112,7 @@ they_fit = record {
   sessions = has_its_own;
   listed = is_listed;
   servers = none_else;
+  enlisted = none_unlisted;
   names = stands_there;
   senders = sent_so;
   seats = seats_so;
@@ -130,6 +135,8 @@ kept_bites = record {
   session_not_listed = λ fit. let clash : false ≡ true = fit.listed 5 0 refl in cc;
   plain_queue = λ fit. let clash : Connect_of 0 ∷ [] ≡ [] = (fit.servers (record { name = 5; thing = pair }) refl refl).0 in cc;
   plain_sessions = λ fit. let clash : 0 ∷ [] ≡ [] = (fit.servers (record { name = 5; thing = pair }) refl refl).1 in cc;
+  unlisted_queue = λ fit. let clash : Connect_of 0 ∷ [] ≡ [] = (fit.enlisted (record { name = 5; thing = keeper }) refl refl).0 in cc;
+  unlisted_sessions = λ fit. let clash : 0 ∷ [] ≡ [] = (fit.enlisted (record { name = 5; thing = keeper }) refl refl).1 in cc;
   misplaced = λ fit. let clash : 7 ≡ 8 = fit.names 5 8 (record { name = 7; thing = Message }) refl in omega arith;
   sent_by_another = λ fit. let clash : false ≡ true = fit.senders 5 0 7 refl in cc;
   too_many = λ fit. let many : 2 ≤ 1 = fit.seats (record { name = 5; thing = keeper }) refl in omega arith;

@@ -68,6 +68,7 @@ pub mod Standing
 pub mod Trapping
 pub mod Owning
 pub mod Biting
+pub mod Running
 pub mod Layers
 pub mod Suiting
 pub mod Entering

@@ -7,16 +7,15 @@ use Rattle.aom_clients.specs.declared.client.Client.{Client}
 use Rattle.aom_clients.specs.declared.client.Client.TheVariants.{Closing, Connecting, Dead, Dying, Gone, Open, Unconnected}
 use Rattle.aom_clients.specs.declared.refusal.Refusal.{Refusal}
 use Rattle.aom_rules.specs.Typing.{Typing}
-use Rattle.aom_sound.proofs.ClientsAsk.{listed_there}
+use Rattle.aom_sound.proofs.ClientsAsk.{asked_there}
 use Rattle.aom_sound.proofs.ClientsCommand.{nobody, none_named, server_stays, server_there}
-use Rattle.aom_sound.proofs.ClientsTurn.{message_plain}
 use Rattle.aom_sound.proofs.Commanding.{good_asked}
 use Rattle.aom_sound.proofs.Owners.{IsQueuedAt, in_queue, queued_lower}
 use Rattle.aom_sound.proofs.Sending.{good_sent}
 use Rattle.aom_sound.proofs.Signals.{at_rest}
 use Rattle.aom_sound.proofs.Withdrawing.{good_withdrawn}
 use Rattle.aom_sound.specs.Claims.{forms, items_of}
-use Rattle.aom_sound.specs.Clients.{Closes, Command, Connects, Dies, Listed, Sends, client_at, commanded, connecting, first_listed, leaving, refusal, sending, told}
+use Rattle.aom_sound.specs.Clients.{asked_server, Listed, client_at, commanded, connecting, leaving, refusal, sending, told}
 use Rattle.aom_sound.specs.Kept.{ClientsFit}
 use Rattle.aom_sound.specs.Laws.{IsWired}
 use Rattle.aom_sound.specs.Owned.{NoneGoes}
@@ -24,6 +23,9 @@ use Rattle.aom_sound.specs.Places.{Cell, Close_of, Connect_of, Elsewhere, Messag
 use Rattle.aom_sound.specs.Servers.{asked_last, is_server, reserved, withdrawn}
 use Rattle.aom_sound.specs.State.{State}
 use Rattle.aom_sound.specs.WellTyped.{AllUndo, Good, WellTyped}
+use Rattle.aom_transcript.specs.declared.event.Command.{Command}
+use Rattle.aom_transcript.specs.declared.event.Command.TheVariants.{Close, Connect, Die, Send}
+use Rattle.aom_sound.proofs.Things.{message_plain}
 
 module _ (p : Image) (t : Typing) (wired : IsWired p) (s : State) (w : WellTyped p t s) (idle : s.tasks ≡ []) (fit : ClientsFit p s.clients s.cells) (c : ℕ) where
   good : Good p t s.cells []
@@ -48,12 +50,12 @@ module _ (p : Image) (t : Typing) (wired : IsWired p) (s : State) (w : WellTyped
   waiting : (n m : ℕ) (o : Object) → held s.cells (Elsewhere (Queued n m)) ≡ Some o → is_server p o.thing ≡ false
   waiting n m o e = message_plain p o.thing (message n m o e)
 
-  connects_well : (refused : Option Refusal) (class slots : ℕ) → WellTyped p t (connecting p c s refused (first_listed class s.cells) slots)
-  connects_well refused class slots = go refused (first_listed class s.cells) refl
+  connects_well : (refused : Option Refusal) (class slots : ℕ) → WellTyped p t (connecting p c s refused (asked_server p class s.cells) slots)
+  connects_well refused class slots = go refused (asked_server p class s.cells) refl
     where
-      go : (r : Option Refusal) (x : Option Listed) → first_listed class s.cells ≡ x → WellTyped p t (connecting p c s r x slots)
+      go : (r : Option Refusal) (x : Option Listed) → asked_server p class s.cells ≡ x → WellTyped p t (connecting p c s r x slots)
       go None (Some x) e =
-          let l = listed_there class s.cells x good.tidy e in
+          let l = asked_there p class s.cells x good.tidy e in
           well _ refl refl (subst (λ n. Good p t (reserved (asked_last (Connect_of c)) n s.cells) []) l.1 (good_asked p t s.cells l.0 l.2 (Connect_of c) (λ m. refl) good))
       go None None e = w
       go (Some r) x e = w
@@ -99,7 +101,7 @@ module _ (p : Image) (t : Typing) (wired : IsWired p) (s : State) (w : WellTyped
 
   -- whatever is commanded
   pub commanded_well : (command : Command) (name : ℕ) → named s.cells name ≡ None → WellTyped p t (commanded p c s command name)
-  commanded_well (Connects class slots) name free = connects_well (refusal p c s (Connects class slots)) class slots
-  commanded_well (Sends words) name free = sends_well (refusal p c s (Sends words)) name words free (client_at s.clients c) refl
-  commanded_well Closes name free = leaves_well (client_at s.clients c) refl (row (client_at s.clients c)).close
-  commanded_well Dies name free = leaves_well (client_at s.clients c) refl (row (client_at s.clients c)).die
+  commanded_well (Connect class slots) name free = connects_well (refusal p c s (Connect class slots)) class slots
+  commanded_well (Send words) name free = sends_well (refusal p c s (Send words)) name words free (client_at s.clients c) refl
+  commanded_well Close name free = leaves_well (client_at s.clients c) refl (row (client_at s.clients c)).close
+  commanded_well Die name free = leaves_well (client_at s.clients c) refl (row (client_at s.clients c)).die

@@ -206,6 +206,9 @@ module _ (drops : Cell → Bool) (f : Cell → Service) where
       go None there e = cc
       go (Some c) there e = at c there (drops c) refl e
 
+  pub requested_before : (cs : List Cell) (n : ℕ) (o : Object) → Tidy cs → named (sifted drops f cs) n ≡ Some o → requested (sifted drops f cs) n ≡ requested cs n
+  requested_before cs n o t e = let b = named_before cs n o t e in requested_sifted cs t n b.0 b.1 b.3 ∙ sym (requested_cell cs n ∙ ap request_in b.1)
+
   -- of what is not there then nothing is served
   pub service_gone : (cs : List Cell) (n : ℕ) → Tidy cs → (c : Cell) → cell_of cs n ≡ Some c → drops c ≡ true → service_of (sifted drops f cs) n ≡ unserved
   service_gone cs n t c here goes = service_cell (sifted drops f cs) n ∙ ap service_in (cell_of_sifted cs n t ∙ ap kept here ∙ ap (λ d. cond d None (Some (record c { service = f c }))) goes)

@@ -13,9 +13,11 @@ use Rattle.std.specs.Prelude.{[], length}
 use Rattle.aom_clients.specs.declared.client.Client.{Client}
 use Rattle.aom_clients.specs.declared.client.Client.TheVariants.{Open}
 use Rattle.aom_clients.specs.declared.refusal.Refusal.{Refusal}
-use Rattle.aom_sound.specs.Clients.{Command, commanded, Connects, Sends, Closes, Dies, Listed, connecting, sending, leaving}
+use Rattle.aom_sound.specs.Clients.{commanded, Listed, connecting, sending, leaving}
 use Rattle.aom_sound.specs.Servers.{is_server}
 use Rattle.aom_sound.specs.Destruction.{begun}
+use Rattle.aom_transcript.specs.declared.event.Command.{Command}
+use Rattle.aom_transcript.specs.declared.event.Command.TheVariants.{Close, Connect, Die, Send}
 
 abbrev pub picked : ℕ → Seat → State → State
 picked m x s =
@@ -116,10 +118,10 @@ module _ (p : Image) (client : ℕ) (s : State) where
   leaving_kept (Some to) = (refl, refl)
 
   pub commanded_kept : (command : Command) (name : ℕ) → Keeps_rest (commanded p client s command name)
-  commanded_kept (Connects class slots) name = connecting_kept _ _ slots
-  commanded_kept (Sends words) name = sending_kept _ _ name words
-  commanded_kept Closes name = leaving_kept _
-  commanded_kept Dies name = leaving_kept _
+  commanded_kept (Connect class slots) name = connecting_kept _ _ slots
+  commanded_kept (Send words) name = sending_kept _ _ name words
+  commanded_kept Close name = leaving_kept _
+  commanded_kept Die name = leaving_kept _
 
 -- ---- a native that is polled
 

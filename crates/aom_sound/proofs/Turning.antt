@@ -1,7 +1,7 @@
 -- A turn from a well-typed state goes on to one: a timer completes a request, an object is dispatched, or time passes.
 use Rattle.std.proofs.Common.{Bool, IsTrue, List, None, Option, Some, [], ap, arith, cond, false, inl, inr, length, refl, subst, sym, true, ℕ, ℤ, ◌&&◌, ◌<◌, ◌==◌, ◌∙◌, ◌∷◌, ◌≡◌, pos}
 use Rattle.std.proofs.lemmas.Bool.{and_parts, eq-eqb, eqb-true, ne_eqb, true≢false}
-use Rattle.std.specs.Prelude.{is_some, map, nat_le, not, ◌||◌}
+use Rattle.std.specs.Prelude.{is_some, map, nat_le, not, ◌||◌, nat_lt}
 use Rattle.std.specs.Ordering.{int_eq}
 use Rattle.aom_image.specs.Image.{Image}
 use Rattle.aom_image.specs.Views.{has, method_class}
@@ -45,11 +45,13 @@ use Rattle.aom_sound.specs.Servers.{has_more, is_server}
 use Rattle.aom_sound.specs.Requests.{AllSuit, Known, Suits, is_timed, phase_state, resting_in, rests_in, thing_kind}
 use Rattle.aom_sound.specs.State.{A_mark, Inside, Of_object, Rest, Seat, State, thing_holder, Goes, IsStuck, CompletedTwice}
 use Rattle.aom_sound.specs.WellTyped.{AllSit, Fits, Good, Keeps, WellTyped, WordFits}
-use Rattle.aom_sound.specs.World.{AnswersWell, Candidate, Completes, Completion, Cuts, Outside, Timed, Turning, among_ready, before_others, by_timer, dispatched, first_due, first_ready, goes_before, goes_now, has_signal, is_ready, picks, turned, with_request, Hears, Kills, Polls, answered_by, by_event, delivers, lives, next_event, next_native, next_time, past_native, picked as any_picked, polled, polls, serves_first}
+use Rattle.aom_sound.specs.World.{AnswersWell, Candidate, Completes, Completion, Cuts, Outside, Timed, Turning, among_ready, before_others, by_timer, dispatched, first_due, first_ready, goes_before, goes_now, has_signal, is_ready, picks, turned, with_request, Hears, Kills, Polls, answered_by, by_event, delivers, lives, next_event, next_native, next_time, past_native, picked as any_picked, polled, polls, serves_first, Obeys, heard_one}
 use Rattle.aom_sound.specs.Natives.{all_bereaved, is_outstanding_at, is_owed, is_served_by, terminated, terminated_request}
 use Rattle.aom_transcript.specs.declared.event.Event.{Event}
-use Rattle.aom_transcript.specs.declared.event.Event.TheVariants.{Kill, Tell}
+use Rattle.aom_transcript.specs.declared.event.Event.TheVariants.{Kill, Tell, Client}
 use Rattle.aom_transcript.specs.declared.event.TimedEvent.{TimedEvent}
+use Rattle.aom_sound.proofs.Obeying.{commanded_well}
+use Rattle.aom_sound.specs.Clients.{client_count}
 
 -- ---- the object that is picked
 
@@ -351,20 +353,25 @@ module _ (p : Image) (t : Typing) (s : State) (w : WellTyped p t s) (idle_now : 
     poll_well None answer after owed then = then owed
     poll_well (Some n) answer after owed then = polled_well n answer owed
 
-    deliver_well : (outside : Outside) (event : Event) → Keeps p t (turned p s (delivers outside s event))
-    deliver_well outside (Tell n word) = same_well _
-    deliver_well outside (Kill n) = go (lives outside s n)
+    deliver_well : (outside : Outside) (name : ℕ) (event : Event) → named s.cells name ≡ None → Keeps p t (turned p s (delivers outside name s event))
+    deliver_well outside name (Tell n word) free = same_well _
+    deliver_well outside name (Kill n) free = go (lives outside s n)
       where
         go : (b : Bool) → Keeps p t (turned p s (cond b (Kills n) Hears))
         go true = bereaved_well n _ _
         go false = same_well _
-
-    event_well : (outside : Outside) (next : Option TimedEvent) (after : Turning) → AnswersWell p s (by_event outside s next after) → (AnswersWell p s after → Keeps p t (turned p s after)) → Keeps p t (turned p s (by_event outside s next after))
-    event_well outside None after owed then = then owed
-    event_well outside (Some e) after owed then = go (nat_le e.time s.rest.clock) owed
+    deliver_well outside name (Client c command) free = go (nat_lt c client_count)
       where
-        go : (b : Bool) → AnswersWell p s (cond b (delivers outside s e.event) after) → Keeps p t (turned p s (cond b (delivers outside s e.event) after))
-        go true owed = deliver_well outside e.event
+        go : (b : Bool) → Keeps p t (turned p s (cond b (Obeys c command name) Hears))
+        go true = commanded_well p t wired (heard_one s) (same_well _) idle_now fit c command name free
+        go false = same_well _
+
+    event_well : (outside : Outside) (name : ℕ) (next : Option TimedEvent) (after : Turning) → named s.cells name ≡ None → AnswersWell p s (by_event outside name s next after) → (AnswersWell p s after → Keeps p t (turned p s after)) → Keeps p t (turned p s (by_event outside name s next after))
+    event_well outside name None after free owed then = then owed
+    event_well outside name (Some e) after free owed then = go (nat_le e.time s.rest.clock) owed
+      where
+        go : (b : Bool) → AnswersWell p s (cond b (delivers outside name s e.event) after) → Keeps p t (turned p s (cond b (delivers outside name s e.event) after))
+        go true owed = deliver_well outside name e.event free
         go false owed = then owed
 
     timer_well : (next : Option Timed) (after : Turning) → AnswersWell p s (by_timer s next after) → (AnswersWell p s after → Keeps p t (turned p s after)) → Keeps p t (turned p s (by_timer s next after))
@@ -378,11 +385,11 @@ module _ (p : Image) (t : Typing) (s : State) (w : WellTyped p t s) (idle_now : 
 pub turn_goes_on : TurnGoesOn
 turn_goes_on p t outside wired typed heard s w between hears fit = go (nat_le outside.limit s.rest.dispatches) hears.completion
   where
-    go : (b : Bool) → AnswersWell p s (cond b Cuts (by_timer s (first_due s.cells) (by_event outside s (next_event outside s) (polls (next_native outside s) heard.completion (picks (has_signal s.cells) (first_ready s.cells) (next_time outside s))))))
-        → Keeps p t (turned p s (cond b Cuts (by_timer s (first_due s.cells) (by_event outside s (next_event outside s) (polls (next_native outside s) heard.completion (picks (has_signal s.cells) (first_ready s.cells) (next_time outside s)))))))
+    go : (b : Bool) → AnswersWell p s (cond b Cuts (by_timer s (first_due s.cells) (by_event outside heard.name s (next_event outside s) (polls (next_native outside s) heard.completion (picks (has_signal s.cells) (first_ready s.cells) (next_time outside s))))))
+        → Keeps p t (turned p s (cond b Cuts (by_timer s (first_due s.cells) (by_event outside heard.name s (next_event outside s) (polls (next_native outside s) heard.completion (picks (has_signal s.cells) (first_ready s.cells) (next_time outside s)))))))
     go true owed = same_well p t s w between.idle _
     go false owed =
         timer_well p t s w between.idle wired typed fit (first_due s.cells) _ owed (λ owed.
-        event_well p t s w between.idle wired typed fit outside (next_event outside s) _ owed (λ owed.
+        event_well p t s w between.idle wired typed fit outside heard.name (next_event outside s) _ hears.name owed (λ owed.
         poll_well p t s w between.idle wired typed fit (next_native outside s) heard.completion _ owed (λ owed.
         signal_well p t s w between.idle wired typed fit (next_time outside s))))

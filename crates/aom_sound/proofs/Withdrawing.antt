@@ -13,7 +13,6 @@ use Rattle.aom_shape.specs.declared.kind.Kind.{Kind}
 use Rattle.aom_shape.specs.declared.kind.Kind.TheVariants.{Null}
 use Rattle.aom_sound.proofs.Claimed.{declared_ready}
 use Rattle.aom_sound.proofs.ClientsLeave.{service_left}
-use Rattle.aom_sound.proofs.ClientsTurn.{message_plain}
 use Rattle.aom_sound.proofs.Maps.{named_name}
 use Rattle.aom_sound.proofs.Picking.{fits_ready}
 use Rattle.aom_sound.proofs.Queues.{none_stays}
@@ -24,6 +23,7 @@ use Rattle.aom_sound.specs.Places.{Asked, Cell, Close_of, Connect_of, Elsewhere,
 use Rattle.aom_sound.specs.Requests.{AllSuit, Suits, resting_in, rests_in, thing_kind}
 use Rattle.aom_sound.specs.Servers.{has_message, has_session, is_from, is_message, is_queue, is_server, left_by, message_thing, session_thing, stays, withdrawn}
 use Rattle.aom_sound.specs.WellTyped.{Fits, Good}
+use Rattle.aom_sound.proofs.Things.{message_plain}
 
 -- ---- what of a message stays in a queue
 

@@ -13,3 +13,6 @@ pub mod Events
 pub mod Servers
 pub mod Owners
 pub mod Kept
+pub mod Running
+pub mod Served
+pub mod Further

@@ -14,17 +14,14 @@ use Rattle.aom_clients.specs.Table.{at_gone, row}
 use Rattle.aom_shape.specs.Kinds.{is_object}
 use Rattle.aom_shape.specs.Tables.{at, put_at}
 use Rattle.aom_sound.specs.Places.{Asked, Cell, Close_of, Connect_of, Message_of, Elsewhere, Object, Queued, Request, service_of, unserved}
-use Rattle.aom_sound.specs.Servers.{asked_last, reserved, seats_taken, slots_taken, withdrawn, all_unslotted}
+use Rattle.aom_sound.specs.Servers.{asked_last, is_server, reserved, seats_taken, slots_taken, withdrawn, all_unslotted}
 use Rattle.aom_sound.specs.State.{State}
+use Rattle.aom_transcript.specs.declared.event.Command.{Command}
+use Rattle.aom_transcript.specs.declared.event.Command.TheVariants.{Connect, Send, Close, Die}
 
--- what a client does
-pub data Command : Type 0 where
-  -- it asks a server of that class for a session, with so many slots
-  Connects : (class slots : ℕ) → Command
-  -- it sends a message of these words, the function first
-  Sends : (words : List ℤ) → Command
-  Closes : Command
-  Dies : Command
+-- how many clients there are
+abbrev pub client_count : ℕ
+client_count = 64
 
 -- ---- what each is at
 
@@ -74,6 +71,10 @@ abbrev pub most_of : Option ClassKind → ℕ
 most_of (Some (A_server most session budget)) = most
 most_of _ = 0
 
+-- the server that a connect asks: no class but one of servers has one
+abbrev pub asked_server : Image → ℕ → List Cell → Option Listed
+asked_server p class cs = cond (is_server p (An_object_of class)) (first_listed class cs) None
+
 abbrev pub asked_of : Option Refusal → ℕ → Option Listed → List Cell → Option Refusal
 asked_of (Some refusal) most server cs = Some refusal
 asked_of None most None cs = Some NotFound
@@ -101,10 +102,10 @@ module _ (p : Image) (client : ℕ) (s : State) where
 
   -- why a command is refused, if it is
   abbrev pub refusal : Command → Option Refusal
-  refusal (Connects class slots) = asked_of (row own).connect (most_of (kind_of p (Some class))) (first_listed class s.cells) s.cells
-  refusal (Sends words) = room (row own).send
-  refusal Closes = None
-  refusal Dies = None
+  refusal (Connect class slots) = asked_of (row own).connect (most_of (kind_of p (Some class))) (asked_server p class s.cells) s.cells
+  refusal (Send words) = room (row own).send
+  refusal Close = None
+  refusal Die = None
 
   abbrev pub connecting : Option Refusal → Option Listed → ℕ → State
   connecting None (Some x) slots = record s { cells = reserved (asked_last (Connect_of client)) x.name s.cells; clients = with_client client (Connecting x.name slots) s.clients }
@@ -138,10 +139,10 @@ module _ (p : Image) (client : ℕ) (s : State) where
 
   -- what it comes to, with that name for a message
   abbrev pub commanded : Command → ℕ → State
-  commanded (Connects class slots) name = connecting (refusal (Connects class slots)) (first_listed class s.cells) slots
-  commanded (Sends words) name = sending (refusal (Sends words)) own name words
-  commanded Closes name = leaving (row own).close
-  commanded Dies name = leaving (row own).die
+  commanded (Connect class slots) name = connecting (refusal (Connect class slots)) (asked_server p class s.cells) slots
+  commanded (Send words) name = sending (refusal (Send words)) own name words
+  commanded Close name = leaving (row own).close
+  commanded Die name = leaving (row own).die
 
 -- ---- a server goes
 

@@ -1,5 +1,5 @@
 -- What clients are at, and what they have at servers, say the same.
-use Rattle.std.specs.Prelude.{ℕ, Bool, true, false, ◌&&◌, ◌<◌, ◌==◌, ◌≡◌, ◌≤◌, List, [], ◌∷◌, Some}
+use Rattle.std.specs.Prelude.{ℕ, Bool, true, false, ◌&&◌, ◌<◌, ◌==◌, ◌≡◌, ◌≤◌, List, [], ◌∷◌, Some, None}
 use Rattle.std.specs.List.{list_any}
 use Rattle.aom_image.specs.Image.{Image}
 use Rattle.aom_clients.specs.declared.client.Client.{Client}
@@ -7,7 +7,7 @@ use Rattle.aom_clients.specs.Nodes.{is_connecting_at, is_leaving, is_open_at}
 use Rattle.aom_clients.specs.Table.{server_of}
 use Rattle.aom_sound.specs.Clients.{client_at, most_of}
 use Rattle.aom_sound.specs.Enlisted.{thing_kind}
-use Rattle.aom_sound.specs.Places.{Asked, Cell, Close_of, Connect_of, Elsewhere, Message_of, Object, Queued, held, named, service_of}
+use Rattle.aom_sound.specs.Places.{Asked, Cell, Close_of, Connect_of, Elsewhere, Message_of, Object, Queued, held, named, service_of, requested}
 use Rattle.aom_sound.specs.Servers.{has_session, is_from, is_message, is_server, seats_taken}
 use Rattle.aom_sound.specs.State.{Accept_left, Accepted, Accepts, Dispatched, Of_server, Parts, Run, Service_left, Serves, Stage, State, Task, Trapped, Destroy, Closing, Unwind}
 
@@ -50,6 +50,8 @@ pub record ClientsFit (p : Image) (clients : List Client) (cs : List Cell) : Typ
   pub listed : (n c : ℕ) → server_of (client_at clients c) ≡ Some n → has_session (service_of cs n) c ≡ true
   -- only servers have any of it
   pub servers : (o : Object) → named cs o.name ≡ Some o → is_server p o.thing ≡ false → ((service_of cs o.name).queue ≡ []) × ((service_of cs o.name).sessions ≡ [])
+  -- and of these only such as are enlisted
+  pub enlisted : (o : Object) → named cs o.name ≡ Some o → requested cs o.name ≡ None → ((service_of cs o.name).queue ≡ []) × ((service_of cs o.name).sessions ≡ [])
   -- a message in a queue stands at its name, and is of the client that sent it
   pub names : (n m : ℕ) (o : Object) → held cs (Elsewhere (Queued n m)) ≡ Some o → o.name ≡ m
   pub senders : (n c m : ℕ) → list_any (is_message_of c m) (service_of cs n).queue ≡ true → is_from c (service_of cs m).sender ≡ true

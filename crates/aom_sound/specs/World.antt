@@ -6,7 +6,8 @@ use Rattle.aom_image.specs.declared.method.Role.TheVariants.{Run as Handles, Acc
 use Rattle.aom_image.specs.declared.method.Thing.{Thing}
 use Rattle.aom_image.specs.declared.method.Thing.TheVariants.{Object as An_object_of, Message}
 use Rattle.aom_classes.specs.Roles.{main_of}
-use Rattle.aom_sound.specs.Clients.{Command, commanded}
+use Rattle.aom_sound.specs.Clients.{client_count, commanded, refusal}
+use Rattle.aom_sound.specs.Lines.{refusal_line, serve_line}
 use Rattle.aom_sound.specs.Servers.{is_asked_for, is_server, reserved, taken_first}
 use Rattle.aom_sound.specs.Destruction.{begun}
 use Rattle.aom_sound.specs.Enlisted.{completed_with, is_active, is_idle, is_unsettled, on_request, part_of, pending, recorded, status_of, taken_up, timed_out}
@@ -15,7 +16,8 @@ use Rattle.aom_sound.specs.Places.{Cell, Object, Request, Timer, named, requeste
 use Rattle.aom_sound.specs.State.{AtRoot, Inside, frame_of, Seat, Task, Run, Trapped, Dispatched, Of_main, Of_object, A_mark, State, Choice, Outcome, Goes, IsStuck, CompletedTwice, NullOrDead, Stray, WrongKind, guarded, Frame, Stage, Accepts, Serves, Parts, Of_server}
 use Rattle.aom_sound.specs.Moves.{step, written, IsOpen}
 use Rattle.aom_transcript.specs.declared.event.Event.{Event}
-use Rattle.aom_transcript.specs.declared.event.Event.TheVariants.{Kill, Tell}
+use Rattle.aom_transcript.specs.declared.event.Command.{Command}
+use Rattle.aom_transcript.specs.declared.event.Event.TheVariants.{Client, Kill, Tell}
 use Rattle.aom_transcript.specs.declared.event.TimedEvent.{TimedEvent}
 use Rattle.aom_transcript.specs.declared.line.Line.{Line}
 use Rattle.aom_transcript.specs.declared.line.Line.TheVariants.{Killed, Run as Run_line}
@@ -196,7 +198,7 @@ pub data Turning : Type 0 where
   Cuts : Turning
   -- the timer of an object completes its request
   Completes : Object → Turning
-  -- an event changes nothing here: it is for a native, or kills none
+  -- an event changes nothing here: it is for a native, kills none, or is of no client
   Hears : Turning
   -- an event kills a native
   Kills : (native : ℕ) → Turning
@@ -247,14 +249,17 @@ abbrev pub polls : Option ℕ → Option Completion → Turning → Turning
 polls None answer after = after
 polls (Some n) answer after = Polls n answer
 
-abbrev pub delivers : Outside → State → Event → Turning
-delivers outside s (Tell n word) = Hears
-delivers outside s (Kill n) = cond (lives outside s n) (Kills n) Hears
+-- with a name for a message that is sent
+abbrev pub delivers : Outside → ℕ → State → Event → Turning
+delivers outside name s (Tell n word) = Hears
+delivers outside name s (Kill n) = cond (lives outside s n) (Kills n) Hears
+-- a number that is no client's is heard alone
+delivers outside name s (Client c command) = cond (nat_lt c client_count) (Obeys c command name) Hears
 
 -- all timers that are due have completed their requests
-abbrev pub by_event : Outside → State → Option TimedEvent → Turning → Turning
-by_event outside s None after = after
-by_event outside s (Some e) after = cond (nat_le e.time s.rest.clock) (delivers outside s e.event) after
+abbrev pub by_event : Outside → ℕ → State → Option TimedEvent → Turning → Turning
+by_event outside name s None after = after
+by_event outside name s (Some e) after = cond (nat_le e.time s.rest.clock) (delivers outside name s e.event) after
 
 abbrev pub by_timer : State → Option Timed → Turning → Turning
 by_timer s None after = after
@@ -265,7 +270,7 @@ abbrev pub turning : Outside → Heard → State → Turning
 turning outside heard s =
     cond (nat_le outside.limit s.rest.dispatches) Cuts
     (by_timer s (first_due s.cells)
-    (by_event outside s (next_event outside s)
+    (by_event outside heard.name s (next_event outside s)
     (polls (next_native outside s) heard.completion
     (picks (has_signal s.cells) (first_ready s.cells) (next_time outside s)))))
 
@@ -392,20 +397,25 @@ run_line s o = of_thing o.thing
     of_thing (An_object_of c) = Run_line s.rest.clock c (status_of (requested s.cells o.name)) ∷ []
     of_thing Message = []
 
-abbrev pub written_by : State → Turning → List Line
-written_by s (Picks x) = run_line s x.object
-written_by s (Kills n) = Killed n ∷ []
-written_by s _ = []
+-- and of that of a server
+abbrev pub pick_line : Image → State → Object → List Line
+pick_line p s o = cond (is_server p o.thing) (serve_line s.rest.clock o.thing (service_of s.cells o.name).queue) (run_line s o)
+
+abbrev pub written_by : Image → State → Turning → List Line
+written_by p s (Picks x) = pick_line p s x.object
+written_by p s (Kills n) = Killed n ∷ []
+written_by p s (Obeys c command name) = refusal_line c (refusal p c s command)
+written_by p s _ = []
 
 -- whatever is heard
-abbrev pub written_turn : Outside → State → List Line
-written_turn outside s = written_by s (turning outside nothing_heard s)
+abbrev pub written_turn : Image → Outside → State → List Line
+written_turn p outside s = written_by p s (turning outside nothing_heard s)
 
 -- the states that a run comes to, with the lines that it has written by then
 pub data Reaches (p : Image) (outside : Outside) (from : State) : List Line → State → Type 0 where
   begins : Reaches p outside from [] from
   moves : {lines : List Line} {s u : State} (c : Choice) → Reaches p outside from lines s → IsBusy s → IsOpen p outside.refused c s → step p c s ≡ Goes u → Reaches p outside from (lines ++ written p s) u
-  turns : {lines : List Line} {s u : State} (heard : Heard) → Reaches p outside from lines s → IsBetween s → HearsWell p outside heard s → turn p outside heard s ≡ Goes u → Reaches p outside from (lines ++ written_turn outside s) u
+  turns : {lines : List Line} {s u : State} (heard : Heard) → Reaches p outside from lines s → IsBetween s → HearsWell p outside heard s → turn p outside heard s ≡ Goes u → Reaches p outside from (lines ++ written_turn p outside s) u
 
 -- a run of the image from its boot, and how it ended
 pub record Run_of (p : Image) (outside : Outside) (lines : List Line) (s : State) (ending : Ending) : Type 0 where

@@ -30,7 +30,7 @@ use Rattle.aom_classes.specs.Roles.{role_of}
 use Rattle.aom_steps.proofs.Classes.{acceptor_serves, plain_session, run_price, server_price}
 use Rattle.aom_steps.proofs.Sessions.{of_claim}
 use Rattle.aom_roles.specs.Shapes.{kind_of}
-use Rattle.std.specs.Prelude.{is_some, nat_le}
+use Rattle.std.specs.Prelude.{is_some, nat_le, nat_lt}
 use Rattle.aom_sound.specs.Servers.{asked_last, is_queue, is_server, of_class, session_class, withdrawn}
 use Rattle.aom_sound.proofs.Turning.{found}
 use Rattle.aom_shape.specs.Kinds.{filled}
@@ -40,11 +40,13 @@ use Rattle.aom_sound.proofs.Signals.{at_rest}
 use Rattle.aom_transcript.specs.declared.event.TimedEvent.{TimedEvent}
 use Rattle.aom_clients.specs.declared.refusal.Refusal.{Refusal}
 use Rattle.aom_clients.specs.declared.client.Client.TheVariants.{Open}
-use Rattle.aom_transcript.specs.declared.event.Event.TheVariants.{Kill, Tell}
+use Rattle.aom_transcript.specs.declared.event.Event.TheVariants.{Client as Of_client, Kill, Tell}
 use Rattle.aom_classes.specs.Linked.{IsLinked}
 use Rattle.aom_shape.specs.declared.kind.Filling.TheVariants.{Full}
 use Rattle.aom_transcript.specs.declared.event.Event.{Event}
-use Rattle.aom_sound.specs.Clients.{Closes, Command, Connects, Dies, Listed, Sends, client_at, commanded, connecting, leaving, sending, told}
+use Rattle.aom_transcript.specs.declared.event.Command.{Command}
+use Rattle.aom_transcript.specs.declared.event.Command.TheVariants.{Close, Connect, Die, Send}
+use Rattle.aom_sound.specs.Clients.{Listed, client_at, client_count, commanded, connecting, leaving, sending, told}
 use Rattle.aom_clients.specs.declared.client.Client.{Client}
 
 -- ---- a turn that dispatches no object
@@ -104,10 +106,10 @@ module _ (p : Image) (c : Prices) (s : State) (idle : s.tasks ≡ []) where
       leaves (Some to) = with_cells (leaving p client v (Some to)) refl refl (told_same (client_at s.clients client) (withdrawn client s.cells) ∙ withdrawn_same c is_entry unqueued client s.cells)
 
       by : (command : Command) → Passed (commanded p client v command name)
-      by (Connects class slots) = connects _ _ slots
-      by (Sends words) = sends _ _ words
-      by Closes = leaves _
-      by Dies = leaves _
+      by (Connect class slots) = connects _ _ slots
+      by (Send words) = sends _ _ words
+      by Close = leaves _
+      by Die = leaves _
 
   passing : (x : Turning) → starts x ≡ false → (u : State) → turned p s x ≡ Goes u → Passed u
   passing Cuts f u e = passed u _ e (idle, refl)
@@ -145,20 +147,25 @@ module _ (s : State) (tidy : Tidy s.cells) where
   polls_lives None answer after f = f
   polls_lives (Some n) answer after f = tt
 
-  delivers_lives : (outside : Outside) (event : Event) → Lives s (delivers outside s event)
-  delivers_lives outside (Tell n word) = tt
-  delivers_lives outside (Kill n) = go (lives outside s n)
+  delivers_lives : (outside : Outside) (name : ℕ) (event : Event) → Lives s (delivers outside name s event)
+  delivers_lives outside name (Tell n word) = tt
+  delivers_lives outside name (Kill n) = go (lives outside s n)
     where
       go : (b : Bool) → Lives s (cond b (Kills n) Hears)
       go true = tt
       go false = tt
-
-  event_lives : (outside : Outside) (next : Option TimedEvent) (after : Turning) → Lives s after → Lives s (by_event outside s next after)
-  event_lives outside None after f = f
-  event_lives outside (Some e) after f = go (nat_le e.time s.rest.clock)
+  delivers_lives outside name (Of_client c command) = go (nat_lt c client_count)
     where
-      go : (b : Bool) → Lives s (cond b (delivers outside s e.event) after)
-      go true = delivers_lives outside e.event
+      go : (b : Bool) → Lives s (cond b (Obeys c command name) Hears)
+      go true = tt
+      go false = tt
+
+  event_lives : (outside : Outside) (name : ℕ) (next : Option TimedEvent) (after : Turning) → Lives s after → Lives s (by_event outside name s next after)
+  event_lives outside name None after f = f
+  event_lives outside name (Some e) after f = go (nat_le e.time s.rest.clock)
+    where
+      go : (b : Bool) → Lives s (cond b (delivers outside name s e.event) after)
+      go true = delivers_lives outside name e.event
       go false = f
 
   timer_lives : (next : Option Timed) (after : Turning) → Lives s after → Lives s (by_timer s next after)
@@ -172,9 +179,9 @@ module _ (s : State) (tidy : Tidy s.cells) where
   turning_lives : (outside : Outside) (heard : Heard) → Lives s (turning outside heard s)
   turning_lives outside heard = go (nat_le outside.limit s.rest.dispatches)
     where
-      go : (b : Bool) → Lives s (cond b Cuts (by_timer s (first_due s.cells) (by_event outside s (next_event outside s) (polls (next_native outside s) heard.completion (picks (has_signal s.cells) (first_ready s.cells) (next_time outside s))))))
+      go : (b : Bool) → Lives s (cond b Cuts (by_timer s (first_due s.cells) (by_event outside heard.name s (next_event outside s) (polls (next_native outside s) heard.completion (picks (has_signal s.cells) (first_ready s.cells) (next_time outside s))))))
       go true = tt
-      go false = timer_lives (first_due s.cells) _ (event_lives outside (next_event outside s) _ (polls_lives (next_native outside s) heard.completion _ (picks_lives (has_signal s.cells) (first_ready s.cells) refl (next_time outside s))))
+      go false = timer_lives (first_due s.cells) _ (event_lives outside heard.name (next_event outside s) _ (polls_lives (next_native outside s) heard.completion _ (picks_lives (has_signal s.cells) (first_ready s.cells) refl (next_time outside s))))
 
 module _ (p : Image) (t : Typing) (c : Prices) (linked : IsLinked p) (priced : IsPriced p t c) (s : State) (good : Good p t s.cells []) (bare : objects_left c s.cells + operations_left c s.items ≡ 0) (x : Seat)
     (there : named s.cells x.object.name ≡ Some x.object) where

@@ -1,10 +1,22 @@
 -- The text of a transcript.
-use Rattle.std.specs.Prelude.{ℕ, List, [], ◌∷◌, ◌++◌, codes, decimal, flat_map}
+use Rattle.std.specs.Prelude.{ℕ, ℤ, List, [], ◌∷◌, ◌++◌, codes, decimal, flat_map}
 use Rattle.std.specs.Fmt.{signed_decimal}
 use Rattle.aom_transcript.specs.declared.line.Line.{Line}
-use Rattle.aom_transcript.specs.declared.line.Line.TheVariants.{Main, Out, Leave, Gone, Run, Killed}
+use Rattle.aom_transcript.specs.declared.line.Line.TheVariants.{Main, Out, Leave, Gone, Run, Killed, Serve, Reply, Discard, Refuse}
+use Rattle.aom_transcript.specs.declared.line.Asked.{Asked}
+use Rattle.aom_transcript.specs.declared.line.Asked.TheVariants.{Connect, Message, Close}
 use Rattle.aom_transcript.specs.declared.line.Ending.{Ending}
 use Rattle.aom_transcript.specs.declared.line.Ending.TheVariants.{Stopped, Waiting, MainLeft, Limit, Error}
+
+-- what a server is asked for, with the spaces round it
+abbrev pub asked_text : Asked → List ℕ
+asked_text Connect = codes " connect "
+asked_text Message = codes " message "
+asked_text Close = codes " close "
+
+-- a client, and the code that it is told
+abbrev pub answer_text : ℕ → ℤ → List ℕ
+answer_text client code = decimal client ++ codes " " ++ signed_decimal code
 
 -- a line, without its line feed
 abbrev pub line_text : Line → List ℕ
@@ -14,6 +26,10 @@ line_text (Leave code) = codes "leave " ++ signed_decimal code
 line_text (Gone class) = codes "gone " ++ decimal class
 line_text (Run time class status) = codes "@" ++ decimal time ++ codes " run " ++ decimal class ++ codes " " ++ signed_decimal status
 line_text (Killed native) = codes "killed " ++ decimal native
+line_text (Serve time class asked client) = codes "@" ++ decimal time ++ codes " serve " ++ decimal class ++ asked_text asked ++ decimal client
+line_text (Reply client code) = codes "reply " ++ answer_text client code
+line_text (Discard client code) = codes "discard " ++ answer_text client code
+line_text (Refuse client code) = codes "refuse " ++ answer_text client code
 
 -- how a run ended
 abbrev pub ending_text : Ending → List ℕ

@@ -7,6 +7,19 @@ pub enum Event {
     Tell(u8, i32),
     /// The native of that number is killed.
     Kill(u8),
+    /// What the client of that number does.
+    Client(u8, Command),
+}
+
+/// What a client does.
+#[derive(Clone, Copy, PartialEq, Eq, Debug)]
+pub enum Command {
+    /// It asks a server of that class for a session with so many slots.
+    Connect(u8, u8),
+    /// It sends a message of these words, the function first.
+    Send([i32; 5]),
+    Close,
+    Die,
 }
 
 /// An event, and when it comes, in microseconds.

@@ -16,6 +16,22 @@ pub enum Line {
     Run(u64, ClassNumber, i32),
     /// The native of that number was killed.
     Killed(u8),
+    /// The dispatch of a server of that class begins, at that time, for such a request of that client.
+    Serve(u64, ClassNumber, Asked, u8),
+    /// A connect or a message of that client is completed with that code.
+    Reply(u8, i32),
+    /// So is a message of a client that has closed or died since it was sent, and nobody is told.
+    Discard(u8, i32),
+    /// What that client asked for was refused with that code.
+    Refuse(u8, i32),
+}
+
+/// What waits in the queue of a server.
+#[derive(Clone, Copy, PartialEq, Eq, Debug)]
+pub enum Asked {
+    Connect,
+    Message,
+    Close,
 }
 
 /// How a run ends.

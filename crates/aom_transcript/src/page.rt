@@ -1,9 +1,9 @@
 //! The text of lines, in a buffer of its own.
 ghost use Rattle.std.specs.Prelude.{◌≡◌, ◌+◌, ◌≤◌, ◌↔◌, IsTrue, [], ◌∷◌, ◌++◌, length, decimal, codes};
 ghost use Rattle.std.specs.Fmt.{signed_decimal};
-ghost use Rattle.aom_transcript.specs.Text.{line_text, end_text, ending_text, ended, tried_text};
+ghost use Rattle.aom_transcript.specs.Text.{answer_text, asked_text, line_text, end_text, ending_text, ended, tried_text};
 
-use crate::{Ending, Line};
+use crate::{Asked, Ending, Line};
 use arrayvec::ArrayVec;
 use itoa::Buffer;
 use std::marker::Model;
@@ -56,6 +56,12 @@ impl Page {
             Line::Gone(class) => self.add_gone(class.number()),
             Line::Run(time, class, status) => self.add_run(*time, class.number(), *status),
             Line::Killed(native) => self.add_killed(*native),
+            Line::Serve(time, class, asked, client) => {
+                self.add_serve(*time, class.number(), *asked, *client)
+            }
+            Line::Reply(client, code) => self.add_reply(*client, *code),
+            Line::Discard(client, code) => self.add_discard(*client, *code),
+            Line::Refuse(client, code) => self.add_refuse(*client, *code),
         }
     }
 
@@ -150,6 +156,66 @@ impl Page {
     {
         self.add(b"killed ");
         self.add_class(u16::from(native));
+        self.add(b"\n");
+    }
+
+    fn add_serve(&mut self, time: u64, class: u16, asked: Asked, client: u8)
+        requires { length self.old + 64 ≤ 4096 }
+        ensures { self.new ≡ self.old ++ ended (line_text (Line.Serve time class asked client)) }
+    {
+        self.add(b"@");
+        self.add_number(time);
+        self.add(b" serve ");
+        self.add_class(class);
+        self.add_asked(asked);
+        self.add_class(u16::from(client));
+        self.add(b"\n");
+    }
+
+    fn add_asked(&mut self, asked: Asked)
+        requires { length self.old + 9 ≤ 4096 }
+        ensures text { self.new ≡ self.old ++ asked_text asked }
+        ensures short { length self.new ≤ length self.old + 9 }
+    {
+        match asked {
+            Asked::Connect => self.add(b" connect "),
+            Asked::Message => self.add(b" message "),
+            Asked::Close => self.add(b" close "),
+        }
+    }
+
+    fn add_reply(&mut self, client: u8, code: i32)
+        requires { length self.old + 64 ≤ 4096 }
+        ensures { self.new ≡ self.old ++ ended (line_text (Line.Reply client code)) }
+    {
+        self.add(b"reply ");
+        self.add_answer(client, code);
+    }
+
+    fn add_discard(&mut self, client: u8, code: i32)
+        requires { length self.old + 64 ≤ 4096 }
+        ensures { self.new ≡ self.old ++ ended (line_text (Line.Discard client code)) }
+    {
+        self.add(b"discard ");
+        self.add_answer(client, code);
+    }
+
+    fn add_refuse(&mut self, client: u8, code: i32)
+        requires { length self.old + 64 ≤ 4096 }
+        ensures { self.new ≡ self.old ++ ended (line_text (Line.Refuse client code)) }
+    {
+        self.add(b"refuse ");
+        self.add_answer(client, code);
+    }
+
+    /// Adds a client and a code, and ends the line.
+    fn add_answer(&mut self, client: u8, code: i32)
+        requires { length self.old + 32 ≤ 4096 }
+        ensures { self.new ≡ self.old ++ ended (answer_text client code) }
+    {
+        self.add_class(u16::from(client));
+        self.add(b" ");
+        self.add_word(code);
         self.add(b"\n");
     }
 

@@ -131,6 +131,99 @@ fn leaves_and_entries_keep_their_rules(rt: HostRuntime) -> Result<(), Fail> {
     Ok(())
 }
 
+/// What is said of those methods beside a server, a class of its sessions, S, and a class H that owns a message.
+fn answer_beside(alloc: Global, methods: &str) -> Result<String, Fail> {
+    let classes = "class S session;class V server S max 4 budget 40;class H plain own msg";
+    let destruct = "method d destruct of H;take r0 f0;jnull r0 N;const r1 0;reply r0 r1;N: ret;end";
+    let accept = "method c accept of V leaves;newl r0 S;ret r0;end";
+    let text = format!(in alloc;
+        "{classes};{methods};{destruct};{accept};method main main;ret;end"
+    )?;
+    answer_to(alloc, text.as_str())
+}
+
+/// The reasons are the kind of a register or a message that is taken already, 1, one that a return or a leave loses, 3
+/// and 17, and one that is not taken, or on one way alone, 18.
+#[test]
+fn a_service_takes_its_message(rt: HostRuntime) -> Result<(), Fail> {
+    for (case, code, line) in [
+        (
+            "one that is taken and replied",
+            "leaveif r0;takemsg r5;reply r5 r1",
+            "checked",
+        ),
+        (
+            "taken twice",
+            "takemsg r5;reply r5 r0;takemsg r5",
+            "verify 0 2 1",
+        ),
+        (
+            "taken over an object",
+            "newl r5 C;takemsg r5",
+            "verify 0 1 1",
+        ),
+        ("a reply of a word", "reply r0 r1", "verify 0 0 1"),
+        (
+            "a reply with no word",
+            "takemsg r5;reply r5 r6",
+            "verify 0 1 1",
+        ),
+        ("lost by a return", "takemsg r5", "verify 0 1 3"),
+        (
+            "a leave behind it",
+            "takemsg r5;reply r5 r0;leaveif r0",
+            "verify 0 2 17",
+        ),
+        (
+            "an object that may be refused, behind it",
+            "takemsg r5;reply r5 r0;newl r6 C;delete r6",
+            "verify 0 2 17",
+        ),
+        ("never taken", "stop", "verify 0 1 18"),
+        (
+            "taken on one way alone",
+            "jeq r0 r1 L;takemsg r5;reply r5 r0;L: stop",
+            "verify 0 3 18",
+        ),
+    ] {
+        let service = format!(in rt.alloc(); "method a service of S leaves;{code};ret;end")?;
+        let answer = answer_beside(rt.alloc(), service.as_str())?;
+        assert_eq!(rt; answer.as_str(), line, "{case}");
+    }
+    Ok(())
+}
+
+/// The reasons are the kind of a register, or a method that serves nothing, 1, and a message that a return loses, 3.
+#[test]
+fn other_methods_reply_to_messages(rt: HostRuntime) -> Result<(), Fail> {
+    for (case, method, line) in [
+        (
+            "one that is passed",
+            "do args msg,word;reply r0 r1",
+            "checked",
+        ),
+        ("taken in no service", "do of S;takemsg r0", "verify 0 0 1"),
+        (
+            "a reply of an object",
+            "do args C,word;reply r0 r1",
+            "verify 0 0 1",
+        ),
+        (
+            "a reply of what may be null",
+            "do of H args word;take r1 f0;reply r1 r0",
+            "verify 0 1 1",
+        ),
+        ("lost by a return", "do args msg;stop", "verify 0 1 3"),
+        ("deleted", "do args msg;delete r0", "verify 0 0 1"),
+    ] {
+        let service = "method b service of S;takemsg r5;reply r5 r0;ret;end";
+        let methods = format!(in rt.alloc(); "method a {method};ret;end;{service}")?;
+        let answer = answer_beside(rt.alloc(), methods.as_str())?;
+        assert_eq!(rt; answer.as_str(), line, "{case}");
+    }
+    Ok(())
+}
+
 #[test]
 fn the_line_of_a_refusal(rt: HostRuntime) -> Result<(), Fail> {
     let Some(method) = MethodNumber::new(2) else {

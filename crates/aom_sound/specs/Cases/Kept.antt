@@ -8,7 +8,7 @@ use Rattle.aom_sound.specs.Places.{Asked, Cell, Close_of, Connect_of, Elsewhere,
 use Rattle.aom_sound.specs.State.{Accept_left, Accepts, Dispatched, Of_server, Parts, Stage}
 use Rattle.aom_sound.specs.Cases.Building.{a_cell, pair}
 use Rattle.aom_sound.specs.Cases.Moves.{an_image}
-use Rattle.aom_sound.specs.Cases.Servers.{a_server, a_session, seat}
+use Rattle.aom_sound.specs.Cases.Servers.{a_server, a_session, asked, listed, seat}
 
 -- clients that are at that, and these cells
 abbrev pub Fit : List Client → List Cell → Type 0
@@ -24,9 +24,9 @@ connecting = Connecting 5 4 ∷ []
 abbrev pub leaving : List Client
 leaving = Closing 5 2 ∷ []
 
--- with that queue, and sessions of these clients
+-- enlisted, with that queue, and sessions of these clients
 abbrev pub serves : List Asked → List ℕ → Cell
-serves queue sessions = a_server (record { queue = queue; sessions = sessions; sender = None })
+serves queue sessions = listed (a_server (record { queue = queue; sessions = sessions; sender = None }))
 
 -- a message of that client, by that name, in the server's queue where the number says
 abbrev pub waits : (name client place : ℕ) → Cell
@@ -53,8 +53,11 @@ pub record KeptBites : Type 0 where
   pub session_of_nobody : Fit [] (serves [] (0 ∷ []) ∷ a_session ∷ []) → ⊥
   pub session_not_listed : Fit opened (serves [] [] ∷ a_session ∷ []) → ⊥
   -- no other cell has a queue or sessions
-  pub plain_queue : Fit connecting (record (a_cell 5 pair (Elsewhere Root)) { service = record unserved { queue = Connect_of 0 ∷ [] } } ∷ []) → ⊥
-  pub plain_sessions : Fit opened (record (a_cell 5 pair (Elsewhere Root)) { service = record unserved { sessions = 0 ∷ [] } } ∷ []) → ⊥
+  pub plain_queue : Fit connecting (listed (record (a_cell 5 pair (Elsewhere Root)) { service = record unserved { queue = Connect_of 0 ∷ [] } }) ∷ []) → ⊥
+  pub plain_sessions : Fit opened (listed (record (a_cell 5 pair (Elsewhere Root)) { service = record unserved { sessions = 0 ∷ [] } }) ∷ []) → ⊥
+  -- nor has a server that is not enlisted
+  pub unlisted_queue : Fit connecting (a_server (asked (Connect_of 0 ∷ [])) ∷ []) → ⊥
+  pub unlisted_sessions : Fit opened (a_server (record unserved { sessions = 0 ∷ [] }) ∷ []) → ⊥
   -- a message stands at its name, and is of the client that sent it
   pub misplaced : Fit opened (serves (Message_of 0 7 ∷ []) (0 ∷ []) ∷ waits 7 0 8 ∷ []) → ⊥
   pub sent_by_another : Fit opened (serves (Message_of 0 7 ∷ []) (0 ∷ []) ∷ waits 7 1 7 ∷ []) → ⊥

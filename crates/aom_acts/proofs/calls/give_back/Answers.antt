@@ -1,7 +1,7 @@
 use Rattle.std.proofs.lemmas.Bool.{false≢true}
 use Rattle.aom_acts.proofs.CancelEnds.{is_cancelled, is_over}
 use Rattle.aom_acts.proofs.Finding.{finds_method, returns_to}
-use Rattle.aom_acts.proofs.OnTop.{ends_on_top, goes_on_top, leaves_on_top, runs_on, trap_on}
+use Rattle.aom_acts.proofs.OnTop.{closes_on_top, closing_not_returned, ends_on_top, goes_on_top, leaves_on_top, runs_on, trap_on}
 use Rattle.aom_acts.proofs.Topping.{coded_through, ends_under, finds_mark, returns_within, returns_within_through}
 use Rattle.std.proofs.Common.{suc, subst, sym, refl, ◌∙◌}
 use Rattle.aom_image.specs.Views.{instr_at}
@@ -13,7 +13,7 @@ use Rattle.aom_parts.specs.Places as places
 use Rattle.aom_parts.specs.Places.{IsDestroying, IsTrapped, IsUnwinding, with_tasks}
 use Rattle.aom_acts.specs.Next.{counting}
 use Rattle.aom_parts.specs.Room.{ReturnsTo}
-use Rattle.aom_acts.proofs.ReturnActs.{dropped, gives_here, return_to_dispatch, return_to_end, return_to_going, return_through, return_to_method, return_to_unwinding}
+use Rattle.aom_acts.proofs.ReturnActs.{dropped, gives_here, can_serve, return_to_dispatch, return_to_end, return_to_going, return_through, return_to_method, return_to_unwinding}
 use Rattle.aom_acts.proofs.calls.give_back.Goals as goal
 
 pub method-method-requires : goal.method-method-requires
@@ -57,6 +57,14 @@ receive_trapped-requires-clause-within c =
 
 pub unreachable-requires : goal.unreachable-requires
 unreachable-requires c =
+    let p = c.args.linked.now in
+    let m = c.args.parts.now in
+    let drop = dropped c.args.parts.now _ _ c.end_cancel.ensures.rest c.drop_task.ensures in
+    let closing = closes_on_top _ _ (rw drop at c.in-Some-Closing.ensures.some) c.in-Some-Closing.field-0-is in
+    closing_not_returned p (below_first m.stack.tasks) closing (returns_to p (counting c.requires.counts m) c.requires.stands c.requires.runs)
+
+pub unreachable-requires-in-None : goal.unreachable-requires-in-None
+unreachable-requires-in-None c =
     let p = c.args.linked.now in
     let m = c.args.parts.now in
     let drop = dropped c.args.parts.now _ _ c.end_cancel.ensures.rest c.drop_task.ensures in
@@ -110,7 +118,7 @@ returns-else-is_running c = λ refused.
     let stops : Runs (below_first (below_first m.stack.tasks)) → ⊥ = λ runs. false≢true (sym c.if-is_running.false ∙ c.is_running.ensures.1 (rw (c.drop_task-in-Some-Trapped.ensures, drop) runs)) in
     let marked = rw (c.drop_task-in-Some-Trapped.ensures, drop) at c.unmark.ensures in
     let below = returns_to p (counting c.requires.counts m) c.requires.stands c.requires.runs in
-    rw (c.drop_task-in-Some-Trapped.ensures, drop)
+    rw (c.serve.ensures, c.register-number.ensures.value, c.drop_task-in-Some-Trapped.ensures, drop)
     (return_to_end p m refused c.args.from c.end_cancel.new.parts.active over c.unmark.new.self (ends_under p (below_first m.stack.tasks) below trapped stops) trapped marked)
 
 pub returns-in-Some-Unwind : goal.returns-in-Some-Unwind
@@ -141,3 +149,13 @@ returns-in-Some-Dispatched c = λ refused.
     let ending = ends_on_top _ _ (rw drop at c.in-Some-Dispatched.ensures.some) c.in-Some-Dispatched.field-0-is in
     let gives = gives_here p (method_here m.stack.tasks) c.method-method.result.now found in
     rw (c.hear.ensures, c.register-number.ensures.value, drop) (return_to_dispatch p m refused c.args.from c.end_cancel.new.parts.active over _ _ gives ending)
+
+pub serve-requires-clause-can : goal.serve-requires-clause-can
+serve-requires-clause-can c =
+    let p = c.args.linked.now in
+    let m = c.args.parts.now in
+    let drop = dropped c.args.parts.now _ _ c.end_cancel.ensures.rest c.drop_task.ensures in
+    let trapped : IsTrapped (below_first m.stack.tasks) = subst IsTrapped (sym (trap_on _ _ (rw drop at c.in-Some-Trapped.ensures.some) c.in-Some-Trapped.field-0-is)) tt in
+    let stops : Runs (below_first (below_first m.stack.tasks)) → ⊥ = λ runs. false≢true (sym c.if-is_running.false ∙ c.is_running.ensures.1 (rw (c.drop_task-in-Some-Trapped.ensures, drop) runs)) in
+    let below = returns_to p (counting c.requires.counts m) c.requires.stands c.requires.runs in
+    rw (c.register-number.ensures.value, c.drop_task-in-Some-Trapped.ensures, drop) (can_serve p m c.args.from c.requires trapped (ends_under p (below_first m.stack.tasks) below trapped stops))

@@ -5,4 +5,4 @@ use Rattle.aom_classes.proofs.linked.link.Goals as goal
 pub returns-in_err-main-clause-err : goal.returns-in_err-main-clause-err
 returns-in_err-main-clause-err c =
     let p = err_from_is_err_and c.from_residual.result c.from_residual.ensures.1 in
-    rw (p.1, p.2) (refuses _ _ (c.is_admitted.ensures.0 c.if-not-is_admitted.false) c.in_err-main.ensures.err)
+    rw (p.1, p.2) (refuses _ _ c.in_err-main.ensures.err)

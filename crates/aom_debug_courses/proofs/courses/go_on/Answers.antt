@@ -13,6 +13,7 @@ use Rattle.aom_debug_courses.specs.declared.walking.Until.TheVariants.{Breakpoin
 use Rattle.aom_debug_courses.proofs.Going.{cut_run}
 use Rattle.aom_debug_courses.proofs.Leaving.{left_falls, left_in}
 use Rattle.aom_debug_courses.proofs.Passing.{begins_far, far_cut, goes_far, went_on}
+use Rattle.aom_debug_courses.proofs.Strides.{walked_if_any}
 use Rattle.aom_debug_courses.proofs.courses.go_on.Goals as goal
 
 pub loop-progress-init : goal.loop-progress-init
@@ -20,14 +21,18 @@ loop-progress-init g c =
     let p = c.args.machine.now.core.image in
     let outside = hearing c.args.turn.now.refused c.args.limit (natives_of c.args.machine.now) c.args.events.now in
     let stays = λ (s : State). stays_at p Breakpoint c.args.breakpoints.now s in
+    let walks =
+    walked_if_any p outside.refused stays c.args.recent.now c.walk_unless.new.recent c.args.machine.now c.walk_unless.new.machine (g.W.Sink.out c.args.out.now) (g.W.Sink.out c.walk_unless.new.out) c.is_idle-rests.result
+    c.is_idle-rests.ensures.rests c.in_ok-progress.ensures.some.0
+    in
     record {
-      so_far = begins_far p outside stays c.args.recent.now c.walk_if_any.new.recent c.args.machine.now c.walk_if_any.new.machine (g.W.Sink.out c.args.out.now) (g.W.Sink.out c.walk_if_any.new.out) c.in_ok-progress.ensures.some.0;
+      so_far = begins_far p outside stays c.args.recent.now c.walk_unless.new.recent c.args.machine.now c.walk_unless.new.machine (g.W.Sink.out c.args.out.now) (g.W.Sink.out c.walk_unless.new.out) walks;
       far = c.in_ok-progress.ensures.some.1;
-      stands = c.walk_if_any.ensures.stands;
-      agree = c.walk_if_any.ensures.agree;
-      image = c.walk_if_any.ensures.image;
-      natives = c.walk_if_any.ensures.natives;
-      turn = c.walk_if_any.ensures.turn;
+      stands = c.walk_unless.ensures.stands;
+      agree = c.walk_unless.ensures.agree;
+      image = c.walk_unless.ensures.image;
+      natives = c.walk_unless.ensures.natives;
+      turn = c.walk_unless.ensures.turn;
     }
 
 pub returns-in_default-clause-some : goal.returns-in_default-clause-some
@@ -46,7 +51,7 @@ returns-in_err-progress-clause-none g c =
     let p = c.args.machine.now.core.image in
     let outside = hearing c.args.turn.now.refused c.args.limit (natives_of c.args.machine.now) c.args.events.now in
     let off = c.in_err-progress.ensures.none in
-    given_up c.from_residual.result (off.0, cut_run p outside c.args.machine.now c.walk_if_any.new.machine (g.W.Sink.out c.args.out.now) (g.W.Sink.out c.walk_if_any.new.out) off.1)
+    given_up c.from_residual.result (off.0, cut_run p outside c.args.machine.now c.walk_unless.new.machine (g.W.Sink.out c.args.out.now) (g.W.Sink.out c.walk_unless.new.out) off.1)
 
 pub returns-in_err-progress-2-clause-none : goal.returns-in_err-progress-2-clause-none
 returns-in_err-progress-2-clause-none g c =

@@ -5,6 +5,7 @@ use Rattle.std.proofs.lemmas.List.{length-map}
 use Rattle.std.proofs.lemmas.Result.{err_from_is_err_and}
 use Rattle.aom_transcript.specs.Text.{ended}
 use Rattle.aom_scheduler.specs.declared.entry.Entry.{Entry}
+use Rattle.aom_image.specs.Image.{Image}
 use Rattle.aom_sound.specs.State.{State}
 use Rattle.aom_parts.specs.declared.parts.Parts.{Parts}
 use Rattle.aom_debug_lines.specs.Answers.{answer_text}
@@ -18,8 +19,8 @@ use Rattle.aom_debug_sights.proofs.actives.tell_actives.Goals as goal
 abbrev of_answer : Answer → List ℕ
 of_answer answer = ended (answer_text answer)
 
-abbrev told : Parts → State → ℕ → List Answer
-told m s k = listed (active_at s.cells (slice_get (names_of m) k))
+abbrev told : Image → Parts → State → ℕ → List Answer
+told p m s k = listed (active_at p s.cells (slice_get (names_of m) k))
 
 pub returns-in_err-tell_any-clause-err : goal.returns-in_err-tell_any-clause-err
 returns-in_err-tell_any-clause-err g c =
@@ -28,11 +29,11 @@ returns-in_err-tell_any-clause-err g c =
     let within = c.loop-place-test.true in
     let count = c.count-place-end.ensures.value in
     let many = length-map m.active.roster.entries (λ (e : Entry). e.id) in
-    rw (error.1, error.2) (λ p. actives_cut (record { image = p; parts = m }) c.count-place-end.ensures.all _ _ _ _ (tells_part of_answer (record { image = p; parts = m }) (told m) (λ s. length (names_of m)) c.loop-place.place _ _ _ (listed c.place_answer.result) _ _ (c.loop-place.invariant p)
+    rw (error.1, error.2) (λ p. actives_cut (record { image = p; parts = m }) c.count-place-end.ensures.all _ _ _ _ (tells_part of_answer (record { image = p; parts = m }) (told p m) (λ s. length (names_of m)) c.loop-place.place _ _ _ (listed c.place_answer.result) _ _ (c.loop-place.invariant p)
     (λ s st. ap listed (c.place_answer.ensures p s st)) (λ s st. omega (arith, within, count, many)) c.in_err-tell_any.ensures.err))
 
 pub loop-place-preserved : goal.loop-place-preserved
-loop-place-preserved g c = λ p. tells_next of_answer (record { image = p; parts = c.args.parts.now }) (told c.args.parts.now) c.loop-place.place _ _ _ (listed c.place_answer.result) (c.loop-place.invariant p) (λ s st. ap listed (c.place_answer.ensures p s st)) c.in_ok-tell_any.ensures.ok
+loop-place-preserved g c = λ p. tells_next of_answer (record { image = p; parts = c.args.parts.now }) (told p c.args.parts.now) c.loop-place.place _ _ _ (listed c.place_answer.result) (c.loop-place.invariant p) (λ s st. ap listed (c.place_answer.ensures p s st)) c.in_ok-tell_any.ensures.ok
 
 pub returns-clause-ok : goal.returns-clause-ok
 returns-clause-ok g c =
@@ -41,4 +42,4 @@ returns-clause-ok g c =
     let most = c.loop-place.auto.place-end in
     let least = c.loop-place-test.false in
     let many = length-map m.active.roster.entries (λ (e : Entry). e.id) in
-    λ p. actives_told (record { image = p; parts = m }) c.count-place-end.ensures.all _ _ (tells_all of_answer (record { image = p; parts = m }) (told m) (λ s. length (names_of m)) c.loop-place.place _ _ (c.loop-place.invariant p) (λ s st. omega (arith, count, most, least, many)))
+    λ p. actives_told (record { image = p; parts = m }) c.count-place-end.ensures.all _ _ (tells_all of_answer (record { image = p; parts = m }) (told p m) (λ s. length (names_of m)) c.loop-place.place _ _ (c.loop-place.invariant p) (λ s st. omega (arith, count, most, least, many)))

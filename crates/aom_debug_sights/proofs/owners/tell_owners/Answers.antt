@@ -1,15 +1,15 @@
--- The root, the registers, the cleanup stack and what goes, one after the other.
+-- The root, the registers, the cleanup stack, the message that is served and what goes, one after the other.
 use Rattle.std.proofs.Common.{◌++◌, List, length}
 use Rattle.std.proofs.lemmas.Result.{IfErr-weaker, IfOk-weaker, err_from_is_err_and}
-use Rattle.aom_sound.specs.Places.{Elsewhere, Root}
+use Rattle.aom_sound.specs.Places.{Elsewhere, In_service, Root}
 use Rattle.aom_sound.specs.State.{State}
 use Rattle.aom_parts.specs.Stands.{Machine}
-use Rattle.aom_debug_sights.specs.Owners.{At_root, Owned, entries_map, goings_map, grown, owned_line, registers_map}
-use Rattle.aom_debug_sights.proofs.Tasks.{root_shows}
+use Rattle.aom_debug_sights.specs.Owners.{At_root, At_service, Owned, entries_map, goings_map, grown, owned_line, registers_map}
+use Rattle.aom_debug_sights.proofs.Tasks.{root_shows, service_shows}
 use Rattle.aom_debug_sights.proofs.Telling.{cut_first, cut_later, tells_both}
 use Rattle.aom_debug_sights.proofs.owners.tell_owners.Goals as goal
 
--- the four parts, and what comes after each
+-- the five parts, and what comes after each
 abbrev of_root : State → List Owned
 of_root s = grown s.cells At_root (Elsewhere Root)
 
@@ -22,17 +22,23 @@ of_entries s = entries_map s (length s.items)
 abbrev of_goings : State → List Owned
 of_goings s = goings_map s (length s.tasks)
 
+abbrev of_service : State → List Owned
+of_service s = grown s.cells At_service (Elsewhere In_service)
+
 abbrev last_two : State → List Owned
-last_two s = of_entries s ++ of_goings s
+last_two s = of_service s ++ of_goings s
 
 abbrev last_three : State → List Owned
-last_three s = of_registers s ++ last_two s
+last_three s = of_entries s ++ last_two s
+
+abbrev last_four : State → List Owned
+last_four s = of_registers s ++ last_three s
 
 pub returns-in_err-tell_place-clause-err : goal.returns-in_err-tell_place-clause-err
 returns-in_err-tell_place-clause-err g c =
     let error = err_from_is_err_and c.from_residual.result c.from_residual.ensures.1 in
     let m : Machine = record { image = c.args.accepted.now; parts = c.args.parts.now } in
-    rw (error.1, error.2) (cut_first owned_line m of_root last_three _ _ _ _ (c.in_err-tell_place.ensures.err m.image At_root (Elsewhere Root) c.root.ensures.text (root_shows m.image m.parts)))
+    rw (error.1, error.2) (cut_first owned_line m of_root last_four _ _ _ _ (c.in_err-tell_place.ensures.err m.image At_root (Elsewhere Root) c.root.ensures.text (root_shows m.image m.parts)))
 
 pub returns-in_err-tell_registers-clause-err : goal.returns-in_err-tell_registers-clause-err
 returns-in_err-tell_registers-clause-err g c =
@@ -40,7 +46,7 @@ returns-in_err-tell_registers-clause-err g c =
     let m : Machine = record { image = c.args.accepted.now; parts = c.args.parts.now } in
     let root = c.in_ok-tell_place.ensures.ok m.image At_root (Elsewhere Root) c.root.ensures.text (root_shows m.image m.parts) in
     let cut = rw c.checked.ensures at c.in_err-tell_registers.ensures.err in
-    rw (error.1, error.2) (cut_later owned_line m of_root last_three _ _ _ _ _ root (cut_first owned_line m of_registers last_two _ _ _ _ cut))
+    rw (error.1, error.2) (cut_later owned_line m of_root last_four _ _ _ _ _ root (cut_first owned_line m of_registers last_three _ _ _ _ cut))
 
 pub returns-in_err-tell_entries-clause-err : goal.returns-in_err-tell_entries-clause-err
 returns-in_err-tell_entries-clause-err g c =
@@ -48,21 +54,35 @@ returns-in_err-tell_entries-clause-err g c =
     let m : Machine = record { image = c.args.accepted.now; parts = c.args.parts.now } in
     let root = c.in_ok-tell_place.ensures.ok m.image At_root (Elsewhere Root) c.root.ensures.text (root_shows m.image m.parts) in
     let registers = rw c.checked.ensures at c.in_ok-tell_registers.ensures.ok in
-    rw (error.1, error.2) (cut_later owned_line m of_root last_three _ _ _ _ _ root
-    (cut_later owned_line m of_registers last_two _ _ _ _ _ registers (cut_first owned_line m of_entries of_goings _ _ _ _ (c.in_err-tell_entries.ensures.err m.image))))
+    rw (error.1, error.2) (cut_later owned_line m of_root last_four _ _ _ _ _ root
+    (cut_later owned_line m of_registers last_three _ _ _ _ _ registers (cut_first owned_line m of_entries last_two _ _ _ _ (c.in_err-tell_entries.ensures.err m.image))))
+
+pub returns-in_err-tell_place-2-clause-err : goal.returns-in_err-tell_place-2-clause-err
+returns-in_err-tell_place-2-clause-err g c =
+    let error = err_from_is_err_and c.from_residual-in_err-tell_place-2.result c.from_residual-in_err-tell_place-2.ensures.1 in
+    let m : Machine = record { image = c.args.accepted.now; parts = c.args.parts.now } in
+    let root = c.in_ok-tell_place.ensures.ok m.image At_root (Elsewhere Root) c.root.ensures.text (root_shows m.image m.parts) in
+    let registers = rw c.checked.ensures at c.in_ok-tell_registers.ensures.ok in
+    rw (error.1, error.2) (cut_later owned_line m of_root last_four _ _ _ _ _ root
+    (cut_later owned_line m of_registers last_three _ _ _ _ _ registers (cut_later owned_line m of_entries last_two _ _ _ _ _ (c.in_ok-tell_entries.ensures.ok m.image)
+    (cut_first owned_line m of_service of_goings _ _ _ _ (c.in_err-tell_place-2.ensures.err m.image At_service (Elsewhere In_service) c.service.ensures.text (service_shows m.image m.parts))))))
 
 pub returns-clause-ok : goal.returns-clause-ok
 returns-clause-ok g c =
     let m : Machine = record { image = c.args.accepted.now; parts = c.args.parts.now } in
     let root = c.in_ok-tell_place.ensures.ok m.image At_root (Elsewhere Root) c.root.ensures.text (root_shows m.image m.parts) in
     let registers = rw c.checked.ensures at c.in_ok-tell_registers.ensures.ok in
-    IfOk-weaker c.tell_goings.result _ _ (λ _ told. tells_both owned_line m of_root last_three _ _ _ root
-    (tells_both owned_line m of_registers last_two _ _ _ registers (tells_both owned_line m of_entries of_goings _ _ _ (c.in_ok-tell_entries.ensures.ok m.image) (told m.image)))) c.tell_goings.ensures.ok
+    let service = c.in_ok-tell_place-2.ensures.ok m.image At_service (Elsewhere In_service) c.service.ensures.text (service_shows m.image m.parts) in
+    IfOk-weaker c.tell_goings.result _ _ (λ _ told. tells_both owned_line m of_root last_four _ _ _ root
+    (tells_both owned_line m of_registers last_three _ _ _ registers (tells_both owned_line m of_entries last_two _ _ _ (c.in_ok-tell_entries.ensures.ok m.image)
+    (tells_both owned_line m of_service of_goings _ _ _ service (told m.image))))) c.tell_goings.ensures.ok
 
 pub returns-clause-err : goal.returns-clause-err
 returns-clause-err g c =
     let m : Machine = record { image = c.args.accepted.now; parts = c.args.parts.now } in
     let root = c.in_ok-tell_place.ensures.ok m.image At_root (Elsewhere Root) c.root.ensures.text (root_shows m.image m.parts) in
     let registers = rw c.checked.ensures at c.in_ok-tell_registers.ensures.ok in
-    IfErr-weaker c.tell_goings.result _ _ (λ fault cut. cut_later owned_line m of_root last_three _ _ _ _ _ root
-    (cut_later owned_line m of_registers last_two _ _ _ _ _ registers (cut_later owned_line m of_entries of_goings _ _ _ _ _ (c.in_ok-tell_entries.ensures.ok m.image) (cut m.image)))) c.tell_goings.ensures.err
+    let service = c.in_ok-tell_place-2.ensures.ok m.image At_service (Elsewhere In_service) c.service.ensures.text (service_shows m.image m.parts) in
+    IfErr-weaker c.tell_goings.result _ _ (λ fault cut. cut_later owned_line m of_root last_four _ _ _ _ _ root
+    (cut_later owned_line m of_registers last_three _ _ _ _ _ registers (cut_later owned_line m of_entries last_two _ _ _ _ _ (c.in_ok-tell_entries.ensures.ok m.image)
+    (cut_later owned_line m of_service of_goings _ _ _ _ _ service (cut m.image))))) c.tell_goings.ensures.err

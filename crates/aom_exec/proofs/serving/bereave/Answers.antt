@@ -9,10 +9,11 @@ use Rattle.aom_exec.proofs.serving.bereave.Goals.{then-is_pending, else-is_pendi
 pub complete-requires : goal.complete-requires
 complete-requires c =
     let asked = c.requires.0 in
-    pending_told (request_at c.args.parts.now.active.table c.args.id) (asked c.args.id) (c.requires.1.tells c.args.id) c.requires.2 (sym (c.is_pending.ensures asked c.requires.1) ∙ c.if-is_pending.true)
+    let queues = c.requires.1 in
+    pending_told (request_at c.args.parts.now.active.table c.args.id) (asked c.args.id) (queues c.args.id) (c.requires.2.tells c.args.id) c.requires.3 (sym (c.is_pending.ensures asked queues c.requires.2) ∙ c.if-is_pending.true)
 
 pub returns-clause-requests : goal.returns-clause-requests
-returns-clause-requests c = λ asked stands. elim c.if-is_pending.branch [
-  | then-is_pending w ↦ rw w.parts-is (terminates c.args.parts.now.active w.complete.new.self c.args.id asked stands (sym (c.is_pending.ensures asked stands) ∙ w.if-is_pending.true) w.complete.ensures)
-  | else-is_pending w ↦ rw w.parts-is (spares c.args.parts.now.active c.args.id asked stands (sym (c.is_pending.ensures asked stands) ∙ w.if-is_pending.false))
+returns-clause-requests c = λ asked queues stands. elim c.if-is_pending.branch [
+  | then-is_pending w ↦ rw w.parts-is (terminates c.args.parts.now.active w.complete.new.self c.args.id asked queues stands (sym (c.is_pending.ensures asked queues stands) ∙ w.if-is_pending.true) w.complete.ensures)
+  | else-is_pending w ↦ rw w.parts-is (spares c.args.parts.now.active c.args.id asked queues stands (sym (c.is_pending.ensures asked queues stands) ∙ w.if-is_pending.false))
 ]

@@ -1,7 +1,6 @@
 -- A fault of linking is told as one of the bytes. An acceptable image is linked, unless memory runs out.
 use Rattle.std.proofs.Common.{◌∙◌, ap, sym, subst}
 use Rattle.std.proofs.lemmas.Result.{err_from_is_err_and}
-use Rattle.aom_classes.specs.Admitted.{IsAdmitted}
 use Rattle.aom_classes.specs.Linked.{IsLinked}
 use Rattle.aom_main.specs.Acceptable.{IsAcceptable, IsSpelled}
 use Rattle.aom_main.specs.Status.{of_load}
@@ -64,7 +63,7 @@ pub returns-clause-ok : goal.returns-clause-ok
 returns-clause-ok c =
     let found = c.in_ok-image.ensures.found in
     let ok = c.in_ok-link.ensures.ok in
-    subst (λ p. IsSpelled c.args.bytes.now p × IsAdmitted p × IsLinked p) (sym ok.0) (record { formed = found.0; spelling = found.1 }, ok.1, ok.2)
+    subst (λ p. IsSpelled c.args.bytes.now p × IsLinked p) (sym ok.0) (record { formed = found.0; spelling = found.1 }, ok.1)
 
 pub returns-clause-only : goal.returns-clause-only
 returns-clause-only c =

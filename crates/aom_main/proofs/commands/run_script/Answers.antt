@@ -8,7 +8,7 @@ use Rattle.aom_main.proofs.commands.run_script.Goals as goal
 pub returns-in-Ok : goal.returns-in-Ok
 returns-in-Ok g c =
     let facts = c.facts.ensures in
-    let acceptable : IsAcceptable c.args.accepted.now = record { admitted = facts.admitted; linked = facts.linked; typing = facts.typed.0; typed = facts.typed.1; budgets = facts.budgets; depths = facts.within; heights = facts.high } in
+    let acceptable : IsAcceptable c.args.accepted.now = record { linked = facts.linked; typing = facts.typed.0; typed = facts.typed.1; budgets = facts.budgets; depths = facts.within; heights = facts.high } in
     λ bytes text spelled denotes.
     untold_weaker _ _ c.end.result (λ errors status ends.
     ran_of bytes text c.args.limit (length c.args.boxes.items) c.args.accepted.now c.args.script.now acceptable c.runs_well.ensures spelled denotes _ errors c.in-Ok.outcome status c.in-Ok.ensures.enough c.in-Ok.ensures.ok ends
@@ -17,6 +17,6 @@ returns-in-Ok g c =
 pub returns-in-Err : goal.returns-in-Err
 returns-in-Err g c =
     let facts = c.facts.ensures in
-    let acceptable : IsAcceptable c.args.accepted.now = record { admitted = facts.admitted; linked = facts.linked; typing = facts.typed.0; typed = facts.typed.1; budgets = facts.budgets; depths = facts.within; heights = facts.high } in
+    let acceptable : IsAcceptable c.args.accepted.now = record { linked = facts.linked; typing = facts.typed.0; typed = facts.typed.1; budgets = facts.budgets; depths = facts.within; heights = facts.high } in
     λ bytes text spelled denotes errors status told.
     unbooted bytes text c.args.limit (length c.args.boxes.items) c.args.accepted.now c.args.script.now acceptable c.runs_well.ensures spelled denotes _ errors c.in-Err.fault status c.in-Err.ensures.err.0 c.in-Err.ensures.err.1 told

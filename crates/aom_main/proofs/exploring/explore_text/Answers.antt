@@ -8,7 +8,7 @@ use Rattle.aom_main.proofs.exploring.explore_text.Goals as goal
 pub returns-in-Err : goal.returns-in-Err
 returns-in-Err g c =
     let facts = c.facts.ensures in
-    let acceptable : IsAcceptable c.args.accepted.now = record { admitted = facts.admitted; linked = facts.linked; typing = facts.typed.0; typed = facts.typed.1; budgets = facts.budgets; depths = facts.within; heights = facts.high } in
+    let acceptable : IsAcceptable c.args.accepted.now = record { linked = facts.linked; typing = facts.typed.0; typed = facts.typed.1; budgets = facts.budgets; depths = facts.within; heights = facts.high } in
     λ bytes spelled.
     let accepts : Accepts bytes = record { image = c.args.accepted.now; spelled = spelled; acceptable = acceptable } in
     untried bytes c.args.text.now c.args.limit (length c.args.kinds.now) c.args.part c.in-Err.fault c.from.result _ _ c.tell.result accepts c.in-Err.ensures.err refl c.from.ensures c.tell.ensures

@@ -1,4 +1,5 @@
 use Rattle.std.proofs.Common.{◌∙◌, length, refl, ap, arith}
+use Rattle.aom_image.specs.Image.{Image}
 use Rattle.aom_run.proofs.Reaching.{steps_of, went_nowhere, went, filled, stands_on, room_stays}
 use Rattle.aom_run.proofs.dispatches.fill.Goals as goal
 
@@ -21,7 +22,8 @@ step_on-progress-requires g c =
     let room = i.room in
     let few = i.few in
     let enough = c.requires.room in
-    record { agree = i.agree; stands = i.stands; room = omega (arith, room, few, enough) }
+    let messages = ap (λ (p : Image). p.header.messages) i.image in
+    record { agree = i.agree; stands = i.stands; room = omega (arith, room, few, enough, messages) }
 
 pub returns-then-lines-ge-MANY_LINES-clause-image :
     goal.returns-then-lines-ge-MANY_LINES-clause-image

@@ -1,5 +1,6 @@
-use Rattle.std.proofs.Common.{ap, arith, length, refl, subst, sym, take, ◌∙◌, ◌≤◌}
-use Rattle.aom_lines.specs.Turn.{Turn}
+use Rattle.std.proofs.Common.{ap, arith, length, refl, subst, sym, take, ◌+◌, ◌∙◌, ◌≤◌}
+use Rattle.aom_image.specs.Image.{Image}
+use Rattle.aom_lines.specs.Turn.{Turn, step_lines}
 use Rattle.aom_transcript.specs.Text.{text_of}
 use Rattle.aom_run.specs.Runs.{after}
 use Rattle.aom_run.proofs.Underway.{cleared_same, cut_off, is_sent, still_stands, underway, underway_still}
@@ -12,7 +13,7 @@ loop-progress-init g c =
 pub fill-progress-requires : goal.fill-progress-requires
 fill-progress-requires g c =
     let i = c.loop-progress.invariant in
-    record { agree = i.agree; stands = i.stands; few = i.few; room = subst (λ (t : Turn). 80 ≤ t.room) (sym i.same) c.requires.room }
+    record { agree = i.agree; stands = i.stands; few = i.few; room = subst (λ (t : Turn). 64 + step_lines c.loop-progress.machine.core.image.header.messages ≤ t.room) (sym i.same) (subst (λ (p : Image). 64 + step_lines p.header.messages ≤ c.args.turn.now.room) (sym i.image) c.requires.room) }
 
 pub returns-then-has_failed-clause-image : goal.returns-then-has_failed-clause-image
 returns-then-has_failed-clause-image g c = c.fill-progress.ensures.image ∙ c.loop-progress.invariant.image

@@ -1,10 +1,15 @@
-use Rattle.std.proofs.Common.{◌≡◌, List, subst, true}
-use Rattle.aom_machine.specs.Calls.{natives_of}
+use Rattle.std.proofs.Common.{◌≡◌, List, subst, sym, true}
+use Rattle.std.specs.Prelude.{All}
+use Rattle.aom_machine.specs.Calls.{EventInRange, natives_of}
 use Rattle.aom_transcript.specs.declared.event.TimedEvent.{TimedEvent}
 use Rattle.aom_run.specs.Runs.{CutShort, Ended}
 use Rattle.aom_run.specs.Turns.{hearing}
+use Rattle.aom_run.proofs.Gets.{ranged}
 use Rattle.aom_run.proofs.Running.{ran}
 use Rattle.aom_run.proofs.runs.run.Goals as goal
+
+pub run_lines-requires-clause-ranged : goal.run_lines-requires-clause-ranged
+run_lines-requires-clause-ranged g c = subst (λ (es : List TimedEvent). All (λ e. EventInRange e.event) es) (sym c.events.ensures) (ranged c.args.script.now.timed c.requires.timely)
 
 pub returns-in-Some-clause-ran : goal.returns-in-Some-clause-ran
 returns-in-Some-clause-ran g c =

@@ -1,4 +1,5 @@
 use Rattle.std.proofs.Common.{None, Some, ap, arith, length, refl, sym, [], ◌∙◌}
+use Rattle.aom_image.specs.Image.{Image}
 use Rattle.aom_lines.specs.Turn.{Turn}
 use Rattle.aom_sound.specs.World.{boot_state}
 use Rattle.aom_machine.specs.Calls.{Stands, natives_of}
@@ -57,7 +58,7 @@ take_turns-requires g c =
     let none = ap (λ (t : Turn). length t.lines) i.turn in
     let kept = ap (λ (t : Turn). t.room) i.turn in
     let room = c.requires.room in
-    record { agree = i.agree; stands = (i.so_far.state, i.so_far.stands); between = sym i.as_far ∙ turned_now c.loop-progress.progress i.rests c.in_default.not-Ended; room = omega (arith, none, kept, room) }
+    record { agree = i.agree; stands = (i.so_far.state, i.so_far.stands); between = sym i.as_far ∙ turned_now c.loop-progress.progress i.rests c.in_default.not-Ended; ranged = c.requires.ranged; room = omega (arith, none, kept, room) }
 
 pub returns-in-Some : goal.returns-in-Some
 returns-in-Some g c =
@@ -77,10 +78,11 @@ run_dispatch-requires-in-loop-progress g c =
     let outside = hearing c.loop-progress.turn.refused c.args.limit (natives_of c.loop-progress.machine) c.args.events.now in
     let stands : Stands c.loop-progress.machine = (i.so_far.state, i.so_far.stands) in
     let turns = c.in_default-take_turns.ensures.turns in
+    let messages = ap (λ (p : Image). p.header.messages) (c.take_turns.ensures.image ∙ i.image) in
     let few = turned_few c.loop-progress.machine c.take_turns.new.machine outside c.loop-progress.turn c.take_turns.new.turn stands turns (ap (λ (t : Turn). t.lines) i.turn) in
     let kept = ap (λ (t : Turn). t.room) (turned_same c.loop-progress.machine c.take_turns.new.machine outside c.loop-progress.turn c.take_turns.new.turn stands turns ∙ ap (λ (t : Turn). record t { lines = c.take_turns.new.turn.lines }) i.turn) in
     let room = c.requires.room in
-    record { agree = c.take_turns.ensures.agree; stands = turned_stands c.loop-progress.machine c.take_turns.new.machine outside c.loop-progress.turn c.take_turns.new.turn stands turns; few = omega (arith, few); room = omega (arith, kept, room) }
+    record { agree = c.take_turns.ensures.agree; stands = turned_stands c.loop-progress.machine c.take_turns.new.machine outside c.loop-progress.turn c.take_turns.new.turn stands turns; few = omega (arith, few); room = omega (arith, kept, room, messages) }
 
 pub returns-in_err-progress-2-clause-image : goal.returns-in_err-progress-2-clause-image
 returns-in_err-progress-2-clause-image g c = c.run_dispatch-in-loop-progress.ensures.image ∙ c.take_turns.ensures.image ∙ c.loop-progress.invariant.image

@@ -1,8 +1,9 @@
--- Each event that has come is heard, up to one that kills a native.
+-- Each event that has come is heard, up to one that is told by a line.
 use Rattle.std.proofs.Common.{arith, inl, inr, refl, subst, sym, ◌∙◌}
-use Rattle.aom_machine.specs.Calls.{Delivered}
+use Rattle.aom_machine.specs.Calls.{Delivered, EventInRange}
 use Rattle.aom_run.specs.Turns.{TellsEnd}
 use Rattle.aom_run.proofs.Between.{come_within, heard_far, heard_fewer, heard_settles, heard_stands, heard_tells, less_to_come, none_settles, settles_both, tells_after}
+use Rattle.aom_run.proofs.Gets.{all_got}
 use Rattle.aom_run.proofs.turns.hear_due.Goals as goal
 
 pub loop-event-init : goal.loop-event-init
@@ -25,8 +26,13 @@ deliver-requires-clause-few g c =
     let within = come_within c.args.events.now c.loop-event.machine c.in-Some.ensures.some.0 in
     omega (arith, within)
 
-pub returns-then-deliver-clause-killed : goal.returns-then-deliver-clause-killed
-returns-then-deliver-clause-killed g c = λ killed.
+pub deliver-requires-clause-ranged : goal.deliver-requires-clause-ranged
+deliver-requires-clause-ranged g c =
+    let come = c.in-Some.ensures.some in
+    subst EventInRange come.1 (all_got (λ e. EventInRange e.event) c.args.events.now c.loop-event.machine.core.parts.rest.delivered come.0.0 c.requires.ranged come.0.1)
+
+pub returns-then-deliver-clause-told : goal.returns-then-deliver-clause-told
+returns-then-deliver-clause-told g c = λ told.
     let i = c.loop-event.invariant in
     let m = c.loop-event.machine in
     let new = c.deliver.new.self in

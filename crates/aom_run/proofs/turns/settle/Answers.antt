@@ -1,4 +1,4 @@
--- All that is due by now is settled, or a native is killed.
+-- All that is due by now is settled, or an event is told by a line.
 use Rattle.std.proofs.Common.{arith, ap, ◌∙◌}
 use Rattle.aom_run.proofs.Between.{completed_settles, kept_come, late_falls, rest_after, settles_both, stands_after, stands_settled, tells_after}
 use Rattle.aom_run.proofs.turns.settle.Goals as goal
@@ -6,14 +6,14 @@ use Rattle.aom_run.proofs.turns.settle.Goals as goal
 pub hear_due-requires : goal.hear_due-requires
 hear_due-requires g c =
     let done = c.complete_due.ensures in
-    record { agree = done.agree; stands = stands_after c.args.machine.now c.complete_due.new.machine done.completed c.requires.stands; between = done.between; none_due = done.none; room = c.requires.room }
+    record { agree = done.agree; stands = stands_after c.args.machine.now c.complete_due.new.machine done.completed c.requires.stands; between = done.between; none_due = done.none; ranged = c.requires.ranged; room = c.requires.room }
 
-pub returns-then-hear_due-clause-killed : goal.returns-then-hear_due-clause-killed
-returns-then-hear_due-clause-killed g c = λ killed.
+pub returns-then-hear_due-clause-told : goal.returns-then-hear_due-clause-told
+returns-then-hear_due-clause-told g c = λ told.
     let done = c.complete_due.ensures in
     let events = c.args.events.now in
     tells_after events c.args.machine.now c.complete_due.new.machine done.image done.natives (completed_settles events c.args.machine.now c.complete_due.new.machine done.completed) c.args.turn.now c.hear_due.new.turn c.hear_due.new.machine
-    (c.hear_due.ensures.killed c.if-hear_due.true)
+    (c.hear_due.ensures.told c.if-hear_due.true)
 
 pub poll_all-requires : goal.poll_all-requires
 poll_all-requires g c =
@@ -45,7 +45,7 @@ returns g c =
       agree = polled.agree;
       image = polled.image ∙ image;
       natives = polled.natives ∙ natives;
-      killed = λ e. absurd cc;
+      told = λ e. absurd cc;
       quiet = λ e. heard.quiet quiet;
       settled = λ e. settles_both events old k image natives first new (polled.settled events (heard.none_come quiet));
       between = polled.between;

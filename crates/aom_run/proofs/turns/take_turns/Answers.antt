@@ -19,7 +19,7 @@ returns-then-settle-clause-turns g c =
     let under = c.if-dispatches-from.false in
     let limit = c.from.ensures in
     let dispatches = c.dispatches.ensures in
-    ends_told c.args.machine.now c.settle.new.machine c.args.events.now c.args.turn.now.refused c.args.limit c.args.turn.now c.settle.new.turn (omega (arith, under, limit, dispatches)) (c.settle.ensures.killed c.if-settle.true)
+    ends_told c.args.machine.now c.settle.new.machine c.args.events.now c.args.turn.now.refused c.args.limit c.args.turn.now c.settle.new.turn (omega (arith, under, limit, dispatches)) (c.settle.ensures.told c.if-settle.true)
 
 pub loop-limit-init : goal.loop-limit-init
 loop-limit-init g c =
@@ -93,6 +93,7 @@ settle-requires-in-loop-limit g c =
       agree = e.agree;
       stands = passed_stands c.args.machine.now c.pick.new.self c.args.events.now c.args.turn.now.refused c.args.limit k.0 k.2 c.next_time.result c.next_time.ensures c.in-Some.time c.in-Some.is c.set_clock.new.self e.image e.passed;
       between = passed_far c.args.machine.now c.pick.new.self c.args.events.now c.args.turn.now.refused c.args.limit k.0 k.2 c.next_time.result c.next_time.ensures c.in-Some.time c.in-Some.is c.set_clock.new.self e.image e.passed;
+      ranged = c.requires.ranged;
       room = subst (λ (t : Turn). length t.lines < t.room) (sym (k.1 ∙ c.loop-limit.invariant.turn)) c.requires.room;
     }
 
@@ -104,7 +105,7 @@ returns-then-settle-2 g c =
     let done = c.settle-in-loop-limit.ensures in
     let new = c.settle-in-loop-limit.new.machine in
     let now = c.settle-in-loop-limit.new.turn in
-    let tells = subst (λ t. TellsEnd c.args.events.now c.set_clock.new.self t now new) (k.1 ∙ i.turn) (done.killed c.if-settle-2.true) in
+    let tells = subst (λ t. TellsEnd c.args.events.now c.set_clock.new.self t now new) (k.1 ∙ i.turn) (done.told c.if-settle-2.true) in
     record {
       agree = done.agree;
       image = done.image ∙ e.image ∙ k.0.image;

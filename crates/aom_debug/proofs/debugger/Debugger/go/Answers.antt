@@ -1,5 +1,9 @@
 -- Moves to a breakpoint, and then where they have led.
-use Rattle.std.proofs.Common.{refl}
+use Rattle.std.proofs.Common.{List, refl, subst, sym}
+use Rattle.std.specs.Prelude.{All}
+use Rattle.aom_transcript.specs.declared.event.TimedEvent.{TimedEvent}
+use Rattle.aom_machine.specs.Calls.{EventInRange}
+use Rattle.aom_run.proofs.Gets.{ranged}
 use Rattle.aom_sound.specs.World.{Outside}
 use Rattle.aom_debug_courses.specs.Courses.{GoesToBreakpoint, stays_at}
 use Rattle.aom_debug_courses.specs.declared.walking.Until.TheVariants.{Breakpoint}
@@ -7,6 +11,10 @@ use Rattle.aom_debug_courses.proofs.Runs.{reaches_on}
 use Rattle.aom_debug.specs.Debugging.{outside_of}
 use Rattle.aom_debug.proofs.Answering.{answered, may_go}
 use Rattle.aom_debug.proofs.debugger.Debugger.go.Goals as goal
+
+-- the events of the script are as a machine needs them
+pub go_on-went-requires-clause-ranged : goal.go_on-went-requires-clause-ranged
+go_on-went-requires-clause-ranged g c = subst (λ (es : List TimedEvent). All (λ e. EventInRange e.event) es) (sym c.events.ensures) (ranged c.args.self.now.script.timed c.requires.ready.timely)
 
 pub returns-clause-agree : goal.returns-clause-agree
 returns-clause-agree g c = rw c.arrived.ensures.machine c.go_on-went.ensures.agree

@@ -1,0 +1,178 @@
+-- Instructions on messages: the one that is served comes to a register, and a message is completed.
+use Rattle.std.proofs.Common.{List, None, Option, Some, ap, arith, length, refl, subst, sym, true, ℕ, ℤ, ◌+◌, ◌++◌, ◌<◌, ◌∙◌, ◌∷◌, ◌≡◌}
+use Rattle.std.specs.Prelude.{is_some}
+use Rattle.std.proofs.lemmas.Bool.{false≢true}
+use Rattle.std.specs.Int.{w32, cast_signed}
+use Rattle.aom_cells.specs.Heap.{null}
+use Rattle.aom_clients.specs.Clients.{after_complete, place_at}
+use Rattle.aom_clients.specs.Table.{completion}
+use Rattle.aom_clients.specs.declared.place.Completion.{Completion}
+use Rattle.aom_cleanup.specs.declared.item.Item.{Item}
+use Rattle.aom_frames.specs.Tasks.{on_top, register_here, with_register}
+use Rattle.aom_frames.specs.declared.task.Task.{Task as Held_task}
+use Rattle.aom_frames.specs.declared.task.Task.TheVariants.{Run as Runs_frame}
+use Rattle.aom_cells.specs.Heap.{Heap}
+use Rattle.aom_image.specs.Image.{Image}
+use Rattle.aom_image.specs.declared.method.Thing.TheVariants.{Message}
+use Rattle.aom_instructions.specs.declared.instr.Instr.TheVariants.{Reply, TakeMessage}
+use Rattle.aom_lines.specs.Turn.{Turn}
+use Rattle.aom_messages.specs.Store.{Changes, Store, count, first_number}
+use Rattle.aom_shape.specs.Tables.{put_at}
+use Rattle.aom_shape.specs.Needs.{AllTrue}
+use Rattle.aom_sound.proofs.Maps.{held_moved, held_without}
+use Rattle.aom_sound.proofs.Things.{stands_same}
+use Rattle.aom_sound.specs.Lines.{message_line}
+use Rattle.aom_sound.specs.Moves.{needs}
+use Rattle.aom_sound.specs.Objects.{is_thing}
+use Rattle.aom_sound.specs.Places.{Elsewhere, Entry, Field, Going, In_service, Object, Place, Queued, Register, Root, Session, changed, held, moved, without}
+use Rattle.aom_sound.specs.State.{Choice}
+use Rattle.aom_parts.specs.declared.parts.Parts.{Parts}
+use Rattle.aom_parts.specs.Places as places
+use Rattle.aom_parts.specs.Places.{Others, others, set_register, value_in}
+use Rattle.aom_parts.specs.Agrees.{number}
+use Rattle.aom_parts.specs.Serving.{message_name}
+use Rattle.aom_parts.proofs.Asking.{requests_moved}
+use Rattle.aom_parts.proofs.CellFields.{served_written}
+use Rattle.aom_parts.proofs.Cells.{cells_moved}
+use Rattle.aom_parts.proofs.Replying.{cells_completed, completion_told, message_kept, natives_completed, place_below, place_of, requests_completed, services_completed, was_taken}
+use Rattle.aom_parts.proofs.Services.{services_moved}
+use Rattle.aom_parts.proofs.Sessions.{natives_moved}
+use Rattle.aom_parts.proofs.Telling.{completed_lines, message_told}
+use Rattle.aom_parts.proofs.Values.{moves, value_written, word_written}
+use Rattle.aom_acts.specs.Acts.{At_hand, Does, Tells}
+use Rattle.aom_acts.specs.Next.{IsNext, counting}
+use Rattle.aom_acts.specs.Serving.{Completes, IsTaken, completion_lines}
+use Rattle.aom_acts.proofs.GoingOn.{framed, goes_on_with, written}
+use Rattle.aom_acts.proofs.Housing.{at_hand, needs_met}
+use Rattle.aom_acts.proofs.ObjectActs.{shown_here}
+use Rattle.aom_acts.proofs.Standing.{free, no_word}
+use Rattle.aom_acts.proofs.WordActs.{plain_does, word_read}
+
+-- what a completion changes of clients shows in no place
+completed_values : (us : List Held_task) (h : Heap) (es : List Item) (o : Others) (place : ℕ) (r : Place) → value_in us h es (record o { clients = after_complete place o.clients }) r ≡ value_in us h es o r
+completed_values us h es o place (Elsewhere Root) = refl
+completed_values us h es o place (Elsewhere (Session n c)) = refl
+completed_values us h es o place (Elsewhere In_service) = refl
+completed_values us h es o place (Elsewhere (Queued n m)) = refl
+completed_values us h es o place (Register d i) = refl
+completed_values us h es o place (Entry k) = refl
+completed_values us h es o place (Field n f) = refl
+completed_values us h es o place (Going k) = refl
+
+module _ (m : Parts) (refused : List ℕ) where
+  -- the message that is served comes to a register
+  pub take_message_does : (a : ℕ) → a < 16 → Does refused (TakeMessage a) m (places.next (set_register a m.served (record m { served = null })))
+  take_message_does a small = plain_does m (places.next (set_register a m.served (record m { served = null }))) refused (TakeMessage a) refl (λ p h c met.
+      let s = h.state in
+      let ts = h.below in
+      let mid = record m { served = null } in
+      let from = Elsewhere In_service in
+      let to = Register (length ts) a in
+      goes_on_with p m h mid (moved from to s.cells) s.items s.rest (put_at None h.frame.words a None) (on_top (with_register a m.served)) (with_register a m.served) (λ f ms. refl)
+      (record { stack = refl; cells = cells_moved p m.cells s.cells from to h.agrees.cells; entries = h.agrees.entries; requests = requests_moved p m.active s.cells from to h.agrees.requests; natives = natives_moved p m.sessions s.killed s.cells from to h.agrees.natives; services = services_moved p s.cells from to refl refl h.agrees.services; rest = h.agrees.rest; room = h.agrees.entry_room })
+      (λ f ms e top.
+      let wide = top.frame.wide in
+      record {
+        frame = framed p m h f ms _ a m.served top;
+        values = moves _ _ _ _ (held s.cells) _ from to top.values refl
+            (λ r.
+            value_written f ms m.cells m.entries.items (others mid) (length ts) a m.served f.place top.deep (omega arith) r
+            ∙ ap (λ y. changed (λ q. y) to m.served r) (served_written (Runs_frame f ∷ ms) m.cells m.entries.items (others m) null r))
+            (word_written h.frame ts a h.frame.place None)
+            (λ r. held_moved s.cells from to r (free _ met.1.1.0));
+      }))
+
+-- ---- a message is completed
+
+-- what is in the register is a message, with the number that the register shows
+record InRegister (p : Image) (m : Parts) (h : At_hand p m) (a : ℕ) : Type 0 where
+  object : Object
+  there : held h.state.cells (Register (length h.below) a) ≡ Some object
+  message : object.thing ≡ Message
+  number : object.name ≡ register_here m.stack.tasks a
+
+in_register : (p : Image) (m : Parts) (h : At_hand p m) (a b : ℕ) (c : Choice) → AllTrue (needs p c h.frame h.below h.state (Reply a b)) → InRegister p m h a
+in_register p m h a b c met = go (held h.state.cells (Register (length h.below) a)) refl met.1.0 met.1.1.0
+  where
+    go : (x : Option Object) → held h.state.cells (Register (length h.below) a) ≡ x → is_some (held h.state.cells (Register (length h.below) a)) ≡ true → is_thing p Message (held h.state.cells (Register (length h.below) a)) ≡ true → InRegister p m h a
+    go None e some thing = absurd (false≢true (ap is_some (sym e) ∙ some))
+    go (Some o) e some thing = record {
+      object = o;
+      there = e;
+      message = stands_same p o.thing Message (ap (is_thing p Message) (sym e) ∙ thing);
+      number = sym (shown_here p m h a (no_word _ met.0) ∙ ap number e);
+    }
+
+module _ (m : Parts) where
+  pub reply_does : (refused : List ℕ) (a b place : ℕ) (store : Store) → a < 16 → first_number + place ≡ register_here m.stack.tasks a → Changes m.messages store place None → count store + 1 ≡ count m.messages →
+      Does refused (Reply a b) m (places.next (record (set_register a null m) { clients = after_complete place m.clients; messages = store }))
+  reply_does refused a b place store small named gone fewer =
+      plain_does m (places.next (record (set_register a null m) { clients = after_complete place m.clients; messages = store })) refused (Reply a b) refl (λ p h c met.
+      let s = h.state in
+      let x = in_register p m h a b c met in
+      let g = Register (length h.below) a in
+      let name : x.object.name ≡ message_name place = x.number ∙ sym named in
+      let mid = record m { clients = after_complete place m.clients; messages = store } in
+      goes_on_with p m h mid (without g s.cells) s.items s.rest (put_at None h.frame.words a None) (on_top (with_register a null)) (with_register a null) (λ f ms. refl)
+      (record {
+        stack = refl;
+        cells = cells_completed p h.typing s h.typed g x.object x.there x.message place name m.cells h.agrees.cells;
+        entries = h.agrees.entries;
+        requests = requests_completed p h.typing s h.typed g x.object x.there x.message place name m.active h.agrees.requests;
+        natives = natives_completed p h.typing s h.typed g x.object x.there x.message place name m.sessions h.formed.header.cells h.agrees.natives;
+        services = services_completed p h.typing s h.typed g x.object x.there x.message place name h.wired h.kept refl m.clients m.messages m.listed h.agrees.services store gone fewer;
+        rest = h.agrees.rest;
+        room = h.agrees.entry_room;
+      })
+      (λ f ms e top. written p m h mid (without g s.cells) a null None None small refl f ms top (completed_values (Runs_frame f ∷ ms) m.cells m.entries.items (others m) place) (held_without s.cells g)))
+
+  -- its line
+  pub reply_tells : (told : Turn) (a b place : ℕ) (code : ℤ) → first_number + place ≡ register_here m.stack.tasks a → code ≡ cast_signed w32 (register_here m.stack.tasks b) →
+      Tells (Reply a b) m told (record told { lines = told.lines ++ completion_lines (completion (place_at m.clients place)) code })
+  reply_tells told a b place code named read p h c met =
+      let s = h.state in
+      let x = in_register p m h a b c met in
+      let g = Register (length h.below) a in
+      let name : x.object.name ≡ message_name place = x.number ∙ sym named in
+      let taken = was_taken p h.typing s h.typed g x.object x.there x.message place name h.wired h.kept refl m.clients m.messages m.listed h.agrees.services in
+      ap (λ l. record told { lines = told.lines ++ l })
+      (lines_so (completion (place_at m.clients place)) code ∙ sym (message_told m.clients s.cells s.clients h.agrees.services.clients x.object place code name taken) ∙ ap (λ o. message_line s.cells o code) (sym x.there) ∙ ap (message_line s.cells (held s.cells g)) (read ∙ word_read p m h b met.1.1.1.0))
+    where
+      lines_so : (x : Option Completion) (code : ℤ) → completion_lines x code ≡ completed_lines code x
+      lines_so None code = refl
+      lines_so (Some x) code = refl
+
+-- ---- as the code does it
+
+-- the register is null, the message is completed, and the method goes on
+module _ (m mid new : Parts) (told now : Turn) (n : ℕ) (code : ℤ) (a b : ℕ) (emptied : mid ≡ set_register a null m) (number_so : n ≡ register_here m.stack.tasks a) (completes : Completes n code mid new told now) where
+  pub reply_done : (refused : List ℕ) (last : Parts) → a < 16 → last ≡ places.next new → Does refused (Reply a b) m last
+  reply_done refused last small goes_on =
+      subst (λ x. Does refused (Reply a b) m x) (sym (goes_on ∙ ap places.next (completes.rest ∙ ap (λ (x : Parts). record x { clients = after_complete completes.place x.clients; messages = new.messages }) emptied)))
+      (reply_does m refused a b completes.place new.messages small (completes.number ∙ number_so) (subst (λ (x : Parts). Changes x.messages new.messages completes.place None) emptied completes.released)
+      (completes.count ∙ ap (λ (x : Parts). count x.messages) emptied))
+
+  pub reply_told : code ≡ cast_signed w32 (register_here m.stack.tasks b) → Tells (Reply a b) m told now
+  reply_told read =
+      subst (λ x. Tells (Reply a b) m told x) (sym (completes.line ∙ ap (λ (x : Parts). record told { lines = told.lines ++ completion_lines (completion (place_at x.clients completes.place)) code }) emptied))
+      (reply_tells m told a b completes.place code (completes.number ∙ number_so) read)
+
+-- ---- what the code needs to know of an instruction that is next
+
+module _ (p : Image) (m : Parts) where
+  -- the register has a message that was taken, also once it is null
+  pub reply_taken : (a b : ℕ) → IsNext p (Reply a b) m → IsTaken (register_here m.stack.tasks a) (set_register a null m)
+  unfolding at_hand
+  reply_taken a b next =
+      let n = needs_met p m (Reply a b) next in
+      let h = at_hand p (counting next.counts m) next.stands next.runs in
+      let x = in_register p (counting next.counts m) h a b n.0 n.1 in
+      let g = Register (length h.below) a in
+      let place = place_of p h.typing h.state h.typed g x.object x.there x.message m.messages h.agrees.services.messages in
+      record {
+        place = place.0;
+        number = sym place.1 ∙ x.number;
+        below = place_below p h.typing h.state h.typed g x.object x.there x.message place.0 place.1 h.wired h.kept refl m.clients m.messages m.listed h.agrees.services;
+        kept = message_kept p h.typing h.state h.typed g x.object x.there x.message place.0 place.1 h.wired h.kept refl m.clients m.messages m.listed h.agrees.services;
+        taken = completion_told p h.typing h.state h.typed g x.object x.there x.message place.0 place.1 h.wired h.kept refl m.clients m.messages m.listed h.agrees.services;
+      }

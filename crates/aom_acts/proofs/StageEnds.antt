@@ -1,0 +1,374 @@
+-- The end of a stage of a server's dispatch: what becomes of its client, and of the message that a service left.
+use Rattle.std.proofs.Common.{List, None, Option, Some, [], ap, append-nil, arith, cond, length, refl, subst, sym, true, ℕ, ℤ, ◌&&◌, ◌++◌, ◌+◌, ◌<◌, ◌==◌, ◌∙◌, ◌∷◌, ◌≡◌, ◌≤◌}
+use Rattle.std.specs.Prelude.{is_some}
+use Rattle.std.proofs.lemmas.Bool.{eq-eqb}
+use Rattle.aom_cells.specs.Heap.{null}
+use Rattle.aom_clients.specs.Clients as kept
+use Rattle.aom_clients.specs.Table.{completion}
+use Rattle.aom_clients.specs.declared.place.Completion.{Completion}
+use Rattle.aom_frames.specs.Tasks.{below_first}
+use Rattle.aom_frames.specs.declared.dispatch.Dispatch.TheVariants.{Object as Of_one, Server as Of_one_served}
+use Rattle.aom_frames.specs.declared.dispatch.Stage.{Stage as Held_stage}
+use Rattle.aom_frames.specs.declared.dispatch.Stage.TheVariants as stages
+use Rattle.aom_frames.specs.declared.dispatch.Subject.{Subject}
+use Rattle.aom_frames.specs.declared.task.Task.TheVariants.{Dispatched as Ends}
+use Rattle.aom_image.specs.Image.{Image}
+use Rattle.aom_image.specs.WellFormed.{WellFormed}
+use Rattle.aom_image.specs.declared.method.Thing.TheVariants.{Message}
+use Rattle.aom_lines.specs.Turn.{Turn}
+use Rattle.aom_messages.specs.Store.{Store}
+use Rattle.aom_rules.specs.Typing.{Typing}
+use Rattle.aom_sound.proofs.Layers.{dispatch_layer}
+use Rattle.aom_sound.proofs.Maps.{held_without}
+use Rattle.aom_sound.proofs.Picking.{own_held}
+use Rattle.aom_sound.proofs.Services.{held_served}
+use Rattle.aom_sound.proofs.Things.{stands_same}
+use Rattle.aom_sound.specs.Clients.{at_parting, client_at, with_client}
+use Rattle.aom_clients.specs.declared.client.Client.{Client}
+use Rattle.aom_clients.specs.declared.client.Client.TheVariants.{Closing as Closes, Connecting, Dead, Dying, Gone, Open, Unconnected}
+use Rattle.aom_clients.specs.Nodes.{is_leaving}
+use Rattle.aom_sound.specs.Kept.{IsKept, StageKept, TasksKept}
+use Rattle.aom_sound.specs.Laws.{IsWired}
+use Rattle.aom_sound.specs.Lines.{message_line, stage_lines}
+use Rattle.aom_sound.specs.Moves.{needs_end, stage_ends, written_task}
+use Rattle.aom_sound.specs.Places.{Cell, Elsewhere, Entry, Field, Going, In_service, Object, Place, Queued, Register, Root, Session, changed, held, named, seen, service_of, without}
+use Rattle.aom_sound.specs.Servers.{parted, reserved}
+use Rattle.aom_sound.specs.State.{Accept_left, Accepted, Accepts, Dispatched, Goes, Of_object, Of_server, Seat, Service_left, State, Rest, guarded, CompletedTwice}
+use Rattle.aom_sound.specs.State as checked
+use Rattle.aom_sound.specs.WellTyped.{Fits, Good, Keeps, WellTyped}
+use Rattle.aom_sound.specs.Claims.{claim, declared}
+use Rattle.aom_shape.specs.declared.kind.Kind.TheVariants.{Null}
+use Rattle.aom_parts.proofs.Asking.{requests_kept}
+use Rattle.aom_parts.proofs.Beside.{beside_served, cells_beside, listed_beside, natives_beside}
+use Rattle.aom_parts.proofs.CellFields.{served_written}
+use Rattle.aom_parts.proofs.Elsewhere.{connect_left, session_closed}
+use Rattle.aom_parts.proofs.Messages.{messages_served}
+use Rattle.aom_parts.proofs.Premises.{connecting_below, leaving_below}
+use Rattle.aom_parts.proofs.Replying.{cells_completed, completion_told, message_kept, natives_completed, place_below, place_of, requests_completed, services_completed, was_taken}
+use Rattle.aom_parts.proofs.Servicing.{connecting_here, same_closed, same_unaccepted}
+use Rattle.aom_parts.proofs.Sizing.{sized_closed, sized_connected}
+use Rattle.aom_parts.proofs.Telling.{completed_lines, message_told}
+use Rattle.aom_parts.proofs.Values.{kept as stays, writes}
+use Rattle.aom_parts.specs.Agrees.{Agrees, SameCells, SameNatives, SameRequests, Shows, dispatch_of, number, seat_of, stage_of, subject_of, word_at}
+use Rattle.aom_parts.specs.Places.{others, session_with, value_in, with_tasks}
+use Rattle.aom_parts.specs.Serving.{message_name, sessionless}
+use Rattle.aom_parts.specs.Services.{SameServices}
+use Rattle.aom_parts.specs.Stands.{Stands}
+use Rattle.aom_parts.specs.declared.parts.Parts.{Parts}
+use Rattle.aom_acts.proofs.CallActs.{fits_null}
+use Rattle.aom_acts.proofs.Ends.{at_close, at_end, seat_lives, step_of_end, which}
+use Rattle.aom_acts.proofs.GoingActs.{end_value, end_word}
+use Rattle.aom_acts.proofs.OnTop.{ending_of}
+use Rattle.aom_acts.proofs.ReturnActs.{lives_within}
+use Rattle.aom_acts.proofs.Standing.{an_open}
+use Rattle.aom_acts.specs.Going.{ending_here}
+use Rattle.aom_acts.specs.Moves.{Moves}
+use Rattle.aom_acts.specs.Serving.{CanEndStage, Completes, EndsStage, IsTaken, completion_lines}
+
+-- ---- what is known of a server's dispatch at its end
+
+-- it is that of a server, at that stage
+pub record AtStage (p : Image) (m : Parts) (s : State) (x : Subject) (c : ℕ) (stage : Held_stage) : Type 0 where
+  pub place : Place
+  pub held_top : m.stack.tasks ≡ Ends (Of_one_served x c stage) ∷ []
+  pub top : s.tasks ≡ Dispatched (Of_server (seat_of place x) c (stage_of stage)) ∷ []
+
+pub at_stage : (p : Image) (t : Typing) (m : Parts) (s : State) → WellTyped p t s → Agrees p m s → (x : Subject) (c : ℕ) (stage : Held_stage) → ending_here m.stack.tasks ≡ Some (Of_one_served x c stage) → AtStage p m s x c stage
+at_stage p t m s typed agrees x c stage ending =
+    let e = at_end p t m s typed agrees (ending_of m.stack.tasks ending) in
+    let is = which m s e (Of_one_served x c stage) ending in
+    record { place = e.place; held_top = e.held ∙ ap (λ y. Ends y ∷ []) is; top = e.state ∙ ap (λ y. Dispatched (dispatch_of e.place y) ∷ []) is }
+
+-- the message that was served is there still
+pub record InService (p : Image) (s : State) : Type 0 where
+  pub object : Object
+  pub there : held s.cells (Elsewhere In_service) ≡ Some object
+  pub message : object.thing ≡ Message
+
+pub in_service : (p : Image) (t : Typing) (s : State) (x : Seat) (c : ℕ) (code : ℤ) → WellTyped p t s → s.tasks ≡ Dispatched (Of_server x c (Service_left code)) ∷ [] → InService p s
+in_service p t s x c code typed top =
+    dispatch_layer (Good p t s.cells) (Of_server x c (Service_left code)) [] typed.layers (sym typed.tasks ∙ top) typed.good (λ seats ls _ good.
+    let own = own_held p (seen s.cells) (held s.cells (Elsewhere In_service)) Message (good.fits (Elsewhere In_service)) in
+    record { object = own.0; there = own.1; message = stands_same p own.0.thing Message own.2 })
+
+-- the session of a client whose close was served is gone
+session_gone : (p : Image) (t : Typing) (s : State) (x : Seat) (c : ℕ) → WellTyped p t s → s.tasks ≡ Dispatched (Of_server x c checked.Parts) ∷ [] → held s.cells (Elsewhere (Session x.object.name c)) ≡ None
+session_gone p t s x c typed top =
+    dispatch_layer (Good p t s.cells) (Of_server x c checked.Parts) [] typed.layers (sym typed.tasks ∙ top) typed.good (λ seats ls _ good.
+    let q = Elsewhere (Session x.object.name c) in
+    let old = claim p (declared p s.cells) ls q in
+    let null_there : cond ((x.object.name == x.object.name) && (c == c)) Null old ≡ Null = ap (λ b. cond (b && (c == c)) Null old) (eq-eqb x.object.name x.object.name refl) ∙ ap (λ b. cond b Null old) (eq-eqb c c refl) in
+    fits_null p (seen s.cells) (held s.cells q) (subst (Fits p (seen s.cells) (held s.cells q)) null_there (good.fits q)))
+
+-- ---- what is left
+
+module _ (p : Image) (formed : WellFormed p) (m : Parts) (announced : m.rest.announced ≡ true) (t : Typing) (s : State) (wired : IsWired p) (typed : WellTyped p t s) (fits : IsKept p s) (agrees : Agrees p m s) (x : Subject) (c : ℕ) where
+  -- all of the machine but its tasks, with these cells and these clients
+  record Left (k : kept.State) (store : Store) (served : ℕ) (cs : List Cell) (at : List Client) (seat : Seat) : Type 0 where
+    cells : SameCells p m.cells cs
+    requests : SameRequests p m.active cs
+    natives : SameNatives p m.sessions cs s.killed
+    services : SameServices p k store m.listed cs at
+    values : (q : Place) → Shows (value_in (Ends (Of_one x) ∷ []) m.cells m.entries.items (record (others m) { clients = k; served = served }) q) (word_at (Dispatched (Of_object seat) ∷ []) q) (held cs q)
+
+  -- the dispatch is one of an object then
+  ends_so : (q : Place) (k : kept.State) (store : Store) (served : ℕ) (cs : List Cell) (at : List Client) → Left k store served cs at (seat_of q x)
+      → Agrees p (record m { stack = record m.stack { tasks = Ends (Of_one x) ∷ [] }; clients = k; messages = store; served = served }) (record (at_close s) { cells = cs; clients = at; tasks = Dispatched (Of_object (seat_of q x)) ∷ [] })
+  ends_so q k store served cs at left = record {
+    tasks = ((q, refl), tt);
+    values = left.values;
+    cells = left.cells;
+    entries = agrees.entries;
+    requests = left.requests;
+    natives = left.natives;
+    services = left.services;
+    rest = agrees.rest ∙ ap (λ b. record s.rest { announced = b }) (sym (ap (λ (r : Rest). r.announced) agrees.rest) ∙ announced);
+    room = agrees.room;
+    entry_room = agrees.entry_room;
+  }
+
+  module _ (stage : Held_stage) (e : AtStage p m s x c stage) where
+    abbrev seat : Seat
+    seat = seat_of e.place x
+
+    lives : named s.cells x.number ≡ Some (subject_of x)
+    lives = seat_lives p t s typed (Of_server seat c (stage_of stage)) seat e.top refl
+
+    below : x.number < p.header.cells
+    below = lives_within p m s agrees (subject_of x) lives refl
+
+    stage_kept : StageKept p s.clients s.cells (subject_of x) c (stage_of stage)
+    stage_kept = subst (λ us. TasksKept p s.clients s.cells us) e.top fits.stage
+
+    -- places of tasks show nothing
+    base : (q : Place) → Shows (value_in (Ends (Of_one x) ∷ []) m.cells m.entries.items (others m) q) (word_at (Dispatched (Of_object seat) ∷ []) q) (held s.cells q)
+    base q =
+        subst (λ v. Shows v (word_at (Dispatched (Of_object seat) ∷ []) q) (held s.cells q)) (end_value (Of_one_served x c stage) (Of_one x) m.cells m.entries.items (others m) q)
+        (subst (λ w. Shows (value_in (Ends (Of_one_served x c stage) ∷ []) m.cells m.entries.items (others m) q) w (held s.cells q)) (end_word (Of_server seat c (stage_of stage)) (Of_object seat) q)
+        (subst (λ us. Shows (value_in us m.cells m.entries.items (others m) q) (word_at (Dispatched (Of_server seat c (stage_of stage)) ∷ []) q) (held s.cells q)) e.held_top
+        (subst (λ us. Shows (value_in m.stack.tasks m.cells m.entries.items (others m) q) (word_at us q) (held s.cells q)) e.top (agrees.values q))))
+
+    -- nothing else changes
+    plain : Left m.clients m.messages m.served s.cells s.clients seat
+    plain = record { cells = agrees.cells; requests = agrees.requests; natives = agrees.natives; services = agrees.services; values = base }
+
+  -- a client whose connect was left has no session
+  left_alone : (code : ℤ) (e : AtStage p m s x c (stages.AcceptLeft code)) → Left (kept.after_connected c None m.clients) m.messages m.served s.cells (with_client c Unconnected s.clients) (seat_of e.place x)
+  left_alone code e =
+      let stage = stages.AcceptLeft code in
+      let same = agrees.services.clients in
+      let connects = stage_kept stage e in
+      let at = connecting_here m.clients s.cells s.clients same x.number c connects.0 in
+      let client = connecting_below s.cells s.clients m.clients same c x.number connects.0 in
+      record {
+        cells = agrees.cells;
+        requests = agrees.requests;
+        natives = agrees.natives;
+        services = record {
+          clients = same_unaccepted p t wired s typed fits.fit m.clients same p.header.cells agrees.services.sized (seat_of e.place x) c (lives stage e) (below stage e) connects;
+          sized = sized_connected p.header.cells m.clients agrees.services.sized c None;
+          messages = agrees.services.messages;
+          listed = agrees.services.listed;
+        };
+        values = λ q. subst (λ v. Shows v (word_at (Dispatched (Of_object (seat_of e.place x)) ∷ []) q) (held s.cells q)) (sym (connect_left (others m) (Ends (Of_one x) ∷ []) m.cells m.entries.items c x.number (subst (λ i. c < i) (sym same.many) client) at.0 at.1 q)) (base stage e q);
+      }
+
+  -- after a close there is no session
+  parts_so : (e : AtStage p m s x c stages.Parts) → Left (kept.after_closed c m.clients) m.messages m.served (reserved (parted c) x.number s.cells) (with_client c (at_parting (client_at s.clients c)) s.clients) (seat_of e.place x)
+  parts_so e =
+      let stage = stages.Parts in
+      let same = agrees.services.clients in
+      let leaves = stage_kept stage e in
+      let client = leaving_below s.cells s.clients m.clients same c x.number leaves.0 in
+      let v = parted c (service_of s.cells x.number) in
+      let beside = beside_served s.cells x.number v in
+      let gone : kept_session ≡ null = agrees.values (Elsewhere (Session x.number c)) ∙ ap number (session_gone p t s (seat_of e.place x) c typed e.top) in
+      let leaving : is_leaving x.number (kept.client_at m.clients c) ≡ true = sym (leaving_sessionless x.number (kept.client_at m.clients c)) ∙ ap (is_leaving x.number) (same.at c) ∙ leaves.0 in
+      record {
+        cells = cells_beside p m.cells s.cells _ beside agrees.cells;
+        requests = requests_kept p m.active s.cells x.number v refl agrees.requests;
+        natives = natives_beside p m.sessions s.killed s.cells _ formed.header.cells beside agrees.natives;
+        services = record {
+          clients = same_closed p t wired s typed fits.fit m.clients same p.header.cells agrees.services.sized (seat_of e.place x) c (lives stage e) leaves;
+          sized = sized_closed p.header.cells m.clients agrees.services.sized c;
+          messages = messages_served p m.messages s.cells x.number v agrees.services.messages;
+          listed = listed_beside p m.listed s.cells _ beside agrees.services.listed;
+        };
+        values = λ q.
+            subst (λ v. Shows v (word_at (Dispatched (Of_object (seat_of e.place x)) ∷ []) q) (held (reserved (parted c) x.number s.cells) q)) (sym (session_closed (others m) (Ends (Of_one x) ∷ []) m.cells m.entries.items c x.number (subst (λ i. c < i) (sym same.many) client) leaving gone q))
+            (subst (λ o. Shows (value_in (Ends (Of_one x) ∷ []) m.cells m.entries.items (others m) q) (word_at (Dispatched (Of_object (seat_of e.place x)) ∷ []) q) o) (sym (held_served s.cells x.number v q)) (base stage e q));
+      }
+    where
+      kept_session : ℕ
+      kept_session = session_with x.number (kept.client_at m.clients c)
+
+      leaving_sessionless : (n : ℕ) (y : Client) → is_leaving n (sessionless y) ≡ is_leaving n y
+      leaving_sessionless n Unconnected = refl
+      leaving_sessionless n (Connecting server slots) = refl
+      leaving_sessionless n (Open server session slots) = refl
+      leaving_sessionless n (Closes server session) = refl
+      leaving_sessionless n (Dying server session) = refl
+      leaving_sessionless n Gone = refl
+      leaving_sessionless n Dead = refl
+
+  -- the message of a service that was left is completed
+  module _ (code : ℤ) (e : AtStage p m s x c (stages.ServiceLeft code)) where
+    abbrev stage : Held_stage
+    stage = stages.ServiceLeft code
+
+    its : InService p s
+    its = in_service p t s (seat_of e.place x) c code typed e.top
+
+    abbrev q : Place
+    q = Elsewhere In_service
+
+    number_is : m.served ≡ its.object.name
+    number_is = agrees.values q ∙ ap number its.there
+
+    module _ (mid : Parts) (now before : Turn) (does : Completes m.served code (record m { served = null }) mid before now) where
+      name : its.object.name ≡ message_name does.place
+      name = sym number_is ∙ sym does.number
+
+      abbrev k : kept.State
+      k = kept.after_complete does.place m.clients
+
+      completed : Left k mid.messages null (without q s.cells) s.clients (seat_of e.place x)
+      completed = record {
+        cells = cells_completed p t s typed q its.object its.there its.message does.place name m.cells agrees.cells;
+        requests = requests_completed p t s typed q its.object its.there its.message does.place name m.active agrees.requests;
+        natives = natives_completed p t s typed q its.object its.there its.message does.place name m.sessions formed.header.cells agrees.natives;
+        services = services_completed p t s typed q its.object its.there its.message does.place name wired fits refl m.clients m.messages m.listed agrees.services mid.messages does.released does.count;
+        values = writes _ _ _ _ (held s.cells) _ q null None None (base stage e) refl
+            (λ r. served_written (Ends (Of_one x) ∷ []) m.cells m.entries.items (record (others m) { clients = k }) null r ∙ ap (λ n. changed (λ i. n) q null r) (same_values r))
+            (stays (word_at (Dispatched (Of_object (seat_of e.place x)) ∷ [])) q)
+            (held_without s.cells q);
+      }
+        where
+          same_values : (r : Place) → value_in (Ends (Of_one x) ∷ []) m.cells m.entries.items (record (others m) { clients = k }) r ≡ value_in (Ends (Of_one x) ∷ []) m.cells m.entries.items (others m) r
+          same_values (Register d i) = refl
+          same_values (Entry i) = refl
+          same_values (Field n f) = refl
+          same_values (Going i) = refl
+          same_values (Elsewhere Root) = refl
+          same_values (Elsewhere (Session n d)) = refl
+          same_values (Elsewhere In_service) = refl
+          same_values (Elsewhere (Queued n d)) = refl
+
+      told : completion_lines (completion (kept.place_at m.clients does.place)) code ≡ message_line s.cells (held s.cells q) code
+      told =
+          same_lines (completion (kept.place_at m.clients does.place))
+          ∙ sym (ap (λ o. message_line s.cells o code) its.there ∙ message_told m.clients s.cells s.clients agrees.services.clients its.object does.place code name
+          (was_taken p t s typed q its.object its.there its.message does.place name wired fits refl m.clients m.messages m.listed agrees.services))
+        where
+          same_lines : (o : Option Completion) → completion_lines o code ≡ completed_lines code o
+          same_lines None = refl
+          same_lines (Some c) = refl
+
+    taken : IsTaken m.served m
+    taken =
+        let at = place_of p t s typed q its.object its.there its.message m.messages agrees.services.messages in
+        record {
+          place = at.0;
+          number = sym (number_is ∙ at.1);
+          below = place_below p t s typed q its.object its.there its.message at.0 at.1 wired fits refl m.clients m.messages m.listed agrees.services;
+          kept = message_kept p t s typed q its.object its.there its.message at.0 at.1 wired fits refl m.clients m.messages m.listed agrees.services;
+          taken = completion_told p t s typed q its.object its.there its.message at.0 at.1 wired fits refl m.clients m.messages m.listed agrees.services;
+        }
+
+  -- ---- each stage
+
+  abbrev then : Parts → Parts
+  then mid = with_tasks (Ends (Of_one x) ∷ below_first mid.stack.tasks) mid
+
+  abbrev Told : List Cell → Held_stage → Turn → Turn → Type 0
+  Told cs stage before now = now ≡ record before { lines = before.lines ++ stage_lines cs c (stage_of stage) }
+
+  -- what is below goes on with it
+  over : (k : kept.State) (store : Store) (served : ℕ) (stage : Held_stage) (u : State) → AtStage p m s x c stage
+      → Agrees p (record m { stack = record m.stack { tasks = Ends (Of_one x) ∷ [] }; clients = k; messages = store; served = served }) u → Agrees p (then (record m { clients = k; messages = store; served = served })) u
+  over k store served stage u e h = subst (λ us. Agrees p (record m { stack = record m.stack { tasks = Ends (Of_one x) ∷ us }; clients = k; messages = store; served = served }) u) (sym (ap below_first e.held_top)) h
+
+  ends_stage : (stage : Held_stage) (mid : Parts) (before now : Turn) (e : AtStage p m s x c stage) → EndsStage c stage m mid before now
+      → Agrees p (then mid) (stage_ends (seat_of e.place x) c (stage_of stage) (at_close s)) × Told s.cells stage before now
+  ends_stage stages.Accepts mid before now e does = (
+    subst (λ k. Agrees p (then k) (stage_ends (seat_of e.place x) c checked.Accepts (at_close s))) (sym does.0) (over m.clients m.messages m.served stages.Accepts _ e (ends_so e.place m.clients m.messages m.served s.cells s.clients (plain stages.Accepts e))),
+    does.1 ∙ ap (λ ls. record before { lines = ls }) (sym (append-nil before.lines)),
+  )
+  ends_stage stages.Accepted mid before now e does = (
+    subst (λ k. Agrees p (then k) (stage_ends (seat_of e.place x) c checked.Accepted (at_close s))) (sym does.0) (over m.clients m.messages m.served stages.Accepted _ e (ends_so e.place m.clients m.messages m.served s.cells s.clients (plain stages.Accepted e))),
+    does.1,
+  )
+  ends_stage (stages.AcceptLeft code) mid before now e does = (
+    subst (λ k. Agrees p (then k) (stage_ends (seat_of e.place x) c (checked.Accept_left code) (at_close s))) (sym does.0) (over (kept.after_connected c None m.clients) m.messages m.served (stages.AcceptLeft code) _ e (ends_so e.place (kept.after_connected c None m.clients) m.messages m.served s.cells (with_client c Unconnected s.clients) (left_alone code e))),
+    does.1,
+  )
+  ends_stage (stages.Serves o) mid before now e does = (
+    subst (λ k. Agrees p (then k) (stage_ends (seat_of e.place x) c (checked.Serves (subject_of o)) (at_close s))) (sym does.0) (over m.clients m.messages m.served (stages.Serves o) _ e (ends_so e.place m.clients m.messages m.served s.cells s.clients (plain (stages.Serves o) e))),
+    does.1 ∙ ap (λ ls. record before { lines = ls }) (sym (append-nil before.lines)),
+  )
+  ends_stage (stages.ServiceLeft code) mid before now e does = (
+    subst (λ k. Agrees p (then k) (stage_ends (seat_of e.place x) c (checked.Service_left code) (at_close s))) (sym does.rest) (over (kept.after_complete does.place m.clients) mid.messages null (stages.ServiceLeft code) _ e (ends_so e.place (kept.after_complete does.place m.clients) mid.messages null (without (Elsewhere In_service) s.cells) s.clients (completed code e mid now before does))),
+    does.line ∙ ap (λ ls. record before { lines = before.lines ++ ls }) (told code e mid now before does),
+  )
+  ends_stage stages.Parts mid before now e does = (
+    subst (λ k. Agrees p (then k) (stage_ends (seat_of e.place x) c checked.Parts (at_close s))) (sym does.0) (over (kept.after_closed c m.clients) m.messages m.served stages.Parts _ e (ends_so e.place (kept.after_closed c m.clients) m.messages m.served (reserved (parted c) x.number s.cells) (with_client c (at_parting (client_at s.clients c)) s.clients) (parts_so e))),
+    does.1 ∙ ap (λ ls. record before { lines = ls }) (sym (append-nil before.lines)),
+  )
+
+  -- what a service that left needs is met
+  needs_met : (stage : Held_stage) (e : AtStage p m s x c stage) (v : State) → guarded (needs_end (Of_server (seat_of e.place x) c (stage_of stage)) s.cells) v ≡ Goes v
+  needs_met stages.Accepts e v = refl
+  needs_met stages.Accepted e v = refl
+  needs_met (stages.AcceptLeft code) e v = refl
+  needs_met (stages.Serves o) e v = refl
+  needs_met (stages.ServiceLeft code) e v = ap (λ o. guarded ((is_some o, CompletedTwice) ∷ []) v) (its code e).there
+  needs_met stages.Parts e v = refl
+
+  -- the client is one, and the message that a service left is still the one that is served
+  can_end_stage : (stage : Held_stage) → AtStage p m s x c stage → CanEndStage c stage m
+  can_end_stage stages.Accepts e = tt
+  can_end_stage stages.Accepted e = tt
+  can_end_stage (stages.AcceptLeft code) e = let connects = stage_kept (stages.AcceptLeft code) e in connecting_below s.cells s.clients m.clients agrees.services.clients c x.number connects.0
+  can_end_stage (stages.Serves o) e = tt
+  can_end_stage (stages.ServiceLeft code) e = taken code e
+  can_end_stage stages.Parts e = let leaves = stage_kept stages.Parts e in leaving_below s.cells s.clients m.clients agrees.services.clients c x.number leaves.0
+
+-- the end of a stage is a move
+pub stage_moves : (p : Image) (m : Parts) (before now : Turn) → m.rest.announced ≡ true → (x : Subject) (c : ℕ) (stage : Held_stage) (mid : Parts) → ending_here m.stack.tasks ≡ Some (Of_one_served x c stage) → EndsStage c stage m mid before now
+    → Moves p m before now (with_tasks (Ends (Of_one x) ∷ below_first mid.stack.tasks) mid)
+stage_moves p m before now announced x c stage mid ending does t s sound typed fits agrees =
+    let e = at_stage p t m s typed agrees x c stage ending in
+    let o = an_open p before.refused m s agrees in
+    let seat = seat_of e.place x in
+    let after = stage_ends seat c (stage_of stage) (at_close s) in
+    let is = step_of_end p o.0 s (Of_server seat c (stage_of stage)) e.top ∙ needs_met p sound.formed m announced t s sound.wired typed fits agrees x c stage e after in
+    let ends = ends_stage p sound.formed m announced t s sound.wired typed fits agrees x c stage mid before now e does in (
+      record {
+        choice = o.0;
+        state = after;
+        is_open = o.1;
+        hears = o.2;
+        goes = is;
+        typed = subst (Keeps p t) is (sound.keeps o.0 s typed o.1.name);
+        agrees = ends.0;
+      },
+      ends.1 ∙ ap (λ ls. record before { lines = before.lines ++ ls }) (sym (ap (λ us. written_task p s us) e.top)),
+    )
+
+-- what its end requires of the code
+pub stage_can : (p : Image) (m : Parts) → Stands (record { image = p; parts = m }) → m.rest.announced ≡ true → (x : Subject) (c : ℕ) (stage : Held_stage) → ending_here m.stack.tasks ≡ Some (Of_one_served x c stage) → CanEndStage c stage m
+stage_can p m st announced x c stage ending =
+    let e = at_stage p st.1.typing m st.0 st.1.typed st.1.agrees x c stage ending in
+    can_end_stage p st.1.sound.formed m announced st.1.typing st.0 st.1.sound.wired st.1.typed st.1.kept st.1.agrees x c stage e
+
+-- no task changes as a stage ends
+pub stage_stack : (c : ℕ) (stage : Held_stage) (old new : Parts) (told now : Turn) → EndsStage c stage old new told now → new.stack ≡ old.stack
+stage_stack c stages.Accepts old new told now does = ap (λ (k : Parts). k.stack) does.0
+stage_stack c stages.Accepted old new told now does = ap (λ (k : Parts). k.stack) does.0
+stage_stack c (stages.AcceptLeft code) old new told now does = ap (λ (k : Parts). k.stack) does.0
+stage_stack c (stages.Serves o) old new told now does = ap (λ (k : Parts). k.stack) does.0
+stage_stack c (stages.ServiceLeft code) old new told now does = ap (λ (k : Parts). k.stack) does.rest
+stage_stack c stages.Parts old new told now does = ap (λ (k : Parts). k.stack) does.0
+
+pub stage_room : (c : ℕ) (stage : Held_stage) (old new : Parts) (told now : Turn) → EndsStage c stage old new told now → (length old.stack.tasks + 1) < old.stack.depth → length new.stack.tasks ≤ new.stack.depth
+stage_room c stage old new told now does room = subst (λ k. length k.tasks ≤ k.depth) (sym (stage_stack c stage old new told now does)) (omega (arith, room))

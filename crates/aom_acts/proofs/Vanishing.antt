@@ -1,0 +1,183 @@
+-- What goes with a server: entry by entry of its queue, and session by session.
+use Rattle.std.proofs.Common.{Bool, List, None, Some, [], ap, append_assoc, arith, false, length, refl, slice_index_or, subst, sym, true, ℕ, ◌+◌, ◌++◌, ◌<◌, ◌==◌, ◌∙◌, ◌∷◌, ◌≡◌, ◌≤◌}
+use Rattle.std.specs.Prelude.{IsSome, ◌||◌}
+use Rattle.std.proofs.lemmas.Bool.{eq-eqb, ne_eqb, false≢true, true≢false}
+use Rattle.std.proofs.lemmas.List.{get_or-set_other, get_or-set_same, length-append, length-set}
+use Rattle.std.proofs.lemmas.List.Folds.{list_any-append}
+use Rattle.std.proofs.lemmas.Option.{none-some, same_Some}
+use Rattle.aom_clients.specs.Clients.{State, after_next_gone, first_entry, gone, going, place_at, queue_at, queue_gone, sessions_at, taken_entry, with_queue}
+use Rattle.aom_clients.specs.Table.{sender}
+use Rattle.aom_clients.specs.declared.entry.Entry.{Entry}
+use Rattle.aom_clients.specs.declared.entry.Entry.TheVariants.{Connect, Message, Close}
+use Rattle.aom_clients.specs.declared.entry.Taken.{Taken}
+use Rattle.aom_clients.specs.declared.place.Place.TheVariants.{Free}
+use Rattle.aom_messages.specs.Store.{Store, message_at}
+use Rattle.aom_lines.specs.Turn.{Turn}
+use Rattle.aom_parts.specs.declared.parts.Parts.{Parts}
+use Rattle.aom_acts.specs.Serving.{AllKept, Drops, EntryKept, IsOnce, answers, count_messages, gone_line, gone_lines, has_message, is_message, told_of}
+
+-- ---- messages that are kept no more
+
+-- a message that is in that entry is the same as the one of the other
+same_message : (m k : ℕ) → (m == k) ≡ false → (k == m) ≡ false
+same_message m k e = ne_eqb k m (λ is. false≢true (sym e ∙ eq-eqb m k (sym is)))
+
+either : (a b : Bool) → (a || b) ≡ false → (a ≡ false) × (b ≡ false)
+either false b e = (refl, e)
+either true b e = absurd (true≢false e)
+
+-- what waits behind an entry is another message
+apart : (e : Entry) (m : ℕ) (es : List Entry) → IsOnce e (Message m ∷ es) → has_message m (e ∷ []) ≡ false
+apart (Connect c) m es once = refl
+apart (Message k) m es once = ap (λ b. b || false) (same_message m k (either (m == k) (has_message k es) once).0)
+apart (Close c) m es once = refl
+
+once_behind : (e f : Entry) (es : List Entry) → IsOnce e (f ∷ es) → IsOnce e es
+once_behind (Connect c) f es once = tt
+once_behind (Message m) f es once = (either (is_message m f) (has_message m es) once).1
+once_behind (Close c) f es once = tt
+
+-- those behind an entry that went are kept
+kept_still : (e : Entry) (old new : Store) → Drops (e ∷ []) old new → (es : List Entry) → IsOnce e es → AllKept old es → AllKept new es
+kept_still e old new drops [] once kept = tt
+kept_still e old new drops (f ∷ es) once kept = (still f once kept.0, kept.1, kept_still e old new drops es (once_behind e f es once) kept.2)
+  where
+    still : (f : Entry) → IsOnce e (f ∷ es) → EntryKept old f → EntryKept new f
+    still (Connect c) once kept = kept
+    still (Message m) once kept = subst IsSome (sym (drops.others m (apart e m es once))) kept
+    still (Close c) once kept = kept
+
+counts : (xs ys : List Entry) → count_messages (xs ++ ys) ≡ count_messages xs + count_messages ys
+counts [] ys = omega arith
+counts (Connect c ∷ xs) ys = counts xs ys
+counts (Message m ∷ xs) ys = let more = counts xs ys in omega (arith, more)
+counts (Close c ∷ xs) ys = counts xs ys
+
+-- one more is dropped
+drops_more : (done : List Entry) (e : Entry) (old mid new : Store) → Drops done old mid → Drops (e ∷ []) mid new → Drops (done ++ e ∷ []) old new
+drops_more done e old mid new before last =
+    record {
+      gone = λ m is. split m (has_message m done) (has_message m (e ∷ [])) refl refl (sym (list_any-append (is_message m) done (e ∷ [])) ∙ is);
+      others = λ m is.
+          let parts = either (has_message m done) (has_message m (e ∷ [])) (sym (list_any-append (is_message m) done (e ∷ [])) ∙ is) in
+          last.others m parts.1 ∙ before.others m parts.0;
+      count = let a = before.count in let b = last.count in let c = counts done (e ∷ []) in omega (arith, a, b, c);
+      limit = last.limit ∙ before.limit;
+    }
+  where
+    split : (m : ℕ) (a b : Bool) → has_message m done ≡ a → has_message m (e ∷ []) ≡ b → (a || b) ≡ true → message_at new m ≡ None
+    split m a true is_a is_b is = last.gone m is_b
+    split m true false is_a is_b is = last.others m is_b ∙ before.gone m is_a
+    split m false false is_a is_b is = absurd (false≢true is)
+
+-- ---- a queue goes entry by entry
+
+-- what becomes of an entry changes no queue
+queues_still : (e : Entry) (s : State) → (going e s).queues ≡ s.queues
+queues_still (Connect c) s = refl
+queues_still (Message m) s = refl
+queues_still (Close c) s = refl
+
+-- nor of another message its sender
+senders_still : (e : Entry) (s : State) (m : ℕ) (es : List Entry) → IsOnce e (Message m ∷ es) → place_at (going e s) m ≡ place_at s m
+senders_still (Connect c) s m es once = refl
+senders_still (Message k) s m es once = get_or-set_other s.places k m Free Free (λ is. false≢true (sym (either (m == k) (has_message k es) once).0 ∙ eq-eqb m k is))
+senders_still (Close c) s m es once = refl
+
+-- so that the lines of those behind it are as they were
+lines_still : (e : Entry) (s : State) (es : List Entry) → IsOnce e es → gone_lines (going e s) es ≡ gone_lines s es
+lines_still e s [] once = refl
+lines_still e s (f ∷ es) once = ap (λ ls. ls ++ gone_lines (going e s) es) (line f once) ∙ ap (λ ls. gone_line (taken_entry s f) ++ ls) (lines_still e s es (once_behind e f es once))
+  where
+    line : (f : Entry) → IsOnce e (f ∷ es) → gone_line (taken_entry (going e s) f) ≡ gone_line (taken_entry s f)
+    line (Connect c) once = refl
+    line (Message m) once = ap (λ x. told_of (Message m) (sender x)) (senders_still e s m es once)
+    line (Close c) once = refl
+
+entry_taken : (s : State) (e : Entry) → (taken_entry s e).entry ≡ e
+entry_taken s (Connect c) = refl
+entry_taken s (Message m) = refl
+entry_taken s (Close c) = refl
+
+-- an entry is one line, or none
+line_counted : (s : State) (e : Entry) (es : List Entry) → length (gone_line (taken_entry s e)) + answers es ≡ answers (e ∷ es)
+line_counted s (Connect c) es = omega arith
+line_counted s (Message m) es = omega arith
+line_counted s (Close c) es = omega arith
+
+-- so far these have gone
+pub record Going (n : ℕ) (old now : Parts) (told line : Turn) : Type 0 where
+  pub done : List Entry
+  pub split : done ++ queue_at now.clients n ≡ queue_at old.clients n
+  pub within : n < length now.clients.queues
+  pub clients : queue_gone n (queue_at now.clients n) now.clients ≡ queue_gone n (queue_at old.clients n) old.clients
+  pub kept : AllKept now.messages (queue_at now.clients n)
+  pub drops : Drops done old.messages now.messages
+  pub rest : now ≡ record old { clients = now.clients; messages = now.messages }
+  pub lines : line.lines ++ gone_lines now.clients (queue_at now.clients n) ≡ told.lines ++ gone_lines old.clients (queue_at old.clients n)
+  pub turn : line ≡ record told { lines = line.lines }
+  pub room : length line.lines + answers (queue_at now.clients n) ≤ told.room
+
+pub going_at_first : (n : ℕ) (m : Parts) (told : Turn) → n < length m.clients.queues → AllKept m.messages (queue_at m.clients n) → length told.lines + answers (queue_at m.clients n) ≤ told.room → Going n m m told told
+going_at_first n m told within kept room = record {
+  done = [];
+  split = refl;
+  within = within;
+  clients = refl;
+  kept = kept;
+  drops = record { gone = λ k is. absurd (false≢true is); others = λ k is. refl; count = omega arith; limit = refl };
+  rest = refl;
+  lines = refl;
+  turn = refl;
+  room = room;
+}
+
+-- one entry more
+pub goes_on : (n : ℕ) (old mid new : Parts) (told line line' : Turn) (t : Taken) → Going n old mid told line → Some t ≡ first_entry mid.clients (queue_at mid.clients n)
+    → new ≡ record mid { clients = after_next_gone n mid.clients; messages = new.messages } → Drops (t.entry ∷ []) mid.messages new.messages → line' ≡ record line { lines = line.lines ++ gone_line t }
+    → Going n old new told line'
+goes_on n old mid new told line line' t so first is drops written = go (queue_at mid.clients n) refl first
+  where
+    s : State
+    s = mid.clients
+
+    go : (q : List Entry) → queue_at s n ≡ q → Some t ≡ first_entry s q → Going n old new told line'
+    go [] e first = absurd (none-some _ (sym first))
+    go (f ∷ es) e first =
+        let taken : t ≡ taken_entry s f = same_Some t (taken_entry s f) first in
+        let entry : t.entry ≡ f = ap (λ (x : Taken). x.entry) taken ∙ entry_taken s f in
+        let clients : new.clients ≡ going f (with_queue n es s) = ap (λ (m : Parts). m.clients) is ∙ ap (λ q. gone n q s) e in
+        let set : queue_at (with_queue n es s) n ≡ es = get_or-set_same s.queues n es [] so.within in
+        let queue : queue_at new.clients n ≡ es = ap (λ (c : State). queue_at c n) clients ∙ ap (λ qs. slice_index_or qs n []) (queues_still f (with_queue n es s)) ∙ set in
+        let dropped : Drops (f ∷ []) mid.messages new.messages = subst (λ x. Drops (x ∷ []) mid.messages new.messages) entry drops in
+        let kept : AllKept mid.messages (f ∷ es) = subst (AllKept mid.messages) e so.kept in
+        let still : gone_lines new.clients es ≡ gone_lines s es = ap (λ c. gone_lines c es) clients ∙ lines_still f (with_queue n es s) es kept.1 in
+        let said : line'.lines ≡ line.lines ++ gone_line (taken_entry s f) = ap (λ (x : Turn). x.lines) written ∙ ap (λ x. line.lines ++ gone_line x) taken in
+        record {
+          done = so.done ++ f ∷ [];
+          split = append_assoc so.done (f ∷ []) (queue_at new.clients n) ∙ ap (λ q. so.done ++ f ∷ q) queue ∙ ap (λ q. so.done ++ q) (sym e) ∙ so.split;
+          within = subst (λ k. n < k) (sym (ap (λ (c : State). length c.queues) clients ∙ ap length (queues_still f (with_queue n es s)) ∙ length-set s.queues n es)) so.within;
+          clients = ap (λ q. queue_gone n q new.clients) queue ∙ ap (queue_gone n es) clients ∙ sym (ap (λ q. queue_gone n q s) e) ∙ so.clients;
+          kept = subst (AllKept new.messages) (sym queue) (kept_still f mid.messages new.messages dropped es kept.1 kept.2);
+          drops = drops_more so.done f old.messages mid.messages new.messages so.drops dropped;
+          rest = is ∙ ap (λ (m : Parts). record m { clients = after_next_gone n s; messages = new.messages }) so.rest ∙ ap (λ c. record old { clients = c; messages = new.messages }) (sym (ap (λ (m : Parts). m.clients) is));
+          lines = ap (λ q. line'.lines ++ gone_lines new.clients q) queue ∙ ap (λ ls. line'.lines ++ ls) still ∙ ap (λ ls. ls ++ gone_lines s es) said ∙ append_assoc line.lines (gone_line (taken_entry s f)) (gone_lines s es)
+              ∙ sym (ap (λ q. line.lines ++ gone_lines s q) e) ∙ so.lines;
+          turn = written ∙ ap (λ (x : Turn). record x { lines = line.lines ++ gone_line t }) so.turn ∙ ap (λ ls. record told { lines = ls }) (sym (ap (λ (x : Turn). x.lines) written));
+          room =
+              let many = ap length said ∙ length-append line.lines (gone_line (taken_entry s f)) in
+              let one = line_counted s f es in
+              let left = ap answers queue in
+              let had = subst (λ q. length line.lines + answers q ≤ told.room) e so.room in
+              omega (arith, many, one, left, had);
+        }
+
+-- a queue that went left the sessions as they were
+pub sessions_still : (n : ℕ) (es : List Entry) (s : State) → sessions_at (queue_gone n es s) n ≡ sessions_at s n
+sessions_still n [] s = refl
+sessions_still n (e ∷ es) s = sessions_still n es (gone n (e ∷ es) s) ∙ ap (λ ls. slice_index_or ls n []) (lists e)
+  where
+    lists : (e : Entry) → (gone n (e ∷ es) s).sessions ≡ s.sessions
+    lists (Connect c) = refl
+    lists (Message m) = refl
+    lists (Close c) = refl

@@ -1,0 +1,109 @@
+-- What the going of a session's cell makes of the lists: nothing, since none asks for that cell.
+use Rattle.std.proofs.Common.{◌≡◌, ◌<◌, ◌≤◌, ◌∙◌, ℕ, List, length, inl, inr, sym, ap, refl, subst}
+use Rattle.std.specs.Prelude.{slice_set}
+use Rattle.std.proofs.lemmas.Bool.{cases_eq}
+use Rattle.std.proofs.lemmas.List.{length-set, get_or-set_other, get_or-set_same}
+use Rattle.aom_queues.specs.Lists.{Table}
+use Rattle.aom_clients.specs.declared.client.Client.{Client}
+use Rattle.aom_clients.specs.declared.client.Client.TheVariants.{Unconnected, Connecting, Open, Closing, Gone, Dead, Dying}
+use Rattle.aom_clients.specs.declared.place.Place.{Place}
+use Rattle.aom_clients.specs.Table.{server_of, released}
+use Rattle.aom_clients.specs.Clients.{State, after_release}
+use Rattle.aom_clients.specs.Nodes.{IsKept, is_connecting_at, is_leaving, is_open_at, named_by, slots_of, state_of}
+use Rattle.aom_clients.proofs.Kept.{sized-as}
+use Rattle.aom_clients.proofs.Steps.{client}
+use Rattle.aom_clients.proofs.Tables.{alike-same}
+
+-- ---- a client without its cell
+
+server-still : (x : Client) → server_of (released x) ≡ server_of x
+server-still (Open server session slots) = refl
+server-still (Closing server session) = refl
+server-still (Dying server session) = refl
+server-still (Connecting server slots) = refl
+server-still Unconnected = refl
+server-still Gone = refl
+server-still Dead = refl
+
+named-still : (x : Client) → named_by (released x) ≡ named_by x
+named-still (Open server session slots) = refl
+named-still (Closing server session) = refl
+named-still (Dying server session) = refl
+named-still (Connecting server slots) = refl
+named-still Unconnected = refl
+named-still Gone = refl
+named-still Dead = refl
+
+connecting-still : (k : ℕ) (x : Client) → is_connecting_at k (released x) ≡ is_connecting_at k x
+connecting-still k (Open server session slots) = refl
+connecting-still k (Closing server session) = refl
+connecting-still k (Dying server session) = refl
+connecting-still k (Connecting server slots) = refl
+connecting-still k Unconnected = refl
+connecting-still k Gone = refl
+connecting-still k Dead = refl
+
+leaving-still : (k : ℕ) (x : Client) → is_leaving k (released x) ≡ is_leaving k x
+leaving-still k (Open server session slots) = refl
+leaving-still k (Closing server session) = refl
+leaving-still k (Dying server session) = refl
+leaving-still k (Connecting server slots) = refl
+leaving-still k Unconnected = refl
+leaving-still k Gone = refl
+leaving-still k Dead = refl
+
+open-still : (k : ℕ) (x : Client) → is_open_at k (released x) ≡ is_open_at k x
+open-still k (Open server session slots) = refl
+open-still k (Closing server session) = refl
+open-still k (Dying server session) = refl
+open-still k (Connecting server slots) = refl
+open-still k Unconnected = refl
+open-still k Gone = refl
+open-still k Dead = refl
+
+slots-still : (x : Client) → slots_of (released x) ≡ slots_of x
+slots-still (Open server session slots) = refl
+slots-still (Closing server session) = refl
+slots-still (Dying server session) = refl
+slots-still (Connecting server slots) = refl
+slots-still Unconnected = refl
+slots-still Gone = refl
+slots-still Dead = refl
+
+-- ---- all clients
+
+module _ (cl : List Client) (pl : List Place) (q cn ss st : Table) (r : IsKept cl pl q cn ss st) (s : State) (is : state_of cl pl q ss st ≡ s) (c : ℕ) (few : c < length cl) where
+  abbrev pub after : List Client
+  after = slice_set cl c (released (client cl c))
+
+  still : {X : Type 0} (f : Client → X) → ((x : Client) → f (released x) ≡ f x) → (d : ℕ) → f (client after d) ≡ f (client cl d)
+  still f same d = elim (cases_eq d c) [
+    | inl e ↦ subst (λ k. f (client after k) ≡ f (client cl k)) (sym e) (ap f (get_or-set_same cl c (released (client cl c)) Unconnected few) ∙ same (client cl c))
+    | inr apart ↦ ap f (get_or-set_other cl c d (released (client cl c)) Unconnected apart)
+  ]
+
+  pub released-kept : IsKept after pl q cn ss st
+  released-kept = record {
+    sized = sized-as _ _ _ _ _ _ _ _ _ _ _ _ (length-set cl c (released (client cl c))) refl (alike-same q) (alike-same cn) (alike-same ss) (alike-same st) r.sized;
+    entries = record {
+      messages = r.entries.messages;
+      connects = λ k d less i. still (is_connecting_at k) (connecting-still k) d ∙ r.entries.connects k d less i;
+      closes = λ k d less i. still (is_leaving k) (leaving-still k) d ∙ r.entries.closes k d less i;
+      waits = λ d m e.
+          let w = r.entries.waits d m e in
+          record { server = w.server; open_there = still (is_open_at w.server) (open-still w.server) d ∙ w.open_there; there = w.there };
+    };
+    listed = r.listed;
+    connected = record {
+      has = λ k d i. still server_of server-still d ∙ r.connected.has k d i;
+      listed = λ k d e. r.connected.listed k d (sym (still server_of server-still d) ∙ e);
+    };
+    out = r.out;
+    named = record {
+      servers = λ d k e. r.named.servers d k (sym (still named_by named-still d) ∙ e);
+      slots = λ d. subst (λ n. n ≤ 64) (sym (still slots_of slots-still d)) (r.named.slots d);
+    };
+  }
+
+  pub released-seen : state_of after pl q ss st ≡ after_release c s
+  released-seen = ap (λ t. after_release c t) is

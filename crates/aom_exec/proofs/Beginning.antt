@@ -1,0 +1,125 @@
+-- A method begins under the trap of a dispatch, where nothing is at hand: of what its frame shows, which is nothing but for the words of a message.
+use Rattle.std.proofs.Common.{Bool, List, None, Option, Some, [], ap, arith, cond, false, inl, inr, length, refl, slice_index_or, slice_set, subst, suc, sym, true, zero, ⊎_elim, ℕ, ℤ, ◌+◌, ◌<◌, ◌≤◌, ◌==◌, ◌∙◌, ◌∷◌, ◌≡◌, ◌⊎◌}
+use Rattle.std.specs.Prelude.{map, nat_lt, pos}
+use Rattle.std.specs.Int.{w32, cast_signed, cast_unsigned}
+use Rattle.std.proofs.lemmas.Bool.{cases_lt, eq-eqb, eqb-true, false≢true, le-ltb, lt-ltb, ne_eqb}
+use Rattle.std.proofs.lemmas.List.{length-set}
+use Rattle.aom_cells.specs.Heap.{null}
+use Rattle.aom_cleanup.specs.declared.item.Item.TheVariants.{Mark as Is_mark}
+use Rattle.aom_frames.specs.declared.dispatch.Dispatch.{Dispatch as Held_dispatch}
+use Rattle.aom_frames.specs.declared.frame.Frame.{Frame as Held_frame}
+use Rattle.aom_frames.specs.declared.task.Task.{Task as Held_task}
+use Rattle.aom_frames.specs.declared.task.Task.TheVariants.{Dispatched as Ends, Run as Runs_frame, Trapped as Is_trap}
+use Rattle.aom_image.specs.Image.{Image}
+use Rattle.aom_messages.specs.Store.{Store, word_at as message_word}
+use Rattle.aom_shape.specs.Tables.{at}
+use Rattle.aom_sound.specs.Places.{Cell, Elsewhere, Entry, Field, Going, Object, Place, Register, held, word_field}
+use Rattle.aom_sound.specs.State.{A_mark, Dispatch, Dispatched, Frame, Run, State, Task, Trapped, word}
+use Rattle.aom_sound.specs.World.{message_words}
+use Rattle.aom_parts.specs.declared.parts.Parts.{Parts}
+use Rattle.aom_parts.specs.Agrees.{Agrees, SameDispatch, SameFrame, SameTasks, Shows, word_at}
+use Rattle.aom_parts.specs.Places.{others, value_in}
+use Rattle.aom_parts.proofs.Entries.{mark_shows_none}
+use Rattle.aom_parts.proofs.Serving.{at_set}
+use Rattle.aom_acts.proofs.Standing.{Aside}
+use Rattle.aom_exec.specs.Servers.{told_first, told_word, told_words}
+use Rattle.aom_exec.specs.Turns.{begins_under}
+
+-- what a place shows where nothing is at hand
+abbrev pub ShowsIdle : Parts → List Cell → Type 0
+ShowsIdle m cs = (q : Place) → Shows (value_in [] m.cells m.entries.items (others m) q) (word_at [] q) (held cs q)
+
+-- a method begins over nothing; no register owns anything, and its own show its words
+module _ (p : Image) (m : Parts) (v : State) (d : Held_dispatch) (d' : Dispatch) (f : Held_frame) (fr : Frame) (none : m.stack.tasks ≡ []) (aside : Aside p m v) (frame : SameFrame f fr) (dispatch : SameDispatch d d') (shows : ShowsIdle m v.cells)
+    (unowned : (k i : ℕ) → held v.cells (Register k i) ≡ None) (words : (i : ℕ) → Shows (slice_index_or f.registers i null) (word fr i) None) where
+  abbrev us : List Held_task
+  us = Runs_frame f ∷ Is_trap ∷ Ends d ∷ []
+
+  abbrev ts : List Task
+  ts = Run fr ∷ Trapped ∷ Dispatched d' ∷ []
+
+  values : (q : Place) → Shows (value_in us m.cells (Is_mark ∷ m.entries.items) (others m) q) (word_at ts q) (held v.cells q)
+  values (Register k i) = subst (λ o. Shows (value_in us m.cells (Is_mark ∷ m.entries.items) (others m) (Register k i)) (word_at ts (Register k i)) o) (sym (unowned k i)) (go (length (Is_trap ∷ Ends d ∷ []) == k) (length (Ends d ∷ []) == k) (0 == k))
+    where
+      go : (a b c : Bool) → Shows (cond a (slice_index_or f.registers i null) (cond b null (cond c null null))) (cond a (word fr i) (cond b None (cond c None None))) None
+      go true b c = words i
+      go false true c = refl
+      go false false true = refl
+      go false false false = refl
+  values (Entry k) = subst (λ n. Shows n None (held v.cells (Entry k))) (sym (mark_shows_none m.entries.items k)) (shows (Entry k))
+  values (Field n g) = shows (Field n g)
+  values (Going k) = subst (λ n. Shows n None (held v.cells (Going k))) (sym (go (length (Is_trap ∷ Ends d ∷ []) == k) (length (Ends d ∷ []) == k) (0 == k))) (shows (Going k))
+    where
+      go : (a b c : Bool) → cond a null (cond b null (cond c null null)) ≡ null
+      go true b c = refl
+      go false true c = refl
+      go false false true = refl
+      go false false false = refl
+  values (Elsewhere o) = shows (Elsewhere o)
+
+  pub begins_agrees : Agrees p (begins_under d f m) (record v { tasks = ts; items = A_mark ∷ v.items })
+  begins_agrees =
+      subst (λ us. Agrees p (record m { stack = record m.stack { tasks = Runs_frame f ∷ Is_trap ∷ Ends d ∷ us }; entries = record m.entries { items = Is_mark ∷ m.entries.items } }) (record v { tasks = ts; items = A_mark ∷ v.items })) (sym none)
+      (record {
+        tasks = (frame, (tt, (dispatch, tt)));
+        values = values;
+        cells = aside.cells;
+        entries = (tt, aside.entries);
+        requests = aside.requests;
+        natives = aside.natives;
+        services = aside.services;
+        rest = aside.rest;
+        room = aside.room;
+        entry_room = aside.entry_room;
+      })
+
+-- ---- the words of a message
+
+module _ (s : Store) (place : ℕ) where
+  abbrev number_of : ℕ → ℕ
+  number_of w = cast_unsigned w32 (message_word s place w)
+
+  told_wide : (many : ℕ) (f : Held_frame) → length (told_first s place many f).registers ≡ length f.registers
+  told_wide zero f = refl
+  told_wide (suc n) f = length-set (told_first s place n f).registers n (number_of n) ∙ told_wide n f
+
+  -- so many registers have them, and the others are as they were
+  told_register : (many : ℕ) (f : Held_frame) → many ≤ length f.registers → (i : ℕ) → slice_index_or (told_first s place many f).registers i null ≡ cond (nat_lt i many) (number_of i) (slice_index_or f.registers i null)
+  told_register zero f room i = sym (ap (λ b. cond b (number_of i) (slice_index_or f.registers i null)) (le-ltb i 0 (omega arith)))
+  told_register (suc n) f room i =
+      at_set null (told_first s place n f).registers n i (number_of n) (let wide = told_wide n f in omega (arith, wide, room)) ∙ ap (λ x. cond (n == i) (number_of n) x) (told_register n f (omega (arith, room)) i) ∙ go (n == i) refl (cases_lt i n)
+    where
+      go : (b : Bool) → (n == i) ≡ b → (i < n) ⊎ (n ≤ i) → cond b (number_of n) (cond (nat_lt i n) (number_of i) (slice_index_or f.registers i null)) ≡ cond (nat_lt i (suc n)) (number_of i) (slice_index_or f.registers i null)
+      go true e x = ap number_of (eqb-true n i e) ∙ sym (ap (λ b. cond b (number_of i) (slice_index_or f.registers i null)) (lt-ltb i (suc n) (let same = eqb-true n i e in omega (arith, same))))
+      go false e (inl below) = ap (λ b. cond b (number_of i) (slice_index_or f.registers i null)) (lt-ltb i n below ∙ sym (lt-ltb i (suc n) (omega (arith, below))))
+      go false e (inr above) = ap (λ b. cond b (number_of i) (slice_index_or f.registers i null)) (le-ltb i n above ∙ sym (le-ltb i (suc n) (past i above (λ same. false≢true (sym e ∙ eq-eqb n i same)))))
+        where
+          past : (i : ℕ) → n ≤ i → (n ≡ i → ⊥) → suc n ≤ i
+          past i above apart = by (cases_lt n i)
+            where
+              by : (n < i) ⊎ (i ≤ n) → suc n ≤ i
+              by (inl less) = omega (arith, less)
+              by (inr more) = absurd (apart (omega (arith, above, more)))
+
+  pub told_frame : (many : ℕ) (f : Held_frame) (fr : Frame) (ws : List (Option ℤ)) → SameFrame f fr → SameFrame (told_first s place many f) (record fr { words = ws })
+  told_frame zero f fr ws same = record { method = same.method; place = same.place; this = same.this; housed = same.housed; wide = same.wide; counters = same.counters; loops = same.loops }
+  told_frame (suc n) f fr ws same =
+      let g = told_frame n f fr ws same in
+      record { method = g.method; place = g.place; this = g.this; housed = g.housed; wide = length-set (told_first s place n f).registers n (number_of n) ∙ g.wide; counters = g.counters; loops = g.loops }
+
+  -- each word is read again as it was
+  module _ (cs : List Cell) (name : ℕ) (f : Held_frame) (wide : length f.registers ≡ 16) (bare : (i : ℕ) → slice_index_or f.registers i null ≡ null) (reads : (w : ℕ) → w < 5 → cast_signed w32 (number_of w) ≡ word_field cs name w) where
+    here : (i : ℕ) → i < 5 → slice_index_or (told_words s place f).registers i null ≡ number_of i
+    here i small = told_register 5 f (omega (arith, wide)) i ∙ ap (λ b. cond b (number_of i) (slice_index_or f.registers i null)) (lt-ltb i 5 small)
+
+    shown : (i : ℕ) → i < 5 → cast_signed w32 (slice_index_or (told_words s place f).registers i null) ≡ word_field cs name i
+    shown i small = ap (cast_signed w32) (here i small) ∙ reads i small
+
+    pub words_shown : (i : ℕ) → Shows (slice_index_or (told_words s place f).registers i null) (at None (message_words cs name) i) None
+    words_shown zero = shown 0 (omega arith)
+    words_shown (suc zero) = shown 1 (omega arith)
+    words_shown (suc (suc zero)) = shown 2 (omega arith)
+    words_shown (suc (suc (suc zero))) = shown 3 (omega arith)
+    words_shown (suc (suc (suc (suc zero)))) = shown 4 (omega arith)
+    words_shown (suc (suc (suc (suc (suc i))))) =
+        told_register 5 f (omega (arith, wide)) (suc (suc (suc (suc (suc i))))) ∙ ap (λ b. cond b (number_of (suc (suc (suc (suc (suc i)))))) (slice_index_or f.registers (suc (suc (suc (suc (suc i))))) null)) (le-ltb (suc (suc (suc (suc (suc i))))) 5 (omega arith)) ∙ bare (suc (suc (suc (suc (suc i)))))

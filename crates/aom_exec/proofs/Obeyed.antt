@@ -1,0 +1,198 @@
+-- The machine stands for what the checked machine comes to by a command of a client.
+use Rattle.std.proofs.Common.{ap, arith, Bool, cond, false, List, None, Option, refl, Some, subst, suc, sym, true, ℕ, ◌<◌, ◌≤◌, ◌==◌, ◌∙◌, ◌∷◌, ◌≡◌, []}
+use Rattle.std.specs.Prelude.{IfSome, is_some, length, option_map}
+use Rattle.std.proofs.lemmas.Bool.{eq-eqb, false≢true}
+use Rattle.std.proofs.lemmas.Option.{none-some, same_Some}
+use Rattle.aom_active.specs.Agrees.{Active}
+use Rattle.aom_cells.specs.Heap.{cell_at}
+use Rattle.aom_cells.specs.declared.cell.Cell.{Cell as Held_cell}
+use Rattle.aom_clients.specs.Clients as kept
+use Rattle.aom_clients.specs.Nodes.{named_by}
+use Rattle.aom_clients.specs.declared.client.Client.{Client}
+use Rattle.aom_clients.specs.declared.client.Client.TheVariants.{Closing, Connecting, Dead, Dying, Gone, Open, Unconnected}
+use Rattle.aom_clients.specs.declared.place.Place.TheVariants.{Free}
+use Rattle.aom_clients.specs.declared.refusal.Refusal.{Refusal}
+use Rattle.aom_image.specs.Image.{Image}
+use Rattle.aom_image.specs.declared.method.Thing.{Thing}
+use Rattle.aom_image.specs.declared.method.Thing.TheVariants.{Message, Object as An_object_of}
+use Rattle.aom_messages.specs.Store.{Store}
+use Rattle.aom_rules.specs.Typing.{Typing}
+use Rattle.aom_shape.specs.Kinds.{is_object}
+use Rattle.aom_sound.proofs.ClientsCommand.{fit_commanded}
+use Rattle.aom_sound.proofs.ClientsFacts.{waiting_well}
+use Rattle.aom_sound.proofs.Obeying.{commanded_well}
+use Rattle.aom_sound.proofs.Things.{message_plain}
+use Rattle.aom_sound.specs.Clients.{Listed, asked_server, client_at, commanded, connecting, leaving, refusal, sending, told, with_client}
+use Rattle.aom_sound.specs.Kept.{ClientsFit}
+use Rattle.aom_sound.specs.Places.{Cell, Elsewhere, Entry, Field, Going, In_service, Message_of, Object, Place, Queued, Register, Root, Session, held, named, service_of}
+use Rattle.aom_sound.specs.Servers.{asked_last, is_queue, is_server, reserved, withdrawn}
+use Rattle.aom_sound.specs.State.{Rest, State}
+use Rattle.aom_sound.specs.WellTyped.{WellTyped}
+use Rattle.aom_sound.specs.World.{heard_one}
+use Rattle.aom_steps.proofs.Pushed.{served_same, withdrawn_same}
+use Rattle.aom_steps.specs.Left.{is_entry, objects_left}
+use Rattle.aom_prices.specs.Prices.{Prices}
+use Rattle.aom_transcript.specs.declared.event.Command.{Command}
+use Rattle.aom_transcript.specs.declared.event.Command.TheVariants.{Close, Connect, Die, Send}
+use Rattle.aom_parts.proofs.Beside.{Beside, cells_beside, listed_beside, natives_beside, requests_beside}
+use Rattle.aom_parts.proofs.Elsewhere.{SessionsSame, shows_again}
+use Rattle.aom_parts.proofs.Leaving.{beside_withdrawn}
+use Rattle.aom_parts.proofs.Premises.{queue_empty}
+use Rattle.aom_parts.specs.Agrees.{Agrees, SameRequests, Shows, thing_in, thing_of, word_at}
+use Rattle.aom_parts.specs.Messages.{SameMessages}
+use Rattle.aom_parts.specs.Places.{others, value}
+use Rattle.aom_parts.specs.Services.{SameServices}
+use Rattle.aom_parts.specs.Serving.{AreSized, SameClients, message_name, sessionless}
+use Rattle.aom_parts.specs.Stands.{StandsFor}
+use Rattle.aom_parts.specs.declared.parts.Parts.{Parts}
+use Rattle.aom_exec.proofs.Commanded.{Untouched, commanded_beside, commanded_form, commanded_queue}
+use Rattle.aom_exec.proofs.Idle.{stands_idle}
+use Rattle.aom_exec.proofs.Noting.{noted_requests, waits_alike}
+use Rattle.aom_exec.proofs.Obeying.{sent_name}
+use Rattle.aom_exec.specs.Servers.{Notes, is_queued}
+
+-- ---- what is outstanding on the cleanup stack
+
+module _ (q : Prices) (p : Image) (c : ℕ) (s : State) where
+  unqueued : (r : Place) → is_queue r ≡ true → is_entry r ≡ false
+  unqueued (Entry k) e = cc
+  unqueued _ e = refl
+
+  leaving_left : (to : Option Client) → objects_left q (leaving p c s to).cells ≡ objects_left q s.cells
+  leaving_left None = refl
+  leaving_left (Some to) = by (client_at s.clients c)
+    where
+      left : objects_left q (withdrawn c s.cells) ≡ objects_left q s.cells
+      left = withdrawn_same q is_entry unqueued c s.cells
+
+      by : (x : Client) → objects_left q (told p c s x (withdrawn c s.cells)) ≡ objects_left q s.cells
+      by (Open server session slots) = served_same q is_entry server _ (withdrawn c s.cells) ∙ left
+      by Unconnected = left
+      by (Connecting k slots) = left
+      by (Closing k session) = left
+      by Gone = left
+      by Dead = left
+      by (Dying k session) = left
+
+  -- a command changes nothing of it
+  pub commanded_left : (command : Command) (name : ℕ) → objects_left q (commanded p c s command name).cells ≡ objects_left q s.cells
+  commanded_left (Connect class slots) name = go (refusal p c s (Connect class slots)) (asked_server p class s.cells)
+    where
+      go : (r : Option Refusal) (x : Option Listed) → objects_left q (connecting p c s r x slots).cells ≡ objects_left q s.cells
+      go None (Some x) = served_same q is_entry x.name _ s.cells
+      go None None = refl
+      go (Some r) x = refl
+  commanded_left (Send words) name = go (refusal p c s (Send words)) (client_at s.clients c)
+    where
+      go : (r : Option Refusal) (x : Client) → objects_left q (sending p c s r x name words).cells ≡ objects_left q s.cells
+      go None (Open server session slots) = let same = served_same q is_entry server (asked_last (Message_of c name) (service_of s.cells server)) s.cells in omega (arith, same)
+      go None Unconnected = refl
+      go None (Connecting k slots) = refl
+      go None (Closing k session) = refl
+      go None Gone = refl
+      go None Dead = refl
+      go None (Dying k session) = refl
+      go (Some r) x = refl
+  commanded_left Close name = leaving_left _
+  commanded_left Die name = leaving_left _
+
+-- ---- all of it
+
+-- the queue of that server is told, or none is
+abbrev pub Hears : Option ℕ → kept.State → Active → Active → Type 0
+Hears None k old new = new ≡ old
+Hears (Some n) k old new = Notes n k old new
+
+module _ (p : Image) (m : Parts) (s : State) (st : StandsFor (record { image = p; parts = m }) s) (idle : s.tasks ≡ []) (c : ℕ) where
+  -- one event more is delivered
+  abbrev pub v : State
+  v = heard_one s
+
+  pub typed_now : WellTyped p st.typing v
+  typed_now = record { layers = st.typed.layers; tasks = st.typed.tasks; items = st.typed.items; undos = st.typed.undos; good = st.typed.good }
+
+  waiting : (n k : ℕ) (o : Object) → held v.cells (Elsewhere (Queued n k)) ≡ Some o → is_server p o.thing ≡ false
+  waiting n k o e = waiting_well p st.typing st.sound.wired v typed_now n k o e
+
+  -- servers that live are among the cells that there may be
+  pub servers_below : (o : Object) → named s.cells o.name ≡ Some o → is_server p o.thing ≡ true → o.name < p.header.cells
+  servers_below o lives serves = go (cell_at m.cells o.name) refl (st.agrees.cells.things o.name ∙ ap thing_of lives)
+    where
+      object : (t : Thing) → is_server p t ≡ true → is_object t ≡ true
+      object (An_object_of class) e = refl
+      object Message e = absurd (false≢true (sym (message_plain p Message refl) ∙ e))
+
+      go : (x : Option Held_cell) → cell_at m.cells o.name ≡ x → thing_in x ≡ thing_of (Some o) → o.name < p.header.cells
+      go None e same = absurd (none-some _ (same ∙ ap (λ b. cond b (Some o.thing) None) (object o.thing serves)))
+      go (Some x) e same = let low = st.agrees.cells.below o.name x e in omega (arith, low, st.agrees.cells.limit)
+
+  module _
+      (command : Command) (name : ℕ) (free : named s.cells name ≡ None) (high : 4096 ≤ name) (k : kept.State) (store : Store) (a : Active) (clients : SameClients k (commanded p c v command name).cells (commanded p c v command name).clients)
+      (sized : AreSized p.header.cells k) (sessions : SessionsSame m.clients k) (messages : SameMessages p store (commanded p c v command name).cells) (server : Option ℕ)
+      (touched : (n : ℕ) → (server ≡ Some n → ⊥) → Untouched p c v command n) (hears : Hears server k m.active a) where
+    abbrev then : State
+    then = commanded p c v command name
+
+    abbrev there : State
+    there = record v { cells = then.cells; clients = then.clients }
+
+    form : then ≡ there
+    form = commanded_form p c v command name
+
+    beside : Beside s.cells then.cells
+    beside = commanded_beside p c v (beside_withdrawn p st.typing st.sound.wired v typed_now st.kept.fit m.clients st.agrees.services.clients m.messages st.agrees.services.messages c) command name free high
+
+    typed : WellTyped p st.typing there
+    typed = subst (WellTyped p st.typing) form (commanded_well p st.typing st.sound.wired v typed_now idle st.kept.fit c command name free)
+
+    fit : ClientsFit p then.clients then.cells
+    fit = fit_commanded p c v typed_now.good.tidy st.kept.fit waiting command name free
+
+    queues : (n : ℕ) → (server ≡ Some n → ⊥) → (service_of then.cells n).queue ≡ (service_of s.cells n).queue
+    queues n away = commanded_queue p c v typed_now.good.tidy st.kept.fit (λ i x e h. (queue_empty p st.typing st.sound.wired v typed_now v.clients st.kept.fit i x e h).0) command name free n (touched n away)
+
+    abbrev new : Parts
+    new = record m { clients = k; messages = store; active = a; rest = record m.rest { delivered = suc m.rest.delivered } }
+
+    agrees_now : Agrees p new there
+    agrees_now = record {
+      tasks = st.agrees.tasks;
+      values = values;
+      cells = cells_beside p m.cells s.cells then.cells beside st.agrees.cells;
+      entries = st.agrees.entries;
+      requests = requests;
+      natives = natives_beside p m.sessions s.killed s.cells then.cells st.sound.formed.header.cells beside st.agrees.natives;
+      services = record { clients = clients; sized = sized; messages = messages; listed = listed_beside p m.listed s.cells then.cells beside st.agrees.services.listed };
+      rest = ap (λ (r : Rest). record r { delivered = suc r.delivered }) st.agrees.rest;
+      room = st.agrees.room;
+      entry_room = st.agrees.entry_room;
+    }
+      where
+        apart : (r : Place) → ((i j : ℕ) → r ≡ Elsewhere (Queued i j) → ⊥) → is_queue r ≡ false
+        apart (Elsewhere (Queued i j)) out = absurd (out i j refl)
+        apart (Elsewhere Root) out = refl
+        apart (Elsewhere (Session i d)) out = refl
+        apart (Elsewhere In_service) out = refl
+        apart (Register d i) out = refl
+        apart (Entry i) out = refl
+        apart (Field i f) out = refl
+        apart (Going i) out = refl
+
+        values : (r : Place) → Shows (value new r) (word_at s.tasks r) (held then.cells r)
+        values r = shows_again p st.typing there (others m) k m.stack.tasks m.cells m.entries.items s.cells s.tasks typed fit clients sessions (λ q out. beside.holds q (apart q out)) st.agrees.values r
+
+        requests : SameRequests p a then.cells
+        requests = by server touched_queues hears
+          where
+            touched_queues : (n : ℕ) → (server ≡ Some n → ⊥) → (service_of then.cells n).queue ≡ (service_of s.cells n).queue
+            touched_queues = queues
+
+            by : (x : Option ℕ) → ((n : ℕ) → (x ≡ Some n → ⊥) → (service_of then.cells n).queue ≡ (service_of s.cells n).queue) → Hears x k m.active a → SameRequests p a then.cells
+            by None same still = subst (λ b. SameRequests p b then.cells) (sym still) (requests_beside p m.active s.cells then.cells beside (λ n asked. same n (λ e. none-some n e)) st.agrees.requests)
+            by (Some j) same notes =
+                noted_requests p m.active a s.cells then.cells beside st.agrees.requests j (λ n other. same n (λ e. false≢true (sym other ∙ eq-eqb j n (same_Some j n e)))) (is_queued k j) (waits_alike k then.cells then.clients clients j) notes
+
+    -- and so it stands for the state
+    pub obeyed_stands : StandsFor (record { image = p; parts = new }) then
+    obeyed_stands = subst (StandsFor (record { image = p; parts = new })) (sym form)
+        (stands_idle p m s st idle new then.cells then.clients v.rest s.killed typed fit (commanded_left st.sound.prices p c v command name) refl agrees_now)

@@ -1,0 +1,151 @@
+-- A command of a client: what clients are at, the messages that are kept and the schedule stand for what the checked machine comes to.
+use Rattle.std.proofs.Common.{ap, arith, Bool, cond, false, length, List, None, Option, pos, refl, Some, subst, suc, sym, true, zero, ℕ, ℤ, ◌+◌, ◌<◌, ◌≤◌, ◌==◌, ◌∙◌, ◌∷◌, ◌≡◌, slice_index_or, []}
+use Rattle.std.specs.Prelude.{IfSome, is_some, nat_lt, option_map}
+use Rattle.std.proofs.Math.ListN.{get_or-eq_default}
+use Rattle.std.proofs.lemmas.Bool.{false≢true}
+use Rattle.std.proofs.lemmas.Option.{none-some, same_Some}
+use Rattle.aom_cells.specs.Heap.{cell_at}
+use Rattle.aom_cells.specs.declared.cell.Cell.{Cell as Held_cell}
+use Rattle.aom_clients.specs.Clients as kept
+use Rattle.aom_clients.specs.Nodes.{named_by}
+use Rattle.aom_clients.specs.Table.{row}
+use Rattle.aom_clients.specs.declared.client.Client.{Client}
+use Rattle.aom_clients.specs.declared.client.Client.TheVariants.{Closing, Connecting, Dead, Dying, Gone, Open, Unconnected}
+use Rattle.aom_clients.specs.declared.place.Place.{Place as Message_place}
+use Rattle.aom_clients.specs.declared.place.Place.TheVariants.{Free}
+use Rattle.aom_clients.specs.declared.refusal.Refusal.{Refusal}
+use Rattle.aom_clients.specs.declared.server.Server.{Server}
+use Rattle.aom_image.specs.Image.{Image}
+use Rattle.aom_image.specs.WellFormed.{WellFormed}
+use Rattle.aom_image.specs.declared.method.Thing.{Thing}
+use Rattle.aom_image.specs.declared.method.Thing.TheVariants.{Message, Object as An_object_of}
+use Rattle.aom_messages.specs.Store.{Changes, Store, count, message_at, word_of}
+use Rattle.aom_roles.specs.Shapes.{kind_of}
+use Rattle.aom_shape.specs.Kinds.{is_object}
+use Rattle.aom_shape.specs.Tables.{at}
+use Rattle.aom_sound.specs.Clients.{Listed, asked_server, client_at, commanded, connecting, leaving, most_of, refusal, room, sending, told, with_message}
+use Rattle.aom_sound.specs.Places.{Cell, Message_of, Object, named, service_of}
+use Rattle.aom_sound.specs.Servers.{asked_last, is_server, reserved, withdrawn}
+use Rattle.aom_sound.specs.State.{State}
+use Rattle.aom_sound.specs.World.{heard_one}
+use Rattle.aom_transcript.specs.declared.event.Command.{Command}
+use Rattle.aom_transcript.specs.declared.event.Command.TheVariants.{Close, Connect, Die, Send}
+use Rattle.aom_parts.proofs.Commanding.{found_server, row_close, row_die}
+use Rattle.aom_parts.proofs.Leaving as leaves
+use Rattle.aom_parts.proofs.Messages.{message_made, messages_served}
+use Rattle.aom_parts.specs.Messages.{SameMessages, is_a_message}
+use Rattle.aom_parts.specs.Serving.{SameClients, is_taken, message_name, sessionless}
+use Rattle.aom_exec.specs.Clients.{AreKept, Forgets, Keeps_sent, SameKept, Sends}
+
+-- ---- the name of what is sent
+
+-- of the message at a place, or one that no place has
+abbrev pub sent_name : Option ℕ → ℕ
+sent_name None = message_name 1024
+sent_name (Some m) = message_name m
+
+-- which is free where the place is
+module _ (k : kept.State) (cs : List Cell) (clients : List Client) (same : SameClients k cs clients) (places : length k.places ≡ 1024) where
+  free_name : (m : ℕ) → kept.place_at k m ≡ Free → named cs (message_name m) ≡ None
+  free_name m free = go (named cs (message_name m)) (ap is_taken (sym free) ∙ same.taken m)
+    where
+      go : (o : Option Object) → false ≡ is_some o → o ≡ None
+      go None e = refl
+      go (Some o) e = absurd (false≢true e)
+
+  pub sent_free : (place : Option ℕ) → IfSome place (λ m. kept.place_at k m ≡ Free) → named cs (sent_name place) ≡ None
+  sent_free None free = free_name 1024 (get_or-eq_default k.places Free (omega (arith, places)))
+  sent_free (Some m) free = free_name m free
+
+-- ---- the messages
+
+-- the same words at each place, whichever way they are read
+at_read : (ws : List ℤ) (w : ℕ) → slice_index_or ws w (pos 0) ≡ at (pos 0) ws w
+at_read [] w = refl
+at_read (x ∷ xs) zero = refl
+at_read (x ∷ xs) (suc w) = at_read xs w
+
+-- where the same are kept
+still_kept : (p : Image) (before after : Store) (cs : List Cell) → SameKept before after → SameMessages p before cs → SameMessages p after cs
+still_kept p before after cs k same = record {
+  there = λ m. ap is_some (k.all m) ∙ same.there m;
+  past = same.past;
+  words = λ m w. ap (λ ws. word_of ws w) (k.all m) ∙ same.words m w;
+  count = k.count ∙ same.count;
+  limit = k.limit ∙ same.limit;
+}
+
+-- where none is left
+forgets_none : (before after : Store) → Forgets [] before after → SameKept before after
+forgets_none before after f = record { all = λ m. f.others m refl; count = let c = f.count in omega (arith, c); limit = f.limit }
+
+module _ (p : Image) (c : ℕ) (v : State) (k : kept.State) (same : SameClients k v.cells v.clients) (before after : Store) (messages : SameMessages p before v.cells) where
+  pub messages_connect : (class slots name : ℕ) → after ≡ before → SameMessages p after (commanded p c v (Connect class slots) name).cells
+  messages_connect class slots name still = subst (λ s. SameMessages p s (commanded p c v (Connect class slots) name).cells) (sym still) (go (refusal p c v (Connect class slots)) (asked_server p class v.cells))
+    where
+      go : (r : Option Refusal) (x : Option Listed) → SameMessages p before (connecting p c v r x slots).cells
+      go None (Some x) = messages_served p before v.cells x.name _ messages
+      go None None = messages
+      go (Some r) x = messages
+
+  -- what is sent is kept, where it is not refused
+  pub messages_send : (words : List ℤ) (place : Option ℕ) → kept.send_refusal c place k ≡ refusal p c v (Send words) → Keeps_sent (kept.send_refusal c place k) place words before after → SameMessages p after (commanded p c v (Send words) (sent_name place)).cells
+  messages_send words place alike is_kept = go (refusal p c v (Send words)) refl (client_at v.clients c) refl place refl (subst (λ r. Keeps_sent r place words before after) alike is_kept)
+    where
+      went : SameKept before after → SameMessages p after v.cells
+      went same = still_kept p before after v.cells same messages
+
+      -- only an open client sends
+      shut : (x : Client) → client_at v.clients c ≡ x → (r : Refusal) → (row x).send ≡ Some r → refusal p c v (Send words) ≡ None → ⊥
+      shut x here r closed e = none-some _ (sym e ∙ ap (λ y. room p c v (row y).send) here ∙ ap (room p c v) closed)
+
+      -- and it needs a place
+      no_place : (r : Option Refusal) (b : Bool) → kept.sending_to r b None ≡ None → ⊥
+      no_place None true e = cc
+      no_place None false e = cc
+      no_place (Some r) b e = cc
+
+      go : (r : Option Refusal) → refusal p c v (Send words) ≡ r → (x : Client) → client_at v.clients c ≡ x → (y : Option ℕ) → place ≡ y → Keeps_sent r y words before after → SameMessages p after (sending p c v r x (sent_name y) words).cells
+      go (Some r) e x here y f is_kept = went is_kept
+      go None e (Open server session slots) here (Some m) f is_kept =
+          message_made p before after (reserved (asked_last (Message_of c (message_name m))) server v.cells) _ m (messages_served p before v.cells server _ messages) refl (λ w. at_read words w) is_kept.0 is_kept.1
+      go None e (Open server session slots) here None f is_kept = absurd (no_place (row (kept_at)).send (kept.has_slot (length (kept.sent_at k c)) kept_at) (sym (ap (λ y. kept.send_refusal c y k) f) ∙ alike ∙ e))
+        where
+          kept_at : Client
+          kept_at = kept.client_at k c
+      go None e Unconnected here y f is_kept = absurd (shut Unconnected here _ refl e)
+      go None e (Connecting server slots) here y f is_kept = absurd (shut (Connecting server slots) here _ refl e)
+      go None e (Closing server session) here y f is_kept = absurd (shut (Closing server session) here _ refl e)
+      go None e Gone here y f is_kept = absurd (shut Gone here _ refl e)
+      go None e Dead here y f is_kept = absurd (shut Dead here _ refl e)
+      go None e (Dying server session) here y f is_kept = absurd (shut (Dying server session) here _ refl e)
+
+  -- what a client leaves is kept no more
+  module _ (withdraws : Forgets (kept.freed (Some Unconnected) c k) before after → SameMessages p after (withdrawn c v.cells)) where
+    messages_left : (to to' : Option Client) → is_some to ≡ is_some to' → Forgets (kept.freed to c k) before after → SameMessages p after (leaving p c v to').cells
+    messages_left None None e f = still_kept p before after v.cells (forgets_none before after f) messages
+    messages_left None (Some x) e f = absurd (false≢true e)
+    messages_left (Some x) None e f = absurd (false≢true (sym e))
+    messages_left (Some x) (Some y) e f = by (client_at v.clients c)
+      where
+        gone : SameMessages p after (withdrawn c v.cells)
+        gone = withdraws f
+
+        by : (z : Client) → SameMessages p after (told p c v z (withdrawn c v.cells))
+        by (Open server session slots) = messages_served p after (withdrawn c v.cells) server _ gone
+        by Unconnected = gone
+        by (Connecting server slots) = gone
+        by (Closing server session) = gone
+        by Gone = gone
+        by Dead = gone
+        by (Dying server session) = gone
+
+    some_alike : (x y : Option Client) → y ≡ option_map sessionless x → is_some x ≡ is_some y
+    some_alike None y e = ap is_some (sym e)
+    some_alike (Some x) y e = ap is_some (sym e)
+
+    pub messages_close : Forgets (kept.freed (row (kept.client_at k c)).close c k) before after → (name : ℕ) → SameMessages p after (commanded p c v Close name).cells
+    messages_close f name = messages_left (row (kept.client_at k c)).close (row (client_at v.clients c)).close (some_alike _ _ (ap (λ x. (row x).close) (sym (same.at c)) ∙ row_close (kept.client_at k c))) f
+
+    pub messages_die : Forgets (kept.freed (row (kept.client_at k c)).die c k) before after → (name : ℕ) → SameMessages p after (commanded p c v Die name).cells
+    messages_die f name = messages_left (row (kept.client_at k c)).die (row (client_at v.clients c)).die (some_alike _ _ (ap (λ x. (row x).die) (sym (same.at c)) ∙ row_die (kept.client_at k c))) f

@@ -1,0 +1,347 @@
+-- What the calls of clients make of the numbers in the places of servers: their sessions, and the messages in their queues.
+use Rattle.std.proofs.Common.{Bool, List, None, Option, Some, [], ap, arith, cond, false, length, not, refl, subst, sym, true, ℕ, ◌&&◌, ◌<◌, ◌==◌, ◌∙◌, ◌∷◌, ◌≡◌}
+use Rattle.std.specs.List.{list_any}
+use Rattle.std.specs.Prelude.{filter, map, ◌||◌}
+use Rattle.std.proofs.lemmas.Bool.{eq-eqb, eqb-true, false≢true, ne_eqb, true≢false}
+use Rattle.aom_cells.specs.Heap.{Heap, null}
+use Rattle.aom_cleanup.specs.declared.item.Item.{Item}
+use Rattle.aom_clients.specs.Clients as kept
+use Rattle.aom_clients.specs.Clients.{client_at, queue_at}
+use Rattle.aom_clients.specs.Nodes.{is_leaving}
+use Rattle.aom_clients.specs.Table.{no_cell, released, server_of}
+use Rattle.aom_clients.specs.declared.client.Client.{Client}
+use Rattle.aom_clients.specs.declared.client.Client.TheVariants.{Closing, Connecting, Dead, Dying, Gone, Open, Unconnected}
+use Rattle.aom_clients.specs.declared.entry.Entry.{Entry}
+use Rattle.aom_clients.specs.declared.entry.Entry.TheVariants.{Close, Connect, Message}
+use Rattle.aom_clients.specs.declared.place.Place.{Place as Message_place}
+use Rattle.aom_frames.specs.declared.task.Task.{Task as Held_task}
+use Rattle.aom_image.specs.Image.{Image}
+use Rattle.aom_image.specs.declared.method.Thing.TheVariants.{Message as A_message}
+use Rattle.aom_rules.specs.Typing.{Typing}
+use Rattle.aom_shape.specs.Kinds.{filled}
+use Rattle.aom_shape.specs.declared.kind.Filling.TheVariants.{Full}
+use Rattle.aom_shape.specs.declared.kind.Age.TheVariants.{Ready}
+use Rattle.aom_shape.specs.declared.kind.Kind.{Kind}
+use Rattle.aom_shape.specs.declared.kind.Kind.TheVariants.{Null, Own}
+use Rattle.aom_sound.proofs.Dropping.{queued_claim}
+use Rattle.aom_sound.proofs.Maps.{named_name}
+use Rattle.aom_sound.proofs.Picking.{own_held}
+use Rattle.aom_sound.proofs.Services.{service_unnamed}
+use Rattle.aom_sound.proofs.Straight.{fits_unowning}
+use Rattle.aom_sound.specs.Claims.{declared}
+use Rattle.aom_sound.specs.Kept.{ClientsFit}
+use Rattle.aom_sound.specs.Places.{Cell, Elsewhere, Entry as Entry_at, Field, Going, In_service, Object, Other, Place, Queued, Register, Root, Session, changed, held, named, seen, service_of}
+use Rattle.aom_sound.specs.Servers.{has_message, is_message, is_server, message_thing}
+use Rattle.aom_sound.specs.State.{State, Task}
+use Rattle.aom_sound.specs.WellTyped.{Fits, WellTyped}
+use Rattle.aom_parts.specs.Agrees.{Shows, number, word_at}
+use Rattle.aom_parts.specs.Places.{Others, is_numbered, other_in, session_number, session_with, value_in}
+use Rattle.aom_parts.specs.Serving.{SameClients, asked_by, message_name}
+use Rattle.aom_parts.proofs.CellFields.{elsewhere_written}
+use Rattle.aom_parts.proofs.Serving.{at_set, map_at}
+
+-- ---- what waits in a queue is told by what stands for the queues
+
+numbered_asked : (places : List Message_place) (m : ℕ) (es : List Entry) → list_any (is_numbered m) es ≡ list_any (is_message m) (map (asked_by places) es)
+numbered_asked places m [] = refl
+numbered_asked places m (Connect c ∷ es) = numbered_asked places m es
+numbered_asked places m (Message k ∷ es) = ap (λ b. (message_name k == m) || b) (numbered_asked places m es)
+numbered_asked places m (Close c ∷ es) = numbered_asked places m es
+
+-- the number of a message is where it waits, in each state that is well typed and in which what clients have is told
+module _ (p : Image) (t : Typing) (s : State) (w : WellTyped p t s) (fit : ClientsFit p s.clients s.cells) where
+  abbrev waiting : ℕ → ℕ → Place
+  waiting n m = Elsewhere (Queued n m)
+
+  waits_as : (n m : ℕ) (k : Kind) → declared p s.cells (waiting n m) ≡ k → Fits p (seen s.cells) (held s.cells (waiting n m)) k
+  waits_as n m k e = subst (λ x. Fits p (seen s.cells) (held s.cells (waiting n m)) x) (queued_claim p (declared p s.cells) w.layers n m ∙ e) (w.good.fits (waiting n m))
+
+  waits_well : (n m : ℕ) → has_message (service_of s.cells n) m ≡ true → (x : Object) × (held s.cells (waiting n m) ≡ Some x)
+  waits_well n m has = go (named s.cells n) refl
+    where
+      at : (o : Object) → named s.cells n ≡ Some o → (b : Bool) → is_server p o.thing ≡ b → (x : Object) × (held s.cells (waiting n m) ≡ Some x)
+      at o e true serves =
+          let kind : declared p s.cells (waiting n m) ≡ Own A_message Ready = ap (λ b. cond b (filled (message_thing p (named s.cells n)) Full) Null) has ∙ ap (λ y. filled (message_thing p y) Full) e ∙ ap (λ b. filled (cond b (Some A_message) None) Full) serves in
+          let x = own_held p (seen s.cells) (held s.cells (waiting n m)) A_message (waits_as n m (Own A_message Ready) kind) in
+          (x.0, x.1)
+      at o e false plain =
+          let name : o.name ≡ n = named_name s.cells n o e in
+          let none = (fit.servers o (ap (λ k. named s.cells k) name ∙ e) plain).0 in
+          absurd (true≢false (sym has ∙ ap (λ k. has_message (service_of s.cells k) m) (sym name) ∙ ap (λ q. list_any (λ e. is_message m e) q) none))
+
+      go : (o : Option Object) → named s.cells n ≡ o → (x : Object) × (held s.cells (waiting n m) ≡ Some x)
+      go None e = absurd (true≢false (sym has ∙ ap (λ v. has_message v m) (service_unnamed s.cells n e)))
+      go (Some o) e = at o e (is_server p o.thing) refl
+
+  pub queued_shows : (k : kept.State) → SameClients k s.cells s.clients → (n m : ℕ) → cond (list_any (is_numbered m) (queue_at k n)) m null ≡ number (held s.cells (Elsewhere (Queued n m)))
+  queued_shows k same n m = ap (λ b. cond b m null) (numbered_asked k.places m (queue_at k n) ∙ ap (list_any (is_message m)) (same.queues n)) ∙ go (has_message (service_of s.cells n) m) refl
+    where
+      go : (b : Bool) → has_message (service_of s.cells n) m ≡ b → cond b m null ≡ number (held s.cells (waiting n m))
+      go true e = let x = waits_well n m e in sym (ap number x.1 ∙ fit.names n m x.0 x.1)
+      go false e = sym (ap number (fits_unowning p (seen s.cells) (held s.cells (waiting n m)) Null refl (waits_as n m Null (ap (λ b. cond b (filled (message_thing p (named s.cells n)) Full) Null) e))))
+
+-- ---- the sessions of clients
+
+-- a client is at something else, and by that one place has another number
+sessions_now : (s s' : kept.State) (c k x : ℕ) (to : Client) → ((d : ℕ) → client_at s' d ≡ cond (c == d) to (client_at s d)) → ((n : ℕ) → session_with n to ≡ cond (k == n) x (session_with n (client_at s c)))
+    → (n d : ℕ) → session_with n (client_at s' d) ≡ cond ((k == n) && (c == d)) x (session_with n (client_at s d))
+sessions_now s s' c k x to at here n d = ap (session_with n) (at d) ∙ go (c == d) refl
+  where
+    same : (b : Bool) → cond b x (session_with n (client_at s c)) ≡ cond (b && true) x (session_with n (client_at s c))
+    same true = refl
+    same false = refl
+
+    other : (b : Bool) → session_with n (client_at s d) ≡ cond (b && false) x (session_with n (client_at s d))
+    other true = refl
+    other false = refl
+
+    go : (b : Bool) → (c == d) ≡ b → session_with n (cond b to (client_at s d)) ≡ cond ((k == n) && b) x (session_with n (client_at s d))
+    go true e = here n ∙ same (k == n) ∙ ap (λ i. cond ((k == n) && true) x (session_with n (client_at s i))) (eqb-true c d e)
+    go false e = other (k == n)
+
+-- the queues show the same messages
+abbrev pub ShowSame : kept.State → kept.State → Type 0
+ShowSame s s' = (n m : ℕ) → list_any (is_numbered m) (queue_at s' n) ≡ list_any (is_numbered m) (queue_at s n)
+
+-- so a place of a session alone has another number
+session_written : (others : Others) (s' : kept.State) (c k x : ℕ) → ((n d : ℕ) → session_with n (client_at s' d) ≡ cond ((k == n) && (c == d)) x (session_with n (client_at others.clients d))) → ShowSame others.clients s'
+    → (us : List Held_task) (h : Heap) (es : List Item) (r : Place) → value_in us h es (record others { clients = s' }) r ≡ changed (value_in us h es others) (Elsewhere (Session k c)) x r
+session_written others s' c k x sessions queues us h es r = elsewhere_written us h es others (record others { clients = s' }) (Session k c) x other r
+  where
+    other : (o : Other) → other_in (record others { clients = s' }) o ≡ changed (value_in us h es others) (Elsewhere (Session k c)) x (Elsewhere o)
+    other Root = refl
+    other (Session n d) = sessions n d
+    other In_service = refl
+    other (Queued n m) = ap (λ b. cond b m null) (queues n m)
+
+-- no connect and no close is a message
+connects_show : (c m : ℕ) (es : List Entry) → list_any (is_numbered m) (filter (kept.is_no_connect_of c) es) ≡ list_any (is_numbered m) es
+connects_show c m [] = refl
+connects_show c m (Connect d ∷ es) = go (d == c) ∙ connects_show c m es
+  where
+    go : (b : Bool) → list_any (is_numbered m) (cond (not b) (Connect d ∷ filter (kept.is_no_connect_of c) es) (filter (kept.is_no_connect_of c) es)) ≡ list_any (is_numbered m) (filter (kept.is_no_connect_of c) es)
+    go true = refl
+    go false = refl
+connects_show c m (Message k ∷ es) = ap (λ b. (message_name k == m) || b) (connects_show c m es)
+connects_show c m (Close d ∷ es) = connects_show c m es
+
+closes_show : (c m : ℕ) (es : List Entry) → list_any (is_numbered m) (filter (kept.is_no_close_of c) es) ≡ list_any (is_numbered m) es
+closes_show c m [] = refl
+closes_show c m (Close d ∷ es) = go (d == c) ∙ closes_show c m es
+  where
+    go : (b : Bool) → list_any (is_numbered m) (cond (not b) (Close d ∷ filter (kept.is_no_close_of c) es) (filter (kept.is_no_close_of c) es)) ≡ list_any (is_numbered m) (filter (kept.is_no_close_of c) es)
+    go true = refl
+    go false = refl
+closes_show c m (Message k ∷ es) = ap (λ b. (message_name k == m) || b) (closes_show c m es)
+closes_show c m (Connect d ∷ es) = closes_show c m es
+
+-- a client is at something else
+client_now : (s : kept.State) (c : ℕ) (to : Client) → c < length s.clients → (d : ℕ) → client_at (kept.with_client c to s) d ≡ cond (c == d) to (client_at s d)
+client_now s c to small d = at_set Unconnected s.clients c d to small
+
+module _ (others : Others) (us : List Held_task) (h : Heap) (es : List Item) (c k : ℕ) (client : c < length others.clients.clients) where
+  abbrev s : kept.State
+  s = others.clients
+
+  abbrev before : Place → ℕ
+  before = value_in us h es others
+
+  abbrev after : kept.State → Place → ℕ
+  after s' = value_in us h es (record others { clients = s' })
+
+  -- a connect is served, with a session
+  pub session_opened : (slots session : ℕ) → client_at s c ≡ Connecting k slots → session < no_cell → (r : Place) → after (kept.after_connected c (Some session) s) r ≡ changed before (Elsewhere (Session k c)) session r
+  session_opened slots session was small r = ap (λ x. after (kept.opened x (Some session) c s) r) was ∙ session_written others then c k session (sessions_now s then c k session (Open k session slots) (client_now s c (Open k session slots) client) here) queues us h es r
+    where
+      then : kept.State
+      then = kept.opened (Connecting k slots) (Some session) c s
+
+      told : session_number session ≡ session
+      told = ap (λ b. cond b null session) (ne_eqb session no_cell (λ e. absurd (omega (arith, small, e))))
+
+      here : (n : ℕ) → session_with n (Open k session slots) ≡ cond (k == n) session (session_with n (client_at s c))
+      here n = ap (λ x. cond (k == n) x null) told ∙ ap (λ x. cond (k == n) session (session_with n x)) (sym was)
+
+      queues : ShowSame s then
+      queues n m = ap (list_any (is_numbered m)) (map_at (filter (kept.is_no_connect_of c)) s.queues n refl) ∙ connects_show c m (queue_at s n)
+
+  -- the cell of a session is at hand to go
+  pub session_released : server_of (client_at s c) ≡ Some k → (r : Place) → after (kept.after_release c s) r ≡ changed before (Elsewhere (Session k c)) null r
+  session_released with_it r = session_written others (kept.after_release c s) c k null (sessions_now s (kept.after_release c s) c k null (released (client_at s c)) (client_now s c (released (client_at s c)) client) (λ n. here (client_at s c) with_it n)) (λ n m. refl) us h es r
+    where
+      none : (b : Bool) (x : ℕ) → cond b (session_number no_cell) null ≡ cond b null (cond b x null)
+      none true x = refl
+      none false x = refl
+
+      at : (server session n : ℕ) → Some server ≡ Some k → cond (server == n) (session_number no_cell) null ≡ cond (k == n) null (cond (server == n) (session_number session) null)
+      at server session n e = let same : server ≡ k = cc in none (server == n) (session_number session) ∙ ap (λ i. cond (i == n) null (cond (server == n) (session_number session) null)) same
+
+      here : (x : Client) → server_of x ≡ Some k → (n : ℕ) → session_with n (released x) ≡ cond (k == n) null (session_with n x)
+      here (Open server session slots) e n = at server session n e
+      here (Closing server session) e n = at server session n e
+      here (Dying server session) e n = at server session n e
+      here Unconnected e n = cc
+      here (Connecting server slots) e n = cc
+      here Gone e n = cc
+      here Dead e n = cc
+
+  -- the same places have the same numbers
+  unmoved : (s' : kept.State) → ((n d : ℕ) → session_with n (client_at s' d) ≡ session_with n (client_at s d)) → ShowSame s s' → (r : Place) → after s' r ≡ before r
+  unmoved s' sessions queues (Elsewhere Root) = refl
+  unmoved s' sessions queues (Elsewhere (Session n d)) = sessions n d
+  unmoved s' sessions queues (Elsewhere In_service) = refl
+  unmoved s' sessions queues (Elsewhere (Queued n m)) = ap (λ b. cond b m null) (queues n m)
+  unmoved s' sessions queues (Register d i) = refl
+  unmoved s' sessions queues (Entry_at i) = refl
+  unmoved s' sessions queues (Field n f) = refl
+  unmoved s' sessions queues (Going i) = refl
+
+  -- a client is at something else, and has no cell of a session before or after, or the same one
+  sessions_same : (s' : kept.State) (to : Client) → ((d : ℕ) → client_at s' d ≡ cond (c == d) to (client_at s d)) → ((n : ℕ) → session_with n to ≡ session_with n (client_at s c)) → (n d : ℕ) → session_with n (client_at s' d) ≡ session_with n (client_at s d)
+  sessions_same s' to at here n d = ap (session_with n) (at d) ∙ go (c == d) refl
+    where
+      go : (b : Bool) → (c == d) ≡ b → session_with n (cond b to (client_at s d)) ≡ session_with n (client_at s d)
+      go true e = here n ∙ ap (λ i. session_with n (client_at s i)) (eqb-true c d e)
+      go false e = refl
+
+  -- a connect is left
+  pub connect_left : (slots : ℕ) → client_at s c ≡ Connecting k slots → (r : Place) → after (kept.after_connected c None s) r ≡ before r
+  connect_left slots was r = ap (λ x. after (kept.opened x None c s) r) was ∙ unmoved then (sessions_same then Unconnected (client_now s c Unconnected client) (λ n. ap (session_with n) (sym was))) queues r
+    where
+      then : kept.State
+      then = kept.opened (Connecting k slots) None c s
+
+      queues : ShowSame s then
+      queues n m = ap (list_any (is_numbered m)) (map_at (filter (kept.is_no_connect_of c)) s.queues n refl) ∙ connects_show c m (queue_at s n)
+
+  -- a close is served, once the cell of the session is at hand to go
+  pub session_closed : is_leaving k (client_at s c) ≡ true → session_with k (client_at s c) ≡ null → (r : Place) → after (kept.after_closed c s) r ≡ before r
+  session_closed leaves none r = go (client_at s c) refl leaves none
+    where
+      queues : (to : Client) → ShowSame s (kept.parted c to s)
+      queues to n m = ap (list_any (is_numbered m)) (map_at (filter (kept.is_no_close_of c)) s.queues n refl) ∙ closes_show c m (queue_at s n)
+
+      both_null : (b : Bool) → cond b null null ≡ null
+      both_null true = refl
+      both_null false = refl
+
+      gone : (server session : ℕ) → (server == k) ≡ true → cond (server == k) (session_number session) null ≡ null → (n : ℕ) → null ≡ cond (server == n) (session_number session) null
+      gone server session it e n = sym (ap (λ x. cond (server == n) x null) (sym (ap (λ b. cond b (session_number session) null) it) ∙ e) ∙ both_null (server == n))
+
+      go : (x : Client) → client_at s c ≡ x → is_leaving k x ≡ true → session_with k x ≡ null → after (kept.ended x c s) r ≡ before r
+      go (Closing server session) e it null_there =
+          unmoved (kept.parted c Unconnected s) (sessions_same (kept.parted c Unconnected s) Unconnected (client_now s c Unconnected client) (λ n. gone server session it null_there n ∙ sym (ap (session_with n) e))) (queues Unconnected) r
+      go (Dying server session) e it null_there = unmoved (kept.parted c Dead s) (sessions_same (kept.parted c Dead s) Dead (client_now s c Dead client) (λ n. gone server session it null_there n ∙ sym (ap (session_with n) e))) (queues Dead) r
+      go Unconnected e it null_there = cc
+      go (Connecting server slots) e it null_there = cc
+      go (Open server session slots) e it null_there = cc
+      go Gone e it null_there = cc
+      go Dead e it null_there = cc
+
+-- ---- a queue
+
+-- a message is numbered by its place
+numbered_other : (m k : ℕ) → (message_name m == k) ≡ false → (es : List Entry) → list_any (is_numbered k) (Message m ∷ es) ≡ list_any (is_numbered k) es
+numbered_other m k other es = ap (λ b. b || list_any (is_numbered k) es) other
+
+-- the queue of a server is another, by which one message comes or goes
+queue_written : (others : Others) (s' : kept.State) (k m x : ℕ) (to : List Entry) → ((n d : ℕ) → session_with n (client_at s' d) ≡ session_with n (client_at others.clients d)) → ((n : ℕ) → queue_at s' n ≡ cond (k == n) to (queue_at others.clients n))
+    → ((j : ℕ) → cond (list_any (is_numbered j) to) j null ≡ cond (m == j) x (cond (list_any (is_numbered j) (queue_at others.clients k)) j null))
+    → (us : List Held_task) (h : Heap) (es : List Item) (r : Place) → value_in us h es (record others { clients = s' }) r ≡ changed (value_in us h es others) (Elsewhere (Queued k m)) x r
+queue_written others s' k m x to sessions at here us h es r = elsewhere_written us h es others (record others { clients = s' }) (Queued k m) x other r
+  where
+    number_at : List Entry → ℕ → ℕ
+    number_at entries j = cond (list_any (is_numbered j) entries) j null
+
+    same : (b : Bool) (y : ℕ) → cond b x y ≡ cond (true && b) x y
+    same true y = refl
+    same false y = refl
+
+    by : (n j : ℕ) (b : Bool) → (k == n) ≡ b → number_at (cond b to (queue_at others.clients n)) j ≡ cond (b && (m == j)) x (number_at (queue_at others.clients n) j)
+    by n j true e = here j ∙ ap (λ i. cond (m == j) x (number_at (queue_at others.clients i) j)) (eqb-true k n e)
+    by n j false e = refl
+
+    other : (o : Other) → other_in (record others { clients = s' }) o ≡ changed (value_in us h es others) (Elsewhere (Queued k m)) x (Elsewhere o)
+    other Root = refl
+    other (Session n d) = sessions n d
+    other In_service = refl
+    other (Queued n j) = ap (λ q. number_at q j) (at n) ∙ by n j (k == n) refl
+
+-- the first of a queue is a message, which is taken
+pub message_taken : (others : Others) (k m : ℕ) (rest : List Entry) → k < length others.clients.queues → queue_at others.clients k ≡ Message m ∷ rest → list_any (is_numbered (message_name m)) rest ≡ false
+    → (us : List Held_task) (h : Heap) (es : List Item) (r : Place) → value_in us h es (record others { clients = kept.after_next k others.clients }) r ≡ changed (value_in us h es others) (Elsewhere (Queued k (message_name m))) null r
+message_taken others k m rest small first once us h es r =
+    ap (λ q. value_in us h es (record others { clients = kept.taken k q others.clients }) r) first
+    ∙ queue_written others (kept.taken k (Message m ∷ rest) others.clients) k (message_name m) null rest (λ n d. refl) (λ n. at_set [] others.clients.queues k n rest small) here us h es r
+  where
+    here : (j : ℕ) → cond (list_any (is_numbered j) rest) j null ≡ cond (message_name m == j) null (cond (list_any (is_numbered j) (queue_at others.clients k)) j null)
+    here j = go (message_name m == j) refl ∙ ap (λ q. cond (message_name m == j) null (cond (list_any (is_numbered j) q) j null)) (sym first)
+      where
+        go : (b : Bool) → (message_name m == j) ≡ b → cond (list_any (is_numbered j) rest) j null ≡ cond b null (cond (b || list_any (is_numbered j) rest) j null)
+        go true e = ap (λ i. cond (list_any (is_numbered i) rest) i null) (sym (eqb-true (message_name m) j e)) ∙ ap (λ b. cond b (message_name m) null) once
+        go false e = refl
+
+-- anything else that is first is no message
+pub entry_taken : (others : Others) (k : ℕ) (e : Entry) (rest : List Entry) → k < length others.clients.queues → queue_at others.clients k ≡ e ∷ rest → ((j : ℕ) → is_numbered j e ≡ false)
+    → (us : List Held_task) (h : Heap) (es : List Item) (r : Place) → value_in us h es (record others { clients = kept.after_next k others.clients }) r ≡ value_in us h es others r
+entry_taken others k e rest small first none us h es r = at r
+  where
+    then : kept.State
+    then = kept.after_next k others.clients
+
+    no_message : (e : Entry) → ((j : ℕ) → is_numbered j e ≡ false) → (s : kept.State) → kept.taking e s ≡ s
+    no_message (Connect c) none s = refl
+    no_message (Message m) none s = absurd (false≢true (sym (none (message_name m)) ∙ eq-eqb (message_name m) (message_name m) refl))
+    no_message (Close c) none s = refl
+
+    is_then : then ≡ kept.with_queue k rest others.clients
+    is_then = ap (λ q. kept.taken k q others.clients) first ∙ no_message e none (kept.with_queue k rest others.clients)
+
+    shown : (n m : ℕ) (b : Bool) → (k == n) ≡ b → list_any (is_numbered m) (cond b rest (queue_at others.clients n)) ≡ list_any (is_numbered m) (queue_at others.clients n)
+    shown n m true it = sym (ap (λ b. b || list_any (is_numbered m) rest) (none m)) ∙ ap (list_any (is_numbered m)) (sym first) ∙ ap (λ i. list_any (is_numbered m) (queue_at others.clients i)) (eqb-true k n it)
+    shown n m false it = refl
+
+    at : (r : Place) → value_in us h es (record others { clients = then }) r ≡ value_in us h es others r
+    at (Elsewhere Root) = refl
+    at (Elsewhere (Session n d)) = ap (λ s. session_with n (client_at s d)) is_then
+    at (Elsewhere In_service) = refl
+    at (Elsewhere (Queued n m)) = ap (λ b. cond b m null) (ap (λ s. list_any (is_numbered m) (queue_at s n)) is_then ∙ ap (list_any (is_numbered m)) (at_set [] others.clients.queues k n rest small) ∙ shown n m (k == n) refl)
+    at (Register d i) = refl
+    at (Entry_at i) = refl
+    at (Field n f) = refl
+    at (Going i) = refl
+
+-- ---- where many messages come or go at once: what is no message in a queue is as it was
+
+-- the sessions have the same numbers
+abbrev pub SessionsSame : kept.State → kept.State → Type 0
+SessionsSame s s' = (n d : ℕ) → session_with n (client_at s' d) ≡ session_with n (client_at s d)
+
+-- the number of any place but of those in queues
+pub others_same : (others : Others) (s' : kept.State) → SessionsSame others.clients s' → (us : List Held_task) (h : Heap) (es : List Item) (r : Place) → ((n m : ℕ) → r ≡ Elsewhere (Queued n m) → ⊥) → value_in us h es (record others { clients = s' }) r ≡ value_in us h es others r
+others_same others s' sessions us h es (Elsewhere Root) aside = refl
+others_same others s' sessions us h es (Elsewhere (Session n d)) aside = sessions n d
+others_same others s' sessions us h es (Elsewhere In_service) aside = refl
+others_same others s' sessions us h es (Elsewhere (Queued n m)) aside = absurd (aside n m refl)
+others_same others s' sessions us h es (Register d i) aside = refl
+others_same others s' sessions us h es (Entry_at i) aside = refl
+others_same others s' sessions us h es (Field n f) aside = refl
+others_same others s' sessions us h es (Going i) aside = refl
+
+-- what places show goes on so where messages come and go in queues alone
+pub shows_again : (p : Image) (t : Typing) (s : State) (others : Others) (s' : kept.State) (us : List Held_task) (h : Heap) (es : List Item) (cs : List Cell) (ts : List Task) → WellTyped p t s → ClientsFit p s.clients s.cells → SameClients s' s.cells s.clients → SessionsSame others.clients s'
+    → ((r : Place) → ((n m : ℕ) → r ≡ Elsewhere (Queued n m) → ⊥) → held s.cells r ≡ held cs r) → ((r : Place) → Shows (value_in us h es others r) (word_at ts r) (held cs r)) → (r : Place) → Shows (value_in us h es (record others { clients = s' }) r) (word_at ts r) (held s.cells r)
+shows_again p t s others s' us h es cs ts w fit same sessions holds old r = go r
+  where
+    still : (r : Place) → ((n m : ℕ) → r ≡ Elsewhere (Queued n m) → ⊥) → Shows (value_in us h es (record others { clients = s' }) r) (word_at ts r) (held s.cells r)
+    still r aside = subst (λ n. Shows n (word_at ts r) (held s.cells r)) (sym (others_same others s' sessions us h es r aside)) (subst (λ o. Shows (value_in us h es others r) (word_at ts r) o) (sym (holds r aside)) (old r))
+
+    go : (r : Place) → Shows (value_in us h es (record others { clients = s' }) r) (word_at ts r) (held s.cells r)
+    go (Elsewhere (Queued n m)) = queued_shows p t s w fit s' same n m
+    go (Elsewhere Root) = still (Elsewhere Root) (λ n m e. cc)
+    go (Elsewhere (Session n c)) = still (Elsewhere (Session n c)) (λ i m e. cc)
+    go (Elsewhere In_service) = still (Elsewhere In_service) (λ n m e. cc)
+    go (Register d i) = still (Register d i) (λ n m e. cc)
+    go (Entry_at i) = still (Entry_at i) (λ n m e. cc)
+    go (Field n f) = still (Field n f) (λ i m e. cc)
+    go (Going i) = still (Going i) (λ n m e. cc)

@@ -1,0 +1,271 @@
+-- The messages that a client leaves as it closes or dies, and those in the queue of a server that goes, are kept no more: what is kept stands for what is left.
+use Rattle.std.proofs.Common.{Bool, List, None, Option, Some, [], ap, arith, cond, false, inl, inr, length, map, refl, subst, sym, true, ℕ, ◌&&◌, ◌+◌, ◌<◌, ◌==◌, ◌≤◌, ◌∙◌, ◌∷◌, ◌≡◌, ◌⊎◌}
+use Rattle.std.specs.List.{list_any}
+use Rattle.std.specs.Prelude.{filter, is_some, not, ◌-◌, ◌||◌}
+use Rattle.std.proofs.lemmas.Bool.{and_parts, cases_lt, eq-eqb, eqb-true, false≢true}
+use Rattle.aom_clients.specs.Clients as kept
+use Rattle.aom_clients.specs.Table.{is_queued}
+use Rattle.aom_clients.specs.declared.client.Client.{Client}
+use Rattle.aom_clients.specs.declared.entry.Entry.{Entry}
+use Rattle.aom_clients.specs.declared.entry.Entry.TheVariants.{Close, Connect, Message}
+use Rattle.aom_clients.specs.declared.place.Place.{Place}
+use Rattle.aom_clients.specs.declared.place.Place.TheVariants.{Discarded, Free, Held, Queued}
+use Rattle.aom_image.specs.Image.{Image}
+use Rattle.aom_image.specs.declared.method.Thing.TheVariants.{Message as A_message, Object as An_object_of}
+use Rattle.aom_image.specs.declared.method.Thing.{Thing}
+use Rattle.aom_messages.specs.Store.{Store, count, message_at}
+use Rattle.aom_roles.specs.Shapes.{kind_of}
+use Rattle.aom_rules.specs.Typing.{Typing}
+use Rattle.aom_shape.specs.Kinds.{is_object}
+use Rattle.aom_sound.proofs.Owners.{IsQueuedAt, fits_thing, queued_lower, queued_thing_of}
+use Rattle.aom_sound.proofs.Sifted.{a_cell_of, cell_in, cell_lives, cell_name, cell_of, cell_owner, cell_placed, held_cell, named_cell, object_in, request_in, requested_cell, service_cell, service_in, unqueued_so, withdrawn_so}
+use Rattle.aom_sound.specs.Claims.{claim, declared}
+use Rattle.aom_sound.specs.Enlisted.{thing_kind}
+use Rattle.aom_sound.specs.Requests.{Suits, states_claim}
+use Rattle.aom_sound.specs.Kept.{ClientsFit, QueueFits}
+use Rattle.aom_sound.specs.Laws.{IsWired}
+use Rattle.aom_sound.specs.Places.{Cell, Elsewhere, Object, Place as Owner, Queued as Waits_at, Sender, Service, held, requested, seen, service_of}
+use Rattle.aom_sound.specs.Servers.{has_message, holds_slot, is_among, is_from, is_message, is_queue, is_queue_of, left_by, withdrawn, without_queue}
+use Rattle.aom_sound.specs.State.{State}
+use Rattle.aom_sound.specs.WellTyped.{Fits, WellTyped}
+use Rattle.aom_parts.proofs.Beside.{Beside, beside_sifted, holds_sifted}
+use Rattle.aom_parts.proofs.Departing.{is_at}
+use Rattle.aom_parts.proofs.Forgetting.{Forgets, messages_sifted}
+use Rattle.aom_parts.proofs.Premises.{asked_there, waiting_there}
+use Rattle.aom_parts.proofs.Vanishing.{asks_message}
+use Rattle.aom_parts.proofs.Withdrawing.{owner_cell, owner_in}
+use Rattle.aom_parts.specs.Messages.{SameMessages, is_a_message}
+use Rattle.aom_parts.specs.Serving.{Once, SameClients, asked_by, holds, message_name, owner_of, sent_by, waits_in}
+
+-- ---- places
+
+-- those of the messages among these entries
+abbrev pub places_in : List Entry → List ℕ
+places_in [] = []
+places_in (Connect c ∷ es) = places_in es
+places_in (Message m ∷ es) = m ∷ places_in es
+places_in (Close c ∷ es) = places_in es
+
+pub among_places : (es : List Entry) (m : ℕ) → is_among m (places_in es) ≡ list_any (is_at m) es
+among_places [] m = refl
+among_places (Connect c ∷ es) m = among_places es m
+among_places (Message k ∷ es) m = ap (λ b. (k == m) || b) (among_places es m)
+among_places (Close c ∷ es) m = among_places es m
+
+among_filtered : (test : ℕ → Bool) (ms : List ℕ) (j : ℕ) → is_among j (filter test ms) ≡ (test j && is_among j ms)
+among_filtered test [] j = sym (none (test j))
+  where
+    none : (a : Bool) → (a && false) ≡ false
+    none true = refl
+    none false = refl
+among_filtered test (m ∷ ms) j = go (test m) refl (m == j) refl (among_filtered test ms j)
+  where
+    go : (a : Bool) → test m ≡ a → (b : Bool) → (m == j) ≡ b → is_among j (filter test ms) ≡ (test j && is_among j ms) →
+        is_among j (cond a (m ∷ filter test ms) (filter test ms)) ≡ (test j && (b || is_among j ms))
+    go true e true f rest = ap (λ b. b || is_among j (filter test ms)) f ∙ sym (ap (λ b. b && true) (ap test (sym (eqb-true m j f)) ∙ e))
+    go true e false f rest = ap (λ b. b || is_among j (filter test ms)) f ∙ rest
+    go false e true f rest = rest ∙ ap (λ b. b && is_among j ms) off ∙ sym (ap (λ b. b && true) off)
+      where
+        off : test j ≡ false
+        off = ap test (sym (eqb-true m j f)) ∙ e
+    go false e false f rest = rest
+
+once_filtered : (test : ℕ → Bool) (ms : List ℕ) → Once ms → Once (filter test ms)
+once_filtered test [] once = tt
+once_filtered test (m ∷ ms) once = go (test m) (once_filtered test ms once.1)
+  where
+    none : (a b : Bool) → b ≡ false → (a && b) ≡ false
+    none true b e = e
+    none false b e = refl
+
+    go : (a : Bool) → Once (filter test ms) → Once (cond a (m ∷ filter test ms) (filter test ms))
+    go true rest = (among_filtered test ms m ∙ none (test m) (is_among m ms) once.0, rest)
+    go false rest = rest
+
+-- no message waits twice
+once_asked : (clients : List Client) (n : ℕ) (places : List Place) (es : List Entry) → QueueFits clients n (map (asked_by places) es) → Once (places_in es)
+once_asked clients n places [] fits = tt
+once_asked clients n places (Connect c ∷ es) fits = once_asked clients n places es fits.1
+once_asked clients n places (Close c ∷ es) fits = once_asked clients n places es fits.1
+once_asked clients n places (Message m ∷ es) fits = (among_places es m ∙ sym (asks_message places es m) ∙ fits.0.1, once_asked clients n places es fits.1)
+
+-- ---- what goes
+
+module _ (p : Image) (t : Typing) (wired : IsWired p) (s : State) (w : WellTyped p t s) (fit : ClientsFit p s.clients s.cells) (k : kept.State) (same : SameClients k s.cells s.clients) where
+  -- what a queue owns is a message
+  waiting_message : (n : ℕ) (x : Cell) → cell_of s.cells n ≡ Some x → is_queue x.owner ≡ true → is_object x.object.thing ≡ false
+  waiting_message n x e h = go x.owner refl h
+    where
+      go : (q : Owner) → x.owner ≡ q → is_queue q ≡ true → is_object x.object.thing ≡ false
+      go (Elsewhere (Waits_at i m)) at h =
+          let there : held s.cells (Elsewhere (Waits_at i m)) ≡ Some x.object = ap (held s.cells) (sym at) ∙ held_cell s.cells x.owner ∙ ap object_in (cell_placed s.cells n x w.good.tidy e) in
+          let y : IsQueuedAt p s.cells i m x.object.thing = queued_thing_of p s.cells w.layers i m x.object.thing
+                  (fits_thing p (seen s.cells) x.object _ (subst (λ y. Fits p (seen s.cells) y (claim p (declared p s.cells) w.layers (Elsewhere (Waits_at i m)))) there (w.good.fits (Elsewhere (Waits_at i m))))) in
+          ap is_object (queued_lower p wired y.0 x.object.thing y.3).0
+      go _ at h = cc
+
+  -- and its number is past those of cells
+  message_place : (before : Store) → SameMessages p before s.cells → (n : ℕ) (x : Cell) → cell_of s.cells n ≡ Some x → is_queue x.owner ≡ true → (m : ℕ) × (n ≡ message_name m)
+  message_place before kept_so n x e h = go (cases_lt n (message_name 0))
+    where
+      go : (n < message_name 0) ⊎ (message_name 0 ≤ n) → (m : ℕ) × (n ≡ message_name m)
+      go (inl small) =
+          absurd (false≢true (sym (kept_so.past n small) ∙ ap is_a_message (named_cell s.cells n ∙ ap object_in e) ∙ ap not (waiting_message n x e h)))
+      go (inr large) = (n - message_name 0, omega (arith, large))
+
+  owner_there : (n : ℕ) (x : Cell) → cell_of s.cells n ≡ Some x → owner_of s.cells n ≡ Some x.owner
+  owner_there n x e = owner_cell s.cells n ∙ ap owner_in e
+
+  cell_there : (n : ℕ) → waits_in (owner_of s.cells n) ≡ true → (x : Cell) × (cell_of s.cells n ≡ Some x) × (is_queue x.owner ≡ true)
+  cell_there n h = go (cell_of s.cells n) refl (ap waits_in (sym (owner_cell s.cells n)) ∙ h)
+    where
+      go : (x : Option Cell) → cell_of s.cells n ≡ x → waits_in (owner_in (cell_of s.cells n)) ≡ true → (x : Cell) × (cell_of s.cells n ≡ Some x) × (is_queue x.owner ≡ true)
+      go None e h = absurd (false≢true (ap (λ y. waits_in (owner_in y)) (sym e) ∙ h))
+      go (Some x) e h = (x, e, ap (λ y. waits_in (owner_in y)) (sym e) ∙ h)
+
+  -- ---- a client leaves
+
+  module _ (c : ℕ) where
+    abbrev drops : Cell → Bool
+    drops x = is_queue x.owner && is_from c x.service.sender
+
+    abbrev freed : List ℕ
+    freed = filter (λ m. is_queued (kept.place_at k m)) (kept.sent_at k c)
+
+    among_freed : (m : ℕ) → is_among m freed ≡ (is_queued (kept.place_at k m) && is_among m (kept.sent_at k c))
+    among_freed m = among_filtered (λ m. is_queued (kept.place_at k m)) (kept.sent_at k c) m
+
+    pub freed_once : Once freed
+    freed_once = once_filtered (λ m. is_queued (kept.place_at k m)) (kept.sent_at k c) (same.once c)
+
+    from_slot : (x : Option Sender) → holds_slot c x ≡ true → is_from c x ≡ true
+    from_slot None h = cc
+    from_slot (Some x) h = (and_parts (x.client == c) x.holds_slot h).0
+
+    forgets : (before : Store) → SameMessages p before s.cells → Forgets drops (λ x. left_by c x.service) freed s.cells
+    forgets before kept_so = record { goes = goes; gone = gone }
+      where
+        goes : (m : ℕ) → is_among m freed ≡ true → (x : Cell) × (cell_of s.cells (message_name m) ≡ Some x) × (drops x ≡ true) × (is_object x.object.thing ≡ false)
+        goes m h =
+            let b = and_parts (is_queued (kept.place_at k m)) (is_among m (kept.sent_at k c)) (sym (among_freed m) ∙ h) in
+            let x = cell_there (message_name m) (sym (same.waits m) ∙ b.0) in
+            let from : is_from c x.0.service.sender ≡ true = from_slot x.0.service.sender (ap (λ (v : Service). holds_slot c v.sender) (sym (service_cell s.cells (message_name m) ∙ ap service_in x.1)) ∙ sym (same.slots_of c m) ∙ b.1) in
+            (x.0, x.1, ap (λ y. y && is_from c x.0.service.sender) x.2 ∙ from, waiting_message (message_name m) x.0 x.1 x.2)
+
+        gone : (n : ℕ) (x : Cell) → cell_of s.cells n ≡ Some x → drops x ≡ true → (m : ℕ) × (n ≡ message_name m) × (is_among m freed ≡ true)
+        gone n x e h =
+            let b = and_parts (is_queue x.owner) (is_from c x.service.sender) h in
+            let m = message_place before kept_so n x e b.0 in
+            let cell : cell_of s.cells (message_name m.0) ≡ Some x = ap (cell_of s.cells) (sym m.1) ∙ e in
+            let waits : is_queued (kept.place_at k m.0) ≡ true = same.waits m.0 ∙ ap waits_in (owner_there (message_name m.0) x cell) ∙ b.0 in
+            let from : is_from c (sent_by (holds k m.0) (kept.place_at k m.0)) ≡ true = ap (is_from c) (same.senders m.0) ∙ ap (λ (v : Service). is_from c v.sender) (service_cell s.cells (message_name m.0) ∙ ap service_in cell) ∙ b.1 in
+            (m.0, m.1, among_freed m.0 ∙ ap (λ y. y && is_among m.0 (kept.sent_at k c)) waits ∙ held_slot m.0 (kept.place_at k m.0) refl waits from)
+          where
+            held_slot : (m : ℕ) (x : Place) → kept.place_at k m ≡ x → is_queued (kept.place_at k m) ≡ true → is_from c (sent_by (holds k m) (kept.place_at k m)) ≡ true → is_among m (kept.sent_at k c) ≡ true
+            held_slot m (Queued d) at h from = same.slotted m c (at ∙ ap Queued (eqb-true d c (ap (λ y. is_from c (sent_by (holds k m) y)) (sym at) ∙ from)))
+            held_slot m Free at h from = absurd (false≢true (ap is_queued (sym at) ∙ h))
+            held_slot m (Held d) at h from = absurd (false≢true (ap is_queued (sym at) ∙ h))
+            held_slot m (Discarded d) at h from = absurd (false≢true (ap is_queued (sym at) ∙ h))
+
+    -- the messages that it leaves are kept
+    pub freed_kept : (before : Store) → SameMessages p before s.cells → (m : ℕ) → is_among m freed ≡ true → is_some (message_at before m) ≡ true
+    freed_kept before kept_so m h =
+        let x = (forgets before kept_so).goes m h in
+        kept_so.there m ∙ ap is_a_message (named_cell s.cells (message_name m) ∙ ap object_in x.1) ∙ ap not x.3
+
+    pub messages_withdrawn : (before after : Store) → ((m : ℕ) → is_among m freed ≡ true → message_at after m ≡ None) → ((m : ℕ) → is_among m freed ≡ false → message_at after m ≡ message_at before m) → after.limit ≡ before.limit →
+        count after + length freed ≡ count before → SameMessages p before s.cells → SameMessages p after (withdrawn c s.cells)
+    messages_withdrawn before after gone others limit fewer kept_so =
+        subst (SameMessages p after) (sym (withdrawn_so c s.cells)) (messages_sifted drops (λ x. left_by c x.service) p before after freed freed_once s.cells w.good.tidy (forgets before kept_so) gone others limit fewer kept_so)
+
+  -- ---- a server goes
+
+  module _ (n : ℕ) where
+    abbrev waiting : List ℕ
+    waiting = places_in (kept.queue_at k n)
+
+    asked_so : (m : ℕ) → is_among m waiting ≡ has_message (service_of s.cells n) (message_name m)
+    asked_so m = among_places (kept.queue_at k n) m ∙ sym (asks_message k.places (kept.queue_at k n) m) ∙ ap (λ q. list_any (is_message (message_name m)) q) (same.queues n)
+
+    pub waiting_once : Once waiting
+    waiting_once = once_asked s.clients n k.places (kept.queue_at k n) (subst (λ q. QueueFits s.clients n q) (sym (same.queues n)) (fit.queues n))
+
+    unqueues : (before : Store) → SameMessages p before s.cells → Forgets (λ x. is_queue_of n x.owner) (λ x. x.service) waiting s.cells
+    unqueues before kept_so = record { goes = goes; gone = gone }
+      where
+        queued : (q : Owner) → is_queue_of n q ≡ true → is_queue q ≡ true
+        queued (Elsewhere (Waits_at i m)) h = refl
+        queued _ h = cc
+
+        goes : (m : ℕ) → is_among m waiting ≡ true → (x : Cell) × (cell_of s.cells (message_name m) ≡ Some x) × (is_queue_of n x.owner ≡ true) × (is_object x.object.thing ≡ false)
+        goes m h =
+            let y = waiting_there p t wired s w s.clients fit n (message_name m) (sym (asked_so m) ∙ h) in
+            let z = a_cell_of (cell_in s.cells (Elsewhere (Waits_at n (message_name m)))) y.0 (sym (held_cell s.cells (Elsewhere (Waits_at n (message_name m)))) ∙ y.1) in
+            let place = cell_owner s.cells (Elsewhere (Waits_at n (message_name m))) z.0 z.1 in
+            let here : is_queue_of n z.0.owner ≡ true = ap (is_queue_of n) place ∙ eq-eqb n n refl in
+            let cell : cell_of s.cells (message_name m) ≡ Some z.0 = ap (cell_of s.cells) (sym (ap (λ (o : Object). o.name) z.2 ∙ y.2)) ∙ cell_lives s.cells (Elsewhere (Waits_at n (message_name m))) z.0 w.good.tidy z.1 in
+            (z.0, cell, here, waiting_message (message_name m) z.0 cell (queued z.0.owner here))
+
+        gone : (i : ℕ) (x : Cell) → cell_of s.cells i ≡ Some x → is_queue_of n x.owner ≡ true → (m : ℕ) × (i ≡ message_name m) × (is_among m waiting ≡ true)
+        gone i x e h =
+            let m = message_place before kept_so i x e (queued x.owner h) in
+            (m.0, m.1, asked_so m.0 ∙ ap (has_message (service_of s.cells n)) (sym m.1) ∙ by x.owner refl h)
+          where
+            by : (q : Owner) → x.owner ≡ q → is_queue_of n q ≡ true → has_message (service_of s.cells n) i ≡ true
+            by (Elsewhere (Waits_at j m)) at h =
+                let there : held s.cells (Elsewhere (Waits_at n m)) ≡ Some x.object = ap (λ a. held s.cells (Elsewhere (Waits_at a m))) (sym (eqb-true j n h)) ∙ ap (held s.cells) (sym at) ∙ held_cell s.cells x.owner ∙ ap object_in (cell_placed s.cells i x w.good.tidy e) in
+                let a = asked_there p t wired s w s.clients fit n m x.object there in
+                ap (has_message (service_of s.cells n)) (sym (cell_name s.cells i x e) ∙ a.0) ∙ a.1
+            by _ at h = cc
+
+    -- the messages in its queue are kept
+    pub waiting_kept : (before : Store) → SameMessages p before s.cells → (m : ℕ) → is_among m waiting ≡ true → is_some (message_at before m) ≡ true
+    waiting_kept before kept_so m h =
+        let x = (unqueues before kept_so).goes m h in
+        kept_so.there m ∙ ap is_a_message (named_cell s.cells (message_name m) ∙ ap object_in x.1) ∙ ap not x.3
+
+    pub messages_unqueued : (before after : Store) → ((m : ℕ) → is_among m waiting ≡ true → message_at after m ≡ None) → ((m : ℕ) → is_among m waiting ≡ false → message_at after m ≡ message_at before m) → after.limit ≡ before.limit →
+        count after + length waiting ≡ count before → SameMessages p before s.cells → SameMessages p after (without_queue n s.cells)
+    messages_unqueued before after gone others limit fewer kept_so =
+        subst (SameMessages p after) (sym (unqueued_so n s.cells)) (messages_sifted (λ x. is_queue_of n x.owner) (λ x. x.service) p before after waiting waiting_once s.cells w.good.tidy (unqueues before kept_so) gone others limit fewer kept_so)
+
+  -- ---- all else stays where these messages go
+
+  -- a message is not enlisted
+  waiting_unasked : (n : ℕ) (x : Cell) → cell_of s.cells n ≡ Some x → is_queue x.owner ≡ true → x.request ≡ None
+  unfolding kind_of
+  waiting_unasked n x e h = sym (requested_cell s.cells x.object.name ∙ ap request_in lives) ∙ go x.object.thing refl (waiting_message n x e h) (w.good.suits x.object (named_cell s.cells x.object.name ∙ ap object_in lives))
+    where
+      lives : cell_of s.cells x.object.name ≡ Some x
+      lives = cell_lives s.cells x.owner x w.good.tidy (cell_placed s.cells n x w.good.tidy e)
+
+      go : (y : Thing) → x.object.thing ≡ y → is_object x.object.thing ≡ false → Suits (thing_kind p x.object.thing) (states_claim p x.object w.layers) (requested s.cells x.object.name) → requested s.cells x.object.name ≡ None
+      go A_message f message suits = subst (λ y. Suits (thing_kind p y) (states_claim p x.object w.layers) (requested s.cells x.object.name)) f suits
+      go (An_object_of class) f message suits = absurd (false≢true (sym message ∙ ap is_object f))
+
+  gone_message : (before : Store) → SameMessages p before s.cells → (n : ℕ) (x : Cell) → cell_of s.cells n ≡ Some x → is_queue x.owner ≡ true → (4096 ≤ n) × (is_object x.object.thing ≡ false) × (x.request ≡ None)
+  gone_message before kept_so n x e h = let m = message_place before kept_so n x e h in let name = m.1 in (omega (arith, name), waiting_message n x e h, waiting_unasked n x e h)
+
+  pub beside_withdrawn : (before : Store) → SameMessages p before s.cells → (c : ℕ) → Beside s.cells (withdrawn c s.cells)
+  beside_withdrawn before kept_so c =
+      subst (Beside s.cells) (sym (withdrawn_so c s.cells))
+      (beside_sifted (drops c) (λ x. left_by c x.service) s.cells w.good.tidy (λ n x e h. gone_message before kept_so n x e (and_parts (is_queue x.owner) (is_from c x.service.sender) h).0))
+
+  pub beside_unqueued : (before : Store) → SameMessages p before s.cells → (n : ℕ) → Beside s.cells (without_queue n s.cells)
+  beside_unqueued before kept_so n = subst (Beside s.cells) (sym (unqueued_so n s.cells)) (beside_sifted (λ x. is_queue_of n x.owner) (λ x. x.service) s.cells w.good.tidy (λ i x e h. gone_message before kept_so i x e (queued x.owner h)))
+    where
+      queued : (q : Owner) → is_queue_of n q ≡ true → is_queue q ≡ true
+      queued (Elsewhere (Waits_at i m)) h = refl
+      queued _ h = cc
+
+  -- and what no queue owns
+  pub holds_withdrawn : (c : ℕ) (r : Owner) → is_queue r ≡ false → held (withdrawn c s.cells) r ≡ held s.cells r
+  holds_withdrawn c r apart =
+      ap (λ l. held l r) (withdrawn_so c s.cells) ∙ holds_sifted (drops c) (λ x. left_by c x.service) s.cells w.good.tidy (λ n x e h. (and_parts (is_queue x.owner) (is_from c x.service.sender) h).0) r apart
+
+  pub holds_unqueued : (n : ℕ) (r : Owner) → is_queue r ≡ false → held (without_queue n s.cells) r ≡ held s.cells r
+  holds_unqueued n r apart = ap (λ l. held l r) (unqueued_so n s.cells) ∙ holds_sifted (λ x. is_queue_of n x.owner) (λ x. x.service) s.cells w.good.tidy (λ i x e h. queued x.owner h) r apart
+    where
+      queued : (q : Owner) → is_queue_of n q ≡ true → is_queue q ≡ true
+      queued (Elsewhere (Waits_at i m)) h = refl
+      queued _ h = cc

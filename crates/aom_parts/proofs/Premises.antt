@@ -1,0 +1,277 @@
+-- What a well-typed state whose clients are kept says of queues, of messages and of the clients of stages: by what each place may own, and by what fits.
+use Rattle.std.proofs.Common.{Bool, List, None, Option, Some, [], ap, arith, false, inl, inr, refl, slice_index_or, subst, sym, true, ℕ, ◌&&◌, ◌<◌, ◌==◌, ◌≤◌, ◌∙◌, ◌∷◌, ◌≡◌, ◌⊎◌}
+use Rattle.std.specs.List.{list_any}
+use Rattle.std.specs.Prelude.{IsSome, is_some, ◌||◌}
+use Rattle.std.proofs.lemmas.Bool.{cases_lt, eq-eqb, eqb-true, false≢true}
+use Rattle.std.proofs.lemmas.List.{get_or_past}
+use Rattle.aom_clients.specs.Clients as kept
+use Rattle.aom_clients.specs.Nodes.{is_connecting_at, is_leaving, is_open_at}
+use Rattle.aom_clients.specs.Table.{completion, is_queued, server_of}
+use Rattle.aom_clients.specs.declared.client.Client.{Client}
+use Rattle.aom_clients.specs.declared.client.Client.TheVariants.{Unconnected}
+use Rattle.aom_clients.specs.declared.entry.Entry.{Entry}
+use Rattle.aom_clients.specs.declared.entry.Entry.TheVariants.{Close, Connect, Message}
+use Rattle.aom_clients.specs.declared.place.Place.{Place}
+use Rattle.aom_clients.specs.declared.place.Place.TheVariants.{Discarded, Free, Held, Queued}
+use Rattle.aom_image.specs.Image.{Image}
+use Rattle.aom_rules.specs.Typing.{Typing}
+use Rattle.aom_sound.proofs.ClientsCommand.{nobody, none_named}
+use Rattle.aom_sound.proofs.ClientsFacts.{queued_well, waiting_well}
+use Rattle.aom_sound.proofs.ClientsFit.{connecting_only, leaving_only}
+use Rattle.aom_sound.proofs.ClientsGone.{open_server}
+use Rattle.aom_sound.proofs.Maps.{held_lives, one_place, same_place-true}
+use Rattle.aom_sound.proofs.Owners.{IsQueuedAt, fits_thing, queued_thing_of}
+use Rattle.aom_sound.proofs.Queues.{none_passes}
+use Rattle.aom_sound.proofs.Sifted.{a_cell_of, cell_in, cell_lives, cell_name, cell_of, cell_owner, cell_placed, held_cell, named_cell, object_in, service_cell, service_in}
+use Rattle.aom_sound.specs.Claims.{claim, declared}
+use Rattle.aom_sound.specs.Clients.{client_at}
+use Rattle.aom_sound.specs.Kept.{ClientsFit, EntryFits, QueueFits, is_close_of, is_connect_of, is_message_of}
+use Rattle.aom_sound.specs.Laws.{IsWired}
+use Rattle.aom_sound.specs.Places.{Asked, Cell, Close_of, Connect_of, Elsewhere, Message_of, Object, Place as Owner, Queued as Waits_at, Sender, Service, Tidy, held, named, same_place, seen, service_of}
+use Rattle.aom_sound.specs.Servers.{has_message, holds_slot, is_among, is_from, is_message, is_queue}
+use Rattle.aom_sound.specs.State.{State}
+use Rattle.aom_sound.specs.WellTyped.{Fits, WellTyped}
+use Rattle.aom_parts.proofs.Departing.{is_at}
+use Rattle.aom_parts.proofs.Vanishing.{asks_message}
+use Rattle.aom_parts.proofs.Withdrawing.{AllWait, owner_cell, owner_in}
+use Rattle.aom_parts.specs.Serving.{SameClients, holds, is_taken, message_name, owner_of, sent_by, sessionless, waits_in}
+
+-- ---- cells by their owners
+
+pub owner_held : (cs : List Cell) → Tidy cs → (q : Owner) (o : Object) → held cs q ≡ Some o → owner_of cs o.name ≡ Some q
+owner_held cs tidy q o e =
+    let z = a_cell_of (cell_in cs q) o (sym (held_cell cs q) ∙ e) in
+    let lives = cell_lives cs q z.0 tidy z.1 in
+    owner_cell cs o.name ∙ ap owner_in (ap (λ (y : Object). cell_of cs y.name) (sym z.2) ∙ lives) ∙ ap (λ i. Some i) (cell_owner cs q z.0 z.1)
+
+pub held_owner : (cs : List Cell) → Tidy cs → (n : ℕ) (q : Owner) → owner_of cs n ≡ Some q → (x : Object) × (held cs q ≡ Some x) × (x.name ≡ n)
+held_owner cs tidy n q e = go (cell_of cs n) refl (sym (owner_cell cs n) ∙ e)
+  where
+    go : (x : Option Cell) → cell_of cs n ≡ x → owner_in x ≡ Some q → (x : Object) × (held cs q ≡ Some x) × (x.name ≡ n)
+    go None at e = cc
+    go (Some c) at e =
+        let place : c.owner ≡ q = cc in
+        (c.object, ap (λ i. held cs i) (sym place) ∙ held_cell cs c.owner ∙ ap object_in (cell_placed cs n c tidy at), cell_name cs n c at)
+
+-- ---- what is asked for, and by whom
+
+pub asking : (m : ℕ) (q : List Asked) → list_any (λ e. is_message m e) q ≡ true → (c : ℕ) × (list_any (is_message_of c m) q ≡ true)
+asking m [] h = cc
+asking m (Connect_of d ∷ q) h = asking m q h
+asking m (Close_of d ∷ q) h = asking m q h
+asking m (Message_of d k ∷ q) h = go (k == m) refl h (asking m q)
+  where
+    go : (b : Bool) → (k == m) ≡ b → (b || list_any (λ e. is_message m e) q) ≡ true → (list_any (λ e. is_message m e) q ≡ true → (c : ℕ) × (list_any (is_message_of c m) q ≡ true)) →
+        (c : ℕ) × ((((d == c) && (k == m)) || list_any (is_message_of c m) q) ≡ true)
+    go true e h rest = (d, ap (λ x. (x && (k == m)) || list_any (is_message_of d m) q) (eq-eqb d d refl) ∙ ap (λ b. b || list_any (is_message_of d m) q) e)
+    go false e h rest = let r = rest h in (r.0, later ((d == r.0) && (k == m)) (list_any (is_message_of r.0 m) q) r.1)
+      where
+        later : (a b : Bool) → b ≡ true → (a || b) ≡ true
+        later true b h = refl
+        later false b h = h
+
+-- its client is open there
+opens : (clients : List Client) (n c m : ℕ) (q : List Asked) → QueueFits clients n q → list_any (is_message_of c m) q ≡ true → is_open_at n (client_at clients c) ≡ true
+opens clients n c m [] fits h = cc
+opens clients n c m (Connect_of d ∷ q) fits h = opens clients n c m q fits.1 h
+opens clients n c m (Close_of d ∷ q) fits h = opens clients n c m q fits.1 h
+opens clients n c m (Message_of d k ∷ q) fits h = go (d == c) (k == m) refl h (opens clients n c m q fits.1)
+  where
+    go : (a b : Bool) → (d == c) ≡ a → ((a && b) || list_any (is_message_of c m) q) ≡ true → (list_any (is_message_of c m) q ≡ true → is_open_at n (client_at clients c) ≡ true) → is_open_at n (client_at clients c) ≡ true
+    go true true e h rest = ap (λ i. is_open_at n (client_at clients i)) (sym (eqb-true d c e)) ∙ fits.0.0
+    go true false e h rest = rest h
+    go false b e h rest = rest h
+
+-- all messages of a queue wait where each does
+waits_each : (places : List Place) (es : List Entry) → ((j : ℕ) → list_any (is_at j) es ≡ true → is_queued (slice_index_or places j Free) ≡ true) → AllWait places es
+waits_each places [] h = tt
+waits_each places (Connect c ∷ es) h = waits_each places es h
+waits_each places (Close c ∷ es) h = waits_each places es h
+waits_each places (Message k ∷ es) h = (h k (ap (λ b. b || list_any (is_at k) es) (eq-eqb k k refl)), waits_each places es (λ j e. h j (later (k == j) (list_any (is_at j) es) e)))
+  where
+    later : (a b : Bool) → b ≡ true → (a || b) ≡ true
+    later true b h = refl
+    later false b h = h
+
+-- ---- clients of stages
+
+module _ (p : Image) (clients : List Client) (cs : List Cell) (fit : ClientsFit p clients cs) (k c : ℕ) where
+  -- a client that connects to a server, and asks for it there no more, asks for it nowhere
+  pub connects_nowhere : is_connecting_at k (client_at clients c) ≡ true → list_any (is_connect_of c) (service_of cs k).queue ≡ false → (n : ℕ) → list_any (is_connect_of c) (service_of cs n).queue ≡ false
+  connects_nowhere at none n = go (k == n) refl
+    where
+      never : (k == n) ≡ false → (e : Asked) → is_connect_of c e ≡ true → EntryFits clients n e → ⊥
+      never other (Connect_of d) same fits =
+          false≢true (sym other ∙ eq-eqb k n ((connecting_only k n (client_at clients c) at).3 (ap (λ i. is_connecting_at n (client_at clients i)) (sym (eqb-true d c same)) ∙ fits)))
+      never other (Message_of d m) same fits = cc
+      never other (Close_of d) same fits = cc
+
+      go : (b : Bool) → (k == n) ≡ b → list_any (is_connect_of c) (service_of cs n).queue ≡ false
+      go true e = ap (λ i. list_any (is_connect_of c) (service_of cs i).queue) (sym (eqb-true k n e)) ∙ none
+      go false e = none_passes (is_connect_of c) clients n (never e) (service_of cs n).queue (fit.queues n)
+
+  -- so is it with one that closes
+  pub closes_nowhere : is_leaving k (client_at clients c) ≡ true → list_any (is_close_of c) (service_of cs k).queue ≡ false → (n : ℕ) → list_any (is_close_of c) (service_of cs n).queue ≡ false
+  closes_nowhere at none n = go (k == n) refl
+    where
+      never : (k == n) ≡ false → (e : Asked) → is_close_of c e ≡ true → EntryFits clients n e → ⊥
+      never other (Close_of d) same fits = false≢true (sym other ∙ eq-eqb k n ((leaving_only k n (client_at clients c) at).3 (ap (λ i. is_leaving n (client_at clients i)) (sym (eqb-true d c same)) ∙ fits)))
+      never other (Message_of d m) same fits = cc
+      never other (Connect_of d) same fits = cc
+
+      go : (b : Bool) → (k == n) ≡ b → list_any (is_close_of c) (service_of cs n).queue ≡ false
+      go true e = ap (λ i. list_any (is_close_of c) (service_of cs i).queue) (sym (eqb-true k n e)) ∙ none
+      go false e = none_passes (is_close_of c) clients n (never e) (service_of cs n).queue (fit.queues n)
+
+  -- whose session is with that server alone
+  pub session_alone : is_leaving k (client_at clients c) ≡ true → (n : ℕ) → (k == n) ≡ false → is_among c (service_of cs n).sessions ≡ false
+  session_alone at n other = go (is_among c (service_of cs n).sessions) refl
+    where
+      go : (b : Bool) → is_among c (service_of cs n).sessions ≡ b → b ≡ false
+      go false e = refl
+      go true e = let same : Some k ≡ Some n = sym (leaving_only k n (client_at clients c) at).2 ∙ fit.sessions n c e in absurd (false≢true (sym other ∙ eq-eqb k n cc))
+
+-- ---- messages
+
+module _ (p : Image) (t : Typing) (wired : IsWired p) (s : State) (w : WellTyped p t s) (clients : List Client) (fit : ClientsFit p clients s.cells) where
+  -- what waits in a queue is asked for there, by its name
+  pub asked_there : (n m : ℕ) (x : Object) → held s.cells (Elsewhere (Waits_at n m)) ≡ Some x → (x.name ≡ m) × (has_message (service_of s.cells n) m ≡ true)
+  asked_there n m x e =
+      let y : IsQueuedAt p s.cells n m x.thing = queued_thing_of p s.cells w.layers n m x.thing
+              (fits_thing p (seen s.cells) x _ (subst (λ y. Fits p (seen s.cells) y (claim p (declared p s.cells) w.layers (Elsewhere (Waits_at n m)))) e (w.good.fits (Elsewhere (Waits_at n m))))) in
+      (fit.names n m x e, y.2)
+
+  -- and what is asked for waits there
+  pub waiting_there : (n m : ℕ) → has_message (service_of s.cells n) m ≡ true → (x : Object) × (held s.cells (Elsewhere (Waits_at n m)) ≡ Some x) × (x.name ≡ m)
+  waiting_there n m h =
+      let c = asking m (service_of s.cells n).queue h in
+      let x = queued_well p t wired s w clients fit n c.0 m c.1 in
+      (x.0, x.1, fit.names n m x.0 x.1)
+
+  -- what waits has no queue and no sessions
+  pub queue_empty : (n : ℕ) (x : Cell) → cell_of s.cells n ≡ Some x → is_queue x.owner ≡ true → (x.service.queue ≡ []) × (x.service.sessions ≡ [])
+  queue_empty n x e h = go x.owner refl h
+    where
+      lives : cell_of s.cells x.object.name ≡ Some x
+      lives = cell_lives s.cells x.owner x w.good.tidy (cell_placed s.cells n x w.good.tidy e)
+
+      go : (q : Owner) → x.owner ≡ q → is_queue q ≡ true → (x.service.queue ≡ []) × (x.service.sessions ≡ [])
+      go (Elsewhere (Waits_at i m)) at h =
+          let there : held s.cells (Elsewhere (Waits_at i m)) ≡ Some x.object = ap (λ q. held s.cells q) (sym at) ∙ held_cell s.cells x.owner ∙ ap object_in (cell_placed s.cells n x w.good.tidy e) in
+          let none = fit.servers x.object (named_cell s.cells x.object.name ∙ ap object_in lives) (waiting_well p t wired s w i m x.object there) in
+          let same : service_of s.cells x.object.name ≡ x.service = service_cell s.cells x.object.name ∙ ap service_in lives in
+          (ap (λ (v : Service). v.queue) (sym same) ∙ none.0, ap (λ (v : Service). v.sessions) (sym same) ∙ none.1)
+      go _ at h = cc
+
+  -- a message that waits holds no slot but of a client that has a session there
+  pub owed_there : (n m d : ℕ) → has_message (service_of s.cells n) m ≡ true → holds_slot d (service_of s.cells m).sender ≡ true → is_among d (service_of s.cells n).sessions ≡ true
+  owed_there n m d h slot =
+      let c = asking m (service_of s.cells n).queue h in
+      let client = of_client (service_of s.cells m).sender c.0 (fit.senders n c.0 m c.1) slot in
+      ap (λ i. is_among i (service_of s.cells n).sessions) (sym client) ∙ fit.listed n c.0 (open_server n (client_at clients c.0) (opens clients n c.0 m (service_of s.cells n).queue (fit.queues n) c.1))
+    where
+      of_client : (x : Option Sender) (c : ℕ) → is_from c x ≡ true → holds_slot d x ≡ true → c ≡ d
+      of_client None c f g = cc
+      of_client (Some x) c f g = go (x.client == d) refl g
+        where
+          go : (b : Bool) → (x.client == d) ≡ b → (b && x.holds_slot) ≡ true → c ≡ d
+          go true e g = sym (eqb-true x.client c f) ∙ eqb-true x.client d e
+          go false e g = cc
+
+  -- of a number that is free nothing is asked for
+  pub free_nowhere : (m : ℕ) → named s.cells m ≡ None → (n : ℕ) → has_message (service_of s.cells n) m ≡ false
+  free_nowhere m free n = none_named m (service_of s.cells n).queue (λ d. nobody p 0 (record s { clients = clients }) w.good.tidy fit n m free d)
+
+  -- nor of what is owned elsewhere
+  pub owned_nowhere : (g : Owner) (o : Object) → held s.cells g ≡ Some o → is_queue g ≡ false → (n : ℕ) → has_message (service_of s.cells n) o.name ≡ false
+  owned_nowhere g o there apart n = go (has_message (service_of s.cells n) o.name) refl
+    where
+      go : (b : Bool) → has_message (service_of s.cells n) o.name ≡ b → b ≡ false
+      go false e = refl
+      go true e =
+          let x = waiting_there n o.name e in
+          let one = one_place s.cells g (Elsewhere (Waits_at n o.name)) o x.0 w.good.tidy there x.1 (sym x.2) in
+          absurd (false≢true (sym apart ∙ ap is_queue one))
+
+  -- ---- beside the machine's
+
+  module _ (k : kept.State) (same : SameClients k s.cells clients) where
+    asked_at : (n j : ℕ) → list_any (is_at j) (kept.queue_at k n) ≡ true → has_message (service_of s.cells n) (message_name j) ≡ true
+    asked_at n j h = ap (λ q. list_any (is_message (message_name j)) q) (sym (same.queues n)) ∙ asks_message k.places (kept.queue_at k n) j ∙ h
+
+    -- a message that waits has its cell in that queue
+    pub owner_waiting : (n j : ℕ) → list_any (is_at j) (kept.queue_at k n) ≡ true → owner_of s.cells (message_name j) ≡ Some (Elsewhere (Waits_at n (message_name j)))
+    owner_waiting n j h =
+        let x = waiting_there n (message_name j) (asked_at n j h) in
+        ap (owner_of s.cells) (sym x.2) ∙ owner_held s.cells w.good.tidy (Elsewhere (Waits_at n (message_name j))) x.0 x.1
+
+    pub messages_wait : (n : ℕ) → AllWait k.places (kept.queue_at k n)
+    messages_wait n = waits_each k.places (kept.queue_at k n) (λ j h. same.waits j ∙ ap waits_in (owner_waiting n j h))
+
+    -- and no other message is there
+    pub waits_apart : (n m j : ℕ) → (m == j) ≡ false → (q : Owner) → owner_of s.cells (message_name j) ≡ Some q → same_place q (Elsewhere (Waits_at n (message_name m))) ≡ false
+    waits_apart n m j other q e = go (same_place q (Elsewhere (Waits_at n (message_name m)))) refl
+      where
+        go : (b : Bool) → same_place q (Elsewhere (Waits_at n (message_name m))) ≡ b → b ≡ false
+        go false f = refl
+        go true f =
+            let x = held_owner s.cells w.good.tidy (message_name j) q e in
+            let name = fit.names n (message_name m) x.0 (ap (held s.cells) (sym (same_place-true q (Elsewhere (Waits_at n (message_name m))) f)) ∙ x.1) in
+            let same : message_name m ≡ message_name j = sym name ∙ x.2 in
+            absurd (false≢true (sym other ∙ eq-eqb m j (omega (arith, same))))
+
+    -- what waits is asked of the server with which its client has a session
+    pub goes_there : (n j d : ℕ) → kept.place_at k j ≡ Queued d → is_among d (service_of s.cells n).sessions ≡ true → has_message (service_of s.cells n) (message_name j) ≡ true
+    goes_there n j d at has = go (owner_of s.cells (message_name j)) refl (sym (same.waits j) ∙ ap is_queued at)
+      where
+        sent : is_from d (service_of s.cells (message_name j)).sender ≡ true
+        sent = ap (is_from d) (sym (same.senders j) ∙ ap (sent_by (holds k j)) at) ∙ eq-eqb d d refl
+
+        from_one : (x : Option Sender) (c : ℕ) → is_from c x ≡ true → is_from d x ≡ true → c ≡ d
+        from_one None c f g = cc
+        from_one (Some x) c f g = sym (eqb-true x.client c f) ∙ eqb-true x.client d g
+
+        queue : (q : Owner) → owner_of s.cells (message_name j) ≡ Some q → is_queue q ≡ true → has_message (service_of s.cells n) (message_name j) ≡ true
+        queue (Elsewhere (Waits_at i m)) e h =
+            let x = held_owner s.cells w.good.tidy (message_name j) (Elsewhere (Waits_at i m)) e in
+            let a = asked_there i m x.0 x.1 in
+            let here : has_message (service_of s.cells i) (message_name j) ≡ true = ap (has_message (service_of s.cells i)) (sym x.2 ∙ a.0) ∙ a.1 in
+            let c = asking (message_name j) (service_of s.cells i).queue here in
+            let client : c.0 ≡ d = from_one (service_of s.cells (message_name j)).sender c.0 (fit.senders i c.0 (message_name j) c.1) sent in
+            let open_there = open_server i (client_at clients c.0) (opens clients i c.0 (message_name j) (service_of s.cells i).queue (fit.queues i) c.1) in
+            let same_server : Some i ≡ Some n = sym open_there ∙ ap (λ y. server_of (client_at clients y)) client ∙ fit.sessions n d has in
+            let one : i ≡ n = cc in
+            ap (λ y. has_message (service_of s.cells y) (message_name j)) (sym one) ∙ here
+        queue _ e h = cc
+
+        go : (x : Option Owner) → owner_of s.cells (message_name j) ≡ x → waits_in (owner_of s.cells (message_name j)) ≡ true → has_message (service_of s.cells n) (message_name j) ≡ true
+        go None e h = absurd (false≢true (ap waits_in (sym e) ∙ h))
+        go (Some q) e h = queue q e (ap waits_in (sym e) ∙ h)
+
+    -- a message that is owned elsewhere was taken, and is completed once
+    pub completes_at : (g : Owner) (o : Object) (m : ℕ) → held s.cells g ≡ Some o → is_queue g ≡ false → o.name ≡ message_name m → IsSome (completion (kept.place_at k m))
+    completes_at g o m there apart name = go (kept.place_at k m) refl (same.taken m ∙ ap is_some (ap (named s.cells) (sym name) ∙ held_lives s.cells g o w.good.tidy there)) (same.waits m ∙ ap waits_in (ap (owner_of s.cells) (sym name) ∙ owner_held s.cells w.good.tidy g o there) ∙ apart)
+      where
+        go : (x : Place) → kept.place_at k m ≡ x → is_taken x ≡ true → is_queued x ≡ false → IsSome (completion x)
+        go Free at taken waits = cc
+        go (Queued d) at taken waits = cc
+        go (Held d) at taken waits = refl
+        go (Discarded d) at taken waits = refl
+
+-- a client that is at something is one of those that there are
+module _ (cs : List Cell) (clients : List Client) (k : kept.State) (same : SameClients k cs clients) (c : ℕ) where
+  busy_below : (client_at clients c ≡ Unconnected → ⊥) → c < 64
+  busy_below busy = go (cases_lt c 64)
+    where
+      go : (c < 64) ⊎ (64 ≤ c) → c < 64
+      go (inl small) = small
+      go (inr large) = absurd (busy (sym (same.at c) ∙ ap sessionless (get_or_past k.clients c Unconnected (subst (λ n. n ≤ c) (sym same.many) large))))
+
+  pub connecting_below : (n : ℕ) → is_connecting_at n (client_at clients c) ≡ true → c < 64
+  connecting_below n at = busy_below (λ e. false≢true (ap (is_connecting_at n) (sym e) ∙ at))
+
+  pub leaving_below : (n : ℕ) → is_leaving n (client_at clients c) ≡ true → c < 64
+  leaving_below n at = busy_below (λ e. false≢true (ap (is_leaving n) (sym e) ∙ at))
+
+  pub open_below : (n : ℕ) → is_open_at n (client_at clients c) ≡ true → c < 64
+  open_below n at = busy_below (λ e. false≢true (ap (is_open_at n) (sym e) ∙ at))

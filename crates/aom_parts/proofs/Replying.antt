@@ -1,0 +1,115 @@
+-- A message that was taken is completed: it is kept, it waits in no queue, and all that the machine keeps goes on standing for the cells without it.
+use Rattle.std.proofs.Common.{Bool, List, None, Some, ap, arith, false, inl, inr, not, refl, subst, sym, true, ℕ, ◌+◌, ◌<◌, ◌==◌, ◌≤◌, ◌∙◌, ◌≡◌, ◌⊎◌}
+use Rattle.std.specs.Prelude.{IsSome, is_some, ◌-◌}
+use Rattle.std.proofs.lemmas.Bool.{cases_lt, eqb-true, false≢true}
+use Rattle.std.proofs.lemmas.List.{get_or_past}
+use Rattle.aom_active.specs.Agrees.{Active}
+use Rattle.aom_cells.specs.Heap.{Heap}
+use Rattle.aom_clients.specs.Clients as kept
+use Rattle.aom_clients.specs.Table.{completion, is_queued}
+use Rattle.aom_clients.specs.declared.place.Place.TheVariants.{Free}
+use Rattle.aom_image.specs.Image.{Image}
+use Rattle.aom_image.specs.declared.method.Thing.TheVariants.{Message}
+use Rattle.aom_messages.specs.Store.{Changes, Store, count, message_at}
+use Rattle.aom_queues.specs.Lists.{Table}
+use Rattle.aom_roles.specs.Shapes.{kind_of}
+use Rattle.aom_rules.specs.Typing.{Typing}
+use Rattle.aom_sessions.specs.Sessions.{Standing}
+use Rattle.aom_shape.specs.Kinds.{is_object}
+use Rattle.aom_sound.proofs.Maps.{held_lives, same_place-true}
+use Rattle.aom_sound.proofs.Services.{service_without}
+use Rattle.aom_sound.proofs.Sifted.{cell_name, cell_of, cell_placed, held_cell, object_in, request_in, requested_cell}
+use Rattle.aom_sound.proofs.Things.{message_plain}
+use Rattle.aom_sound.specs.Enlisted.{thing_kind}
+use Rattle.aom_sound.specs.Kept.{IsKept}
+use Rattle.aom_sound.specs.Laws.{IsWired}
+use Rattle.aom_sound.specs.Places.{Cell, Object, Place, Service, held, named, requested, same_place, service_of, without}
+use Rattle.aom_sound.specs.Requests.{Suits, states_claim}
+use Rattle.aom_sound.specs.Servers.{is_queue}
+use Rattle.aom_sound.specs.State.{State}
+use Rattle.aom_sound.specs.WellTyped.{WellTyped}
+use Rattle.aom_parts.proofs.Beside.{Beside, beside_sifted, cells_beside, listed_beside, natives_beside, requests_beside}
+use Rattle.aom_parts.proofs.Forgetting.{without_sifted}
+use Rattle.aom_parts.proofs.Messages.{message_gone}
+use Rattle.aom_parts.proofs.Premises.{completes_at, owner_held}
+use Rattle.aom_parts.proofs.Servicing.{same_replied}
+use Rattle.aom_parts.proofs.Sizing.{sized_completed}
+use Rattle.aom_parts.specs.Agrees.{SameCells, SameNatives, SameRequests}
+use Rattle.aom_parts.specs.Messages.{SameMessages, is_a_message}
+use Rattle.aom_parts.specs.Services.{SameServices}
+use Rattle.aom_parts.specs.Serving.{is_taken, message_name, owner_of, waits_in}
+
+module _ (p : Image) (t : Typing) (s : State) (w : WellTyped p t s) (g : Place) (o : Object) (there : held s.cells g ≡ Some o) (message : o.thing ≡ Message) where
+  abbrev pub left : List Cell
+  left = without g s.cells
+
+  lives : named s.cells o.name ≡ Some o
+  lives = held_lives s.cells g o w.good.tidy there
+
+  no_object : is_object o.thing ≡ false
+  no_object = ap is_object message
+
+  -- it is not enlisted
+  pub message_unasked : requested s.cells o.name ≡ None
+  unfolding kind_of
+  message_unasked = subst (λ x. Suits (thing_kind p x) (states_claim p o w.layers) (requested s.cells o.name)) message (w.good.suits o lives)
+
+  -- it has a place
+  pub place_of : (store : Store) → SameMessages p store s.cells → (place : ℕ) × (o.name ≡ message_name place)
+  place_of store same = go (cases_lt o.name (message_name 0))
+    where
+      go : (o.name < message_name 0) ⊎ (message_name 0 ≤ o.name) → (place : ℕ) × (o.name ≡ message_name place)
+      go (inl small) = absurd (false≢true (sym (same.past o.name small) ∙ ap is_a_message lives ∙ ap not no_object))
+      go (inr large) = (o.name - message_name 0, omega (arith, large))
+
+  module _ (place : ℕ) (name : o.name ≡ message_name place) where
+    beside_completed : Beside s.cells left
+    beside_completed = subst (Beside s.cells) (sym (without_sifted g s.cells)) (beside_sifted (λ c. same_place c.owner g) (λ c. c.service) s.cells w.good.tidy goes)
+      where
+        goes : (n : ℕ) (x : Cell) → cell_of s.cells n ≡ Some x → same_place x.owner g ≡ true → (4096 ≤ n) × (is_object x.object.thing ≡ false) × (x.request ≡ None)
+        goes n x e here =
+            let one : Some x.object ≡ Some o = sym (held_cell s.cells x.owner ∙ ap object_in (cell_placed s.cells n x w.good.tidy e)) ∙ ap (held s.cells) (same_place-true x.owner g here) ∙ there in
+            let object : x.object ≡ o = cc in
+            let at : n ≡ o.name = sym (cell_name s.cells n x e) ∙ ap (λ (y : Object). y.name) object in
+            (omega (arith, at, name), ap (λ (y : Object). is_object y.thing) object ∙ no_object, sym (requested_cell s.cells n ∙ ap request_in e) ∙ ap (requested s.cells) at ∙ message_unasked)
+
+    pub cells_completed : (h : Heap) → SameCells p h s.cells → SameCells p h left
+    cells_completed h same = cells_beside p h s.cells left beside_completed same
+
+    pub natives_completed : (a : Standing) → p.header.cells ≤ 4096 → SameNatives p a s.cells s.killed → SameNatives p a left s.killed
+    natives_completed a few same = natives_beside p a s.killed s.cells left few beside_completed same
+
+    pub requests_completed : (a : Active) → SameRequests p a s.cells → SameRequests p a left
+    requests_completed a same = requests_beside p a s.cells left beside_completed (λ n asked. queues n asked (o.name == n) refl) same
+      where
+        queues : (n : ℕ) → is_some (requested s.cells n) ≡ true → (b : Bool) → (o.name == n) ≡ b → (service_of left n).queue ≡ (service_of s.cells n).queue
+        queues n asked true e = absurd (false≢true (ap is_some (sym message_unasked ∙ ap (requested s.cells) (eqb-true o.name n e)) ∙ asked))
+        queues n asked false e = ap (λ (v : Service). v.queue) (service_without s.cells g o n w.good.tidy there e)
+
+    -- it is kept, and where it waits in no queue its completion is told
+    module _ (wired : IsWired p) (kept_so : IsKept p s) (apart : is_queue g ≡ false) (k : kept.State) (store : Store) (table : Table) (same : SameServices p k store table s.cells s.clients) where
+      pub message_kept : is_some (message_at store place) ≡ true
+      message_kept = same.messages.there place ∙ ap is_a_message (ap (named s.cells) (sym name) ∙ lives) ∙ ap not no_object
+
+      pub place_below : place < 1024
+      place_below = go (cases_lt place 1024)
+        where
+          go : (place < 1024) ⊎ (1024 ≤ place) → place < 1024
+          go (inl small) = small
+          go (inr large) =
+              let past = get_or_past k.places place Free (subst (λ n. n ≤ place) (sym same.sized.places) large) in
+              absurd (false≢true (sym (ap is_taken past) ∙ same.clients.taken place ∙ ap is_some (ap (named s.cells) (sym name) ∙ lives)))
+
+      pub completion_told : IsSome (completion (kept.place_at k place))
+      completion_told = completes_at p t wired s w s.clients kept_so.fit k same.clients g o place there apart name
+
+      pub was_taken : is_queued (kept.place_at k place) ≡ false
+      was_taken = same.clients.waits place ∙ ap waits_in (ap (owner_of s.cells) (sym name) ∙ owner_held s.cells w.good.tidy g o there) ∙ apart
+
+      pub services_completed : (after : Store) → Changes store after place None → count after + 1 ≡ count store → SameServices p (kept.after_complete place k) after table left s.clients
+      services_completed after gone fewer = record {
+        clients = same_replied p t wired s w kept_so.fit k same.clients p.header.cells same.sized g o place there apart (message_plain p o.thing message) name place_below;
+        sized = sized_completed p.header.cells k same.sized place;
+        messages = message_gone p store after s.cells g o place same.messages w.good.tidy there no_object name gone fewer;
+        listed = listed_beside p table s.cells left beside_completed same.listed;
+      }

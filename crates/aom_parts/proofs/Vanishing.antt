@@ -1,0 +1,568 @@
+-- A cell goes, a server with its queue and its sessions, and what stands for clients goes on standing for them.
+use Rattle.std.proofs.Common.{Bool, List, None, Option, Some, [], ap, arith, cond, false, length, refl, slice_index_or, subst, suc, sym, true, ℕ, ◌&&◌, ◌<◌, ◌==◌, ◌∙◌, ◌∷◌, ◌≡◌}
+use Rattle.std.specs.List.{list_any}
+use Rattle.std.specs.Prelude.{filter, is_some, map, not, ◌||◌}
+use Rattle.std.proofs.lemmas.Bool.{eq-eqb, eqb-true, false≢true, ne_eqb}
+use Rattle.aom_clients.specs.Clients as kept
+use Rattle.aom_clients.specs.Table.{at_gone, is_queued, sender}
+use Rattle.aom_clients.specs.declared.client.Client.{Client}
+use Rattle.aom_clients.specs.declared.client.Client.TheVariants.{Closing, Connecting, Dead, Dying, Gone, Open, Unconnected}
+use Rattle.aom_clients.specs.declared.entry.Entry.{Entry}
+use Rattle.aom_clients.specs.declared.entry.Entry.TheVariants.{Close, Connect, Message}
+use Rattle.aom_clients.specs.declared.place.Place.{Place}
+use Rattle.aom_clients.specs.declared.place.Place.TheVariants.{Discarded, Free, Held, Queued}
+use Rattle.aom_sound.proofs.ClientsGone.{gone_so, goes_with, queue_ended_at, sessions_ended_at}
+use Rattle.aom_sound.proofs.Maps.{one_place, same_place-true, same_place_refl}
+use Rattle.aom_sound.proofs.Parting.{among_others, among_parted}
+use Rattle.aom_sound.proofs.Sifted.{a_cell_of, cell_in, cell_lives, cell_name, cell_of, cell_of_sifted, cell_owner, cell_placed, held_cell, kept as left_cell, named_cell, object_in, service_cell, service_in, sifted}
+use Rattle.aom_sound.proofs.Unslotting.{each_unslotted_alike}
+use Rattle.aom_sound.specs.Clients.{client_at, each_unslotted, queue_ended, sessions_ended}
+use Rattle.aom_sound.specs.Kept.{is_connect_of}
+use Rattle.aom_sound.specs.Places.{Cell, Close_of, Connect_of, Elsewhere, Message_of, Object, Place as Owner, Queued as Waits_at, Sender, Service, Tidy, held, named, place_outer, same_place, service_of, without}
+use Rattle.aom_sound.specs.Servers.{all_unslotted, has_message, holds_slot, is_among, is_message, is_other, is_queue, is_queue_of, slots_taken, unslotted, without_queue}
+use Rattle.aom_parts.proofs.Completing.{once_without}
+use Rattle.aom_parts.proofs.Departing.{all_without, client_after_queue, client_after_sessions, connects, is_at, lengths_after_queue, lengths_after_sessions, place_after_queue, places_after_sessions, queue_after_queue, queues_after_sessions, sent_after_queue, sent_after_sessions, sessions_after_queue, sessions_after_sessions}
+use Rattle.aom_parts.proofs.Serving.{names_apart}
+use Rattle.aom_parts.proofs.Withdrawing.{owner_cell, owner_in}
+use Rattle.aom_parts.specs.Serving.{Once, SameClients, asked_by, holds, is_taken, message_name, owner_of, sent_by, sessionless, waits_in}
+
+-- ---- messages without slots
+
+swapped : (a b : ℕ) → (a == b) ≡ (b == a)
+swapped a b = go (b == a) refl
+  where
+    go : (x : Bool) → (b == a) ≡ x → (a == b) ≡ x
+    go true e = eq-eqb a b (sym (eqb-true b a e))
+    go false e = ne_eqb a b (λ same. false≢true (sym e ∙ eq-eqb b a (sym same)))
+
+-- the sender of a message once those of these clients hold no slot
+abbrev pub lost : List ℕ → Option Sender → Option Sender
+lost [] m = m
+lost (c ∷ cs) m = lost cs (unslotted c m)
+
+lost_none : (xs : List ℕ) → lost xs None ≡ None
+lost_none [] = refl
+lost_none (c ∷ xs) = lost_none xs
+
+lost_some : (xs : List ℕ) (d : ℕ) (slot told : Bool) →
+    lost xs (Some (record { client = d; holds_slot = slot; is_told = told })) ≡ Some (record { client = d; holds_slot = cond (is_among d xs) false slot; is_told = told })
+lost_some [] d slot told = refl
+lost_some (c ∷ xs) d slot told = ap (λ m. lost xs (Some m)) (first (d == c)) ∙ lost_some xs d (cond (d == c) false slot) told ∙ ap (λ b. Some (record { client = d; holds_slot = b; is_told = told })) (both (is_among d xs) (d == c) (c == d) (swapped d c))
+  where
+    first : (b : Bool) → ◌≡◌ {A = Sender} (cond b (record { client = d; holds_slot = false; is_told = told }) (record { client = d; holds_slot = slot; is_told = told })) (record { client = d; holds_slot = cond b false slot; is_told = told })
+    first true = refl
+    first false = refl
+
+    both : (a b b' : Bool) → b ≡ b' → cond a false (cond b false slot) ≡ cond (b' || a) false slot
+    both a true true e = never a
+      where
+        never : (a : Bool) → cond a false false ≡ false
+        never true = refl
+        never false = refl
+    both a false false e = refl
+    both a true false e = cc
+    both a false true e = cc
+
+lost_sent : (xs : List ℕ) (slot : Bool) (p : Place) → lost xs (sent_by slot p) ≡ sent_by (cond (is_among (sender p) xs) false slot) p
+lost_sent xs slot Free = lost_none xs
+lost_sent xs slot (Queued d) = lost_some xs d slot true
+lost_sent xs slot (Held d) = lost_some xs d slot true
+lost_sent xs slot (Discarded d) = lost_some xs d slot false
+
+lost_slot : (xs : List ℕ) (d : ℕ) (m : Option Sender) → holds_slot d (lost xs m) ≡ cond (is_among d xs) false (holds_slot d m)
+lost_slot xs d None = ap (holds_slot d) (lost_none xs) ∙ never (is_among d xs)
+  where
+    never : (a : Bool) → false ≡ cond a false false
+    never true = refl
+    never false = refl
+lost_slot xs d (Some m) = ap (holds_slot d) (lost_some xs m.client m.holds_slot m.is_told) ∙ go (m.client == d) refl
+  where
+    none : (a : Bool) → false ≡ cond a false false
+    none true = refl
+    none false = refl
+
+    go : (b : Bool) → (m.client == d) ≡ b → ((m.client == d) && cond (is_among m.client xs) false m.holds_slot) ≡ cond (is_among d xs) false ((m.client == d) && m.holds_slot)
+    go true e = ap (λ b. b && cond (is_among m.client xs) false m.holds_slot) e ∙ ap (λ k. cond (is_among k xs) false m.holds_slot) (eqb-true m.client d e) ∙ sym (ap (λ b. cond (is_among d xs) false (b && m.holds_slot)) e)
+    go false e = ap (λ b. b && cond (is_among m.client xs) false m.holds_slot) e ∙ none (is_among d xs) ∙ sym (ap (λ b. cond (is_among d xs) false (b && m.holds_slot)) e)
+
+service_unslotted : (c : ℕ) (cs : List Cell) (n : ℕ) → service_of (all_unslotted c cs) n ≡ record (service_of cs n) { sender = unslotted c (service_of cs n).sender }
+service_unslotted c [] n = refl
+service_unslotted c (x ∷ cs) n = go (x.object.name == n) (service_unslotted c cs n)
+  where
+    go : (b : Bool) → service_of (all_unslotted c cs) n ≡ record (service_of cs n) { sender = unslotted c (service_of cs n).sender } →
+        cond b (record x.service { sender = unslotted c x.service.sender }) (service_of (all_unslotted c cs) n) ≡ record (cond b x.service (service_of cs n)) { sender = unslotted c (cond b x.service (service_of cs n)).sender }
+    go true e = refl
+    go false e = e
+
+service_lost : (xs : List ℕ) (cs : List Cell) (n : ℕ) → service_of (each_unslotted xs cs) n ≡ record (service_of cs n) { sender = lost xs (service_of cs n).sender }
+service_lost [] cs n = refl
+service_lost (c ∷ xs) cs n = service_lost xs (all_unslotted c cs) n ∙ ap (λ (v : Service). record v { sender = lost xs v.sender }) (service_unslotted c cs n)
+
+owner_unslotted : (c : ℕ) (cs : List Cell) (n : ℕ) → owner_of (all_unslotted c cs) n ≡ owner_of cs n
+owner_unslotted c [] n = refl
+owner_unslotted c (x ∷ cs) n = ap (λ p. cond (x.object.name == n) (Some x.owner) p) (owner_unslotted c cs n)
+
+owner_lost : (xs : List ℕ) (cs : List Cell) (n : ℕ) → owner_of (each_unslotted xs cs) n ≡ owner_of cs n
+owner_lost [] cs n = refl
+owner_lost (c ∷ xs) cs n = owner_lost xs (all_unslotted c cs) n ∙ owner_unslotted c cs n
+
+slots_unslotted : (c : ℕ) (cs : List Cell) (d : ℕ) → slots_taken d (all_unslotted c cs) ≡ cond (c == d) 0 (slots_taken d cs)
+slots_unslotted c [] d = none (c == d)
+  where
+    none : (a : Bool) → ◌≡◌ {A = ℕ} 0 (cond a 0 0)
+    none true = refl
+    none false = refl
+slots_unslotted c (x ∷ cs) d = ap (λ b. cond b (suc (slots_taken d (all_unslotted c cs))) (slots_taken d (all_unslotted c cs))) (lost_slot (c ∷ []) d x.service.sender) ∙ go (c == d) (holds_slot d x.service.sender) (slots_unslotted c cs d)
+  where
+    go : (b y : Bool) → slots_taken d (all_unslotted c cs) ≡ cond b 0 (slots_taken d cs) →
+        cond (cond (b || false) false y) (suc (slots_taken d (all_unslotted c cs))) (slots_taken d (all_unslotted c cs)) ≡ cond b 0 (cond y (suc (slots_taken d cs)) (slots_taken d cs))
+    go true y e = e
+    go false true e = ap suc e
+    go false false e = e
+
+slots_lost : (xs : List ℕ) (cs : List Cell) (d : ℕ) → slots_taken d (each_unslotted xs cs) ≡ cond (is_among d xs) 0 (slots_taken d cs)
+slots_lost [] cs d = refl
+slots_lost (c ∷ xs) cs d = slots_lost xs (all_unslotted c cs) d ∙ ap (λ k. cond (is_among d xs) 0 k) (slots_unslotted c cs d) ∙ go (is_among d xs) (c == d)
+  where
+    go : (a b : Bool) → cond a 0 (cond b 0 (slots_taken d cs)) ≡ cond (b || a) 0 (slots_taken d cs)
+    go true true = refl
+    go true false = refl
+    go false true = refl
+    go false false = refl
+
+-- ---- of the cells that go none holds a slot
+
+abbrev pub AllCells : (Cell → Type 0) → List Cell → Type 0
+AllCells P [] = Unit {0}
+AllCells P (c ∷ cs) = P c × AllCells P cs
+
+pub each_cell : (P : Cell → Type 0) (cs : List Cell) → Tidy cs → ((n : ℕ) (x : Cell) → cell_of cs n ≡ Some x → P x) → AllCells P cs
+each_cell P [] t h = tt
+each_cell P (c ∷ cs) t h =
+    (h c.object.name c (ap (λ b. cond b (Some c) (cell_of cs c.object.name)) (eq-eqb c.object.name c.object.name refl)), each_cell P cs t.2 (λ n x e. h n x (behind n x e (c.object.name == n) refl)))
+  where
+    behind : (n : ℕ) (x : Cell) → cell_of cs n ≡ Some x → (b : Bool) → (c.object.name == n) ≡ b → cond b (Some c) (cell_of cs n) ≡ Some x
+    behind n x e true f = let clash : None ≡ Some x.object = sym t.1 ∙ ap (λ k. named cs k) (eqb-true c.object.name n f) ∙ named_cell cs n ∙ ap object_in e in cc
+    behind n x e false f = e
+
+slots_sifted : (drops : Cell → Bool) (d : ℕ) (cs : List Cell) → AllCells (λ x. drops x ≡ true → holds_slot d x.service.sender ≡ false) cs → slots_taken d (sifted drops (λ c. c.service) cs) ≡ slots_taken d cs
+slots_sifted drops d [] none = refl
+slots_sifted drops d (x ∷ cs) none = go (drops x) refl (slots_sifted drops d cs none.1)
+  where
+    go : (b : Bool) → drops x ≡ b → slots_taken d (sifted drops (λ c. c.service) cs) ≡ slots_taken d cs →
+        slots_taken d (cond b (sifted drops (λ c. c.service) cs) (x ∷ sifted drops (λ c. c.service) cs)) ≡ cond (holds_slot d x.service.sender) (suc (slots_taken d cs)) (slots_taken d cs)
+    go true e rest = rest ∙ sym (ap (λ b. cond b (suc (slots_taken d cs)) (slots_taken d cs)) (none.0 e))
+    go false e rest = ap (λ k. cond (holds_slot d x.service.sender) (suc k) k) rest
+
+-- ---- entries on both sides
+
+pub names_same : (k j : ℕ) → (message_name k == message_name j) ≡ (k == j)
+names_same k j = go (k == j) refl
+  where
+    go : (b : Bool) → (k == j) ≡ b → (message_name k == message_name j) ≡ b
+    go true e = eq-eqb (message_name k) (message_name j) (ap message_name (eqb-true k j e))
+    go false e = names_apart k j e
+
+pub asks_message : (places : List Place) (es : List Entry) (j : ℕ) → list_any (is_message (message_name j)) (map (asked_by places) es) ≡ list_any (is_at j) es
+asks_message places [] j = refl
+asks_message places (Connect c ∷ es) j = asks_message places es j
+asks_message places (Message k ∷ es) j = ap (λ b. b || list_any (is_message (message_name j)) (map (asked_by places) es)) (names_same k j) ∙ ap (λ b. (k == j) || b) (asks_message places es j)
+asks_message places (Close c ∷ es) j = asks_message places es j
+
+pub asks_connect : (places : List Place) (es : List Entry) (c : ℕ) → list_any (is_connect_of c) (map (asked_by places) es) ≡ list_any (connects c) es
+asks_connect places [] c = refl
+asks_connect places (Connect d ∷ es) c = ap (λ b. (d == c) || b) (asks_connect places es c)
+asks_connect places (Message k ∷ es) c = asks_connect places es c
+asks_connect places (Close d ∷ es) c = asks_connect places es c
+
+-- the same is asked where the senders of its messages are the same
+asked_alike : (places places' : List Place) (es : List Entry) → ((m : ℕ) → list_any (is_at m) es ≡ true → sender (slice_index_or places' m Free) ≡ sender (slice_index_or places m Free)) → map (asked_by places') es ≡ map (asked_by places) es
+asked_alike places places' [] same = refl
+asked_alike places places' (Connect c ∷ es) same = ap (λ l. Connect_of c ∷ l) (asked_alike places places' es same)
+asked_alike places places' (Close c ∷ es) same = ap (λ l. Close_of c ∷ l) (asked_alike places places' es same)
+asked_alike places places' (Message k ∷ es) same =
+    ap (λ d. Message_of d (message_name k) ∷ map (asked_by places') es) (same k (ap (λ b. b || list_any (is_at k) es) (eq-eqb k k refl)))
+    ∙ ap (λ l. asked_by places (Message k) ∷ l) (asked_alike places places' es (λ m h. same m (later (k == m) (list_any (is_at m) es) h)))
+  where
+    later : (a b : Bool) → b ≡ true → (a || b) ≡ true
+    later true b h = refl
+    later false b h = h
+
+-- ---- slots without messages
+
+among_without : (es : List Entry) (ms : List ℕ) (j : ℕ) → is_among j (all_without es ms) ≡ cond (list_any (is_at j) es) false (is_among j ms)
+among_without [] ms j = refl
+among_without (Connect c ∷ es) ms j = among_without es ms j
+among_without (Close c ∷ es) ms j = among_without es ms j
+among_without (Message k ∷ es) ms j = among_without es (filter (is_other k) ms) j ∙ go (k == j) refl (list_any (is_at j) es)
+  where
+    go : (b : Bool) → (k == j) ≡ b → (x : Bool) → cond x false (is_among j (filter (is_other k) ms)) ≡ cond (b || x) false (is_among j ms)
+    go true e true = refl
+    go true e false = ap (λ i. is_among i (filter (is_other k) ms)) (sym (eqb-true k j e)) ∙ among_parted k ms
+    go false e x = ap (λ b. cond x false b) (among_others j k ms e)
+
+once_after : (es : List Entry) (ms : List ℕ) → Once ms → Once (all_without es ms)
+once_after [] ms once = once
+once_after (Connect c ∷ es) ms once = once_after es ms once
+once_after (Close c ∷ es) ms once = once_after es ms once
+once_after (Message k ∷ es) ms once = once_after es (filter (is_other k) ms) (once_without k ms once)
+
+-- all stay of which none goes
+none_goes : (k : ℕ) (ms : List ℕ) → is_among k ms ≡ false → filter (is_other k) ms ≡ ms
+none_goes k [] none = refl
+none_goes k (m ∷ ms) none = go (m == k) refl none (none_goes k ms)
+  where
+    go : (b : Bool) → (m == k) ≡ b → (b || is_among k ms) ≡ false → (is_among k ms ≡ false → filter (is_other k) ms ≡ ms) → cond (not b) (m ∷ filter (is_other k) ms) (filter (is_other k) ms) ≡ m ∷ ms
+    go true e none rest = cc
+    go false e none rest = ap (λ l. m ∷ l) (rest none)
+
+all_stay : (es : List Entry) (ms : List ℕ) → ((k : ℕ) → list_any (is_at k) es ≡ true → is_among k ms ≡ false) → all_without es ms ≡ ms
+all_stay [] ms none = refl
+all_stay (Connect c ∷ es) ms none = all_stay es ms none
+all_stay (Close c ∷ es) ms none = all_stay es ms none
+all_stay (Message k ∷ es) ms none =
+    ap (all_without es) (none_goes k ms (none k (ap (λ b. b || list_any (is_at k) es) (eq-eqb k k refl)))) ∙ all_stay es ms (λ j h. none j (later (k == j) (list_any (is_at j) es) h))
+  where
+    later : (a b : Bool) → b ≡ true → (a || b) ≡ true
+    later true b h = refl
+    later false b h = h
+
+-- ---- the whole
+
+gone_sessionless : (x : Client) → sessionless (at_gone x) ≡ at_gone (sessionless x)
+gone_sessionless Unconnected = refl
+gone_sessionless (Connecting n slots) = refl
+gone_sessionless (Open n session slots) = refl
+gone_sessionless (Closing n session) = refl
+gone_sessionless (Dying n session) = refl
+gone_sessionless Gone = refl
+gone_sessionless Dead = refl
+
+-- what clients are at, told twice
+client_alike : (a b : Bool) (x : Client) → sessionless (cond b (at_gone (cond a Unconnected x)) (cond a Unconnected x)) ≡ cond b (at_gone (cond a Unconnected (sessionless x))) (cond a Unconnected (sessionless x))
+client_alike true true x = refl
+client_alike true false x = refl
+client_alike false true x = gone_sessionless x
+client_alike false false x = refl
+
+-- the object at g goes; it is none of messages, and nothing is a message in its queue but what is asked of it
+module _
+    (s : kept.State) (cs : List Cell) (clients : List Client) (same : SameClients s cs clients) (tidy : Tidy cs) (o : Object) (g : Owner) (there : held cs g ≡ Some o) (apart : is_queue g ≡ false) (small : o.name < 4096)
+    (silent : (d : ℕ) → holds_slot d (service_of cs o.name).sender ≡ false) (queue_room : o.name < length s.queues) (session_room : o.name < length s.sessions)
+    (empty : (n : ℕ) (x : Cell) → cell_of cs n ≡ Some x → is_queue x.owner ≡ true → (x.service.queue ≡ []) × (x.service.sessions ≡ []))
+    (asked : (m : ℕ) (x : Object) → held cs (Elsewhere (Waits_at o.name m)) ≡ Some x → (x.name ≡ m) × (has_message (service_of cs o.name) m ≡ true))
+    (waiting : (n m : ℕ) → has_message (service_of cs n) m ≡ true → (x : Object) × (held cs (Elsewhere (Waits_at n m)) ≡ Some x) × (x.name ≡ m))
+    (owed : (m d : ℕ) → has_message (service_of cs o.name) m ≡ true → holds_slot d (service_of cs m).sender ≡ true → is_among d (service_of cs o.name).sessions ≡ true)
+    (going : (j d : ℕ) → kept.place_at s j ≡ Queued d → is_among d (service_of cs o.name).sessions ≡ true → has_message (service_of cs o.name) (message_name j) ≡ true) where
+  abbrev k : ℕ
+  k = o.name
+
+  abbrev es : List Entry
+  es = kept.queue_at s k
+
+  abbrev xs : List ℕ
+  xs = (service_of cs k).sessions
+
+  abbrev drops : Cell → Bool
+  drops = goes_with k g
+
+  abbrev stay : List Cell
+  stay = sifted drops (λ c. c.service) cs
+
+  abbrev left : List Cell
+  left = each_unslotted xs stay
+
+  abbrev between : kept.State
+  between = kept.queue_gone k es s
+
+  abbrev then : kept.State
+  then = kept.server_gone k s
+
+  -- the message of a place goes
+  abbrev goes : ℕ → Bool
+  goes j = has_message (service_of cs k) (message_name j)
+
+  goes_at : (j : ℕ) → list_any (is_at j) es ≡ goes j
+  goes_at j = sym (asks_message s.places es j) ∙ ap (λ q. list_any (is_message (message_name j)) q) (same.queues k)
+
+  connects_at : (c : ℕ) → list_any (connects c) es ≡ list_any (is_connect_of c) (service_of cs k).queue
+  connects_at c = sym (asks_connect s.places es c) ∙ ap (λ q. list_any (is_connect_of c) q) (same.queues k)
+
+  sessions_so : kept.sessions_at between k ≡ xs
+  sessions_so = ap (λ l. slice_index_or l k []) (sessions_after_queue k es s) ∙ same.sessions k
+
+  listed_so : kept.sessions_at s k ≡ xs
+  listed_so = same.sessions k
+
+  -- ---- which cells go
+
+  owner_there : (n : ℕ) (x : Cell) → cell_of cs n ≡ Some x → held cs x.owner ≡ Some x.object
+  owner_there n x e = held_cell cs x.owner ∙ ap object_in (cell_placed cs n x tidy e)
+
+  -- a cell that is owned by its queue is asked for there
+  drops_queue : (n : ℕ) (x : Cell) → cell_of cs n ≡ Some x → is_queue_of k x.owner ≡ true → has_message (service_of cs k) n ≡ true
+  drops_queue n x e h = go x.owner refl h
+    where
+      go : (q : Owner) → x.owner ≡ q → is_queue_of k q ≡ true → has_message (service_of cs k) n ≡ true
+      go (Elsewhere (Waits_at i m)) at h =
+          let f = asked m x.object (ap (λ i. held cs (Elsewhere (Waits_at i m))) (sym (eqb-true i k h)) ∙ ap (λ q. held cs q) (sym at) ∙ owner_there n x e) in
+          ap (λ i. has_message (service_of cs k) i) (sym (cell_name cs n x e) ∙ f.0) ∙ f.1
+      go _ at h = cc
+
+  drops_own : (n : ℕ) (x : Cell) → cell_of cs n ≡ Some x → same_place x.owner g ≡ true → n ≡ k
+  drops_own n x e h =
+      let one : Some x.object ≡ Some o = sym (owner_there n x e) ∙ ap (λ q. held cs q) (same_place-true x.owner g h) ∙ there in
+      let object : x.object ≡ o = cc in
+      sym (cell_name cs n x e) ∙ ap (λ (y : Object). y.name) object
+
+  drops_message : (j : ℕ) (x : Cell) → cell_of cs (message_name j) ≡ Some x → drops x ≡ goes j
+  drops_message j x e = go (goes j) refl
+    where
+      placed : (y : Object) → held cs (Elsewhere (Waits_at k (message_name j))) ≡ Some y → y.name ≡ message_name j → x.owner ≡ Elsewhere (Waits_at k (message_name j))
+      placed y at name =
+          let z = a_cell_of (cell_in cs (Elsewhere (Waits_at k (message_name j)))) y (sym (held_cell cs (Elsewhere (Waits_at k (message_name j)))) ∙ at) in
+          let lives = cell_lives cs (Elsewhere (Waits_at k (message_name j))) z.0 tidy z.1 in
+          let one : Some z.0 ≡ Some x = sym lives ∙ ap (λ n. cell_of cs n) (ap (λ (y : Object). y.name) z.2 ∙ name) ∙ e in
+          let cell : z.0 ≡ x = cc in
+          ap (λ (c : Cell). c.owner) (sym cell) ∙ cell_owner cs (Elsewhere (Waits_at k (message_name j))) z.0 z.1
+
+      stays : (a b : Bool) → is_queue_of k x.owner ≡ a → same_place x.owner g ≡ b → goes j ≡ false → (a || b) ≡ false
+      stays true b f h none = absurd (false≢true (sym none ∙ drops_queue (message_name j) x e f))
+      stays false true f h none = let at = drops_own (message_name j) x e h in absurd (omega (arith, at, small))
+      stays false false f h none = refl
+
+      go : (b : Bool) → goes j ≡ b → drops x ≡ b
+      go true h =
+          let w = waiting k (message_name j) h in
+          ap (λ q. is_queue_of k q || same_place q g) (placed w.0 w.1 w.2) ∙ ap (λ b. b || same_place (Elsewhere (Waits_at k (message_name j))) g) (eq-eqb k k refl)
+      go false h = stays (is_queue_of k x.owner) (same_place x.owner g) refl refl h
+
+  -- a message that goes has its cell
+  cell_stays : (j : ℕ) → cell_of stay (message_name j) ≡ cond (goes j) None (cell_of cs (message_name j))
+  cell_stays j = cell_of_sifted drops (λ c. c.service) cs (message_name j) tidy ∙ go (cell_of cs (message_name j)) refl
+    where
+      none : (b : Bool) → ◌≡◌ {A = Option Cell} None (cond b None None)
+      none true = refl
+      none false = refl
+
+      go : (x : Option Cell) → cell_of cs (message_name j) ≡ x → left_cell drops (λ c. c.service) x ≡ cond (goes j) None x
+      go None e = none (goes j)
+      go (Some x) e = ap (λ b. cond b None (Some x)) (drops_message j x e)
+
+  -- what else goes has no queue and no sessions
+  parts_stay : (n : ℕ) → ((service_of stay n).queue ≡ cond (k == n) [] (service_of cs n).queue) × ((service_of stay n).sessions ≡ cond (k == n) [] (service_of cs n).sessions)
+  parts_stay n =
+      subst (λ v. (v.queue ≡ cond (k == n) [] (service_of cs n).queue) × (v.sessions ≡ cond (k == n) [] (service_of cs n).sessions)) (sym (service_cell stay n ∙ ap service_in (cell_of_sifted drops (λ c. c.service) cs n tidy)))
+      (go (cell_of cs n) refl (k == n) refl)
+    where
+      was : (x : Option Cell) → cell_of cs n ≡ x → service_of cs n ≡ service_in x
+      was x e = service_cell cs n ∙ ap service_in e
+
+      -- the one that goes
+      own : (x : Cell) → cell_of cs n ≡ Some x → (k == n) ≡ true → drops x ≡ true
+      own x e f =
+          let z = a_cell_of (cell_in cs g) o (sym (held_cell cs g) ∙ there) in
+          let lives = cell_lives cs g z.0 tidy z.1 in
+          let one : Some z.0 ≡ Some x = sym lives ∙ ap (λ n. cell_of cs n) (ap (λ (y : Object). y.name) z.2 ∙ eqb-true k n f) ∙ e in
+          let cell : z.0 ≡ x = cc in
+          let at : same_place x.owner g ≡ true = ap (λ q. same_place q g) (ap (λ (c : Cell). c.owner) (sym cell) ∙ cell_owner cs g z.0 z.1) ∙ same_place_refl g in
+          or_true (is_queue_of k x.owner) (same_place x.owner g) at
+        where
+          or_true : (a b : Bool) → b ≡ true → (a || b) ≡ true
+          or_true true b h = refl
+          or_true false b h = h
+
+      queues_own : (q : Owner) → is_queue_of k q ≡ true → is_queue q ≡ true
+      queues_own (Elsewhere (Waits_at i m)) h = refl
+      queues_own _ h = cc
+
+      at : (x : Cell) → cell_of cs n ≡ Some x → (b : Bool) → (k == n) ≡ b → (d : Bool) → drops x ≡ d →
+          ((service_in (cond d None (Some x))).queue ≡ cond b [] (service_of cs n).queue) × ((service_in (cond d None (Some x))).sessions ≡ cond b [] (service_of cs n).sessions)
+      at x e true f true g' = (refl, refl)
+      at x e true f false g' = absurd (false≢true (sym g' ∙ own x e f))
+      at x e false f false g' = (sym (ap (λ (v : Service). v.queue) (was (Some x) e)), sym (ap (λ (v : Service). v.sessions) (was (Some x) e)))
+      at x e false f true g' =
+          let none = by (is_queue_of k x.owner) (same_place x.owner g) refl refl g' in
+          (sym (ap (λ (v : Service). v.queue) (was (Some x) e) ∙ none.0), sym (ap (λ (v : Service). v.sessions) (was (Some x) e) ∙ none.1))
+        where
+          by : (a b : Bool) → is_queue_of k x.owner ≡ a → same_place x.owner g ≡ b → (a || b) ≡ true → (x.service.queue ≡ []) × (x.service.sessions ≡ [])
+          by true b ea eb h = empty n x e (queues_own x.owner ea)
+          by false true ea eb h = absurd (false≢true (sym f ∙ eq-eqb k n (sym (drops_own n x e eb))))
+          by false false ea eb h = cc
+
+      nothing : {A : Type 0} (b : Bool) (l : List A) → l ≡ [] → [] ≡ cond b [] l
+      nothing true l e = refl
+      nothing false l e = sym e
+
+      go : (x : Option Cell) → cell_of cs n ≡ x → (b : Bool) → (k == n) ≡ b →
+          ((service_in (left_cell drops (λ c. c.service) x)).queue ≡ cond b [] (service_of cs n).queue) × ((service_in (left_cell drops (λ c. c.service) x)).sessions ≡ cond b [] (service_of cs n).sessions)
+      go None e b f = (nothing b (service_of cs n).queue (ap (λ (v : Service). v.queue) (was None e)), nothing b (service_of cs n).sessions (ap (λ (v : Service). v.sessions) (was None e)))
+      go (Some x) e b f = at x e b f (drops x) refl
+
+  -- ---- what is told of a message
+
+  sender_left : (j : ℕ) → (service_of left (message_name j)).sender ≡ lost xs (cond (goes j) None (service_of cs (message_name j)).sender)
+  sender_left j =
+      ap (λ (v : Service). v.sender) (service_lost xs stay (message_name j)) ∙ ap (λ (v : Service). lost xs v.sender) (service_cell stay (message_name j) ∙ ap service_in (cell_stays j)) ∙ ap (lost xs) (go (goes j))
+    where
+      go : (b : Bool) → (service_in (cond b None (cell_of cs (message_name j)))).sender ≡ cond b None (service_of cs (message_name j)).sender
+      go true = refl
+      go false = ap (λ (v : Service). v.sender) (sym (service_cell cs (message_name j)))
+
+  named_left : (j : ℕ) → is_some (named left (message_name j)) ≡ cond (goes j) false (is_some (named cs (message_name j)))
+  named_left j = ap is_some ((each_unslotted_alike xs stay).named_so (message_name j) ∙ named_cell stay (message_name j) ∙ ap object_in (cell_stays j)) ∙ go (goes j)
+    where
+      go : (b : Bool) → is_some (object_in (cond b None (cell_of cs (message_name j)))) ≡ cond b false (is_some (named cs (message_name j)))
+      go true = refl
+      go false = ap is_some (sym (named_cell cs (message_name j)))
+
+  owner_left : (j : ℕ) → waits_in (owner_of left (message_name j)) ≡ cond (goes j) false (waits_in (owner_of cs (message_name j)))
+  owner_left j = ap waits_in (owner_lost xs stay (message_name j) ∙ owner_cell stay (message_name j) ∙ ap owner_in (cell_stays j)) ∙ go (goes j)
+    where
+      go : (b : Bool) → waits_in (owner_in (cond b None (cell_of cs (message_name j)))) ≡ cond b false (waits_in (owner_of cs (message_name j)))
+      go true = refl
+      go false = ap waits_in (sym (owner_cell cs (message_name j)))
+
+  place_then : (j : ℕ) → kept.place_at then j ≡ cond (goes j) Free (kept.place_at s j)
+  place_then j = ap (λ l. slice_index_or l j Free) (places_after_sessions k (kept.sessions_at s k) between) ∙ place_after_queue k es s j ∙ ap (λ b. cond b Free (kept.place_at s j)) (goes_at j)
+
+  sent_then : (d : ℕ) → kept.sent_at then d ≡ cond (is_among d xs) [] (all_without es (kept.sent_at s d))
+  sent_then d =
+      sent_after_sessions k (kept.sessions_at s k) between d ∙ ap (λ l. cond (is_among d l) [] (kept.sent_at between d)) listed_so ∙ ap (λ l. cond (is_among d xs) [] l) (sent_after_queue k es s d)
+
+  among_then : (d j : ℕ) → is_among j (kept.sent_at then d) ≡ cond (is_among d xs) false (cond (goes j) false (is_among j (kept.sent_at s d)))
+  among_then d j = ap (is_among j) (sent_then d) ∙ go (is_among d xs)
+    where
+      go : (b : Bool) → is_among j (cond b [] (all_without es (kept.sent_at s d))) ≡ cond b false (cond (goes j) false (is_among j (kept.sent_at s d)))
+      go true = refl
+      go false = among_without es (kept.sent_at s d) j ∙ ap (λ b. cond b false (is_among j (kept.sent_at s d))) (goes_at j)
+
+  senders_then : (j : ℕ) → sent_by (holds then j) (kept.place_at then j) ≡ (service_of left (message_name j)).sender
+  senders_then j = ap (λ p. sent_by (is_among j (kept.sent_at then (sender p))) p) (place_then j) ∙ go (goes j) refl ∙ sym (sender_left j)
+    where
+      go : (b : Bool) → goes j ≡ b → sent_by (is_among j (kept.sent_at then (sender (cond b Free (kept.place_at s j))))) (cond b Free (kept.place_at s j)) ≡ lost xs (cond b None (service_of cs (message_name j)).sender)
+      go true e = sym (lost_none xs)
+      go false e =
+          ap (λ b. sent_by b (kept.place_at s j)) (among_then (sender (kept.place_at s j)) j ∙ ap (λ b. cond (is_among (sender (kept.place_at s j)) xs) false (cond b false (holds s j))) e)
+          ∙ sym (lost_sent xs (holds s j) (kept.place_at s j)) ∙ ap (lost xs) (same.senders j)
+
+  taken_then : (j : ℕ) → is_taken (kept.place_at then j) ≡ is_some (named left (message_name j))
+  taken_then j = ap is_taken (place_then j) ∙ go (goes j) ∙ sym (named_left j)
+    where
+      go : (b : Bool) → is_taken (cond b Free (kept.place_at s j)) ≡ cond b false (is_some (named cs (message_name j)))
+      go true = refl
+      go false = same.taken j
+
+  waits_then : (j : ℕ) → is_queued (kept.place_at then j) ≡ waits_in (owner_of left (message_name j))
+  waits_then j = ap is_queued (place_then j) ∙ go (goes j) ∙ sym (owner_left j)
+    where
+      go : (b : Bool) → is_queued (cond b Free (kept.place_at s j)) ≡ cond b false (waits_in (owner_of cs (message_name j)))
+      go true = refl
+      go false = same.waits j
+
+  slots_of_then : (d j : ℕ) → is_among j (kept.sent_at then d) ≡ holds_slot d (service_of left (message_name j)).sender
+  slots_of_then d j = among_then d j ∙ ap (λ b. cond (is_among d xs) false b) (go (goes j)) ∙ sym (lost_slot xs d (cond (goes j) None (service_of cs (message_name j)).sender)) ∙ ap (holds_slot d) (sym (sender_left j))
+    where
+      go : (b : Bool) → cond b false (is_among j (kept.sent_at s d)) ≡ holds_slot d (cond b None (service_of cs (message_name j)).sender)
+      go true = refl
+      go false = same.slots_of d j
+
+  slotted_then : (j d : ℕ) → kept.place_at then j ≡ Queued d → is_among j (kept.sent_at then d) ≡ true
+  slotted_then j d e = go (goes j) refl (is_among d xs) refl (sym (place_then j) ∙ e)
+    where
+      go : (b : Bool) → goes j ≡ b → (x : Bool) → is_among d xs ≡ x → cond b Free (kept.place_at s j) ≡ Queued d → is_among j (kept.sent_at then d) ≡ true
+      go true f x g e = cc
+      go false f true g e = absurd (false≢true (sym f ∙ going j d e g))
+      go false f false g e = among_then d j ∙ ap (λ b. cond b false (cond (goes j) false (is_among j (kept.sent_at s d)))) g ∙ ap (λ b. cond b false (is_among j (kept.sent_at s d))) f ∙ same.slotted j d e
+
+  once_then : (d : ℕ) → Once (kept.sent_at then d)
+  once_then d = subst Once (sym (sent_then d)) (go (is_among d xs))
+    where
+      go : (b : Bool) → Once (cond b [] (all_without es (kept.sent_at s d)))
+      go true = tt
+      go false = once_after es (kept.sent_at s d) (same.once d)
+
+  -- of clients that have no session with it nothing goes
+  slots_then : (d : ℕ) → length (kept.sent_at then d) ≡ slots_taken d left
+  slots_then d = ap length (sent_then d) ∙ go (is_among d xs) refl ∙ sym (slots_lost xs stay d)
+    where
+      unowed : is_among d xs ≡ false → (m : ℕ) → has_message (service_of cs k) m ≡ true → holds_slot d (service_of cs m).sender ≡ false
+      unowed none m h = by (holds_slot d (service_of cs m).sender) refl
+        where
+          by : (b : Bool) → holds_slot d (service_of cs m).sender ≡ b → b ≡ false
+          by true e = absurd (false≢true (sym none ∙ owed m d h e))
+          by false e = refl
+
+      unheld : is_among d xs ≡ false → (n : ℕ) (x : Cell) → cell_of cs n ≡ Some x → drops x ≡ true → holds_slot d x.service.sender ≡ false
+      unheld none n x e h = by (is_queue_of k x.owner) (same_place x.owner g) refl refl h
+        where
+          told : service_of cs n ≡ x.service
+          told = service_cell cs n ∙ ap service_in e
+
+          by : (a b : Bool) → is_queue_of k x.owner ≡ a → same_place x.owner g ≡ b → (a || b) ≡ true → holds_slot d x.service.sender ≡ false
+          by true b ea eb h = ap (λ (v : Service). holds_slot d v.sender) (sym told) ∙ unowed none n (drops_queue n x e ea)
+          by false true ea eb h = ap (λ (v : Service). holds_slot d v.sender) (sym told ∙ ap (λ i. service_of cs i) (drops_own n x e eb)) ∙ silent d
+          by false false ea eb h = cc
+
+      go : (b : Bool) → is_among d xs ≡ b → length (cond b [] (all_without es (kept.sent_at s d))) ≡ cond b 0 (slots_taken d stay)
+      go true e = refl
+      go false e =
+          ap length (all_stay es (kept.sent_at s d) (λ j h. same.slots_of d j ∙ unowed e (message_name j) (sym (goes_at j) ∙ h))) ∙ same.slots d
+          ∙ sym (slots_sifted drops d cs (each_cell (λ x. drops x ≡ true → holds_slot d x.service.sender ≡ false) cs tidy (unheld e)))
+
+  -- ---- queues, sessions and clients
+
+  queues_then : (n : ℕ) → map (asked_by then.places) (kept.queue_at then n) ≡ (service_of left n).queue
+  queues_then n =
+      ap (λ l. map (asked_by then.places) l) (ap (λ l. slice_index_or l n []) (queues_after_sessions k (kept.sessions_at s k) between) ∙ queue_after_queue k es s n queue_room refl) ∙ go (k == n) refl
+      ∙ sym (ap (λ (v : Service). v.queue) (service_lost xs stay n) ∙ (parts_stay n).0)
+    where
+      -- another server's messages stay
+      stays : (k == n) ≡ false → (j : ℕ) → list_any (is_at j) (kept.queue_at s n) ≡ true → goes j ≡ false
+      stays other j h = by (goes j) refl
+        where
+          by : (b : Bool) → goes j ≡ b → b ≡ false
+          by false e = refl
+          by true e =
+              let x = waiting k (message_name j) e in
+              let y = waiting n (message_name j) (ap (λ q. list_any (is_message (message_name j)) q) (sym (same.queues n)) ∙ asks_message s.places (kept.queue_at s n) j ∙ h) in
+              let one = one_place cs (Elsewhere (Waits_at k (message_name j))) (Elsewhere (Waits_at n (message_name j))) x.0 y.0 tidy x.1 y.1 (x.2 ∙ sym y.2) in
+              absurd (false≢true (sym other ∙ eq-eqb k n (ap place_outer one)))
+
+      go : (b : Bool) → (k == n) ≡ b → map (asked_by then.places) (cond b [] (kept.queue_at s n)) ≡ cond b [] (service_of cs n).queue
+      go true e = refl
+      go false e = asked_alike s.places then.places (kept.queue_at s n) (λ j h. ap sender (place_then j ∙ ap (λ b. cond b Free (kept.place_at s j)) (stays e j h))) ∙ same.queues n
+
+  sessions_then : (n : ℕ) → kept.sessions_at then n ≡ (service_of left n).sessions
+  sessions_then n =
+      sessions_after_sessions k (kept.sessions_at s k) between n (subst (λ l. k < length l) (sym (sessions_after_queue k es s)) session_room) (ap (λ l. slice_index_or l k []) (sessions_after_queue k es s))
+      ∙ ap (λ l. cond (k == n) [] (slice_index_or l n [])) (sessions_after_queue k es s) ∙ ap (λ l. cond (k == n) [] l) (same.sessions n)
+      ∙ sym (ap (λ (v : Service). v.sessions) (service_lost xs stay n) ∙ (parts_stay n).1)
+
+  at_then : (c : ℕ) → sessionless (kept.client_at then c) ≡ client_at (sessions_ended xs (queue_ended (service_of cs k).queue clients)) c
+  at_then c =
+      ap sessionless (client_after_sessions k (kept.sessions_at s k) between c ∙ ap (λ l. cond (is_among c l) (at_gone (kept.client_at between c)) (kept.client_at between c)) listed_so
+      ∙ ap (λ y. cond (is_among c xs) (at_gone y) y) (client_after_queue k es s c))
+      ∙ client_alike (list_any (connects c) es) (is_among c xs) (kept.client_at s c)
+      ∙ ap (λ b. cond (is_among c xs) (at_gone (cond b Unconnected (sessionless (kept.client_at s c)))) (cond b Unconnected (sessionless (kept.client_at s c)))) (connects_at c)
+      ∙ ap (λ y. cond (is_among c xs) (at_gone (cond (list_any (is_connect_of c) (service_of cs k).queue) Unconnected y)) (cond (list_any (is_connect_of c) (service_of cs k).queue) Unconnected y)) (same.at c)
+      ∙ sym (sessions_ended_at xs (queue_ended (service_of cs k).queue clients) c ∙ ap (λ y. cond (is_among c xs) (at_gone y) y) (queue_ended_at (service_of cs k).queue clients c))
+
+  same_left : SameClients then left (sessions_ended xs (queue_ended (service_of cs k).queue clients))
+  same_left = record {
+    at = at_then;
+    queues = queues_then;
+    sessions = sessions_then;
+    senders = senders_then;
+    taken = taken_then;
+    waits = waits_then;
+    slots_of = slots_of_then;
+    slotted = slotted_then;
+    once = once_then;
+    slots = slots_then;
+    many = (lengths_after_sessions k (kept.sessions_at s k) between).0 ∙ (lengths_after_queue k es s).0 ∙ same.many;
+    lists = (lengths_after_sessions k (kept.sessions_at s k) between).2 ∙ (lengths_after_queue k es s).3 ∙ same.lists;
+  }
+
+  pub same_vanished : SameClients then (each_unslotted xs (without g (without_queue k cs))) (sessions_ended xs (queue_ended (service_of cs k).queue clients))
+  same_vanished = subst (λ l. SameClients then (each_unslotted xs l) (sessions_ended xs (queue_ended (service_of cs k).queue clients))) (sym (gone_so k g cs)) same_left

@@ -1,0 +1,441 @@
+-- A client closes or dies: its messages that wait go, its others hold no slot and are told to nobody, and all else goes on standing for what it stood for.
+use Rattle.std.proofs.Common.{Bool, List, None, Option, Some, [], ap, cond, false, length, refl, slice_index_or, subst, suc, sym, true, zero, ℕ, ◌&&◌, ◌<◌, ◌==◌, ◌∙◌, ◌∷◌, ◌≡◌}
+use Rattle.std.specs.Prelude.{filter, is_some, map, not}
+use Rattle.std.proofs.lemmas.Bool.{eq-eqb, eqb-true, false≢true, ne_eqb}
+use Rattle.std.proofs.lemmas.List.{length-set}
+use Rattle.aom_clients.specs.Clients as kept
+use Rattle.aom_clients.specs.declared.client.Client.{Client}
+use Rattle.aom_clients.specs.declared.client.Client.TheVariants.{Closing, Connecting, Dead, Dying, Gone, Open, Unconnected}
+use Rattle.aom_image.specs.Image.{Image}
+use Rattle.aom_clients.specs.declared.entry.Entry.{Entry}
+use Rattle.aom_clients.specs.declared.entry.Entry.TheVariants.{Connect, Message, Close}
+use Rattle.aom_clients.specs.declared.place.Place.{Place}
+use Rattle.aom_clients.specs.declared.place.Place.TheVariants.{Discarded, Free, Held, Queued}
+use Rattle.aom_clients.specs.Table.{closed_place, is_queued, is_waiting_of, sender}
+use Rattle.aom_sound.proofs.Sifted.{cell_of, cell_of_sifted, named_cell, object_in, kept as left_cell, service_cell, service_in, withdrawn_so}
+use Rattle.aom_sound.specs.Places.{Asked, Cell, Close_of, Connect_of, Message_of, Object, Place as Owner, named, Sender, Service, Tidy, service_of}
+use Rattle.aom_sound.specs.Servers.{asked_last, discarded, holds_slot, is_among, is_from, is_queue, left_by, reserved, slots_taken, stays, withdrawn}
+use Rattle.aom_sound.specs.Clients.{client_at, told, with_client}
+use Rattle.aom_sound.specs.State.{State}
+use Rattle.aom_parts.proofs.Serving.{at_set, same_client, same_closing}
+use Rattle.aom_parts.specs.Serving.{Once, SameClients, asked_by, holds, is_taken, message_name, owner_of, sent_by, sessionless, waits_in}
+
+at_map : {A : Type 0} (f : A → A) (none : A) (xs : List A) (n : ℕ) → f none ≡ none → slice_index_or (map f xs) n none ≡ f (slice_index_or xs n none)
+at_map f none [] n e = sym e
+at_map f none (x ∷ xs) zero e = refl
+at_map f none (x ∷ xs) (suc n) e = at_map f none xs n e
+
+-- ---- one cell
+
+abbrev pub owner_in : Option Cell → Option Owner
+owner_in None = None
+owner_in (Some x) = Some x.owner
+
+pub owner_cell : (cs : List Cell) (n : ℕ) → owner_of cs n ≡ owner_in (cell_of cs n)
+owner_cell [] n = refl
+owner_cell (c ∷ cs) n = go (c.object.name == n) (owner_cell cs n)
+  where
+    go : (b : Bool) → owner_of cs n ≡ owner_in (cell_of cs n) → cond b (Some c.owner) (owner_of cs n) ≡ owner_in (cond b (Some c) (cell_of cs n))
+    go true e = refl
+    go false e = e
+
+module _ (c : ℕ) where
+  abbrev drops : Cell → Bool
+  drops x = is_queue x.owner && is_from c x.service.sender
+
+  abbrev serves : Cell → Service
+  serves x = left_by c x.service
+
+  abbrev left_of : Option Cell → Option Cell
+  left_of x = left_cell drops serves x
+
+  -- ---- the sender of a message, and its place
+
+  -- the sender that is left
+  abbrev remains : Bool → Option Sender → Option Sender
+  remains goes x = cond goes None (discarded c x)
+
+  -- of a message at that place
+  sender_left : (slot slot' : Bool) (p : Place) → ((d : ℕ) → sender p ≡ d → (d == c) ≡ false → slot' ≡ slot) → (is_queued p ≡ false → (d : ℕ) → sender p ≡ d → (d == c) ≡ true → slot' ≡ false) →
+      sent_by slot' (kept.left_place c p) ≡ remains (is_queued p && is_from c (sent_by slot p)) (sent_by slot p)
+  sender_left slot slot' Free other own = refl
+  sender_left slot slot' (Queued d) other own = go (d == c) refl
+    where
+      go : (b : Bool) → (d == c) ≡ b →
+          sent_by slot' (cond b (closed_place (Queued d)) (Queued d)) ≡ cond b None (Some (cond b (record { client = d; holds_slot = false; is_told = false }) (record { client = d; holds_slot = slot; is_told = true })))
+      go true e = refl
+      go false e = ap (λ x. Some (record { client = d; holds_slot = x; is_told = true })) (other d refl e)
+  sender_left slot slot' (Held d) other own = go (d == c) refl
+    where
+      go : (b : Bool) → (d == c) ≡ b →
+          sent_by slot' (cond b (closed_place (Held d)) (Held d)) ≡ Some (cond b (record { client = d; holds_slot = false; is_told = false }) (record { client = d; holds_slot = slot; is_told = true }))
+      go true e = ap (λ x. Some (record { client = d; holds_slot = x; is_told = false })) (own refl d refl e)
+      go false e = ap (λ x. Some (record { client = d; holds_slot = x; is_told = true })) (other d refl e)
+  sender_left slot slot' (Discarded d) other own = go (d == c) refl
+    where
+      go : (b : Bool) → (d == c) ≡ b →
+          ◌≡◌ {A = Option Sender} (Some (record { client = d; holds_slot = slot'; is_told = false })) (Some (cond b (record { client = d; holds_slot = false; is_told = false }) (record { client = d; holds_slot = slot; is_told = false })))
+      go true e = ap (λ x. Some (record { client = d; holds_slot = x; is_told = false })) (own refl d refl e)
+      go false e = ap (λ x. Some (record { client = d; holds_slot = x; is_told = false })) (other d refl e)
+
+  queued_left : (slot : Bool) (p : Place) → is_queued (kept.left_place c p) ≡ cond (is_queued p && is_from c (sent_by slot p)) false (is_queued p)
+  queued_left slot Free = refl
+  queued_left slot (Queued d) = go (d == c)
+    where
+      go : (b : Bool) → is_queued (cond b (closed_place (Queued d)) (Queued d)) ≡ cond b false true
+      go true = refl
+      go false = refl
+  queued_left slot (Held d) = go (d == c)
+    where
+      go : (b : Bool) → is_queued (cond b (closed_place (Held d)) (Held d)) ≡ false
+      go true = refl
+      go false = refl
+  queued_left slot (Discarded d) = refl
+
+  taken_left : (slot : Bool) (p : Place) → is_taken (kept.left_place c p) ≡ cond (is_queued p && is_from c (sent_by slot p)) false (is_taken p)
+  taken_left slot Free = refl
+  taken_left slot (Queued d) = go (d == c)
+    where
+      go : (b : Bool) → is_taken (cond b (closed_place (Queued d)) (Queued d)) ≡ cond b false true
+      go true = refl
+      go false = refl
+  taken_left slot (Held d) = go (d == c)
+    where
+      go : (b : Bool) → is_taken (cond b (closed_place (Held d)) (Held d)) ≡ true
+      go true = refl
+      go false = refl
+  taken_left slot (Discarded d) = refl
+
+  -- what slots it held of a client: none of this one's any more
+  slot_left : (goes : Bool) (x : Option Sender) (d : ℕ) → (goes ≡ true → is_from c x ≡ true) → holds_slot d (remains goes x) ≡ cond (c == d) false (holds_slot d x)
+  slot_left goes None d from = nothing goes ∙ sym (never (c == d))
+    where
+      nothing : (b : Bool) → holds_slot d (cond b None None) ≡ false
+      nothing true = refl
+      nothing false = refl
+
+      never : (b : Bool) → cond b false false ≡ false
+      never true = refl
+      never false = refl
+  slot_left goes (Some m) d from = go goes (m.client == c) (c == d) refl refl refl
+    where
+      off : (b : Bool) → (b && false) ≡ false
+      off true = refl
+      off false = refl
+
+      apart : (m.client == c) ≡ true → (c == d) ≡ false → (m.client == d) ≡ false
+      apart e f = ap (λ k. k == d) (eqb-true m.client c e) ∙ f
+
+      other : (m.client == c) ≡ false → (c == d) ≡ true → (m.client == d) ≡ false
+      other e f = ap (λ k. m.client == k) (sym (eqb-true c d f)) ∙ e
+
+      go : (b x y : Bool) → goes ≡ b → (m.client == c) ≡ x → (c == d) ≡ y →
+          holds_slot d (cond b None (Some (cond x (record m { holds_slot = false; is_told = false }) m))) ≡ cond y false ((m.client == d) && m.holds_slot)
+      go true true true g e f = refl
+      go true true false g e f = sym (ap (λ z. z && m.holds_slot) (apart e f))
+      go true false y g e f = absurd (false≢true (sym e ∙ from g))
+      go false true true g e f = off (m.client == d)
+      go false true false g e f = off (m.client == d) ∙ sym (ap (λ z. z && m.holds_slot) (apart e f))
+      go false false true g e f = ap (λ z. z && m.holds_slot) (other e f)
+      go false false false g e f = refl
+
+  slots_withdrawn : (cs : List Cell) (d : ℕ) → slots_taken d (withdrawn c cs) ≡ cond (c == d) 0 (slots_taken d cs)
+  slots_withdrawn [] d = sym (never (c == d))
+    where
+      never : (b : Bool) → ◌≡◌ {A = ℕ} (cond b 0 0) 0
+      never true = refl
+      never false = refl
+  slots_withdrawn (x ∷ xs) d = go (drops x) refl (slots_withdrawn xs d)
+    where
+      own : (drops x ≡ true → is_from c x.service.sender ≡ true)
+      own e = second (is_queue x.owner) (is_from c x.service.sender) e
+        where
+          second : (a b : Bool) → (a && b) ≡ true → b ≡ true
+          second true b e = e
+          second false b e = cc
+
+      counts : (b y : Bool) (k : ℕ) → b ≡ cond (c == d) false y → (j : ℕ) → k ≡ cond (c == d) 0 j → cond b (suc k) k ≡ cond (c == d) 0 (cond y (suc j) j)
+      counts b y k e j f = by (c == d) y refl e f
+        where
+          by : (z y : Bool) → (c == d) ≡ z → b ≡ cond z false y → k ≡ cond z 0 j → cond b (suc k) k ≡ cond z 0 (cond y (suc j) j)
+          by true y g e f = ap (λ b. cond b (suc k) k) e ∙ f
+          by false true g e f = ap (λ b. cond b (suc k) k) e ∙ ap suc f
+          by false false g e f = ap (λ b. cond b (suc k) k) e ∙ f
+
+      go : (b : Bool) → drops x ≡ b → slots_taken d (withdrawn c xs) ≡ cond (c == d) 0 (slots_taken d xs) →
+          slots_taken d (cond b (withdrawn c xs) (record x { service = left_by c x.service } ∷ withdrawn c xs)) ≡ cond (c == d) 0 (cond (holds_slot d x.service.sender) (suc (slots_taken d xs)) (slots_taken d xs))
+      go true e rest = counts false (holds_slot d x.service.sender) (slots_taken d (withdrawn c xs)) (slot_left true x.service.sender d (λ g. own e)) (slots_taken d xs) rest
+      go false e rest = counts (holds_slot d (discarded c x.service.sender)) (holds_slot d x.service.sender) (slots_taken d (withdrawn c xs)) (slot_left false x.service.sender d (λ g. cc)) (slots_taken d xs) rest
+
+  -- what is at a place that another client's message has, and whose it is
+  left_other : (p : Place) → (sender p == c) ≡ false → kept.left_place c p ≡ p
+  left_other Free e = refl
+  left_other (Queued d) e = ap (λ b. cond b (closed_place (Queued d)) (Queued d)) e
+  left_other (Held d) e = ap (λ b. cond b (closed_place (Held d)) (Held d)) e
+  left_other (Discarded d) e = refl
+
+  left_own : (p : Place) → is_queued p ≡ false → sender (kept.left_place c p) ≡ sender p
+  left_own Free e = refl
+  left_own (Queued d) e = cc
+  left_own (Held d) e = go (d == c)
+    where
+      go : (b : Bool) → sender (cond b (closed_place (Held d)) (Held d)) ≡ d
+      go true = refl
+      go false = refl
+  left_own (Discarded d) e = refl
+
+  waits_of : (p : Place) → is_queued p ≡ true → is_waiting_of c p ≡ (sender p == c)
+  waits_of (Queued d) e = refl
+  waits_of Free e = cc
+  waits_of (Held d) e = cc
+  waits_of (Discarded d) e = cc
+
+-- ---- what waits in a queue
+
+-- the messages in it wait
+abbrev pub AllWait : List Place → List Entry → Type 0
+AllWait places [] = Unit {0}
+AllWait places (Connect c ∷ es) = AllWait places es
+AllWait places (Message j ∷ es) = (is_queued (slice_index_or places j Free) ≡ true) × AllWait places es
+AllWait places (Close c ∷ es) = AllWait places es
+
+module _ (c : ℕ) (places : List Place) where
+  abbrev places' : List Place
+  places' = map (λ p. kept.left_place c p) places
+
+  step : (b : Bool) (e : Entry) (r : List Entry) (a : Asked) (q : List Asked) → map (asked_by places') r ≡ q → (b ≡ true → asked_by places' e ≡ a) → map (asked_by places') (cond b (e ∷ r) r) ≡ cond b (a ∷ q) q
+  step true e r a q ih h = ap (λ l. asked_by places' e ∷ l) ih ∙ ap (λ x. x ∷ q) (h refl)
+  step false e r a q ih h = ih
+
+  entries_left : (es : List Entry) → AllWait places es → map (asked_by places') (filter (λ e. kept.stays c places e) es) ≡ filter (stays c) (map (asked_by places) es)
+  entries_left [] waits = refl
+  entries_left (Connect d ∷ es) waits = step (not (d == c)) (Connect d) (filter (λ e. kept.stays c places e) es) (Connect_of d) _ (entries_left es waits) (λ h. refl)
+  entries_left (Close d ∷ es) waits = ap (λ l. Close_of d ∷ l) (entries_left es waits)
+  entries_left (Message j ∷ es) waits =
+      let p = slice_index_or places j Free in
+      let r = filter (λ e. kept.stays c places e) es in
+      ap (λ b. map (asked_by places') (cond (not b) (Message j ∷ r) r)) (waits_of c p waits.0)
+      ∙ step (not (sender p == c)) (Message j) r (Message_of (sender p) (message_name j)) _ (entries_left es waits.1)
+      (λ h. ap (λ x. Message_of (sender x) (message_name j)) (at_map (λ p. kept.left_place c p) Free places j refl ∙ left_other c p (unturned (sender p == c) h)))
+    where
+      unturned : (b : Bool) → not b ≡ true → b ≡ false
+      unturned true e = cc
+      unturned false e = refl
+
+-- ---- all of it
+
+-- what waits in a queue has no queue and no sessions of its own
+module _ (s : kept.State) (cs : List Cell) (clients : List Client) (same : SameClients s cs clients) (tidy : Tidy cs) (c : ℕ) (client : c < 64)
+    (plain : (n : ℕ) (x : Cell) → cell_of cs n ≡ Some x → is_queue x.owner ≡ true → (x.service.queue ≡ []) × (x.service.sessions ≡ [])) (waiting : (n : ℕ) → AllWait s.places (kept.queue_at s n)) where
+  abbrev then : kept.State
+  then = kept.withdrawn c s
+
+  abbrev left : List Cell
+  left = withdrawn c cs
+
+  cell_then : (n : ℕ) → cell_of left n ≡ left_of c (cell_of cs n)
+  cell_then n = ap (λ l. cell_of l n) (withdrawn_so c cs) ∙ cell_of_sifted (drops c) (serves c) cs n tidy
+
+  service_then : (n : ℕ) → service_of left n ≡ service_in (left_of c (cell_of cs n))
+  service_then n = service_cell left n ∙ ap service_in (cell_then n)
+
+  first : (a b : Bool) → (a && b) ≡ true → a ≡ true
+  first true b e = refl
+  first false b e = cc
+
+  queue_left : (n : ℕ) (x : Option Cell) → cell_of cs n ≡ x → filter (stays c) (service_in x).queue ≡ (service_in (left_of c x)).queue
+  queue_left n None at = refl
+  queue_left n (Some x) at = go (drops c x) refl
+    where
+      go : (b : Bool) → drops c x ≡ b → filter (stays c) x.service.queue ≡ (service_in (cond b None (Some (record x { service = left_by c x.service })))).queue
+      go true e = ap (λ q. filter (stays c) q) (plain n x at (first (is_queue x.owner) (is_from c x.service.sender) e)).0
+      go false e = refl
+
+  sessions_left : (n : ℕ) (x : Option Cell) → cell_of cs n ≡ x → (service_in x).sessions ≡ (service_in (left_of c x)).sessions
+  sessions_left n None at = refl
+  sessions_left n (Some x) at = go (drops c x) refl
+    where
+      go : (b : Bool) → drops c x ≡ b → x.service.sessions ≡ (service_in (cond b None (Some (record x { service = left_by c x.service })))).sessions
+      go true e = (plain n x at (first (is_queue x.owner) (is_from c x.service.sender) e)).1
+      go false e = refl
+
+  place_then : (j : ℕ) → kept.place_at then j ≡ kept.left_place c (kept.place_at s j)
+  place_then j = at_map (λ p. kept.left_place c p) Free s.places j refl
+
+  sent_of : (d : ℕ) → kept.sent_at then d ≡ cond (c == d) [] (kept.sent_at s d)
+  sent_of d = at_set [] s.sent c d [] (subst (λ n. c < n) (sym same.lists) client)
+
+  among_then : (d j : ℕ) → is_among j (kept.sent_at then d) ≡ cond (c == d) false (is_among j (kept.sent_at s d))
+  among_then d j = ap (λ l. is_among j l) (sent_of d) ∙ go (c == d)
+    where
+      go : (b : Bool) → is_among j (cond b [] (kept.sent_at s d)) ≡ cond b false (is_among j (kept.sent_at s d))
+      go true = refl
+      go false = refl
+
+  swapped : (a b : ℕ) (x : Bool) → (a == b) ≡ x → (b == a) ≡ x
+  swapped a b true e = eq-eqb b a (sym (eqb-true a b e))
+  swapped a b false e = ne_eqb b a (λ same. false≢true (sym e ∙ eq-eqb a b (sym same)))
+
+  -- a cell with its sender and its place
+  sender_told : (j : ℕ) (x : Option Cell) → cell_of cs (message_name j) ≡ x → sent_by (holds s j) (kept.place_at s j) ≡ (service_in x).sender
+  sender_told j x at = same.senders j ∙ ap (λ (v : Service). v.sender) (service_cell cs (message_name j) ∙ ap service_in at)
+
+  waits_told : (j : ℕ) (x : Option Cell) → cell_of cs (message_name j) ≡ x → is_queued (kept.place_at s j) ≡ waits_in (owner_in x)
+  waits_told j x at = same.waits j ∙ ap waits_in (owner_cell cs (message_name j) ∙ ap owner_in at)
+
+  goes_so : (j : ℕ) (x : Cell) → cell_of cs (message_name j) ≡ Some x → (is_queued (kept.place_at s j) && is_from c (sent_by (holds s j) (kept.place_at s j))) ≡ drops c x
+  goes_so j x at = ap (λ b. b && is_from c (sent_by (holds s j) (kept.place_at s j))) (waits_told j (Some x) at) ∙ ap (λ m. is_queue x.owner && is_from c m) (sender_told j (Some x) at)
+
+  none_goes : (p : Place) (slot : Bool) → sent_by slot p ≡ None → (is_queued p && is_from c (sent_by slot p)) ≡ false
+  none_goes Free slot e = refl
+  none_goes (Queued d) slot e = cc
+  none_goes (Held d) slot e = cc
+  none_goes (Discarded d) slot e = cc
+
+  left_sender : (j : ℕ) (x : Option Cell) → cell_of cs (message_name j) ≡ x →
+      remains c (is_queued (kept.place_at s j) && is_from c (sent_by (holds s j) (kept.place_at s j))) (sent_by (holds s j) (kept.place_at s j)) ≡ (service_in (left_of c x)).sender
+  left_sender j None at =
+      ap (λ b. remains c b (sent_by (holds s j) (kept.place_at s j))) (none_goes (kept.place_at s j) (holds s j) (sender_told j None at)) ∙ ap (λ m. discarded c m) (sender_told j None at)
+  left_sender j (Some x) at = ap (λ b. remains c b (sent_by (holds s j) (kept.place_at s j))) (goes_so j x at) ∙ ap (λ m. remains c (drops c x) m) (sender_told j (Some x) at) ∙ go (drops c x)
+    where
+      go : (b : Bool) → remains c b x.service.sender ≡ (service_in (cond b None (Some (record x { service = left_by c x.service })))).sender
+      go true = refl
+      go false = refl
+
+  senders_then : (j : ℕ) → sent_by (holds then j) (kept.place_at then j) ≡ (service_of left (message_name j)).sender
+  senders_then j =
+      ap (λ p. sent_by (is_among j (kept.sent_at then (sender p))) p) (place_then j)
+      ∙ sender_left c (holds s j) (is_among j (kept.sent_at then (sender (kept.left_place c (kept.place_at s j))))) (kept.place_at s j) other own
+      ∙ left_sender j (cell_of cs (message_name j)) refl ∙ sym (ap (λ (v : Service). v.sender) (service_then (message_name j)))
+    where
+      p : Place
+      p = kept.place_at s j
+
+      other : (d : ℕ) → sender p ≡ d → (d == c) ≡ false → is_among j (kept.sent_at then (sender (kept.left_place c p))) ≡ holds s j
+      other d is e =
+          let apart : (sender p == c) ≡ false = ap (λ k. k == c) is ∙ e in
+          ap (λ q. is_among j (kept.sent_at then (sender q))) (left_other c p apart) ∙ among_then (sender p) j ∙ ap (λ b. cond b false (is_among j (kept.sent_at s (sender p)))) (swapped (sender p) c false apart)
+
+      own : is_queued p ≡ false → (d : ℕ) → sender p ≡ d → (d == c) ≡ true → is_among j (kept.sent_at then (sender (kept.left_place c p))) ≡ false
+      own unqueued d is e =
+          ap (λ k. is_among j (kept.sent_at then k)) (left_own c p unqueued) ∙ among_then (sender p) j ∙ ap (λ b. cond b false (is_among j (kept.sent_at s (sender p)))) (swapped (sender p) c true (ap (λ k. k == c) is ∙ e))
+
+  taken_told : (j : ℕ) (x : Option Cell) → cell_of cs (message_name j) ≡ x → is_taken (kept.place_at s j) ≡ is_some (object_in x)
+  taken_told j x at = same.taken j ∙ ap is_some (named_cell cs (message_name j) ∙ ap object_in at)
+
+  taken_then : (j : ℕ) → is_taken (kept.place_at then j) ≡ is_some (named left (message_name j))
+  taken_then j =
+      ap is_taken (place_then j) ∙ taken_left c (holds s j) (kept.place_at s j) ∙ go (cell_of cs (message_name j)) refl
+      ∙ sym (ap is_some (named_cell left (message_name j) ∙ ap object_in (cell_then (message_name j))))
+    where
+      go : (x : Option Cell) → cell_of cs (message_name j) ≡ x → cond (is_queued (kept.place_at s j) && is_from c (sent_by (holds s j) (kept.place_at s j))) false (is_taken (kept.place_at s j)) ≡ is_some (object_in (left_of c x))
+      go None at = ap (λ b. cond b false (is_taken (kept.place_at s j))) (none_goes (kept.place_at s j) (holds s j) (sender_told j None at)) ∙ taken_told j None at
+      go (Some x) at = ap (λ b. cond b false (is_taken (kept.place_at s j))) (goes_so j x at) ∙ by (drops c x)
+        where
+          by : (b : Bool) → cond b false (is_taken (kept.place_at s j)) ≡ is_some (object_in (cond b None (Some (record x { service = left_by c x.service }))))
+          by true = refl
+          by false = taken_told j (Some x) at
+
+  waits_then : (j : ℕ) → is_queued (kept.place_at then j) ≡ waits_in (owner_of left (message_name j))
+  waits_then j = ap is_queued (place_then j) ∙ queued_left c (holds s j) (kept.place_at s j) ∙ go (cell_of cs (message_name j)) refl ∙ sym (ap waits_in (owner_cell left (message_name j) ∙ ap owner_in (cell_then (message_name j))))
+    where
+      go : (x : Option Cell) → cell_of cs (message_name j) ≡ x → cond (is_queued (kept.place_at s j) && is_from c (sent_by (holds s j) (kept.place_at s j))) false (is_queued (kept.place_at s j)) ≡ waits_in (owner_in (left_of c x))
+      go None at = ap (λ b. cond b false (is_queued (kept.place_at s j))) (none_goes (kept.place_at s j) (holds s j) (sender_told j None at)) ∙ waits_told j None at
+      go (Some x) at = ap (λ b. cond b false (is_queued (kept.place_at s j))) (goes_so j x at) ∙ by (drops c x)
+        where
+          by : (b : Bool) → cond b false (is_queued (kept.place_at s j)) ≡ waits_in (owner_in (cond b None (Some (record x { service = left_by c x.service }))))
+          by true = refl
+          by false = waits_told j (Some x) at
+
+  slots_of_then : (d j : ℕ) → is_among j (kept.sent_at then d) ≡ holds_slot d (service_of left (message_name j)).sender
+  slots_of_then d j =
+      among_then d j ∙ ap (λ b. cond (c == d) false b) (same.slots_of d j ∙ ap (λ (v : Service). holds_slot d v.sender) (service_cell cs (message_name j))) ∙ go (cell_of cs (message_name j))
+      ∙ sym (ap (λ (v : Service). holds_slot d v.sender) (service_then (message_name j)))
+    where
+      go : (x : Option Cell) → cond (c == d) false (holds_slot d (service_in x).sender) ≡ holds_slot d (service_in (left_of c x)).sender
+      go None = never (c == d)
+        where
+          never : (b : Bool) → cond b false false ≡ false
+          never true = refl
+          never false = refl
+      go (Some x) = sym (slot_left c (drops c x) x.service.sender d (λ e. second (is_queue x.owner) (is_from c x.service.sender) e)) ∙ by (drops c x)
+        where
+          second : (a b : Bool) → (a && b) ≡ true → b ≡ true
+          second true b e = e
+          second false b e = cc
+
+          by : (b : Bool) → holds_slot d (remains c b x.service.sender) ≡ holds_slot d (service_in (cond b None (Some (record x { service = left_by c x.service })))).sender
+          by true = refl
+          by false = refl
+
+  slotted_then : (j d : ℕ) → kept.place_at then j ≡ Queued d → is_among j (kept.sent_at then d) ≡ true
+  slotted_then j d e = go (kept.place_at s j) refl (sym (place_then j) ∙ e)
+    where
+      by : (x : Bool) → (d == c) ≡ x → kept.place_at s j ≡ Queued d → cond x (closed_place (Queued d)) (Queued d) ≡ Queued d → is_among j (kept.sent_at then d) ≡ true
+      by true f at e = cc
+      by false f at e = among_then d j ∙ ap (λ b. cond b false (is_among j (kept.sent_at s d))) (swapped d c false f) ∙ same.slotted j d at
+
+      held : (i : ℕ) (x : Bool) → cond x (closed_place (Held i)) (Held i) ≡ Queued d → is_among j (kept.sent_at then d) ≡ true
+      held i true e = cc
+      held i false e = cc
+
+      queued : (i : ℕ) (x : Bool) → (i == c) ≡ x → kept.place_at s j ≡ Queued i → cond x (closed_place (Queued i)) (Queued i) ≡ Queued d → is_among j (kept.sent_at then d) ≡ true
+      queued i true f at e = cc
+      queued i false f at e =
+          let client : i ≡ d = cc in
+          by false (ap (λ k. k == c) (sym client) ∙ f) (at ∙ e) refl
+
+      go : (x : Place) → kept.place_at s j ≡ x → kept.left_place c x ≡ Queued d → is_among j (kept.sent_at then d) ≡ true
+      go Free at e = cc
+      go (Queued i) at e = queued i (i == c) refl at e
+      go (Held i) at e = held i (i == c) e
+      go (Discarded i) at e = cc
+
+  pub same_withdrawn : SameClients then left clients
+  same_withdrawn = record {
+    at = same.at;
+    queues = λ n. ap (λ es. map (asked_by then.places) es) (at_map (λ es. filter (λ e. kept.stays c s.places e) es) [] s.queues n refl) ∙ entries_left c s.places (kept.queue_at s n) (waiting n)
+        ∙ ap (λ q. filter (stays c) q) (same.queues n ∙ ap (λ (v : Service). v.queue) (service_cell cs n)) ∙ queue_left n (cell_of cs n) refl ∙ sym (ap (λ (v : Service). v.queue) (service_then n));
+    sessions = λ n. same.sessions n ∙ ap (λ (v : Service). v.sessions) (service_cell cs n) ∙ sessions_left n (cell_of cs n) refl ∙ sym (ap (λ (v : Service). v.sessions) (service_then n));
+    senders = senders_then;
+    taken = taken_then;
+    waits = waits_then;
+    slots_of = slots_of_then;
+    slotted = slotted_then;
+    once = λ d. subst Once (sym (sent_of d)) (once_then (c == d) d);
+    slots = λ d. ap length (sent_of d) ∙ slots_so (c == d) d ∙ sym (slots_withdrawn c cs d);
+    many = same.many;
+    lists = length-set s.sent c [] ∙ same.lists;
+  }
+    where
+      once_then : (b : Bool) (d : ℕ) → Once (cond b [] (kept.sent_at s d))
+      once_then true d = tt
+      once_then false d = same.once d
+
+      slots_so : (b : Bool) (d : ℕ) → length (cond b [] (kept.sent_at s d)) ≡ cond b 0 (slots_taken d cs)
+      slots_so true d = refl
+      slots_so false d = same.slots d
+
+  -- its close is asked for where its session was open
+  module _ (p : Image) (st : State) (to : Client) (tidy_left : Tidy left)
+      (server : (n session slots : ℕ) → kept.client_at s c ≡ Open n session slots → (o : Object) × (o.name ≡ n) × (named left o.name ≡ Some o) × (o.name < length then.queues)) where
+    abbrev moved : kept.State
+    moved = kept.with_client c to then
+
+    now : SameClients moved left (with_client c (sessionless to) clients)
+    now = same_client then left clients same_withdrawn c client to
+
+    told_so : (x : Client) → kept.client_at s c ≡ x → SameClients (kept.told x c moved) (told p c st (sessionless x) left) (with_client c (sessionless to) clients)
+    told_so (Open n session slots) at =
+        let o = server n session slots at in
+        subst (λ k. SameClients (kept.queued k (Close c) moved) (reserved (asked_last (Close_of c)) k left) (with_client c (sessionless to) clients)) o.1
+        (same_closing moved left (with_client c (sessionless to) clients) now tidy_left o.0 o.2 c client o.3)
+    told_so Unconnected at = now
+    told_so (Connecting n slots) at = now
+    told_so (Closing n session) at = now
+    told_so Gone at = now
+    told_so Dead at = now
+    told_so (Dying n session) at = now
+
+    pub same_left : SameClients (kept.leaving (Some to) c s) (told p c st (client_at clients c) left) (with_client c (sessionless to) clients)
+    same_left = subst (λ x. SameClients (kept.leaving (Some to) c s) (told p c st x left) (with_client c (sessionless to) clients)) (same.at c) (told_so (kept.client_at s c) refl)
