@@ -99,7 +99,7 @@ fn a_session_on_a_leave(rt: HostRuntime) -> Result<(), Fail> {
 fn a_session_on_a_server_that_keeps_a_message(rt: HostRuntime) -> Result<(), Fail> {
     let (alloc, script) = (rt.alloc(), KEEPS_SCRIPT);
     tells(&rt, alloc, KEEPS, script, KEEPS_ASKED, 4096, KEEPS_TOLD)?;
-    tells(&rt, alloc, KEEPS, script, KEEPS_ASKED, 1, KEEPS_TOLD)
+    tells(&rt, alloc, KEEPS, script, KEEPS_ASKED, 3, KEEPS_TOLD)
 }
 
 #[test]
