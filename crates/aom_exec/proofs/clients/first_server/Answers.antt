@@ -1,7 +1,18 @@
 -- The server of a class that was enlisted first.
-use Rattle.std.proofs.Common.{sym, ◌∙◌}
+use Rattle.std.proofs.Common.{arith, rules, sym, ◌<◌, ◌∙◌}
+use Rattle.aom_acts.proofs.Finding.{class_fits}
 use Rattle.aom_exec.proofs.FirstServer.{declared_first, first_known, first_served, of_kind}
 use Rattle.aom_exec.proofs.clients.first_server.Goals as goal
+
+pub first-requires : goal.first-requires
+first-requires c =
+    let small : c.args.class < 256 = search rules in
+    let same = c.from.ensures in
+    let many = c.requires.1.agrees.services.listed.classes in
+    omega (arith, small, same, many)
+
+pub class-class-requires-clause-small : goal.class-class-requires-clause-small
+class-class-requires-clause-small c = class_fits c.args.linked.now c.args.parts.now c.requires.0 c.requires.1.agrees c.from-2.result
 
 pub class-class-requires-clause-lives : goal.class-class-requires-clause-lives
 class-class-requires-clause-lives c =
@@ -29,3 +40,8 @@ returns-clause-value c =
     let known = first_known c.args.linked.now c.args.parts.now c.requires c.args.class c.in_ok-cell.field-0 (sym first) in
     let is = of_kind c.args.linked.now c.args.parts.now c.args.class c.in_ok-cell.field-0 known c.class-class.result c.class.result.now class c.class.ensures in
     first_served c.args.linked.now c.args.parts.now c.args.class c.in_ok-cell.field-0 known (sym first) c.in-Server.sessions _ _ (sym is ∙ c.in-Server.is)
+
+pub returns-clause-below : goal.returns-clause-below
+returns-clause-below c =
+    let first = rw c.from.ensures at c.in_ok-cell.ensures in
+    (first_known c.args.linked.now c.args.parts.now c.requires c.args.class c.in_ok-cell.field-0 (sym first)).below
