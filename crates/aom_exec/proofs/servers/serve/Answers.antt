@@ -1,6 +1,7 @@
 -- Something waits at the server that is served, and what serves it is there still once it is taken.
-use Rattle.std.proofs.Common.{subst, sym, ◌∙◌}
+use Rattle.std.proofs.Common.{ap, subst, sym, ◌∙◌}
 use Rattle.std.proofs.lemmas.Option.{none-some, same_Some}
+use Rattle.aom_frames.specs.declared.dispatch.Subject.{Subject}
 use Rattle.aom_exec.specs.Servers.{CanTake, taken_from}
 use Rattle.aom_exec.proofs.Queued.{take_again}
 use Rattle.aom_exec.proofs.servers.serve.Goals as goal
@@ -16,7 +17,7 @@ begin-requires-clause-can c =
     let can = c.requires.can in
     let active = c.note_queue.new.parts.active in
     let is = rw c.number.ensures.value at c.class-class.ensures in
-    let same = same_Some can.class c.class-class.result (sym can.lives.is ∙ is) in
+    let same = same_Some can.class c.class-class.result (sym can.lives.is ∙ is) ∙ ap (λ (x : Subject). x.class) (sym c.new.ensures) in
     let waits = sym (rw c.number-server.ensures.value at c.next.ensures.taken) ∙ c.in-Some.is in
-    rw (c.new.ensures, c.count_anew.ensures, c.note_queue.ensures.rest, c.next.ensures.after, c.number-server.ensures.value)
+    rw (c.count_anew.ensures, c.note_queue.ensures.rest, c.next.ensures.after, c.number-server.ensures.value)
     (subst (λ k. CanTake c.args.linked.now k c.in-Some.taken.client c.in-Some.taken.entry (taken_from c.args.id active m)) same (take_again c.args.linked.now m c.args.id active can c.in-Some.taken waits))
