@@ -1,5 +1,5 @@
 -- The server of a class that was enlisted first: it lives, is of that class, and clients find its queue.
-use Rattle.std.proofs.Common.{Bool, List, None, Option, Some, [], ap, arith, length, refl, sym, true, ℕ, ◌&&◌, ◌<◌, ◌==◌, ◌∙◌, ◌∷◌, ◌≡◌}
+use Rattle.std.proofs.Common.{List, None, Option, Some, [], ap, arith, length, refl, sym, true, ℕ, ◌<◌, ◌∙◌, ◌∷◌, ◌≡◌}
 use Rattle.std.specs.Prelude.{IsSome, is_some, option_map, ◌||◌}
 use Rattle.std.proofs.lemmas.Bool.{and_parts, eq-eqb, eqb-true, false≢true}
 use Rattle.std.proofs.lemmas.Option.{none-some, same_Some}
@@ -21,10 +21,9 @@ use Rattle.aom_shape.specs.Kinds.{is_object}
 use Rattle.aom_sound.specs.Clients.{is_of_class, most_of}
 use Rattle.aom_sound.specs.Places.{Object, Request, named, requested}
 use Rattle.aom_sound.specs.Servers.{is_among, is_server}
-use Rattle.aom_sound.specs.State.{State}
 use Rattle.aom_parts.specs.Agrees.{thing_in}
 use Rattle.aom_parts.specs.Listing.{lists}
-use Rattle.aom_parts.specs.Stands.{Stands, StandsFor}
+use Rattle.aom_parts.specs.Stands.{Stands}
 use Rattle.aom_parts.specs.declared.parts.Parts.{Parts}
 use Rattle.aom_exec.specs.Clients.{first_server}
 use Rattle.aom_parts.proofs.CellFields.{cell_of}

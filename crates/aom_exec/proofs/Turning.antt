@@ -1,22 +1,16 @@
 -- The parts of a turn: what the machine does between dispatches is what the checked machine does.
 use Rattle.std.proofs.Common.{ap, append-nil, arith, Bool, cond, false, length, List, None, Option, pos, refl, Some, subst, suc, sym, true, ℕ, ◌<◌, ◌≤◌, ◌∙◌, ◌∷◌, ◌++◌, ◌≡◌, []}
-use Rattle.std.specs.Prelude.{IfSome, IsSome, IsTrue, is_some, not, option_map, ◌||◌, ◌≢◌}
-use Rattle.std.specs.Ordering.{int_eq}
-use Rattle.std.proofs.lemmas.Bool.{and_parts, eq-eqb, true≢false}
+use Rattle.std.specs.Prelude.{IfSome, IsSome, is_some, not, option_map, ◌||◌, ◌≢◌}
+use Rattle.std.proofs.lemmas.Bool.{eq-eqb, true≢false}
 use Rattle.std.proofs.lemmas.List.{nil_from_length}
 use Rattle.std.proofs.lemmas.Option.{none-some, same_Some}
 use Rattle.aom_image.specs.Image.{Image}
-use Rattle.aom_image.specs.Views.{has}
-use Rattle.aom_image.specs.declared.class.ClassKind.{ClassKind}
-use Rattle.aom_image.specs.declared.class.ClassKind.TheVariants.{Active as An_active, Server as A_server}
 use Rattle.aom_image.specs.declared.method.Role.TheVariants.{Run as Handles}
 use Rattle.aom_image.specs.declared.method.Thing.{Thing}
 use Rattle.aom_image.specs.declared.method.Thing.TheVariants.{Message, Object as An_object_of}
-use Rattle.aom_roles.specs.States.{server_states}
-use Rattle.aom_rules.specs.Requests.{is_active_kind}
 use Rattle.aom_rules.specs.Typing.{Typing}
 use Rattle.aom_shape.specs.Tables.{at}
-use Rattle.aom_cells.specs.Heap.{Heap, Lives, cell_at, class_at, class_of, null}
+use Rattle.aom_cells.specs.Heap.{Heap, cell_at, class_at, class_of, null}
 use Rattle.aom_cells.specs.declared.cell.Cell.{Cell as Held_cell}
 use Rattle.aom_cleanup.specs.declared.item.Item.{Item as Held_item}
 use Rattle.aom_cleanup.specs.declared.item.Item.TheVariants.{Mark as Is_mark}
@@ -44,18 +38,16 @@ use Rattle.aom_sound.proofs.Turned.{picked}
 use Rattle.aom_sound.proofs.Turning.{completed, picked_well}
 use Rattle.aom_sound.specs.Claims.{items_of}
 use Rattle.aom_sound.specs.Lines.{serve_line}
-use Rattle.aom_sound.specs.Enlisted.{is_active, on_request, part_of, pending, status_of, taken_up, thing_kind, timed_out}
+use Rattle.aom_sound.specs.Enlisted.{on_request, part_of, status_of, taken_up, timed_out}
 use Rattle.aom_shape.specs.Kinds.{is_object}
 use Rattle.aom_sound.specs.Servers.{has_more, is_server}
-use Rattle.aom_sound.specs.Places.{Active as Waits_for, Cell, Elsewhere, Entry, Object, Phase, Going, Place, Register, Request, Root, Timer, held, named, requested, service_of}
-use Rattle.aom_sound.specs.Requests.{Known, Suits, phase_state, states_claim}
+use Rattle.aom_sound.specs.Places.{Cell, Elsewhere, Entry, Object, Going, Place, Register, Request, Root, Timer, held, named, requested, service_of}
 use Rattle.aom_sound.specs.State.{Dispatch, Dispatched, Goes, Inside, Of_object, Rest, Seat, State, Trapped}
-use Rattle.aom_sound.specs.WellTyped.{Keeps, WellTyped}
+use Rattle.aom_sound.specs.WellTyped.{Keeps}
 use Rattle.aom_sound.specs.World.{Candidate, Cuts, Hears, IsBetween, Passes, Picks, Timed, Turning, Waits, dispatched, serves_first, due_of, ends_as, first_due, heard_one, first_ready, is_ready, picked as any_picked, run_line, turned, with_request, written_by}
 use Rattle.aom_steps.proofs.Pushed.{asked_same}
 use Rattle.aom_steps.proofs.Turns.{picking}
-use Rattle.aom_sound.specs.Kept.{ClientsFit, TasksKept}
-use Rattle.aom_steps.specs.Left.{closings_left, is_entry, objects_left}
+use Rattle.aom_steps.specs.Left.{is_entry}
 use Rattle.aom_steps.specs.Payers as payers
 use Rattle.aom_steps.specs.Payers.{declared_of, payer, price_of}
 use Rattle.aom_parts.specs.declared.parts.Parts.{Parts}
@@ -63,11 +55,9 @@ use Rattle.aom_parts.specs.declared.progress.Progress.TheVariants.{Turned}
 use Rattle.aom_parts.specs.Agrees.{Agrees, SameCells, SameRequests, SameTasks, Shows, seat_of, thing_in, thing_of, word_at}
 use Rattle.aom_parts.specs.Places.{Others, going_in, others, register_in, value, value_in}
 use Rattle.aom_parts.specs.Progress.{progress_by}
-use Rattle.aom_parts.specs.Room.{AllRunUnder}
 use Rattle.aom_parts.specs.Stands.{KeepsWithin, Machine, Stands, StandsFor}
 use Rattle.aom_exec.specs.Steps.{progress}
 use Rattle.aom_exec.specs.Turns.{CanDispatch, Completed, Dispatches, Picked, TakesAll, running}
-use Rattle.aom_parts.specs.Waits.{OthersWait}
 use Rattle.aom_parts.proofs.Entries.{mark_shows_none, same_items_length}
 use Rattle.aom_acts.proofs.Finding.{class_fits}
 use Rattle.aom_acts.proofs.GoingActs.{fresh_value, fresh_word}
