@@ -9,14 +9,14 @@ use Rattle.aom_debugging.proofs.debugging.debug_script.Goals as goal
 pub returns-in-Err : goal.returns-in-Err
 returns-in-Err g c =
     let facts = c.facts.ensures in
-    let acceptable : IsAcceptable c.args.accepted.now = record { admitted = facts.admitted; linked = facts.linked; typing = facts.typed.0; typed = facts.typed.1; budgets = facts.budgets; depths = facts.within; heights = facts.high } in
+    let acceptable : IsAcceptable c.args.accepted.now = record { linked = facts.linked; typing = facts.typed.0; typed = facts.typed.1; budgets = facts.budgets; depths = facts.within; heights = facts.high } in
     λ bytes text spelled denotes errors status told.
     unbegun bytes text c.args.limit (length c.args.boxes.items) c.args.reads c.args.accepted.now c.args.script acceptable spelled denotes _ _ errors c.in-Err.fault status c.in-Err.ensures.err refl refl told
 
 pub returns-in-Ok-converse : goal.returns-in-Ok-converse
 returns-in-Ok-converse g c =
     let facts = c.facts.ensures in
-    let acceptable : IsAcceptable c.args.accepted.now = record { admitted = facts.admitted; linked = facts.linked; typing = facts.typed.0; typed = facts.typed.1; budgets = facts.budgets; depths = facts.within; heights = facts.high } in
+    let acceptable : IsAcceptable c.args.accepted.now = record { linked = facts.linked; typing = facts.typed.0; typed = facts.typed.1; budgets = facts.budgets; depths = facts.within; heights = facts.high } in
     let given : Given = record { before = g.R.Reader.given c.args.reader.now; now = g.R.Reader.given c.converse.new.reader; ended = g.R.Reader.ended c.converse.new.reader; failed = g.R.Reader.failed c.converse.new.reader } in
     let out : Sent = record { before = g.W.Sink.out c.args.out.now; now = g.W.Sink.out c.converse.new.out; failed = g.W.Sink.failed c.converse.new.out } in
     λ bytes text spelled denotes errors silent.
@@ -25,7 +25,7 @@ returns-in-Ok-converse g c =
 pub returns : goal.returns
 returns g c =
     let facts = c.facts.ensures in
-    let acceptable : IsAcceptable c.args.accepted.now = record { admitted = facts.admitted; linked = facts.linked; typing = facts.typed.0; typed = facts.typed.1; budgets = facts.budgets; depths = facts.within; heights = facts.high } in
+    let acceptable : IsAcceptable c.args.accepted.now = record { linked = facts.linked; typing = facts.typed.0; typed = facts.typed.1; budgets = facts.budgets; depths = facts.within; heights = facts.high } in
     let given : Given = record { before = g.R.Reader.given c.args.reader.now; now = g.R.Reader.given c.converse.new.reader; ended = g.R.Reader.ended c.converse.new.reader; failed = g.R.Reader.failed c.converse.new.reader } in
     let out : Sent = record { before = g.W.Sink.out c.args.out.now; now = g.W.Sink.out c.converse.new.out; failed = g.W.Sink.failed c.converse.new.out } in
     λ bytes text spelled denotes errors status told.

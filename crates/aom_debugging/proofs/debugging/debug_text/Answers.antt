@@ -11,7 +11,7 @@ returns-in-Ok g c = λ bytes spelled. c.debug_script.ensures bytes c.args.text.n
 pub returns-in-Err : goal.returns-in-Err
 returns-in-Err g c =
     let facts = c.facts.ensures in
-    let acceptable : IsAcceptable c.args.accepted.now = record { admitted = facts.admitted; linked = facts.linked; typing = facts.typed.0; typed = facts.typed.1; budgets = facts.budgets; depths = facts.within; heights = facts.high } in
+    let acceptable : IsAcceptable c.args.accepted.now = record { linked = facts.linked; typing = facts.typed.0; typed = facts.typed.1; budgets = facts.budgets; depths = facts.within; heights = facts.high } in
     λ bytes spelled errors status told.
     let accepts : Accepts bytes = record { image = c.args.accepted.now; spelled = spelled; acceptable = acceptable } in
     unscripted bytes c.args.text.now c.args.limit (length c.args.boxes.items) c.args.reads _ _ errors status refl refl c.in-Err.fault c.from.result accepts c.in-Err.ensures.err c.from.ensures told
