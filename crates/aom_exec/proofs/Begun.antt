@@ -318,9 +318,11 @@ module _ (p : Image) (m : Machine_parts) (s : State) (st : StandsFor (record { i
       let c = sender (kept.place_at m.clients j) in
       let same : b.0 ≡ y.0.name = same_Some b.0 y.0.name (sym b.3 ∙ ap session_of (client_same m n (Message j) es at c) ∙ y.2.1.named) in
       let is' : class_at m.cells y.0.name ≡ Some b.1 = subst (λ i. class_at m.cells i ≡ Some b.1) same b.4 in
-      let u = attended j es at y.0 b.1 is' y.1 b.2 b.5 b.6 in
-      (u, attended_goes j es at y.0 b.1 is' y.1 b.2 b.5 b.6,
-      subst (λ z. StandsFor (record { image = p; parts = z }) u) (sym (b.7 ∙ ap (λ i. attending b.2 (record { number = i; class = b.1 }) subject c j taken) same)) (attend_stands j es at y.0 b.1 is' y.1 b.2 b.5 b.6))
+      let u = attended j es at y.0 b.1 is' y.1 b.2 b.5 b.6 in (
+        u,
+        attended_goes j es at y.0 b.1 is' y.1 b.2 b.5 b.6,
+        subst (λ z. StandsFor (record { image = p; parts = z }) u) (sym (b.7 ∙ ap (λ i. attending b.2 (record { number = i; class = b.1 }) subject c j taken) same)) (attend_stands j es at y.0 b.1 is' y.1 b.2 b.5 b.6),
+      )
   went (Close c) es at new b =
       let y = part_there p m s st idle x lives serves keeps c es at in
       let same : b.0 ≡ y.0.name = same_Some b.0 y.0.name (sym b.1 ∙ ap session_of (client_same m n (Close c) es at c) ∙ y.2.1.named) in
@@ -360,12 +362,12 @@ server_served p m s st between x lives serves keeps asked told now new f = go (k
     go (e ∷ es) at =
         let first : kept.taken_entry m.clients e ≡ f.first = same_Some (kept.taken_entry m.clients e) f.first (sym (ap (kept.first_entry m.clients) at) ∙ f.waits) in
         let begins : Begins p (record { number = n; class = class }) (kept.taken_entry m.clients e).client (kept.taken_entry m.clients e).entry (taken_from n f.active m) new =
-                subst (λ k. Begins p (record { number = n; class = k }) (kept.taken_entry m.clients e).client (kept.taken_entry m.clients e).entry (taken_from n f.active m) new) same_class
-                (subst (λ y. Begins p (record { number = n; class = f.class }) y.client y.entry (taken_from n f.active m) new) (sym first) f.begins) in
+        subst (λ k. Begins p (record { number = n; class = k }) (kept.taken_entry m.clients e).client (kept.taken_entry m.clients e).entry (taken_from n f.active m) new) same_class
+        (subst (λ y. Begins p (record { number = n; class = f.class }) y.client y.entry (taken_from n f.active m) new) (sym first) f.begins) in
         let w = went p m s st between.idle x lives serves keeps asked f.active f.noted e es at new begins in
         let line : Serve m.rest.clock f.class (serve_asked f.first.entry) f.first.client ∷ [] ≡ pick_line p s x.object =
-                ap (λ k. Serve m.rest.clock k (serve_asked f.first.entry) f.first.client ∷ []) same_class
-                ∙ ap (λ y. Serve m.rest.clock class (serve_asked y.entry) y.client ∷ []) (sym first) ∙ line_so p m s st between.idle x lives serves keeps asked f.active f.noted e es at in
+        ap (λ k. Serve m.rest.clock k (serve_asked f.first.entry) f.first.client ∷ []) same_class
+        ∙ ap (λ y. Serve m.rest.clock class (serve_asked y.entry) y.client ∷ []) (sym first) ∙ line_so p m s st between.idle x lives serves keeps asked f.active f.noted e es at in
         record {
           between = between;
           state = w.0;

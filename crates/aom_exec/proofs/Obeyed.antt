@@ -36,7 +36,7 @@ use Rattle.aom_transcript.specs.declared.event.Command.{Command}
 use Rattle.aom_transcript.specs.declared.event.Command.TheVariants.{Close, Connect, Die, Send}
 use Rattle.aom_parts.proofs.Beside.{Beside, cells_beside, listed_beside, natives_beside, requests_beside}
 use Rattle.aom_parts.proofs.Elsewhere.{SessionsSame, shows_again}
-use Rattle.aom_parts.proofs.Leaving.{beside_withdrawn}
+use Rattle.aom_parts.proofs.Leaving.{beside_withdrawn, holds_withdrawn}
 use Rattle.aom_parts.proofs.Premises.{queue_empty}
 use Rattle.aom_parts.specs.Agrees.{Agrees, SameRequests, Shows, thing_in, thing_of, word_at}
 use Rattle.aom_parts.specs.Messages.{SameMessages}
@@ -45,7 +45,7 @@ use Rattle.aom_parts.specs.Services.{SameServices}
 use Rattle.aom_parts.specs.Serving.{AreSized, SameClients, message_name, sessionless}
 use Rattle.aom_parts.specs.Stands.{StandsFor}
 use Rattle.aom_parts.specs.declared.parts.Parts.{Parts}
-use Rattle.aom_exec.proofs.Commanded.{Untouched, commanded_beside, commanded_form, commanded_queue}
+use Rattle.aom_exec.proofs.Commanded.{Untouched, commanded_beside, commanded_form, commanded_holds, commanded_queue}
 use Rattle.aom_exec.proofs.Idle.{stands_idle}
 use Rattle.aom_exec.proofs.Noting.{noted_requests, waits_alike}
 use Rattle.aom_exec.proofs.Obeying.{sent_name}
@@ -179,7 +179,7 @@ module _ (p : Image) (m : Parts) (s : State) (st : StandsFor (record { image = p
         apart (Going i) out = refl
 
         values : (r : Place) → Shows (value new r) (word_at s.tasks r) (held then.cells r)
-        values r = shows_again p st.typing there (others m) k m.stack.tasks m.cells m.entries.items s.cells s.tasks typed fit clients sessions (λ q out. beside.holds q (apart q out)) st.agrees.values r
+        values r = shows_again p st.typing there (others m) k m.stack.tasks m.cells m.entries.items s.cells s.tasks typed fit clients sessions (λ q out. commanded_holds p c v (λ i e. holds_withdrawn p st.typing st.sound.wired v typed_now st.kept.fit m.clients st.agrees.services.clients c i e) q (apart q out) command name) st.agrees.values r
 
         requests : SameRequests p a then.cells
         requests = by server touched_queues hears

@@ -32,7 +32,7 @@ use Rattle.aom_transcript.specs.declared.line.Line.TheVariants.{Run as Run_line}
 use Rattle.aom_active.proofs.Asking.{are_wanted, asked_set, queued_same}
 use Rattle.aom_active.proofs.Choosing as choosing
 use Rattle.aom_active.proofs.Dues.{due_first, none_due}
-use Rattle.aom_active.proofs.Telling.{standing_follows, told_enlisted, told_server, told_status}
+use Rattle.aom_active.proofs.Telling.{standing_follows, told_server, told_state, told_status}
 use Rattle.aom_active.specs.Agrees.{Active, StandsFor as Asks_for, queue_in, queued, timer_in}
 use Rattle.aom_active.specs.Meanings.{IsFirstDue, IsFirstReady, Makes, asked_anew}
 use Rattle.aom_active.specs.Meanings as meanings
@@ -423,7 +423,8 @@ module _ (p : Image) (m : Parts) (s : State) (st : StandsFor (record { image = p
       is = is;
       small = subst (λ o. IfSome o (λ c. c < 256)) is (class_fits p m s st.agrees id);
       handled = subst (λ t. IsSome (part_of p Handles t)) its_class.1 its_method;
-      enlisted = told_enlisted a _ _ (makes.stands (requested s.cells) (queued p s.cells) k.candidate.request st.agrees.requests.stands k.asked) id ∙ ap is_some (here id (Some (taken_up k.candidate.request)) (requested s.cells));
+      enlisted =
+          ap is_some (told_state a _ _ (makes.stands (requested s.cells) (queued p s.cells) k.candidate.request st.agrees.requests.stands k.asked) id (taken_up k.candidate.request) (here id (Some (taken_up k.candidate.request)) (requested s.cells)) k.unqueued);
       idle = none_running;
       bare = none_marked;
       room = (let deep = st.agrees.room in omega (arith, deep));
