@@ -1,15 +1,12 @@
 -- What a command of a client leaves as it was: the sessions of clients, the cells but for messages, and the queues of all servers but one.
-use Rattle.std.proofs.Common.{ap, arith, Bool, cond, false, length, List, None, Option, refl, Some, subst, suc, sym, true, ℕ, ℤ, ◌<◌, ◌≤◌, ◌==◌, ◌∙◌, ◌∷◌, ◌≡◌, []}
-use Rattle.std.specs.Prelude.{filter, is_some, map, not, ◌&&◌, ◌||◌}
-use Rattle.std.specs.List.{list_any}
-use Rattle.std.proofs.lemmas.Bool.{eq-eqb, eqb-true, false≢true, ne_eqb}
+use Rattle.std.proofs.Common.{ap, Bool, cond, false, length, List, None, Option, refl, Some, subst, sym, true, ℕ, ◌<◌, ◌≤◌, ◌==◌, ◌∙◌, ◌∷◌, ◌≡◌, []}
+use Rattle.std.specs.Prelude.{filter, not, ◌&&◌}
+use Rattle.std.proofs.lemmas.Bool.{eqb-true, ne_eqb}
 use Rattle.aom_clients.specs.Clients as kept
 use Rattle.aom_clients.specs.Nodes.{is_connecting_at, is_open_at, named_by}
 use Rattle.aom_clients.specs.Table.{row}
 use Rattle.aom_clients.specs.declared.client.Client.{Client}
 use Rattle.aom_clients.specs.declared.client.Client.TheVariants.{Closing, Connecting, Dead, Dying, Gone, Open, Unconnected}
-use Rattle.aom_clients.specs.declared.entry.Entry.TheVariants as entry
-use Rattle.aom_clients.specs.declared.place.Place.TheVariants.{Queued as A_queued}
 use Rattle.aom_clients.specs.declared.refusal.Refusal.{Refusal}
 use Rattle.aom_clients.specs.declared.server.Server.{Server}
 use Rattle.aom_image.specs.Image.{Image}
@@ -17,7 +14,7 @@ use Rattle.aom_image.specs.declared.method.Thing.TheVariants.{Message}
 use Rattle.aom_sound.proofs.Services.{held_served, named_served, service_there, service_unnamed}
 use Rattle.aom_sound.proofs.Sifted.{cell_of, cell_of_sifted, kept as kept_cell, service_cell, service_in, sifted, withdrawn_so}
 use Rattle.aom_sound.specs.Kept.{ClientsFit, QueueFits}
-use Rattle.aom_sound.specs.Clients.{Listed, asked_server, client_at, commanded, connecting, leaving, refusal, sending, told, with_client, with_message}
+use Rattle.aom_sound.specs.Clients.{Listed, asked_server, client_at, commanded, connecting, leaving, refusal, sending, told, with_message}
 use Rattle.aom_sound.specs.Places.{Asked, Cell, Close_of, Connect_of, Elsewhere, Entry, Field, Going, In_service, Message_of, Place, Queued, Register, Root, Service, Session, Tidy, held, named, same_place, service_of}
 use Rattle.aom_sound.specs.Servers.{asked_last, is_from, is_queue, left_by, reserved, stays, withdrawn}
 use Rattle.aom_sound.specs.State.{State}
