@@ -25,7 +25,7 @@ use Rattle.aom_sound.proofs.Maps.{held_lives, held_without, named_without, reque
 use Rattle.aom_sound.proofs.Sifted.{cell_of, cell_of_sifted, kept as left_of, named_cell, object_in, request_in, requested_cell, service_cell, service_in, tidy_sifted, unqueued_so}
 use Rattle.aom_sound.proofs.Storing.{Alike}
 use Rattle.aom_sound.proofs.Unslotting.{each_unslotted_alike, each_unslotted_requests}
-use Rattle.aom_sound.specs.Clients.{client_at, each_unslotted}
+use Rattle.aom_sound.specs.Clients.{each_unslotted}
 use Rattle.aom_sound.specs.Destruction.{is_field_of, owns_nothing, vanished}
 use Rattle.aom_sound.specs.Kept.{IsKept, QueueFits}
 use Rattle.aom_sound.specs.Lines.{queue_lines}

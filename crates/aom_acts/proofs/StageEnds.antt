@@ -286,7 +286,7 @@ module _ (p : Image) (formed : WellFormed p) (m : Parts) (announced : m.rest.ann
   -- what is below goes on with it
   over : (k : kept.State) (store : Store) (served : ℕ) (stage : Held_stage) (u : State) → AtStage p m s x c stage
       → Agrees p (record m { stack = record m.stack { tasks = Ends (Of_one x) ∷ [] }; clients = k; messages = store; served = served }) u → Agrees p (then (record m { clients = k; messages = store; served = served })) u
-  over k store served stage u e h = subst (λ us. Agrees p (record m { stack = record m.stack { tasks = Ends (Of_one x) ∷ us }; clients = k; messages = store; served = served }) u) (sym (ap below_first e.held_top)) h
+  over k store served _ u e h = subst (λ us. Agrees p (record m { stack = record m.stack { tasks = Ends (Of_one x) ∷ us }; clients = k; messages = store; served = served }) u) (sym (ap below_first e.held_top)) h
 
   ends_stage : (stage : Held_stage) (mid : Parts) (before now : Turn) (e : AtStage p m s x c stage) → EndsStage c stage m mid before now
       → Agrees p (then mid) (stage_ends (seat_of e.place x) c (stage_of stage) (at_close s)) × Told s.cells stage before now
@@ -363,12 +363,12 @@ stage_can p m st announced x c stage ending =
 
 -- no task changes as a stage ends
 pub stage_stack : (c : ℕ) (stage : Held_stage) (old new : Parts) (told now : Turn) → EndsStage c stage old new told now → new.stack ≡ old.stack
-stage_stack c stages.Accepts old new told now does = ap (λ (k : Parts). k.stack) does.0
-stage_stack c stages.Accepted old new told now does = ap (λ (k : Parts). k.stack) does.0
-stage_stack c (stages.AcceptLeft code) old new told now does = ap (λ (k : Parts). k.stack) does.0
-stage_stack c (stages.Serves o) old new told now does = ap (λ (k : Parts). k.stack) does.0
-stage_stack c (stages.ServiceLeft code) old new told now does = ap (λ (k : Parts). k.stack) does.rest
-stage_stack c stages.Parts old new told now does = ap (λ (k : Parts). k.stack) does.0
+stage_stack c stages.Accepts old new _ _ does = ap (λ (k : Parts). k.stack) does.0
+stage_stack c stages.Accepted old new _ _ does = ap (λ (k : Parts). k.stack) does.0
+stage_stack c (stages.AcceptLeft code) old new _ _ does = ap (λ (k : Parts). k.stack) does.0
+stage_stack c (stages.Serves o) old new _ _ does = ap (λ (k : Parts). k.stack) does.0
+stage_stack c (stages.ServiceLeft code) old new _ _ does = ap (λ (k : Parts). k.stack) does.rest
+stage_stack c stages.Parts old new _ _ does = ap (λ (k : Parts). k.stack) does.0
 
 pub stage_room : (c : ℕ) (stage : Held_stage) (old new : Parts) (told now : Turn) → EndsStage c stage old new told now → (length old.stack.tasks + 1) < old.stack.depth → length new.stack.tasks ≤ new.stack.depth
 stage_room c stage old new told now does room = subst (λ k. length k.tasks ≤ k.depth) (sym (stage_stack c stage old new told now does)) (omega (arith, room))

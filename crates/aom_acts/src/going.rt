@@ -96,6 +96,20 @@ fn resume(parts: &mut Parts)
     }
 }
 
+/// The number of the cell whose destruction is at hand.
+fn going_number(parts: &Parts) -> u32
+    requires { IsDestroying parts.now.stack.tasks }
+    ensures { result ≡ going_here parts.now.stack.tasks }
+{
+    let Some(kind) = parts.stack.top() else {
+        unreachable!();
+    };
+    match kind {
+        TaskKind::Destroy(number) => number,
+        _ => unreachable!(),
+    }
+}
+
 /// The first session with the server whose going is at hand goes before it, and once none is left the server's destructor runs.
 pub fn let_go(parts: &mut Parts, linked: &Linked)
     requires closing { IsClosing parts.old.stack.tasks }
@@ -104,9 +118,7 @@ pub fn let_go(parts: &mut Parts, linked: &Linked)
     ensures { (told : TurnRecord) → Moves linked.now parts.old told told parts.new }
 {
     parts.drop_task();
-    let Some(TaskKind::Destroy(number)) = parts.stack.top() else {
-        unreachable!();
-    };
+    let number = going_number(parts);
     match serving::take_session(parts, number as u16) {
         Some(session) => {
             parts.stack.push(Task::Closing);

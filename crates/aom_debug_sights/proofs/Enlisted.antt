@@ -1,7 +1,7 @@
 -- The entries of the roster are the enlisted objects of each state that the machine stands for, in the order of choice.
 use Rattle.std.proofs.Common.{◌≡◌, ◌∙◌, ℕ, ℤ, Bool, true, false, cond, List, [], ◌∷◌, Option, Some, None, IsSome, length, slice_get, take, refl, sym, ap, subst, suc, arith}
 use Rattle.std.specs.List.{Contains}
-use Rattle.std.specs.Prelude.{AllPairs, is_some, map}
+use Rattle.std.specs.Prelude.{AllPairs, map}
 use Rattle.std.proofs.lemmas.Bool.{true≢false}
 use Rattle.std.proofs.lemmas.List.{length-map}
 use Rattle.std.proofs.lemmas.List.Elements.{All-map}

@@ -29,7 +29,7 @@ use Rattle.aom_debug_sights.specs.Telling.{gathered}
 use Rattle.aom_cells.specs.Heap.{field_of, null}
 use Rattle.aom_cleanup.specs.declared.item.Item.{Item as Held_item}
 use Rattle.aom_frames.specs.declared.task.Task.{Task as Held_task}
-use Rattle.aom_frames.specs.declared.task.Task.TheVariants.{Destroy as Destroys, Dispatched as Ends_dispatch, Run as Runs_frame, Trapped as Is_trap, Unwind as Unwinds}
+use Rattle.aom_frames.specs.declared.task.Task.TheVariants.{Closing as Closes, Destroy as Destroys, Dispatched as Ends_dispatch, Run as Runs_frame, Trapped as Is_trap, Unwind as Unwinds}
 use Rattle.aom_parts.specs.Agrees.{word_at}
 use Rattle.aom_parts.specs.Agrees.{Shows as Held_shows}
 use Rattle.aom_acts.proofs.Standing.{not_null}
@@ -39,7 +39,6 @@ use Rattle.std.proofs.lemmas.List.{get_or_past}
 use Rattle.aom_debug_sights.proofs.Showing.{as_many_items, entry_there, owned_over}
 use Rattle.aom_debug_sights.proofs.Tasks.{as_many_tasks, frame_there, going_over, going_there, register_over, register_there}
 use Rattle.aom_debug_sights.proofs.Sums.{bit, sum_add, sum_none, sum_of, sum_of_add, sum_of_none, sum_of_one, sum_of_same, sum_one, sum_same, sum_to}
-use Rattle.aom_clients.specs.Clients.{sessions_at}
 use Rattle.aom_queues.specs.Lists.{IsIn, IsOnce}
 use Rattle.std.specs.List.{flat_map}
 
@@ -288,7 +287,8 @@ module _ (m : Machine) (s : State) (st : StandsFor m s) (sessions_once : Session
       let this : bit ((o.name == n) && (f == f)) ≡ bit (o.name == n) = ap (λ b. bit ((o.name == n) && b)) (eq-eqb f f refl) ∙ last_same (o.name == n) in
       let name = by_name r o y n there in
       let more = beneath_more o.thing (bit (o.name == n)) (under_it o above ends) (no_owner r o y n here there high) in
-      let all : bit (o.name == n) + under_it o above ends ≡ under_it o (Field n f) (up_field y above there holds high few ends) = omega (arith, fields, one, this) in
+      let seats = sum_of_same (λ c. 0 + occurs (Elsewhere (Session o.name c)) above ends) (λ c. occurs (Elsewhere (Session o.name c)) above ends) (service_of cs o.name).sessions (λ c. omega arith) in
+      let all : bit (o.name == n) + under_it o above ends ≡ under_it o (Field n f) (up_field y above there holds high few ends) = omega (arith, fields, one, this, seats) in
       let under = ap (beneath_count o.thing) all in
       omega (arith, first, rest, name, more, under)
   split r (Elsewhere (Session n c)) (up_session y above there holds high within ends) x o on here =
@@ -498,6 +498,7 @@ module _ (m : Machine) (s : State) (st : StandsFor m s) (sessions_once : Session
     register_small d i None there is = absurd (some_number r x holds is)
     register_small d i (Some Is_trap) there is = absurd (some_number r x holds is)
     register_small d i (Some (Destroys y)) there is = absurd (some_number r x holds is)
+    register_small d i (Some Closes) there is = absurd (some_number r x holds is)
     register_small d i (Some (Unwinds code)) there is = absurd (some_number r x holds is)
     register_small d i (Some (Ends_dispatch e)) there is = absurd (some_number r x holds is)
     register_small d i (Some (Runs_frame f)) there is = go (nat_lt i 16) refl
@@ -549,9 +550,11 @@ module _ (m : Machine) (s : State) (st : StandsFor m s) (sessions_once : Session
   up : (fuel : ℕ) (r : Place) (x : Object) → held cs r ≡ Some x → 256 < rank x.thing + fuel → Leads r
   up zero r x holds high = let low = rank_low r x holds in absurd (omega (arith, low, high))
   up (suc fuel) (Register d i) x holds high =
-      let there = sym (register_there parts.stack.tasks d i) ∙ number_there (Register d i) x holds in
-      (up_register (task_there (Register d i) x holds d (over parts.stack.tasks d) (register_over (over parts.stack.tasks d) i) refl there (λ none. ap (λ o. register_over o i) none))
-      (register_small (Register d i) x holds d i (over parts.stack.tasks d) refl there), refl)
+      let there = sym (register_there parts.stack.tasks d i) ∙ number_there (Register d i) x holds in (
+        up_register (task_there (Register d i) x holds d (over parts.stack.tasks d) (register_over (over parts.stack.tasks d) i) refl there (λ none. ap (λ o. register_over o i) none))
+            (register_small (Register d i) x holds d i (over parts.stack.tasks d) refl there),
+        refl,
+      )
   up (suc fuel) (Entry k) x holds high = (up_entry (entry_small (Entry k) x holds k (over parts.entries.items k) refl (entry_there parts.entries.items k ∙ number_there (Entry k) x holds)), refl)
   up (suc fuel) (Going d) x holds high =
       let there = sym (going_there parts.stack.tasks d) ∙ number_there (Going d) x holds in

@@ -1,5 +1,5 @@
 -- There is just one list of the enlisted objects in the order of choice: of two such lists the first names are the same, and so are the rests.
-use Rattle.std.proofs.Common.{◌≡◌, ◌∙◌, ◌⊎◌, ◌<◌, ℕ, ℤ, zero, suc, Bool, true, List, [], ◌∷◌, Option, Some, None, IsSome, length, get_or, refl, sym, ap, subst, inl, inr, arith}
+use Rattle.std.proofs.Common.{◌≡◌, ◌∙◌, ◌⊎◌, ◌<◌, ℕ, ℤ, zero, suc, true, List, [], ◌∷◌, Option, Some, None, IsSome, length, get_or, refl, sym, ap, subst, inl, inr, arith}
 use Rattle.std.specs.List.{Contains}
 use Rattle.std.specs.Ordering.{int_eq}
 use Rattle.std.specs.Prelude.{◌&&◌, ◌||◌, AllPairs, int_lt, nat_lt}

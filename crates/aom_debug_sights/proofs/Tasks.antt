@@ -1,7 +1,7 @@
 -- What stands at a depth of the machine is what stands there in each state that it stands for.
 use Rattle.std.proofs.Common.{◌≡◌, ◌∙◌, ℕ, ℤ, zero, suc, Bool, true, false, cond, ◌==◌, List, [], ◌∷◌, ◌++◌, length, Option, Some, None, slice_get, slice_index_or, refl, sym, ap, subst, arith}
 use Rattle.std.specs.Prelude.{is_some, reverse}
-use Rattle.std.proofs.lemmas.Bool.{eq-eqb, eqb-false, eqb-true, false≢true, ne_eqb}
+use Rattle.std.proofs.lemmas.Bool.{eq-eqb, eqb-false, eqb-true, ne_eqb}
 use Rattle.std.proofs.lemmas.List.{length-reverse, reverse-append}
 use Rattle.std.proofs.lemmas.Option.{none-some, same_Some}
 use Rattle.aom_image.specs.Image.{Image}
@@ -9,10 +9,10 @@ use Rattle.aom_cells.specs.Heap.{null}
 use Rattle.aom_frames.specs.Tasks.{register_of}
 use Rattle.aom_frames.specs.declared.frame.Frame.{Frame as Held_frame}
 use Rattle.aom_frames.specs.declared.task.Task.{Task as Held_task}
-use Rattle.aom_frames.specs.declared.task.Task.TheVariants.{Run as Runs_frame, Trapped as Is_trap, Destroy as Destroys, Unwind as Unwinds, Dispatched as Ends}
+use Rattle.aom_frames.specs.declared.task.Task.TheVariants.{Run as Runs_frame, Trapped as Is_trap, Destroy as Destroys, Closing as Closes, Unwind as Unwinds, Dispatched as Ends}
 use Rattle.aom_sound.specs.Owned.{over}
 use Rattle.aom_sound.specs.Places.{Elsewhere, Entry, Going, In_service, Object, Register, Root, held}
-use Rattle.aom_sound.specs.State.{Destroy, Dispatched, Frame, Run, State, Task, Trapped, Unwind}
+use Rattle.aom_sound.specs.State.{Closing, Destroy, Dispatched, Frame, Run, State, Task, Trapped, Unwind}
 use Rattle.aom_parts.specs.declared.parts.Parts.{Parts}
 use Rattle.aom_cleanup.specs.Items.{entry_in}
 use Rattle.aom_parts.specs.Agrees.{SameFrame, SameTask, SameTasks, number, word_in, word_of}
@@ -21,7 +21,7 @@ use Rattle.aom_parts.specs.Places.{going_in, going_of, register_in, value}
 use Rattle.aom_parts.specs.Stands.{Machine, StandsFor}
 use Rattle.aom_parts.proofs.Alike.{by_tasks}
 use Rattle.aom_parts.proofs.Values.{same_length}
-use Rattle.aom_acts.proofs.Finding.{object_lives}
+use Rattle.aom_acts.proofs.Standing.{not_null}
 use Rattle.aom_debug_sights.specs.Owners.{Shows, ShowsNone, frame_over, goings_in, is_frame, is_going}
 
 -- ---- lists
@@ -81,6 +81,7 @@ frame_found : (o : Option Held_task) (f : Held_frame) → frame_over o ≡ Some 
 frame_found (Some (Runs_frame g)) f is = ap (λ x. Some (Runs_frame x)) (same_Some g f is)
 frame_found (Some Is_trap) f is = absurd (none-some f is)
 frame_found (Some (Destroys x)) f is = absurd (none-some f is)
+frame_found (Some Closes) f is = absurd (none-some f is)
 frame_found (Some (Unwinds code)) f is = absurd (none-some f is)
 frame_found (Some (Ends d)) f is = absurd (none-some f is)
 frame_found None f is = absurd (none-some f is)
@@ -91,6 +92,7 @@ frame_counted None None same = refl
 frame_counted (Some (Runs_frame f)) (Some (Run fr)) same = refl
 frame_counted (Some Is_trap) (Some Trapped) same = refl
 frame_counted (Some (Destroys x)) (Some Destroy) same = refl
+frame_counted (Some Closes) (Some Closing) same = refl
 frame_counted (Some (Unwinds code)) (Some (Unwind c)) same = refl
 frame_counted (Some (Ends d)) (Some (Dispatched e)) same = refl
 frame_counted _ _ same = absurd same
@@ -104,6 +106,7 @@ going_counted None None same = refl
 going_counted (Some (Runs_frame f)) (Some (Run fr)) same = refl
 going_counted (Some Is_trap) (Some Trapped) same = refl
 going_counted (Some (Destroys x)) (Some Destroy) same = refl
+going_counted (Some Closes) (Some Closing) same = refl
 going_counted (Some (Unwinds code)) (Some (Unwind c)) same = refl
 going_counted (Some (Ends d)) (Some (Dispatched e)) same = refl
 going_counted _ _ same = absurd same
@@ -152,6 +155,7 @@ no_frame None None i same is = (refl, refl)
 no_frame (Some (Runs_frame f)) u i same is = absurd (none-some f (sym is))
 no_frame (Some Is_trap) (Some Trapped) i same is = (refl, refl)
 no_frame (Some (Destroys x)) (Some Destroy) i same is = (refl, refl)
+no_frame (Some Closes) (Some Closing) i same is = (refl, refl)
 no_frame (Some (Unwinds code)) (Some (Unwind c)) i same is = (refl, refl)
 no_frame (Some (Ends d)) (Some (Dispatched e)) i same is = (refl, refl)
 no_frame _ _ i same is = absurd same
@@ -214,6 +218,4 @@ module _ (p : Image) (m : Parts) where
 
       by_null : (s : State) → StandsFor M s → (o : Option Object) → held s.cells (Register k i) ≡ o → null ≡ number (held s.cells (Register k i)) → o ≡ None
       by_null s st None holds is = refl
-      by_null s st (Some o) holds is =
-          let lives = object_lives p m st.typing s st.typed st.agrees (Register k i) o null holds (is ∙ ap number holds) in
-          absurd (false≢true (sym (ap is_some st.agrees.cells.null_is_none) ∙ lives))
+      by_null s st (Some o) holds is = absurd (not_null p m st.typing s st.typed st.agrees (Register k i) o holds (sym (is ∙ ap number holds)))

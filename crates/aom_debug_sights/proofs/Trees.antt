@@ -186,7 +186,7 @@ module _ (p : Image) (m : Parts) where
       let sent = sent_client (holds m.clients at.0) (place_at m.clients at.0) client at.2 in
       let lives : is_some (named s.cells n) ≡ true = ap (λ k. is_some (named s.cells k)) at.1 ∙ sym (same.taken at.0) ∙ place_taken (place_at m.clients at.0) client at.2 in
       let sender : (service_of s.cells n).sender ≡ Some sent.0 = ap (λ k. (service_of s.cells k).sender) at.1 ∙ sym (same.senders at.0) ∙ sent.1 in
-      go lives sender sent.0 sent.2 (held s.cells r) refl (shows.each s st) (sym (class_held p m s st r n (shows.each s st)) ∙ none)
+      go lives sent.0 sender sent.2 (held s.cells r) refl (shows.each s st) (sym (class_held p m s st r n (shows.each s st)) ∙ none)
     where
       plain : (th : Thing) → class_in th ≡ None → th ≡ Message
       plain (An_object_of c) told = absurd (none-some c (sym told))
@@ -194,8 +194,8 @@ module _ (p : Image) (m : Parts) where
 
       go : is_some (named s.cells n) ≡ true → (sd : Sender) → (service_of s.cells n).sender ≡ Some sd → sd.client ≡ client → (o : Option Object) → held s.cells r ≡ o → n ≡ number o → class_of o ≡ None →
           (x : Object) × (held s.cells r ≡ Some x) × (x.thing ≡ Message) × (sd : Sender) × ((service_of s.cells x.name).sender ≡ Some sd) × (sd.client ≡ client)
-      go lives sd sender by None holds same told = absurd (false≢true (sym (ap is_some (ap (named s.cells) same ∙ null_unnamed p m s st.agrees)) ∙ lives))
-      go lives sd sender by (Some o) holds same told = (o, holds, plain o.thing told, sd, ap (λ k. (service_of s.cells k).sender) (sym same) ∙ sender, by)
+      go lives sd sender by None is_held same told = absurd (false≢true (sym (ap is_some (ap (named s.cells) same ∙ null_unnamed p m s st.agrees)) ∙ lives))
+      go lives sd sender by (Some o) is_held same told = (o, is_held, plain o.thing told, sd, ap (λ k. (service_of s.cells k).sender) (sym same) ∙ sender, by)
 
   tree_message : (n client depth : ℕ) (w : Way) (r : Place) (t : List ℕ) (s : State) → StandsFor M s → Shows M n r → class_at m.cells n ≡ None → sender_at m.clients n ≡ Some client → t ≡ way_text w →
       owners_text (tree s.cells (suc depth) w (held s.cells r)) ≡ ended (t ++ codes " " ++ (codes "msg " ++ decimal client))

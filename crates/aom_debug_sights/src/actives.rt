@@ -39,12 +39,7 @@ fn entry_answer(parts: &Parts, entry: Entry) -> Option<Answer>
     }
     let state = parts.active.state(entry.id)?;
     let status = parts.active.status(entry.id);
-    Some(Answer::Active(
-        class,
-        entry.priority,
-        phase_of(state),
-        status,
-    ))
+    Some(Answer::Active(class, entry.priority, phase_of(state), status))
 }
 
 /// The object at a place in the order of choice, as it is told.

@@ -112,7 +112,11 @@ fn session_number(parts: &Parts, id: CellId, client: u8) -> u32
     ensures { result ≡ session_with id (client_at parts.now.clients client) }
 {
     match parts.clients.client(client) {
-        Client::Open { server, session, .. }
+        Client::Open {
+            server,
+            session,
+            ..
+        }
         | Client::Closing { server, session }
         | Client::Dying { server, session } => {
             if u32::from(server) == id.number() && session != NO_CELL {
@@ -156,7 +160,13 @@ fn tell_tree<W: Sink>(
     let mut next = first_session(parts, id);
     while let Some(client) = next {
         way.enter_session(client);
-        tell_tree(parts, way, session_number(parts, id, client), depth - 1, out)?;
+        tell_tree(
+            parts,
+            way,
+            session_number(parts, id, client),
+            depth - 1,
+            out,
+        )?;
         way.cut(length);
         next = next_session(parts, id, client);
     }

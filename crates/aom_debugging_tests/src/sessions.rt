@@ -1,5 +1,8 @@
 //! Debugging sessions on whole programs.
-use crate::programs::{CANCELS, CANCELS_ASKED, CANCELS_TOLD, LEAVES, LEAVES_ASKED, LEAVES_TOLD};
+use crate::programs::{
+    CANCELS, CANCELS_ASKED, CANCELS_TOLD, KEEPS, KEEPS_ASKED, KEEPS_SCRIPT, KEEPS_TOLD, LEAVES,
+    LEAVES_ASKED, LEAVES_TOLD,
+};
 use crate::readers::{Stuck, Typed};
 use aom_debugging::{Reader, debug_bytes};
 use aom_main::{ExitStatus, asm_bytes};
@@ -42,11 +45,12 @@ fn debugs<R: Reader>(
     Answer::of(status, out, errors)
 }
 
-/// A session of that text, which comes in parts of so many bytes, tells that.
+/// A session of that text, which comes in parts of so many bytes, tells that of a program beside a script.
 fn tells(
     rt: &impl Abort,
     alloc: Global,
     program: &str,
+    script: &str,
     asked: &str,
     most: usize,
     told: &str,
@@ -59,7 +63,13 @@ fn tells(
     let image = image_of(alloc, program);
     let said = Answer::told(alloc, ExitStatus::Done, told, "")?;
     assert_eq!(rt;
-        debugs(alloc, image.text.as_slice(), b"", &mut reader, 10_000),
+        debugs(
+            alloc,
+            image.text.as_slice(),
+            script.as_bytes(),
+            &mut reader,
+            10_000
+        ),
         said
     );
     Ok(())
@@ -67,14 +77,29 @@ fn tells(
 
 #[test]
 fn a_session_on_a_cancel(rt: HostRuntime) -> Result<(), Fail> {
-    tells(&rt, rt.alloc(), CANCELS, CANCELS_ASKED, 4096, CANCELS_TOLD)?;
-    tells(&rt, rt.alloc(), CANCELS, CANCELS_ASKED, 1, CANCELS_TOLD)
+    tells(
+        &rt,
+        rt.alloc(),
+        CANCELS,
+        "",
+        CANCELS_ASKED,
+        4096,
+        CANCELS_TOLD,
+    )?;
+    tells(&rt, rt.alloc(), CANCELS, "", CANCELS_ASKED, 1, CANCELS_TOLD)
 }
 
 #[test]
 fn a_session_on_a_leave(rt: HostRuntime) -> Result<(), Fail> {
-    tells(&rt, rt.alloc(), LEAVES, LEAVES_ASKED, 4096, LEAVES_TOLD)?;
-    tells(&rt, rt.alloc(), LEAVES, LEAVES_ASKED, 7, LEAVES_TOLD)
+    tells(&rt, rt.alloc(), LEAVES, "", LEAVES_ASKED, 4096, LEAVES_TOLD)?;
+    tells(&rt, rt.alloc(), LEAVES, "", LEAVES_ASKED, 7, LEAVES_TOLD)
+}
+
+#[test]
+fn a_session_on_a_server_that_keeps_a_message(rt: HostRuntime) -> Result<(), Fail> {
+    let (alloc, script) = (rt.alloc(), KEEPS_SCRIPT);
+    tells(&rt, alloc, KEEPS, script, KEEPS_ASKED, 4096, KEEPS_TOLD)?;
+    tells(&rt, alloc, KEEPS, script, KEEPS_ASKED, 3, KEEPS_TOLD)
 }
 
 #[test]
@@ -89,6 +114,7 @@ fn a_long_line_is_bad_and_the_last_may_lack_its_line_feed(rt: HostRuntime) -> Re
         &rt,
         alloc,
         CANCELS,
+        "",
         asked.as_str(),
         100,
         "fault 1\n@0 main\nbetween 1\n",

@@ -1,5 +1,5 @@
 -- An image whose dispatches cost at most what it declares of them affords those of the objects and servers of each of its classes.
-use Rattle.std.proofs.Common.{Option, None, Some, arith, refl, true, ◌≡◌, ◌≤◌, ℕ}
+use Rattle.std.proofs.Common.{Option, None, Some, arith, refl, ◌≡◌, ◌≤◌, ℕ}
 use Rattle.aom_image.specs.Image.{Image}
 use Rattle.aom_image.specs.Views.{class_at}
 use Rattle.aom_image.specs.declared.class.ClassDecl.{ClassDecl}

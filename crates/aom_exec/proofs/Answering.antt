@@ -135,7 +135,7 @@ module _ (p : Image) (m : Parts) (s : State) (st : StandsFor (record { image = p
   waits_message : (n k : ℕ) (x : Object) → held s.cells (Elsewhere (Waits_at n k)) ≡ Some x → is_object x.thing ≡ false
   waits_message n k x there =
       let y : IsQueuedAt p s.cells n k x.thing = queued_thing_of p s.cells st.typed.layers n k x.thing
-              (fits_thing p (seen s.cells) x _ (subst (λ y. Fits p (seen s.cells) y (claim p (declared p s.cells) st.typed.layers (Elsewhere (Waits_at n k)))) there (st.typed.good.fits (Elsewhere (Waits_at n k))))) in
+      (fits_thing p (seen s.cells) x _ (subst (λ y. Fits p (seen s.cells) y (claim p (declared p s.cells) st.typed.layers (Elsewhere (Waits_at n k)))) there (st.typed.good.fits (Elsewhere (Waits_at n k))))) in
       ap is_object (queued_lower p st.sound.wired y.0 x.thing y.3).0
 
   are_there : (n : ℕ) (es : List Asked) → QueueFits s.clients n es → ((k : ℕ) → list_any (is_message k) es ≡ true → list_any (is_message k) (service_of s.cells n).queue ≡ true) → AreThere s.cells n es

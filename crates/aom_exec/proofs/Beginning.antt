@@ -1,8 +1,8 @@
 -- A method begins under the trap of a dispatch, where nothing is at hand: of what its frame shows, which is nothing but for the words of a message.
-use Rattle.std.proofs.Common.{Bool, List, None, Option, Some, [], ap, arith, cond, false, inl, inr, length, refl, slice_index_or, slice_set, subst, suc, sym, true, zero, ⊎_elim, ℕ, ℤ, ◌+◌, ◌<◌, ◌≤◌, ◌==◌, ◌∙◌, ◌∷◌, ◌≡◌, ◌⊎◌}
-use Rattle.std.specs.Prelude.{map, nat_lt, pos}
+use Rattle.std.proofs.Common.{Bool, List, None, Option, [], ap, arith, cond, false, inl, inr, length, refl, slice_index_or, subst, suc, sym, true, zero, ℕ, ℤ, ◌<◌, ◌≤◌, ◌==◌, ◌∙◌, ◌∷◌, ◌≡◌, ◌⊎◌}
+use Rattle.std.specs.Prelude.{nat_lt}
 use Rattle.std.specs.Int.{w32, cast_signed, cast_unsigned}
-use Rattle.std.proofs.lemmas.Bool.{cases_lt, eq-eqb, eqb-true, false≢true, le-ltb, lt-ltb, ne_eqb}
+use Rattle.std.proofs.lemmas.Bool.{cases_lt, eq-eqb, eqb-true, false≢true, le-ltb, lt-ltb}
 use Rattle.std.proofs.lemmas.List.{length-set}
 use Rattle.aom_cells.specs.Heap.{null}
 use Rattle.aom_cleanup.specs.declared.item.Item.TheVariants.{Mark as Is_mark}
@@ -13,16 +13,16 @@ use Rattle.aom_frames.specs.declared.task.Task.TheVariants.{Dispatched as Ends, 
 use Rattle.aom_image.specs.Image.{Image}
 use Rattle.aom_messages.specs.Store.{Store, word_at as message_word}
 use Rattle.aom_shape.specs.Tables.{at}
-use Rattle.aom_sound.specs.Places.{Cell, Elsewhere, Entry, Field, Going, Object, Place, Register, held, word_field}
+use Rattle.aom_sound.specs.Places.{Cell, Elsewhere, Entry, Field, Going, Place, Register, held, word_field}
 use Rattle.aom_sound.specs.State.{A_mark, Dispatch, Dispatched, Frame, Run, State, Task, Trapped, word}
 use Rattle.aom_sound.specs.World.{message_words}
 use Rattle.aom_parts.specs.declared.parts.Parts.{Parts}
-use Rattle.aom_parts.specs.Agrees.{Agrees, SameDispatch, SameFrame, SameTasks, Shows, word_at}
+use Rattle.aom_parts.specs.Agrees.{Agrees, SameDispatch, SameFrame, Shows, word_at}
 use Rattle.aom_parts.specs.Places.{others, value_in}
 use Rattle.aom_parts.proofs.Entries.{mark_shows_none}
 use Rattle.aom_parts.proofs.Serving.{at_set}
 use Rattle.aom_acts.proofs.Standing.{Aside}
-use Rattle.aom_exec.specs.Servers.{told_first, told_word, told_words}
+use Rattle.aom_exec.specs.Servers.{told_first, told_words}
 use Rattle.aom_exec.specs.Turns.{begins_under}
 
 -- what a place shows where nothing is at hand

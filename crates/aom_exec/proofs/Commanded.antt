@@ -1,24 +1,21 @@
 -- What a command of a client leaves as it was: the sessions of clients, the cells but for messages, and the queues of all servers but one.
-use Rattle.std.proofs.Common.{ap, arith, Bool, cond, false, length, List, None, Option, refl, Some, subst, suc, sym, true, ℕ, ℤ, ◌<◌, ◌≤◌, ◌==◌, ◌∙◌, ◌∷◌, ◌≡◌, []}
-use Rattle.std.specs.Prelude.{filter, is_some, map, not, ◌&&◌, ◌||◌}
-use Rattle.std.specs.List.{list_any}
-use Rattle.std.proofs.lemmas.Bool.{eq-eqb, eqb-true, false≢true, ne_eqb}
+use Rattle.std.proofs.Common.{ap, Bool, cond, false, length, List, None, Option, refl, Some, subst, sym, true, ℕ, ◌<◌, ◌≤◌, ◌==◌, ◌∙◌, ◌∷◌, ◌≡◌, []}
+use Rattle.std.specs.Prelude.{filter, not, ◌&&◌}
+use Rattle.std.proofs.lemmas.Bool.{eqb-true, ne_eqb}
 use Rattle.aom_clients.specs.Clients as kept
 use Rattle.aom_clients.specs.Nodes.{is_connecting_at, is_open_at, named_by}
 use Rattle.aom_clients.specs.Table.{row}
 use Rattle.aom_clients.specs.declared.client.Client.{Client}
 use Rattle.aom_clients.specs.declared.client.Client.TheVariants.{Closing, Connecting, Dead, Dying, Gone, Open, Unconnected}
-use Rattle.aom_clients.specs.declared.entry.Entry.TheVariants as entry
-use Rattle.aom_clients.specs.declared.place.Place.TheVariants.{Queued as A_queued}
 use Rattle.aom_clients.specs.declared.refusal.Refusal.{Refusal}
 use Rattle.aom_clients.specs.declared.server.Server.{Server}
 use Rattle.aom_image.specs.Image.{Image}
 use Rattle.aom_image.specs.declared.method.Thing.TheVariants.{Message}
-use Rattle.aom_sound.proofs.Services.{named_served, service_there, service_unnamed}
+use Rattle.aom_sound.proofs.Services.{held_served, named_served, service_there, service_unnamed}
 use Rattle.aom_sound.proofs.Sifted.{cell_of, cell_of_sifted, kept as kept_cell, service_cell, service_in, sifted, withdrawn_so}
 use Rattle.aom_sound.specs.Kept.{ClientsFit, QueueFits}
-use Rattle.aom_sound.specs.Clients.{Listed, asked_server, client_at, commanded, connecting, leaving, refusal, sending, told, with_client, with_message}
-use Rattle.aom_sound.specs.Places.{Asked, Cell, Close_of, Connect_of, Elsewhere, Message_of, Queued, Service, Tidy, named, service_of}
+use Rattle.aom_sound.specs.Clients.{Listed, asked_server, client_at, commanded, connecting, leaving, refusal, sending, told, with_message}
+use Rattle.aom_sound.specs.Places.{Asked, Cell, Close_of, Connect_of, Elsewhere, Entry, Field, Going, In_service, Message_of, Place, Queued, Register, Root, Service, Session, Tidy, held, named, same_place, service_of}
 use Rattle.aom_sound.specs.Servers.{asked_last, is_from, is_queue, left_by, reserved, stays, withdrawn}
 use Rattle.aom_sound.specs.State.{State}
 use Rattle.aom_transcript.specs.declared.event.Command.{Command}
@@ -27,6 +24,17 @@ use Rattle.aom_parts.proofs.Beside.{Beside, beside_itself, beside_message, besid
 use Rattle.aom_parts.proofs.Elsewhere.{SessionsSame}
 use Rattle.aom_parts.proofs.Serving.{at_set}
 use Rattle.aom_parts.specs.Places.{session_with}
+
+-- a place in a queue is none that is not
+apart_queue : (n k : ℕ) (r : Place) → is_queue r ≡ false → same_place (Elsewhere (Queued n k)) r ≡ false
+apart_queue n k (Register d i) e = refl
+apart_queue n k (Entry i) e = refl
+apart_queue n k (Field i f) e = refl
+apart_queue n k (Going i) e = refl
+apart_queue n k (Elsewhere Root) e = refl
+apart_queue n k (Elsewhere (Session i d)) e = refl
+apart_queue n k (Elsewhere In_service) e = refl
+apart_queue n k (Elsewhere (Queued i j)) e = cc
 
 -- ---- the sessions of clients
 
@@ -189,7 +197,7 @@ module _ (p : Image) (c : ℕ) (s : State) where
         go : (r : Option Refusal) (x : Client) → Beside s.cells (sending p c s r x name words).cells
         go None (Open server session slots) =
             let v = asked_last (Message_of c name) (service_of s.cells server) in
-            beside_then s.cells (reserved (asked_last (Message_of c name)) server s.cells) _ (beside_served s.cells server v) (beside_message (reserved (asked_last (Message_of c name)) server s.cells) _ (named_served s.cells server v name ∙ free) refl high refl refl refl)
+            beside_then s.cells (reserved (asked_last (Message_of c name)) server s.cells) _ (beside_served s.cells server v) (beside_message (reserved (asked_last (Message_of c name)) server s.cells) _ (named_served s.cells server v name ∙ free) refl high refl refl)
         go None Unconnected = beside_itself s.cells
         go None (Connecting k slots) = beside_itself s.cells
         go None (Closing k session) = beside_itself s.cells
@@ -199,6 +207,44 @@ module _ (p : Image) (c : ℕ) (s : State) where
         go (Some r) x = beside_itself s.cells
     commanded_beside Close name free high = leaving_beside (row (client_at s.clients c)).close
     commanded_beside Die name free high = leaving_beside (row (client_at s.clients c)).die
+
+  -- what is in no queue stays where it is
+  module _ (stay : (r : Place) → is_queue r ≡ false → held (withdrawn c s.cells) r ≡ held s.cells r) (r : Place) (apart : is_queue r ≡ false) where
+    leaving_holds : (to : Option Client) → held (leaving p c s to).cells r ≡ held s.cells r
+    leaving_holds None = refl
+    leaving_holds (Some to) = by (client_at s.clients c)
+      where
+        by : (x : Client) → held (told p c s x (withdrawn c s.cells)) r ≡ held s.cells r
+        by (Open server session slots) = held_served (withdrawn c s.cells) server _ r ∙ stay r apart
+        by Unconnected = stay r apart
+        by (Connecting k slots) = stay r apart
+        by (Closing k session) = stay r apart
+        by Gone = stay r apart
+        by Dead = stay r apart
+        by (Dying k session) = stay r apart
+
+    pub commanded_holds : (command : Command) (name : ℕ) → held (commanded p c s command name).cells r ≡ held s.cells r
+    commanded_holds (Connect class slots) name = go (refusal p c s (Connect class slots)) (asked_server p class s.cells)
+      where
+        go : (q : Option Refusal) (x : Option Listed) → held (connecting p c s q x slots).cells r ≡ held s.cells r
+        go None (Some x) = held_served s.cells x.name _ r
+        go None None = refl
+        go (Some q) x = refl
+    commanded_holds (Send words) name = go (refusal p c s (Send words)) (client_at s.clients c)
+      where
+        go : (q : Option Refusal) (x : Client) → held (sending p c s q x name words).cells r ≡ held s.cells r
+        go None (Open server session slots) =
+            ap (λ b. cond b (Some (record { name = name; thing = Message })) (held (reserved (asked_last (Message_of c name)) server s.cells) r)) (apart_queue server name r apart)
+            ∙ held_served s.cells server _ r
+        go None Unconnected = refl
+        go None (Connecting k slots) = refl
+        go None (Closing k session) = refl
+        go None Gone = refl
+        go None Dead = refl
+        go None (Dying k session) = refl
+        go (Some q) x = refl
+    commanded_holds Close name = leaving_holds (row (client_at s.clients c)).close
+    commanded_holds Die name = leaving_holds (row (client_at s.clients c)).die
 
 -- ---- the queues of all servers but one
 

@@ -1,6 +1,6 @@
 -- A command as the machine does it: its parts in one, from each state that the machine stands for.
-use Rattle.std.proofs.Common.{ap, arith, Bool, cond, false, length, List, None, Option, refl, Some, subst, suc, sym, true, ℕ, ℤ, ◌++◌, ◌<◌, ◌≤◌, ◌==◌, ◌∙◌, ◌∷◌, ◌≡◌, []}
-use Rattle.std.specs.Prelude.{Err, IfSome, Ok, Result, filter, is_some, nat_lt, not, option_map, ◌||◌}
+use Rattle.std.proofs.Common.{ap, arith, Bool, cond, false, length, List, None, Option, refl, Some, subst, suc, sym, true, ℕ, ◌++◌, ◌<◌, ◌≤◌, ◌==◌, ◌∙◌, ◌∷◌, ◌≡◌, []}
+use Rattle.std.specs.Prelude.{Err, IfSome, Ok, Result, is_some, nat_lt, not, option_map, ◌||◌}
 use Rattle.std.proofs.lemmas.Bool.{eq-eqb, false≢true}
 use Rattle.std.proofs.lemmas.Option.{none-some, same_Some}
 use Rattle.aom_active.specs.Agrees.{Active}
@@ -8,24 +8,22 @@ use Rattle.aom_cells.specs.Heap.{cell_at}
 use Rattle.aom_cells.specs.declared.cell.Cell.{Cell as Held_cell}
 use Rattle.aom_clients.specs.Clients as kept
 use Rattle.aom_clients.specs.Nodes.{named_by}
-use Rattle.aom_clients.specs.Table.{code_of, is_queued, row}
+use Rattle.aom_clients.specs.Table.{code_of, row}
 use Rattle.aom_clients.specs.declared.client.Client.{Client}
 use Rattle.aom_clients.specs.declared.client.Client.TheVariants.{Closing, Connecting, Dead, Dying, Gone, Open, Unconnected}
 use Rattle.aom_clients.specs.declared.place.Place.{Place as Message_place}
 use Rattle.aom_clients.specs.declared.place.Place.TheVariants.{Discarded, Free, Held, Queued}
 use Rattle.aom_clients.specs.declared.refusal.Refusal.{Refusal}
-use Rattle.aom_clients.specs.declared.server.Server.{Server}
 use Rattle.aom_image.specs.Image.{Image}
-use Rattle.aom_messages.specs.Store.{Store, count, message_at}
-use Rattle.aom_queues.specs.Lists.{first_of, list_at}
+use Rattle.aom_messages.specs.Store.{Store, message_at}
 use Rattle.aom_roles.specs.Shapes.{kind_of}
 use Rattle.aom_shape.specs.Kinds.{is_object}
 use Rattle.aom_sound.specs.Clients.{Listed, asked_server, client_at, commanded, count_messages, most_of, refusal}
 use Rattle.aom_sound.specs.Lines.{refusal_line}
 use Rattle.aom_sound.specs.Places.{Object, named}
-use Rattle.aom_sound.specs.Servers.{is_among, is_server, withdrawn}
+use Rattle.aom_sound.specs.Servers.{is_among, withdrawn}
 use Rattle.aom_sound.specs.State.{State}
-use Rattle.aom_sound.specs.World.{IsBetween, Obeys}
+use Rattle.aom_sound.specs.World.{IsBetween}
 use Rattle.aom_transcript.specs.declared.event.Command.{Command}
 use Rattle.aom_transcript.specs.declared.event.Command.TheVariants.{Close, Connect, Die, Send}
 use Rattle.aom_transcript.specs.declared.line.Line.{Line}
@@ -44,8 +42,7 @@ use Rattle.aom_parts.specs.declared.parts.Parts.{Parts}
 use Rattle.aom_exec.proofs.Commanded.{Untouched, sessions_close, sessions_connect, sessions_die, sessions_send}
 use Rattle.aom_exec.proofs.Obeyed.{Hears, obeyed_stands, servers_below, typed_now, v}
 use Rattle.aom_exec.proofs.Obeying.{messages_close, messages_connect, messages_die, messages_send, sent_free, sent_name}
-use Rattle.aom_exec.specs.Clients.{Acts, AreKept, CanAct, Forgets, IsInRange, Obeyed, Sends, asked_by, first_server, queue_changed}
-use Rattle.aom_exec.specs.Turns.{Takes}
+use Rattle.aom_exec.specs.Clients.{Acts, AreKept, CanAct, Forgets, IsInRange, Obeyed, asked_by, first_server, queue_changed}
 
 -- the line of an answer
 abbrev pub told_refusal : ℕ → Result (Unit {0}) Refusal → List Line

@@ -1,7 +1,7 @@
 -- Messages are kept no more, one after another.
 use Rattle.std.proofs.Common.{ap, arith, Bool, false, length, List, None, refl, subst, suc, sym, true, ℕ, zero, ◌+◌, ◌<◌, ◌==◌, ◌∙◌, ◌∷◌, ◌≡◌, drop, slice_index_or, take, []}
 use Rattle.std.specs.Prelude.{is_some, ◌||◌}
-use Rattle.std.proofs.lemmas.Bool.{eq-eqb, eqb-true, false≢true, ne_eqb}
+use Rattle.std.proofs.lemmas.Bool.{eq-eqb, eqb-true, false≢true}
 use Rattle.aom_messages.specs.Store.{Changes, IsKept, Store, count, message_at}
 use Rattle.aom_sound.specs.Servers.{is_among}
 use Rattle.aom_exec.specs.Clients.{AreKept, Forgets}

@@ -1,5 +1,5 @@
 -- Where nothing is at hand a machine stands for a state with other cells and clients once it is well typed, kept and agrees.
-use Rattle.std.proofs.Common.{ap, arith, List, refl, subst, sym, ℕ, ◌≡◌, []}
+use Rattle.std.proofs.Common.{ap, arith, List, subst, sym, ℕ, ◌≡◌, []}
 use Rattle.aom_clients.specs.declared.client.Client.{Client}
 use Rattle.aom_image.specs.Image.{Image}
 use Rattle.aom_shape.specs.Tables.{at}

@@ -1,6 +1,6 @@
 -- A native is killed: cell by cell, what each has outstanding there is completed and its session is over, and the machine then stands for
 -- the state that the checked machine goes to.
-use Rattle.std.proofs.Common.{ap, arith, Bool, cond, false, length, List, None, Option, pos, refl, Some, subst, suc, sym, true, ℕ, ◌++◌, ◌+◌, ◌<◌, ◌==◌, ◌∙◌, ◌∷◌, ◌≡◌, []}
+use Rattle.std.proofs.Common.{ap, arith, Bool, cond, false, List, None, Option, pos, refl, Some, subst, suc, sym, true, ℕ, ◌++◌, ◌+◌, ◌<◌, ◌==◌, ◌∙◌, ◌∷◌, ◌≡◌, []}
 use Rattle.std.specs.Prelude.{◌&&◌, ◌||◌, is_some, nat_lt, not}
 use Rattle.std.proofs.lemmas.Bool.{and_parts, eqb-false, eqb-true, false≢true}
 use Rattle.std.proofs.lemmas.Option.{none-some}

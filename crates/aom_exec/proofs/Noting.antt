@@ -1,10 +1,10 @@
 -- What the schedule hears of the queue of one server: it stands for the requests again where messages alone came and went beside.
-use Rattle.std.proofs.Common.{ap, Bool, cond, false, inl, inr, List, map, None, Option, refl, Some, subst, sym, true, ℕ, ◌==◌, ◌∙◌, ◌∷◌, ◌≡◌, ◌⊎◌, []}
+use Rattle.std.proofs.Common.{ap, Bool, cond, false, inl, inr, List, map, None, Option, refl, Some, subst, sym, true, ℕ, ◌==◌, ◌∙◌, ◌∷◌, ◌≡◌, []}
 use Rattle.std.specs.Prelude.{is_some}
 use Rattle.std.proofs.lemmas.Bool.{eqb-true, false≢true, true≢false}
 use Rattle.aom_active.proofs.Telling.{standing_follows, told_server}
 use Rattle.aom_active.specs.Agrees.{Active, queue_in, queued}
-use Rattle.aom_active.specs.Meanings.{Asks, queued_anew}
+use Rattle.aom_active.specs.Meanings.{queued_anew}
 use Rattle.aom_clients.specs.Clients as kept
 use Rattle.aom_clients.specs.declared.client.Client.{Client}
 use Rattle.aom_clients.specs.declared.entry.Entry.{Entry}
@@ -12,10 +12,10 @@ use Rattle.aom_image.specs.Image.{Image}
 use Rattle.aom_requests.specs.Requests.{is_server as is_kept_server, request_at}
 use Rattle.aom_sound.specs.Places.{Cell, Object, Request, Service, named, requested, service_of}
 use Rattle.aom_sound.specs.Servers.{has_more, is_server}
-use Rattle.aom_parts.proofs.Beside.{Beside, NamedBeside, requests_beside}
+use Rattle.aom_parts.proofs.Beside.{Beside, NamedBeside}
 use Rattle.aom_parts.specs.Agrees.{SameRequests}
 use Rattle.aom_parts.specs.Serving.{SameClients, asked_by}
-use Rattle.aom_exec.specs.Servers.{Notes, NotesBy, is_queued}
+use Rattle.aom_exec.specs.Servers.{NotesBy, is_queued}
 
 -- whose queue it is does not hang on what waits there
 kind_alone : (p : Image) (o : Option Object) (v w : Service) → is_some (queue_in p o v) ≡ is_some (queue_in p o w)

@@ -1,31 +1,27 @@
 -- The machine stands for what the checked machine comes to by a command of a client.
-use Rattle.std.proofs.Common.{ap, arith, Bool, cond, false, List, None, Option, refl, Some, subst, suc, sym, true, ℕ, ◌<◌, ◌≤◌, ◌==◌, ◌∙◌, ◌∷◌, ◌≡◌, []}
-use Rattle.std.specs.Prelude.{IfSome, is_some, length, option_map}
+use Rattle.std.proofs.Common.{ap, arith, cond, false, None, Option, refl, Some, subst, suc, sym, true, ℕ, ◌<◌, ◌≤◌, ◌∙◌, ◌≡◌, []}
 use Rattle.std.proofs.lemmas.Bool.{eq-eqb, false≢true}
 use Rattle.std.proofs.lemmas.Option.{none-some, same_Some}
 use Rattle.aom_active.specs.Agrees.{Active}
 use Rattle.aom_cells.specs.Heap.{cell_at}
 use Rattle.aom_cells.specs.declared.cell.Cell.{Cell as Held_cell}
 use Rattle.aom_clients.specs.Clients as kept
-use Rattle.aom_clients.specs.Nodes.{named_by}
 use Rattle.aom_clients.specs.declared.client.Client.{Client}
 use Rattle.aom_clients.specs.declared.client.Client.TheVariants.{Closing, Connecting, Dead, Dying, Gone, Open, Unconnected}
-use Rattle.aom_clients.specs.declared.place.Place.TheVariants.{Free}
 use Rattle.aom_clients.specs.declared.refusal.Refusal.{Refusal}
 use Rattle.aom_image.specs.Image.{Image}
 use Rattle.aom_image.specs.declared.method.Thing.{Thing}
 use Rattle.aom_image.specs.declared.method.Thing.TheVariants.{Message, Object as An_object_of}
 use Rattle.aom_messages.specs.Store.{Store}
-use Rattle.aom_rules.specs.Typing.{Typing}
 use Rattle.aom_shape.specs.Kinds.{is_object}
 use Rattle.aom_sound.proofs.ClientsCommand.{fit_commanded}
 use Rattle.aom_sound.proofs.ClientsFacts.{waiting_well}
 use Rattle.aom_sound.proofs.Obeying.{commanded_well}
 use Rattle.aom_sound.proofs.Things.{message_plain}
-use Rattle.aom_sound.specs.Clients.{Listed, asked_server, client_at, commanded, connecting, leaving, refusal, sending, told, with_client}
+use Rattle.aom_sound.specs.Clients.{Listed, asked_server, client_at, commanded, connecting, leaving, refusal, sending, told}
 use Rattle.aom_sound.specs.Kept.{ClientsFit}
-use Rattle.aom_sound.specs.Places.{Cell, Elsewhere, Entry, Field, Going, In_service, Message_of, Object, Place, Queued, Register, Root, Session, held, named, service_of}
-use Rattle.aom_sound.specs.Servers.{asked_last, is_queue, is_server, reserved, withdrawn}
+use Rattle.aom_sound.specs.Places.{Elsewhere, Entry, Field, Going, In_service, Message_of, Object, Place, Queued, Register, Root, Session, held, named, service_of}
+use Rattle.aom_sound.specs.Servers.{asked_last, is_queue, is_server, withdrawn}
 use Rattle.aom_sound.specs.State.{Rest, State}
 use Rattle.aom_sound.specs.WellTyped.{WellTyped}
 use Rattle.aom_sound.specs.World.{heard_one}
@@ -36,19 +32,17 @@ use Rattle.aom_transcript.specs.declared.event.Command.{Command}
 use Rattle.aom_transcript.specs.declared.event.Command.TheVariants.{Close, Connect, Die, Send}
 use Rattle.aom_parts.proofs.Beside.{Beside, cells_beside, listed_beside, natives_beside, requests_beside}
 use Rattle.aom_parts.proofs.Elsewhere.{SessionsSame, shows_again}
-use Rattle.aom_parts.proofs.Leaving.{beside_withdrawn}
+use Rattle.aom_parts.proofs.Leaving.{beside_withdrawn, holds_withdrawn}
 use Rattle.aom_parts.proofs.Premises.{queue_empty}
 use Rattle.aom_parts.specs.Agrees.{Agrees, SameRequests, Shows, thing_in, thing_of, word_at}
 use Rattle.aom_parts.specs.Messages.{SameMessages}
 use Rattle.aom_parts.specs.Places.{others, value}
-use Rattle.aom_parts.specs.Services.{SameServices}
-use Rattle.aom_parts.specs.Serving.{AreSized, SameClients, message_name, sessionless}
+use Rattle.aom_parts.specs.Serving.{AreSized, SameClients}
 use Rattle.aom_parts.specs.Stands.{StandsFor}
 use Rattle.aom_parts.specs.declared.parts.Parts.{Parts}
-use Rattle.aom_exec.proofs.Commanded.{Untouched, commanded_beside, commanded_form, commanded_queue}
+use Rattle.aom_exec.proofs.Commanded.{Untouched, commanded_beside, commanded_form, commanded_holds, commanded_queue}
 use Rattle.aom_exec.proofs.Idle.{stands_idle}
 use Rattle.aom_exec.proofs.Noting.{noted_requests, waits_alike}
-use Rattle.aom_exec.proofs.Obeying.{sent_name}
 use Rattle.aom_exec.specs.Servers.{Notes, is_queued}
 
 -- ---- what is outstanding on the cleanup stack
@@ -179,7 +173,7 @@ module _ (p : Image) (m : Parts) (s : State) (st : StandsFor (record { image = p
         apart (Going i) out = refl
 
         values : (r : Place) → Shows (value new r) (word_at s.tasks r) (held then.cells r)
-        values r = shows_again p st.typing there (others m) k m.stack.tasks m.cells m.entries.items s.cells s.tasks typed fit clients sessions (λ q out. beside.holds q (apart q out)) st.agrees.values r
+        values r = shows_again p st.typing there (others m) k m.stack.tasks m.cells m.entries.items s.cells s.tasks typed fit clients sessions (λ q out. commanded_holds p c v (λ i e. holds_withdrawn p st.typing st.sound.wired v typed_now st.kept.fit m.clients st.agrees.services.clients c i e) q (apart q out) command name) st.agrees.values r
 
         requests : SameRequests p a then.cells
         requests = by server touched_queues hears

@@ -1,41 +1,28 @@
 -- A command of a client: what clients are at, the messages that are kept and the schedule stand for what the checked machine comes to.
-use Rattle.std.proofs.Common.{ap, arith, Bool, cond, false, length, List, None, Option, pos, refl, Some, subst, suc, sym, true, zero, ℕ, ℤ, ◌+◌, ◌<◌, ◌≤◌, ◌==◌, ◌∙◌, ◌∷◌, ◌≡◌, slice_index_or, []}
-use Rattle.std.specs.Prelude.{IfSome, is_some, nat_lt, option_map}
+use Rattle.std.proofs.Common.{ap, arith, Bool, false, length, List, None, Option, pos, refl, Some, subst, suc, sym, true, zero, ℕ, ℤ, ◌∙◌, ◌∷◌, ◌≡◌, slice_index_or, []}
+use Rattle.std.specs.Prelude.{IfSome, is_some, option_map}
 use Rattle.std.proofs.Math.ListN.{get_or-eq_default}
 use Rattle.std.proofs.lemmas.Bool.{false≢true}
-use Rattle.std.proofs.lemmas.Option.{none-some, same_Some}
-use Rattle.aom_cells.specs.Heap.{cell_at}
-use Rattle.aom_cells.specs.declared.cell.Cell.{Cell as Held_cell}
+use Rattle.std.proofs.lemmas.Option.{none-some}
 use Rattle.aom_clients.specs.Clients as kept
-use Rattle.aom_clients.specs.Nodes.{named_by}
 use Rattle.aom_clients.specs.Table.{row}
 use Rattle.aom_clients.specs.declared.client.Client.{Client}
 use Rattle.aom_clients.specs.declared.client.Client.TheVariants.{Closing, Connecting, Dead, Dying, Gone, Open, Unconnected}
-use Rattle.aom_clients.specs.declared.place.Place.{Place as Message_place}
 use Rattle.aom_clients.specs.declared.place.Place.TheVariants.{Free}
 use Rattle.aom_clients.specs.declared.refusal.Refusal.{Refusal}
-use Rattle.aom_clients.specs.declared.server.Server.{Server}
 use Rattle.aom_image.specs.Image.{Image}
-use Rattle.aom_image.specs.WellFormed.{WellFormed}
-use Rattle.aom_image.specs.declared.method.Thing.{Thing}
-use Rattle.aom_image.specs.declared.method.Thing.TheVariants.{Message, Object as An_object_of}
-use Rattle.aom_messages.specs.Store.{Changes, Store, count, message_at, word_of}
-use Rattle.aom_roles.specs.Shapes.{kind_of}
-use Rattle.aom_shape.specs.Kinds.{is_object}
+use Rattle.aom_messages.specs.Store.{Store, word_of}
 use Rattle.aom_shape.specs.Tables.{at}
-use Rattle.aom_sound.specs.Clients.{Listed, asked_server, client_at, commanded, connecting, leaving, most_of, refusal, room, sending, told, with_message}
-use Rattle.aom_sound.specs.Places.{Cell, Message_of, Object, named, service_of}
-use Rattle.aom_sound.specs.Servers.{asked_last, is_server, reserved, withdrawn}
+use Rattle.aom_sound.specs.Clients.{Listed, asked_server, client_at, commanded, connecting, leaving, refusal, room, sending, told}
+use Rattle.aom_sound.specs.Places.{Cell, Message_of, Object, named}
+use Rattle.aom_sound.specs.Servers.{asked_last, reserved, withdrawn}
 use Rattle.aom_sound.specs.State.{State}
-use Rattle.aom_sound.specs.World.{heard_one}
-use Rattle.aom_transcript.specs.declared.event.Command.{Command}
 use Rattle.aom_transcript.specs.declared.event.Command.TheVariants.{Close, Connect, Die, Send}
-use Rattle.aom_parts.proofs.Commanding.{found_server, row_close, row_die}
-use Rattle.aom_parts.proofs.Leaving as leaves
+use Rattle.aom_parts.proofs.Commanding.{row_close, row_die}
 use Rattle.aom_parts.proofs.Messages.{message_made, messages_served}
-use Rattle.aom_parts.specs.Messages.{SameMessages, is_a_message}
+use Rattle.aom_parts.specs.Messages.{SameMessages}
 use Rattle.aom_parts.specs.Serving.{SameClients, is_taken, message_name, sessionless}
-use Rattle.aom_exec.specs.Clients.{AreKept, Forgets, Keeps_sent, SameKept, Sends}
+use Rattle.aom_exec.specs.Clients.{Forgets, Keeps_sent, SameKept}
 
 -- ---- the name of what is sent
 

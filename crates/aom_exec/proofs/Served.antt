@@ -89,6 +89,17 @@ answered_by (Some (An_active Own budget)) n known (Some r) native suits = cc
 answered_by (Some (An_active A_timer budget)) n known (Some r) native suits = cc
 answered_by _ n known (Some r) native suits = cc
 
+-- the objects of a class are served by the one native that does
+pub served_class : (p : Image) (native n : ℕ) (class : Option ℕ) → native_of (kind_of p class) ≡ Some n → (n == native) ≡ serves_class p native class
+unfolding kind_of
+served_class p native n None e = absurd (none-some n e)
+served_class p native n (Some class) e = rw e refl
+
+pub unserved_class : (p : Image) (native : ℕ) (class : Option ℕ) → native_of (kind_of p class) ≡ None → serves_class p native class ≡ false
+unfolding kind_of
+unserved_class p native None e = refl
+unserved_class p native (Some class) e = rw e refl
+
 -- a message is served by no native, and has no request
 pub unserved_message : (p : Image) (native : ℕ) (t : Thing) → is_object t ≡ false → is_served_by p native t ≡ false
 unfolding kind_of

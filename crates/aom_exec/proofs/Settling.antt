@@ -1,5 +1,5 @@
 -- The lines of a step: what its move writes, and the moves after it that count as none.
-use Rattle.std.proofs.Common.{◌≡◌, ◌≤◌, ◌<◌, ◌+◌, ℕ, ℤ, Bool, true, false, cond, length, List, [], ◌∷◌, ◌++◌, Option, Some, None, ap, pos, refl, suc, sym, subst, arith, ◌∙◌}
+use Rattle.std.proofs.Common.{◌≡◌, ◌≤◌, ◌+◌, ℕ, ℤ, Bool, true, false, cond, length, List, [], ◌∷◌, Option, Some, None, ap, pos, refl, sym, subst, arith, ◌∙◌}
 use Rattle.std.proofs.lemmas.List.{length-append}
 use Rattle.std.specs.Prelude.{is_some}
 use Rattle.std.specs.Ordering.{int_eq}
@@ -18,7 +18,7 @@ use Rattle.aom_sound.specs.Lines.{dispatch_lines, message_line, queue_lines, sta
 use Rattle.aom_sound.specs.Moves.{announcement, answered, asking, counted, dispatch_ends, failed, goes_line, handled, main_ends, needs_end, object_ends, stage_ends, step, step_task, written, written_instr, written_task}
 use Rattle.aom_sound.specs.Places.{Cell, Elsewhere, Entry, Going, In_service, Object, Root, Sender, held, service_of}
 use Rattle.aom_sound.specs.Servers.{is_server}
-use Rattle.aom_sound.specs.State.{A_mark, Accept_left, Accepted, Accepts, An_object, An_operation, Answered, Asks, Choice, Closing, CompletedTwice, Destroy, Dispatch, Dispatched, Frame, Goes, IsStuck, Item, Main_left, Need, NullOrDead, Object_left, Of_main, Of_object, Of_root, Of_server, Outcome, Parts, Rest, Run, Seat, Serves, Service_left, Stage, State, Task, Trapped, Unwind, guarded, next}
+use Rattle.aom_sound.specs.State.{A_mark, Accept_left, Accepted, Accepts, An_object, An_operation, Answered, Asks, Choice, Closing, Destroy, Dispatch, Dispatched, Goes, IsStuck, Item, Main_left, Need, NullOrDead, Object_left, Of_main, Of_object, Of_root, Of_server, Parts, Rest, Run, Seat, Serves, Service_left, Stage, State, Task, Trapped, Unwind, guarded, next}
 use Rattle.aom_transcript.specs.declared.line.Line.TheVariants.{Main}
 use Rattle.aom_image.specs.declared.method.Thing.{Thing}
 use Rattle.aom_image.specs.declared.method.Thing.TheVariants.{Object as An_object_of, Message}

@@ -1,22 +1,16 @@
 -- The parts of a turn: what the machine does between dispatches is what the checked machine does.
 use Rattle.std.proofs.Common.{ap, append-nil, arith, Bool, cond, false, length, List, None, Option, pos, refl, Some, subst, suc, sym, true, ℕ, ◌<◌, ◌≤◌, ◌∙◌, ◌∷◌, ◌++◌, ◌≡◌, []}
-use Rattle.std.specs.Prelude.{IfSome, IsSome, IsTrue, is_some, not, option_map, ◌||◌, ◌≢◌}
-use Rattle.std.specs.Ordering.{int_eq}
-use Rattle.std.proofs.lemmas.Bool.{and_parts, eq-eqb, true≢false}
+use Rattle.std.specs.Prelude.{IfSome, IsSome, is_some, not, option_map, ◌||◌, ◌≢◌}
+use Rattle.std.proofs.lemmas.Bool.{eq-eqb, true≢false}
 use Rattle.std.proofs.lemmas.List.{nil_from_length}
 use Rattle.std.proofs.lemmas.Option.{none-some, same_Some}
 use Rattle.aom_image.specs.Image.{Image}
-use Rattle.aom_image.specs.Views.{has}
-use Rattle.aom_image.specs.declared.class.ClassKind.{ClassKind}
-use Rattle.aom_image.specs.declared.class.ClassKind.TheVariants.{Active as An_active, Server as A_server}
 use Rattle.aom_image.specs.declared.method.Role.TheVariants.{Run as Handles}
 use Rattle.aom_image.specs.declared.method.Thing.{Thing}
 use Rattle.aom_image.specs.declared.method.Thing.TheVariants.{Message, Object as An_object_of}
-use Rattle.aom_roles.specs.States.{server_states}
-use Rattle.aom_rules.specs.Requests.{is_active_kind}
 use Rattle.aom_rules.specs.Typing.{Typing}
 use Rattle.aom_shape.specs.Tables.{at}
-use Rattle.aom_cells.specs.Heap.{Heap, Lives, cell_at, class_at, class_of, null}
+use Rattle.aom_cells.specs.Heap.{Heap, cell_at, class_at, class_of, null}
 use Rattle.aom_cells.specs.declared.cell.Cell.{Cell as Held_cell}
 use Rattle.aom_cleanup.specs.declared.item.Item.{Item as Held_item}
 use Rattle.aom_cleanup.specs.declared.item.Item.TheVariants.{Mark as Is_mark}
@@ -32,7 +26,7 @@ use Rattle.aom_transcript.specs.declared.line.Line.TheVariants.{Run as Run_line}
 use Rattle.aom_active.proofs.Asking.{are_wanted, asked_set, queued_same}
 use Rattle.aom_active.proofs.Choosing as choosing
 use Rattle.aom_active.proofs.Dues.{due_first, none_due}
-use Rattle.aom_active.proofs.Telling.{standing_follows, told_enlisted, told_server, told_status}
+use Rattle.aom_active.proofs.Telling.{standing_follows, told_server, told_state, told_status}
 use Rattle.aom_active.specs.Agrees.{Active, StandsFor as Asks_for, queue_in, queued, timer_in}
 use Rattle.aom_active.specs.Meanings.{IsFirstDue, IsFirstReady, Makes, asked_anew}
 use Rattle.aom_active.specs.Meanings as meanings
@@ -44,18 +38,16 @@ use Rattle.aom_sound.proofs.Turned.{picked}
 use Rattle.aom_sound.proofs.Turning.{completed, picked_well}
 use Rattle.aom_sound.specs.Claims.{items_of}
 use Rattle.aom_sound.specs.Lines.{serve_line}
-use Rattle.aom_sound.specs.Enlisted.{is_active, on_request, part_of, pending, status_of, taken_up, thing_kind, timed_out}
+use Rattle.aom_sound.specs.Enlisted.{on_request, part_of, status_of, taken_up, timed_out}
 use Rattle.aom_shape.specs.Kinds.{is_object}
 use Rattle.aom_sound.specs.Servers.{has_more, is_server}
-use Rattle.aom_sound.specs.Places.{Active as Waits_for, Cell, Elsewhere, Entry, Object, Phase, Going, Place, Register, Request, Root, Timer, held, named, requested, service_of}
-use Rattle.aom_sound.specs.Requests.{Known, Suits, phase_state, states_claim}
+use Rattle.aom_sound.specs.Places.{Cell, Elsewhere, Entry, Object, Going, Place, Register, Request, Root, Timer, held, named, requested, service_of}
 use Rattle.aom_sound.specs.State.{Dispatch, Dispatched, Goes, Inside, Of_object, Rest, Seat, State, Trapped}
-use Rattle.aom_sound.specs.WellTyped.{Keeps, WellTyped}
+use Rattle.aom_sound.specs.WellTyped.{Keeps}
 use Rattle.aom_sound.specs.World.{Candidate, Cuts, Hears, IsBetween, Passes, Picks, Timed, Turning, Waits, dispatched, serves_first, due_of, ends_as, first_due, heard_one, first_ready, is_ready, picked as any_picked, run_line, turned, with_request, written_by}
 use Rattle.aom_steps.proofs.Pushed.{asked_same}
 use Rattle.aom_steps.proofs.Turns.{picking}
-use Rattle.aom_sound.specs.Kept.{ClientsFit, TasksKept}
-use Rattle.aom_steps.specs.Left.{closings_left, is_entry, objects_left}
+use Rattle.aom_steps.specs.Left.{is_entry}
 use Rattle.aom_steps.specs.Payers as payers
 use Rattle.aom_steps.specs.Payers.{declared_of, payer, price_of}
 use Rattle.aom_parts.specs.declared.parts.Parts.{Parts}
@@ -63,11 +55,9 @@ use Rattle.aom_parts.specs.declared.progress.Progress.TheVariants.{Turned}
 use Rattle.aom_parts.specs.Agrees.{Agrees, SameCells, SameRequests, SameTasks, Shows, seat_of, thing_in, thing_of, word_at}
 use Rattle.aom_parts.specs.Places.{Others, going_in, others, register_in, value, value_in}
 use Rattle.aom_parts.specs.Progress.{progress_by}
-use Rattle.aom_parts.specs.Room.{AllRunUnder}
 use Rattle.aom_parts.specs.Stands.{KeepsWithin, Machine, Stands, StandsFor}
 use Rattle.aom_exec.specs.Steps.{progress}
 use Rattle.aom_exec.specs.Turns.{CanDispatch, Completed, Dispatches, Picked, TakesAll, running}
-use Rattle.aom_parts.specs.Waits.{OthersWait}
 use Rattle.aom_parts.proofs.Entries.{mark_shows_none, same_items_length}
 use Rattle.aom_acts.proofs.Finding.{class_fits}
 use Rattle.aom_acts.proofs.GoingActs.{fresh_value, fresh_word}
@@ -274,6 +264,10 @@ class_told : (t : Thing) (class : ℕ) (c : Option Held_cell) → class_of c ≡
 class_told t class None e f = cc
 class_told t class (Some c) e f = sym (same_Some _ _ f) ∙ ap An_object_of (same_Some _ _ e)
 
+pub class_in : (c : Option Held_cell) (class : ℕ) → thing_in c ≡ Some (An_object_of class) → class_of c ≡ Some class
+class_in None class e = cc
+class_in (Some c) class e = ap payers.class_of (same_Some _ _ e)
+
 -- its method that handles the signal is there, since the checked machine goes on with it
 has_method : (p : Image) (t : Typing) (x : Seat) (s : State) (o : Option ℕ) → Keeps p t (dispatched o x s) → IsSome o
 has_method p t x s None k = absurd k
@@ -304,13 +298,13 @@ no_word d _ = refl
 
 module _ (p : Image) (m : Parts) (s : State) (st : StandsFor (record { image = p; parts = m }) s) (idle : s.tasks ≡ []) where
   -- nothing is on the cleanup stack
-  none_pushed : s.items ≡ []
+  pub none_pushed : s.items ≡ []
   none_pushed = none_formed s.items (st.typed.items ∙ ap items_of (at_rest p st.typing s st.typed idle))
 
   none_marked : m.entries.items ≡ []
   none_marked = nil_from_length m.entries.items (same_items_length m.entries.items s.items st.agrees.entries ∙ ap length none_pushed)
 
-  none_running : m.stack.tasks ≡ []
+  pub none_running : m.stack.tasks ≡ []
   none_running = none_alike m.stack.tasks s.tasks st.agrees.tasks idle
 
   -- what is picked, as the checked machine finds it
@@ -423,18 +417,15 @@ module _ (p : Image) (m : Parts) (s : State) (st : StandsFor (record { image = p
       is = is;
       small = subst (λ o. IfSome o (λ c. c < 256)) is (class_fits p m s st.agrees id);
       handled = subst (λ t. IsSome (part_of p Handles t)) its_class.1 its_method;
-      enlisted = told_enlisted a _ _ (makes.stands (requested s.cells) (queued p s.cells) k.candidate.request st.agrees.requests.stands k.asked) id ∙ ap is_some (here id (Some (taken_up k.candidate.request)) (requested s.cells));
+      enlisted =
+          ap is_some (told_state a _ _ (makes.stands (requested s.cells) (queued p s.cells) k.candidate.request st.agrees.requests.stands k.asked) id (taken_up k.candidate.request) (here id (Some (taken_up k.candidate.request)) (requested s.cells)) k.unqueued);
       idle = none_running;
       bare = none_marked;
       room = (let deep = st.agrees.room in omega (arith, deep));
     }
       where
-        class_in : (o : Option Held_cell) → thing_in o ≡ Some (An_object_of its_class.0) → class_of o ≡ Some its_class.0
-        class_in None e = cc
-        class_in (Some c) e = ap payers.class_of (same_Some _ _ e)
-
         is : class_at m.cells id ≡ Some its_class.0
-        is = class_in (cell_at m.cells id) (its_thing ∙ ap Some its_class.1)
+        is = class_in (cell_at m.cells id) its_class.0 (its_thing ∙ ap Some its_class.1)
 
     -- the dispatch that the machine begins is that of the checked machine
     module _ (a : Active) (told now : Turn) (new : Parts) (makes : Makes m.active a id taken_up) (d : Dispatches p id (record m { active = a }) told now new) where

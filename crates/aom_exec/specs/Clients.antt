@@ -1,5 +1,5 @@
 -- What the commands of clients do to the parts of the machine.
-use Rattle.std.specs.Prelude.{◌≡◌, ◌<◌, ◌≤◌, ◌+◌, ◌++◌, nat_lt, ℕ, ℤ, Bool, true, false, IfSome, is_some, List, [], ◌∷◌, Option, Some, None, Result, length, option_map}
+use Rattle.std.specs.Prelude.{◌≡◌, ◌<◌, ◌≤◌, ◌+◌, nat_lt, ℕ, ℤ, true, false, IfSome, is_some, List, [], ◌∷◌, Option, Some, None, Result, length, option_map}
 use Rattle.aom_image.specs.Image.{Image}
 use Rattle.aom_roles.specs.Shapes.{kind_of}
 use Rattle.aom_clients.specs.Clients as clients
@@ -20,8 +20,7 @@ use Rattle.aom_sound.specs.World.{Obeys}
 use Rattle.aom_transcript.specs.declared.event.Command.{Command}
 use Rattle.aom_transcript.specs.declared.event.Command.TheVariants.{Connect, Send, Close, Die}
 use Rattle.aom_lines.specs.Turn.{Turn}
-use Rattle.aom_parts.specs.declared.parts.Parts.{Parts}
-use Rattle.aom_parts.specs.Stands.{Machine, StandsFor}
+use Rattle.aom_parts.specs.Stands.{Machine}
 use Rattle.aom_exec.specs.Turns.{Takes}
 
 -- the client does what it is told, with some name that is free for what it sends

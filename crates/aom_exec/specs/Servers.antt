@@ -1,10 +1,10 @@
 -- The dispatch of a server begins: the first of its queue is taken.
-use Rattle.std.specs.Prelude.{◌≡◌, ◌<◌, ◌≤◌, ◌++◌, ℕ, ℤ, zero, suc, Bool, true, false, IsSome, is_some, List, [], ◌∷◌, Option, Some, None, length}
+use Rattle.std.specs.Prelude.{◌≡◌, ◌<◌, ◌++◌, ℕ, ℤ, zero, suc, Bool, true, false, IsSome, is_some, [], ◌∷◌, Some, length}
 use Rattle.std.specs.Int.{w32, cast_signed, cast_unsigned}
 use Rattle.aom_image.specs.Image.{Image}
 use Rattle.aom_image.specs.declared.method.Role.TheVariants.{Accept as Accepts_role, Service as Attends}
 use Rattle.aom_classes.specs.Roles.{role_of}
-use Rattle.aom_cells.specs.Heap.{Lives, class_at}
+use Rattle.aom_cells.specs.Heap.{class_at}
 use Rattle.aom_requests.specs.Requests.{is_server, request_at}
 use Rattle.aom_active.specs.Agrees.{Active}
 use Rattle.aom_active.specs.Meanings.{Asks}

@@ -4,7 +4,7 @@ use Rattle.aom_image.specs.Image.{Image}
 use Rattle.aom_image.specs.declared.method.Role.TheVariants.{Run as Handles}
 use Rattle.aom_classes.specs.Roles.{role_of}
 use Rattle.aom_cells.specs.Heap.{class_at}
-use Rattle.aom_requests.specs.Requests.{IsEnlisted, status_at}
+use Rattle.aom_requests.specs.Requests.{state_at, status_at}
 use Rattle.aom_transcript.specs.declared.line.Line.TheVariants.{Run as Run_line}
 use Rattle.aom_frames.specs.Tasks.{fresh}
 use Rattle.aom_frames.specs.declared.task.Task.TheVariants.{Run, Trapped, Dispatched}
@@ -54,13 +54,13 @@ Answers cells (Some x) (Some a) = (c : Cell) × (cell_at cells a.cell ≡ Some c
 
 -- ---- a dispatch begins
 
--- the cell of that number lives, its class has a method that handles a signal, it is enlisted, and nothing is at hand
+-- the cell of that number lives, its class has a method that handles a signal, it is enlisted as an object, and nothing is at hand
 pub record CanDispatch (p : Image) (m : Parts) (id : ℕ) : Type 0 where
   pub class : ℕ
   pub is : class_at m.cells id ≡ Some class
   pub small : class < 256
   pub handled : IsSome (role_of p class Handles)
-  pub enlisted : IsEnlisted m.active.table id
+  pub enlisted : IsSome (state_at m.active.table id)
   pub idle : m.stack.tasks ≡ []
   pub bare : m.entries.items ≡ []
   pub room : 1024 ≤ m.stack.depth

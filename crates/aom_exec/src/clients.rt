@@ -159,7 +159,13 @@ pub fn obey(
 {
     let asked = asked_by(parts, command, linked);
     let queue = queue_of(parts, client, asked);
-    let answer = act(&mut parts.clients, &mut parts.messages, client, command, asked);
+    let answer = act(
+        &mut parts.clients,
+        &mut parts.messages,
+        client,
+        command,
+        asked,
+    );
     if let Some(server) = queue {
         note_queue(parts, server);
     }

@@ -191,7 +191,13 @@ impl<'a> Machine<'a> {
         ensures timers { timers self.new ≡ timers self.old }
         ensures agrees { AgreesInAll self.new }
     {
-        clients::obey(&mut self.parts, client, command, self.accepted.linked(), turn)
+        clients::obey(
+            &mut self.parts,
+            client,
+            command,
+            self.accepted.linked(),
+            turn,
+        )
     }
 
     /// Between dispatches a native is polled: it completes the request of the cell of that number with a code, or nothing.

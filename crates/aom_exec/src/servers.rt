@@ -129,8 +129,6 @@ fn part(parts: &mut Parts, server: Subject, client: u8, linked: &Linked)
     let Some(session) = parts.clients.release_session(client) else {
         unreachable!();
     };
-    parts
-        .stack
-        .push(Task::Dispatched(Dispatch::Server(server, client, Stage::Parts)));
+    parts.stack.push(Task::Dispatched(Dispatch::Server(server, client, Stage::Parts)));
     aom_acts::begin(parts, u32::from(session), linked);
 }

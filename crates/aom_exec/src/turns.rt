@@ -57,7 +57,11 @@ fn dispatch(parts: &mut Parts, id: CellId, linked: &Linked, turn: &mut Turn)
     turn.push(Line::Run(parts.rest.clock(), class, parts.active.status(id)));
     parts.rest.count_anew();
     let subject = Subject::new(number, class);
-    run_under(parts, Dispatch::Object(subject), Frame::begin(method, number));
+    run_under(
+        parts,
+        Dispatch::Object(subject),
+        Frame::begin(method, number),
+    );
 }
 
 /// A method is at hand under the trap of that dispatch, and nothing else is.

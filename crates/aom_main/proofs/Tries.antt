@@ -17,7 +17,9 @@ use Rattle.aom_run.specs.declared.outcome.Outcome.{Outcome}
 use Rattle.aom_script.specs.Script.{Script}
 use Rattle.aom_run.proofs.Sending.{after_both, after_none, cut_next}
 use Rattle.aom_main.specs.Explored.{Begun, IsLast, Tried}
-use Rattle.aom_main.specs.Headline.{HasNatives, Says, Sent}
+use Rattle.aom_main.specs.Headline.{HasNatives, RefusesBoot, Says, Sent}
+use Rattle.aom_main.specs.declared.faults.Fault.{Fault}
+use Rattle.aom_main.specs.declared.faults.Fault.TheVariants as faults
 
 -- all numbers below that one were tried
 pub record SoFar (p : Image) (script : Script) (limit natives first number : ℕ) (sent : Sent) : Type 0 where
@@ -111,6 +113,10 @@ fresh_so p m image stands = subst (λ q. StandsFor m (boot_state q)) (sym image)
 -- and has as many natives as its image names
 pub has_enough : {X : Type 0} {B : X → Type 0} (p : Image) (m : Machine X B) (natives : ℕ) → m.core.image ≡ p → natives_of m ≡ natives → StandsFor m (boot_state p) → HasNatives p natives
 has_enough p m natives image count stands = subst (λ n. HasNatives p n) count (subst (λ q. HasNatives q (natives_of m)) image stands.serves.enough)
+
+-- want of memory is told of a machine that has them
+pub wants_memory : (p : Image) (natives : ℕ) (fault : Fault) → fault ≡ faults.Memory → HasNatives p natives → RefusesBoot p natives fault
+wants_memory p natives fault is enough = rw is enough
 
 -- a run from one outside is one from the same
 pub heard_same : {X : Type 0} {B : X → Type 0} (m new : Machine X B) (outcome : Outcome) (failed : Bool) (before now : Option (List ℕ)) (refused same : List ℕ) (limit count natives : ℕ) (events : List TimedEvent) → refused ≡ same → count ≡ natives

@@ -1,5 +1,5 @@
 //! Tests of `aom_main`, from outside: each command over bytes and sinks, and programs beside natives, those of the tests' own
-//! among them. Other programs are in `aom_main_program_tests`.
+//! among them, and servers beside their clients. Other programs are in `aom_main_program_tests`.
 #![tactic(auto)]
 
 #[cfg(test)]
@@ -12,5 +12,7 @@ mod memory;
 mod pages;
 #[cfg(test)]
 mod served;
+#[cfg(test)]
+mod servers;
 #[cfg(test)]
 mod tally;

@@ -49,6 +49,15 @@ impl<'a> Told<'a> {
         }
     }
 
+    /// Main was left, or an error was not answered.
+    pub fn broken(out: &'a str) -> Told<'a> {
+        Told {
+            status: ExitStatus::Broken,
+            out: out.as_bytes(),
+            errors: b"",
+        }
+    }
+
     /// The output took that, and no more.
     pub fn cut(out: &'a str) -> Told<'a> {
         Told {

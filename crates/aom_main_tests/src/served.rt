@@ -37,7 +37,7 @@ pub fn serves(
 }
 
 /// The image of a text.
-fn assembled(rt: &impl Abort, alloc: Global, text: &str) -> Page {
+pub fn assembled(rt: &impl Abort, alloc: Global, text: &str) -> Page {
     let mut image = Page::new(alloc, 1 << 12);
     let mut errors = Page::new(alloc, 100);
     let status = asm_bytes(alloc, text.as_bytes(), &mut image, &mut errors);
@@ -94,6 +94,39 @@ fn what_a_sensor_owes_ends_with_it(rt: HostRuntime) -> Result<(), Fail> {
         "@0 main\nkilled 0\n@5 run 0 -15\nout -15\n@6 run 0 -15\nout -15\n@7 run 0 -15\nout -15\n@8 run 0 -15\nout -15\nend waiting cells 3\n",
     );
     serves_beside(&rt, rt.alloc(), native, TWO_SENSORS, "5 kill 0", told)
+}
+
+/// It may be killed in any turn, also in the first one, at time 1.
+#[test]
+fn a_sensor_may_be_killed_at_any_time(rt: HostRuntime) -> Result<(), Fail> {
+    for time in 0..10u32 {
+        let native = Box::new(rt.alloc(), Line::new())?;
+        let script = format!(in rt.alloc(); "{time} kill 0")?;
+        let first = time.max(1);
+        let (second, third, last) = (first + 1, first + 2, first + 3);
+        let text = format!(in rt.alloc();
+            "@0 main\nkilled 0\n@{first} run 0 -15\nout -15\n@{second} run 0 -15\nout -15\n@{third} run 0 -15\nout -15\n@{last} run 0 -15\nout -15\nend waiting cells 3\n"
+        )?;
+        let told = Told::unfinished(text.as_str());
+        serves_beside(&rt, rt.alloc(), native, TWO_SENSORS, script.as_str(), told)?;
+    }
+    Ok(())
+}
+
+#[test]
+fn a_sensor_that_has_answered_is_killed(rt: HostRuntime) -> Result<(), Fail> {
+    let native = Box::new(rt.alloc(), Line::new())?;
+    let told = Told::unfinished(
+        "@0 main\n@3 run 0 5\nout 5\nkilled 0\n@4 run 0 -15\nout -15\n@5 run 0 -15\nout -15\n@6 run 0 -15\nout -15\nend waiting cells 3\n",
+    );
+    serves_beside(
+        &rt,
+        rt.alloc(),
+        native,
+        TWO_SENSORS,
+        "3 event 0 5\n4 kill 0",
+        told,
+    )
 }
 
 #[test]

@@ -225,8 +225,12 @@ module _
   left_by_row None = same
   left_by_row (Some to) =
       same_left k s.cells s.clients same w.good.tidy c client (queue_empty p t wired s w s.clients fit) (messages_wait p t wired s w s.clients fit k same) p s to tidy_left
-      (λ n session slots at. let o = server_open n session slots at in (o.0, o.1, server_stays o.0 o.2 o.3,
-        subst (λ i. o.0.name < i) (sym (length-map k.queues (λ es. filter (λ e. kept.stays c k.places e) es) ∙ sized.queues)) (below o.0 o.2 o.3)))
+      (λ n session slots at. let o = server_open n session slots at in (
+        o.0,
+        o.1,
+        server_stays o.0 o.2 o.3,
+        subst (λ i. o.0.name < i) (sym (length-map k.queues (λ es. filter (λ e. kept.stays c k.places e) es) ∙ sized.queues)) (below o.0 o.2 o.3),
+      ))
 
   pub same_close : (name : ℕ) → After (kept.after_close c k) (commanded p c s Close name)
   same_close name = subst (λ to. After (kept.after_close c k) (leaving p c s to)) (sym (row_close (kept.client_at k c)) ∙ ap (λ x. (row x).close) (same.at c)) (left_by_row (row (kept.client_at k c)).close)

@@ -100,7 +100,7 @@ module _ (p : Image) (t : Typing) (wired : IsWired p) (s : State) (w : WellTyped
       go (Elsewhere (Waits_at i m)) at h =
           let there : held s.cells (Elsewhere (Waits_at i m)) ≡ Some x.object = ap (held s.cells) (sym at) ∙ held_cell s.cells x.owner ∙ ap object_in (cell_placed s.cells n x w.good.tidy e) in
           let y : IsQueuedAt p s.cells i m x.object.thing = queued_thing_of p s.cells w.layers i m x.object.thing
-                  (fits_thing p (seen s.cells) x.object _ (subst (λ y. Fits p (seen s.cells) y (claim p (declared p s.cells) w.layers (Elsewhere (Waits_at i m)))) there (w.good.fits (Elsewhere (Waits_at i m))))) in
+          (fits_thing p (seen s.cells) x.object _ (subst (λ y. Fits p (seen s.cells) y (claim p (declared p s.cells) w.layers (Elsewhere (Waits_at i m)))) there (w.good.fits (Elsewhere (Waits_at i m))))) in
           ap is_object (queued_lower p wired y.0 x.object.thing y.3).0
       go _ at h = cc
 

@@ -138,7 +138,7 @@ module _ (p : Image) (t : Typing) (wired : IsWired p) (s : State) (w : WellTyped
   pub asked_there : (n m : ℕ) (x : Object) → held s.cells (Elsewhere (Waits_at n m)) ≡ Some x → (x.name ≡ m) × (has_message (service_of s.cells n) m ≡ true)
   asked_there n m x e =
       let y : IsQueuedAt p s.cells n m x.thing = queued_thing_of p s.cells w.layers n m x.thing
-              (fits_thing p (seen s.cells) x _ (subst (λ y. Fits p (seen s.cells) y (claim p (declared p s.cells) w.layers (Elsewhere (Waits_at n m)))) e (w.good.fits (Elsewhere (Waits_at n m))))) in
+      (fits_thing p (seen s.cells) x _ (subst (λ y. Fits p (seen s.cells) y (claim p (declared p s.cells) w.layers (Elsewhere (Waits_at n m)))) e (w.good.fits (Elsewhere (Waits_at n m))))) in
       (fit.names n m x e, y.2)
 
   -- and what is asked for waits there

@@ -105,8 +105,8 @@ module _ (p : Image) (t : Typing) (wired : IsWired p) (s : State) (w : WellTyped
         let at = connecting_here k s.cells s.clients same x.object.name c kept_so.0 in
         let none = connects_nowhere p s.clients s.cells fit x.object.name c kept_so.0 kept_so.1 in
         let now : SameClients (kept.after_connected c (Some session) k) (reserved (opened c) x.object.name s.cells) (with_client c (at_opening 0 (client_at s.clients c)) s.clients) =
-                subst (λ y. SameClients (kept.opened y (Some session) c k) (reserved (opened c) x.object.name s.cells) (with_client c (at_opening 0 (client_at s.clients c)) s.clients)) (sym at.1)
-                (same_opened k s.cells s.clients same w.good.tidy x.object lives c (connecting_below s.cells s.clients k same c x.object.name kept_so.0) at.0 session at.1 none session_room) in
+        subst (λ y. SameClients (kept.opened y (Some session) c k) (reserved (opened c) x.object.name s.cells) (with_client c (at_opening 0 (client_at s.clients c)) s.clients)) (sym at.1)
+        (same_opened k s.cells s.clients same w.good.tidy x.object lives c (connecting_below s.cells s.clients k same c x.object.name kept_so.0) at.0 session at.1 none session_room) in
         subst (λ l. SameClients (kept.after_connected c (Some session) k) l (with_client c (at_opening 0 (client_at s.clients c)) s.clients)) (sym (reserved_moved (opened c) s.cells from (Elsewhere (Session x.object.name c)) x.object.name))
         (same_still (kept.after_connected c (Some session) k) (reserved (opened c) x.object.name s.cells) _ _ (still_moved (reserved (opened c) x.object.name s.cells) from (Elsewhere (Session x.object.name c)) apart) now)
 

@@ -173,7 +173,7 @@ module _ {X : Type 0} {B : X → Type 0} where
       part s stands = delivers (hearing [] 0 (natives_of m) events) (name s stands) s come.0.event
 
       taken : (s : State) (stands : StandsFor m s) → Takes m s (part s stands) told now new
-      unfolding part, name
+      unfolding part name
       taken s stands = (takes (hearing [] 0 (natives_of m) events) refl s stands).2
 
       same_after : (s : State) (stands : StandsFor m s) → ((taken s stands).state.tasks ≡ s.tasks) × ((taken s stands).state.rest ≡ record s.rest { delivered = suc s.rest.delivered })

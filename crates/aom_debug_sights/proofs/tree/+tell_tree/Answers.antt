@@ -1,5 +1,5 @@
 -- The line of what is held, and then what hangs from its fields, one field after another, and from its sessions, one after another.
-use Rattle.std.proofs.Common.{◌≡◌, ◌∙◌, ◌<◌, ◌-◌, ◌++◌, ◌∷◌, [], ℕ, IfSome, List, None, Option, Some, ap, append_assoc, arith, length, refl, subst, suc, sym, take}
+use Rattle.std.proofs.Common.{◌≡◌, ◌∙◌, ◌<◌, ◌-◌, ◌++◌, ◌∷◌, [], ℕ, IfSome, List, Option, Some, ap, append_assoc, arith, length, refl, subst, suc, sym, take}
 use Rattle.std.proofs.Math.Seq.{take-append_seam}
 use Rattle.std.proofs.lemmas.Bool.{false≢true}
 use Rattle.std.proofs.lemmas.List.{append-nil}
@@ -137,7 +137,7 @@ loop-next-preserved g t c =
     let first = c.loop-field.way in
     let all = one_behind i.so_far.0 xs c.loop-next.next client (c.are_apart.ensures.once id) (i.inside client c.in-Some-next.is) c.in-Some-next.is i.so_far.1 in
     record {
-      same = back_again first c.loop-next.way c.enter_session.new.self c.tell_tree-2.new.way c.cut-2.new.self (branch_text (By_session client)) c.len-length.result c.cut-2.ensures (c.len-length.ensures ∙ ap length (sym c.loop-field.invariant.same)) c.in_ok-tell_tree-2.ensures.same c.enter_session.ensures.text i.same;
+      same = back_again first c.loop-next.way c.enter_session.new.self c.tell_tree-in-Some-next.new.way c.cut-in-Some-next.new.self (branch_text (By_session client)) c.len-length.result c.cut-in-Some-next.ensures (c.len-length.ensures ∙ ap length (sym c.loop-field.invariant.same)) c.in_ok-tell_tree-2.ensures.same c.enter_session.ensures.text i.same;
       inside = λ d e. after-in client d xs (sym next ∙ e);
       small = λ d e. subst (λ o. IfSome o (λ k. k < 64)) e c.next_session-next.ensures.below;
       so_far = (
@@ -163,7 +163,7 @@ returns-clause-ok g t c =
     let deep : c.args.depth ≡ suc (c.args.depth - 1) = omega (arith, some) in
     let most = c.loop-field.auto.field-end in
     let least = c.loop-field-test.false in
-    let all : i.so_far.0 ≡ xs = sym (append-nil i.so_far.0) ∙ ap (λ o. i.so_far.0 ++ from o xs) (sym c.in-None-next.is) ∙ i.so_far.1 in
+    let all : i.so_far.0 ≡ xs = sym (append-nil i.so_far.0) ∙ ap (λ o. i.so_far.0 ++ from o xs) (sym c.in_default-next.is) ∙ i.so_far.1 in
     λ p w r is shows.
     let begun = c.tell_owned.ensures.same ∙ is in
     tree_told p m id c.class.result (c.args.depth - 1) c.args.depth w r c.args.way.now (subst (λ k. Shows (record { image = p; parts = m }) k r) (sym c.in-Some.ensures.value) shows) c.class.ensures is deep _ _ _ c.in_ok-tell_owned.ensures.ok

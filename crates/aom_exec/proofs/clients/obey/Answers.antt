@@ -1,5 +1,6 @@
 -- A client does what it is told.
-use Rattle.std.proofs.Common.{subst, sym, ◌<◌, ◌∙◌}
+use Rattle.std.proofs.Common.{arith, rules, subst, sym, to_z, of_z, w32, FitsSigned, ◌<◌, ◌∙◌}
+use Rattle.std.proofs.lemmas.Int.{to_z-of_z}
 use Rattle.aom_exec.proofs.Commands.{can_act}
 use Rattle.aom_exec.proofs.Heard.{heard, hears_none, hears_some, hears_timers, sized_acts, told_none, told_one}
 use Rattle.aom_exec.proofs.Progressing.{between, is_as_far}
@@ -14,6 +15,13 @@ act-answer-requires-clause-can c =
     let st = c.requires.stands.1 in
     let b = between s (sym (is_as_far (record { image = p; parts = m }) s st) ∙ c.requires.between) in
     can_act p m s st b.idle c.args.client c.requires.client c.args.command c.requires.ranged
+
+pub note_queue-requires-clause-small : goal.note_queue-requires-clause-small
+note_queue-requires-clause-small c =
+    let below = c.in-Some.ensures.below in
+    let many = c.requires.stands.1.agrees.services.sized.queues in
+    let few = c.requires.stands.1.sound.formed.header.cells in
+    omega (arith, below, many, few)
 
 -- there are as many queues after an act as before it
 pub note_queue-requires-clause-within : goal.note_queue-requires-clause-within
@@ -56,7 +64,8 @@ returns-in-Err-clause-obeyed c =
     let m = c.args.parts.now in
     let told = c.args.turn.now in
     let now = c.push.new.self in
-    let lines = told_one c.args.client told now c.act-answer.result c.in-Err.refusal c.code.result c.in-Err.is c.code.ensures c.push.ensures in
+    let fits : FitsSigned w32 c.code.result = search rules in
+    let lines = told_one c.args.client told now c.act-answer.result c.in-Err.refusal (to_z w32 (of_z w32 c.code.result)) c.in-Err.is (to_z-of_z w32 c.code.result fits ∙ c.code.ensures) c.push.ensures in
     elim c.match-queue.branch [
       | in-Some w ↦
           rw (c.deliver.ensures, w.parts-is, w.note_queue.ensures.rest)

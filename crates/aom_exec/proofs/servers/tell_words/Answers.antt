@@ -1,5 +1,5 @@
 -- The words of the message are in the registers so far, and each is such as a register has.
-use Rattle.std.proofs.Common.{ap, of_z, refl, rules, subst, w32, FitsSigned, ◌≡◌, ◌∙◌}
+use Rattle.std.proofs.Common.{ap, arith, of_z, refl, rules, subst, suc, w32, FitsSigned, ◌+◌, ◌≡◌, ◌∙◌}
 use Rattle.std.specs.Int.{cast_unsigned}
 use Rattle.std.proofs.lemmas.Int.{to_z-of_z}
 use Rattle.aom_frames.specs.Tasks.{with_register}
@@ -18,11 +18,12 @@ loop-word-preserved c =
     let fits : FitsSigned w32 c.word.result = search rules in
     let same = to_z-of_z w32 c.word.result fits in
     let here : IsWord (word_at messages place w) = subst (λ z. IsWord z) c.word.ensures same in
+    let one : w + 1 ≡ suc w = omega arith in
     let bits : c.cast_unsigned.result ≡ cast_unsigned w32 (word_at messages place w) = c.cast_unsigned.ensures ∙ ap (of_z w32) (same ∙ c.word.ensures) in
-    record {
+    rw one (record {
       told = c.set_register.ensures ∙ ap (λ i. with_register w i c.loop-word.frame) bits ∙ ap (λ f. told_word messages place w f) c.loop-word.invariant.told;
       read = (here, c.loop-word.invariant.read);
-    }
+    })
 
 pub returns : goal.returns
 returns c =

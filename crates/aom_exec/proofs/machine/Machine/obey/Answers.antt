@@ -1,5 +1,5 @@
 -- A client does what it is told.
-use Rattle.std.proofs.Common.{None, Option, Some, ap, arith, length, subst, sym, ℕ, ◌+◌, ◌++◌, ◌≡◌, ◌≤◌}
+use Rattle.std.proofs.Common.{None, Option, Some, ap, arith, length, subst, sym, ℕ, ◌++◌, ◌≡◌, ◌≤◌}
 use Rattle.std.proofs.lemmas.List.{length-append}
 use Rattle.aom_clients.specs.declared.refusal.Refusal.{Refusal}
 use Rattle.aom_sound.specs.Clients.{refusal}

@@ -1,0 +1,17 @@
+-- An enlisted object is told by its request.
+use Rattle.std.proofs.Common.{◌≡◌, ◌∙◌, FitsSigned, Some, ap, rules, w32}
+use Rattle.std.proofs.lemmas.Int.{to_z-of_z}
+use Rattle.aom_cells.specs.Heap.{class_at}
+use Rattle.aom_debug_sights.proofs.Enlisted.{enlisted_told}
+use Rattle.aom_debug_sights.proofs.actives.entry_answer.Goals as goal
+
+pub returns : goal.returns
+returns c = λ p s st has.
+    let m = c.args.parts.now in
+    let id = c.args.entry.id in
+    let priority = c.args.entry.priority in
+    let status = c.status-status.result in
+    let ranked : FitsSigned w32 priority = search rules in
+    let ended : FitsSigned w32 status = search rules in
+    let class : Some c.in_ok-class.class ≡ class_at m.cells id = c.in_ok-class.ensures ∙ ap (class_at m.cells) c.number.ensures.value in
+    rw (to_z-of_z w32 priority ranked, to_z-of_z w32 status ended, c.phase_of.ensures) (enlisted_told p m s st id c.in_ok-class.class priority status c.in_ok-state.state has c.in_ok-state.ensures c.status-status.ensures class)
