@@ -27,7 +27,7 @@ use Rattle.aom_sound.proofs.Seated.{seats_first}
 use Rattle.aom_sound.proofs.Services.{held_served, service_here, service_moved}
 use Rattle.aom_sound.proofs.Signals.{at_rest}
 use Rattle.aom_sound.proofs.Straight.{fits_unowning}
-use Rattle.aom_sound.specs.Claims.{claim, declared, items_of}
+use Rattle.aom_sound.specs.Claims.{claim, declared}
 use Rattle.aom_sound.specs.Clients.{most_of}
 use Rattle.aom_sound.specs.Destruction.{begun, begun_by}
 use Rattle.aom_sound.specs.Enlisted.{thing_kind}
@@ -52,11 +52,12 @@ use Rattle.aom_parts.specs.Serving.{asked_by, message_name}
 use Rattle.aom_parts.specs.Stands.{StandsFor}
 use Rattle.aom_parts.specs.Waits.{OthersWait}
 use Rattle.aom_rules.specs.Typing.{Typing}
-use Rattle.aom_acts.proofs.RoomMoves.{dispatches_with_room, none_formed}
+use Rattle.aom_acts.proofs.RoomMoves.{dispatches_with_room}
 use Rattle.aom_exec.specs.Servers.{AreRead, Begins, IsWord, Notes, ServesFirst, accepting, attending, parting, serve_asked, taken_from}
 use Rattle.aom_exec.specs.Turns.{Takes}
 use Rattle.aom_exec.proofs.Dispatching.{accept_agrees, accept_goes, attend_agrees, attend_goes, part_agrees, part_goes}
 use Rattle.aom_exec.proofs.Queued.{attend_there, client_same, closer_there, first_fits, first_once, part_there, place_there, server_class}
+use Rattle.aom_exec.proofs.Turning.{none_pushed}
 
 -- ---- a cell is at hand to go, below it its dispatch alone
 
@@ -164,9 +165,6 @@ module _ (p : Image) (m : Machine_parts) (s : State) (st : StandsFor (record { i
   queue_so : (es : List Entry) → queue ≡ es → (service_of s.cells n).queue ≡ map (asked_by m.clients.places) es
   queue_so es at = sym (st.agrees.services.clients.queues n) ∙ ap (map (asked_by m.clients.places)) at
 
-  none_pushed : s.items ≡ []
-  none_pushed = none_formed s.items (st.typed.items ∙ ap items_of (at_rest p st.typing s st.typed idle))
-
   -- ---- what clients have is kept
 
   empty_now : (q : Place) → declared p s.cells q ≡ Null → held cs q ≡ None
@@ -212,7 +210,7 @@ module _ (p : Image) (m : Machine_parts) (s : State) (st : StandsFor (record { i
       typed = subst (λ o. Keeps p st.typing o) accepted_goes keeps;
       calm = (λ clearing. absurd (true≢false (sym clearing)), (refl, tt));
       traps = (tt, (tt, tt));
-      room = dispatches_with_room p (at 0 st.sound.depths.depths) st.sound.heights cs method (Inside x.object x.place) (Of_server x c Accepts) s.items then.rest s.killed s.clients none_pushed;
+      room = dispatches_with_room p (at 0 st.sound.depths.depths) st.sound.heights cs method (Inside x.object x.place) (Of_server x c Accepts) s.items then.rest s.killed s.clients (none_pushed p m s st idle);
       waits = tt;
       kept = record {
         fit = fit_now (Connect c) es at_first;
@@ -256,7 +254,7 @@ module _ (p : Image) (m : Machine_parts) (s : State) (st : StandsFor (record { i
       typed = subst (λ o. Keeps p st.typing o) attended_goes keeps;
       calm = (λ clearing. absurd (true≢false (sym clearing)), (refl, tt));
       traps = (tt, (tt, tt));
-      room = (let r = dispatches_with_room p (at 0 st.sound.depths.depths) st.sound.heights attended.cells method (Inside o home) (Of_server x c (Serves o)) s.items then.rest s.killed s.clients none_pushed in record { under = r.under; runs = r.runs; fit = r.fit; entries = r.entries });
+      room = (let r = dispatches_with_room p (at 0 st.sound.depths.depths) st.sound.heights attended.cells method (Inside o home) (Of_server x c (Serves o)) s.items then.rest s.killed s.clients (none_pushed p m s st idle) in record { under = r.under; runs = r.runs; fit = r.fit; entries = r.entries });
       waits = tt;
       kept = record {
         fit = fit_moved p s.clients cs (Elsewhere (Queued n (message_name j))) (Elsewhere In_service) (empty_now (Elsewhere In_service) refl) (λ i k. refl) (fit_now (Message j) es at_first);
@@ -291,7 +289,7 @@ module _ (p : Image) (m : Machine_parts) (s : State) (st : StandsFor (record { i
       typed = subst (λ o. Keeps p st.typing o) parted_goes keeps;
       calm = begun_calm p o (length s.items) d st.sound.wired;
       traps = begun_traps p o (length s.items) d;
-      room = begun_room p o (length s.items) d (at 0 st.sound.depths.depths) st.sound.heights parted_cells s.items then.rest s.killed s.clients none_pushed;
+      room = begun_room p o (length s.items) d (at 0 st.sound.depths.depths) st.sound.heights parted_cells s.items then.rest s.killed s.clients (none_pushed p m s st idle);
       waits = begun_waits p o (length s.items) d st.typing parted_cells;
       kept = record {
         fit = fit_moved p s.clients cs (Elsewhere (Session n c)) (Going 1) (empty_now (Going 1) refl) (λ i k. refl) (fit_now (Close c) es at_first);

@@ -56,7 +56,7 @@ use Rattle.aom_parts.proofs.Services.{services_moved}
 use Rattle.aom_parts.proofs.Servicing.{same_attended, same_next, same_released}
 use Rattle.aom_parts.proofs.Sessions.{natives_moved}
 use Rattle.aom_parts.proofs.Sizing.{sized_next, sized_released}
-use Rattle.aom_parts.proofs.Values.{moves, none_alike}
+use Rattle.aom_parts.proofs.Values.{moves}
 use Rattle.aom_acts.proofs.GoingActs.{begins, destructor_same, dying_shows, server_same, thing_is}
 use Rattle.aom_acts.proofs.Firsts.{session_object}
 use Rattle.aom_acts.proofs.Standing.{Aside, begun_frame, begun_registers, nothing_held, object_class, object_small}
@@ -68,6 +68,7 @@ use Rattle.aom_parts.proofs.Vanishing.{names_same}
 use Rattle.aom_exec.specs.Servers.{Notes, accepting, attending, is_queued, parting, taken_from, told_words}
 use Rattle.aom_exec.proofs.Beginning.{ShowsIdle, begins_agrees, told_frame, words_shown}
 use Rattle.aom_exec.proofs.Noting.{noted_requests, waits_alike}
+use Rattle.aom_exec.proofs.Turning.{none_running}
 
 -- what serves is an object
 pub served_object : (p : Image) (y : Thing) → is_server p y ≡ true → is_object y ≡ true
@@ -139,12 +140,9 @@ module _ (p : Image) (m : Machine_parts) (s : State) (st : StandsFor (record { i
   queue_room : n < length m.clients.queues
   queue_room = subst (λ i. n < i) (sym st.agrees.services.sized.queues) below
 
-  none_running : m.stack.tasks ≡ []
-  none_running = none_alike m.stack.tasks s.tasks st.agrees.tasks idle
-
   -- what places show where nothing is at hand
   shows : ShowsIdle m s.cells
-  shows q = subst (λ us. Shows (value_in us m.cells m.entries.items (others m) q) (word_at [] q) (held s.cells q)) none_running (subst (λ ts. Shows (value m q) (word_at ts q) (held s.cells q)) idle (st.agrees.values q))
+  shows q = subst (λ us. Shows (value_in us m.cells m.entries.items (others m) q) (word_at [] q) (held s.cells q)) (none_running p m s st idle) (subst (λ ts. Shows (value m q) (word_at ts q) (held s.cells q)) idle (st.agrees.values q))
 
   nothing_at : (q : Place) → value_in [] m.cells m.entries.items (others m) q ≡ null → Shows (value_in [] m.cells m.entries.items (others m) q) None (held s.cells q) → held s.cells q ≡ None
   nothing_at q e h = nothing_held p m st.typing s st.typed st.agrees q (sym e ∙ h)
@@ -212,7 +210,7 @@ module _ (p : Image) (m : Machine_parts) (s : State) (st : StandsFor (record { i
 
     pub accept_agrees : Agrees p (accepting method subject c taken) (serving x c Accepts accept_frame then)
     accept_agrees =
-        begins_agrees p taken then (Server subject c stages.Accepts) (Of_server x c Accepts) (fresh method n) accept_frame none_running (aside_taken (Connect c) es at (λ j e. cc))
+        begins_agrees p taken then (Server subject c stages.Accepts) (Of_server x c Accepts) (fresh method n) accept_frame (none_running p m s st idle) (aside_taken (Connect c) es at (λ j e. cc))
         (begun_frame method n (Inside x.object x.place) (length (A_mark ∷ s.items)) refl (λ there. small)) (x.place, ap (λ t. Of_server (record { object = record { name = n; thing = t }; place = x.place }) c Accepts) (sym server_thing))
         (shows_taken (Connect c) es at (λ j e. cc)) unowned_taken (λ i. begun_registers method n i)
 
@@ -326,7 +324,7 @@ module _ (p : Image) (m : Machine_parts) (s : State) (st : StandsFor (record { i
     attend_agrees =
         let f = fresh method o.name in
         let begun = begun_frame method o.name (Inside o (Elsewhere (Session n c))) (length (A_mark ∷ s.items)) refl (λ there. object_small p m s st.sound.formed st.agrees o session_lives session_is_object) in
-        begins_agrees p served then_served (Server subject c (stages.Serves (record { number = o.name; class = class' }))) (Of_server x c (Serves o)) (told_words m.messages j f) attend_frame none_running aside_served
+        begins_agrees p served then_served (Server subject c (stages.Serves (record { number = o.name; class = class' }))) (Of_server x c (Serves o)) (told_words m.messages j f) attend_frame (none_running p m s st idle) aside_served
         (told_frame m.messages j 5 f (frame_of method (Inside o (Elsewhere (Session n c))) (length (A_mark ∷ s.items))) (message_words cs (message_name j)) begun)
         (x.place, ap (λ t. Of_server (record { object = record { name = n; thing = t }; place = x.place }) c (Serves (record { name = o.name; thing = An_object_of class' }))) (sym server_thing) ∙ ap (λ t. Of_server x c (Serves (record { name = o.name; thing = t }))) (sym session_thing_so))
         shows_served unowned_served (words_shown m.messages j cs (message_name j) f (length-replicate 16 null) (begun_registers method o.name) (λ w small. reads w small ∙ word_so w))
@@ -419,7 +417,7 @@ module _ (p : Image) (m : Machine_parts) (s : State) (st : StandsFor (record { i
     pub part_agrees : Agrees p (parting p o.name subject c taken) parting_state
     part_agrees =
         let us = Ends (Server subject c stages.Parts) ∷ [] in
-        subst (λ ms. Agrees p (with_tasks (dying p m.cells o.name (Ends (Server subject c stages.Parts) ∷ ms)) released) parting_state) (sym none_running)
+        subst (λ ms. Agrees p (with_tasks (dying p m.cells o.name (Ends (Server subject c stages.Parts) ∷ ms)) released) parting_state) (sym (none_running p m s st idle))
         (begins p released (record then { cells = moved gone_from (Going 1) cs }) us below_tasks o.name (class_at m.cells o.name) o (length s.items) refl part_small
         (server_same p m s st.agrees o part_lives part_object) (destructor_same p m s st.agrees o part_lives part_object)
         ((x.place, ap (λ t. Of_server (record { object = record { name = n; thing = t }; place = x.place }) c Parts) (sym server_thing)), tt) aside_released

@@ -3,8 +3,7 @@ use Rattle.std.proofs.Common.{List, None, Option, Some, [], ap, arith, length, r
 use Rattle.std.specs.Prelude.{IsSome, is_some, option_map, ◌||◌}
 use Rattle.std.proofs.lemmas.Bool.{and_parts, eq-eqb, eqb-true, false≢true}
 use Rattle.std.proofs.lemmas.Option.{none-some, same_Some}
-use Rattle.aom_cells.specs.Heap.{Lives, cell_at, class_at, class_of}
-use Rattle.aom_cells.specs.declared.cell.Cell.{Cell as Held_cell}
+use Rattle.aom_cells.specs.Heap.{Lives, cell_at, class_at}
 use Rattle.aom_clients.specs.declared.server.Server.{Server as Asked_server}
 use Rattle.aom_image.specs.Image.{Image}
 use Rattle.aom_image.specs.Views.{class_at as declared_at}
@@ -21,11 +20,11 @@ use Rattle.aom_shape.specs.Kinds.{is_object}
 use Rattle.aom_sound.specs.Clients.{is_of_class, most_of}
 use Rattle.aom_sound.specs.Places.{Object, Request, named, requested}
 use Rattle.aom_sound.specs.Servers.{is_among, is_server}
-use Rattle.aom_parts.specs.Agrees.{thing_in}
 use Rattle.aom_parts.specs.Listing.{lists}
 use Rattle.aom_parts.specs.Stands.{Stands}
 use Rattle.aom_parts.specs.declared.parts.Parts.{Parts}
 use Rattle.aom_exec.specs.Clients.{first_server}
+use Rattle.aom_exec.proofs.Turning.{class_in}
 use Rattle.aom_parts.proofs.CellFields.{cell_of}
 use Rattle.aom_parts.proofs.Cells.{class_told}
 
@@ -56,17 +55,6 @@ of_servers (Some Session) e = absurd (false≢true e)
 of_class : (class : ℕ) (t : Thing) → is_of_class class t ≡ true → t ≡ An_object_of class
 of_class class (An_object_of c) e = ap An_object_of (eqb-true c class e)
 of_class class Message e = absurd (false≢true e)
-
-class_in : (c : Option Held_cell) (class : ℕ) → thing_in c ≡ Some (An_object_of class) → class_of c ≡ Some class
-class_in None class e = cc
-class_in (Some c) class e = ap Some (same_class (An_object_of c.class) (An_object_of class) (same_Some _ _ e))
-  where
-    class_number : Thing → ℕ
-    class_number (An_object_of k) = k
-    class_number Message = 0
-
-    same_class : (t u : Thing) → t ≡ u → class_number t ≡ class_number u
-    same_class t u e = ap class_number e
 
 pub first_known : (p : Image) (m : Parts) → Stands (record { image = p; parts = m }) → (class n : ℕ) → first_of (list_at m.listed class) ≡ Some n → IsFirst p m class n
 first_known p m (s, st) class n first = go (named s.cells n) refl (requested s.cells n) (sym (st.agrees.services.listed.there n class) ∙ among_first (list_at m.listed class) n first)

@@ -264,6 +264,10 @@ class_told : (t : Thing) (class : ℕ) (c : Option Held_cell) → class_of c ≡
 class_told t class None e f = cc
 class_told t class (Some c) e f = sym (same_Some _ _ f) ∙ ap An_object_of (same_Some _ _ e)
 
+pub class_in : (c : Option Held_cell) (class : ℕ) → thing_in c ≡ Some (An_object_of class) → class_of c ≡ Some class
+class_in None class e = cc
+class_in (Some c) class e = ap payers.class_of (same_Some _ _ e)
+
 -- its method that handles the signal is there, since the checked machine goes on with it
 has_method : (p : Image) (t : Typing) (x : Seat) (s : State) (o : Option ℕ) → Keeps p t (dispatched o x s) → IsSome o
 has_method p t x s None k = absurd k
@@ -294,13 +298,13 @@ no_word d _ = refl
 
 module _ (p : Image) (m : Parts) (s : State) (st : StandsFor (record { image = p; parts = m }) s) (idle : s.tasks ≡ []) where
   -- nothing is on the cleanup stack
-  none_pushed : s.items ≡ []
+  pub none_pushed : s.items ≡ []
   none_pushed = none_formed s.items (st.typed.items ∙ ap items_of (at_rest p st.typing s st.typed idle))
 
   none_marked : m.entries.items ≡ []
   none_marked = nil_from_length m.entries.items (same_items_length m.entries.items s.items st.agrees.entries ∙ ap length none_pushed)
 
-  none_running : m.stack.tasks ≡ []
+  pub none_running : m.stack.tasks ≡ []
   none_running = none_alike m.stack.tasks s.tasks st.agrees.tasks idle
 
   -- what is picked, as the checked machine finds it
@@ -420,12 +424,8 @@ module _ (p : Image) (m : Parts) (s : State) (st : StandsFor (record { image = p
       room = (let deep = st.agrees.room in omega (arith, deep));
     }
       where
-        class_in : (o : Option Held_cell) → thing_in o ≡ Some (An_object_of its_class.0) → class_of o ≡ Some its_class.0
-        class_in None e = cc
-        class_in (Some c) e = ap payers.class_of (same_Some _ _ e)
-
         is : class_at m.cells id ≡ Some its_class.0
-        is = class_in (cell_at m.cells id) (its_thing ∙ ap Some its_class.1)
+        is = class_in (cell_at m.cells id) its_class.0 (its_thing ∙ ap Some its_class.1)
 
     -- the dispatch that the machine begins is that of the checked machine
     module _ (a : Active) (told now : Turn) (new : Parts) (makes : Makes m.active a id taken_up) (d : Dispatches p id (record m { active = a }) told now new) where

@@ -195,7 +195,7 @@ module _ {X : Type 0} {B : X → Type 0} (old : Machine X B) (core : Core) (imag
         d.0,
         d.1,
         subst (λ part. Takes old s part before now (record { core = core; natives = old.natives })) (sym (ap (λ b. cond b (Obeys client command d.0) Hears) (lt-ltb client client_count less)))
-        (plainly (Obeys client command d.0) s st (record { owes = λ n m b. refl; killed = refl }) d.1 tt before now d.2),
+            (plainly (Obeys client command d.0) s st (record { owes = λ n m b. refl; killed = refl }) d.1 tt before now d.2),
       )
 
   pub obeyed_none : (client : ℕ) (command : Command) → 64 ≤ client → Core_takes_all old.core Hears core → (now : Turn) → Delivered old (Client client command) now now (record { core = core; natives = old.natives })

@@ -1,11 +1,14 @@
 -- What a write of one slot makes of all slots.
-use Rattle.std.proofs.Common.{◌≡◌, ℕ, ◌<◌, List, Option, None, Some, length, slice_index_or, slice_set, sym, ap, ◌∙◌, subst, inl, inr}
+use Rattle.std.proofs.Common.{◌≡◌, ℕ, ◌<◌, ℤ, List, Option, None, Some, length, slice_index_or, slice_set, refl, sym, ap, ◌∙◌, subst, inl, inr}
 use Rattle.std.specs.Prelude.{IfSome, IsSome}
 use Rattle.std.proofs.lemmas.Bool.{cases_eq, cases_lt}
 use Rattle.std.proofs.lemmas.List.{get_or-set_same, get_or-set_other, get_or_past, get_or_default}
+use Rattle.std.proofs.lemmas.Int.{to_z-of_z}
 use Rattle.std.proofs.Math.ListN.{length-set}
 use Rattle.aom_natives.specs.Owed.{Agrees}
 use Rattle.aom_natives.specs.Slots.{living_at, ids_of, ids_at, AllAgree, KeepsOthers}
+use mir.Syntax.{w32}
+use mir.Val.{SFits, of_z, to_z}
 
 module _ {L : Type 0} where
   -- the slot that is written, and each other
@@ -31,6 +34,9 @@ module _ {L : Type 0} (kept owed : L → List ℕ) (slots : List (Option L)) (ag
     ];
   }
 
+  pub agree-none : (n : ℕ) (s : Option L) → n < length slots → s ≡ None → AllAgree kept owed (slice_set slots n s)
+  agree-none n s within none = agree-set n s within (subst (λ t. IfSome t (λ l. Agrees (kept l) (owed l))) (sym none) tt)
+
 module _ {L : Type 0} (slots : List (Option L)) (n : ℕ) where
   -- a living native has a slot
   pub within : IsSome (living_at slots n) → n < length slots
@@ -43,9 +49,30 @@ module _ {L : Type 0} (slots : List (Option L)) (n : ℕ) where
   pub living-is : (s : Option L) (l : L) → IsSome (living_at slots n) → s ≡ slice_index_or slots n s → s ≡ Some l → living_at slots n ≡ Some l
   living-is s l alive at is = get_or_default slots n None s (within alive) ∙ sym at ∙ is
 
-  -- what is kept of a native before and after a call at it
-  pub ids-kept : (kept : L → List ℕ) (l : L) → living_at slots n ≡ Some l → ids_at kept slots n ≡ kept l
-  ids-kept kept l is = ap (ids_of kept) is
+-- a call at the living native l of the slot n, which an index gives as s; m is the native after the call
+module _ {L : Type 0} (slots : List (Option L)) (n : ℕ) (s : Option L) (l : L) (alive : IsSome (living_at slots n)) (at : s ≡ slice_index_or slots n s) (is : s ≡ Some l) where
+  -- what is known of the slot is known of the native, and the other way round
+  pub from-slot : (P : Option L → Type 0) → P (living_at slots n) → P (Some l)
+  from-slot P known = subst P (living-is slots n s l alive at is) known
 
-  pub ids-written : (kept : L → List ℕ) (l : L) → n < length slots → ids_at kept (slice_set slots n (Some l)) n ≡ kept l
-  ids-written kept l inside = ap (ids_of kept) (written slots n (Some l) inside)
+  pub to-slot : (P : L → Type 0) → P l → IfSome (living_at slots n) P
+  to-slot P known = subst (λ o. IfSome o P) (sym (living-is slots n s l alive at is)) known
+
+  -- the answer of a call, as it is handed on
+  pub answer-after : (P : L → ℤ → Type 0) (answer : ℤ) → SFits w32 answer → P l answer → IfSome (living_at slots n) (λ l. P l (to_z w32 (of_z w32 answer)))
+  answer-after P answer fits may = to-slot (λ l. P l (to_z w32 (of_z w32 answer))) (subst (P l) (sym (to_z-of_z w32 answer fits)) may)
+
+  -- and with the function and the word of the call, as they are handed on
+  pub answer-to : (P : L → ℤ → ℤ → ℤ → Type 0) (function word answer : ℤ) → SFits w32 function → SFits w32 word → SFits w32 answer →
+      P l (to_z w32 (of_z w32 function)) (to_z w32 (of_z w32 word)) answer → IfSome (living_at slots n) (λ l. P l function word (to_z w32 (of_z w32 answer)))
+  answer-to P function word answer fits_function fits_word fits may = answer-after (λ l. P l function word) answer fits
+      (subst (λ f. P l f word answer) (to_z-of_z w32 function fits_function)
+      (subst (λ w. P l (to_z w32 (of_z w32 function)) w answer) (to_z-of_z w32 word fits_word) may))
+
+  pub alive-after : (m : L) → IsSome (living_at (slice_set slots n (Some m)) n)
+  alive-after m = subst (λ o. IsSome o) (sym (written slots n (Some m) (within slots n alive))) refl
+
+  -- what a call makes of the native's ids, it makes of the slot's
+  pub ids-after : (kept : L → List ℕ) (m : L) (R : List ℕ → List ℕ → Type 0) → R (kept l) (kept m) → R (ids_at kept slots n) (ids_at kept (slice_set slots n (Some m)) n)
+  ids-after kept m R made = subst (λ ids. R (ids_at kept slots n) ids) (sym (ap (ids_of kept) (written slots n (Some m) (within slots n alive))))
+      (subst (λ ids. R ids (kept m)) (sym (ap (ids_of kept) (living-is slots n s l alive at is))) made)

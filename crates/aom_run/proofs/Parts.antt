@@ -36,7 +36,6 @@ delivered_same p outside name s u (Kill n) goes = go (lives outside s n) goes
     go : (b : Bool) → turned p s (cond b (Kills n) Hears) ≡ Goes u → (u.tasks ≡ s.tasks) × (u.rest ≡ record s.rest { delivered = suc s.rest.delivered })
     go true goes = let same = sym (goes_same _ u goes) in (ap (λ (v : State). v.tasks) same, ap (λ (v : State). v.rest) same)
     go false goes = let same = sym (goes_same _ u goes) in (ap (λ (v : State). v.tasks) same, ap (λ (v : State). v.rest) same)
-
 delivered_same p outside name s u (Client c command) goes = go (nat_lt c client_count) goes
   where
     go : (b : Bool) → turned p s (cond b (Obeys c command name) Hears) ≡ Goes u → (u.tasks ≡ s.tasks) × (u.rest ≡ record s.rest { delivered = suc s.rest.delivered })
