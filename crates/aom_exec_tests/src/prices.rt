@@ -7,22 +7,14 @@ use std::alloc::{AllocError, Global};
 use std::test::Fail;
 
 /// Steps once, and answers whether something is still at hand.
-fn goes_on(
-    alloc: Global,
-    accepted: &Accepted,
-    machine: &mut Machine<'_>,
-) -> Result<bool, AllocError> {
-    let mut turn = Turn::new(alloc, accepted, Vec::new(alloc))?;
+fn goes_on(alloc: Global, machine: &mut Machine<'_>) -> Result<bool, AllocError> {
+    let mut turn = Turn::new(alloc, machine.accepted(), Vec::new(alloc))?;
     Ok(machine.step(&mut turn) == Progress::Running)
 }
 
 /// Steps until something is written or nothing is at hand, and answers whether something still is.
-fn goes_on_far(
-    alloc: Global,
-    accepted: &Accepted,
-    machine: &mut Machine<'_>,
-) -> Result<bool, AllocError> {
-    let mut turn = Turn::new(alloc, accepted, Vec::new(alloc))?;
+fn goes_on_far(alloc: Global, machine: &mut Machine<'_>) -> Result<bool, AllocError> {
+    let mut turn = Turn::new(alloc, machine.accepted(), Vec::new(alloc))?;
     Ok(machine.step_on(&mut turn) == Progress::Running)
 }
 
@@ -31,7 +23,7 @@ fn goes_on_far(
 fn single_steps(alloc: Global, accepted: &Accepted) -> Option<u64> {
     let mut machine = Machine::boot(alloc, accepted).ok()?;
     for count in 0..3000 {
-        if !goes_on(alloc, accepted, &mut machine).ok()? {
+        if !goes_on(alloc, &mut machine).ok()? {
             return (machine.steps() == count).then_some(count);
         }
     }
@@ -42,7 +34,7 @@ fn single_steps(alloc: Global, accepted: &Accepted) -> Option<u64> {
 fn told_steps(alloc: Global, accepted: &Accepted) -> Option<u64> {
     let mut machine = Machine::boot(alloc, accepted).ok()?;
     for _ in 0..3000 {
-        if !goes_on_far(alloc, accepted, &mut machine).ok()? {
+        if !goes_on_far(alloc, &mut machine).ok()? {
             return Some(machine.steps());
         }
     }

@@ -1,6 +1,5 @@
 //! Programs that run step by step. A trace has the lines of each step, and after them how many cells there are.
 use crate::images::accepted_of;
-use aom_budget::Accepted;
 use aom_exec::{Machine, Progress};
 use aom_lines::Turn;
 use aom_transcript::{Ending, Page};
@@ -24,12 +23,11 @@ fn add_to(alloc: Global, trace: &mut Vec<u8>, turn: &Turn, cells: usize) -> Resu
 fn step(
     rt: &impl Abort,
     alloc: Global,
-    accepted: &Accepted,
     refused: u32,
     machine: &mut Machine<'_>,
     trace: &mut Vec<u8>,
 ) -> Result<(), Fail> {
-    let mut turn = Turn::new(alloc, accepted, vec![in alloc; refused]?)?;
+    let mut turn = Turn::new(alloc, machine.accepted(), vec![in alloc; refused]?)?;
     let progress = machine.step(&mut turn);
     assert_eq!(rt; machine.progress(), progress);
     add_to(alloc, trace, &turn, machine.count())?;
@@ -40,7 +38,6 @@ fn step(
 fn trace_of(
     rt: &impl Abort,
     alloc: Global,
-    accepted: &Accepted,
     refused: u32,
     machine: &mut Machine<'_>,
 ) -> Result<Vec<u8>, Fail> {
@@ -51,12 +48,12 @@ fn trace_of(
             break;
         }
         assert!(rt; !machine.is_between());
-        step(rt, alloc, accepted, refused, machine, &mut trace)?;
+        step(rt, alloc, refused, machine, &mut trace)?;
     }
     if machine.is_between() {
         assert_eq!(rt; machine.clock(), 1);
         machine.wait();
-        step(rt, alloc, accepted, refused, machine, &mut trace)?;
+        step(rt, alloc, refused, machine, &mut trace)?;
     }
     assert!(rt; !machine.is_between());
     Ok(trace)
@@ -81,7 +78,7 @@ fn walks(
     );
     match Machine::boot(alloc, &accepted) {
         Ok(mut machine) => {
-            let trace = trace_of(rt, alloc, &accepted, refused, &mut machine)?;
+            let trace = trace_of(rt, alloc, refused, &mut machine)?;
             assert_eq!(rt; trace.as_slice(), wanted.as_bytes());
             assert_eq!(rt; machine.progress(), Progress::Ended(ending));
             Ok(())
