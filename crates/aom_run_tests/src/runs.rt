@@ -43,7 +43,9 @@ fn accepted_of(alloc: Global, text: &str) -> Option<Accepted> {
 
 fn outcome_of(alloc: Global, text: &str, script: &str, sink: &mut Page) -> Option<Outcome> {
     let accepted = accepted_of(alloc, text)?;
-    let script = read_script(alloc, script.as_bytes()).ok()?;
+    let Ok(script) = read_script(alloc, script.as_bytes()) else {
+        return None;
+    };
     let Ok(mut machine) = Machine::boot(alloc, &accepted, Vec::new(alloc)) else {
         return None;
     };
