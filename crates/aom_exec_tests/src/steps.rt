@@ -1,5 +1,6 @@
 //! Programs that run step by step. A trace has the lines of each step, and after them how many cells there are.
 use crate::images::accepted_of;
+use aom_budget::Accepted;
 use aom_exec::{Machine, Progress};
 use aom_lines::Turn;
 use aom_transcript::{Ending, Page};
@@ -59,6 +60,41 @@ fn trace_of(
     Ok(trace)
 }
 
+/// Runs a machine from its boot, and compares its trace and how the run ended.
+fn compare(
+    rt: &impl Abort,
+    alloc: Global,
+    refused: u32,
+    machine: &mut Machine<'_>,
+    wanted: &str,
+    ending: Ending,
+) -> Result<(), Fail> {
+    let trace = trace_of(rt, alloc, refused, machine)?;
+    assert_eq!(rt; trace.as_slice(), wanted.as_bytes());
+    assert_eq!(rt; machine.progress(), Progress::Ended(ending));
+    Ok(())
+}
+
+/// Runs an image that declares its price.
+fn run_by_price(
+    rt: &impl Abort,
+    alloc: Global,
+    accepted: &Accepted,
+    refused: u32,
+    wanted: &str,
+    ending: Ending,
+) -> Result<(), Fail> {
+    let declared = accepted.linked().image().header().budget;
+    assert_eq!(rt;
+        accepted.figures().main_price(accepted.linked()),
+        u64::from(declared)
+    );
+    match Machine::boot(alloc, accepted) {
+        Ok(mut machine) => compare(rt, alloc, refused, &mut machine, wanted, ending),
+        Err(_) => Err(Fail::from("the machine does not boot")),
+    }
+}
+
 /// Runs a program that declares its price from its boot, and compares its trace and how the run ended. Request 0 is none.
 fn walks(
     rt: &impl Abort,
@@ -68,22 +104,9 @@ fn walks(
     wanted: &str,
     ending: Ending,
 ) -> Result<(), Fail> {
-    let Some(accepted) = accepted_of(alloc, text.as_bytes()) else {
-        return Err(Fail::from("the image is not accepted"));
-    };
-    let declared = accepted.linked().image().header().budget;
-    assert_eq!(rt;
-        accepted.figures().main_price(accepted.linked()),
-        u64::from(declared)
-    );
-    match Machine::boot(alloc, &accepted) {
-        Ok(mut machine) => {
-            let trace = trace_of(rt, alloc, refused, &mut machine)?;
-            assert_eq!(rt; trace.as_slice(), wanted.as_bytes());
-            assert_eq!(rt; machine.progress(), Progress::Ended(ending));
-            Ok(())
-        }
-        Err(_) => Err(Fail::from("the machine does not boot")),
+    match accepted_of(alloc, text.as_bytes()) {
+        Some(accepted) => run_by_price(rt, alloc, &accepted, refused, wanted, ending),
+        None => Err(Fail::from("the image is not accepted")),
     }
 }
 
