@@ -41,16 +41,28 @@ fn accepted_of(alloc: Global, text: &str) -> Option<Accepted> {
     accept(alloc, checked).ok()
 }
 
-fn outcome_of(alloc: Global, text: &str, script: &str, sink: &mut Page) -> Option<Outcome> {
-    let accepted = accepted_of(alloc, text)?;
+/// How an accepted image runs under a script.
+fn run_accepted(
+    alloc: Global,
+    accepted: &Accepted,
+    script: &str,
+    sink: &mut Page,
+) -> Option<Outcome> {
     let Ok(script) = read_script(alloc, script.as_bytes()) else {
         return None;
     };
-    let Ok(mut machine) = Machine::boot(alloc, &accepted, Vec::new(alloc)) else {
+    let Ok(mut machine) = Machine::boot(alloc, accepted, Vec::new(alloc)) else {
         return None;
     };
-    let mut turn = Turn::new(alloc, &accepted, Vec::new(alloc)).ok()?;
+    let mut turn = Turn::new(alloc, accepted, Vec::new(alloc)).ok()?;
     Some(run(&mut machine, &script, &mut turn, 1, sink))
+}
+
+fn outcome_of(alloc: Global, text: &str, script: &str, sink: &mut Page) -> Option<Outcome> {
+    match accepted_of(alloc, text) {
+        Some(accepted) => run_accepted(alloc, &accepted, script, sink),
+        None => None,
+    }
 }
 
 #[test]
