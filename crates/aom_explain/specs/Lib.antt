@@ -3,6 +3,7 @@ pub mod Boot
 pub mod Budget
 pub mod Compared
 pub mod Entries
+pub mod Known
 pub mod Link
 pub mod Load
 pub mod Places

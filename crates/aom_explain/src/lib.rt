@@ -3,7 +3,7 @@
 //!
 //! `load_entry` and its like answer just the texts of `specs/`, which docs/reasons.md tells too, word by word. `put_entry` writes
 //! an entry, and `put_line`, `put_method` and `put_compared` what `specs/Places.antt` and `specs/Compared.antt` say of a line of a
-//! text, of an instruction and of a budget. A method and an instruction are written as in a listing; `put_source` and
+//! text, of an instruction and of a budget. `put_known` writes what is known where a method stands (`specs/Known.antt`). A method and an instruction are written as in a listing; `put_source` and
 //! `put_declared` write in their place the statements of a text, as `specs/Sources.antt` says. Nothing here knows which command
 //! was refused, nor where a text goes.
 #![tactic(auto)]
@@ -13,6 +13,7 @@ mod boot;
 mod budget;
 mod compared;
 mod entry;
+mod known;
 mod link;
 mod load;
 mod place;
@@ -26,6 +27,7 @@ pub use boot::boot_entry;
 pub use budget::budget_entry;
 pub use compared::put_compared;
 pub use entry::{Entry, put_entry};
+pub use known::put_known;
 pub use link::link_entry;
 pub use load::load_entry;
 pub use place::{put_line, put_method};

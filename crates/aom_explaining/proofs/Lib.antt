@@ -1,1 +1,2 @@
+mod Knowing
 mod Saying

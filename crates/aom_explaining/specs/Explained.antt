@@ -1,6 +1,11 @@
 -- The text that explains a fault.
-use Rattle.std.specs.Prelude.{ℕ, ◌≡◌, List, [], ◌++◌}
+use Rattle.std.specs.Prelude.{ℕ, ◌≡◌, List, [], ◌++◌, IsSome}
 use Rattle.aom_image.specs.Image.{Image}
+use Rattle.aom_image.specs.Views.{method_at}
+use Rattle.aom_classes.specs.Linked.{IsLinked}
+use Rattle.aom_shape.specs.declared.why.Why.{Why}
+use Rattle.aom_verify.specs.Arrivals.{StopsAt}
+use Rattle.aom_verify.specs.Shapes.{HasTyping, Shapes}
 use Rattle.aom_verify.specs.declared.refusal.Refusal.{Refusal}
 use Rattle.aom_verify.specs.declared.refusal.Refusal.TheVariants as refusals
 use Rattle.aom_explain.specs.Asm.{asm_texts}
@@ -8,6 +13,7 @@ use Rattle.aom_explain.specs.Boot.{boot_texts}
 use Rattle.aom_explain.specs.Budget.{budget_texts}
 use Rattle.aom_explain.specs.Compared.{compared_text}
 use Rattle.aom_explain.specs.Entries.{Texts, entry_text}
+use Rattle.aom_explain.specs.Known.{known_text}
 use Rattle.aom_explain.specs.Link.{link_texts}
 use Rattle.aom_explain.specs.Load.{load_texts}
 use Rattle.aom_explain.specs.Places.{line_text, method_text}
@@ -50,9 +56,26 @@ place_text text (Script fault) = line_text text fault.line
 place_text text (Budget fault) = compared_text fault
 place_text text _ = []
 
--- the place of a refusal is written behind a text, in the image that the bytes spell
+-- what is known at the place of a refusal, behind a text
+pub data KnownThere (p : Image) (m place : ℕ) (why : Why) (before after : List ℕ) : Type 0 where
+  -- all that a state says which arrives there and is refused for that reason
+  known : (s : Shapes) → (stop : StopsAt p m s place why) → after ≡ before ++ known_text p m stop.shape → KnownThere p m place why before after
+  -- nothing, where the method is refused at another place too, or for another reason, and work on it ends there
+  elsewhere : (s : Shapes) (other : ℕ) (reason : Why) → StopsAt p m s other reason → (other ≡ place → reason ≡ why → ⊥) → after ≡ before → KnownThere p m place why before after
+  -- and where no method of a linked image is refused
+  unrefused : (IsLinked p → IsSome (method_at p m) → ¬ HasTyping p m → ⊥) → after ≡ before → KnownThere p m place why before after
+
+abbrev pub KnownOf : Image → Refusal → List ℕ → List ℕ → Type 0
+KnownOf p refusals.OutOfMemory before after = after ≡ before
+KnownOf p (refusals.Refused method place why) before after = KnownThere p method place why before after
+
+-- so in the image that the bytes spell
+abbrev pub AddsKnown : List ℕ → Refusal → List ℕ → List ℕ → Type 0
+AddsKnown image refusal before after = (p : Image) → IsSpelled image p → KnownOf p refusal before after
+
+-- the place of a refusal is written behind a text, in the image that the bytes spell, and then what is known there
 abbrev pub AddsRefusal : List ℕ → Refusal → List ℕ → List ℕ → Type 0
-AddsRefusal image refusal before after = (p : Image) → IsSpelled image p → after ≡ before ++ refusal_text p refusal
+AddsRefusal image refusal before after = (p : Image) → IsSpelled image p → KnownOf p refusal (before ++ refusal_text p refusal) after
 
 -- the place of a fault is written behind a text
 abbrev pub Adds : (image text : List ℕ) → Fault → List ℕ → List ℕ → Type 0
@@ -70,12 +93,16 @@ abbrev pub refusal_source : List ℕ → Refusal → List ℕ
 refusal_source text refusals.OutOfMemory = []
 refusal_source text (refusals.Refused method place why) = source_text text method place
 
--- where a fault is in the text that the image is of, or in the script
+-- where another fault is in the text that the image is of, or in the script
 abbrev pub beside_text : (text script : List ℕ) → Fault → List ℕ
-beside_text text script (Verify refusal) = refusal_source text refusal
 beside_text text script (Budget fault) = compared_text fault ++ declared_text text fault
 beside_text text script fault = place_text script fault
 
+-- the place of a fault is written behind a text, by the text that the image is of, and of a refusal what is known there
+abbrev pub AddsBeside : (image text script : List ℕ) → Fault → List ℕ → List ℕ → Type 0
+AddsBeside image text script (Verify refusal) before after = AddsKnown image refusal (before ++ refusal_source text refusal) after
+AddsBeside image text script fault before after = after ≡ before ++ beside_text text script fault
+
 -- a text explains a fault by the text that the image is of
-abbrev pub ExplainsByText : (text script : List ℕ) → Fault → List ℕ → Type 0
-ExplainsByText text script fault said = said ≡ entry_text (texts_of fault) ++ beside_text text script fault
+abbrev pub ExplainsByText : (image text script : List ℕ) → Fault → List ℕ → Type 0
+ExplainsByText image text script fault said = AddsBeside image text script fault (entry_text (texts_of fault)) said

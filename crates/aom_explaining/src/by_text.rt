@@ -21,13 +21,13 @@ pub fn check_by_text<W: Sink, E: Sink>(
     out: &mut W,
     errors: &mut E,
 ) -> ExitStatus
-    ensures { Beside (λ status. Explaining (CheckAnswers image.now (record { before = W.out out.old; now = W.out out.new; failed = W.failed out.new })) (ExplainsByText text.now []) (record { before = E.out errors.old; now = E.out errors.new; failed = E.failed errors.new }) status) text.now image.now (record { before = W.out out.old; now = W.out out.new; failed = W.failed out.new }) (record { before = E.out errors.old; now = E.out errors.new; failed = E.failed errors.new }) result }
+    ensures { Beside (λ status. Explaining (CheckAnswers image.now (record { before = W.out out.old; now = W.out out.new; failed = W.failed out.new })) (ExplainsByText image.now text.now []) (record { before = E.out errors.old; now = E.out errors.new; failed = E.failed errors.new }) status) text.now image.now (record { before = W.out out.old; now = W.out out.new; failed = W.failed out.new }) (record { before = E.out errors.old; now = E.out errors.new; failed = E.failed errors.new }) result }
 {
     match ImageText::beside(alloc, text, image) {
         Err(fault) => refuse_text(alloc, &fault, text, errors),
         Ok(text) => match try_check(alloc, image, out) {
             Ok(status) => status,
-            Err(fault) => tell_by_text(alloc, &fault, &text, b"", errors),
+            Err(fault) => tell_by_text(alloc, &fault, image, &text, b"", errors),
         },
     }
 }
@@ -40,13 +40,13 @@ pub fn prices_by_text<W: Sink, E: Sink>(
     out: &mut W,
     errors: &mut E,
 ) -> ExitStatus
-    ensures { Beside (λ status. Explaining (PricesAnswers image.now (record { before = W.out out.old; now = W.out out.new; failed = W.failed out.new })) (ExplainsByText text.now []) (record { before = E.out errors.old; now = E.out errors.new; failed = E.failed errors.new }) status) text.now image.now (record { before = W.out out.old; now = W.out out.new; failed = W.failed out.new }) (record { before = E.out errors.old; now = E.out errors.new; failed = E.failed errors.new }) result }
+    ensures { Beside (λ status. Explaining (PricesAnswers image.now (record { before = W.out out.old; now = W.out out.new; failed = W.failed out.new })) (ExplainsByText image.now text.now []) (record { before = E.out errors.old; now = E.out errors.new; failed = E.failed errors.new }) status) text.now image.now (record { before = W.out out.old; now = W.out out.new; failed = W.failed out.new }) (record { before = E.out errors.old; now = E.out errors.new; failed = E.failed errors.new }) result }
 {
     match ImageText::beside(alloc, text, image) {
         Err(fault) => refuse_text(alloc, &fault, text, errors),
         Ok(text) => match try_prices(alloc, image, out) {
             Ok(status) => status,
-            Err(fault) => tell_by_text(alloc, &fault, &text, b"", errors),
+            Err(fault) => tell_by_text(alloc, &fault, image, &text, b"", errors),
         },
     }
 }
@@ -64,13 +64,13 @@ pub fn run_by_text<W: Sink, E: Sink>(
 ) -> ExitStatus
     requires limit { (1 ≤ limit) × (limit ≤ 1000000000) }
     requires owed { OweNothing (λ b. (⟦<dyn Native as Native>⟧ b.vtable).owed b.value) boxes.items }
-    ensures { Beside (λ status. Explaining (RunAnswers image.now script.now limit (length boxes.items) (record { before = W.out out.old; now = W.out out.new; failed = W.failed out.new })) (ExplainsByText text.now script.now) (record { before = E.out errors.old; now = E.out errors.new; failed = E.failed errors.new }) status) text.now image.now (record { before = W.out out.old; now = W.out out.new; failed = W.failed out.new }) (record { before = E.out errors.old; now = E.out errors.new; failed = E.failed errors.new }) result }
+    ensures { Beside (λ status. Explaining (RunAnswers image.now script.now limit (length boxes.items) (record { before = W.out out.old; now = W.out out.new; failed = W.failed out.new })) (ExplainsByText image.now text.now script.now) (record { before = E.out errors.old; now = E.out errors.new; failed = E.failed errors.new }) status) text.now image.now (record { before = W.out out.old; now = W.out out.new; failed = W.failed out.new }) (record { before = E.out errors.old; now = E.out errors.new; failed = E.failed errors.new }) result }
 {
     match ImageText::beside(alloc, text, image) {
         Err(fault) => refuse_text(alloc, &fault, text, errors),
         Ok(text) => match try_run(alloc, image, script, limit, boxes, out) {
             Ok(status) => status,
-            Err(fault) => tell_by_text(alloc, &fault, &text, script, errors),
+            Err(fault) => tell_by_text(alloc, &fault, image, &text, script, errors),
         },
     }
 }

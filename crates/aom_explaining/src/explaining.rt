@@ -5,9 +5,10 @@ ghost use Rattle.aom_explain.specs.Entries.{entry_text};
 ghost use Rattle.aom_explain.specs.Sources.{declared_text};
 ghost use Rattle.aom_explain.specs.Word.{text_texts};
 ghost use Rattle.aom_main.specs.Acceptable.{IsSpelled};
-ghost use Rattle.aom_explaining.specs.Explained.{Adds, AddsRefusal, Explains, ExplainsByText, beside_text, refusal_source, refusal_texts, texts_of};
+ghost use Rattle.aom_explaining.specs.Explained.{Adds, AddsBeside, AddsKnown, AddsRefusal, Explains, ExplainsByText, refusal_source, refusal_texts, texts_of};
 
 use crate::beside::ImageText;
+use crate::stopping::put_known_at;
 use aom_budget::BudgetFault;
 use aom_codec::decode;
 use aom_explain::{
@@ -49,7 +50,7 @@ pub fn entry_of(fault: &Fault) -> Entry
     }
 }
 
-/// Writes what the listing of an image says of the place of a refusal.
+/// Writes what the listing of an image says of the place of a refusal, and what is known there.
 fn put_refusal(
     alloc: Global,
     out: &mut Writer,
@@ -60,8 +61,11 @@ fn put_refusal(
 {
     match refusal {
         Refusal::OutOfMemory => Ok(()),
-        Refusal::Refused { method, place, .. } => match decode(alloc, image) {
-            Ok(image) => put_method(alloc, out, &image, method, place),
+        Refusal::Refused { method, place, why } => match decode(alloc, image) {
+            Ok(image) => {
+                put_method(alloc, out, &image, method, place)?;
+                put_known_at(alloc, out, image, method, place, why)
+            }
             Err(_) => Err(AllocError),
         },
     }
@@ -102,17 +106,25 @@ pub fn explanation(
     Ok(out.into_text())
 }
 
-/// Writes where the text that the image is of has the place of a refusal.
+/// Writes where the text that the image is of has the place of a refusal, and what is known there.
 fn put_refusal_source(
+    alloc: Global,
     out: &mut Writer,
+    image: &[u8],
     text: &ImageText,
     refusal: Refusal,
 ) -> Result<(), AllocError>
-    ensures { OnOk result (out.new ≡ out.old ++ refusal_source text.now refusal) }
+    ensures { OnOk result (AddsKnown image.now refusal (out.old ++ refusal_source text.now refusal) out.new) }
 {
     match refusal {
         Refusal::OutOfMemory => Ok(()),
-        Refusal::Refused { method, place, .. } => put_source(out, text.bytes(), method, place),
+        Refusal::Refused { method, place, why } => match decode(alloc, image) {
+            Ok(image) => {
+                put_source(out, text.bytes(), method, place)?;
+                put_known_at(alloc, out, image, method, place, why)
+            }
+            Err(_) => Err(AllocError),
+        },
     }
 }
 
@@ -126,18 +138,20 @@ fn put_budget(out: &mut Writer, text: &ImageText, fault: &BudgetFault) -> Result
 
 /// Writes what is said of the place of a fault by the text that the image is of.
 fn put_beside(
+    alloc: Global,
     out: &mut Writer,
     fault: &Fault,
+    image: &[u8],
     text: &ImageText,
     script: &[u8],
 ) -> Result<(), AllocError>
-    ensures { OnOk result (out.new ≡ out.old ++ beside_text text.now script.now fault.now) }
+    ensures { OnOk result (AddsBeside image.now text.now script.now fault.now out.old out.new) }
 {
     match fault {
         Fault::Asm(fault) => put_line(out, script, fault.line),
         Fault::Script(fault) => put_line(out, script, fault.line),
         Fault::Budget(fault) => put_budget(out, text, fault),
-        Fault::Verify(refusal) => put_refusal_source(out, text, *refusal),
+        Fault::Verify(refusal) => put_refusal_source(alloc, out, image, text, *refusal),
         _ => Ok(()),
     }
 }
@@ -146,14 +160,15 @@ fn put_beside(
 pub fn explanation_by_text(
     alloc: Global,
     fault: &Fault,
+    image: &[u8],
     text: &ImageText,
     script: &[u8],
 ) -> Result<Vec<u8>, AllocError>
-    ensures { IfOk result (λ said. ExplainsByText text.now script.now fault.now said.items) }
+    ensures { IfOk result (λ said. ExplainsByText image.now text.now script.now fault.now said.items) }
 {
     let mut out = Writer::new(alloc);
     put_entry(&mut out, &entry_of(fault))?;
-    put_beside(&mut out, fault, text, script)?;
+    put_beside(alloc, &mut out, fault, image, text, script)?;
     Ok(out.into_text())
 }
 

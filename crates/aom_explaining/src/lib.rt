@@ -11,6 +11,7 @@ mod beside;
 mod by_text;
 mod commands;
 mod explaining;
+mod stopping;
 mod telling;
 mod telling_by_text;
 

@@ -18,14 +18,18 @@ use std::alloc::Global;
 pub fn tell_by_text<E: Sink>(
     alloc: Global,
     fault: &Fault,
+    image: &[u8],
     text: &ImageText,
     script: &[u8],
     errors: &mut E,
 ) -> ExitStatus
-    ensures { ToldAndExplained (Told fault.now result) (ExplainsByText text.now script.now fault.now) (record { before = E.out errors.old; now = E.out errors.new; failed = E.failed errors.new }) }
+    ensures { ToldAndExplained (Told fault.now result) (ExplainsByText image.now text.now script.now fault.now) (record { before = E.out errors.old; now = E.out errors.new; failed = E.failed errors.new }) }
 {
     let status = tell(fault, errors);
-    explain(explanation_by_text(alloc, fault, text, script), errors);
+    explain(
+        explanation_by_text(alloc, fault, image, text, script),
+        errors,
+    );
     status
 }
 

@@ -14,7 +14,7 @@ use Rattle.aom_shape.proofs.Ordering.{reflexive, transitive}
 use Rattle.aom_shape.proofs.Lists.{at_within, at_set_here, at_set_other}
 use Rattle.aom_verify.specs.Arrivals.{Arrives, AllArrive, EachArrives, JoinFails}
 use Rattle.aom_verify.specs.Arrivals.Arrives.{met as met_there}
-use Rattle.aom_verify.specs.Arrivals.FailsFor.{by_meet}
+use Rattle.aom_verify.specs.Arrivals.IsRefused.{without_meet}
 use Rattle.aom_verify.specs.Change.{place_rank, unreached, IsChange, then}
 use Rattle.aom_verify.specs.Shapes.{Shapes, Meets, AllMet}
 use Rattle.aom_verify.specs.Sweep.{IsBelow, AllWithin, Joins, CannotJoin}
@@ -122,9 +122,9 @@ pub cannot_join : (s : Shapes) (to : ℕ) (sh there : Shape) → at None s to �
 cannot_join s to sh there here no_meet =
     record { none = λ t below meets. no_meet.none meets.0.next (below_at t s to sh meets.0 below there here) meets.0.no_more }
 
--- and that place fails where both arrive
-pub join_fails : (s : Shapes) (to : ℕ) (sh there : Shape) (why : Why) → at None s to ≡ Some there → NoMeet there sh → WhyNoMeet there sh why → JoinFails s ((to, sh) ∷ []) to why
-join_fails s to sh there why here no_meet reason = λ p k all each. by_meet (all to there here) each.0 no_meet reason
+-- and where both arrive the state there is refused
+pub join_fails : (s : Shapes) (to : ℕ) (sh there : Shape) (why : Why) → at None s to ≡ Some there → NoMeet there sh → WhyNoMeet there sh why → JoinFails s s ((to, sh) ∷ []) to why
+join_fails s to sh there why here no_meet reason = λ p k all each. record { arrive = all; shape = there; there = here; refused = without_meet each.0 no_meet reason }
 
 all_met_add : (s : Shapes) (xs ys : List Flow) → AllMet s xs → AllMet s ys → AllMet s (xs ++ ys)
 all_met_add s [] ys h k = k
@@ -169,12 +169,12 @@ cannot_first a xs ys h = record { none = λ t below met. h.none t below (all_met
 pub cannot_last : (a b : Shapes) (xs ys : List Flow) (x : Change) → Joins a b xs x → CannotJoin b ys → CannotJoin a (xs ++ ys)
 cannot_last a b xs ys x h k = record { none = λ t below met. k.none t (h.strongest t below (all_met_first t xs ys met)) (all_met_last t xs ys met) }
 
--- the place where one way fails fails for all of them
-pub fails_first : (a : Shapes) (xs ys : List Flow) (place : ℕ) (why : Why) → JoinFails a xs place why → JoinFails a (xs ++ ys) place why
-fails_first a xs ys place why fails = λ p k all each. fails p k all (each_first p k xs ys each)
+-- the place where one way stops is that of all of them
+pub fails_first : (a c : Shapes) (xs ys : List Flow) (place : ℕ) (why : Why) → JoinFails a c xs place why → JoinFails a c (xs ++ ys) place why
+fails_first a c xs ys place why fails = λ p k all each. fails p k all (each_first p k xs ys each)
 
-pub fails_last : (a b : Shapes) (xs ys : List Flow) (x : Change) (place : ℕ) (why : Why) → Joins a b xs x → JoinFails b ys place why → JoinFails a (xs ++ ys) place why
-fails_last a b xs ys x place why h fails = λ p k all each. fails p k (h.arrives p k all (each_first p k xs ys each)) (each_last p k xs ys each)
+pub fails_last : (a b c : Shapes) (xs ys : List Flow) (x : Change) (place : ℕ) (why : Why) → Joins a b xs x → JoinFails b c ys place why → JoinFails a c (xs ++ ys) place why
+fails_last a b c xs ys x place why h fails = λ p k all each. fails p k (h.arrives p k all (each_first p k xs ys each)) (each_last p k xs ys each)
 
 pub within_first : (n : ℕ) (xs ys : List Flow) → AllWithin n (xs ++ ys) → AllWithin n xs
 within_first n [] ys h = tt

@@ -113,7 +113,7 @@ module _ (nodes : List Node) (kept : List (Option Kept)) (to : ℕ) (new : Kept)
       let less : Kept = record { known = known; pile = there.pile } in
       rw (set_shapes nodes kept to (Some less)) (joins_lower _ to _ _ _ inside (filled there e) low.0 low.1.0 low.1.1)
 
-  pub never_joined : (there : Kept) (why : Why) → at None kept to ≡ Some there → NoMeet (kept_shape nodes there) (kept_shape nodes new) → WhyNoMeet (kept_shape nodes there) (kept_shape nodes new) why → JoinStops (shapes_of nodes kept) ((to, kept_shape nodes new) ∷ []) (At to why)
+  pub never_joined : (there : Kept) (why : Why) → at None kept to ≡ Some there → NoMeet (kept_shape nodes there) (kept_shape nodes new) → WhyNoMeet (kept_shape nodes there) (kept_shape nodes new) why → JoinStops (shapes_of nodes kept) (shapes_of nodes kept) ((to, kept_shape nodes new) ∷ []) (At to why)
   never_joined there why e none reason = (cannot_join _ to _ _ (filled there e) none, inside, join_fails _ to _ _ why (filled there e) none reason)
 
 -- ---- the first states

@@ -39,8 +39,8 @@ keeps_along p m a b c h k = record {
 pub none_before : (p : Image) (m : ℕ) (a b : Shapes) → Keeps p m a b → NoTypingBelow p m b → NoTypingBelow p m a
 none_before p m a b h k = record { none = λ t typed below. k.none t typed (h.typings t typed below) }
 
-pub fails_before : (p : Image) (m : ℕ) (a b : Shapes) (place : ℕ) (why : Why) → Keeps p m a b → StatesFail p m b place why → StatesFail p m a place why
-fails_before p m a b place why h k = λ all. k (h.arrives all)
+pub fails_before : (p : Image) (m : ℕ) (a b c : Shapes) (place : ℕ) (why : Why) → Keeps p m a b → StatesFail p m b c place why → StatesFail p m a c place why
+fails_before p m a b c place why h k = λ all. k (h.arrives all)
 
 pub sweeps_self : (p : Image) (m : ℕ) (s : Shapes) → Sweeps p m s s 0 (record { change = Nothing; is_behind = false })
 sweeps_self p m s = record { keeps = keeps_self p m s; changed = refl; nothing = λ none. refl; applies = λ behind pc below. absurd (omega arith) }

@@ -11,7 +11,7 @@ use Rattle.aom_shape.specs.declared.why.Why.{Why}
 use Rattle.aom_rules.proofs.Monotone.{needs_more, flows_more}
 use Rattle.aom_verify.specs.Arrivals.{Arrives, IsOneOf, AllArrive, EachArrives, JoinFails, StatesFail}
 use Rattle.aom_verify.specs.Arrivals.Arrives.{led}
-use Rattle.aom_verify.specs.Arrivals.FailsFor.{by_rule}
+use Rattle.aom_verify.specs.Arrivals.IsRefused.{by_need}
 use Rattle.aom_verify.specs.Shapes.{Shapes, AllMet, Applies, IsMethodTyped}
 use Rattle.aom_verify.specs.Sweep.{Spans, IsBelow, Joins, CannotJoin, Flows, Fails, AppliesAt, IsAhead, Visits, NoTypingBelow, AllWithin, WithinMethod}
 use Rattle.aom_verify.specs.declared.change.Change.TheVariants.{Nothing}
@@ -73,11 +73,11 @@ ways_arrive : (p : Image) (m : ℕ) (s : Shapes) (pc : ℕ) (sh : Shape) (ways :
 ways_arrive p m s pc sh ways e h all = rw h.is (each_arrives p m (flows p m pc sh h.instr) (λ to next one. led (all pc sh e) h.stands h.needs one))
 
 -- a need that fails there, and flows that cannot be joined, are told of states that arrive
-pub told_rule : (p : Image) (m : ℕ) (s : Shapes) (pc place : ℕ) (sh : Shape) (why : Why) → at None s pc ≡ Some sh → Fails p m pc sh why → place ≡ pc → StatesFail p m s place why
-told_rule p m s pc place sh why e h same = λ all. rw same (by_rule (all pc sh e) h.stands h.is)
+pub told_rule : (p : Image) (m : ℕ) (s : Shapes) (pc place : ℕ) (sh : Shape) (why : Why) → at None s pc ≡ Some sh → Fails p m pc sh why → place ≡ pc → StatesFail p m s s place why
+told_rule p m s pc place sh why e h same = λ all. rw same (record { arrive = all; shape = sh; there = e; refused = by_need h.stands h.is })
 
-pub told_join : (p : Image) (m : ℕ) (s : Shapes) (pc place : ℕ) (sh : Shape) (ways : List Flow) (why : Why) → at None s pc ≡ Some sh → Flows p m pc sh ways → JoinFails s ways place why → StatesFail p m s place why
-told_join p m s pc place sh ways why e h fails = λ all. fails p m all (ways_arrive p m s pc sh ways e h all)
+pub told_join : (p : Image) (m : ℕ) (s new : Shapes) (pc place : ℕ) (sh : Shape) (ways : List Flow) (why : Why) → at None s pc ≡ Some sh → Flows p m pc sh ways → JoinFails s new ways place why → StatesFail p m s new place why
+told_join p m s new pc place sh ways why e h fails = λ all. fails p m all (ways_arrive p m s pc sh ways e h all)
 
 applies_after : (p : Image) (m : ℕ) (s new : Shapes) (pc : ℕ) (sh : Shape) (ways : List Flow) → at None s pc ≡ Some sh → Flows p m pc sh ways → AllMet new ways → at None new pc ≡ at None s pc → AppliesAt p m new pc
 applies_after p m s new pc sh ways e h met same = λ x f.

@@ -38,10 +38,22 @@ abbrev pub EachArrives : Image → ℕ → List Flow → Type 0
 EachArrives p m [] = Unit {0}
 EachArrives p m (way ∷ ways) = Arrives p m way.0 way.1 × EachArrives p m ways
 
--- wherever those states and flows arrive, that place fails for that reason
-abbrev pub JoinFails : Shapes → List Flow → ℕ → Why → Type 0
-JoinFails s ways place why = (p : Image) (m : ℕ) → AllArrive p m s → EachArrives p m ways → FailsFor p m place why
+-- a state at a place is refused: its rule's first need that is not met is that one, or another arrives with which it has no meet for that reason
+pub data IsRefused (p : Image) (m pc : ℕ) (sh : Shape) (why : Why) : Type 0 where
+  by_need : {i : Instr} → instr_at p m pc ≡ Some i → rule p m pc sh i ≡ Err why → IsRefused p m pc sh why
+  without_meet : {other : Shape} → Arrives p m pc other → NoMeet sh other → WhyNoMeet sh other why → IsRefused p m pc sh why
+
+-- states that arrive where they stand, and that of a place is refused
+pub record StopsAt (p : Image) (m : ℕ) (s : Shapes) (place : ℕ) (why : Why) : Type 0 where
+  pub arrive : AllArrive p m s
+  pub shape : Shape
+  pub there : at None s place ≡ Some shape
+  pub refused : IsRefused p m place shape why
+
+-- wherever the old states and those flows arrive, the new states do, and that of a place is refused
+abbrev pub JoinFails : (old new : Shapes) → List Flow → ℕ → Why → Type 0
+JoinFails old new ways place why = (p : Image) (m : ℕ) → AllArrive p m old → EachArrives p m ways → StopsAt p m new place why
 
 -- the same of the states of one method
-abbrev pub StatesFail : Image → ℕ → Shapes → ℕ → Why → Type 0
-StatesFail p m s place why = AllArrive p m s → FailsFor p m place why
+abbrev pub StatesFail : Image → ℕ → (old new : Shapes) → ℕ → Why → Type 0
+StatesFail p m old new place why = AllArrive p m old → StopsAt p m new place why

@@ -10,15 +10,15 @@ use Rattle.aom_verify.specs.declared.refusal.Refusal.TheVariants as refusals
 use Rattle.aom_verify.specs.declared.states.Fault.{Fault}
 use Rattle.aom_verify.specs.declared.states.Fault.TheVariants.{OutOfMemory, At}
 
--- those ways cannot be joined to the states, and that place fails
-abbrev pub JoinStops : Shapes → List Flow → Fault → Type 0
-JoinStops s ways OutOfMemory = Unit {0}
-JoinStops s ways (At place why) = CannotJoin s ways × (place < length s) × JoinFails s ways place why
+-- those ways cannot be joined to the old states, and the new ones stop at that place
+abbrev pub JoinStops : (old new : Shapes) → List Flow → Fault → Type 0
+JoinStops old new ways OutOfMemory = Unit {0}
+JoinStops old new ways (At place why) = CannotJoin old ways × (place < length old) × JoinFails old new ways place why
 
--- no typing says no more than the states, and that place fails
-abbrev pub Stops : Image → ℕ → Shapes → Fault → Type 0
-Stops p m s OutOfMemory = Unit {0}
-Stops p m s (At place why) = NoTypingBelow p m s × (place < length s) × StatesFail p m s place why
+-- no typing says no more than the old states, and the new ones stop at that place
+abbrev pub Stops : Image → ℕ → (old new : Shapes) → Fault → Type 0
+Stops p m old new OutOfMemory = Unit {0}
+Stops p m old new (At place why) = NoTypingBelow p m old × (place < length old) × StatesFail p m old new place why
 
 -- the same as a refusal of the method
 abbrev pub refusal_of : ℕ → Fault → Refusal

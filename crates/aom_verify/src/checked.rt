@@ -97,7 +97,7 @@ fn number_at(index: usize) -> MethodNumber
 }
 
 /// How many places a method has.
-fn place_count(linked: &Linked, method: MethodNumber) -> usize
+pub(crate) fn place_count(linked: &Linked, method: MethodNumber) -> usize
     requires { IsSome (method_at linked.now method) }
     ensures some { 0 < result }
     ensures all { HasPlaces linked.now method result }

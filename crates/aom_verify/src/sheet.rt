@@ -55,7 +55,7 @@ impl Sheet {
     pub(crate) fn settle(&mut self, linked: &Linked, method: MethodNumber) -> Result<(), Fault>
         requires { Spans linked.now method self.old }
         ensures ok { IfOk result (λ _. Settles linked.now method self.old self.new) }
-        ensures err { IfErr result (λ fault. Stops linked.now method self.old fault) }
+        ensures err { IfErr result (λ fault. Stops linked.now method self.old self.new fault) }
     {
         self.states.settle(linked, method)
     }

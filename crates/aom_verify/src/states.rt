@@ -126,7 +126,7 @@ impl States {
         ensures nodes { self.new.nodes ≡ self.old.nodes }
         ensures ok { IfOk result (λ change. Joins (shapes self.old) (shapes self.new) ((to, kept_shape self.old.nodes new) ∷ []) change) }
         ensures others { IfOk result (λ change. SameBut to (shapes self.old) (shapes self.new)) }
-        ensures err { IfErr result (λ fault. JoinStops (shapes self.old) ((to, kept_shape self.old.nodes new) ∷ []) fault) }
+        ensures err { IfErr result (λ fault. JoinStops (shapes self.old) (shapes self.new) ((to, kept_shape self.old.nodes new) ∷ []) fault) }
     {
         let Some(there) = self.places[to] else {
             self.places[to] = Some(new);
@@ -150,7 +150,7 @@ impl States {
         requires stands { Stands self.old.nodes pile }
         ensures nodes { self.new.nodes ≡ self.old.nodes }
         ensures ok { IfOk result (λ step. Joins (shapes self.old) (shapes self.new) (leads_to (entries_of self.old.nodes pile) way) step.change × IsAhead seen (shapes self.old) (shapes self.new) step) }
-        ensures err { IfErr result (λ fault. JoinStops (shapes self.old) (leads_to (entries_of self.old.nodes pile) way) fault) }
+        ensures err { IfErr result (λ fault. JoinStops (shapes self.old) (shapes self.new) (leads_to (entries_of self.old.nodes pile) way) fault) }
     {
         match way {
             None => Ok(Step::nothing()),
@@ -167,7 +167,7 @@ impl States {
         requires few { AllFew (shapes self.old) (leads_both (entries_of self.old.nodes pile) flow) }
         requires stands { Stands self.old.nodes pile }
         ensures ok { IfOk result (λ step. Joins (shapes self.old) (shapes self.new) (leads_both (entries_of self.old.nodes pile) flow) step.change × IsAhead seen (shapes self.old) (shapes self.new) step) }
-        ensures err { IfErr result (λ fault. JoinStops (shapes self.old) (leads_both (entries_of self.old.nodes pile) flow) fault) }
+        ensures err { IfErr result (λ fault. JoinStops (shapes self.old) (shapes self.new) (leads_both (entries_of self.old.nodes pile) flow) fault) }
     {
         let first = self.join_perhaps(flow.first, pile, seen)?;
         let second = self.join_perhaps(flow.second, pile, seen)?;
@@ -181,7 +181,7 @@ impl States {
         requires stands { Stands self.old.nodes pile }
         requires room { length (entries_of self.old.nodes pile) < 1024 }
         ensures ok { IfOk result (λ step. Joins (shapes self.old) (shapes self.new) (ways_from (entries_of self.old.nodes pile) flow) step.change × IsAhead seen (shapes self.old) (shapes self.new) step) }
-        ensures err { IfErr result (λ fault. JoinStops (shapes self.old) (ways_from (entries_of self.old.nodes pile) flow) fault) }
+        ensures err { IfErr result (λ fault. JoinStops (shapes self.old) (shapes self.new) (ways_from (entries_of self.old.nodes pile) flow) fault) }
     {
         let after = self.changed(pile, flow.change)?;
         self.join_all(flow, after, seen)
@@ -192,7 +192,7 @@ impl States {
         requires spans { Spans linked.now method (shapes self.old) }
         requires place { place < length (shapes self.old) }
         ensures ok { IfOk result (λ step. Visits linked.now method (shapes self.old) (shapes self.new) place step) }
-        ensures err { IfErr result (λ fault. Stops linked.now method (shapes self.old) fault) }
+        ensures err { IfErr result (λ fault. Stops linked.now method (shapes self.old) (shapes self.new) fault) }
     {
         match self.places[place] {
             None => Ok(Step::nothing()),
@@ -209,7 +209,7 @@ impl States {
     fn sweep(&mut self, linked: &Linked, method: MethodNumber) -> Result<Step, Fault>
         requires { Spans linked.now method (shapes self.old) }
         ensures ok { IfOk result (λ step. Sweeps linked.now method (shapes self.old) (shapes self.new) (length (shapes self.old)) step) }
-        ensures err { IfErr result (λ fault. Stops linked.now method (shapes self.old) fault) }
+        ensures err { IfErr result (λ fault. Stops linked.now method (shapes self.old) (shapes self.new) fault) }
     {
         let mut step = Step::nothing();
         for place in 0..self.len() {
@@ -222,7 +222,7 @@ impl States {
     fn sweep_on(&mut self, linked: &Linked, method: MethodNumber) -> Result<bool, Fault>
         requires { Spans linked.now method (shapes self.old) }
         ensures ok { IfOk result (λ reached. SweepsOn linked.now method (shapes self.old) (shapes self.new) reached) }
-        ensures err { IfErr result (λ fault. Stops linked.now method (shapes self.old) fault) }
+        ensures err { IfErr result (λ fault. Stops linked.now method (shapes self.old) (shapes self.new) fault) }
     {
         loop {
             let step = self.sweep(linked, method)?;
@@ -241,7 +241,7 @@ impl States {
     pub(crate) fn settle(&mut self, linked: &Linked, method: MethodNumber) -> Result<(), Fault>
         requires { Spans linked.now method (shapes self.old) }
         ensures ok { IfOk result (λ _. Settles linked.now method (shapes self.old) (shapes self.new)) }
-        ensures err { IfErr result (λ fault. Stops linked.now method (shapes self.old) fault) }
+        ensures err { IfErr result (λ fault. Stops linked.now method (shapes self.old) (shapes self.new) fault) }
     {
         while self.sweep_on(linked, method)? {}
         Ok(())

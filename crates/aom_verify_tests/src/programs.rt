@@ -1,9 +1,9 @@
 //! Programs of one plain class C, each with what the check says of it.
 use aom_asm::assemble;
-use aom_classes::link;
+use aom_classes::{Linked, link};
 use aom_image::MethodNumber;
 use aom_shape::Why;
-use aom_verify::{Refusal, check};
+use aom_verify::{Refusal, Stop, check, stop_of};
 use std::alloc::Global;
 use std::test::Fail;
 
@@ -222,6 +222,50 @@ fn other_methods_reply_to_messages(rt: HostRuntime) -> Result<(), Fail> {
         assert_eq!(rt; answer.as_str(), line, "{case}");
     }
     Ok(())
+}
+
+/// Where the method of that number fails, if it is one that does.
+fn stop_in(alloc: Global, linked: &Linked, number: u16) -> Option<Stop> {
+    if number as usize >= linked.image().methods().len() {
+        return None;
+    }
+    stop_of(alloc, linked, MethodNumber::new(number)?).ok()?
+}
+
+/// The place where a main of that code fails, the number of the reason, and whether the first two registers hold words there.
+fn known_in(alloc: Global, code: &str) -> Option<(usize, u8, bool, bool)> {
+    let text = format!(in alloc;
+        "image cells 4 budget 100;class C plain;method main main;{code};end"
+    );
+    let image = assemble(alloc, text.ok()?.as_bytes()).ok()?;
+    let stop = stop_in(alloc, &link(alloc, image).ok()?, 0)?;
+    let shape = stop.sheet.shape(stop.place)?;
+    let (first, second) = (shape.kind_at(0).is_word(), shape.kind_at(1).is_word());
+    Some((stop.place, stop.why.number(), first, second))
+}
+
+#[test]
+fn what_is_known_where_a_method_fails(rt: HostRuntime) {
+    for (case, code, known) in [
+        (
+            "a word over an object",
+            "const r0 7;new r1 C;const r1 1;ret",
+            Some((2, 1, true, false)),
+        ),
+        (
+            "an object after a word",
+            "const r0 7;const r1 8;new r2 C;ret",
+            Some((3, 3, true, true)),
+        ),
+        (
+            "ways that come together, as the first of them came",
+            "new r0 C;jnull r0 E;new r1 C;jump L;E: const r1 2;L: stop;ret",
+            Some((5, 1, false, false)),
+        ),
+        ("none", "const r0 7;ret", None),
+    ] {
+        assert_eq!(rt; known_in(rt.alloc(), code), known, "{case}");
+    }
 }
 
 #[test]

@@ -9,4 +9,4 @@ returns-in-Ok-clause-ok c = settled _ _ _ _ _ c.place_count.ensures.some c.entry
 pub returns-in-Err-clause-err : goal.returns-in-Err-clause-err
 returns-in-Err-clause-err c =
     let stopped = rw c.in_ok-sheet.ensures at c.in-Err.ensures.err in
-    rw c.refusal.ensures (stops_refused _ _ _ _ _ c.place_count.ensures.all c.place_count.ensures.some c.entry-entry.ensures.no_more c.entry-entry.ensures.no_less stopped)
+    rw c.refusal.ensures (stops_refused _ _ _ _ _ _ c.place_count.ensures.all c.place_count.ensures.some c.entry-entry.ensures.no_more c.entry-entry.ensures.no_less stopped)

@@ -20,4 +20,4 @@ returns-in_err-sweep_on-clause-err c =
     let p = err_from_is_err_and c.from_residual.result c.from_residual.ensures.1 in
     let failed = c.in_err-sweep_on.ensures.err in
     let keeps = c.loop.invariant in
-    rw (p.1, p.2) (stops_before _ _ _ _ _ keeps failed)
+    rw (p.1, p.2) (stops_before _ _ _ _ _ _ keeps failed)

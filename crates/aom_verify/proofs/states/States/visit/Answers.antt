@@ -69,7 +69,7 @@ returns-in-Ok-clause-err c =
     let there = read_kept _ _ _ inside c.index.ensures ∙ c.in-Some.is in
     let here : at None (shapes c.args.self.now) c.args.place ≡ Some (kept_shape c.args.self.now.nodes c.in-Some.kept) = rw (← c.self.view_is) (there_shape c.self.inside.piles c.self.inside.places.items c.args.place c.in-Some.kept there) in
     let shown : c.shape.result ≡ kept_shape c.args.self.now.nodes c.in-Some.kept = rw (← c.self.view_is) c.shape.ensures in
-    IfErr-weaker c.follow.result _ _ (λ fault h. stops_visit _ _ _ _ _ _ _ here (rw shown at c.in-Ok.ensures.ok) h) c.follow.ensures.err
+    IfErr-weaker c.follow.result _ _ (λ fault h. stops_visit _ _ _ _ _ _ _ _ here (rw shown at c.in-Ok.ensures.ok) h) c.follow.ensures.err
 
 pub returns-in-Err-clause-err : goal.returns-in-Err-clause-err
 returns-in-Err-clause-err c =
