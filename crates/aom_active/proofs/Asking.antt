@@ -15,6 +15,7 @@ use Rattle.aom_image.specs.Image.{Image}
 use Rattle.aom_sound.specs.Servers.{has_more, is_server}
 use Rattle.aom_sound.proofs.Services.{named_served, service_here, service_there, service_unnamed, service_without}
 use Rattle.aom_active.proofs.Choosing.{AreWanted}
+use Rattle.aom_sound.proofs.Dropping.{requested_unnamed}
 
 -- another request of a cell that is there
 pub asked_set : (cs : List Cell) (n : ℕ) (r : Option Request) → is_some (named cs n) ≡ true → (m : ℕ) → asked_anew n r (requested cs) m ≡ requested (set_request n r cs) m
@@ -28,28 +29,17 @@ asked_set cs n r there m = go (n == m) refl
     go true same = sym (here (named cs n) refl there) ∙ ap (λ k. requested (set_request n r cs) k) (eqb-true n m same)
     go false other = sym (requested_there cs n m r other)
 
--- what is owned elsewhere, and another word of a cell
-pub asked_moved : (cs : List Cell) (p q : Place) (n : ℕ) → requested (moved p q cs) n ≡ requested cs n
-asked_moved cs p q n = requested_moved cs p q n
-
+-- another word of a cell
 pub asked_written : (cs : List Cell) (n w : ℕ) (v : ℤ) (m : ℕ) → requested (set_word_field n w v cs) m ≡ requested cs m
 asked_written [] n w v m = refl
 asked_written (c ∷ cs) n w v m = ap (λ x. cond (c.object.name == m) c.request x) (asked_written cs n w v m)
-
--- what is not there has no request
-unasked : (cs : List Cell) (n : ℕ) → named cs n ≡ None → requested cs n ≡ None
-unasked cs n e = go (requested cs n) refl
-  where
-    go : (o : Option Request) → requested cs n ≡ o → o ≡ None
-    go None f = refl
-    go (Some r) f = absurd (false≢true (sym (ap is_some e) ∙ asked_lives cs n r f))
 
 -- a new cell is not enlisted
 pub asked_new : (cs : List Cell) (name : ℕ) (thing : Thing) (words : List ℤ) (owner : Place) → named cs name ≡ None → (n : ℕ) → requested (with_new name thing words owner cs) n ≡ requested cs n
 asked_new cs name thing words owner new n = go (name == n) refl
   where
     go : (b : Bool) → (name == n) ≡ b → cond b None (requested cs n) ≡ requested cs n
-    go true same = sym (ap (λ k. requested cs k) (sym (eqb-true name n same)) ∙ unasked cs name new)
+    go true same = sym (ap (λ k. requested cs k) (sym (eqb-true name n same)) ∙ requested_unnamed cs name new)
     go false other = refl
 
 -- a cell that goes takes its request with it
@@ -57,7 +47,7 @@ pub asked_gone : (cs : List Cell) (g : Place) (o : Object) → Tidy cs → held 
 asked_gone cs g o tidy holds n = go (o.name == n) refl
   where
     go : (b : Bool) → (o.name == n) ≡ b → requested (without g cs) n ≡ cond b None (requested cs n)
-    go true same = ap (λ k. requested (without g cs) k) (sym (eqb-true o.name n same)) ∙ unasked (without g cs) o.name (unnamed cs g o tidy holds)
+    go true same = ap (λ k. requested (without g cs) k) (sym (eqb-true o.name n same)) ∙ requested_unnamed (without g cs) o.name (unnamed cs g o tidy holds)
     go false other = requested_without cs g o n tidy holds other
 
 -- the next order comes after those of all requests, and that of timers after those of all that run
@@ -84,7 +74,7 @@ newest_timer (c ∷ cs) tidy n t e = go (c.object.name == n) e (newest_timer cs 
 -- ---- the queues
 
 -- what waits at a name is told by what stands there and by its queue alone
-queue_same : (p : Image) (o : Option Object) (v w : Service) → v.queue ≡ w.queue → queue_in p o v ≡ queue_in p o w
+pub queue_same : (p : Image) (o : Option Object) (v w : Service) → v.queue ≡ w.queue → queue_in p o v ≡ queue_in p o w
 queue_same p None v w same = refl
 queue_same p (Some o) v w same = ap (λ q. cond (is_server p o.thing) (Some (has_more q)) None) same
 

@@ -67,7 +67,7 @@ running (c ∷ cs) tidy x e = by_timer (timer_in c.request) refl (λ f. later (r
     by_timer (Some t) is rest = by_others t is (first_due cs) (sym (among_some c.object c.request t (first_due cs) is) ∙ e) rest
 
 -- of two timers one is not sooner than the other where that is sooner than it
-not_both : (t u : Timer) → is_sooner t u ≡ true → is_sooner u t ≡ false
+pub not_both : (t u : Timer) → is_sooner t u ≡ true → is_sooner u t ≡ false
 not_both t u e = at t.due u.due t.order u.order e
   where
     at : (a b m n : ℕ) → (nat_lt a b || ((a == b) && nat_lt m n)) ≡ true → (nat_lt b a || ((b == a) && nat_lt n m)) ≡ false

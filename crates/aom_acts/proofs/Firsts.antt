@@ -33,7 +33,7 @@ use Rattle.aom_parts.specs.Agrees.{Agrees, number, thing_in}
 use Rattle.aom_parts.specs.Places.{session_number, session_with}
 use Rattle.aom_parts.specs.Serving.{sessionless}
 use Rattle.aom_parts.specs.declared.parts.Parts.{Parts}
-use Rattle.aom_acts.proofs.Standing.{nothing_held}
+use Rattle.aom_acts.proofs.Standing.{nothing_held, object_lives_at}
 
 -- ---- what a client says of the number in the place of its session
 
@@ -234,12 +234,8 @@ module _ (p : Image) (n c : ℕ) where
       (subst (λ x. Fits p (seen s.cells) x (claim p (declared p s.cells) w.layers place)) e (w.good.fits place))
 
 -- so the machine has its cell
-pub lives_as : (p : Image) (m : Parts) (s : State) → Agrees p m s → (o : Object) → named s.cells o.name ≡ Some o → is_object o.thing ≡ true → Lives m.cells o.name
-lives_as p m s agrees o lives object =
-    some_given (λ x. thing_in x ≡ Some o.thing) (cell_at m.cells o.name) (class_told p m.cells s.cells o.name o agrees.cells lives object) (λ none. absurd (none-some _ none)) (λ x is _. ap is_some is)
-
 pub session_lives : (p : Image) (m : Parts) (t : Typing) (s : State) → WellTyped p t s → Agrees p m s → (n c : ℕ) (o : Object) → held s.cells (Elsewhere (Session n c)) ≡ Some o → Lives m.cells o.name
-session_lives p m t s w agrees n c o e = lives_as p m s agrees o (held_lives s.cells (Elsewhere (Session n c)) o w.good.tidy e) (session_object p n c t s w o e)
+session_lives p m t s w agrees n c o e = object_lives_at p m s agrees o (held_lives s.cells (Elsewhere (Session n c)) o w.good.tidy e) (session_object p n c t s w o e)
 
 -- ---- what closes its sessions
 

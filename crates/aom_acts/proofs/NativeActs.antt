@@ -47,15 +47,6 @@ native_active _ e = cc
 native_listed : (k : Option ClassKind) → is_native_kind k ≡ true → is_listed_kind k ≡ true
 native_listed k e = active_listed k (native_active k e)
 
--- and a native is their provider
-pub provider_native : (k : Option ClassKind) (q : Provider) → is_native_kind k ≡ true → provider_of k ≡ Some q → (n : ℕ) × (q ≡ Native n)
-provider_native (Some (An_active (Native n) budget)) q e provides = (n, let same : Some (Native n) ≡ Some q = provides in cc)
-provider_native _ q e provides = cc
-
-pub provider_serves : (k : Option ClassKind) (n : ℕ) → provider_of k ≡ Some (Native n) → native_of k ≡ Some n
-provider_serves (Some (An_active (Native k) budget)) n e = let same : Some (Native k) ≡ Some (Native n) = e in cc
-provider_serves _ n e = cc
-
 -- ---- what the code needs to know of an instruction that is next
 
 module _ (p : Image) (m : Parts) where

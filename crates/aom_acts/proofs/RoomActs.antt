@@ -127,10 +127,6 @@ goes_there_now cs q d free apart =
 pub same_all : (cs cs' : List Cell) (n d : ℕ) → ((r : Place) → IsDealt r → held cs' r ≡ held cs r) → SameBelow cs cs' n d
 same_all cs cs' n d same = (λ k lt. same (Entry k) tt, λ k lt. same (Going k) tt)
 
--- a move between two other places
-moved_apart : (cs : List Cell) (q r : Place) → ((e : Place) → IsDealt e → (same_place q e ≡ false) × (same_place r e ≡ false)) → (e : Place) → IsDealt e → held (moved q r cs) e ≡ held cs e
-moved_apart cs q r apart e dealt = let a = apart e dealt in held_apart cs q r e a.0 a.1
-
 register_apart : (d a : ℕ) (e : Place) → IsDealt e → same_place (Register d a) e ≡ false
 register_apart d a (Entry k) dealt = refl
 register_apart d a (Going k) dealt = refl

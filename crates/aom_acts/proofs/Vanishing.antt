@@ -15,6 +15,7 @@ use Rattle.aom_messages.specs.Store.{Store, message_at}
 use Rattle.aom_lines.specs.Turn.{Turn}
 use Rattle.aom_parts.specs.declared.parts.Parts.{Parts}
 use Rattle.aom_acts.specs.Serving.{AllKept, Drops, EntryKept, IsOnce, answers, count_messages, gone_line, gone_lines, has_message, is_message, told_of}
+use Rattle.aom_parts.proofs.Serving.{front_false}
 
 -- ---- messages that are kept no more
 
@@ -22,19 +23,15 @@ use Rattle.aom_acts.specs.Serving.{AllKept, Drops, EntryKept, IsOnce, answers, c
 same_message : (m k : ℕ) → (m == k) ≡ false → (k == m) ≡ false
 same_message m k e = ne_eqb k m (λ is. false≢true (sym e ∙ eq-eqb m k (sym is)))
 
-either : (a b : Bool) → (a || b) ≡ false → (a ≡ false) × (b ≡ false)
-either false b e = (refl, e)
-either true b e = absurd (true≢false e)
-
 -- what waits behind an entry is another message
 apart : (e : Entry) (m : ℕ) (es : List Entry) → IsOnce e (Message m ∷ es) → has_message m (e ∷ []) ≡ false
 apart (Connect c) m es once = refl
-apart (Message k) m es once = ap (λ b. b || false) (same_message m k (either (m == k) (has_message k es) once).0)
+apart (Message k) m es once = ap (λ b. b || false) (same_message m k (front_false (m == k) (has_message k es) once).0)
 apart (Close c) m es once = refl
 
 once_behind : (e f : Entry) (es : List Entry) → IsOnce e (f ∷ es) → IsOnce e es
 once_behind (Connect c) f es once = tt
-once_behind (Message m) f es once = (either (is_message m f) (has_message m es) once).1
+once_behind (Message m) f es once = (front_false (is_message m f) (has_message m es) once).1
 once_behind (Close c) f es once = tt
 
 -- those behind an entry that went are kept
@@ -59,7 +56,7 @@ drops_more done e old mid new before last =
     record {
       gone = λ m is. split m (has_message m done) (has_message m (e ∷ [])) refl refl (sym (list_any-append (is_message m) done (e ∷ [])) ∙ is);
       others = λ m is.
-          let parts = either (has_message m done) (has_message m (e ∷ [])) (sym (list_any-append (is_message m) done (e ∷ [])) ∙ is) in
+          let parts = front_false (has_message m done) (has_message m (e ∷ [])) (sym (list_any-append (is_message m) done (e ∷ [])) ∙ is) in
           last.others m parts.1 ∙ before.others m parts.0;
       count = let a = before.count in let b = last.count in let c = counts done (e ∷ []) in omega (arith, a, b, c);
       limit = last.limit ∙ before.limit;
@@ -81,7 +78,7 @@ queues_still (Close c) s = refl
 -- nor of another message its sender
 senders_still : (e : Entry) (s : State) (m : ℕ) (es : List Entry) → IsOnce e (Message m ∷ es) → place_at (going e s) m ≡ place_at s m
 senders_still (Connect c) s m es once = refl
-senders_still (Message k) s m es once = get_or-set_other s.places k m Free Free (λ is. false≢true (sym (either (m == k) (has_message k es) once).0 ∙ eq-eqb m k is))
+senders_still (Message k) s m es once = get_or-set_other s.places k m Free Free (λ is. false≢true (sym (front_false (m == k) (has_message k es) once).0 ∙ eq-eqb m k is))
 senders_still (Close c) s m es once = refl
 
 -- so that the lines of those behind it are as they were
@@ -117,20 +114,6 @@ pub record Going (n : ℕ) (old now : Parts) (told line : Turn) : Type 0 where
   pub lines : line.lines ++ gone_lines now.clients (queue_at now.clients n) ≡ told.lines ++ gone_lines old.clients (queue_at old.clients n)
   pub turn : line ≡ record told { lines = line.lines }
   pub room : length line.lines + answers (queue_at now.clients n) ≤ told.room
-
-pub going_at_first : (n : ℕ) (m : Parts) (told : Turn) → n < length m.clients.queues → AllKept m.messages (queue_at m.clients n) → length told.lines + answers (queue_at m.clients n) ≤ told.room → Going n m m told told
-going_at_first n m told within kept room = record {
-  done = [];
-  split = refl;
-  within = within;
-  clients = refl;
-  kept = kept;
-  drops = record { gone = λ k is. absurd (false≢true is); others = λ k is. refl; count = omega arith; limit = refl };
-  rest = refl;
-  lines = refl;
-  turn = refl;
-  room = room;
-}
 
 -- one entry more
 pub goes_on : (n : ℕ) (old mid new : Parts) (told line line' : Turn) (t : Taken) → Going n old mid told line → Some t ≡ first_entry mid.clients (queue_at mid.clients n)

@@ -1,5 +1,5 @@
 -- What becomes of clients and of their messages as they are served, and as their server goes.
-use Rattle.std.specs.Prelude.{◌≡◌, ◌<◌, ◌+◌, ◌==◌, ◌++◌, ℕ, suc, ℤ, pos, negsuc, Bool, true, false, cond, flat_map, List, [], ◌∷◌, Option, Some, None, IsSome, length}
+use Rattle.std.specs.Prelude.{◌≡◌, ◌<◌, ◌+◌, ◌==◌, ◌++◌, ℕ, suc, ℤ, pos, Bool, true, false, cond, flat_map, List, [], ◌∷◌, Option, Some, None, IsSome, length}
 use Rattle.std.specs.List.{list_any}
 use Rattle.aom_clients.specs.Clients as clients
 use Rattle.aom_clients.specs.Clients.{State, place_at, queue_at}
@@ -20,6 +20,7 @@ use Rattle.aom_frames.specs.declared.task.Task.{Task}
 use Rattle.aom_frames.specs.declared.task.Task.TheVariants.{Dispatched}
 use Rattle.aom_parts.specs.declared.parts.Parts.{Parts}
 use Rattle.aom_acts.specs.Ends.{served_by}
+use Rattle.aom_sound.specs.Natives.{terminated}
 
 -- ---- a message is completed
 
@@ -59,12 +60,12 @@ opened_by n ts s = s
 abbrev pub served : ℕ → Parts → Parts
 served n m = record m { stack = record m.stack { tasks = served_by m.stack.tasks }; clients = opened_by n m.stack.tasks m.clients }
 
--- the client of a connect that is served is one, and its session is a cell
+-- the client of a connect that is served has one of the 64 numbers, and its session is a cell
 abbrev pub CanServe : ℕ → List Task → Type 0
 CanServe n (Dispatched (Server x c Accepts) ∷ ts) = (c < 64) × (n < 65536)
 CanServe n ts = Unit {0}
 
--- the client is one, and the message that a service left is still the one that is served
+-- the client has one of the 64 numbers, and the message that a service left is still the one that is served
 abbrev pub CanEndStage : ℕ → Stage → Parts → Type 0
 CanEndStage c (AcceptLeft code) m = c < 64
 CanEndStage c (ServiceLeft code) m = IsTaken m.served m
@@ -129,10 +130,6 @@ answers [] = 0
 answers (Connect client ∷ es) = suc (answers es)
 answers (Message m ∷ es) = suc (answers es)
 answers (Close client ∷ es) = answers es
-
--- the code of a server that went
-abbrev pub terminated : ℤ
-terminated = negsuc 14
 
 abbrev pub told_of : Entry → ℕ → List Line
 told_of (Connect c) client = Reply client terminated ∷ []

@@ -30,8 +30,8 @@ use Rattle.aom_parts.proofs.Cells.{class_told, is_an_object}
 use Rattle.aom_parts.proofs.Values.{same_length}
 use Rattle.aom_parts.proofs.Alike.{Alike, alike, both_close, both_end, both_go, both_run, both_trapped, both_unwind, no_tasks}
 use Rattle.aom_acts.specs.Going.{ending_here}
-use Rattle.aom_acts.proofs.Firsts.{ClosesOver, closing_found, found_session, its_session, lives_as, no_session, session_lives}
-use Rattle.aom_acts.proofs.Standing.{nothing_held, object_there}
+use Rattle.aom_acts.proofs.Firsts.{ClosesOver, closing_found, found_session, its_session, no_session, session_lives}
+use Rattle.aom_acts.proofs.Standing.{nothing_held, object_lives_at, object_there}
 use Rattle.aom_debug_lines.specs.declared.answer.Answer.{Answer}
 use Rattle.aom_debug_lines.specs.declared.answer.Answer.TheVariants.{At, Gone}
 use Rattle.aom_debug_views.specs.Next.{GoesFirst, begins_by, destroyed_under, destruction_by, destruction_of, ends_all_in, first_number, goes_first, gone_by, going_of, is_last_in, next_in}
@@ -212,7 +212,7 @@ module _ (p : Image) (m : Parts) (s : State) (st : StandsFor (record { image = p
             below = ts;
             tasks = f;
             number = is;
-            lives = subst (Lives m.cells) (sym own) (lives_as p m s st.agrees o named_so (object_there p m s st.agrees o named_so (omega (arith, small, own))));
+            lives = subst (Lives m.cells) (sym own) (object_lives_at p m s st.agrees o named_so (object_there p m s st.agrees o named_so (omega (arith, small, own))));
           }
 
       first : (ms : List Held_task) (ts : List Task) → m.stack.tasks ≡ Closes ∷ ms → s.tasks ≡ Closing ∷ ts → Alike ms ts → ClosesOver s ts → (x : ℕ) × ClosesAt x

@@ -16,6 +16,7 @@ use Rattle.aom_parts.proofs.Beside.{Beside, NamedBeside}
 use Rattle.aom_parts.specs.Agrees.{SameRequests}
 use Rattle.aom_parts.specs.Serving.{SameClients, asked_by}
 use Rattle.aom_exec.specs.Servers.{NotesBy, is_queued}
+use Rattle.aom_active.proofs.Asking.{queue_same}
 
 -- whose queue it is does not hang on what waits there
 kind_alone : (p : Image) (o : Option Object) (v w : Service) → is_some (queue_in p o v) ≡ is_some (queue_in p o w)
@@ -37,10 +38,6 @@ of_server p (Some o) v e = go (is_server p o.thing) e
 of_none : (x : Option Bool) → is_some x ≡ false → x ≡ None
 of_none None e = refl
 of_none (Some b) e = absurd (true≢false e)
-
-same_queue : (p : Image) (o : Option Object) (v w : Service) → v.queue ≡ w.queue → queue_in p o v ≡ queue_in p o w
-same_queue p None v w e = refl
-same_queue p (Some o) v w e = ap (λ q. cond (is_server p o.thing) (Some (has_more q)) None) e
 
 -- something waits on both sides
 pub waits_alike : (k : kept.State) (cs : List Cell) (clients : List Client) → SameClients k cs clients → (n : ℕ) → is_queued k n ≡ has_more (service_of cs n).queue
@@ -74,7 +71,7 @@ module _ (p : Image) (old new : Active) (cs ds : List Cell) (b : Beside cs ds) (
 
   module _ (elsewhere : (n : ℕ) → (j == n) ≡ false → (service_of ds n).queue ≡ (service_of cs n).queue) where
     others : (n : ℕ) → is_some (requested cs n) ≡ true → (j == n) ≡ false → queued p cs n ≡ queued p ds n
-    others n asked other = same_queue p (named cs n) (service_of cs n) (service_of ds n) (sym (elsewhere n other)) ∙ ap (λ o. queue_in p o (service_of ds n)) (sym (there n asked))
+    others n asked other = queue_same p (named cs n) (service_of cs n) (service_of ds n) (sym (elsewhere n other)) ∙ ap (λ o. queue_in p o (service_of ds n)) (sym (there n asked))
 
     pub noted_requests : (waits : Bool) → waits ≡ has_more (service_of ds j).queue → NotesBy (is_kept_server (request_at old.table j)) old new j waits → SameRequests p new ds
     noted_requests waits is notes = go (is_kept_server (request_at old.table j)) refl notes

@@ -3,7 +3,7 @@ use Rattle.std.proofs.Common.{ap, Bool, List, None, Option, Some, [], false, ref
 use Rattle.std.specs.Prelude.{◌&&◌, ◌||◌, get_or, nat_lt, option_map}
 use Rattle.std.proofs.lemmas.Bool.{eqb-false, eqb-true, true≢false}
 use Rattle.std.proofs.lemmas.Option.{none-some, same_Some}
-use Rattle.aom_active.proofs.Dues.{next_due_is}
+use Rattle.aom_active.proofs.Dues.{next_due_is, not_both}
 use Rattle.aom_active.proofs.Firsts.{first_timer}
 use Rattle.aom_active.proofs.Halves.{Timely, timely_kept, timely_without}
 use Rattle.aom_active.proofs.Lists.{id_of}
@@ -19,13 +19,6 @@ use Rattle.aom_parts.specs.Stands.{Machine, Stands, StandsFor}
 use Rattle.aom_exec.specs.Turns.{NoneDue}
 
 -- ---- one list
-
--- of two timers one alone is sooner than the other
-not_both : (t u : Timer) → is_sooner t u ≡ true → is_sooner u t ≡ false
-not_both t u e = at t.due u.due t.order u.order e
-  where
-    at : (a b m n : ℕ) → (nat_lt a b || ((a == b) && nat_lt m n)) ≡ true → (nat_lt b a || ((b == a) && nat_lt n m)) ≡ false
-    at a b m n e = grind (arith)
 
 -- none is sooner than itself
 not_itself : (o : Option Timer) → ComesSooner o o → ⊥

@@ -60,7 +60,7 @@ use Rattle.aom_exec.specs.Steps.{progress}
 use Rattle.aom_exec.specs.Turns.{CanDispatch, Completed, Dispatches, Picked, TakesAll, running}
 use Rattle.aom_parts.proofs.Entries.{mark_shows_none, same_items_length}
 use Rattle.aom_acts.proofs.Finding.{class_fits}
-use Rattle.aom_acts.proofs.GoingActs.{fresh_value, fresh_word}
+use Rattle.aom_acts.proofs.GoingActs.{fresh_value, fresh_word, thing_is}
 use Rattle.aom_parts.proofs.Overs.{over_value, over_words}
 use Rattle.aom_exec.proofs.Idle.{stands_idle}
 use Rattle.aom_exec.proofs.Progressing.{between, is_as_far}
@@ -260,10 +260,7 @@ completed_again first last false c st = subst (λ m. Stands m) (sym c.0) st
 
 -- ---- an object is dispatched
 
-class_told : (t : Thing) (class : ℕ) (c : Option Held_cell) → class_of c ≡ Some class → thing_in c ≡ Some t → t ≡ An_object_of class
-class_told t class None e f = cc
-class_told t class (Some c) e f = sym (same_Some _ _ f) ∙ ap An_object_of (same_Some _ _ e)
-
+-- the class of a cell, by what it is
 pub class_in : (c : Option Held_cell) (class : ℕ) → thing_in c ≡ Some (An_object_of class) → class_of c ≡ Some class
 class_in None class e = cc
 class_in (Some c) class e = ap payers.class_of (same_Some _ _ e)
@@ -436,7 +433,7 @@ module _ (p : Image) (m : Parts) (s : State) (st : StandsFor (record { image = p
       name = sym k.name
 
       thing : object.thing ≡ An_object_of d.class
-      thing = class_told object.thing d.class (cell_at m.cells id) d.is its_thing
+      thing = thing_is object.thing d.class (cell_at m.cells id) d.is its_thing
 
       method : part_of p Handles object.thing ≡ Some d.method
       method = ap (part_of p Handles) thing ∙ d.handles

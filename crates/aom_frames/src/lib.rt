@@ -1,4 +1,5 @@
-//! The stack of what is at hand: methods, traps, destructions, leaves and dispatches, the innermost on top.
+//! The stack of what is at hand: methods, traps, destructions, the sessions that go before a server,
+//! leaves and dispatches, the innermost on top.
 //!
 //! A `Frame` is where a method stands, its sixteen registers and the counters of its loops: plain numbers, with nothing
 //! that tells a word from the number of a cell. Registers begin with null. `Tasks::with_depth` takes all the memory that

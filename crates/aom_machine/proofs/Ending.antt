@@ -58,9 +58,6 @@ module _ {X : Type 0} {B : X → Type 0} (old : Machine X B) (s : State) (st : S
   pub from_polled : (n : ℕ) → n ≡ old.core.parts.rest.polled → first_living s.killed (natives_of old - s.rest.polled) s.rest.polled ≡ first_living s.killed (natives_of old - n) n
   from_polled n e = ap (λ k. first_living s.killed (natives_of old - k) k) (sym (e ∙ ap (λ (r : Rest). r.polled) st.stands.agrees.rest))
 
-  pub not_killed : (n : ℕ) → IsSome (living_at old.natives.slots.items n) → is_killed old.core.parts.sessions n ≡ false
-  not_killed n alive = ap (λ l. is_dead l n) st.stands.agrees.natives.dead ∙ not-true (is_dead s.killed n) (sym (st.serves.lives n (within old.natives.slots.items n alive)) ∙ alive)
-
   pub kills_it : (outside : Outside) → outside.natives ≡ natives_of old → (name n : ℕ) → IsSome (living_at old.natives.slots.items n) → delivers outside name s (Kill n) ≡ Kills n
   kills_it outside same name n alive = ap (λ b. cond b (Kills n) Hears) (lives_is outside same n ∙ alive)
 

@@ -14,12 +14,12 @@ use Rattle.aom_sound.specs.Servers.{has_more, is_server}
 use Rattle.aom_sound.specs.State.{AtRoot, Frame, Home, Inside, State, Static, Task}
 use Rattle.aom_sound.specs.Words.{here, stored}
 use Rattle.aom_requests.specs.Requests.{request_at}
-use Rattle.aom_sound.proofs.Maps.{named_moved, requested_without, unrequested}
+use Rattle.aom_sound.proofs.Maps.{named_moved, requested_moved, requested_without, unrequested}
 use Rattle.aom_sound.proofs.Services.{named_served, requested_served, service_here, service_moved, service_stored, service_there}
 use Rattle.aom_sound.proofs.Unslotting.{each_unslotted_alike, each_unslotted_requests}
 use Rattle.aom_active.specs.Agrees.{Active, Tells, queue_in, queued}
 use Rattle.aom_active.specs.Meanings.{Asks, Removes, asked_anew, queued_anew}
-use Rattle.aom_active.proofs.Asking.{asked_gone, asked_moved, asked_new, asked_written, queued_gone, queued_same, queued_served}
+use Rattle.aom_active.proofs.Asking.{asked_gone, asked_new, asked_written, queued_gone, queued_same, queued_served}
 use Rattle.aom_active.proofs.Telling.{standing_follows}
 use Rattle.aom_parts.specs.Agrees.{SameRequests, SameCells, thing_of}
 use Rattle.aom_parts.specs.Cells.{Delists}
@@ -39,7 +39,7 @@ module _ (p : Image) (a : Active) where
   requests_alike cs ds same names queues h = requests_as cs ds (λ n. sym (same n)) (λ n there. sym (queued_same p cs ds names queues n)) h
 
   pub requests_moved : (cs : List Cell) (q r : Place) → SameRequests p a cs → SameRequests p a (moved q r cs)
-  requests_moved cs q r h = requests_alike cs (moved q r cs) (asked_moved cs q r) (named_moved cs q r) (λ n. ap (λ (v : Service). v.queue) (service_moved cs q r n)) h
+  requests_moved cs q r h = requests_alike cs (moved q r cs) (requested_moved cs q r) (named_moved cs q r) (λ n. ap (λ (v : Service). v.queue) (service_moved cs q r n)) h
 
   requests_written : (cs : List Cell) (n w : ℕ) (v : ℤ) → SameRequests p a cs → SameRequests p a (set_word_field n w v cs)
   requests_written cs n w v h = requests_alike cs (set_word_field n w v cs) (asked_written cs n w v) (named_set_word cs n w v) (λ k. ap (λ (x : Service). x.queue) (service_stored cs n w v k)) h
@@ -111,15 +111,6 @@ requests_gone p old new cs g o tidy holds off h = elim off [ inl none ↦ unlist
       stands = standing_follows new (asked_anew o.name None (requested cs)) (requested (without g cs)) (queued p cs) (queued p (without g cs)) (λ n. sym (asked_gone cs g o tidy holds n)) waits (removes.stands (requested cs) (queued p cs) h.stands);
       limit = removes.limit ∙ h.limit;
     }
-
--- something else waits at a server
-pub requests_served : (p : Image) (old new : Active) (cs : List Cell) (o : Object) (v : Service) → named cs o.name ≡ Some o → is_server p o.thing ≡ true → Asks old new o.name (has_more v.queue) → SameRequests p old cs → SameRequests p new (set_service o.name v cs)
-requests_served p old new cs o v lives serves asks h = record {
-  stands =
-      standing_follows new (requested cs) (requested (set_service o.name v cs)) (queued_anew o.name (Some (has_more v.queue)) (queued p cs)) (queued p (set_service o.name v cs))
-      (λ n. sym (requested_served cs o.name v n)) (λ n asked. sym (queued_served p cs o v lives serves n)) (asks.stands (requested cs) (queued p cs) h.stands);
-  limit = asks.limit ∙ h.limit;
-}
 
 -- ---- another request of a cell changes no word and no count
 

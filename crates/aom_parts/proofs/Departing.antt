@@ -11,6 +11,7 @@ use Rattle.aom_clients.specs.declared.client.Client.TheVariants.{Closing, Connec
 use Rattle.aom_clients.specs.declared.entry.Entry.{Entry}
 use Rattle.aom_clients.specs.declared.entry.Entry.TheVariants.{Close, Connect, Message}
 use Rattle.aom_clients.specs.declared.place.Place.TheVariants.{Free}
+use Rattle.aom_parts.proofs.Serving.{map_at}
 
 -- ---- lists with one place written
 
@@ -28,11 +29,6 @@ at_set_or none xs i j x past = go (i == j) refl
 
 pub at_set_none : {A : Type 0} (none : A) (xs : List A) (i j : ℕ) → slice_index_or (slice_set xs i none) j none ≡ cond (i == j) none (slice_index_or xs j none)
 at_set_none none xs i j = at_set_or none xs i j none (λ large. refl)
-
-mapped_at : {A : Type 0} (f : List A → List A) (lists : List (List A)) (n : ℕ) → f [] ≡ [] → slice_index_or (map f lists) n [] ≡ f (slice_index_or lists n [])
-mapped_at f [] n e = sym e
-mapped_at f (l ∷ lists) zero e = refl
-mapped_at f (l ∷ lists) (suc n) e = mapped_at f lists n e
 
 -- one test or another, and the same then
 either : {A : Type 0} (a b : Bool) (x y : A) → cond a x (cond b x y) ≡ cond (b || a) x y
@@ -82,7 +78,7 @@ module _ (k : ℕ) where
 
   -- and hold no slot
   sent_completed : (m : ℕ) (s : kept.State) (c : ℕ) → kept.sent_at (kept.after_complete m s) c ≡ filter (λ n. not (n == m)) (kept.sent_at s c)
-  sent_completed m s c = mapped_at (λ ms. filter (λ n. not (n == m)) ms) s.sent c refl
+  sent_completed m s c = map_at (λ ms. filter (λ n. not (n == m)) ms) s.sent c refl
 
   pub sent_after_queue : (es : List Entry) (s : kept.State) (c : ℕ) → kept.sent_at (kept.queue_gone k es s) c ≡ all_without es (kept.sent_at s c)
   sent_after_queue [] s c = refl

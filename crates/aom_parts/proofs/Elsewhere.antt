@@ -240,10 +240,6 @@ module _ (others : Others) (us : List Held_task) (h : Heap) (es : List Item) (c 
 
 -- ---- a queue
 
--- a message is numbered by its place
-numbered_other : (m k : ℕ) → (message_name m == k) ≡ false → (es : List Entry) → list_any (is_numbered k) (Message m ∷ es) ≡ list_any (is_numbered k) es
-numbered_other m k other es = ap (λ b. b || list_any (is_numbered k) es) other
-
 -- the queue of a server is another, by which one message comes or goes
 queue_written : (others : Others) (s' : kept.State) (k m x : ℕ) (to : List Entry) → ((n d : ℕ) → session_with n (client_at s' d) ≡ session_with n (client_at others.clients d)) → ((n : ℕ) → queue_at s' n ≡ cond (k == n) to (queue_at others.clients n))
     → ((j : ℕ) → cond (list_any (is_numbered j) to) j null ≡ cond (m == j) x (cond (list_any (is_numbered j) (queue_at others.clients k)) j null))

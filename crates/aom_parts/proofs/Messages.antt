@@ -134,19 +134,9 @@ module _ (p : Image) (store : Store) where
   messages_asked cs n r h =
       messages_as cs (set_request n r cs) (λ k. ap is_a_message ((rerequested_alike cs (Inside (record { name = n; thing = Message }) (Register 0 0)) r).named_so k)) (λ m w. words_asked cs n r (message_name m) w) (many_asked cs n r) h
 
-  pub messages_rerequested : (cs : List Cell) (home : Home) (r : Option Request) → SameMessages p store cs → SameMessages p store (rerequested cs home r)
-  messages_rerequested cs Static r h = h
-  messages_rerequested cs AtRoot r h = h
-  messages_rerequested cs (Inside o from) r h = messages_asked cs o.name r h
-
   pub messages_opened : (cs : List Cell) (n : ℕ) (b : Bool) → SameMessages p store cs → SameMessages p store (set_session n b cs)
   messages_opened cs n b h =
       messages_as cs (set_session n b cs) (λ k. ap is_a_message ((resessioned_alike cs (Inside (record { name = n; thing = Message }) (Register 0 0)) b).named_so k)) (λ m w. words_opened cs n b (message_name m) w) (many_opened cs n b) h
-
-  pub messages_resessioned : (cs : List Cell) (home : Home) (b : Bool) → SameMessages p store cs → SameMessages p store (resessioned cs home b)
-  messages_resessioned cs Static b h = h
-  messages_resessioned cs AtRoot b h = h
-  messages_resessioned cs (Inside o from) b h = messages_opened cs o.name b h
 
   -- what clients have at a cell
   pub messages_served : (cs : List Cell) (n : ℕ) (v : Service) → SameMessages p store cs → SameMessages p store (set_service n v cs)

@@ -39,7 +39,7 @@ or_true : (a : Bool) → (a || (true || false)) ≡ true
 or_true true = refl
 or_true false = refl
 
-front_false : (a b : Bool) → (a || b) ≡ false → (a ≡ false) × (b ≡ false)
+pub front_false : (a b : Bool) → (a || b) ≡ false → (a ≡ false) × (b ≡ false)
 front_false true b e = cc
 front_false false b e = (refl, e)
 

@@ -12,7 +12,7 @@ use Rattle.aom_sound.specs.Enlisted.{rerequested}
 use Rattle.aom_sound.specs.Places.{Cell, Object, Place, Register, Request, Tidy, held, in_session, moved, named, same_place, set_request, set_session, set_word_field, with_new, without, word_field}
 use Rattle.aom_sound.specs.State.{AtRoot, Frame, Home, Inside, State, Static, Task}
 use Rattle.aom_sound.specs.Words.{here, stored}
-use Rattle.aom_sound.proofs.Maps.{same_place-true, unnamed}
+use Rattle.aom_sound.proofs.Maps.{same_place-true, unnamed, without_none}
 use Rattle.aom_parts.specs.Agrees.{SameCells, SameNatives, thing_of}
 use Rattle.aom_cells.specs.Heap.{Heap}
 use Rattle.aom_shape.specs.Tables.{at}
@@ -49,15 +49,6 @@ session_new cs name thing words owner new n = go (name == n) refl
     go true same = sym (ap (in_session cs) (sym (eqb-true name n same)) ∙ unnamed_closed cs name new)
     go false other = refl
 
--- what owns nothing takes nothing along
-same_without : (cs : List Cell) (g : Place) → held cs g ≡ None → without g cs ≡ cs
-same_without [] g e = refl
-same_without (c ∷ cs) g e = go (same_place c.owner g) e (same_without cs g)
-  where
-    go : (x : Bool) → cond x (Some c.object) (held cs g) ≡ None → (held cs g ≡ None → without g cs ≡ cs) → cond x (without g cs) (c ∷ without g cs) ≡ c ∷ cs
-    go true e rest = cc
-    go false e rest = ap (λ l. c ∷ l) (rest e)
-
 -- a cell that goes takes its own along
 session_without : (cs : List Cell) (g : Place) (o : Object) (n : ℕ) → Tidy cs → held cs g ≡ Some o → (o.name == n) ≡ false → in_session (without g cs) n ≡ in_session cs n
 session_without [] g o n t e d = refl
@@ -66,7 +57,7 @@ session_without (c ∷ cs) g o n t e d = go (same_place c.owner g) refl (session
     go : (x : Bool) → same_place c.owner g ≡ x → (held cs g ≡ Some o → (o.name == n) ≡ false → in_session (without g cs) n ≡ in_session cs n) → cond x (Some c.object) (held cs g) ≡ Some o → in_session (cond x (without g cs) (c ∷ without g cs)) n ≡ cond (c.object.name == n) c.session (in_session cs n)
     go true f ih e =
         let same : c.object ≡ o = cc in
-        ap (λ l. in_session l n) (same_without cs g (ap (λ q. held cs q) (sym (same_place-true c.owner g f)) ∙ t.0))
+        ap (λ l. in_session l n) (without_none cs g (ap (λ q. held cs q) (sym (same_place-true c.owner g f)) ∙ t.0))
         ∙ ap (λ b. cond b c.session (in_session cs n)) (sym (ap (λ x. x.name == n) same ∙ d))
     go false f ih e = ap (λ x. cond (c.object.name == n) c.session x) (ih e d)
 

@@ -37,15 +37,6 @@ pub record Still (cs cs' : List Cell) : Type 0 where
 pub still_itself : (cs : List Cell) → Still cs cs
 still_itself cs = record { services = λ n. refl; names = λ m. refl; owners = λ m. refl; slots = λ c. refl }
 
--- one change after another
-pub still_then : (cs cs' cs'' : List Cell) → Still cs cs' → Still cs' cs'' → Still cs cs''
-still_then cs cs' cs'' a b = record {
-  services = λ n. b.services n ∙ a.services n;
-  names = λ m. b.names m ∙ a.names m;
-  owners = λ m. b.owners m ∙ a.owners m;
-  slots = λ c. b.slots c ∙ a.slots c;
-}
-
 pub same_still : (s : kept.State) (cs cs' : List Cell) (clients : List Client) → Still cs cs' → SameClients s cs clients → SameClients s cs' clients
 same_still s cs cs' clients still same = record {
   at = same.at;
@@ -141,70 +132,8 @@ still_written cs n w v = still_each (set_word_field n w v) (λ c. record c { wor
 pub still_bereaved : (p : Image) (native : ℕ) (cs : List Cell) → Still cs (all_bereaved p native cs)
 still_bereaved p native cs = still_each (all_bereaved p native) (bereaved p native) refl (λ c cs. refl) (λ c. refl) (λ c. refl) (λ c. refl) cs
 
--- ---- what a method changes, but for the end of a message
-
-pub still_asked : (cs : List Cell) (home : Home) (r : Option Request) → Still cs (rerequested cs home r)
-still_asked cs Static r = still_itself cs
-still_asked cs AtRoot r = still_itself cs
-still_asked cs (Inside o from) r = still_requested cs o.name r
-
+-- the session of what a method works on is another
 pub still_opened : (cs : List Cell) (home : Home) (is_open : Bool) → Still cs (resessioned cs home is_open)
 still_opened cs Static is_open = still_itself cs
 still_opened cs AtRoot is_open = still_itself cs
 still_opened cs (Inside o from) is_open = still_sessioned cs o.name is_open
-
-pub still_stored : (cs : List Cell) (home : Home) (w : ℕ) (v : ℤ) → Still cs (stored cs home w v)
-still_stored cs Static w v = still_itself cs
-still_stored cs AtRoot w v = still_itself cs
-still_stored cs (Inside o from) w v = still_written cs o.name w v
-
-pub still_ended : (p : Image) (fr : Frame) (cs : List Cell) → Still cs (ended_cells p fr cs)
-still_ended p fr cs = go (is_cancel (method_role p fr.method))
-  where
-    go : (b : Bool) → Still cs (cond b (rerequested cs fr.home (on_request cancelled (own_request cs fr.home))) cs)
-    go true = still_asked cs fr.home (on_request cancelled (own_request cs fr.home))
-    go false = still_itself cs
-
-module _ (p : Image) (fr : Frame) (ts : List Task) (s : State) where
-  field_apart : (home : Home) (f : ℕ) → is_queue (field_place home f) ≡ false
-  field_apart Static f = refl
-  field_apart AtRoot f = refl
-  field_apart (Inside o from) f = refl
-
-  spot_apart : (spot : Spot) → is_queue (spot_place p fr ts s spot) ≡ false
-  spot_apart (In_register a) = refl
-  spot_apart (In_field f) = field_apart fr.home f
-  spot_apart The_message = refl
-
-  -- a cell that it makes has a free number of a cell
-  abbrev pub IsStill : Update → Type 0
-  IsStill (Made name class a) = (name < 4096) × (named s.cells name ≡ None)
-  IsStill (Replied a) = ⊥
-  IsStill _ = Unit {0}
-
-  pub still_update : (u : Update) → IsStill u → Still s.cells (cells_after p fr ts s u)
-  still_update Same h = still_itself s.cells
-  still_update (Carried from to) h = still_moved s.cells (spot_place p fr ts s from) (spot_place p fr ts s to) (spot_apart from ∙ sym (spot_apart to))
-  still_update (Made name class a) h = still_new s.cells name _ _ (here fr ts s a) h.0 h.1
-  still_update (Written w v) h = still_stored s.cells fr.home w v
-  still_update (Requested r) h = still_asked s.cells fr.home r
-  still_update (Sessioned is_open) h = still_opened s.cells fr.home is_open
-  still_update (Replied a) h = absurd h
-  still_update (Pushed a) h = still_moved s.cells (here fr ts s a) (Entry (length s.items)) refl
-  still_update (Popped a) h = still_moved s.cells (top_place s.items) (here fr ts s a) refl
-  still_update (Pushed_operation m w) h = still_itself s.cells
-  still_update Popped_operation h = still_itself s.cells
-
-  -- arguments are passed, and a result is brought
-  pub still_passed : (depth : ℕ) (xs : List Argument) (first to : ℕ) (cs : List Cell) → Still cs (passed_cells p fr ts s depth xs first to cs)
-  still_passed depth [] first to cs = still_itself cs
-  still_passed depth (Takes_word ∷ xs) first to cs = still_passed depth xs (suc first) (suc to) cs
-  still_passed depth (Takes_own t ∷ xs) first to cs =
-      still_then cs (moved (here fr ts s first) (Register depth to) cs) _ (still_moved cs (here fr ts s first) (Register depth to) refl) (still_passed depth xs (suc first) (suc to) (moved (here fr ts s first) (Register depth to) cs))
-
-  pub still_result : (g : Gives) (a c : ℕ) (below : List Task) → Still s.cells (result_cells p fr ts s g a c below)
-  still_result Nothing a c below = still_itself s.cells
-  still_result A_word a c below = still_itself s.cells
-  still_result (An_own t) a c below = still_moved s.cells (here fr ts s a) (Register (length below) c) refl
-  still_result (A_maybe t) a c below = still_moved s.cells (here fr ts s a) (Register (length below) c) refl
-  still_result (Left x) a c below = still_itself s.cells

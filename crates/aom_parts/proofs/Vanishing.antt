@@ -25,15 +25,9 @@ use Rattle.aom_parts.proofs.Departing.{all_without, client_after_queue, client_a
 use Rattle.aom_parts.proofs.Serving.{names_apart}
 use Rattle.aom_parts.proofs.Withdrawing.{owner_cell, owner_in}
 use Rattle.aom_parts.specs.Serving.{Once, SameClients, asked_by, holds, is_taken, message_name, owner_of, sent_by, sessionless, waits_in}
+use Rattle.aom_sound.proofs.Destroying.{eqb_comm}
 
 -- ---- messages without slots
-
-swapped : (a b : ℕ) → (a == b) ≡ (b == a)
-swapped a b = go (b == a) refl
-  where
-    go : (x : Bool) → (b == a) ≡ x → (a == b) ≡ x
-    go true e = eq-eqb a b (sym (eqb-true b a e))
-    go false e = ne_eqb a b (λ same. false≢true (sym e ∙ eq-eqb b a (sym same)))
 
 -- the sender of a message once those of these clients hold no slot
 abbrev pub lost : List ℕ → Option Sender → Option Sender
@@ -47,7 +41,7 @@ lost_none (c ∷ xs) = lost_none xs
 lost_some : (xs : List ℕ) (d : ℕ) (slot told : Bool) →
     lost xs (Some (record { client = d; holds_slot = slot; is_told = told })) ≡ Some (record { client = d; holds_slot = cond (is_among d xs) false slot; is_told = told })
 lost_some [] d slot told = refl
-lost_some (c ∷ xs) d slot told = ap (λ m. lost xs (Some m)) (first (d == c)) ∙ lost_some xs d (cond (d == c) false slot) told ∙ ap (λ b. Some (record { client = d; holds_slot = b; is_told = told })) (both (is_among d xs) (d == c) (c == d) (swapped d c))
+lost_some (c ∷ xs) d slot told = ap (λ m. lost xs (Some m)) (first (d == c)) ∙ lost_some xs d (cond (d == c) false slot) told ∙ ap (λ b. Some (record { client = d; holds_slot = b; is_told = told })) (both (is_among d xs) (d == c) (c == d) (eqb_comm d c))
   where
     first : (b : Bool) → ◌≡◌ {A = Sender} (cond b (record { client = d; holds_slot = false; is_told = told }) (record { client = d; holds_slot = slot; is_told = told })) (record { client = d; holds_slot = cond b false slot; is_told = told })
     first true = refl

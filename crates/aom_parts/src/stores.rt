@@ -23,7 +23,7 @@ pub(crate) struct Stores {
 }
 
 impl Stores {
-    /// Nothing is enlisted, no client asked for anything, and there is no message. All the memory that is ever taken.
+    /// Nothing is enlisted, no client asked for anything, and there is no message. All the memory that is ever taken is taken here.
     pub(crate) fn with_limit(
         alloc: Global,
         cells: usize,

@@ -205,11 +205,6 @@ module _ {X : Type 0} {B : X → Type 0} where
     pub turned_same : now ≡ record told { lines = now.lines }
     turned_same = let is = (takes stands.0 stands.1).3 in is ∙ ap (λ ls. record told { lines = ls }) (sym (ap (λ (t : Turn). t.lines) is))
 
-  pub turned_still : (m : Machine X B) (outside : Outside) (ending : Ending) (told now : Turn) (new : Machine X B) → Stands m → TakesTurns m outside (Some ending) told now new → now ≡ told
-  turned_still m outside ending told now new stands takes =
-      let x = takes stands.0 stands.1 in
-      x.3 ∙ ap (λ ls. record told { lines = told.lines ++ ls }) x.4.0 ∙ ap (λ ls. record told { lines = ls }) (append-nil told.lines)
-
   abbrev pub rounds : ℕ → Machine X B → ℕ
   rounds limit m = rounds_by (limit - m.core.parts.rest.dispatches) m.core.parts.rest.ended
 

@@ -32,9 +32,6 @@ pub record Paged (before now : Option (List ℕ)) (page : List ℕ) (lines : Lis
   pub out : now ≡ after before sent
   pub whole : sent ++ page ≡ text_of lines
 
-pub empty_page : (before : Option (List ℕ)) (page : List ℕ) → page ≡ [] → Paged before before page []
-empty_page before page is = record { sent = []; out = after_none before; whole = is }
-
 -- one line more
 pub line_added : (before now : Option (List ℕ)) (old page : List ℕ) (lines : List Line) (i : ℕ) (line : Line)
     → i < length lines → line ≡ get_or lines i line → Paged before now old (take i lines) → page ≡ old ++ ended (line_text line) → Paged before now page (take (i + 1) lines)
@@ -60,10 +57,6 @@ page_sent before mid now old page lines p out is =
       out = out ∙ ap (λ o. after o old) p.out ∙ after_both before p.sent old;
       whole = ap (λ t. (p.sent ++ old) ++ t) is ∙ append-nil (p.sent ++ old) ∙ p.whole;
     }
-
-pub all_sent : (before mid now : Option (List ℕ)) (page : List ℕ) (lines : List Line) (i : ℕ) → length lines ≤ i → Paged before mid page (take i lines) → now ≡ after mid page → now ≡ after before (text_of lines)
-all_sent before mid now page lines i all p out =
-    out ∙ ap (λ o. after o page) p.out ∙ after_both before p.sent page ∙ ap (after before) (p.whole ∙ ap text_of (take_all i lines all))
 
 -- the beginning of the page is out
 pub page_cut : (before mid now : Option (List ℕ)) (page : List ℕ) (lines : List Line) (i n : ℕ) → Paged before mid page (take i lines) → now ≡ after mid (take n page)
