@@ -1,25 +1,19 @@
 //! The program: reads words and files, and hands their bytes on to the library.
 //!
 //! What is done with the bytes, what is written of it and with which status the program ends is said and proved there.
-//! Here is what a contract can say nothing of: the command line as the system gives it, files, and the two outputs.
+//! Here they are brought together with the command line as the system gives it, and with the files, the input and the two outputs of `aom_host`, of which a contract can say nothing.
 #![tactic(auto)]
 
 ghost use Rattle.std.specs.Prelude.{◌≤◌};
 ghost use Rattle.aom_command_line.specs.CommandLine.{KeepsLimit};
 
-mod files;
-mod input;
-mod output;
-
-use crate::files::read_file;
-use crate::input::Input;
-use crate::output::Output;
 use aom_command_line::{RunWords, Words, WordsFault, read_words};
 use aom_debugging::debug_bytes;
 use aom_explaining::{
     asm_explained, check_by_text, check_explained, prices_by_text, prices_explained, run_by_text,
     run_explained, tell_explained,
 };
+use aom_host::{Input, Output, read_file};
 use aom_main::{
     ExitStatus, Fault, Part, asm_bytes, check_bytes, dis_bytes, dot_bytes, explore_bytes,
     prices_bytes, run_bytes, tell,

@@ -4,19 +4,18 @@ use Rattle.aom_sound.specs.State.{State}
 use Rattle.aom_sound.specs.World.{Outside, Reaches}
 use Rattle.aom_transcript.specs.declared.event.TimedEvent.{TimedEvent}
 use Rattle.aom_transcript.specs.declared.line.Line.{Line}
-use Rattle.aom_machine.specs.Calls.{StandsFor, natives_of}
-use Rattle.aom_run.specs.Runs.{after}
+use Rattle.aom_debug_courses.specs.Calls.{StandsFor, natives_of}
+use Rattle.aom_debug_courses.specs.Runs.{after}
 use Rattle.aom_debug_words.specs.declared.fault.DebugFault.{DebugFault}
 use Rattle.aom_debug_words.specs.declared.fault.DebugFault.TheVariants.{BadCommand, NoSuch, Ended, OutOfMemory, WriteFault}
 use Rattle.aom_debug_sights.specs.Telling.{Tells, TellsPart}
 use Rattle.aom_debug.specs.Commands.{place_text}
-use Rattle.aom_debug_moves.specs.Sends.{Breaks, Sends}
+use Rattle.aom_debug_courses.specs.Sends.{Breaks, Machine, Sends}
 use Rattle.aom_debug_courses.specs.Courses.{Courses}
-use Rattle.aom_exec.specs.Steps.{progress}
+use Rattle.aom_debug_courses.specs.Steps.{progress}
 use Rattle.aom_parts.specs.declared.progress.Progress.{Progress}
-use Rattle.aom_run.specs.Turns.{hearing}
+use Rattle.aom_debug_courses.specs.Turns.{hearing}
 use Rattle.aom_debug.specs.Debugging.{Answer, Cut, Declined, Goes, GivesUp, Looks, MayGo, Outgoing, Seen, SeenPart, Shows, has_ended, outside_of}
-use Rattle.aom_machine.specs.declared.machine.Machine.{Machine}
 use Rattle.aom_debug.proofs.Moving.{all_out, cut_out, part_out}
 use Rattle.aom_debug.specs.declared.debugger.Debugger.{Debugger}
 

@@ -1,3 +1,4 @@
 pub mod Moving
 pub mod Placing
 pub mod Answering
+pub use Rattle.aom_debug_courses.proofs.Sending

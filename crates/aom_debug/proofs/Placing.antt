@@ -5,8 +5,8 @@ use Rattle.aom_sound.specs.Places.{count_cells}
 use Rattle.aom_sound.specs.State.{Rest, State}
 use Rattle.aom_transcript.specs.Text.{ended}
 use Rattle.aom_parts.specs.Stands.{Machine, StandsFor}
-use Rattle.aom_run.specs.Runs.{after}
-use Rattle.aom_run.proofs.Sending.{after_both, cut_next, cut_short}
+use Rattle.aom_debug_courses.specs.Runs.{after}
+use Rattle.aom_debug_courses.proofs.Sending.{after_both, cut_next, cut_short}
 use Rattle.aom_debug_lines.specs.declared.answer.Answer.{Answer}
 use Rattle.aom_debug_lines.specs.Answers.{answer_text}
 use Rattle.aom_debug_views.specs.Next.{next_of}

@@ -6,9 +6,9 @@ use Rattle.aom_sound.specs.World.{Outside, Reaches}
 use Rattle.aom_transcript.specs.declared.line.Line.{Line}
 use Rattle.aom_transcript.specs.Text.{ended}
 use Rattle.aom_lines.specs.Turn.{step_lines}
-use Rattle.aom_machine.specs.Calls.{Stands, StandsFor, natives_of}
-use Rattle.aom_run.specs.Runs.{after}
-use Rattle.aom_run.specs.Turns.{hearing}
+use Rattle.aom_debug_courses.specs.Calls.{Stands, StandsFor, natives_of}
+use Rattle.aom_debug_courses.specs.Runs.{after}
+use Rattle.aom_debug_courses.specs.Turns.{hearing}
 use Rattle.aom_script.specs.Script.{IsTimely}
 use Rattle.aom_debug_words.specs.declared.fault.DebugFault.{DebugFault}
 use Rattle.aom_debug_words.specs.declared.fault.DebugFault.TheVariants.{BadCommand, NoSuch, Ended, OutOfMemory, WriteFault}

@@ -6,9 +6,9 @@ ghost use Rattle.aom_debug.specs.Debugging.{IsReady, Keeps};
 ghost use Rattle.aom_debug.specs.Obeying.{Heeds, Obeys};
 
 use crate::{Debugger, Look};
+use aom_debug_courses::Sink;
 use aom_debug_words::{Command, DebugFault, read_command};
 use aom_natives::Native;
-use aom_run::Sink;
 
 impl<'a> Debugger<'a> {
     /// Does what a line of commands says, which is given without its line feed. A line without words asks nothing.

@@ -1,7 +1,7 @@
 //! A debugger.
 ghost use Rattle.std.specs.Prelude.{◌≡◌, ◌≤◌, ◌+◌, ◌||◌, [], false, true, IfErr, IfNone, IfOk, IfSome};
 ghost use Rattle.aom_lines.specs.Turn.{step_lines};
-ghost use Rattle.aom_machine.specs.Calls.{Stands};
+ghost use Rattle.aom_debug_courses.specs.Calls.{Stands};
 ghost use Rattle.aom_natives.specs.Slots.{AllAgree};
 ghost use Rattle.aom_script.specs.Script.{IsTimely};
 ghost use Rattle.aom_debug_words.specs.declared.fault.DebugFault.TheVariants.{OutOfMemory};
@@ -9,16 +9,13 @@ ghost use Rattle.aom_debug.specs.Debugging.{GivesUp, Goes, IsReady, Keeps, Runs,
 
 use crate::marking::spot_named;
 use crate::showing::tell_place;
-use aom_debug_courses::{go_on, go_steps, go_turn};
+use aom_debug_courses::{Machine, Progress, Sink, go_on, go_steps, go_turn};
 use aom_debug_lines::Answer;
 use aom_debug_marks::{Breakpoints, Recent, Spot};
 use aom_debug_sights::tell;
 use aom_debug_words::DebugFault;
-use aom_exec::Progress;
 use aom_lines::Turn;
-use aom_machine::Machine;
 use aom_natives::Native;
-use aom_run::Sink;
 use aom_script::Script;
 use aom_text::Number;
 use aom_transcript::Page;

@@ -12,6 +12,8 @@ mod looking;
 mod marking;
 mod showing;
 
+pub use aom_debug_courses::Sink;
+pub use aom_debug_sights::tell;
 pub use debugger::Debugger;
 pub use looking::Look;
 pub use showing::tell_place;

@@ -5,10 +5,10 @@ ghost use Rattle.aom_debug.specs.Debugging.{IsReady, Keeps, Looks, Seen, SeenPar
 
 use crate::Debugger;
 use crate::showing::{show_cells, show_owners};
+use aom_debug_courses::Sink;
 use aom_debug_sights::{tell_actives, tell_cleanup, tell_recent};
 use aom_debug_words::DebugFault;
 use aom_natives::Native;
-use aom_run::Sink;
 
 /// What a debugger shows of a machine.
 #[derive(Clone, Copy, PartialEq, Eq, Debug)]

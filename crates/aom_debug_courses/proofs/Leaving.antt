@@ -12,16 +12,15 @@ use Rattle.aom_transcript.specs.declared.line.Line.{Line}
 use Rattle.aom_transcript.specs.declared.line.Ending.{Ending}
 use Rattle.aom_parts.specs.declared.progress.Progress.TheVariants.{Ended, Running, Turned}
 use Rattle.aom_parts.specs.Progress.{progress_by, progress_of}
-use Rattle.aom_exec.specs.Steps.{IsAtHand, progress}
-use Rattle.aom_exec.proofs.Progressing.{between, is_as_far}
-use Rattle.aom_machine.specs.Calls.{Stands, StandsFor}
-use Rattle.aom_machine.specs.declared.machine.Machine.{Machine}
-use Rattle.aom_run.specs.Runs.{Moving}
-use Rattle.aom_run.specs.Turns.{LeadTo}
-use Rattle.aom_run.proofs.Spared.{moving_spares}
+use Rattle.aom_debug_moves.specs.Steps.{IsAtHand, progress}
+use Rattle.aom_debug_moves.proofs.Progressing.{between, is_as_far}
+use Rattle.aom_debug_moves.specs.Calls.{Stands, StandsFor}
+use Rattle.aom_debug_moves.specs.Sends.{Machine, Sends, Then}
+use Rattle.aom_debug_moves.specs.Runs.{Moving}
+use Rattle.aom_debug_moves.specs.Turns.{LeadTo}
+use Rattle.aom_debug_moves.proofs.Spared.{moving_spares}
 use Rattle.aom_debug_marks.specs.declared.spot.Spot.{Spot}
 use Rattle.aom_debug_moves.specs.Moves.{Arrives, TurnsOnce, stays as no_turns, turns}
-use Rattle.aom_debug_moves.specs.Sends.{Sends, Then}
 use Rattle.aom_debug_courses.specs.Courses.{InDispatch, IsOver, Rests, WalksOn, WalksThere}
 use Rattle.aom_debug_courses.proofs.Passing.{running_of}
 use Rattle.aom_debug_courses.proofs.Strides.{moving_walk}

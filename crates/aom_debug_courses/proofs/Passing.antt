@@ -10,15 +10,14 @@ use Rattle.std.specs.Prelude.{is_some}
 use Rattle.aom_parts.specs.declared.progress.Progress.{Progress}
 use Rattle.aom_parts.specs.declared.progress.Progress.TheVariants.{Running, Turned}
 use Rattle.aom_parts.specs.Progress.{progress_by, progress_of}
-use Rattle.aom_exec.specs.Steps.{IsAtHand, progress}
-use Rattle.aom_exec.proofs.Progressing.{is_as_far}
-use Rattle.aom_machine.specs.Calls.{Stands, StandsFor}
-use Rattle.aom_machine.specs.declared.machine.Machine.{Machine}
-use Rattle.aom_run.specs.Runs.{Moving, after}
-use Rattle.aom_run.proofs.Reaching.{reaches_both}
+use Rattle.aom_debug_moves.specs.Steps.{IsAtHand, progress}
+use Rattle.aom_debug_moves.proofs.Progressing.{is_as_far}
+use Rattle.aom_debug_moves.specs.Calls.{Stands, StandsFor}
+use Rattle.aom_debug_moves.specs.Sends.{Breaks, Leads, Machine, Sends, Then}
+use Rattle.aom_debug_moves.specs.Runs.{Moving, after}
+use Rattle.aom_debug_moves.proofs.Reaching.{reaches_both}
 use Rattle.aom_debug_marks.specs.declared.spot.Spot.{Spot}
 use Rattle.aom_debug_moves.specs.Moves.{Arrives, Strides, TurnsOnce, stays as no_turns, turns}
-use Rattle.aom_debug_moves.specs.Sends.{Breaks, Leads, Sends, Then}
 use Rattle.aom_debug_moves.proofs.Sending.{breaks_then, moving_stride, reaches_arrived, sent_both}
 use Rattle.aom_debug_courses.specs.Courses.{Courses, GoesOn, HasBegun, InDispatch, IsOver, IsThere, Passes, Rests, Walks, WalksIfAny, WalksOn, WalksThere}
 use Rattle.aom_debug_courses.specs.Courses.Passes.{begins as passes_none, strides as passes_more}

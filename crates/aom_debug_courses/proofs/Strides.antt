@@ -7,17 +7,15 @@ use Rattle.aom_transcript.specs.Text.{text_of}
 use Rattle.aom_parts.specs.declared.progress.Progress.{Progress}
 use Rattle.aom_parts.specs.declared.progress.Progress.TheVariants.{Running}
 use Rattle.aom_parts.specs.Progress.{progress_of}
-use Rattle.aom_exec.specs.Steps.{progress}
-use Rattle.aom_exec.proofs.Progressing.{at_hand, is_as_far}
-use Rattle.aom_machine.specs.Calls.{Stands, StandsFor}
-use Rattle.aom_machine.specs.declared.machine.Machine.{Machine}
-use Rattle.aom_run.specs.Runs.{Moving, after, begins as stays_there}
-use Rattle.aom_run.proofs.Reaching.{moving_both}
-use Rattle.aom_run.proofs.Sending.{after_none}
+use Rattle.aom_debug_moves.specs.Steps.{progress}
+use Rattle.aom_debug_moves.proofs.Progressing.{at_hand, is_as_far}
+use Rattle.aom_debug_moves.specs.Calls.{Stands, StandsFor}
+use Rattle.aom_debug_moves.specs.Sends.{Breaks, Leads, Machine, Sends}
+use Rattle.aom_debug_moves.specs.Runs.{Moving, after, begins as stays_there}
+use Rattle.aom_debug_moves.proofs.Reaching.{moving_both}
+use Rattle.aom_debug_moves.proofs.Sending.{after_none, breaks_then, moving_stride, sent_both}
 use Rattle.aom_debug_marks.specs.declared.spot.Spot.{Spot}
 use Rattle.aom_debug_moves.specs.Moves.{Strides}
-use Rattle.aom_debug_moves.specs.Sends.{Breaks, Leads, Sends}
-use Rattle.aom_debug_moves.proofs.Sending.{breaks_then, moving_stride, sent_both}
 use Rattle.aom_debug_courses.specs.Courses.{Courses, IsThere, Walks, WalksIfAny, WalksOn, WalksThere, WalksUnless}
 use Rattle.aom_debug_courses.specs.Courses.Walks.{begins, strides}
 

@@ -6,7 +6,7 @@ use Rattle.aom_sound.specs.World.{Outside}
 use Rattle.aom_transcript.specs.declared.line.Line.{Line}
 use Rattle.aom_parts.specs.declared.progress.Progress.TheVariants.{Running}
 use Rattle.aom_parts.specs.Progress.{progress_of}
-use Rattle.aom_exec.specs.Steps.{IsAtHand}
+use Rattle.aom_debug_moves.specs.Steps.{IsAtHand}
 use Rattle.aom_debug_marks.specs.Marks.{has_spot}
 use Rattle.aom_debug_marks.specs.declared.spot.Spot.{Spot}
 use Rattle.aom_debug_views.specs.Next.{next_of, root_is_due, spot_of}

@@ -1,24 +1,21 @@
 //! So many steps, the end of a dispatch, and the next breakpoint.
 ghost use Rattle.std.specs.Prelude.{◌≡◌, ◌≢◌, ◌≤◌, ◌<◌, ◌+◌, [], true, All, IfNone, IfSome};
-ghost use Rattle.aom_exec.specs.Steps.{progress};
+ghost use Rattle.aom_debug_moves.specs.Steps.{progress};
 ghost use Rattle.aom_parts.specs.declared.progress.Progress.TheVariants.{Turned};
-ghost use Rattle.aom_machine.specs.Calls.{EventInRange, Stands, natives_of};
+ghost use Rattle.aom_debug_moves.specs.Calls.{EventInRange, Stands, natives_of};
 ghost use Rattle.aom_lines.specs.Turn.{step_lines};
 ghost use Rattle.aom_natives.specs.Slots.{AllAgree};
 ghost use Rattle.aom_sound.specs.World.{Reaches};
-ghost use Rattle.aom_run.specs.Turns.{hearing};
+ghost use Rattle.aom_debug_moves.specs.Turns.{hearing};
 ghost use Rattle.aom_debug_moves.specs.Sends.{Breaks, Sends};
 ghost use Rattle.aom_debug_courses.specs.Courses.{GoesBy, GoesToBreakpoint, InDispatch, TurnsOver, WalksOn, stays_at};
 ghost use Rattle.aom_debug_courses.specs.declared.walking.Until.TheVariants.{Breakpoint};
 
 use crate::walking::{Until, is_idle, is_there, walk, walk_unless};
 use aom_debug_marks::{Breakpoints, Recent};
-use aom_debug_moves::{arrive, stride};
-use aom_exec::Progress;
+use aom_debug_moves::{Machine, Progress, Sink, arrive, stride};
 use aom_lines::Turn;
-use aom_machine::Machine;
 use aom_natives::Native;
-use aom_run::Sink;
 use aom_transcript::{Page, TimedEvent};
 
 /// So many steps, or to the end of the run.

@@ -1,24 +1,21 @@
 //! Steps one after another, as long as something is at hand.
 ghost use Rattle.std.specs.Prelude.{◌≡◌, ◌≢◌, ◌≤◌, ◌+◌, [], true, false, IfNone, IfSome};
-ghost use Rattle.aom_exec.specs.Steps.{progress};
+ghost use Rattle.aom_debug_moves.specs.Steps.{progress};
 ghost use Rattle.aom_parts.specs.declared.progress.Progress.TheVariants.{Running};
-ghost use Rattle.aom_machine.specs.Calls.{Stands, StandsFor, natives_of};
+ghost use Rattle.aom_debug_moves.specs.Calls.{Stands, StandsFor, natives_of};
 ghost use Rattle.aom_lines.specs.Turn.{step_lines};
 ghost use Rattle.aom_natives.specs.Slots.{AllAgree};
-ghost use Rattle.aom_run.specs.Runs.{Moving};
+ghost use Rattle.aom_debug_moves.specs.Runs.{Moving};
 ghost use Rattle.aom_sound.specs.State.{State};
 ghost use Rattle.aom_debug_views.specs.Next.{next_of, root_is_due, spot_of};
 ghost use Rattle.aom_debug_moves.specs.Sends.{Breaks, Sends};
 ghost use Rattle.aom_debug_courses.specs.Courses.{WalksThere, WalksUnless, is_broken, stays_at};
 
 use aom_debug_marks::{Breakpoints, Recent};
-use aom_debug_moves::stride;
+use aom_debug_moves::{Machine, Progress, Sink, stride};
 use aom_debug_views::{is_due, spot_at};
-use aom_exec::Progress;
 use aom_lines::Turn;
-use aom_machine::Machine;
 use aom_natives::Native;
-use aom_run::Sink;
 use aom_transcript::Page;
 
 /// Where steps end, if not before.

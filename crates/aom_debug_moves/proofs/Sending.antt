@@ -19,7 +19,7 @@ use Rattle.aom_run.specs.Runs.{Moving, after, begins}
 use Rattle.aom_run.specs.Turns.{TakesTurns}
 use Rattle.aom_run.proofs.Reaching.{moving_both, reaches_both, steps_on}
 use Rattle.aom_run.proofs.Running.{fewer_left, left}
-use Rattle.aom_run.proofs.Sending.{after_both, after_none, cut_next, text_of_both}
+pub use Rattle.aom_run.proofs.Sending.{after_both, after_none, cut_next, cut_short, text_of_both}
 use Rattle.aom_debug_views.specs.Next.{pauses, root_is_due}
 use Rattle.aom_debug_moves.specs.Moves.{Arrives, StepsOnce, Strides, TurnsOnce, stays, turns}
 use Rattle.aom_debug_moves.specs.Sends.{Breaks, IfSo, Leads, Sends, Then, Where}

@@ -1,3 +1,8 @@
 pub mod Laws
 pub mod Moves
 pub mod Sends
+-- what is said of the machine and of its runs, for those who say it of a course
+pub use Rattle.aom_exec.specs.Steps
+pub use Rattle.aom_machine.specs.Calls
+pub use Rattle.aom_run.specs.Runs
+pub use Rattle.aom_run.specs.Turns

@@ -4,7 +4,7 @@ use Rattle.aom_sound.specs.State.{State}
 use Rattle.aom_transcript.specs.declared.line.Line.{Line}
 use Rattle.aom_transcript.specs.Text.{text_of}
 use Rattle.aom_machine.specs.Calls.{StandsFor}
-use Rattle.aom_machine.specs.declared.machine.Machine.{Machine}
+pub use Rattle.aom_machine.specs.declared.machine.Machine.{Machine}
 use Rattle.aom_run.specs.Runs.{after}
 
 -- what leads from a state to another, with its lines

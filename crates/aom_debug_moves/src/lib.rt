@@ -10,6 +10,9 @@ mod arriving;
 mod laws;
 mod stepping;
 
+pub use aom_exec::Progress;
+pub use aom_machine::Machine;
+pub use aom_run::Sink;
 pub use arriving::{arrive, turn_out};
 pub use laws::moves_are_a_run;
 pub use stepping::stride;

@@ -3,12 +3,12 @@ use Rattle.std.proofs.Common.{◌≡◌, ◌≢◌, ◌∙◌, ◌⊎◌, ℕ, B
 use Rattle.aom_sound.specs.State.{State}
 use Rattle.aom_machine.specs.Calls.{StandsFor}
 use Rattle.aom_machine.specs.declared.machine.Machine.{Machine}
-use Rattle.aom_run.specs.Runs.{after}
-use Rattle.aom_run.proofs.Sending.{after_none}
+use Rattle.aom_debug.specs.Runs.{after}
+use Rattle.aom_debug.proofs.Sending.{after_none}
 use Rattle.aom_debug_words.specs.declared.command.Command.{Command}
 use Rattle.aom_debug_words.specs.declared.fault.DebugFault.{DebugFault}
 use Rattle.aom_debug_words.specs.declared.fault.DebugFault.TheVariants.{WriteFault}
-use Rattle.aom_debug_sights.specs.Telling.{IsCut}
+use Rattle.aom_debug.specs.Telling.{IsCut}
 use Rattle.aom_debug.specs.Debugging.{Outgoing}
 use Rattle.aom_debug.specs.Obeying.{Obeys}
 use Rattle.aom_debug.specs.declared.debugger.Debugger.{Debugger}

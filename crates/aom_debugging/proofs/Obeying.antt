@@ -8,13 +8,13 @@ use Rattle.aom_transcript.specs.declared.line.Line.{Line}
 use Rattle.aom_transcript.specs.Text.{ended}
 use Rattle.aom_machine.specs.Calls.{StandsFor}
 use Rattle.aom_machine.specs.declared.machine.Machine.{Machine}
-use Rattle.aom_run.specs.Runs.{after}
+use Rattle.aom_debug.specs.Runs.{after}
 use Rattle.aom_debug_words.specs.declared.command.Command.{Command}
 use Rattle.aom_debug_words.specs.declared.command.Command.TheVariants.{Step, Turn, Go, Break, Cells, Owners, Cleanup, Actives, Recent}
 use Rattle.aom_debug_words.specs.declared.fault.DebugFault.{DebugFault}
 use Rattle.aom_debug_words.specs.declared.fault.DebugFault.TheVariants.{BadCommand, NoSuch, Ended, OutOfMemory, WriteFault}
 use Rattle.aom_debug_marks.specs.declared.spot.Spot.{Spot}
-use Rattle.aom_debug_courses.specs.Courses.{Courses}
+use Rattle.aom_debug.specs.Courses.{Courses}
 use Rattle.aom_debug.specs.Commands.{is_count, moved_text}
 use Rattle.aom_debug.specs.Debugging.{CountsNot, Declined, Goes, Looks, MayGo, Outgoing, Sees, Sets, has_ended, outside_of, runs_of, steps_of, turns_of}
 use Rattle.aom_debug.specs.Obeying.{Obeys}

@@ -5,8 +5,8 @@ use Rattle.aom_image.specs.Image.{Image}
 use Rattle.aom_sound.specs.State.{State}
 use Rattle.aom_sound.specs.World.{Outside}
 use Rattle.aom_machine.specs.Calls.{StandsFor}
-use Rattle.aom_run.specs.Runs.{after}
-use Rattle.aom_run.proofs.Sending.{after_both, after_none}
+use Rattle.aom_debug.specs.Runs.{after}
+use Rattle.aom_debug.proofs.Sending.{after_both, after_none}
 use Rattle.aom_debug_words.specs.Lines.{Kept, pending_of}
 use Rattle.aom_debug.specs.Debugging.{outside_of}
 use Rattle.aom_debug.specs.declared.debugger.Debugger.{Debugger}

@@ -5,7 +5,7 @@ use Rattle.aom_sound.specs.World.{boot_state}
 use Rattle.aom_lines.specs.Turn.{Turn}
 use Rattle.aom_machine.specs.Calls.{StandsFor, natives_of}
 use Rattle.aom_machine.specs.declared.machine.Machine.{Machine}
-use Rattle.aom_run.specs.Turns.{hearing}
+use Rattle.aom_debug.specs.Turns.{hearing}
 use Rattle.aom_script.specs.Script.{Script}
 use Rattle.aom_debug.specs.declared.debugger.Debugger.{Debugger}
 use Rattle.aom_main.proofs.Tries.{has_enough}

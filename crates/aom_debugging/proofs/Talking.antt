@@ -7,9 +7,9 @@ use Rattle.aom_text.specs.Text.{lines_of, true_lines}
 use Rattle.aom_image.specs.Image.{Image}
 use Rattle.aom_sound.specs.State.{State}
 use Rattle.aom_sound.specs.World.{Outside}
-use Rattle.aom_machine.specs.Calls.{StandsFor}
-use Rattle.aom_run.specs.Runs.{after}
-use Rattle.aom_run.proofs.Sending.{after_both, after_none}
+use Rattle.aom_machine.specs.Calls.{StandsFor, natives_of}
+use Rattle.aom_debug.specs.Runs.{after}
+use Rattle.aom_debug.proofs.Sending.{after_both, after_none}
 use Rattle.aom_debug_words.specs.Commands.{command_said}
 use Rattle.aom_debug_words.specs.Lines.{Kept, pending_of}
 use Rattle.aom_debug.specs.Debugging.{Keeps, Outgoing, outside_of}
@@ -18,8 +18,7 @@ use Rattle.aom_debugging.specs.Conversing.{BreaksOff, Broken, Ends, GoesOn, Held
 use Rattle.aom_debug_words.specs.declared.command.Command.{Command}
 use Rattle.aom_debug_words.specs.declared.fault.DebugFault.{DebugFault}
 use Rattle.aom_lines.specs.Turn.{Turn}
-use Rattle.aom_machine.specs.Calls.{natives_of}
-use Rattle.aom_run.specs.Turns.{hearing}
+use Rattle.aom_debug.specs.Turns.{hearing}
 use Rattle.aom_script.specs.Script.{Script}
 use Rattle.aom_debugging.specs.Hearing.{Heard, HeardPart, standing}
 use Rattle.aom_debugging.specs.Sessions.{Begins, Comes, Heeds, Session, Standing}

@@ -6,7 +6,7 @@ use Rattle.aom_image.specs.Image.{Image}
 use Rattle.aom_sound.specs.State.{State}
 use Rattle.aom_sound.specs.World.{Outside}
 use Rattle.aom_machine.specs.Calls.{StandsFor}
-use Rattle.aom_run.specs.Runs.{after}
+use Rattle.aom_debug.specs.Runs.{after}
 use Rattle.aom_debug_words.specs.Commands.{command_said}
 use Rattle.aom_debug_words.specs.Lines.{Kept, pending_of}
 use Rattle.aom_debug.specs.Debugging.{outside_of}

@@ -17,7 +17,7 @@ use Rattle.aom_debug_marks.specs.Marks.{is_set, with_spot}
 use Rattle.aom_debug_marks.specs.declared.spot.Spot.{Spot}
 use Rattle.aom_debug_lines.specs.declared.answer.Answer.TheVariants.{Done, Fault}
 use Rattle.aom_debug_lines.specs.Answers.{answer_text}
-use Rattle.aom_debug_courses.specs.Courses.{Courses, GoesBy, GoesToBreakpoint, TurnsOver}
+use Rattle.aom_debug.specs.Courses.{Courses, GoesBy, GoesToBreakpoint, TurnsOver}
 use Rattle.aom_debug.specs.Commands.{NamesNoRoom, ShowsActives, ShowsCells, ShowsCleanup, ShowsOwners, ShowsRecent, is_count, moved_text, spot_named}
 
 -- where a session stands: at a state, with these breakpoints, and these were the latest instructions

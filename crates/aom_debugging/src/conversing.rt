@@ -1,23 +1,21 @@
 //! Commands as they come, and what is answered.
 ghost use Rattle.std.specs.Prelude.{◌≡◌, ◌⊎◌, [], Some, false, Ok, IfErr, IfOk};
 ghost use Rattle.aom_natives.specs.Slots.{AllAgree};
-ghost use Rattle.aom_run.specs.Runs.{after};
+ghost use Rattle.aom_debug.specs.Runs.{after};
 ghost use Rattle.aom_main.specs.declared.faults.Fault.TheVariants.{File, Write};
 ghost use Rattle.aom_debug.specs.Debugging.{IsReady, Keeps};
 ghost use Rattle.aom_debugging.specs.Conversing.{BreaksDown, BreaksOff, Ends, GoesOn, HoldsAll, StopsShort};
 ghost use Rattle.aom_debugging.specs.Hearing.{Heard, HeardPart};
-ghost use Rattle.aom_debug_sights.specs.Telling.{IsCut};
+ghost use Rattle.aom_debug.specs.Telling.{IsCut};
 ghost use Rattle.aom_debug_words.specs.declared.fault.DebugFault.TheVariants.{WriteFault};
 ghost use Rattle.aom_debugging.specs.Sessions.{fault_text};
 
 use crate::Reader;
-use aom_debug::Debugger;
+use aom_debug::{Debugger, Sink, tell};
 use aom_debug_lines::Answer;
-use aom_debug_sights::tell;
 use aom_debug_words::{Command, DebugFault, Pending};
 use aom_main::Fault;
 use aom_natives::Native;
-use aom_run::Sink;
 
 /// How many bytes are read at once, at most.
 const CHUNK: usize = 4096;

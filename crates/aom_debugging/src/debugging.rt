@@ -13,12 +13,11 @@ ghost use Rattle.aom_debugging.specs.Beginning.{IsBegun};
 use crate::Reader;
 use crate::conversing::converse;
 use aom_budget::Accepted;
-use aom_debug::Debugger;
+use aom_debug::{Debugger, Sink};
 use aom_lines::Turn;
 use aom_machine::Machine;
 use aom_main::{ExitStatus, Fault, accept_bytes, tell};
 use aom_natives::Native;
-use aom_run::Sink;
 use aom_script::{Script, read_script};
 use std::alloc::Global;
 

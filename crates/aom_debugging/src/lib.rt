@@ -8,7 +8,6 @@
 
 mod conversing;
 mod debugging;
-mod reader;
 
+pub use aom_reader::Reader;
 pub use debugging::debug_bytes;
-pub use reader::Reader;

@@ -1,9 +1,9 @@
 -- Steps in the dispatch at hand, and then in one dispatch after another.
 use Rattle.std.proofs.Common.{arith, ap, subst, ◌∙◌, ◌<◌, sym}
 use Rattle.aom_lines.specs.Turn.{Turn}
-use Rattle.aom_machine.specs.Calls.{natives_of}
-use Rattle.aom_run.proofs.Running.{given_up}
-use Rattle.aom_run.specs.Turns.{hearing}
+use Rattle.aom_debug_moves.specs.Calls.{natives_of}
+use Rattle.aom_debug_moves.proofs.Running.{given_up}
+use Rattle.aom_debug_moves.specs.Turns.{hearing}
 use Rattle.aom_sound.specs.State.{State}
 use Rattle.aom_sound.specs.World.{Reaches}
 use Rattle.aom_debug_moves.specs.Sends.{Breaks, Sends}

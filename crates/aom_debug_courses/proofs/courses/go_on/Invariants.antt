@@ -1,8 +1,8 @@
 use Rattle.std.proofs.Common.{◌≡◌}
-use Rattle.aom_exec.specs.Steps.{progress}
-use Rattle.aom_machine.specs.Calls.{Stands, natives_of}
+use Rattle.aom_debug_moves.specs.Steps.{progress}
+use Rattle.aom_debug_moves.specs.Calls.{Stands, natives_of}
 use Rattle.aom_natives.specs.Slots.{AllAgree}
-use Rattle.aom_run.specs.Turns.{hearing}
+use Rattle.aom_debug_moves.specs.Turns.{hearing}
 use Rattle.aom_debug_moves.specs.Sends.{Sends}
 use Rattle.aom_debug_moves.proofs.Sending.{to_go}
 use Rattle.aom_debug_courses.specs.Courses.{stays_at}

@@ -1,10 +1,10 @@
 -- A step more, after its turns.
 use Rattle.std.proofs.Common.{arith, ap, refl, subst, suc, ◌≡◌, ◌∙◌, ◌+◌, sym}
 use Rattle.aom_lines.specs.Turn.{Turn}
-use Rattle.aom_machine.specs.Calls.{natives_of}
-use Rattle.aom_run.proofs.Running.{given_up}
-use Rattle.aom_run.specs.Turns.{hearing}
-use Rattle.aom_run.specs.Runs.{Moving}
+use Rattle.aom_debug_moves.specs.Calls.{natives_of}
+use Rattle.aom_debug_moves.proofs.Running.{given_up}
+use Rattle.aom_debug_moves.specs.Turns.{hearing}
+use Rattle.aom_debug_moves.specs.Runs.{Moving}
 use Rattle.aom_sound.specs.World.{Reaches}
 use Rattle.aom_debug_moves.specs.Moves.{Arrives, Strides}
 use Rattle.aom_debug_moves.specs.Sends.{Breaks, Sends}

@@ -1,7 +1,7 @@
 use Rattle.std.proofs.Common.{◌≡◌, ◌≤◌, ◌-◌}
-use Rattle.aom_machine.specs.Calls.{Stands, natives_of}
+use Rattle.aom_debug_moves.specs.Calls.{Stands, natives_of}
 use Rattle.aom_natives.specs.Slots.{AllAgree}
-use Rattle.aom_run.specs.Turns.{hearing}
+use Rattle.aom_debug_moves.specs.Turns.{hearing}
 use Rattle.aom_debug_moves.specs.Sends.{Sends}
 use Rattle.aom_debug_courses.proofs.Going.{GoesSo}
 use Rattle.aom_debug_courses.proofs.courses.go_steps.Given as goal

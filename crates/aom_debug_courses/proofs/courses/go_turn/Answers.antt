@@ -1,9 +1,9 @@
 -- Turns up to a dispatch, and that to its end.
 use Rattle.std.proofs.Common.{ap, ◌∙◌, sym}
 use Rattle.aom_lines.specs.Turn.{Turn}
-use Rattle.aom_machine.specs.Calls.{natives_of}
-use Rattle.aom_run.specs.Runs.{Moving}
-use Rattle.aom_run.specs.Turns.{hearing}
+use Rattle.aom_debug_moves.specs.Calls.{natives_of}
+use Rattle.aom_debug_moves.specs.Runs.{Moving}
+use Rattle.aom_debug_moves.specs.Turns.{hearing}
 use Rattle.aom_sound.specs.State.{State}
 use Rattle.aom_debug_views.specs.Next.{root_is_due}
 use Rattle.aom_debug_moves.specs.Sends.{Breaks, Sends}

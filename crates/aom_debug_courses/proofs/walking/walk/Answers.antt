@@ -1,8 +1,8 @@
 -- Steps as long as something is at hand and it is no place to stay.
 use Rattle.std.proofs.Common.{ap, refl, ◌∙◌, sym}
 use Rattle.aom_lines.specs.Turn.{Turn}
-use Rattle.aom_run.specs.Runs.{Moving}
-use Rattle.aom_run.proofs.Running.{given_up}
+use Rattle.aom_debug_moves.specs.Runs.{Moving}
+use Rattle.aom_debug_moves.proofs.Running.{given_up}
 use Rattle.aom_sound.specs.State.{State}
 use Rattle.aom_debug_moves.specs.Moves.{Strides}
 use Rattle.aom_debug_moves.specs.Sends.{Breaks, Sends}

@@ -1,7 +1,7 @@
 use Rattle.std.proofs.Common.{◌≡◌}
-use Rattle.aom_exec.specs.Steps.{progress, rank}
+use Rattle.aom_debug_moves.specs.Steps.{progress, rank}
 use Rattle.aom_parts.specs.declared.progress.Progress.TheVariants.{Running}
-use Rattle.aom_machine.specs.Calls.{Stands, natives_of}
+use Rattle.aom_debug_moves.specs.Calls.{Stands, natives_of}
 use Rattle.aom_natives.specs.Slots.{AllAgree}
 use Rattle.aom_debug_moves.specs.Sends.{Sends}
 use Rattle.aom_debug_courses.specs.Courses.{stays_at}

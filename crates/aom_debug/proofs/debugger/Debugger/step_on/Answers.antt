@@ -2,8 +2,8 @@
 use Rattle.std.proofs.Common.{List, refl, subst, sym}
 use Rattle.std.specs.Prelude.{All}
 use Rattle.aom_transcript.specs.declared.event.TimedEvent.{TimedEvent}
-use Rattle.aom_machine.specs.Calls.{EventInRange}
-use Rattle.aom_run.proofs.Gets.{ranged}
+use Rattle.aom_debug_courses.specs.Calls.{EventInRange}
+use Rattle.aom_debug_courses.proofs.Gets.{ranged}
 use Rattle.aom_sound.specs.World.{Outside}
 use Rattle.aom_debug_courses.specs.Courses.{GoesBy}
 use Rattle.aom_debug_courses.proofs.Runs.{reaches_by}

@@ -1,4 +1,6 @@
-//! Where commands come from.
+//! Where commands come from: a reader, which says of itself what it has given, whether it is at its end and whether it has failed.
+#![tactic(auto)]
+
 ghost use Rattle.std.specs.Prelude.{Bool, IfNone, IfSome, List, Option, Some, ℕ, ◌++◌, ◌<◌, ◌≤◌, ◌≡◌, length, option_map, take, true};
 
 /// Where bytes come from.

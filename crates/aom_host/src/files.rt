@@ -19,16 +19,3 @@ pub fn read_file<R: Files + AllocGlobal>(rt: &R, name: &str) -> Result<Vec<u8>, 
         Err(_) => Err(Fault::File),
     }
 }
-
-#[cfg(test)]
-mod tests {
-    use super::*;
-    use std::test::Fail;
-
-    #[test]
-    fn a_file_that_is_not_there_is_a_fault(rt: HostRuntime) -> Result<(), Fail> {
-        assert_eq!(rt; read_file(&rt, "no such file").err(), Some(Fault::File));
-        assert_eq!(rt; read_file(&rt, "").err(), Some(Fault::File));
-        Ok(())
-    }
-}
