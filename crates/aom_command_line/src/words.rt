@@ -2,7 +2,7 @@
 ghost use Rattle.std.specs.Prelude.{◌≡◌, ◌≤◌, IfOk, IfErr, Some, false, true, codes, length};
 ghost use Rattle.std.specs.String.{string_bytes};
 ghost use Rattle.clap.specs.declared.builder.command.Command.TheViews.{out-Command as fields_of};
-ghost use Rattle.clap.specs.Words.{all_of, app_of, found_of, kind_of, one_of, rows_of, rule_of, subcommand_of, subcommand_rows_of, takes, with_subcommand};
+ghost use Rattle.clap.specs.Words.{App, all_of, app_of, found_of, kind_of, one_of, rows_of, rule_of, subcommand_of, subcommand_rows_of, takes, with_subcommand};
 ghost use Rattle.aom_command_line.specs.CommandLine.{asm_form, check_form, debug_form, dis_form, dot_form, explain_rule, explore_form, run_form, form, file_rule, flag_rule, from_rule, limit_rule, native_rule, number_rule, prices_rule, text_rule, to_rule, texts_of, with_files, word_of, Asks, AsksRun, AsksText, Declines, DeclinesNatives, DeclinesRun, DeclinesText, IsFlag, IsNumberUpTo, KeepsLimit, NamesKinds, Says, texts_in};
 
 use aom_natives::NativeKind;
@@ -128,21 +128,29 @@ fn aom_command<'a>(alloc: Global) -> Result<Command<'a>, AllocError>
 fn with_uses<'a>(alloc: Global, command: Command<'a>) -> Result<Command<'a>, AllocError>
     ensures { IfOk result (λ c. app_of c ≡ with_subcommand (with_subcommand (with_subcommand (with_subcommand (app_of command.entry) check_form.top) run_form.top) explore_form.top) debug_form.top) }
 {
-    command
-        .subcommand(check_command(alloc)?)?
-        .subcommand(run_command(alloc)?)?
-        .subcommand(explore_command(alloc)?)?
-        .subcommand(debug_command(alloc)?)
+    let command = with_made(command, check_command(alloc))?;
+    let command = with_made(command, run_command(alloc))?;
+    let command = with_made(command, explore_command(alloc))?;
+    with_made(command, debug_command(alloc))
 }
 
 /// Adds what makes an image of a text, and texts of an image.
 fn with_translations<'a>(alloc: Global, command: Command<'a>) -> Result<Command<'a>, AllocError>
     ensures { IfOk result (λ c. app_of c ≡ with_subcommand (with_subcommand (with_subcommand (app_of command.entry) asm_form.top) dis_form.top) dot_form.top) }
 {
-    command
-        .subcommand(asm_command(alloc)?)?
-        .subcommand(dis_command(alloc)?)?
-        .subcommand(dot_command(alloc)?)
+    let command = with_made(command, asm_command(alloc))?;
+    let command = with_made(command, dis_command(alloc))?;
+    with_made(command, dot_command(alloc))
+}
+
+/// Adds a command that was made.
+fn with_made<'a>(
+    command: Command<'a>,
+    made: Result<Command<'a>, AllocError>,
+) -> Result<Command<'a>, AllocError>
+    ensures { IfOk result (λ c. (form : App) → IfOk made.entry (λ m. app_of m ≡ form) → IfOk made.entry (λ m. (fields_of m).has_globals ≡ false) → app_of c ≡ with_subcommand (app_of command.entry) form.top) }
+{
+    command.subcommand(made?)
 }
 
 fn check_command<'a>(alloc: Global) -> Result<Command<'a>, AllocError>
