@@ -1,12 +1,14 @@
 -- What `clap` answers of the words of a command line.
-use Rattle.std.proofs.Common.{◌≡◌, ◌≢◌, ◌∙◌, ℕ, ◌+◌, Bool, ◌||◌, true, false, ◌<◌, ◌^◌, ◌⊎◌, List, [], ◌∷◌, ◌++◌, Contains, length, map, take, slice_index_or, Option, Some, None, Result, Ok, Err, option_map, unwrap_or, codes, refl, sym, ap, ap₂, inl, inr, subst, arith}
+use Rattle.std.proofs.Common.{◌≡◌, ◌≢◌, ◌∙◌, ℕ, ◌+◌, Bool, ◌||◌, true, false, ◌<◌, ◌^◌, ◌⊎◌, List, [], ◌∷◌, ◌++◌, Contains, IfOk, IsOkAnd, length, map, take, slice_index_or, Option, Some, None, Result, Ok, Err, option_map, unwrap_or, codes, refl, sym, ap, ap₂, inl, inr, subst, arith}
 use Rattle.std.proofs.lemmas.List.{get_or-map, length-map, map-append, map_more, take-map}
 use Rattle.std.proofs.lemmas.List.Elements.{Contains-get_or}
 use Rattle.std.specs.Borrow.{Bor}
 use Rattle.std.specs.Fmt.{decimal}
 use Rattle.std.specs.Str.Parse.{IsNumeral, ParsesUnsigned, digits_value, without_leading_plus}
 use Rattle.std.proofs.lemmas.Fmt.{parse-decimal}
-use Rattle.clap.specs.Words.{ReadsOne, Row, Text, all_of, first_of, first_value, one_of, is_simple, matched_of, raw_values, rows_of}
+use Rattle.clap.specs.Words.{AddsSubcommand, App, ReadsOne, Row, Text, all_of, app_of, first_of, first_value, one_of, is_simple, matched_of, raw_values, rows_of, with_subcommand}
+use Rattle.clap.specs.declared.builder.command.Command.{Command}
+use Rattle.clap.specs.declared.builder.command.Command.TheViews.{out-Command as fields_of}
 use Rattle.clap.specs.declared.parser.matches.Found.{Found}
 use Rattle.clap.proofs.OnLiterals.{clap_on_literals}
 use Rattle.clap.proofs.WalkLemmas.{first_value-rows, raw_values-rows}
@@ -127,3 +129,9 @@ none_named words kinds none empty = record { same = rw (← none, empty) refl; f
 
 pub too_many : (words : List (Bor Text)) → 16 < length words → NamesNoKinds (Some (texts_in words))
 too_many words many = inl (rw (length-map words (λ (w : Bor Text). w.now)) many)
+
+-- a command that was made is added with its form
+pub has_form : {E : Type 0} (to : Command) (own : App) (made : Result Command E) (c : Command) → IsOkAnd made (λ m. AddsSubcommand to m c)
+    → IfOk made (λ m. app_of m ≡ own) → IfOk made (λ m. (fields_of m).has_globals ≡ false) → app_of c ≡ with_subcommand (app_of to) own.top
+has_form to own (Ok m) c adds is none = adds.shape none ∙ ap (λ (a : App). with_subcommand (app_of to) a.top) is
+has_form to own (Err _) c adds is none = elim adds [ ]

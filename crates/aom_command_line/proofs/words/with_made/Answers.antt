@@ -1,5 +1,8 @@
 -- The command that was made is the one that is added.
+use Rattle.std.proofs.Common.{IsOkAnd, sym, subst}
+use Rattle.std.proofs.lemmas.Result.{IfOk-weaker}
+use Rattle.clap.specs.Words.{AddsSubcommand}
 use Rattle.aom_command_line.proofs.words.with_made.Goals as goal
 
 pub returns : goal.returns
-returns c = ?
+returns c = IfOk-weaker c.subcommand.result _ _ (λ r adds. subst (λ made. IsOkAnd made (λ m. AddsSubcommand c.args.command m r)) (sym c.in_ok-made.was) adds) c.subcommand.ensures
