@@ -1,6 +1,9 @@
 //! Runs of an image in which one more allocation request is refused, each by its last line.
 ghost use Rattle.std.specs.Prelude.{ℕ, ◌≡◌, ◌≤◌, ◌<◌, List, IfOk, IfErr, Ok, length};
 ghost use Rattle.aom_natives.specs.Owed.{OweNothing};
+ghost use Rattle.aom_natives.specs.Slots.{AllAgree};
+ghost use Rattle.aom_machine.specs.Calls.{natives_of};
+ghost use Rattle.aom_run.specs.Runs.{IsFresh};
 ghost use Rattle.aom_run.specs.Turns.{hearing};
 ghost use Rattle.aom_run.specs.Outcomes.{outcome_of};
 ghost use Rattle.aom_script.specs.Script.{IsTimely, denoted};
@@ -10,7 +13,7 @@ ghost use Rattle.aom_main.specs.Explored.{AcceptedExplores, BreaksOff, ExploreAn
 ghost use Rattle.aom_main.specs.Headline.{HasNatives, RefusesBoot, Says};
 
 use crate::accepting::accept_bytes;
-use crate::running::runs_well;
+use crate::running::{booted, runs_well};
 use crate::{ExitStatus, Fault, tell};
 use aom_budget::Accepted;
 use aom_lines::Turn;
@@ -70,6 +73,31 @@ fn ending_of(outcome: Outcome) -> Ending
     }
 }
 
+/// Runs a machine that has booted to its end where those requests are refused, and writes nothing.
+fn last_booted(
+    alloc: Global,
+    accepted: &Accepted,
+    machine: &mut Machine,
+    script: &Script,
+    refused: Vec<u32>,
+    limit: u32,
+) -> Result<Last, AllocError>
+    requires limit { (1 ≤ limit) × (limit ≤ 1000000000) }
+    requires timely { IsTimely script.now.timed }
+    requires agree { AllAgree (λ l. l.ids) (λ l. (⟦<dyn Native as Native>⟧ l.native.vtable).owed l.native.value) machine.old.natives.slots.items }
+    requires image { machine.old.core.image ≡ accepted.now }
+    requires fresh { IsFresh machine.old }
+    ensures ok { IfOk result (λ last. IsLast accepted.now (hearing refused.items limit (natives_of machine.old) script.now.timed) last) }
+{
+    let mut turn = Turn::new(alloc, accepted, refused)?;
+    let outcome = run(machine, script, &mut turn, limit, &mut Nowhere);
+    Ok(Last {
+        ending: ending_of(outcome),
+        cells: machine.core.count(),
+        requests: machine.core.requests(),
+    })
+}
+
 /// Runs an accepted image beside those natives to its end where those requests are refused, and writes nothing.
 fn last_beside(
     alloc: Global,
@@ -86,17 +114,8 @@ fn last_beside(
     ensures enough { IfOk result (λ _. HasNatives accepted.now (length boxes.items)) }
     ensures err { IfErr result (λ fault. RefusesBoot accepted.now (length boxes.items) fault) }
 {
-    let mut machine = match Machine::boot(alloc, accepted, boxes) {
-        Ok(machine) => machine,
-        Err((fault, _boxes)) => return Err(Fault::from(fault)),
-    };
-    let mut turn = Turn::new(alloc, accepted, refused)?;
-    let outcome = run(&mut machine, script, &mut turn, limit, &mut Nowhere);
-    Ok(Last {
-        ending: ending_of(outcome),
-        cells: machine.core.count(),
-        requests: machine.core.requests(),
-    })
+    let mut machine = booted(alloc, accepted, boxes)?;
+    Ok(last_booted(alloc, accepted, &mut machine, script, refused, limit)?)
 }
 
 /// Makes the natives of one run, and runs an accepted image beside them to its end.

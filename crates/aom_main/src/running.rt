@@ -1,8 +1,12 @@
 //! The run of an accepted image.
 ghost use Rattle.std.specs.Prelude.{◌≡◌, ◌≤◌, IfOk, IfErr, length};
 ghost use Rattle.aom_natives.specs.Owed.{OweNothing};
+ghost use Rattle.aom_natives.specs.Slots.{AllAgree};
+ghost use Rattle.aom_machine.specs.Calls.{natives_of};
+ghost use Rattle.aom_run.specs.Runs.{IsFresh};
 ghost use Rattle.aom_script.specs.Script.{IsTimely};
 ghost use Rattle.aom_main.specs.Headline.{AllRunWell, HasNatives, RefusesBoot, Shows, outside_of};
+ghost use Rattle.aom_main.specs.declared.faults.Fault.TheVariants.{Memory};
 
 use crate::Fault;
 use aom_budget::Accepted;
@@ -12,6 +16,48 @@ use aom_natives::Native;
 use aom_run::{Outcome, Sink, run};
 use aom_script::Script;
 use std::alloc::Global;
+
+/// A machine that has booted beside those natives, or why it does not boot.
+pub fn booted<'a>(
+    alloc: Global,
+    accepted: &'a Accepted,
+    boxes: Vec<Box<dyn Native>>,
+) -> Result<Machine<'a>, Fault>
+    requires owed { OweNothing (λ b. (⟦<dyn Native as Native>⟧ b.vtable).owed b.value) boxes.items }
+    ensures image { IfOk result (λ m. m.core.image ≡ accepted.now) }
+    ensures fresh { IfOk result (λ m. IsFresh m) }
+    ensures agree { IfOk result (λ m. AllAgree (λ l. l.ids) (λ l. (⟦<dyn Native as Native>⟧ l.native.vtable).owed l.native.value) m.natives.slots.items) }
+    ensures natives { IfOk result (λ m. natives_of m ≡ length boxes.items) }
+    ensures enough { IfOk result (λ _. HasNatives accepted.now (length boxes.items)) }
+    ensures err { IfErr result (λ fault. RefusesBoot accepted.now (length boxes.items) fault) }
+{
+    match Machine::boot(alloc, accepted, boxes) {
+        Ok(machine) => Ok(machine),
+        Err((fault, _boxes)) => Err(Fault::from(fault)),
+    }
+}
+
+/// Runs a machine that has booted to its end. All memory is taken before anything is written.
+fn run_booted<W: Sink>(
+    alloc: Global,
+    accepted: &Accepted,
+    machine: &mut Machine,
+    script: &Script,
+    limit: u32,
+    out: &mut W,
+) -> Result<Outcome, Fault>
+    requires limit { (1 ≤ limit) × (limit ≤ 1000000000) }
+    requires timely { IsTimely script.now.timed }
+    requires agree { AllAgree (λ l. l.ids) (λ l. (⟦<dyn Native as Native>⟧ l.native.vtable).owed l.native.value) machine.old.natives.slots.items }
+    requires image { machine.old.core.image ≡ accepted.now }
+    requires fresh { IsFresh machine.old }
+    ensures ok { IfOk result (λ outcome. Shows accepted.now (outside_of script.now limit (natives_of machine.old)) outcome (record { before = W.out out.old; now = W.out out.new; failed = W.failed out.new })) }
+    ensures err { IfErr result (λ fault. (fault ≡ Memory) × (W.out out.new ≡ W.out out.old)) }
+{
+    let refused = Vec::from_slice(alloc, script.refused())?;
+    let mut turn = Turn::new(alloc, accepted, refused)?;
+    Ok(run(machine, script, &mut turn, limit, out))
+}
 
 /// Boots a machine beside those natives and runs it to its end. All memory is taken before anything is written.
 pub fn run_accepted<W: Sink>(
@@ -29,13 +75,8 @@ pub fn run_accepted<W: Sink>(
     ensures enough { IfOk result (λ _. HasNatives accepted.now (length boxes.items)) }
     ensures err { IfErr result (λ fault. RefusesBoot accepted.now (length boxes.items) fault × (W.out out.new ≡ W.out out.old)) }
 {
-    let mut machine = match Machine::boot(alloc, accepted, boxes) {
-        Ok(machine) => machine,
-        Err((fault, _boxes)) => return Err(Fault::from(fault)),
-    };
-    let refused = Vec::from_slice(alloc, script.refused())?;
-    let mut turn = Turn::new(alloc, accepted, refused)?;
-    Ok(run(&mut machine, script, &mut turn, limit, out))
+    let mut machine = booted(alloc, accepted, boxes)?;
+    run_booted(alloc, accepted, &mut machine, script, limit, out)
 }
 
 /// Every run of an accepted image goes well within its declared steps, whatever is refused, and has one text.

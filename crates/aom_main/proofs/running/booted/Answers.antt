@@ -1,0 +1,12 @@
+-- A machine that boots has just the natives that it was given.
+use Rattle.std.proofs.Common.{length}
+use Rattle.aom_main.proofs.Tries.{given_all, has_enough}
+use Rattle.aom_main.proofs.running.booted.Goals as goal
+
+pub returns-in-Ok-clause-natives : goal.returns-in-Ok-clause-natives
+returns-in-Ok-clause-natives g c = given_all (λ l. l.native) c.in-Ok.machine.natives.slots.items c.args.boxes.items c.in-Ok.ensures.boxes
+
+pub returns-in-Ok-clause-enough : goal.returns-in-Ok-clause-enough
+returns-in-Ok-clause-enough g c =
+    let machine = c.in-Ok.machine in
+    has_enough c.args.accepted.now machine (length c.args.boxes.items) c.in-Ok.ensures.image (given_all (λ l. l.native) machine.natives.slots.items c.args.boxes.items c.in-Ok.ensures.boxes) c.in-Ok.ensures.stands
