@@ -93,8 +93,8 @@ impl<'a> Program<'a> {
         let servers = self.servers();
         let natives = self.header.natives;
         let class = reader.class_statement(alloc, scope, natives, place, servers)?;
-        self.size = grown(28, self.size)?;
         self.classes.push(class)?;
+        self.size = grown(28, self.size)?;
         Ok(())
     }
 
@@ -111,13 +111,14 @@ impl<'a> Program<'a> {
         if place >= 1024 {
             return Err(AsmFaultKind::LimitPassed);
         }
-        let heading = reader.heading(alloc, scope, place)?;
-        self.size = grown(24, self.size)?;
         let labels = labels_of(alloc, text.again())?;
+        let heading = reader.heading(alloc, scope, place)?;
         self.body = Some(Body::open(alloc, heading, labels));
+        self.size = grown(24, self.size)?;
         Ok(())
     }
 
+    /// Adds what a statement says of the method that is open: its end, or an instruction.
     fn go_on(
         &mut self,
         scope: &Scope,
@@ -130,15 +131,23 @@ impl<'a> Program<'a> {
         let mut body = body;
         let mut reader = reader;
         if reader.took(Keyword::End) {
-            let method = body.close()?;
-            reader.nothing_more(false)?;
-            self.methods.push(method)?;
-            return Ok(());
+            return self.add_method(body, reader);
         }
-        body.add(scope, reader)?;
-        self.size = grown(8, self.size)?;
+        let added = body.add(scope, reader);
         self.body = Some(body);
+        added?;
+        self.size = grown(8, self.size)?;
         Ok(())
+    }
+
+    /// Adds the method that ends here.
+    fn add_method(&mut self, body: Body<'a>, reader: Reader<'a>) -> Result<(), AsmFaultKind>
+        requires { self.old.body ≡ None }
+        ensures { ReadsOrNoMemory (λ _. self.new) result (with_method self.old body.entry reader.entry) }
+    {
+        let mut reader = reader;
+        self.methods.push(body.close()?)?;
+        reader.nothing_more(false)
     }
 
     /// Adds what a statement says, before the statements that are left.
