@@ -54,11 +54,10 @@ impl<'a> Program<'a> {
     pub fn open(
         alloc: Global,
         scope: &Scope,
-        reader: Reader<'a>,
+        mut reader: Reader<'a>,
     ) -> Result<Program<'a>, AsmFaultKind>
         ensures { ReadsOrNoMemory (λ p. p) result (opened scope.now reader.entry) }
     {
-        let mut reader = reader;
         let header = reader.image_statement(scope)?;
         Ok(Program {
             header,
@@ -122,14 +121,12 @@ impl<'a> Program<'a> {
     fn go_on(
         &mut self,
         scope: &Scope,
-        body: Body<'a>,
-        reader: Reader<'a>,
+        mut body: Body<'a>,
+        mut reader: Reader<'a>,
     ) -> Result<(), AsmFaultKind>
         requires { self.old.body ≡ None }
         ensures { ReadsOrNoMemory (λ _. self.new) result (in_body scope.now self.old body.entry reader.entry) }
     {
-        let mut body = body;
-        let mut reader = reader;
         if reader.took(Keyword::End) {
             return self.add_method(body, reader);
         }
@@ -141,11 +138,10 @@ impl<'a> Program<'a> {
     }
 
     /// Adds the method that ends here.
-    fn add_method(&mut self, body: Body<'a>, reader: Reader<'a>) -> Result<(), AsmFaultKind>
+    fn add_method(&mut self, body: Body<'a>, mut reader: Reader<'a>) -> Result<(), AsmFaultKind>
         requires { self.old.body ≡ None }
         ensures { ReadsOrNoMemory (λ _. self.new) result (with_method self.old body.entry reader.entry) }
     {
-        let mut reader = reader;
         self.methods.push(body.close()?)?;
         reader.nothing_more(false)
     }
@@ -179,12 +175,11 @@ impl<'a> Program<'a> {
         &mut self,
         alloc: Global,
         scope: &Scope,
-        reader: Reader<'a>,
+        mut reader: Reader<'a>,
         text: &Text<'a>,
     ) -> Result<(), AsmFaultKind>
         ensures { ReadsOrNoMemory (λ _. self.new) result (step_by None scope.now text.now self.old reader.entry) }
     {
-        let mut reader = reader;
         match reader.any_keyword()? {
             Keyword::Class => self.add_class(alloc, scope, &mut reader),
             Keyword::Method => self.open_method(alloc, scope, &mut reader, text),
