@@ -27,13 +27,12 @@ fn at_line<T>(line: u32, said: Result<T, AsmFaultKind>) -> Result<T, AsmFault>
 /// Reads all statements of a text.
 fn read_program<'a>(
     alloc: Global,
-    text: Text<'a>,
+    mut text: Text<'a>,
     last: u32,
     scope: &Scope,
 ) -> Result<Program<'a>, AsmFault>
     ensures { Answers (λ p. p) result (read_program last scope.now text.entry) }
 {
-    let mut text = text;
     match text.next() {
         Some(first) => read_after(alloc, first, text, last, scope),
         None => Err(AsmFault {
@@ -54,28 +53,26 @@ fn read_after<'a>(
     ensures { Answers (λ p. p) result (read_after last scope.now first.entry text.entry) }
 {
     let opened = Program::open(alloc, scope, Reader::of(first.words));
-    let program = at_line(first.line, opened)?;
-    read_rest(alloc, text, last, scope, program)
+    let mut program = at_line(first.line, opened)?;
+    read_rest(alloc, text, last, scope, &mut program)?;
+    Ok(program)
 }
 
 /// Reads the statements after others.
 fn read_rest<'a>(
     alloc: Global,
-    text: Text<'a>,
+    mut text: Text<'a>,
     last: u32,
     scope: &Scope,
-    program: Program<'a>,
-) -> Result<Program<'a>, AsmFault>
-    ensures { Answers (λ p. p) result (read_rest last scope.now program.entry text.entry) }
+    program: &mut Program<'a>,
+) -> Result<(), AsmFault>
+    ensures { Answers (λ _. program.new) result (read_rest last scope.now program.old text.entry) }
 {
-    let mut text = text;
-    let mut program = program;
     while let Some(statement) = text.next() {
         let reader = Reader::of(statement.words);
         at_line(statement.line, program.take(alloc, scope, reader, &text))?;
     }
-    at_line(last, program.check_closed())?;
-    Ok(program)
+    at_line(last, program.check_closed())
 }
 
 /// The names of a text, which are not told apart yet.

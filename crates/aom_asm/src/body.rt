@@ -38,11 +38,10 @@ impl<'a> Body<'a> {
     }
 
     /// Adds the instruction of a statement.
-    pub fn add(&mut self, scope: &Scope, reader: Reader) -> Result<(), AsmFaultKind>
+    pub fn add(&mut self, scope: &Scope, mut reader: Reader) -> Result<(), AsmFaultKind>
         ensures { ReadsOrNoMemory (λ _. self.new) result (with_instruction scope.now self.old reader.entry) }
     {
         let _told: Option<Target> = None;
-        let mut reader = reader;
         let place = self.code.len();
         if place >= 1024 {
             return Err(AsmFaultKind::LimitPassed);

@@ -7,10 +7,9 @@ use aom_text::{Text, Words};
 use std::alloc::{AllocError, Global};
 
 /// The name behind a keyword, where a statement begins with it.
-fn name_after<'a>(key: Keyword, words: Words<'a>) -> Option<&'a [u8]>
+fn name_after<'a>(key: Keyword, mut words: Words<'a>) -> Option<&'a [u8]>
     ensures { option_map (λ w. w.now) result ≡ name_after key words.entry }
 {
-    let mut words = words;
     match words.next() {
         Some(first) if first == key.text() => words.next(),
         _ => None,
@@ -20,12 +19,11 @@ fn name_after<'a>(key: Keyword, words: Words<'a>) -> Option<&'a [u8]>
 /// The names behind a keyword, in the order of the statements.
 pub fn declared_names<'a>(
     alloc: Global,
-    text: Text<'a>,
+    mut text: Text<'a>,
     key: Keyword,
 ) -> Result<Names<'a>, AllocError>
     ensures { IfOk result (λ n. n ≡ declared_names key [] text.entry) }
 {
-    let mut text = text;
     let mut names = Names::none(alloc);
     while let Some(statement) = text.next() {
         if let Some(name) = name_after(key, statement.words) {
@@ -58,10 +56,9 @@ fn is_end(words: &Words) -> bool
 }
 
 /// The labels of the statements up to `end`, an empty one where there is none.
-pub fn labels_of<'a>(alloc: Global, text: Text<'a>) -> Result<Names<'a>, AllocError>
+pub fn labels_of<'a>(alloc: Global, mut text: Text<'a>) -> Result<Names<'a>, AllocError>
     ensures { IfOk result (λ n. n ≡ labels_of [] text.entry) }
 {
-    let mut text = text;
     let mut labels = Names::none(alloc);
     while let Some(statement) = text.next() {
         if is_end(&statement.words) {

@@ -54,11 +54,10 @@ impl<'a> Program<'a> {
     pub fn open(
         alloc: Global,
         scope: &Scope,
-        reader: Reader<'a>,
+        mut reader: Reader<'a>,
     ) -> Result<Program<'a>, AsmFaultKind>
         ensures { ReadsOrNoMemory (λ p. p) result (opened scope.now reader.entry) }
     {
-        let mut reader = reader;
         let header = reader.image_statement(scope)?;
         Ok(Program {
             header,
@@ -93,8 +92,8 @@ impl<'a> Program<'a> {
         let servers = self.servers();
         let natives = self.header.natives;
         let class = reader.class_statement(alloc, scope, natives, place, servers)?;
-        self.size = grown(28, self.size)?;
         self.classes.push(class)?;
+        self.size = grown(28, self.size)?;
         Ok(())
     }
 
@@ -111,34 +110,40 @@ impl<'a> Program<'a> {
         if place >= 1024 {
             return Err(AsmFaultKind::LimitPassed);
         }
-        let heading = reader.heading(alloc, scope, place)?;
-        self.size = grown(24, self.size)?;
         let labels = labels_of(alloc, text.again())?;
+        let heading = reader.heading(alloc, scope, place)?;
         self.body = Some(Body::open(alloc, heading, labels));
+        self.size = grown(24, self.size)?;
         Ok(())
     }
 
+    /// Adds what a statement says of the method that is open: its end, or an instruction.
     fn go_on(
         &mut self,
         scope: &Scope,
-        body: Body<'a>,
-        reader: Reader<'a>,
+        mut body: Body<'a>,
+        mut reader: Reader<'a>,
     ) -> Result<(), AsmFaultKind>
         requires { self.old.body ≡ None }
         ensures { ReadsOrNoMemory (λ _. self.new) result (in_body scope.now self.old body.entry reader.entry) }
     {
-        let mut body = body;
-        let mut reader = reader;
         if reader.took(Keyword::End) {
-            let method = body.close()?;
-            reader.nothing_more(false)?;
-            self.methods.push(method)?;
-            return Ok(());
+            return self.add_method(body, reader);
         }
-        body.add(scope, reader)?;
-        self.size = grown(8, self.size)?;
+        let added = body.add(scope, reader);
         self.body = Some(body);
+        added?;
+        self.size = grown(8, self.size)?;
         Ok(())
+    }
+
+    /// Adds the method that ends here.
+    fn add_method(&mut self, body: Body<'a>, mut reader: Reader<'a>) -> Result<(), AsmFaultKind>
+        requires { self.old.body ≡ None }
+        ensures { ReadsOrNoMemory (λ _. self.new) result (with_method self.old body.entry reader.entry) }
+    {
+        self.methods.push(body.close()?)?;
+        reader.nothing_more(false)
     }
 
     /// Adds what a statement says, before the statements that are left.
@@ -170,12 +175,11 @@ impl<'a> Program<'a> {
         &mut self,
         alloc: Global,
         scope: &Scope,
-        reader: Reader<'a>,
+        mut reader: Reader<'a>,
         text: &Text<'a>,
     ) -> Result<(), AsmFaultKind>
         ensures { ReadsOrNoMemory (λ _. self.new) result (step_by None scope.now text.now self.old reader.entry) }
     {
-        let mut reader = reader;
         match reader.any_keyword()? {
             Keyword::Class => self.add_class(alloc, scope, &mut reader),
             Keyword::Method => self.open_method(alloc, scope, &mut reader, text),

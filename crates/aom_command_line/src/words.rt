@@ -12,7 +12,7 @@ use clap::{Arg, ArgAction, ArgMatches, Command, Error, value_parser};
 use std::alloc::{AllocError, AllocFailed, Global};
 
 /// What is asked, with the names of files.
-#[derive(Debug, Drop)]
+#[derive(Drop)]
 pub enum Words {
     Check {
         image: String,
@@ -88,7 +88,7 @@ impl<T: Drop> From<AllocFailed<T>> for WordsFault {
 }
 
 /// What every command that runs an image is given.
-#[derive(Debug, Drop)]
+#[derive(Drop)]
 pub struct RunWords {
     pub image: String,
     pub script: String,

@@ -4,7 +4,7 @@ use aom_debug_marks::Spot;
 use aom_debug_words::DebugFault;
 
 /// How far the request of an enlisted object has come. One whose cancel is at hand is active.
-#[derive(Clone, Copy, PartialEq, Eq, Debug)]
+#[derive(Clone, Copy)]
 pub enum Phase {
     Idle,
     Issued,
@@ -12,7 +12,7 @@ pub enum Phase {
 }
 
 /// A line that a debugger answers.
-#[derive(Clone, Copy, PartialEq, Eq, Debug)]
+#[derive(Clone, Copy)]
 pub enum Answer {
     Done,
     Fault(DebugFault),

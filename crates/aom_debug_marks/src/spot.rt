@@ -3,7 +3,7 @@ ghost use Rattle.std.specs.Prelude.{◌≡◌};
 ghost use Rattle.aom_debug_marks.specs.Marks.{same_spot};
 
 /// The place of an instruction in a method, by their numbers.
-#[derive(Clone, Copy, PartialEq, Eq, Debug)]
+#[derive(Clone, Copy)]
 pub struct Spot {
     pub method: u16,
     pub place: usize,

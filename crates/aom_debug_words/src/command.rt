@@ -10,7 +10,7 @@ use aom_text::{Number, Words};
 const MOST_BYTES: usize = 256;
 
 /// What is asked of a debugger.
-#[derive(Clone, Copy, PartialEq, Eq, Debug)]
+#[derive(Clone, Copy)]
 pub enum Command {
     /// So many steps, from 1 to 1,000,000.
     Step(u32),
@@ -38,10 +38,9 @@ pub fn read_command(line: &[u8]) -> Result<Option<Command>, DebugFault>
 }
 
 /// What the words of a line say.
-fn read_line(words: Words) -> Result<Option<Command>, DebugFault>
+fn read_line(mut words: Words) -> Result<Option<Command>, DebugFault>
     ensures { result ≡ line_says words.entry }
 {
-    let mut words = words;
     let Some(name) = words.next() else {
         return Ok(None);
     };
@@ -96,10 +95,9 @@ fn command_named(name: &[u8]) -> Option<Command>
     }
 }
 
-fn read_step(words: Words) -> Option<Command>
+fn read_step(mut words: Words) -> Option<Command>
     ensures { result ≡ step_says words.entry }
 {
-    let mut words = words;
     match words.next() {
         Some(steps) if words.is_empty() => step_by(steps),
         _ => None,
@@ -109,13 +107,12 @@ fn read_step(words: Words) -> Option<Command>
 fn step_by(steps: &[u8]) -> Option<Command>
     ensures { result ≡ steps_by (number_of steps.now) }
 {
-    Some(Command::Step(Number::of(steps)?.within(1, 1_000_000)?))
+    Number::of(steps)?.within(1, 1_000_000).map(Command::Step)
 }
 
-fn read_break(words: Words) -> Option<Command>
+fn read_break(mut words: Words) -> Option<Command>
     ensures { result ≡ break_says words.entry }
 {
-    let mut words = words;
     match (words.next(), words.next()) {
         (Some(method), Some(place)) if words.is_empty() => break_at(method, place),
         _ => None,

@@ -24,10 +24,9 @@ pub fn read_client(kind: &[u8], time: &[u8], words: Words) -> Result<Reading, Sc
     }
 }
 
-fn read_connect(time: &[u8], words: Words) -> Result<Reading, ScriptFaultKind>
+fn read_connect(time: &[u8], mut words: Words) -> Result<Reading, ScriptFaultKind>
     ensures { result ≡ connect_says (time.now ∷ words.entry) }
 {
-    let mut words = words;
     match (words.next(), words.next(), words.next()) {
         (Some(client), Some(class), Some(slots)) if words.is_empty() => {
             read_connected(time, client, class, slots)
@@ -58,10 +57,9 @@ fn read_connected(
     }
 }
 
-fn read_send(time: &[u8], words: Words) -> Result<Reading, ScriptFaultKind>
+fn read_send(time: &[u8], mut words: Words) -> Result<Reading, ScriptFaultKind>
     ensures { result ≡ send_says (time.now ∷ words.entry) }
 {
-    let mut words = words;
     match words.next() {
         Some(client) => read_message(time, client, words),
         None => Err(ScriptFaultKind::BadLine),
@@ -69,10 +67,9 @@ fn read_send(time: &[u8], words: Words) -> Result<Reading, ScriptFaultKind>
 }
 
 /// Reads the words of a message.
-fn read_message(time: &[u8], client: &[u8], words: Words) -> Result<Reading, ScriptFaultKind>
+fn read_message(time: &[u8], client: &[u8], mut words: Words) -> Result<Reading, ScriptFaultKind>
     ensures { result ≡ message_says time.now client.now words.entry }
 {
-    let mut words = words;
     match (
         words.next(),
         words.next(),
@@ -109,12 +106,11 @@ fn message_of(
 
 fn read_leaving(
     time: &[u8],
-    words: Words,
+    mut words: Words,
     command: CommandNumbers,
 ) -> Result<Reading, ScriptFaultKind>
     ensures { result ≡ leaving_says command (time.now ∷ words.entry) }
 {
-    let mut words = words;
     match words.next() {
         Some(client) if words.is_empty() => with_numbers(time, client, Some(command)),
         _ => Err(ScriptFaultKind::BadLine),

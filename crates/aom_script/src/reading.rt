@@ -8,7 +8,7 @@ use crate::clients::read_client;
 use aom_text::{Number, Words, is_text_word};
 
 /// The numbers of what a client does.
-#[derive(Clone, Copy, PartialEq, Eq, Debug)]
+#[derive(Clone, Copy)]
 pub enum CommandNumbers {
     /// A class, and slots.
     ToConnect(Number, Number),
@@ -19,7 +19,7 @@ pub enum CommandNumbers {
 }
 
 /// The numbers of an event, without its time.
-#[derive(Clone, Copy, PartialEq, Eq, Debug)]
+#[derive(Clone, Copy)]
 pub enum EventNumbers {
     /// A native, and the word that it is told.
     ToTell(Number, Number),
@@ -30,7 +30,7 @@ pub enum EventNumbers {
 }
 
 /// The numbers of a line.
-#[derive(Clone, Copy, PartialEq, Eq, Debug)]
+#[derive(Clone, Copy)]
 pub enum Reading {
     Blank,
     /// A request.
@@ -63,10 +63,9 @@ impl Reading {
 }
 
 /// Reads the words of a line.
-fn read_words(words: Words) -> Result<Reading, ScriptFaultKind>
+fn read_words(mut words: Words) -> Result<Reading, ScriptFaultKind>
     ensures { result ≡ words_say words.entry }
 {
-    let mut words = words;
     let Some(first) = words.next() else {
         return Ok(Reading::Blank);
     };
@@ -109,10 +108,9 @@ fn read_timed(kind: &[u8], time: &[u8], words: Words) -> Result<Reading, ScriptF
     }
 }
 
-fn read_event(time: &[u8], words: Words) -> Result<Reading, ScriptFaultKind>
+fn read_event(time: &[u8], mut words: Words) -> Result<Reading, ScriptFaultKind>
     ensures { result ≡ event_says (time.now ∷ words.entry) }
 {
-    let mut words = words;
     match (words.next(), words.next()) {
         (Some(native), Some(word)) if words.is_empty() => read_tell(time, native, word),
         _ => Err(ScriptFaultKind::BadLine),
@@ -131,10 +129,9 @@ fn read_tell(time: &[u8], native: &[u8], word: &[u8]) -> Result<Reading, ScriptF
     }
 }
 
-fn read_kill(time: &[u8], words: Words) -> Result<Reading, ScriptFaultKind>
+fn read_kill(time: &[u8], mut words: Words) -> Result<Reading, ScriptFaultKind>
     ensures { result ≡ kill_says (time.now ∷ words.entry) }
 {
-    let mut words = words;
     match words.next() {
         Some(native) if words.is_empty() => read_killed(time, native),
         _ => Err(ScriptFaultKind::BadLine),

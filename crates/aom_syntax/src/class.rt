@@ -41,10 +41,9 @@ fn class_of(word: &[u8], scope: &Scope) -> Result<ClassNumber, AsmFaultKind>
     if !is_name(word) {
         return Err(AsmFaultKind::BadShape);
     }
-    match ClassNumber::new(scope.classes.number_of(word, scope.is_strict, 256)?) {
-        Some(class) => Ok(class),
-        None => Err(AsmFaultKind::LimitPassed),
-    }
+    ClassNumber::new(scope.classes.number_of(word, scope.is_strict, 256)?).ok_or(
+        AsmFaultKind::LimitPassed,
+    )
 }
 
 pub fn thing_of(word: &[u8], scope: &Scope) -> Result<Thing, AsmFaultKind>

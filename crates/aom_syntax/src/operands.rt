@@ -44,28 +44,19 @@ fn register_of(word: &[u8], highest: u8) -> Result<Register, AsmFaultKind>
     requires { highest ≤ 15 }
     ensures { result ≡ indexed 114 highest word.now }
 {
-    match Register::new(indexed(word, b'r', highest)?) {
-        Some(register) => Ok(register),
-        None => Err(AsmFaultKind::LimitPassed),
-    }
+    Register::new(indexed(word, b'r', highest)?).ok_or(AsmFaultKind::LimitPassed)
 }
 
 fn field_of(word: &[u8]) -> Result<FieldIndex, AsmFaultKind>
     ensures { result ≡ indexed 102 7 word.now }
 {
-    match FieldIndex::new(indexed(word, b'f', 7)?) {
-        Some(field) => Ok(field),
-        None => Err(AsmFaultKind::LimitPassed),
-    }
+    FieldIndex::new(indexed(word, b'f', 7)?).ok_or(AsmFaultKind::LimitPassed)
 }
 
 fn entry_of(word: &[u8]) -> Result<EntryDepth, AsmFaultKind>
     ensures { result ≡ indexed 99 15 word.now }
 {
-    match EntryDepth::new(indexed(word, b'c', 15)?) {
-        Some(entry) => Ok(entry),
-        None => Err(AsmFaultKind::LimitPassed),
-    }
+    EntryDepth::new(indexed(word, b'c', 15)?).ok_or(AsmFaultKind::LimitPassed)
 }
 
 fn target_of(word: &[u8]) -> Result<Target, AsmFaultKind>
@@ -96,10 +87,7 @@ impl<'a> Reader<'a> {
         if !self.is_empty() {
             return self.register(highest);
         }
-        match Register::new(0) {
-            Some(register) => Ok(register),
-            None => Err(AsmFaultKind::LimitPassed),
-        }
+        Register::new(0).ok_or(AsmFaultKind::LimitPassed)
     }
 
     pub fn field(&mut self) -> Result<FieldIndex, AsmFaultKind>
@@ -111,10 +99,7 @@ impl<'a> Reader<'a> {
     pub fn word_field(&mut self) -> Result<WordIndex, AsmFaultKind>
         ensures { Reads (λ x. (x, self.new)) result (word_field self.old) }
     {
-        match WordIndex::new(indexed(self.word()?, b'w', 7)?) {
-            Some(word) => Ok(word),
-            None => Err(AsmFaultKind::LimitPassed),
-        }
+        WordIndex::new(indexed(self.word()?, b'w', 7)?).ok_or(AsmFaultKind::LimitPassed)
     }
 
     pub fn target(&mut self) -> Result<Target, AsmFaultKind>
@@ -127,10 +112,7 @@ impl<'a> Reader<'a> {
         ensures { Reads (λ x. (x, self.new)) result (signed self.old) }
     {
         match Number::of(self.word()?) {
-            Some(number) => match number.signed() {
-                Some(value) => Ok(value),
-                None => Err(AsmFaultKind::LimitPassed),
-            },
+            Some(number) => number.signed().ok_or(AsmFaultKind::LimitPassed),
             None => Err(AsmFaultKind::BadNumber),
         }
     }
@@ -138,10 +120,7 @@ impl<'a> Reader<'a> {
     pub fn depth(&mut self) -> Result<LoopDepth, AsmFaultKind>
         ensures { Reads (λ x. (x, self.new)) result (depth self.old) }
     {
-        match LoopDepth::new(self.number(0, 3)? as u8) {
-            Some(depth) => Ok(depth),
-            None => Err(AsmFaultKind::LimitPassed),
-        }
+        LoopDepth::new(self.number(0, 3)? as u8).ok_or(AsmFaultKind::LimitPassed)
     }
 
     pub fn rounds(&mut self) -> Result<u16, AsmFaultKind>
@@ -163,27 +142,22 @@ impl<'a> Reader<'a> {
     pub fn class(&mut self, scope: &Scope) -> Result<ClassNumber, AsmFaultKind>
         ensures { Reads (λ x. (x, self.new)) result (class scope.now self.old) }
     {
-        match ClassNumber::new(self.used(scope.is_strict, &scope.classes, 256)?) {
-            Some(class) => Ok(class),
-            None => Err(AsmFaultKind::LimitPassed),
-        }
+        ClassNumber::new(self.used(scope.is_strict, &scope.classes, 256)?).ok_or(
+            AsmFaultKind::LimitPassed,
+        )
     }
 
     pub fn method(&mut self, scope: &Scope) -> Result<MethodNumber, AsmFaultKind>
         ensures { Reads (λ x. (x, self.new)) result (method scope.now self.old) }
     {
-        match MethodNumber::new(self.used(scope.is_strict, &scope.methods, 1024)?) {
-            Some(method) => Ok(method),
-            None => Err(AsmFaultKind::LimitPassed),
-        }
+        MethodNumber::new(self.used(scope.is_strict, &scope.methods, 1024)?).ok_or(
+            AsmFaultKind::LimitPassed,
+        )
     }
 
     pub fn label(&mut self, scope: &Scope, labels: &Names) -> Result<Place, AsmFaultKind>
         ensures { Reads (λ x. (x, self.new)) result (label scope.now labels.now self.old) }
     {
-        match Place::new(self.used(scope.is_strict, labels, 1024)?) {
-            Some(place) => Ok(place),
-            None => Err(AsmFaultKind::LimitPassed),
-        }
+        Place::new(self.used(scope.is_strict, labels, 1024)?).ok_or(AsmFaultKind::LimitPassed)
     }
 }

@@ -134,10 +134,7 @@ fn number_in(word: &[u8], low: u32, high: u32) -> Result<u32, AsmFaultKind>
     ensures within { IfOk result (λ n. (low ≤ n) × (n ≤ high)) }
 {
     match Number::of(word) {
-        Some(number) => match number.within(low, high) {
-            Some(value) => Ok(value),
-            None => Err(AsmFaultKind::LimitPassed),
-        },
+        Some(number) => number.within(low, high).ok_or(AsmFaultKind::LimitPassed),
         None => Err(AsmFaultKind::BadNumber),
     }
 }
