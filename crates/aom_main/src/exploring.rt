@@ -1,9 +1,6 @@
 //! Runs of an image in which one more allocation request is refused, each by its last line.
 ghost use Rattle.std.specs.Prelude.{ℕ, ◌≡◌, ◌≤◌, ◌<◌, List, IfOk, IfErr, Ok, length};
-ghost use Rattle.aom_machine.specs.Calls.{natives_of};
 ghost use Rattle.aom_natives.specs.Owed.{OweNothing};
-ghost use Rattle.aom_natives.specs.Slots.{AllAgree};
-ghost use Rattle.aom_run.specs.Runs.{IsFresh};
 ghost use Rattle.aom_run.specs.Turns.{hearing};
 ghost use Rattle.aom_run.specs.Outcomes.{outcome_of};
 ghost use Rattle.aom_script.specs.Script.{IsTimely, denoted};
@@ -89,31 +86,12 @@ fn last_beside(
     ensures enough { IfOk result (λ _. HasNatives accepted.now (length boxes.items)) }
     ensures err { IfErr result (λ fault. RefusesBoot accepted.now (length boxes.items) fault) }
 {
-    match Machine::boot(alloc, accepted, boxes) {
-        Ok(mut machine) => last_booted(alloc, accepted, script, refused, limit, &mut machine),
-        Err((fault, _boxes)) => Err(Fault::from(fault)),
-    }
-}
-
-/// Runs a machine that has booted to its end where those requests are refused, and writes nothing.
-fn last_booted(
-    alloc: Global,
-    accepted: &Accepted,
-    script: &Script,
-    refused: Vec<u32>,
-    limit: u32,
-    machine: &mut Machine,
-) -> Result<Last, Fault>
-    requires limit { (1 ≤ limit) × (limit ≤ 1000000000) }
-    requires timely { IsTimely script.now.timed }
-    requires image { machine.old.core.image ≡ accepted.now }
-    requires fresh { IsFresh machine.old }
-    requires agree { AllAgree (λ l. l.ids) (λ l. (⟦<dyn Native as Native>⟧ l.native.vtable).owed l.native.value) machine.old.natives.slots.items }
-    ensures ok { IfOk result (λ last. IsLast accepted.now (hearing refused.items limit (natives_of machine.old) script.now.timed) last) }
-    ensures err { IfErr result (λ fault. fault ≡ Fault.Memory) }
-{
+    let mut machine = match Machine::boot(alloc, accepted, boxes) {
+        Ok(machine) => machine,
+        Err((fault, _boxes)) => return Err(Fault::from(fault)),
+    };
     let mut turn = Turn::new(alloc, accepted, refused)?;
-    let outcome = run(machine, script, &mut turn, limit, &mut Nowhere);
+    let outcome = run(&mut machine, script, &mut turn, limit, &mut Nowhere);
     Ok(Last {
         ending: ending_of(outcome),
         cells: machine.core.count(),

@@ -1,9 +1,6 @@
 //! The run of an accepted image.
 ghost use Rattle.std.specs.Prelude.{◌≡◌, ◌≤◌, IfOk, IfErr, length};
-ghost use Rattle.aom_machine.specs.Calls.{natives_of};
 ghost use Rattle.aom_natives.specs.Owed.{OweNothing};
-ghost use Rattle.aom_natives.specs.Slots.{AllAgree};
-ghost use Rattle.aom_run.specs.Runs.{IsFresh};
 ghost use Rattle.aom_script.specs.Script.{IsTimely};
 ghost use Rattle.aom_main.specs.Headline.{AllRunWell, HasNatives, RefusesBoot, Shows, outside_of};
 
@@ -32,32 +29,13 @@ pub fn run_accepted<W: Sink>(
     ensures enough { IfOk result (λ _. HasNatives accepted.now (length boxes.items)) }
     ensures err { IfErr result (λ fault. RefusesBoot accepted.now (length boxes.items) fault × (W.out out.new ≡ W.out out.old)) }
 {
-    match Machine::boot(alloc, accepted, boxes) {
-        Ok(mut machine) => run_booted(alloc, accepted, script, limit, &mut machine, out),
-        Err((fault, _boxes)) => Err(Fault::from(fault)),
-    }
-}
-
-/// Runs a machine that has booted to its end.
-fn run_booted<W: Sink>(
-    alloc: Global,
-    accepted: &Accepted,
-    script: &Script,
-    limit: u32,
-    machine: &mut Machine,
-    out: &mut W,
-) -> Result<Outcome, Fault>
-    requires limit { (1 ≤ limit) × (limit ≤ 1000000000) }
-    requires timely { IsTimely script.now.timed }
-    requires image { machine.old.core.image ≡ accepted.now }
-    requires fresh { IsFresh machine.old }
-    requires agree { AllAgree (λ l. l.ids) (λ l. (⟦<dyn Native as Native>⟧ l.native.vtable).owed l.native.value) machine.old.natives.slots.items }
-    ensures ok { IfOk result (λ outcome. Shows accepted.now (outside_of script.now limit (natives_of machine.old)) outcome (record { before = W.out out.old; now = W.out out.new; failed = W.failed out.new })) }
-    ensures err { IfErr result (λ fault. (fault ≡ Fault.Memory) × (W.out out.new ≡ W.out out.old)) }
-{
+    let mut machine = match Machine::boot(alloc, accepted, boxes) {
+        Ok(machine) => machine,
+        Err((fault, _boxes)) => return Err(Fault::from(fault)),
+    };
     let refused = Vec::from_slice(alloc, script.refused())?;
     let mut turn = Turn::new(alloc, accepted, refused)?;
-    Ok(run(machine, script, &mut turn, limit, out))
+    Ok(run(&mut machine, script, &mut turn, limit, out))
 }
 
 /// Every run of an accepted image goes well within its declared steps, whatever is refused, and has one text.
