@@ -18,7 +18,7 @@ use aom_image::{ClassKind, Instr, Provider};
 use aom_parts::Parts;
 
 /// A call that is to be made on a native, for the cell of that number, before the step that hears its answer.
-#[derive(Clone, Copy, PartialEq, Eq, Debug)]
+#[derive(Clone, Copy)]
 pub enum Wanted {
     /// A session is to be opened.
     Open {

@@ -8,7 +8,7 @@ use crate::things::{is_object, same_thing};
 use aom_image::{ClassNumber, Thing};
 
 /// Whether an object still waits for its construct method.
-#[derive(Clone, Copy, PartialEq, Eq, Debug)]
+#[derive(Clone, Copy, PartialEq, Eq)]
 pub enum Age {
     /// Its fields are null, and it is not enlisted.
     Fresh,
@@ -27,7 +27,7 @@ impl Age {
 }
 
 /// What became of the message that a service method is called with.
-#[derive(Clone, Copy, PartialEq, Eq, Debug)]
+#[derive(Clone, Copy, PartialEq, Eq)]
 pub enum Delivery {
     /// Nothing has taken it. Methods of other roles, which have none, stay here.
     Here,
@@ -222,7 +222,7 @@ impl Kind {
 }
 
 /// What an owning field of the running method's object holds.
-#[derive(Clone, Copy, PartialEq, Eq, Debug)]
+#[derive(Clone, Copy, PartialEq, Eq)]
 pub enum Filling {
     Empty,
     Full,
