@@ -43,6 +43,11 @@ pub count_added : (old new : Heap) (id : ℕ) (cell : Cell) → cell_at old id �
 count_added old new id cell fresh ch =
     omega (arith, changed_count old.slots new.slots id ch.others, ap one fresh, ap one ch.here)
 
+-- a cell that another takes the place of
+pub count_rewritten : (old new : Heap) (id : ℕ) (was next : Cell) → cell_at old id ≡ Some was → Changes old new id (Some next) → count new ≡ count old
+count_rewritten old new id was next there ch =
+    omega (arith, changed_count old.slots new.slots id ch.others, ap one there, ap one ch.here)
+
 -- a living cell that goes
 pub count_removed : (old new : Heap) (id : ℕ) → Lives old id → Changes old new id None → count new + 1 ≡ count old
 count_removed old new id lives ch =
