@@ -147,10 +147,7 @@ closes_done : (n : ℕ) (x to : Client) → (row x).close ≡ Some to → is_con
 closes_done n (Connecting server slots) to e = let same : Unconnected ≡ to = cc in ap (is_connecting_at n) (sym same)
 closes_done n (Open server session slots) to e = let same : Closing_client server session ≡ to = cc in ap (is_connecting_at n) (sym same)
 closes_done n Gone to e = let same : Unconnected ≡ to = cc in ap (is_connecting_at n) (sym same)
-closes_done n Unconnected to e = cc
-closes_done n (Closing_client server session) to e = cc
-closes_done n Dead to e = cc
-closes_done n (Dying_client server session) to e = cc
+closes_done n _ to e = cc
 
 dies_done : (n : ℕ) (x to : Client) → (row x).die ≡ Some to → is_connecting_at n to ≡ false
 dies_done n Unconnected to e = let same : Dead ≡ to = cc in ap (is_connecting_at n) (sym same)
@@ -158,8 +155,7 @@ dies_done n (Connecting server slots) to e = let same : Dead ≡ to = cc in ap (
 dies_done n (Open server session slots) to e = let same : Dying_client server session ≡ to = cc in ap (is_connecting_at n) (sym same)
 dies_done n (Closing_client server session) to e = let same : Dying_client server session ≡ to = cc in ap (is_connecting_at n) (sym same)
 dies_done n Gone to e = let same : Dead ≡ to = cc in ap (is_connecting_at n) (sym same)
-dies_done n Dead to e = cc
-dies_done n (Dying_client server session) to e = cc
+dies_done n _ to e = cc
 
 -- what is asked last loses no connect
 last_keeps : (e : Asked) (v : Service) (c : ℕ) → list_any (is_connect_of c) v.queue ≡ true → list_any (is_connect_of c) (asked_last e v).queue ≡ true

@@ -188,12 +188,8 @@ module _ (names : ℕ → ℕ) (one_to_one : IsOneToOne names) where
         ap (λ l. sent ∷ l) (asks_renamed names one_to_one (Message_of client name) server s.cells)
 
     sending_renamed : (r : Option Refusal) (x : Client) (name : ℕ) (words : List ℤ) → sending p client s' r (renamed_client names x) (names name) words ≡ renamed names (sending p client s r x name words)
-    sending_renamed (Some r) x name words = refl
     sending_renamed None (Open server session slots) name words = ap (λ cs. record s' { cells = cs }) (message_renamed name words server)
-    sending_renamed None (Connecting server slots) name words = refl
-    sending_renamed None (Closing_client server session) name words = refl
-    sending_renamed None (Dying server session) name words = refl
-    sending_renamed None _ name words = refl
+    sending_renamed _ _ name words = refl
 
     told_renamed : (x : Client) (cs : List Cell) → told p client s' (renamed_client names x) (renamed_cells names cs) ≡ renamed_cells names (told p client s x cs)
     told_renamed (Open server session slots) cs = asks_renamed names one_to_one (Close_of client) server cs

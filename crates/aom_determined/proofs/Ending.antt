@@ -125,12 +125,7 @@ module _ (p : Image) (t : Typing) (s : State) (w : WellTyped p t s) (there : All
       by_server : (o : Option Object) → held s.cells (Going (length below)) ≡ o → parting_from p o below s ≡ Goes u → AllThere u
       by_server None at e = cc
       by_server (Some o) at e = subst AllThere (goes_same _ u e) (by_session o at (first_session s.cells o.name (service_of s.cells o.name).sessions) refl)
-  closing_there [] u tasks e = cc
-  closing_there (Run fr ∷ ts) u tasks e = cc
-  closing_there (Trapped ∷ ts) u tasks e = cc
-  closing_there (Closing ∷ ts) u tasks e = cc
-  closing_there (Unwind code ∷ ts) u tasks e = cc
-  closing_there (Dispatched d ∷ ts) u tasks e = cc
+  closing_there _ u tasks e = cc
 
 -- ---- a dispatch ends
 
@@ -147,15 +142,8 @@ pub plain_there : (clients : List Client) (cs : List Cell) (d : Option Dispatch)
 plain_there clients cs d plain all = record { asked = λ n c e. ap (λ b. b || accepts n c d) (all n c e); serves = go d plain }
   where
     go : (d : Option Dispatch) → IsPlain d → IsAtPlace cs d
-    go None h = tt
-    go (Some Of_main) h = tt
-    go (Some (Main_left code)) h = tt
-    go (Some Of_root) h = tt
-    go (Some (Of_object x)) h = tt
-    go (Some (Object_left x code)) h = tt
-    go (Some (Asks x)) h = tt
-    go (Some (Answered x answer)) h = tt
     go (Some (Of_server x c stage)) h = absurd h
+    go _ h = tt
 
 or_true : (a b : Bool) → b ≡ false → (a || b) ≡ true → a ≡ true
 or_true true b e h = refl

@@ -75,17 +75,12 @@ module _ (then first : ℕ → ℕ) where
   both n = then (first n)
 
   other_twice : (o : Other) → renamed_other both o ≡ renamed_other then (renamed_other first o)
-  other_twice Root = refl
   other_twice (Session s c) = refl
-  other_twice In_service = refl
-  other_twice (Queued s m) = refl
+  other_twice _ = refl
 
   place_twice : (q : Place) → renamed_place both q ≡ renamed_place then (renamed_place first q)
-  place_twice (Register f r) = refl
-  place_twice (Entry k) = refl
-  place_twice (Field n f) = refl
-  place_twice (Going k) = refl
   place_twice (Elsewhere o) = ap Elsewhere (other_twice o)
+  place_twice _ = refl
 
   asked_twice : (e : Asked) → renamed_asked both e ≡ renamed_asked then (renamed_asked first e)
   asked_twice (Connect_of c) = refl

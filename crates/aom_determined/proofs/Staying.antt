@@ -114,9 +114,7 @@ module _ (p : Image) (t : Typing) (wired : IsWired p) (s : State) (w : WellTyped
   requested_there f o = same_waits s.clients s.cells (with_request f o s.cells) (same_requested s.cells o (on_request f (requested s.cells o.name)) (λ e. on_none f (requested s.cells o.name) e)) waiting
 
   turned_there : (k : Turning) → IsFound p t wired s w idle kept k → (u : State) → turned p s k ≡ Goes u → AllThere u
-  turned_there Cuts f u e = subst AllThere (goes_same _ u e) (by_idle s.clients s.cells s.tasks idle waiting)
   turned_there (Completes o) f u e = subst AllThere (goes_same _ u e) (by_idle s.clients _ s.tasks idle (requested_there timed_out o))
-  turned_there Hears f u e = subst AllThere (goes_same _ u e) (by_idle s.clients s.cells s.tasks idle waiting)
   turned_there (Kills n) f u e = subst AllThere (goes_same _ u e) (by_idle s.clients _ s.tasks idle (same_waits s.clients s.cells (all_bereaved p n s.cells) (same_bereaved p n s.cells) waiting))
   turned_there (Polls n answer) f u e = go u (polled_so p s u n answer e)
     where
@@ -128,8 +126,7 @@ module _ (p : Image) (t : Typing) (wired : IsWired p) (s : State) (w : WellTyped
   turned_there (Obeys client command name) f u e = subst AllThere (goes_same _ u e) (by_idle _ _ _ ((commanded_kept p client (heard_one s) command name).1 ∙ idle) (commanded_waits p client (heard_one s) w.good.tidy kept.fit (waiting_well p t wired s w) waiting command name f))
   turned_there (Picks x) f u e = picked_there p s u waiting x f.0 e
   turned_there Strays f u e = cc
-  turned_there (Passes time) f u e = subst AllThere (goes_same _ u e) (by_idle s.clients s.cells s.tasks idle waiting)
-  turned_there Waits f u e = subst AllThere (goes_same _ u e) (by_idle s.clients s.cells s.tasks idle waiting)
+  turned_there _ f u e = subst AllThere (goes_same _ u e) (by_idle s.clients s.cells s.tasks idle waiting)
 
 pub all_stays_there : AllStaysThere
 all_stays_there = record {

@@ -31,13 +31,8 @@ use Rattle.aom_determined.specs.Names.{IsOneToOne, renamed, renamed_cells, renam
 
 module _ (names : ℕ → ℕ) (one_to_one : IsOneToOne names) where
   resumed_renamed : (ts : List Task) → resumed (renamed_tasks names ts) ≡ renamed_tasks names (resumed ts)
-  resumed_renamed [] = refl
   resumed_renamed (Run fr ∷ ts) = refl
-  resumed_renamed (Trapped ∷ ts) = refl
-  resumed_renamed (Destroy ∷ ts) = refl
-  resumed_renamed (Closing ∷ ts) = refl
-  resumed_renamed (Unwind code ∷ ts) = refl
-  resumed_renamed (Dispatched d ∷ ts) = refl
+  resumed_renamed _ = refl
 
   instr_renamed :
       (p : Image) (c : Choice) (fr : Frame) (ts : List Task) (s : State) (i : Option Instr) →
@@ -96,12 +91,7 @@ module _ (names : ℕ → ℕ) (one_to_one : IsOneToOne names) where
       ap (λ n. parting_from p (held (renamed_cells names s.cells) (Going n)) (renamed_tasks names below) (renamed names s)) (tasks_counted names below)
       ∙ ap (λ o. parting_from p o (renamed_tasks names below) (renamed names s)) (held_renamed names one_to_one s.cells (Going (length below)))
       ∙ parting_from_renamed p (held s.cells (Going (length below))) below s
-  closing_renamed p [] s = refl
-  closing_renamed p (Run fr ∷ ts) s = refl
-  closing_renamed p (Trapped ∷ ts) s = refl
-  closing_renamed p (Closing ∷ ts) s = refl
-  closing_renamed p (Unwind code ∷ ts) s = refl
-  closing_renamed p (Dispatched d ∷ ts) s = refl
+  closing_renamed p _ s = refl
 
   ended_by_renamed : (code : ℤ) (d : Dispatch) → ended_by code (renamed_dispatch names d) ≡ renamed_dispatch names (ended_by code d)
   ended_by_renamed code Of_main = refl

@@ -73,10 +73,7 @@ module _ (p : Image) (clients : List Client) (cs : List Cell) (tidy : Tidy cs) (
     gone_connecting n (Open server session slots) e = cc
     gone_connecting n (Closing_client server session) e = cc
     gone_connecting n (Dying server session) e = cc
-    gone_connecting n (Connecting server slots) e = e
-    gone_connecting n Unconnected e = e
-    gone_connecting n Gone e = e
-    gone_connecting n Dead e = e
+    gone_connecting n _ e = e
 
     abbrev then : List Client
     then = sessions_ended (service_of cs o.name).sessions (queue_ended (service_of cs o.name).queue clients)
