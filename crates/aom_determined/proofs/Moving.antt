@@ -19,12 +19,12 @@ use Rattle.aom_sound.specs.Calls.{accepted_cells, accepted_clients, answered_by,
 use Rattle.aom_sound.specs.Cleanup.{arrived, dealt_with, destroyed, ended_by, to_trap, top_is_whole, top_place, unwound}
 use Rattle.aom_sound.specs.Clients.{at_opening, client_at, with_client}
 use Rattle.aom_sound.specs.Destruction.{begun, begun_by, destructed}
-use Rattle.aom_sound.specs.Effects.{Calls, Cancels, Counts, Destroys, Destroys_last, Effect, Goes_on, Jumps, Leaves, Operates, Repeats, Returns, Sets_trap, applied}
+use Rattle.aom_sound.specs.Effects.{Calls, Cancels, Destroys, Destroys_last, Effect, Goes_on, Leaves, Returns, Sets_trap, applied}
 use Rattle.aom_sound.specs.Enlisted.{begun_cells, cancelling, on_request, own_request}
 use Rattle.aom_sound.specs.Kept.{is_connect_of}
 use Rattle.aom_sound.specs.Places.{Cell, Elsewhere, Entry, Going, Object, Place, Session, held, moved}
 use Rattle.aom_sound.specs.Servers.{is_server, opened}
-use Rattle.aom_sound.specs.State.{A_mark, Accept_left, Accepted, Accepts, An_object, An_operation, Answered, Asks, Closing, Destroy, Dispatch, Dispatched, Frame, Goes, IsStuck, Item, Main_left, NullOrDead, Object_left, Of_main, Of_object, Of_root, Of_server, Parts, Run, Service_left, Serves, State, Task, Trapped, Unwind, resumed}
+use Rattle.aom_sound.specs.State.{A_mark, Accepts, An_object, An_operation, Asks, Closing, Destroy, Dispatch, Dispatched, Frame, Goes, IsStuck, Item, NullOrDead, Of_main, Of_object, Of_server, Run, Serves, State, Task, Trapped, Unwind, resumed}
 use Rattle.aom_sound.specs.Words.{here}
 use Rattle.aom_sound.proofs.ClientsMoves.{steady_asked}
 use Rattle.aom_sound.proofs.ClientsTurn.{on_none}
@@ -106,7 +106,9 @@ module _ (p : Image) (fr : Frame) (ts : List Task) (s : State) where
           go false other =
               let before = there.asked n d (ap (is_connecting_at n) (sym (client_there c d (at_opening 0 (client_at s.clients c)) s.clients other)) ∙ e) in
               let waited = or_true (waits s.cells n d) (or_none (waits s.cells n d) (x.object.name == n) (c == d) other before) in
-              let then_waits = (calm_reserved (opened c) (λ v k h. h) cells x.object.name).connects n d (ap (λ v. list_any (is_connect_of d) v.queue) (service_moved s.cells from (Elsewhere (Session x.object.name c)) n) ∙ waited) in
+              let then_waits =
+              (calm_reserved (opened c) (λ v k h. h) cells x.object.name).connects n d
+              (ap (λ v. list_any (is_connect_of d) v.queue) (service_moved s.cells from (Elsewhere (Session x.object.name c)) n) ∙ waited) in
               ap (λ b. b || false) then_waits
             where
               or_true : (a : Bool) → (a || false) ≡ true → a ≡ true
@@ -119,7 +121,9 @@ module _ (p : Image) (fr : Frame) (ts : List Task) (s : State) where
   answered_there answer (Asks x) there = record { asked = there.asked; serves = tt }
   answered_there answer _ there = there
 
-  pub returned_there : (g : Gives) (a : ℕ) (below : List Task) → s.tasks ≡ Run fr ∷ ts → AreThere s.clients s.cells (dispatch_of below) → AreThere s.clients s.cells (dispatch_of ts) → AllThere (returned p fr ts s g a below)
+  pub returned_there :
+      (g : Gives) (a : ℕ) (below : List Task) → s.tasks ≡ Run fr ∷ ts → AreThere s.clients s.cells (dispatch_of below) → AreThere s.clients s.cells (dispatch_of ts) →
+      AllThere (returned p fr ts s g a below)
   returned_there g a (Run caller ∷ below) tasks there all = there_by s.clients s.cells (dispatch_of below) s.clients _ _ refl (calm_result p fr ts s g a _ below) refl there
   returned_there g a (Trapped ∷ Run caller ∷ below) tasks there all = there_by s.clients s.cells (dispatch_of below) s.clients _ _ refl (calm_result p fr ts s g a _ below) refl there
   returned_there g a (Trapped ∷ Dispatched d ∷ below) tasks there all = accepted_there d (here fr ts s a) there
@@ -149,7 +153,9 @@ module _ (p : Image) (s : State) where
     where
       by_object : (o : Option Object) → AllThere (destroyed p o items (Unwind code ∷ ts) s)
       by_object None = there
-      by_object (Some o) = there_by s.clients s.cells (dispatch_of ts) s.clients _ _ refl (calm_moved s.cells (Entry (length items)) (Going _) (λ n c. refl) (λ n c. refl) (λ n m. refl)) (dispatch_begun p o (length items) (Unwind code ∷ ts)) there
+      by_object (Some o) =
+          there_by s.clients s.cells (dispatch_of ts) s.clients _ _ refl (calm_moved s.cells (Entry (length items)) (Going _) (λ n c. refl) (λ n c. refl) (λ n m. refl))
+          (dispatch_begun p o (length items) (Unwind code ∷ ts)) there
 
       go : (b : Bool) → cond b (Goes (dealt_with p (An_object ∷ items) (Unwind code ∷ ts) s)) (IsStuck NullOrDead) ≡ Goes u → AllThere u
       go true e = subst AllThere (goes_same _ u e) (by_object (held s.cells (Entry (length items))))

@@ -72,13 +72,17 @@ module _ (names : ℕ → ℕ) (one_to_one : IsOneToOne names) where
 
   -- ---- the sessions of a server
 
-  parting_renamed : (p : Image) (o : Object) (x : Option Seat) (below : List Task) (s : State) → parting p (renamed_object names o) (option_map (renamed_seat names) x) (renamed_tasks names below) (renamed names s) ≡ renamed names (parting p o x below s)
+  parting_renamed :
+      (p : Image) (o : Object) (x : Option Seat) (below : List Task) (s : State) →
+      parting p (renamed_object names o) (option_map (renamed_seat names) x) (renamed_tasks names below) (renamed names s) ≡ renamed names (parting p o x below s)
   parting_renamed p o None below s = ap (λ ts. record (renamed names s) { tasks = ts }) (destructed_renamed names p o (length s.items) below)
   parting_renamed p o (Some x) below s =
       let over = Closing ∷ Destroy ∷ below in
       rw (tasks_counted names below, moved_renamed names one_to_one x.place (Going (length over)) s.cells, begun_renamed names p x.object (length s.items) over)
 
-  parting_from_renamed : (p : Image) (o : Option Object) (below : List Task) (s : State) → parting_from p (option_map (renamed_object names) o) (renamed_tasks names below) (renamed names s) ≡ renamed_outcome names (parting_from p o below s)
+  parting_from_renamed :
+      (p : Image) (o : Option Object) (below : List Task) (s : State) →
+      parting_from p (option_map (renamed_object names) o) (renamed_tasks names below) (renamed names s) ≡ renamed_outcome names (parting_from p o below s)
   parting_from_renamed p None below s = refl
   parting_from_renamed p (Some o) below s =
       let sessions = (service_of s.cells o.name).sessions in
