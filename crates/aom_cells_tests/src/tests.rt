@@ -1,46 +1,116 @@
 use aom_cells::{Cells, NULL};
+use std::alloc::Global;
+use std::process::Abort;
 use std::test::Fail;
 
-#[test]
-fn reads_what_was_written(rt: HostRuntime) -> Result<(), Fail> {
-    let mut cells = Cells::with_limit(rt.alloc(), 3)?;
-    let Some(parent) = cells.create(7) else {
-        return Err(Fail::from("no parent"));
+/// What is done with cells, most of it with the one that was created last, and told as a number: 0 where there is nothing to tell.
+#[derive(Clone, Copy)]
+enum Act {
+    /// Of that class. Told is how many cells were created.
+    Create(u16),
+    IsFull,
+    Count,
+    Class,
+    Word(u8),
+    SetWord(u8, i32),
+    Field(u8),
+    PutField(u8, u32),
+    TakeField(u8),
+    /// Told is 1 where the cell's own number leads to it.
+    IsLiving,
+    Release,
+}
+
+/// What is told where the cell does not live, or a number is too large.
+const UNFIT: i64 = -1_000_000_000_000;
+
+fn told_of_cell(cells: &mut Cells, number: u32, act: Act) -> i64 {
+    let Some(id) = cells.find(number) else {
+        return UNFIT;
     };
-    assert_eq!(rt; cells.class(parent), 7);
-    assert_eq!(rt; cells.word(parent, 0), 0);
-    assert_eq!(rt; cells.field(parent, 7), NULL);
-    cells.set_word(parent, 7, -12);
-    cells.put_field(parent, 3, 41);
-    assert_eq!(rt; cells.word(parent, 7), -12);
-    assert_eq!(rt; cells.word(parent, 6), 0);
-    assert_eq!(rt; cells.field(parent, 3), 41);
-    assert_eq!(rt; cells.take_field(parent, 3), 41);
-    assert_eq!(rt; cells.field(parent, 3), NULL);
-    assert_eq!(rt; cells.living(parent.number()), parent);
+    match act {
+        Act::Class => i64::from(cells.class(id)),
+        Act::Word(word) if word < 8 => i64::from(cells.word(id, word)),
+        Act::SetWord(word, value) if word < 8 => {
+            cells.set_word(id, word, value);
+            0
+        }
+        Act::Field(field) if field < 8 => i64::from(cells.field(id, field)),
+        Act::PutField(field, value) if field < 8 => {
+            cells.put_field(id, field, value);
+            0
+        }
+        Act::TakeField(field) if field < 8 => i64::from(cells.take_field(id, field)),
+        Act::IsLiving => i64::from(cells.living(number) == id),
+        Act::Release => {
+            cells.release(id);
+            0
+        }
+        _ => UNFIT,
+    }
+}
+
+fn told(cells: &mut Cells, last: &mut u32, act: Act) -> i64 {
+    match act {
+        Act::Create(class) => match cells.create(class) {
+            Some(id) => {
+                *last = id.number();
+                1
+            }
+            None => 0,
+        },
+        Act::IsFull => i64::from(cells.is_full()),
+        Act::Count => i64::try_from(cells.count()).unwrap_or(UNFIT),
+        _ => told_of_cell(cells, *last, act),
+    }
+}
+
+fn walk(rt: &impl Abort, alloc: Global, limit: usize, turns: &[(Act, i64)]) -> Result<(), Fail> {
+    assert!(rt; limit <= 4096);
+    let mut cells = Cells::with_limit(alloc, limit)?;
+    let mut last = 0;
+    for (at, (act, wanted)) in turns.iter().enumerate() {
+        assert_eq!(rt; told(&mut cells, &mut last, *act), *wanted, "at {at}");
+    }
     Ok(())
 }
 
 #[test]
+fn reads_what_was_written(rt: HostRuntime) -> Result<(), Fail> {
+    let turns = [
+        (Act::Create(7), 1),
+        (Act::Class, 7),
+        (Act::Word(0), 0),
+        (Act::Field(7), i64::from(NULL)),
+        (Act::SetWord(7, -12), 0),
+        (Act::PutField(3, 41), 0),
+        (Act::Word(7), -12),
+        (Act::Word(6), 0),
+        (Act::Field(3), 41),
+        (Act::TakeField(3), 41),
+        (Act::Field(3), i64::from(NULL)),
+        (Act::IsLiving, 1),
+    ];
+    walk(&rt, rt.alloc(), 3, &turns)
+}
+
+#[test]
 fn refuses_when_full_and_reuses_what_went(rt: HostRuntime) -> Result<(), Fail> {
-    let mut cells = Cells::with_limit(rt.alloc(), 1)?;
-    let Some(first) = cells.create(2) else {
-        return Err(Fail::from("no first cell"));
-    };
-    cells.set_word(first, 0, 5);
-    cells.put_field(first, 0, 9);
-    assert!(rt; cells.is_full());
-    assert!(rt; cells.create(3).is_none());
-    assert_eq!(rt; cells.count(), 1);
-    cells.release(first);
-    assert_eq!(rt; cells.count(), 0);
-    let Some(second) = cells.create(4) else {
-        return Err(Fail::from("no second cell"));
-    };
-    assert_eq!(rt; cells.class(second), 4);
-    assert_eq!(rt; cells.word(second, 0), 0);
-    assert_eq!(rt; cells.field(second, 0), NULL);
-    Ok(())
+    let turns = [
+        (Act::Create(2), 1),
+        (Act::SetWord(0, 5), 0),
+        (Act::PutField(0, 9), 0),
+        (Act::IsFull, 1),
+        (Act::Create(3), 0),
+        (Act::Count, 1),
+        (Act::Release, 0),
+        (Act::Count, 0),
+        (Act::Create(4), 1),
+        (Act::Class, 4),
+        (Act::Word(0), 0),
+        (Act::Field(0), i64::from(NULL)),
+    ];
+    walk(&rt, rt.alloc(), 1, &turns)
 }
 
 #[test]

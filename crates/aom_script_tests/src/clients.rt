@@ -1,5 +1,6 @@
 //! Lines of clients: what they say, and their faults.
-use aom_script::{ScriptFault, ScriptFaultKind, read_script};
+use crate::scripts::are_faulty;
+use aom_script::{ScriptFaultKind, read_script};
 use aom_transcript::{Command, Event, TimedEvent};
 use std::test::Fail;
 
@@ -36,27 +37,28 @@ fn clients_connect_send_close_and_die(rt: HostRuntime) -> Result<(), Fail> {
 }
 
 #[test]
-fn the_first_fault_of_a_clients_line_is_told(rt: HostRuntime) -> Result<(), Fail> {
-    for (text, kind) in [
-        (b"1 connect 0 0".as_slice(), ScriptFaultKind::BadLine),
-        (b"1 connect 0 0 0 0", ScriptFaultKind::BadLine),
-        (b"x send 0 1 2 3 4", ScriptFaultKind::BadLine),
-        (b"1 send 0 1 2 3 4 5 6", ScriptFaultKind::BadLine),
-        (b"1 close", ScriptFaultKind::BadLine),
-        (b"1 die 0 0", ScriptFaultKind::BadLine),
-        (b"1 dies 0", ScriptFaultKind::BadLine),
-        (b"x connect 0 0 0", ScriptFaultKind::BadNumber),
-        (b"1 send 0 1 2 3 4 y", ScriptFaultKind::BadNumber),
-        (b"1 die z", ScriptFaultKind::BadNumber),
-        (b"-1 die 64", ScriptFaultKind::TimeBack),
-        (b"1 connect 64 0 0", ScriptFaultKind::LimitPassed),
-        (b"1 connect 0 256 0", ScriptFaultKind::LimitPassed),
-        (b"1 connect 0 0 65", ScriptFaultKind::LimitPassed),
-        (b"1 send 0 1 2 3 4 2147483648", ScriptFaultKind::LimitPassed),
-        (b"1 close -1", ScriptFaultKind::LimitPassed),
-    ] {
-        let answer = read_script(rt.alloc(), text);
-        assert_eq!(rt; answer.err(), Some(ScriptFault { line: 1, kind }));
-    }
-    Ok(())
+fn the_first_fault_of_a_clients_line_is_told(rt: HostRuntime) {
+    let rows = [
+        (b"1 connect 0 0".as_slice(), 1, ScriptFaultKind::BadLine),
+        (b"1 connect 0 0 0 0", 1, ScriptFaultKind::BadLine),
+        (b"x send 0 1 2 3 4", 1, ScriptFaultKind::BadLine),
+        (b"1 send 0 1 2 3 4 5 6", 1, ScriptFaultKind::BadLine),
+        (b"1 close", 1, ScriptFaultKind::BadLine),
+        (b"1 die 0 0", 1, ScriptFaultKind::BadLine),
+        (b"1 dies 0", 1, ScriptFaultKind::BadLine),
+        (b"x connect 0 0 0", 1, ScriptFaultKind::BadNumber),
+        (b"1 send 0 1 2 3 4 y", 1, ScriptFaultKind::BadNumber),
+        (b"1 die z", 1, ScriptFaultKind::BadNumber),
+        (b"-1 die 64", 1, ScriptFaultKind::TimeBack),
+        (b"1 connect 64 0 0", 1, ScriptFaultKind::LimitPassed),
+        (b"1 connect 0 256 0", 1, ScriptFaultKind::LimitPassed),
+        (b"1 connect 0 0 65", 1, ScriptFaultKind::LimitPassed),
+        (
+            b"1 send 0 1 2 3 4 2147483648",
+            1,
+            ScriptFaultKind::LimitPassed,
+        ),
+        (b"1 close -1", 1, ScriptFaultKind::LimitPassed),
+    ];
+    are_faulty(&rt, rt.alloc(), &rows);
 }

@@ -1,5 +1,6 @@
 //! Timed lines: what they say, and their faults.
-use aom_script::{ScriptFault, ScriptFaultKind, read_script};
+use crate::scripts::are_faulty;
+use aom_script::{ScriptFaultKind, read_script};
 use aom_transcript::{Event, TimedEvent};
 use std::test::Fail;
 
@@ -46,29 +47,38 @@ fn a_plain_event_is_a_script(rt: HostRuntime) -> Result<(), Fail> {
 }
 
 #[test]
-fn times_go_on(rt: HostRuntime) -> Result<(), Fail> {
-    for (text, line) in [
-        ("5 kill 0\n4 kill 0".as_bytes(), 2),
-        (b"\n2 kill 0\n1 kill 0", 3),
-        (b"-1 kill 0", 1),
-        (b"-1 event 16 9999999999", 1),
-        (b"1000000000000000 kill 0\n\n999999999999999 kill 16", 3),
-        (b"1 kill 0\n-99999999999999999999999999 kill 0", 2),
-        (b"1 kill 0\n0 kill 99999999999999999999999999", 2),
-    ] {
-        let answer = read_script(rt.alloc(), text);
-        let fault = ScriptFault {
-            line,
-            kind: ScriptFaultKind::TimeBack,
-        };
-        assert_eq!(rt; answer.err(), Some(fault));
-    }
-    Ok(())
+fn times_go_on(rt: HostRuntime) {
+    let rows = [
+        (
+            "5 kill 0\n4 kill 0".as_bytes(),
+            2,
+            ScriptFaultKind::TimeBack,
+        ),
+        (b"\n2 kill 0\n1 kill 0", 3, ScriptFaultKind::TimeBack),
+        (b"-1 kill 0", 1, ScriptFaultKind::TimeBack),
+        (b"-1 event 16 9999999999", 1, ScriptFaultKind::TimeBack),
+        (
+            b"1000000000000000 kill 0\n\n999999999999999 kill 16",
+            3,
+            ScriptFaultKind::TimeBack,
+        ),
+        (
+            b"1 kill 0\n-99999999999999999999999999 kill 0",
+            2,
+            ScriptFaultKind::TimeBack,
+        ),
+        (
+            b"1 kill 0\n0 kill 99999999999999999999999999",
+            2,
+            ScriptFaultKind::TimeBack,
+        ),
+    ];
+    are_faulty(&rt, rt.alloc(), &rows);
 }
 
 #[test]
-fn the_first_fault_of_a_timed_line_is_told(rt: HostRuntime) -> Result<(), Fail> {
-    for (text, line, kind) in [
+fn the_first_fault_of_a_timed_line_is_told(rt: HostRuntime) {
+    let rows = [
         (b"\xc8".as_slice(), 1, ScriptFaultKind::NotAscii),
         (b"9 kill 0\n1 kill \xc8", 2, ScriptFaultKind::NotAscii),
         (b"foo", 1, ScriptFaultKind::BadLine),
@@ -82,31 +92,29 @@ fn the_first_fault_of_a_timed_line_is_told(rt: HostRuntime) -> Result<(), Fail> 
         (b"refuse kill 0", 1, ScriptFaultKind::BadNumber),
         (b"9 kill 0\n1 kill y", 2, ScriptFaultKind::BadNumber),
         (b"-1 event 16 z", 1, ScriptFaultKind::BadNumber),
-    ] {
-        let answer = read_script(rt.alloc(), text);
-        assert_eq!(rt; answer.err(), Some(ScriptFault { line, kind }));
-    }
-    Ok(())
+    ];
+    are_faulty(&rt, rt.alloc(), &rows);
 }
 
 #[test]
-fn numbers_of_timed_lines_have_ranges(rt: HostRuntime) -> Result<(), Fail> {
-    for text in [
-        "1 kill 16".as_bytes(),
-        b"1 kill -1",
-        b"1 event 16 0",
-        b"1 event 0 2147483648",
-        b"1 event 0 -2147483649",
-        b"1000000000000001 kill 0",
-        b"99999999999999999999999999 kill 0",
-        b"1125899906842624 event 0 0",
-    ] {
-        let answer = read_script(rt.alloc(), text);
-        let fault = ScriptFault {
-            line: 1,
-            kind: ScriptFaultKind::LimitPassed,
-        };
-        assert_eq!(rt; answer.err(), Some(fault));
-    }
-    Ok(())
+fn numbers_of_timed_lines_have_ranges(rt: HostRuntime) {
+    let rows = [
+        ("1 kill 16".as_bytes(), 1, ScriptFaultKind::LimitPassed),
+        (b"1 kill -1", 1, ScriptFaultKind::LimitPassed),
+        (b"1 event 16 0", 1, ScriptFaultKind::LimitPassed),
+        (b"1 event 0 2147483648", 1, ScriptFaultKind::LimitPassed),
+        (b"1 event 0 -2147483649", 1, ScriptFaultKind::LimitPassed),
+        (b"1000000000000001 kill 0", 1, ScriptFaultKind::LimitPassed),
+        (
+            b"99999999999999999999999999 kill 0",
+            1,
+            ScriptFaultKind::LimitPassed,
+        ),
+        (
+            b"1125899906842624 event 0 0",
+            1,
+            ScriptFaultKind::LimitPassed,
+        ),
+    ];
+    are_faulty(&rt, rt.alloc(), &rows);
 }

@@ -1,42 +1,53 @@
 //! Scripts that are read, and each fault with its line.
 use aom_script::{ScriptFault, ScriptFaultKind, read_script};
 use std::alloc::Global;
+use std::process::Abort;
 use std::test::Fail;
 
-/// The numbers that a text refuses.
-fn refused(alloc: Global, text: &[u8]) -> Option<Vec<u32>> {
-    let script = read_script(alloc, text).ok()?;
-    Vec::from_slice(alloc, script.refused()).ok()
-}
-
-#[test]
-fn blanks_are_no_words(rt: HostRuntime) -> Result<(), Fail> {
-    for text in ["".as_bytes(), b"\n", b" ", b" \t\r\n\n\r\n \t"] {
-        assert_eq!(rt; refused(rt.alloc(), text), Some(Vec::new(rt.alloc())));
+/// The first fault of a text, if it has one.
+pub fn fault_of(alloc: Global, text: &[u8]) -> Option<(u32, ScriptFaultKind)> {
+    match read_script(alloc, text) {
+        Ok(_) => None,
+        Err(fault) => Some((fault.line, fault.kind)),
     }
-    Ok(())
+}
+
+/// Each text has its first fault in that line.
+pub fn are_faulty(rt: &impl Abort, alloc: Global, rows: &[(&[u8], u32, ScriptFaultKind)]) {
+    for (at, (text, line, kind)) in rows.iter().enumerate() {
+        let fault = fault_of(alloc, text);
+        assert_eq!(rt; fault, Some((*line, *kind)), "row {at}");
+    }
+}
+
+/// Whether a text is a script that refuses those requests.
+fn refuses(alloc: Global, text: &[u8], numbers: &[u32]) -> bool {
+    match read_script(alloc, text) {
+        Ok(script) => script.refused() == numbers,
+        Err(_) => false,
+    }
 }
 
 #[test]
-fn requests_are_refused_in_the_order_of_the_text(rt: HostRuntime) -> Result<(), Fail> {
-    let alloc = rt.alloc();
+fn requests_are_refused_in_the_order_of_the_text(rt: HostRuntime) {
     for (text, numbers) in [
-        ("refuse 1".as_bytes(), &[1u32][..]),
+        // Blanks are no words.
+        ("".as_bytes(), &[][..]),
+        (b"\n", &[]),
+        (b" ", &[]),
+        (b" \t\r\n\n\r\n \t", &[]),
+        (b"refuse 1", &[1]),
         (b"refuse 1\n", &[1]),
         (b"\trefuse\t 7\r\n\nrefuse 2\r\nrefuse 7 ", &[7, 2, 7]),
         (b"\r\n\nrefuse 4294967295\nrefuse 0010", &[4294967295, 10]),
     ] {
-        assert_eq!(rt;
-            refused(alloc, text),
-            Some(Vec::from_slice(alloc, numbers)?)
-        );
+        assert!(rt; refuses(rt.alloc(), text, numbers));
     }
-    Ok(())
 }
 
 #[test]
-fn a_bad_line_is_told_first(rt: HostRuntime) -> Result<(), Fail> {
-    for (text, line, kind) in [
+fn a_bad_line_is_told_first(rt: HostRuntime) {
+    let rows = [
         ("0 closes 0".as_bytes(), 1, ScriptFaultKind::BadLine),
         (b"foo", 1, ScriptFaultKind::BadLine),
         (b"\n\n \nrefuse 1\n\x00", 5, ScriptFaultKind::NotAscii),
@@ -50,16 +61,13 @@ fn a_bad_line_is_told_first(rt: HostRuntime) -> Result<(), Fail> {
         (b"Refuse 1", 1, ScriptFaultKind::BadLine),
         (b"refuse1", 1, ScriptFaultKind::BadLine),
         (b"1 refuse", 1, ScriptFaultKind::BadLine),
-    ] {
-        let answer = read_script(rt.alloc(), text);
-        assert_eq!(rt; answer.err(), Some(ScriptFault { line, kind }));
-    }
-    Ok(())
+    ];
+    are_faulty(&rt, rt.alloc(), &rows);
 }
 
 #[test]
-fn a_refused_request_has_a_number(rt: HostRuntime) -> Result<(), Fail> {
-    for (text, line, kind) in [
+fn a_refused_request_has_a_number(rt: HostRuntime) {
+    let rows = [
         ("refuse x".as_bytes(), 1, ScriptFaultKind::BadNumber),
         (b"\nrefuse -", 2, ScriptFaultKind::BadNumber),
         (b"refuse +1", 1, ScriptFaultKind::BadNumber),
@@ -77,44 +85,32 @@ fn a_refused_request_has_a_number(rt: HostRuntime) -> Result<(), Fail> {
             1,
             ScriptFaultKind::LimitPassed,
         ),
-    ] {
-        let answer = read_script(rt.alloc(), text);
-        assert_eq!(rt; answer.err(), Some(ScriptFault { line, kind }));
-    }
-    Ok(())
+    ];
+    are_faulty(&rt, rt.alloc(), &rows);
 }
 
 #[test]
 fn a_script_has_so_many_lines(rt: HostRuntime) -> Result<(), Fail> {
     let mut text = vec![in rt.alloc(); b'\n'; 65536]?;
-    assert!(rt; read_script(rt.alloc(), &text).is_ok());
+    assert!(rt; fault_of(rt.alloc(), &text).is_none());
     text.push(b' ')?;
-    let fault = ScriptFault {
-        line: 65537,
-        kind: ScriptFaultKind::LimitPassed,
-    };
-    assert_eq!(rt; read_script(rt.alloc(), &text).err(), Some(fault));
+    let fault = (65537, ScriptFaultKind::LimitPassed);
+    assert_eq!(rt; fault_of(rt.alloc(), &text), Some(fault));
     text.extend_from_slice(b"refuse 1")?;
-    assert_eq!(rt; read_script(rt.alloc(), &text).err(), Some(fault));
+    assert_eq!(rt; fault_of(rt.alloc(), &text), Some(fault));
     text.push(b'w')?;
-    let fault = ScriptFault {
-        line: 65537,
-        kind: ScriptFaultKind::BadNumber,
-    };
-    assert_eq!(rt; read_script(rt.alloc(), &text).err(), Some(fault));
+    let fault = (65537, ScriptFaultKind::BadNumber);
+    assert_eq!(rt; fault_of(rt.alloc(), &text), Some(fault));
     Ok(())
 }
 
 #[test]
 fn a_script_has_so_many_bytes(rt: HostRuntime) -> Result<(), Fail> {
     let mut text = vec![in rt.alloc(); b' '; 1048576]?;
-    assert!(rt; read_script(rt.alloc(), &text).is_ok());
+    assert!(rt; fault_of(rt.alloc(), &text).is_none());
     text.push(0)?;
-    let fault = ScriptFault {
-        line: 1,
-        kind: ScriptFaultKind::LimitPassed,
-    };
-    assert_eq!(rt; read_script(rt.alloc(), &text).err(), Some(fault));
+    let fault = (1, ScriptFaultKind::LimitPassed);
+    assert_eq!(rt; fault_of(rt.alloc(), &text), Some(fault));
     Ok(())
 }
 
