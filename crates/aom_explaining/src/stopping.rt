@@ -1,16 +1,65 @@
 //! What is known at the place of a refusal.
-ghost use Rattle.std.specs.Prelude.{IsSome, OnOk};
+ghost use Rattle.std.specs.Prelude.{◌≡◌, ◌++◌, IsSome, OnOk};
+ghost use Rattle.aom_explain.specs.Known.{known_text};
 ghost use Rattle.aom_image.specs.Views.{method_at};
+ghost use Rattle.aom_shape.specs.Shape.{Shape};
 ghost use Rattle.aom_verify.specs.Arrivals.{StopsAt};
-ghost use Rattle.aom_explaining.specs.Explained.{KnownThere};
+ghost use Rattle.aom_explaining.specs.Explained.{KnownThere, passes, state_text, ways_line};
 
 use aom_classes::{LinkFault, Linked, link};
 use aom_explain::put_known;
 use aom_figures::Writer;
 use aom_image::{Image, MethodNumber};
-use aom_shape::Why;
+use aom_rules::rule;
+use aom_shape::{Shape, Why};
 use aom_verify::{Stop, stop_of};
 use std::alloc::{AllocError, Global};
+
+/// A state in a sheet has fewer cleanup entries.
+const MOST_ENTRIES: usize = 1024;
+
+/// Whether the instruction at a place asks for no more than that state says.
+fn passes(linked: &Linked, method: MethodNumber, place: usize, shape: &Shape<'_>) -> bool
+    requires { IsSome (method_at linked.now method) }
+    ensures { result ≡ passes linked.now method place shape.now }
+{
+    if shape.height() >= MOST_ENTRIES {
+        return false;
+    }
+    if linked.method(method).code.len() <= place {
+        return false;
+    }
+    match rule(linked, method, place, shape) {
+        Ok(_) => true,
+        Err(_) => false,
+    }
+}
+
+/// Writes that ways differ, where that is so.
+fn put_ways(out: &mut Writer, differ: bool) -> Result<(), AllocError>
+    ensures { OnOk result (out.new ≡ out.old ++ ways_line differ) }
+{
+    if differ {
+        out.words(b"Another way comes here, and does not agree with this\n")
+    } else {
+        Ok(())
+    }
+}
+
+/// Writes what a state says that is refused at a place.
+fn put_state(
+    out: &mut Writer,
+    linked: &Linked,
+    method: MethodNumber,
+    place: usize,
+    shape: &Shape<'_>,
+) -> Result<(), AllocError>
+    requires { IsSome (method_at linked.now method) }
+    ensures { OnOk result (out.new ≡ out.old ++ state_text linked.now method place shape.now) }
+{
+    put_known(out, linked, method, shape)?;
+    put_ways(out, passes(linked, method, place, shape))
+}
 
 /// Writes what is known where work on a method ends, if it does so at that place and for that reason.
 fn put_stop(
@@ -32,7 +81,7 @@ fn put_stop(
         return Ok(());
     }
     match stop.sheet.shape(place) {
-        Some(shape) => put_known(out, linked, method, &shape),
+        Some(shape) => put_state(out, linked, method, place, &shape),
         None => Ok(()),
     }
 }

@@ -16,7 +16,7 @@ returns-then-why c =
 pub returns-in-Some : goal.returns-in-Some
 returns-in-Some c =
     let stop = c.args.stop.now in
-    IfOk-weaker c.put_known.result _ _ (λ done put. told_there c.args.linked.now c.args.method c.args.place c.args.why c.args.out.now stop.sheet stop.place stop.why c.requires.stops c.in-Some.shape _ c.if-place.false c.if-why.false c.in-Some.ensures put) c.put_known.ensures
+    IfOk-weaker c.put_state.result _ _ (λ done put. told_there c.args.linked.now c.args.method c.args.place c.args.why c.args.out.now stop.sheet stop.place stop.why c.requires.stops c.in-Some.shape _ c.if-place.false c.if-why.false c.in-Some.ensures put) c.put_state.ensures
 
 pub returns-in-None : goal.returns-in-None
 returns-in-None c =
