@@ -3,6 +3,9 @@ use Rattle.std.proofs.Common.{◌≡◌, ◌∙◌, ◌+◌, ◌++◌, ℕ, List
 use Rattle.std.proofs.lemmas.List.{append-nil}
 use Rattle.aom_figures.specs.Text.{by_number}
 
+pub both_out : (old a b now new : List ℕ) → now ≡ old ++ a → new ≡ now ++ b → new ≡ old ++ (a ++ b)
+both_out old a b now new is put = put ∙ ap (λ (t : List ℕ). t ++ b) is ∙ append_assoc old a b
+
 pub no_part : (f : ℕ → List ℕ) (old : List ℕ) → old ≡ old ++ by_number f 0
 no_part f old = sym (append-nil old)
 

@@ -21,8 +21,11 @@ use Rattle.aom_shape.specs.declared.kind.Kind.TheVariants.{Unset, Word, Null, Ow
 
 -- ---- what is held
 
+abbrev pub class_words : ℕ → List ℕ
+class_words c = codes "an object of class " ++ decimal c
+
 abbrev pub thing_words : Thing → List ℕ
-thing_words (Object c) = codes "an object of class " ++ decimal c
+thing_words (Object c) = class_words c
 thing_words Message = codes "a message"
 
 -- an object that waits for its construct method is fresh
@@ -78,7 +81,7 @@ abbrev pub rest_words : Bool → List ℕ
 rest_words true = codes " all others unset"
 rest_words false = codes " all unset"
 
-abbrev pub registers_line : Shape → List ℕ
+unfoldable pub registers_line : Shape → List ℕ
 registers_line sh = codes "Known of registers:" ++ (register_parts sh ++ (rest_words (any_known sh) ++ 10 ∷ []))
 
 -- ---- fields
@@ -91,15 +94,21 @@ field_part f (Some t) x = held_words (lead_of f (codes " f") (codes "; f")) f (f
 unfoldable pub field_parts : Image → ℕ → Shape → List ℕ
 field_parts p m sh = by_number (λ f. field_part f (field_thing p (holder_of p m) f) (field sh f)) 8
 
+unfoldable pub field_line : Image → ℕ → Shape → List ℕ
+field_line p m sh = codes "Known of fields:" ++ (field_parts p m sh ++ 10 ∷ [])
+
 -- fields are declared from the first on; where none is there is no line
 abbrev pub fields_line : Image → ℕ → Shape → List ℕ
-fields_line p m sh = words_where (is_some (field_thing p (holder_of p m) 0)) (codes "Known of fields:" ++ (field_parts p m sh ++ 10 ∷ []))
+fields_line p m sh = words_where (is_some (field_thing p (holder_of p m) 0)) (field_line p m sh)
 
 -- ---- cleanup entries
 
+abbrev pub pushed_words : Entry → List ℕ
+pushed_words (An_object c a) = class_words c ++ age_words a
+pushed_words Operation = codes "an operation"
+
 abbrev pub entry_words : List ℕ → ℕ → Entry → List ℕ
-entry_words lead k (An_object c a) = held_words lead k (Own (Object c) a)
-entry_words lead k Operation = lead ++ (decimal k ++ codes " an operation")
+entry_words lead k e = (lead ++ decimal k) ++ (codes " " ++ pushed_words e)
 
 -- a cleanup entry, counted from the last one that was pushed, if it is there
 abbrev pub entry_part : ℕ → Option Entry → List ℕ
@@ -113,9 +122,12 @@ entry_parts sh = by_number (λ k. entry_part k (slice_get sh.entries k)) 16
 abbrev pub more_words : ℕ → List ℕ
 more_words height = words_where (nat_lt 16 height) (codes "; others below them")
 
+unfoldable pub entry_line : Shape → List ℕ
+entry_line sh = codes "Known of cleanup entries:" ++ (entry_parts sh ++ (more_words (length sh.entries) ++ 10 ∷ []))
+
 -- the method's own, if there are any
 abbrev pub entries_line : Shape → List ℕ
-entries_line sh = words_where (not (length sh.entries == 0)) (codes "Known of cleanup entries:" ++ (entry_parts sh ++ (more_words (length sh.entries) ++ 10 ∷ [])))
+entries_line sh = words_where (not (length sh.entries == 0)) (entry_line sh)
 
 -- ---- the request and the message
 
@@ -129,9 +141,12 @@ state_parts set =
     ++ (words_where (has set 16) (codes " being cancelled, open (o);")
     ++ words_where (has set 32) (codes " being cancelled, done (d);")))))
 
+unfoldable pub state_line : ℕ → List ℕ
+state_line set = codes "Known of request states:" ++ (state_parts set ++ (codes " no others" ++ 10 ∷ []))
+
 -- an object of a class that makes no requests has no line
 abbrev pub states_line : ℕ → List ℕ
-states_line set = words_where (not (set == 0)) (codes "Known of request states:" ++ (state_parts set ++ (codes " no others" ++ 10 ∷ [])))
+states_line set = words_where (not (set == 0)) (state_line set)
 
 abbrev pub delivery_line : Delivery → List ℕ
 delivery_line Here = []

@@ -1,14 +1,14 @@
 //! What is known where a method stands.
-ghost use Rattle.std.specs.Prelude.{◌≡◌, ◌++◌, ◌<◌, IsSome, OnOk, not};
+ghost use Rattle.std.specs.Prelude.{◌≡◌, ◌++◌, ◌||◌, ◌<◌, IsSome, OnOk, decimal, not};
 ghost use Rattle.aom_image.specs.Views.{has, method_at};
 ghost use Rattle.aom_shape.specs.Kinds.{field, register};
 ghost use Rattle.aom_shape.specs.Tests.{is_unset};
 ghost use Rattle.aom_shape.specs.Things.{field_thing, holder_of};
-ghost use Rattle.aom_explain.specs.Known.{age_words, any_known, delivery_line, entries_line, entry_part, entry_parts, entry_words, field_part, field_parts, fields_line, held_words, kind_words, known_text, lead_of, more_words, owned_words, register_part, register_parts, registers_line, rest_words, set_part, state_parts, states_line, thing_words, words_where};
+ghost use Rattle.aom_explain.specs.Known.{age_words, any_known, class_words, delivery_line, entries_line, entry_line, entry_part, entry_parts, entry_words, field_line, field_part, field_parts, fields_line, held_words, kind_words, known_text, lead_of, more_words, owned_words, pushed_words, register_part, register_parts, registers_line, rest_words, set_part, state_line, state_parts, states_line, thing_words, words_where};
 
 use aom_classes::Linked;
 use aom_figures::Writer;
-use aom_image::{FieldIndex, MethodNumber, States, Thing};
+use aom_image::{ClassNumber, FieldIndex, MethodNumber, States, Thing};
 use aom_shape::{Age, Delivery, Entry, Filling, Kind, Shape, field_thing};
 use bitflags::Flags;
 use std::alloc::AllocError;
@@ -16,11 +16,17 @@ use std::alloc::AllocError;
 /// How many registers and cleanup entries an instruction may name.
 const NAMED: u8 = 16;
 
+fn put_class(out: &mut Writer, class: ClassNumber) -> Result<(), AllocError>
+    ensures { OnOk result (out.new ≡ out.old ++ class_words class) }
+{
+    out.count(b"an object of class ", u64::from(class.number()))
+}
+
 fn put_thing(out: &mut Writer, thing: Thing) -> Result<(), AllocError>
     ensures { OnOk result (out.new ≡ out.old ++ thing_words thing) }
 {
     match thing {
-        Thing::Object(class) => out.count(b"an object of class ", u64::from(class.number())),
+        Thing::Object(class) => put_class(out, class),
         Thing::Message => out.words(b"a message"),
     }
 }
@@ -54,6 +60,12 @@ fn put_kind(out: &mut Writer, kind: Kind) -> Result<(), AllocError>
     }
 }
 
+fn put_number(out: &mut Writer, lead: &[u8], number: u8) -> Result<(), AllocError>
+    ensures { OnOk result (out.new ≡ out.old ++ (lead.now ++ decimal number)) }
+{
+    out.count(lead, u64::from(number))
+}
+
 /// Writes a place by its number, and what it holds.
 fn put_held(out: &mut Writer, lead: &[u8], number: u8, kind: Kind) -> Result<(), AllocError>
     ensures { OnOk result (out.new ≡ out.old ++ held_words lead.now number kind) }
@@ -80,13 +92,19 @@ fn is_set(kind: Kind) -> bool
     }
 }
 
+/// The same, or of one before.
+fn or_set(any: bool, kind: Kind) -> bool
+    ensures { result ≡ (any || not (is_unset kind)) }
+{
+    any || is_set(kind)
+}
+
 fn any_known(shape: &Shape<'_>) -> bool
     ensures { result ≡ any_known shape.now }
 {
     let mut any = false;
     for number in 0..NAMED {
-        let known = is_set(shape.kind_at(number as usize));
-        any = any || known;
+        any = or_set(any, shape.kind_at(number as usize));
     }
     any
 }
@@ -184,6 +202,20 @@ fn put_field_parts(
     Ok(())
 }
 
+fn put_field_line(
+    out: &mut Writer,
+    linked: &Linked,
+    method: MethodNumber,
+    shape: &Shape<'_>,
+) -> Result<(), AllocError>
+    requires { IsSome (method_at linked.now method) }
+    ensures { OnOk result (out.new ≡ out.old ++ field_line linked.now method shape.now) }
+{
+    out.words(b"Known of fields:")?;
+    put_field_parts(out, linked, method, shape)?;
+    out.words(b"\n")
+}
+
 /// Writes what the fields hold that the method works on, if there are any.
 fn put_fields(
     out: &mut Writer,
@@ -195,33 +227,34 @@ fn put_fields(
     ensures { OnOk result (out.new ≡ out.old ++ fields_line linked.now method shape.now) }
 {
     match field_thing(linked, method, FieldIndex::FIRST) {
-        Some(_) => {
-            out.words(b"Known of fields:")?;
-            put_field_parts(out, linked, method, shape)?;
-            out.words(b"\n")
-        }
+        Some(_) => put_field_line(out, linked, method, shape),
         None => Ok(()),
     }
 }
 
-fn put_pushed(
-    out: &mut Writer,
-    lead: &[u8],
-    number: u8,
-    entry: Entry,
-) -> Result<(), AllocError>
-    ensures { OnOk result (out.new ≡ out.old ++ entry_words lead.now number entry) }
+fn put_object(out: &mut Writer, class: ClassNumber, age: Age) -> Result<(), AllocError>
+    ensures { OnOk result (out.new ≡ out.old ++ (class_words class ++ age_words age)) }
+{
+    put_class(out, class)?;
+    put_age(out, age)
+}
+
+fn put_pushed(out: &mut Writer, entry: Entry) -> Result<(), AllocError>
+    ensures { OnOk result (out.new ≡ out.old ++ pushed_words entry) }
 {
     match entry {
-        Entry::Object(class, age) => {
-            let kind = Kind::Own(Thing::Object(class), age);
-            put_held(out, lead, number, kind)
-        }
-        Entry::Operation => {
-            out.count(lead, u64::from(number))?;
-            out.words(b" an operation")
-        }
+        Entry::Object(class, age) => put_object(out, class, age),
+        Entry::Operation => out.words(b"an operation"),
     }
+}
+
+/// Writes a cleanup entry by its number, and what it is.
+fn put_numbered(out: &mut Writer, lead: &[u8], number: u8, entry: Entry) -> Result<(), AllocError>
+    ensures { OnOk result (out.new ≡ out.old ++ entry_words lead.now number entry) }
+{
+    put_number(out, lead, number)?;
+    out.words(b" ")?;
+    put_pushed(out, entry)
 }
 
 /// Writes a cleanup entry, if it is there.
@@ -229,7 +262,7 @@ fn put_entry_part(out: &mut Writer, number: u8, entry: Option<Entry>) -> Result<
     ensures { OnOk result (out.new ≡ out.old ++ entry_part number entry) }
 {
     match entry {
-        Some(entry) => put_pushed(out, lead_of(number, b" c", b"; c"), number, entry),
+        Some(entry) => put_numbered(out, lead_of(number, b" c", b"; c"), number, entry),
         None => Ok(()),
     }
 }
@@ -254,6 +287,15 @@ fn put_more(out: &mut Writer, height: usize) -> Result<(), AllocError>
     }
 }
 
+fn put_entry_line(out: &mut Writer, shape: &Shape<'_>) -> Result<(), AllocError>
+    ensures { OnOk result (out.new ≡ out.old ++ entry_line shape.now) }
+{
+    out.words(b"Known of cleanup entries:")?;
+    put_entry_parts(out, shape)?;
+    put_more(out, shape.height())?;
+    out.words(b"\n")
+}
+
 /// Writes the method's own cleanup entries, if there are any.
 fn put_entries(out: &mut Writer, shape: &Shape<'_>) -> Result<(), AllocError>
     ensures { OnOk result (out.new ≡ out.old ++ entries_line shape.now) }
@@ -261,10 +303,7 @@ fn put_entries(out: &mut Writer, shape: &Shape<'_>) -> Result<(), AllocError>
     if shape.height() == 0 {
         return Ok(());
     }
-    out.words(b"Known of cleanup entries:")?;
-    put_entry_parts(out, shape)?;
-    put_more(out, shape.height())?;
-    out.words(b"\n")
+    put_entry_line(out, shape)
 }
 
 /// Writes words, where that state is in the set.
@@ -289,6 +328,14 @@ fn put_state_parts(out: &mut Writer, set: States) -> Result<(), AllocError>
     put_state(out, set, States::DONE, b" being cancelled, done (d);")
 }
 
+fn put_state_line(out: &mut Writer, set: States) -> Result<(), AllocError>
+    ensures { OnOk result (out.new ≡ out.old ++ state_line set.0) }
+{
+    out.words(b"Known of request states:")?;
+    put_state_parts(out, set)?;
+    out.words(b" no others\n")
+}
+
 /// Writes in which request states the object may be, if its class has any.
 fn put_states(out: &mut Writer, set: States) -> Result<(), AllocError>
     ensures { OnOk result (out.new ≡ out.old ++ states_line set.0) }
@@ -296,9 +343,7 @@ fn put_states(out: &mut Writer, set: States) -> Result<(), AllocError>
     if set.bits() == 0 {
         return Ok(());
     }
-    out.words(b"Known of request states:")?;
-    put_state_parts(out, set)?;
-    out.words(b" no others\n")
+    put_state_line(out, set)
 }
 
 fn put_delivery(out: &mut Writer, delivery: Delivery) -> Result<(), AllocError>

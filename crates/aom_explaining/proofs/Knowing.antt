@@ -1,6 +1,6 @@
 -- What is known at the place of a refusal, by where work on the method ends: there for that reason, elsewhere, or nowhere.
 use Rattle.std.proofs.Common.{ℕ, ◌≡◌, ◌∙◌, ◌++◌, ◌&&◌, ◌<◌, ◌≤◌, Bool, true, false, List, Option, Some, None, IsSome, Result, Ok, Err, ap, length, nat_lt, refl, slice_get, subst, sym}
-use Rattle.std.specs.Prelude.{IfSome, is_ok}
+use Rattle.std.specs.Prelude.{IfSome, not}
 use Rattle.std.proofs.lemmas.Bool.{le-ltb, lt-ltb}
 use Rattle.std.proofs.lemmas.Option.{none-some, same_Some, slice_get_past}
 use Rattle.aom_image.specs.Image.{Image}
@@ -16,11 +16,11 @@ use Rattle.aom_shape.proofs.Lists.{there}
 use Rattle.aom_shape.specs.Changes.{told}
 use Rattle.aom_shape.specs.Shape.{Shape}
 use Rattle.aom_shape.specs.Tables.{at}
-use Rattle.aom_shape.specs.declared.flow.Flow.{Flow}
+use Rattle.aom_shape.specs.declared.flow.Flow.{Flow as Changed}
 use Rattle.aom_shape.specs.declared.why.Why.{Why}
 use Rattle.aom_verify.specs.Arrivals.{StopsAt}
 use Rattle.aom_verify.specs.Shapes.{HasTyping, Shapes}
-use Rattle.aom_explaining.specs.Explained.{KnownThere, asks_no_more, passes, state_text}
+use Rattle.aom_explaining.specs.Explained.{KnownThere, is_need, state_text, tells_why, ways_differ}
 use Rattle.aom_explaining.specs.Explained.KnownThere.{elsewhere, known, unrefused}
 
 -- ---- what an instruction asks
@@ -33,41 +33,37 @@ pub has_no_instr : (p : Image) (m place : ℕ) (method : Method) → method_at p
 unfolding instr_in
 has_no_instr p m place method is past = rw is (slice_get_past method.code place past)
 
-and_false : (b : Bool) → b && false ≡ false
-and_false true = refl
-and_false false = refl
+module _ (p : Image) (m place : ℕ) (sh : Shape) (why : Why) where
+  pub too_many : 1024 ≤ length sh.entries → false ≡ ways_differ p m place sh why
+  unfolding ways_differ
+  too_many many = sym (ap (λ b. b && not (is_need p m place sh why (instr_at p m place))) (le-ltb (length sh.entries) 1024 many))
 
-module _ (p : Image) (m place : ℕ) (sh : Shape) where
-  pub too_many : 1024 ≤ length sh.entries → false ≡ passes p m place sh
-  unfolding passes
-  too_many many = sym (ap (λ b. b && asks_no_more p m place sh (instr_at p m place)) (le-ltb (length sh.entries) 1024 many))
+  -- with so few entries the instruction decides
+  decides : (o : Option Instr) → length sh.entries < 1024 → instr_at p m place ≡ o → not (is_need p m place sh why o) ≡ ways_differ p m place sh why
+  unfolding ways_differ
+  decides o few is =
+      ap (λ u. not (is_need p m place sh why u)) (sym is) ∙ sym (ap (λ b. b && not (is_need p m place sh why (instr_at p m place))) (lt-ltb (length sh.entries) 1024 few))
 
-  pub none_asks : instr_at p m place ≡ None → false ≡ passes p m place sh
-  unfolding passes
-  none_asks none = sym (ap (λ o. nat_lt (length sh.entries) 1024 && asks_no_more p m place sh o) none ∙ and_false (nat_lt (length sh.entries) 1024))
-
-  rule_asks : (o : Option Instr) (answer : Result Flow Why) → IsSome o → IfSome o (λ i. told sh.entries answer ≡ rule p m place sh i) → is_ok answer ≡ asks_no_more p m place sh o
-  rule_asks (Some i) answer some is = told_alike answer ∙ ap is_ok is
-    where
-      told_alike : (answer : Result Flow Why) → is_ok answer ≡ is_ok (told sh.entries answer)
-      told_alike (Ok flow) = refl
-      told_alike (Err why) = refl
+  pub none_needs : length sh.entries < 1024 → instr_at p m place ≡ None → true ≡ ways_differ p m place sh why
+  none_needs few none = decides None few none
 
   -- the rule answers as its clause says
-  pub rule_passes : length sh.entries < 1024 → (answer : Result Flow Why) → IsSome (instr_at p m place) → IfSome (instr_at p m place) (λ i. told sh.entries answer ≡ rule p m place sh i) → is_ok answer ≡ passes p m place sh
-  unfolding passes
-  rule_passes few answer some is =
-      rule_asks (instr_at p m place) answer some is ∙ sym (ap (λ b. b && asks_no_more p m place sh (instr_at p m place)) (lt-ltb (length sh.entries) 1024 few))
+  pub rule_differs : length sh.entries < 1024 → (answer : Result Changed Why) → IsSome (instr_at p m place) → IfSome (instr_at p m place) (λ i. told sh.entries answer ≡ rule p m place sh i)
+      → not (tells_why (told sh.entries answer) why) ≡ ways_differ p m place sh why
+  rule_differs few answer some is = answered (instr_at p m place) some is ∙ decides (instr_at p m place) few refl
+    where
+      answered : (o : Option Instr) → IsSome o → IfSome o (λ i. told sh.entries answer ≡ rule p m place sh i) → not (tells_why (told sh.entries answer) why) ≡ not (is_need p m place sh why o)
+      answered (Some i) some is = ap (λ r. not (tells_why r why)) is
 
 -- ---- where work ends
 
 module _ (p : Image) (m place : ℕ) (why : Why) (out : List ℕ) where
   module _ (s : Shapes) (other : ℕ) (reason : Why) (stop : StopsAt p m s other reason) where
     -- work ends there, and the state of the place is told
-    pub told_there : (sh : Shape) (new : List ℕ) → other ≡ place → reason ≡ why → Some sh ≡ at None s place → new ≡ out ++ state_text p m place sh → KnownThere p m place why out new
+    pub told_there : (sh : Shape) (new : List ℕ) → other ≡ place → reason ≡ why → Some sh ≡ at None s place → new ≡ out ++ state_text p m place sh why → KnownThere p m place why out new
     told_there sh new here so is put =
         let moved = subst (λ k. StopsAt p m s k why) here (subst (λ w. StopsAt p m s other w) so stop) in
-        known s moved (put ∙ ap (λ x. out ++ state_text p m place x) (same_Some sh moved.shape (is ∙ moved.there)))
+        known s moved (put ∙ ap (λ x. out ++ state_text p m place x why) (same_Some sh moved.shape (is ∙ moved.there)))
 
     -- the place has a state
     pub some_state : other ≡ place → None ≡ at None s place → ⊥

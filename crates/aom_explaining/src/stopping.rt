@@ -1,10 +1,9 @@
 //! What is known at the place of a refusal.
-ghost use Rattle.std.specs.Prelude.{◌≡◌, ◌++◌, IsSome, OnOk};
-ghost use Rattle.aom_explain.specs.Known.{known_text};
+ghost use Rattle.std.specs.Prelude.{◌≡◌, ◌==◌, ◌++◌, IsSome, OnOk};
 ghost use Rattle.aom_image.specs.Views.{method_at};
-ghost use Rattle.aom_shape.specs.Shape.{Shape};
+ghost use Rattle.aom_shape.specs.Whys.{why_number};
 ghost use Rattle.aom_verify.specs.Arrivals.{StopsAt};
-ghost use Rattle.aom_explaining.specs.Explained.{KnownThere, passes, state_text, ways_line};
+ghost use Rattle.aom_explaining.specs.Explained.{KnownThere, state_text, ways_differ, ways_line};
 
 use aom_classes::{LinkFault, Linked, link};
 use aom_explain::put_known;
@@ -18,20 +17,32 @@ use std::alloc::{AllocError, Global};
 /// A state in a sheet has fewer cleanup entries.
 const MOST_ENTRIES: usize = 1024;
 
-/// Whether the instruction at a place asks for no more than that state says.
-fn passes(linked: &Linked, method: MethodNumber, place: usize, shape: &Shape<'_>) -> bool
+fn is_same_why(told: Why, why: Why) -> bool
+    ensures { result ≡ (why_number told == why_number why) }
+{
+    told.number() == why.number()
+}
+
+/// Whether a state that is refused at a place has no meet with another: its instruction does not refuse it for that reason.
+fn ways_differ(
+    linked: &Linked,
+    method: MethodNumber,
+    place: usize,
+    shape: &Shape<'_>,
+    why: Why,
+) -> bool
     requires { IsSome (method_at linked.now method) }
-    ensures { result ≡ passes linked.now method place shape.now }
+    ensures { result ≡ ways_differ linked.now method place shape.now why }
 {
     if shape.height() >= MOST_ENTRIES {
         return false;
     }
     if linked.method(method).code.len() <= place {
-        return false;
+        return true;
     }
     match rule(linked, method, place, shape) {
         Ok(_) => true,
-        Err(_) => false,
+        Err(told) => !is_same_why(told, why),
     }
 }
 
@@ -46,19 +57,20 @@ fn put_ways(out: &mut Writer, differ: bool) -> Result<(), AllocError>
     }
 }
 
-/// Writes what a state says that is refused at a place.
+/// Writes what a state says that is refused at a place for that reason.
 fn put_state(
     out: &mut Writer,
     linked: &Linked,
     method: MethodNumber,
     place: usize,
     shape: &Shape<'_>,
+    why: Why,
 ) -> Result<(), AllocError>
     requires { IsSome (method_at linked.now method) }
-    ensures { OnOk result (out.new ≡ out.old ++ state_text linked.now method place shape.now) }
+    ensures { OnOk result (out.new ≡ out.old ++ state_text linked.now method place shape.now why) }
 {
     put_known(out, linked, method, shape)?;
-    put_ways(out, passes(linked, method, place, shape))
+    put_ways(out, ways_differ(linked, method, place, shape, why))
 }
 
 /// Writes what is known where work on a method ends, if it does so at that place and for that reason.
@@ -81,7 +93,7 @@ fn put_stop(
         return Ok(());
     }
     match stop.sheet.shape(place) {
-        Some(shape) => put_state(out, linked, method, place, &shape),
+        Some(shape) => put_state(out, linked, method, place, &shape, why),
         None => Ok(()),
     }
 }

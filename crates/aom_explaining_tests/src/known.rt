@@ -5,13 +5,7 @@ use std::process::Abort;
 use std::test::Fail;
 
 /// The image of a text is refused at that place, and what is said of it ends so.
-fn ends(
-    rt: &impl Abort,
-    alloc: Global,
-    text: &str,
-    line: &str,
-    known: &str,
-) -> Result<(), Fail> {
+fn ends(rt: &impl Abort, alloc: Global, text: &str, line: &str, known: &str) -> Result<(), Fail> {
     let image = assembled(alloc, text)?;
     let errors = checked(alloc, image.as_slice(), ROOM).errors;
     assert!(rt; errors.starts_with(line.as_bytes()));
@@ -26,7 +20,7 @@ fn registers_fields_and_entries(rt: HostRuntime) -> Result<(), Fail> {
 class A plain
 class B plain own A,A
 method d destruct of B;take r0 f0;delete r0;take r0 f1;delete r0;ret;end
-method u undo args word;ret;end
+method u undo;ret;end
 method m do of B leaves args word
 newl r1 A;push r1;pushop r0 u;take r2 f0;print r5;ret;end
 method main main;ret;end";
@@ -34,7 +28,7 @@ method main main;ret;end";
 At 4: print r5
 Known of registers: r0 a word; r1 null; r2 null, or owns an object of class 0; all others unset
 Known of fields: f0 null; f1 null, or owns an object of class 0
-Known of cleanup entries: c0 an operation; c1 owns an object of class 0
+Known of cleanup entries: c0 an operation; c1 an object of class 0
 ";
     ends(&rt, rt.alloc(), text, "verify 2 4 1\n", known)
 }

@@ -14,7 +14,7 @@ loop-number-init c = no_part (part c.args.shape.now) c.args.out.now
 pub loop-number-preserved : goal.loop-number-preserved
 loop-number-preserved c =
     one_part_more (part c.args.shape.now) c.loop-number.number c.args.out.now c.loop-number.out c.put_entry_part.new.out c.loop-number.invariant
-      (c.in_ok-put_entry_part.ensures ∙ ap (λ e. c.loop-number.out ++ entry_part c.loop-number.number e) c.entry.ensures)
+    (c.in_ok-put_entry_part.ensures ∙ ap (λ e. c.loop-number.out ++ entry_part c.loop-number.number e) c.entry.ensures)
 
 pub returns : goal.returns
 unfolding entry_parts

@@ -23,9 +23,9 @@ loop-number-init c = no_part (part c.args.linked.now c.args.method c.args.shape.
 
 pub loop-number-preserved : goal.loop-number-preserved
 loop-number-preserved c =
-    let here = part_here c.args.linked.now c.args.method c.args.shape.now c.field_at.result c.loop-number.number c.field_thing.result c.field.result c.field_at.ensures c.field_thing.ensures c.field.ensures in
+    let here = part_here c.args.linked.now c.args.method c.args.shape.now c.field_at-field.result c.loop-number.number c.field_thing-declared.result c.field.result c.field_at-field.ensures c.field_thing-declared.ensures c.field.ensures in
     one_part_more (part c.args.linked.now c.args.method c.args.shape.now) c.loop-number.number c.args.out.now c.loop-number.out c.put_field.new.out c.loop-number.invariant
-      (c.in_ok-put_field.ensures ∙ ap (λ t. c.loop-number.out ++ t) here)
+    (c.in_ok-put_field.ensures ∙ ap (λ t. c.loop-number.out ++ t) here)
 
 pub returns : goal.returns
 unfolding field_parts

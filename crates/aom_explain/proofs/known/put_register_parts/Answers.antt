@@ -15,7 +15,7 @@ loop-number-init c = no_part (part c.args.shape.now) c.args.out.now
 pub loop-number-preserved : goal.loop-number-preserved
 loop-number-preserved c =
     one_part_more (part c.args.shape.now) c.loop-number.number c.args.out.now c.loop-number.out c.put_register.new.out c.loop-number.invariant
-      (c.in_ok-put_register.ensures ∙ ap (λ k. c.loop-number.out ++ register_part c.loop-number.number k) c.kind_at.ensures)
+    (c.in_ok-put_register.ensures ∙ ap (λ k. c.loop-number.out ++ register_part c.loop-number.number k) c.kind_at.ensures)
 
 pub returns : goal.returns
 unfolding register_parts
