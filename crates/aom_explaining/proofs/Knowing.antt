@@ -1,7 +1,7 @@
 -- What is known at the place of a refusal, by where work on the method ends: there for that reason, elsewhere, or nowhere.
-use Rattle.std.proofs.Common.{ℕ, ◌≡◌, ◌∙◌, ◌++◌, ◌&&◌, ◌<◌, ◌≤◌, Bool, true, false, List, Option, Some, None, IsSome, Result, Ok, Err, ap, length, nat_lt, refl, slice_get, subst, sym}
+use Rattle.std.proofs.Common.{ℕ, ◌≡◌, ◌∙◌, ◌++◌, ◌&&◌, ◌<◌, ◌≤◌, Bool, true, false, List, [], ◌∷◌, Option, Some, None, IsSome, Result, Ok, Err, ap, length, nat_lt, refl, slice_get, subst, sym}
 use Rattle.std.specs.Prelude.{IfSome, not}
-use Rattle.std.proofs.lemmas.Bool.{le-ltb, lt-ltb}
+use Rattle.std.proofs.lemmas.Bool.{false≢true, le-ltb, lt-ltb}
 use Rattle.std.proofs.lemmas.Option.{none-some, same_Some, slice_get_past}
 use Rattle.aom_image.specs.Image.{Image}
 use Rattle.aom_image.specs.Views.{instr_at, instr_in, method_at}
@@ -17,7 +17,9 @@ use Rattle.aom_shape.specs.Changes.{told}
 use Rattle.aom_shape.specs.Shape.{Shape}
 use Rattle.aom_shape.specs.Tables.{at}
 use Rattle.aom_shape.specs.declared.flow.Flow.{Flow as Changed}
+use Rattle.aom_shape.specs.Whys.{why_number}
 use Rattle.aom_shape.specs.declared.why.Why.{Why}
+use Rattle.aom_shape.specs.declared.why.Why.TheVariants.{RegisterKind, OwnedAtLeave, OwnedAtReturn, CleanupAtReturn, PopEmpty, LeaveNotAllowed, FieldNotNull, FieldsLeft, NotFresh, StillFresh, NotIdle, NotIssued, IssuedAtLeave, IssuedAtReturn, StillActive, NotCancelled, MessageAtLeave, MessageAtReturn, NotAdded, EntryState, QuietBroken}
 use Rattle.aom_verify.specs.Arrivals.{StopsAt}
 use Rattle.aom_verify.specs.Shapes.{HasTyping, Shapes}
 use Rattle.aom_explaining.specs.Explained.{KnownThere, is_need, state_text, tells_why, ways_differ}
@@ -53,7 +55,43 @@ module _ (p : Image) (m place : ℕ) (sh : Shape) (why : Why) where
   rule_differs few answer some is = answered (instr_at p m place) some is ∙ decides (instr_at p m place) few refl
     where
       answered : (o : Option Instr) → IsSome o → IfSome o (λ i. told sh.entries answer ≡ rule p m place sh i) → not (tells_why (told sh.entries answer) why) ≡ not (is_need p m place sh why o)
+      answered None some is = absurd (false≢true some)
       answered (Some i) some is = ap (λ r. not (tells_why r why)) is
+
+-- ---- reasons by their numbers
+
+-- each reason behind its number, from 1 on
+whys : List Why
+whys =
+    RegisterKind ∷ RegisterKind ∷ OwnedAtLeave ∷ OwnedAtReturn ∷ CleanupAtReturn ∷ PopEmpty ∷ LeaveNotAllowed ∷ FieldNotNull ∷ FieldsLeft ∷ NotFresh ∷ StillFresh ∷ NotIdle ∷ NotIssued
+    ∷ IssuedAtLeave ∷ IssuedAtReturn ∷ StillActive ∷ NotCancelled ∷ MessageAtLeave ∷ MessageAtReturn ∷ NotAdded ∷ EntryState ∷ QuietBroken ∷ []
+
+numbered : (why : Why) → slice_get whys (why_number why) ≡ Some why
+unfolding whys
+numbered RegisterKind = refl
+numbered OwnedAtLeave = refl
+numbered OwnedAtReturn = refl
+numbered CleanupAtReturn = refl
+numbered PopEmpty = refl
+numbered LeaveNotAllowed = refl
+numbered FieldNotNull = refl
+numbered FieldsLeft = refl
+numbered NotFresh = refl
+numbered StillFresh = refl
+numbered NotIdle = refl
+numbered NotIssued = refl
+numbered IssuedAtLeave = refl
+numbered IssuedAtReturn = refl
+numbered StillActive = refl
+numbered NotCancelled = refl
+numbered MessageAtLeave = refl
+numbered MessageAtReturn = refl
+numbered NotAdded = refl
+numbered EntryState = refl
+numbered QuietBroken = refl
+
+pub same_why : (a b : Why) → why_number a ≡ why_number b → a ≡ b
+same_why a b e = same_Some a b (sym (numbered a) ∙ ap (slice_get whys) e ∙ numbered b)
 
 -- ---- where work ends
 

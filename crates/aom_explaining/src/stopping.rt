@@ -1,5 +1,6 @@
 //! What is known at the place of a refusal.
 ghost use Rattle.std.specs.Prelude.{◌≡◌, ◌==◌, ◌++◌, IsSome, OnOk};
+ghost use Rattle.aom_classes.specs.declared.fault.LinkFault.TheVariants.{OutOfMemory};
 ghost use Rattle.aom_image.specs.Views.{method_at};
 ghost use Rattle.aom_shape.specs.Whys.{why_number};
 ghost use Rattle.aom_verify.specs.Arrivals.{StopsAt};
@@ -89,13 +90,13 @@ fn put_stop(
     if stop.place != place {
         return Ok(());
     }
-    if stop.why != why {
-        return Ok(());
+    if is_same_why(stop.why, why) {
+        return match stop.sheet.shape(place) {
+            Some(shape) => put_state(out, linked, method, place, &shape, why),
+            None => Ok(()),
+        };
     }
-    match stop.sheet.shape(place) {
-        Some(shape) => put_state(out, linked, method, place, &shape, why),
-        None => Ok(()),
-    }
+    Ok(())
 }
 
 /// Writes what is known at a place of a method where it is refused for that reason.
@@ -118,6 +119,15 @@ fn put_known_in(
     }
 }
 
+fn not_linked(fault: LinkFault) -> Result<(), AllocError>
+    ensures { OnOk result (fault ≡ OutOfMemory → ⊥) }
+{
+    match fault {
+        LinkFault::OutOfMemory => Err(AllocError),
+        _ => Ok(()),
+    }
+}
+
 /// The same in an image.
 pub fn put_known_at(
     alloc: Global,
@@ -131,7 +141,6 @@ pub fn put_known_at(
 {
     match link(alloc, image) {
         Ok(linked) => put_known_in(alloc, out, &linked, method, place, why),
-        Err(LinkFault::OutOfMemory) => Err(AllocError),
-        Err(_) => Ok(()),
+        Err(fault) => not_linked(fault),
     }
 }
