@@ -1,22 +1,32 @@
 //! What is known where a method stands.
-ghost use Rattle.std.specs.Prelude.{◌≡◌, ◌++◌, ◌<◌, IsSome, OnOk};
+ghost use Rattle.std.specs.Prelude.{◌≡◌, ◌++◌, ◌||◌, ◌<◌, IsSome, OnOk, decimal, not};
 ghost use Rattle.aom_image.specs.Views.{has, method_at};
 ghost use Rattle.aom_shape.specs.Kinds.{field, register};
+ghost use Rattle.aom_shape.specs.Tests.{is_unset};
 ghost use Rattle.aom_shape.specs.Things.{field_thing, holder_of};
-ghost use Rattle.aom_explain.specs.Known.{age_words, delivery_line, entries_line, entry_part, entry_parts, field_part, field_parts, fields_line, held_part, kind_words, known_text, owned_words, register_part, registers_line, state_part, states_line, states_words, thing_words};
+ghost use Rattle.aom_explain.specs.Known.{age_words, any_known, class_words, delivery_line, entries_line, entry_line, entry_part, entry_parts, entry_words, field_line, field_part, field_parts, fields_line, held_words, kind_words, known_text, lead_of, more_words, owned_words, pushed_words, register_part, register_parts, registers_line, rest_words, set_part, state_line, state_parts, states_line, thing_words, words_where};
 
 use aom_classes::Linked;
 use aom_figures::Writer;
-use aom_image::{FieldIndex, MethodNumber, States, Thing};
+use aom_image::{ClassNumber, FieldIndex, MethodNumber, States, Thing};
 use aom_shape::{Age, Delivery, Entry, Filling, Kind, Shape, field_thing};
 use bitflags::Flags;
 use std::alloc::AllocError;
+
+/// How many registers and cleanup entries an instruction may name.
+const NAMED: u8 = 16;
+
+fn put_class(out: &mut Writer, class: ClassNumber) -> Result<(), AllocError>
+    ensures { OnOk result (out.new ≡ out.old ++ class_words class) }
+{
+    out.count(b"an object of class ", u64::from(class.number()))
+}
 
 fn put_thing(out: &mut Writer, thing: Thing) -> Result<(), AllocError>
     ensures { OnOk result (out.new ≡ out.old ++ thing_words thing) }
 {
     match thing {
-        Thing::Object(class) => out.count(b"class ", u64::from(class.number())),
+        Thing::Object(class) => put_class(out, class),
         Thing::Message => out.words(b"a message"),
     }
 }
@@ -42,7 +52,7 @@ fn put_kind(out: &mut Writer, kind: Kind) -> Result<(), AllocError>
     ensures { OnOk result (out.new ≡ out.old ++ kind_words kind) }
 {
     match kind {
-        Kind::Unset => out.words(b"unknown"),
+        Kind::Unset => out.words(b"unset"),
         Kind::Word => out.words(b"a word"),
         Kind::Null => out.words(b"null"),
         Kind::Own(thing, age) => put_owned(out, b"owns ", thing, age),
@@ -50,13 +60,59 @@ fn put_kind(out: &mut Writer, kind: Kind) -> Result<(), AllocError>
     }
 }
 
+fn put_number(out: &mut Writer, lead: &[u8], number: u8) -> Result<(), AllocError>
+    ensures { OnOk result (out.new ≡ out.old ++ (lead.now ++ decimal number)) }
+{
+    out.count(lead, u64::from(number))
+}
+
 /// Writes a place by its number, and what it holds.
 fn put_held(out: &mut Writer, lead: &[u8], number: u8, kind: Kind) -> Result<(), AllocError>
-    ensures { OnOk result (out.new ≡ out.old ++ held_part lead.now number kind) }
+    ensures { OnOk result (out.new ≡ out.old ++ held_words lead.now number kind) }
 {
     out.count(lead, u64::from(number))?;
     out.words(b" ")?;
-    put_kind(out, kind)?;
+    put_kind(out, kind)
+}
+
+/// How the first place of its line begins, and how one behind others.
+fn lead_of<'a>(number: u8, first: &'a [u8], later: &'a [u8]) -> &'a [u8]
+    ensures { result.now ≡ lead_of number first.now later.now }
+{
+    if number == 0 { first } else { later }
+}
+
+/// Something is known of a register of that kind.
+fn is_set(kind: Kind) -> bool
+    ensures { result ≡ not (is_unset kind) }
+{
+    match kind {
+        Kind::Unset => false,
+        Kind::Word | Kind::Null | Kind::Own(_, _) | Kind::Maybe(_, _) => true,
+    }
+}
+
+/// The same, or of one before.
+fn or_set(any: bool, kind: Kind) -> bool
+    ensures { result ≡ (any || not (is_unset kind)) }
+{
+    any || is_set(kind)
+}
+
+fn any_known(shape: &Shape<'_>) -> bool
+    ensures { result ≡ any_known shape.now }
+{
+    let mut any = false;
+    for number in 0..NAMED {
+        any = or_set(any, shape.kind_at(number as usize));
+    }
+    any
+}
+
+fn put_set(out: &mut Writer, number: u8, kind: Kind) -> Result<(), AllocError>
+    ensures { OnOk result (out.new ≡ out.old ++ set_part number kind) }
+{
+    put_held(out, b" r", number, kind)?;
     out.words(b";")
 }
 
@@ -66,9 +122,27 @@ fn put_register(out: &mut Writer, number: u8, kind: Kind) -> Result<(), AllocErr
 {
     match kind {
         Kind::Unset => Ok(()),
-        Kind::Word | Kind::Null | Kind::Own(_, _) | Kind::Maybe(_, _) => {
-            put_held(out, b" r", number, kind)
-        }
+        Kind::Word | Kind::Null | Kind::Own(_, _) | Kind::Maybe(_, _) => put_set(out, number, kind),
+    }
+}
+
+fn put_register_parts(out: &mut Writer, shape: &Shape<'_>) -> Result<(), AllocError>
+    ensures { OnOk result (out.new ≡ out.old ++ register_parts shape.now) }
+{
+    for number in 0..NAMED {
+        put_register(out, number, shape.kind_at(number as usize))?;
+    }
+    Ok(())
+}
+
+/// Writes what is known of those that have no part, some others having one or none.
+fn put_rest(out: &mut Writer, any: bool) -> Result<(), AllocError>
+    ensures { OnOk result (out.new ≡ out.old ++ rest_words any) }
+{
+    if any {
+        out.words(b" all others unset")
+    } else {
+        out.words(b" all unset")
     }
 }
 
@@ -76,10 +150,9 @@ fn put_registers(out: &mut Writer, shape: &Shape<'_>) -> Result<(), AllocError>
     ensures { OnOk result (out.new ≡ out.old ++ registers_line shape.now) }
 {
     out.words(b"Known of registers:")?;
-    for number in 0..16u8 {
-        put_register(out, number, shape.kind_at(number as usize))?;
-    }
-    out.words(b" nothing of the others\n")
+    put_register_parts(out, shape)?;
+    put_rest(out, any_known(shape))?;
+    out.words(b"\n")
 }
 
 /// Writes what a field holds, if it is declared.
@@ -92,7 +165,15 @@ fn put_field(
     ensures { OnOk result (out.new ≡ out.old ++ field_part number declared filling) }
 {
     match declared {
-        Some(_) => put_held(out, b" f", number.number(), filling.kind(declared)),
+        Some(_) => {
+            let number = number.number();
+            put_held(
+                out,
+                lead_of(number, b" f", b"; f"),
+                number,
+                filling.kind(declared),
+            )
+        }
         None => Ok(()),
     }
 }
@@ -113,13 +194,26 @@ fn put_field_parts(
     requires { IsSome (method_at linked.now method) }
     ensures { OnOk result (out.new ≡ out.old ++ field_parts linked.now method shape.now) }
 {
-    out.words(b"Known of fields:")?;
     for number in 0..8u8 {
         let field = field_at(number);
         let declared = field_thing(linked, method, field);
         put_field(out, field, declared, shape.field(field))?;
     }
-    out.words(b" no others\n")
+    Ok(())
+}
+
+fn put_field_line(
+    out: &mut Writer,
+    linked: &Linked,
+    method: MethodNumber,
+    shape: &Shape<'_>,
+) -> Result<(), AllocError>
+    requires { IsSome (method_at linked.now method) }
+    ensures { OnOk result (out.new ≡ out.old ++ field_line linked.now method shape.now) }
+{
+    out.words(b"Known of fields:")?;
+    put_field_parts(out, linked, method, shape)?;
+    out.words(b"\n")
 }
 
 /// Writes what the fields hold that the method works on, if there are any.
@@ -133,36 +227,73 @@ fn put_fields(
     ensures { OnOk result (out.new ≡ out.old ++ fields_line linked.now method shape.now) }
 {
     match field_thing(linked, method, FieldIndex::FIRST) {
-        Some(_) => put_field_parts(out, linked, method, shape),
+        Some(_) => put_field_line(out, linked, method, shape),
         None => Ok(()),
     }
 }
 
+fn put_object(out: &mut Writer, class: ClassNumber, age: Age) -> Result<(), AllocError>
+    ensures { OnOk result (out.new ≡ out.old ++ (class_words class ++ age_words age)) }
+{
+    put_class(out, class)?;
+    put_age(out, age)
+}
+
+fn put_pushed(out: &mut Writer, entry: Entry) -> Result<(), AllocError>
+    ensures { OnOk result (out.new ≡ out.old ++ pushed_words entry) }
+{
+    match entry {
+        Entry::Object(class, age) => put_object(out, class, age),
+        Entry::Operation => out.words(b"an operation"),
+    }
+}
+
+/// Writes a cleanup entry by its number, and what it is.
+fn put_numbered(out: &mut Writer, lead: &[u8], number: u8, entry: Entry) -> Result<(), AllocError>
+    ensures { OnOk result (out.new ≡ out.old ++ entry_words lead.now number entry) }
+{
+    put_number(out, lead, number)?;
+    out.words(b" ")?;
+    put_pushed(out, entry)
+}
+
 /// Writes a cleanup entry, if it is there.
-fn put_pushed(out: &mut Writer, number: u8, entry: Option<Entry>) -> Result<(), AllocError>
+fn put_entry_part(out: &mut Writer, number: u8, entry: Option<Entry>) -> Result<(), AllocError>
     ensures { OnOk result (out.new ≡ out.old ++ entry_part number entry) }
 {
     match entry {
+        Some(entry) => put_numbered(out, lead_of(number, b" c", b"; c"), number, entry),
         None => Ok(()),
-        Some(Entry::Object(class, age)) => {
-            let kind = Kind::Own(Thing::Object(class), age);
-            put_held(out, b" c", number, kind)
-        }
-        Some(Entry::Operation) => {
-            out.count(b" c", u64::from(number))?;
-            out.words(b" an operation;")
-        }
     }
 }
 
 fn put_entry_parts(out: &mut Writer, shape: &Shape<'_>) -> Result<(), AllocError>
     ensures { OnOk result (out.new ≡ out.old ++ entry_parts shape.now) }
 {
-    out.words(b"Known of cleanup entries:")?;
-    for number in 0..16u8 {
-        put_pushed(out, number, shape.entry(number as usize))?;
+    for number in 0..NAMED {
+        put_entry_part(out, number, shape.entry(number as usize))?;
     }
-    out.words(b" no others that may be named\n")
+    Ok(())
+}
+
+/// Writes that there are more than are named, where that is so.
+fn put_more(out: &mut Writer, height: usize) -> Result<(), AllocError>
+    ensures { OnOk result (out.new ≡ out.old ++ more_words height) }
+{
+    if height > 16 {
+        out.words(b"; others below them")
+    } else {
+        Ok(())
+    }
+}
+
+fn put_entry_line(out: &mut Writer, shape: &Shape<'_>) -> Result<(), AllocError>
+    ensures { OnOk result (out.new ≡ out.old ++ entry_line shape.now) }
+{
+    out.words(b"Known of cleanup entries:")?;
+    put_entry_parts(out, shape)?;
+    put_more(out, shape.height())?;
+    out.words(b"\n")
 }
 
 /// Writes the method's own cleanup entries, if there are any.
@@ -172,12 +303,12 @@ fn put_entries(out: &mut Writer, shape: &Shape<'_>) -> Result<(), AllocError>
     if shape.height() == 0 {
         return Ok(());
     }
-    put_entry_parts(out, shape)
+    put_entry_line(out, shape)
 }
 
 /// Writes words, where that state is in the set.
 fn put_state(out: &mut Writer, set: States, state: States, words: &[u8]) -> Result<(), AllocError>
-    ensures { OnOk result (out.new ≡ out.old ++ state_part (has set.0 state.0) words.now) }
+    ensures { OnOk result (out.new ≡ out.old ++ words_where (has set.0 state.0) words.now) }
 {
     if set.contains(state) {
         out.words(words)
@@ -186,15 +317,23 @@ fn put_state(out: &mut Writer, set: States, state: States, words: &[u8]) -> Resu
     }
 }
 
-fn put_state_words(out: &mut Writer, set: States) -> Result<(), AllocError>
-    ensures { OnOk result (out.new ≡ out.old ++ states_words set.0) }
+fn put_state_parts(out: &mut Writer, set: States) -> Result<(), AllocError>
+    ensures { OnOk result (out.new ≡ out.old ++ state_parts set.0) }
 {
-    put_state(out, set, States::UNLISTED, b" not enlisted;")?;
-    put_state(out, set, States::IDLE, b" idle;")?;
-    put_state(out, set, States::ISSUED, b" issued;")?;
-    put_state(out, set, States::ACTIVE, b" active;")?;
-    put_state(out, set, States::OPEN, b" in a cancel, its request open;")?;
-    put_state(out, set, States::DONE, b" in a cancel, its request done;")
+    put_state(out, set, States::UNLISTED, b" not enlisted (u);")?;
+    put_state(out, set, States::IDLE, b" idle (i);")?;
+    put_state(out, set, States::ISSUED, b" issued (s);")?;
+    put_state(out, set, States::ACTIVE, b" active (a);")?;
+    put_state(out, set, States::OPEN, b" being cancelled, open (o);")?;
+    put_state(out, set, States::DONE, b" being cancelled, done (d);")
+}
+
+fn put_state_line(out: &mut Writer, set: States) -> Result<(), AllocError>
+    ensures { OnOk result (out.new ≡ out.old ++ state_line set.0) }
+{
+    out.words(b"Known of request states:")?;
+    put_state_parts(out, set)?;
+    out.words(b" no others\n")
 }
 
 /// Writes in which request states the object may be, if its class has any.
@@ -204,9 +343,7 @@ fn put_states(out: &mut Writer, set: States) -> Result<(), AllocError>
     if set.bits() == 0 {
         return Ok(());
     }
-    out.words(b"Its object may be:")?;
-    put_state_words(out, set)?;
-    out.words(b" nothing else\n")
+    put_state_line(out, set)
 }
 
 fn put_delivery(out: &mut Writer, delivery: Delivery) -> Result<(), AllocError>
@@ -214,7 +351,7 @@ fn put_delivery(out: &mut Writer, delivery: Delivery) -> Result<(), AllocError>
 {
     match delivery {
         Delivery::Here => Ok(()),
-        Delivery::Gone => out.words(b"Its message is taken\n"),
+        Delivery::Gone => out.words(b"Known of the message: taken\n"),
     }
 }
 

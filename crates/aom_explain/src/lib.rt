@@ -3,9 +3,9 @@
 //!
 //! `load_entry` and its like answer just the texts of `specs/`, which docs/reasons.md tells too, word by word. `put_entry` writes
 //! an entry, and `put_line`, `put_method` and `put_compared` what `specs/Places.antt` and `specs/Compared.antt` say of a line of a
-//! text, of an instruction and of a budget. `put_known` writes what is known where a method stands (`specs/Known.antt`). A method and an instruction are written as in a listing; `put_source` and
-//! `put_declared` write in their place the statements of a text, as `specs/Sources.antt` says. Nothing here knows which command
-//! was refused, nor where a text goes.
+//! text, of an instruction and of a budget. A method and an instruction are written as in a listing; `put_source` and
+//! `put_declared` write in their place the statements of a text, as `specs/Sources.antt` says. `put_known` writes what is known
+//! where a method stands (`specs/Known.antt`). Nothing here knows which command was refused, nor where a text goes.
 #![tactic(auto)]
 
 mod asm;

@@ -1,28 +1,107 @@
 -- What is known at the place of a refusal, by where work on the method ends: there for that reason, elsewhere, or nowhere.
-use Rattle.std.proofs.Common.{ℕ, ◌≡◌, ◌∙◌, ◌++◌, List, Option, Some, None, IsSome, ap, refl, subst, sym}
-use Rattle.std.proofs.lemmas.Option.{none-some, same_Some}
+use Rattle.std.proofs.Common.{ℕ, ◌≡◌, ◌∙◌, ◌++◌, ◌&&◌, ◌<◌, ◌≤◌, Bool, true, false, List, [], ◌∷◌, Option, Some, None, IsSome, Result, Ok, Err, ap, length, nat_lt, refl, slice_get, subst, sym}
+use Rattle.std.specs.Prelude.{IfSome, not}
+use Rattle.std.proofs.lemmas.Bool.{false≢true, le-ltb, lt-ltb}
+use Rattle.std.proofs.lemmas.Option.{none-some, same_Some, slice_get_past}
 use Rattle.aom_image.specs.Image.{Image}
-use Rattle.aom_image.specs.Views.{method_at}
+use Rattle.aom_image.specs.Views.{instr_at, instr_in, method_at}
+use Rattle.aom_image.specs.declared.method.Method.{Method}
+use Rattle.aom_instructions.specs.declared.instr.Instr.{Instr}
 use Rattle.aom_classes.specs.Faults.{Fails, RefusesOrWants}
 use Rattle.aom_classes.specs.Linked.{IsLinked}
 use Rattle.aom_classes.specs.declared.fault.LinkFault.{LinkFault}
 use Rattle.aom_classes.specs.declared.fault.LinkFault.TheVariants.{ClassOrder, CallOrder, MissingRole, DoubleRole, RoleShape, BadJump, BadLoop, NoMain, OutOfMemory}
+use Rattle.aom_rules.specs.Rules.{rule}
+use Rattle.aom_shape.proofs.Lists.{there}
+use Rattle.aom_shape.specs.Changes.{told}
 use Rattle.aom_shape.specs.Shape.{Shape}
 use Rattle.aom_shape.specs.Tables.{at}
+use Rattle.aom_shape.specs.declared.flow.Flow.{Flow as Changed}
+use Rattle.aom_shape.specs.Whys.{why_number}
 use Rattle.aom_shape.specs.declared.why.Why.{Why}
+use Rattle.aom_shape.specs.declared.why.Why.TheVariants.{RegisterKind, OwnedAtLeave, OwnedAtReturn, CleanupAtReturn, PopEmpty, LeaveNotAllowed, FieldNotNull, FieldsLeft, NotFresh, StillFresh, NotIdle, NotIssued, IssuedAtLeave, IssuedAtReturn, StillActive, NotCancelled, MessageAtLeave, MessageAtReturn, NotAdded, EntryState, QuietBroken}
 use Rattle.aom_verify.specs.Arrivals.{StopsAt}
 use Rattle.aom_verify.specs.Shapes.{HasTyping, Shapes}
-use Rattle.aom_explain.specs.Known.{known_text}
-use Rattle.aom_explaining.specs.Explained.{KnownThere}
+use Rattle.aom_explaining.specs.Explained.{KnownThere, is_need, state_text, tells_why, ways_differ}
 use Rattle.aom_explaining.specs.Explained.KnownThere.{elsewhere, known, unrefused}
+
+-- ---- what an instruction asks
+
+pub has_instr : (p : Image) (m place : ℕ) (method : Method) → method_at p m ≡ Some method → place < length method.code → IsSome (instr_at p m place)
+unfolding instr_in
+has_instr p m place method is within = rw is (there method.code place within)
+
+pub has_no_instr : (p : Image) (m place : ℕ) (method : Method) → method_at p m ≡ Some method → length method.code ≤ place → instr_at p m place ≡ None
+unfolding instr_in
+has_no_instr p m place method is past = rw is (slice_get_past method.code place past)
+
+module _ (p : Image) (m place : ℕ) (sh : Shape) (why : Why) where
+  pub too_many : 1024 ≤ length sh.entries → false ≡ ways_differ p m place sh why
+  unfolding ways_differ
+  too_many many = sym (ap (λ b. b && not (is_need p m place sh why (instr_at p m place))) (le-ltb (length sh.entries) 1024 many))
+
+  -- with so few entries the instruction decides
+  decides : (o : Option Instr) → length sh.entries < 1024 → instr_at p m place ≡ o → not (is_need p m place sh why o) ≡ ways_differ p m place sh why
+  unfolding ways_differ
+  decides o few is =
+      ap (λ u. not (is_need p m place sh why u)) (sym is) ∙ sym (ap (λ b. b && not (is_need p m place sh why (instr_at p m place))) (lt-ltb (length sh.entries) 1024 few))
+
+  pub none_needs : length sh.entries < 1024 → instr_at p m place ≡ None → true ≡ ways_differ p m place sh why
+  none_needs few none = decides None few none
+
+  -- the rule answers as its clause says
+  pub rule_differs : length sh.entries < 1024 → (answer : Result Changed Why) → IsSome (instr_at p m place) → IfSome (instr_at p m place) (λ i. told sh.entries answer ≡ rule p m place sh i)
+      → not (tells_why (told sh.entries answer) why) ≡ ways_differ p m place sh why
+  rule_differs few answer some is = answered (instr_at p m place) some is ∙ decides (instr_at p m place) few refl
+    where
+      answered : (o : Option Instr) → IsSome o → IfSome o (λ i. told sh.entries answer ≡ rule p m place sh i) → not (tells_why (told sh.entries answer) why) ≡ not (is_need p m place sh why o)
+      answered None some is = absurd (false≢true some)
+      answered (Some i) some is = ap (λ r. not (tells_why r why)) is
+
+-- ---- reasons by their numbers
+
+-- each reason behind its number, from 1 on
+whys : List Why
+whys =
+    RegisterKind ∷ RegisterKind ∷ OwnedAtLeave ∷ OwnedAtReturn ∷ CleanupAtReturn ∷ PopEmpty ∷ LeaveNotAllowed ∷ FieldNotNull ∷ FieldsLeft ∷ NotFresh ∷ StillFresh ∷ NotIdle ∷ NotIssued
+    ∷ IssuedAtLeave ∷ IssuedAtReturn ∷ StillActive ∷ NotCancelled ∷ MessageAtLeave ∷ MessageAtReturn ∷ NotAdded ∷ EntryState ∷ QuietBroken ∷ []
+
+numbered : (why : Why) → slice_get whys (why_number why) ≡ Some why
+unfolding whys
+numbered RegisterKind = refl
+numbered OwnedAtLeave = refl
+numbered OwnedAtReturn = refl
+numbered CleanupAtReturn = refl
+numbered PopEmpty = refl
+numbered LeaveNotAllowed = refl
+numbered FieldNotNull = refl
+numbered FieldsLeft = refl
+numbered NotFresh = refl
+numbered StillFresh = refl
+numbered NotIdle = refl
+numbered NotIssued = refl
+numbered IssuedAtLeave = refl
+numbered IssuedAtReturn = refl
+numbered StillActive = refl
+numbered NotCancelled = refl
+numbered MessageAtLeave = refl
+numbered MessageAtReturn = refl
+numbered NotAdded = refl
+numbered EntryState = refl
+numbered QuietBroken = refl
+
+pub same_why : (a b : Why) → why_number a ≡ why_number b → a ≡ b
+same_why a b e = same_Some a b (sym (numbered a) ∙ ap (slice_get whys) e ∙ numbered b)
+
+-- ---- where work ends
 
 module _ (p : Image) (m place : ℕ) (why : Why) (out : List ℕ) where
   module _ (s : Shapes) (other : ℕ) (reason : Why) (stop : StopsAt p m s other reason) where
     -- work ends there, and the state of the place is told
-    pub told_there : (sh : Shape) (new : List ℕ) → other ≡ place → reason ≡ why → Some sh ≡ at None s place → new ≡ out ++ known_text p m sh → KnownThere p m place why out new
+    pub told_there : (sh : Shape) (new : List ℕ) → other ≡ place → reason ≡ why → Some sh ≡ at None s place → new ≡ out ++ state_text p m place sh why → KnownThere p m place why out new
     told_there sh new here so is put =
         let moved = subst (λ k. StopsAt p m s k why) here (subst (λ w. StopsAt p m s other w) so stop) in
-        known s moved (put ∙ ap (λ x. out ++ known_text p m x) (same_Some sh moved.shape (is ∙ moved.there)))
+        known s moved (put ∙ ap (λ x. out ++ state_text p m place x why) (same_Some sh moved.shape (is ∙ moved.there)))
 
     -- the place has a state
     pub some_state : other ≡ place → None ≡ at None s place → ⊥

@@ -1,8 +1,13 @@
 -- The text that explains a fault.
-use Rattle.std.specs.Prelude.{ℕ, ◌≡◌, List, [], ◌++◌, IsSome}
+use Rattle.std.specs.Prelude.{ℕ, ◌≡◌, Bool, true, false, not, ◌&&◌, ◌==◌, List, [], ◌∷◌, ◌++◌, Option, Some, None, IsSome, Result, Ok, Err, codes, length, nat_lt}
 use Rattle.aom_image.specs.Image.{Image}
-use Rattle.aom_image.specs.Views.{method_at}
+use Rattle.aom_image.specs.Views.{instr_at, method_at}
+use Rattle.aom_instructions.specs.declared.instr.Instr.{Instr}
 use Rattle.aom_classes.specs.Linked.{IsLinked}
+use Rattle.aom_rules.specs.Rules.{rule}
+use Rattle.aom_shape.specs.Needs.{Flow}
+use Rattle.aom_shape.specs.Shape.{Shape}
+use Rattle.aom_shape.specs.Whys.{why_number}
 use Rattle.aom_shape.specs.declared.why.Why.{Why}
 use Rattle.aom_verify.specs.Arrivals.{StopsAt}
 use Rattle.aom_verify.specs.Shapes.{HasTyping, Shapes}
@@ -56,10 +61,31 @@ place_text text (Script fault) = line_text text fault.line
 place_text text (Budget fault) = compared_text fault
 place_text text _ = []
 
+-- a rule refuses for that reason
+abbrev pub tells_why : Result (List Flow) Why → Why → Bool
+tells_why (Ok ways) why = false
+tells_why (Err told) why = why_number told == why_number why
+
+abbrev pub is_need : Image → ℕ → ℕ → Shape → Why → Option Instr → Bool
+is_need p m place sh why None = false
+is_need p m place sh why (Some i) = tells_why (rule p m place sh i) why
+
+-- a state is refused for a reason that is no need of its instruction, so another arrives with which it has no meet; a state in a sheet has fewer cleanup entries
+unfoldable pub ways_differ : Image → ℕ → ℕ → Shape → Why → Bool
+ways_differ p m place sh why = nat_lt (length sh.entries) 1024 && not (is_need p m place sh why (instr_at p m place))
+
+abbrev pub ways_line : Bool → List ℕ
+ways_line true = codes "Another way comes here, and does not agree with this" ++ 10 ∷ []
+ways_line false = []
+
+-- what a state says that is refused at a place for that reason
+abbrev pub state_text : Image → ℕ → ℕ → Shape → Why → List ℕ
+state_text p m place sh why = known_text p m sh ++ ways_line (ways_differ p m place sh why)
+
 -- what is known at the place of a refusal, behind a text
 pub data KnownThere (p : Image) (m place : ℕ) (why : Why) (before after : List ℕ) : Type 0 where
   -- all that a state says which arrives there and is refused for that reason
-  known : (s : Shapes) → (stop : StopsAt p m s place why) → after ≡ before ++ known_text p m stop.shape → KnownThere p m place why before after
+  known : (s : Shapes) → (stop : StopsAt p m s place why) → after ≡ before ++ state_text p m place stop.shape why → KnownThere p m place why before after
   -- nothing, where the method is refused at another place too, or for another reason, and work on it ends there
   elsewhere : (s : Shapes) (other : ℕ) (reason : Why) → StopsAt p m s other reason → (other ≡ place → reason ≡ why → ⊥) → after ≡ before → KnownThere p m place why before after
   -- and where no method of a linked image is refused

@@ -1,16 +1,78 @@
 //! What is known at the place of a refusal.
-ghost use Rattle.std.specs.Prelude.{IsSome, OnOk};
+ghost use Rattle.std.specs.Prelude.{◌≡◌, ◌==◌, ◌++◌, IsSome, OnOk};
+ghost use Rattle.aom_classes.specs.declared.fault.LinkFault.TheVariants.{OutOfMemory};
 ghost use Rattle.aom_image.specs.Views.{method_at};
+ghost use Rattle.aom_shape.specs.Whys.{why_number};
 ghost use Rattle.aom_verify.specs.Arrivals.{StopsAt};
-ghost use Rattle.aom_explaining.specs.Explained.{KnownThere};
+ghost use Rattle.aom_explaining.specs.Explained.{KnownThere, state_text, ways_differ, ways_line};
 
 use aom_classes::{LinkFault, Linked, link};
 use aom_explain::put_known;
 use aom_figures::Writer;
 use aom_image::{Image, MethodNumber};
-use aom_shape::Why;
+use aom_rules::rule;
+use aom_shape::{Shape, Why};
 use aom_verify::{Stop, stop_of};
 use std::alloc::{AllocError, Global};
+
+/// A state in a sheet has fewer cleanup entries.
+const MOST_ENTRIES: usize = 1024;
+
+fn is_same_why(told: Why, why: Why) -> bool
+    ensures { result ≡ (why_number told == why_number why) }
+{
+    told.number() == why.number()
+}
+
+/// Whether a state that is refused at a place has no meet with another: its instruction does not refuse it for that reason.
+fn ways_differ(
+    linked: &Linked,
+    method: MethodNumber,
+    place: usize,
+    shape: &Shape<'_>,
+    why: Why,
+) -> bool
+    requires { IsSome (method_at linked.now method) }
+    ensures { result ≡ ways_differ linked.now method place shape.now why }
+{
+    if shape.height() >= MOST_ENTRIES {
+        return false;
+    }
+    if linked.method(method).code.len() <= place {
+        return true;
+    }
+    match rule(linked, method, place, shape) {
+        Ok(_) => true,
+        Err(told) => !is_same_why(told, why),
+    }
+}
+
+/// Writes that ways differ, where that is so.
+fn put_ways(out: &mut Writer, differ: bool) -> Result<(), AllocError>
+    ensures { OnOk result (out.new ≡ out.old ++ ways_line differ) }
+{
+    if differ {
+        out.words(b"Another way comes here, and does not agree with this\n")
+    } else {
+        Ok(())
+    }
+}
+
+/// Writes what a state says that is refused at a place for that reason.
+fn put_state(
+    out: &mut Writer,
+    linked: &Linked,
+    method: MethodNumber,
+    place: usize,
+    shape: &Shape<'_>,
+    why: Why,
+) -> Result<(), AllocError>
+    requires { IsSome (method_at linked.now method) }
+    ensures { OnOk result (out.new ≡ out.old ++ state_text linked.now method place shape.now why) }
+{
+    put_known(out, linked, method, shape)?;
+    put_ways(out, ways_differ(linked, method, place, shape, why))
+}
 
 /// Writes what is known where work on a method ends, if it does so at that place and for that reason.
 fn put_stop(
@@ -28,13 +90,13 @@ fn put_stop(
     if stop.place != place {
         return Ok(());
     }
-    if stop.why != why {
-        return Ok(());
+    if is_same_why(stop.why, why) {
+        return match stop.sheet.shape(place) {
+            Some(shape) => put_state(out, linked, method, place, &shape, why),
+            None => Ok(()),
+        };
     }
-    match stop.sheet.shape(place) {
-        Some(shape) => put_known(out, linked, method, &shape),
-        None => Ok(()),
-    }
+    Ok(())
 }
 
 /// Writes what is known at a place of a method where it is refused for that reason.
@@ -57,6 +119,15 @@ fn put_known_in(
     }
 }
 
+fn not_linked(fault: LinkFault) -> Result<(), AllocError>
+    ensures { OnOk result (fault ≡ OutOfMemory → ⊥) }
+{
+    match fault {
+        LinkFault::OutOfMemory => Err(AllocError),
+        _ => Ok(()),
+    }
+}
+
 /// The same in an image.
 pub fn put_known_at(
     alloc: Global,
@@ -70,7 +141,6 @@ pub fn put_known_at(
 {
     match link(alloc, image) {
         Ok(linked) => put_known_in(alloc, out, &linked, method, place, why),
-        Err(LinkFault::OutOfMemory) => Err(AllocError),
-        Err(_) => Ok(()),
+        Err(fault) => not_linked(fault),
     }
 }

@@ -51,7 +51,7 @@ wrong kind: A register, a field, a cleanup entry or an operand is not of the kin
 To mend it: Compare what the instruction needs with what each way to it leaves there; reasons.md has the cases, one by one.
 In line 3: method show do
 At line 6: again: print r1
-Known of registers: r0 a word; nothing of the others
+Known of registers: r0 a word; all others unset
 ";
     refuses(&rt, rt.alloc(), text, said)
 }
@@ -69,7 +69,7 @@ owner lost by a leave: The instruction may leave, and a register may own somethi
 To mend it: Push the object before, put it in a field, or delete it; or trap what leaves.
 In line 3: method build do leaves
 At line 3: leaveif r0
-Known of registers: r0 a word; r1 owns class 0; nothing of the others
+Known of registers: r0 a word; r1 owns an object of class 0; all others unset
 ";
     refuses(&rt, rt.alloc(), text, said)
 }

@@ -6,6 +6,8 @@ mod by_text;
 #[cfg(test)]
 mod kinds;
 #[cfg(test)]
+mod known;
+#[cfg(test)]
 mod memory;
 #[cfg(test)]
 mod pages;

@@ -28,8 +28,8 @@ issued at a leave: The instruction may leave, and the request of the method's ob
 To mend it: setactive right after issue, and leave before or after both.
 In: method m2 run of c0 leaves in i out uia args - gives none
 At 2: leaveif r0
-Known of registers: r0 a word; nothing of the others
-Its object may be: issued; nothing else
+Known of registers: r0 a word; all others unset
+Known of request states: issued (s); no others
 ";
     refuses(&rt, rt.alloc(), text, said)
 }
@@ -45,7 +45,7 @@ owner lost by a return: The method ends, and a register may still own something.
 To mend it: Delete it, put it in a field, or give it as the result. Null may be deleted, so no test is needed.
 In: method m0 main in - out - args - gives none
 At 2: L2: ret r0
-Known of registers: r0 null, or owns class 0; nothing of the others
+Known of registers: r0 null, or owns an object of class 0; all others unset
 ";
     refuses(&rt, rt.alloc(), text, said)
 }

@@ -2,8 +2,8 @@
 //!
 //! Promises: `check` answers a `Checked` where every method has a typing, and else names the first method that has
 //! none, with the place and the reason; a `Checked` keeps the strongest typing, and hands out the states of a method or
-//! of a place without memory. `stop_of` tells what is known where a method without a typing fails. It knows the rules and the order of abstract states from the crate below, and nothing of
-//! the machine.
+//! of a place without memory. `stop_of` tells what is known where a method without a typing fails. It knows the rules
+//! and the order of abstract states from the crate below, and nothing of the machine.
 #![tactic(auto)]
 
 mod change;

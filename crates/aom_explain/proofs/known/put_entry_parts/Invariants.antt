@@ -1,7 +1,8 @@
 -- The parts so far are out.
-use Rattle.std.proofs.Common.{◌≡◌, ◌++◌, codes, slice_get}
-use Rattle.aom_explain.specs.Known.{entry_part, gathered}
+use Rattle.std.proofs.Common.{◌≡◌, ◌++◌, slice_get}
+use Rattle.aom_figures.specs.Text.{by_number}
+use Rattle.aom_explain.specs.Known.{entry_part}
 use Rattle.aom_explain.proofs.known.put_entry_parts.Given as goal
 
 abbrev pub invariant-loop-number : goal.invariant-loop-number
-invariant-loop-number l = l.out ≡ l.fn.out ++ (codes "Known of cleanup entries:" ++ gathered (λ k. entry_part k (slice_get l.shape.entries k)) l.number)
+invariant-loop-number l = l.out ≡ l.fn.out ++ by_number (λ k. entry_part k (slice_get l.shape.entries k)) l.number

@@ -1,9 +1,10 @@
 -- The parts so far are out.
-use Rattle.std.proofs.Common.{◌≡◌, ◌++◌, codes}
+use Rattle.std.proofs.Common.{◌≡◌, ◌++◌}
+use Rattle.aom_figures.specs.Text.{by_number}
 use Rattle.aom_shape.specs.Kinds.{field}
 use Rattle.aom_shape.specs.Things.{field_thing, holder_of}
-use Rattle.aom_explain.specs.Known.{field_part, gathered}
+use Rattle.aom_explain.specs.Known.{field_part}
 use Rattle.aom_explain.proofs.known.put_field_parts.Given as goal
 
 abbrev pub invariant-loop-number : goal.invariant-loop-number
-invariant-loop-number l = l.out ≡ l.fn.out ++ (codes "Known of fields:" ++ gathered (λ f. field_part f (field_thing l.linked (holder_of l.linked l.method) f) (field l.shape f)) l.number)
+invariant-loop-number l = l.out ≡ l.fn.out ++ by_number (λ f. field_part f (field_thing l.linked (holder_of l.linked l.method) f) (field l.shape f)) l.number

@@ -1,15 +1,19 @@
--- One register after another.
-use Rattle.std.proofs.Common.{◌∙◌, ◌++◌, ap, codes}
-use Rattle.aom_shape.specs.Kinds.{register}
-use Rattle.aom_explain.proofs.Gathered.{gathered_next, nothing_gathered}
-use Rattle.aom_explain.specs.Known.{register_part}
+-- The lead, the parts, the rest and the end of the line.
+use Rattle.std.proofs.Common.{◌∙◌, ◌++◌, [], ◌∷◌, ap, codes}
+use Rattle.std.proofs.lemmas.Result.{IfOk-weaker}
+use Rattle.aom_explain.proofs.Parts.{both_out}
+use Rattle.aom_explain.specs.Known.{any_known, register_parts, registers_line, rest_words}
 use Rattle.aom_explain.proofs.known.put_registers.Goals as goal
 
-pub loop-number-init : goal.loop-number-init
-loop-number-init c = nothing_gathered (λ i. register_part i (register c.args.shape.now i)) c.args.out.now (codes "Known of registers:") c.words.new.self c.in_ok-words.ensures
-
-pub loop-number-preserved : goal.loop-number-preserved
-loop-number-preserved c =
-    let at = c.loop-number.number in
-    gathered_next (λ i. register_part i (register c.args.shape.now i)) at c.args.out.now (codes "Known of registers:") c.loop-number.out c.put_register.new.out c.loop-number.invariant
-    (c.in_ok-put_register.ensures ∙ ap (λ k. c.loop-number.out ++ register_part at k) c.kind_at.ensures)
+pub returns : goal.returns
+unfolding registers_line
+returns c =
+    let sh = c.args.shape.now in
+    let rest = rest_words (any_known sh) in
+    IfOk-weaker c.words-2.result _ _
+    (λ done put.
+    both_out c.args.out.now (codes "Known of registers:") (register_parts sh ++ (rest ++ 10 ∷ [])) c.words.new.self c.words-2.new.self c.in_ok-words.ensures
+    (both_out c.words.new.self (register_parts sh) (rest ++ 10 ∷ []) c.put_register_parts.new.out c.words-2.new.self c.in_ok-put_register_parts.ensures
+    (both_out c.put_register_parts.new.out rest (10 ∷ []) c.put_rest.new.out c.words-2.new.self
+    (c.in_ok-put_rest.ensures ∙ ap (λ b. c.put_register_parts.new.out ++ rest_words b) c.any_known.ensures) put)))
+    c.words-2.ensures
