@@ -3,7 +3,7 @@ ghost use Rattle.std.specs.Prelude.{◌≡◌, ◌<◌, ◌+◌};
 ghost use Rattle.aom_clients.specs.Nodes.{entry_of};
 
 /// What waits in a server's queue.
-#[derive(Clone, Copy, PartialEq, Eq, Debug)]
+#[derive(Clone, Copy)]
 pub enum Entry {
     Connect { client: u8 },
     /// The message at the place.
@@ -12,7 +12,7 @@ pub enum Entry {
 }
 
 /// An entry that was taken from a queue, and the client that it is of.
-#[derive(Clone, Copy, PartialEq, Eq, Debug)]
+#[derive(Clone, Copy)]
 pub struct Taken {
     pub entry: Entry,
     pub client: u8,

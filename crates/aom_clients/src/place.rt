@@ -3,7 +3,7 @@ ghost use Rattle.std.specs.Prelude.{◌≡◌, Some, IsSome};
 ghost use Rattle.aom_clients.specs.Table.{sender, is_queued, closed_place, held_place, completion};
 
 /// What a message place has.
-#[derive(Clone, Copy, PartialEq, Eq, Debug)]
+#[derive(Clone, Copy)]
 pub enum Place {
     Free,
     /// A message of the client that waits in its server's queue.
@@ -15,7 +15,7 @@ pub enum Place {
 }
 
 /// A message that is completed: its client is told, or it is discarded.
-#[derive(Clone, Copy, PartialEq, Eq, Debug)]
+#[derive(Clone, Copy)]
 pub struct Completion {
     pub client: u8,
     pub is_told: bool,

@@ -3,7 +3,7 @@ ghost use Rattle.std.specs.Prelude.{◌≡◌};
 ghost use Rattle.aom_clients.specs.Table.{code_of};
 
 /// Why a command of a client is refused.
-#[derive(Clone, Copy, PartialEq, Eq, Debug)]
+#[derive(Clone, Copy)]
 pub enum Refusal {
     /// There is no such server, or the client has no session: KErrNotFound.
     NotFound,

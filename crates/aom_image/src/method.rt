@@ -68,7 +68,7 @@ pub enum Gives {
 }
 
 /// Whether a method may leave, and whether it is quiet.
-#[derive(Clone, Copy, PartialEq, Eq, Debug)]
+#[derive(Clone, Copy)]
 pub struct MethodFlags(u8);
 
 impl MethodFlags {
@@ -126,7 +126,7 @@ impl Flags for MethodFlags {
 }
 
 /// A set of request states: not enlisted, idle, issued, active, being cancelled with its request open, and with it done.
-#[derive(Clone, Copy, PartialEq, Eq, Debug)]
+#[derive(Clone, Copy)]
 pub struct States(u8);
 
 impl States {

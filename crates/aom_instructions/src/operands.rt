@@ -4,7 +4,7 @@ ghost use Rattle.std.specs.Prelude.{◌≡◌, ◌<◌, IfSome, IsSome, ◌↔�
 use std::marker::Model;
 
 /// The number of a register, below 16.
-#[derive(Clone, Copy, PartialEq, Eq, Debug)]
+#[derive(Clone, Copy)]
 pub struct Register {
     number: u8,
 }
@@ -45,7 +45,7 @@ impl Register {
 }
 
 /// The number of a word field, below 8.
-#[derive(Clone, Copy, PartialEq, Eq, Debug)]
+#[derive(Clone, Copy)]
 pub struct WordIndex {
     number: u8,
 }
@@ -86,7 +86,7 @@ impl WordIndex {
 }
 
 /// The number of an owning field, below 8.
-#[derive(Clone, Copy, PartialEq, Eq, Debug)]
+#[derive(Clone, Copy)]
 pub struct FieldIndex {
     number: u8,
 }
@@ -127,7 +127,7 @@ impl FieldIndex {
 }
 
 /// How many loops stand around a loop, below 4.
-#[derive(Clone, Copy, PartialEq, Eq, Debug)]
+#[derive(Clone, Copy)]
 pub struct LoopDepth {
     number: u8,
 }
@@ -168,7 +168,7 @@ impl LoopDepth {
 }
 
 /// A cleanup entry, counted from the top of the stack, below 16.
-#[derive(Clone, Copy, PartialEq, Eq, Debug)]
+#[derive(Clone, Copy)]
 pub struct EntryDepth {
     number: u8,
 }
@@ -207,7 +207,7 @@ impl EntryDepth {
 }
 
 /// The number of a native, below 16.
-#[derive(Clone, Copy, PartialEq, Eq, Debug)]
+#[derive(Clone, Copy)]
 pub struct NativeNumber {
     number: u8,
 }
@@ -328,7 +328,7 @@ impl MethodNumber {
 }
 
 /// The place of an instruction in its method, below 1,024.
-#[derive(Clone, Copy, PartialEq, Eq, Debug)]
+#[derive(Clone, Copy)]
 pub struct Place {
     number: u16,
 }

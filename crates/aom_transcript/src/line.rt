@@ -27,7 +27,7 @@ pub enum Line {
 }
 
 /// What waits in the queue of a server.
-#[derive(Clone, Copy, PartialEq, Eq, Debug)]
+#[derive(Clone, Copy)]
 pub enum Asked {
     Connect,
     Message,
