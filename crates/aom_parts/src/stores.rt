@@ -87,12 +87,12 @@ fn none_enlisted(alloc: Global, cells: usize) -> Result<ActiveObjects, AllocErro
     ActiveObjects::with_limit(alloc, cells)
 }
 
-/// The servers of each class, the messages and the clients.
+/// The clients, their messages, and the servers of each class.
 #[derive(Drop)]
 pub(crate) struct Services {
-    pub(crate) listed: Lists,
-    pub(crate) messages: Messages,
     pub(crate) clients: Clients,
+    pub(crate) messages: Messages,
+    pub(crate) listed: Lists,
 }
 
 impl Services {
@@ -109,9 +109,9 @@ impl Services {
         ensures listed { IfOk result (λ s. s.listed ≡ no_list cells 256) }
     {
         Ok(Services {
-            listed: Lists::with_limit(alloc, cells, CLASSES)?,
-            messages: Messages::with_limit(alloc, messages)?,
             clients: Clients::with_limit(alloc, cells)?,
+            messages: Messages::with_limit(alloc, messages)?,
+            listed: Lists::with_limit(alloc, cells, CLASSES)?,
         })
     }
 }
