@@ -1,10 +1,11 @@
 -- The place is written behind the entry.
-use Rattle.std.proofs.Common.{◌≡◌, ◌∙◌, ◌++◌, ap, ap₂}
+use Rattle.std.proofs.Common.{◌≡◌, ◌∙◌, ◌++◌, ap₂, subst, sym}
 use Rattle.aom_explain.specs.Entries.{entry_text}
-use Rattle.aom_explaining.specs.Explained.{beside_text, texts_of}
+use Rattle.aom_explaining.specs.Explained.{AddsBeside, ExplainsByText, texts_of}
 use Rattle.aom_explaining.proofs.explaining.explanation_by_text.Goals as goal
 
 pub returns : goal.returns
 returns c =
     let begun : c.put_entry.new.out ≡ entry_text (texts_of c.args.fault.now) = c.in_ok-put_entry.ensures ∙ ap₂ (λ t e. t ++ entry_text e) c.new-out.ensures c.entry_of.ensures in
-    c.into_text.ensures ∙ c.in_ok-put_beside.ensures ∙ ap (λ t. t ++ beside_text c.args.text.now c.args.script.now c.args.fault.now) begun
+    subst (λ said. ExplainsByText c.args.image.now c.args.text.now c.args.script.now c.args.fault.now said) (sym c.into_text.ensures)
+    (subst (λ before. AddsBeside c.args.image.now c.args.text.now c.args.script.now c.args.fault.now before c.put_beside.new.out) begun c.in_ok-put_beside.ensures)
