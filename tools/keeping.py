@@ -4,7 +4,6 @@ import os
 import shutil
 import tempfile
 import threading
-import time
 
 from house import KEPT, make_room, run_rt, tells_errors
 
@@ -42,16 +41,16 @@ class Keeping:
 
     def keep(self, name):
         """Proves a crate over what it has kept. In a clean copy that is from nothing."""
-        start, folder = time.monotonic(), self.house.folder(name)
+        folder = self.house.folder(name)
         verb = "check" if os.path.isfile(f"{folder}/src/main.rt") else "lib"
         with tempfile.TemporaryDirectory(dir=self.place, ignore_cleanup_errors=True) as room:
             make_room(self.house, name, f"{room}/r", KEPT)
-            status, lines = run_rt(f"{room}/r/crates/{name}", verb, "--jobs", "1")
+            status, lines, seconds = run_rt(f"{room}/r/crates/{name}", verb, "--jobs", "1")
             if status == 0:
                 shutil.rmtree(f"{folder}/out", ignore_errors=True)
                 shutil.move(f"{room}/r/crates/{name}/out", f"{folder}/out")
         with self.lock:
-            self.seconds += time.monotonic() - start
+            self.seconds += seconds
         if status:
             self.tell_failed(name, [it for it in lines if tells_errors(it) and ": warning" not in it] or lines[-3:])
             return
@@ -65,5 +64,5 @@ class Keeping:
             self.add(it)
 
     def times(self):
-        """How many proofs, and the seconds that they took in one lane."""
+        """How many proofs, and the seconds that they took of a processor."""
         return len(self.wanted), self.seconds

@@ -9,7 +9,7 @@ from house import House, copy_tree, files_of, read_bytes, run_rt
 
 def changed_by_layout(top, place, name):
     """The files of a crate in a copy that `rt fmt` changes there, and what it says where it fails."""
-    status, lines = run_rt(f"{place}/crates/{name}", "fmt")
+    status, lines, _ = run_rt(f"{place}/crates/{name}", "fmt")
     if status:
         return [f"crates/{name}: rt fmt: {' / '.join(lines[-2:])[:200]}"]
     files = [os.path.relpath(it, place) for it in files_of(f"{place}/crates/{name}")]

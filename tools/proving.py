@@ -21,11 +21,11 @@ def knows_anew():
 
 
 class Proofs:
-    """A run of rt ci over a copy without must-fail edits: what passed and failed, and how long it took."""
+    """A run of rt ci over a copy without must-fail edits: what passed and failed, how long it took, and how much of the processors' time."""
 
     def __init__(self, top, jobs, anew):
         self.top, self.jobs, self.anew = top, jobs, anew
-        self.passed, self.failed, self.seconds = 0, 1, 0.0
+        self.passed, self.failed, self.seconds, self.used = 0, 1, 0.0, 0.0
 
     def run(self, hear):
         """Runs it, and hands on each line that it says."""
@@ -38,6 +38,8 @@ class Proofs:
             for line in ran.stdout:
                 last = line.rstrip("\n")
                 hear(last)
+            _, status, used = os.wait4(ran.pid, 0)
+            ran.returncode, self.used = os.waitstatus_to_exitcode(status), used.ru_utime + used.ru_stime
         counts = re.fullmatch(r"(\d+) passed, (\d+) failed", last)
         if counts:
             self.passed, self.failed = int(counts[1]), int(counts[2])

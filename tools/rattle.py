@@ -5,7 +5,7 @@ import os
 import re
 import subprocess
 
-from house import tells_errors
+from house import measured, tells_errors
 
 NO_FUNCTION = re.compile(r"rattle: error: `\w+` has no function `([^`]+)`")
 
@@ -31,17 +31,25 @@ def words_of(house, name):
 
 
 def check(house, name, folder, functions, kept):
-    """Checks the crate in a folder, or these of its functions and what they call, over what another folder keeps: the status, and what was said. A check that fails without a reason was broken off, and is begun once more."""
+    """Checks the crate in a folder over what another folder keeps, or these of its functions, where the proofs of others may be holes:
+    the status, what was said, and the processor's seconds. A check that fails without a reason was broken off, and is begun once more."""
     words = [f"{kit()}/bin/rattle", "check", *words_of(house, name), "--incremental", kept]
     for it in functions:
         words += ["--only", it]
-    how = {"cwd": folder, "stdin": subprocess.DEVNULL, "stdout": subprocess.PIPE, "stderr": subprocess.STDOUT, "errors": "replace"}
+    if functions:
+        words.append("--allow-holes")
+    seconds = 0.0
     for _ in range(2):
-        ran = subprocess.run(words, **how)
-        lines = ran.stdout.rstrip("\n").split("\n")
-        if not ran.returncode or any(tells_errors(it) or NO_FUNCTION.match(it) for it in lines):
+        status, lines, used = measured(words, folder)
+        seconds += used
+        if not status or any(tells_errors(it) or NO_FUNCTION.match(it) for it in lines):
             break
-    return ran.returncode, lines
+    return status, lines, seconds
+
+
+def is_judged(lines):
+    """Whether a check of some functions came to their proofs, and each proof in the crate was one of a function."""
+    return any(it.startswith("only=") for it in lines) and not any("for this file to be the proof of" in it for it in lines)
 
 
 def unknown_functions(lines):

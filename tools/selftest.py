@@ -80,6 +80,8 @@ CODE, DEFINITIONS = "src/lib.rt", "specs/Amounts.antt"
 EDITS = [
     ("sample", "double-is-threefold", CODE, "number as u16 * 2", "number as u16 * 3", True),
     ("sample", "fourfold-is-once-too-much", CODE, "double(number) + double(number)", "double(number) + double(number) + 1", True),
+    # beside another that it calls, and that is refused
+    ("sample", "fourfold-in-other-words", CODE, "double(number) + double(number)", "double(number) * 2", False),
     ("sample", "harmless", CODE, "number / 2", "number / 4", False),
     ("sample", "no-text-of-the-language", CODE, "number / 2", "number /", False),
     ("sample", "stands-nowhere", CODE, "number / 3", "number", False),

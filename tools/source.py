@@ -46,14 +46,15 @@ def plain(words):
 
 
 def without_parameters(words):
-    """What follows the parameters of an `impl`, as of `impl<W: Sink> Page<W>`."""
+    """What follows the parameters of an `impl`, as of `impl<W: Sink> Page<W>`, without their names in the arguments of a trait."""
     if not words.startswith("<"):
         return words
     depth = 0
     for place, char in enumerate(words):
         depth += (char == "<") - (char == ">" and words[place - 1] != "-")
         if not depth:
-            return words[place + 1 :]
+            names = re.findall(r"[<,]\s*([A-Z]\w*)", words[:place])
+            return re.sub(rf"\b({'|'.join(names)})\b", "", words[place + 1 :]) if names else words[place + 1 :]
     return words
 
 

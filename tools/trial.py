@@ -4,18 +4,18 @@ import os
 import shutil
 import tempfile
 import threading
-import time
 
 import rattle
 from batches import plan, refused_at, shown, texts_of, unread
 from edit_files import edit_faults, edit_files, places_of, read_edit
+from holes import make_holes
 from house import PARTS, copy_parts, tells_errors
 from verdicts import Verdicts
 
 # the memory that a check takes for each line of a crate, in bytes
 LINE = 300_000
 KINDS = ("batches", "by one function", "whole", "proofs of their own")
-# so many checks of a crate after its first are worth a proof of it as it stands
+# more edits of definitions than these are worth a proof of their crate as it stands
 MANY = 3
 
 
@@ -30,8 +30,6 @@ class Trial:
         self.seconds, self.checks = dict.fromkeys(KINDS, 0.0), dict.fromkeys(KINDS, 0)
         # by crate: where its libraries lie, and what its checks have kept
         self.libraries, self.kept, self.rest = {}, {}, {}
-        # by crate: what waits for a proof of it as it stands; None once that is kept
-        self.waiting = {}
         self.proved, self.given_up = set(), set()
         # what is kept of a crate is read or replaced by one check at a time
         self.lock, self.moving = threading.Lock(), threading.Lock()
@@ -62,7 +60,7 @@ class Trial:
                     self.tell(name, it, False, "NOT TRIED")
 
     def times(self):
-        """What was done, how often, and the seconds that it took in one lane."""
+        """What was done, how often, and the seconds that it took of a processor."""
         return [("proofs below them", *self.source.times()), *((it, self.checks[it], self.seconds[it]) for it in self.seconds)]
 
     def tell(self, name, edit, well, text):
@@ -77,13 +75,12 @@ class Trial:
         self.tell(name, edit, True, f"refused, as it must be{text}")
 
     def checked(self, kind, name, folder, functions, kept):
-        """A check of a crate's copy, with its time."""
-        start = time.monotonic()
-        answer = rattle.check(self.libraries[name], name, folder, functions, kept)
+        """A check of a crate's copy; its time is counted."""
+        status, lines, seconds = rattle.check(self.libraries[name], name, folder, functions, kept)
         with self.lock:
-            self.seconds[kind] += time.monotonic() - start
+            self.seconds[kind] += seconds
             self.checks[kind] += 1
-        return answer
+        return status, lines
 
     def count(self, name):
         """Takes that a crate is proved: what was refused of it before counts."""
@@ -111,7 +108,7 @@ class Trial:
     # the edits
 
     def add_edits(self, name, libraries, kept):
-        """Adds the checks of a crate's edits. Where nothing of the crate is kept they stand on what the first of them keeps."""
+        """Adds the checks of a crate's edits. Where nothing of the crate is kept they stand on what the first of them keeps, or many edits of definitions on a proof of it."""
         if name not in self.names or name in self.given_up:
             return
         self.libraries[name], self.kept[name] = libraries, kept
@@ -119,23 +116,21 @@ class Trial:
         edits = [read_edit(folder, it) for it in self.left_of(name)]
         together, alone = plan(name, folder, [it for it in edits if not it.fault])
         adders = [lambda it=it: self.add_batch(name, it) for it in together] + [lambda it=it: self.add_alone(name, it) for it in alone]
-        self.rest[name] = adders[1:]
-        if kept:
-            self.waiting[name] = None
-        for add in adders[:1]:
+        if not kept and not together and len(alone) > MANY:
+            self.rest[name] = adders
+            self.add(name, 1, lambda: self.prove(name))
+            return
+        at_once = len(adders) if kept else 1
+        self.rest[name] = adders[at_once:]
+        for add in adders[:at_once]:
             add()
-        if kept:
-            self.add_rest(name)
 
     def add_rest(self, name):
-        """Adds the checks of a crate after its first. Many of them are worth a proof of the crate as it stands, which they then stand on."""
+        """Adds the checks of a crate after its first."""
         with self.lock:
             rest = self.rest.pop(name, [])
         for add in rest:
-            if len(rest) < MANY:
-                add()
-            else:
-                self.when_whole(name, add)
+            add()
 
     def add(self, name, more, work):
         """Puts a check of a crate in the lanes. It falls where the crate turns out not to be proved."""
@@ -158,44 +153,37 @@ class Trial:
 
     def add_whole(self, name, edit):
         """Adds a check of the whole crate with an edit."""
-        self.when_whole(name, lambda: self.add(name, 0, lambda: self.try_whole(name, edit)))
+        self.add(name, 0, lambda: self.try_whole(name, edit))
 
-    def when_whole(self, name, add):
-        """Adds what is to stand on a proof of the crate as it stands, which the first that wants it begins."""
-        with self.lock:
-            is_first = name not in self.waiting
-            waiting = self.waiting.setdefault(name, [])
-            if waiting is not None:
-                waiting.append(add)
-        if waiting is None:
-            add()
-        elif is_first:
-            self.add(name, 1, lambda: self.complete(name))
-
-    def complete(self, name):
-        """Proves a crate as it stands over what its first check kept, and keeps that for what waits for it."""
+    def prove(self, name):
+        """Proves a crate as it stands, and keeps that for what waits for it."""
         status, lines = self.check_with("proofs of their own", name, {}, [])
         if status:
             self.give_up(name, [it for it in lines if tells_errors(it)] or lines[-1:])
-        with self.lock:
-            adders, self.waiting[name] = self.waiting[name], None
-        for add in adders:
-            add()
 
     def check_with(self, kind, name, texts, functions):
-        """Checks a copy of a crate with these texts in place of its own, or these functions of it, over what is kept of the crate."""
+        """Checks a copy of a crate with these texts in place of its own, over what is kept of the crate: all of it, or these functions,
+        with holes for the others. What cannot be judged so is checked without holes."""
+        answer = self.check_copy(kind, name, texts, functions, bool(functions))
+        if functions and not rattle.is_judged(answer[1]):
+            answer = self.check_copy(kind, name, texts, functions, False)
+        self.add_rest(name)
+        return answer
+
+    def check_copy(self, kind, name, texts, functions, with_holes):
         with tempfile.TemporaryDirectory(dir=self.place, ignore_cleanup_errors=True) as room:
             copy_parts(self.house.folder(name), f"{room}/c", PARTS)
             for path, text in texts.items():
                 with open(f"{room}/c/{path}", "w", encoding="utf-8") as it:
                     it.write(text)
+            if with_holes:
+                make_holes(name, f"{room}/c", functions)
             with self.moving:
                 if self.kept[name]:
                     shutil.copytree(self.kept[name], f"{room}/kept")
             answer = self.checked(kind, name, f"{room}/c", functions, f"{room}/kept")
             if os.path.isdir(f"{room}/kept") and (not texts or not self.kept[name]):
                 self.keep(name, f"{room}/kept")
-        self.add_rest(name)
         return answer
 
     def keep(self, name, kept):
@@ -219,8 +207,8 @@ class Trial:
             self.tell_refused(name, edit, " (shown in a batch, by a goal of its own)")
         left = [it for it in batch if it[0].name not in refused]
         if refused or len(left) < 4:
-            for edit, _ in left:
-                self.add_alone(name, edit)
+            for edit, turned in left:
+                self.add_alone(name, edit, [] if refused else [it.path() for it in turned])
             return
         # one edit can keep a check from judging the others
         half = len(left) // 2

@@ -9,7 +9,7 @@ import tempfile
 from house import files_of, read_bytes
 
 # what decides how an edit is tried
-TOOLS = ("batches.py", "edit_files.py", "house.py", "rattle.py", "source.py", "trial.py", "verdicts.py")
+TOOLS = ("batches.py", "edit_files.py", "holes.py", "house.py", "rattle.py", "source.py", "trial.py", "verdicts.py")
 
 
 def verdicts_folder():
