@@ -107,7 +107,7 @@ fn read_step(mut words: Words) -> Option<Command>
 fn step_by(steps: &[u8]) -> Option<Command>
     ensures { result ≡ steps_by (number_of steps.now) }
 {
-    Number::of(steps)?.within(1, 1_000_000).map(Command::Step)
+    Some(Command::Step(Number::of(steps)?.within(1, 1_000_000)?))
 }
 
 fn read_break(mut words: Words) -> Option<Command>

@@ -44,7 +44,7 @@ fn said_by(reading: Reading) -> Option<ScriptLine>
 {
     match reading {
         Reading::Blank => Some(ScriptLine::Empty),
-        Reading::Refusal(request) => request.within(1, u32::MAX).map(ScriptLine::Refuse),
+        Reading::Refusal(request) => Some(ScriptLine::Refuse(request.within(1, u32::MAX)?)),
         Reading::At(time, event) => Some(ScriptLine::Timed(TimedEvent {
             time: time.up_to(LATEST)?,
             event: event_within(event)?,
@@ -60,7 +60,7 @@ fn event_within(numbers: EventNumbers) -> Option<Event>
             native_within(native)?,
             word.signed()?,
         )),
-        EventNumbers::ToKill(native) => native_within(native).map(Event::Kill),
+        EventNumbers::ToKill(native) => Some(Event::Kill(native_within(native)?)),
         EventNumbers::OfClient(client, command) => Some(Event::Client(
             client.within(0, 63)? as u8,
             command_within(command)?,

@@ -17,11 +17,14 @@ fn begins_with(key: Keyword, words: &Words) -> bool
 }
 
 /// The statement that begins with a keyword and has so many of its like before it, and the statements behind it.
-fn declaration<'a>(key: Keyword, text: Text<'a>, number: usize) -> Option<(Statement<'a>, Text<'a>)>
+fn declaration<'a>(
+    key: Keyword,
+    mut text: Text<'a>,
+    number: usize,
+) -> Option<(Statement<'a>, Text<'a>)>
     ensures statement { option_map (λ p. p.0) result ≡ slice_get (filter (begins key) text.entry) number }
     ensures behind { unwrap_or (option_map (λ p. part (begins key) p.1 0) result) [] ≡ part (begins key) text.entry (number + 1) }
 {
-    let mut text = text;
     let mut before = number;
     while let Some(statement) = text.next() {
         if begins_with(key, &statement.words) {
@@ -35,10 +38,9 @@ fn declaration<'a>(key: Keyword, text: Text<'a>, number: usize) -> Option<(State
 }
 
 /// The statement at a place, of those before the next that begins with a keyword.
-fn at_place<'a>(key: Keyword, text: Text<'a>, place: usize) -> Option<Statement<'a>>
+fn at_place<'a>(key: Keyword, mut text: Text<'a>, place: usize) -> Option<Statement<'a>>
     ensures { result ≡ slice_get (part (begins key) text.entry 0) place }
 {
-    let mut text = text;
     let mut before = place;
     while let Some(statement) = text.next() {
         if begins_with(key, &statement.words) {

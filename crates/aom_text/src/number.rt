@@ -7,7 +7,7 @@ ghost use Rattle.aom_text.specs.Numbers.{is_digit, is_digits, digits_size, most,
 const MOST: u64 = 1 << 50;
 
 /// A decimal number, with a minus or without.
-#[derive(Clone, Copy, PartialEq, Eq, Debug)]
+#[derive(Clone, Copy)]
 pub struct Number {
     pub is_negative: bool,
     /// At most 2^50, which also stands for what is larger.
