@@ -43,57 +43,68 @@ pub fn rule(
         place,
         shape,
     };
-    match instr {
-        Instr::Const(a, _) => site.rule_const(a),
-        Instr::Copy(a, b) => site.rule_copy(a, b),
-        Instr::Add(a, b, c)
-        | Instr::Sub(a, b, c)
-        | Instr::Mul(a, b, c)
-        | Instr::And(a, b, c)
-        | Instr::Or(a, b, c)
-        | Instr::Xor(a, b, c) => site.rule_combine(a, b, c),
-        Instr::Jump(to) => site.rule_jump(to),
-        Instr::JumpEqual(a, b, to) | Instr::JumpLess(a, b, to) => site.rule_compare(a, b, to),
-        Instr::Loop(_, _) => site.rule_loop(),
-        Instr::Next(_, to) => site.rule_next(to),
-        Instr::Print(a) => site.rule_print(a),
-        Instr::Load(a, w) => site.rule_load(a, w),
-        Instr::Store(w, b) => site.rule_store(w, b),
-        Instr::Move(a, b) => site.rule_move(a, b),
-        Instr::JumpNull(a, to) => site.rule_jump_null(a, to),
-        Instr::JumpEmpty(f, to) => site.rule_jump_empty(f, to),
-        Instr::Take(a, f) => site.rule_take(a, f),
-        Instr::Put(f, b) => site.rule_put(f, b),
-        Instr::New(a, class) => site.rule_new(a, class),
-        Instr::Delete(a) => site.rule_delete(a),
-        Instr::Call(target, callee, first, result) => {
-            site.rule_call(&Call::new(target, callee, first, result))
+    site.rule(instr)
+}
+
+impl Site<'_> {
+    /// The rule of an instruction there.
+    fn rule(&self, instr: Instr) -> Result<Flow, Why>
+        requires callee { HasCallee self.now.image instr }
+        requires code { HasCodeRegister instr }
+        ensures { told self.now.shape.entries result ≡ rule self.now.image self.now.method self.now.place self.now.shape instr }
+    {
+        match instr {
+            Instr::Const(a, _) => self.rule_const(a),
+            Instr::Copy(a, b) => self.rule_copy(a, b),
+            Instr::Add(a, b, c)
+            | Instr::Sub(a, b, c)
+            | Instr::Mul(a, b, c)
+            | Instr::And(a, b, c)
+            | Instr::Or(a, b, c)
+            | Instr::Xor(a, b, c) => self.rule_combine(a, b, c),
+            Instr::Jump(to) => self.rule_jump(to),
+            Instr::JumpEqual(a, b, to) | Instr::JumpLess(a, b, to) => self.rule_compare(a, b, to),
+            Instr::Loop(_, _) => self.rule_loop(),
+            Instr::Next(_, to) => self.rule_next(to),
+            Instr::Print(a) => self.rule_print(a),
+            Instr::Load(a, w) => self.rule_load(a, w),
+            Instr::Store(w, b) => self.rule_store(w, b),
+            Instr::Move(a, b) => self.rule_move(a, b),
+            Instr::JumpNull(a, to) => self.rule_jump_null(a, to),
+            Instr::JumpEmpty(f, to) => self.rule_jump_empty(f, to),
+            Instr::Take(a, f) => self.rule_take(a, f),
+            Instr::Put(f, b) => self.rule_put(f, b),
+            Instr::New(a, class) => self.rule_new(a, class),
+            Instr::Delete(a) => self.rule_delete(a),
+            Instr::Call(target, callee, first, result) => {
+                self.rule_call(&Call::new(target, callee, first, result))
+            }
+            Instr::Trap(target, callee, first, result) => {
+                self.rule_trap(&Call::new(target, callee, first, result))
+            }
+            Instr::NewOrLeave(a, class) => self.rule_new_or_leave(a, class),
+            Instr::Push(a) => self.rule_push(a),
+            Instr::PushOperation(a, _) => self.rule_push_operation(a),
+            Instr::Pop(a) => self.rule_pop(a),
+            Instr::PopOperation => self.rule_pop_operation(),
+            Instr::PopDelete => self.rule_pop_delete(),
+            Instr::Leave(a) => self.rule_leave(a),
+            Instr::LeaveIf(a) => self.rule_leave_if(a),
+            Instr::Return(a) => self.rule_return(a),
+            Instr::Stop => self.rule_stop(),
+            Instr::JumpActive(to) => self.rule_jump_active(to),
+            Instr::JumpAdded(to) => self.rule_jump_added(to),
+            Instr::Enlist(_) => self.rule_enlist(),
+            Instr::Issue(a, b) => self.rule_issue(a, b),
+            Instr::SetActive => self.rule_set_active(),
+            Instr::Abort => self.rule_abort(),
+            Instr::Status(a) => self.rule_status(a),
+            Instr::Cancel => self.rule_cancel(),
+            Instr::Connect(a) => self.rule_connect(a),
+            Instr::Ask(a, b, c) => self.rule_ask(a, b, c),
+            Instr::Close => self.rule_close(),
+            Instr::TakeMessage(a) => self.rule_take_message(a),
+            Instr::Reply(a, b) => self.rule_reply(a, b),
         }
-        Instr::Trap(target, callee, first, result) => {
-            site.rule_trap(&Call::new(target, callee, first, result))
-        }
-        Instr::NewOrLeave(a, class) => site.rule_new_or_leave(a, class),
-        Instr::Push(a) => site.rule_push(a),
-        Instr::PushOperation(a, _) => site.rule_push_operation(a),
-        Instr::Pop(a) => site.rule_pop(a),
-        Instr::PopOperation => site.rule_pop_operation(),
-        Instr::PopDelete => site.rule_pop_delete(),
-        Instr::Leave(a) => site.rule_leave(a),
-        Instr::LeaveIf(a) => site.rule_leave_if(a),
-        Instr::Return(a) => site.rule_return(a),
-        Instr::Stop => site.rule_stop(),
-        Instr::JumpActive(to) => site.rule_jump_active(to),
-        Instr::JumpAdded(to) => site.rule_jump_added(to),
-        Instr::Enlist(_) => site.rule_enlist(),
-        Instr::Issue(a, b) => site.rule_issue(a, b),
-        Instr::SetActive => site.rule_set_active(),
-        Instr::Abort => site.rule_abort(),
-        Instr::Status(a) => site.rule_status(a),
-        Instr::Cancel => site.rule_cancel(),
-        Instr::Connect(a) => site.rule_connect(a),
-        Instr::Ask(a, b, c) => site.rule_ask(a, b, c),
-        Instr::Close => site.rule_close(),
-        Instr::TakeMessage(a) => site.rule_take_message(a),
-        Instr::Reply(a, b) => site.rule_reply(a, b),
     }
 }
