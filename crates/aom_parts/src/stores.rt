@@ -1,47 +1,79 @@
-//! What the machine keeps of active objects, clients and servers, as it begins.
-ghost use Rattle.std.specs.Prelude.{◌≡◌, ◌≤◌, [], None, IfOk};
+//! What the machine keeps, as it begins. All the memory that is ever taken is taken here.
+ghost use Rattle.std.specs.Prelude.{◌≡◌, ◌≤◌, [], ◌∷◌, None, IfOk, false, replicate};
 ghost use Rattle.aom_active.specs.Agrees.{StandsFor};
+ghost use Rattle.aom_cells.specs.Heap.{null};
+ghost use Rattle.aom_cleanup.specs.declared.item.Item.TheVariants.{Mark};
 ghost use Rattle.aom_clients.specs.Clients.{at_first};
+ghost use Rattle.aom_frames.specs.Tasks.{fresh};
+ghost use Rattle.aom_frames.specs.declared.dispatch.Dispatch.TheVariants.{Main};
+ghost use Rattle.aom_frames.specs.declared.task.Task.TheVariants.{Dispatched, Run, Trapped};
 ghost use Rattle.aom_queues.specs.Lists.{empty as no_list};
 
 use aom_active::ActiveObjects;
+use aom_cells::{Cells, NULL};
+use aom_cleanup::Cleanup;
 use aom_clients::Clients;
+use aom_frames::{Dispatch, Frame, Task, Tasks};
+use aom_image::MethodNumber;
 use aom_messages::Messages;
 use aom_queues::Lists;
+use aom_sessions::Sessions;
 use std::alloc::{AllocError, Global};
+
+/// How many tasks may be at hand. Methods are at most 257, each over at most three tasks that are none.
+const DEPTH: usize = 2048;
+
+/// How many cleanup entries there may be.
+const ENTRIES: usize = 1024;
 
 /// How many classes there may be.
 const CLASSES: usize = 256;
 
-/// The requests of active objects, clients, messages, and the servers of each class.
+/// What is at hand, and the cleanup entries.
 #[derive(Drop)]
-pub(crate) struct Stores {
-    pub(crate) active: ActiveObjects,
-    pub(crate) clients: Clients,
-    pub(crate) messages: Messages,
-    pub(crate) listed: Lists,
+pub(crate) struct Course {
+    pub(crate) stack: Tasks,
+    pub(crate) entries: Cleanup,
 }
 
-impl Stores {
-    /// Nothing is enlisted, no client asked for anything, and there is no message. All the memory that is ever taken is taken here.
-    pub(crate) fn with_limit(
-        alloc: Global,
-        cells: usize,
-        messages: usize,
-    ) -> Result<Stores, AllocError>
-        requires cells { cells ≤ 4096 }
-        requires messages { messages ≤ 1024 }
-        ensures requests { IfOk result (λ s. StandsFor s.active (λ n. None) (λ n. None)) }
-        ensures numbers { IfOk result (λ s. s.active.table.limit ≡ cells) }
-        ensures clients { IfOk result (λ s. s.clients ≡ at_first cells) }
-        ensures messages { IfOk result (λ s. s.messages ≡ record { slots = []; limit = messages }) }
-        ensures listed { IfOk result (λ s. s.listed ≡ no_list cells 256) }
+impl Course {
+    /// Main under the trap of its dispatch.
+    pub(crate) fn begin(alloc: Global, main: MethodNumber) -> Result<Course, AllocError>
+        ensures tasks { IfOk result (λ c. c.stack.tasks ≡ Run (fresh main null) ∷ Trapped ∷ Dispatched Main ∷ []) }
+        ensures depth { IfOk result (λ c. c.stack.depth ≡ 2048) }
+        ensures entries { IfOk result (λ c. c.entries ≡ record { items = Mark ∷ []; depth = 1024 }) }
     {
-        Ok(Stores {
-            active: none_enlisted(alloc, cells)?,
-            clients: Clients::with_limit(alloc, cells)?,
-            messages: Messages::with_limit(alloc, messages)?,
-            listed: Lists::with_limit(alloc, cells, CLASSES)?,
+        let mut entries = Cleanup::with_depth(alloc, ENTRIES)?;
+        entries.mark();
+        let mut stack = Tasks::with_depth(alloc, DEPTH)?;
+        stack.push(Task::Dispatched(Dispatch::Main));
+        stack.push(Task::Trapped);
+        stack.push(Task::Run(Frame::begin(main, NULL)));
+        Ok(Course { stack, entries })
+    }
+}
+
+/// The cells, which of them have a session, and the requests of active objects.
+#[derive(Drop)]
+pub(crate) struct Objects {
+    pub(crate) cells: Cells,
+    pub(crate) sessions: Sessions,
+    pub(crate) active: ActiveObjects,
+}
+
+impl Objects {
+    /// No cell lives, no session is open, and nothing is enlisted.
+    pub(crate) fn with_limit(alloc: Global, limit: usize) -> Result<Objects, AllocError>
+        requires { limit ≤ 4096 }
+        ensures cells { IfOk result (λ o. o.cells ≡ record { slots = []; limit = limit }) }
+        ensures sessions { IfOk result (λ o. o.sessions ≡ record { flags = replicate limit false; killed = [] }) }
+        ensures requests { IfOk result (λ o. StandsFor o.active (λ n. None) (λ n. None)) }
+        ensures numbers { IfOk result (λ o. o.active.table.limit ≡ limit) }
+    {
+        Ok(Objects {
+            cells: Cells::with_limit(alloc, limit)?,
+            sessions: Sessions::with_limit(alloc, limit)?,
+            active: none_enlisted(alloc, limit)?,
         })
     }
 }
@@ -53,4 +85,33 @@ fn none_enlisted(alloc: Global, cells: usize) -> Result<ActiveObjects, AllocErro
     ensures numbers { IfOk result (λ a. a.table.limit ≡ cells) }
 {
     ActiveObjects::with_limit(alloc, cells)
+}
+
+/// The clients, their messages, and the servers of each class.
+#[derive(Drop)]
+pub(crate) struct Services {
+    pub(crate) clients: Clients,
+    pub(crate) messages: Messages,
+    pub(crate) listed: Lists,
+}
+
+impl Services {
+    /// No client asked for anything, there is no message, and no server is found.
+    pub(crate) fn with_limit(
+        alloc: Global,
+        cells: usize,
+        messages: usize,
+    ) -> Result<Services, AllocError>
+        requires cells { cells ≤ 4096 }
+        requires messages { messages ≤ 1024 }
+        ensures clients { IfOk result (λ s. s.clients ≡ at_first cells) }
+        ensures messages { IfOk result (λ s. s.messages ≡ record { slots = []; limit = messages }) }
+        ensures listed { IfOk result (λ s. s.listed ≡ no_list cells 256) }
+    {
+        Ok(Services {
+            clients: Clients::with_limit(alloc, cells)?,
+            messages: Messages::with_limit(alloc, messages)?,
+            listed: Lists::with_limit(alloc, cells, CLASSES)?,
+        })
+    }
 }
