@@ -8,4 +8,6 @@ mod images;
 #[cfg(test)]
 mod prices;
 #[cfg(test)]
+mod runs;
+#[cfg(test)]
 mod steps;

@@ -1,99 +1,10 @@
-//! Programs that run step by step. A trace has the lines of each step, and after them how many cells there are.
-use crate::images::accepted_of;
-use aom_budget::Accepted;
-use aom_exec::{Machine, Progress};
-use aom_lines::Turn;
-use aom_transcript::{Ending, Page};
-use std::alloc::{AllocError, Global};
+//! Programs that run step by step.
+use crate::runs::{Pace, run};
+use aom_exec::Progress;
+use aom_transcript::Ending;
+use std::alloc::Global;
 use std::process::Abort;
 use std::test::Fail;
-
-/// What a step wrote, and how many cells there are then.
-fn add_to(alloc: Global, trace: &mut Vec<u8>, turn: &Turn, cells: usize) -> Result<(), AllocError> {
-    let mut page = Page::new();
-    for line in turn.lines() {
-        page.clear();
-        page.add_line(line);
-        trace.extend_from_slice(page.as_bytes())?;
-    }
-    let count = format!(in alloc; "{cells} ")?;
-    trace.extend_from_slice(count.as_bytes())
-}
-
-/// One step of a program whose request of that number is refused.
-fn step(
-    rt: &impl Abort,
-    alloc: Global,
-    refused: u32,
-    machine: &mut Machine<'_>,
-    trace: &mut Vec<u8>,
-) -> Result<(), Fail> {
-    let mut turn = Turn::new(alloc, machine.accepted(), vec![in alloc; refused]?)?;
-    let progress = machine.step(&mut turn);
-    assert_eq!(rt; machine.progress(), progress);
-    add_to(alloc, trace, &turn, machine.count())?;
-    Ok(())
-}
-
-/// Steps until nothing is at hand, and once more after waiting where the run is not over.
-fn trace_of(
-    rt: &impl Abort,
-    alloc: Global,
-    refused: u32,
-    machine: &mut Machine<'_>,
-) -> Result<Vec<u8>, Fail> {
-    let mut trace = Vec::new(alloc);
-    assert_eq!(rt; machine.clock(), 0);
-    for _ in 0..64 {
-        if machine.progress() != Progress::Running {
-            break;
-        }
-        assert!(rt; !machine.is_between());
-        step(rt, alloc, refused, machine, &mut trace)?;
-    }
-    if machine.is_between() {
-        assert_eq!(rt; machine.clock(), 1);
-        machine.wait();
-        step(rt, alloc, refused, machine, &mut trace)?;
-    }
-    assert!(rt; !machine.is_between());
-    Ok(trace)
-}
-
-/// Runs a machine from its boot, and compares its trace and how the run ended.
-fn compare(
-    rt: &impl Abort,
-    alloc: Global,
-    refused: u32,
-    machine: &mut Machine<'_>,
-    wanted: &str,
-    ending: Ending,
-) -> Result<(), Fail> {
-    let trace = trace_of(rt, alloc, refused, machine)?;
-    assert_eq!(rt; trace.as_slice(), wanted.as_bytes());
-    assert_eq!(rt; machine.progress(), Progress::Ended(ending));
-    Ok(())
-}
-
-/// Runs an image that declares its price.
-fn run_by_price(
-    rt: &impl Abort,
-    alloc: Global,
-    accepted: &Accepted,
-    refused: u32,
-    wanted: &str,
-    ending: Ending,
-) -> Result<(), Fail> {
-    let declared = accepted.linked().image().header().budget;
-    assert_eq!(rt;
-        accepted.figures().main_price(accepted.linked()),
-        u64::from(declared)
-    );
-    match Machine::boot(alloc, accepted) {
-        Ok(mut machine) => compare(rt, alloc, refused, &mut machine, wanted, ending),
-        Err(_) => Err(Fail::from("the machine does not boot")),
-    }
-}
 
 /// Runs a program that declares its price from its boot, and compares its trace and how the run ended. Request 0 is none.
 fn walks(
@@ -104,10 +15,16 @@ fn walks(
     wanted: &str,
     ending: Ending,
 ) -> Result<(), Fail> {
-    match accepted_of(alloc, text.as_bytes()) {
-        Some(accepted) => run_by_price(rt, alloc, &accepted, refused, wanted, ending),
-        None => Err(Fail::from("the image is not accepted")),
-    }
+    let pace = Pace {
+        is_far: false,
+        refused,
+    };
+    let Some(outcome) = run(alloc, text.as_bytes(), pace) else {
+        return Err(Fail::from("the program does not run at its price"));
+    };
+    assert_eq!(rt; outcome.trace.as_slice(), wanted.as_bytes());
+    assert!(rt; outcome.progress == Progress::Ended(ending));
+    Ok(())
 }
 
 /// Two objects are wanted. What is printed tells whether the second was had. The end of a dispatch that ran `stop` is a step
