@@ -24,7 +24,8 @@ alike_renamed names one_to_one (Goes s) = record { names = names; one_to_one = o
 alike_renamed names one_to_one (IsStuck kind) = refl
 
 -- two free names, of which one becomes the other as the two states' free names change places
-module _ (p : Image) (t : Typing) (s u : State) (well : WellTyped p t u) (kept : IsKept p u) (there : AllThere u) (alike : AreAlike s u) (a b : ℕ) (free_a : named s.cells a ≡ None) (free_b : named u.cells b ≡ None) where
+module _ (p : Image) (t : Typing) (s u : State) (well : WellTyped p t u) (kept : IsKept p u) (there : AllThere u) (alike : AreAlike s u) (a b : ℕ) (free_a : named s.cells a ≡ None)
+    (free_b : named u.cells b ≡ None) where
   exchanged : ℕ → ℕ
   exchanged n = swapped (alike.names a) b (alike.names n)
 

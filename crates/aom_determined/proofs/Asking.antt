@@ -94,7 +94,9 @@ module _ (p : Image) (s u : State) (all : AllWait s.clients s.cells) (x : Seat) 
   connect_there c es queue (Some m) e = subst AllThere (goes_same _ u e) (accepted_waits s.cells x.object lives (Connect_of c) es queue s.clients x c refl refl all)
 
   -- the session is at its place while it serves
-  message_there : (c m : ℕ) (es : List Asked) → (service_of s.cells n).queue ≡ Message_of c m ∷ es → (o : Option Object) → held s.cells (Elsewhere (Session n c)) ≡ o → attended p x c o m (taken_from n s) ≡ Goes u → AllThere u
+  message_there :
+      (c m : ℕ) (es : List Asked) → (service_of s.cells n).queue ≡ Message_of c m ∷ es → (o : Option Object) → held s.cells (Elsewhere (Session n c)) ≡ o →
+      attended p x c o m (taken_from n s) ≡ Goes u → AllThere u
   message_there c m es queue None at e = cc
   message_there c m es queue (Some o) at e = go (part_of p Attends o.thing) e
     where
@@ -125,7 +127,9 @@ module _ (p : Image) (s u : State) (all : AllWait s.clients s.cells) (x : Seat) 
       then = moved (Elsewhere (Session n c)) (Going 1) cells
 
       waiting : AllWait s.clients then
-      waiting i d f = ap (λ v. list_any (is_connect_of d) v.queue) (service_moved cells (Elsewhere (Session n c)) (Going 1) i) ∙ others_wait s.cells x.object lives (Close_of c) es queue s.clients (λ d. refl) all i d f
+      waiting i d f =
+          ap (λ v. list_any (is_connect_of d) v.queue) (service_moved cells (Elsewhere (Session n c)) (Going 1) i)
+          ∙ others_wait s.cells x.object lives (Close_of c) es queue s.clients (λ d. refl) all i d f
 
   serves_there : (queue : List Asked) → (service_of s.cells n).queue ≡ queue → serves_first p x queue s ≡ Goes u → AllThere u
   serves_there [] queue e = cc
@@ -147,10 +151,7 @@ closes_done : (n : ℕ) (x to : Client) → (row x).close ≡ Some to → is_con
 closes_done n (Connecting server slots) to e = let same : Unconnected ≡ to = cc in ap (is_connecting_at n) (sym same)
 closes_done n (Open server session slots) to e = let same : Closing_client server session ≡ to = cc in ap (is_connecting_at n) (sym same)
 closes_done n Gone to e = let same : Unconnected ≡ to = cc in ap (is_connecting_at n) (sym same)
-closes_done n Unconnected to e = cc
-closes_done n (Closing_client server session) to e = cc
-closes_done n Dead to e = cc
-closes_done n (Dying_client server session) to e = cc
+closes_done n _ to e = cc
 
 dies_done : (n : ℕ) (x to : Client) → (row x).die ≡ Some to → is_connecting_at n to ≡ false
 dies_done n Unconnected to e = let same : Dead ≡ to = cc in ap (is_connecting_at n) (sym same)
@@ -158,8 +159,7 @@ dies_done n (Connecting server slots) to e = let same : Dead ≡ to = cc in ap (
 dies_done n (Open server session slots) to e = let same : Dying_client server session ≡ to = cc in ap (is_connecting_at n) (sym same)
 dies_done n (Closing_client server session) to e = let same : Dying_client server session ≡ to = cc in ap (is_connecting_at n) (sym same)
 dies_done n Gone to e = let same : Dead ≡ to = cc in ap (is_connecting_at n) (sym same)
-dies_done n Dead to e = cc
-dies_done n (Dying_client server session) to e = cc
+dies_done n _ to e = cc
 
 -- what is asked last loses no connect
 last_keeps : (e : Asked) (v : Service) (c : ℕ) → list_any (is_connect_of c) v.queue ≡ true → list_any (is_connect_of c) (asked_last e v).queue ≡ true

@@ -111,7 +111,9 @@ module _ (names : ℕ → ℕ) (one_to_one : IsOneToOne names) where
   owns_nothing_kept (c ∷ cs) n = rw (is_field_kept n c.owner, owns_nothing_kept cs n)
 
 -- what changes each cell without a look at its name
-pub each_renamed : (names : ℕ → ℕ) (f : Cell → Cell) → ((c : Cell) → f (renamed_cell names c) ≡ renamed_cell names (f c)) → (cs : List Cell) → map f (renamed_cells names cs) ≡ renamed_cells names (map f cs)
+pub each_renamed :
+    (names : ℕ → ℕ) (f : Cell → Cell) → ((c : Cell) → f (renamed_cell names c) ≡ renamed_cell names (f c)) → (cs : List Cell) →
+    map f (renamed_cells names cs) ≡ renamed_cells names (map f cs)
 each_renamed names f same [] = refl
 each_renamed names f same (c ∷ cs) = ap (λ x. x ∷ map f (renamed_cells names cs)) (same c) ∙ ap (λ xs. renamed_cell names (f c) ∷ xs) (each_renamed names f same cs)
 

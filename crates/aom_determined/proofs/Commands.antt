@@ -46,7 +46,8 @@ module _ (names : ℕ → ℕ) where
       ∙ cond_applied (renamed_queue names) (f e) (e ∷ filter f es) (filter f es)
 
   seats_kept : (v : Service) → seats_taken (renamed_service names v) ≡ seats_taken v
-  seats_kept v = ap (λ es. length v.sessions + length es) (filter_renamed is_connect connect_kept v.queue) ∙ ap (λ n. length v.sessions + n) (length-map (filter is_connect v.queue) (renamed_asked names))
+  seats_kept v =
+      ap (λ es. length v.sessions + length es) (filter_renamed is_connect connect_kept v.queue) ∙ ap (λ n. length v.sessions + n) (length-map (filter is_connect v.queue) (renamed_asked names))
 
   -- ---- what a client leaves behind
 
@@ -82,7 +83,9 @@ module _ (names : ℕ → ℕ) where
   earlier_renamed a None = refl
   earlier_renamed a (Some b) = cond_applied renamed_listed (nat_lt b.order a.order) b a
 
-  among_renamed : (class : ℕ) (o : Object) (r : Option Request) (others : Option Listed) → among_listed class (renamed_object names o) r (option_map renamed_listed others) ≡ option_map renamed_listed (among_listed class o r others)
+  among_renamed :
+      (class : ℕ) (o : Object) (r : Option Request) (others : Option Listed) →
+      among_listed class (renamed_object names o) r (option_map renamed_listed others) ≡ option_map renamed_listed (among_listed class o r others)
   among_renamed class o None others = refl
   among_renamed class o (Some r) others =
       let a : Listed = record { name = o.name; order = r.order } in
@@ -187,13 +190,10 @@ module _ (names : ℕ → ℕ) (one_to_one : IsOneToOne names) where
         } in
         ap (λ l. sent ∷ l) (asks_renamed names one_to_one (Message_of client name) server s.cells)
 
-    sending_renamed : (r : Option Refusal) (x : Client) (name : ℕ) (words : List ℤ) → sending p client s' r (renamed_client names x) (names name) words ≡ renamed names (sending p client s r x name words)
-    sending_renamed (Some r) x name words = refl
+    sending_renamed :
+        (r : Option Refusal) (x : Client) (name : ℕ) (words : List ℤ) → sending p client s' r (renamed_client names x) (names name) words ≡ renamed names (sending p client s r x name words)
     sending_renamed None (Open server session slots) name words = ap (λ cs. record s' { cells = cs }) (message_renamed name words server)
-    sending_renamed None (Connecting server slots) name words = refl
-    sending_renamed None (Closing_client server session) name words = refl
-    sending_renamed None (Dying server session) name words = refl
-    sending_renamed None _ name words = refl
+    sending_renamed _ _ name words = refl
 
     told_renamed : (x : Client) (cs : List Cell) → told p client s' (renamed_client names x) (renamed_cells names cs) ≡ renamed_cells names (told p client s x cs)
     told_renamed (Open server session slots) cs = asks_renamed names one_to_one (Close_of client) server cs
@@ -220,5 +220,6 @@ module _ (names : ℕ → ℕ) (one_to_one : IsOneToOne names) where
         ap (λ r. sending p client s' r (own p client s') (names name) words) (refusal_kept (Send words))
         ∙ ap (λ x. sending p client s' (refusal p client s (Send words)) x (names name) words) own_renamed
         ∙ sending_renamed (refusal p client s (Send words)) (own p client s) name words
-    commanded_renamed Close name = ap (λ x. leaving p client s' (row x).close) own_renamed ∙ ap (leaving p client s') (closes_renamed names (own p client s)) ∙ leaving_renamed (row (own p client s)).close
+    commanded_renamed Close name =
+        ap (λ x. leaving p client s' (row x).close) own_renamed ∙ ap (leaving p client s') (closes_renamed names (own p client s)) ∙ leaving_renamed (row (own p client s)).close
     commanded_renamed Die name = ap (λ x. leaving p client s' (row x).die) own_renamed ∙ ap (leaving p client s') (dies_renamed names (own p client s)) ∙ leaving_renamed (row (own p client s)).die

@@ -4,7 +4,7 @@ use Rattle.std.specs.Prelude.{is_some, option_map}
 use Rattle.aom_image.specs.Image.{Image}
 use Rattle.aom_image.specs.Views.{instr_at, method_class, method_role}
 use Rattle.aom_instructions.specs.declared.instr.Instr.{Instr}
-use Rattle.aom_instructions.specs.declared.instr.Instr.TheVariants.{Abort, Add, And, Call, Cancel, Const, Copy, Delete, Enlist, Issue, JumpActive, JumpAdded, JumpEmpty, JumpNull, Load, Move, Mul, New, NewOrLeave, Next, Or, Pop, Push, PushOperation, Put, Return, SetActive, Status, Connect, Ask, Close, Store, Sub, Take, TakeMessage, Trap, Reply, Xor}
+use Rattle.aom_instructions.specs.declared.instr.Instr.TheVariants.{Call, Cancel, Delete, JumpActive, JumpAdded, JumpEmpty, JumpNull, Load, New, NewOrLeave, Next, Push, PushOperation, Put, Return, TakeMessage, Trap, Reply}
 use Rattle.aom_instructions.specs.declared.instr.Target.{Target}
 use Rattle.aom_instructions.specs.declared.instr.Target.TheVariants.{Entry as On_entry, Field as On_field, Register as On_register, This}
 use Rattle.aom_image.specs.declared.method.Gives.{Gives}
@@ -19,7 +19,7 @@ use Rattle.aom_sound.specs.Effects.{Calls, Cancels, Carried, Destroys, Destroys_
 use Rattle.aom_sound.specs.Enlisted.{cancel_method, cancelled, cancelling, ended_cells, in_phase, is_active, is_busy, on_request, own_request, rerequested}
 use Rattle.aom_sound.specs.Moves.{does, needs}
 use Rattle.aom_sound.specs.Places.{Cell, Elsewhere, Entry, Going, Object, Place, Register, Request, Session, held, moved}
-use Rattle.aom_sound.specs.State.{A_mark, Accepts, An_object, An_operation, Asks, AtRoot, Choice, Closing, Destroy, Dispatch, Dispatched, Frame, Home, Inside, Item, Of_server, Run, Serves, State, Static, Task, Trapped, Unwind, counter, field_place}
+use Rattle.aom_sound.specs.State.{A_mark, Accepts, An_object, An_operation, Asks, AtRoot, Choice, Closing, Destroy, Dispatch, Dispatched, Frame, Home, Inside, Item, Of_server, Run, Serves, State, Static, Task, Trapped, counter, field_place}
 use Rattle.aom_sound.specs.Words.{loaded, stored}
 use Rattle.aom_determined.proofs.Cells.{held_renamed, moved_renamed, order_kept, set_request_renamed, set_word_field_renamed, tasks_counted, timer_kept, word_field_kept, in_session_kept, set_session_renamed, cond_applied, without_renamed}
 use Rattle.aom_determined.proofs.Serving.{opened_client_renamed, opens_renamed}
@@ -51,7 +51,8 @@ module _ (names : ℕ → ℕ) where
   begun_by_renamed None o height below = refl
   begun_by_renamed (Some m) o height below = rw (tasks_counted names below)
 
-  pub destructed_renamed : (p : Image) (o : Object) (height : ℕ) (below : List Task) → destructed p (renamed_object names o) height (renamed_tasks names below) ≡ renamed_tasks names (destructed p o height below)
+  pub destructed_renamed :
+      (p : Image) (o : Object) (height : ℕ) (below : List Task) → destructed p (renamed_object names o) height (renamed_tasks names below) ≡ renamed_tasks names (destructed p o height below)
   destructed_renamed p o height below = begun_by_renamed (destructor_of p o.thing) o height below
 
   pub begun_renamed : (p : Image) (o : Object) (height : ℕ) (below : List Task) → begun p (renamed_object names o) height (renamed_tasks names below) ≡ renamed_tasks names (begun p o height below)
@@ -60,13 +61,8 @@ module _ (names : ℕ → ℕ) where
       ∙ cond_applied (renamed_tasks names) (is_server p o.thing) (Closing ∷ Destroy ∷ below) (destructed p o height below)
 
   to_trap_renamed : (ts : List Task) → to_trap (renamed_tasks names ts) ≡ renamed_tasks names (to_trap ts)
-  to_trap_renamed [] = refl
   to_trap_renamed (Run fr ∷ ts) = to_trap_renamed ts
-  to_trap_renamed (Trapped ∷ ts) = refl
-  to_trap_renamed (Destroy ∷ ts) = refl
-  to_trap_renamed (Closing ∷ ts) = refl
-  to_trap_renamed (Unwind code ∷ ts) = refl
-  to_trap_renamed (Dispatched d ∷ ts) = refl
+  to_trap_renamed _ = refl
 
   home_at_renamed : (o : Option Object) (q : Place) → home_at (option_map (renamed_object names) o) (renamed_place names q) ≡ renamed_home names (home_at o q)
   home_at_renamed None q = refl
@@ -125,18 +121,12 @@ module _ (names : ℕ → ℕ) where
   received_renamed :
       (p : Image) (fr : Frame) (ts : List Task) (s : State) (g : Gives) (a b : ℕ) (caller : Frame) →
       received p (renamed_frame names fr) (renamed_tasks names ts) (renamed names s) g a b (renamed_frame names caller) ≡ renamed_frame names (received p fr ts s g a b caller)
-  received_renamed p fr ts s Nothing a b caller = refl
-  received_renamed p fr ts s A_word a b caller = refl
   received_renamed p fr ts s (An_own t) a b caller = refl
-  received_renamed p fr ts s (A_maybe t) a b caller = refl
-  received_renamed p fr ts s (Left x) a b caller = refl
+  received_renamed p fr ts s _ a b caller = refl
 
   pub told_renamed : (g : Gives) (a : ℕ) (code : ℤ) (fr : Frame) → code_told g a code (renamed_frame names fr) ≡ renamed_frame names (code_told g a code fr)
-  told_renamed Nothing a code fr = refl
-  told_renamed A_word a code fr = refl
   told_renamed (An_own t) a code fr = refl
-  told_renamed (A_maybe t) a code fr = refl
-  told_renamed (Left x) a code fr = refl
+  told_renamed _ a code fr = refl
 
   -- an answer names no cell
   answer_kept : (g : Gives) (fr : Frame) (a : ℕ) → told_answer g (renamed_frame names fr) a ≡ told_answer g fr a
@@ -160,7 +150,9 @@ module _ (names : ℕ → ℕ) where
   accepted_clients_renamed (Of_server x c _) clients = refl
   accepted_clients_renamed _ clients = refl
 
-  accepted_renamed : IsOneToOne names → (d : Dispatch) (from : Place) (cs : List Cell) → accepted_cells (renamed_dispatch names d) (renamed_place names from) (renamed_cells names cs) ≡ renamed_cells names (accepted_cells d from cs)
+  accepted_renamed :
+      IsOneToOne names → (d : Dispatch) (from : Place) (cs : List Cell) →
+      accepted_cells (renamed_dispatch names d) (renamed_place names from) (renamed_cells names cs) ≡ renamed_cells names (accepted_cells d from cs)
   accepted_renamed one_to_one (Of_server x c Accepts) from cs =
       let to = Elsewhere (Session x.object.name c) in
       ap (reserved (opened c) (names x.object.name)) (moved_renamed names one_to_one from to cs) ∙ opens_renamed names one_to_one c x.object.name (moved from to cs)
@@ -169,21 +161,27 @@ module _ (names : ℕ → ℕ) where
 
 module _ (names : ℕ → ℕ) (one_to_one : IsOneToOne names) (p : Image) (c : Choice) (fr : Frame) (ts : List Task) (s : State) where
   -- whatever a register has moves to a place
-  from_register : (a : ℕ) (q : Place) → moved (Register (length (renamed_tasks names ts)) a) (renamed_place names q) (renamed_cells names s.cells) ≡ renamed_cells names (moved (Register (length ts) a) q s.cells)
+  from_register :
+      (a : ℕ) (q : Place) →
+      moved (Register (length (renamed_tasks names ts)) a) (renamed_place names q) (renamed_cells names s.cells) ≡ renamed_cells names (moved (Register (length ts) a) q s.cells)
   from_register a q =
       ap (λ n. moved (Register n a) (renamed_place names q) (renamed_cells names s.cells)) (tasks_counted names ts)
       ∙ moved_renamed names one_to_one (Register (length ts) a) q s.cells
 
   -- ---- returns
 
-  result_cells_renamed : (g : Gives) (a b : ℕ) (below : List Task) → result_cells p (renamed_frame names fr) (renamed_tasks names ts) (renamed names s) g a b (renamed_tasks names below) ≡ renamed_cells names (result_cells p fr ts s g a b below)
+  result_cells_renamed :
+      (g : Gives) (a b : ℕ) (below : List Task) →
+      result_cells p (renamed_frame names fr) (renamed_tasks names ts) (renamed names s) g a b (renamed_tasks names below) ≡ renamed_cells names (result_cells p fr ts s g a b below)
   result_cells_renamed Nothing a b below = refl
   result_cells_renamed A_word a b below = refl
   result_cells_renamed (An_own t) a b below = rw (tasks_counted names below, from_register a (Register (length below) b))
   result_cells_renamed (A_maybe t) a b below = rw (tasks_counted names below, from_register a (Register (length below) b))
   result_cells_renamed (Left x) a b below = refl
 
-  returned_renamed : (g : Gives) (a : ℕ) (over : List Task) → returned p (renamed_frame names fr) (renamed_tasks names ts) (renamed names s) g a (renamed_tasks names over) ≡ renamed names (returned p fr ts s g a over)
+  returned_renamed :
+      (g : Gives) (a : ℕ) (over : List Task) →
+      returned p (renamed_frame names fr) (renamed_tasks names ts) (renamed names s) g a (renamed_tasks names over) ≡ renamed names (returned p fr ts s g a over)
   returned_renamed g a (Run caller ∷ below) =
       let b = result_register (instr_at p caller.method caller.place) in
       rw (result_cells_renamed g a b below, received_renamed names p fr ts s g a b caller)
@@ -326,7 +324,9 @@ module _ (names : ℕ → ℕ) (one_to_one : IsOneToOne names) (p : Image) (c : 
   cancels_renamed true None = refl
   cancels_renamed false m = refl
 
-  cancel_renamed : cancels_if fr' (in_phase is_active (own_request s'.cells fr'.home)) (cancel_method p fr'.home) ≡ renamed_effect names (cancels_if fr (in_phase is_active (own_request s.cells fr.home)) (cancel_method p fr.home))
+  cancel_renamed :
+      cancels_if fr' (in_phase is_active (own_request s'.cells fr'.home)) (cancel_method p fr'.home)
+      ≡ renamed_effect names (cancels_if fr (in_phase is_active (own_request s.cells fr.home)) (cancel_method p fr.home))
   cancel_renamed =
       ap (λ r. cancels_if fr' (in_phase is_active r) (cancel_method p fr'.home)) (own_request_kept names one_to_one s.cells fr.home)
       ∙ ap (λ m. cancels_if fr' (in_phase is_active (own_request s.cells fr.home)) m) (cancel_kept fr.home)
@@ -345,56 +345,43 @@ module _ (names : ℕ → ℕ) (one_to_one : IsOneToOne names) (p : Image) (c : 
   effect_renamed (Delete a) = ap (λ o. deletes fr' o a) (register_renamed names one_to_one s.cells ts a) ∙ deletes_renamed (held s.cells (Register (length ts) a)) a
   effect_renamed (JumpActive to) = branch_renamed (in_phase is_busy) to
   effect_renamed (JumpAdded to) = branch_renamed is_some to
-  effect_renamed (Enlist priority) = rw (order_kept names s.cells)
-  effect_renamed (Issue a b) = rw (kind_kept names p fr.home, timer_kept names s.cells, own_session_kept names one_to_one s.cells fr.home, own_request_kept names one_to_one s.cells fr.home)
-  effect_renamed SetActive = rw (own_request_kept names one_to_one s.cells fr.home)
   effect_renamed Cancel = cancel_renamed
-  effect_renamed Abort = rw (own_request_kept names one_to_one s.cells fr.home)
-  effect_renamed (Status a) = rw (own_request_kept names one_to_one s.cells fr.home)
-  effect_renamed (Connect a) = rw (kind_kept names p fr.home, own_session_kept names one_to_one s.cells fr.home)
-  effect_renamed (Ask a b x) = rw (kind_kept names p fr.home, own_session_kept names one_to_one s.cells fr.home)
-  effect_renamed _ = first_of (cc, search (either_renamed), search (dealt_alike))
+  -- of what is read of the object that the method works on, of one test or of the last item, or of nothing
+  effect_renamed _ = first_of (
+    cc,
+    rw (own_request_kept names one_to_one s.cells fr.home),
+    rw (kind_kept names p fr.home, own_session_kept names one_to_one s.cells fr.home),
+    rw (kind_kept names p fr.home, timer_kept names s.cells, own_session_kept names one_to_one s.cells fr.home, own_request_kept names one_to_one s.cells fr.home),
+    rw (order_kept names s.cells),
+    search (either_renamed),
+    search (dealt_alike),
+  )
 
   -- ---- what an instruction needs
 
   pub needs_kept : (i : Instr) → needs p c' fr' ts' s' i ≡ needs p c fr ts s i
-  needs_kept (Const a w) = rw (free_at names one_to_one s.cells ts a)
-  needs_kept (Copy a b) = rw (free_at names one_to_one s.cells ts a)
-  needs_kept (Add a b x) = rw (free_at names one_to_one s.cells ts a)
-  needs_kept (Sub a b x) = rw (free_at names one_to_one s.cells ts a)
-  needs_kept (Mul a b x) = rw (free_at names one_to_one s.cells ts a)
-  needs_kept (And a b x) = rw (free_at names one_to_one s.cells ts a)
-  needs_kept (Or a b x) = rw (free_at names one_to_one s.cells ts a)
-  needs_kept (Xor a b x) = rw (free_at names one_to_one s.cells ts a)
-  needs_kept (JumpEmpty f to) = rw (holder_kept names fr.home)
-  needs_kept (Load a w) = rw (holder_kept names fr.home, free_at names one_to_one s.cells ts a)
-  needs_kept (Store w b) = rw (holder_kept names fr.home)
-  needs_kept (Move a b) = rw (free_at names one_to_one s.cells ts a)
-  needs_kept (Take a f) = rw (holder_kept names fr.home, free_at names one_to_one s.cells ts a)
   needs_kept (Put f b) = put_kept names one_to_one p c fr ts s f b
-  needs_kept (New a x) = rw (free_at names one_to_one s.cells ts a)
   needs_kept (Delete a) = rw (message_at names one_to_one s.cells ts a)
   needs_kept (Call target m first a) = call_kept names one_to_one p c fr ts s target m first a
   needs_kept (Trap target m first a) = under_trap_kept names one_to_one p c fr ts s target m first a
   needs_kept (NewOrLeave a x) = rw (free_at names one_to_one s.cells ts a, refusal_kept names one_to_one p c fr ts s s.cells)
   needs_kept (Push a) = push_kept names one_to_one p c fr ts s a
   needs_kept (PushOperation a m) = rw (refusal_kept names one_to_one p c fr ts s s.cells, trap_kept names ts)
-  needs_kept (Pop a) = rw (free_at names one_to_one s.cells ts a)
-  needs_kept (JumpActive to) = rw (kind_kept names p fr.home)
-  needs_kept (JumpAdded to) = rw (kind_kept names p fr.home)
-  needs_kept (Enlist priority) = rw (kind_kept names p fr.home, own_request_kept names one_to_one s.cells fr.home)
-  needs_kept (Issue a b) = rw (kind_kept names p fr.home, own_request_kept names one_to_one s.cells fr.home)
-  needs_kept SetActive = rw (kind_kept names p fr.home, own_request_kept names one_to_one s.cells fr.home)
-  needs_kept Cancel = rw (kind_kept names p fr.home, own_request_kept names one_to_one s.cells fr.home)
-  needs_kept Abort = rw (kind_kept names p fr.home, own_request_kept names one_to_one s.cells fr.home)
-  needs_kept (Status a) = rw (kind_kept names p fr.home, free_at names one_to_one s.cells ts a)
-  needs_kept (Connect a) = rw (kind_kept names p fr.home, free_at names one_to_one s.cells ts a)
-  needs_kept (Ask a b x) = rw (kind_kept names p fr.home, free_at names one_to_one s.cells ts a)
-  needs_kept Close = rw (kind_kept names p fr.home, own_request_kept names one_to_one s.cells fr.home)
   needs_kept (TakeMessage a) = take_message_kept names one_to_one p c fr ts s a
   needs_kept (Reply a b) = reply_kept names one_to_one p c fr ts s a b
   needs_kept (Return a) = return_kept names one_to_one p c fr ts s a
-  needs_kept _ = first_of (cc, rw (leave_kept names s.cells (Run fr ∷ ts)), rw (whole_kept names one_to_one s.cells s.items))
+  -- of a register that is to be free, of the object that the method works on, of what a leave needs, of the last item, or of nothing
+  needs_kept _ = first_of (
+    cc,
+    rw (free_at names one_to_one s.cells ts),
+    rw (holder_kept names fr.home),
+    rw (holder_kept names fr.home, free_at names one_to_one s.cells ts),
+    rw (kind_kept names p fr.home),
+    rw (kind_kept names p fr.home, own_request_kept names one_to_one s.cells fr.home),
+    rw (kind_kept names p fr.home, free_at names one_to_one s.cells ts),
+    rw (leave_kept names s.cells (Run fr ∷ ts)),
+    rw (whole_kept names one_to_one s.cells s.items),
+  )
 
   pub does_renamed : (i : Instr) → does p c' fr' ts' s' i ≡ renamed names (does p c fr ts s i)
   does_renamed i = ap (applied p fr' ts' s') (effect_renamed i) ∙ applied_renamed (effect p c fr ts s i)

@@ -26,7 +26,7 @@ use Rattle.aom_sound.specs.Kept.{ClientsFit, is_connect_of}
 use Rattle.aom_sound.specs.Moves.{answered, asking, dispatch_ends, failed, handled, main_ends, object_ends, stage_ends}
 use Rattle.aom_sound.specs.Places.{Cell, Elsewhere, Going, In_service, Object, Root, Session, Tidy, held, moved, service_of}
 use Rattle.aom_sound.specs.Servers.{is_server, parted}
-use Rattle.aom_sound.specs.State.{Accept_left, Accepted, Accepts, Answered, Asks, Closing, Destroy, Dispatch, Dispatched, Goes, Main_left, Object_left, Of_main, Of_object, Of_root, Of_server, Parts, Run, Seat, Service_left, Serves, Stage, State, Task, Trapped, Unwind}
+use Rattle.aom_sound.specs.State.{Accept_left, Accepted, Accepts, Answered, Asks, Closing, Destroy, Dispatch, Dispatched, Goes, Main_left, Object_left, Of_main, Of_object, Of_root, Of_server, Parts, Seat, Service_left, Serves, Stage, State, Task}
 use Rattle.aom_sound.specs.WellTyped.{EndsDispatch, Gone, Now, SomeIn, Stack, WellTyped}
 use Rattle.aom_determined.proofs.Fresh.{dispatch_at}
 use Rattle.aom_determined.proofs.Keeping.{Calm, calm_itself, calm_moved, calm_reserved, still_either, there_by}
@@ -54,7 +54,9 @@ dying_apart p t cs tidy ls ts stack tasks o there x c stage at = ne_eqb o.name x
     u = untouched p t cs (Going (length ts)) o tidy there (λ f. Null) d.1 Gone (subst (λ l. length (tasks_of d.1) ≤ length l) (sym d.3) (omega arith)) below
 
 -- of what a server that goes accepts
-accepted_apart : (o : Object) (d : Option Dispatch) → ((x : Seat) (c : ℕ) (stage : Stage) → d ≡ Some (Of_server x c stage) → (o.name == x.object.name) ≡ false) → (n c : ℕ) → accepts n c d ≡ true → (o.name == n) ≡ false
+accepted_apart :
+    (o : Object) (d : Option Dispatch) → ((x : Seat) (c : ℕ) (stage : Stage) → d ≡ Some (Of_server x c stage) → (o.name == x.object.name) ≡ false) → (n c : ℕ) → accepts n c d ≡ true →
+    (o.name == n) ≡ false
 accepted_apart o (Some (Of_server x k Accepts)) apart n c h = go (x.object.name == n) refl h
   where
     go : (b : Bool) → (x.object.name == n) ≡ b → (b && (k == c)) ≡ true → (o.name == n) ≡ false
@@ -80,7 +82,9 @@ first_session_at : (cs : List Cell) (n : ℕ) (clients : List ℕ) (x : Seat) �
 first_session_at cs n [] x e = cc
 first_session_at cs n (c ∷ clients) x e = go (held cs (Elsewhere (Session n c))) (first_session_at cs n clients x) e
   where
-    go : (o : Option Object) → (first_session cs n clients ≡ Some x → (c : ℕ) × (x.place ≡ Elsewhere (Session n c))) → seat_or o (Elsewhere (Session n c)) (first_session cs n clients) ≡ Some x → (c : ℕ) × (x.place ≡ Elsewhere (Session n c))
+    go :
+        (o : Option Object) → (first_session cs n clients ≡ Some x → (c : ℕ) × (x.place ≡ Elsewhere (Session n c))) →
+        seat_or o (Elsewhere (Session n c)) (first_session cs n clients) ≡ Some x → (c : ℕ) × (x.place ≡ Elsewhere (Session n c))
     go None rest e = rest e
     go (Some o) rest e = let same : record { object = o; place = Elsewhere (Session n c) } ≡ x = cc in (c, sym (ap (λ y. y.place) same))
 
@@ -90,8 +94,13 @@ module _ (p : Image) (t : Typing) (s : State) (w : WellTyped p t s) (there : All
   closing_layers _ ts k e = cc
 
   -- a session of a server that is not dispatched is at hand to go
-  session_goes : (o : Object) (c k : ℕ) (d : Option Dispatch) → ((x : Seat) (c : ℕ) (stage : Stage) → d ≡ Some (Of_server x c stage) → (o.name == x.object.name) ≡ false) → AreThere s.clients s.cells d → AreThere s.clients (moved (Elsewhere (Session o.name c)) (Going k) s.cells) d
-  session_goes o c k d apart there = record { asked = λ n i e. still_either (waits s.cells n i) (waits cells n i) (accepts n i d) (there.asked n i e) (λ h. ap (λ v. list_any (is_connect_of i) v.queue) (service_moved s.cells (Elsewhere (Session o.name c)) (Going k) n) ∙ h); serves = at d apart there.serves }
+  session_goes :
+      (o : Object) (c k : ℕ) (d : Option Dispatch) → ((x : Seat) (c : ℕ) (stage : Stage) → d ≡ Some (Of_server x c stage) → (o.name == x.object.name) ≡ false) →
+      AreThere s.clients s.cells d → AreThere s.clients (moved (Elsewhere (Session o.name c)) (Going k) s.cells) d
+  session_goes o c k d apart there = record {
+    asked = λ n i e. still_either (waits s.cells n i) (waits cells n i) (accepts n i d) (there.asked n i e) (λ h. ap (λ v. list_any (is_connect_of i) v.queue) (service_moved s.cells (Elsewhere (Session o.name c)) (Going k) n) ∙ h);
+    serves = at d apart there.serves;
+  }
     where
       cells : List Cell
       cells = moved (Elsewhere (Session o.name c)) (Going k) s.cells
@@ -114,8 +123,11 @@ module _ (p : Image) (t : Typing) (s : State) (w : WellTyped p t s) (there : All
       before : AreThere s.clients s.cells (dispatch_of below)
       before = subst (λ ts. AreThere s.clients s.cells (dispatch_of ts)) tasks there
 
-      by_session : (o : Object) → held s.cells (Going (length below)) ≡ Some o → (x : Option Seat) → first_session s.cells o.name (service_of s.cells o.name).sessions ≡ x → AllThere (parting p o x below s)
-      by_session o at None first = there_by s.clients s.cells (dispatch_of below) s.clients s.cells _ refl (calm_itself s.cells) (dispatch_begun_by (destructor_of p o.thing) o (length s.items) below) before
+      by_session :
+          (o : Object) → held s.cells (Going (length below)) ≡ Some o → (x : Option Seat) → first_session s.cells o.name (service_of s.cells o.name).sessions ≡ x →
+          AllThere (parting p o x below s)
+      by_session o at None first =
+          there_by s.clients s.cells (dispatch_of below) s.clients s.cells _ refl (calm_itself s.cells) (dispatch_begun_by (destructor_of p o.thing) o (length s.items) below) before
       by_session o at (Some x) first =
           let c = first_session_at s.cells o.name (service_of s.cells o.name).sessions x first in
           let goes = session_goes o c.0 (length (Closing ∷ Destroy ∷ below)) (dispatch_of below) (λ x k stage d. dying_apart p t s.cells w.good.tidy l.0 below l.1 l.2 o at x k stage d) before in
@@ -125,12 +137,7 @@ module _ (p : Image) (t : Typing) (s : State) (w : WellTyped p t s) (there : All
       by_server : (o : Option Object) → held s.cells (Going (length below)) ≡ o → parting_from p o below s ≡ Goes u → AllThere u
       by_server None at e = cc
       by_server (Some o) at e = subst AllThere (goes_same _ u e) (by_session o at (first_session s.cells o.name (service_of s.cells o.name).sessions) refl)
-  closing_there [] u tasks e = cc
-  closing_there (Run fr ∷ ts) u tasks e = cc
-  closing_there (Trapped ∷ ts) u tasks e = cc
-  closing_there (Closing ∷ ts) u tasks e = cc
-  closing_there (Unwind code ∷ ts) u tasks e = cc
-  closing_there (Dispatched d ∷ ts) u tasks e = cc
+  closing_there _ u tasks e = cc
 
 -- ---- a dispatch ends
 
@@ -147,15 +154,8 @@ pub plain_there : (clients : List Client) (cs : List Cell) (d : Option Dispatch)
 plain_there clients cs d plain all = record { asked = λ n c e. ap (λ b. b || accepts n c d) (all n c e); serves = go d plain }
   where
     go : (d : Option Dispatch) → IsPlain d → IsAtPlace cs d
-    go None h = tt
-    go (Some Of_main) h = tt
-    go (Some (Main_left code)) h = tt
-    go (Some Of_root) h = tt
-    go (Some (Of_object x)) h = tt
-    go (Some (Object_left x code)) h = tt
-    go (Some (Asks x)) h = tt
-    go (Some (Answered x answer)) h = tt
     go (Some (Of_server x c stage)) h = absurd h
+    go _ h = tt
 
 or_true : (a b : Bool) → b ≡ false → (a || b) ≡ true → a ≡ true
 or_true true b e h = refl
@@ -192,7 +192,9 @@ module _ (p : Image) (s : State) (all : AllWait s.clients s.cells) where
 
 module _ (p : Image) (s : State) (fit : ClientsFit p s.clients s.cells) (tidy : Tidy s.cells) (plain : (o : Object) → held s.cells (Elsewhere In_service) ≡ Some o → is_server p o.thing ≡ false) where
   -- a client is at something else, where it does not connect
-  all_with : (c : ℕ) (to : Client) → ((n d : ℕ) → (c == d) ≡ false → is_connecting_at n (client_at s.clients d) ≡ true → waits s.cells n d ≡ true) → ((n : ℕ) → is_connecting_at n to ≡ true → waits s.cells n c ≡ true) → AllWait (with_client c to s.clients) s.cells
+  all_with :
+      (c : ℕ) (to : Client) → ((n d : ℕ) → (c == d) ≡ false → is_connecting_at n (client_at s.clients d) ≡ true → waits s.cells n d ≡ true) →
+      ((n : ℕ) → is_connecting_at n to ≡ true → waits s.cells n c ≡ true) → AllWait (with_client c to s.clients) s.cells
   all_with c to others own n d e = go (c == d) refl
     where
       go : (b : Bool) → (c == d) ≡ b → waits s.cells n d ≡ true

@@ -75,17 +75,12 @@ module _ (then first : ℕ → ℕ) where
   both n = then (first n)
 
   other_twice : (o : Other) → renamed_other both o ≡ renamed_other then (renamed_other first o)
-  other_twice Root = refl
   other_twice (Session s c) = refl
-  other_twice In_service = refl
-  other_twice (Queued s m) = refl
+  other_twice _ = refl
 
   place_twice : (q : Place) → renamed_place both q ≡ renamed_place then (renamed_place first q)
-  place_twice (Register f r) = refl
-  place_twice (Entry k) = refl
-  place_twice (Field n f) = refl
-  place_twice (Going k) = refl
   place_twice (Elsewhere o) = ap Elsewhere (other_twice o)
+  place_twice _ = refl
 
   asked_twice : (e : Asked) → renamed_asked both e ≡ renamed_asked then (renamed_asked first e)
   asked_twice (Connect_of c) = refl
@@ -189,7 +184,8 @@ module _ (names : ℕ → ℕ) where
   SparesSent cs = (n c m : ℕ) → list_any (is_message_of c m) (service_of cs n).queue ≡ true → names m ≡ m
 
   sent_first : (c : Cell) (cs : List Cell) → SparesSent (c ∷ cs) → (d m : ℕ) → list_any (is_message_of d m) c.service.queue ≡ true → names m ≡ m
-  sent_first c cs sent_so d m h = sent_so c.object.name d m (ap (λ b. list_any (is_message_of d m) (cond b c.service (service_of cs c.object.name)).queue) (eq-eqb c.object.name c.object.name refl) ∙ h)
+  sent_first c cs sent_so d m h =
+      sent_so c.object.name d m (ap (λ b. list_any (is_message_of d m) (cond b c.service (service_of cs c.object.name)).queue) (eq-eqb c.object.name c.object.name refl) ∙ h)
 
   sent_on : (c : Cell) (cs : List Cell) → named cs c.object.name ≡ None → SparesSent (c ∷ cs) → SparesSent cs
   sent_on c cs alone sent_so n d m h = go (c.object.name == n) refl
@@ -275,7 +271,9 @@ unnamed_owns_nothing p t cs ls good n f e =
 session_declared : (p : Image) (cs : List Cell) (n c : ℕ) → named cs n ≡ None → declared p cs (Elsewhere (Session n c)) ≡ Null
 session_declared p cs n c e = ap (λ v. cond (has_session v c) (filled (session_thing p (named cs n)) Full) Null) (service_unnamed cs n e)
 
-session_null : (p : Image) (t : Typing) (cs : List Cell) (ls : List Layer) (back : Back) (n c : ℕ) → Stack p t cs back ls → named cs n ≡ None → claim p (declared p cs) ls (Elsewhere (Session n c)) ≡ Null
+session_null :
+    (p : Image) (t : Typing) (cs : List Cell) (ls : List Layer) (back : Back) (n c : ℕ) → Stack p t cs back ls → named cs n ≡ None →
+    claim p (declared p cs) ls (Elsewhere (Session n c)) ≡ Null
 session_null p t cs [] back n c k e = session_declared p cs n c e
 session_null p t cs (Method fr sh ∷ ls) back n c k e = session_null p t cs ls (Returns fr.method fr.home) n c k.4 e
 session_null p t cs (Mark gv ∷ ls) back n c k e = session_null p t cs ls (Caught gv) n c k.1 e
@@ -296,7 +294,8 @@ unclaimed_owns_nothing p t cs ls o good null = fits_unowning p (seen cs) (held c
 
 -- ---- a renaming of names that are not in use
 
-module _ (p : Image) (t : Typing) (s : State) (names : ℕ → ℕ) (well : WellTyped p t s) (fit : ClientsFit p s.clients s.cells) (there : AllThere s) (named_so : (n : ℕ) → named s.cells n ≢ None → names n ≡ n) where
+module _ (p : Image) (t : Typing) (s : State) (names : ℕ → ℕ) (well : WellTyped p t s) (fit : ClientsFit p s.clients s.cells) (there : AllThere s)
+    (named_so : (n : ℕ) → named s.cells n ≢ None → names n ≡ n) where
   -- what a place holds has a name
   owned_so : (q : Place) (o : Object) → held s.cells q ≡ Some o → names o.name ≡ o.name
   owned_so q o at = named_so o.name (λ e. held_named s.cells q o at e)
@@ -310,7 +309,8 @@ module _ (p : Image) (t : Typing) (s : State) (names : ℕ → ℕ) (well : Well
 
   other_so : (o : Other) → held s.cells (Elsewhere o) ≢ None → renamed_other names o ≡ o
   other_so Root some = refl
-  other_so (Session n c) some = ap (λ k. Session k c) (named_so n (λ e. some (unclaimed_owns_nothing p t s.cells well.layers (Session n c) well.good (session_null p t s.cells well.layers Now n c well.good.stack e))))
+  other_so (Session n c) some =
+      ap (λ k. Session k c) (named_so n (λ e. some (unclaimed_owns_nothing p t s.cells well.layers (Session n c) well.good (session_null p t s.cells well.layers Now n c well.good.stack e))))
   other_so In_service some = refl
   other_so (Queued n m) some = rw (named_so n (λ e. some (unclaimed_owns_nothing p t s.cells well.layers (Queued n m) well.good (none e))), waiting_so n m some)
     where
@@ -340,7 +340,9 @@ module _ (p : Image) (t : Typing) (s : State) (names : ℕ → ℕ) (well : Well
     where
       by_seat : (x : Seat) (client : ℕ) (stage : Stage) → dispatch_of ts ≡ Some (Of_server x client stage) → ((x.object.name == n) && (client == c)) ≡ true → names n ≡ n
       by_seat x client stage d e =
-          let l = server_lives p t s.cells well.layers Now x client stage well.good.stack (subst (λ l. IsAt (Of_server x client stage) l) (sym tasks ∙ well.tasks) (dispatch_at ts (Of_server x client stage) d)) in
+          let l =
+          server_lives p t s.cells well.layers Now x client stage well.good.stack
+          (subst (λ l. IsAt (Of_server x client stage) l) (sym tasks ∙ well.tasks) (dispatch_at ts (Of_server x client stage) d)) in
           subst (λ k. names k ≡ k) (eqb-true x.object.name n (and_first (x.object.name == n) (client == c) e)) (named_so x.object.name (λ none. let clash : Some x.object ≡ None = sym l.0 ∙ none in cc))
 
       by_dispatch : (d : Option Dispatch) → dispatch_of ts ≡ d → accepts n c d ≡ true → names n ≡ n
@@ -371,6 +373,8 @@ module _ (p : Image) (t : Typing) (s : State) (names : ℕ → ℕ) (well : Well
   spared = rw (cells_spared names s.cells well.good.tidy named_so held_so sent_so, spared_tasks, clients_spared names s.clients (λ c. client_so c (client_at s.clients c) refl))
 
 -- two names that are free change places, and nothing changes
-pub swapped_free : (p : Image) (t : Typing) (s : State) (a b : ℕ) → WellTyped p t s → ClientsFit p s.clients s.cells → AllThere s → named s.cells a ≡ None → named s.cells b ≡ None → renamed (swapped a b) s ≡ s
+pub swapped_free :
+    (p : Image) (t : Typing) (s : State) (a b : ℕ) → WellTyped p t s → ClientsFit p s.clients s.cells → AllThere s → named s.cells a ≡ None → named s.cells b ≡ None →
+    renamed (swapped a b) s ≡ s
 swapped_free p t s a b well fit there free_a free_b =
     spared p t s (swapped a b) well fit there (λ n some. swap_other a b n (λ e. some (ap (named s.cells) e ∙ free_a)) (λ e. some (ap (named s.cells) e ∙ free_b)))

@@ -93,7 +93,8 @@ module _ (p : Image) (fr : Frame) (ts : List Task) (s : State) where
   place_stored (Inside o from) w v q = held_set_word s.cells o.name w v q
 
   pub calm_update : (u : Update) → IsFine fr s u → Calm s.cells (cells_after p fr ts s u)
-  calm_update (Carried from to) f = calm_steady s.cells _ (steady_update p fr ts s (Carried from to) tt) (place_moved s.cells (spot_place p fr ts s from) (spot_place p fr ts s to) (spot_alone from) (spot_alone to))
+  calm_update (Carried from to) f =
+      calm_steady s.cells _ (steady_update p fr ts s (Carried from to) tt) (place_moved s.cells (spot_place p fr ts s from) (spot_place p fr ts s to) (spot_alone from) (spot_alone to))
   calm_update (Made name class a) f = calm_steady s.cells _ (steady_update p fr ts s (Made name class a) f) (λ n c. refl)
   calm_update (Written w v) f = calm_steady s.cells _ (steady_update p fr ts s (Written w v) tt) (λ n c. place_stored fr.home w v (Elsewhere (Session n c)))
   calm_update (Requested r) f = calm_steady s.cells _ (steady_update p fr ts s (Requested r) f) (λ n c. (rerequested_alike s.cells fr.home r).held_so (Elsewhere (Session n c)))
@@ -105,7 +106,9 @@ module _ (p : Image) (fr : Frame) (ts : List Task) (s : State) where
   calm_update (Pushed_operation m w) f = calm_itself s.cells
   calm_update Popped_operation f = calm_itself s.cells
 
-  place_passed : (depth : ℕ) (xs : List Argument) (first to : ℕ) (cs : List Cell) (n c : ℕ) → held (passed_cells p fr ts s depth xs first to cs) (Elsewhere (Session n c)) ≡ held cs (Elsewhere (Session n c))
+  place_passed :
+      (depth : ℕ) (xs : List Argument) (first to : ℕ) (cs : List Cell) (n c : ℕ) →
+      held (passed_cells p fr ts s depth xs first to cs) (Elsewhere (Session n c)) ≡ held cs (Elsewhere (Session n c))
   place_passed depth [] first to cs n c = refl
   place_passed depth (Takes_word ∷ xs) first to cs n c = place_passed depth xs (suc first) (suc to) cs n c
   place_passed depth (Takes_own t ∷ xs) first to cs n c =
@@ -156,7 +159,8 @@ calm_unslotted xs cs = record {
 -- ---- cells go, of which none has a connect
 
 module _ (gone : Place → Bool) (cs : List Cell) (tidy : Tidy cs) where
-  pub connects_dropped : (n c : ℕ) → ((q : Place) (o : Object) → gone q ≡ true → held cs q ≡ Some o → o.name ≡ n → (service_of cs n).queue ≡ []) → waits cs n c ≡ true → waits (dropped gone cs) n c ≡ true
+  pub connects_dropped :
+      (n c : ℕ) → ((q : Place) (o : Object) → gone q ≡ true → held cs q ≡ Some o → o.name ≡ n → (service_of cs n).queue ≡ []) → waits cs n c ≡ true → waits (dropped gone cs) n c ≡ true
   connects_dropped n c empty h = ⊎_elim same went (each_name gone cs tidy n)
     where
       same : Same gone cs n → waits (dropped gone cs) n c ≡ true

@@ -46,7 +46,8 @@ module _ (names : ℕ → ℕ) (one_to_one : IsOneToOne names) (cs : List Cell) 
   queue_lines_kept (Some o) = ap (λ v. flat_map (ended_line (renamed_cells names cs)) v.queue) (service_renamed names one_to_one cs o.name) ∙ queue_kept (service_of cs o.name).queue
 
   stage_lines_kept : (c : ℕ) (stage : Stage) → stage_lines (renamed_cells names cs) c (renamed_stage names stage) ≡ stage_lines cs c stage
-  stage_lines_kept c (Service_left code) = ap (λ o. message_line (renamed_cells names cs) o code) (held_renamed names one_to_one cs (Elsewhere In_service)) ∙ message_line_kept (held cs (Elsewhere In_service)) code
+  stage_lines_kept c (Service_left code) =
+      ap (λ o. message_line (renamed_cells names cs) o code) (held_renamed names one_to_one cs (Elsewhere In_service)) ∙ message_line_kept (held cs (Elsewhere In_service)) code
   stage_lines_kept c (Serves o) = refl
   stage_lines_kept c _ = refl
 

@@ -19,12 +19,12 @@ use Rattle.aom_sound.specs.Calls.{accepted_cells, accepted_clients, answered_by,
 use Rattle.aom_sound.specs.Cleanup.{arrived, dealt_with, destroyed, ended_by, to_trap, top_is_whole, top_place, unwound}
 use Rattle.aom_sound.specs.Clients.{at_opening, client_at, with_client}
 use Rattle.aom_sound.specs.Destruction.{begun, begun_by, destructed}
-use Rattle.aom_sound.specs.Effects.{Calls, Cancels, Counts, Destroys, Destroys_last, Effect, Goes_on, Jumps, Leaves, Operates, Repeats, Returns, Sets_trap, applied}
+use Rattle.aom_sound.specs.Effects.{Calls, Cancels, Destroys, Destroys_last, Effect, Goes_on, Leaves, Returns, Sets_trap, applied}
 use Rattle.aom_sound.specs.Enlisted.{begun_cells, cancelling, on_request, own_request}
 use Rattle.aom_sound.specs.Kept.{is_connect_of}
 use Rattle.aom_sound.specs.Places.{Cell, Elsewhere, Entry, Going, Object, Place, Session, held, moved}
 use Rattle.aom_sound.specs.Servers.{is_server, opened}
-use Rattle.aom_sound.specs.State.{A_mark, Accept_left, Accepted, Accepts, An_object, An_operation, Answered, Asks, Closing, Destroy, Dispatch, Dispatched, Frame, Goes, IsStuck, Item, Main_left, NullOrDead, Object_left, Of_main, Of_object, Of_root, Of_server, Parts, Run, Service_left, Serves, State, Task, Trapped, Unwind, resumed}
+use Rattle.aom_sound.specs.State.{A_mark, Accepts, An_object, An_operation, Asks, Closing, Destroy, Dispatch, Dispatched, Frame, Goes, IsStuck, Item, NullOrDead, Of_main, Of_object, Of_server, Run, Serves, State, Task, Trapped, Unwind, resumed}
 use Rattle.aom_sound.specs.Words.{here}
 use Rattle.aom_sound.proofs.ClientsMoves.{steady_asked}
 use Rattle.aom_sound.proofs.ClientsTurn.{on_none}
@@ -45,22 +45,12 @@ dispatch_begun p o height ts = go (is_server p o.thing)
     go false = dispatch_begun_by (destructor_of p o.thing) o height ts
 
 pub dispatch_resumed : (ts : List Task) → dispatch_of (resumed ts) ≡ dispatch_of ts
-dispatch_resumed [] = refl
 dispatch_resumed (Run fr ∷ ts) = refl
-dispatch_resumed (Trapped ∷ ts) = refl
-dispatch_resumed (Destroy ∷ ts) = refl
-dispatch_resumed (Closing ∷ ts) = refl
-dispatch_resumed (Unwind code ∷ ts) = refl
-dispatch_resumed (Dispatched d ∷ ts) = refl
+dispatch_resumed _ = refl
 
 dispatch_to_trap : (ts : List Task) → dispatch_of (to_trap ts) ≡ dispatch_of ts
-dispatch_to_trap [] = refl
 dispatch_to_trap (Run fr ∷ ts) = dispatch_to_trap ts
-dispatch_to_trap (Trapped ∷ ts) = refl
-dispatch_to_trap (Destroy ∷ ts) = refl
-dispatch_to_trap (Closing ∷ ts) = refl
-dispatch_to_trap (Unwind code ∷ ts) = refl
-dispatch_to_trap (Dispatched d ∷ ts) = refl
+dispatch_to_trap _ = refl
 
 -- ---- the effects of instructions
 
@@ -70,9 +60,6 @@ module _ (p : Image) (fr : Frame) (ts : List Task) (s : State) (there : AreThere
 
   pub effect_there : (e : Effect) → Fine fr s e → AllThere (applied p fr ts s e)
   effect_there (Goes_on ch) f = by (applied p fr ts s (Goes_on ch)) refl (calm_update p fr ts s ch.update f) refl
-  effect_there (Jumps to) f = by (applied p fr ts s (Jumps to)) refl (calm_itself s.cells) refl
-  effect_there (Counts depth rounds) f = by (applied p fr ts s (Counts depth rounds)) refl (calm_itself s.cells) refl
-  effect_there (Repeats depth rounds to) f = by (applied p fr ts s (Repeats depth rounds to)) refl (calm_itself s.cells) refl
   effect_there (Calls target m first) f = by (applied p fr ts s (Calls target m first)) refl (calm_passed p fr ts s _ (arguments_of p m) first 0 s.cells) refl
   effect_there (Sets_trap target m first) f = by (applied p fr ts s (Sets_trap target m first)) refl (calm_passed p fr ts s _ (arguments_of p m) first 0 s.cells) refl
   effect_there (Cancels m) f =
@@ -84,7 +71,7 @@ module _ (p : Image) (fr : Frame) (ts : List Task) (s : State) (there : AreThere
       by (applied p fr ts s (Destroys x a words)) refl (calm_moved s.cells (here fr ts s a) (Going (suc (length ts))) (λ n c. refl) (λ n c. refl) (λ n m. refl)) (dispatch_begun p x _ (Run _ ∷ ts))
   effect_there (Destroys_last x) f =
       by (applied p fr ts s (Destroys_last x)) refl (calm_moved s.cells (top_place s.items) (Going (suc (length ts))) (λ n c. refl) (λ n c. refl) (λ n m. refl)) (dispatch_begun p x _ (Run _ ∷ ts))
-  effect_there (Operates m w) f = by (applied p fr ts s (Operates m w)) refl (calm_itself s.cells) refl
+  effect_there r f = by (applied p fr ts s r) refl (calm_itself s.cells) refl
 
 -- ---- a method returns
 
@@ -119,36 +106,24 @@ module _ (p : Image) (fr : Frame) (ts : List Task) (s : State) where
           go false other =
               let before = there.asked n d (ap (is_connecting_at n) (sym (client_there c d (at_opening 0 (client_at s.clients c)) s.clients other)) ∙ e) in
               let waited = or_true (waits s.cells n d) (or_none (waits s.cells n d) (x.object.name == n) (c == d) other before) in
-              let then_waits = (calm_reserved (opened c) (λ v k h. h) cells x.object.name).connects n d (ap (λ v. list_any (is_connect_of d) v.queue) (service_moved s.cells from (Elsewhere (Session x.object.name c)) n) ∙ waited) in
+              let then_waits =
+              (calm_reserved (opened c) (λ v k h. h) cells x.object.name).connects n d
+              (ap (λ v. list_any (is_connect_of d) v.queue) (service_moved s.cells from (Elsewhere (Session x.object.name c)) n) ∙ waited) in
               ap (λ b. b || false) then_waits
             where
               or_true : (a : Bool) → (a || false) ≡ true → a ≡ true
               or_true true h = refl
               or_true false h = cc
   accepted_there (Of_server x c (Serves o)) from there = record { asked = there.asked; serves = tt }
-  accepted_there (Of_server x c Accepted) from there = there
-  accepted_there (Of_server x c (Accept_left code)) from there = there
-  accepted_there (Of_server x c (Service_left code)) from there = there
-  accepted_there (Of_server x c Parts) from there = there
-  accepted_there Of_main from there = there
-  accepted_there (Main_left code) from there = there
-  accepted_there Of_root from there = there
-  accepted_there (Of_object x) from there = there
-  accepted_there (Object_left x code) from there = there
-  accepted_there (Asks x) from there = there
-  accepted_there (Answered x answer) from there = there
+  accepted_there _ from there = there
 
   answered_there : (answer : ℤ) (d : Dispatch) → AreThere s.clients s.cells (Some d) → AreThere s.clients s.cells (Some (answered_by answer d))
   answered_there answer (Asks x) there = record { asked = there.asked; serves = tt }
-  answered_there answer (Of_server x c stage) there = there
-  answered_there answer Of_main there = there
-  answered_there answer (Main_left code) there = there
-  answered_there answer Of_root there = there
-  answered_there answer (Of_object x) there = there
-  answered_there answer (Object_left x code) there = there
-  answered_there answer (Answered x old) there = there
+  answered_there answer _ there = there
 
-  pub returned_there : (g : Gives) (a : ℕ) (below : List Task) → s.tasks ≡ Run fr ∷ ts → AreThere s.clients s.cells (dispatch_of below) → AreThere s.clients s.cells (dispatch_of ts) → AllThere (returned p fr ts s g a below)
+  pub returned_there :
+      (g : Gives) (a : ℕ) (below : List Task) → s.tasks ≡ Run fr ∷ ts → AreThere s.clients s.cells (dispatch_of below) → AreThere s.clients s.cells (dispatch_of ts) →
+      AllThere (returned p fr ts s g a below)
   returned_there g a (Run caller ∷ below) tasks there all = there_by s.clients s.cells (dispatch_of below) s.clients _ _ refl (calm_result p fr ts s g a _ below) refl there
   returned_there g a (Trapped ∷ Run caller ∷ below) tasks there all = there_by s.clients s.cells (dispatch_of below) s.clients _ _ refl (calm_result p fr ts s g a _ below) refl there
   returned_there g a (Trapped ∷ Dispatched d ∷ below) tasks there all = accepted_there d (here fr ts s a) there
@@ -165,15 +140,7 @@ module _ (p : Image) (s : State) where
   left_there code (Of_object x) there = record { asked = there.asked; serves = tt }
   left_there code (Of_server x c Accepts) there = record { asked = there.asked; serves = tt }
   left_there code (Of_server x c (Serves o)) there = record { asked = there.asked; serves = tt }
-  left_there code (Of_server x c Accepted) there = there
-  left_there code (Of_server x c (Accept_left old)) there = there
-  left_there code (Of_server x c (Service_left old)) there = there
-  left_there code (Of_server x c Parts) there = there
-  left_there code (Main_left old) there = there
-  left_there code Of_root there = there
-  left_there code (Object_left x old) there = there
-  left_there code (Asks x) there = there
-  left_there code (Answered x answer) there = there
+  left_there code _ there = there
 
   arrived_there : (code : ℤ) (ts : List Task) (items : List Item) (u : State) → AreThere s.clients s.cells (dispatch_of ts) → arrived p code ts items s ≡ Goes u → AllThere u
   arrived_there code (Trapped ∷ Run fr ∷ ts) items u there e = subst AllThere (goes_same _ u e) there
@@ -186,7 +153,9 @@ module _ (p : Image) (s : State) where
     where
       by_object : (o : Option Object) → AllThere (destroyed p o items (Unwind code ∷ ts) s)
       by_object None = there
-      by_object (Some o) = there_by s.clients s.cells (dispatch_of ts) s.clients _ _ refl (calm_moved s.cells (Entry (length items)) (Going _) (λ n c. refl) (λ n c. refl) (λ n m. refl)) (dispatch_begun p o (length items) (Unwind code ∷ ts)) there
+      by_object (Some o) =
+          there_by s.clients s.cells (dispatch_of ts) s.clients _ _ refl (calm_moved s.cells (Entry (length items)) (Going _) (λ n c. refl) (λ n c. refl) (λ n m. refl))
+          (dispatch_begun p o (length items) (Unwind code ∷ ts)) there
 
       go : (b : Bool) → cond b (Goes (dealt_with p (An_object ∷ items) (Unwind code ∷ ts) s)) (IsStuck NullOrDead) ≡ Goes u → AllThere u
       go true e = subst AllThere (goes_same _ u e) (by_object (held s.cells (Entry (length items))))

@@ -19,7 +19,7 @@ use Rattle.aom_sound.specs.Objects.{is_declared_thing, is_no_message, is_thing, 
 use Rattle.aom_sound.specs.Places.{Cell, Elsewhere, Entry, In_service, Object, Place, Register, Session, held, moved}
 use Rattle.aom_sound.specs.Destruction.{owns_nothing}
 use Rattle.aom_sound.specs.Servers.{without_queue}
-use Rattle.aom_sound.specs.State.{A_mark, Accepts, An_object, An_operation, Asks, AtRoot, Choice, Closing, Destroy, Dispatch, Dispatched, Frame, Home, Inside, IsStuck, Item, MessageLost, Need, Of_server, Orphan, Run, Serves, State, Static, Task, Trapped, Unbalanced, Unwind, field_place, guarded, home_holder}
+use Rattle.aom_sound.specs.State.{A_mark, Accepts, An_object, An_operation, Asks, AtRoot, Choice, Destroy, Dispatch, Dispatched, Frame, Home, Inside, IsStuck, Item, MessageLost, Need, Of_server, Orphan, Run, Serves, State, Static, Task, Trapped, Unbalanced, field_place, guarded, home_holder}
 use Rattle.aom_sound.specs.Words.{needs_word}
 use Rattle.aom_determined.proofs.Cells.{held_renamed, moved_renamed, none_owns_kept, owns_nothing_kept, requested_kept, tasks_counted}
 use Rattle.aom_determined.proofs.Serving.{without_queue_renamed}
@@ -78,22 +78,12 @@ module _ (names : ℕ → ℕ) where
   is_asked_kept _ = refl
 
   pub trap_kept : (ts : List Task) → has_trap (renamed_tasks names ts) ≡ has_trap ts
-  trap_kept [] = refl
   trap_kept (Run fr ∷ ts) = trap_kept ts
-  trap_kept (Trapped ∷ ts) = refl
-  trap_kept (Destroy ∷ ts) = refl
-  trap_kept (Closing ∷ ts) = refl
-  trap_kept (Unwind code ∷ ts) = refl
-  trap_kept (Dispatched d ∷ ts) = refl
+  trap_kept _ = refl
 
   free_kept : (cs : List Cell) (ts : List Task) → above_trap_is_free (renamed_cells names cs) (renamed_tasks names ts) ≡ above_trap_is_free cs ts
-  free_kept cs [] = refl
   free_kept cs (Run fr ∷ ts) = rw (tasks_counted names ts, none_owns_kept names cs (length ts) None, free_kept cs ts)
-  free_kept cs (Trapped ∷ ts) = refl
-  free_kept cs (Destroy ∷ ts) = refl
-  free_kept cs (Closing ∷ ts) = refl
-  free_kept cs (Unwind code ∷ ts) = refl
-  free_kept cs (Dispatched d ∷ ts) = refl
+  free_kept cs _ = refl
 
   pub leave_kept : (cs : List Cell) (ts : List Task) → leave_needs (renamed_cells names cs) (renamed_tasks names ts) ≡ leave_needs cs ts
   leave_kept cs ts = rw (trap_kept ts, free_kept cs ts)
@@ -261,11 +251,8 @@ module _ (names : ℕ → ℕ) (one_to_one : IsOneToOne names) (p : Image) (c : 
   leaves_object_kept x (A_mark ∷ items) = refl
 
   level_kept : (g : Gives) → is_level p fr' ts' s' g ≡ is_level p fr ts s g
-  level_kept Nothing = refl
-  level_kept A_word = refl
-  level_kept (An_own t) = refl
-  level_kept (A_maybe t) = refl
   level_kept (Left x) = leaves_object_kept x s.items
+  level_kept _ = refl
 
   pub return_kept : (a : ℕ) → needs_return p fr' ts' s' a ≡ needs_return p fr ts s a
   return_kept a = rw (

@@ -50,7 +50,8 @@ module _ {p : Image} {outside : Outside} {from : State} where
   follows_it (turns heard reached between well goes) =
       let before = heard_by reached in
       let n = stages reached in
-      let same : SameBefore n before (record before { completes = said before.completes n heard.completion }) = record { answers = λ k lt. refl; completes = said_before before.completes n heard.completion } in
+      let same : SameBefore n before (record before { completes = said before.completes n heard.completion }) =
+      record { answers = λ k lt. refl; completes = said_before before.completes n heard.completion } in
       (follows_both before (record before { completes = said before.completes n heard.completion }) reached same (follows_it reached), λ polled. sym (said_here before.completes n heard.completion))
 
 pub each_run_follows : EachRunFollows

@@ -47,7 +47,9 @@ module _ (heard : Heard) where
   told_delivers outside s (Kill n) = cond_applied (told heard.completion) (lives outside s n) (Kills n) Hears
   told_delivers outside s (Of_client c command) = cond_applied (told heard.completion) (nat_lt c client_count) (Obeys c command heard.name) Hears
 
-  told_by_event : (outside : Outside) (s : State) (e : Option TimedEvent) (after : Turning) → by_event outside heard.name s e (told heard.completion after) ≡ told heard.completion (by_event outside heard.name s e after)
+  told_by_event :
+      (outside : Outside) (s : State) (e : Option TimedEvent) (after : Turning) →
+      by_event outside heard.name s e (told heard.completion after) ≡ told heard.completion (by_event outside heard.name s e after)
   told_by_event outside s None after = refl
   told_by_event outside s (Some e) after =
       let due = nat_le e.time s.rest.clock in
@@ -72,8 +74,11 @@ module _ (heard : Heard) where
   untold (Polls n other) e = cc
   untold _ e = refl
 
-  pub turn_unpolled : (p : Image) (outside : Outside) (s : State) → is_polling (turning outside nothing_heard s) ≡ false → turn p outside heard s ≡ turn p outside (record nothing_heard { name = heard.name }) s
-  turn_unpolled p outside s e = ap (turned p s) (told_turning outside s ∙ untold (turning outside (record nothing_heard { name = heard.name }) s) (polling_named outside nothing_heard heard.name s ∙ e))
+  pub turn_unpolled :
+      (p : Image) (outside : Outside) (s : State) → is_polling (turning outside nothing_heard s) ≡ false →
+      turn p outside heard s ≡ turn p outside (record nothing_heard { name = heard.name }) s
+  turn_unpolled p outside s e =
+      ap (turned p s) (told_turning outside s ∙ untold (turning outside (record nothing_heard { name = heard.name }) s) (polling_named outside nothing_heard heard.name s ∙ e))
 
 -- ---- where there is no native none is polled
 

@@ -64,7 +64,9 @@ module _ (p : Image) (t : Typing) (outside : Outside) (wired : IsWired p) (typed
   there : (lines : List Line) (s : State) → Reaches p outside (boot_state p) lines s → AllThere s
   there _ _ begins = all_stays_there.boot p
   there _ _ (moves {lines = lines} {s = s} {u = u} c before busy choice e) = let w = well lines s before in all_stays_there.moves p t wired typed c s u w.0 choice.name w.1 (there lines s before) e
-  there _ _ (turns {lines = lines} {s = s} {u = u} heard before between hears e) = let w = well lines s before in all_stays_there.turns p t outside wired typed heard s u w.0 between hears w.1 (there lines s before) e
+  there _ _ (turns {lines = lines} {s = s} {u = u} heard before between hears e) =
+      let w = well lines s before in
+      all_stays_there.turns p t outside wired typed heard s u w.0 between hears w.1 (there lines s before) e
 
   -- ---- as many stages
 
@@ -79,11 +81,16 @@ module _ (p : Image) (t : Typing) (outside : Outside) (wired : IsWired p) (typed
   goes_alike o o' s u e e' h = subst (λ x. AlikeOutcomes (Goes s) x) e' (subst (λ x. AlikeOutcomes x o') e h)
 
   -- and what is heard in one is heard in the other
-  hears_alike : (n : ℕ) (v w s u : State) (new new' : List Line) → AreAlike v w → (one : Moved n v s new) (other : Moved n w u new') → is_heard p v.tasks ≡ true → one.choice.answer ≡ other.choice.answer
+  hears_alike :
+      (n : ℕ) (v w s u : State) (new new' : List Line) → AreAlike v w → (one : Moved n v s new) (other : Moved n w u new') → is_heard p v.tasks ≡ true →
+      one.choice.answer ≡ other.choice.answer
   hears_alike n v w s u new new' alike one other heard = one.hears heard ∙ sym (other.hears (ap (λ x. is_heard p x.tasks) alike.same ∙ heard_kept p alike.names v.tasks ∙ heard))
 
-  polls_alike : (n : ℕ) (v w s u : State) (new new' : List Line) → AreAlike v w → (one : Turned n v s new) (other : Turned n w u new') → is_polling (turning outside nothing_heard v) ≡ true → one.heard.completion ≡ other.heard.completion
-  polls_alike n v w s u new new' alike one other polled = one.hears polled ∙ sym (other.hears (ap (λ x. is_polling (turning outside nothing_heard x)) alike.same ∙ polling_kept alike.names outside v ∙ polled))
+  polls_alike :
+      (n : ℕ) (v w s u : State) (new new' : List Line) → AreAlike v w → (one : Turned n v s new) (other : Turned n w u new') → is_polling (turning outside nothing_heard v) ≡ true →
+      one.heard.completion ≡ other.heard.completion
+  polls_alike n v w s u new new' alike one other polled =
+      one.hears polled ∙ sym (other.hears (ap (λ x. is_polling (turning outside nothing_heard x)) alike.same ∙ polling_kept alike.names outside v ∙ polled))
 
   stage_alike : (n : ℕ) (v w s u : State) (new new' : List Line) → WellKept p t w → AllThere w → AreAlike v w → Stage n v s new → Stage n w u new' → (new ≡ new') × AreAlike s u
   stage_alike n v w s u new new' k there alike (inl one) (inl other) = (
@@ -166,7 +173,9 @@ module _ (p : Image) (t : Typing) (outside : Outside) (wired : IsWired p) (typed
       (λ le. inr (begins_so (stages other) (stages one) others lines u s le b a))
       (cases_lt (stages one) (stages other))
 
-  whole : (lines others : List Line) (s u : State) (ending : Ending) (one : Run_of p outside lines s ending) (other : Reached others u) → Follows oracle one.reaches → Follows oracle other → Begins others lines
+  whole :
+      (lines others : List Line) (s u : State) (ending : Ending) (one : Run_of p outside lines s ending) (other : Reached others u) → Follows oracle one.reaches → Follows oracle other →
+      Begins others lines
   whole lines others s u ending one other hears follows =
       let a = staged one.reaches hears in
       let b = staged other follows in
@@ -175,7 +184,9 @@ module _ (p : Image) (t : Typing) (outside : Outside) (wired : IsWired p) (typed
       (λ le. begins_so (stages other) (stages one.reaches) others lines u s le b a)
       (cases_lt (stages one.reaches) (stages other))
 
-  same_length : (n m : ℕ) (lines others : List Line) (s u : State) (ending last : Ending) → Run_of p outside lines s ending → Run_of p outside others u last → After n lines s → After m others u → n ≡ m
+  same_length :
+      (n m : ℕ) (lines others : List Line) (s u : State) (ending last : Ending) → Run_of p outside lines s ending → Run_of p outside others u last → After n lines s → After m others u →
+      n ≡ m
   same_length n m lines others s u ending last one other a b = ⊎_elim
       (λ lt. absurd (never_past n m lines others s u ending one lt a b))
       (λ le. ⊎_elim (λ e. e) (λ ne. absurd (never_past m n others lines u s last other (omega arith) b a)) (cases_eq n m))

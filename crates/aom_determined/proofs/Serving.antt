@@ -150,7 +150,9 @@ module _ (names : ℕ → ℕ) (one_to_one : IsOneToOne names) where
 
   -- ---- the first session that is there
 
-  seat_or_renamed : (o : Option Object) (q : Place) (others : Option Seat) → seat_or (option_map (renamed_object names) o) (renamed_place names q) (option_map (renamed_seat names) others) ≡ option_map (renamed_seat names) (seat_or o q others)
+  seat_or_renamed :
+      (o : Option Object) (q : Place) (others : Option Seat) →
+      seat_or (option_map (renamed_object names) o) (renamed_place names q) (option_map (renamed_seat names) others) ≡ option_map (renamed_seat names) (seat_or o q others)
   seat_or_renamed None q others = refl
   seat_or_renamed (Some o) q others = refl
 

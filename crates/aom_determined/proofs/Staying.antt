@@ -29,7 +29,7 @@ use Rattle.aom_sound.specs.Servers.{is_server, without_queue}
 use Rattle.aom_sound.specs.State.{Choice, Closing, Destroy, Dispatched, Frame, Goes, Run, State, Task, Trapped, Unwind}
 use Rattle.aom_sound.specs.WellTyped.{WellTyped}
 use Rattle.aom_sound.specs.Words.{here}
-use Rattle.aom_sound.specs.World.{Completes, Cuts, Hears, Kills, Obeys, Passes, Picks, Polls, Strays, Turning, Waits, boot_state, heard_one, main_tasks, turned, turning, with_request}
+use Rattle.aom_sound.specs.World.{Completes, Kills, Obeys, Picks, Polls, Strays, Turning, boot_state, heard_one, main_tasks, turned, turning, with_request}
 use Rattle.aom_determined.proofs.Ending.{AllWait, all_wait, closing_there, dispatch_there, gone_apart, plain_there}
 use Rattle.aom_determined.proofs.Keeping.{calm_ended, there_by}
 use Rattle.aom_determined.proofs.Moving.{dispatch_resumed, effect_there, returned_there, unwound_there}
@@ -98,7 +98,8 @@ module _ (p : Image) (t : Typing) (wired : IsWired p) (c : Choice) (s : State) (
   moved_there (Destroy ∷ ts) tasks u e = gone_there ts u tasks (held s.cells (Going (length ts))) refl e
   moved_there (Closing ∷ ts) tasks u e = closing_there p t (counted p s) counted_well there ts u tasks e
   moved_there (Unwind code ∷ ts) tasks u e = unwound_there p (counted p s) code ts s.items u (subst (λ l. AreThere s.clients s.cells (dispatch_of l)) tasks there) e
-  moved_there (Dispatched d ∷ ts) tasks u e = subst AllThere (guarded_goes (needs_end d s.cells) _ u e) (dispatch_there p t s w kept.fit (serving_plain p t s w) d ts tasks there (counted p s) refl refl)
+  moved_there (Dispatched d ∷ ts) tasks u e =
+      subst AllThere (guarded_goes (needs_end d s.cells) _ u e) (dispatch_there p t s w kept.fit (serving_plain p t s w) d ts tasks there (counted p s) refl refl)
 
 -- ---- each turn
 
@@ -111,12 +112,11 @@ module _ (p : Image) (t : Typing) (wired : IsWired p) (s : State) (w : WellTyped
   by_idle clients cs ts none all = subst (λ l. AreThere clients cs (dispatch_of l)) (sym none) (plain_there clients cs None tt all)
 
   requested_there : (f : Request → Request) (o : Object) → AllWait s.clients (with_request f o s.cells)
-  requested_there f o = same_waits s.clients s.cells (with_request f o s.cells) (same_requested s.cells o (on_request f (requested s.cells o.name)) (λ e. on_none f (requested s.cells o.name) e)) waiting
+  requested_there f o =
+      same_waits s.clients s.cells (with_request f o s.cells) (same_requested s.cells o (on_request f (requested s.cells o.name)) (λ e. on_none f (requested s.cells o.name) e)) waiting
 
   turned_there : (k : Turning) → IsFound p t wired s w idle kept k → (u : State) → turned p s k ≡ Goes u → AllThere u
-  turned_there Cuts f u e = subst AllThere (goes_same _ u e) (by_idle s.clients s.cells s.tasks idle waiting)
   turned_there (Completes o) f u e = subst AllThere (goes_same _ u e) (by_idle s.clients _ s.tasks idle (requested_there timed_out o))
-  turned_there Hears f u e = subst AllThere (goes_same _ u e) (by_idle s.clients s.cells s.tasks idle waiting)
   turned_there (Kills n) f u e = subst AllThere (goes_same _ u e) (by_idle s.clients _ s.tasks idle (same_waits s.clients s.cells (all_bereaved p n s.cells) (same_bereaved p n s.cells) waiting))
   turned_there (Polls n answer) f u e = go u (polled_so p s u n answer e)
     where
@@ -125,11 +125,12 @@ module _ (p : Image) (t : Typing) (wired : IsWired p) (s : State) (w : WellTyped
         | nothing ↦ by_idle s.clients s.cells s.tasks idle waiting
         | answers o code ↦ by_idle s.clients (with_request (completed_with (recorded code)) o s.cells) s.tasks idle (requested_there (completed_with (recorded code)) o)
       ]
-  turned_there (Obeys client command name) f u e = subst AllThere (goes_same _ u e) (by_idle _ _ _ ((commanded_kept p client (heard_one s) command name).1 ∙ idle) (commanded_waits p client (heard_one s) w.good.tidy kept.fit (waiting_well p t wired s w) waiting command name f))
+  turned_there (Obeys client command name) f u e =
+      subst AllThere (goes_same _ u e)
+      (by_idle _ _ _ ((commanded_kept p client (heard_one s) command name).1 ∙ idle) (commanded_waits p client (heard_one s) w.good.tidy kept.fit (waiting_well p t wired s w) waiting command name f))
   turned_there (Picks x) f u e = picked_there p s u waiting x f.0 e
   turned_there Strays f u e = cc
-  turned_there (Passes time) f u e = subst AllThere (goes_same _ u e) (by_idle s.clients s.cells s.tasks idle waiting)
-  turned_there Waits f u e = subst AllThere (goes_same _ u e) (by_idle s.clients s.cells s.tasks idle waiting)
+  turned_there _ f u e = subst AllThere (goes_same _ u e) (by_idle s.clients s.cells s.tasks idle waiting)
 
 pub all_stays_there : AllStaysThere
 all_stays_there = record {

@@ -31,13 +31,8 @@ use Rattle.aom_determined.specs.Names.{IsOneToOne, renamed, renamed_cells, renam
 
 module _ (names : ℕ → ℕ) (one_to_one : IsOneToOne names) where
   resumed_renamed : (ts : List Task) → resumed (renamed_tasks names ts) ≡ renamed_tasks names (resumed ts)
-  resumed_renamed [] = refl
   resumed_renamed (Run fr ∷ ts) = refl
-  resumed_renamed (Trapped ∷ ts) = refl
-  resumed_renamed (Destroy ∷ ts) = refl
-  resumed_renamed (Closing ∷ ts) = refl
-  resumed_renamed (Unwind code ∷ ts) = refl
-  resumed_renamed (Dispatched d ∷ ts) = refl
+  resumed_renamed _ = refl
 
   instr_renamed :
       (p : Image) (c : Choice) (fr : Frame) (ts : List Task) (s : State) (i : Option Instr) →
@@ -77,13 +72,17 @@ module _ (names : ℕ → ℕ) (one_to_one : IsOneToOne names) where
 
   -- ---- the sessions of a server
 
-  parting_renamed : (p : Image) (o : Object) (x : Option Seat) (below : List Task) (s : State) → parting p (renamed_object names o) (option_map (renamed_seat names) x) (renamed_tasks names below) (renamed names s) ≡ renamed names (parting p o x below s)
+  parting_renamed :
+      (p : Image) (o : Object) (x : Option Seat) (below : List Task) (s : State) →
+      parting p (renamed_object names o) (option_map (renamed_seat names) x) (renamed_tasks names below) (renamed names s) ≡ renamed names (parting p o x below s)
   parting_renamed p o None below s = ap (λ ts. record (renamed names s) { tasks = ts }) (destructed_renamed names p o (length s.items) below)
   parting_renamed p o (Some x) below s =
       let over = Closing ∷ Destroy ∷ below in
       rw (tasks_counted names below, moved_renamed names one_to_one x.place (Going (length over)) s.cells, begun_renamed names p x.object (length s.items) over)
 
-  parting_from_renamed : (p : Image) (o : Option Object) (below : List Task) (s : State) → parting_from p (option_map (renamed_object names) o) (renamed_tasks names below) (renamed names s) ≡ renamed_outcome names (parting_from p o below s)
+  parting_from_renamed :
+      (p : Image) (o : Option Object) (below : List Task) (s : State) →
+      parting_from p (option_map (renamed_object names) o) (renamed_tasks names below) (renamed names s) ≡ renamed_outcome names (parting_from p o below s)
   parting_from_renamed p None below s = refl
   parting_from_renamed p (Some o) below s =
       let sessions = (service_of s.cells o.name).sessions in
@@ -96,12 +95,7 @@ module _ (names : ℕ → ℕ) (one_to_one : IsOneToOne names) where
       ap (λ n. parting_from p (held (renamed_cells names s.cells) (Going n)) (renamed_tasks names below) (renamed names s)) (tasks_counted names below)
       ∙ ap (λ o. parting_from p o (renamed_tasks names below) (renamed names s)) (held_renamed names one_to_one s.cells (Going (length below)))
       ∙ parting_from_renamed p (held s.cells (Going (length below))) below s
-  closing_renamed p [] s = refl
-  closing_renamed p (Run fr ∷ ts) s = refl
-  closing_renamed p (Trapped ∷ ts) s = refl
-  closing_renamed p (Closing ∷ ts) s = refl
-  closing_renamed p (Unwind code ∷ ts) s = refl
-  closing_renamed p (Dispatched d ∷ ts) s = refl
+  closing_renamed p _ s = refl
 
   ended_by_renamed : (code : ℤ) (d : Dispatch) → ended_by code (renamed_dispatch names d) ≡ renamed_dispatch names (ended_by code d)
   ended_by_renamed code Of_main = refl

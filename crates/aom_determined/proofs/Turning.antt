@@ -46,7 +46,9 @@ module _ (names : ℕ → ℕ) where
   sooner_renamed a None = refl
   sooner_renamed a (Some b) = cond_applied renamed_timed (is_sooner b.timer a.timer) b a
 
-  timers_renamed : (o : Object) (r : Option Request) (others : Option Timed) → among_timers (renamed_object names o) r (option_map renamed_timed others) ≡ option_map renamed_timed (among_timers o r others)
+  timers_renamed :
+      (o : Object) (r : Option Request) (others : Option Timed) →
+      among_timers (renamed_object names o) r (option_map renamed_timed others) ≡ option_map renamed_timed (among_timers o r others)
   timers_renamed o None others = refl
   timers_renamed o (Some r) others = go r.timer
     where
@@ -74,7 +76,9 @@ module _ (names : ℕ → ℕ) where
   before_renamed a None = refl
   before_renamed a (Some b) = cond_applied renamed_candidate (goes_before b.request a.request) b a
 
-  among_renamed : (c : Cell) (r : Option Request) (others : Option Candidate) → among_ready (renamed_cell names c) r (option_map renamed_candidate others) ≡ option_map renamed_candidate (among_ready c r others)
+  among_renamed :
+      (c : Cell) (r : Option Request) (others : Option Candidate) →
+      among_ready (renamed_cell names c) r (option_map renamed_candidate others) ≡ option_map renamed_candidate (among_ready c r others)
   among_renamed c None others = refl
   among_renamed c (Some r) others =
       let a : Candidate = record { seat = record { object = c.object; place = c.owner }; request = r } in
@@ -124,7 +128,9 @@ module _ (names : ℕ → ℕ) where
   delivers_renamed outside name s (Kill n) = cond_applied renamed_turning (lives outside s n) (Kills n) Hears
   delivers_renamed outside name s (Of_client c command) = cond_applied renamed_turning (nat_lt c client_count) (Obeys c command name) Hears
 
-  by_event_renamed : (outside : Outside) (name : ℕ) (s : State) (e : Option TimedEvent) (after : Turning) → by_event outside (names name) s e (renamed_turning after) ≡ renamed_turning (by_event outside name s e after)
+  by_event_renamed :
+      (outside : Outside) (name : ℕ) (s : State) (e : Option TimedEvent) (after : Turning) →
+      by_event outside (names name) s e (renamed_turning after) ≡ renamed_turning (by_event outside name s e after)
   by_event_renamed outside name s None after = refl
   by_event_renamed outside name s (Some e) after =
       let due = nat_le e.time s.rest.clock in
@@ -185,23 +191,31 @@ module _ (names : ℕ → ℕ) (one_to_one : IsOneToOne names) where
     word_field_kept names one_to_one cs m 4,
   )
 
-  attending_renamed : (method : Option ℕ) (x : Seat) (c : ℕ) (o : Object) (m : ℕ) (s : State) → attending method (renamed_seat names x) c (renamed_object names o) (names m) (renamed names s) ≡ renamed_outcome names (attending method x c o m s)
+  attending_renamed :
+      (method : Option ℕ) (x : Seat) (c : ℕ) (o : Object) (m : ℕ) (s : State) →
+      attending method (renamed_seat names x) c (renamed_object names o) (names m) (renamed names s) ≡ renamed_outcome names (attending method x c o m s)
   attending_renamed None x c o m s = refl
   attending_renamed (Some method) x c o m s = rw (words_kept s.cells m, moved_renamed names one_to_one (Elsewhere (Queued x.object.name m)) (Elsewhere In_service) s.cells)
 
-  attended_renamed : (p : Image) (x : Seat) (c : ℕ) (o : Option Object) (m : ℕ) (s : State) → attended p (renamed_seat names x) c (option_map (renamed_object names) o) (names m) (renamed names s) ≡ renamed_outcome names (attended p x c o m s)
+  attended_renamed :
+      (p : Image) (x : Seat) (c : ℕ) (o : Option Object) (m : ℕ) (s : State) →
+      attended p (renamed_seat names x) c (option_map (renamed_object names) o) (names m) (renamed names s) ≡ renamed_outcome names (attended p x c o m s)
   attended_renamed p x c None m s = refl
   attended_renamed p x c (Some o) m s = attending_renamed (part_of p Attends o.thing) x c o m s
 
-  parting_renamed : (p : Image) (x : Seat) (c : ℕ) (o : Option Object) (s : State) → parting_with p (renamed_seat names x) c (option_map (renamed_object names) o) (renamed names s) ≡ renamed_outcome names (parting_with p x c o s)
+  parting_renamed :
+      (p : Image) (x : Seat) (c : ℕ) (o : Option Object) (s : State) →
+      parting_with p (renamed_seat names x) c (option_map (renamed_object names) o) (renamed names s) ≡ renamed_outcome names (parting_with p x c o s)
   parting_renamed p x c None s = refl
-  parting_renamed p x c (Some o) s = rw (moved_renamed names one_to_one (Elsewhere (Session x.object.name c)) (Going 1) s.cells, begun_renamed names p o (length s.items) (Dispatched (Of_server x c Parts) ∷ []))
+  parting_renamed p x c (Some o) s =
+      rw (moved_renamed names one_to_one (Elsewhere (Session x.object.name c)) (Going 1) s.cells, begun_renamed names p o (length s.items) (Dispatched (Of_server x c Parts) ∷ []))
 
   -- the session of a client
   session_renamed : (n c : ℕ) (cs : List Cell) → held (renamed_cells names cs) (Elsewhere (Session (names n) c)) ≡ option_map (renamed_object names) (held cs (Elsewhere (Session n c)))
   session_renamed n c cs = held_renamed names one_to_one cs (Elsewhere (Session n c))
 
-  serves_renamed : (p : Image) (x : Seat) (es : List Asked) (s : State) → serves_first p (renamed_seat names x) (renamed_queue names es) (renamed names s) ≡ renamed_outcome names (serves_first p x es s)
+  serves_renamed :
+      (p : Image) (x : Seat) (es : List Asked) (s : State) → serves_first p (renamed_seat names x) (renamed_queue names es) (renamed names s) ≡ renamed_outcome names (serves_first p x es s)
   serves_renamed p x [] s = refl
   serves_renamed p x (Connect_of c ∷ es) s =
       let m = part_of p Accepts_role x.object.thing in
@@ -228,7 +242,9 @@ module _ (names : ℕ → ℕ) (one_to_one : IsOneToOne names) where
       ∙ cond_applied (renamed_outcome names) serves (serves_first p x es s) (dispatched m x s)
 
   -- a native completes what a cell has outstanding, or is killed
-  answered_renamed : (p : Image) (n : ℕ) (c : Option Cell) (code : ℤ) (s : State) → answered_by p n (option_map (renamed_cell names) c) code (renamed names s) ≡ renamed_outcome names (answered_by p n c code s)
+  answered_renamed :
+      (p : Image) (n : ℕ) (c : Option Cell) (code : ℤ) (s : State) →
+      answered_by p n (option_map (renamed_cell names) c) code (renamed names s) ≡ renamed_outcome names (answered_by p n c code s)
   answered_renamed p n None code s = refl
   answered_renamed p n (Some c) code s =
       let needs = (is_outstanding_at p n c, CompletedTwice) ∷ [] in
@@ -259,7 +275,9 @@ module _ (names : ℕ → ℕ) (one_to_one : IsOneToOne names) where
   answers_kept p s (Polls n None) well = tt
   answers_kept p s _ well = tt
 
-  pub answers_so : (p : Image) (outside : Outside) (heard : Heard) (s : State) → AnswersWell p s (turning outside heard s) → AnswersWell p (renamed names s) (turning outside (renamed_heard names heard) (renamed names s))
+  pub answers_so :
+      (p : Image) (outside : Outside) (heard : Heard) (s : State) → AnswersWell p s (turning outside heard s) →
+      AnswersWell p (renamed names s) (turning outside (renamed_heard names heard) (renamed names s))
   answers_so p outside heard s well = subst (λ t. AnswersWell p (renamed names s) t) (sym (turning_renamed names outside heard s)) (answers_kept p s (turning outside heard s) well)
 
   -- ---- what it writes

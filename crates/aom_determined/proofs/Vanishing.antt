@@ -6,7 +6,7 @@ use Rattle.aom_image.specs.Image.{Image}
 use Rattle.aom_clients.specs.Nodes.{is_connecting_at}
 use Rattle.aom_clients.specs.Table.{at_gone}
 use Rattle.aom_clients.specs.declared.client.Client.{Client}
-use Rattle.aom_clients.specs.declared.client.Client.TheVariants.{Closing as Closing_client, Connecting, Dead, Dying, Gone, Open, Unconnected}
+use Rattle.aom_clients.specs.declared.client.Client.TheVariants.{Closing as Closing_client, Dying, Open, Unconnected}
 use Rattle.aom_sound.proofs.ClientsGone.{queue_ended_at, sessions_ended_at}
 use Rattle.aom_sound.proofs.Dropping.{dropped, held_dropped, place_dropped, queue_dropped, tidy_dropped}
 use Rattle.aom_sound.proofs.Maps.{held_lives, same_place-true, same_place_comm}
@@ -73,10 +73,7 @@ module _ (p : Image) (clients : List Client) (cs : List Cell) (tidy : Tidy cs) (
     gone_connecting n (Open server session slots) e = cc
     gone_connecting n (Closing_client server session) e = cc
     gone_connecting n (Dying server session) e = cc
-    gone_connecting n (Connecting server slots) e = e
-    gone_connecting n Unconnected e = e
-    gone_connecting n Gone e = e
-    gone_connecting n Dead e = e
+    gone_connecting n _ e = e
 
     abbrev then : List Client
     then = sessions_ended (service_of cs o.name).sessions (queue_ended (service_of cs o.name).queue clients)
@@ -85,7 +82,9 @@ module _ (p : Image) (clients : List Client) (cs : List Cell) (tidy : Tidy cs) (
     connected_before : (n c : ℕ) → is_connecting_at n (client_at then c) ≡ true → (is_connecting_at n (client_at clients c) ≡ true) × (waits cs o.name c ≡ false)
     connected_before n c e = go (has_session (service_of cs o.name) c) (waits cs o.name c) refl refl (sym (ap (is_connecting_at n) now) ∙ e)
       where
-        now : client_at then c ≡ cond (has_session (service_of cs o.name) c) (at_gone (cond (waits cs o.name c) Unconnected (client_at clients c))) (cond (waits cs o.name c) Unconnected (client_at clients c))
+        now :
+            client_at then c
+            ≡ cond (has_session (service_of cs o.name) c) (at_gone (cond (waits cs o.name c) Unconnected (client_at clients c))) (cond (waits cs o.name c) Unconnected (client_at clients c))
         now = sessions_ended_at (service_of cs o.name).sessions (queue_ended (service_of cs o.name).queue clients) c
             ∙ ap (λ x. cond (has_session (service_of cs o.name) c) (at_gone x) x) (queue_ended_at (service_of cs o.name).queue clients c)
 
@@ -123,7 +122,9 @@ module _ (p : Image) (clients : List Client) (cs : List Cell) (tidy : Tidy cs) (
             go true same =
                 let none : waits cs n c ≡ false = ap (λ k. waits cs k c) (sym (eqb-true o.name n same)) ∙ before.1 in
                 absurd (true≢false (sym same ∙ apart n c (or_second (waits cs n c) (accepts n c d) (there.asked n c before.0) none)))
-            go false other = still_either (waits cs n c) (waits (each_unslotted (service_of cs o.name).sessions cells) n c) (accepts n c d) (there.asked n c before.0) (λ h. calm.connects n c (other_connects n c other h))
+            go false other =
+                still_either (waits cs n c) (waits (each_unslotted (service_of cs o.name).sessions cells) n c) (accepts n c d) (there.asked n c before.0)
+                (λ h. calm.connects n c (other_connects n c other h))
 
         at_place : (d : Option Dispatch) → IsAtPlace cs d → IsAtPlace (each_unslotted (service_of cs o.name).sessions cells) d
         at_place (Some (Of_server x c (Serves y))) h = calm.places x.object.name c ∙ places_gone x.object.name c ∙ h

@@ -34,7 +34,8 @@ message_any c m (Message_of d k ∷ es) h = go (d == c) (k == m) (message_any c 
     go true false rest h = rest h
     go false false rest h = rest h
 
-module _ (p : Image) (t : Typing) (s : State) (w : WellTyped p t s) (clients : List Client) (fit : ClientsFit p clients s.cells) (n c m : ℕ) (waits : list_any (is_message_of c m) (service_of s.cells n).queue ≡ true) where
+module _ (p : Image) (t : Typing) (s : State) (w : WellTyped p t s) (clients : List Client) (fit : ClientsFit p clients s.cells) (n c m : ℕ)
+    (waits : list_any (is_message_of c m) (service_of s.cells n).queue ≡ true) where
   has : has_message (service_of s.cells n) m ≡ true
   has = message_any c m (service_of s.cells n).queue waits
 
