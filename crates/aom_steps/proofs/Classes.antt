@@ -40,7 +40,8 @@ module _ (p : Image) (linked : IsLinked p) (x : ℕ) where
 
       of_class : (o : Option ClassDecl) → class_at p x ≡ o → sessions_in (kind_in o) ≡ Some session → is_server p (An_object_of session) ≡ false
       of_class None at e = cc
-      of_class (Some d) at e = no_server (kind_at p session) (subst (λ o. IfSome o (λ s. (s < x) × (is_session p s ≡ true))) e (at_place (ClassOrdered p) p.classes x d linked.classes.classes at).sessions).1
+      of_class (Some d) at e =
+          no_server (kind_at p session) (subst (λ o. IfSome o (λ s. (s < x) × (is_session p s ≡ true))) e (at_place (ClassOrdered p) p.classes x d linked.classes.classes at).sessions).1
 
   module _ (c : Prices) where
     -- an object that runs is paid for with its `error` method

@@ -82,7 +82,8 @@ module _ (c : Prices) (fr : Frame) (sh : Shape) where
   dealing (An_operation m w ∷ items) o pays = pays
   dealing _ o pays = pays
 
-module _ (p : Image) (t : Typing) (c : Prices) (main_none : (m : ℕ) → method_role p m ≡ Some Main → own_kind p m ≡ None) (priced : IsPriced p t c) (ch : Choice) (s : State) (fr : Frame) (sh : Shape) (ls : List Layer) (at_hand : At p t s fr sh ls) where
+module _ (p : Image) (t : Typing) (c : Prices) (main_none : (m : ℕ) → method_role p m ≡ Some Main → own_kind p m ≡ None) (priced : IsPriced p t c) (ch : Choice) (s : State) (fr : Frame)
+    (sh : Shape) (ls : List Layer) (at_hand : At p t s fr sh ls) where
   abbrev ts : List Task
   ts = tasks_of ls
 
@@ -134,23 +135,25 @@ module _ (p : Image) (t : Typing) (c : Prices) (main_none : (m : ℕ) → method
   same_cancel : (m : ℕ) → cancel_method p fr.home ≡ Some m → cancel_of p (method_class p fr.method) ≡ Some m
   same_cancel m e = let found = cancel_class p fr.home fr.method m at_hand.good.stack.1.holder e in ap (λ o. cancel_of p o) found.1 ∙ found.2
 
-  on_cancel : (b : Bool) (x : Option ℕ) → cancel_method p fr.home ≡ x → 1 + perhaps_price c (cancel_of p (method_class p fr.method)) + c.from fr.method (suc fr.place) ≤ c.from fr.method fr.place → Covers c fr sh (cancels_if fr b x)
+  on_cancel :
+      (b : Bool) (x : Option ℕ) → cancel_method p fr.home ≡ x → 1 + perhaps_price c (cancel_of p (method_class p fr.method)) + c.from fr.method (suc fr.place) ≤ c.from fr.method fr.place →
+      Covers c fr sh (cancels_if fr b x)
   on_cancel true (Some m) e pays = omega (arith, pays, ap (λ o. perhaps_price c o) (same_cancel m e))
   on_cancel true None e pays = omega (arith, pays)
   on_cancel false x e pays = omega (arith, pays)
 
   -- ---- every instruction
 
-  abbrev Standing : Instr → Type 0
-  Standing i = Stands p t fr.method fr.place sh i
+  abbrev StandsHere : Instr → Type 0
+  StandsHere i = Stands p t fr.method fr.place sh i
 
-  paid : (i : Instr) → Standing i → loop_in (Some i) ≡ None → next_in (Some i) ≡ None → AllPaid c fr.method (own p fr.method c sh i) (c.from fr.method fr.place) (flows p fr.method fr.place sh i)
+  paid : (i : Instr) → StandsHere i → loop_in (Some i) ≡ None → next_in (Some i) ≡ None → AllPaid c fr.method (own p fr.method c sh i) (c.from fr.method fr.place) (flows p fr.method fr.place sh i)
   paid i it straight no_next = priced.flows fr.method fr.place sh i it straight no_next
 
-  some : (i : Instr) → Standing i → own p fr.method c sh i ≤ c.from fr.method fr.place
+  some : (i : Instr) → StandsHere i → own p fr.method c sh i ≤ c.from fr.method fr.place
   some i it = priced.ends fr.method fr.place sh i it
 
-  pub covers : (i : Instr) → Standing i → AllTrue (rule_needs p fr.method fr.place sh i) → Covers c fr sh (effect p ch fr ts s i)
+  pub covers : (i : Instr) → StandsHere i → AllTrue (rule_needs p fr.method fr.place sh i) → Covers c fr sh (effect p ch fr ts s i)
   unfolding loop_in next_in
   covers (JumpEqual a b to) it rule = let f = paid (JumpEqual a b to) it refl refl in branches c fr sh (int_eq (read fr ts s a) (read fr ts s b)) to f.0 f.1.0
   covers (JumpLess a b to) it rule = let f = paid (JumpLess a b to) it refl refl in branches c fr sh (int_lt (read fr ts s a) (read fr ts s b)) to f.0 f.1.0

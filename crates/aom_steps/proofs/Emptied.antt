@@ -4,7 +4,7 @@ use Rattle.aom_image.specs.Image.{Image}
 use Rattle.aom_rules.specs.Typing.{Typing}
 use Rattle.aom_sound.proofs.Maps.{same_place_refl}
 use Rattle.aom_sound.specs.Claims.{Dispatching, forms, items_of}
-use Rattle.aom_sound.specs.Places.{Cell, Elsewhere, Entry, Field, Going, Place, Register, held, same_place, seen}
+use Rattle.aom_sound.specs.Places.{Cell, Entry, Place, held, same_place, seen}
 use Rattle.aom_sound.specs.State.{Dispatch, Item, Seat}
 use Rattle.aom_sound.specs.WellTyped.{Good}
 use Rattle.aom_ranks.proofs.Goings.{none_there, nothing_of_null}
@@ -18,11 +18,8 @@ module _ (c : Prices) where
   no_objects (x ∷ cs) none = here x.owner refl (no_objects cs (λ k. (none_there x cs (Entry k) (none k)).1))
     where
       here : (r : Place) → x.owner ≡ r → objects_left c cs ≡ 0 → cond (is_entry r) (c.destruction x.object.thing) 0 + objects_left c cs ≡ 0
-      here (Register f i) e ih = omega (arith, ih)
-      here (Field n f) e ih = omega (arith, ih)
-      here (Going k) e ih = omega (arith, ih)
-      here (Elsewhere o) e ih = omega (arith, ih)
       here (Entry k) e ih = let clash : true ≡ false = sym (ap (λ r. same_place r (Entry k)) e ∙ same_place_refl (Entry k)) ∙ (none_there x cs (Entry k) (none k)).0 in cc
+      here _ e ih = omega (arith, ih)
 
   no_operations : (items : List Item) → forms items ≡ [] → operations_left c items ≡ 0
   no_operations [] e = refl

@@ -38,12 +38,7 @@ lasts_below m n cs us le h = record { going = λ k lt. h.going k (omega (arith, 
 module _ (p : Image) (c : Prices) (cs us : List Cell) where
   same_below : (ts : List Task) → Lasts (length ts) cs us → goes_below us ts ≡ goes_below cs ts
   same_below (Destroy ∷ ts) h = h.going (length ts) (omega arith)
-  same_below [] h = refl
-  same_below (Run fr ∷ ts) h = refl
-  same_below (Trapped ∷ ts) h = refl
-  same_below (Closing ∷ ts) h = refl
-  same_below (Unwind code ∷ ts) h = refl
-  same_below (Dispatched d ∷ ts) h = refl
+  same_below _ h = refl
 
   pub closing_less : (o : Option Object) → ((n : ℕ) → sessions_left c n us ≤ sessions_left c n cs) → closing_left p c us o ≤ closing_left p c cs o
   closing_less None h = omega arith
@@ -62,23 +57,13 @@ module _ (p : Image) (c : Prices) (cs us : List Cell) where
 
 -- the methods over the trap end
 pub to_trap_closings : (p : Image) (c : Prices) (cs : List Cell) (ts : List Task) → closings_left p c cs (to_trap ts) ≡ closings_left p c cs ts
-to_trap_closings p c cs [] = refl
 to_trap_closings p c cs (Run fr ∷ ts) = to_trap_closings p c cs ts
-to_trap_closings p c cs (Trapped ∷ ts) = refl
-to_trap_closings p c cs (Destroy ∷ ts) = refl
-to_trap_closings p c cs (Closing ∷ ts) = refl
-to_trap_closings p c cs (Unwind code ∷ ts) = refl
-to_trap_closings p c cs (Dispatched d ∷ ts) = refl
+to_trap_closings p c cs _ = refl
 
 -- what waited goes on
 pub resumed_closings : (p : Image) (c : Prices) (cs : List Cell) (ts : List Task) → closings_left p c cs (resumed ts) ≡ closings_left p c cs ts
-resumed_closings p c cs [] = refl
 resumed_closings p c cs (Run fr ∷ ts) = refl
-resumed_closings p c cs (Trapped ∷ ts) = refl
-resumed_closings p c cs (Destroy ∷ ts) = refl
-resumed_closings p c cs (Closing ∷ ts) = refl
-resumed_closings p c cs (Unwind code ∷ ts) = refl
-resumed_closings p c cs (Dispatched d ∷ ts) = refl
+resumed_closings p c cs _ = refl
 
 -- ---- changes of the cells
 
@@ -153,7 +138,10 @@ module _ (depth : ℕ) (p : Image) (fr : Frame) (ts : List Task) (s : State) whe
   lasts_update (Made name x a) = record { going = λ k lt. refl; sessions = λ c n. omega arith }
   lasts_update (Written w v) = record { going = λ k lt. stored_held s.cells fr.home w v (Going k); sessions = λ c n. omega (arith, stored_same c (is_session_with n) s.cells fr.home w v) }
   lasts_update (Requested r) = lasts_asked depth s.cells fr.home r
-  lasts_update (Sessioned b) = record { going = λ k lt. (resessioned_alike s.cells fr.home b).held_so (Going k); sessions = λ c n. omega (arith, resessioned_same c (is_session_with n) s.cells fr.home b) }
+  lasts_update (Sessioned b) = record {
+    going = λ k lt. (resessioned_alike s.cells fr.home b).held_so (Going k);
+    sessions = λ c n. omega (arith, resessioned_same c (is_session_with n) s.cells fr.home b);
+  }
   lasts_update (Pushed a) = lasts_moved depth (here fr ts s a) (Entry (length s.items)) s.cells (λ k lt. refl) (λ k lt. refl) (λ n. refl)
   lasts_update (Pushed_operation m w) = lasts_itself depth s.cells
   lasts_update (Popped a) = lasts_moved depth (top_place s.items) (here fr ts s a) s.cells (λ k lt. refl) (λ k lt. refl) (λ n. refl)

@@ -11,34 +11,24 @@ use Rattle.aom_sound.specs.Calls.{answered_by, ended_well, returned, told_answer
 use Rattle.aom_sound.specs.Cleanup.{ended_by, to_trap}
 use Rattle.aom_sound.specs.Counting.{ends_object, restarts}
 use Rattle.aom_sound.specs.Destruction.{begun, begun_by, destructed, first_session, parting}
-use Rattle.aom_sound.specs.Effects.{Calls, Cancels, Counts, Destroys, Destroys_last, Effect, Goes_on, Jumps, Leaves, Operates, Repeats, Returns, Sets_trap, applied, with_words}
+use Rattle.aom_sound.specs.Effects.{Destroys, Destroys_last, Effect, Leaves, Returns, applied, with_words}
 use Rattle.aom_sound.specs.Enlisted.{ended_cells, part_of}
 use Rattle.aom_sound.specs.Moves.{answered, asking, counted, dispatch_ends, failed, handled, main_ends, object_ends, stage_ends, step}
 use Rattle.aom_sound.specs.Places.{Elsewhere, Object, Root, held, service_of}
 use Rattle.aom_sound.specs.Servers.{is_server}
-use Rattle.aom_sound.specs.State.{Accept_left, Accepted, Accepts, Answered, Asks, Choice, Closing, Destroy, Dispatch, Dispatched, Frame, Goes, Main_left, Object_left, Of_main, Of_object, Of_root, Of_server, Parts, Run, Seat, Serves, Service_left, Stage, State, Task, Trapped, Unwind, resumed}
+use Rattle.aom_sound.specs.State.{Accept_left, Accepts, Answered, Asks, Choice, Closing, Destroy, Dispatch, Dispatched, Frame, Goes, Main_left, Object_left, Of_main, Of_object, Of_root, Of_server, Run, Seat, Serves, Stage, State, Task, Trapped, Unwind, resumed}
 use Rattle.aom_sound.specs.Steps.{Acts, Arrives, Clears, Comes_out, Empties, Ends, IsStill, Move, Rests, Undoes, Vanishes}
 use Rattle.aom_steps.specs.Payers.{class_of, payer, payer_of}
 
 -- ---- tasks
 
 trap_payer : (ts : List Task) → payer (to_trap ts) ≡ payer ts
-trap_payer [] = refl
 trap_payer (Run fr ∷ ts) = trap_payer ts
-trap_payer (Trapped ∷ ts) = refl
-trap_payer (Destroy ∷ ts) = refl
-trap_payer (Closing ∷ ts) = refl
-trap_payer (Unwind code ∷ ts) = refl
-trap_payer (Dispatched d ∷ ts) = refl
+trap_payer _ = refl
 
 resumed_payer : (ts : List Task) → payer (resumed ts) ≡ payer ts
-resumed_payer [] = refl
 resumed_payer (Run fr ∷ ts) = refl
-resumed_payer (Trapped ∷ ts) = refl
-resumed_payer (Destroy ∷ ts) = refl
-resumed_payer (Closing ∷ ts) = refl
-resumed_payer (Unwind code ∷ ts) = refl
-resumed_payer (Dispatched d ∷ ts) = refl
+resumed_payer _ = refl
 
 destructed_payer : (p : Image) (o : Object) (height : ℕ) (ts : List Task) → payer (destructed p o height ts) ≡ payer ts
 destructed_payer p o height ts = go (destructor_of p o.thing)
@@ -59,26 +49,12 @@ parting_payer p o None ts v = destructed_payer p o (length v.items) ts
 parting_payer p o (Some x) ts v = begun_payer p x.object (length v.items) (Closing ∷ Destroy ∷ ts)
 
 ended_payer : (code : ℤ) (d : Dispatch) → payer_of (ended_by code d) ≡ payer_of d
-ended_payer code Of_main = refl
-ended_payer code (Main_left n) = refl
-ended_payer code Of_root = refl
-ended_payer code (Of_object x) = refl
-ended_payer code (Object_left x n) = refl
-ended_payer code (Asks x) = refl
-ended_payer code (Answered x n) = refl
-ended_payer code (Of_server x client Accepts) = refl
 ended_payer code (Of_server x client (Serves o)) = refl
-ended_payer code (Of_server x client _) = refl
+ended_payer code _ = refl
 
 answered_payer : (answer : ℤ) (d : Dispatch) → payer_of (answered_by answer d) ≡ payer_of d
-answered_payer answer Of_main = refl
 answered_payer answer (Main_left n) = refl
-answered_payer answer Of_root = refl
-answered_payer answer (Of_object x) = refl
-answered_payer answer (Object_left x n) = refl
-answered_payer answer (Asks x) = refl
-answered_payer answer (Answered x n) = refl
-answered_payer answer (Of_server x client stage) = refl
+answered_payer answer _ = refl
 
 -- a method of a server or of a session has ended
 served_payer : (d : Dispatch) → payer_of (ended_well d) ≡ payer_of d
@@ -98,27 +74,16 @@ returned_payer p fr ts v g a _ same = same
 -- ---- effects, and the ends of dispatches
 
 acts_payer : (p : Image) (fr : Frame) (ts : List Task) (v : State) → v.tasks ≡ Run fr ∷ ts → (e : Effect) → payer (applied p fr ts v e).tasks ≡ payer ts
-acts_payer p fr ts v at (Goes_on ch) = refl
-acts_payer p fr ts v at (Jumps to) = refl
-acts_payer p fr ts v at (Counts depth n) = refl
-acts_payer p fr ts v at (Repeats depth n to) = refl
-acts_payer p fr ts v at (Calls target m first) = refl
-acts_payer p fr ts v at (Cancels m) = refl
-acts_payer p fr ts v at (Sets_trap target m first) = refl
 acts_payer p fr ts v at (Returns g a) = returned_payer p fr ts (record v { cells = ended_cells p fr v.cells }) g a ts (ap payer at)
 acts_payer p fr ts v at (Leaves code u) = trap_payer ts
 acts_payer p fr ts v at (Destroys o a words) = begun_payer p o _ (Run (with_words fr words) ∷ ts)
 acts_payer p fr ts v at (Destroys_last o) = begun_payer p o _ (Run fr ∷ ts)
-acts_payer p fr ts v at (Operates m w) = refl
+acts_payer p fr ts v at _ = refl
 
 -- the stage of a server's dispatch ends
 stage_payer : (x : Seat) (client : ℕ) (stage : Stage) (v : State) → payer (stage_ends x client stage v).tasks ≡ class_of x.object.thing
-stage_payer x client Accepts v = refl
-stage_payer x client Accepted v = refl
 stage_payer x client (Accept_left code) v = refl
-stage_payer x client (Serves o) v = refl
-stage_payer x client (Service_left code) v = refl
-stage_payer x client Parts v = refl
+stage_payer x client _ v = refl
 
 -- main pays for what its end begins
 main_payer : (p : Image) (b : Bool) (o : Option Object) (v : State) → payer (main_ends p b o v).tasks ≡ None

@@ -236,7 +236,9 @@ module _ (p : Image) (t : Typing) (c : Prices) (linked : IsLinked p) (priced : I
       let after = on_request cancelling (own_request s.cells fr.home) in
       omega (arith, less, rerequested_same c is_entry s.cells fr.home after, closings_after (Requested after), fresh_rounds c m (method_at p m))
 
-  traps : (i : Instr) → slice_get d.code fr.place ≡ Some i → loop_in (Some i) ≡ None → (target : Target) (m first : ℕ) → Affords c fr sh (1 + price c m) (suc fr.place) → Pays (Sets_trap target m first)
+  traps :
+      (i : Instr) → slice_get d.code fr.place ≡ Some i → loop_in (Some i) ≡ None → (target : Target) (m first : ℕ) → Affords c fr sh (1 + price c m) (suc fr.place) →
+      Pays (Sets_trap target m first)
   traps i stands plain target m first pays =
       let less = straight i stands plain (1 + price c m) pays in
       omega (arith, less, passed_less (objects_left c) (λ d i e j cs. moved_less c is_entry (Register d i) (Register e j) cs refl) p fr ts s (length (Trapped ∷ Run fr ∷ ts)) (arguments_of p m) first 0 s.cells, closings_passed (length (Trapped ∷ Run fr ∷ ts)) m first, fresh_rounds c m (method_at p m))
@@ -261,7 +263,9 @@ module _ (p : Image) (t : Typing) (c : Prices) (linked : IsLinked p) (priced : I
       let begins = destruction o (top_place s.items) (length (below_top s.items)) fr owned (λ k lt. refl) in
       omega (arith, less, begins, leaves_place c is_entry (top_place s.items) (Going (length (Run fr ∷ ts))) o s.cells refl refl owned, operations_below c s.items)
 
-  operates : (i : Instr) → slice_get d.code fr.place ≡ Some i → loop_in (Some i) ≡ None → (m : ℕ) (w : ℤ) → s.items ≡ An_operation m w ∷ below_top s.items → Affords c fr sh 1 (suc fr.place) → Pays (Operates m w)
+  operates :
+      (i : Instr) → slice_get d.code fr.place ≡ Some i → loop_in (Some i) ≡ None → (m : ℕ) (w : ℤ) → s.items ≡ An_operation m w ∷ below_top s.items → Affords c fr sh 1 (suc fr.place) →
+      Pays (Operates m w)
   operates i stands plain m w top pays =
       let less = straight i stands plain 1 pays in
       let same : operations_left c s.items ≡ price c m + operations_left c (below_top s.items) = ap (λ l. operations_left c l) top in

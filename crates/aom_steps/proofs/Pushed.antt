@@ -4,7 +4,7 @@ use Rattle.aom_sound.specs.Enlisted.{rerequested}
 use Rattle.aom_sound.specs.Clients.{each_unslotted}
 use Rattle.aom_sound.specs.Places.{Cell, Object, Place, Request, Service, Tidy, held, moved, same_place, set_request, set_service, set_session, set_word_field, without}
 use Rattle.aom_sound.specs.Servers.{all_unslotted, is_from, is_queue, is_queue_of, left_by, withdrawn, without_queue}
-use Rattle.aom_sound.specs.State.{AtRoot, Home, Inside, Item, An_object, An_operation, A_mark, Static, field_place}
+use Rattle.aom_sound.specs.State.{AtRoot, Home, Inside, Item, An_object, Static, field_place}
 use Rattle.aom_sound.specs.Calls.{below_top}
 use Rattle.aom_sound.specs.Words.{stored}
 use Rattle.aom_sound.proofs.Maps.{same_place-true}
@@ -94,7 +94,9 @@ module _ (c : Prices) (counts : Place → Bool) where
   without_less from [] = omega arith
   without_less from (x ∷ cs) = go (same_place x.owner from) (without_less from cs)
     where
-      go : (b : Bool) → owned_left c counts (without from cs) ≤ owned_left c counts cs → owned_left c counts (cond b (without from cs) (x ∷ without from cs)) ≤ due c counts x.owner x.object + owned_left c counts cs
+      go :
+          (b : Bool) → owned_left c counts (without from cs) ≤ owned_left c counts cs →
+          owned_left c counts (cond b (without from cs) (x ∷ without from cs)) ≤ due c counts x.owner x.object + owned_left c counts cs
       go true less = omega (arith, less)
       go false less = omega (arith, less)
 
@@ -148,7 +150,9 @@ module _ (c : Prices) (counts : Place → Bool) where
   queue_less n [] = omega arith
   queue_less n (x ∷ cs) = go (is_queue_of n x.owner) (queue_less n cs)
     where
-      go : (b : Bool) → owned_left c counts (without_queue n cs) ≤ owned_left c counts cs → owned_left c counts (cond b (without_queue n cs) (x ∷ without_queue n cs)) ≤ due c counts x.owner x.object + owned_left c counts cs
+      go :
+          (b : Bool) → owned_left c counts (without_queue n cs) ≤ owned_left c counts cs →
+          owned_left c counts (cond b (without_queue n cs) (x ∷ without_queue n cs)) ≤ due c counts x.owner x.object + owned_left c counts cs
       go true less = omega (arith, less)
       go false less = omega (arith, less)
 
@@ -168,7 +172,5 @@ module _ (c : Prices) where
   -- ---- items
 
   pub operations_below : (items : List Item) → operations_left c (below_top items) ≤ operations_left c items
-  operations_below [] = omega arith
   operations_below (An_object ∷ items) = omega arith
-  operations_below (An_operation m w ∷ items) = omega arith
-  operations_below (A_mark ∷ items) = omega arith
+  operations_below _ = omega arith

@@ -5,7 +5,7 @@ use Rattle.std.proofs.lemmas.Bool.{eqb-true, ne_eqb}
 use Rattle.std.proofs.Math.Nat.{mul-le-mul_right}
 use Rattle.aom_image.specs.Image.{Image}
 use Rattle.aom_image.specs.declared.class.ClassKind.{ClassKind}
-use Rattle.aom_image.specs.declared.class.ClassKind.TheVariants.{Active, Plain, Server, Session as A_session}
+use Rattle.aom_image.specs.declared.class.ClassKind.TheVariants.{Server}
 use Rattle.aom_image.specs.declared.method.Thing.{Thing}
 use Rattle.aom_image.specs.declared.method.Thing.TheVariants.{Message, Object as An_object_of}
 use Rattle.aom_roles.specs.Classes.{kind_at, sessions_in, sessions_of}
@@ -22,7 +22,7 @@ use Rattle.aom_sound.proofs.Straight.{fits_unowning}
 use Rattle.aom_sound.specs.Claims.{by_close, Dispatching, Dying, Ending, Layer, Mark, Method, Unwinding, claim, declared, tasks_of}
 use Rattle.aom_sound.specs.Clients.{most_of}
 use Rattle.aom_sound.specs.Enlisted.{thing_kind}
-use Rattle.aom_sound.specs.Places.{Cell, Elsewhere, Entry, Field, Going, In_service, Object, Place, Queued, Register, Root, Session, Tidy, held, moved, named, same_place, seen, service_of}
+use Rattle.aom_sound.specs.Places.{Cell, Elsewhere, Going, Object, Place, Session, Tidy, held, moved, named, same_place, seen, service_of}
 use Rattle.aom_sound.specs.Servers.{has_session, is_among, is_other, is_server, of_class, seats_taken, session_class, session_thing}
 use Rattle.aom_sound.specs.State.{Seat, Dispatch, Of_server, Parts}
 use Rattle.aom_sound.specs.WellTyped.{EndsSessions, Back, Caught, Fits, Gone, Good, Leaves, Now, Returns, Stack}
@@ -106,7 +106,9 @@ module _ (c : Prices) (n most : ℕ) where
   abbrev Sessions : List Cell → List ℕ → Type 0
   Sessions cs xs = (client : ℕ) (x : Object) → held cs (Elsewhere (Session n client)) ≡ Some x → (is_among client xs ≡ true) × (c.destruction x.thing ≤ most)
 
-  one_fewer : (y : Cell) (cs : List Cell) (xs : List ℕ) (client : ℕ) → y.owner ≡ Elsewhere (Session n client) → held cs y.owner ≡ None → Sessions (y ∷ cs) xs → Sessions cs (filter (is_other client) xs)
+  one_fewer :
+      (y : Cell) (cs : List Cell) (xs : List ℕ) (client : ℕ) → y.owner ≡ Elsewhere (Session n client) → held cs y.owner ≡ None → Sessions (y ∷ cs) xs →
+      Sessions cs (filter (is_other client) xs)
   one_fewer y cs xs client at free all k x there =
       let other : (client == k) ≡ false = ne_eqb client k (λ e. let clash : None ≡ Some x = sym free ∙ ap (λ r. held cs r) at ∙ ap (λ i. held cs (Elsewhere (Session n i))) e ∙ there in cc) in
       let apart : same_place y.owner (Elsewhere (Session n k)) ≡ false = not_there k x there in
@@ -135,7 +137,9 @@ module _ (c : Prices) (n most : ℕ) where
     where
       here : y.owner ≡ Elsewhere (Session n client) → c.destruction y.object.thing + sessions_left c n cs ≤ length xs * most
       here at =
-          let this = all client y.object (ap (λ b. cond b (Some y.object) (held cs (Elsewhere (Session n client)))) (ap (λ r. same_place r (Elsewhere (Session n client))) at ∙ same_place_refl (Elsewhere (Session n client)))) in
+          let this =
+          all client y.object
+          (ap (λ b. cond b (Some y.object) (held cs (Elsewhere (Session n client)))) (ap (λ r. same_place r (Elsewhere (Session n client))) at ∙ same_place_refl (Elsewhere (Session n client)))) in
           let others = rest (filter (is_other client) xs) (one_fewer y cs xs client at tidy.0 all) in
           let more : (1 + length (filter (is_other client) xs)) * most ≤ length xs * most = mul-le-mul_right most (fewer_parted client xs this.0) in
           grind (arith, this.1, others, more)
@@ -143,13 +147,7 @@ module _ (c : Prices) (n most : ℕ) where
       go : (b : Bool) → (s == n) ≡ b → cond b (c.destruction y.object.thing) 0 + sessions_left c n cs ≤ length xs * most
       go true same = here (e ∙ ap (λ k. Elsewhere (Session k client)) (eqb-true s n same))
       go false other = omega (arith, rest xs (others y cs xs tidy.0 all))
-  with_one y cs xs tidy all rest (Register f i) e = omega (arith, rest xs (others y cs xs tidy.0 all))
-  with_one y cs xs tidy all rest (Entry k) e = omega (arith, rest xs (others y cs xs tidy.0 all))
-  with_one y cs xs tidy all rest (Field m f) e = omega (arith, rest xs (others y cs xs tidy.0 all))
-  with_one y cs xs tidy all rest (Going k) e = omega (arith, rest xs (others y cs xs tidy.0 all))
-  with_one y cs xs tidy all rest (Elsewhere Root) e = omega (arith, rest xs (others y cs xs tidy.0 all))
-  with_one y cs xs tidy all rest (Elsewhere In_service) e = omega (arith, rest xs (others y cs xs tidy.0 all))
-  with_one y cs xs tidy all rest (Elsewhere (Queued s m)) e = omega (arith, rest xs (others y cs xs tidy.0 all))
+  with_one y cs xs tidy all rest _ e = omega (arith, rest xs (others y cs xs tidy.0 all))
 
   pub counted : (cs : List Cell) (xs : List ℕ) → Tidy cs → Sessions cs xs → sessions_left c n cs ≤ length xs * most
   counted [] xs tidy all = omega arith
@@ -168,10 +166,7 @@ sessions_paid p cost (An_object_of k) session e = go (kind_at p k) refl e
   where
     go : (d : Option ClassKind) → kind_at p k ≡ d → sessions_in d ≡ Some session → perhaps_sessions cost (kind_at p k) ≡ most_of (kind_at p k) * cost session
     go (Some (Server most y budget)) at e = let same : y ≡ session = cc in ap (λ d. perhaps_sessions cost d) at ∙ ap (λ i. most * cost i) same ∙ sym (ap (λ d. most_of d * cost session) at)
-    go None at e = cc
-    go (Some Plain) at e = cc
-    go (Some (Active provider budget)) at e = cc
-    go (Some A_session) at e = cc
+    go _ at e = cc
 
 module _ (p : Image) (t : Typing) (c : Prices) (priced : IsPriced p t c) (cs : List Cell) (ls : List Layer) (good : Good p t cs ls) (few : FewSeats p cs) where
   few_sessions : (o : Object) → named cs o.name ≡ Some o → is_server p o.thing ≡ true → sessions_left c o.name cs ≤ sessions_cost p (λ k. c.destruction (An_object_of k)) o.thing
@@ -188,7 +183,9 @@ module _ (p : Image) (t : Typing) (c : Prices) (priced : IsPriced p t c) (cs : L
         where
           all : Sessions c o.name (c.destruction (An_object_of k)) cs (service_of cs o.name).sessions
           all client x there =
-              let has = of_claim p t cs o.name client o x lives Now ls good.stack (subst (λ y. Fits p (seen cs) y (claim p (declared p cs) ls (Elsewhere (Session o.name client)))) there (good.fits (Elsewhere (Session o.name client)))) in
+              let has =
+              of_claim p t cs o.name client o x lives Now ls good.stack
+              (subst (λ y. Fits p (seen cs) y (claim p (declared p cs) ls (Elsewhere (Session o.name client)))) there (good.fits (Elsewhere (Session o.name client)))) in
               let fits = subst (λ y. Fits p (seen cs) (Some x) (filled (of_class y) Full)) at has.1 in
               (has.0, priced.stands_in x.thing (An_object_of k) fits.0)
 
@@ -205,7 +202,8 @@ module _ (p : Image) (t : Typing) (c : Prices) (priced : IsPriced p t c) (cs : L
 
 -- ---- the first session that is there
 
-pub first_there : (cs : List Cell) (n : ℕ) (clients : List ℕ) (x : Seat) → first_session cs n clients ≡ Some x → (client : ℕ) × (x.place ≡ Elsewhere (Session n client)) × (held cs x.place ≡ Some x.object)
+pub first_there :
+    (cs : List Cell) (n : ℕ) (clients : List ℕ) (x : Seat) → first_session cs n clients ≡ Some x → (client : ℕ) × (x.place ≡ Elsewhere (Session n client)) × (held cs x.place ≡ Some x.object)
 first_there cs n [] x e = cc
 first_there cs n (k ∷ clients) x e = go (held cs (Elsewhere (Session n k))) refl e (first_there cs n clients x)
   where

@@ -94,7 +94,9 @@ module _ (p : Image) (c : Prices) (s : State) (idle : s.tasks ≡ []) where
       connects (Some r) server slots = with_cells v refl refl refl
 
       sends : (refused : Option Refusal) (own : Client) (words : List ℤ) → Passed (sending p client v refused own name words)
-      sends None (Open server session slots) words = with_cells (sending p client v None (Open server session slots) name words) refl refl (omega (arith, served_same c is_entry server (asked_last (Message_of client name) (service_of s.cells server)) s.cells))
+      sends None (Open server session slots) words =
+          with_cells (sending p client v None (Open server session slots) name words) refl refl
+          (omega (arith, served_same c is_entry server (asked_last (Message_of client name) (service_of s.cells server)) s.cells))
       sends _ _ words = with_cells v refl refl refl
 
       told_same : (own : Client) (cs : List Cell) → objects_left c (told p client v own cs) ≡ objects_left c cs
@@ -214,7 +216,9 @@ module _ (p : Image) (t : Typing) (c : Prices) (linked : IsLinked p) (priced : I
 
   session_there : (client : ℕ) (o : Object) → held s.cells (Elsewhere (Session x.object.name client)) ≡ Some o → IsSessionOf x.object.thing o
   session_there client o held_there =
-      let has = of_claim p t s.cells x.object.name client x.object o there Now [] good.stack (subst (λ y. Fits p (seen s.cells) y (declared p s.cells (Elsewhere (Session x.object.name client)))) held_there (good.fits (Elsewhere (Session x.object.name client)))) in
+      let has =
+      of_claim p t s.cells x.object.name client x.object o there Now [] good.stack
+      (subst (λ y. Fits p (seen s.cells) y (declared p s.cells (Elsewhere (Session x.object.name client)))) held_there (good.fits (Elsewhere (Session x.object.name client)))) in
       go (session_class p x.object.thing) refl has.1
     where
       go : (k : Option ℕ) → session_class p x.object.thing ≡ k → Fits p (seen s.cells) (Some o) (filled (of_class k) Full) → IsSessionOf x.object.thing o

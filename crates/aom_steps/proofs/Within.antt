@@ -45,7 +45,7 @@ use Rattle.aom_sound.specs.Laws.{IsWired}
 use Rattle.aom_sound.specs.Enlisted.{part_of}
 use Rattle.aom_sound.specs.Moves.{answered, asking, counted, dispatch_ends, failed, handled, main_ends, object_ends, step, step_instr, step_task, stage_ends}
 use Rattle.aom_sound.specs.Places.{Elsewhere, Entry, Going, In_service, Object, Place, Root, Session, held, moved, same_place, seen, service_of, without}
-use Rattle.aom_sound.specs.State.{An_object, Answered, Asks, Choice, Destroy, Dispatch, Dispatched, Frame, Goes, Item, Main_left, Object_left, Of_main, Of_object, Of_root, Run, Seat, State, Task, Trapped, Unwind, Accept_left, Accepted, Accepts, Closing, Of_server, Parts, Serves, Service_left, Stage}
+use Rattle.aom_sound.specs.State.{An_object, Answered, Asks, Choice, Destroy, Dispatch, Dispatched, Frame, Goes, Item, Main_left, Object_left, Of_main, Of_object, Of_root, Run, Seat, State, Task, Trapped, Unwind, Closing, Of_server, Parts, Serves, Service_left, Stage}
 use Rattle.aom_sound.specs.Steps.{Acts, Arrives, Clears, Comes_out, Ends, Move, Rests, Undoes, Vanishes, IsStill, Empties}
 use Rattle.aom_sound.specs.WellTyped.{Fits, Good, WellTyped}
 use Rattle.aom_sound.specs.World.{Heard, Reaches, begins, boot_state, main_tasks, moves, turn, turning, turns, Outside}
@@ -124,7 +124,8 @@ module _ (p : Image) (t : Typing) (c : Prices) (linked : IsLinked p) (typed : Is
       (stands_at_going p t c priced s.cells w.layers w.good few o from (length below) there (omega (arith, ap (λ ts. length ts) (sym w.tasks ∙ at))))
 
   passed_on : (from : Place) (below : List Task) → ((depth : ℕ) → IsApart depth from) → closings_left p c (moved from (Going (length below)) s.cells) below ≤ closings_left p c s.cells below
-  passed_on from below apart = lasting p c s.cells _ below (lasts_moved (length below) from (Going (length below)) s.cells (apart (length below)) (going_apart (length below) (length below) (omega arith)) (λ n. refl))
+  passed_on from below apart =
+      lasting p c s.cells _ below (lasts_moved (length below) from (Going (length below)) s.cells (apart (length below)) (going_apart (length below) (length below) (omega arith)) (λ n. refl))
 
   -- what a leave deals with was paid for as it was pushed
   clears :
@@ -171,16 +172,8 @@ module _ (p : Image) (t : Typing) (c : Prices) (linked : IsLinked p) (typed : Is
       omega (arith, resumed_alike (left_worths p c) ts, resumed_closings p c after ts, stays, each_unslotted_same c is_entry clients gone, without_less c is_entry (Going (length ts)) queued, queue_less c is_entry o.name s.cells)
 
   ended_less : (code : ℤ) (d : Dispatch) → end_left p c (ended_by code d) ≤ end_left p c d
-  ended_less code Of_main = omega arith
-  ended_less code (Main_left n) = omega arith
-  ended_less code Of_root = omega arith
-  ended_less code (Of_object x) = omega arith
-  ended_less code (Object_left x n) = omega arith
-  ended_less code (Asks x) = omega arith
-  ended_less code (Answered x n) = omega arith
-  ended_less code (Of_server x client Accepts) = omega arith
   ended_less code (Of_server x client (Serves o)) = omega arith
-  ended_less code (Of_server x client _) = omega arith
+  ended_less code _ = omega arith
 
   -- the root is of its declared class
   root_pays : (o : Object) (root : Option ℕ) → Fits p (seen s.cells) (Some o) (filled (root_thing root 0) Perhaps) → c.destruction o.thing ≤ root_price c root
@@ -204,12 +197,9 @@ module _ (p : Image) (t : Typing) (c : Prices) (linked : IsLinked p) (typed : Is
 
   -- the stage of a server's dispatch ends
   stage_left : (x : Seat) (client : ℕ) (stage : Stage) (ts : List Task) → left p c (stage_ends x client stage (counted p s)) ≤ all_left (Dispatched (Of_server x client stage) ∷ ts)
-  stage_left x client Accepts ts = omega arith
-  stage_left x client Accepted ts = omega arith
-  stage_left x client (Accept_left code) ts = omega arith
-  stage_left x client (Serves o) ts = omega arith
   stage_left x client (Service_left code) ts = omega (arith, without_less c is_entry (Elsewhere In_service) s.cells)
   stage_left x client Parts ts = omega (arith, served_same c is_entry x.object.name (parted client (service_of s.cells x.object.name)) s.cells)
+  stage_left x client _ ts = omega arith
 
   -- a dispatch that ends stands alone
   abbrev Alone : Dispatch → Type 0
@@ -220,7 +210,9 @@ module _ (p : Image) (t : Typing) (c : Prices) (linked : IsLinked p) (typed : Is
       let both = subst (λ b. Good p t s.cells (Dispatching d seats ∷ b) × (forms s.items ≡ items_of (Dispatching d seats ∷ b))) last.0.stack.1 last in (seats, both.0, both.1))
 
   -- the method that is asked was paid for
-  asked_left : (ts : List Task) (x : Seat) (code : ℤ) (m : Option ℕ) → is_none m ≡ false → left p c (asking p m x code (counted p s)) ≤ perhaps_price c m + waiting_left p c ts + (objects_left c s.cells + operations_left c s.items)
+  asked_left :
+      (ts : List Task) (x : Seat) (code : ℤ) (m : Option ℕ) → is_none m ≡ false →
+      left p c (asking p m x code (counted p s)) ≤ perhaps_price c m + waiting_left p c ts + (objects_left c s.cells + operations_left c s.items)
   asked_left ts x code None none = cc
   asked_left ts x code (Some m) none = omega (arith, fresh_rounds c m (method_at p m))
 
@@ -295,7 +287,8 @@ module _ (p : Image) (t : Typing) (c : Prices) (linked : IsLinked p) (typed : Is
   move_pays u goes (Acts fr ts i e at there met fits same) goes_on =
       by (Run fr ∷ ts) u u at refl (acts w.layers w.tasks w.items w.good fr ts (sym w.tasks ∙ at) i u there (subst (λ l. step_task p ch (counted p s) l ≡ Goes u) at goes))
   move_pays u goes (Vanishes ts o at there owns same) goes_on = by (Destroy ∷ ts) u _ at same (vanishes ts o)
-  move_pays u goes (Empties ts o at there same) goes_on = by (Closing ∷ Destroy ∷ ts) u _ at same (omega (arith, empties ts o (first_session s.cells o.name (service_of s.cells o.name).sessions) at there refl))
+  move_pays u goes (Empties ts o at there same) goes_on =
+      by (Closing ∷ Destroy ∷ ts) u _ at same (omega (arith, empties ts o (first_session s.cells o.name (service_of s.cells o.name).sessions) at there refl))
   move_pays u goes (Clears code ts items o at top there same) goes_on = by (Unwind code ∷ ts) u _ at same (omega (arith, clears code ts items o at top there))
   move_pays u goes (Undoes code ts items m x at top same) goes_on =
       let paid : operations_left c s.items ≡ price c m + operations_left c items = ap (λ l. operations_left c l) top in
@@ -366,7 +359,9 @@ module _ (p : Image) (t : Typing) (c : Prices) (outside : Outside) (wired : IsWi
       omega (arith, h, step_pays p t c linked typed priced ch s u w.0 w.1 goes on, ap (λ x. price_of p c x) same)
 
   -- and with a turn
-  turns_on : (heard : Heard) (s u : State) (n : ℕ) → WellTyped p t s → s.tasks ≡ [] → turn p outside heard s ≡ Goes u → Within n s → (b : Bool) → starts (turning outside heard s) ≡ b → Within (cond b 0 n) u
+  turns_on :
+      (heard : Heard) (s u : State) (n : ℕ) → WellTyped p t s → s.tasks ≡ [] → turn p outside heard s ≡ Goes u → Within n s → (b : Bool) → starts (turning outside heard s) ≡ b →
+      Within (cond b 0 n) u
   turns_on heard s u n w idle goes h true begun = omega (arith, turns_pay.begins p t c linked priced outside heard s u w idle goes begun)
   turns_on heard s u n w idle goes h false on =
       let passed = turns_pay.passes p c outside heard s u idle goes on in
