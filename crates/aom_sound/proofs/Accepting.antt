@@ -1,5 +1,5 @@
 -- A method that accepts returns to its dispatch: what it gives is the session of the client.
-use Rattle.std.proofs.Common.{Bool, List, None, Some, [], ap, cond, false, length, refl, subst, sym, true, ℕ, ◌==◌, ◌∙◌, ◌∷◌, ◌≡◌}
+use Rattle.std.proofs.Common.{[], Bool, List, None, Some, ap, cond, false, length, refl, subst, sym, true, ℕ, ◌==◌, ◌∙◌, ◌∷◌, ◌≡◌}
 use Rattle.std.proofs.lemmas.Bool.{eq-eqb, eqb-true}
 use Rattle.std.specs.Prelude.{is_none, is_some, ◌&&◌, ◌++◌, ◌||◌}
 use Rattle.aom_image.specs.Image.{Image}
@@ -28,7 +28,7 @@ use Rattle.aom_sound.proofs.Straight.{At, Law, claim_register, fits_unowning, re
 use Rattle.aom_sound.proofs.Suiting.{all_returned, known_resting, rests_there, suits_rests}
 use Rattle.aom_sound.specs.Calls.{result_needs}
 use Rattle.aom_sound.specs.Claims.{Dispatching, Layer, Mark, Mark_form, Method, claim, declared, declared_field, tasks_of}
-use Rattle.aom_sound.specs.Places.{Cell, Elsewhere, Entry, Field, Going, In_service, Place, Queued, Register, Root, Service, Session, changed, held, moved, named, requested, same_place, seen, service_of, set_service}
+use Rattle.aom_sound.specs.Places.{Cell, Elsewhere, Field, Place, Queued, Register, Service, Session, changed, held, moved, named, requested, same_place, seen, service_of, set_service}
 use Rattle.aom_sound.specs.Requests.{AllSuit, Suits, states_claim, thing_kind}
 use Rattle.aom_sound.specs.Servers.{has_message, has_session, is_among, message_thing, opened, session_thing}
 use Rattle.aom_sound.specs.State.{word, Accepted, Accepts, Choice, Frame, Inside, Of_server, Seat, State}
@@ -47,7 +47,8 @@ among_old : (k c : ℕ) (ss : List ℕ) → (c == k) ≡ false → is_among k (s
 among_old k c [] e = ap (λ b. b || false) e
 among_old k c (d ∷ ss) e = ap (λ b. (d == k) || b) (among_old k c ss e)
 
-module _ (p : Image) (t : Typing) (c : Choice) (s : State) (fr : Frame) (sh : Shape) (gv : Gives) (x : Seat) (client : ℕ) (seats : List Seat) (ls : List Layer) (at_hand : At p t s fr sh (Mark gv ∷ Dispatching (Of_server x client Accepts) seats ∷ ls)) (a : ℕ) where
+module _ (p : Image) (t : Typing) (c : Choice) (s : State) (fr : Frame) (sh : Shape) (gv : Gives) (x : Seat) (client : ℕ) (seats : List Seat) (ls : List Layer)
+    (at_hand : At p t s fr sh (Mark gv ∷ Dispatching (Of_server x client Accepts) seats ∷ ls)) (a : ℕ) where
   abbrev below : List Layer
   below = Mark gv ∷ Dispatching (Of_server x client Accepts) seats ∷ ls
 
@@ -107,7 +108,8 @@ module _ (p : Image) (t : Typing) (c : Choice) (s : State) (fr : Frame) (sh : Sh
   sessions_then m k other = go (n == m) refl other
     where
       go : (b : Bool) → (n == m) ≡ b → (b && (client == k)) ≡ false → has_session (service_of cs2 m) k ≡ has_session (service_of cs m) k
-      go true e f = subst (λ i. has_session (service_of cs2 i) k ≡ has_session (service_of cs i) k) (eqb-true n m e) (ap (λ w. has_session w k) service_now ∙ among_old k client (service_of cs n).sessions f)
+      go true e f =
+          subst (λ i. has_session (service_of cs2 i) k ≡ has_session (service_of cs i) k) (eqb-true n m e) (ap (λ w. has_session w k) service_now ∙ among_old k client (service_of cs n).sessions f)
       go false e f = ap (λ w. has_session w k) (service_then m e)
 
   messages_then : (m k : ℕ) → has_message (service_of cs2 m) k ≡ has_message (service_of cs m) k
@@ -119,14 +121,12 @@ module _ (p : Image) (t : Typing) (c : Choice) (s : State) (fr : Frame) (sh : Sh
 
   -- nothing but the session is declared anew
   declared_then : (r : Place) → same_place to r ≡ false → declared p cs2 r ≡ declared p cs r
-  declared_then (Register f i) e = refl
-  declared_then (Entry k) e = refl
   declared_then (Field m f) e = ap (λ o. declared_field p o f) (named_then m)
-  declared_then (Going k) e = refl
-  declared_then (Elsewhere Root) e = refl
-  declared_then (Elsewhere (Session m k)) e = ap (λ b. cond b (filled (session_thing p (named cs2 m)) Full) Null) (sessions_then m k e) ∙ ap (λ o. cond (has_session (service_of cs m) k) (filled (session_thing p o) Full) Null) (named_then m)
-  declared_then (Elsewhere In_service) e = refl
-  declared_then (Elsewhere (Queued m k)) e = ap (λ b. cond b (filled (message_thing p (named cs2 m)) Full) Null) (messages_then m k) ∙ ap (λ o. cond (has_message (service_of cs m) k) (filled (message_thing p o) Full) Null) (named_then m)
+  declared_then (Elsewhere (Session m k)) e =
+      ap (λ b. cond b (filled (session_thing p (named cs2 m)) Full) Null) (sessions_then m k e) ∙ ap (λ o. cond (has_session (service_of cs m) k) (filled (session_thing p o) Full) Null) (named_then m)
+  declared_then (Elsewhere (Queued m k)) e =
+      ap (λ b. cond b (filled (message_thing p (named cs2 m)) Full) Null) (messages_then m k) ∙ ap (λ o. cond (has_message (service_of cs m) k) (filled (message_thing p o) Full) Null) (named_then m)
+  declared_then _ e = refl
 
   declared_now : declared p cs2 to ≡ Own thing Ready
   declared_now =
@@ -135,14 +135,8 @@ module _ (p : Image) (t : Typing) (c : Choice) (s : State) (fr : Frame) (sh : Sh
 
   -- a dispatch at either stage claims nothing
   claims_alike : (d : Place → Kind) (r : Place) → claim p d (Dispatching (Of_server x client Accepted) seats ∷ ls) r ≡ claim p d (Dispatching (Of_server x client Accepts) seats ∷ ls) r
-  claims_alike d (Register f i) = refl
-  claims_alike d (Entry k) = refl
-  claims_alike d (Field m f) = refl
-  claims_alike d (Going k) = refl
-  claims_alike d (Elsewhere Root) = refl
   claims_alike d (Elsewhere (Session m k)) = refl
-  claims_alike d (Elsewhere In_service) = refl
-  claims_alike d (Elsewhere (Queued m k)) = refl
+  claims_alike d _ = refl
 
   module _ (r : Returnable p fr sh a) where
     rule : AllTrue (rule_result p fr.method fr.place sh (An_own thing) a)
@@ -168,14 +162,19 @@ module _ (p : Image) (t : Typing) (c : Choice) (s : State) (fr : Frame) (sh : Sh
         carried : Fits p (seen cs1) (held cs1 r) (changed (changed k q Null) to (k q) r)
         carried = keep_fits p (seen cs) (seen cs1) k (changed (changed k q Null) to (k q)) q to (λ r. held_moved cs q to r free) (requested_moved cs q to) (λ r. refl) (λ r y e fresh f. refl) at_hand.good.fits r
 
-        go : (b : Bool) → same_place to r ≡ b → Fits p (seen cs1) (held cs1 r) (cond b (k q) (cond (same_place q r) Null (k r))) → Fits p (seen cs1) (held cs1 r) (claim p (declared p cs2) (Dispatching (Of_server x client Accepted) seats ∷ ls) r)
+        go :
+            (b : Bool) → same_place to r ≡ b → Fits p (seen cs1) (held cs1 r) (cond b (k q) (cond (same_place q r) Null (k r))) →
+            Fits p (seen cs1) (held cs1 r) (claim p (declared p cs2) (Dispatching (Of_server x client Accepted) seats ∷ ls) r)
         go true e f =
-            let its_claim : claim p (declared p cs2) (Dispatching (Of_server x client Accepted) seats ∷ ls) to ≡ Own thing Ready = ap (λ l. claim p (declared p cs2) l to) at_hand.good.stack.4.1.1 ∙ declared_now in
+            let its_claim : claim p (declared p cs2) (Dispatching (Of_server x client Accepted) seats ∷ ls) to ≡ Own thing Ready =
+            ap (λ l. claim p (declared p cs2) l to) at_hand.good.stack.4.1.1 ∙ declared_now in
             subst (λ y. Fits p (seen cs1) (held cs1 r) (claim p (declared p cs2) (Dispatching (Of_server x client Accepted) seats ∷ ls) y)) (same_place-true to r e)
             (subst (λ y. Fits p (seen cs1) (held cs1 r) y) (claim_register p (declared p cs) fr sh below a ∙ given ∙ sym its_claim) f)
         go false e f =
             let bare = subst (λ y. Fits p (seen cs1) (held cs1 r) y) (sym (claim-set_register p (declared p cs) fr sh below a Null r)) f in
-            let over = ended p cs fr (set_register sh a Null) below at_hand.good.stack.2 at_hand.good.stack.3 refl entries rest_free (λ serving. absurd (at_hand.good.stack.1.message.0 serving)) r (seen cs1) (held cs1 r) bare in
+            let over =
+            ended p cs fr (set_register sh a Null) below at_hand.good.stack.2 at_hand.good.stack.3 refl entries rest_free (λ serving. absurd (at_hand.good.stack.1.message.0 serving)) r
+            (seen cs1) (held cs1 r) bare in
             subst (λ y. Fits p (seen cs1) (held cs1 r) y)
             (mark_claims p (declared p cs) gv (Dispatching (Of_server x client Accepts) seats ∷ ls) r ∙ sym (claims_alike (declared p cs) r)
             ∙ claim_rel (λ y z. y ≡ z) (λ y. refl) p (declared p cs) (declared p cs2) (Dispatching (Of_server x client Accepted) seats ∷ ls) r (sym (declared_then r e)))

@@ -1,5 +1,5 @@
 -- The code of a leave arrives: at the method that set the trap, or at main's dispatch.
-use Rattle.std.proofs.Common.{List, None, Some, [], ap, pos, refl, subst, suc, sym, true, ℕ, ℤ, ◌∙◌, ◌∷◌, ◌≡◌}
+use Rattle.std.proofs.Common.{[], cond, List, None, Some, ap, pos, refl, subst, suc, sym, true, ℕ, ℤ, ◌∙◌, ◌∷◌, ◌≡◌}
 use Rattle.aom_image.specs.Image.{Image}
 use Rattle.aom_image.specs.Views.{instr_at}
 use Rattle.aom_image.specs.declared.method.Gives.{Gives}
@@ -9,21 +9,19 @@ use Rattle.aom_shape.specs.Kinds.{is_unowning, register, set_register}
 use Rattle.aom_shape.specs.Shape.{Shape}
 use Rattle.aom_rules.specs.Typing.{Leads, Typing}
 use Rattle.aom_shape.specs.declared.kind.Age.TheVariants.{Ready}
-use Rattle.aom_shape.specs.declared.kind.Kind.TheVariants.{Maybe, Word}
+use Rattle.aom_shape.specs.declared.kind.Kind.{Kind}
+use Rattle.aom_shape.specs.declared.kind.Kind.TheVariants.{Maybe, Null, Word}
 use Rattle.aom_sound.proofs.Straight.{Fitted, next_unowning, settle, stepped, write}
 use Rattle.aom_sound.specs.Calls.{called, result_register}
-use Rattle.aom_sound.specs.Claims.{Dispatching, Layer, Mark, Method, Unwinding, claim, declared, forms, items_of, objects, tasks_of}
-use Rattle.aom_sound.specs.Cleanup.{arrived, code_told}
-use Rattle.aom_sound.specs.Places.{Cell, Elsewhere, Entry, Field, Going, Place, Register, Root, held, seen}
-use Rattle.aom_sound.specs.State.{Of_server, Accepts, Accept_left, Serves, Service_left, Dispatch, Frame, Item, Main_left, Object_left, Of_main, Of_object, Seat, State, Static, next, set_word}
-use Rattle.aom_sound.specs.WellTyped.{AllUndo, Awaits, Caught, Fits, Good, Keeps, Stack}
+use Rattle.aom_sound.specs.Claims.{Dispatching, Layer, Mark, Method, Unwinding, by_close, by_stage, claim, declared, forms, is_of_root, items_of, objects, tasks_of}
+use Rattle.aom_sound.specs.Cleanup.{arrived, code_told, ended_by}
+use Rattle.aom_sound.specs.Places.{Cell, Elsewhere, In_service, Place, Root, Session, held, seen}
+use Rattle.aom_sound.specs.State.{Of_server, Accepts, Serves, Dispatch, Frame, Item, Of_main, Of_object, Seat, State, Static, next, set_word}
+use Rattle.aom_sound.specs.WellTyped.{AllUndo, Awaits, Caught, Fits, Good, Keeps, Now, Stack}
 
 same_entries : (g : Gives) (c : ℕ) (sh : Shape) → (caught g c sh).entries ≡ sh.entries
-same_entries Nothing c sh = refl
-same_entries A_word c sh = refl
 same_entries (An_own x) c sh = refl
-same_entries (A_maybe x) c sh = refl
-same_entries (Left x) c sh = refl
+same_entries _ c sh = refl
 
 -- null or 0 where the result would be, and the code
 told_fitted :
@@ -46,15 +44,14 @@ abbrev pub bare : Frame → Frame
 bare fr = record fr { words = []; home = Static }
 
 pub told_same : (g : Gives) (c : ℕ) (code : ℤ) (fr : Frame) → bare (code_told g c code fr) ≡ bare fr
-told_same Nothing c code fr = refl
-told_same A_word c code fr = refl
 told_same (An_own x) c code fr = refl
-told_same (A_maybe x) c code fr = refl
-told_same (Left x) c code fr = refl
+told_same _ c code fr = refl
 
 module _ (p : Image) (t : Typing) (s : State) (code : ℤ) (items : List Item) where
   -- at the method that set the trap
-  at_method : (gv : Gives) (fr : Frame) (sh : Shape) (ls : List Layer) → forms items ≡ objects sh.entries (items_of ls) → AllUndo p items → Good p t s.cells (Unwinding code [] ∷ Mark gv ∷ Method fr sh ∷ ls) → Keeps p t (arrived p code (tasks_of (Mark gv ∷ Method fr sh ∷ ls)) items s)
+  at_method :
+      (gv : Gives) (fr : Frame) (sh : Shape) (ls : List Layer) → forms items ≡ objects sh.entries (items_of ls) → AllUndo p items → Good p t s.cells (Unwinding code [] ∷ Mark gv ∷ Method fr sh ∷ ls) →
+      Keeps p t (arrived p code (tasks_of (Mark gv ∷ Method fr sh ∷ ls)) items s)
   at_method gv fr sh ls same undos good =
       let below = good.stack.1.1 in
       let i = instr_at p fr.method fr.place in
@@ -68,79 +65,48 @@ module _ (p : Image) (t : Typing) (s : State) (code : ℤ) (items : List Item) w
       record { layers = Method (next fr') e.0 ∷ ls; tasks = refl; items = same ∙ ap (λ es. objects es (items_of ls)) (sym (e.2 ∙ same_entries gv c sh)); undos = undos; good = e.1 }
     where
       fits : (r : Place) → Fits p (seen s.cells) (held s.cells r) (claim p (declared p s.cells) (Method fr sh ∷ ls) r)
-      fits (Register f i) = good.fits (Register f i)
-      fits (Entry k) = good.fits (Entry k)
-      fits (Field n f) = good.fits (Field n f)
       fits (Elsewhere Root) = good.fits (Elsewhere Root)
-      fits (Elsewhere w) = good.fits (Elsewhere w)
-      fits (Going k) = good.fits (Going k)
+      fits r = good.fits r
 
-  -- at a dispatch, which ends with it
-  at_dispatch : (gv : Gives) (d : Dispatch) (seats : List Seat) (ls : List Layer) → forms items ≡ items_of ls → AllUndo p items → Good p t s.cells (Unwinding code [] ∷ Mark gv ∷ Dispatching d seats ∷ ls) → Keeps p t (arrived p code (tasks_of (Mark gv ∷ Dispatching d seats ∷ ls)) items s)
-  at_dispatch gv Of_main seats ls same undos good = record {
-    layers = Dispatching (Main_left code) seats ∷ ls;
+  -- at a dispatch, which ends with it and claims what it did
+  ends :
+      (gv : Gives) (d : Dispatch) (seats : List Seat) (ls : List Layer) → is_of_root d ≡ is_of_root (ended_by code d) → ((n x : ℕ) (k : Kind) → by_close d n x k ≡ by_close (ended_by code d) n x k) →
+      ((k : Kind) → by_stage d k ≡ by_stage (ended_by code d) k) → Stack p t s.cells Now (Dispatching (ended_by code d) seats ∷ ls) → forms items ≡ items_of ls → AllUndo p items →
+      Good p t s.cells (Unwinding code [] ∷ Mark gv ∷ Dispatching d seats ∷ ls) → Keeps p t (arrived p code (tasks_of (Mark gv ∷ Dispatching d seats ∷ ls)) items s)
+  ends gv d seats ls root close stage stack same undos good = record {
+    layers = Dispatching (ended_by code d) seats ∷ ls;
     tasks = refl;
     items = same;
     undos = undos;
-    good = record { stack = (tt, good.stack.1.1.1, good.stack.1.1.2, good.stack.1.1.3, tt); fits = fits; suits = good.suits; tidy = good.tidy };
+    good = record { stack = stack; fits = λ r. subst (λ k. Fits p (seen s.cells) (held s.cells r) k) (claims r) (good.fits r); suits = good.suits; tidy = good.tidy };
   }
     where
-      fits : (r : Place) → Fits p (seen s.cells) (held s.cells r) (claim p (declared p s.cells) (Dispatching (Main_left code) seats ∷ ls) r)
-      fits (Register f i) = good.fits (Register f i)
-      fits (Entry k) = good.fits (Entry k)
-      fits (Field n f) = good.fits (Field n f)
-      fits (Elsewhere Root) = good.fits (Elsewhere Root)
-      fits (Elsewhere w) = good.fits (Elsewhere w)
-      fits (Going k) = good.fits (Going k)
-  at_dispatch gv (Of_object x) seats ls same undos good = record {
-    layers = Dispatching (Object_left x code) seats ∷ ls;
-    tasks = refl;
-    items = same;
-    undos = undos;
-    good = record { stack = (tt, good.stack.1.1.1, good.stack.1.1.2, good.stack.1.1.3, tt); fits = fits; suits = good.suits; tidy = good.tidy };
-  }
-    where
-      fits : (r : Place) → Fits p (seen s.cells) (held s.cells r) (claim p (declared p s.cells) (Dispatching (Object_left x code) seats ∷ ls) r)
-      fits (Register f i) = good.fits (Register f i)
-      fits (Entry k) = good.fits (Entry k)
-      fits (Field n f) = good.fits (Field n f)
-      fits (Elsewhere Root) = good.fits (Elsewhere Root)
-      fits (Elsewhere w) = good.fits (Elsewhere w)
-      fits (Going k) = good.fits (Going k)
-  at_dispatch gv (Of_server x c Accepts) seats ls same undos good = record {
-    layers = Dispatching (Of_server x c (Accept_left code)) seats ∷ ls;
-    tasks = refl;
-    items = same;
-    undos = undos;
-    good = record { stack = (tt, good.stack.1.1.1, good.stack.1.1.2, good.stack.1.1.3, good.stack.1.1.4); fits = fits; suits = good.suits; tidy = good.tidy };
-  }
-    where
-      fits : (r : Place) → Fits p (seen s.cells) (held s.cells r) (claim p (declared p s.cells) (Dispatching (Of_server x c (Accept_left code)) seats ∷ ls) r)
-      fits (Register f i) = good.fits (Register f i)
-      fits (Entry k) = good.fits (Entry k)
-      fits (Field n f) = good.fits (Field n f)
-      fits (Elsewhere Root) = good.fits (Elsewhere Root)
-      fits (Elsewhere w) = good.fits (Elsewhere w)
-      fits (Going k) = good.fits (Going k)
-  at_dispatch gv (Of_server x c (Serves o)) seats ls same undos good = record {
-    layers = Dispatching (Of_server x c (Service_left code)) seats ∷ ls;
-    tasks = refl;
-    items = same;
-    undos = undos;
-    good = record { stack = (tt, good.stack.1.1.1, good.stack.1.1.2, good.stack.1.1.3, good.stack.1.1.4); fits = fits; suits = good.suits; tidy = good.tidy };
-  }
-    where
-      fits : (r : Place) → Fits p (seen s.cells) (held s.cells r) (claim p (declared p s.cells) (Dispatching (Of_server x c (Service_left code)) seats ∷ ls) r)
-      fits (Register f i) = good.fits (Register f i)
-      fits (Entry k) = good.fits (Entry k)
-      fits (Field n f) = good.fits (Field n f)
-      fits (Elsewhere Root) = good.fits (Elsewhere Root)
-      fits (Elsewhere w) = good.fits (Elsewhere w)
-      fits (Going k) = good.fits (Going k)
+      below : Place → Kind
+      below r = claim p (declared p s.cells) ls r
+
+      claims : (r : Place) → claim p (declared p s.cells) (Unwinding code [] ∷ Mark gv ∷ Dispatching d seats ∷ ls) r ≡ claim p (declared p s.cells) (Dispatching (ended_by code d) seats ∷ ls) r
+      claims (Elsewhere Root) = ap (λ b. cond b Null (below (Elsewhere Root))) root
+      claims (Elsewhere (Session n x)) = close n x (below (Elsewhere (Session n x)))
+      claims (Elsewhere In_service) = stage (below (Elsewhere In_service))
+      claims _ = refl
+
+  at_dispatch :
+      (gv : Gives) (d : Dispatch) (seats : List Seat) (ls : List Layer) → forms items ≡ items_of ls → AllUndo p items → Good p t s.cells (Unwinding code [] ∷ Mark gv ∷ Dispatching d seats ∷ ls) →
+      Keeps p t (arrived p code (tasks_of (Mark gv ∷ Dispatching d seats ∷ ls)) items s)
+  at_dispatch gv Of_main seats ls same undos good =
+      ends gv Of_main seats ls refl (λ n x k. refl) (λ k. refl) (tt, good.stack.1.1.1, good.stack.1.1.2, good.stack.1.1.3, tt) same undos good
+  at_dispatch gv (Of_object x) seats ls same undos good =
+      ends gv (Of_object x) seats ls refl (λ n x k. refl) (λ k. refl) (tt, good.stack.1.1.1, good.stack.1.1.2, good.stack.1.1.3, tt) same undos good
+  at_dispatch gv (Of_server x c Accepts) seats ls same undos good =
+      ends gv (Of_server x c Accepts) seats ls refl (λ n x k. refl) (λ k. refl) (tt, good.stack.1.1.1, good.stack.1.1.2, good.stack.1.1.3, good.stack.1.1.4) same undos good
+  at_dispatch gv (Of_server x c (Serves o)) seats ls same undos good =
+      ends gv (Of_server x c (Serves o)) seats ls refl (λ n x k. refl) (λ k. refl) (tt, good.stack.1.1.1, good.stack.1.1.2, good.stack.1.1.3, good.stack.1.1.4) same undos good
   at_dispatch gv _ seats ls same undos good = absurd good.stack.1.1.0
 
   -- a trap stands over one of the two
-  pub arrives : (gv : Gives) (ls : List Layer) → forms items ≡ items_of ls → AllUndo p items → Good p t s.cells (Unwinding code [] ∷ Mark gv ∷ ls) → Keeps p t (arrived p code (tasks_of (Mark gv ∷ ls)) items s)
+  pub arrives :
+      (gv : Gives) (ls : List Layer) → forms items ≡ items_of ls → AllUndo p items → Good p t s.cells (Unwinding code [] ∷ Mark gv ∷ ls) →
+      Keeps p t (arrived p code (tasks_of (Mark gv ∷ ls)) items s)
   arrives gv [] same undos good = let clash : Stack p t s.cells (Caught gv) [] = good.stack.1.1 in cc
   arrives gv (Method fr sh ∷ ls) same undos good = at_method gv fr sh ls same undos good
   arrives gv (Dispatching d seats ∷ ls) same undos good = at_dispatch gv d seats ls same undos good

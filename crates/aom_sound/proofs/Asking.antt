@@ -1,5 +1,5 @@
 -- An `error` method enters over the dispatch that asks it.
-use Rattle.std.proofs.Common.{inr, false, inl, IsTrue, List, None, Option, Some, [], ap, length, refl, subst, suc, sym, true, zero, ℕ, ℤ, ◌∙◌, ◌∷◌, ◌≡◌}
+use Rattle.std.proofs.Common.{[], inr, false, inl, IsTrue, List, None, Option, Some, ap, length, refl, subst, suc, sym, true, zero, ℕ, ℤ, ◌∙◌, ◌∷◌, ◌≡◌}
 use Rattle.std.specs.Prelude.{bit_or, is_some, map}
 use Rattle.aom_image.specs.Image.{Image}
 use Rattle.aom_image.specs.Views.{has, method_class}
@@ -24,7 +24,7 @@ use Rattle.aom_sound.specs.Claims.{Dispatching, Layer, claim, declared, forms}
 use Rattle.aom_sound.specs.Enlisted.{part_of}
 use Rattle.aom_sound.specs.Laws.{IsAnswerer, IsWired}
 use Rattle.aom_sound.specs.Moves.{asking}
-use Rattle.aom_sound.specs.Places.{Active, Elsewhere, Entry, Field, Going, Idle, Phase, Place, Register, Request, Root, held, requested, seen}
+use Rattle.aom_sound.specs.Places.{Active, Elsewhere, Idle, Phase, Place, Request, Root, held, requested, seen}
 use Rattle.aom_sound.specs.Requests.{Suits, phase_state, resting_in, thing_kind}
 use Rattle.aom_sound.specs.State.{Asks, Object_left, Seat, State, thing_holder}
 use Rattle.aom_sound.specs.WellTyped.{AllUndo, Fits, Good, WellTyped, WordFits}
@@ -54,8 +54,12 @@ found p wired (An_object_of c) m e = (c, refl, wired.answers c m e)
 found p wired Message m e = cc
 
 module _ (p : Image) (t : Typing) (wired : IsWired p) (typed : IsTyped p t) (s : State) (x : Seat) (code : ℤ) where
-  asks_it : (above : List Seat) → s.items ≡ [] → Good p t s.cells (Dispatching (Object_left x code) (x ∷ above) ∷ []) → (m : ℕ) → part_of p Error x.object.thing ≡ Some m → WellTyped p t (asking p (Some m) x code s)
-  asks_it above items good m e = enters p t typed s.cells x above over m (Some code ∷ []) entering (asking p (Some m) x code s) (length s.items) (ap length items) refl refl (ap forms items) (subst (λ is. AllUndo p is) (sym items) tt)
+  asks_it :
+      (above : List Seat) → s.items ≡ [] → Good p t s.cells (Dispatching (Object_left x code) (x ∷ above) ∷ []) → (m : ℕ) → part_of p Error x.object.thing ≡ Some m →
+      WellTyped p t (asking p (Some m) x code s)
+  asks_it above items good m e =
+      enters p t typed s.cells x above over m (Some code ∷ []) entering (asking p (Some m) x code s) (length s.items) (ap length items) refl refl (ap forms items)
+      (subst (λ is. AllUndo p is) (sym items) tt)
     where
       over : List Layer
       over = Dispatching (Asks x) (x ∷ above) ∷ []
@@ -72,20 +76,12 @@ module _ (p : Image) (t : Typing) (wired : IsWired p) (typed : IsTyped p t) (s :
       empty (suc i) = tt
 
       claims : (d : Place → Kind) (r : Place) → claim p d (Dispatching (Asks x) (x ∷ above) ∷ []) r ≡ with_message false d r
-      claims d (Register f i) = refl
-      claims d (Entry k) = refl
-      claims d (Field n f) = refl
       claims d (Elsewhere Root) = refl
-      claims d (Elsewhere w) = refl
-      claims d (Going k) = refl
+      claims d _ = refl
 
       fits : (r : Place) → Fits p (seen s.cells) (held s.cells r) (with_message false (declared p s.cells) r)
-      fits (Register f i) = good.fits (Register f i)
-      fits (Entry k) = good.fits (Entry k)
-      fits (Field n f) = good.fits (Field n f)
       fits (Elsewhere Root) = good.fits (Elsewhere Root)
-      fits (Elsewhere w) = good.fits (Elsewhere w)
-      fits (Going k) = good.fits (Going k)
+      fits r = good.fits r
 
       entering : Entering p t s.cells x above over m (Some code ∷ [])
       entering = record {
@@ -112,5 +108,7 @@ module _ (p : Image) (t : Typing) (wired : IsWired p) (typed : IsTyped p t) (s :
         fields = λ f. ap (λ r. at Perhaps (entry_fields r) f) it.2.role ∙ at_alike 8 Perhaps f;
       }
 
-  pub error_enters : (seats : List Seat) → s.items ≡ [] → Good p t s.cells (Dispatching (Object_left x code) seats ∷ []) → (m : ℕ) → part_of p Error x.object.thing ≡ Some m → WellTyped p t (asking p (Some m) x code s)
+  pub error_enters :
+      (seats : List Seat) → s.items ≡ [] → Good p t s.cells (Dispatching (Object_left x code) seats ∷ []) → (m : ℕ) → part_of p Error x.object.thing ≡ Some m →
+      WellTyped p t (asking p (Some m) x code s)
   error_enters seats items good m e = asks_it good.stack.3.1 items (subst (λ xs. Good p t s.cells (Dispatching (Object_left x code) xs ∷ [])) good.stack.3.2 good) m e

@@ -14,7 +14,7 @@ use Rattle.aom_sound.specs.Claims.{Dispatching, Layer, Mark, claim, delivered, s
 use Rattle.aom_sound.specs.State.{Of_server, Serves}
 use Rattle.aom_sound.specs.WellTyped.{IsServed}
 use Rattle.aom_sound.specs.Laws.{IsCalled}
-use Rattle.aom_sound.specs.Places.{Elsewhere, Entry, Field, Going, In_service, Place, Queued, Register, Root, Session}
+use Rattle.aom_sound.specs.Places.{Elsewhere, In_service, Place, Session}
 
 -- what is called does not serve
 pub called_plain : (p : Image) (m : ℕ) → IsCalled p m → serves p m ≡ false
@@ -35,14 +35,9 @@ served_claim p d _ s = absurd s
 
 -- with the message that is served, where one is
 abbrev pub with_message : Bool → (Place → Kind) → Place → Kind
-with_message served d (Register f i) = d (Register f i)
-with_message served d (Entry k) = d (Entry k)
-with_message served d (Field n f) = d (Field n f)
-with_message served d (Going k) = d (Going k)
-with_message served d (Elsewhere Root) = d (Elsewhere Root)
 with_message served d (Elsewhere (Session s c)) = d (Elsewhere (Session s c))
 with_message served d (Elsewhere In_service) = cond served (Own Message Ready) (d (Elsewhere In_service))
-with_message served d (Elsewhere (Queued s m)) = d (Elsewhere (Queued s m))
+with_message served d r = d r
 
 pub with_message_ready : (served : Bool) (q : Place) → is_ready_kind (with_message served (λ r. Null) q) ≡ true
 with_message_ready true (Elsewhere In_service) = refl

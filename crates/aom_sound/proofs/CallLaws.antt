@@ -1,5 +1,5 @@
 -- The laws of a call and of a trap: what is asked of them holds, and the method that begins and the one that waits for it are well typed.
-use Rattle.std.proofs.Common.{Bool, IsTrue, List, None, Option, Some, [], ap, arith, cond, false, inl, inr, length, refl, subst, suc, sym, true, ℕ, ◌<◌, ◌∙◌, ◌∷◌, ◌≡◌}
+use Rattle.std.proofs.Common.{[], Bool, IsTrue, List, None, Option, Some, ap, arith, cond, false, inl, inr, length, refl, subst, suc, sym, true, ℕ, ◌<◌, ◌∙◌, ◌∷◌, ◌≡◌}
 use Rattle.std.specs.Prelude.{not}
 use Rattle.aom_image.specs.Image.{Image}
 use Rattle.aom_image.specs.Views.{arguments_of, gives_of, has, instr_at, is_quiet, leaves, method_class, method_role}
@@ -34,6 +34,7 @@ use Rattle.aom_shape.proofs.Sets.{has_itself}
 use Rattle.aom_roles.specs.States.{idle, states_of}
 use Rattle.aom_sound.proofs.Calling.{answer, awaited, caller, cancels_not, enter, kind_begun, result_free, result_met, same_high}
 use Rattle.aom_sound.proofs.Leaving.{here_is}
+use Rattle.aom_instructions.specs.declared.instr.Instr.{Instr}
 
 -- what the caller finds its own object in is no issued request, where neither before nor at the end there is one
 called_unissued : (target : Target) (class : Option ℕ) (ended : ℕ) (sh : Shape) → unissued sh.states ≡ true → unissued ended ≡ true → unissued (while_called target class ended sh).states ≡ true
@@ -53,10 +54,13 @@ rests_under :
     (o : Object) (from : Place) → home ≡ Inside o from → works_at o.name fr.home ≡ true → IsTrue (has sh.states (rests_in p o))
 rests_under p m fr sh home kind settles o from e w = subst (λ k. IsTrue (has sh.states k)) (settles o from e w ∙ ap states_of (sym (kind o from e))) (has_itself sh.states)
 
-ends_well : (p : Image) (m : ℕ) (fr : Frame) (sh : Shape) (home : Home) → is_cancel (method_role p m) ≡ false → ((o : Object) (from : Place) → home ≡ Inside o from → works_at o.name fr.home ≡ true → sh.states ≡ after_of p m) → EndsWell p m home fr sh
+ends_well :
+    (p : Image) (m : ℕ) (fr : Frame) (sh : Shape) (home : Home) → is_cancel (method_role p m) ≡ false →
+    ((o : Object) (from : Place) → home ≡ Inside o from → works_at o.name fr.home ≡ true → sh.states ≡ after_of p m) → EndsWell p m home fr sh
 ends_well p m fr sh Static plain e = tt
 ends_well p m fr sh AtRoot plain e = tt
-ends_well p m fr sh (Inside o from) plain e = λ w. subst (λ n. IsTrue (has sh.states n)) (sym (ap (λ b. cond b idle (after_of p m)) plain)) (subst (λ k. IsTrue (has k (after_of p m))) (sym (e o from refl w)) (has_itself (after_of p m)))
+ends_well p m fr sh (Inside o from) plain e =
+    λ w. subst (λ n. IsTrue (has sh.states n)) (sym (ap (λ b. cond b idle (after_of p m)) plain)) (subst (λ k. IsTrue (has k (after_of p m))) (sym (e o from refl w)) (has_itself (after_of p m)))
 
 not_then : (b : Bool) → not b ≡ true → b ≡ false
 not_then true e = cc
@@ -113,7 +117,9 @@ housed_mark p _ Static gv ls h = h
 housed_mark p _ AtRoot gv ls h = h
 housed_mark p _ (Inside o from) gv ls h = record { there = h.there; lives = h.lives; below = below_mark from gv ls h.below; ready = ap is_ready_kind (mark_claims p (λ r. Null) gv ls from) ∙ h.ready }
 
-apart_mark : (p : Image) (home : Home) (gv : Gives) (fr : Frame) (sh : Shape) (ls : List Layer) → IsApart p home (Method fr sh ∷ ls) → ((o : Object) (from : Place) → home ≡ Inside o from → works_at o.name fr.home ≡ true → IsTrue (has sh.states (rests_in p o))) → IsApart p home (Mark gv ∷ Method fr sh ∷ ls)
+apart_mark :
+    (p : Image) (home : Home) (gv : Gives) (fr : Frame) (sh : Shape) (ls : List Layer) → IsApart p home (Method fr sh ∷ ls) →
+    ((o : Object) (from : Place) → home ≡ Inside o from → works_at o.name fr.home ≡ true → IsTrue (has sh.states (rests_in p o))) → IsApart p home (Mark gv ∷ Method fr sh ∷ ls)
 apart_mark p Static gv fr sh ls a r = a
 apart_mark p AtRoot gv fr sh ls a r = a
 apart_mark p (Inside o from) gv fr sh ls a r = (
@@ -167,3 +173,9 @@ module _ (p : Image) (t : Typing) (wired : IsWired p) (typed : IsTyped p t) (c :
 
       height : ℕ
       height = suc (length s.items)
+
+  -- each instruction of this file by its law
+  abbrev pub of_calls : (i : Instr) → instr_at p fr.method fr.place ≡ Some i → Option (Law p t c s fr sh ls at_hand i)
+  of_calls (Call target m first x) here = Some (law_call p t wired typed c s fr sh ls at_hand target m first x here)
+  of_calls (Trap target m first x) here = Some (law_trap target m first x here)
+  of_calls _ here = None

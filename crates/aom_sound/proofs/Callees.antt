@@ -1,5 +1,5 @@
 -- What a call says of its arguments, its target and the class of the method called.
-use Rattle.std.proofs.Common.{Bool, List, None, Option, Some, [], ap, arith, cond, false, inl, inr, length, refl, suc, sym, true, ℕ, ◌&&◌, ◌+◌, ◌<◌, ◌==◌, ◌∙◌, ◌∷◌, ◌≡◌, ◌≤◌}
+use Rattle.std.proofs.Common.{[], Bool, List, None, Option, Some, ap, arith, cond, false, inl, inr, length, refl, suc, sym, true, ℕ, ◌&&◌, ◌+◌, ◌<◌, ◌==◌, ◌∙◌, ◌∷◌, ◌≡◌, ◌≤◌}
 use Rattle.std.proofs.lemmas.Bool.{and_from, ne_eqb, true≢false}
 use Rattle.std.proofs.lemmas.Bool.Decides.{leb_tells}
 use Rattle.std.specs.Prelude.{not, replicate, ◌⊎◌}
@@ -20,7 +20,7 @@ use Rattle.aom_shape.specs.Things.{Member, Nobody, holder_by, holder_of, stands_
 use Rattle.aom_rules.specs.Typing.{Typing}
 use Rattle.aom_shape.specs.declared.kind.Age.{Age}
 use Rattle.aom_shape.specs.declared.kind.Filling.{Filling}
-use Rattle.aom_shape.specs.declared.kind.Filling.TheVariants.{Empty, Full, Perhaps}
+use Rattle.aom_shape.specs.declared.kind.Filling.TheVariants.{Empty, Perhaps}
 use Rattle.aom_shape.specs.declared.kind.Kind.{Kind}
 use Rattle.aom_shape.specs.declared.kind.Kind.TheVariants.{Null, Own, Unset}
 use Rattle.aom_sound.proofs.Claimed.{length_objects}
@@ -28,7 +28,7 @@ use Rattle.aom_sound.proofs.Maps.{at-put_at, held_moved}
 use Rattle.aom_sound.proofs.Passing.{lower, upper}
 use Rattle.aom_sound.specs.Calls.{passed_cells}
 use Rattle.aom_sound.specs.Claims.{Layer, Method, items_of, tasks_of}
-use Rattle.aom_sound.specs.Places.{Cell, Elsewhere, Entry, Field, Going, Object, Place, Register, Sight, held, moved, same_place, Root, Session, In_service, Queued}
+use Rattle.aom_sound.specs.Places.{Cell, Elsewhere, Entry, Field, Going, Object, Place, Register, Sight, held, moved, same_place, Root, Session}
 use Rattle.aom_sound.specs.State.{Frame, Home, Inside, State, home_holder, thing_holder}
 use Rattle.aom_sound.specs.WellTyped.{Fits, IsBelow}
 use Rattle.aom_sound.specs.Requests.{thing_kind}
@@ -88,9 +88,8 @@ below_more (Entry k) fr sh ls b = omega (arith, length_objects sh.entries (items
 below_more (Field n f) fr sh ls b = inr b
 below_more (Elsewhere Root) fr sh ls b = tt
 below_more (Elsewhere (Session n c)) fr sh ls b = inr b
-below_more (Elsewhere In_service) fr sh ls b = absurd b
-below_more (Elsewhere (Queued n m)) fr sh ls b = absurd b
 below_more (Going k) fr sh ls b = omega arith
+below_more _ fr sh ls b = absurd b
 
 -- whose fields a called method works on, by its class
 pub holder_static : (r : Option Role) → (r ≡ Some Do) ⊎ (r ≡ Some Construct) → holder_by r None ≡ Nobody
@@ -118,10 +117,8 @@ held_own p h None x a f = absurd f
 held_own p h (Some y) x a f = (y, refl, f.0)
 
 pub filled_ready : (x : Option Thing) (y : Filling) → is_ready_kind (filled x y) ≡ true
-filled_ready None y = refl
 filled_ready (Some x) Empty = refl
-filled_ready (Some x) Full = refl
-filled_ready (Some x) Perhaps = refl
+filled_ready _ _ = refl
 
 -- a field of a fresh object
 pub fits_fresh : (p : Image) (h : Sight) (x : Option Thing) (n f : ℕ) → Fits p h None (filled x (at Perhaps (replicate n Empty) f))
@@ -130,7 +127,10 @@ fits_fresh p h _ _ _ = tt
 
 -- what is no argument stays where it is
 module _ (p : Image) (s : State) (fr : Frame) (ls : List Layer) (depth : ℕ) (deep : length (tasks_of ls) < depth) where
-  pub passed_elsewhere : (t : Typing) (xs : List Argument) (first to : ℕ) (cs : List Cell) (q : Place) → ((i : ℕ) → to ≤ i → held cs (upper p t fr ls depth deep i) ≡ None) → ((i : ℕ) → first ≤ i → i < (first + length xs) → same_place (lower p t fr ls depth deep i) q ≡ false) → ((i : ℕ) → same_place (upper p t fr ls depth deep i) q ≡ false) → held (passed_cells p fr (tasks_of ls) s depth xs first to cs) q ≡ held cs q
+  pub passed_elsewhere :
+      (t : Typing) (xs : List Argument) (first to : ℕ) (cs : List Cell) (q : Place) → ((i : ℕ) → to ≤ i → held cs (upper p t fr ls depth deep i) ≡ None) →
+      ((i : ℕ) → first ≤ i → i < (first + length xs) → same_place (lower p t fr ls depth deep i) q ≡ false) → ((i : ℕ) → same_place (upper p t fr ls depth deep i) q ≡ false) →
+      held (passed_cells p fr (tasks_of ls) s depth xs first to cs) q ≡ held cs q
   passed_elsewhere t [] first to cs q free lo up = refl
   passed_elsewhere t (Takes_word ∷ xs) first to cs q free lo up = passed_elsewhere t xs (suc first) (suc to) cs q (λ i le. free i (omega arith)) (λ i le lt. lo i (omega arith) (omega arith)) up
   passed_elsewhere t (Takes_own x ∷ xs) first to cs q free lo up =

@@ -1,5 +1,5 @@
 -- A method is called, plainly or under a trap: on its caller's own object, on what a register, a field or a cleanup entry owns, or on nothing.
-use Rattle.std.proofs.Common.{Bool, IsTrue, List, None, Option, Some, [], ap, arith, cond, false, inl, inr, length, refl, subst, suc, sym, true, ℕ, ℤ, ◌&&◌, ◌+◌, ◌-◌, ◌<◌, ◌==◌, ◌∙◌, ◌∷◌, ◌≡◌, ◌≤◌}
+use Rattle.std.proofs.Common.{[], Bool, IsTrue, List, None, Option, Some, ap, arith, cond, false, inl, inr, length, refl, subst, suc, sym, true, ℕ, ℤ, ◌&&◌, ◌+◌, ◌-◌, ◌<◌, ◌==◌, ◌∙◌, ◌∷◌, ◌≡◌, ◌≤◌}
 use Rattle.std.proofs.lemmas.Bool.{eq-eqb, eqb-true, ltb-true, ne_eqb, true≢false}
 use Rattle.std.specs.Prelude.{is_none, is_some, map, not, replicate, ◌⊎◌}
 use Rattle.aom_image.specs.Image.{Image}
@@ -52,7 +52,8 @@ use Rattle.aom_sound.proofs.Suiting.{known_plain, same_object, suits_first, suit
 use Rattle.aom_roles.specs.States.{first_of, states_of}
 use Rattle.aom_sound.proofs.Attending.{plain_claim, called_plain}
 
-module _ (p : Image) (t : Typing) (wired : IsWired p) (typed : IsTyped p t) (c : Choice) (s : State) (fr : Frame) (sh : Shape) (ls : List Layer) (at_hand : At p t s fr sh ls) (m first depth height : ℕ) (deep : length (tasks_of ls) < depth) (is_called : IsCalled p m) where
+module _ (p : Image) (t : Typing) (wired : IsWired p) (typed : IsTyped p t) (c : Choice) (s : State) (fr : Frame) (sh : Shape) (ls : List Layer) (at_hand : At p t s fr sh ls)
+    (m first depth height : ℕ) (deep : length (tasks_of ls) < depth) (is_called : IsCalled p m) where
   abbrev xs : List Argument
   xs = arguments_of p m
 
@@ -124,10 +125,14 @@ module _ (p : Image) (t : Typing) (wired : IsWired p) (typed : IsTyped p t) (c :
     claims_over home after sh' r = layer_claim p (Method (callee home) after) depth [] r (claim p (declared p cs) (Method fr sh' ∷ ls) r)
 
     -- the first state of the called method over its caller
-    begins : {ended : ℕ} (home : Home) (sh' : Shape) → Entering ended home sh' → (after : Shape) → SaysNoMore after (entry_shape p m) → (r : Place) → Fits p (seen cs) (held cs r) (claims_over home after sh' r)
+    begins :
+        {ended : ℕ} (home : Home) (sh' : Shape) → Entering ended home sh' → (after : Shape) → SaysNoMore after (entry_shape p m) → (r : Place) →
+        Fits p (seen cs) (held cs r) (claims_over home after sh' r)
     begins home sh' e after w (Register f i) = go (depth == f) (e.fits (Register f i))
       where
-        go : (b : Bool) → Fits p (seen cs) (held cs (Register f i)) (cond b (at Unset regs i) (claim p (declared p cs) (Method fr sh' ∷ ls) (Register f i))) → Fits p (seen cs) (held cs (Register f i)) (cond b (register after i) (claim p (declared p cs) (Method fr sh' ∷ ls) (Register f i)))
+        go :
+            (b : Bool) → Fits p (seen cs) (held cs (Register f i)) (cond b (at Unset regs i) (claim p (declared p cs) (Method fr sh' ∷ ls) (Register f i))) →
+            Fits p (seen cs) (held cs (Register f i)) (cond b (register after i) (claim p (declared p cs) (Method fr sh' ∷ ls) (Register f i)))
         go true h = fits_weaker p (seen cs) (held cs (Register f i)) (w.registers i) h
         go false h = h
     begins home sh' e after w (Entry k) = subst (λ es. Fits p (seen cs) (held cs (Entry k)) (claims_over Static (record after { entries = es }) sh' (Entry k))) (sym w.entries) (e.fits (Entry k))
@@ -138,7 +143,9 @@ module _ (p : Image) (t : Typing) (wired : IsWired p) (typed : IsTyped p t) (c :
         go AtRoot b = absurd b
         go (Inside o from) b = inside (o.name == n) refl
           where
-            inside : (x : Bool) → (o.name == n) ≡ x → Fits p (seen cs) (held cs (Field n f)) (cond x (filled (field_thing p (thing_holder o.thing) f) (field after f)) (claim p (declared p cs) (Method fr sh' ∷ ls) (Field n f)))
+            inside :
+                (x : Bool) → (o.name == n) ≡ x →
+                Fits p (seen cs) (held cs (Field n f)) (cond x (filled (field_thing p (thing_holder o.thing) f) (field after f)) (claim p (declared p cs) (Method fr sh' ∷ ls) (Field n f)))
             inside true same = subst (λ m. Fits p (seen cs) (held cs (Field m f)) (filled (field_thing p (thing_holder o.thing) f) (field after f))) (eqb-true o.name n same)
                 (fits_weaker p (seen cs) (held cs (Field o.name f)) (filled_weaker (field_thing p (thing_holder o.thing) f) (w.fields f)) (b f))
             inside false other = e.fits (Field n f)
@@ -148,12 +155,18 @@ module _ (p : Image) (t : Typing) (wired : IsWired p) (typed : IsTyped p t) (c :
         go Static b = e.fits (Elsewhere Root)
         go AtRoot b = absurd b
         go (Inside o from) b = e.fits (Elsewhere Root)
-    begins home sh' e after w (Elsewhere In_service) = subst (λ k. Fits p (seen cs) (held cs (Elsewhere In_service)) k) (sym (plain_claim (serves p m) after (claim p (declared p cs) (Method fr sh' ∷ ls) (Elsewhere In_service)) serves_not)) (e.fits (Elsewhere In_service))
+    begins home sh' e after w (Elsewhere In_service) =
+        subst (λ k. Fits p (seen cs) (held cs (Elsewhere In_service)) k)
+        (sym (plain_claim (serves p m) after (claim p (declared p cs) (Method fr sh' ∷ ls) (Elsewhere In_service)) serves_not)) (e.fits (Elsewhere In_service))
     begins home sh' e after w (Elsewhere o) = e.fits (Elsewhere o)
     begins home sh' e after w (Going k) = e.fits (Going k)
 
     -- all other objects are as they were
-    begun_suits : (home : Home) (sh' : Shape) (over : List Layer) (after : Shape) → IsTrue (has after.states (before_of p m)) → IsHoused p cs over home → ((o : Object) → states_claim p o over ≡ states_claim p o (Method fr sh' ∷ ls)) → BeginsWell home sh' → ((x : Object) → named cs x.name ≡ Some x → works_at x.name home ≡ false → Suits (thing_kind p x.thing) (states_claim p x over) (requested cs x.name)) → AllSuit p cs (Method (callee home) after ∷ over)
+    begun_suits :
+        (home : Home) (sh' : Shape) (over : List Layer) (after : Shape) → IsTrue (has after.states (before_of p m)) → IsHoused p cs over home →
+        ((o : Object) → states_claim p o over ≡ states_claim p o (Method fr sh' ∷ ls)) → BeginsWell home sh' →
+        ((x : Object) → named cs x.name ≡ Some x → works_at x.name home ≡ false → Suits (thing_kind p x.thing) (states_claim p x over) (requested cs x.name)) →
+        AllSuit p cs (Method (callee home) after ∷ over)
     begun_suits Static sh' over after w h same b s x lives = s x lives refl
     begun_suits AtRoot sh' over after w h same b s x lives = s x lives refl
     begun_suits (Inside o from) sh' over after w h same b s x lives = inner (o.name == x.name) refl
@@ -163,12 +176,19 @@ module _ (p : Image) (t : Typing) (wired : IsWired p) (typed : IsTyped p t) (c :
             (suits_less (thing_kind p o.thing) after.states (before_of p m) _ (requested cs o.name) w
             (subst (λ (k : Known). Suits (thing_kind p o.thing) (record { states = before_of p m; cancelled = k.cancelled }) (requested cs o.name)) (sym (same o)) b.0))
 
-        inner : (y : Bool) → (o.name == x.name) ≡ y → Suits (thing_kind p x.thing) (cond y (known_at p (callee (Inside o from)) after.states (states_claim p x over)) (states_claim p x over)) (requested cs x.name)
-        inner true e = subst (λ z. Suits (thing_kind p z.thing) (known_at p (callee (Inside o from)) after.states (states_claim p z over)) (requested cs z.name)) (same_object cs o x h.lives lives e) own
+        inner :
+            (y : Bool) → (o.name == x.name) ≡ y →
+            Suits (thing_kind p x.thing) (cond y (known_at p (callee (Inside o from)) after.states (states_claim p x over)) (states_claim p x over)) (requested cs x.name)
+        inner true e =
+            subst (λ z. Suits (thing_kind p z.thing) (known_at p (callee (Inside o from)) after.states (states_claim p z over)) (requested cs z.name)) (same_object cs o x h.lives lives e) own
         inner false e = s x lives e
 
     -- so it is entered, over these layers, which claim what the caller claims
-    pub enter : {ended : ℕ} (home : Home) (sh' : Shape) (over : List Layer) → (IsServed over → ⊥) → Entering ended home sh' → length (tasks_of over) ≡ depth → length (items_of over) ≡ height → ((d : Place → Kind) (r : Place) → claim p d over r ≡ claim p d (Method fr sh' ∷ ls) r) → ((o : Object) → states_claim p o over ≡ states_claim p o (Method fr sh' ∷ ls)) → IsHoused p cs over home → IsApart p home over → Stack p t cs (Returns m home) over → (s' : State) → s'.cells ≡ cs → s'.tasks ≡ Run (callee home) ∷ tasks_of over → forms s'.items ≡ items_of over → AllUndo p s'.items → WellTyped p t s'
+    pub enter :
+        {ended : ℕ} (home : Home) (sh' : Shape) (over : List Layer) → (IsServed over → ⊥) → Entering ended home sh' → length (tasks_of over) ≡ depth → length (items_of over) ≡ height →
+        ((d : Place → Kind) (r : Place) → claim p d over r ≡ claim p d (Method fr sh' ∷ ls) r) → ((o : Object) → states_claim p o over ≡ states_claim p o (Method fr sh' ∷ ls)) →
+        IsHoused p cs over home → IsApart p home over → Stack p t cs (Returns m home) over → (s' : State) → s'.cells ≡ cs → s'.tasks ≡ Run (callee home) ∷ tasks_of over →
+        forms s'.items ≡ items_of over → AllUndo p s'.items → WellTyped p t s'
     enter home sh' over unserved e at_depth high same same_states housed apart stack s' cells tasks items undos =
         let leads = typed.entry m is_called.there in
         let w = leads.2 in
@@ -187,8 +207,11 @@ module _ (p : Image) (t : Typing) (wired : IsWired p) (typed : IsTyped p t) (c :
         }
       where
         as_begun : (after : Shape) → SaysNoMore after (entry_shape p m) → (r : Place) → claim p (declared p cs) (Method (callee home) after ∷ over) r ≡ claims_over home after sh' r
-        as_begun after w (Register f i) = ap (λ n. cond (n == f) (register after i) (claim p (declared p cs) over (Register f i))) at_depth ∙ ap (λ k. cond (depth == f) (register after i) k) (same (declared p cs) (Register f i))
-        as_begun after w (Entry k) = ap (λ es. entry_claim es (items_of over) k (claim p (declared p cs) over (Entry k))) w.entries ∙ same (declared p cs) (Entry k) ∙ sym (ap (λ es. entry_claim es [] k (claim p (declared p cs) (Method fr sh' ∷ ls) (Entry k))) w.entries)
+        as_begun after w (Register f i) =
+            ap (λ n. cond (n == f) (register after i) (claim p (declared p cs) over (Register f i))) at_depth ∙ ap (λ k. cond (depth == f) (register after i) k) (same (declared p cs) (Register f i))
+        as_begun after w (Entry k) =
+            ap (λ es. entry_claim es (items_of over) k (claim p (declared p cs) over (Entry k))) w.entries ∙ same (declared p cs) (Entry k)
+            ∙ sym (ap (λ es. entry_claim es [] k (claim p (declared p cs) (Method fr sh' ∷ ls) (Entry k))) w.entries)
         as_begun after w (Field n f) = ap (λ k. home_claim p home after n f k) (same (declared p cs) (Field n f))
         as_begun after w (Elsewhere Root) = ap (λ k. root_claim p home after k) (same (declared p cs) (Elsewhere Root))
         as_begun after w (Elsewhere In_service) = ap (λ k. cond (serves p m) (delivered after.delivery) k) (same (declared p cs) (Elsewhere In_service))
@@ -204,7 +227,9 @@ module _ (p : Image) (t : Typing) (wired : IsWired p) (typed : IsTyped p t) (c :
     same_high home sh' e = at_hand.items ∙ sym e.items
 
     -- the fields of an object that is not under construction
-    do_fields : (o : Object) (from : Place) (sh' : Shape) → ((r : Place) → Fits p (seen cs) (held cs r) (filling p t fr ls depth deep (declared p cs) regs sh' r)) → named cs o.name ≡ Some o → IsApart p (Inside o from) (Method fr sh' ∷ ls) → method_role p m ≡ Some Do → FieldsBegin (Inside o from)
+    do_fields :
+        (o : Object) (from : Place) (sh' : Shape) → ((r : Place) → Fits p (seen cs) (held cs r) (filling p t fr ls depth deep (declared p cs) regs sh' r)) → named cs o.name ≡ Some o →
+        IsApart p (Inside o from) (Method fr sh' ∷ ls) → method_role p m ≡ Some Do → FieldsBegin (Inside o from)
     do_fields o from sh' fits lives apart role f =
         let x = field_thing p (thing_holder o.thing) f in
         let claims = claim_unclaimed p (declared p cs) (Method fr sh' ∷ ls) o.name f (λ f. filled (field_thing p (thing_holder o.thing) f) Perhaps) apart.2 (ap (λ y. declared_field p y f) lives) in
@@ -244,23 +269,35 @@ module _ (p : Image) (t : Typing) (wired : IsWired p) (typed : IsTyped p t) (c :
       where
         begun : (method_role p m ≡ Some Do) ⊎ ((method_role p m ≡ Some Construct) × (requested cs o.name ≡ None)) → Suits (thing_kind p o.thing) (resting_in (before_of p m)) (requested cs o.name)
         begun (inl role) =
-            let does_so : IsTrue (has (before_of p m) (resting p (method_class p m))) = ap (λ r. only_if (not (is_construct r)) (has (before_of p m) (resting p (method_class p m)))) (sym role) ∙ may in
+            let does_so : IsTrue (has (before_of p m) (resting p (method_class p m))) =
+            ap (λ r. only_if (not (is_construct r)) (has (before_of p m) (resting p (method_class p m)))) (sym role) ∙ may in
             let rests = subst (λ k. Suits (thing_kind p o.thing) k (requested cs o.name)) (unworked_rests p o (Method fr after_arguments ∷ ls) (u.0, u.1)) (passed.suits o lives) in
             suits_less (thing_kind p o.thing) (before_of p m) (rests_in p o) false (requested cs o.name) (subst (λ k. IsTrue (has (before_of p m) (states_of k))) (sym kind) does_so) rests
-        begun (inr w) = subst (λ n. Suits (thing_kind p o.thing) (resting_in n) (requested cs o.name)) (ap first_of kind ∙ sym (is_called.begins w.0)) (suits_first (thing_kind p o.thing) (requested cs o.name) w.1)
+        begun (inr w) =
+            subst (λ n. Suits (thing_kind p o.thing) (resting_in n) (requested cs o.name)) (ap first_of kind ∙ sym (is_called.begins w.0))
+            (suits_first (thing_kind p o.thing) (requested cs o.name) w.1)
 
-    target_kind : (y : ℕ) (x : Object) (z : Thing) → method_class p m ≡ Some y → stands_for p x.thing z ≡ true → stands_for p z (An_object_of y) ≡ true → thing_kind p x.thing ≡ kind_of p (method_class p m)
+    target_kind :
+        (y : ℕ) (x : Object) (z : Thing) → method_class p m ≡ Some y → stands_for p x.thing z ≡ true → stands_for p z (An_object_of y) ≡ true →
+        thing_kind p x.thing ≡ kind_of p (method_class p m)
     target_kind y x z class a b = ap (thing_kind p) (stands_same p x.thing (An_object_of y) (stands_along p x.thing z (An_object_of y) a b)) ∙ ap (kind_of p) (sym class)
 
     -- it is not the caller's own
-    settles_not : (ended : ℕ) (sh' : Shape) (o : Object) (q : Place) → works_at o.name fr.home ≡ false → (x : Object) (from : Place) → Inside o q ≡ Inside x from → works_at x.name fr.home ≡ true → sh'.states ≡ ended
+    settles_not :
+        (ended : ℕ) (sh' : Shape) (o : Object) (q : Place) → works_at o.name fr.home ≡ false → (x : Object) (from : Place) → Inside o q ≡ Inside x from → works_at x.name fr.home ≡ true →
+        sh'.states ≡ ended
     settles_not ended sh' o q off x from e w = let same : o ≡ x = cc in absurd (true≢false (sym w ∙ ap (λ y. works_at y.name fr.home) (sym same) ∙ off))
 
     abbrev worked : ℕ → Shape
     worked ended = record after_arguments { fields = replicate 8 Perhaps; states = ended }
 
     opened : (ended : ℕ) → OwnsNoMore (worked ended) after_arguments
-    opened ended = record { registers = λ i. alike; fields = λ i. subst (λ x. WeakerFilling x (field after_arguments i)) (sym (at_alike 8 Perhaps i)) (any (field after_arguments i)); entries = refl; delivery = refl }
+    opened ended = record {
+      registers = λ i. alike;
+      fields = λ i. subst (λ x. WeakerFilling x (field after_arguments i)) (sym (at_alike 8 Perhaps i)) (any (field after_arguments i));
+      entries = refl;
+      delivery = refl;
+    }
       where
         any : (x : Filling) → WeakerFilling Perhaps x
         any Empty = perhaps_empty
@@ -268,7 +305,9 @@ module _ (p : Image) (t : Typing) (wired : IsWired p) (typed : IsTyped p t) (c :
         any Perhaps = alike_filling
 
     -- a method of the caller's own object
-    on_own : (ended : ℕ) (k : ℕ) (o : Object) (from : Place) → fr.home ≡ Inside o from → thing_holder o.thing ≡ Member k → method_class p m ≡ Some k → method_role p m ≡ Some Do → IsTrue (has (before_of p m) after_arguments.states) → Entering ended (Inside o from) (worked ended)
+    on_own :
+        (ended : ℕ) (k : ℕ) (o : Object) (from : Place) → fr.home ≡ Inside o from → thing_holder o.thing ≡ Member k → method_class p m ≡ Some k → method_role p m ≡ Some Do →
+        IsTrue (has (before_of p m) after_arguments.states) → Entering ended (Inside o from) (worked ended)
     on_own ended k o from eh member class role before =
         let holds : Holds p cs ls o from = subst (λ h. IsHoused p cs ls h) eh passed.housed in
         let apart : IsApart p (Inside o from) ls = subst (λ h. IsApart p h ls) eh at_hand.good.stack.3 in
@@ -302,7 +341,9 @@ module _ (p : Image) (t : Typing) (wired : IsWired p) (typed : IsTyped p t) (c :
             go true e h = suits_less (thing_kind p o.thing) (before_of p m) after_arguments.states _ (requested cs o.name) before h
             go false e h = cc
 
-        other_suits : (x : Object) → named cs x.name ≡ Some x → works_at x.name (Inside o from) ≡ false → Suits (thing_kind p x.thing) (states_claim p x (Method fr (worked ended) ∷ ls)) (requested cs x.name)
+        other_suits :
+            (x : Object) → named cs x.name ≡ Some x → works_at x.name (Inside o from) ≡ false →
+            Suits (thing_kind p x.thing) (states_claim p x (Method fr (worked ended) ∷ ls)) (requested cs x.name)
         other_suits x lives e =
             let off : works_at x.name fr.home ≡ false = ap (λ h. works_at x.name h) eh ∙ e in
             subst (λ b. Suits (thing_kind p x.thing) (cond b (known_at p fr ended (below x)) (below x)) (requested cs x.name)) (sym off)
@@ -315,7 +356,9 @@ module _ (p : Image) (t : Typing) (wired : IsWired p) (typed : IsTyped p t) (c :
             ∙ ap (λ x. filled (field_thing p (thing_holder o.thing) f) x) (at_alike 8 Perhaps f)
 
     -- where an object stood before the arguments were passed, it stands after
-    stays_at : (q : Place) (o : Object) → ((i : ℕ) → first ≤ i → i < (first + length xs) → same_place (lower p t fr ls depth deep i) q ≡ false) → ((i : ℕ) → same_place (upper p t fr ls depth deep i) q ≡ false) → held s.cells q ≡ Some o → held cs q ≡ Some o
+    stays_at :
+        (q : Place) (o : Object) → ((i : ℕ) → first ≤ i → i < (first + length xs) → same_place (lower p t fr ls depth deep i) q ≡ false) →
+        ((i : ℕ) → same_place (upper p t fr ls depth deep i) q ≡ false) → held s.cells q ≡ Some o → held cs q ≡ Some o
     stays_at q o lo up there = passed_elsewhere p s fr ls depth deep t xs first 0 s.cells q (λ i le. above i) lo up ∙ there
       where
         above : (i : ℕ) → held s.cells (upper p t fr ls depth deep i) ≡ None
@@ -326,7 +369,9 @@ module _ (p : Image) (t : Typing) (wired : IsWired p) (typed : IsTyped p t) (c :
     target_met y o x z e a b = subst (λ o. AllTrue (needs_target_object p (Some y) o)) (sym e) (refl, (stands_along p x.thing z (An_object_of y) a b, tt))
 
     target_holder : (y : ℕ) (x : Object) (z : Thing) → method_class p m ≡ Some y → stands_for p x.thing z ≡ true → stands_for p z (An_object_of y) ≡ true → thing_holder x.thing ≡ holder_of p m
-    target_holder y x z class a b = ap thing_holder (stands_same p x.thing (An_object_of y) (stands_along p x.thing z (An_object_of y) a b)) ∙ sym (ap (λ c. holder_by (method_role p m) c) class ∙ holder_called (method_role p m) y is_called.role)
+    target_holder y x z class a b =
+        ap thing_holder (stands_same p x.thing (An_object_of y) (stands_along p x.thing z (An_object_of y) a b))
+        ∙ sym (ap (λ c. holder_by (method_role p m) c) class ∙ holder_called (method_role p m) y is_called.role)
 
     -- a construct method works on a fresh object, another on a ready one
     age_of : (k : Kind) → AllTrue (age_need (is_construct (method_role p m)) k ∷ []) → (method_role p m ≡ Some Do) ⊎ ((method_role p m ≡ Some Construct) × (is_fresh_kind k ≡ true))
@@ -337,7 +382,8 @@ module _ (p : Image) (t : Typing) (wired : IsWired p) (typed : IsTyped p t) (c :
         go (inr e) = inr (e, ap (λ r. (age_need (is_construct r) k).0) (sym e) ∙ n.0)
 
     -- what a register owns
-    module _ (r y : ℕ) (class : method_class p m ≡ Some y) (z : Thing) (a : Age) (kind : register sh r ≡ Own z a) (for : stands_for p z (An_object_of y) ≡ true) (apart : (r < first) ⊎ ((first + length xs) ≤ r)) where
+    module _ (r y : ℕ) (class : method_class p m ≡ Some y) (z : Thing) (a : Age) (kind : register sh r ≡ Own z a) (for : stands_for p z (An_object_of y) ≡ true)
+        (apart : (r < first) ⊎ ((first + length xs) ≤ r)) where
       abbrev q : Place
       q = top ls r
 
@@ -351,7 +397,9 @@ module _ (p : Image) (t : Typing) (wired : IsWired p) (typed : IsTyped p t) (c :
       now_ready = ap readied same_kind
 
       aside : (i : ℕ) → first ≤ i → i < (first + length xs) → same_place (lower p t fr ls depth deep i) q ≡ false
-      aside i le lt = ap (λ b. (length (tasks_of ls) == length (tasks_of ls)) && b) (ne_eqb i r (λ e. differs apart (subst (λ j. first ≤ j) e le) (subst (λ j. j < (first + length xs)) e lt))) ∙ none (length (tasks_of ls) == length (tasks_of ls))
+      aside i le lt =
+          ap (λ b. (length (tasks_of ls) == length (tasks_of ls)) && b) (ne_eqb i r (λ e. differs apart (subst (λ j. first ≤ j) e le) (subst (λ j. j < (first + length xs)) e lt)))
+          ∙ none (length (tasks_of ls) == length (tasks_of ls))
         where
           differs : (r < first) ⊎ ((first + length xs) ≤ r) → first ≤ r → r < (first + length xs) → ⊥
           differs (inl x) le lt = omega arith
@@ -398,10 +446,13 @@ module _ (p : Image) (t : Typing) (wired : IsWired p) (typed : IsTyped p t) (c :
               below_taker = ap (λ b. cond b (at Unset regs r) (claim p (declared p cs) (Method fr after_arguments ∷ ls) q)) (ne_eqb depth (length (tasks_of ls)) (λ e. absurd (omega arith))) ∙ claim_register p (declared p cs) fr after_arguments ls r
 
           fits : (x : Place) → Fits p (seen cs) (held cs x) (filling p t fr ls depth deep (declared p cs) regs readied_shape x)
-          fits x = subst (λ k. Fits p (seen cs) (held cs x) k) (sym (under p t fr ls depth deep (declared p cs) after_arguments regs r (readied (register after_arguments r)) x)) (go (same_place q x) refl)
+          fits x =
+              subst (λ k. Fits p (seen cs) (held cs x) k) (sym (under p t fr ls depth deep (declared p cs) after_arguments regs r (readied (register after_arguments r)) x)) (go (same_place q x) refl)
             where
               go : (b : Bool) → same_place q x ≡ b → Fits p (seen cs) (held cs x) (cond b (readied (register after_arguments r)) (filling p t fr ls depth deep (declared p cs) regs after_arguments x))
-              go true e = subst (λ k. Fits p (seen cs) (held cs x) k) (sym now_ready) (subst (λ w. Fits p (seen cs) w (Own z Ready)) (sym (ap (λ w. held cs w) (sym (same_place-true q x e)) ∙ there)) (owned.2, tt))
+              go true e =
+                  subst (λ k. Fits p (seen cs) (held cs x) k) (sym now_ready)
+                  (subst (λ w. Fits p (seen cs) w (Own z Ready)) (sym (ap (λ w. held cs w) (sym (same_place-true q x e)) ∙ there)) (owned.2, tt))
               go false e = passed.fits x
 
           u : Untouched p (λ f. filled (field_thing p (thing_holder owned.0.thing) f) Perhaps) owned.0.name (Method fr readied_shape ∷ ls)
@@ -418,7 +469,9 @@ module _ (p : Image) (t : Typing) (wired : IsWired p) (typed : IsTyped p t) (c :
               go true e = ap is_unowning now_ready ∙ sym (ap (λ j. is_unowning (register after_arguments j)) (sym (eqb-true r i e)) ∙ ap is_unowning same_kind)
               go false e = refl
 
-          fresh_one : method_role p m ≡ Some Do ⊎ ((method_role p m ≡ Some Construct) × (a ≡ Fresh)) → (method_role p m ≡ Some Do) ⊎ ((method_role p m ≡ Some Construct) × (requested cs owned.0.name ≡ None))
+          fresh_one :
+              method_role p m ≡ Some Do ⊎ ((method_role p m ≡ Some Construct) × (a ≡ Fresh)) →
+              (method_role p m ≡ Some Do) ⊎ ((method_role p m ≡ Some Construct) × (requested cs owned.0.name ≡ None))
           fresh_one (inl role) = inl role
           fresh_one (inr w) = inr (w.0, (subst (λ a. Fits p (seen cs) (Some owned.0) (Own z a)) w.1 here_fits).1.1)
 
@@ -427,7 +480,8 @@ module _ (p : Image) (t : Typing) (wired : IsWired p) (typed : IsTyped p t) (c :
           begun (inr w) = construct_fields owned.0 q (subst (λ a. Fits p (seen cs) (Some owned.0) (Own z a)) w.1 here_fits).1.0 w.0
 
     -- what a field owns
-    module _ (f y : ℕ) (class : method_class p m ≡ Some y) (z : Thing) (a : Age) (kind : filled (field_thing p (home_holder fr.home) f) (field sh f) ≡ Own z a) (for : stands_for p z (An_object_of y) ≡ true) (some : is_some (field_thing p (home_holder fr.home) f) ≡ true) (role : method_role p m ≡ Some Do) where
+    module _ (f y : ℕ) (class : method_class p m ≡ Some y) (z : Thing) (a : Age) (kind : filled (field_thing p (home_holder fr.home) f) (field sh f) ≡ Own z a)
+        (for : stands_for p z (An_object_of y) ≡ true) (some : is_some (field_thing p (home_holder fr.home) f) ≡ true) (role : method_role p m ≡ Some Do) where
       abbrev spot : Place
       spot = field_place fr.home f
 
@@ -483,13 +537,16 @@ module _ (p : Image) (t : Typing) (wired : IsWired p) (typed : IsTyped p t) (c :
           apart_so = (no_field_of fr.home refl, u.none_in, u.unclaimed, inr u.unworked)
 
     -- a construct method works on a fresh one
-    ages : (k : Kind) (z : Thing) (a : Age) → k ≡ Own z a → (method_role p m ≡ Some Do) ⊎ ((method_role p m ≡ Some Construct) × (is_fresh_kind k ≡ true)) → (method_role p m ≡ Some Do) ⊎ ((method_role p m ≡ Some Construct) × (a ≡ Fresh))
+    ages :
+        (k : Kind) (z : Thing) (a : Age) → k ≡ Own z a → (method_role p m ≡ Some Do) ⊎ ((method_role p m ≡ Some Construct) × (is_fresh_kind k ≡ true)) →
+        (method_role p m ≡ Some Do) ⊎ ((method_role p m ≡ Some Construct) × (a ≡ Fresh))
     ages k z a e (inl role) = inl role
     ages k z Fresh e (inr w) = inr (w.0, refl)
     ages k z Ready e (inr w) = let clash : false ≡ true = sym (ap is_fresh_kind e) ∙ w.1 in cc
 
     -- what a cleanup entry owns
-    module _ (k y : ℕ) (class : method_class p m ≡ Some y) (z : Thing) (a : Age) (within : k < length sh.entries) (kind : entry_kind (at Pushed_operation sh.entries k) ≡ Own z a) (for : stands_for p z (An_object_of y) ≡ true) where
+    module _ (k y : ℕ) (class : method_class p m ≡ Some y) (z : Thing) (a : Age) (within : k < length sh.entries) (kind : entry_kind (at Pushed_operation sh.entries k) ≡ Own z a)
+        (for : stands_for p z (An_object_of y) ≡ true) where
       abbrev pile : Place
       pile = entry_place s.items k
 
@@ -580,7 +637,9 @@ module _ (p : Image) (t : Typing) (wired : IsWired p) (typed : IsTyped p t) (c :
           apart_so : IsApart p (Inside piled.0 pile) (Method fr readied_pile ∷ ls)
           apart_so = (tt, u.none_in, u.unclaimed, inr u.unworked)
 
-          fresh_one : method_role p m ≡ Some Do ⊎ ((method_role p m ≡ Some Construct) × (a ≡ Fresh)) → (method_role p m ≡ Some Do) ⊎ ((method_role p m ≡ Some Construct) × (requested cs piled.0.name ≡ None))
+          fresh_one :
+              method_role p m ≡ Some Do ⊎ ((method_role p m ≡ Some Construct) × (a ≡ Fresh)) →
+              (method_role p m ≡ Some Do) ⊎ ((method_role p m ≡ Some Construct) × (requested cs piled.0.name ≡ None))
           fresh_one (inl role) = inl role
           fresh_one (inr w) = inr (w.0, (subst (λ a. Fits p (seen cs) (Some piled.0) (Own z a)) w.1 here_fits).1.1)
 
@@ -593,7 +652,9 @@ module _ (p : Image) (t : Typing) (wired : IsWired p) (typed : IsTyped p t) (c :
     at_home {ended = ended} q o sh' there g = subst (λ x. Entering ended (home_at x q) sh') (sym there) g
 
     -- each kind of target
-    on_this : (ended : ℕ) (k : Option ℕ) → method_class p m ≡ k → AllTrue (rule_target p fr.method sh This (method_class p m) (is_construct (method_role p m)) first (length xs)) → may_begin p m This after_arguments.states ≡ true → Answer ended This
+    on_this :
+        (ended : ℕ) (k : Option ℕ) → method_class p m ≡ k → AllTrue (rule_target p fr.method sh This (method_class p m) (is_construct (method_role p m)) first (length xs)) →
+        may_begin p m This after_arguments.states ≡ true → Answer ended This
     on_this ended None e n may = (
       (ap (λ k. works_on p k (home_holder fr.home)) e, tt),
       subst (λ k. Entering ended (own_home k fr.home) (while_called This k ended after_arguments)) (sym e) (on_nothing ended e),
@@ -613,14 +674,18 @@ module _ (p : Image) (t : Typing) (wired : IsWired p) (typed : IsTyped p t) (c :
         go (Some y) f =
             let stands : stands_for p (An_object_of y) (An_object_of k) ≡ true = sym (ap (λ x. stands_here p x (method_class p m)) f ∙ ap (λ x. stands_here p (Some y) x) e) ∙ n.0 in
             let same : An_object_of y ≡ An_object_of k = stands_same p (An_object_of y) (An_object_of k) stands in
-            let holder : home_holder fr.home ≡ Member y = at_hand.good.stack.1.holder ∙ ap (λ x. holder_by (method_role p fr.method) x) f ∙ holder_member (method_role p fr.method) y (λ r. let clash : Some y ≡ None = sym f ∙ wired.static_main fr.method r in cc) in
+            let holder : home_holder fr.home ≡ Member y =
+            at_hand.good.stack.1.holder ∙ ap (λ x. holder_by (method_role p fr.method) x) f
+            ∙ holder_member (method_role p fr.method) y (λ r. let clash : Some y ≡ None = sym f ∙ wired.static_main fr.method r in cc) in
             let w = home_member fr.home y holder in (
               (ap (λ k. works_on p k (home_holder fr.home)) e ∙ ap (λ h. works_on p (Some k) h) holder ∙ stands, tt),
               subst (λ x. Entering ended (own_home x fr.home) (while_called This x ended after_arguments)) (sym e)
                   (subst (λ h. Entering ended h (worked ended)) (sym w.2) (on_own ended k w.0 w.1 w.2 (w.3 ∙ ap thing_holder same) e does_not_construct (ap (λ c. begins_here p m c after_arguments.states) (sym e) ∙ may))),
             )
 
-    on_owned : (ended r : ℕ) (k : Option ℕ) → method_class p m ≡ k → AllTrue (rule_target p fr.method sh (On_register r) (method_class p m) (is_construct (method_role p m)) first (length xs)) → begins_there p m ≡ true → Answer ended (On_register r)
+    on_owned :
+        (ended r : ℕ) (k : Option ℕ) → method_class p m ≡ k → AllTrue (rule_target p fr.method sh (On_register r) (method_class p m) (is_construct (method_role p m)) first (length xs)) →
+        begins_there p m ≡ true → Answer ended (On_register r)
     on_owned ended r None e n may = let clash : false ≡ true = sym (ap (λ x. is_target p x (register sh r)) e) ∙ n.0 in cc
     on_owned ended r (Some y) e n may =
         let w = own_for p (An_object_of y) (register sh r) (sym (ap (λ x. is_target p x (register sh r)) e) ∙ n.0) in
@@ -634,12 +699,15 @@ module _ (p : Image) (t : Typing) (wired : IsWired p) (typed : IsTyped p t) (c :
               (on_register r y e w.0 w.1 w.2 w.3 aside ended may (ages (register sh r) w.0 w.1 w.2 (age_of (register sh r) n.1.1))),
         )
 
-    on_kept : (ended f : ℕ) (k : Option ℕ) → method_class p m ≡ k → AllTrue (rule_target p fr.method sh (On_field f) (method_class p m) (is_construct (method_role p m)) first (length xs)) → begins_there p m ≡ true → Answer ended (On_field f)
+    on_kept :
+        (ended f : ℕ) (k : Option ℕ) → method_class p m ≡ k → AllTrue (rule_target p fr.method sh (On_field f) (method_class p m) (is_construct (method_role p m)) first (length xs)) →
+        begins_there p m ≡ true → Answer ended (On_field f)
     on_kept ended f None e n may = let clash : false ≡ true = sym (ap (λ x. is_target p x (filled (field_thing p (holder_of p fr.method) f) (field sh f))) e) ∙ n.0 in cc
     on_kept ended f (Some y) e n may =
         let kind : Kind = filled (field_thing p (home_holder fr.home) f) (field sh f) in
         let same : kind ≡ filled (field_thing p (holder_of p fr.method) f) (field sh f) = ap (λ h. filled (field_thing p h f) (field sh f)) at_hand.good.stack.1.holder in
-        let w = own_for p (An_object_of y) kind (ap (λ k. is_own_for p (An_object_of y) k) same ∙ sym (ap (λ x. is_target p x (filled (field_thing p (holder_of p fr.method) f) (field sh f))) e) ∙ n.0) in
+        let w =
+        own_for p (An_object_of y) kind (ap (λ k. is_own_for p (An_object_of y) k) same ∙ sym (ap (λ x. is_target p x (filled (field_thing p (holder_of p fr.method) f) (field sh f))) e) ∙ n.0) in
         let there = something (field_thing p (home_holder fr.home) f) (field sh f) w.0 w.1 w.2 in
         let does_so = ready (field_thing p (holder_of p fr.method) f) (field sh f) (age_of (filled (field_thing p (holder_of p fr.method) f) (field sh f)) n.1) in
         let x = kept_in f y e w.0 w.1 w.2 w.3 there does_so in (
@@ -654,12 +722,12 @@ module _ (p : Image) (t : Typing) (wired : IsWired p) (typed : IsTyped p t) (c :
         -- what a field owns is ready
         ready : (x : Option Thing) (y : Filling) → (method_role p m ≡ Some Do) ⊎ ((method_role p m ≡ Some Construct) × (is_fresh_kind (filled x y) ≡ true)) → method_role p m ≡ Some Do
         ready x y (inl role) = role
-        ready None y (inr w) = let clash : false ≡ true = w.1 in cc
         ready (Some x) Empty (inr w) = let clash : false ≡ true = w.1 in cc
-        ready (Some x) Full (inr w) = let clash : false ≡ true = w.1 in cc
-        ready (Some x) Perhaps (inr w) = let clash : false ≡ true = w.1 in cc
+        ready _ _ (inr w) = let clash : false ≡ true = w.1 in cc
 
-    on_pushed : (ended k : ℕ) (c : Option ℕ) → method_class p m ≡ c → AllTrue (rule_target p fr.method sh (On_entry k) (method_class p m) (is_construct (method_role p m)) first (length xs)) → begins_there p m ≡ true → Answer ended (On_entry k)
+    on_pushed :
+        (ended k : ℕ) (c : Option ℕ) → method_class p m ≡ c → AllTrue (rule_target p fr.method sh (On_entry k) (method_class p m) (is_construct (method_role p m)) first (length xs)) →
+        begins_there p m ≡ true → Answer ended (On_entry k)
     on_pushed ended k None e n may = let clash : false ≡ true = sym (ap (λ x. is_target p x (entry_kind (at Pushed_operation sh.entries k))) e) ∙ n.1.0 in cc
     on_pushed ended k (Some y) e n may =
         let kind : Kind = entry_kind (at Pushed_operation sh.entries k) in
@@ -676,7 +744,9 @@ module _ (p : Image) (t : Typing) (wired : IsWired p) (typed : IsTyped p t) (c :
           at_home (entry_place s.items k) x.0 (while_called (On_entry k) (method_class p m) ended after_arguments) x.1 (on_entry k y e w.0 w.1 within w.2 w.3 ended may (ages kind w.0 w.1 w.2 (age_of kind n.1.1))),
         )
 
-    pub answer : (ended : ℕ) (target : Target) → AllTrue (rule_target p fr.method sh target (method_class p m) (is_construct (method_role p m)) first (length xs)) → may_begin p m target after_arguments.states ≡ true → Answer ended target
+    pub answer :
+        (ended : ℕ) (target : Target) → AllTrue (rule_target p fr.method sh target (method_class p m) (is_construct (method_role p m)) first (length xs)) →
+        may_begin p m target after_arguments.states ≡ true → Answer ended target
     answer ended This n may = on_this ended (method_class p m) refl n may
     answer ended (On_register r) n may = on_owned ended r (method_class p m) refl n may
     answer ended (On_field f) n may = on_kept ended f (method_class p m) refl n may
@@ -693,7 +763,9 @@ module _ (p : Image) (t : Typing) (wired : IsWired p) (typed : IsTyped p t) (c :
     result_met (Left y) x a = tt
     result_met _ x a = (result_free x a, tt)
 
-    pub awaited : (g : Gives) (x : ℕ) (sh' : Shape) → ((i : ℕ) → is_unowning (register sh' i) ≡ is_unowning (register after_arguments i)) → awaits g (register after_arguments x) ≡ true → Awaits g x sh'
+    pub awaited :
+        (g : Gives) (x : ℕ) (sh' : Shape) → ((i : ℕ) → is_unowning (register sh' i) ≡ is_unowning (register after_arguments i)) → awaits g (register after_arguments x) ≡ true →
+        Awaits g x sh'
     awaited Nothing x sh' same a = tt
     awaited (Left y) x sh' same a = tt
     awaited _ x sh' same a = same x ∙ a

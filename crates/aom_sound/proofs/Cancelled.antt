@@ -30,7 +30,8 @@ pub role_cancels : (r : Option Role) → is_cancel r ≡ true → r ≡ Some Can
 role_cancels (Some Cancel) e = refl
 role_cancels _ e = cc
 
-module _ (p : Image) (t : Typing) (c : Choice) (s : State) (fr fr2 : Frame) (sh sh2 : Shape) (ls : List Layer) (at_hand : At p t s fr sh (Method fr2 sh2 ∷ ls)) (a : ℕ) (r : Returnable p fr sh a) (cancels : is_cancel (method_role p fr.method) ≡ true) where
+module _ (p : Image) (t : Typing) (c : Choice) (s : State) (fr fr2 : Frame) (sh sh2 : Shape) (ls : List Layer) (at_hand : At p t s fr sh (Method fr2 sh2 ∷ ls)) (a : ℕ)
+    (r : Returnable p fr sh a) (cancels : is_cancel (method_role p fr.method) ≡ true) where
   abbrev below : List Layer
   below = Method fr2 sh2 ∷ ls
 

@@ -41,7 +41,7 @@ use Rattle.aom_sound.specs.Calls.{result_register}
 use Rattle.aom_sound.specs.Effects.{applied, cancels_if}
 use Rattle.aom_sound.specs.Enlisted.{begun_cells, cancel_method, cancel_of, cancelling, in_phase, is_active, is_cancelling, is_unsettled, on_request, own_request, rerequested, is_idle}
 use Rattle.aom_sound.specs.Laws.{IsWired}
-use Rattle.aom_sound.specs.Places.{In_service, Active, Aborted, Cancelling, Cell, Elsewhere, Entry, Field, Going, Idle, Issued, Object, Phase, Place, Register, Request, Root, held, requested, seen}
+use Rattle.aom_sound.specs.Places.{In_service, Active, Cancelling, Cell, Elsewhere, Entry, Field, Going, Idle, Object, Phase, Place, Register, Request, Root, held, requested, seen}
 use Rattle.aom_sound.specs.Requests.{AllSuit, Known, Suits, known_at, phase_state, state_of, states_claim, thing_kind, works_at}
 use Rattle.aom_sound.specs.State.{Choice, Frame, Home, Inside, State, frame_of, home_holder, next, thing_holder}
 use Rattle.aom_sound.specs.WellTyped.{Awaits, EndsWell, Fits, Good, Holds, IsAlone, IsApart, IsHoused, NotIn, Returns, Stack, Stands, Unclaimed, WellTyped, WordFits, by_field}
@@ -57,9 +57,7 @@ settled_only (Some r) h = go r.phase h
     go : (q : Phase) → IsTrue (has active_states (phase_state q)) → not (is_unsettled q) ≡ true
     go Idle h = refl
     go Active h = refl
-    go Issued h = cc
-    go Cancelling h = cc
-    go Aborted h = cc
+    go _ h = cc
 
 -- and what is not active is in one of a server's
 rests_only : (r : Option Request) → IsTrue (has active_states (state_of r)) → in_phase is_active r ≡ false → IsTrue (has server_states (state_of r))
@@ -68,10 +66,7 @@ rests_only (Some r) h e = go r.phase h e
   where
     go : (q : Phase) → IsTrue (has active_states (phase_state q)) → is_active q ≡ false → IsTrue (has server_states (phase_state q))
     go Idle h e = refl
-    go Active h e = cc
-    go Issued h e = cc
-    go Cancelling h e = cc
-    go Aborted h e = cc
+    go _ h e = cc
 
 active_state : (r : Option Request) → in_phase is_active r ≡ true → state_of r ≡ active
 active_state None e = cc
@@ -133,7 +128,8 @@ unfolding kind_of
 has_cancel p wired (An_object_of c) a e = let found = wired.cancel c a in let clash : Some found.0 ≡ None = sym found.1 ∙ e in cc
 has_cancel p wired _ a e = cc
 
-module _ (p : Image) (t : Typing) (wired : IsWired p) (typed : IsTyped p t) (c : Choice) (s : State) (fr : Frame) (sh : Shape) (ls : List Layer) (at_hand : At p t s fr sh ls) (is_kind : is_active_kind (own_kind p fr.method) ≡ true) (leads : Leads t fr.method (suc fr.place) (after_cancel sh)) where
+module _ (p : Image) (t : Typing) (wired : IsWired p) (typed : IsTyped p t) (c : Choice) (s : State) (fr : Frame) (sh : Shape) (ls : List Layer) (at_hand : At p t s fr sh ls)
+    (is_kind : is_active_kind (own_kind p fr.method) ≡ true) (leads : Leads t fr.method (suc fr.place) (after_cancel sh)) where
   abbrev it : OfObject p t (main_of_none p wired) c s fr sh ls at_hand
   it = of_object p t (main_of_none p wired) c s fr sh ls at_hand (active_listed (own_kind p fr.method) is_kind)
 
@@ -194,7 +190,8 @@ module _ (p : Image) (t : Typing) (wired : IsWired p) (typed : IsTyped p t) (c :
     here = subst (λ h. requested (rerequested s.cells h (on_request cancelling request)) o.name ≡ on_request cancelling request) (sym it.home) (requested_here s.cells o.name (on_request cancelling request) o it.lives)
 
     others : (n : ℕ) → (o.name == n) ≡ false → requested cs' n ≡ requested s.cells n
-    others n other = subst (λ h. requested (rerequested s.cells h (on_request cancelling request)) n ≡ requested s.cells n) (sym it.home) (requested_there s.cells o.name n (on_request cancelling request) other)
+    others n other =
+        subst (λ h. requested (rerequested s.cells h (on_request cancelling request)) n ≡ requested s.cells n) (sym it.home) (requested_there s.cells o.name n (on_request cancelling request) other)
 
     -- no place claims the object to be fresh
     unready : (q : Place) (x : Object) → held s.cells q ≡ Some x → is_ready_kind (claim p (declared p s.cells) over q) ≡ false → (o.name == x.name) ≡ false
@@ -207,7 +204,9 @@ module _ (p : Image) (t : Typing) (wired : IsWired p) (typed : IsTyped p t) (c :
     opened = record { registers = λ i. alike; fields = λ i. unknown_at i (field sh i); entries = refl; delivery = refl }
 
     base : (q : Place) → Fits p (seen cs') (held cs' q) (claim p (declared p cs') over q)
-    base q = fits_alike p t s.cells cs' same_cells over q (λ x at fresh. others x.name (unready q x at fresh)) (fits_weaker p (seen s.cells) (held s.cells q) (claim_weaker p (declared p s.cells) fr sh' sh ls q opened) (at_hand.good.fits q))
+    base q =
+        fits_alike p t s.cells cs' same_cells over q (λ x at fresh. others x.name (unready q x at fresh))
+        (fits_weaker p (seen s.cells) (held s.cells q) (claim_weaker p (declared p s.cells) fr sh' sh ls q opened) (at_hand.good.fits q))
 
     unset : (i : ℕ) → register begins.0 i ≡ Unset
     unset i = unset_only (subst (λ k. Weaker (register begins.0 i) k) (entry_registers p m (wired.canceller class.0 m class.2).3 i) (begins.2.registers i))
@@ -218,9 +217,13 @@ module _ (p : Image) (t : Typing) (wired : IsWired p) (typed : IsTyped p t) (c :
     fits : (q : Place) → Fits p (seen cs') (held cs' q) (claim p (declared p cs') (Method fr' begins.0 ∷ over) q)
     fits (Register f i) = go (length (tasks_of over) == f) refl (base (Register f i))
       where
-        go : (b : Bool) → (length (tasks_of over) == f) ≡ b → Fits p (seen cs') (held cs' (Register f i)) (claim p (declared p cs') over (Register f i)) → Fits p (seen cs') (held cs' (Register f i)) (cond b (register begins.0 i) (claim p (declared p cs') over (Register f i)))
+        go :
+            (b : Bool) → (length (tasks_of over) == f) ≡ b → Fits p (seen cs') (held cs' (Register f i)) (claim p (declared p cs') over (Register f i)) →
+            Fits p (seen cs') (held cs' (Register f i)) (cond b (register begins.0 i) (claim p (declared p cs') over (Register f i)))
         go true e h =
-            let none = fits_unowning p (seen cs') (held cs' (Register f i)) Null refl (subst (λ k. Fits p (seen cs') (held cs' (Register f i)) k) (claim_register_above p cs' over f i (omega (arith, eqb-true _ _ e))) h) in
+            let none =
+            fits_unowning p (seen cs') (held cs' (Register f i)) Null refl
+            (subst (λ k. Fits p (seen cs') (held cs' (Register f i)) k) (claim_register_above p cs' over f i (omega (arith, eqb-true _ _ e))) h) in
             subst (λ k. Fits p (seen cs') (held cs' (Register f i)) k) (sym (unset i)) (subst (λ x. Fits p (seen cs') x Unset) (sym none) tt)
         go false e h = h
     fits (Entry k) = subst (λ es. Fits p (seen cs') (held cs' (Entry k)) (entry_claim es (items_of over) k (claim p (declared p cs') over (Entry k)))) (sym begins.2.entries) (base (Entry k))
@@ -241,7 +244,9 @@ module _ (p : Image) (t : Typing) (wired : IsWired p) (typed : IsTyped p t) (c :
             (subst (λ x. Fits p (seen cs') (held cs' (Field o.name f)) (filled thing x)) (sym (unfilled f)) (subst (λ k. Fits p (seen cs') (held cs' (Field o.name f)) k) own_field (base (Field o.name f))))
         go false e = base (Field n f)
     fits (Elsewhere Root) = subst (λ h. Fits p (seen cs') (held cs' (Elsewhere Root)) (root_claim p h begins.0 (claim p (declared p cs') over (Elsewhere Root)))) (sym it.home) (base (Elsewhere Root))
-    fits (Elsewhere In_service) = subst (λ k. Fits p (seen cs') (held cs' (Elsewhere In_service)) k) (sym (plain_claim (serves p m) begins.0 (claim p (declared p cs') over (Elsewhere In_service)) (ap is_service role))) (base (Elsewhere In_service))
+    fits (Elsewhere In_service) =
+        subst (λ k. Fits p (seen cs') (held cs' (Elsewhere In_service)) k)
+        (sym (plain_claim (serves p m) begins.0 (claim p (declared p cs') over (Elsewhere In_service)) (ap is_service role))) (base (Elsewhere In_service))
     fits (Elsewhere w) = base (Elsewhere w)
     fits (Going k) = base (Going k)
 
@@ -282,10 +287,14 @@ module _ (p : Image) (t : Typing) (wired : IsWired p) (typed : IsTyped p t) (c :
             (subst (λ r. Suits (own_kind p fr.method) (record { states = begins.0.states; cancelled = true }) r) (sym here) (suits_cancelling (own_kind p fr.method) begins.0.states (known_at p fr sh.states (states_claim p o ls)) request is_kind is_active_now begun it.suits)))
 
         go : (b : Bool) → (o.name == x.name) ≡ b → Suits (thing_kind p x.thing) (cond b (known_at p fr' begins.0.states (upper x b)) (upper x b)) (requested cs' x.name)
-        go true e = subst (λ y. Suits (thing_kind p y.thing) (known_at p fr' begins.0.states (upper y true)) (requested cs' y.name)) (same_object s.cells o x it.lives (sym (same_cells.named_so x.name) ∙ lives) e) own_now
+        go true e =
+            subst (λ y. Suits (thing_kind p y.thing) (known_at p fr' begins.0.states (upper y true)) (requested cs' y.name))
+            (same_object s.cells o x it.lives (sym (same_cells.named_so x.name) ∙ lives) e) own_now
         go false e =
             let below : Known = states_claim p x ls in
-            let before = subst (λ h. Suits (thing_kind p x.thing) (cond (works_at x.name h) (known_at p fr sh.states below) below) (requested s.cells x.name)) it.home (at_hand.good.suits x (sym (same_cells.named_so x.name) ∙ lives)) in
+            let before =
+            subst (λ h. Suits (thing_kind p x.thing) (cond (works_at x.name h) (known_at p fr sh.states below) below) (requested s.cells x.name)) it.home
+            (at_hand.good.suits x (sym (same_cells.named_so x.name) ∙ lives)) in
             subst (λ r. Suits (thing_kind p x.thing) below r) (sym (others x.name e)) (subst (λ b. Suits (thing_kind p x.thing) (cond b (known_at p fr sh.states below) below) (requested s.cells x.name)) e before)
 
     -- the caller waits, and finds its object idle
@@ -293,7 +302,9 @@ module _ (p : Image) (t : Typing) (wired : IsWired p) (typed : IsTyped p t) (c :
     stands =
         let quiet = wired.cancels m role in
         let r = result_register (instr_at p fr.method fr.place) in
-        let was : IsTrue (has sh.states active) = subst (λ n. IsTrue (has sh.states n)) (active_state request is_active_now) (suits_in (own_kind p fr.method) (known_at p fr sh.states (states_claim p o ls)) request (active_listed (own_kind p fr.method) is_kind) it.suits) in
+        let was : IsTrue (has sh.states active) =
+        subst (λ n. IsTrue (has sh.states n)) (active_state request is_active_now)
+        (suits_in (own_kind p fr.method) (known_at p fr sh.states (states_claim p o ls)) request (active_listed (own_kind p fr.method) is_kind) it.suits) in
         let less : SaysNoMore (after_cancel sh) sh' = record { registers = λ i. alike; fields = λ i. alike_filling; entries = refl; states = idle_cancelled sh.states was; delivery = refl } in
         let on : Leads t fr.method (suc fr.place) sh' = (leads.0, leads.1, transitive leads.0 (after_cancel sh) sh' leads.2 less) in (
           λ may. absurd (true≢false (sym quiet.0 ∙ wired.quiets m may)),

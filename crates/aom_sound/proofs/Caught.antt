@@ -1,5 +1,5 @@
 -- The beginning of a leave, the entry that it deals with, and its arrival, by the layers of a well-typed state.
-use Rattle.std.proofs.Common.{Bool, List, None, Option, Some, [], ap, arith, cond, false, length, pos, refl, subst, suc, sym, true, ℕ, ℤ, ◌∙◌, ◌∷◌, ◌≡◌, ◌≢◌}
+use Rattle.std.proofs.Common.{[], Bool, List, None, Option, Some, ap, arith, cond, false, length, pos, refl, subst, suc, sym, true, ℕ, ℤ, ◌∙◌, ◌∷◌, ◌≡◌, ◌≢◌}
 use Rattle.std.proofs.lemmas.Bool.{eq-eqb, ne_eqb}
 use Rattle.std.specs.Prelude.{is_some, ◌++◌}
 use Rattle.aom_image.specs.Image.{Image}
@@ -31,7 +31,7 @@ use Rattle.aom_sound.specs.Leaves.{AreEntries, AreMethods, Arrives, ArrivesAt, B
 use Rattle.aom_sound.specs.Steps.{Fits as MayHave}
 use Rattle.aom_sound.specs.Moves.{announcement, counted, does, main_left, needs, step, step_instr, step_task, written_task}
 use Rattle.aom_sound.specs.Places.{Cell, Entry, Going, Object, Place, Register, held, moved, named, same_place, seen}
-use Rattle.aom_sound.specs.State.{Destroy, Closing, Of_server, Accepts, Accepted, Accept_left, Serves, Service_left, Parts, Answered, Asks, Object_left, Of_object, A_mark, An_object, An_operation, Choice, Dispatch, Dispatched, Frame, Goes, Inside, IsStuck, Item, Main_left, NullOrDead, Of_main, Of_root, Run, State, Task, Trapped, Unwind, frame_of, next, set_word, word}
+use Rattle.aom_sound.specs.State.{Destroy, Closing, Of_server, Accepts, Accept_left, Serves, Of_object, A_mark, An_object, An_operation, Choice, Dispatch, Dispatched, Frame, Goes, Inside, IsStuck, Item, Main_left, NullOrDead, Of_main, Run, State, Task, Trapped, Unwind, frame_of, next, set_word, word}
 use Rattle.aom_sound.specs.WellTyped.{AllUndo, Awaits, EndsDispatch, Fits, Good, Keeps, Leaves, Now, Stack, WellTyped}
 use Rattle.aom_sound.specs.Effects.{Leaves, Update, applied}
 use Rattle.aom_sound.specs.Words.{word_or_zero}
@@ -43,7 +43,9 @@ use Rattle.aom_sound.specs.Servers.{is_server}
 -- ---- the entries of a leave, and its mark
 
 -- the items of some entries over a mark
-split : (es : List Pushed) (fs : List Form) (all : List Item) → forms all ≡ objects es (Mark_form ∷ fs) → (entries : List Item) × (items : List Item) × (all ≡ entries ++ (A_mark ∷ items)) × AreEntries entries
+split :
+    (es : List Pushed) (fs : List Form) (all : List Item) → forms all ≡ objects es (Mark_form ∷ fs) →
+    (entries : List Item) × (items : List Item) × (all ≡ entries ++ (A_mark ∷ items)) × AreEntries entries
 split [] fs (A_mark ∷ all) e = ([], all, refl, tt)
 split (x ∷ es) fs (An_object ∷ all) e =
     let same : forms all ≡ objects es (Mark_form ∷ fs) = cc in
@@ -58,26 +60,20 @@ split _ fs _ e = cc
 
 no_dispatch : {A : Type 0} (p : Image) (d : Dispatch) → EndsDispatch p d Leaves → A
 no_dispatch p Of_main e = absurd e
-no_dispatch p (Main_left x) e = absurd e
-no_dispatch p Of_root e = absurd e
-no_dispatch p (Of_object x) e = absurd e
-no_dispatch p (Object_left x c) e = absurd e
-no_dispatch p (Asks x) e = absurd e
-no_dispatch p (Answered x c) e = absurd e
-no_dispatch p (Of_server x c Accepts) e = absurd e
-no_dispatch p (Of_server x c Accepted) e = absurd e
 no_dispatch p (Of_server x c (Accept_left code)) e = absurd e
-no_dispatch p (Of_server x c (Serves o)) e = absurd e
-no_dispatch p (Of_server x c (Service_left code)) e = absurd e
-no_dispatch p (Of_server x c Parts) e = absurd e
+no_dispatch p _ e = absurd e
 
 -- a leave on top has entries over the mark of its trap
-pub splits : (p : Image) (t : Typing) (s : State) → WellTyped p t s → (code : ℤ) (below : List Task) → s.tasks ≡ Unwind code ∷ below → (entries : List Item) × (items : List Item) × IsLeaving p code below entries items s
+pub splits :
+    (p : Image) (t : Typing) (s : State) → WellTyped p t s → (code : ℤ) (below : List Task) → s.tasks ≡ Unwind code ∷ below →
+    (entries : List Item) × (items : List Item) × IsLeaving p code below entries items s
 splits p t s w code below at =
     let r = go w.layers (sym at ∙ w.tasks) w.items w.good.stack in
     (r.0, r.1, record { over = subst (λ ts. IsOver p (length s.items) code below ts) (sym at) (refl, refl); stack = r.2; plain = r.3 })
   where
-    under : (es : List Pushed) (ls : List Layer) → forms s.items ≡ objects es (items_of ls) → Stack p t s.cells Leaves ls → (entries : List Item) × (items : List Item) × (s.items ≡ entries ++ (A_mark ∷ items)) × AreEntries entries
+    under :
+        (es : List Pushed) (ls : List Layer) → forms s.items ≡ objects es (items_of ls) → Stack p t s.cells Leaves ls →
+        (entries : List Item) × (items : List Item) × (s.items ≡ entries ++ (A_mark ∷ items)) × AreEntries entries
     under es [] f stack = cc
     under es (Method fr sh ∷ ls) f stack = absurd stack.0
     under es (Mark gv ∷ ls) f stack = split es (items_of ls) s.items f
@@ -86,7 +82,9 @@ splits p t s w code below at =
     under es (Unwinding x fs ∷ ls) f stack = absurd stack.0
     under es (Dispatching d seats ∷ ls) f stack = no_dispatch p d stack.0
 
-    go : (ls : List Layer) → Unwind code ∷ below ≡ tasks_of ls → forms s.items ≡ items_of ls → Stack p t s.cells Now ls → (entries : List Item) × (items : List Item) × (s.items ≡ entries ++ (A_mark ∷ items)) × AreEntries entries
+    go :
+        (ls : List Layer) → Unwind code ∷ below ≡ tasks_of ls → forms s.items ≡ items_of ls → Stack p t s.cells Now ls →
+        (entries : List Item) × (items : List Item) × (s.items ≡ entries ++ (A_mark ∷ items)) × AreEntries entries
     go (Unwinding x es ∷ ls) e f stack = under es ls f stack.1
     go _ e f stack = cc
 
@@ -207,7 +205,9 @@ module _ (p : Image) (t : Typing) (wired : IsWired p) (s u : State) (w : WellTyp
       let free = none_on_its_way p t s w (Unwind code ∷ below) at_hand in
       (begins_over p wired o (length rest) code below (Unwind code ∷ below) (refl, refl), refl, (o, has_moved s.cells (Entry (length rest)) g o there free refl, destroyed_over (is_server p o.thing) (destructor_of p o.thing) o (length rest) (Unwind code ∷ below)))
 
-  of_whole : (rest : List Item) (b : Bool) → is_some (held s.cells (Entry (length rest))) ≡ b → cond b (Goes (destroyed p (held s.cells (Entry (length rest))) rest (Unwind code ∷ below) (counted p s))) (IsStuck NullOrDead) ≡ Goes u → Dealt An_object rest u
+  of_whole :
+      (rest : List Item) (b : Bool) → is_some (held s.cells (Entry (length rest))) ≡ b →
+      cond b (Goes (destroyed p (held s.cells (Entry (length rest))) rest (Unwind code ∷ below) (counted p s))) (IsStuck NullOrDead) ≡ Goes u → Dealt An_object rest u
   of_whole rest true some e = subst (λ v. Dealt An_object rest v) (goes_same _ u e) (of_object rest (held s.cells (Entry (length rest))) refl some)
   of_whole rest false some e = cc
 
@@ -268,7 +268,9 @@ module _ (c : ℕ) (code : ℤ) (fr : Frame) where
   told_first : (w : Option ℤ) → word (set_word (set_word fr c w) (suc c) (Some code)) c ≡ w
   told_first w = other_word (set_word fr c w) (suc c) c (Some code) next_register ∙ own_word fr c w
 
-  told_result : (g : Gives) (cs : List Cell) (depth : ℕ) (sh : Shape) → Awaits g c sh → (is_unowning (register sh c) ≡ true → held cs (Register depth c) ≡ None) → HasNoResult g cs depth c fr (next (code_told g c code fr))
+  told_result :
+      (g : Gives) (cs : List Cell) (depth : ℕ) (sh : Shape) → Awaits g c sh → (is_unowning (register sh c) ≡ true → held cs (Register depth c) ≡ None) →
+      HasNoResult g cs depth c fr (next (code_told g c code fr))
   told_result Nothing cs depth sh a free = other_word fr (suc c) c (Some code) next_register
   told_result A_word cs depth sh a free = (told_first (Some (pos 0)), free a)
   told_result (An_own t) cs depth sh a free = (told_first None, free a)
@@ -276,13 +278,12 @@ module _ (c : ℕ) (code : ℤ) (fr : Frame) where
   told_result (Left x) cs depth sh a free = other_word fr (suc c) c (Some code) next_register
 
   pub told_frame : (g : Gives) → record (next (code_told g c code fr)) { words = fr.words } ≡ next fr
-  told_frame Nothing = refl
-  told_frame A_word = refl
   told_frame (An_own t) = refl
-  told_frame (A_maybe t) = refl
-  told_frame (Left x) = refl
+  told_frame _ = refl
 
-  hears : (g : Gives) (cs : List Cell) (depth : ℕ) (sh : Shape) → Awaits g c sh → is_unowning (register sh (suc c)) ≡ true → ((r : ℕ) → is_unowning (register sh r) ≡ true → held cs (Register depth r) ≡ None) → Hears code g c cs depth fr (next (code_told g c code fr))
+  hears :
+      (g : Gives) (cs : List Cell) (depth : ℕ) (sh : Shape) → Awaits g c sh → is_unowning (register sh (suc c)) ≡ true →
+      ((r : ℕ) → is_unowning (register sh r) ≡ true → held cs (Register depth r) ≡ None) → Hears code g c cs depth fr (next (code_told g c code fr))
   hears g cs depth sh a unowning free = record {
     told = (told_code g, free (suc c) unowning);
     result = told_result g cs depth sh a (free c);
@@ -297,27 +298,36 @@ module _ (p : Image) (t : Typing) (s u : State) (code : ℤ) (items : List Item)
 
   -- at the method that set the trap, where its registers wait
   at_method : (fr : Frame) (sh : Shape) (ls : List Layer) (gv : Gives) (es : List Pushed) → Good p t s.cells (Unwinding code es ∷ Mark gv ∷ Method fr sh ∷ ls) → Arrived (Trapped ∷ Run fr ∷ tasks_of ls) (record (counted p s) { tasks = Run (next (code_told (called p (instr_at p fr.method fr.place)) (result_register (instr_at p fr.method fr.place)) code fr)) ∷ tasks_of ls; items = items })
-  at_method fr sh ls gv es good = let i = instr_at p fr.method fr.place in ((next (code_told (called p i) (result_register i) code fr), refl, λ target m first c there. by_trap target m first c there), refl, refl)
+  at_method fr sh ls gv es good =
+      let i = instr_at p fr.method fr.place in
+      ((next (code_told (called p i) (result_register i) code fr), refl, λ target m first c there. by_trap target m first c there), refl, refl)
     where
       free : (r : ℕ) → is_unowning (register sh r) ≡ true → held s.cells (Register (length (tasks_of ls)) r) ≡ None
-      free r unowning = fits_unowning p (seen s.cells) _ (register sh r) unowning (subst (λ k. Fits p (seen s.cells) (held s.cells (Register (length (tasks_of ls)) r)) k) (claim_register p (declared p s.cells) fr sh ls r) (good.fits (Register (length (tasks_of ls)) r)))
+      free r unowning =
+          fits_unowning p (seen s.cells) _ (register sh r) unowning
+          (subst (λ k. Fits p (seen s.cells) (held s.cells (Register (length (tasks_of ls)) r)) k) (claim_register p (declared p s.cells) fr sh ls r) (good.fits (Register (length (tasks_of ls)) r)))
 
       waits : (called p (instr_at p fr.method fr.place) ≡ gv) × (is_unowning (register sh (suc (result_register (instr_at p fr.method fr.place)))) ≡ true) × Awaits gv (result_register (instr_at p fr.method fr.place)) sh
       waits = (good.stack.1.1.0.0, good.stack.1.1.0.1, good.stack.1.1.0.2)
 
-      by_trap : (target : Target) (m first c : ℕ) → instr_at p fr.method fr.place ≡ Some (Trap target m first c) → Hears code (gives_of p m) c s.cells (length (tasks_of ls)) fr (next (code_told (called p (instr_at p fr.method fr.place)) (result_register (instr_at p fr.method fr.place)) code fr))
+      by_trap :
+          (target : Target) (m first c : ℕ) → instr_at p fr.method fr.place ≡ Some (Trap target m first c) →
+          Hears code (gives_of p m) c s.cells (length (tasks_of ls)) fr (next (code_told (called p (instr_at p fr.method fr.place)) (result_register (instr_at p fr.method fr.place)) code fr))
       by_trap target m first c there =
           let w = subst (λ i. (called p i ≡ gv) × (is_unowning (register sh (suc (result_register i))) ≡ true) × Awaits gv (result_register i) sh) there waits in
           subst (λ i. Hears code (gives_of p m) c s.cells (length (tasks_of ls)) fr (next (code_told (called p i) (result_register i) code fr))) (sym there)
           (hears c code fr (gives_of p m) s.cells (length (tasks_of ls)) sh (subst (λ g. Awaits g c sh) (sym w.0) w.2) w.1 free)
 
-  below_trap : (ls : List Layer) (gv : Gives) (es : List Pushed) → Good p t s.cells (Unwinding code es ∷ Mark gv ∷ ls) → arrived p code (Trapped ∷ tasks_of ls) items (counted p s) ≡ Goes u → Arrived (Trapped ∷ tasks_of ls) u
+  below_trap :
+      (ls : List Layer) (gv : Gives) (es : List Pushed) → Good p t s.cells (Unwinding code es ∷ Mark gv ∷ ls) → arrived p code (Trapped ∷ tasks_of ls) items (counted p s) ≡ Goes u →
+      Arrived (Trapped ∷ tasks_of ls) u
   below_trap [] gv es good e = cc
   below_trap (Method fr sh ∷ ls) gv es good e = subst (λ v. Arrived (Trapped ∷ Run fr ∷ tasks_of ls) v) (goes_same _ u e) (at_method fr sh ls gv es good)
   below_trap (Dying o ∷ ls) gv es good e = absurd good.stack.1.1.1
   below_trap (Ending o left ∷ ls) gv es good e = absurd good.stack.1.1.1
   below_trap (Dispatching (Of_server x c Accepts) seats ∷ ls) gv es good e = subst (λ v. Arrived (Trapped ∷ Dispatched (Of_server x c Accepts) ∷ tasks_of ls) v) (goes_same _ u e) (refl, refl, refl)
-  below_trap (Dispatching (Of_server x c (Serves o)) seats ∷ ls) gv es good e = subst (λ v. Arrived (Trapped ∷ Dispatched (Of_server x c (Serves o)) ∷ tasks_of ls) v) (goes_same _ u e) (refl, refl, refl)
+  below_trap (Dispatching (Of_server x c (Serves o)) seats ∷ ls) gv es good e =
+      subst (λ v. Arrived (Trapped ∷ Dispatched (Of_server x c (Serves o)) ∷ tasks_of ls) v) (goes_same _ u e) (refl, refl, refl)
   below_trap (Dispatching Of_main seats ∷ ls) gv es good e = subst (λ v. Arrived (Trapped ∷ Dispatched Of_main ∷ tasks_of ls) v) (goes_same _ u e) (refl, refl, refl)
   below_trap (Dispatching (Of_object x) seats ∷ ls) gv es good e = subst (λ v. Arrived (Trapped ∷ Dispatched (Of_object x) ∷ tasks_of ls) v) (goes_same _ u e) (refl, refl, refl)
   below_trap _ gv es good e = absurd good.stack.1.1.0
@@ -349,5 +359,8 @@ arrives p t c s u w code below items l at e =
     }
 
 -- main's dispatch ends with the code
-pub ends : (p : Image) (c : Choice) (s u : State) (code : ℤ) (ts : List Task) → s.tasks ≡ Dispatched (Main_left code) ∷ ts → step p c s ≡ Goes u → (u.tasks ≡ []) × (u.rest.ended ≡ Some (MainLeft code))
-ends p c s u code ts at e = subst (λ v. (v.tasks ≡ []) × (v.rest.ended ≡ Some (MainLeft code))) (goes_same (main_left code (counted p s)) u (subst (λ l. step_task p c (counted p s) l ≡ Goes u) at e)) (refl, refl)
+pub ends :
+    (p : Image) (c : Choice) (s u : State) (code : ℤ) (ts : List Task) → s.tasks ≡ Dispatched (Main_left code) ∷ ts → step p c s ≡ Goes u →
+    (u.tasks ≡ []) × (u.rest.ended ≡ Some (MainLeft code))
+ends p c s u code ts at e =
+    subst (λ v. (v.tasks ≡ []) × (v.rest.ended ≡ Some (MainLeft code))) (goes_same (main_left code (counted p s)) u (subst (λ l. step_task p c (counted p s) l ≡ Goes u) at e)) (refl, refl)

@@ -1,5 +1,5 @@
 -- With nothing at hand the owners of an object, one after the other, lead up to the root, and no object is met twice.
-use Rattle.std.proofs.Common.{inl, inr, List, None, Some, [], ap, arith, refl, subst, sym, ℕ, ◌<◌, ◌∙◌, ◌∷◌, ◌≡◌}
+use Rattle.std.proofs.Common.{[], inl, inr, List, None, Some, ap, arith, refl, subst, sym, ℕ, ◌<◌, ◌∙◌, ◌∷◌, ◌≡◌}
 use Rattle.aom_image.specs.Image.{Image}
 use Rattle.aom_rules.specs.Typing.{Typing}
 use Rattle.aom_shape.specs.Things.{field_thing}
@@ -31,7 +31,8 @@ module _ (p : Image) (t : Typing) (wired : IsWired p) (s : State) (w : WellTyped
 
   unheld : (q : Place) (o : Object) → declared p s.cells q ≡ Null → held s.cells q ≡ Some o → ⊥
   unheld q o null e =
-      let f : Fits p (seen s.cells) (held s.cells q) Null = subst (λ k. Fits p (seen s.cells) (held s.cells q) k) (ap (λ l. claim p (declared p s.cells) l q) (at_rest p t s w idle) ∙ null) (w.good.fits q) in
+      let f : Fits p (seen s.cells) (held s.cells q) Null =
+      subst (λ k. Fits p (seen s.cells) (held s.cells q) k) (ap (λ l. claim p (declared p s.cells) l q) (at_rest p t s w idle) ∙ null) (w.good.fits q) in
       let clash : None ≡ Some o = sym (fits_unowning p (seen s.cells) _ Null refl f) ∙ e in cc
 
   -- what stands lower does not sit among what stands higher

@@ -1,5 +1,5 @@
 -- How the claims change with the abstract state of the top method, and how they go on to hold.
-use Rattle.std.proofs.Common.{Bool, List, None, Option, Some, [], ap, arith, cond, false, inl, inr, length, refl, subst, sym, true, zero, ℕ, ℤ, ◌&&◌, ◌<◌, ◌==◌, ◌∙◌, ◌∷◌, ◌≡◌, ◌≤◌}
+use Rattle.std.proofs.Common.{[], Bool, List, None, Option, Some, ap, arith, cond, false, inl, inr, length, refl, subst, sym, true, zero, ℕ, ℤ, ◌&&◌, ◌<◌, ◌==◌, ◌∙◌, ◌∷◌, ◌≡◌, ◌≤◌}
 use Rattle.std.proofs.lemmas.Bool.{cases_Bool, eq-eqb, eqb-true, ne_eqb, true≢false}
 use Rattle.std.specs.Prelude.{is_some}
 use Rattle.aom_image.specs.Image.{Image}
@@ -28,13 +28,17 @@ use Rattle.aom_sound.specs.WellTyped.{Back, Caught, Fits, Gone, HasAge, Holds, I
 use mathlib.Core.Path.{fun_ext}
 
 -- a frame counts for the claims by its home and its method alone
-pub claim_frame : (p : Image) (d : Place → Kind) (fr fr' : Frame) (sh : Shape) (ls : List Layer) (r : Place) → fr'.home ≡ fr.home → fr'.method ≡ fr.method → claim p d (Method fr' sh ∷ ls) r ≡ claim p d (Method fr sh ∷ ls) r
+pub claim_frame :
+    (p : Image) (d : Place → Kind) (fr fr' : Frame) (sh : Shape) (ls : List Layer) (r : Place) → fr'.home ≡ fr.home → fr'.method ≡ fr.method →
+    claim p d (Method fr' sh ∷ ls) r ≡ claim p d (Method fr sh ∷ ls) r
 claim_frame p d fr fr' sh ls (Field n f) e em = ap (λ h. home_claim p h sh n f (claim p d ls (Field n f))) e
 claim_frame p d fr fr' sh ls (Elsewhere Root) e em = ap (λ h. root_claim p h sh (claim p d ls (Elsewhere Root))) e
 claim_frame p d fr fr' sh ls (Elsewhere In_service) e em = ap (λ m. cond (serves p m) (delivered sh.delivery) (claim p d ls (Elsewhere In_service))) em
 claim_frame p d fr fr' sh ls _ e em = refl
 
-pub claim-set_register : (p : Image) (d : Place → Kind) (fr : Frame) (sh : Shape) (ls : List Layer) (a : ℕ) (v : Kind) (r : Place) → claim p d (Method fr (set_register sh a v) ∷ ls) r ≡ changed (claim p d (Method fr sh ∷ ls)) (Register (length (tasks_of ls)) a) v r
+pub claim-set_register :
+    (p : Image) (d : Place → Kind) (fr : Frame) (sh : Shape) (ls : List Layer) (a : ℕ) (v : Kind) (r : Place) →
+    claim p d (Method fr (set_register sh a v) ∷ ls) r ≡ changed (claim p d (Method fr sh ∷ ls)) (Register (length (tasks_of ls)) a) v r
 claim-set_register p d fr sh ls a v (Register f i) = go (length (tasks_of ls) == f)
   where
     go : (b : Bool) → cond b (at Unset (put_at Unset sh.registers a v) i) (claim p d ls (Register f i)) ≡ cond (b && (a == i)) v (cond b (at Unset sh.registers i) (claim p d ls (Register f i)))
@@ -56,39 +60,59 @@ claim-set_register p d fr sh ls a v (Elsewhere Root) = go fr.home
 claim-set_register p d fr sh ls a v _ = refl
 
 -- what a field is claimed to be, with another filling
-filled_at : (thing : ℕ → Option Thing) (xs : List Filling) (a : ℕ) (x : Filling) (v : Kind) (f : ℕ) → filled (thing a) x ≡ v → filled (thing f) (at Perhaps (put_at Perhaps xs a x) f) ≡ cond (a == f) v (filled (thing f) (at Perhaps xs f))
+filled_at :
+    (thing : ℕ → Option Thing) (xs : List Filling) (a : ℕ) (x : Filling) (v : Kind) (f : ℕ) → filled (thing a) x ≡ v →
+    filled (thing f) (at Perhaps (put_at Perhaps xs a x) f) ≡ cond (a == f) v (filled (thing f) (at Perhaps xs f))
 filled_at thing xs a x v f same = ap (λ y. filled (thing f) y) (at-put_at Perhaps xs a f x) ∙ push (a == f) refl
   where
     push : (b : Bool) → (a == f) ≡ b → filled (thing f) (cond b x (at Perhaps xs f)) ≡ cond b v (filled (thing f) (at Perhaps xs f))
     push true e = ap (λ y. filled (thing y) x) (sym (eqb-true a f e)) ∙ same
     push false e = refl
 
-claim-set_member : (p : Image) (d : Place → Kind) (fr : Frame) (o : Object) (from : Place) (sh : Shape) (ls : List Layer) (a : ℕ) (x : Filling) (v : Kind) (r : Place) → fr.home ≡ Inside o from → filled (field_thing p (thing_holder o.thing) a) x ≡ v → claim p d (Method fr (set_field sh a x) ∷ ls) r ≡ changed (claim p d (Method fr sh ∷ ls)) (Field o.name a) v r
-claim-set_member p d fr o from sh ls a x v (Field n f) e same = ap (λ h. home_claim p h (set_field sh a x) n f (claim p d ls (Field n f))) e ∙ go (o.name == n) ∙ ap (λ h. cond ((o.name == n) && (a == f)) v (home_claim p h sh n f (claim p d ls (Field n f)))) (sym e)
+claim-set_member :
+    (p : Image) (d : Place → Kind) (fr : Frame) (o : Object) (from : Place) (sh : Shape) (ls : List Layer) (a : ℕ) (x : Filling) (v : Kind) (r : Place) → fr.home ≡ Inside o from →
+    filled (field_thing p (thing_holder o.thing) a) x ≡ v → claim p d (Method fr (set_field sh a x) ∷ ls) r ≡ changed (claim p d (Method fr sh ∷ ls)) (Field o.name a) v r
+claim-set_member p d fr o from sh ls a x v (Field n f) e same =
+    ap (λ h. home_claim p h (set_field sh a x) n f (claim p d ls (Field n f))) e ∙ go (o.name == n)
+    ∙ ap (λ h. cond ((o.name == n) && (a == f)) v (home_claim p h sh n f (claim p d ls (Field n f)))) (sym e)
   where
-    go : (b : Bool) → cond b (filled (field_thing p (thing_holder o.thing) f) (at Perhaps (put_at Perhaps sh.fields a x) f)) (claim p d ls (Field n f)) ≡ cond (b && (a == f)) v (cond b (filled (field_thing p (thing_holder o.thing) f) (field sh f)) (claim p d ls (Field n f)))
+    go :
+        (b : Bool) →
+        cond b (filled (field_thing p (thing_holder o.thing) f) (at Perhaps (put_at Perhaps sh.fields a x) f)) (claim p d ls (Field n f))
+        ≡ cond (b && (a == f)) v (cond b (filled (field_thing p (thing_holder o.thing) f) (field sh f)) (claim p d ls (Field n f)))
     go true = filled_at (λ f. field_thing p (thing_holder o.thing) f) sh.fields a x v f same
     go false = refl
-claim-set_member p d fr o from sh ls a x v (Elsewhere Root) e same = ap (λ h. root_claim p h (set_field sh a x) (claim p d ls (Elsewhere Root))) e ∙ ap (λ h. root_claim p h sh (claim p d ls (Elsewhere Root))) (sym e)
+claim-set_member p d fr o from sh ls a x v (Elsewhere Root) e same =
+    ap (λ h. root_claim p h (set_field sh a x) (claim p d ls (Elsewhere Root))) e ∙ ap (λ h. root_claim p h sh (claim p d ls (Elsewhere Root))) (sym e)
 claim-set_member p d fr o from sh ls a x v _ e same = refl
 
-claim-set_root : (p : Image) (d : Place → Kind) (fr : Frame) (sh : Shape) (ls : List Layer) (x : Filling) (v : Kind) (r : Place) → fr.home ≡ AtRoot → filled (field_thing p Program 0) x ≡ v → claim p d (Method fr (set_field sh 0 x) ∷ ls) r ≡ changed (claim p d (Method fr sh ∷ ls)) (Elsewhere Root) v r
+claim-set_root :
+    (p : Image) (d : Place → Kind) (fr : Frame) (sh : Shape) (ls : List Layer) (x : Filling) (v : Kind) (r : Place) → fr.home ≡ AtRoot → filled (field_thing p Program 0) x ≡ v →
+    claim p d (Method fr (set_field sh 0 x) ∷ ls) r ≡ changed (claim p d (Method fr sh ∷ ls)) (Elsewhere Root) v r
 claim-set_root p d fr sh ls x v (Field n f) e same = ap (λ h. home_claim p h (set_field sh 0 x) n f (claim p d ls (Field n f))) e ∙ ap (λ h. home_claim p h sh n f (claim p d ls (Field n f))) (sym e)
-claim-set_root p d fr sh ls x v (Elsewhere Root) e same = ap (λ h. root_claim p h (set_field sh 0 x) (claim p d ls (Elsewhere Root))) e ∙ filled_at (λ f. field_thing p Program f) sh.fields 0 x v 0 same
+claim-set_root p d fr sh ls x v (Elsewhere Root) e same =
+    ap (λ h. root_claim p h (set_field sh 0 x) (claim p d ls (Elsewhere Root))) e ∙ filled_at (λ f. field_thing p Program f) sh.fields 0 x v 0 same
 claim-set_root p d fr sh ls x v _ e same = refl
 
 -- a field of the top method is claimed anew
-pub claim-set_field : (p : Image) (d : Place → Kind) (fr : Frame) (home : Home) (sh : Shape) (ls : List Layer) (a : ℕ) (x : Filling) (v : Kind) (r : Place) → fr.home ≡ home → is_some (field_thing p (home_holder home) a) ≡ true → filled (field_thing p (home_holder home) a) x ≡ v → claim p d (Method fr (set_field sh a x) ∷ ls) r ≡ changed (claim p d (Method fr sh ∷ ls)) (field_place home a) v r
+pub claim-set_field :
+    (p : Image) (d : Place → Kind) (fr : Frame) (home : Home) (sh : Shape) (ls : List Layer) (a : ℕ) (x : Filling) (v : Kind) (r : Place) → fr.home ≡ home →
+    is_some (field_thing p (home_holder home) a) ≡ true → filled (field_thing p (home_holder home) a) x ≡ v →
+    claim p d (Method fr (set_field sh a x) ∷ ls) r ≡ changed (claim p d (Method fr sh ∷ ls)) (field_place home a) v r
 claim-set_field p d fr AtRoot sh ls zero x v r e some same = claim-set_root p d fr sh ls x v r e same
 claim-set_field p d fr (Inside o from) sh ls a x v r e some same = claim-set_member p d fr o from sh ls a x v r e same
 claim-set_field p d fr _ sh ls _ x v r e some same = cc
 
 -- one more entry, and one less
-pub claim_push : (p : Image) (d : Place → Kind) (fr : Frame) (sh : Shape) (ls : List Layer) (v : Pushed) (r : Place) → claim p d (Method fr (record sh { entries = v ∷ sh.entries }) ∷ ls) r ≡ changed (claim p d (Method fr sh ∷ ls)) (Entry (length (items_of (Method fr sh ∷ ls)))) (entry_kind v) r
+pub claim_push :
+    (p : Image) (d : Place → Kind) (fr : Frame) (sh : Shape) (ls : List Layer) (v : Pushed) (r : Place) →
+    claim p d (Method fr (record sh { entries = v ∷ sh.entries }) ∷ ls) r ≡ changed (claim p d (Method fr sh ∷ ls)) (Entry (length (items_of (Method fr sh ∷ ls)))) (entry_kind v) r
 claim_push p d fr sh ls v (Register f i) = refl
 claim_push p d fr sh ls v (Entry k) = go (length (objects sh.entries (items_of ls)) == k)
   where
-    go : (b : Bool) → cond b (entry_kind v) (entry_claim sh.entries (items_of ls) k (claim p d ls (Entry k))) ≡ cond (b && true) (entry_kind v) (entry_claim sh.entries (items_of ls) k (claim p d ls (Entry k)))
+    go :
+        (b : Bool) →
+        cond b (entry_kind v) (entry_claim sh.entries (items_of ls) k (claim p d ls (Entry k))) ≡ cond (b && true) (entry_kind v) (entry_claim sh.entries (items_of ls) k (claim p d ls (Entry k)))
     go true = refl
     go false = refl
 claim_push p d fr sh ls v (Field n f) = go fr.home
@@ -177,7 +201,9 @@ keep_fits image h h' k k' p q eh requests ek apart fits r =
     subst (λ x. Fits image h' x (k' r)) (sym (eh r)) (subst (λ x. Fits image h' (transfer p q h.holds r) x) (sym (ek r)) (go (same_place q r) (same_place p r)))
   where
     null : (s : Place) (x : Object) → h.holds s ≡ Some x → is_ready_kind (k s) ≡ false → (f : ℕ) → h.holds (Field x.name f) ≡ None → h'.holds (Field x.name f) ≡ None
-    null s x e fresh f n = eh (Field x.name f) ∙ ap (λ b. cond b (h.holds p) (cond (same_place p (Field x.name f)) None (h.holds (Field x.name f)))) (apart s x e fresh f) ∙ ap (λ v. cond (same_place p (Field x.name f)) None v) n ∙ both (same_place p (Field x.name f))
+    null s x e fresh f n =
+        eh (Field x.name f) ∙ ap (λ b. cond b (h.holds p) (cond (same_place p (Field x.name f)) None (h.holds (Field x.name f)))) (apart s x e fresh f)
+        ∙ ap (λ v. cond (same_place p (Field x.name f)) None v) n ∙ both (same_place p (Field x.name f))
       where
         both : (b : Bool) → ◌≡◌ {A = Option Object} (cond b None None) None
         both true = refl
@@ -215,14 +241,14 @@ pub declared_moved : (p : Image) (cs : List Cell) (a b : Place) → declared p (
 declared_moved p cs a b = fun_ext go
   where
     go : (r : Place) → declared p (moved a b cs) r ≡ declared p cs r
-    go (Register f i) = refl
-    go (Entry k) = refl
     go (Field n f) = ap (λ o. declared_field p o f) (named_moved cs a b n)
-    go (Elsewhere Root) = refl
-    go (Elsewhere (Session n c)) = ap (λ v. cond (has_session v c) (filled (session_thing p (named (moved a b cs) n)) Full) Null) (service_moved cs a b n) ∙ ap (λ o. cond (has_session (service_of cs n) c) (filled (session_thing p o) Full) Null) (named_moved cs a b n)
-    go (Elsewhere In_service) = refl
-    go (Elsewhere (Queued n m)) = ap (λ v. cond (has_message v m) (filled (message_thing p (named (moved a b cs) n)) Full) Null) (service_moved cs a b n) ∙ ap (λ o. cond (has_message (service_of cs n) m) (filled (message_thing p o) Full) Null) (named_moved cs a b n)
-    go (Going k) = refl
+    go (Elsewhere (Session n c)) =
+        ap (λ v. cond (has_session v c) (filled (session_thing p (named (moved a b cs) n)) Full) Null) (service_moved cs a b n)
+        ∙ ap (λ o. cond (has_session (service_of cs n) c) (filled (session_thing p o) Full) Null) (named_moved cs a b n)
+    go (Elsewhere (Queued n m)) =
+        ap (λ v. cond (has_message v m) (filled (message_thing p (named (moved a b cs) n)) Full) Null) (service_moved cs a b n)
+        ∙ ap (λ o. cond (has_message (service_of cs n) m) (filled (message_thing p o) Full) Null) (named_moved cs a b n)
+    go _ = refl
 
 -- a place of the top method, or above it
 abbrev pub Outside : Place → List Layer → Type 0
@@ -277,7 +303,9 @@ no_field_here (Field n f) fr o from sh ls e h = subst (NotIn n) e h.0
 no_field_here (Elsewhere w) fr o from sh ls e h = subst (λ home. NotFrom (Elsewhere w) home) e h.0
 no_field_here _ fr o from sh ls e h = tt
 
-pub holds_moved : (p : Image) (cs : List Cell) (a b : Place) (ls : List Layer) (o : Object) (from : Place) → held cs b ≡ None → same_place a from ≡ false → same_place b from ≡ false → Holds p cs ls o from → Holds p (moved a b cs) ls o from
+pub holds_moved :
+    (p : Image) (cs : List Cell) (a b : Place) (ls : List Layer) (o : Object) (from : Place) → held cs b ≡ None → same_place a from ≡ false → same_place b from ≡ false →
+    Holds p cs ls o from → Holds p (moved a b cs) ls o from
 holds_moved p cs a b ls o from free na nb h = record {
   there = held_moved cs a b from free ∙ ap (λ x. cond x (held cs a) (cond (same_place a from) None (held cs from))) nb ∙ ap (λ x. cond x None (held cs from)) na ∙ h.there;
   lives = named_moved cs a b o.name ∙ h.lives;
@@ -285,7 +313,9 @@ holds_moved p cs a b ls o from free na nb h = record {
   ready = h.ready;
 }
 
-housed_moved : (p : Image) (cs : List Cell) (a b : Place) (fr : Frame) (sh : Shape) (ls : List Layer) (home : Home) → fr.home ≡ home → held cs b ≡ None → Outside a (Method fr sh ∷ ls) → Outside b (Method fr sh ∷ ls) → IsHoused p cs ls home → IsHoused p (moved a b cs) ls home
+housed_moved :
+    (p : Image) (cs : List Cell) (a b : Place) (fr : Frame) (sh : Shape) (ls : List Layer) (home : Home) → fr.home ≡ home → held cs b ≡ None → Outside a (Method fr sh ∷ ls) →
+    Outside b (Method fr sh ∷ ls) → IsHoused p cs ls home → IsHoused p (moved a b cs) ls home
 housed_moved p cs a b fr sh ls Static e free oa ob h = h
 housed_moved p cs a b fr sh ls AtRoot e free oa ob h = h
 housed_moved p cs a b fr sh ls (Inside o from) e free oa ob h =
@@ -295,7 +325,9 @@ pub going_differs : (r : Place) (o : Object) (ls : List Layer) → Outside r (Dy
 going_differs (Going k) o ls h = ap (λ x. x && true) (ne_eqb k (length (tasks_of ls)) (λ e. absurd (omega arith)))
 going_differs _ o ls h = refl
 
-going_moved : (cs : List Cell) (a b : Place) (o : Object) (ls : List Layer) → held cs b ≡ None → Outside a (Dying o ∷ ls) → Outside b (Dying o ∷ ls) → held cs (Going (length (tasks_of ls))) ≡ Some o → held (moved a b cs) (Going (length (tasks_of ls))) ≡ Some o
+going_moved :
+    (cs : List Cell) (a b : Place) (o : Object) (ls : List Layer) → held cs b ≡ None → Outside a (Dying o ∷ ls) → Outside b (Dying o ∷ ls) → held cs (Going (length (tasks_of ls))) ≡ Some o →
+    held (moved a b cs) (Going (length (tasks_of ls))) ≡ Some o
 going_moved cs a b o ls free oa ob e =
     let q = Going (length (tasks_of ls)) in
     held_moved cs a b q free
@@ -303,7 +335,9 @@ going_moved cs a b o ls free oa ob e =
     ∙ ap (λ x. cond x None (held cs q)) (going_differs a o ls oa)
     ∙ e
 
-pub stack_moved : (p : Image) (t : Typing) (cs : List Cell) (a b : Place) (ls : List Layer) (back : Back) → held cs b ≡ None → Outside a ls → Outside b ls → Stack p t cs back ls → Stack p t (moved a b cs) back ls
+pub stack_moved :
+    (p : Image) (t : Typing) (cs : List Cell) (a b : Place) (ls : List Layer) (back : Back) → held cs b ≡ None → Outside a ls → Outside b ls → Stack p t cs back ls →
+    Stack p t (moved a b cs) back ls
 stack_moved p t cs a b [] back free oa ob s = s
 stack_moved p t cs a b (Method fr sh ∷ ls) back free oa ob s =
     (s.0, s.1, housed_moved p cs a b fr sh ls fr.home refl free oa ob s.2, s.3, stack_moved p t cs a b ls _ free (outside_less a _ ls oa) (outside_less b _ ls ob) s.4)
@@ -322,7 +356,8 @@ stack_moved p t cs a b (Ending o left ∷ ls) back free oa ob s = (
   stack_moved p t cs a b ls _ free (outside_less a (Ending o left) ls oa) (outside_less b (Ending o left) ls ob) s.3,
 )
 stack_moved p t cs a b (Unwinding code es ∷ ls) back free oa ob s = (s.0, stack_moved p t cs a b ls _ free (outside_less a (Unwinding code es) ls oa) (outside_less b (Unwinding code es) ls ob) s.1)
-stack_moved p t cs a b (Dying o ∷ ls) back free oa ob s = ((named_moved cs a b o.name ∙ s.0.0, going_moved cs a b o ls free oa ob s.0.1), s.1, stack_moved p t cs a b ls _ free (outside_less a (Dying o) ls oa) (outside_less b (Dying o) ls ob) s.2)
+stack_moved p t cs a b (Dying o ∷ ls) back free oa ob s =
+    ((named_moved cs a b o.name ∙ s.0.0, going_moved cs a b o ls free oa ob s.0.1), s.1, stack_moved p t cs a b ls _ free (outside_less a (Dying o) ls oa) (outside_less b (Dying o) ls ob) s.2)
 
 -- what holds a method's cell is claimed as it was before the method was called
 entries_below : (es : List Pushed) (items : List Form) (k : ℕ) (below : Kind) → k < length items → entry_claim es items k below ≡ below
@@ -331,10 +366,13 @@ entries_below (x ∷ es) items k below lt =
     ap (λ b. cond b (entry_kind x) (entry_claim es items k below)) (ne_eqb (length (objects es items)) k (λ e. absurd (omega (arith, length_objects es items))))
     ∙ entries_below es items k below lt
 
-pub claim_from : (p : Image) (d : Place → Kind) (fr : Frame) (o : Object) (from : Place) (sh : Shape) (ls : List Layer) → fr.home ≡ Inside o from → IsNoFieldOf o.name from → IsBelow from ls → claim p d (Method fr sh ∷ ls) from ≡ claim p d ls from
+pub claim_from :
+    (p : Image) (d : Place → Kind) (fr : Frame) (o : Object) (from : Place) (sh : Shape) (ls : List Layer) → fr.home ≡ Inside o from → IsNoFieldOf o.name from → IsBelow from ls →
+    claim p d (Method fr sh ∷ ls) from ≡ claim p d ls from
 claim_from p d fr o (Register g j) sh ls e n b = ap (λ x. cond x (register sh j) (claim p d ls (Register g j))) (ne_eqb (length (tasks_of ls)) g (λ e. absurd (omega arith)))
 claim_from p d fr o (Entry k) sh ls e n b = entries_below sh.entries (items_of ls) k (claim p d ls (Entry k)) b
-claim_from p d fr o (Field m g) sh ls e n b = ap (λ h. home_claim p h sh m g (claim p d ls (Field m g))) e ∙ ap (λ x. cond x (filled (field_thing p (thing_holder o.thing) g) (field sh g)) (claim p d ls (Field m g))) n
+claim_from p d fr o (Field m g) sh ls e n b =
+    ap (λ h. home_claim p h sh m g (claim p d ls (Field m g))) e ∙ ap (λ x. cond x (filled (field_thing p (thing_holder o.thing) g) (field sh g)) (claim p d ls (Field m g))) n
 claim_from p d fr o (Elsewhere Root) sh ls e n b = ap (λ h. root_claim p h sh (claim p d ls (Elsewhere Root))) e
 claim_from p d fr o (Elsewhere In_service) sh ls e n b = absurd b
 claim_from p d fr o _ sh ls e n b = refl
@@ -367,45 +405,26 @@ stage_rel R same (Of_server z client (Serves o)) x y h = same _
 stage_rel R same (Of_server z client (Service_left code)) x y h = same _
 stage_rel R same _ x y h = h
 
-pub layer_rel : (R : Kind → Kind → Type 0) → ((k : Kind) → R k k) → (p : Image) (l : Layer) (depth : ℕ) (items : List Form) (r : Place) (x y : Kind) → R x y → R (layer_claim p l depth items r x) (layer_claim p l depth items r y)
+pub layer_rel :
+    (R : Kind → Kind → Type 0) → ((k : Kind) → R k k) → (p : Image) (l : Layer) (depth : ℕ) (items : List Form) (r : Place) (x y : Kind) → R x y →
+    R (layer_claim p l depth items r x) (layer_claim p l depth items r y)
 layer_rel R same p (Method fr sh) depth items (Register f i) x y h = cond_rel R same (depth == f) (register sh i) x y h
-layer_rel R same p (Mark gv) depth items (Register f i) x y h = h
-layer_rel R same p (Dispatching w seats) depth items (Register f i) x y h = h
-layer_rel R same p (Dying o) depth items (Register f i) x y h = h
-layer_rel R same p (Ending o left) depth items (Register f i) x y h = h
-layer_rel R same p (Unwinding code es) depth items (Register f i) x y h = h
 layer_rel R same p l depth items (Entry k) x y h = entry_rel R same (entries_of l) items k x y h
 layer_rel R same p (Method fr sh) depth items (Field n f) x y h = home_rel R same p fr.home sh n f x y h
-layer_rel R same p (Mark gv) depth items (Field n f) x y h = h
-layer_rel R same p (Dispatching w seats) depth items (Field n f) x y h = h
 layer_rel R same p (Dying o) depth items (Field n f) x y h = cond_rel R same (o.name == n) Null x y h
 layer_rel R same p (Ending o left) depth items (Field n f) x y h = cond_rel R same (o.name == n) _ x y h
-layer_rel R same p (Unwinding code es) depth items (Field n f) x y h = h
 layer_rel R same p (Method fr sh) depth items (Elsewhere Root) x y h = root_rel R same p fr.home sh x y h
-layer_rel R same p (Mark gv) depth items (Elsewhere Root) x y h = h
-layer_rel R same p (Dying o) depth items (Elsewhere Root) x y h = h
-layer_rel R same p (Unwinding code es) depth items (Elsewhere Root) x y h = h
 layer_rel R same p (Dispatching d seats) depth items (Elsewhere Root) x y h = cond_rel R same (is_of_root d) Null x y h
-layer_rel R same p (Ending o left) depth items (Elsewhere Root) x y h = h
 layer_rel R same p (Method fr sh) depth items (Elsewhere (Session s c)) x y h = h
-layer_rel R same p (Mark gv) depth items (Elsewhere (Session s c)) x y h = h
 layer_rel R same p (Dying o) depth items (Elsewhere (Session s c)) x y h = cond_rel R same (o.name == s) Null x y h
 layer_rel R same p (Ending o left) depth items (Elsewhere (Session s c)) x y h = cond_rel R same (o.name == s) _ x y h
-layer_rel R same p (Unwinding code es) depth items (Elsewhere (Session s c)) x y h = h
 layer_rel R same p (Dispatching d seats) depth items (Elsewhere (Session s c)) x y h = close_rel R same d s c x y h
 layer_rel R same p (Method fr sh) depth items (Elsewhere In_service) x y h = cond_rel R same (serves p fr.method) (delivered sh.delivery) x y h
-layer_rel R same p (Mark gv) depth items (Elsewhere In_service) x y h = h
-layer_rel R same p (Dying o) depth items (Elsewhere In_service) x y h = h
-layer_rel R same p (Ending o left) depth items (Elsewhere In_service) x y h = h
-layer_rel R same p (Unwinding code es) depth items (Elsewhere In_service) x y h = h
 layer_rel R same p (Dispatching d seats) depth items (Elsewhere In_service) x y h = stage_rel R same d x y h
-layer_rel R same p l depth items (Elsewhere (Queued s m)) x y h = h
-layer_rel R same p (Method fr sh) depth items (Going k) x y h = h
-layer_rel R same p (Mark gv) depth items (Going k) x y h = h
-layer_rel R same p (Dispatching w seats) depth items (Going k) x y h = h
 layer_rel R same p (Dying o) depth items (Going k) x y h = cond_rel R same (depth == k) (Own o.thing Ready) x y h
-layer_rel R same p (Ending o left) depth items (Going k) x y h = h
-layer_rel R same p (Unwinding code es) depth items (Going k) x y h = h
+layer_rel R same p (Mark gv) depth items (Elsewhere Root) x y h = h
+layer_rel R same p (Unwinding code es) depth items (Elsewhere Root) x y h = h
+layer_rel R same p _ depth items _ x y h = h
 
 pub claim_rel : (R : Kind → Kind → Type 0) → ((k : Kind) → R k k) → (p : Image) (d d' : Place → Kind) (ls : List Layer) (r : Place) → R (d r) (d' r) → R (claim p d ls r) (claim p d' ls r)
 claim_rel R same p d d' [] r h = h
@@ -436,14 +455,18 @@ pub claim_ready : (p : Image) (cs : List Cell) (ls : List Layer) (r : Place) →
 claim_ready p cs ls r e = claim_rel (λ x y. is_ready_kind x ≡ true → is_ready_kind y ≡ true) (λ k h. h) p (λ x. Null) (declared p cs) ls r (λ h. declared_ready p cs r) e
 
 -- of a cell that is not there nothing is claimed but what is declared
-pub claim_unnamed : (p : Image) (t : Typing) (cs : List Cell) (d : Place → Kind) (ls : List Layer) (back : Back) (n f : ℕ) → Stack p t cs back ls → named cs n ≡ None → claim p d ls (Field n f) ≡ d (Field n f)
+pub claim_unnamed :
+    (p : Image) (t : Typing) (cs : List Cell) (d : Place → Kind) (ls : List Layer) (back : Back) (n f : ℕ) → Stack p t cs back ls → named cs n ≡ None →
+    claim p d ls (Field n f) ≡ d (Field n f)
 claim_unnamed p t cs d [] back n f s e = refl
 claim_unnamed p t cs d (Method fr sh ∷ ls) back n f s e = go fr.home s.2 ∙ claim_unnamed p t cs d ls (Returns fr.method fr.home) n f s.4 e
   where
     go : (h : Home) → IsHoused p cs ls h → home_claim p h sh n f (claim p d ls (Field n f)) ≡ claim p d ls (Field n f)
     go Static h = refl
     go AtRoot h = refl
-    go (Inside o from) h = ap (λ b. cond b (filled (field_thing p (thing_holder o.thing) f) (field sh f)) (claim p d ls (Field n f))) (ne_eqb o.name n (λ same. let l = h.lives in let e' : Some o ≡ None = sym l ∙ ap (λ x. named cs x) same ∙ e in cc))
+    go (Inside o from) h =
+        ap (λ b. cond b (filled (field_thing p (thing_holder o.thing) f) (field sh f)) (claim p d ls (Field n f)))
+        (ne_eqb o.name n (λ same. let l = h.lives in let e' : Some o ≡ None = sym l ∙ ap (λ x. named cs x) same ∙ e in cc))
 claim_unnamed p t cs d (Mark gv ∷ ls) back n f s e = claim_unnamed p t cs d ls (Caught gv) n f s.1 e
 claim_unnamed p t cs d (Dispatching w seats ∷ ls) back n f s e = ap (λ l. claim p d l (Field n f)) s.1
 claim_unnamed p t cs d (Ending o left ∷ ls) back n f s e =
@@ -457,7 +480,8 @@ claim_unnamed p t cs d (Dying o ∷ ls) back n f s e =
 -- registers above the layers
 pub claim_register_above : (p : Image) (cs : List Cell) (ls : List Layer) (f i : ℕ) → length (tasks_of ls) ≤ f → claim p (declared p cs) ls (Register f i) ≡ Null
 claim_register_above p cs [] f i le = refl
-claim_register_above p cs (Method fr sh ∷ ls) f i le = ap (λ b. cond b (register sh i) (claim p (declared p cs) ls (Register f i))) (ne_eqb (length (tasks_of ls)) f (λ e. absurd (omega arith))) ∙ claim_register_above p cs ls f i (omega arith)
+claim_register_above p cs (Method fr sh ∷ ls) f i le =
+    ap (λ b. cond b (register sh i) (claim p (declared p cs) ls (Register f i))) (ne_eqb (length (tasks_of ls)) f (λ e. absurd (omega arith))) ∙ claim_register_above p cs ls f i (omega arith)
 claim_register_above p cs (Mark gv ∷ ls) f i le = claim_register_above p cs ls f i (omega arith)
 claim_register_above p cs (Dispatching w seats ∷ ls) f i le = claim_register_above p cs ls f i (omega arith)
 claim_register_above p cs (Dying o ∷ ls) f i le = claim_register_above p cs ls f i (omega arith)
@@ -475,13 +499,10 @@ claim_going_above p cs (Mark gv ∷ ls) k le = claim_going_above p cs ls k (omeg
 claim_going_above p cs (Dispatching w seats ∷ ls) k le = claim_going_above p cs ls k (omega arith)
 claim_going_above p cs (Ending o left ∷ ls) k le = claim_going_above p cs ls k (omega arith)
 claim_going_above p cs (Unwinding code es ∷ ls) k le = claim_going_above p cs ls k (omega arith)
-claim_going_above p cs (Dying o ∷ ls) k le = ap (λ b. cond b (Own o.thing Ready) (claim p (declared p cs) ls (Going k))) (ne_eqb (length (tasks_of ls)) k (λ e. absurd (omega arith))) ∙ claim_going_above p cs ls k (omega arith)
+claim_going_above p cs (Dying o ∷ ls) k le =
+    ap (λ b. cond b (Own o.thing Ready) (claim p (declared p cs) ls (Going k))) (ne_eqb (length (tasks_of ls)) k (λ e. absurd (omega arith))) ∙ claim_going_above p cs ls k (omega arith)
 
 -- a mark claims nothing
 pub mark_claims : (p : Image) (d : Place → Kind) (gv : Gives) (ls : List Layer) (r : Place) → claim p d (Mark gv ∷ ls) r ≡ claim p d ls r
-mark_claims p d gv ls (Register f i) = refl
-mark_claims p d gv ls (Entry k) = refl
-mark_claims p d gv ls (Field n f) = refl
 mark_claims p d gv ls (Elsewhere Root) = refl
-mark_claims p d gv ls (Elsewhere w) = refl
-mark_claims p d gv ls (Going k) = refl
+mark_claims p d gv ls _ = refl

@@ -1,6 +1,6 @@
 -- While a leave is at hand, the methods and the going cells over it leave the cleanup stack as it is: by the heights at which the methods began.
 use Rattle.std.proofs.lemmas.Option.{same_Some}
-use Rattle.std.proofs.Common.{Bool, cond, false, List, None, Option, Some, [], ap, arith, length, refl, subst, sym, true, ℕ, ℤ, ◌∙◌, ◌∷◌, ◌≡◌, ◌≢◌}
+use Rattle.std.proofs.Common.{[], Bool, cond, false, List, None, Option, Some, ap, arith, length, refl, subst, sym, true, ℕ, ℤ, ◌∙◌, ◌∷◌, ◌≡◌, ◌≢◌}
 use Rattle.std.proofs.lemmas.Bool.{true≢false}
 use Rattle.std.specs.Prelude.{not}
 use Rattle.aom_image.specs.Image.{Image}
@@ -34,7 +34,7 @@ use Rattle.aom_sound.specs.Laws.{IsWired}
 use Rattle.aom_sound.specs.Leaves.{IsLeaving, IsOver}
 use Rattle.aom_sound.specs.Moves.{counted, step}
 use Rattle.aom_sound.specs.Places.{service_of, Cell, Object}
-use Rattle.aom_sound.specs.State.{Closing, Seat, Choice, Destroy, Dispatched, Frame, Goes, Item, Run, State, Task, Trapped, Unwind, next, resumed}
+use Rattle.aom_sound.specs.State.{Closing, Seat, Choice, Destroy, Frame, Goes, Item, Run, State, Task, Unwind, next, resumed}
 use Rattle.aom_sound.specs.Steps.{Empties, Acts, Arrives, Clears, Comes_out, Ends, Fits, FitsUpdate, Move, Rests, Undoes, Vanishes}
 use Rattle.aom_sound.specs.WellTyped.{Good, WellTyped}
 use Rattle.aom_sound.specs.Enlisted.{ended_cells}
@@ -50,13 +50,8 @@ no_trap p height code below _ o e = o
 
 -- what waited goes on
 resumes_over : (p : Image) (height : ℕ) (code : ℤ) (below ts : List Task) → IsOver p height code below ts → IsOver p height code below (resumed ts)
-resumes_over p height code below [] o = o
 resumes_over p height code below (Run fr ∷ ts) o = o
-resumes_over p height code below (Trapped ∷ ts) o = o
-resumes_over p height code below (Destroy ∷ ts) o = o
-resumes_over p height code below (Closing ∷ ts) o = o
-resumes_over p height code below (Unwind x ∷ ts) o = o
-resumes_over p height code below (Dispatched d ∷ ts) o = o
+resumes_over p height code below _ o = o
 
 -- a destruction begins over it
 destructs_over : (p : Image) → IsWired p → (o : Object) (height : ℕ) (code : ℤ) (below ts : List Task) → IsOver p height code below ts → IsOver p height code below (destructed p o height ts)
@@ -89,7 +84,8 @@ bare_shape p t cs fr ts items (Method fr' sh ∷ ls) at f h good =
 bare_shape p t cs fr ts items _ at f h good = cc
 
 -- a method's move
-module _ (p : Image) (wired : IsWired p) (c : Choice) (fr : Frame) (sh : Shape) (ts : List Task) (s : State) (at_hand : s.tasks ≡ Run fr ∷ ts) (code : ℤ) (below : List Task) (h : IsOver p (length s.items) code below (Run fr ∷ ts)) (bare : sh.entries ≡ []) where
+module _ (p : Image) (wired : IsWired p) (c : Choice) (fr : Frame) (sh : Shape) (ts : List Task) (s : State) (at_hand : s.tasks ≡ Run fr ∷ ts) (code : ℤ) (below : List Task)
+    (h : IsOver p (length s.items) code below (Run fr ∷ ts)) (bare : sh.entries ≡ []) where
   abbrev Kept : State → Type 0
   Kept u = IsOver p (length s.items) code below u.tasks × (u.items ≡ s.items)
 
@@ -138,7 +134,8 @@ module _ (p : Image) (wired : IsWired p) (c : Choice) (fr : Frame) (sh : Shape) 
   acts_kept i (Destroys_last o) r f = absurd (no_entry_there (subst Ruled f.0 r).0)
   acts_kept i (Operates m w) r f = absurd (no_entry_there (subst Ruled f.0 r).0)
 
-module _ (p : Image) (t : Typing) (wired : IsWired p) (typed : IsTyped p t) (c : Choice) (s u : State) (w : WellTyped p t s) (code : ℤ) (below : List Task) (over : IsOver p (length s.items) code below s.tasks) (other : s.tasks ≡ Unwind code ∷ below → ⊥) where
+module _ (p : Image) (t : Typing) (wired : IsWired p) (typed : IsTyped p t) (c : Choice) (s u : State) (w : WellTyped p t s) (code : ℤ) (below : List Task)
+    (over : IsOver p (length s.items) code below s.tasks) (other : s.tasks ≡ Unwind code ∷ below → ⊥) where
   abbrev Stays : State → Type 0
   Stays v = IsOver p (length s.items) code below v.tasks × (v.items ≡ s.items)
 

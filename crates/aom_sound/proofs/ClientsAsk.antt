@@ -1,5 +1,5 @@
 -- What a client asks of a server, and what it sends, is kept: by the entry that is queued last.
-use Rattle.std.proofs.Common.{Bool, List, None, Option, Some, [], ap, arith, cond, false, refl, subst, sym, true, ℕ, ◌&&◌, ◌<◌, ◌==◌, ◌∙◌, ◌∷◌, ◌≡◌, ◌≤◌}
+use Rattle.std.proofs.Common.{[], Bool, List, None, Option, Some, ap, arith, cond, false, refl, subst, sym, true, ℕ, ◌&&◌, ◌<◌, ◌==◌, ◌∙◌, ◌∷◌, ◌≡◌, ◌≤◌}
 use Rattle.std.proofs.lemmas.Bool.{eq-eqb, eqb-true, le-ltb, ne_eqb, true≢false, ltb-true}
 use Rattle.std.proofs.lemmas.List.Folds.{list_any-append}
 use Rattle.std.specs.List.{list_any}
@@ -25,7 +25,7 @@ use Rattle.aom_sound.proofs.Services.{service_unnamed}
 use Rattle.aom_sound.specs.Clients.{Listed, among_listed, asked_of, asked_server, client_at, earlier, first_listed, is_of_class, most_of, with_client}
 use Rattle.aom_sound.specs.Enlisted.{thing_kind}
 use Rattle.aom_sound.specs.Kept.{ClientsFit, EntryFits, QueueFits, is_connect_of, is_message_of}
-use Rattle.aom_sound.specs.Places.{Asked, Cell, Close_of, Connect_of, Elsewhere, Message_of, Object, Queued, Request, Service, Tidy, held, named, same_place, service_of, requested}
+use Rattle.aom_sound.specs.Places.{Asked, Cell, Connect_of, Elsewhere, Message_of, Object, Queued, Request, Service, Tidy, held, named, same_place, service_of, requested}
 use Rattle.aom_sound.specs.Servers.{asked_last, has_session, is_from, is_message, is_server, reserved, seats_taken}
 
 -- ---- the server that is asked stands, and is one
@@ -54,7 +54,9 @@ module _ (class : ℕ) (c : Cell) (cs : List Cell) (t : Tidy (c ∷ cs)) (x : Li
     ap (λ b. is_some (cond b c.request (requested cs c.object.name))) (eq-eqb c.object.name c.object.name refl) ∙ listed,
   )
 
-  first : (order : ℕ) → is_of_class class c.object.thing ≡ true → is_some c.request ≡ true → (others : Option Listed) → first_listed class cs ≡ others → Some (earlier (me order) others) ≡ Some x → IsListed class (c ∷ cs) x
+  first :
+      (order : ℕ) → is_of_class class c.object.thing ≡ true → is_some c.request ≡ true → (others : Option Listed) → first_listed class cs ≡ others →
+      Some (earlier (me order) others) ≡ Some x → IsListed class (c ∷ cs) x
   first order of listed None same e = here order of listed cc
   first order of listed (Some b) same e = go (nat_lt b.order order) e
     where
@@ -62,7 +64,9 @@ module _ (class : ℕ) (c : Cell) (cs : List Cell) (t : Tidy (c ∷ cs)) (x : Li
       go true e = among (Some b) same e
       go false e = here order of listed cc
 
-  of_class : (order : ℕ) → is_some c.request ≡ true → (b : Bool) → is_of_class class c.object.thing ≡ b → cond b (Some (earlier (me order) (first_listed class cs))) (first_listed class cs) ≡ Some x → IsListed class (c ∷ cs) x
+  of_class :
+      (order : ℕ) → is_some c.request ≡ true → (b : Bool) → is_of_class class c.object.thing ≡ b →
+      cond b (Some (earlier (me order) (first_listed class cs))) (first_listed class cs) ≡ Some x → IsListed class (c ∷ cs) x
   of_class order listed true of e = first order of listed (first_listed class cs) refl e
   of_class order listed false of e = among (first_listed class cs) refl e
 
@@ -96,8 +100,11 @@ listed_serves p class n (An_object_of d) of room = ap (λ k. is_some (sessions_i
 listed_serves p class n Message of room = cc
 
 -- and so it has a seat left
-pub listed_room : (p : Image) (class : ℕ) (v : Service) (x : Thing) → is_of_class class x ≡ true → nat_lt (seats_taken v) (most_of (kind_of p (Some class))) ≡ true → seats_taken v < most_of (thing_kind p x)
-listed_room p class v (An_object_of d) of room = subst (λ k. seats_taken v < most_of (kind_of p (Some k))) (sym (eqb-true d class of)) (ltb-true (seats_taken v) (most_of (kind_of p (Some class))) room)
+pub listed_room :
+    (p : Image) (class : ℕ) (v : Service) (x : Thing) → is_of_class class x ≡ true → nat_lt (seats_taken v) (most_of (kind_of p (Some class))) ≡ true →
+    seats_taken v < most_of (thing_kind p x)
+listed_room p class v (An_object_of d) of room =
+    subst (λ k. seats_taken v < most_of (kind_of p (Some k))) (sym (eqb-true d class of)) (ltb-true (seats_taken v) (most_of (kind_of p (Some class))) room)
 listed_room p class v Message of room = cc
 
 -- a connect that is not refused
@@ -118,10 +125,13 @@ or_false : (b : Bool) → (b || false) ≡ b
 or_false true = refl
 or_false false = refl
 
-module _ (p : Image) (clients : List Client) (cs : List Cell) (fit : ClientsFit p clients cs) (o : Object) (lives : named cs o.name ≡ Some o) (serves : is_server p o.thing ≡ true) (listed : is_some (requested cs o.name) ≡ true) (c : ℕ) where
+module _ (p : Image) (clients : List Client) (cs : List Cell) (fit : ClientsFit p clients cs) (o : Object) (lives : named cs o.name ≡ Some o) (serves : is_server p o.thing ≡ true)
+    (listed : is_some (requested cs o.name) ≡ true) (c : ℕ) where
   -- ---- a connect
 
-  pub fit_connecting : (slots : ℕ) → IsFree (client_at clients c) → seats_taken (service_of cs o.name) < most_of (thing_kind p o.thing) → ClientsFit p (with_client c (Connecting o.name slots) clients) (reserved (asked_last (Connect_of c)) o.name cs)
+  pub fit_connecting :
+      (slots : ℕ) → IsFree (client_at clients c) → seats_taken (service_of cs o.name) < most_of (thing_kind p o.thing) →
+      ClientsFit p (with_client c (Connecting o.name slots) clients) (reserved (asked_last (Connect_of c)) o.name cs)
   fit_connecting slots free room = fit_changed p c (Connecting o.name slots) clients cs (reserved (asked_last (Connect_of c)) o.name cs) fit record {
     queues = by_server p cs o lives (asked_last (Connect_of c)) (λ n v. QueueFits (with_client c (Connecting o.name slots) clients) n v.queue)
         (queue_last (with_client c (Connecting o.name slots) clients) o.name (Connect_of c) (service_of cs o.name).queue entry (none_passes (is_connect_of c) clients o.name never (service_of cs o.name).queue (fit.queues o.name)) (queues o.name))
@@ -146,8 +156,7 @@ module _ (p : Image) (clients : List Client) (cs : List Cell) (fit : ClientsFit 
 
       never : (e : Asked) → is_connect_of c e ≡ true → EntryFits clients o.name e → ⊥
       never (Connect_of d) at f = true≢false (sym (ap (λ k. is_connecting_at o.name (client_at clients k)) (sym (eqb-true d c at)) ∙ f) ∙ free.connects o.name)
-      never (Message_of d m) at f = cc
-      never (Close_of d) at f = cc
+      never _ at f = cc
 
       unlisted : (n : ℕ) → has_session (service_of cs n) c ≡ true → None ≡ Some n
       unlisted n h = sym free.alone ∙ fit.sessions n c h
@@ -157,7 +166,9 @@ module _ (p : Image) (clients : List Client) (cs : List Cell) (fit : ClientsFit 
 
 -- ---- a new cell
 
-pub fit_with : (p : Image) (clients : List Client) (cs : List Cell) (x : Cell) → named cs x.object.name ≡ None → x.service.queue ≡ [] → x.service.sessions ≡ [] → ((n m : ℕ) → x.owner ≡ Elsewhere (Queued n m) → x.object.name ≡ m) → ClientsFit p clients cs → ClientsFit p clients (x ∷ cs)
+pub fit_with :
+    (p : Image) (clients : List Client) (cs : List Cell) (x : Cell) → named cs x.object.name ≡ None → x.service.queue ≡ [] → x.service.sessions ≡ [] →
+    ((n m : ℕ) → x.owner ≡ Elsewhere (Queued n m) → x.object.name ≡ m) → ClientsFit p clients cs → ClientsFit p clients (x ∷ cs)
 fit_with p clients cs x free no_queue no_sessions named_so fit = record {
   queues = λ n. queues n (x.object.name == n);
   sessions = λ n c h. fit.sessions n c (sym (session_so n c (x.object.name == n) refl) ∙ h);
@@ -179,11 +190,15 @@ fit_with p clients cs x free no_queue no_sessions named_so fit = record {
         ∙ sym (ap (λ v. has_session v c) (ap (λ k. service_of cs k) (sym (eqb-true x.object.name n e)) ∙ service_unnamed cs x.object.name free))
     session_so n c false e = refl
 
-    servers : (o : Object) → is_server p o.thing ≡ false → (b : Bool) → cond b (Some x.object) (named cs o.name) ≡ Some o → ((cond b x.service (service_of cs o.name)).queue ≡ []) × ((cond b x.service (service_of cs o.name)).sessions ≡ [])
+    servers :
+        (o : Object) → is_server p o.thing ≡ false → (b : Bool) → cond b (Some x.object) (named cs o.name) ≡ Some o →
+        ((cond b x.service (service_of cs o.name)).queue ≡ []) × ((cond b x.service (service_of cs o.name)).sessions ≡ [])
     servers o plain true h = (no_queue, no_sessions)
     servers o plain false h = fit.servers o h plain
 
-    enlisted : (o : Object) (b : Bool) → cond b (Some x.object) (named cs o.name) ≡ Some o → cond b x.request (requested cs o.name) ≡ None → ((cond b x.service (service_of cs o.name)).queue ≡ []) × ((cond b x.service (service_of cs o.name)).sessions ≡ [])
+    enlisted :
+        (o : Object) (b : Bool) → cond b (Some x.object) (named cs o.name) ≡ Some o → cond b x.request (requested cs o.name) ≡ None →
+        ((cond b x.service (service_of cs o.name)).queue ≡ []) × ((cond b x.service (service_of cs o.name)).sessions ≡ [])
     enlisted o true h e = (no_queue, no_sessions)
     enlisted o false h e = fit.enlisted o h e
 
@@ -195,7 +210,9 @@ fit_with p clients cs x free no_queue no_sessions named_so fit = record {
     names n m o true e h = let same : x.object ≡ o = cc in ap (λ y. y.name) (sym same) ∙ named_so n m (same_place-true x.owner (Elsewhere (Queued n m)) e)
     names n m o false e h = fit.names n m o h
 
-    senders : (n c m : ℕ) (b d : Bool) → (x.object.name == m) ≡ d → list_any (is_message_of c m) (cond b x.service (service_of cs n)).queue ≡ true → is_from c (cond d x.service (service_of cs m)).sender ≡ true
+    senders :
+        (n c m : ℕ) (b d : Bool) → (x.object.name == m) ≡ d → list_any (is_message_of c m) (cond b x.service (service_of cs n)).queue ≡ true →
+        is_from c (cond d x.service (service_of cs m)).sender ≡ true
     senders n c m true d e h = let none : false ≡ true = ap (λ q. list_any (is_message_of c m) q) (sym no_queue) ∙ h in cc
     senders n c m false true e h =
         let was = fit.senders n c m h in
@@ -205,7 +222,8 @@ fit_with p clients cs x free no_queue no_sessions named_so fit = record {
 
 -- ---- a message
 
-module _ (p : Image) (clients : List Client) (cs : List Cell) (fit : ClientsFit p clients cs) (o : Object) (lives : named cs o.name ≡ Some o) (serves : is_server p o.thing ≡ true) (listed : is_some (requested cs o.name) ≡ true) (c m : ℕ) where
+module _ (p : Image) (clients : List Client) (cs : List Cell) (fit : ClientsFit p clients cs) (o : Object) (lives : named cs o.name ≡ Some o) (serves : is_server p o.thing ≡ true)
+    (listed : is_some (requested cs o.name) ≡ true) (c m : ℕ) where
   -- it is queued where its client has its session open, and stands already
   pub fit_sent :
       is_open_at o.name (client_at clients c) ≡ true → list_any (is_message m) (service_of cs o.name).queue ≡ false → is_from c (service_of cs m).sender ≡ true →

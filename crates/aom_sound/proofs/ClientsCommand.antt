@@ -1,5 +1,5 @@
 -- What a client's command comes to is kept: it connects, sends, closes or dies, or nothing comes of it.
-use Rattle.std.proofs.Common.{Bool, List, None, Option, Some, [], ap, cond, false, refl, subst, sym, true, ℕ, ℤ, ◌&&◌, ◌==◌, ◌∙◌, ◌∷◌, ◌≡◌}
+use Rattle.std.proofs.Common.{[], Bool, List, None, Option, Some, ap, cond, false, refl, subst, sym, true, ℕ, ℤ, ◌&&◌, ◌==◌, ◌∙◌, ◌∷◌, ◌≡◌}
 use Rattle.std.proofs.lemmas.Bool.{eq-eqb, eqb-true, ne_eqb, true≢false}
 use Rattle.std.specs.List.{list_any}
 use Rattle.std.specs.Prelude.{nat_lt, ◌||◌, is_some}
@@ -83,7 +83,9 @@ module _ (p : Image) (c : ℕ) (s : State) (tidy : Tidy s.cells) (fit : ClientsF
       ClientsFit p (connecting p c s refused (asked_server p class s.cells) slots).clients (connecting p c s refused (asked_server p class s.cells) slots).cells
   fit_connects class slots refused e = go refused (asked_server p class s.cells) refl e
     where
-      go : (r : Option Refusal) (x : Option Listed) → asked_server p class s.cells ≡ x → asked_of (row own).connect (most_of (kind_of p (Some class))) x s.cells ≡ r → ClientsFit p (connecting p c s r x slots).clients (connecting p c s r x slots).cells
+      go :
+          (r : Option Refusal) (x : Option Listed) → asked_server p class s.cells ≡ x → asked_of (row own).connect (most_of (kind_of p (Some class))) x s.cells ≡ r →
+          ClientsFit p (connecting p c s r x slots).clients (connecting p c s r x slots).cells
       go None (Some x) there e =
           let asked = asked_none (row own).connect (most_of (kind_of p (Some class))) x s.cells e in
           let l = asked_there p class s.cells x tidy there in
@@ -94,8 +96,11 @@ module _ (p : Image) (c : ℕ) (s : State) (tidy : Tidy s.cells) (fit : ClientsF
 
   -- ---- it sends
 
-  fit_sends : (refused : Option Refusal) (name : ℕ) (words : List ℤ) → named s.cells name ≡ None → (k : Client) → own ≡ k → ClientsFit p (sending p c s refused k name words).clients (sending p c s refused k name words).cells
-  fit_sends None name words free (Open server session slots) at = subst (λ l. ClientsFit p s.clients l) same (subst (λ n. ClientsFit p s.clients (reserved (asked_last (Message_of c name)) n (message ∷ s.cells))) there.1 sent)
+  fit_sends :
+      (refused : Option Refusal) (name : ℕ) (words : List ℤ) → named s.cells name ≡ None → (k : Client) → own ≡ k →
+      ClientsFit p (sending p c s refused k name words).clients (sending p c s refused k name words).cells
+  fit_sends None name words free (Open server session slots) at =
+      subst (λ l. ClientsFit p s.clients l) same (subst (λ n. ClientsFit p s.clients (reserved (asked_last (Message_of c name)) n (message ∷ s.cells))) there.1 sent)
     where
       message : Cell
       message = record {
@@ -143,8 +148,7 @@ module _ (p : Image) (c : ℕ) (s : State) (tidy : Tidy s.cells) (fit : ClientsF
       where
         never : (e : Asked) → is_close_of c e ≡ true → EntryFits s.clients n e → ⊥
         never (Close_of d) at f = true≢false (sym (ap (λ k. is_leaving n (client_at s.clients k)) (sym (eqb-true d c at)) ∙ f) ∙ stays n)
-        never (Connect_of d) at f = cc
-        never (Message_of d m) at f = cc
+        never _ at f = cc
 
     -- with no session open
     goes_alone : (to : Client) → server_of to ≡ server_of own → ((n : ℕ) → is_leaving n own ≡ false) → ClientsFit p (with_client c to s.clients) (withdrawn c s.cells)
@@ -169,7 +173,9 @@ module _ (p : Image) (c : ℕ) (s : State) (tidy : Tidy s.cells) (fit : ClientsF
             ∙ named_sifted (λ y. is_queue y.owner && is_from c y.service.sender) (λ y. left_by c y.service) s.cells tidy o.name x e d ∙ ap (λ o. Some o) name
 
     -- with its session open: a close is asked last
-    goes_told : (server session slots : ℕ) → own ≡ Open server session slots → (to : Client) → server_of to ≡ Some server → is_leaving server to ≡ true → ClientsFit p (with_client c to s.clients) (reserved (asked_last (Close_of c)) server (withdrawn c s.cells))
+    goes_told :
+        (server session slots : ℕ) → own ≡ Open server session slots → (to : Client) → server_of to ≡ Some server → is_leaving server to ≡ true →
+        ClientsFit p (with_client c to s.clients) (reserved (asked_last (Close_of c)) server (withdrawn c s.cells))
     goes_told server session slots at to same leaves = subst (λ n. ClientsFit p (with_client c to s.clients) (reserved (asked_last (Close_of c)) n (withdrawn c s.cells))) there.1
         (fit_told p (with_client c to s.clients) (withdrawn c s.cells) alone there.0 still_there there.3 still_listed c
         (ap (λ k. is_leaving there.0.name k) (client_here c to s.clients) ∙ ap (λ n. is_leaving n to) there.1 ∙ leaves)
@@ -194,20 +200,30 @@ module _ (p : Image) (c : ℕ) (s : State) (tidy : Tidy s.cells) (fit : ClientsF
             ∙ server_listed there.0 there.2 has
 
     fit_closes : (k : Client) → own ≡ k → ClientsFit p (leaving p c s (row k).close).clients (leaving p c s (row k).close).cells
-    fit_closes Unconnected at = fit
-    fit_closes (Connecting server slots) at = subst (λ k. ClientsFit p (with_client c Unconnected s.clients) (told p c s k (withdrawn c s.cells))) (sym at) (goes_alone Unconnected (sym (ap server_of at)) (λ n. ap (λ k. is_leaving n k) at))
-    fit_closes (Open server session slots) at = subst (λ k. ClientsFit p (with_client c (Closing server session) s.clients) (told p c s k (withdrawn c s.cells))) (sym at) (goes_told server session slots at (Closing server session) refl (eq-eqb server server refl))
-    fit_closes (Closing server session) at = fit
-    fit_closes Gone at = subst (λ k. ClientsFit p (with_client c Unconnected s.clients) (told p c s k (withdrawn c s.cells))) (sym at) (goes_alone Unconnected (sym (ap server_of at)) (λ n. ap (λ k. is_leaving n k) at))
-    fit_closes Dead at = fit
-    fit_closes (Dying server session) at = fit
+    fit_closes (Connecting server slots) at =
+        subst (λ k. ClientsFit p (with_client c Unconnected s.clients) (told p c s k (withdrawn c s.cells))) (sym at)
+        (goes_alone Unconnected (sym (ap server_of at)) (λ n. ap (λ k. is_leaving n k) at))
+    fit_closes (Open server session slots) at =
+        subst (λ k. ClientsFit p (with_client c (Closing server session) s.clients) (told p c s k (withdrawn c s.cells))) (sym at)
+        (goes_told server session slots at (Closing server session) refl (eq-eqb server server refl))
+    fit_closes Gone at =
+        subst (λ k. ClientsFit p (with_client c Unconnected s.clients) (told p c s k (withdrawn c s.cells))) (sym at)
+        (goes_alone Unconnected (sym (ap server_of at)) (λ n. ap (λ k. is_leaving n k) at))
+    fit_closes _ at = fit
 
     fit_dies : (k : Client) → own ≡ k → ClientsFit p (leaving p c s (row k).die).clients (leaving p c s (row k).die).cells
-    fit_dies Unconnected at = subst (λ k. ClientsFit p (with_client c Dead s.clients) (told p c s k (withdrawn c s.cells))) (sym at) (goes_alone Dead (sym (ap server_of at)) (λ n. ap (λ k. is_leaving n k) at))
-    fit_dies (Connecting server slots) at = subst (λ k. ClientsFit p (with_client c Dead s.clients) (told p c s k (withdrawn c s.cells))) (sym at) (goes_alone Dead (sym (ap server_of at)) (λ n. ap (λ k. is_leaving n k) at))
-    fit_dies (Open server session slots) at = subst (λ k. ClientsFit p (with_client c (Dying server session) s.clients) (told p c s k (withdrawn c s.cells))) (sym at) (goes_told server session slots at (Dying server session) refl (eq-eqb server server refl))
-    fit_dies (Closing server session) at = subst (λ k. ClientsFit p (with_client c (Dying server session) s.clients) (told p c s k (withdrawn c s.cells))) (sym at) (goes_still (Dying server session) (sym (ap server_of at)) (λ n h. sym (ap (λ k. is_leaving n k) at) ∙ h))
-    fit_dies Gone at = subst (λ k. ClientsFit p (with_client c Dead s.clients) (told p c s k (withdrawn c s.cells))) (sym at) (goes_alone Dead (sym (ap server_of at)) (λ n. ap (λ k. is_leaving n k) at))
+    fit_dies Unconnected at =
+        subst (λ k. ClientsFit p (with_client c Dead s.clients) (told p c s k (withdrawn c s.cells))) (sym at) (goes_alone Dead (sym (ap server_of at)) (λ n. ap (λ k. is_leaving n k) at))
+    fit_dies (Connecting server slots) at =
+        subst (λ k. ClientsFit p (with_client c Dead s.clients) (told p c s k (withdrawn c s.cells))) (sym at) (goes_alone Dead (sym (ap server_of at)) (λ n. ap (λ k. is_leaving n k) at))
+    fit_dies (Open server session slots) at =
+        subst (λ k. ClientsFit p (with_client c (Dying server session) s.clients) (told p c s k (withdrawn c s.cells))) (sym at)
+        (goes_told server session slots at (Dying server session) refl (eq-eqb server server refl))
+    fit_dies (Closing server session) at =
+        subst (λ k. ClientsFit p (with_client c (Dying server session) s.clients) (told p c s k (withdrawn c s.cells))) (sym at)
+        (goes_still (Dying server session) (sym (ap server_of at)) (λ n h. sym (ap (λ k. is_leaving n k) at) ∙ h))
+    fit_dies Gone at =
+        subst (λ k. ClientsFit p (with_client c Dead s.clients) (told p c s k (withdrawn c s.cells))) (sym at) (goes_alone Dead (sym (ap server_of at)) (λ n. ap (λ k. is_leaving n k) at))
     fit_dies Dead at = fit
     fit_dies (Dying server session) at = fit
 

@@ -1,5 +1,5 @@
 -- What is kept of clients stays so in each effect of an instruction: by the cells that it changes, and the tasks below it.
-use Rattle.std.proofs.Common.{Bool, List, None, Option, Some, [], cond, false, length, refl, subst, suc, sym, true, zero, ℕ, ◌∷◌, ◌≡◌}
+use Rattle.std.proofs.Common.{Bool, List, None, Option, Some, cond, false, length, refl, subst, suc, sym, true, zero, ℕ, ◌∷◌, ◌≡◌}
 use Rattle.aom_image.specs.Image.{Image}
 use Rattle.aom_image.specs.Views.{arguments_of}
 use Rattle.aom_clients.specs.declared.client.Client.{Client}
@@ -7,13 +7,13 @@ use Rattle.aom_instructions.specs.declared.instr.Instr.{Instr}
 use Rattle.aom_instructions.specs.declared.instr.Instr.TheVariants as instrs
 use Rattle.aom_sound.proofs.ClientsMoves.{Steady, fit_steady, steady_asked, steady_moved, steady_passed, steady_update, tasks_steady}
 use Rattle.aom_sound.proofs.ClientsTurn.{tasks_begun, on_none}
-use Rattle.aom_sound.specs.Cleanup.{is_negative, to_trap, top_place}
-use Rattle.aom_sound.specs.Effects.{Calls, Cancels, Carried, Counts, Destroys, Destroys_last, Effect, Goes_on, Jumps, Leaves, Made, Operates, Popped, Popped_operation, Pushed, Pushed_operation, Repeats, Replied, Requested, Returns, Same as Unchanged, Sessioned, Sets_trap, Update, Written, applied, cancels_if, cells_after, deals, deletes, effect, jumps_unless, makes_unless, round, updates}
+use Rattle.aom_sound.specs.Cleanup.{to_trap, top_place}
+use Rattle.aom_sound.specs.Effects.{Calls, Cancels, Destroys, Destroys_last, Effect, Goes_on, Leaves, Made, Replied, Requested, Returns, Same as Unchanged, Sets_trap, Update, applied, cancels_if, cells_after, deals, deletes, effect, jumps_unless, makes_unless, round}
 use Rattle.aom_sound.specs.Enlisted.{cancelling, on_request, own_request}
 use Rattle.aom_sound.specs.Kept.{ClientsFit, IsKept, TasksKept}
 use Rattle.aom_sound.specs.Places.{Cell, Going, Object, named}
-use Rattle.aom_sound.specs.State.{A_mark, An_object, An_operation, Choice, Closing, Destroy, Dispatched, Frame, Item, Run, State, Task, Trapped, Unwind}
-use Rattle.aom_sound.specs.Words.{here, read}
+use Rattle.aom_sound.specs.State.{An_object, Choice, Frame, Item, Run, State, Task}
+use Rattle.aom_sound.specs.Words.{here}
 
 -- ---- the effects that this is of
 
@@ -60,63 +60,34 @@ module _ (p : Image) (c : Choice) (fr : Frame) (ts : List Task) (s : State) (fre
 
   fine_deals : (items : List Item) (o : Option Object) → Fine fr s (deals fr items o)
   fine_deals (An_object ∷ items) (Some o) = tt
-  fine_deals (An_object ∷ items) None = tt
-  fine_deals (An_operation m w ∷ items) o = tt
-  fine_deals (A_mark ∷ items) o = tt
-  fine_deals [] o = tt
+  fine_deals _ _ = tt
 
   fine_makes : (b : Bool) (x a : ℕ) → IsFine fr s (makes_unless b c.name x a)
   fine_makes true x a = tt
   fine_makes false x a = free
 
   pub fine_effect : (i : Instr) → IsUsual i → Fine fr s (effect p c fr ts s i)
-  fine_effect (instrs.JumpEqual a b to) usual = fine_cond _ (Jumps to) (updates fr Unchanged) tt tt
-  fine_effect (instrs.JumpLess a b to) usual = fine_cond _ (Jumps to) (updates fr Unchanged) tt tt
-  fine_effect (instrs.JumpActive to) usual = fine_cond _ (Jumps to) (updates fr Unchanged) tt tt
-  fine_effect (instrs.JumpAdded to) usual = fine_cond _ (Jumps to) (updates fr Unchanged) tt tt
-  fine_effect (instrs.JumpNull a to) usual = fine_unless _ to
-  fine_effect (instrs.JumpEmpty f to) usual = fine_unless _ to
-  fine_effect (instrs.Next depth to) usual = fine_round _ depth to
-  fine_effect (instrs.New a x) usual = fine_makes c.refused x a
-  fine_effect (instrs.Delete a) usual = fine_deletes _ a
-  fine_effect (instrs.NewOrLeave a x) usual = fine_cond c.refused _ _ tt free
-  fine_effect (instrs.Push a) usual = fine_cond c.refused _ _ tt tt
-  fine_effect (instrs.PushOperation a m) usual = fine_cond c.refused _ _ tt tt
-  fine_effect instrs.PopDelete usual = fine_deals s.items _
-  fine_effect (instrs.LeaveIf a) usual = fine_cond (is_negative p c fr ts s (read fr ts s a)) (Leaves (read fr ts s a) Unchanged) (updates fr Unchanged) tt tt
-  fine_effect instrs.Cancel usual = fine_cancels _ _
   fine_effect (instrs.Enlist priority) usual = λ e. cc
   fine_effect (instrs.Issue a b) usual = λ e. on_none _ (own_request s.cells fr.home) e
   fine_effect instrs.SetActive usual = λ e. on_none _ (own_request s.cells fr.home) e
   fine_effect instrs.Abort usual = λ e. on_none _ (own_request s.cells fr.home) e
   fine_effect (instrs.Reply a b) usual = absurd usual
   fine_effect (instrs.Return a) usual = absurd usual
-  fine_effect _ usual = tt
+  -- by the form of its effect
+  fine_effect _ usual = search (free, fine_cond, fine_unless, fine_round, fine_makes, fine_deletes, fine_deals, fine_cancels)
 
 -- ---- the effects
 
 tasks_to_trap : (p : Image) (clients : List Client) (cs : List Cell) (ts : List Task) → TasksKept p clients cs ts → TasksKept p clients cs (to_trap ts)
-tasks_to_trap p clients cs [] k = k
 tasks_to_trap p clients cs (Run fr ∷ ts) k = tasks_to_trap p clients cs ts k
-tasks_to_trap p clients cs (Trapped ∷ ts) k = k
-tasks_to_trap p clients cs (Destroy ∷ ts) k = k
-tasks_to_trap p clients cs (Closing ∷ ts) k = k
-tasks_to_trap p clients cs (Unwind code ∷ ts) k = k
-tasks_to_trap p clients cs (Dispatched d ∷ ts) k = k
+tasks_to_trap p clients cs _ k = k
 
 module _ (p : Image) (fr : Frame) (ts : List Task) (s : State) (fit : ClientsFit p s.clients s.cells) (stage : TasksKept p s.clients s.cells ts) where
   steady : (u : Update) → IsFine fr s u → Steady s.cells (cells_after p fr ts s u)
   steady (Made name class a) f = steady_update p fr ts s (Made name class a) f
-  steady (Carried from to) f = steady_update p fr ts s (Carried from to) tt
-  steady (Written w v) f = steady_update p fr ts s (Written w v) tt
   steady (Requested r) f = steady_update p fr ts s (Requested r) f
-  steady (Sessioned b) f = steady_update p fr ts s (Sessioned b) tt
   steady (Replied a) f = absurd f
-  steady (Pushed a) f = steady_update p fr ts s (Pushed a) tt
-  steady (Popped a) f = steady_update p fr ts s (Popped a) tt
-  steady Unchanged f = steady_update p fr ts s Unchanged tt
-  steady (Pushed_operation m w) f = steady_update p fr ts s (Pushed_operation m w) tt
-  steady Popped_operation f = steady_update p fr ts s Popped_operation tt
+  steady r f = steady_update p fr ts s r tt
 
   -- with those cells, and tasks over these
   kept_by : (u : State) → u.clients ≡ s.clients → Steady s.cells u.cells → (TasksKept p s.clients u.cells ts → TasksKept p s.clients u.cells u.tasks) → IsKept p u
@@ -127,14 +98,15 @@ module _ (p : Image) (fr : Frame) (ts : List Task) (s : State) (fit : ClientsFit
 
   pub effect_kept : (e : Effect) → Fine fr s e → IsKept p (applied p fr ts s e)
   effect_kept (Goes_on ch) f = kept_by (applied p fr ts s (Goes_on ch)) refl (steady ch.update f) (λ k. k)
-  effect_kept (Jumps to) f = kept_by (applied p fr ts s (Jumps to)) refl (steady Unchanged tt) (λ k. k)
-  effect_kept (Counts depth rounds) f = kept_by (applied p fr ts s (Counts depth rounds)) refl (steady Unchanged tt) (λ k. k)
-  effect_kept (Repeats depth rounds to) f = kept_by (applied p fr ts s (Repeats depth rounds to)) refl (steady Unchanged tt) (λ k. k)
   effect_kept (Calls target m first) f = kept_by (applied p fr ts s (Calls target m first)) refl (steady_passed p fr ts s _ (arguments_of p m) first 0 s.cells) (λ k. k)
   effect_kept (Sets_trap target m first) f = kept_by (applied p fr ts s (Sets_trap target m first)) refl (steady_passed p fr ts s _ (arguments_of p m) first 0 s.cells) (λ k. k)
-  effect_kept (Cancels m) f = kept_by (applied p fr ts s (Cancels m)) refl (steady_asked s.cells fr.home (on_request cancelling (own_request s.cells fr.home)) (λ e. on_none cancelling (own_request s.cells fr.home) e)) (λ k. k)
+  effect_kept (Cancels m) f =
+      kept_by (applied p fr ts s (Cancels m)) refl
+      (steady_asked s.cells fr.home (on_request cancelling (own_request s.cells fr.home)) (λ e. on_none cancelling (own_request s.cells fr.home) e)) (λ k. k)
   effect_kept (Returns g a) f = absurd f
   effect_kept (Leaves code u) f = kept_by (applied p fr ts s (Leaves code u)) refl (steady u f) (λ k. tasks_to_trap p s.clients _ ts k)
-  effect_kept (Destroys x a words) f = kept_by (applied p fr ts s (Destroys x a words)) refl (steady_moved s.cells (here fr ts s a) (Going (suc (length ts))) (λ n m. refl)) (λ k. tasks_begun p s.clients _ x _ _ k)
-  effect_kept (Destroys_last x) f = kept_by (applied p fr ts s (Destroys_last x)) refl (steady_moved s.cells (top_place s.items) (Going (suc (length ts))) (λ n m. refl)) (λ k. tasks_begun p s.clients _ x _ _ k)
-  effect_kept (Operates m w) f = kept_by (applied p fr ts s (Operates m w)) refl (steady Unchanged tt) (λ k. k)
+  effect_kept (Destroys x a words) f =
+      kept_by (applied p fr ts s (Destroys x a words)) refl (steady_moved s.cells (here fr ts s a) (Going (suc (length ts))) (λ n m. refl)) (λ k. tasks_begun p s.clients _ x _ _ k)
+  effect_kept (Destroys_last x) f =
+      kept_by (applied p fr ts s (Destroys_last x)) refl (steady_moved s.cells (top_place s.items) (Going (suc (length ts))) (λ n m. refl)) (λ k. tasks_begun p s.clients _ x _ _ k)
+  effect_kept r f = kept_by (applied p fr ts s r) refl (steady Unchanged tt) (λ k. k)

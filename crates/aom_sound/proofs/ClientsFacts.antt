@@ -1,5 +1,5 @@
 -- What a well-typed state says of queues and of the server that is dispatched.
-use Rattle.std.proofs.Common.{Bool, List, None, Option, Some, [], ap, arith, cond, false, inl, inr, length, refl, subst, sym, true, ℕ, ◌&&◌, ◌==◌, ◌∙◌, ◌∷◌, ◌≡◌, ◌≤◌}
+use Rattle.std.proofs.Common.{[], Bool, List, None, Option, Some, ap, arith, cond, false, inl, inr, length, refl, subst, sym, true, ℕ, ◌&&◌, ◌==◌, ◌∙◌, ◌∷◌, ◌≡◌, ◌≤◌}
 use Rattle.std.proofs.lemmas.Bool.{ne_eqb, true≢false}
 use Rattle.std.specs.List.{list_any}
 use Rattle.std.specs.Prelude.{◌||◌, is_some}
@@ -40,7 +40,9 @@ message_any c m (Connect_of d ∷ es) h = message_any c m es h
 message_any c m (Close_of d ∷ es) h = message_any c m es h
 message_any c m (Message_of d k ∷ es) h = go (d == c) (k == m) (message_any c m es) h
   where
-    go : (a b : Bool) → (list_any (is_message_of c m) es ≡ true → list_any (λ e. is_message m e) es ≡ true) → ((a && b) || list_any (is_message_of c m) es) ≡ true → (b || list_any (λ e. is_message m e) es) ≡ true
+    go :
+        (a b : Bool) → (list_any (is_message_of c m) es ≡ true → list_any (λ e. is_message m e) es ≡ true) → ((a && b) || list_any (is_message_of c m) es) ≡ true →
+        (b || list_any (λ e. is_message m e) es) ≡ true
     go a true rest h = refl
     go true false rest h = rest h
     go false false rest h = rest h
@@ -54,7 +56,9 @@ module _ (p : Image) (t : Typing) (wired : IsWired p) (s : State) (w : WellTyped
       x = queued_thing_of p s.cells w.layers n m o.thing (fits_thing p (seen s.cells) o _ (subst (λ y. Fits p (seen s.cells) y (claim p (declared p s.cells) w.layers (Elsewhere (Queued n m)))) e (w.good.fits (Elsewhere (Queued n m)))))
 
   -- and what a client sent waits there
-  pub queued_well : (clients : List Client) → ClientsFit p clients s.cells → (n c m : ℕ) → list_any (is_message_of c m) (service_of s.cells n).queue ≡ true → (x : Object) × (held s.cells (Elsewhere (Queued n m)) ≡ Some x)
+  pub queued_well :
+      (clients : List Client) → ClientsFit p clients s.cells → (n c m : ℕ) → list_any (is_message_of c m) (service_of s.cells n).queue ≡ true →
+      (x : Object) × (held s.cells (Elsewhere (Queued n m)) ≡ Some x)
   queued_well clients fit n c m h = go (named s.cells n) refl
     where
       has : has_message (service_of s.cells n) m ≡ true
@@ -65,7 +69,8 @@ module _ (p : Image) (t : Typing) (wired : IsWired p) (s : State) (w : WellTyped
 
       at : (o : Object) → named s.cells n ≡ Some o → (b : Bool) → is_server p o.thing ≡ b → (x : Object) × (held s.cells (Elsewhere (Queued n m)) ≡ Some x)
       at o e true serves =
-          let kind : declared p s.cells (Elsewhere (Queued n m)) ≡ Own Message Ready = ap (λ b. cond b (filled (message_thing p (named s.cells n)) Full) Null) has ∙ ap (λ y. filled (message_thing p y) Full) e ∙ ap (λ b. filled (cond b (Some Message) None) Full) serves in
+          let kind : declared p s.cells (Elsewhere (Queued n m)) ≡ Own Message Ready =
+          ap (λ b. cond b (filled (message_thing p (named s.cells n)) Full) Null) has ∙ ap (λ y. filled (message_thing p y) Full) e ∙ ap (λ b. filled (cond b (Some Message) None) Full) serves in
           let x = own_held p (seen s.cells) (held s.cells (Elsewhere (Queued n m))) Message (subst (λ k. Fits p (seen s.cells) (held s.cells (Elsewhere (Queued n m))) k) kind fits) in
           (x.0, x.1)
       at o e false plain =
@@ -92,7 +97,9 @@ abbrev pub ServerLives : Image → List Cell → Seat → List Layer → Type 0
 ServerLives p cs x ls = (named cs x.object.name ≡ Some x.object) × (is_server p x.object.thing ≡ true) × SomeIn x.object.name ls × (is_some (requested cs x.object.name) ≡ true)
 
 -- its server stands, and sits
-pub server_lives : (p : Image) (t : Typing) (cs : List Cell) (ls : List Layer) (back : Back) (x : Seat) (c : ℕ) (stage : Stage) → Stack p t cs back ls → IsAt (Of_server x c stage) (tasks_of ls) → ServerLives p cs x ls
+pub server_lives :
+    (p : Image) (t : Typing) (cs : List Cell) (ls : List Layer) (back : Back) (x : Seat) (c : ℕ) (stage : Stage) → Stack p t cs back ls → IsAt (Of_server x c stage) (tasks_of ls) →
+    ServerLives p cs x ls
 server_lives p t cs [] back x c stage s at = absurd at
 server_lives p t cs (Method fr sh ∷ ls) back x c stage s at = let r = server_lives p t cs ls (Returns fr.method fr.home) x c stage s.4 at in (r.0, r.1, inr r.2, r.3)
 server_lives p t cs (Mark gv ∷ ls) back x c stage s at = server_lives p t cs ls (Caught gv) x c stage s.1 at
@@ -117,18 +124,23 @@ message_delivered Here x h = h
 message_delivered Gone_now x h = absurd h
 
 -- is a message
-pub service_message : (p : Image) (cs : List Cell) (ls : List Layer) (t : Typing) (back : Back) (x : Thing) → Stack p t cs back ls → HasThing (claim p (declared p cs) ls (Elsewhere In_service)) x → x ≡ Message
+pub service_message :
+    (p : Image) (cs : List Cell) (ls : List Layer) (t : Typing) (back : Back) (x : Thing) → Stack p t cs back ls → HasThing (claim p (declared p cs) ls (Elsewhere In_service)) x →
+    x ≡ Message
 service_message p cs [] t back x s h = absurd h
 service_message p cs (Method fr sh ∷ ls) t back x s h = go (serves p fr.method) (service_message p cs ls t (Returns fr.method fr.home) x s.4) h
   where
-    go : (b : Bool) → (HasThing (claim p (declared p cs) ls (Elsewhere In_service)) x → x ≡ Message) → HasThing (cond b (delivered sh.delivery) (claim p (declared p cs) ls (Elsewhere In_service))) x → x ≡ Message
+    go :
+        (b : Bool) → (HasThing (claim p (declared p cs) ls (Elsewhere In_service)) x → x ≡ Message) →
+        HasThing (cond b (delivered sh.delivery) (claim p (declared p cs) ls (Elsewhere In_service))) x → x ≡ Message
     go true below h = message_delivered sh.delivery x h
     go false below h = below h
 service_message p cs (Mark gv ∷ ls) t back x s h = service_message p cs ls t (Caught gv) x s.1 h
 service_message p cs (Dying o ∷ ls) t back x s h = service_message p cs ls t Gone x s.2 h
 service_message p cs (Ending o left ∷ ls) t back x s h = service_message p cs ls t Now x s.3 h
 service_message p cs (Unwinding code es ∷ ls) t back x s h = service_message p cs ls t Leaves x s.1 h
-service_message p cs (Dispatching d seats ∷ ls) t back x s h = message_by_stage d (claim p (declared p cs) ls (Elsewhere In_service)) x (λ h. subst (λ l. HasThing (claim p (declared p cs) l (Elsewhere In_service)) x) s.1 h) h
+service_message p cs (Dispatching d seats ∷ ls) t back x s h =
+    message_by_stage d (claim p (declared p cs) ls (Elsewhere In_service)) x (λ h. subst (λ l. HasThing (claim p (declared p cs) l (Elsewhere In_service)) x) s.1 h) h
 
 pub serving_plain : (p : Image) (t : Typing) (s : State) (w : WellTyped p t s) (o : Object) → held s.cells (Elsewhere In_service) ≡ Some o → is_server p o.thing ≡ false
 serving_plain p t s w o e =
@@ -142,7 +154,9 @@ dying_layers (Dying o ∷ ls) ts e = (o, ls, refl, cc)
 dying_layers _ ts e = cc
 
 -- is not the server that is dispatched
-pub goes_apart : (p : Image) (t : Typing) (s : State) (w : WellTyped p t s) (ts : List Task) → s.tasks ≡ Destroy ∷ ts → (o : Object) → held s.cells (Going (length ts)) ≡ Some o → (x : Seat) (c : ℕ) (stage : Stage) → IsAt (Of_server x c stage) ts → (o.name == x.object.name) ≡ false
+pub goes_apart :
+    (p : Image) (t : Typing) (s : State) (w : WellTyped p t s) (ts : List Task) → s.tasks ≡ Destroy ∷ ts → (o : Object) → held s.cells (Going (length ts)) ≡ Some o →
+    (x : Seat) (c : ℕ) (stage : Stage) → IsAt (Of_server x c stage) ts → (o.name == x.object.name) ≡ false
 goes_apart p t s w ts tasks o there x c stage at = ne_eqb o.name x.object.name (λ same. u.some (subst (λ n. SomeIn n d.1) (sym same) l.2))
   where
     d : (o : Object) × (below : List Layer) × (w.layers ≡ Dying o ∷ below) × (ts ≡ tasks_of below)

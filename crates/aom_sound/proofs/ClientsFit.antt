@@ -1,5 +1,5 @@
 -- Clients and what they have at servers say the same where one client is at something else: by its entries, its session, and those of all others.
-use Rattle.std.proofs.Common.{Bool, List, None, Some, [], ap, arith, false, refl, subst, sym, true, ℕ, ◌<◌, ◌==◌, ◌∙◌, ◌∷◌, ◌≡◌, ◌≤◌}
+use Rattle.std.proofs.Common.{[], Bool, List, None, Some, ap, arith, false, refl, subst, sym, true, ℕ, ◌<◌, ◌==◌, ◌∙◌, ◌∷◌, ◌≡◌, ◌≤◌}
 use Rattle.std.proofs.lemmas.Bool.{eq-eqb, eqb-true, ne_eqb, true≢false}
 use Rattle.std.proofs.lemmas.List.Folds.{list_any-append}
 use Rattle.std.proofs.lemmas.Map.Views.{any-filter_same}
@@ -47,7 +47,9 @@ parted_free k _ e = cc
 
 module _ (clients : List Client) (c n : ℕ) where
   -- where but such an entry of it would not fit, and none is there, none of it is
-  pub only_own : (own : Asked → Bool) → ((e : Asked) → c ≡ client_of e → EntryFits clients n e → own e ≡ true) → (es : List Asked) → QueueFits clients n es → list_any own es ≡ false → list_any (is_of c) es ≡ false
+  pub only_own :
+      (own : Asked → Bool) → ((e : Asked) → c ≡ client_of e → EntryFits clients n e → own e ≡ true) → (es : List Asked) → QueueFits clients n es → list_any own es ≡ false →
+      list_any (is_of c) es ≡ false
   only_own own only [] fits none = refl
   only_own own only (e ∷ es) fits none = go (is_of c e) refl (only_own own only es fits.1 (front_none (own e) (list_any own es) none).1)
     where
@@ -64,9 +66,20 @@ module _ (clients : List Client) (c n : ℕ) where
       never (Message_of d m) same f = true≢false (sym (ap (λ k. is_open_at n (client_at clients k)) same ∙ f) ∙ free.opens n)
       never (Close_of d) same f = true≢false (sym (ap (λ k. is_leaving n (client_at clients k)) same ∙ f) ∙ free.leaves n)
 
+  -- of one whose only entries are its own at one server, none of which is there
+  none_but_own :
+      (is_own : Asked → Bool) (k : ℕ) → ((e : Asked) → c ≡ client_of e → EntryFits clients n e → (k ≡ n) × (is_own e ≡ true)) → (es : List Asked) → QueueFits clients n es →
+      (k ≡ n → list_any is_own es ≡ false) → list_any (is_of c) es ≡ false
+  none_but_own is_own k entry es fits none = go (k == n) refl
+    where
+      go : (b : Bool) → (k == n) ≡ b → list_any (is_of c) es ≡ false
+      go true here = only_own is_own (λ e same f. (entry e same f).1) es fits (none (eqb-true k n here))
+      go false there = none_passes (is_of c) clients n (λ e at f. true≢false (sym (eq-eqb k n (entry e (eqb-true c (client_of e) at) f).0) ∙ there)) es fits
+
   -- of one that connects
-  pub none_of_connecting : (k : ℕ) → is_connecting_at k (client_at clients c) ≡ true → (es : List Asked) → QueueFits clients n es → (k ≡ n → list_any (is_connect_of c) es ≡ false) → list_any (is_of c) es ≡ false
-  none_of_connecting k at es fits none = go (k == n) refl
+  pub none_of_connecting :
+      (k : ℕ) → is_connecting_at k (client_at clients c) ≡ true → (es : List Asked) → QueueFits clients n es → (k ≡ n → list_any (is_connect_of c) es ≡ false) → list_any (is_of c) es ≡ false
+  none_of_connecting k at = none_but_own (is_connect_of c) k entry
     where
       x : Client
       x = client_at clients c
@@ -76,13 +89,9 @@ module _ (clients : List Client) (c n : ℕ) where
       entry (Message_of d m) same f = absurd (true≢false (sym (ap (λ i. is_open_at n (client_at clients i)) same ∙ f) ∙ (connecting_only k n x at).0))
       entry (Close_of d) same f = absurd (true≢false (sym (ap (λ i. is_leaving n (client_at clients i)) same ∙ f) ∙ (connecting_only k n x at).1))
 
-      go : (b : Bool) → (k == n) ≡ b → list_any (is_of c) es ≡ false
-      go true here = only_own (is_connect_of c) (λ e same f. (entry e same f).1) es fits (none (eqb-true k n here))
-      go false there = none_passes (is_of c) clients n (λ e at f. true≢false (sym (eq-eqb k n (entry e (eqb-true c (client_of e) at) f).0) ∙ there)) es fits
-
   -- of one that closes
   pub none_of_leaving : (k : ℕ) → is_leaving k (client_at clients c) ≡ true → (es : List Asked) → QueueFits clients n es → (k ≡ n → list_any (is_close_of c) es ≡ false) → list_any (is_of c) es ≡ false
-  none_of_leaving k at es fits none = go (k == n) refl
+  none_of_leaving k at = none_but_own (is_close_of c) k entry
     where
       x : Client
       x = client_at clients c
@@ -91,10 +100,6 @@ module _ (clients : List Client) (c n : ℕ) where
       entry (Close_of d) same f = ((leaving_only k n x at).3 (ap (λ i. is_leaving n (client_at clients i)) same ∙ f), eq-eqb d c (sym same))
       entry (Message_of d m) same f = absurd (true≢false (sym (ap (λ i. is_open_at n (client_at clients i)) same ∙ f) ∙ (leaving_only k n x at).0))
       entry (Connect_of d) same f = absurd (true≢false (sym (ap (λ i. is_connecting_at n (client_at clients i)) same ∙ f) ∙ (leaving_only k n x at).1))
-
-      go : (b : Bool) → (k == n) ≡ b → list_any (is_of c) es ≡ false
-      go true here = only_own (is_close_of c) (λ e same f. (entry e same f).1) es fits (none (eqb-true k n here))
-      go false there = none_passes (is_of c) clients n (λ e at f. true≢false (sym (eq-eqb k n (entry e (eqb-true c (client_of e) at) f).0) ∙ there)) es fits
 
 -- ---- one client is at something else
 
@@ -110,7 +115,16 @@ pub record Changes (p : Image) (c : ℕ) (to : Client) (clients : List Client) (
   pub seats : (o : Object) → named cs' o.name ≡ Some o → seats_taken (service_of cs' o.name) ≤ most_of (thing_kind p o.thing)
 
 pub fit_changed : (p : Image) (c : ℕ) (to : Client) (clients : List Client) (cs cs' : List Cell) → ClientsFit p clients cs → Changes p c to clients cs cs' → ClientsFit p (with_client c to clients) cs'
-fit_changed p c to clients cs cs' fit ch = record { queues = ch.queues; sessions = λ n d. sessions n d (c == d) refl; listed = λ n d. listed n d (c == d) refl; servers = ch.servers; names = ch.names; senders = ch.senders; seats = ch.seats; enlisted = ch.enlisted }
+fit_changed p c to clients cs cs' fit ch = record {
+  queues = ch.queues;
+  sessions = λ n d. sessions n d (c == d) refl;
+  listed = λ n d. listed n d (c == d) refl;
+  servers = ch.servers;
+  names = ch.names;
+  senders = ch.senders;
+  seats = ch.seats;
+  enlisted = ch.enlisted;
+}
   where
     sessions : (n d : ℕ) (b : Bool) → (c == d) ≡ b → has_session (service_of cs' n) d ≡ true → server_of (client_at (with_client c to clients) d) ≡ Some n
     sessions n d true e h =
@@ -149,8 +163,12 @@ module _ (p : Image) (cs : List Cell) (o : Object) (lives : named cs o.name ≡ 
       subst (λ v. (v.queue ≡ []) × (v.sessions ≡ [])) (sym (service_there cs o.name x.name (f (service_of cs o.name)) other)) (fit.enlisted x was unasked)
 
   -- as long as it has seats
-  pub seats_then : (clients : List Client) → ClientsFit p clients cs → seats_taken (f (service_of cs o.name)) ≤ most_of (thing_kind p o.thing) → (x : Object) → named then x.name ≡ Some x → seats_taken (service_of then x.name) ≤ most_of (thing_kind p x.thing)
-  seats_then clients fit room x there = by_server (λ n v. named cs n ≡ Some x → n ≡ x.name → seats_taken v ≤ most_of (thing_kind p x.thing)) here others x.name (sym (named_served cs o.name (f (service_of cs o.name)) x.name) ∙ there) refl
+  pub seats_then :
+      (clients : List Client) → ClientsFit p clients cs → seats_taken (f (service_of cs o.name)) ≤ most_of (thing_kind p o.thing) → (x : Object) → named then x.name ≡ Some x →
+      seats_taken (service_of then x.name) ≤ most_of (thing_kind p x.thing)
+  seats_then clients fit room x there =
+      by_server (λ n v. named cs n ≡ Some x → n ≡ x.name → seats_taken v ≤ most_of (thing_kind p x.thing)) here others x.name
+      (sym (named_served cs o.name (f (service_of cs o.name)) x.name) ∙ there) refl
     where
       here : named cs o.name ≡ Some x → o.name ≡ x.name → seats_taken (f (service_of cs o.name)) ≤ most_of (thing_kind p x.thing)
       here at same = let one : Some o ≡ Some x = sym lives ∙ at in let equal : o ≡ x = cc in subst (λ y. seats_taken (f (service_of cs o.name)) ≤ most_of (thing_kind p y.thing)) equal room
@@ -162,7 +180,9 @@ module _ (p : Image) (cs : List Cell) (o : Object) (lives : named cs o.name ≡ 
     pub servers_then : (x : Object) → named then x.name ≡ Some x → is_server p x.thing ≡ false → ((service_of then x.name).queue ≡ []) × ((service_of then x.name).sessions ≡ [])
     servers_then x there plain =
         let was : named cs x.name ≡ Some x = sym (named_served cs o.name (f (service_of cs o.name)) x.name) ∙ there in
-        let other : (o.name == x.name) ≡ false = ne_eqb o.name x.name (λ same. let one : Some o ≡ Some x = sym lives ∙ ap (λ k. named cs k) same ∙ was in let equal : o ≡ x = cc in true≢false (sym serves ∙ ap (λ y. is_server p y.thing) equal ∙ plain)) in
+        let other : (o.name == x.name) ≡ false =
+        ne_eqb o.name x.name
+        (λ same. let one : Some o ≡ Some x = sym lives ∙ ap (λ k. named cs k) same ∙ was in let equal : o ≡ x = cc in true≢false (sym serves ∙ ap (λ y. is_server p y.thing) equal ∙ plain)) in
         subst (λ v. (v.queue ≡ []) × (v.sessions ≡ [])) (sym (service_there cs o.name x.name (f (service_of cs o.name)) other)) (fit.servers x was plain)
 
     pub names_then : (n m : ℕ) (x : Object) → held then (Elsewhere (Queued n m)) ≡ Some x → x.name ≡ m
@@ -170,7 +190,8 @@ module _ (p : Image) (cs : List Cell) (o : Object) (lives : named cs o.name ≡ 
 
 -- ---- `accept` has given a session
 
-module _ (p : Image) (clients : List Client) (cs : List Cell) (fit : ClientsFit p clients cs) (o : Object) (lives : named cs o.name ≡ Some o) (serves : is_server p o.thing ≡ true) (listed : is_some (requested cs o.name) ≡ true) (c : ℕ) where
+module _ (p : Image) (clients : List Client) (cs : List Cell) (fit : ClientsFit p clients cs) (o : Object) (lives : named cs o.name ≡ Some o) (serves : is_server p o.thing ≡ true)
+    (listed : is_some (requested cs o.name) ≡ true) (c : ℕ) where
   abbrev own : Client
   own = client_at clients c
 
@@ -185,7 +206,8 @@ module _ (p : Image) (clients : List Client) (cs : List Cell) (fit : ClientsFit 
   or_false true = refl
   or_false false = refl
 
-  module _ (session : ℕ) (at : is_connecting_at o.name own ≡ true) (none : list_any (is_connect_of c) (service_of cs o.name).queue ≡ false) (room : seats_taken (service_of cs o.name) < most_of (thing_kind p o.thing)) where
+  module _ (session : ℕ) (at : is_connecting_at o.name own ≡ true) (none : list_any (is_connect_of c) (service_of cs o.name).queue ≡ false)
+      (room : seats_taken (service_of cs o.name) < most_of (thing_kind p o.thing)) where
     is_open : (x : Client) → is_connecting_at o.name x ≡ true → server_of (at_opening session x) ≡ Some o.name
     is_open (Connecting server slots) e = ap (λ z. Some z) (eqb-true server o.name e)
     is_open _ e = cc

@@ -1,5 +1,5 @@
 -- A server that goes lets go of all clients that are at it, and what is kept of all others stays.
-use Rattle.std.proofs.Common.{Bool, List, None, Option, Some, [], ap, cond, false, refl, subst, sym, true, ℕ, ◌==◌, ◌∙◌, ◌∷◌, ◌≡◌, ◌<◌, ◌≤◌, arith}
+use Rattle.std.proofs.Common.{[], Bool, List, None, Option, Some, ap, cond, false, refl, subst, sym, true, ℕ, ◌==◌, ◌∙◌, ◌∷◌, ◌≡◌, ◌<◌, ◌≤◌, arith}
 use Rattle.std.proofs.lemmas.Bool.{eq-eqb, eqb-true, ne_eqb, true≢false}
 use Rattle.std.specs.List.{list_any}
 use Rattle.std.specs.Prelude.{◌||◌}
@@ -7,11 +7,11 @@ use Rattle.aom_image.specs.Image.{Image}
 use Rattle.aom_clients.specs.Nodes.{is_connecting_at, is_leaving, is_open_at}
 use Rattle.aom_clients.specs.Table.{at_gone, server_of}
 use Rattle.aom_clients.specs.declared.client.Client.{Client}
-use Rattle.aom_clients.specs.declared.client.Client.TheVariants.{Closing, Connecting, Dead, Dying, Gone, Open, Unconnected}
+use Rattle.aom_clients.specs.declared.client.Client.TheVariants.{Connecting, Open, Unconnected}
 use Rattle.aom_sound.proofs.ClientsFit.{connecting_only, leaving_only}
 use Rattle.aom_sound.proofs.Maps.{cond_same, same_place-true, same_place_comm, same_place_refl}
 use Rattle.aom_sound.proofs.Queues.{client_here, client_there, none_passes}
-use Rattle.aom_sound.proofs.Sifted.{a_cell_of, cell_in, cell_lives, cell_name, cell_of, cell_of_sifted, cell_owner, cell_placed, held_cell, held_sifted, kept, named_before, named_cell, object_in, service_cell, service_gone, service_in, service_sifted, sifted, unheld_sifted, requested_before}
+use Rattle.aom_sound.proofs.Sifted.{a_cell_of, cell_in, cell_lives, cell_name, cell_of, cell_owner, cell_placed, held_cell, held_sifted, named_before, named_cell, object_in, service_cell, service_gone, service_in, service_sifted, sifted, unheld_sifted, requested_before, clients_sifted}
 use Rattle.aom_sound.specs.Clients.{client_at, each_unslotted, queue_ended, sessions_ended, with_client, most_of}
 use Rattle.aom_sound.specs.Kept.{ClientsFit, EntryFits, QueueFits, ConnectKept, StageKept, is_close_of, is_connect_of, is_message_of}
 use Rattle.aom_sound.specs.Places.{Asked, Cell, Close_of, Connect_of, Elsewhere, Message_of, Object, Place, Queued, Sender, Service, Tidy, held, named, same_place, service_of, unserved, without, requested}
@@ -34,12 +34,7 @@ queue_ended_at (Connect_of d ∷ es) clients c = queue_ended_at es (with_client 
 
 gone_twice : (x : Client) → at_gone (at_gone x) ≡ at_gone x
 gone_twice (Open server session slots) = refl
-gone_twice (Closing server session) = refl
-gone_twice (Dying server session) = refl
-gone_twice Unconnected = refl
-gone_twice (Connecting server slots) = refl
-gone_twice Gone = refl
-gone_twice Dead = refl
+gone_twice _ = refl
 
 pub sessions_ended_at : (xs : List ℕ) (clients : List Client) (c : ℕ) → client_at (sessions_ended xs clients) c ≡ cond (list_any (λ d. d == c) xs) (at_gone (client_at clients c)) (client_at clients c)
 sessions_ended_at [] clients c = refl
@@ -51,18 +46,14 @@ sessions_ended_at (d ∷ ds) clients c = sessions_ended_at ds (with_client d (at
     go : (b : Bool) → (d == c) ≡ b → (x : Bool) → cond x (at_gone (client_at then c)) (client_at then c) ≡ cond (b || x) (at_gone (client_at clients c)) (client_at clients c)
     go true e x =
         let same : d ≡ c = eqb-true d c e in
-        let now : client_at then c ≡ at_gone (client_at clients c) = ap (λ i. client_at then i) (sym same) ∙ client_here d (at_gone (client_at clients d)) clients ∙ ap (λ i. at_gone (client_at clients i)) same in
+        let now : client_at then c ≡ at_gone (client_at clients c) =
+        ap (λ i. client_at then i) (sym same) ∙ client_here d (at_gone (client_at clients d)) clients ∙ ap (λ i. at_gone (client_at clients i)) same in
         ap (λ k. cond x (at_gone k) k) now ∙ ap (λ k. cond x k (at_gone (client_at clients c))) (gone_twice (client_at clients c)) ∙ cond_same x (at_gone (client_at clients c))
     go false e x = ap (λ k. cond x (at_gone k) k) (client_there d c (at_gone (client_at clients d)) clients e)
 
 gone_alone : (x : Client) → server_of (at_gone x) ≡ None
 gone_alone (Open server session slots) = refl
-gone_alone (Closing server session) = refl
-gone_alone (Dying server session) = refl
-gone_alone Unconnected = refl
-gone_alone (Connecting server slots) = refl
-gone_alone Gone = refl
-gone_alone Dead = refl
+gone_alone _ = refl
 
 pub open_server : (n : ℕ) (x : Client) → is_open_at n x ≡ true → server_of x ≡ Some n
 open_server n (Open server session slots) e = ap (λ k. Some k) (eqb-true server n e)
@@ -71,12 +62,7 @@ open_server n _ e = cc
 -- who has a session, or may have one, connects to nobody
 has_server : (k n : ℕ) (x : Client) → server_of x ≡ Some n → is_connecting_at k x ≡ false
 has_server k n (Connecting server slots) e = cc
-has_server k n (Open server session slots) e = refl
-has_server k n (Closing server session) e = refl
-has_server k n (Dying server session) e = refl
-has_server k n Unconnected e = refl
-has_server k n Gone e = refl
-has_server k n Dead e = refl
+has_server k n _ e = refl
 
 -- ---- the cells
 
@@ -145,7 +131,10 @@ pub gone_so : (n : ℕ) (g : Place) (cs : List Cell) → without g (without_queu
 gone_so n g [] = refl
 gone_so n g (c ∷ cs) = go (is_queue_of n c.owner) (gone_so n g cs)
   where
-    go : (b : Bool) → without g (without_queue n cs) ≡ sifted (goes_with n g) (λ c. c.service) cs → without g (cond b (without_queue n cs) (c ∷ without_queue n cs)) ≡ cond (b || same_place c.owner g) (sifted (goes_with n g) (λ c. c.service) cs) (c ∷ sifted (goes_with n g) (λ c. c.service) cs)
+    go :
+        (b : Bool) → without g (without_queue n cs) ≡ sifted (goes_with n g) (λ c. c.service) cs →
+        without g (cond b (without_queue n cs) (c ∷ without_queue n cs))
+        ≡ cond (b || same_place c.owner g) (sifted (goes_with n g) (λ c. c.service) cs) (c ∷ sifted (goes_with n g) (λ c. c.service) cs)
     go true e = e
     go false e = ap (λ l. cond (same_place c.owner g) l (c ∷ l)) e
 
@@ -173,8 +162,7 @@ module _
     where
       never : (e : Asked) → is_connect_of d e ≡ true → EntryFits clients o.name e → ⊥
       never (Connect_of k) at f = true≢false (sym (ap (λ i. is_connecting_at o.name (client_at clients i)) (sym (eqb-true k d at)) ∙ f) ∙ connects)
-      never (Message_of k m) at f = cc
-      never (Close_of k) at f = cc
+      never _ at f = cc
 
   no_session : (n d : ℕ) → (o.name == n) ≡ false → server_of (client_at clients d) ≡ Some n → has_session (service_of cs o.name) d ≡ false
   no_session n d other e = go (has_session (service_of cs o.name) d) refl
@@ -247,23 +235,7 @@ module _
       go q at h = absurd (not_it (ap (λ r. is_queue_of o.name r || same_place x.owner g) (sym at) ∙ h))
 
   service_left : (n : ℕ) → (o.name == n) ≡ false → ((service_of left n).queue ≡ (service_of cs n).queue) × ((service_of left n).sessions ≡ (service_of cs n).sessions)
-  service_left n other = go (cell_of cs n) refl
-    where
-      at : (x : Cell) → cell_of cs n ≡ Some x → (b : Bool) → drops x ≡ b → ((service_of left n).queue ≡ (service_of cs n).queue) × ((service_of left n).sessions ≡ (service_of cs n).sessions)
-      at x e true d =
-          let none = what_goes n x e d other in
-          let was : service_of cs n ≡ x.service = service_cell cs n ∙ ap service_in e in
-          let now = service_gone drops (λ c. c.service) cs n tidy x e d in
-          (ap (λ v. v.queue) now ∙ sym (ap (λ v. v.queue) was ∙ none.0), ap (λ v. v.sessions) now ∙ sym (ap (λ v. v.sessions) was ∙ none.1))
-      at x e false d =
-          let same : service_of left n ≡ service_of cs n = service_sifted drops (λ c. c.service) cs tidy n x e d ∙ sym (service_cell cs n ∙ ap service_in e) in
-          (ap (λ v. v.queue) same, ap (λ v. v.sessions) same)
-
-      go : (x : Option Cell) → cell_of cs n ≡ x → ((service_of left n).queue ≡ (service_of cs n).queue) × ((service_of left n).sessions ≡ (service_of cs n).sessions)
-      go None e =
-          let same : service_of left n ≡ service_of cs n = service_cell left n ∙ ap service_in (cell_of_sifted drops (λ c. c.service) cs n tidy ∙ ap (λ y. kept drops (λ c. c.service) y) e) ∙ sym (service_cell cs n ∙ ap service_in e) in
-          (ap (λ v. v.queue) same, ap (λ v. v.sessions) same)
-      go (Some x) e = at x e (drops x) refl
+  service_left n other = clients_sifted drops cs tidy n (λ x e goes. what_goes n x e goes other)
 
   or_right : (b : Bool) → (b || true) ≡ true
   or_right true = refl
@@ -285,7 +257,10 @@ module _
       let name : y.0.object.name ≡ m = ap (λ z. z.name) y.2 ∙ fit.names n m x.0 x.1 in
       let here : cell_of cs m ≡ Some y.0 = ap (λ k. cell_of cs k) (sym name) ∙ lives in
       let owner : y.0.owner ≡ Elsewhere (Queued n m) = cell_owner cs (Elsewhere (Queued n m)) y.0 y.1 in
-      let stays : drops y.0 ≡ false = ap (λ q. is_queue_of o.name q || same_place q g) owner ∙ ap (λ b. b || same_place (Elsewhere (Queued n m)) g) (ne_eqb n o.name (λ same. true≢false (sym (eq-eqb o.name n (sym same)) ∙ other))) ∙ same_place_comm (Elsewhere (Queued n m)) g ∙ apart n m in
+      let stays : drops y.0 ≡ false =
+      ap (λ q. is_queue_of o.name q || same_place q g) owner
+      ∙ ap (λ b. b || same_place (Elsewhere (Queued n m)) g) (ne_eqb n o.name (λ same. true≢false (sym (eq-eqb o.name n (sym same)) ∙ other)))
+      ∙ same_place_comm (Elsewhere (Queued n m)) g ∙ apart n m in
       subst (λ v. is_from d v.sender ≡ true) (service_cell cs m ∙ ap service_in here ∙ sym (service_sifted drops (λ c. c.service) cs tidy m y.0 here stays)) (fit.senders n d m h)
 
   has_left : (n d : ℕ) → (o.name == n) ≡ false → has_session (service_of left n) d ≡ has_session (service_of cs n) d
@@ -349,15 +324,21 @@ module _
       queues n true e = subst (λ v. QueueFits then n v.queue) (sym (ap (λ k. service_of left k) (sym (eqb-true o.name n e)) ∙ service_none)) tt
       queues n false e = subst (λ q. QueueFits then n q) (sym (service_left n e).0) (queue_kept n e (service_of cs n).queue (fit.queues n))
 
-      enlisted : (x : Object) → named left x.name ≡ Some x → requested left x.name ≡ None → (b : Bool) → (o.name == x.name) ≡ b → ((service_of left x.name).queue ≡ []) × ((service_of left x.name).sessions ≡ [])
-      enlisted x h e true f = let none : service_of left x.name ≡ unserved = ap (λ k. service_of left k) (sym (eqb-true o.name x.name f)) ∙ service_none in (ap (λ v. v.queue) none, ap (λ v. v.sessions) none)
+      enlisted :
+          (x : Object) → named left x.name ≡ Some x → requested left x.name ≡ None → (b : Bool) → (o.name == x.name) ≡ b →
+          ((service_of left x.name).queue ≡ []) × ((service_of left x.name).sessions ≡ [])
+      enlisted x h e true f =
+          let none : service_of left x.name ≡ unserved = ap (λ k. service_of left k) (sym (eqb-true o.name x.name f)) ∙ service_none in
+          (ap (λ v. v.queue) none, ap (λ v. v.sessions) none)
       enlisted x h e false f =
           let b = named_before drops (λ c. c.service) cs x.name x tidy h in
           let none = fit.enlisted x (named_cell cs x.name ∙ ap object_in b.1 ∙ ap (λ y. Some y) b.2) (sym (requested_before drops (λ c. c.service) cs x.name x tidy h) ∙ e) in
           ((service_left x.name f).0 ∙ none.0, (service_left x.name f).1 ∙ none.1)
 
       seats : (x : Object) → named left x.name ≡ Some x → (b : Bool) → (o.name == x.name) ≡ b → seats_taken (service_of left x.name) ≤ most_of (thing_kind p x.thing)
-      seats x h true e = let none : seats_taken (service_of left x.name) ≡ 0 = ap (λ k. seats_taken (service_of left k)) (sym (eqb-true o.name x.name e)) ∙ ap seats_taken service_none in omega (arith, none)
+      seats x h true e =
+          let none : seats_taken (service_of left x.name) ≡ 0 = ap (λ k. seats_taken (service_of left k)) (sym (eqb-true o.name x.name e)) ∙ ap seats_taken service_none in
+          omega (arith, none)
       seats x h false e =
           let b = named_before drops (λ c. c.service) cs x.name x tidy h in
           let was = fit.seats x (named_cell cs x.name ∙ ap object_in b.1 ∙ ap (λ y. Some y) b.2) in
@@ -373,7 +354,9 @@ module _
   fit_gone = fit_each_unslotted p then (service_of cs o.name).sessions (without g (without_queue o.name cs)) (subst (λ l. ClientsFit p then l) (sym (gone_so o.name g cs)) fit_left)
 
   -- a stage of the dispatch of another server stays kept
-  pub stage_gone : (x : Object) (c : ℕ) (stage : Stage) → (o.name == x.name) ≡ false → StageKept p clients cs x c stage → StageKept p then (each_unslotted (service_of cs o.name).sessions (without g (without_queue o.name cs))) x c stage
+  pub stage_gone :
+      (x : Object) (c : ℕ) (stage : Stage) → (o.name == x.name) ≡ false → StageKept p clients cs x c stage →
+      StageKept p then (each_unslotted (service_of cs o.name).sessions (without g (without_queue o.name cs))) x c stage
   stage_gone x c stage other k = at stage k
     where
       n : ℕ

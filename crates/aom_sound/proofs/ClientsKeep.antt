@@ -1,5 +1,5 @@
 -- Clients, and what they have at servers, say the same in each state of a run: as it boots, in each move and in each turn.
-use Rattle.std.proofs.Common.{Bool, List, None, Option, Some, [], ap, cond, false, length, pos, refl, subst, sym, true, ℕ, ℤ, ◌∙◌, ◌∷◌, ◌≡◌}
+use Rattle.std.proofs.Common.{[], Bool, List, None, Option, Some, ap, cond, false, length, pos, refl, subst, sym, true, ℕ, ℤ, ◌∙◌, ◌∷◌, ◌≡◌}
 use Rattle.std.specs.List.{list_any}
 use Rattle.std.specs.Ordering.{int_eq}
 use Rattle.aom_image.specs.Image.{Image}
@@ -70,7 +70,9 @@ module _ (p : Image) (s : State) (fit : ClientsFit p s.clients s.cells) where
   }
 
   -- a cell is at hand to go
-  begun_kept : (a : Place) (k : ℕ) (o : Object) (height : ℕ) (ts : List Task) (u : State) → u.cells ≡ moved a (Going k) s.cells → u.clients ≡ s.clients → u.tasks ≡ begun p o height ts → TasksKept p s.clients s.cells ts → IsKept p u
+  begun_kept :
+      (a : Place) (k : ℕ) (o : Object) (height : ℕ) (ts : List Task) (u : State) → u.cells ≡ moved a (Going k) s.cells → u.clients ≡ s.clients → u.tasks ≡ begun p o height ts →
+      TasksKept p s.clients s.cells ts → IsKept p u
   begun_kept a k o height ts u cells clients tasks stage =
       let still = steady_moved s.cells a (Going k) (λ n m. refl) in
       record {
@@ -85,16 +87,9 @@ module _ (p : Image) (s : State) (fit : ClientsFit p s.clients s.cells) where
   arrival_stage code (Of_server x c Accepts) ts k = k
   arrival_stage code (Of_server x c Accepted) ts k = k
   arrival_stage code (Of_server x c (Accept_left old)) ts k = k
-  arrival_stage code (Of_server x c (Serves o)) ts k = tt
   arrival_stage code (Of_server x c (Service_left old)) ts k = k
   arrival_stage code (Of_server x c Parts) ts k = k
-  arrival_stage code Of_main ts k = tt
-  arrival_stage code (Main_left old) ts k = tt
-  arrival_stage code Of_root ts k = tt
-  arrival_stage code (Of_object x) ts k = tt
-  arrival_stage code (Object_left x old) ts k = tt
-  arrival_stage code (Asks x) ts k = tt
-  arrival_stage code (Answered x answer) ts k = tt
+  arrival_stage code _ ts k = tt
 
   arrived_kept : (code : ℤ) (ts : List Task) (items : List Item) (u : State) → TasksKept p s.clients s.cells ts → arrived p code ts items s ≡ Goes u → IsKept p u
   arrived_kept code (Trapped ∷ Run fr ∷ ts) items u stage e = subst (λ v. IsKept p v) (goes_same _ u e) (same_cells _ refl refl stage)
@@ -156,7 +151,8 @@ module _ (p : Image) (s : State) (fit : ClientsFit p s.clients s.cells) where
   asking_kept (Some m) x code = same_cells p s fit _ refl refl tt
 
   -- of a server: a connect that was left has no session, a message is completed, or a session is closed
-  module _ (tidy : Tidy s.cells) (queued : (n c m : ℕ) → list_any (is_message_of c m) (service_of s.cells n).queue ≡ true → (x : Object) × (held s.cells (Elsewhere (Queued n m)) ≡ Some x)) (plain : (o : Object) → held s.cells (Elsewhere In_service) ≡ Some o → is_server p o.thing ≡ false) where
+  module _ (tidy : Tidy s.cells) (queued : (n c m : ℕ) → list_any (is_message_of c m) (service_of s.cells n).queue ≡ true → (x : Object) × (held s.cells (Elsewhere (Queued n m)) ≡ Some x))
+      (plain : (o : Object) → held s.cells (Elsewhere In_service) ≡ Some o → is_server p o.thing ≡ false) where
     service_gone_kept : ClientsFit p s.clients (without (Elsewhere In_service) s.cells)
     service_gone_kept = go (held s.cells (Elsewhere In_service)) refl
       where
@@ -164,7 +160,9 @@ module _ (p : Image) (s : State) (fit : ClientsFit p s.clients s.cells) where
         go None e = subst (λ l. ClientsFit p s.clients l) (sym (without_none s.cells (Elsewhere In_service) e)) fit
         go (Some o) e = fit_without p s.clients s.cells tidy fit o (Elsewhere In_service) e (λ n m. refl) (plain o e) queued
 
-    stage_kept : (x : Seat) (c : ℕ) (stage : Stage) → named s.cells x.object.name ≡ Some x.object → is_server p x.object.thing ≡ true → is_some (requested s.cells x.object.name) ≡ true → StageKept p s.clients s.cells x.object c stage → IsKept p (stage_ends x c stage s)
+    stage_kept :
+        (x : Seat) (c : ℕ) (stage : Stage) → named s.cells x.object.name ≡ Some x.object → is_server p x.object.thing ≡ true → is_some (requested s.cells x.object.name) ≡ true →
+        StageKept p s.clients s.cells x.object c stage → IsKept p (stage_ends x c stage s)
     stage_kept x c Accepts lives serves listed k = same_cells p s fit _ refl refl tt
     stage_kept x c Accepted lives serves listed k = same_cells p s fit _ refl refl tt
     stage_kept x c (Serves o) lives serves listed k = same_cells p s fit _ refl refl tt
@@ -185,16 +183,14 @@ module _ (p : Image) (s : State) (fit : ClientsFit p s.clients s.cells) where
 -- ---- a cell goes
 
 tasks_resumed : (p : Image) (clients : List Client) (cs : List Cell) (ts : List Task) → TasksKept p clients cs ts → TasksKept p clients cs (resumed ts)
-tasks_resumed p clients cs [] k = k
 tasks_resumed p clients cs (Run fr ∷ ts) k = k
-tasks_resumed p clients cs (Trapped ∷ ts) k = k
-tasks_resumed p clients cs (Destroy ∷ ts) k = k
-tasks_resumed p clients cs (Closing ∷ ts) k = k
-tasks_resumed p clients cs (Unwind code ∷ ts) k = k
-tasks_resumed p clients cs (Dispatched d ∷ ts) k = k
+tasks_resumed p clients cs _ k = k
 
 -- what a stage has stays kept, so do tasks
-tasks_staged : (p : Image) (clients clients' : List Client) (cs cs' : List Cell) (ts : List Task) → ((x : Seat) (c : ℕ) (stage : Stage) → IsAt (Of_server x c stage) ts → StageKept p clients cs x.object c stage → StageKept p clients' cs' x.object c stage) → TasksKept p clients cs ts → TasksKept p clients' cs' ts
+tasks_staged :
+    (p : Image) (clients clients' : List Client) (cs cs' : List Cell) (ts : List Task) →
+    ((x : Seat) (c : ℕ) (stage : Stage) → IsAt (Of_server x c stage) ts → StageKept p clients cs x.object c stage → StageKept p clients' cs' x.object c stage) → TasksKept p clients cs ts →
+    TasksKept p clients' cs' ts
 tasks_staged p clients clients' cs cs' [] still k = tt
 tasks_staged p clients clients' cs cs' (Run fr ∷ ts) still k = tasks_staged p clients clients' cs cs' ts still k
 tasks_staged p clients clients' cs cs' (Trapped ∷ ts) still k = tasks_staged p clients clients' cs cs' ts still k
@@ -214,7 +210,9 @@ module _ (p : Image) (t : Typing) (wired : IsWired p) (c : Choice) (s : State) (
   queued = queued_well p t wired s w s.clients kept.fit
 
   -- the server that is dispatched stands
-  there : (ts : List Task) → s.tasks ≡ ts → (x : Seat) (d : ℕ) (stage : Stage) → IsAt (Of_server x d stage) ts → (named s.cells x.object.name ≡ Some x.object) × (is_server p x.object.thing ≡ true) × (is_some (requested s.cells x.object.name) ≡ true)
+  there :
+      (ts : List Task) → s.tasks ≡ ts → (x : Seat) (d : ℕ) (stage : Stage) → IsAt (Of_server x d stage) ts →
+      (named s.cells x.object.name ≡ Some x.object) × (is_server p x.object.thing ≡ true) × (is_some (requested s.cells x.object.name) ≡ true)
   there ts tasks x d stage at = let l = server_lives p t s.cells w.layers Now x d stage w.good.stack (subst (λ l. IsAt (Of_server x d stage) l) (sym tasks ∙ w.tasks) at) in (l.0, l.1, l.3)
 
   module _ (fr : Frame) (ts : List Task) (tasks : s.tasks ≡ Run fr ∷ ts) where
@@ -225,7 +223,9 @@ module _ (p : Image) (t : Typing) (wired : IsWired p) (c : Choice) (s : State) (
     reply_kept : (a b : ℕ) → AllTrue (needs p c fr ts (counted p s) (instrs.Reply a b)) → IsKept p (applied p fr ts (counted p s) (effect p c fr ts (counted p s) (instrs.Reply a b)))
     reply_kept a b met = go (held s.cells (here fr ts (counted p s) a)) refl met.1.1.0
       where
-        go : (o : Option Object) → held s.cells (here fr ts (counted p s) a) ≡ o → is_thing p Message (held s.cells (here fr ts (counted p s) a)) ≡ true → IsKept p (applied p fr ts (counted p s) (effect p c fr ts (counted p s) (instrs.Reply a b)))
+        go :
+            (o : Option Object) → held s.cells (here fr ts (counted p s) a) ≡ o → is_thing p Message (held s.cells (here fr ts (counted p s) a)) ≡ true →
+            IsKept p (applied p fr ts (counted p s) (effect p c fr ts (counted p s) (instrs.Reply a b)))
         go None e thing = same_cells p s kept.fit _ (without_none s.cells (here fr ts (counted p s) a) e) refl stage_below
         go (Some o) e thing = record {
           fit = fit_without p s.clients s.cells tidy kept.fit o (here fr ts (counted p s) a) e (λ n m. refl) (message_plain p o.thing (stands_same p o.thing Message (sym (ap (is_thing p Message) e) ∙ thing))) queued;

@@ -1,5 +1,5 @@
 -- A client that closes or dies leaves what is kept: its messages that wait go, and where its session was open a close is asked last.
-use Rattle.std.proofs.Common.{Bool, List, None, Option, Some, [], ap, arith, cond, false, refl, subst, sym, true, ℕ, ◌&&◌, ◌==◌, ◌∙◌, ◌∷◌, ◌≡◌, ◌≤◌}
+use Rattle.std.proofs.Common.{[], Bool, List, None, Option, Some, ap, arith, cond, false, refl, subst, sym, true, ℕ, ◌&&◌, ◌==◌, ◌∙◌, ◌∷◌, ◌≡◌, ◌≤◌}
 use Rattle.std.proofs.lemmas.Bool.{eq-eqb, eqb-true, ne_eqb, true≢false}
 use Rattle.std.proofs.lemmas.List.Folds.{list_any-append}
 use Rattle.std.specs.List.{list_any}
@@ -38,8 +38,7 @@ message_stays c d m (e ∷ es) h = go (stays c e) refl (message_stays c d m es) 
             go : (b : Bool) → (k == d) ≡ b → (b && (i == m)) ≡ true → ⊥
             go true e at = true≢false (sym s ∙ ap not (eq-eqb k c (eqb-true k d e ∙ sym same)))
             go false e at = cc
-    other (Connect_of k) s at = cc
-    other (Close_of k) s at = cc
+    other _ s at = cc
 
     go :
         (b : Bool) → stays c e ≡ b → (list_any (is_message_of d m) (filter (stays c) es) ≡ true → ((c == d) ≡ false) × (list_any (is_message_of d m) es ≡ true)) →
@@ -69,11 +68,15 @@ none_but_close c (e ∷ es) none = go (stays c e) refl (is_close_of c e) refl no
     go b s true at none rest = cc
 
 -- so that what is left of a queue fits whatever it is at then
-pub queue_left : (clients : List Client) (c n : ℕ) (to : Client) (es : List Asked) → list_any (is_close_of c) es ≡ false → QueueFits clients n es → QueueFits (with_client c to clients) n (filter (stays c) es)
+pub queue_left :
+    (clients : List Client) (c n : ℕ) (to : Client) (es : List Asked) → list_any (is_close_of c) es ≡ false → QueueFits clients n es →
+    QueueFits (with_client c to clients) n (filter (stays c) es)
 queue_left clients c n to es none fits = queue_other c n to clients (filter (stays c) es) (none_but_close c es none) (queue_stays clients n (stays c) es fits)
 
 -- or where it is leaving still
-pub queue_leaving : (clients : List Client) (c n : ℕ) (to : Client) → (is_leaving n (client_at clients c) ≡ true → is_leaving n to ≡ true) → (es : List Asked) → QueueFits clients n es → QueueFits (with_client c to clients) n (filter (stays c) es)
+pub queue_leaving :
+    (clients : List Client) (c n : ℕ) (to : Client) → (is_leaving n (client_at clients c) ≡ true → is_leaving n to ≡ true) → (es : List Asked) → QueueFits clients n es →
+    QueueFits (with_client c to clients) n (filter (stays c) es)
 queue_leaving clients c n to still [] fits = tt
 queue_leaving clients c n to still (e ∷ es) fits = go (stays c e) refl (queue_leaving clients c n to still es fits.1)
   where
@@ -113,7 +116,8 @@ and_false : (b : Bool) → (b && false) ≡ false
 and_false true = refl
 and_false false = refl
 
-module _ (p : Image) (clients : List Client) (cs : List Cell) (tidy : Tidy cs) (fit : ClientsFit p clients cs) (c : ℕ) (waiting : (n m : ℕ) (o : Object) → held cs (Elsewhere (Queued n m)) ≡ Some o → is_server p o.thing ≡ false) where
+module _ (p : Image) (clients : List Client) (cs : List Cell) (tidy : Tidy cs) (fit : ClientsFit p clients cs) (c : ℕ)
+    (waiting : (n m : ℕ) (o : Object) → held cs (Elsewhere (Queued n m)) ≡ Some o → is_server p o.thing ≡ false) where
   abbrev drops : Cell → Bool
   drops x = is_queue x.owner && is_from c x.service.sender
 
@@ -143,7 +147,9 @@ module _ (p : Image) (clients : List Client) (cs : List Cell) (tidy : Tidy cs) (
       then : service_of (withdrawn c cs) n ≡ service_of (sifted drops left cs) n
       then = ap (λ l. service_of l n) (withdrawn_so c cs)
 
-      at : (x : Cell) → cell_of cs n ≡ Some x → (b : Bool) → drops x ≡ b → ((service_of (withdrawn c cs) n).queue ≡ filter (stays c) (service_of cs n).queue) × ((service_of (withdrawn c cs) n).sessions ≡ (service_of cs n).sessions)
+      at :
+          (x : Cell) → cell_of cs n ≡ Some x → (b : Bool) → drops x ≡ b →
+          ((service_of (withdrawn c cs) n).queue ≡ filter (stays c) (service_of cs n).queue) × ((service_of (withdrawn c cs) n).sessions ≡ (service_of cs n).sessions)
       at x e true d =
           let none = empty n x e d in
           let was : service_of cs n ≡ x.service = service_cell cs n ∙ ap service_in e in
@@ -158,7 +164,9 @@ module _ (p : Image) (clients : List Client) (cs : List Cell) (tidy : Tidy cs) (
             ap (λ v. v.sessions) now ∙ ap (λ v. v.sessions) (sym was),
           )
 
-      go : (x : Option Cell) → cell_of cs n ≡ x → ((service_of (withdrawn c cs) n).queue ≡ filter (stays c) (service_of cs n).queue) × ((service_of (withdrawn c cs) n).sessions ≡ (service_of cs n).sessions)
+      go :
+          (x : Option Cell) → cell_of cs n ≡ x →
+          ((service_of (withdrawn c cs) n).queue ≡ filter (stays c) (service_of cs n).queue) × ((service_of (withdrawn c cs) n).sessions ≡ (service_of cs n).sessions)
       go None e =
           let was : service_of cs n ≡ unserved = service_cell cs n ∙ ap service_in e in
           let now : service_of (withdrawn c cs) n ≡ unserved = then ∙ service_cell (sifted drops left cs) n ∙ ap service_in (cell_of_sifted drops left cs n tidy ∙ ap (λ y. kept drops left y) e) in
@@ -193,7 +201,9 @@ module _ (p : Image) (clients : List Client) (cs : List Cell) (tidy : Tidy cs) (
         before : (o : Object) → named (withdrawn c cs) o.name ≡ Some o → named cs o.name ≡ Some o
         before o there = let b = named_before drops left cs o.name o tidy (ap (λ l. named l o.name) (sym (withdrawn_so c cs)) ∙ there) in named_cell cs o.name ∙ ap object_in b.1 ∙ ap (λ y. Some y) b.2
 
-        enlisted : (o : Object) → named (withdrawn c cs) o.name ≡ Some o → requested (withdrawn c cs) o.name ≡ None → ((service_of (withdrawn c cs) o.name).queue ≡ []) × ((service_of (withdrawn c cs) o.name).sessions ≡ [])
+        enlisted :
+            (o : Object) → named (withdrawn c cs) o.name ≡ Some o → requested (withdrawn c cs) o.name ≡ None →
+            ((service_of (withdrawn c cs) o.name).queue ≡ []) × ((service_of (withdrawn c cs) o.name).sessions ≡ [])
         enlisted o there none =
             let same = requested_before drops left cs o.name o tidy (ap (λ l. named l o.name) (sym (withdrawn_so c cs)) ∙ there) in
             let empties = fit.enlisted o (before o there) (sym same ∙ ap (λ l. requested l o.name) (sym (withdrawn_so c cs)) ∙ none) in
@@ -205,7 +215,9 @@ module _ (p : Image) (clients : List Client) (cs : List Cell) (tidy : Tidy cs) (
             let less = seats_left c (service_of (withdrawn c cs) o.name) (service_of cs o.name) (service_left o.name).0 (service_left o.name).1 in
             omega (arith, was, less)
 
-        servers : (o : Object) → named (withdrawn c cs) o.name ≡ Some o → is_server p o.thing ≡ false → ((service_of (withdrawn c cs) o.name).queue ≡ []) × ((service_of (withdrawn c cs) o.name).sessions ≡ [])
+        servers :
+            (o : Object) → named (withdrawn c cs) o.name ≡ Some o → is_server p o.thing ≡ false →
+            ((service_of (withdrawn c cs) o.name).queue ≡ []) × ((service_of (withdrawn c cs) o.name).sessions ≡ [])
         servers o there plain =
             let none = fit.servers o (before o there) plain in
             ((service_left o.name).0 ∙ ap (λ q. filter (stays c) q) none.0, (service_left o.name).1 ∙ none.1)
@@ -223,7 +235,8 @@ module _ (p : Image) (clients : List Client) (cs : List Cell) (tidy : Tidy cs) (
 
 -- ---- a close is asked last
 
-module _ (p : Image) (clients : List Client) (cs : List Cell) (fit : ClientsFit p clients cs) (o : Object) (lives : named cs o.name ≡ Some o) (serves : is_server p o.thing ≡ true) (listed : is_some (requested cs o.name) ≡ true) (c : ℕ) where
+module _ (p : Image) (clients : List Client) (cs : List Cell) (fit : ClientsFit p clients cs) (o : Object) (lives : named cs o.name ≡ Some o) (serves : is_server p o.thing ≡ true)
+    (listed : is_some (requested cs o.name) ≡ true) (c : ℕ) where
   pub fit_told : is_leaving o.name (client_at clients c) ≡ true → list_any (is_close_of c) (service_of cs o.name).queue ≡ false → ClientsFit p clients (reserved (asked_last (Close_of c)) o.name cs)
   fit_told leaves new = record {
     queues = by_server p cs o lives (asked_last (Close_of c)) (λ n v. QueueFits clients n v.queue) (queue_last clients o.name (Close_of c) (service_of cs o.name).queue leaves new (fit.queues o.name)) (λ n e. fit.queues n);

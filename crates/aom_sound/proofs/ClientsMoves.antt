@@ -1,5 +1,5 @@
 -- What is kept of clients stays so where a method moves: cells are made, move and change, and no queue and no session of a server does.
-use Rattle.std.proofs.Common.{Bool, List, None, Option, Some, [], ap, cond, false, inl, inr, length, refl, subst, suc, sym, true, ℕ, ℤ, ◌==◌, ◌∙◌, ◌∷◌, ◌≡◌, ◌<◌, ◌≤◌, arith}
+use Rattle.std.proofs.Common.{[], Bool, List, None, Option, Some, ap, cond, false, inl, inr, length, refl, subst, suc, sym, true, ℕ, ℤ, ◌==◌, ◌∙◌, ◌∷◌, ◌≡◌, ◌<◌, ◌≤◌, arith}
 use Rattle.std.proofs.lemmas.Bool.{eqb-true}
 use Rattle.std.specs.List.{list_any}
 use Rattle.std.specs.Prelude.{◌⊎◌}
@@ -18,8 +18,7 @@ use Rattle.aom_sound.proofs.ClientsFit.{connecting_only, fit_changed, none_of_co
 use Rattle.aom_sound.proofs.ClientsTurn.{Same, on_none, same_requested}
 use Rattle.aom_sound.proofs.Maps.{named_moved, same_place-true, same_place_along, requested_moved}
 use Rattle.aom_sound.proofs.Queues.{queue_other}
-use Rattle.aom_sound.proofs.Services.{service_asked, service_moved, service_opened, service_stored, service_unnamed}
-use Rattle.aom_sound.proofs.Storing.{rerequested_alike}
+use Rattle.aom_sound.proofs.Services.{service_moved, service_opened, service_stored, service_unnamed}
 use Rattle.aom_sound.specs.Cleanup.{top_place}
 use Rattle.aom_sound.specs.Calls.{passed_cells, result_cells}
 use Rattle.aom_sound.specs.Clients.{client_at, with_client, most_of}
@@ -65,14 +64,16 @@ fit_steady p clients cs cs' still fit = record {
     seats : (o : Object) → (named cs o.name ≡ Some o) ⊎ (named cs o.name ≡ None) → seats_taken (service_of cs' o.name) ≤ most_of (thing_kind p o.thing)
     seats o (inl e) = let was = fit.seats o e in let same = seats_same (service_of cs' o.name) (service_of cs o.name) (still.queues o.name) (still.sessions o.name) in omega (arith, was, same)
     seats o (inr e) =
-        let none = seats_none (service_of cs' o.name) (still.queues o.name ∙ ap (λ v. v.queue) (service_unnamed cs o.name e)) (still.sessions o.name ∙ ap (λ v. v.sessions) (service_unnamed cs o.name e)) in
+        let none =
+        seats_none (service_of cs' o.name) (still.queues o.name ∙ ap (λ v. v.queue) (service_unnamed cs o.name e)) (still.sessions o.name ∙ ap (λ v. v.sessions) (service_unnamed cs o.name e)) in
         omega (arith, none)
 
     servers : (o : Object) → is_server p o.thing ≡ false → (named cs o.name ≡ Some o) ⊎ (named cs o.name ≡ None) → ((service_of cs' o.name).queue ≡ []) × ((service_of cs' o.name).sessions ≡ [])
     servers o plain (inl e) = let none = fit.servers o e plain in (still.queues o.name ∙ none.0, still.sessions o.name ∙ none.1)
     servers o plain (inr e) = (still.queues o.name ∙ ap (λ v. v.queue) (service_unnamed cs o.name e), still.sessions o.name ∙ ap (λ v. v.sessions) (service_unnamed cs o.name e))
 
-module _ (p : Image) (clients : List Client) (cs cs' : List Cell) (queues : (n : ℕ) → (service_of cs' n).queue ≡ (service_of cs n).queue) (sessions : (n : ℕ) → (service_of cs' n).sessions ≡ (service_of cs n).sessions) where
+module _ (p : Image) (clients : List Client) (cs cs' : List Cell) (queues : (n : ℕ) → (service_of cs' n).queue ≡ (service_of cs n).queue)
+    (sessions : (n : ℕ) → (service_of cs' n).sessions ≡ (service_of cs n).sessions) where
   connect_queues : (o : Object) (c : ℕ) → ConnectKept p clients cs o c → ConnectKept p clients cs' o c
   connect_queues o c k = (k.0, ap (λ q. list_any (is_connect_of c) q) (queues o.name) ∙ k.1, subst (λ n. n < most_of (thing_kind p o.thing)) (sym (seats_same (service_of cs' o.name) (service_of cs o.name) (queues o.name) (sessions o.name))) k.2)
 
@@ -203,7 +204,9 @@ requested_opened (c ∷ cs) m b n = ap (λ x. cond (c.object.name == n) c.reques
 pub steady_opened : (cs : List Cell) (home : Home) (b : Bool) → Steady cs (resessioned cs home b)
 steady_opened cs Static b = steady_itself cs
 steady_opened cs AtRoot b = steady_itself cs
-steady_opened cs (Inside o from) b = steady_same cs (set_session o.name b cs) (record { service_so = service_opened cs o.name b; named_so = named_opened cs o.name b; held_so = held_opened cs o.name b; listed_so = λ n e. sym (requested_opened cs o.name b n) ∙ e })
+steady_opened cs (Inside o from) b =
+    steady_same cs (set_session o.name b cs)
+    (record { service_so = service_opened cs o.name b; named_so = named_opened cs o.name b; held_so = held_opened cs o.name b; listed_so = λ n e. sym (requested_opened cs o.name b n) ∙ e })
 
 held_stored : (cs : List Cell) (m w : ℕ) (v : ℤ) (q : Place) → held (set_word_field m w v cs) q ≡ held cs q
 held_stored [] m w v q = refl
@@ -220,7 +223,9 @@ requested_stored (c ∷ cs) m w v n = ap (λ x. cond (c.object.name == n) c.requ
 pub steady_stored : (cs : List Cell) (home : Home) (w : ℕ) (v : ℤ) → Steady cs (stored cs home w v)
 steady_stored cs Static w v = steady_itself cs
 steady_stored cs AtRoot w v = steady_itself cs
-steady_stored cs (Inside o from) w v = steady_same cs (set_word_field o.name w v cs) (record { service_so = service_stored cs o.name w v; named_so = named_stored cs o.name w v; held_so = held_stored cs o.name w v; listed_so = λ n e. sym (requested_stored cs o.name w v n) ∙ e })
+steady_stored cs (Inside o from) w v =
+    steady_same cs (set_word_field o.name w v cs)
+    (record { service_so = service_stored cs o.name w v; named_so = named_stored cs o.name w v; held_so = held_stored cs o.name w v; listed_so = λ n e. sym (requested_stored cs o.name w v n) ∙ e })
 
 pub steady_ended : (p : Image) (fr : Frame) (cs : List Cell) → Steady cs (ended_cells p fr cs)
 steady_ended p fr cs = go (is_cancel (method_role p fr.method))
@@ -276,7 +281,8 @@ module _ (p : Image) (fr : Frame) (ts : List Task) (s : State) where
 
 -- ---- the end of a connect that was left: its client has no session
 
-module _ (p : Image) (clients : List Client) (cs : List Cell) (fit : ClientsFit p clients cs) (n c : ℕ) (at : is_connecting_at n (client_at clients c) ≡ true) (none : list_any (is_connect_of c) (service_of cs n).queue ≡ false) where
+module _ (p : Image) (clients : List Client) (cs : List Cell) (fit : ClientsFit p clients cs) (n c : ℕ) (at : is_connecting_at n (client_at clients c) ≡ true)
+    (none : list_any (is_connect_of c) (service_of cs n).queue ≡ false) where
   pub fit_unconnected : ClientsFit p (with_client c Unconnected clients) cs
   fit_unconnected = fit_changed p c Unconnected clients cs cs fit record {
     queues = λ k. queue_other c k Unconnected clients (service_of cs k).queue (none_of_connecting clients c k n at (service_of cs k).queue (fit.queues k) (λ same. subst (λ i. list_any (is_connect_of c) (service_of cs i).queue ≡ false) same none)) (fit.queues k);

@@ -1,5 +1,5 @@
 -- What is kept of clients stays so where a method returns, where a message is completed, and where a dispatch comes to its end.
-use Rattle.std.proofs.Common.{Bool, List, None, Option, Some, [], ap, cond, false, refl, subst, sym, true, ℕ, ℤ, ◌==◌, ◌∙◌, ◌∷◌, ◌≡◌, ◌<◌, ◌≤◌, arith}
+use Rattle.std.proofs.Common.{[], Bool, List, None, Some, ap, cond, false, refl, subst, sym, true, ℕ, ℤ, ◌==◌, ◌∙◌, ◌∷◌, ◌≡◌, ◌<◌, ◌≤◌, arith}
 use Rattle.std.specs.List.{list_any}
 use Rattle.aom_image.specs.Image.{Image}
 use Rattle.aom_image.specs.declared.method.Gives.{Gives}
@@ -8,13 +8,13 @@ use Rattle.aom_sound.proofs.ClientsFacts.{IsAt}
 use Rattle.aom_sound.proofs.ClientsFit.{fit_accepted}
 use Rattle.aom_sound.proofs.ClientsMoves.{NoQueue, fit_steady, steady_moved, steady_result, tasks_queues, tasks_steady}
 use Rattle.aom_sound.proofs.Maps.{held_without, named_moved, same_place-true, same_place_comm, requested_moved}
-use Rattle.aom_sound.proofs.Sifted.{a_cell_of, cell_in, cell_lives, cell_of, cell_of_sifted, cell_owner, cell_placed, held_cell, kept, named_before, named_cell, object_in, service_cell, service_gone, service_in, service_sifted, sifted, requested_before}
+use Rattle.aom_sound.proofs.Sifted.{a_cell_of, cell_in, cell_lives, cell_of, cell_owner, cell_placed, held_cell, named_before, named_cell, object_in, service_cell, service_in, service_sifted, sifted, requested_before, clients_sifted}
 use Rattle.aom_sound.specs.Calls.{answered_by, result_cells, returned}
 use Rattle.aom_sound.specs.Clients.{most_of}
 use Rattle.aom_sound.specs.Kept.{ClientsFit, IsKept, QueueFits, TasksKept, is_connect_of, is_message_of}
 use Rattle.aom_sound.specs.Places.{Cell, Elsewhere, Object, Place, Queued, Session, Tidy, held, moved, named, same_place, service_of, without, requested}
 use Rattle.aom_sound.specs.Servers.{is_from, is_server, seats_taken}
-use Rattle.aom_sound.specs.State.{Accept_left, Accepted, Accepts, Answered, Asks, Destroy, Dispatch, Dispatched, Frame, Main_left, Object_left, Of_main, Of_object, Of_root, Of_server, Parts, Run, Seat, Service_left, Serves, State, Task, Trapped, Unwind}
+use Rattle.aom_sound.specs.State.{Accept_left, Accepts, Destroy, Dispatch, Dispatched, Frame, Of_server, Parts, Run, Seat, State, Task, Trapped, Unwind}
 use Rattle.aom_sound.specs.Words.{here}
 use Rattle.aom_sound.specs.Enlisted.{thing_kind}
 use Rattle.aom_sound.proofs.Seated.{seats_same}
@@ -29,7 +29,9 @@ module _ (p : Image) (fr : Frame) (ts : List Task) (s : State) (fit : ClientsFit
     stage = subst (λ l. TasksKept p l u.cells u.tasks) (sym clients) (subst (λ l. TasksKept p s.clients l u.tasks) (sym cells) stage);
   }
 
-  result_kept : (g : Gives) (a c : ℕ) (below : List Task) (u : State) → u.cells ≡ result_cells p fr ts s g a c below → u.clients ≡ s.clients → (u.tasks ≡ u.tasks) → ((cs : List Cell) → TasksKept p s.clients cs below → TasksKept p s.clients cs u.tasks) → TasksKept p s.clients s.cells below → IsKept p u
+  result_kept :
+      (g : Gives) (a c : ℕ) (below : List Task) (u : State) → u.cells ≡ result_cells p fr ts s g a c below → u.clients ≡ s.clients → (u.tasks ≡ u.tasks) →
+      ((cs : List Cell) → TasksKept p s.clients cs below → TasksKept p s.clients cs u.tasks) → TasksKept p s.clients s.cells below → IsKept p u
   result_kept g a c below u cells clients same over stage =
       let still = steady_result p fr ts s g a c below in
       record {
@@ -39,7 +41,9 @@ module _ (p : Image) (fr : Frame) (ts : List Task) (s : State) (fit : ClientsFit
 
   -- to the dispatch of a server
   module _ (g : Gives) (a : ℕ) (below : List Task) where
-    accept_kept : (x : Seat) (c : ℕ) → named s.cells x.object.name ≡ Some x.object → is_server p x.object.thing ≡ true → is_some (requested s.cells x.object.name) ≡ true → TasksKept p s.clients s.cells (Dispatched (Of_server x c Accepts) ∷ below) → IsKept p (returned p fr ts s g a (Trapped ∷ Dispatched (Of_server x c Accepts) ∷ below))
+    accept_kept :
+        (x : Seat) (c : ℕ) → named s.cells x.object.name ≡ Some x.object → is_server p x.object.thing ≡ true → is_some (requested s.cells x.object.name) ≡ true →
+        TasksKept p s.clients s.cells (Dispatched (Of_server x c Accepts) ∷ below) → IsKept p (returned p fr ts s g a (Trapped ∷ Dispatched (Of_server x c Accepts) ∷ below))
     accept_kept x c lives serves listed stage =
         let still = steady_moved s.cells (here fr ts s a) (Elsewhere (Session x.object.name c)) (λ n m. refl) in
         record {
@@ -50,30 +54,18 @@ module _ (p : Image) (fr : Frame) (ts : List Task) (s : State) (fit : ClientsFit
           stage = tt;
         }
 
-    ended_kept : (d : Dispatch) → ((x : Seat) (c : ℕ) → d ≡ Of_server x c Accepts → (named s.cells x.object.name ≡ Some x.object) × (is_server p x.object.thing ≡ true) × (is_some (requested s.cells x.object.name) ≡ true)) → TasksKept p s.clients s.cells (Dispatched d ∷ below) → IsKept p (returned p fr ts s g a (Trapped ∷ Dispatched d ∷ below))
+    ended_kept :
+        (d : Dispatch) →
+        ((x : Seat) (c : ℕ) → d ≡ Of_server x c Accepts → (named s.cells x.object.name ≡ Some x.object) × (is_server p x.object.thing ≡ true) × (is_some (requested s.cells x.object.name) ≡ true)) →
+        TasksKept p s.clients s.cells (Dispatched d ∷ below) → IsKept p (returned p fr ts s g a (Trapped ∷ Dispatched d ∷ below))
     ended_kept (Of_server x c Accepts) there stage = let l = there x c refl in accept_kept x c l.0 l.1 l.2 stage
-    ended_kept (Of_server x c (Serves o)) there stage = same_tasks _ refl refl tt
-    ended_kept (Of_server x c Accepted) there stage = same_tasks _ refl refl tt
     ended_kept (Of_server x c (Accept_left code)) there stage = same_tasks _ refl refl stage
-    ended_kept (Of_server x c (Service_left code)) there stage = same_tasks _ refl refl tt
     ended_kept (Of_server x c Parts) there stage = same_tasks _ refl refl stage
-    ended_kept Of_main there stage = same_tasks _ refl refl tt
-    ended_kept (Main_left code) there stage = same_tasks _ refl refl tt
-    ended_kept Of_root there stage = same_tasks _ refl refl tt
-    ended_kept (Of_object x) there stage = same_tasks _ refl refl tt
-    ended_kept (Object_left x code) there stage = same_tasks _ refl refl tt
-    ended_kept (Asks x) there stage = same_tasks _ refl refl tt
-    ended_kept (Answered x code) there stage = same_tasks _ refl refl tt
+    ended_kept _ there stage = same_tasks _ refl refl tt
 
   answered_stage : (answer : ℤ) (d : Dispatch) (below : List Task) → TasksKept p s.clients s.cells (Dispatched d ∷ below) → TasksKept p s.clients s.cells (Dispatched (answered_by answer d) ∷ below)
-  answered_stage answer (Asks x) below k = tt
   answered_stage answer (Of_server x c stage) below k = k
-  answered_stage answer Of_main below k = tt
-  answered_stage answer (Main_left code) below k = tt
-  answered_stage answer Of_root below k = tt
-  answered_stage answer (Of_object x) below k = tt
-  answered_stage answer (Object_left x code) below k = tt
-  answered_stage answer (Answered x code) below k = tt
+  answered_stage answer _ below k = tt
 
   -- to whatever is below; where it is the end of `accept`, its server stands
   pub return_kept : (g : Gives) (a : ℕ) (below : List Task) → ((x : Seat) (c : ℕ) → IsAt (Of_server x c Accepts) below → (named s.cells x.object.name ≡ Some x.object) × (is_server p x.object.thing ≡ true) × (is_some (requested s.cells x.object.name) ≡ true)) → s.tasks ≡ Run fr ∷ ts → TasksKept p s.clients s.cells below → TasksKept p s.clients s.cells ts → IsKept p (returned p fr ts s g a below)
@@ -112,23 +104,7 @@ module _
       (ap (λ v. v.queue) (sym same) ∙ none.0, ap (λ v. v.sessions) (sym same) ∙ none.1)
 
   service_left : (n : ℕ) → ((service_of left n).queue ≡ (service_of cs n).queue) × ((service_of left n).sessions ≡ (service_of cs n).sessions)
-  service_left n = go (cell_of cs n) refl
-    where
-      at : (x : Cell) → cell_of cs n ≡ Some x → (b : Bool) → drops x ≡ b → ((service_of left n).queue ≡ (service_of cs n).queue) × ((service_of left n).sessions ≡ (service_of cs n).sessions)
-      at x e true d =
-          let none = empty n x e d in
-          let was : service_of cs n ≡ x.service = service_cell cs n ∙ ap service_in e in
-          let now = service_gone drops (λ c. c.service) cs n tidy x e d in
-          (ap (λ v. v.queue) now ∙ sym (ap (λ v. v.queue) was ∙ none.0), ap (λ v. v.sessions) now ∙ sym (ap (λ v. v.sessions) was ∙ none.1))
-      at x e false d =
-          let same : service_of left n ≡ service_of cs n = service_sifted drops (λ c. c.service) cs tidy n x e d ∙ sym (service_cell cs n ∙ ap service_in e) in
-          (ap (λ v. v.queue) same, ap (λ v. v.sessions) same)
-
-      go : (x : Option Cell) → cell_of cs n ≡ x → ((service_of left n).queue ≡ (service_of cs n).queue) × ((service_of left n).sessions ≡ (service_of cs n).sessions)
-      go None e =
-          let same : service_of left n ≡ service_of cs n = service_cell left n ∙ ap service_in (cell_of_sifted drops (λ c. c.service) cs n tidy ∙ ap (λ y. kept drops (λ c. c.service) y) e) ∙ sym (service_cell cs n ∙ ap service_in e) in
-          (ap (λ v. v.queue) same, ap (λ v. v.sessions) same)
-      go (Some x) e = at x e (drops x) refl
+  service_left n = clients_sifted drops cs tidy n (empty n)
 
   sender_left : (n d m : ℕ) → list_any (is_message_of d m) (service_of cs n).queue ≡ true → is_from d (service_of left m).sender ≡ true
   sender_left n d m h =
@@ -156,10 +132,15 @@ module _
       before x h = let b = named_before drops (λ c. c.service) cs x.name x tidy h in named_cell cs x.name ∙ ap object_in b.1 ∙ ap (λ y. Some y) b.2
 
       enlisted : (x : Object) → named left x.name ≡ Some x → requested left x.name ≡ None → ((service_of left x.name).queue ≡ []) × ((service_of left x.name).sessions ≡ [])
-      enlisted x h e = let none = fit.enlisted x (before x h) (sym (requested_before drops (λ c. c.service) cs x.name x tidy h) ∙ e) in ((service_left x.name).0 ∙ none.0, (service_left x.name).1 ∙ none.1)
+      enlisted x h e =
+          let none = fit.enlisted x (before x h) (sym (requested_before drops (λ c. c.service) cs x.name x tidy h) ∙ e) in
+          ((service_left x.name).0 ∙ none.0, (service_left x.name).1 ∙ none.1)
 
       seats : (x : Object) → named left x.name ≡ Some x → seats_taken (service_of left x.name) ≤ most_of (thing_kind p x.thing)
-      seats x h = let was = fit.seats x (before x h) in let same = seats_same (service_of left x.name) (service_of cs x.name) (service_left x.name).0 (service_left x.name).1 in omega (arith, was, same)
+      seats x h =
+          let was = fit.seats x (before x h) in
+          let same = seats_same (service_of left x.name) (service_of cs x.name) (service_left x.name).0 (service_left x.name).1 in
+          omega (arith, was, same)
 
       servers : (x : Object) → named left x.name ≡ Some x → is_server p x.thing ≡ false → ((service_of left x.name).queue ≡ []) × ((service_of left x.name).sessions ≡ [])
       servers x h plain =
@@ -167,10 +148,14 @@ module _
           ((service_left x.name).0 ∙ none.0, (service_left x.name).1 ∙ none.1)
 
       names : (n m : ℕ) (x : Object) → held left (Elsewhere (Queued n m)) ≡ Some x → x.name ≡ m
-      names n m x h = fit.names n m x (sym (held_without cs g (Elsewhere (Queued n m)) ∙ ap (λ b. cond b None (held cs (Elsewhere (Queued n m)))) (apart n m)) ∙ ap (λ l. held l (Elsewhere (Queued n m))) (without_so g cs) ∙ h)
+      names n m x h =
+          fit.names n m x
+          (sym (held_without cs g (Elsewhere (Queued n m)) ∙ ap (λ b. cond b None (held cs (Elsewhere (Queued n m)))) (apart n m)) ∙ ap (λ l. held l (Elsewhere (Queued n m))) (without_so g cs) ∙ h)
 
   pub fit_without : ClientsFit p clients (without g cs)
   fit_without = subst (λ l. ClientsFit p clients l) (sym (without_so g cs)) fit_left
 
   pub tasks_without : (ts : List Task) → TasksKept p clients cs ts → TasksKept p clients (without g cs) ts
-  tasks_without ts k = tasks_queues p clients cs (without g cs) (λ n. ap (λ l. (service_of l n).queue) (without_so g cs) ∙ (service_left n).0) (λ n. ap (λ l. (service_of l n).sessions) (without_so g cs) ∙ (service_left n).1) ts k
+  tasks_without ts k =
+      tasks_queues p clients cs (without g cs) (λ n. ap (λ l. (service_of l n).queue) (without_so g cs) ∙ (service_left n).0)
+      (λ n. ap (λ l. (service_of l n).sessions) (without_so g cs) ∙ (service_left n).1) ts k

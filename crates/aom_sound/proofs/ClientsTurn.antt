@@ -1,13 +1,9 @@
 -- What is kept of clients stays so in each turn: as a server is picked, as a client does something, and in all others, where nothing of it changes.
-use Rattle.std.proofs.Common.{Bool, List, None, Option, Some, [], ap, cond, false, refl, subst, sym, true, ℕ, ◌∙◌, ◌∷◌, ◌≡◌, ◌<◌, ◌≤◌, arith, ◌==◌}
+use Rattle.std.proofs.Common.{[], Bool, List, None, Option, Some, ap, cond, false, refl, subst, sym, true, ℕ, ◌∙◌, ◌∷◌, ◌≡◌, ◌<◌, ◌≤◌, arith, ◌==◌}
 use Rattle.std.specs.List.{list_any}
 use Rattle.std.specs.Prelude.{length, nat_le, ◌||◌, nat_lt, is_some}
 use Rattle.aom_image.specs.Image.{Image}
 use Rattle.aom_image.specs.declared.method.Role.TheVariants.{Accept as Accepts_role, Run as Handles, Service as Attends_role}
-use Rattle.aom_image.specs.declared.method.Thing.{Thing}
-use Rattle.aom_image.specs.declared.method.Thing.TheVariants.{Message}
-use Rattle.aom_roles.specs.Classes.{sessions_in}
-use Rattle.aom_roles.specs.Shapes.{kind_of}
 use Rattle.aom_shape.specs.declared.kind.Kind.TheVariants.{Null}
 use Rattle.aom_clients.specs.Table.{server_of}
 use Rattle.aom_clients.specs.declared.client.Client.{Client}
@@ -43,7 +39,7 @@ use Rattle.aom_transcript.specs.declared.event.TimedEvent.{TimedEvent}
 use Rattle.aom_sound.proofs.Seated.{seats_first, seats_rest}
 use Rattle.aom_sound.proofs.Things.{message_plain}
 use Rattle.aom_sound.proofs.Dropping.{requested_unnamed}
-use Rattle.std.proofs.lemmas.Bool.{eqb-true, false≢true}
+use Rattle.std.proofs.lemmas.Bool.{eqb-true}
 
 -- ---- cells of which clients have the same
 
@@ -112,7 +108,9 @@ pub same_bereaved : (p : Image) (n : ℕ) (cs : List Cell) → Same cs (all_bere
 same_bereaved p n cs = let like = bereaved_alike p n cs in record { service_so = service_bereaved p n cs; named_so = like.named_so; held_so = like.held_so; listed_so = listed_bereaved p n cs }
 
 -- what is owned elsewhere, but in no queue
-pub fit_moved : (p : Image) (clients : List Client) (cs : List Cell) (a b : Place) → held cs b ≡ None → ((n m : ℕ) → same_place b (Elsewhere (Queued n m)) ≡ false) → ClientsFit p clients cs → ClientsFit p clients (moved a b cs)
+pub fit_moved :
+    (p : Image) (clients : List Client) (cs : List Cell) (a b : Place) → held cs b ≡ None → ((n m : ℕ) → same_place b (Elsewhere (Queued n m)) ≡ false) → ClientsFit p clients cs →
+    ClientsFit p clients (moved a b cs)
 fit_moved p clients cs a b free apart fit = record {
   queues = λ n. subst (λ v. QueueFits clients n v.queue) (sym (service_moved cs a b n)) (fit.queues n);
   sessions = λ n c h. fit.sessions n c (ap (λ v. has_session v c) (sym (service_moved cs a b n)) ∙ h);
@@ -129,7 +127,9 @@ fit_moved p clients cs a b free apart fit = record {
     names n m o false h = fit.names n m o h
 
 -- the first of a queue is taken
-pub fit_taken : (p : Image) (clients : List Client) (cs : List Cell) (o : Object) → named cs o.name ≡ Some o → is_some (requested cs o.name) ≡ true → (e : Asked) (es : List Asked) → (service_of cs o.name).queue ≡ e ∷ es → ClientsFit p clients cs → ClientsFit p clients (reserved taken_first o.name cs)
+pub fit_taken :
+    (p : Image) (clients : List Client) (cs : List Cell) (o : Object) → named cs o.name ≡ Some o → is_some (requested cs o.name) ≡ true → (e : Asked) (es : List Asked) →
+    (service_of cs o.name).queue ≡ e ∷ es → ClientsFit p clients cs → ClientsFit p clients (reserved taken_first o.name cs)
 fit_taken p clients cs o lives listed e es queue fit = record {
   queues = by_server p cs o lives taken_first (λ n v. QueueFits clients n v.queue) (subst (λ q. QueueFits clients o.name (rest q)) (sym queue) (subst (λ q. QueueFits clients o.name q) queue (fit.queues o.name)).1) (λ n other. fit.queues n);
   sessions = by_server p cs o lives taken_first (λ n v. (d : ℕ) → has_session v d ≡ true → server_of (client_at clients d) ≡ Some n) (fit.sessions o.name) (λ n other. fit.sessions n);
@@ -245,7 +245,8 @@ module _ (p : Image) (t : Typing) (wired : IsWired p) (s : State) (w : WellTyped
     picked_kept e = go (is_server p x.object.thing) e
       where
         requested_fit : (o : Object) (f : Request → Request) → ClientsFit p s.clients (with_request f o s.cells)
-        requested_fit o f = fit_same p s.clients s.cells (with_request f o s.cells) (same_requested s.cells o (on_request f (requested s.cells o.name)) (λ e. on_none f (requested s.cells o.name) e)) kept.fit
+        requested_fit o f =
+            fit_same p s.clients s.cells (with_request f o s.cells) (same_requested s.cells o (on_request f (requested s.cells o.name)) (λ e. on_none f (requested s.cells o.name) e)) kept.fit
 
         go : (b : Bool) → cond b (serves_first p x (service_of s.cells n).queue s) (dispatched (part_of p Handles x.object.thing) x s) ≡ Goes u → IsKept p u
         go true e = serves_kept (service_of s.cells n).queue refl e
@@ -275,7 +276,9 @@ module _ (p : Image) (t : Typing) (wired : IsWired p) (s : State) (w : WellTyped
   turned_kept Cuts f u e = subst (λ v. IsKept p v) (goes_same _ u e) (same_kept _ refl refl idle_now)
   turned_kept (Completes o) f u e = subst (λ v. IsKept p v) (goes_same _ u e) (requested_kept timed_out o _ refl refl idle_now)
   turned_kept Hears f u e = subst (λ v. IsKept p v) (goes_same _ u e) (same_kept _ refl refl idle_now)
-  turned_kept (Kills n) f u e = subst (λ v. IsKept p v) (goes_same _ u e) (record { fit = fit_same p s.clients s.cells (all_bereaved p n s.cells) (same_bereaved p n s.cells) kept.fit; stage = stage_idle s.clients (all_bereaved p n s.cells) s.tasks idle_now })
+  turned_kept (Kills n) f u e =
+      subst (λ v. IsKept p v) (goes_same _ u e)
+      (record { fit = fit_same p s.clients s.cells (all_bereaved p n s.cells) (same_bereaved p n s.cells) kept.fit; stage = stage_idle s.clients (all_bereaved p n s.cells) s.tasks idle_now })
   turned_kept (Polls n answer) f u e = go u (polled_so p s u n answer e)
     where
       go : (u : State) → Polled n s u → IsKept p u

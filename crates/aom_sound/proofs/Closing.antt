@@ -3,7 +3,7 @@ use Rattle.std.specs.Ordering.{int_eq}
 use Rattle.aom_image.specs.declared.method.Role.TheVariants.{Error}
 use Rattle.aom_sound.proofs.Asking.{error_enters}
 use Rattle.aom_sound.specs.Enlisted.{part_of}
-use Rattle.std.proofs.Common.{ℕ, Bool, List, None, Option, Some, [], ap, arith, false, length, refl, subst, sym, true, ◌∙◌, ◌∷◌, ◌≡◌, pos, cond, ℤ, ⊎_elim}
+use Rattle.std.proofs.Common.{[], ℕ, Bool, List, None, Option, Some, ap, arith, false, length, refl, subst, sym, true, ◌∙◌, ◌∷◌, ◌≡◌, pos, cond, ℤ, ⊎_elim}
 use Rattle.aom_image.specs.Image.{Image}
 use Rattle.aom_image.specs.declared.method.Thing.{Thing}
 use Rattle.aom_shape.specs.Kinds.{filled}
@@ -17,7 +17,7 @@ use Rattle.aom_sound.proofs.Straight.{fits_unowning}
 use Rattle.aom_sound.specs.Claims.{by_close, by_stage, Dispatching, Layer, claim, declared, forms, items_of, tasks_of, is_of_root}
 use Rattle.aom_sound.specs.Laws.{IsWired}
 use Rattle.aom_sound.specs.Moves.{needs_end, closed, dispatch_ends, main_ends, main_left, over, uprooted, answered, asking, failed, handled, object_ends}
-use Rattle.aom_sound.specs.Places.{Session, In_service, Queued, Elsewhere, Entry, Field, Going, Object, Place, Register, Root, changed, held, moved, seen}
+use Rattle.aom_sound.specs.Places.{Session, In_service, Elsewhere, Going, Object, Place, Root, changed, held, moved, seen}
 use Rattle.aom_sound.specs.State.{guarded, Of_server, Dispatch, Item, Main_left, Of_main, Of_root, State, Answered, Asks, Object_left, Of_object, Seat}
 use Rattle.aom_sound.specs.WellTyped.{Keeps, AllUndo, Fits, Good, WellTyped}
 use Rattle.aom_sound.proofs.Suiting.{all_moved}
@@ -48,25 +48,30 @@ none_served _ e k = refl
 module _ (p : Image) (t : Typing) (s : State) where
   -- with nothing at hand
   idle : (s' : State) (d : Dispatch) (seats : List Seat) → serves_none d ≡ true → s'.cells ≡ s.cells → s'.tasks ≡ [] → s'.items ≡ [] → Good p t s.cells (Dispatching d seats ∷ []) → WellTyped p t s'
-  idle s' d seats plain cells tasks items good = record { layers = []; tasks = tasks; items = ap forms items; undos = subst (λ is. AllUndo p is) (sym items) tt; good = subst (λ cs. Good p t cs []) (sym cells) (record { stack = refl; fits = fits d plain good; suits = good.suits; tidy = good.tidy }) }
+  idle s' d seats plain cells tasks items good = record {
+    layers = [];
+    tasks = tasks;
+    items = ap forms items;
+    undos = subst (λ is. AllUndo p is) (sym items) tt;
+    good = subst (λ cs. Good p t cs []) (sym cells) (record { stack = refl; fits = fits d plain good; suits = good.suits; tidy = good.tidy });
+  }
     where
       nothing : (x : Option Thing) → Fits p (seen s.cells) None (filled x Perhaps)
       nothing None = tt
       nothing (Some x) = tt
 
       fits : (d : Dispatch) → serves_none d ≡ true → Good p t s.cells (Dispatching d seats ∷ []) → (r : Place) → Fits p (seen s.cells) (held s.cells r) (declared p s.cells r)
-      fits d plain good (Register f i) = good.fits (Register f i)
-      fits d plain good (Entry k) = good.fits (Entry k)
-      fits d plain good (Field n f) = good.fits (Field n f)
-      fits Of_root plain good (Elsewhere Root) = subst (λ o. Fits p (seen s.cells) o (filled (field_thing p Program 0) Perhaps)) (sym (root_gone p t s seats [] good)) (nothing (field_thing p Program 0))
-      fits _ plain good (Elsewhere Root) = good.fits (Elsewhere Root)
-      fits d plain good (Elsewhere (Session n c)) = subst (λ k. Fits p (seen s.cells) (held s.cells (Elsewhere (Session n c))) k) (none_parts d plain n c (declared p s.cells (Elsewhere (Session n c)))) (good.fits (Elsewhere (Session n c)))
+      fits Of_root plain good (Elsewhere Root) =
+          subst (λ o. Fits p (seen s.cells) o (filled (field_thing p Program 0) Perhaps)) (sym (root_gone p t s seats [] good)) (nothing (field_thing p Program 0))
+      fits d plain good (Elsewhere (Session n c)) =
+          subst (λ k. Fits p (seen s.cells) (held s.cells (Elsewhere (Session n c))) k) (none_parts d plain n c (declared p s.cells (Elsewhere (Session n c)))) (good.fits (Elsewhere (Session n c)))
       fits d plain good (Elsewhere In_service) = subst (λ k. Fits p (seen s.cells) (held s.cells (Elsewhere In_service)) k) (none_served d plain Null) (good.fits (Elsewhere In_service))
-      fits d plain good (Elsewhere (Queued n m)) = good.fits (Elsewhere (Queued n m))
-      fits d plain good (Going k) = good.fits (Going k)
+      fits _ plain good r = good.fits r
 
   -- the root goes
-  uproots : IsWired p → IsTyped p t → (d : Dispatch) (seats : List Seat) → serves_none d ≡ true → is_of_root d ≡ false → (o : Object) → held s.cells (Elsewhere Root) ≡ Some o → s.items ≡ [] → Good p t s.cells (Dispatching d seats ∷ []) → WellTyped p t (uprooted p o s)
+  uproots :
+      IsWired p → IsTyped p t → (d : Dispatch) (seats : List Seat) → serves_none d ≡ true → is_of_root d ≡ false → (o : Object) → held s.cells (Elsewhere Root) ≡ Some o → s.items ≡ [] →
+      Good p t s.cells (Dispatching d seats ∷ []) → WellTyped p t (uprooted p o s)
   uproots wired typed d seats plain other o there items good =
       let q = Elsewhere Root in
       let g = Going (length (tasks_of (Dispatching Of_root [] ∷ []))) in
@@ -84,17 +89,14 @@ module _ (p : Image) (t : Typing) (s : State) where
       (uprooted p o s) (length s.items) (ap length items) refl refl (ap forms items) (subst (λ is. AllUndo p is) (sym items) tt)
     where
       claims : (r : Place) → claim p (declared p s.cells) (Dispatching Of_root [] ∷ []) r ≡ changed (claim p (declared p s.cells) (Dispatching d seats ∷ [])) (Elsewhere Root) Null r
-      claims (Register f i) = refl
-      claims (Entry k) = refl
-      claims (Field n f) = refl
-      claims (Elsewhere Root) = refl
       claims (Elsewhere (Session n c)) = sym (none_parts d plain n c _)
       claims (Elsewhere In_service) = sym (none_served d plain _)
-      claims (Elsewhere (Queued n m)) = refl
-      claims (Going k) = refl
+      claims _ = refl
 
   -- a dispatch ends, and the root goes first where the run stops
-  closes : IsWired p → IsTyped p t → (d : Dispatch) (seats : List Seat) → serves_none d ≡ true → is_of_root d ≡ false → s.items ≡ [] → Good p t s.cells (Dispatching d seats ∷ []) → (b : Bool) (root : Option Object) → held s.cells (Elsewhere Root) ≡ root → WellTyped p t (main_ends p b root s)
+  closes :
+      IsWired p → IsTyped p t → (d : Dispatch) (seats : List Seat) → serves_none d ≡ true → is_of_root d ≡ false → s.items ≡ [] → Good p t s.cells (Dispatching d seats ∷ []) →
+      (b : Bool) (root : Option Object) → held s.cells (Elsewhere Root) ≡ root → WellTyped p t (main_ends p b root s)
   closes wired typed d seats plain other items good true (Some o) e = uproots wired typed d seats plain other o e items good
   closes wired typed d seats plain other items good true None e = idle (closed s) d seats plain refl refl items good
   closes wired typed d seats plain other items good false root e = idle (closed s) d seats plain refl refl items good
@@ -125,5 +127,8 @@ module _ (p : Image) (t : Typing) (s : State) (wired : IsWired p) (typed : IsTyp
   ends (Asks x) seats good = of_object (Asks x) seats refl refl good
   ends (Answered x answer) seats good = with_answer (Answered x answer) seats answer refl refl good
 
-pub dispatch_keeps : (p : Image) (t : Typing) → IsWired p → IsTyped p t → (s : State) (d : Dispatch) (seats : List Seat) (ls : List Layer) → Good p t s.cells (Dispatching d seats ∷ ls) → forms s.items ≡ items_of ls → Keeps p t (guarded (needs_end d s.cells) (dispatch_ends p d s))
-dispatch_keeps p t wired typed s d seats ls good items = ends p t s wired typed (no_items s.items (items ∙ ap items_of good.stack.1)) d seats (subst (λ l. Good p t s.cells (Dispatching d seats ∷ l)) good.stack.1 good)
+pub dispatch_keeps :
+    (p : Image) (t : Typing) → IsWired p → IsTyped p t → (s : State) (d : Dispatch) (seats : List Seat) (ls : List Layer) → Good p t s.cells (Dispatching d seats ∷ ls) →
+    forms s.items ≡ items_of ls → Keeps p t (guarded (needs_end d s.cells) (dispatch_ends p d s))
+dispatch_keeps p t wired typed s d seats ls good items =
+    ends p t s wired typed (no_items s.items (items ∙ ap items_of good.stack.1)) d seats (subst (λ l. Good p t s.cells (Dispatching d seats ∷ l)) good.stack.1 good)

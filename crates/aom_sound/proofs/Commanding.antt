@@ -1,5 +1,5 @@
 -- What a client's command comes to between dispatches is well typed: a queue is longer, a message more waits in one, or those of a client go.
-use Rattle.std.proofs.Common.{Bool, List, Some, [], ap, cond, false, refl, subst, sym, true, ℕ, ◌∙◌, ◌∷◌, ◌≡◌}
+use Rattle.std.proofs.Common.{[], Bool, List, Some, ap, cond, false, refl, subst, sym, true, ℕ, ◌∙◌, ◌∷◌, ◌≡◌}
 use Rattle.std.proofs.lemmas.List.Folds.{list_any-append}
 use Rattle.std.specs.List.{list_any}
 use Rattle.std.specs.Prelude.{◌||◌}
@@ -13,7 +13,7 @@ use Rattle.aom_sound.proofs.ClientsFit.{by_server}
 use Rattle.aom_sound.proofs.Picking.{fits_ready}
 use Rattle.aom_sound.proofs.Services.{held_served, named_served, requested_served, tidy_served}
 use Rattle.aom_sound.specs.Claims.{declared, declared_field}
-use Rattle.aom_sound.specs.Places.{Asked, Cell, Elsewhere, Entry, Field, Going, In_service, Object, Place, Queued, Register, Root, Session, Tidy, held, named, requested, seen, service_of}
+use Rattle.aom_sound.specs.Places.{Asked, Cell, Elsewhere, Field, Object, Place, Queued, Session, Tidy, held, named, requested, seen, service_of}
 use Rattle.aom_sound.specs.Requests.{AllSuit, Suits, resting_in, rests_in, thing_kind}
 use Rattle.aom_sound.specs.Servers.{asked_last, has_message, has_session, is_message, message_thing, reserved, session_thing}
 use Rattle.aom_sound.specs.WellTyped.{Fits, Good}
@@ -24,30 +24,36 @@ or_false false = refl
 
 -- ---- what is declared goes by names, messages and sessions
 
-module _ (p : Image) (cs cs' : List Cell) (names : (n : ℕ) → named cs' n ≡ named cs n) (messages : (n m : ℕ) → has_message (service_of cs' n) m ≡ has_message (service_of cs n) m) (sessions : (n c : ℕ) → has_session (service_of cs' n) c ≡ has_session (service_of cs n) c) where
+module _ (p : Image) (cs cs' : List Cell) (names : (n : ℕ) → named cs' n ≡ named cs n) (messages : (n m : ℕ) → has_message (service_of cs' n) m ≡ has_message (service_of cs n) m)
+    (sessions : (n c : ℕ) → has_session (service_of cs' n) c ≡ has_session (service_of cs n) c) where
   pub declared_same : (q : Place) → declared p cs' q ≡ declared p cs q
-  declared_same (Register f i) = refl
-  declared_same (Entry k) = refl
   declared_same (Field m f) = ap (λ y. declared_field p y f) (names m)
-  declared_same (Going k) = refl
-  declared_same (Elsewhere Root) = refl
-  declared_same (Elsewhere In_service) = refl
-  declared_same (Elsewhere (Session m c)) = ap (λ b. cond b (filled (session_thing p (named cs' m)) Full) Null) (sessions m c) ∙ ap (λ y. cond (has_session (service_of cs m) c) (filled (session_thing p y) Full) Null) (names m)
-  declared_same (Elsewhere (Queued m k)) = ap (λ b. cond b (filled (message_thing p (named cs' m)) Full) Null) (messages m k) ∙ ap (λ y. cond (has_message (service_of cs m) k) (filled (message_thing p y) Full) Null) (names m)
+  declared_same (Elsewhere (Session m c)) =
+      ap (λ b. cond b (filled (session_thing p (named cs' m)) Full) Null) (sessions m c) ∙ ap (λ y. cond (has_session (service_of cs m) c) (filled (session_thing p y) Full) Null) (names m)
+  declared_same (Elsewhere (Queued m k)) =
+      ap (λ b. cond b (filled (message_thing p (named cs' m)) Full) Null) (messages m k) ∙ ap (λ y. cond (has_message (service_of cs m) k) (filled (message_thing p y) Full) Null) (names m)
+  declared_same _ = refl
 
   -- so that cells in the same places, with the same requests, are well typed
   pub good_same : (t : Typing) → ((q : Place) → held cs' q ≡ held cs q) → ((n : ℕ) → requested cs' n ≡ requested cs n) → Tidy cs' → Good p t cs [] → Good p t cs' []
   good_same t places requests tidy good = record { stack = refl; fits = fits; suits = suits; tidy = tidy }
     where
       fits : (q : Place) → Fits p (seen cs') (held cs' q) (declared p cs' q)
-      fits q = subst (λ y. Fits p (seen cs') y (declared p cs' q)) (sym (places q)) (subst (λ k. Fits p (seen cs') (held cs q) k) (sym (declared_same q)) (fits_ready p (seen cs) (seen cs') (held cs q) (declared p cs q) (declared_ready p cs q) (good.fits q)))
+      fits q =
+          subst (λ y. Fits p (seen cs') y (declared p cs' q)) (sym (places q))
+          (subst (λ k. Fits p (seen cs') (held cs q) k) (sym (declared_same q)) (fits_ready p (seen cs) (seen cs') (held cs q) (declared p cs q) (declared_ready p cs q) (good.fits q)))
 
       suits : AllSuit p cs' []
       suits y there = subst (λ r. Suits (thing_kind p y.thing) (resting_in (rests_in p y)) r) (sym (requests y.name)) (good.suits y (sym (names y.name) ∙ there))
 
 -- something that is no message is queued last
-pub good_asked : (p : Image) (t : Typing) (cs : List Cell) (o : Object) → named cs o.name ≡ Some o → (e : Asked) → ((m : ℕ) → is_message m e ≡ false) → Good p t cs [] → Good p t (reserved (asked_last e) o.name cs) []
-good_asked p t cs o lives e plain good = good_same p cs (reserved (asked_last e) o.name cs) (named_served cs o.name (asked_last e (service_of cs o.name))) messages sessions t (held_served cs o.name (asked_last e (service_of cs o.name))) (requested_served cs o.name (asked_last e (service_of cs o.name))) (tidy_served cs o.name (asked_last e (service_of cs o.name)) good.tidy) good
+pub good_asked :
+    (p : Image) (t : Typing) (cs : List Cell) (o : Object) → named cs o.name ≡ Some o → (e : Asked) → ((m : ℕ) → is_message m e ≡ false) → Good p t cs [] →
+    Good p t (reserved (asked_last e) o.name cs) []
+good_asked p t cs o lives e plain good =
+    good_same p cs (reserved (asked_last e) o.name cs) (named_served cs o.name (asked_last e (service_of cs o.name))) messages sessions t
+    (held_served cs o.name (asked_last e (service_of cs o.name))) (requested_served cs o.name (asked_last e (service_of cs o.name)))
+    (tidy_served cs o.name (asked_last e (service_of cs o.name)) good.tidy) good
   where
     messages : (n m : ℕ) → has_message (service_of (reserved (asked_last e) o.name cs) n) m ≡ has_message (service_of cs n) m
     messages n m = by_server p cs o lives (asked_last e) (λ n v. has_message v m ≡ has_message (service_of cs n) m)

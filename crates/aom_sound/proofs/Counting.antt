@@ -13,8 +13,8 @@ use Rattle.aom_sound.specs.Counting.{DispatchesAreCounted, StepsAreCounted, ends
 use Rattle.aom_sound.specs.Effects.{Course, Goes_its_way, Stops, coursed}
 use Rattle.aom_sound.specs.Moves.{needs_end, answered, asking, counted, dispatch_ends, failed, handled, is_counted, main_ends, object_ends, step, step_task}
 use Rattle.aom_sound.specs.Places.{Elsewhere, Object, Root, held}
-use Rattle.aom_sound.specs.State.{Of_server, Accepts, Accepted, Accept_left, Serves, Service_left, Parts, Answered, Asks, Choice, Destroy, Dispatch, Dispatched, Goes, Main_left, Object_left, Of_main, Of_object, Of_root, Rest, Run, State, Task, raised}
-use Rattle.aom_sound.specs.World.{Obeys, heard_one, Completes, Cuts, Heard, Outside, Passes, Picks, Reaches, Strays, Turning, Waits, begins, boot_state, moves, turn, turned, turning, turns, Hears, Kills, Polls}
+use Rattle.aom_sound.specs.State.{Of_server, Accept_left, Answered, Asks, Choice, Destroy, Dispatch, Dispatched, Goes, Object_left, Of_main, Of_object, Rest, Run, State, Task, raised}
+use Rattle.aom_sound.specs.World.{Obeys, heard_one, Heard, Outside, Picks, Reaches, Strays, Turning, begins, boot_state, moves, turn, turned, turning, turns, Polls}
 use Rattle.aom_transcript.specs.declared.line.Line.{Line}
 
 -- the counts after a move, by those before it: where the dispatch of an object ends steps are counted anew, and it counts
@@ -42,8 +42,6 @@ answer_counts p answer s = go (int_eq answer (pos 0))
 
 end_counts : (p : Image) (d : Dispatch) (s : State) → Counts (ends_object p d) s.rest (dispatch_ends p d s).rest
 end_counts p Of_main s = main_counts p s.rest.stopped (held s.cells (Elsewhere Root)) s
-end_counts p (Main_left code) s = (refl, refl)
-end_counts p Of_root s = (refl, refl)
 end_counts p (Of_object x) s = object_counts p s
 end_counts p (Object_left x code) s = go (part_of p Error x.object.thing)
   where
@@ -52,12 +50,8 @@ end_counts p (Object_left x code) s = go (part_of p Error x.object.thing)
     go (Some m) = (refl, refl)
 end_counts p (Asks x) s = object_counts p s
 end_counts p (Answered x answer) s = answer_counts p answer s
-end_counts p (Of_server x client Accepts) s = (refl, refl)
-end_counts p (Of_server x client Accepted) s = (refl, refl)
 end_counts p (Of_server x client (Accept_left code)) s = (refl, refl)
-end_counts p (Of_server x client (Serves o)) s = (refl, refl)
-end_counts p (Of_server x client (Service_left code)) s = (refl, refl)
-end_counts p (Of_server x client Parts) s = (refl, refl)
+end_counts p _ s = (refl, refl)
 
 -- a move counts, and nothing else does
 move_counts : (p : Image) (c : Choice) (s u : State) → step p c s ≡ Goes u → Counts (restarts p s.tasks) (counted p s).rest u.rest
@@ -94,7 +88,9 @@ at_most_one (Run fr ∷ ts) = omega arith
 at_most_one (Destroy ∷ ts) = omega arith
 at_most_one _ = omega arith
 
-moves_count : (p : Image) (c : Choice) (s u : State) → s.rest.steps ≡ in_range s.rest.steps → step p c s ≡ Goes u → u.rest.steps ≡ cond (restarts p s.tasks) 0 (in_range (s.rest.steps + steps_of s.tasks))
+moves_count :
+    (p : Image) (c : Choice) (s u : State) → s.rest.steps ≡ in_range s.rest.steps → step p c s ≡ Goes u →
+    u.rest.steps ≡ cond (restarts p s.tasks) 0 (in_range (s.rest.steps + steps_of s.tasks))
 moves_count p c s u within e = move_steps p c s u e ∙ ap (λ n. cond (restarts p s.tasks) 0 n) (counted_steps s.tasks s.rest.steps within)
 
 -- a turn counts anew where it dispatches an object
@@ -105,13 +101,8 @@ turn_count p outside heard s u e = go (turning outside heard s) e
     go (Picks x) e = ap (λ (r : Rest). r.steps) (picked_rest p s u x e)
     go (Obeys client command name) e = ap (λ (v : State). v.rest.steps) (sym (goes_same _ u e)) ∙ ap (λ (r : Rest). r.steps) (commanded_kept p client (heard_one s) command name).0
     go Strays e = cc
-    go Cuts e = ap (λ (v : State). v.rest.steps) (sym (goes_same _ u e))
-    go (Completes o) e = ap (λ (v : State). v.rest.steps) (sym (goes_same _ u e))
-    go Hears e = ap (λ (v : State). v.rest.steps) (sym (goes_same _ u e))
-    go (Kills n) e = ap (λ (v : State). v.rest.steps) (sym (goes_same _ u e))
     go (Polls n answer) e = ap (λ (r : Rest). r.steps) (polled_rest p s u n answer e)
-    go (Passes due) e = ap (λ (v : State). v.rest.steps) (sym (goes_same _ u e))
-    go Waits e = ap (λ (v : State). v.rest.steps) (sym (goes_same _ u e))
+    go _ e = ap (λ (v : State). v.rest.steps) (sym (goes_same _ u e))
 
 -- and ends no dispatch
 turn_dispatches : (p : Image) (outside : Outside) (heard : Heard) (s u : State) → turn p outside heard s ≡ Goes u → u.rest.dispatches ≡ s.rest.dispatches
@@ -121,13 +112,8 @@ turn_dispatches p outside heard s u e = go (turning outside heard s) e
     go (Picks x) e = ap (λ (r : Rest). r.dispatches) (picked_rest p s u x e)
     go (Obeys client command name) e = ap (λ (v : State). v.rest.dispatches) (sym (goes_same _ u e)) ∙ ap (λ (r : Rest). r.dispatches) (commanded_kept p client (heard_one s) command name).0
     go Strays e = cc
-    go Cuts e = ap (λ (v : State). v.rest.dispatches) (sym (goes_same _ u e))
-    go (Completes o) e = ap (λ (v : State). v.rest.dispatches) (sym (goes_same _ u e))
-    go Hears e = ap (λ (v : State). v.rest.dispatches) (sym (goes_same _ u e))
-    go (Kills n) e = ap (λ (v : State). v.rest.dispatches) (sym (goes_same _ u e))
     go (Polls n answer) e = ap (λ (r : Rest). r.dispatches) (polled_rest p s u n answer e)
-    go (Passes due) e = ap (λ (v : State). v.rest.dispatches) (sym (goes_same _ u e))
-    go Waits e = ap (λ (v : State). v.rest.dispatches) (sym (goes_same _ u e))
+    go _ e = ap (λ (v : State). v.rest.dispatches) (sym (goes_same _ u e))
 
 anew : (b : Bool) (n : ℕ) → cond b 0 (in_range n) ≡ in_range (cond b 0 n)
 anew true n = refl

@@ -1,5 +1,5 @@
 -- How many cells there are as moves and turns change them: by the cells one after another.
-use Rattle.std.proofs.Common.{Bool, List, None, Option, Some, [], ap, arith, cond, false, length, refl, suc, sym, true, ℕ, ℤ, ◌+◌, ◌==◌, ◌∙◌, ◌∷◌, ◌≡◌, ◌≤◌}
+use Rattle.std.proofs.Common.{[], Bool, List, None, Option, Some, ap, arith, cond, false, length, refl, suc, sym, true, ℕ, ℤ, ◌+◌, ◌==◌, ◌∙◌, ◌∷◌, ◌≡◌, ◌≤◌}
 use Rattle.std.proofs.lemmas.Bool.{eq-eqb, eqb-true}
 use Rattle.std.proofs.lemmas.Option.{none-some}
 use Rattle.aom_image.specs.Image.{Image}
@@ -58,7 +58,8 @@ count_without (c ∷ cs) g tidy = go (same_place c.owner g) refl (count_without 
 
     go : (b : Bool) → same_place c.owner g ≡ b → count_cells cs ≡ counted_in (held cs g) + count_cells (without g cs)
         → count_cells (c ∷ cs) ≡ counted_in (cond b (Some c.object) (held cs g)) + count_cells (cond b (without g cs) (c ∷ without g cs))
-    go true is rest = one (is_object c.object.thing) (count_cells cs) (count_cells (without g cs)) (ap count_cells (without_none cs g (ap (λ r. held cs r) (sym (same_place-true c.owner g is)) ∙ tidy.0)))
+    go true is rest =
+        one (is_object c.object.thing) (count_cells cs) (count_cells (without g cs)) (ap count_cells (without_none cs g (ap (λ r. held cs r) (sym (same_place-true c.owner g is)) ∙ tidy.0)))
     go false is rest = more (is_object c.object.thing) (count_cells cs) (counted_in (held cs g)) (count_cells (without g cs)) rest
 
 -- ---- against all that is in the list

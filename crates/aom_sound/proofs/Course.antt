@@ -1,6 +1,6 @@
 -- The course of a leave on a run: which entries it has dealt with, and that its code arrives.
 use Rattle.aom_sound.proofs.Turning.{turn_goes_on}
-use Rattle.std.proofs.Common.{List, [], ap, append-nil, append_assoc, inl, inr, length, refl, subst, sym, ℤ, ◌∙◌, ◌∷◌, ◌≡◌, ◌≢◌}
+use Rattle.std.proofs.Common.{[], List, ap, append-nil, append_assoc, inl, inr, length, refl, subst, sym, ℤ, ◌∙◌, ◌∷◌, ◌≡◌, ◌≢◌}
 use Rattle.std.specs.Prelude.{◌++◌, ◌⊎◌}
 use Rattle.aom_image.specs.Image.{Image}
 use Rattle.aom_rules.specs.Typing.{IsTyped, Typing}
@@ -52,7 +52,9 @@ module _ (p : Image) (t : Typing) (outside : Outside) (wired : IsWired p) (typed
         inl (record { dealt = h.dealt; rest = h.rest; all = h.all; course = works c h.course other e r.1; leaving = r.0 })
 
     -- the leave itself moves
-    leave_moves : (s u : State) (c : Choice) → WellTyped p t s → (dealt rest : List Item) → entries ≡ dealt ++ rest → Unwinds p code below from dealt s → IsLeaving p code below rest items s → s.tasks ≡ Unwind code ∷ below → step p c s ≡ Goes u → Course u
+    leave_moves :
+        (s u : State) (c : Choice) → WellTyped p t s → (dealt rest : List Item) → entries ≡ dealt ++ rest → Unwinds p code below from dealt s → IsLeaving p code below rest items s →
+        s.tasks ≡ Unwind code ∷ below → step p c s ≡ Goes u → Course u
     leave_moves s u c w dealt [] all course l at e = inr (record {
       last = s;
       course = subst (λ is. Unwinds p code below from is s) (sym (all ∙ append-nil dealt)) course;
@@ -85,11 +87,13 @@ module _ (p : Image) (t : Typing) (outside : Outside) (wired : IsWired p) (typed
 
     moved_on : (lines : List Line) (s u : State) (c : Choice) → WellTyped p t s → IsBusy s → IsOpen p outside.refused c s → step p c s ≡ Goes u → Course s → Course u
     moved_on lines s u c w busy choice e (inl h) = still s u c w h e
-    moved_on lines s u c w busy choice e (inr h) = inr (record { last = h.last; course = h.course; choice = h.choice; after = h.after; move = h.move; arrives = h.arrives; lines = _; reaches = moves c h.reaches busy choice e })
+    moved_on lines s u c w busy choice e (inr h) =
+        inr (record { last = h.last; course = h.course; choice = h.choice; after = h.after; move = h.move; arrives = h.arrives; lines = _; reaches = moves c h.reaches busy choice e })
 
     turned : (heard : Heard) (s u : State) → IsBetween s → HearsWell p outside heard s → turn p outside heard s ≡ Goes u → Course s → Course u
     turned heard s u between hears e (inl h) = absurd (subst (λ ts. IsOver p (length s.items) code below ts) between.idle h.leaving.over)
-    turned heard s u between hears e (inr h) = inr (record { last = h.last; course = h.course; choice = h.choice; after = h.after; move = h.move; arrives = h.arrives; lines = _; reaches = turns heard h.reaches between hears e })
+    turned heard s u between hears e (inr h) =
+        inr (record { last = h.last; course = h.course; choice = h.choice; after = h.after; move = h.move; arrives = h.arrives; lines = _; reaches = turns heard h.reaches between hears e })
 
     course_of : IsLeaving p code below entries items from → (lines : List Line) (s : State) → Reaches p outside from lines s → Course s
     course_of l _ _ begins = inl (record { dealt = []; rest = entries; all = refl; course = leaves; leaving = l })

@@ -1,5 +1,5 @@
 -- The law of a new cell.
-use Rattle.std.proofs.Common.{Bool, List, None, Option, Some, [], ap, arith, cond, eq-eqb, false, length, refl, subst, sym, true, ℕ, ℤ, ◌==◌, ◌∙◌, ◌∷◌, ◌≡◌, ◌≤◌}
+use Rattle.std.proofs.Common.{[], Bool, List, None, Option, Some, ap, arith, cond, eq-eqb, false, length, refl, subst, sym, true, ℕ, ℤ, ◌==◌, ◌∙◌, ◌∷◌, ◌≡◌, ◌≤◌}
 use Rattle.std.proofs.lemmas.Bool.{eqb-true, ne_eqb}
 use Rattle.std.specs.Prelude.{is_none}
 use Rattle.aom_image.specs.Image.{Image}
@@ -59,16 +59,24 @@ declared_new p cs n x ws owner e (Elsewhere (Queued m k)) = go (n == m) refl
 declared_new p cs n x ws owner e _ = alike
 
 -- what clients have at what there was is as it was
-service_new : (cs : List Cell) (n : ℕ) (x : Thing) (ws : List ℤ) (owner : Place) (o : Object) → named cs n ≡ None → named cs o.name ≡ Some o → service_of (with_new n x ws owner cs) o.name ≡ service_of cs o.name
+service_new :
+    (cs : List Cell) (n : ℕ) (x : Thing) (ws : List ℤ) (owner : Place) (o : Object) → named cs n ≡ None → named cs o.name ≡ Some o →
+    service_of (with_new n x ws owner cs) o.name ≡ service_of cs o.name
 service_new cs n x ws owner o e h = ap (λ b. cond b unserved (service_of cs o.name)) (ne_eqb n o.name (λ same. let e' : Some o ≡ None = sym h ∙ ap (λ k. named cs k) (sym same) ∙ e in cc))
 
-attended_new : (p : Image) (cs : List Cell) (n : ℕ) (x : Thing) (ws : List ℤ) (owner : Place) (d : Dispatch) (seats : List Seat) → named cs n ≡ None → AllSit cs seats → SitsFirst cs (seat_of d) seats → IsAttended p cs d → IsAttended p (with_new n x ws owner cs) d
-attended_new p cs n x ws owner d seats e sits first h = attended_at p cs (with_new n x ws owner cs) d (λ y there. service_new cs n x ws owner y.object e (sits_lives cs seats y sits (subst (λ o. SitsFirst cs o seats) there first))) h
+attended_new :
+    (p : Image) (cs : List Cell) (n : ℕ) (x : Thing) (ws : List ℤ) (owner : Place) (d : Dispatch) (seats : List Seat) → named cs n ≡ None → AllSit cs seats → SitsFirst cs (seat_of d) seats →
+    IsAttended p cs d → IsAttended p (with_new n x ws owner cs) d
+attended_new p cs n x ws owner d seats e sits first h =
+    attended_at p cs (with_new n x ws owner cs) d (λ y there. service_new cs n x ws owner y.object e (sits_lives cs seats y sits (subst (λ o. SitsFirst cs o seats) there first))) h
 
 lives_new : (cs : List Cell) (n : ℕ) (x : Thing) (ws : List ℤ) (owner : Place) (o : Object) → named cs n ≡ None → named cs o.name ≡ Some o → named (with_new n x ws owner cs) o.name ≡ Some o
-lives_new cs n x ws owner o e h = ap (λ b. cond b (Some (record { name = n; thing = x })) (named cs o.name)) (ne_eqb n o.name (λ same. let e' : Some o ≡ None = sym h ∙ ap (λ k. named cs k) (sym same) ∙ e in cc)) ∙ h
+lives_new cs n x ws owner o e h =
+    ap (λ b. cond b (Some (record { name = n; thing = x })) (named cs o.name)) (ne_eqb n o.name (λ same. let e' : Some o ≡ None = sym h ∙ ap (λ k. named cs k) (sym same) ∙ e in cc)) ∙ h
 
-holds_new : (p : Image) (cs : List Cell) (n : ℕ) (x : Thing) (ws : List ℤ) (owner : Place) (ls : List Layer) (home : Home) → named cs n ≡ None → Outside owner ls → ((o : Object) (from : Place) → home ≡ Inside o from → NoFieldHere owner from) → IsHoused p cs ls home → IsHoused p (with_new n x ws owner cs) ls home
+holds_new :
+    (p : Image) (cs : List Cell) (n : ℕ) (x : Thing) (ws : List ℤ) (owner : Place) (ls : List Layer) (home : Home) → named cs n ≡ None → Outside owner ls →
+    ((o : Object) (from : Place) → home ≡ Inside o from → NoFieldHere owner from) → IsHoused p cs ls home → IsHoused p (with_new n x ws owner cs) ls home
 holds_new p cs n x ws owner ls Static e out nf h = h
 holds_new p cs n x ws owner ls AtRoot e out nf h = h
 holds_new p cs n x ws owner ls (Inside o from) e out nf h = record {
@@ -78,9 +86,12 @@ holds_new p cs n x ws owner ls (Inside o from) e out nf h = record {
   ready = h.ready;
 }
 
-stack_new : (p : Image) (t : Typing) (cs : List Cell) (n : ℕ) (x : Thing) (ws : List ℤ) (f i : ℕ) (ls : List Layer) (back : Back) → named cs n ≡ None → length (tasks_of ls) ≤ f → Stack p t cs back ls → Stack p t (with_new n x ws (Register f i) cs) back ls
+stack_new :
+    (p : Image) (t : Typing) (cs : List Cell) (n : ℕ) (x : Thing) (ws : List ℤ) (f i : ℕ) (ls : List Layer) (back : Back) → named cs n ≡ None → length (tasks_of ls) ≤ f →
+    Stack p t cs back ls → Stack p t (with_new n x ws (Register f i) cs) back ls
 stack_new p t cs n x ws f i [] back e out s = s
-stack_new p t cs n x ws f i (Method fr sh ∷ ls) back e out s = (s.0, s.1, holds_new p cs n x ws (Register f i) ls fr.home e (omega arith) (λ o from e. tt) s.2, s.3, stack_new p t cs n x ws f i ls _ e (omega arith) s.4)
+stack_new p t cs n x ws f i (Method fr sh ∷ ls) back e out s =
+    (s.0, s.1, holds_new p cs n x ws (Register f i) ls fr.home e (omega arith) (λ o from e. tt) s.2, s.3, stack_new p t cs n x ws f i ls _ e (omega arith) s.4)
 stack_new p t cs n x ws f i (Mark gv ∷ ls) back e out s = (s.0, stack_new p t cs n x ws f i ls _ e (omega arith) s.1)
 stack_new p t cs n x ws f i (Dispatching d seats ∷ ls) back e out s = (
   s.0,
@@ -156,7 +167,9 @@ create p t cs fr sh ls n x ws a k g e free new word = record {
         own : (h : Home) → IsHoused p cs ls h → home_claim p h sh n f (claim p (declared p cs) ls (Field n f)) ≡ claim p (declared p cs) ls (Field n f)
         own Static h = refl
         own AtRoot h = refl
-        own (Inside o from) h = ap (λ b. cond b (filled (field_thing p (thing_holder o.thing) f) (field sh f)) (claim p (declared p cs) ls (Field n f))) (ne_eqb o.name n (λ same. let l = h.lives in let e' : Some o ≡ None = sym l ∙ ap (λ x. named cs x) same ∙ e in cc))
+        own (Inside o from) h =
+            ap (λ b. cond b (filled (field_thing p (thing_holder o.thing) f) (field sh f)) (claim p (declared p cs) ls (Field n f)))
+            (ne_eqb o.name n (λ same. let l = h.lives in let e' : Some o ≡ None = sym l ∙ ap (λ x. named cs x) same ∙ e in cc))
 
         unclaimed : claim p (declared p cs) (Method fr sh ∷ ls) (Field n f) ≡ declared p cs (Field n f)
         unclaimed = own fr.home g.housed ∙ claim_unnamed p t cs (declared p cs) ls back n f g.stack e
@@ -165,7 +178,10 @@ create p t cs fr sh ls n x ws a k g e free new word = record {
     no_request = ap (λ b. cond b None (requested cs n)) (eq-eqb n n refl)
 
     fits : (r : Place) → Fits p (seen cs') (held cs' r) (claim p (declared p cs') (Method (next (set_word fr a None)) (set_register sh a k) ∷ ls) r)
-    fits r = subst (λ k. Fits p (seen cs') (held cs' r) k) (sym (claim_frame p (declared p cs') fr (next (set_word fr a None)) (set_register sh a k) ls r refl refl ∙ claim-set_register p (declared p cs') fr sh ls a k r)) (go (same_place (top ls a) r))
+    fits r =
+        subst (λ k. Fits p (seen cs') (held cs' r) k)
+        (sym (claim_frame p (declared p cs') fr (next (set_word fr a None)) (set_register sh a k) ls r refl refl ∙ claim-set_register p (declared p cs') fr sh ls a k r))
+        (go (same_place (top ls a) r))
       where
         go : (b : Bool) → Fits p (seen cs') (cond b (Some (record { name = n; thing = x })) (held cs r)) (cond b k (claim p (declared p cs') (Method fr sh ∷ ls) r))
         go true = new (seen cs') no_field no_request

@@ -1,5 +1,5 @@
 -- The last item of the cleanup stack is dealt with: its object is destroyed, or its operation runs, over the layers below it.
-use Rattle.std.proofs.Common.{Bool, List, None, Option, Some, [], ap, arith, cond, false, length, map, refl, subst, suc, sym, true, zero, ℕ, ℤ, ◌==◌, ◌∙◌, ◌∷◌, ◌≡◌, ◌≤◌}
+use Rattle.std.proofs.Common.{[], Bool, List, None, Option, Some, ap, arith, cond, false, length, map, refl, subst, suc, sym, true, zero, ℕ, ℤ, ◌==◌, ◌∙◌, ◌∷◌, ◌≡◌, ◌≤◌}
 use Rattle.std.proofs.lemmas.Bool.{true≢false, eqb-true}
 use Rattle.std.specs.Prelude.{is_some}
 use Rattle.aom_image.specs.Image.{Image}
@@ -30,7 +30,7 @@ use Rattle.aom_sound.specs.Cleanup.{dealt_with, destroyed, operation_frame, top_
 use Rattle.aom_sound.specs.Destruction.{begun}
 use Rattle.aom_sound.specs.Effects.{applied, deals as deals_effect}
 use Rattle.aom_sound.specs.Laws.{IsWired}
-use Rattle.aom_sound.specs.Places.{In_service, Elsewhere, Entry, Field, Going, Object, Place, Register, Root, Tidy, changed, held, moved, same_place, seen}
+use Rattle.aom_sound.specs.Places.{In_service, Elsewhere, Entry, Going, Object, Place, Register, Tidy, changed, held, moved, same_place, seen}
 use Rattle.aom_sound.specs.State.{An_object, An_operation, Frame, Item, Run, State, Static, Task, thing_holder, word}
 use Rattle.aom_sound.specs.WellTyped.{IsServed, AllUndo, Fits, Gone, IsUndo, Returns, Stack, WellTyped, WordFits}
 use Rattle.aom_sound.proofs.Suiting.{all_moved}
@@ -72,7 +72,9 @@ module _ (p : Image) (t : Typing) (wired : IsWired p) (typed : IsTyped p t) (s :
   entry_fits = subst (λ k. Fits p (seen s.cells) (held s.cells q) k) (d.claims q ∙ ap (λ b. cond b (entry_kind e) (claim p (declared p s.cells) below q)) (same_place_refl q)) (d.fits q)
 
   -- the object of an entry goes
-  object_goes : (o : Object) (items : List Item) → forms items ≡ items_of below → AllUndo p items → held s.cells (Entry (length (items_of below))) ≡ Some o → WellTyped p t (destroyed p (Some o) items (tasks_of below) s)
+  object_goes :
+      (o : Object) (items : List Item) → forms items ≡ items_of below → AllUndo p items → held s.cells (Entry (length (items_of below))) ≡ Some o →
+      WellTyped p t (destroyed p (Some o) items (tasks_of below) s)
   object_goes o items same undos there =
       let g = Going (length (tasks_of below)) in
       let high : length items ≡ length (items_of below) = sym (length_forms items) ∙ ap length same in
@@ -110,7 +112,9 @@ module _ (p : Image) (t : Typing) (wired : IsWired p) (typed : IsTyped p t) (s :
         go true h = sym (d.claims r ∙ ap (λ b. cond b (entry_kind e) (claim p (declared p s.cells) below r)) h ∙ operation)
         go false h = refl
 
-    runs_fitting : (height : ℕ) (after : Shape) → SaysNoMore after (entry_shape p m) → (r : Place) → Fits p (seen s.cells) (held s.cells r) (claim p (declared p s.cells) (Method (operation_frame m w height) after ∷ below) r)
+    runs_fitting :
+        (height : ℕ) (after : Shape) → SaysNoMore after (entry_shape p m) → (r : Place) →
+        Fits p (seen s.cells) (held s.cells r) (claim p (declared p s.cells) (Method (operation_frame m w height) after ∷ below) r)
     runs_fitting height after says (Register f i) = go (length (tasks_of below) == f) refl
       where
         go : (b : Bool) → (length (tasks_of below) == f) ≡ b → Fits p (seen s.cells) (held s.cells (Register f i)) (cond b (register after i) (claim p (declared p s.cells) below (Register f i)))
@@ -119,12 +123,12 @@ module _ (p : Image) (t : Typing) (wired : IsWired p) (typed : IsTyped p t) (s :
             subst (λ x. Fits p (seen s.cells) x (register after i)) (sym (fits_unowning p (seen s.cells) _ Null refl above))
             (fits_weaker p (seen s.cells) None (says.registers i) (subst (λ k. Fits p (seen s.cells) None k) (sym (begins_with i)) (none_yet i)))
         go false h = fits_below (Register f i)
-    runs_fitting height after says (Entry k) = subst (λ es. Fits p (seen s.cells) (held s.cells (Entry k)) (entry_claim es (items_of below) k (claim p (declared p s.cells) below (Entry k)))) (sym says.entries) (fits_below (Entry k))
-    runs_fitting height after says (Field n f) = fits_below (Field n f)
-    runs_fitting height after says (Elsewhere Root) = fits_below (Elsewhere Root)
-    runs_fitting height after says (Elsewhere In_service) = subst (λ k. Fits p (seen s.cells) (held s.cells (Elsewhere In_service)) k) (sym (plain_claim (serves p m) after (claim p (declared p s.cells) below (Elsewhere In_service)) (ap is_service undo.role))) (fits_below (Elsewhere In_service))
-    runs_fitting height after says (Elsewhere w) = fits_below (Elsewhere w)
-    runs_fitting height after says (Going k) = fits_below (Going k)
+    runs_fitting height after says (Entry k) =
+        subst (λ es. Fits p (seen s.cells) (held s.cells (Entry k)) (entry_claim es (items_of below) k (claim p (declared p s.cells) below (Entry k)))) (sym says.entries) (fits_below (Entry k))
+    runs_fitting height after says (Elsewhere In_service) =
+        subst (λ k. Fits p (seen s.cells) (held s.cells (Elsewhere In_service)) k)
+        (sym (plain_claim (serves p m) after (claim p (declared p s.cells) below (Elsewhere In_service)) (ap is_service undo.role))) (fits_below (Elsewhere In_service))
+    runs_fitting height after says r = fits_below r
 
     -- an operation works on nothing
     holder : holder_of p m ≡ Nobody
@@ -166,7 +170,9 @@ dealing p fr ts s (An_operation m w ∷ items) o at e there whole = ap (λ l. re
 dealing p fr ts s _ o at e there whole = cc
 
 -- so it is there, and what follows is well typed
-pub deals : (p : Image) (t : Typing) → IsWired p → IsTyped p t → (s : State) (e : Pushed) (before below : List Layer) → Dealing p t s e before below → (top_is_whole s.cells s.items ≡ true) × WellTyped p t (dealt_with p s.items (tasks_of below) s)
+pub deals :
+    (p : Image) (t : Typing) → IsWired p → IsTyped p t → (s : State) (e : Pushed) (before below : List Layer) → Dealing p t s e before below →
+    (top_is_whole s.cells s.items ≡ true) × WellTyped p t (dealt_with p s.items (tasks_of below) s)
 deals p t wired typed s e before below d = go e s.items d d.items d.undos
   where
     Goal : List Item → Type 0

@@ -1,5 +1,5 @@
 -- Destruction begins: from a delete, and as an entry is unwound.
-use Rattle.std.proofs.Common.{Bool, List, None, Option, Some, [], ap, arith, cond, false, inl, inr, length, refl, subst, suc, sym, true, zero, ℕ, ⊎_elim, ◌&&◌, ◌==◌, ◌∙◌, ◌∷◌, ◌≡◌, ◌≤◌}
+use Rattle.std.proofs.Common.{[], Bool, List, None, Option, Some, ap, arith, cond, false, inl, inr, length, refl, subst, suc, sym, true, zero, ℕ, ⊎_elim, ◌&&◌, ◌==◌, ◌∙◌, ◌∷◌, ◌≡◌, ◌≤◌}
 use Rattle.std.proofs.lemmas.Bool.{cases_Bool, eq-eqb, eqb-true, ne_eqb, true≢false}
 use Rattle.std.specs.Prelude.{is_some, IsSome, is_none, map, replicate}
 use Rattle.aom_image.specs.Image.{Image}
@@ -71,7 +71,9 @@ module _ (p : Image) (t : Typing) (cs : List Cell) (q : Place) (o : Object) (tid
   pub other_name : (from : Place) (x : Object) → held cs from ≡ Some x → same_place q from ≡ false → (x.name == o.name) ≡ false
   other_name from x h e = ne_eqb x.name o.name (λ same. true≢false (sym (ap (λ r. same_place q r) (one_place cs from q x o tidy h there same) ∙ same_place_refl q) ∙ e))
 
-  pub untouched_method : (k : ℕ → Kind) (fr : Frame) (sh : Shape) (ls : List Layer) → ((x : Object) (from : Place) → fr.home ≡ Inside x from → NoFieldHere q from) → Outside q ls → IsHoused p cs ls fr.home → Untouched p k o.name ls → Untouched p k o.name (Method fr sh ∷ ls)
+  pub untouched_method :
+      (k : ℕ → Kind) (fr : Frame) (sh : Shape) (ls : List Layer) → ((x : Object) (from : Place) → fr.home ≡ Inside x from → NoFieldHere q from) → Outside q ls → IsHoused p cs ls fr.home →
+      Untouched p k o.name ls → Untouched p k o.name (Method fr sh ∷ ls)
   untouched_method k fr sh ls aside out housed u = go housed
     where
       Result : Home → Type 0
@@ -120,12 +122,15 @@ module _ (p : Image) (t : Typing) (cs : List Cell) (q : Place) (o : Object) (tid
 
   -- the close of a session with what sits is none with it
   close_apart : (w : Dispatch) (seats : List Seat) → SitsFirst cs (seat_of w) seats → (SomeSits o.name seats → ⊥) → (c : ℕ) (k : Kind) → by_close w o.name c k ≡ k
-  close_apart (Of_server x client Parts) seats first none c k = ap (λ b. cond (b && (client == c)) Null k) (ne_eqb x.object.name o.name (λ e. none (subst (λ xs. SomeSits o.name xs) (sym first.2) (inl e))))
+  close_apart (Of_server x client Parts) seats first none c k =
+      ap (λ b. cond (b && (client == c)) Null k) (ne_eqb x.object.name o.name (λ e. none (subst (λ xs. SomeSits o.name xs) (sym first.2) (inl e))))
   close_apart _ seats first none c k = refl
 
   pub untouched : (k : ℕ → Kind) (ls : List Layer) (back : Back) → Outside q ls → Stack p t cs back ls → Untouched p k o.name ls
   untouched k [] back out s = record { some = λ x. x; unclaimed = λ f. refl; none_in = tt; unworked = tt; sessions = λ d c. refl }
-  untouched k (Method fr sh ∷ ls) back out s = untouched_method k fr sh ls (λ x from e. no_field_here q fr x from sh ls e out) (outside_less q (Method fr sh) ls out) s.2 (untouched k ls (Returns fr.method fr.home) (outside_less q (Method fr sh) ls out) s.4)
+  untouched k (Method fr sh ∷ ls) back out s =
+      untouched_method k fr sh ls (λ x from e. no_field_here q fr x from sh ls e out) (outside_less q (Method fr sh) ls out) s.2
+      (untouched k ls (Returns fr.method fr.home) (outside_less q (Method fr sh) ls out) s.4)
   untouched k (Mark gv ∷ ls) back out s =
       let u = untouched k ls (Caught gv) (outside_less q (Mark gv) ls out) s.1 in
       record { some = u.some; unclaimed = u.unclaimed; none_in = u.none_in; unworked = u.unworked; sessions = u.sessions }
@@ -235,27 +240,29 @@ module _ (p : Image) (t : Typing) (linked : IsWired p) (typed : IsTyped p t) (cs
   fields_claim f = claim_unclaimed p (declared p cs) ls o.name f (λ f. filled (field_thing p (thing_holder o.thing) f) Perhaps) apart.unclaimed (ap (λ x. declared_field p x f) lives)
 
   fields_fit : (n f : ℕ) → (o.name == n) ≡ true → Fits p (seen cs) (held cs (Field n f)) (filled (field_thing p (thing_holder o.thing) f) Perhaps)
-  fields_fit n f e = subst (λ m. Fits p (seen cs) (held cs (Field m f)) (filled (field_thing p (thing_holder o.thing) f) Perhaps)) (eqb-true o.name n e) (subst (λ k. Fits p (seen cs) (held cs (Field o.name f)) k) (fields_claim f) (fits (Field o.name f)))
+  fields_fit n f e =
+      subst (λ m. Fits p (seen cs) (held cs (Field m f)) (filled (field_thing p (thing_holder o.thing) f) Perhaps)) (eqb-true o.name n e)
+      (subst (λ k. Fits p (seen cs) (held cs (Field o.name f)) k) (fields_claim f) (fits (Field o.name f)))
 
   -- with no destructor
   bare : destructor_of p o.thing ≡ None → (r : Place) → Fits p (seen cs) (held cs r) (claim p (declared p cs) (Dying o ∷ ls) r)
-  bare none (Register f i) = fits (Register f i)
-  bare none (Entry k) = fits (Entry k)
   bare none (Field n f) = go (o.name == n) refl
     where
       go : (b : Bool) → (o.name == n) ≡ b → Fits p (seen cs) (held cs (Field n f)) (cond b Null (claim p (declared p cs) ls (Field n f)))
       go true e = subst (λ x. Fits p (seen cs) (held cs (Field n f)) (filled x Perhaps)) (no_fields_declared p linked o.thing none f) (fields_fit n f e)
       go false e = fits (Field n f)
-  bare none (Elsewhere Root) = fits (Elsewhere Root)
-  bare none (Elsewhere w) = fits (Elsewhere w)
   bare none (Going k) = subst (λ b. Fits p (seen cs) (held cs (Going k)) (cond b (Own o.thing Ready) (claim p (declared p cs) ls (Going k)))) (tail (length (tasks_of ls) == k)) (fits (Going k))
     where
       tail : (b : Bool) → (b && true) ≡ b
       tail true = refl
       tail false = refl
+  bare none (Elsewhere Root) = fits (Elsewhere Root)
+  bare none r = fits r
 
   -- with one
-  clothed : (m height : ℕ) (after : Shape) → Destroys p o.thing m → SaysNoMore after (entry_shape p m) → (r : Place) → Fits p (seen cs) (held cs r) (claim p (declared p cs) (Method (frame_of m (Inside o (Going (length (tasks_of ls)))) height) after ∷ Dying o ∷ ls) r)
+  clothed :
+      (m height : ℕ) (after : Shape) → Destroys p o.thing m → SaysNoMore after (entry_shape p m) → (r : Place) →
+      Fits p (seen cs) (held cs r) (claim p (declared p cs) (Method (frame_of m (Inside o (Going (length (tasks_of ls)))) height) after ∷ Dying o ∷ ls) r)
   clothed m height after is w (Register f i) = go (length (tasks_of (Dying o ∷ ls)) == f) refl
     where
       go : (b : Bool) → (length (tasks_of (Dying o ∷ ls)) == f) ≡ b → Fits p (seen cs) (held cs (Register f i)) (cond b (register after i) (claim p (declared p cs) ls (Register f i)))
@@ -265,13 +272,20 @@ module _ (p : Image) (t : Typing) (linked : IsWired p) (typed : IsTyped p t) (cs
   clothed m height after is w (Entry k) = subst (λ es. Fits p (seen cs) (held cs (Entry k)) (entry_claim es (items_of ls) k (claim p (declared p cs) ls (Entry k)))) (sym w.entries) (fits (Entry k))
   clothed m height after is w (Field n f) = go (o.name == n) refl
     where
-      go : (b : Bool) → (o.name == n) ≡ b → Fits p (seen cs) (held cs (Field n f)) (cond b (filled (field_thing p (thing_holder o.thing) f) (field after f)) (cond b Null (claim p (declared p cs) ls (Field n f))))
-      go true e = subst (λ x. Fits p (seen cs) (held cs (Field n f)) (filled (field_thing p (thing_holder o.thing) f) x)) (sym (perhaps_only (subst (λ x. WeakerFilling (field after f) x) (destruct_fields p m is.role f) (w.fields f)))) (fields_fit n f e)
+      go :
+          (b : Bool) → (o.name == n) ≡ b →
+          Fits p (seen cs) (held cs (Field n f)) (cond b (filled (field_thing p (thing_holder o.thing) f) (field after f)) (cond b Null (claim p (declared p cs) ls (Field n f))))
+      go true e =
+          subst (λ x. Fits p (seen cs) (held cs (Field n f)) (filled (field_thing p (thing_holder o.thing) f) x))
+          (sym (perhaps_only (subst (λ x. WeakerFilling (field after f) x) (destruct_fields p m is.role f) (w.fields f)))) (fields_fit n f e)
       go false e = fits (Field n f)
   clothed m height after is w (Elsewhere Root) = fits (Elsewhere Root)
-  clothed m height after is w (Elsewhere In_service) = subst (λ k. Fits p (seen cs) (held cs (Elsewhere In_service)) k) (sym (plain_claim (serves p m) after (claim p (declared p cs) ls (Elsewhere In_service)) (ap is_service is.role))) (fits (Elsewhere In_service))
+  clothed m height after is w (Elsewhere In_service) =
+      subst (λ k. Fits p (seen cs) (held cs (Elsewhere In_service)) k) (sym (plain_claim (serves p m) after (claim p (declared p cs) ls (Elsewhere In_service)) (ap is_service is.role)))
+      (fits (Elsewhere In_service))
   clothed m height after is w (Elsewhere w') = fits (Elsewhere w')
-  clothed m height after is w (Going k) = subst (λ b. Fits p (seen cs) (held cs (Going k)) (cond b (Own o.thing Ready) (claim p (declared p cs) ls (Going k)))) (tail (length (tasks_of ls) == k)) (fits (Going k))
+  clothed m height after is w (Going k) =
+      subst (λ b. Fits p (seen cs) (held cs (Going k)) (cond b (Own o.thing Ready) (claim p (declared p cs) ls (Going k)))) (tail (length (tasks_of ls) == k)) (fits (Going k))
     where
       tail : (b : Bool) → (b && true) ≡ b
       tail true = refl
@@ -290,7 +304,9 @@ module _ (p : Image) (t : Typing) (linked : IsWired p) (typed : IsTyped p t) (cs
           (subst (λ n. Suits (thing_kind p o.thing) (resting_in n) (requested cs o.name)) (sym last) rested)
       at_name false e = suits x there
 
-  clothed_suits : (m height : ℕ) (after : Shape) → Destroys p o.thing m → SaysNoMore after (entry_shape p m) → AllSuit p cs (Method (frame_of m (Inside o (Going (length (tasks_of ls)))) height) after ∷ Dying o ∷ ls)
+  clothed_suits :
+      (m height : ℕ) (after : Shape) → Destroys p o.thing m → SaysNoMore after (entry_shape p m) →
+      AllSuit p cs (Method (frame_of m (Inside o (Going (length (tasks_of ls)))) height) after ∷ Dying o ∷ ls)
   clothed_suits m height after is w x there = at_name (o.name == x.name) refl
     where
       fr : Frame
@@ -307,7 +323,9 @@ module _ (p : Image) (t : Typing) (linked : IsWired p) (typed : IsTyped p t) (cs
       at_name false e = suits x there
 
   -- so a destructor begins
-  pub destruct : (s : State) (height : ℕ) → height ≡ length (items_of ls) → s.cells ≡ cs → s.tasks ≡ destructed p o height (tasks_of ls) → forms s.items ≡ items_of ls → AllUndo p s.items → WellTyped p t s
+  pub destruct :
+      (s : State) (height : ℕ) → height ≡ length (items_of ls) → s.cells ≡ cs → s.tasks ≡ destructed p o height (tasks_of ls) → forms s.items ≡ items_of ls → AllUndo p s.items →
+      WellTyped p t s
   destruct s height high cells tasks items undos = go (destructor_of p o.thing) refl tasks
     where
       go : (d : Option ℕ) → destructor_of p o.thing ≡ d → s.tasks ≡ begun_by d o height (tasks_of ls) → WellTyped p t s
@@ -368,7 +386,9 @@ module _ (p : Image) (t : Typing) (linked : IsWired p) (typed : IsTyped p t) (cs
   none_at : is_server p o.thing ≡ false → (c : ℕ) → Fits p (seen cs) (held cs (Elsewhere (Session o.name c))) Null
   none_at plain c = go (session_class p o.thing) plain (has_session (service_of cs o.name) c) (sessions_fit c)
     where
-      go : (x : Option ℕ) → is_some x ≡ false → (b : Bool) → Fits p (seen cs) (held cs (Elsewhere (Session o.name c))) (cond b (filled (of_class x) Full) Null) → Fits p (seen cs) (held cs (Elsewhere (Session o.name c))) Null
+      go :
+          (x : Option ℕ) → is_some x ≡ false → (b : Bool) → Fits p (seen cs) (held cs (Elsewhere (Session o.name c))) (cond b (filled (of_class x) Full) Null) →
+          Fits p (seen cs) (held cs (Elsewhere (Session o.name c))) Null
       go None e true h = h
       go None e false h = h
       go (Some k) e b h = cc
@@ -379,39 +399,35 @@ module _ (p : Image) (t : Typing) (linked : IsWired p) (typed : IsTyped p t) (cs
       go : (b : Bool) → (o.name == m) ≡ b → Fits p (seen cs) (held cs (Elsewhere (Session m c))) (cond b Null (claim p (declared p cs) ls (Elsewhere (Session m c))))
       go true e = subst (λ n. Fits p (seen cs) (held cs (Elsewhere (Session n c))) Null) (eqb-true o.name m e) (none_at plain c)
       go false e = fits (Elsewhere (Session m c))
-  bare_fits plain (Register f i) = fits (Register f i)
-  bare_fits plain (Entry k) = fits (Entry k)
-  bare_fits plain (Field n f) = fits (Field n f)
-  bare_fits plain (Going k) = fits (Going k)
-  bare_fits plain (Elsewhere Root) = fits (Elsewhere Root)
-  bare_fits plain (Elsewhere In_service) = fits (Elsewhere In_service)
-  bare_fits plain (Elsewhere (Queued m k)) = fits (Elsewhere (Queued m k))
+  bare_fits plain r = fits r
 
   -- all of them are left
   ending_fits : (r : Place) → Fits p (seen cs) (held cs r) (claim p (declared p cs) (Ending o (service_of cs o.name).sessions ∷ Dying o ∷ ls) r)
-  ending_fits (Register f i) = fits (Register f i)
-  ending_fits (Entry k) = fits (Entry k)
   ending_fits (Field n f) = go (o.name == n) refl
     where
       claims : claim p (declared p cs) ls (Field o.name f) ≡ filled (field_thing p (thing_holder o.thing) f) Perhaps
       claims = claim_unclaimed p (declared p cs) ls o.name f (λ f. filled (field_thing p (thing_holder o.thing) f) Perhaps) apart.unclaimed (ap (λ x. declared_field p x f) lives)
 
-      go : (b : Bool) → (o.name == n) ≡ b → Fits p (seen cs) (held cs (Field n f)) (cond b (filled (field_thing p (thing_holder o.thing) f) Perhaps) (cond b Null (claim p (declared p cs) ls (Field n f))))
-      go true e = subst (λ m. Fits p (seen cs) (held cs (Field m f)) (filled (field_thing p (thing_holder o.thing) f) Perhaps)) (eqb-true o.name n e) (subst (λ k. Fits p (seen cs) (held cs (Field o.name f)) k) claims (fits (Field o.name f)))
+      go :
+          (b : Bool) → (o.name == n) ≡ b →
+          Fits p (seen cs) (held cs (Field n f)) (cond b (filled (field_thing p (thing_holder o.thing) f) Perhaps) (cond b Null (claim p (declared p cs) ls (Field n f))))
+      go true e =
+          subst (λ m. Fits p (seen cs) (held cs (Field m f)) (filled (field_thing p (thing_holder o.thing) f) Perhaps)) (eqb-true o.name n e)
+          (subst (λ k. Fits p (seen cs) (held cs (Field o.name f)) k) claims (fits (Field o.name f)))
       go false e = fits (Field n f)
-  ending_fits (Elsewhere Root) = fits (Elsewhere Root)
   ending_fits (Elsewhere (Session m c)) = go (o.name == m) refl
     where
       go : (b : Bool) → (o.name == m) ≡ b → Fits p (seen cs) (held cs (Elsewhere (Session m c))) (cond b (cond (has_session (service_of cs o.name) c) (filled (session_thing p (Some o)) Full) Null) (cond b Null (claim p (declared p cs) ls (Elsewhere (Session m c)))))
-      go true e = subst (λ n. Fits p (seen cs) (held cs (Elsewhere (Session n c))) (cond (has_session (service_of cs o.name) c) (filled (session_thing p (Some o)) Full) Null)) (eqb-true o.name m e) (sessions_fit c)
+      go true e =
+          subst (λ n. Fits p (seen cs) (held cs (Elsewhere (Session n c))) (cond (has_session (service_of cs o.name) c) (filled (session_thing p (Some o)) Full) Null)) (eqb-true o.name m e)
+          (sessions_fit c)
       go false e = fits (Elsewhere (Session m c))
-  ending_fits (Elsewhere In_service) = fits (Elsewhere In_service)
-  ending_fits (Elsewhere (Queued m k)) = fits (Elsewhere (Queued m k))
   ending_fits (Going k) = subst (λ b. Fits p (seen cs) (held cs (Going k)) (cond b (Own o.thing Ready) (claim p (declared p cs) ls (Going k)))) (tail (length (tasks_of ls) == k)) (fits (Going k))
     where
       tail : (b : Bool) → (b && true) ≡ b
       tail true = refl
       tail false = refl
+  ending_fits r = fits r
 
   -- so a destruction begins
   pub begin : (s : State) (height : ℕ) → height ≡ length (items_of ls) → s.cells ≡ cs → s.tasks ≡ begun p o height (tasks_of ls) → forms s.items ≡ items_of ls → AllUndo p s.items → WellTyped p t s
@@ -458,7 +474,9 @@ module _ (p : Image) (t : Typing) (cs : List Cell) (o : Object) (q : Place) (ls 
   goes_there = held_moved cs q (Going (length (tasks_of ls'))) (Going (length (tasks_of ls'))) no_going
       ∙ ap (λ b. cond b (held cs q) (cond (same_place q (Going (length (tasks_of ls')))) None (held cs (Going (length (tasks_of ls')))))) (same_place_refl (Going (length (tasks_of ls')))) ∙ there
 
-  pub goes_fitting : (r : Place) → Fits p (seen (moved q (Going (length (tasks_of ls'))) cs)) (held (moved q (Going (length (tasks_of ls'))) cs) r) (Dies p (moved q (Going (length (tasks_of ls'))) cs) o ls' r)
+  pub goes_fitting :
+      (r : Place) →
+      Fits p (seen (moved q (Going (length (tasks_of ls'))) cs)) (held (moved q (Going (length (tasks_of ls'))) cs) r) (Dies p (moved q (Going (length (tasks_of ls'))) cs) o ls' r)
   goes_fitting r =
       subst (λ d. Fits p (seen cs') (held cs' r) (cond (same_place g r) (Own o.thing Ready) (claim p d ls' r))) (sym (declared_moved p cs q g))
       (go (same_place g r) refl (keep_fits p (seen cs) (seen cs') (claim p (declared p cs) ls) (changed (changed (claim p (declared p cs) ls) q Null) g (claim p (declared p cs) ls q)) q g (λ r. held_moved cs q g r no_going) (requested_moved cs q g) (λ r. refl) (λ r x e k f. refl) fits r))
@@ -469,8 +487,11 @@ module _ (p : Image) (t : Typing) (cs : List Cell) (o : Object) (q : Place) (ls 
       cs' : List Cell
       cs' = moved q g cs
 
-      go : (b : Bool) → same_place g r ≡ b → Fits p (seen cs') (held cs' r) (cond b (claim p (declared p cs) ls q) (changed (claim p (declared p cs) ls) q Null r)) → Fits p (seen cs') (held cs' r) (cond b (Own o.thing Ready) (claim p (declared p cs) ls' r))
-      go true e f = subst (λ x. Fits p (seen cs') (held cs' x) (Own o.thing Ready)) (same_place-true g r e) (subst (λ x. Fits p (seen cs') x (Own o.thing Ready)) (sym goes_there) (stands_itself p o.thing, tt))
+      go :
+          (b : Bool) → same_place g r ≡ b → Fits p (seen cs') (held cs' r) (cond b (claim p (declared p cs) ls q) (changed (claim p (declared p cs) ls) q Null r)) →
+          Fits p (seen cs') (held cs' r) (cond b (Own o.thing Ready) (claim p (declared p cs) ls' r))
+      go true e f =
+          subst (λ x. Fits p (seen cs') (held cs' x) (Own o.thing Ready)) (same_place-true g r e) (subst (λ x. Fits p (seen cs') x (Own o.thing Ready)) (sym goes_there) (stands_itself p o.thing, tt))
       go false e f = subst (λ k. Fits p (seen cs') (held cs' r) k) (sym (claims r)) f
 
 module _ (p : Image) (t : Typing) (c : Choice) (s : State) (fr : Frame) (sh : Shape) (ls : List Layer) (at_hand : At p t s fr sh ls) where

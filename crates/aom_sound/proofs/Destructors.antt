@@ -1,5 +1,5 @@
 -- A destructor returns: its cell goes next.
-use Rattle.std.proofs.Common.{Bool, IsTrue, List, None, Option, Some, [], ap, arith, cond, false, length, refl, subst, suc, sym, true, zero, ℕ, ◌==◌, ◌∙◌, ◌∷◌, ◌≡◌}
+use Rattle.std.proofs.Common.{[], Bool, IsTrue, List, None, Option, Some, ap, arith, cond, false, length, refl, subst, suc, sym, true, zero, ℕ, ◌==◌, ◌∙◌, ◌∷◌, ◌≡◌}
 use Rattle.std.proofs.lemmas.Bool.{and_parts, eqb-true}
 use Rattle.std.specs.Prelude.{slice_get}
 use Rattle.aom_image.specs.Image.{Image}
@@ -42,13 +42,17 @@ empty_at (t ∷ ts) (x ∷ xs) zero y e h = (and_parts _ _ e).0
 empty_at (t ∷ ts) (x ∷ xs) (suc f) y e h = empty_at ts xs f y (and_parts _ _ e).1 h
 
 -- a field that is declared is empty where the fields are done
-empty_field : (p : Image) (x : Thing) (xs : List Filling) (f : ℕ) (y : Thing) → fields_done p true (thing_holder x) xs ≡ true → field_thing p (thing_holder x) f ≡ Some y → is_empty (at Perhaps xs f) ≡ true
+empty_field :
+    (p : Image) (x : Thing) (xs : List Filling) (f : ℕ) (y : Thing) → fields_done p true (thing_holder x) xs ≡ true → field_thing p (thing_holder x) f ≡ Some y →
+    is_empty (at Perhaps xs f) ≡ true
 empty_field p (An_object_of c) xs f y done e = empty_at (fields_of p c) xs f y done e
 empty_field p Message xs f y done e = cc
 
 module _ (p : Image) (t : Typing) (c : Choice) (s : State) (fr : Frame) (sh : Shape) (o : Object) (ls : List Layer) (at_hand : At p t s fr sh (Dying o ∷ ls)) where
   -- what the rule says of the fields, as the claim of the cell that goes
-  null_field : (f : ℕ) (x : Option Object) → fields_done p true (thing_holder o.thing) sh.fields ≡ true → Fits p (seen s.cells) x (filled (field_thing p (thing_holder o.thing) f) (field sh f)) → Fits p (seen s.cells) x Null
+  null_field :
+      (f : ℕ) (x : Option Object) → fields_done p true (thing_holder o.thing) sh.fields ≡ true → Fits p (seen s.cells) x (filled (field_thing p (thing_holder o.thing) f) (field sh f)) →
+      Fits p (seen s.cells) x Null
   null_field f x done h = go (field_thing p (thing_holder o.thing) f) refl h
     where
       go : (k : Option Thing) → field_thing p (thing_holder o.thing) f ≡ k → Fits p (seen s.cells) x (filled k (field sh f)) → Fits p (seen s.cells) x Null
@@ -59,31 +63,51 @@ module _ (p : Image) (t : Typing) (c : Choice) (s : State) (fr : Frame) (sh : Sh
           empty Empty e h = h
           empty _ e h = cc
 
-  fits_dying : is_service (method_role p fr.method) ≡ false → fr.home ≡ Inside o (Going (length (tasks_of ls))) → no_entry sh.entries ≡ true → none_owns sh.registers ≡ true → fields_done p true (thing_holder o.thing) sh.fields ≡ true → (r : Place) → Fits p (seen s.cells) (held s.cells r) (claim p (declared p s.cells) (Dying o ∷ ls) r)
+  fits_dying :
+      is_service (method_role p fr.method) ≡ false → fr.home ≡ Inside o (Going (length (tasks_of ls))) → no_entry sh.entries ≡ true → none_owns sh.registers ≡ true →
+      fields_done p true (thing_holder o.thing) sh.fields ≡ true → (r : Place) → Fits p (seen s.cells) (held s.cells r) (claim p (declared p s.cells) (Dying o ∷ ls) r)
   fits_dying plain eh e n done (Register f i) = go (length (tasks_of (Dying o ∷ ls)) == f) refl (at_hand.good.fits (Register f i))
     where
-      go : (b : Bool) → (length (tasks_of (Dying o ∷ ls)) == f) ≡ b → Fits p (seen s.cells) (held s.cells (Register f i)) (cond b (register sh i) (claim p (declared p s.cells) ls (Register f i))) → Fits p (seen s.cells) (held s.cells (Register f i)) (claim p (declared p s.cells) ls (Register f i))
-      go true e h = subst (λ k. Fits p (seen s.cells) (held s.cells (Register f i)) k) (sym (claim_register_above p s.cells ls f i (omega (arith, eqb-true _ _ e)))) (subst (λ x. Fits p (seen s.cells) x Null) (sym (fits_unowning p (seen s.cells) _ (register sh i) (none_owns_at sh.registers i n) h)) tt)
+      go :
+          (b : Bool) → (length (tasks_of (Dying o ∷ ls)) == f) ≡ b →
+          Fits p (seen s.cells) (held s.cells (Register f i)) (cond b (register sh i) (claim p (declared p s.cells) ls (Register f i))) →
+          Fits p (seen s.cells) (held s.cells (Register f i)) (claim p (declared p s.cells) ls (Register f i))
+      go true e h =
+          subst (λ k. Fits p (seen s.cells) (held s.cells (Register f i)) k) (sym (claim_register_above p s.cells ls f i (omega (arith, eqb-true _ _ e))))
+          (subst (λ x. Fits p (seen s.cells) x Null) (sym (fits_unowning p (seen s.cells) _ (register sh i) (none_owns_at sh.registers i n) h)) tt)
       go false e h = h
-  fits_dying plain eh e n done (Entry k) = subst (λ es. Fits p (seen s.cells) (held s.cells (Entry k)) (entry_claim es (items_of ls) k (claim p (declared p s.cells) ls (Entry k)))) (no_entries sh.entries e) (at_hand.good.fits (Entry k))
-  fits_dying plain eh e n done (Field m f) = go (o.name == m) (subst (λ h. Fits p (seen s.cells) (held s.cells (Field m f)) (home_claim p h sh m f (cond (o.name == m) Null (claim p (declared p s.cells) ls (Field m f))))) eh (at_hand.good.fits (Field m f)))
+  fits_dying plain eh e n done (Entry k) =
+      subst (λ es. Fits p (seen s.cells) (held s.cells (Entry k)) (entry_claim es (items_of ls) k (claim p (declared p s.cells) ls (Entry k)))) (no_entries sh.entries e) (at_hand.good.fits (Entry k))
+  fits_dying plain eh e n done (Field m f) =
+      go (o.name == m)
+      (subst (λ h. Fits p (seen s.cells) (held s.cells (Field m f)) (home_claim p h sh m f (cond (o.name == m) Null (claim p (declared p s.cells) ls (Field m f))))) eh (at_hand.good.fits (Field m f)))
     where
-      go : (b : Bool) → Fits p (seen s.cells) (held s.cells (Field m f)) (cond b (filled (field_thing p (thing_holder o.thing) f) (field sh f)) (cond b Null (claim p (declared p s.cells) ls (Field m f)))) → Fits p (seen s.cells) (held s.cells (Field m f)) (cond b Null (claim p (declared p s.cells) ls (Field m f)))
+      go :
+          (b : Bool) →
+          Fits p (seen s.cells) (held s.cells (Field m f)) (cond b (filled (field_thing p (thing_holder o.thing) f) (field sh f)) (cond b Null (claim p (declared p s.cells) ls (Field m f)))) →
+          Fits p (seen s.cells) (held s.cells (Field m f)) (cond b Null (claim p (declared p s.cells) ls (Field m f)))
       go true h = null_field f (held s.cells (Field m f)) done h
       go false h = h
-  fits_dying plain eh e n done (Elsewhere Root) = subst (λ h. Fits p (seen s.cells) (held s.cells (Elsewhere Root)) (root_claim p h sh (claim p (declared p s.cells) ls (Elsewhere Root)))) eh (at_hand.good.fits (Elsewhere Root))
-  fits_dying plain eh e n done (Elsewhere In_service) = subst (λ k. Fits p (seen s.cells) (held s.cells (Elsewhere In_service)) k) (plain_claim (serves p fr.method) sh (claim p (declared p s.cells) (Dying o ∷ ls) (Elsewhere In_service)) plain) (at_hand.good.fits (Elsewhere In_service))
+  fits_dying plain eh e n done (Elsewhere Root) =
+      subst (λ h. Fits p (seen s.cells) (held s.cells (Elsewhere Root)) (root_claim p h sh (claim p (declared p s.cells) ls (Elsewhere Root)))) eh (at_hand.good.fits (Elsewhere Root))
+  fits_dying plain eh e n done (Elsewhere In_service) =
+      subst (λ k. Fits p (seen s.cells) (held s.cells (Elsewhere In_service)) k)
+      (plain_claim (serves p fr.method) sh (claim p (declared p s.cells) (Dying o ∷ ls) (Elsewhere In_service)) plain) (at_hand.good.fits (Elsewhere In_service))
   fits_dying plain eh e n done (Elsewhere w) = at_hand.good.fits (Elsewhere w)
   fits_dying plain eh e n done (Going k) = at_hand.good.fits (Going k)
 
   -- the object is in a state in which it may go
-  suits_dying : fr.home ≡ Inside o (Going (length (tasks_of ls))) → is_cancel (method_role p fr.method) ≡ false → after_of p fr.method ≡ last_of (thing_kind p o.thing) → IsTrue (has (after_of p fr.method) sh.states) → AllSuit p s.cells (Dying o ∷ ls)
+  suits_dying :
+      fr.home ≡ Inside o (Going (length (tasks_of ls))) → is_cancel (method_role p fr.method) ≡ false → after_of p fr.method ≡ last_of (thing_kind p o.thing) →
+      IsTrue (has (after_of p fr.method) sh.states) → AllSuit p s.cells (Dying o ∷ ls)
   suits_dying eh plain last ends x lives = go (o.name == x.name) refl (subst (λ h. Suits (thing_kind p x.thing) (cond (works_at x.name h) (known_at p fr sh.states (below (o.name == x.name))) (below (o.name == x.name))) (requested s.cells x.name)) eh (at_hand.good.suits x lives))
     where
       below : Bool → Known
       below b = cond b (resting_in (last_of (thing_kind p x.thing))) (states_claim p x ls)
 
-      go : (b : Bool) → (o.name == x.name) ≡ b → Suits (thing_kind p x.thing) (cond b (known_at p fr sh.states (below b)) (below b)) (requested s.cells x.name) → Suits (thing_kind p x.thing) (below b) (requested s.cells x.name)
+      go :
+          (b : Bool) → (o.name == x.name) ≡ b → Suits (thing_kind p x.thing) (cond b (known_at p fr sh.states (below b)) (below b)) (requested s.cells x.name) →
+          Suits (thing_kind p x.thing) (below b) (requested s.cells x.name)
       go true same h =
           let one = same_object s.cells o x at_hand.good.stack.4.0.0 lives same in
           suits_less (thing_kind p x.thing) (last_of (thing_kind p x.thing)) sh.states false (requested s.cells x.name) (subst (λ k. IsTrue (has k sh.states)) (last ∙ ap (λ (y : Object). last_of (thing_kind p y.thing)) one) ends)
@@ -104,7 +128,8 @@ module _ (p : Image) (t : Typing) (c : Choice) (s : State) (fr : Frame) (sh : Sh
       let r = returnable p fr sh a n in
       let above = at_hand.good.stack.4.1 in
       let holder : holder_of p fr.method ≡ thing_holder o.thing = sym at_hand.good.stack.1.holder ∙ ap home_holder above.1 in
-      let done : fields_done p true (thing_holder o.thing) sh.fields ≡ true = ap (λ k. fields_done p true k sh.fields) (sym holder) ∙ ap (λ b. fields_done p b (holder_of p fr.method) sh.fields) (sym above.2) ∙ r.fields in
+      let done : fields_done p true (thing_holder o.thing) sh.fields ≡ true =
+      ap (λ k. fields_done p true k sh.fields) (sym holder) ∙ ap (λ b. fields_done p b (holder_of p fr.method) sh.fields) (sym above.2) ∙ r.fields in
       let free : none_owns sh.registers ≡ true = ap (λ g. none_owns (result_moved p fr.method fr.place sh g a).registers) (sym above.3) ∙ r.free in
       let entries : no_entry sh.entries ≡ true = none_left p fr sh a above.3 r in
       let plain = destructs_only (method_role p fr.method) above.2 in

@@ -1,5 +1,5 @@
 -- Where messages go that wait in a queue or are served, all else is as it was: by the cells one after another.
-use Rattle.std.proofs.Common.{length, Bool, List, None, Option, Some, [], ap, cond, false, inl, inr, refl, subst, sym, true, ⊎_elim, ℕ, ◌==◌, ◌∙◌, ◌∷◌, ◌≡◌, ◌⊎◌}
+use Rattle.std.proofs.Common.{[], length, Bool, List, None, Option, Some, ap, cond, false, inl, inr, refl, subst, sym, true, ⊎_elim, ℕ, ◌==◌, ◌∙◌, ◌∷◌, ◌≡◌, ◌⊎◌}
 use Rattle.std.proofs.lemmas.Bool.{cases_Bool, eqb-true, true≢false}
 use Rattle.aom_image.specs.Image.{Image}
 use Rattle.aom_image.specs.declared.method.Thing.{Thing}
@@ -12,7 +12,7 @@ use Rattle.aom_shape.specs.declared.kind.Kind.TheVariants.{Null}
 use Rattle.aom_sound.proofs.Maps.{cond_same, front_free, held_lives, same_place-true, same_place_refl}
 use Rattle.aom_sound.proofs.Services.{attended_at}
 use Rattle.aom_sound.specs.Claims.{claim, Dispatching, Dying, Ending, Layer, Mark, Method, Unwinding, declared, declared_field, tasks_of}
-use Rattle.aom_sound.specs.Places.{Sight, seen, Cell, Elsewhere, Entry, Field, Going, In_service, Object, Place, Queued, Register, Root, Session, Tidy, held, named, requested, same_place, service_of, without}
+use Rattle.aom_sound.specs.Places.{Sight, seen, Cell, Elsewhere, Field, Going, In_service, Object, Place, Queued, Root, Session, Tidy, held, named, requested, same_place, service_of, without}
 use Rattle.aom_sound.specs.Servers.{is_server, has_message, has_session, is_queue_of, message_thing, session_thing, without_queue}
 use Rattle.aom_sound.specs.State.{AtRoot, Home, Inside, Seat, Static}
 use Rattle.aom_sound.specs.WellTyped.{EndsSessions, Fits, SitsFirst, AllSit, Back, IsBelow, IsHoused, SitsIn, Stack, seat_of}
@@ -26,14 +26,9 @@ use Rattle.aom_roles.specs.Shapes.{kind_of}
 
 -- a message that waits or is served
 abbrev pub is_sent : Place → Bool
-is_sent (Register f i) = false
-is_sent (Entry k) = false
-is_sent (Field n f) = false
-is_sent (Going k) = false
-is_sent (Elsewhere Root) = false
-is_sent (Elsewhere (Session s c)) = false
 is_sent (Elsewhere In_service) = true
 is_sent (Elsewhere (Queued s m)) = true
+is_sent _ = false
 
 pub requested_unnamed : (cs : List Cell) (n : ℕ) → named cs n ≡ None → requested cs n ≡ None
 requested_unnamed [] n e = refl
@@ -49,17 +44,23 @@ module _ (gone : Place → Bool) where
   held_dropped [] r = sym (cond_same (gone r) None)
   held_dropped (c ∷ cs) r = go (gone c.owner) refl (held_dropped cs r)
     where
-      went : (y : Bool) → same_place c.owner r ≡ y → gone c.owner ≡ true → held (dropped cs) r ≡ cond (gone r) None (held cs r) → held (dropped cs) r ≡ cond (gone r) None (cond y (Some c.object) (held cs r))
+      went :
+          (y : Bool) → same_place c.owner r ≡ y → gone c.owner ≡ true → held (dropped cs) r ≡ cond (gone r) None (held cs r) →
+          held (dropped cs) r ≡ cond (gone r) None (cond y (Some c.object) (held cs r))
       went true ey ex ih =
           let there : gone r ≡ true = ap gone (sym (same_place-true c.owner r ey)) ∙ ex in
           ih ∙ ap (λ b. cond b None (held cs r)) there ∙ sym (ap (λ b. cond b None (Some c.object)) there)
       went false ey ex ih = ih
 
-      stays : (y : Bool) → same_place c.owner r ≡ y → gone c.owner ≡ false → held (dropped cs) r ≡ cond (gone r) None (held cs r) → cond y (Some c.object) (held (dropped cs) r) ≡ cond (gone r) None (cond y (Some c.object) (held cs r))
+      stays :
+          (y : Bool) → same_place c.owner r ≡ y → gone c.owner ≡ false → held (dropped cs) r ≡ cond (gone r) None (held cs r) →
+          cond y (Some c.object) (held (dropped cs) r) ≡ cond (gone r) None (cond y (Some c.object) (held cs r))
       stays true ey ex ih = sym (ap (λ b. cond b None (Some c.object)) (ap gone (sym (same_place-true c.owner r ey)) ∙ ex))
       stays false ey ex ih = ih
 
-      go : (x : Bool) → gone c.owner ≡ x → held (dropped cs) r ≡ cond (gone r) None (held cs r) → held (cond x (dropped cs) (c ∷ dropped cs)) r ≡ cond (gone r) None (cond (same_place c.owner r) (Some c.object) (held cs r))
+      go :
+          (x : Bool) → gone c.owner ≡ x → held (dropped cs) r ≡ cond (gone r) None (held cs r) →
+          held (cond x (dropped cs) (c ∷ dropped cs)) r ≡ cond (gone r) None (cond (same_place c.owner r) (Some c.object) (held cs r))
       go true ex ih = went (same_place c.owner r) refl ex ih
       go false ex ih = stays (same_place c.owner r) refl ex ih
 
@@ -157,14 +158,10 @@ module _ (gone : Place → Bool) where
 
     pub declared_dropped : (r : Place) → declared p (dropped cs) r ≡ declared p cs r
     unfolding sessions_in kind_of
-    declared_dropped (Register f i) = refl
-    declared_dropped (Entry k) = refl
     declared_dropped (Field n f) = ⊎_elim (λ s. ap (λ o. declared_field p o f) s.name) (λ w. ap (λ o. declared_field p o f) w.none ∙ sym (ap (λ o. declared_field p o f) w.was ∙ of_message w.object (messages w.place w.object w.goes w.there))) (each_name cs tidy n)
       where
         of_message : (x : Object) → x.thing ≡ Message → declared_field p (Some x) f ≡ Null
         of_message x e = ap (λ y. declared_field p (Some (record { name = x.name; thing = y })) f) e
-    declared_dropped (Going k) = refl
-    declared_dropped (Elsewhere Root) = refl
     declared_dropped (Elsewhere (Session n c)) =
         ⊎_elim (λ s. ap (λ v. cond (has_session v c) (filled (session_thing p (named (dropped cs) n)) Full) Null) s.service ∙ ap (λ o. cond (has_session (service_of cs n) c) (filled (session_thing p o) Full) Null) s.name)
         (λ w. ap (λ o. cond (has_session (service_of (dropped cs) n) c) (filled (session_thing p o) Full) Null) w.none ∙ cond_same (has_session (service_of (dropped cs) n) c) Null
@@ -172,8 +169,8 @@ module _ (gone : Place → Bool) where
         (each_name cs tidy n)
       where
         of_message : (x : Object) → x.thing ≡ Message → cond (has_session (service_of cs n) c) (filled (session_thing p (Some x)) Full) Null ≡ Null
-        of_message x e = ap (λ y. cond (has_session (service_of cs n) c) (filled (session_thing p (Some (record { name = x.name; thing = y }))) Full) Null) e ∙ cond_same (has_session (service_of cs n) c) Null
-    declared_dropped (Elsewhere In_service) = refl
+        of_message x e =
+            ap (λ y. cond (has_session (service_of cs n) c) (filled (session_thing p (Some (record { name = x.name; thing = y }))) Full) Null) e ∙ cond_same (has_session (service_of cs n) c) Null
     declared_dropped (Elsewhere (Queued n m)) =
         ⊎_elim (λ s. ap (λ v. cond (has_message v m) (filled (message_thing p (named (dropped cs) n)) Full) Null) s.service ∙ ap (λ o. cond (has_message (service_of cs n) m) (filled (message_thing p o) Full) Null) s.name)
         (λ w. ap (λ o. cond (has_message (service_of (dropped cs) n) m) (filled (message_thing p o) Full) Null) w.none ∙ cond_same (has_message (service_of (dropped cs) n) m) Null
@@ -181,7 +178,9 @@ module _ (gone : Place → Bool) where
         (each_name cs tidy n)
       where
         of_message : (x : Object) → x.thing ≡ Message → cond (has_message (service_of cs n) m) (filled (message_thing p (Some x)) Full) Null ≡ Null
-        of_message x e = ap (λ y. cond (has_message (service_of cs n) m) (filled (message_thing p (Some (record { name = x.name; thing = y }))) Full) Null) e ∙ cond_same (has_message (service_of cs n) m) Null
+        of_message x e =
+            ap (λ y. cond (has_message (service_of cs n) m) (filled (message_thing p (Some (record { name = x.name; thing = y }))) Full) Null) e ∙ cond_same (has_message (service_of cs n) m) Null
+    declared_dropped _ = refl
 
     pub suits_dropped : (ls : List Layer) → AllSuit p cs ls → AllSuit p (dropped cs) ls
     suits_dropped ls s o lives = ⊎_elim
@@ -203,12 +202,7 @@ module _ (gone : Place → Bool) where
       below_spared : (r : Place) (ls : List Layer) → IsBelow r ls → gone r ≡ false
       below_spared (Elsewhere In_service) ls b = absurd b
       below_spared (Elsewhere (Queued n m)) ls b = absurd b
-      below_spared (Register f i) ls b = spared (Register f i) refl
-      below_spared (Entry k) ls b = spared (Entry k) refl
-      below_spared (Field n f) ls b = spared (Field n f) refl
-      below_spared (Going k) ls b = spared (Going k) refl
-      below_spared (Elsewhere Root) ls b = spared (Elsewhere Root) refl
-      below_spared (Elsewhere (Session n c)) ls b = spared (Elsewhere (Session n c)) refl
+      below_spared r ls b = spared r refl
 
       sits_spared : (r : Place) (xs : List Seat) → SitsIn r xs → gone r ≡ false
       sits_spared (Field n f) xs b = spared (Field n f) refl
@@ -279,10 +273,9 @@ queued_claim p d (l ∷ ls) n m = queued_claim p d ls n m
 
 -- what waits in a queue is a message
 pub waits_message : (p : Image) (h : Sight) (x : Object) (b : Bool) (o : Option Object) → Fits p h (Some x) (cond b (filled (message_thing p o) Full) Null) → x.thing ≡ Message
-waits_message p h x false o f = absurd f
-waits_message p h x true None f = absurd f
 waits_message p h x true (Some y) f = go (is_server p y.thing) f
   where
     go : (b : Bool) → Fits p h (Some x) (filled (cond b (Some Message) None) Full) → x.thing ≡ Message
     go true f = stands_same p x.thing Message f.0
     go false f = absurd f
+waits_message p h x _ _ f = absurd f

@@ -1,5 +1,5 @@
 -- Right over the going of a server: the sessions with it go one after another, and then its destructor begins.
-use Rattle.std.proofs.Common.{Bool, List, None, Option, Some, [], ap, arith, cond, false, inl, inr, length, refl, subst, sym, true, ⊎_elim, ℕ, ◌==◌, ◌∙◌, ◌∷◌, ◌≡◌}
+use Rattle.std.proofs.Common.{[], Bool, List, None, Option, Some, ap, arith, cond, false, inl, inr, length, refl, subst, sym, true, ⊎_elim, ℕ, ◌==◌, ◌∙◌, ◌∷◌, ◌≡◌}
 use Rattle.std.proofs.lemmas.Bool.{cases_Bool, eq-eqb, eqb-true, true≢false}
 use Rattle.std.specs.Prelude.{filter, ◌&&◌, ◌||◌}
 use Rattle.aom_image.specs.Image.{Image}
@@ -18,7 +18,7 @@ use Rattle.aom_sound.proofs.Suiting.{same_object, unworked_rests, all_moved}
 use Rattle.aom_sound.specs.Claims.{declared_field, Dispatching, Dying, Ending, Layer, Mark, Method, Unwinding, claim, declared, forms, items_of, tasks_of}
 use Rattle.aom_sound.specs.Destruction.{closing, first_session, parting, parting_from, seat_or}
 use Rattle.aom_sound.specs.Laws.{IsWired}
-use Rattle.aom_sound.specs.Places.{requested, Cell, Elsewhere, Entry, Field, Going, In_service, Object, Place, Queued, Register, Root, Session, changed, held, moved, named, same_place, seen, service_of}
+use Rattle.aom_sound.specs.Places.{requested, Cell, Elsewhere, Field, Going, Object, Place, Session, changed, held, moved, named, same_place, seen, service_of}
 use Rattle.aom_sound.specs.Requests.{Suits, resting_in, states_claim, thing_kind, AllSuit}
 use Rattle.aom_sound.specs.Servers.{is_among, is_other, session_thing}
 use Rattle.aom_sound.specs.State.{AtRoot, Home, Inside, Seat, State, Static, thing_holder}
@@ -33,11 +33,15 @@ none_first : (cs : List Cell) (n : ℕ) (ss : List ℕ) → first_session cs n s
 none_first cs n [] e c among = cc
 none_first cs n (d ∷ ss) e c among = go (held cs (Elsewhere (Session n d))) refl e (λ e h. none_first cs n ss e c h)
   where
-    here : (b : Bool) → (d == c) ≡ b → (b || is_among c ss) ≡ true → held cs (Elsewhere (Session n d)) ≡ None → first_session cs n ss ≡ None → (first_session cs n ss ≡ None → is_among c ss ≡ true → held cs (Elsewhere (Session n c)) ≡ None) → held cs (Elsewhere (Session n c)) ≡ None
+    here :
+        (b : Bool) → (d == c) ≡ b → (b || is_among c ss) ≡ true → held cs (Elsewhere (Session n d)) ≡ None → first_session cs n ss ≡ None →
+        (first_session cs n ss ≡ None → is_among c ss ≡ true → held cs (Elsewhere (Session n c)) ≡ None) → held cs (Elsewhere (Session n c)) ≡ None
     here true same h there rest later = ap (λ k. held cs (Elsewhere (Session n k))) (sym (eqb-true d c same)) ∙ there
     here false other h there rest later = later rest h
 
-    go : (o : Option Object) → held cs (Elsewhere (Session n d)) ≡ o → seat_or o (Elsewhere (Session n d)) (first_session cs n ss) ≡ None → (first_session cs n ss ≡ None → is_among c ss ≡ true → held cs (Elsewhere (Session n c)) ≡ None) → held cs (Elsewhere (Session n c)) ≡ None
+    go :
+        (o : Option Object) → held cs (Elsewhere (Session n d)) ≡ o → seat_or o (Elsewhere (Session n d)) (first_session cs n ss) ≡ None →
+        (first_session cs n ss ≡ None → is_among c ss ≡ true → held cs (Elsewhere (Session n c)) ≡ None) → held cs (Elsewhere (Session n c)) ≡ None
     go None there e later = here (d == c) refl among there e later
     go (Some o) there e later = cc
 
@@ -50,7 +54,9 @@ found_first : (cs : List Cell) (n : ℕ) (ss : List ℕ) (x : Seat) → first_se
 found_first cs n [] x e = cc
 found_first cs n (d ∷ ss) x e = go (held cs (Elsewhere (Session n d))) refl e (λ e. found_first cs n ss x e)
   where
-    go : (o : Option Object) → held cs (Elsewhere (Session n d)) ≡ o → seat_or o (Elsewhere (Session n d)) (first_session cs n ss) ≡ Some x → (first_session cs n ss ≡ Some x → Found cs n ss x) → Found cs n (d ∷ ss) x
+    go :
+        (o : Option Object) → held cs (Elsewhere (Session n d)) ≡ o → seat_or o (Elsewhere (Session n d)) (first_session cs n ss) ≡ Some x →
+        (first_session cs n ss ≡ Some x → Found cs n ss x) → Found cs n (d ∷ ss) x
     go None there e later = let f = later e in record { client = f.client; place = f.place; there = f.there }
     go (Some o) there e later =
         let same : record { object = o; place = Elsewhere (Session n d) } ≡ x = cc in
@@ -64,7 +70,8 @@ none_from p t cs n c (Method fr sh ∷ ls) back s none = (at_home fr.home s.2, n
     at_home : (h : Home) → IsHoused p cs ls h → NotFrom (Elsewhere (Session n c)) h
     at_home Static h = tt
     at_home AtRoot h = tt
-    at_home (Inside o from) h = ⊎_elim (λ e. absurd (none (inr (subst (λ q. IsBelow q ls) (sym (same_place-true (Elsewhere (Session n c)) from e)) h.below)))) (λ e. e) (cases_Bool (same_place (Elsewhere (Session n c)) from))
+    at_home (Inside o from) h =
+        ⊎_elim (λ e. absurd (none (inr (subst (λ q. IsBelow q ls) (sym (same_place-true (Elsewhere (Session n c)) from e)) h.below)))) (λ e. e) (cases_Bool (same_place (Elsewhere (Session n c)) from))
 none_from p t cs n c (Mark gv ∷ ls) back s none = none_from p t cs n c ls _ s.1 none
 none_from p t cs n c (Dying o ∷ ls) back s none = none_from p t cs n c ls _ s.2 none
 none_from p t cs n c (Ending o left ∷ ls) back s none = none_from p t cs n c ls _ s.3 none
@@ -85,7 +92,8 @@ among_less k c ss e = go (c == k) refl
     go true same = absurd (true≢false (sym e ∙ subst (λ i. is_among i (filter (is_other c) ss) ≡ false) (eqb-true c k same) (among_parted c ss)))
     go false other = sym (among_others k c ss other) ∙ e
 
-module _ (p : Image) (t : Typing) (wired : IsWired p) (typed : IsTyped p t) (s : State) (o : Object) (left : List ℕ) (ls : List Layer) (good : Good p t s.cells (Ending o left ∷ Dying o ∷ ls)) (items : forms s.items ≡ items_of ls) (undos : AllUndo p s.items) where
+module _ (p : Image) (t : Typing) (wired : IsWired p) (typed : IsTyped p t) (s : State) (o : Object) (left : List ℕ) (ls : List Layer)
+    (good : Good p t s.cells (Ending o left ∷ Dying o ∷ ls)) (items : forms s.items ≡ items_of ls) (undos : AllUndo p s.items) where
   abbrev cs : List Cell
   cs = s.cells
 
@@ -113,34 +121,37 @@ module _ (p : Image) (t : Typing) (wired : IsWired p) (typed : IsTyped p t) (s :
   -- with none left its destructor begins
   module _ (none : (c : ℕ) → held cs (Elsewhere (Session o.name c)) ≡ None) where
     bare : (r : Place) → Fits p (seen cs) (held cs r) (Bare p cs o ls r)
-    bare (Register f i) = good.fits (Register f i)
-    bare (Entry k) = good.fits (Entry k)
     bare (Field m f) = go (o.name == m) refl (good.fits (Field m f))
       where
         own_claim : claim p (declared p cs) ls (Field o.name f) ≡ filled (field_thing p (thing_holder o.thing) f) Perhaps
         own_claim = claim_unclaimed p (declared p cs) ls o.name f (λ f. filled (field_thing p (thing_holder o.thing) f) Perhaps) own.unclaimed (ap (λ x. declared_field p x f) lives)
 
-        go : (b : Bool) → (o.name == m) ≡ b → Fits p (seen cs) (held cs (Field m f)) (cond b (filled (field_thing p (thing_holder o.thing) f) Perhaps) (cond b Null (claim p (declared p cs) ls (Field m f)))) → Fits p (seen cs) (held cs (Field m f)) (claim p (declared p cs) ls (Field m f))
+        go :
+            (b : Bool) → (o.name == m) ≡ b →
+            Fits p (seen cs) (held cs (Field m f)) (cond b (filled (field_thing p (thing_holder o.thing) f) Perhaps) (cond b Null (claim p (declared p cs) ls (Field m f)))) →
+            Fits p (seen cs) (held cs (Field m f)) (claim p (declared p cs) ls (Field m f))
         go true e h = subst (λ k. Fits p (seen cs) (held cs (Field m f)) k) (sym own_claim ∙ ap (λ i. claim p (declared p cs) ls (Field i f)) (eqb-true o.name m e)) h
         go false e h = h
     bare (Going k) = go (length (tasks_of ls) == k) (good.fits (Going k))
       where
-        go : (b : Bool) → Fits p (seen cs) (held cs (Going k)) (cond b (Own o.thing Ready) (claim p (declared p cs) ls (Going k))) → Fits p (seen cs) (held cs (Going k)) (cond (b && true) (Own o.thing Ready) (claim p (declared p cs) ls (Going k)))
+        go :
+            (b : Bool) → Fits p (seen cs) (held cs (Going k)) (cond b (Own o.thing Ready) (claim p (declared p cs) ls (Going k))) →
+            Fits p (seen cs) (held cs (Going k)) (cond (b && true) (Own o.thing Ready) (claim p (declared p cs) ls (Going k)))
         go true h = h
         go false h = h
-    bare (Elsewhere Root) = good.fits (Elsewhere Root)
     bare (Elsewhere (Session m c)) = go (o.name == m) refl (good.fits (Elsewhere (Session m c)))
       where
         go : (b : Bool) → (o.name == m) ≡ b → Fits p (seen cs) (held cs (Elsewhere (Session m c))) (cond b (cond (is_among c left) (filled (session_thing p (Some o)) Full) Null) (cond b Null (claim p (declared p cs) ls (Elsewhere (Session m c))))) → Fits p (seen cs) (held cs (Elsewhere (Session m c))) (cond b Null (claim p (declared p cs) ls (Elsewhere (Session m c))))
         go true e h = subst (λ x. Fits p (seen cs) x Null) (sym (ap (λ i. held cs (Elsewhere (Session i c))) (sym (eqb-true o.name m e)) ∙ none c)) tt
         go false e h = h
-    bare (Elsewhere In_service) = good.fits (Elsewhere In_service)
-    bare (Elsewhere (Queued m k)) = good.fits (Elsewhere (Queued m k))
+    bare r = good.fits r
 
     suits_below : AllSuit p cs ls
     suits_below x lives' = go (o.name == x.name) refl (good.suits x lives')
       where
-        go : (b : Bool) → (o.name == x.name) ≡ b → Suits (thing_kind p x.thing) (cond b (resting_in (last_of (thing_kind p x.thing))) (states_claim p x ls)) (requested cs x.name) → Suits (thing_kind p x.thing) (states_claim p x ls) (requested cs x.name)
+        go :
+            (b : Bool) → (o.name == x.name) ≡ b → Suits (thing_kind p x.thing) (cond b (resting_in (last_of (thing_kind p x.thing))) (states_claim p x ls)) (requested cs x.name) →
+            Suits (thing_kind p x.thing) (states_claim p x ls) (requested cs x.name)
         go true e h =
             subst (λ y. Suits (thing_kind p y.thing) (states_claim p y ls) (requested cs y.name)) (same_object cs o x lives lives' e)
             (subst (λ k. Suits (thing_kind p o.thing) k (requested cs o.name)) (sym (unworked_rests p o ls own.unworked))
@@ -166,22 +177,19 @@ module _ (p : Image) (t : Typing) (wired : IsWired p) (typed : IsTyped p t) (s :
     g = Going (length (tasks_of over))
 
     claims : (r : Place) → claim p (declared p cs) over r ≡ changed (claim p (declared p cs) before) q Null r
-    claims (Register f i) = refl
-    claims (Entry k) = refl
-    claims (Field m f) = refl
-    claims (Going k) = refl
-    claims (Elsewhere Root) = refl
     claims (Elsewhere (Session m k)) = go (o.name == m) (c == k) refl
       where
         rest : Kind
         rest = claim p (declared p cs) ls (Elsewhere (Session m k))
 
-        go : (b x : Bool) → (c == k) ≡ x → cond b (cond (is_among k fewer) (filled (session_thing p (Some o)) Full) Null) (cond b Null rest) ≡ cond (b && x) Null (cond b (cond (is_among k left) (filled (session_thing p (Some o)) Full) Null) (cond b Null rest))
+        go :
+            (b x : Bool) → (c == k) ≡ x →
+            cond b (cond (is_among k fewer) (filled (session_thing p (Some o)) Full) Null) (cond b Null rest)
+            ≡ cond (b && x) Null (cond b (cond (is_among k left) (filled (session_thing p (Some o)) Full) Null) (cond b Null rest))
         go true true e = ap (λ b. cond b (filled (session_thing p (Some o)) Full) Null) (subst (λ i. is_among i fewer ≡ false) (eqb-true c k e) (among_parted c left))
         go true false e = ap (λ b. cond b (filled (session_thing p (Some o)) Full) Null) (among_others k c left e)
         go false x e = refl
-    claims (Elsewhere In_service) = refl
-    claims (Elsewhere (Queued m k)) = refl
+    claims _ = refl
 
     stack_over : Stack p t cs Gone over
     stack_over = (record { server = good.stack.0.server; lives = good.stack.0.lives; listed = λ k e. good.stack.0.listed k (among_less k c left e) }, tt, good.stack.2, good.stack.3)
@@ -208,7 +216,9 @@ module _ (p : Image) (t : Typing) (wired : IsWired p) (typed : IsTyped p t) (s :
   closing_well : (x : Option Seat) → first_session cs o.name (service_of cs o.name).sessions ≡ x → WellTyped p t (parting p o x (tasks_of ls) s)
   closing_well None e = last_gone (λ c. go c (is_among c left) refl (session_fits c))
     where
-      go : (c : ℕ) (b : Bool) → is_among c left ≡ b → Fits p (seen cs) (held cs (Elsewhere (Session o.name c))) (cond b (filled (session_thing p (Some o)) Full) Null) → held cs (Elsewhere (Session o.name c)) ≡ None
+      go :
+          (c : ℕ) (b : Bool) → is_among c left ≡ b → Fits p (seen cs) (held cs (Elsewhere (Session o.name c))) (cond b (filled (session_thing p (Some o)) Full) Null) →
+          held cs (Elsewhere (Session o.name c)) ≡ None
       go c true among h = none_first cs o.name (service_of cs o.name).sessions e c (good.stack.0.listed c among)
       go c false other h = fits_unowning p (seen cs) _ Null refl h
   closing_well (Some x) e =
@@ -218,7 +228,9 @@ module _ (p : Image) (t : Typing) (wired : IsWired p) (typed : IsTyped p t) (s :
   closing_goes : Keeps p t (closing p (tasks_of (Dying o ∷ ls)) s)
   closing_goes = subst (λ x. Keeps p t (parting_from p x (tasks_of ls) s)) (sym there) (closing_well (first_session cs o.name (service_of cs o.name).sessions) refl)
 
-pub closing_keeps : (p : Image) (t : Typing) → IsWired p → IsTyped p t → (s : State) (o : Object) (left : List ℕ) (ls : List Layer) → Good p t s.cells (Ending o left ∷ ls) → forms s.items ≡ items_of ls → AllUndo p s.items → Keeps p t (closing p (tasks_of ls) s)
+pub closing_keeps :
+    (p : Image) (t : Typing) → IsWired p → IsTyped p t → (s : State) (o : Object) (left : List ℕ) (ls : List Layer) → Good p t s.cells (Ending o left ∷ ls) → forms s.items ≡ items_of ls →
+    AllUndo p s.items → Keeps p t (closing p (tasks_of ls) s)
 closing_keeps p t wired typed s o left (Dying x ∷ ls) good items undos =
     let same : x ≡ o = good.stack.2 in
     subst (λ y. Good p t s.cells (Ending o left ∷ Dying y ∷ ls) → Keeps p t (closing p (tasks_of (Dying y ∷ ls)) s)) (sym same) (λ good. closing_goes p t wired typed s o left ls good items undos) good

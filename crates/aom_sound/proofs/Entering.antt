@@ -113,7 +113,9 @@ module _ (p : Image) (t : Typing) (typed : IsTyped p t) (cs : List Cell) (x : Se
       unfilled : field after f ≡ Perhaps
       unfilled = perhaps_only (subst (λ y. WeakerFilling (field after f) y) (e.fields f) (w.fields f))
 
-      go : (b : Bool) → (x.object.name == n) ≡ b → Fits p (seen cs) (held cs (Field n f)) (cond b (filled (field_thing p (thing_holder x.object.thing) f) (field after f)) (claim p (declared p cs) over (Field n f)))
+      go :
+          (b : Bool) → (x.object.name == n) ≡ b →
+          Fits p (seen cs) (held cs (Field n f)) (cond b (filled (field_thing p (thing_holder x.object.thing) f) (field after f)) (claim p (declared p cs) over (Field n f)))
       go true same =
           subst (λ k. Fits p (seen cs) (held cs (Field k f)) (filled (field_thing p (thing_holder x.object.thing) f) (field after f))) (eqb-true x.object.name n same)
           (subst (λ y. Fits p (seen cs) (held cs (Field x.object.name f)) (filled (field_thing p (thing_holder x.object.thing) f) y)) (sym unfilled) own_field)
@@ -145,7 +147,9 @@ module _ (p : Image) (t : Typing) (typed : IsTyped p t) (cs : List Cell) (x : Se
       go true same = subst (λ z. Suits (thing_kind p z.thing) (known_at p (begun height) after.states (below z)) (requested cs z.name)) (same_object cs x.object y e.sits.0.1 lives same) own_now
       go false other = subst (λ k. Suits (thing_kind p y.thing) k (requested cs y.name)) (sym (e.states y)) (e.others y lives other)
 
-  pub enters : (s : State) (height : ℕ) → height ≡ length (items_of over) → s.cells ≡ cs → s.tasks ≡ Run (record (frame_of m (Inside x.object x.place) height) { words = ws }) ∷ tasks_of over → forms s.items ≡ items_of over → AllUndo p s.items → WellTyped p t s
+  pub enters :
+      (s : State) (height : ℕ) → height ≡ length (items_of over) → s.cells ≡ cs → s.tasks ≡ Run (record (frame_of m (Inside x.object x.place) height) { words = ws }) ∷ tasks_of over →
+      forms s.items ≡ items_of over → AllUndo p s.items → WellTyped p t s
   enters s height high cells tasks items undos =
       let leads = typed.entry m e.there in
       let w = leads.2 in

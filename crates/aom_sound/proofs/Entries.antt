@@ -38,6 +38,7 @@ use Rattle.aom_sound.specs.State.{An_object, An_operation, Choice, Frame, Item, 
 use Rattle.aom_sound.specs.WellTyped.{AllUndo, Awaits, Fits, Gone, IsUndo, Returns, Stack, WellTyped}
 use Rattle.aom_sound.specs.Effects.{Made, Pushed as Object_pushed, Pushed_operation as Operation_pushed, Same, applied, sets, unless_refused, updates}
 use Rattle.aom_sound.specs.Words.{read}
+use Rattle.aom_instructions.specs.declared.instr.Instr.{Instr}
 
 -- ---- kinds of objects that may be pushed
 
@@ -84,7 +85,8 @@ top_operation p (An_operation m w ∷ rest) below e u = record { rest = rest; me
 top_operation p _ below e u = cc
 
 -- a method's claims with its last entry, and without
-module _ (p : Image) (cs : List Cell) (fr : Frame) (sh : Shape) (ls : List Layer) (v : Pushed) (es : List Pushed) (e : sh.entries ≡ v ∷ es) (items : List Item) (known : forms items ≡ objects es (items_of ls)) where
+module _ (p : Image) (cs : List Cell) (fr : Frame) (sh : Shape) (ls : List Layer) (v : Pushed) (es : List Pushed) (e : sh.entries ≡ v ∷ es) (items : List Item)
+    (known : forms items ≡ objects es (items_of ls)) where
   abbrev less : Shape
   less = record sh { entries = es }
 
@@ -214,7 +216,9 @@ module _ (p : Image) (t : Typing) (c : Choice) (s : State) (fr : Frame) (sh : Sh
       fr' : Frame
       fr' = next (set_word fr a None)
 
-      popped_at : (x : Pushed) (es : List Pushed) → sh.entries ≡ x ∷ es → (rest : List Item) → s.items ≡ An_object ∷ rest → forms rest ≡ objects es (items_of ls) → AllTrue (needs p c fr (tasks_of ls) s (Pop a)) × WellTyped p t (does p c fr (tasks_of ls) s (Pop a))
+      popped_at :
+          (x : Pushed) (es : List Pushed) → sh.entries ≡ x ∷ es → (rest : List Item) → s.items ≡ An_object ∷ rest → forms rest ≡ objects es (items_of ls) →
+          AllTrue (needs p c fr (tasks_of ls) s (Pop a)) × WellTyped p t (does p c fr (tasks_of ls) s (Pop a))
       popped_at x es e rest is known =
           let d = declared p s.cells in
           let k = entry_kind x in
@@ -251,8 +255,10 @@ module _ (p : Image) (t : Typing) (c : Choice) (s : State) (fr : Frame) (sh : Sh
           let op = top_operation p s.items (objects es (items_of ls)) (at_hand.items ∙ ap (λ es. objects es (items_of ls)) e) at_hand.undos in
           let q = Entry (length op.rest) in
           let sh' = record sh { entries = es } in
-          let nothing : Fits p (seen s.cells) (held s.cells q) Null = subst (λ k. Fits p (seen s.cells) (held s.cells q) k) (entry_here p s.cells fr sh ls Pushed_operation es e op.rest op.known) (at_hand.good.fits q) in
-          let there = relabel p t s.cells fr (next fr) sh sh' ls q Null g refl refl refl refl nothing (entry_less p s.cells fr sh ls Pushed_operation es e op.rest op.known) at_hand.good.stack.1.words in
+          let nothing : Fits p (seen s.cells) (held s.cells q) Null =
+          subst (λ k. Fits p (seen s.cells) (held s.cells q) k) (entry_here p s.cells fr sh ls Pushed_operation es e op.rest op.known) (at_hand.good.fits q) in
+          let there =
+          relabel p t s.cells fr (next fr) sh sh' ls q Null g refl refl refl refl nothing (entry_less p s.cells fr sh ls Pushed_operation es e op.rest op.known) at_hand.good.stack.1.words in
           let lead : Leads t fr.method (suc fr.place) sh' = subst (λ es. Leads t fr.method (suc fr.place) (record sh { entries = without_top es })) e leads.0 in (
             (ap tops_entry op.is, (ap tops_operation op.is, tt)),
             subst (λ i. WellTyped p t (record s { tasks = Run (next fr) ∷ tasks_of ls; items = below_top i })) (sym op.is)
@@ -346,3 +352,13 @@ module _ (p : Image) (t : Typing) (c : Choice) (s : State) (fr : Frame) (sh : Sh
       goes : (b : Bool) → WellTyped p t (applied p fr (tasks_of ls) s (unless_refused b Same (sets fr a None (Made c.name x a))))
       goes true = leave_keeps p t wired s no_memory fr sh ls at_hand.items at_hand.undos g n.1.1.0 n.1.1.1.0 n.1.1.1.1.0 n.1.1.1.1.1.0
       goes false = well p t c s fr sh ls at_hand _ fr' (set_register sh a k) refl at_hand.items at_hand.undos (settle p t cells fr' (set_register sh a k) ls makes leads.0)
+
+  -- each instruction of this file by its law
+  abbrev pub of_entries : IsWired p → IsTyped p t → IsUnused p t c s fr sh ls at_hand → (i : Instr) → instr_at p fr.method fr.place ≡ Some i → Option (Law p t c s fr sh ls at_hand i)
+  of_entries wired typed unused (NewOrLeave a x) here = Some (law_new_or_leave wired a x unused)
+  of_entries wired typed unused (Push a) here = Some (law_push wired a)
+  of_entries wired typed unused (PushOperation a m) here = Some (law_push_operation wired a m here)
+  of_entries wired typed unused (Pop a) here = Some (law_pop a)
+  of_entries wired typed unused PopOperation here = Some law_pop_operation
+  of_entries wired typed unused PopDelete here = Some (law_pop_delete wired typed)
+  of_entries wired typed unused _ here = None

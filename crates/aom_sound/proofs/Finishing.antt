@@ -35,7 +35,7 @@ use Rattle.aom_sound.specs.Calls.{end_needs, is_level, is_register_but, leaves_o
 use Rattle.aom_sound.specs.Claims.{serves, delivered, Dispatching, Dying, Layer, Mark, Method, Object_form, Unwinding, claim, declared, declared_field, entry_claim, forms, home_claim, items_of, objects, root_claim, tasks_of, Ending}
 use Rattle.aom_sound.specs.Moves.{does, needs}
 use Rattle.aom_sound.specs.Objects.{is_thing}
-use Rattle.aom_sound.specs.Places.{In_service, Cell, Elsewhere, Entry, Field, Going, Object, Place, Register, Root, Sight, held, requested, same_place, seen}
+use Rattle.aom_sound.specs.Places.{In_service, Cell, Elsewhere, Entry, Field, Object, Place, Register, Root, Sight, held, requested, same_place, seen}
 use Rattle.aom_sound.specs.State.{An_object, AtRoot, Choice, Frame, Home, Inside, Item, State, Static, thing_holder}
 use Rattle.aom_sound.specs.WellTyped.{Fits, IsApart, IsHoused, NotAtRoot, RootUnclaimed, Unclaimed, WellTyped, past_going}
 use Rattle.aom_rules.specs.Requests.{is_cancel, unissued}
@@ -78,7 +78,9 @@ none_owns_from (c ∷ cs) d spared h = and_from _ _ (go spared c.owner h) (none_
     here : (f j : ℕ) → (f == d) ≡ true → cond (same_place (Register f j) (Register d j)) (Some c.object) (held cs (Register d j)) ≡ None → ⊥
     here f j e h = true≢false (sym (ap (λ b. b && (j == j)) e ∙ eq-eqb j j refl) ∙ (front_free _ _ _ h).0)
 
-    go : (spared : Option ℕ) (r : Place) → ((i : ℕ) → spares spared i ≡ false → cond (same_place r (Register d i)) (Some c.object) (held cs (Register d i)) ≡ None) → not (is_register_but d spared r) ≡ true
+    go :
+        (spared : Option ℕ) (r : Place) → ((i : ℕ) → spares spared i ≡ false → cond (same_place r (Register d i)) (Some c.object) (held cs (Register d i)) ≡ None) →
+        not (is_register_but d spared r) ≡ true
     go None (Register f j) h = elim (cases_Bool (f == d)) as (λ x. not (f == d) ≡ true) [
       | inl e ↦ absurd (here f j e (h j refl))
       | inr e ↦ ap not e
@@ -91,13 +93,7 @@ none_owns_from (c ∷ cs) d spared h = and_from _ _ (go spared c.owner h) (none_
       | inr e ↦ ap (λ b. not (b && not (j == a))) e
     ]
     go None (Entry k) h = refl
-    go None (Field n f) h = refl
-    go None (Going k) h = refl
-    go None (Elsewhere o) h = refl
-    go (Some a) (Entry k) h = refl
-    go (Some a) (Field n f) h = refl
-    go (Some a) (Going k) h = refl
-    go (Some a) (Elsewhere o) h = refl
+    go _ _ h = refl
 
 -- what holds of a field holds when nothing is known of it
 pub perhaps_fits : (p : Image) (h : Sight) (o : Option Object) (x : Option Thing) (y : Filling) → Fits p h o (filled x y) → Fits p h o (filled x Perhaps)
@@ -125,21 +121,30 @@ claim_root p d (Unwinding code es ∷ ls) u = claim_root p d ls u
 claim_root p d (Dispatching x seats ∷ ls) u = ap (λ b. cond b Null (claim p d ls (Elsewhere Root))) u.0 ∙ claim_root p d ls u.1
 
 -- a method ends
-pub ended : (p : Image) (cs : List Cell) (fr : Frame) (sh : Shape) (ls : List Layer) → IsHoused p cs ls fr.home → IsApart p fr.home ls → past_going ls ≡ ls → no_entry sh.entries ≡ true → none_owns sh.registers ≡ true → (serves p fr.method ≡ true → claim p (declared p cs) ls (Elsewhere In_service) ≡ delivered sh.delivery) → (r : Place) (h : Sight) (o : Option Object) → Fits p h o (claim p (declared p cs) (Method fr sh ∷ ls) r) → Fits p h o (claim p (declared p cs) ls r)
+pub ended :
+    (p : Image) (cs : List Cell) (fr : Frame) (sh : Shape) (ls : List Layer) → IsHoused p cs ls fr.home → IsApart p fr.home ls → past_going ls ≡ ls → no_entry sh.entries ≡ true →
+    none_owns sh.registers ≡ true → (serves p fr.method ≡ true → claim p (declared p cs) ls (Elsewhere In_service) ≡ delivered sh.delivery) → (r : Place) (h : Sight) (o : Option Object) →
+    Fits p h o (claim p (declared p cs) (Method fr sh ∷ ls) r) → Fits p h o (claim p (declared p cs) ls r)
 ended p cs fr sh ls housed apart at_top e n message (Register f i) h o fits = go (length (tasks_of ls) == f) refl fits
   where
     go : (b : Bool) → (length (tasks_of ls) == f) ≡ b → Fits p h o (cond b (register sh i) (claim p (declared p cs) ls (Register f i))) → Fits p h o (claim p (declared p cs) ls (Register f i))
-    go true e fits = subst (λ k. Fits p h o k) (sym (claim_register_above p cs ls f i (omega (arith, eqb-true _ _ e)))) (subst (λ x. Fits p h x Null) (sym (fits_unowning p h o (register sh i) (none_owns_at sh.registers i n) fits)) tt)
+    go true e fits =
+        subst (λ k. Fits p h o k) (sym (claim_register_above p cs ls f i (omega (arith, eqb-true _ _ e))))
+        (subst (λ x. Fits p h x Null) (sym (fits_unowning p h o (register sh i) (none_owns_at sh.registers i n) fits)) tt)
     go false e fits = fits
 ended p cs fr sh ls housed apart at_top e n message (Entry k) h o fits = subst (λ es. Fits p h o (entry_claim es (items_of ls) k (claim p (declared p cs) ls (Entry k)))) (no_entries sh.entries e) fits
 ended p cs fr sh ls housed apart at_top e n message (Field m f) h o fits = go fr.home housed apart fits
   where
-    go : (home : Home) → IsHoused p cs ls home → IsApart p home ls → Fits p h o (home_claim p home sh m f (claim p (declared p cs) ls (Field m f))) → Fits p h o (claim p (declared p cs) ls (Field m f))
+    go :
+        (home : Home) → IsHoused p cs ls home → IsApart p home ls → Fits p h o (home_claim p home sh m f (claim p (declared p cs) ls (Field m f))) →
+        Fits p h o (claim p (declared p cs) ls (Field m f))
     go Static hs ap' fits = fits
     go AtRoot hs ap' fits = fits
     go (Inside x from) hs ap' fits = cases (x.name == m) refl fits
       where
-        cases : (b : Bool) → (x.name == m) ≡ b → Fits p h o (cond b (filled (field_thing p (thing_holder x.thing) f) (field sh f)) (claim p (declared p cs) ls (Field m f))) → Fits p h o (claim p (declared p cs) ls (Field m f))
+        cases :
+            (b : Bool) → (x.name == m) ≡ b → Fits p h o (cond b (filled (field_thing p (thing_holder x.thing) f) (field sh f)) (claim p (declared p cs) ls (Field m f))) →
+            Fits p h o (claim p (declared p cs) ls (Field m f))
         cases false e fits = fits
         cases true e fits =
             let same = eqb-true x.name m e in
@@ -154,7 +159,9 @@ ended p cs fr sh ls housed apart at_top e n message (Elsewhere Root) h o fits = 
     go (Inside x from) ap' fits = fits
 ended p cs fr sh ls housed apart at_top e n message (Elsewhere In_service) h o fits = go (serves p fr.method) refl fits
   where
-    go : (b : Bool) → serves p fr.method ≡ b → Fits p h o (cond b (delivered sh.delivery) (claim p (declared p cs) ls (Elsewhere In_service))) → Fits p h o (claim p (declared p cs) ls (Elsewhere In_service))
+    go :
+        (b : Bool) → serves p fr.method ≡ b → Fits p h o (cond b (delivered sh.delivery) (claim p (declared p cs) ls (Elsewhere In_service))) →
+        Fits p h o (claim p (declared p cs) ls (Elsewhere In_service))
     go true serving fits = subst (λ k. Fits p h o k) (sym (message serving)) fits
     go false plain fits = fits
 ended p cs fr sh ls housed apart at_top e n message _ h o fits = fits
@@ -246,11 +253,13 @@ module _ (p : Image) (t : Typing) (c : Choice) (s : State) (fr : Frame) (sh : Sh
   spared (An_own x) n i other = free_register p t c s fr sh ls at_hand i (unmoved i n other)
     where
       unmoved : (i : ℕ) → none_owns (set_register sh a Null).registers ≡ true → (i == a) ≡ false → is_unowning (register sh i) ≡ true
-      unmoved i n other = sym (ap is_unowning (at-put_at Unset sh.registers a i Null ∙ ap (λ b. cond b Null (register sh i)) (eqb_comm a i ∙ other))) ∙ none_owns_at (set_register sh a Null).registers i n
+      unmoved i n other =
+          sym (ap is_unowning (at-put_at Unset sh.registers a i Null ∙ ap (λ b. cond b Null (register sh i)) (eqb_comm a i ∙ other))) ∙ none_owns_at (set_register sh a Null).registers i n
   spared (A_maybe x) n i other = free_register p t c s fr sh ls at_hand i (unmoved i n other)
     where
       unmoved : (i : ℕ) → none_owns (set_register sh a Null).registers ≡ true → (i == a) ≡ false → is_unowning (register sh i) ≡ true
-      unmoved i n other = sym (ap is_unowning (at-put_at Unset sh.registers a i Null ∙ ap (λ b. cond b Null (register sh i)) (eqb_comm a i ∙ other))) ∙ none_owns_at (set_register sh a Null).registers i n
+      unmoved i n other =
+          sym (ap is_unowning (at-put_at Unset sh.registers a i Null ∙ ap (λ b. cond b Null (register sh i)) (eqb_comm a i ∙ other))) ∙ none_owns_at (set_register sh a Null).registers i n
   spared _ n i other = free_register p t c s fr sh ls at_hand i (none_owns_at sh.registers i n)
 
   -- a method that cancels does not hang

@@ -96,7 +96,9 @@ module _ (p : Image) (c : Choice) (fr : Frame) (ts : List Task) (s : State) wher
   may_leave true cs n e = n.0
   may_leave false cs n e = cc
 
-  dealing : (items : List Item) (o : Option Object) → s.items ≡ items → held s.cells (top_place items) ≡ o → tops_entry items ≡ true → top_is_whole s.cells items ≡ true → May PopDelete (deals fr items o)
+  dealing :
+      (items : List Item) (o : Option Object) → s.items ≡ items → held s.cells (top_place items) ≡ o → tops_entry items ≡ true → top_is_whole s.cells items ≡ true →
+      May PopDelete (deals fr items o)
   dealing (An_object ∷ items) (Some o) at e there whole = ((refl, at ∙ ap (λ l. An_object ∷ l) (sym (ap below_top at)), ap (λ l. held s.cells (top_place l)) at ∙ e), λ l f. tt)
   dealing (An_operation m w ∷ items) o at e there whole = ((refl, at ∙ ap (λ l. An_operation m w ∷ l) (sym (ap below_top at))), λ l f. tt)
   dealing _ o at e there whole = cc

@@ -15,7 +15,7 @@ use Rattle.aom_sound.proofs.Straight.{Fitted, fits_unowning, settle}
 use Rattle.aom_sound.specs.Claims.{Ending, Dispatching, Dying, Layer, Mark, Method, Unwinding, claim, declared, declared_field, forms, items_of, objects, tasks_of}
 use Rattle.aom_sound.specs.Destruction.{gone, is_at_rest, is_field_of, owns_nothing}
 use Rattle.aom_sound.specs.Enlisted.{is_idle}
-use Rattle.aom_sound.specs.Places.{Session, Queued, In_service, service_of, Cell, Elsewhere, Entry, Field, Going, Idle, Object, Phase, Place, Register, Request, Root, Tidy, held, named, requested, same_place, seen, without}
+use Rattle.aom_sound.specs.Places.{Session, Queued, service_of, Cell, Elsewhere, Field, Going, Idle, Object, Phase, Place, Request, Tidy, held, named, requested, same_place, seen, without}
 use Rattle.aom_sound.specs.State.{Of_server, Parts, Seat, ActiveDestroyed, AtRoot, Home, Inside, IsStuck, Of_root, Orphan, State, Static, guarded, next, resumed}
 use Rattle.aom_sound.specs.WellTyped.{IsOverDying, SitsFirst, NoSeatAt, seat_of, AllUndo, Back, Caught, Fits, Gone, Good, Holds, IsHoused, Keeps, Leaves, Now, Returns, Stack, WellTyped}
 use Rattle.aom_sound.specs.Requests.{AllSuit, Suits, phase_state, resting_in, states_claim, thing_kind}
@@ -58,7 +58,9 @@ module _ (p : Image) (t : Typing) (cs : List Cell) (g : Place) (o : Object) (tid
 
   -- the server that goes above a layer is another cell
   ending_other : (x : Object) (ls : List Layer) → Outside g ls → IsOverDying x ls → Stack p t cs Now ls → (o.name == x.name) ≡ false
-  ending_other x (Dying y ∷ ls) out same s = ne_eqb o.name x.name (λ e. true≢false (sym (eq-eqb y.name o.name (ap (λ (z : Object). z.name) same ∙ sym e)) ∙ other_name p t cs g o tidy there (Going (length (tasks_of ls))) y s.0.1 (going_differs g y ls out)))
+  ending_other x (Dying y ∷ ls) out same s =
+      ne_eqb o.name x.name
+      (λ e. true≢false (sym (eq-eqb y.name o.name (ap (λ (z : Object). z.name) same ∙ sym e)) ∙ other_name p t cs g o tidy there (Going (length (tasks_of ls))) y s.0.1 (going_differs g y ls out)))
   ending_other x _ out same s = absurd same
 
   first_apart : (xs : List Seat) (y : Seat) → SitsFirst cs (Some y) xs → NoSeatAt g xs → same_place g y.place ≡ false
@@ -109,7 +111,9 @@ module _ (p : Image) (t : Typing) (cs : List Cell) (g : Place) (o : Object) (tid
 -- a cell that goes has nothing in its fields, and no session
 module _ (p : Image) (t : Typing) (cs : List Cell) (o : Object) (ls : List Layer) (good : Good p t cs (Dying o ∷ ls)) where
   no_fields : (f : ℕ) → held cs (Field o.name f) ≡ None
-  no_fields f = fits_unowning p (seen cs) _ Null refl (subst (λ b. Fits p (seen cs) (held cs (Field o.name f)) (cond b Null (claim p (declared p cs) ls (Field o.name f)))) (eq-eqb o.name _ refl) (good.fits (Field o.name f)))
+  no_fields f =
+      fits_unowning p (seen cs) _ Null refl
+      (subst (λ b. Fits p (seen cs) (held cs (Field o.name f)) (cond b Null (claim p (declared p cs) ls (Field o.name f)))) (eq-eqb o.name _ refl) (good.fits (Field o.name f)))
 
   no_sessions : (c : ℕ) → held cs (Elsewhere (Session o.name c)) ≡ None
   no_sessions c = fits_unowning p (seen cs) _ Null refl (subst (λ b. Fits p (seen cs) (held cs (Elsewhere (Session o.name c))) (cond b Null (claim p (declared p cs) ls (Elsewhere (Session o.name c))))) (eq-eqb o.name _ refl) (good.fits (Elsewhere (Session o.name c))))
@@ -121,17 +125,15 @@ module _ (p : Image) (t : Typing) (cs : List Cell) (o : Object) (ls : List Layer
       none (Field m f) e = ap (λ n. held cs (Field n f)) (sym (eqb-true o.name m e)) ∙ no_fields f
       none (Elsewhere (Session m c)) e = ap (λ n. held cs (Elsewhere (Session n c))) (sym (eqb-true o.name m e)) ∙ no_sessions c
       none (Elsewhere (Queued m k)) e = ap (λ b. cond b None (held cs (Elsewhere (Queued m k)))) (eq-eqb m o.name (sym (eqb-true o.name m e)))
-      none (Register f i) e = cc
-      none (Entry k) e = cc
-      none (Going k) e = cc
-      none (Elsewhere Root) e = cc
-      none (Elsewhere In_service) e = cc
+      none _ e = cc
 
 -- once nothing waits in its queue
 module _ (p : Image) (t : Typing) (cs : List Cell) (o : Object) (ls : List Layer) (stack : Stack p t cs Now (Dying o ∷ ls)) (tidy : Tidy cs) (suits : AllSuit p cs (Dying o ∷ ls))
     (fits : (r : Place) → is_queue_of o.name r ≡ false → Fits p (seen cs) (held cs r) (claim p (declared p cs) (Dying o ∷ ls) r))
     (unqueued : (m : ℕ) → held cs (Elsewhere (Queued o.name m)) ≡ None) where
-  fits_after : (r : Place) → Fits p (seen (without (Going (length (tasks_of ls))) cs)) (held (without (Going (length (tasks_of ls))) cs) r) (claim p (declared p (without (Going (length (tasks_of ls))) cs)) ls r)
+  fits_after :
+      (r : Place) →
+      Fits p (seen (without (Going (length (tasks_of ls))) cs)) (held (without (Going (length (tasks_of ls))) cs) r) (claim p (declared p (without (Going (length (tasks_of ls))) cs)) ls r)
   fits_after r = subst (λ x. Fits p (seen cs') x (claim p (declared p cs') ls r)) (sym (held_without cs g r)) (go (same_place g r) refl)
     where
       g : Place
@@ -153,7 +155,9 @@ module _ (p : Image) (t : Typing) (cs : List Cell) (o : Object) (ls : List Layer
       name_gone : named (without (Going (length (tasks_of ls))) cs) o.name ≡ None
       name_gone = unnamed cs g o tidy stack.0.1
 
-      keep : (r : Place) → is_queue_of o.name r ≡ false → claim p (declared p cs) (Dying o ∷ ls) r ≡ claim p (declared p cs) ls r → declared p cs r ≡ declared p (without (Going (length (tasks_of ls))) cs) r → Fits p (seen cs') (held cs r) (claim p (declared p cs') ls r)
+      keep :
+          (r : Place) → is_queue_of o.name r ≡ false → claim p (declared p cs) (Dying o ∷ ls) r ≡ claim p (declared p cs) ls r →
+          declared p cs r ≡ declared p (without (Going (length (tasks_of ls))) cs) r → Fits p (seen cs') (held cs r) (claim p (declared p cs') ls r)
       keep r plain e h = fits_age p (seen cs) (seen cs') (held cs r) _ (λ x e' fresh age. (λ f. fewer (Field x.name f) (age.0 f), unrequested cs g x.name tidy age.1))
           (subst (λ k. Fits p (seen cs) (held cs r) k) (e ∙ claim_rel (λ x y. x ≡ y) (λ k. refl) p (declared p cs) (declared p cs') ls r h) (fits r plain))
 
@@ -162,8 +166,6 @@ module _ (p : Image) (t : Typing) (cs : List Cell) (o : Object) (ls : List Layer
       nothing r gone null = subst (λ x. Fits p (seen cs') x (claim p (declared p cs') ls r)) (sym gone) (subst (λ k. Fits p (seen cs') None k) (sym null) tt)
 
       others : (r : Place) → same_place g r ≡ false → Fits p (seen cs') (held cs r) (claim p (declared p cs') ls r)
-      others (Register f i) e = keep (Register f i) refl refl refl
-      others (Entry k) e = keep (Entry k) refl refl refl
       others (Field n f) e = fields (o.name == n) refl
         where
           own_field : held cs (Field o.name f) ≡ None
@@ -174,7 +176,6 @@ module _ (p : Image) (t : Typing) (cs : List Cell) (o : Object) (ls : List Layer
               let same = eqb-true o.name n d in
               nothing (Field n f) (ap (λ m. held cs (Field m f)) (sym same) ∙ own_field) (ap (λ m. claim p (declared p cs') ls (Field m f)) (sym same) ∙ claim_unclaimed p (declared p cs') ls o.name f (λ f. Null) u.unclaimed (ap (λ x. declared_field p x f) name_gone))
           fields false d = keep (Field n f) refl (ap (λ b. cond b Null (claim p (declared p cs) ls (Field n f))) d) (ap (λ x. declared_field p x f) (sym (named_without cs g o n tidy stack.0.1 d)))
-      others (Elsewhere Root) e = keep (Elsewhere Root) refl refl refl
       others (Elsewhere (Session n c)) e = sessions (o.name == n) refl
         where
           own_session : held cs (Elsewhere (Session o.name c)) ≡ None
@@ -187,7 +188,6 @@ module _ (p : Image) (t : Typing) (cs : List Cell) (o : Object) (ls : List Layer
               (ap (λ m. claim p (declared p cs') ls (Elsewhere (Session m c))) (sym same) ∙ u.sessions (declared p cs') c ∙ ap (λ x. cond (has_session (service_of cs' o.name) c) (filled (session_thing p x) Full) Null) name_gone ∙ cond_same (has_session (service_of cs' o.name) c) Null)
           sessions false d = keep (Elsewhere (Session n c)) refl (ap (λ b. cond b Null (claim p (declared p cs) ls (Elsewhere (Session n c)))) d)
               (ap (λ v. cond (has_session v c) (filled (session_thing p (named cs n)) Full) Null) (sym (service_without cs g o n tidy stack.0.1 d)) ∙ ap (λ x. cond (has_session (service_of cs' n) c) (filled (session_thing p x) Full) Null) (sym (named_without cs g o n tidy stack.0.1 d)))
-      others (Elsewhere In_service) e = keep (Elsewhere In_service) refl refl refl
       others (Elsewhere (Queued n m)) e = waits (o.name == n) refl
         where
           waits : (b : Bool) → (o.name == n) ≡ b → Fits p (seen cs') (held cs (Elsewhere (Queued n m))) (claim p (declared p cs') ls (Elsewhere (Queued n m)))
@@ -202,9 +202,11 @@ module _ (p : Image) (t : Typing) (cs : List Cell) (o : Object) (ls : List Layer
           tail : (b : Bool) → (b && true) ≡ false → b ≡ false
           tail true e = e
           tail false e = refl
+      others r e = keep r refl refl refl
 
       go : (b : Bool) → same_place g r ≡ b → Fits p (seen cs') (cond b None (held cs r)) (claim p (declared p cs') ls r)
-      go true e = subst (λ k. Fits p (seen cs') None k) (sym (ap (λ q. claim p (declared p cs') ls q) (sym (same_place-true g r e)) ∙ claim_going_above p cs' ls (length (tasks_of ls)) (omega arith))) tt
+      go true e =
+          subst (λ k. Fits p (seen cs') None k) (sym (ap (λ q. claim p (declared p cs') ls q) (sym (same_place-true g r e)) ∙ claim_going_above p cs' ls (length (tasks_of ls)) (omega arith))) tt
       go false e = others r e
 
   -- what is left is another object
@@ -224,7 +226,9 @@ module _ (p : Image) (t : Typing) (cs : List Cell) (o : Object) (ls : List Layer
           (subst (λ b. Suits (thing_kind p x.thing) (cond b (resting_in (last_of (thing_kind p x.thing))) (states_claim p x ls)) (requested cs x.name)) other (suits x there))
 
 -- the method below goes on, or the run is at its end
-goes_on : (p : Image) (t : Typing) (s : State) (ls : List Layer) → Stack p t s.cells Gone ls → ((r : Place) → Fits p (seen s.cells) (held s.cells r) (claim p (declared p s.cells) ls r)) → AllSuit p s.cells ls → Tidy s.cells → s.tasks ≡ resumed (tasks_of ls) → forms s.items ≡ items_of ls → AllUndo p s.items → WellTyped p t s
+goes_on :
+    (p : Image) (t : Typing) (s : State) (ls : List Layer) → Stack p t s.cells Gone ls → ((r : Place) → Fits p (seen s.cells) (held s.cells r) (claim p (declared p s.cells) ls r)) →
+    AllSuit p s.cells ls → Tidy s.cells → s.tasks ≡ resumed (tasks_of ls) → forms s.items ≡ items_of ls → AllUndo p s.items → WellTyped p t s
 goes_on p t s [] stack fits suits tidy tasks items undos = let clash : Gone ≡ Now = stack in cc
 goes_on p t s (Method fr sh ∷ ls) stack fits suits tidy tasks items undos =
     let f : Fitted p t s.cells (next fr) sh ls = record {
@@ -238,11 +242,41 @@ goes_on p t s (Method fr sh ∷ ls) stack fits suits tidy tasks items undos =
     } in
     let g = settle p t s.cells (next fr) sh ls f stack.0 in
     record { layers = Method (next fr) g.0 ∷ ls; tasks = tasks; items = items ∙ ap (λ es. objects es (items_of ls)) (sym g.2); undos = undos; good = g.1 }
-goes_on p t s (Unwinding code es ∷ ls) stack fits suits tidy tasks items undos = record { layers = Unwinding code es ∷ ls; tasks = tasks; items = items; undos = undos; good = record { stack = (tt, stack.1); fits = fits; suits = suits; tidy = tidy } }
-goes_on p t s (Dispatching Of_root seats ∷ ls) stack fits suits tidy tasks items undos = record { layers = Dispatching Of_root seats ∷ ls; tasks = tasks; items = items; undos = undos; good = record { stack = (tt, stack.1, stack.2, stack.3, stack.4); fits = fits; suits = suits; tidy = tidy } }
-goes_on p t s (Dispatching (Of_server x client Parts) seats ∷ ls) stack fits suits tidy tasks items undos = record { layers = Dispatching (Of_server x client Parts) seats ∷ ls; tasks = tasks; items = items; undos = undos; good = record { stack = (tt, stack.1, stack.2, stack.3, stack.4); fits = fits; suits = suits; tidy = tidy } }
-goes_on p t s (Ending o left ∷ ls) stack fits suits tidy tasks items undos = record { layers = Ending o left ∷ ls; tasks = tasks; items = items; undos = undos; good = record { stack = (stack.0, tt, stack.2, stack.3); fits = fits; suits = suits; tidy = tidy } }
-goes_on p t s (Dying o ∷ ls) stack fits suits tidy tasks items undos = record { layers = Dying o ∷ ls; tasks = tasks; items = items; undos = undos; good = record { stack = (stack.0, tt, stack.2); fits = fits; suits = suits; tidy = tidy } }
+goes_on p t s (Unwinding code es ∷ ls) stack fits suits tidy tasks items undos = record {
+  layers = Unwinding code es ∷ ls;
+  tasks = tasks;
+  items = items;
+  undos = undos;
+  good = record { stack = (tt, stack.1); fits = fits; suits = suits; tidy = tidy };
+}
+goes_on p t s (Dispatching Of_root seats ∷ ls) stack fits suits tidy tasks items undos = record {
+  layers = Dispatching Of_root seats ∷ ls;
+  tasks = tasks;
+  items = items;
+  undos = undos;
+  good = record { stack = (tt, stack.1, stack.2, stack.3, stack.4); fits = fits; suits = suits; tidy = tidy };
+}
+goes_on p t s (Dispatching (Of_server x client Parts) seats ∷ ls) stack fits suits tidy tasks items undos = record {
+  layers = Dispatching (Of_server x client Parts) seats ∷ ls;
+  tasks = tasks;
+  items = items;
+  undos = undos;
+  good = record { stack = (tt, stack.1, stack.2, stack.3, stack.4); fits = fits; suits = suits; tidy = tidy };
+}
+goes_on p t s (Ending o left ∷ ls) stack fits suits tidy tasks items undos = record {
+  layers = Ending o left ∷ ls;
+  tasks = tasks;
+  items = items;
+  undos = undos;
+  good = record { stack = (stack.0, tt, stack.2, stack.3); fits = fits; suits = suits; tidy = tidy };
+}
+goes_on p t s (Dying o ∷ ls) stack fits suits tidy tasks items undos = record {
+  layers = Dying o ∷ ls;
+  tasks = tasks;
+  items = items;
+  undos = undos;
+  good = record { stack = (stack.0, tt, stack.2); fits = fits; suits = suits; tidy = tidy };
+}
 goes_on p t s _ stack fits suits tidy tasks items undos = absurd stack.0
 
 -- what is about to go is at rest
@@ -274,25 +308,13 @@ module _ (p : Image) (t : Typing) (s : State) (o : Object) (ls : List Layer) (go
 
   waits_sent : (r : Place) → is_queue_of o.name r ≡ true → is_sent r ≡ true
   waits_sent (Elsewhere (Queued n m)) e = refl
-  waits_sent (Register f i) e = cc
-  waits_sent (Entry k) e = cc
-  waits_sent (Field n f) e = cc
-  waits_sent (Going k) e = cc
-  waits_sent (Elsewhere Root) e = cc
-  waits_sent (Elsewhere (Session n c)) e = cc
-  waits_sent (Elsewhere In_service) e = cc
+  waits_sent _ e = cc
 
   waits_messages : (r : Place) (x : Object) → is_queue_of o.name r ≡ true → held s.cells r ≡ Some x → x.thing ≡ Message
   waits_messages (Elsewhere (Queued n m)) x e there =
       waits_message p (seen s.cells) x (has_message (service_of s.cells n) m) (named s.cells n)
       (subst (λ k. Fits p (seen s.cells) (Some x) k) (queued_claim p (declared p s.cells) (Dying o ∷ ls) n m) (subst (λ y. Fits p (seen s.cells) y (claim p (declared p s.cells) (Dying o ∷ ls) (Elsewhere (Queued n m)))) there (good.fits (Elsewhere (Queued n m)))))
-  waits_messages (Register f i) x e there = cc
-  waits_messages (Entry k) x e there = cc
-  waits_messages (Field n f) x e there = cc
-  waits_messages (Going k) x e there = cc
-  waits_messages (Elsewhere Root) x e there = cc
-  waits_messages (Elsewhere (Session n c)) x e there = cc
-  waits_messages (Elsewhere In_service) x e there = cc
+  waits_messages _ x e there = cc
 
   abbrev less : List Cell
   less = dropped waits s.cells
@@ -338,7 +360,9 @@ module _ (p : Image) (t : Typing) (s : State) (o : Object) (ls : List Layer) (go
       (alike.tidy (tidy_without less g tidy_less))
       refl items undos
 
-pub going_keeps : (p : Image) (t : Typing) (s : State) (o : Object) (ls : List Layer) → Good p t s.cells (Dying o ∷ ls) → forms s.items ≡ items_of ls → AllUndo p s.items → Keeps p t (gone (held s.cells (Going (length (tasks_of ls)))) (tasks_of ls) s)
+pub going_keeps :
+    (p : Image) (t : Typing) (s : State) (o : Object) (ls : List Layer) → Good p t s.cells (Dying o ∷ ls) → forms s.items ≡ items_of ls → AllUndo p s.items →
+    Keeps p t (gone (held s.cells (Going (length (tasks_of ls)))) (tasks_of ls) s)
 going_keeps p t s o ls good items undos =
     let end = after p t s o ls good (without_queue o.name s.cells) in
     subst (λ x. Keeps p t (gone x (tasks_of ls) s)) (sym good.stack.0.1)

@@ -9,8 +9,12 @@ goes_same s u e = cc
 
 pub guarded_goes : (needs : List Need) (s u : State) → guarded needs s ≡ Goes u → s ≡ u
 guarded_goes [] s u e = cc
-guarded_goes (need ∷ needs) s u e = let rest : (guarded needs s ≡ Goes u → s ≡ u) = guarded_goes needs s u in true_given (λ b. cond b (guarded needs s) (IsStuck need.1) ≡ Goes u) need.0 e (λ e. cc) (λ _ e. rest e)
+guarded_goes (need ∷ needs) s u e =
+    let rest : (guarded needs s ≡ Goes u → s ≡ u) = guarded_goes needs s u in
+    true_given (λ b. cond b (guarded needs s) (IsStuck need.1) ≡ Goes u) need.0 e (λ e. cc) (λ _ e. rest e)
 
 pub guarded_met : (list : List Need) (s u : State) → guarded list s ≡ Goes u → AllTrue list
 guarded_met [] s u e = tt
-guarded_met (need ∷ list) s u e = let rest : (guarded list s ≡ Goes u → AllTrue list) = guarded_met list s u in true_given (λ b. cond b (guarded list s) (IsStuck need.1) ≡ Goes u) need.0 e (λ e. cc) (λ h e. (h, rest e))
+guarded_met (need ∷ list) s u e =
+    let rest : (guarded list s ≡ Goes u → AllTrue list) = guarded_met list s u in
+    true_given (λ b. cond b (guarded list s) (IsStuck need.1) ≡ Goes u) need.0 e (λ e. cc) (λ h e. (h, rest e))

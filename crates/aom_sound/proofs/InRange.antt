@@ -24,7 +24,7 @@ use Rattle.aom_sound.specs.Laws.{IsWired, RegistersKeep}
 use Rattle.aom_sound.specs.Moves.{needs_end, counted, dispatch_ends, does, main_ends, needs, step, step_instr, step_task, answered, asking, failed, handled, object_ends}
 use Rattle.aom_sound.specs.Places.{Service, set_service, Session, In_service, Queued, service_of, Cell, Elsewhere, Entry, Going, Object, Place, Register, Request, Root, held, moved, same_place, set_request, set_word_field, without, set_session}
 use Rattle.aom_sound.specs.Registers.{AllInRange, IsInRange}
-use Rattle.aom_sound.specs.State.{Seat, Of_server, Accepts, Accepted, Accept_left, Serves, Service_left, Parts, Closing, A_mark, An_object, An_operation, AtRoot, Choice, Destroy, Dispatch, Dispatched, Frame, Goes, Home, Inside, IsStuck, Item, Main_left, NullOrDead, Of_main, Of_root, Run, State, Static, Task, Trapped, Unwind, field_place, Answered, Asks, Object_left, Of_object}
+use Rattle.aom_sound.specs.State.{Seat, Of_server, Accepts, Service_left, Parts, Closing, A_mark, An_object, An_operation, AtRoot, Choice, Destroy, Dispatch, Dispatched, Frame, Goes, Home, Inside, IsStuck, Item, NullOrDead, Of_main, Run, State, Static, Task, Trapped, Unwind, field_place, Answered, Asks, Object_left, Of_object}
 use Rattle.aom_sound.specs.Words.{here, stored}
 use Rattle.aom_rules.specs.Requests.{is_cancel}
 use Rattle.aom_sound.specs.Natives.{all_bereaved, resessioned}
@@ -80,7 +80,8 @@ fewer_in_range false c cs fits all = (fits, all)
 
 withdrawn_in_range : (client : ℕ) (cs : List Cell) → AllInRange cs → AllInRange (withdrawn client cs)
 withdrawn_in_range client [] all = tt
-withdrawn_in_range client (c ∷ cs) all = fewer_in_range (is_queue c.owner && is_from client c.service.sender) (record c { service = left_by client c.service }) (withdrawn client cs) all.0 (withdrawn_in_range client cs all.1)
+withdrawn_in_range client (c ∷ cs) all =
+    fewer_in_range (is_queue c.owner && is_from client c.service.sender) (record c { service = left_by client c.service }) (withdrawn client cs) all.0 (withdrawn_in_range client cs all.1)
 
 dequeued_in_range : (n : ℕ) (cs : List Cell) → AllInRange cs → AllInRange (without_queue n cs)
 dequeued_in_range n [] all = tt
@@ -171,7 +172,9 @@ module _ (p : Image) (wired : IsWired p) (fr : Frame) (ts : List Task) (s : Stat
   return_in_range g a (Trapped ∷ Dispatched d ∷ below) = go d
     where
       go : (d : Dispatch) → AllInRange (accepted_cells d (here fr ts s a) s.cells)
-      go (Of_server x client Accepts) = serve_in_range x.object.name _ (moved (here fr ts s a) (Elsewhere (Session x.object.name client)) s.cells) (move_in_range (here fr ts s a) (Elsewhere (Session x.object.name client)) s.cells tt all)
+      go (Of_server x client Accepts) =
+          serve_in_range x.object.name _ (moved (here fr ts s a) (Elsewhere (Session x.object.name client)) s.cells)
+          (move_in_range (here fr ts s a) (Elsewhere (Session x.object.name client)) s.cells tt all)
       go _ = all
   return_in_range g a (Trapped ∷ _) = all
   return_in_range g a _ = all
@@ -249,8 +252,6 @@ answer_in_range p answer s all = go (int_eq answer (pos 0))
     go false = all
 
 dispatch_in_range : (p : Image) (d : Dispatch) (s : State) → AllInRange s.cells → AllInRange (dispatch_ends p d s).cells
-dispatch_in_range p Of_root s all = all
-dispatch_in_range p (Main_left code) s all = all
 dispatch_in_range p Of_main s all = close_in_range p s s.rest.stopped (held s.cells (Elsewhere Root)) all
 dispatch_in_range p (Of_object x) s all = object_in_range p s all
 dispatch_in_range p (Object_left x code) s all = go (part_of p Error x.object.thing)
@@ -260,12 +261,9 @@ dispatch_in_range p (Object_left x code) s all = go (part_of p Error x.object.th
     go (Some m) = all
 dispatch_in_range p (Asks x) s all = object_in_range p s all
 dispatch_in_range p (Answered x answer) s all = answer_in_range p answer s all
-dispatch_in_range p (Of_server x client Accepts) s all = all
-dispatch_in_range p (Of_server x client Accepted) s all = all
-dispatch_in_range p (Of_server x client (Accept_left code)) s all = all
-dispatch_in_range p (Of_server x client (Serves o)) s all = all
 dispatch_in_range p (Of_server x client (Service_left code)) s all = end_in_range (Elsewhere In_service) s.cells all
 dispatch_in_range p (Of_server x client Parts) s all = serve_in_range x.object.name _ s.cells all
+dispatch_in_range p _ s all = all
 
 -- what clients do
 module _ (p : Image) (client : ℕ) (s : State) (all : AllInRange s.cells) where

@@ -52,7 +52,9 @@ entry_there (x ∷ es) below (A_mark ∷ items) k e lt = absurd (no_mark x cc)
 entry_there _ below _ k e lt = absurd (first_of (cc, omega arith))
 
 -- an entry that owns is no operation
-pub entry_owns : (es : List Pushed) (below : List Form) (items : List Item) (k : ℕ) → forms items ≡ objects es below → k < length es → is_unowning (entry_kind (at Pushed_operation es k)) ≡ false → is_no_operation (entry_at items k) ≡ true
+pub entry_owns :
+    (es : List Pushed) (below : List Form) (items : List Item) (k : ℕ) → forms items ≡ objects es below → k < length es → is_unowning (entry_kind (at Pushed_operation es k)) ≡ false →
+    is_no_operation (entry_at items k) ≡ true
 entry_owns (x ∷ es) below (An_object ∷ items) zero e lt own = refl
 entry_owns (x ∷ es) below (An_object ∷ items) (suc k) e lt own = let same : forms items ≡ objects es below = cc in entry_owns es below items k same (omega arith) own
 entry_owns (x ∷ es) below (An_operation m w ∷ items) (suc k) e lt own = let same : forms items ≡ objects es below = cc in entry_owns es below items k same (omega arith) own
@@ -84,7 +86,9 @@ readied_kind (Pushed_object c a) = refl
 readied_kind Pushed_operation = refl
 
 -- that entry alone is claimed anew
-pub readied_claim : (es : List Pushed) (below : List Form) (k j : ℕ) (rest : Kind) → k < length es → entry_claim (readied_at es k) below j rest ≡ cond ((length (objects es below) - suc k) == j) (readied (entry_kind (at Pushed_operation es k))) (entry_claim es below j rest)
+pub readied_claim :
+    (es : List Pushed) (below : List Form) (k j : ℕ) (rest : Kind) → k < length es →
+    entry_claim (readied_at es k) below j rest ≡ cond ((length (objects es below) - suc k) == j) (readied (entry_kind (at Pushed_operation es k))) (entry_claim es below j rest)
 readied_claim [] below k j rest lt = absurd (omega arith)
 readied_claim (x ∷ es) below zero j rest lt =
     let same : suc (length (objects es below)) - 1 ≡ length (objects es below) = omega arith in
@@ -102,7 +106,10 @@ readied_claim (x ∷ es) below (suc k) j rest lt =
     ∙ past (length (objects es below) == j) ((length (objects es below) - suc k) == j) refl refl
     ∙ ap (λ n. cond (n == j) (readied (entry_kind (at Pushed_operation es k))) (cond (length (objects es below) == j) (entry_kind x) (entry_claim es below j rest))) (sym same)
   where
-    past : (a b : Bool) → (length (objects es below) == j) ≡ a → ((length (objects es below) - suc k) == j) ≡ b → cond a (entry_kind x) (cond b (readied (entry_kind (at Pushed_operation es k))) (entry_claim es below j rest)) ≡ cond b (readied (entry_kind (at Pushed_operation es k))) (cond a (entry_kind x) (entry_claim es below j rest))
+    past :
+        (a b : Bool) → (length (objects es below) == j) ≡ a → ((length (objects es below) - suc k) == j) ≡ b →
+        cond a (entry_kind x) (cond b (readied (entry_kind (at Pushed_operation es k))) (entry_claim es below j rest))
+        ≡ cond b (readied (entry_kind (at Pushed_operation es k))) (cond a (entry_kind x) (entry_claim es below j rest))
     past true true f g = absurd (omega (arith, lt, length_each es below, eqb-true _ _ f, eqb-true _ _ g))
     past true false f g = refl
     past false true f g = refl

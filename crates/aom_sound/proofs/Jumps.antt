@@ -25,8 +25,11 @@ use Rattle.aom_sound.specs.Moves.{does}
 use Rattle.aom_sound.specs.Places.{Object, Place, held, seen}
 use Rattle.aom_sound.specs.State.{Choice, Frame, Run, State, counter, field_place, home_holder, next, set_counter, to_place, word}
 use Rattle.aom_sound.specs.WellTyped.{Fits, WellTyped, WordFits}
+use Rattle.aom_instructions.specs.declared.instr.Instr.{Instr}
 
-pub words_kept : (words : List (Option ℤ)) (sh : Shape) (a : ℕ) (k : Kind) → ((i : ℕ) → WordFits (at None words i) (register sh i)) → WordFits (at None words a) k → (i : ℕ) → WordFits (at None words i) (register (set_register sh a k) i)
+pub words_kept :
+    (words : List (Option ℤ)) (sh : Shape) (a : ℕ) (k : Kind) → ((i : ℕ) → WordFits (at None words i) (register sh i)) → WordFits (at None words a) k → (i : ℕ) →
+    WordFits (at None words i) (register (set_register sh a k) i)
 words_kept words sh a k h w i = subst (λ x. WordFits (at None words i) x) (sym (at-put_at Unset sh.registers a i k)) (go (a == i) refl)
   where
     go : (b : Bool) → (a == i) ≡ b → WordFits (at None words i) (cond b k (register sh i))
@@ -48,7 +51,9 @@ module _ (p : Image) (t : Typing) (c : Choice) (s : State) (fr : Frame) (sh : Sh
       none : word fr a ≡ None
       none = no_word p t c s fr sh ls at_hand a n.0
 
-      learned : (fr' : Frame) (k : Kind) → fr'.home ≡ fr.home → fr'.method ≡ fr.method → fr'.height ≡ fr.height → fr'.words ≡ fr.words → Fits p (seen s.cells) (held s.cells (top ls a)) k → WordFits None k → Fitted p t s.cells fr' (set_register sh a k) ls
+      learned :
+          (fr' : Frame) (k : Kind) → fr'.home ≡ fr.home → fr'.method ≡ fr.method → fr'.height ≡ fr.height → fr'.words ≡ fr.words → Fits p (seen s.cells) (held s.cells (top ls a)) k →
+          WordFits None k → Fitted p t s.cells fr' (set_register sh a k) ls
       learned fr' k eh em eg ew new w = relabel p t s.cells fr fr' sh (set_register sh a k) ls (top ls a) k g eh em eg refl new (λ r. claim-set_register p (declared p s.cells) fr sh ls a k r)
           (λ i. subst (λ ws. WordFits (at None ws i) (register (set_register sh a k) i)) (sym ew) (words_kept fr.words sh a k at_hand.good.stack.1.words (subst (λ x. WordFits x k) (sym none) w) i))
 
@@ -57,11 +62,15 @@ module _ (p : Image) (t : Typing) (c : Choice) (s : State) (fr : Frame) (sh : Sh
           Fits p (seen s.cells) (held s.cells (top ls a)) (register sh a) → WellTyped p t (applied p fr (tasks_of ls) s (jumps_unless fr o to))
       go Unset o ek eo leads f = let e : is_object_or_null Unset ≡ true = ap is_object_or_null (sym ek) ∙ n.0 in cc
       go Word o ek eo leads f = let e : is_object_or_null Word ≡ true = ap is_object_or_null (sym ek) ∙ n.0 in cc
-      go Null None ek eo leads f = well p t c s fr sh ls at_hand _ (to_place fr to) sh refl at_hand.items at_hand.undos (settle p t s.cells (to_place fr to) sh ls (placed (to_place fr to) refl refl refl refl) leads.0)
+      go Null None ek eo leads f =
+          well p t c s fr sh ls at_hand _ (to_place fr to) sh refl at_hand.items at_hand.undos (settle p t s.cells (to_place fr to) sh ls (placed (to_place fr to) refl refl refl refl) leads.0)
       go Null (Some o) ek eo leads f = absurd (subst (λ x. Fits p (seen s.cells) x Null) eo (subst (λ k. Fits p (seen s.cells) (held s.cells (top ls a)) k) ek f))
       go (Own x y) None ek eo leads f = absurd (subst (λ o. Fits p (seen s.cells) o (Own x y)) eo (subst (λ k. Fits p (seen s.cells) (held s.cells (top ls a)) k) ek f))
-      go (Own x y) (Some o) ek eo leads f = well p t c s fr sh ls at_hand _ (next fr) sh refl at_hand.items at_hand.undos (settle p t s.cells (next fr) sh ls (placed (next fr) refl refl refl refl) leads.0)
-      go (Maybe x y) None ek eo leads f = well p t c s fr sh ls at_hand _ (to_place fr to) (set_register sh a Null) refl at_hand.items at_hand.undos (settle p t s.cells (to_place fr to) (set_register sh a Null) ls (learned (to_place fr to) Null refl refl refl refl (subst (λ o. Fits p (seen s.cells) o Null) (sym eo) tt) refl) leads.1.0)
+      go (Own x y) (Some o) ek eo leads f =
+          well p t c s fr sh ls at_hand _ (next fr) sh refl at_hand.items at_hand.undos (settle p t s.cells (next fr) sh ls (placed (next fr) refl refl refl refl) leads.0)
+      go (Maybe x y) None ek eo leads f =
+          well p t c s fr sh ls at_hand _ (to_place fr to) (set_register sh a Null) refl at_hand.items at_hand.undos
+          (settle p t s.cells (to_place fr to) (set_register sh a Null) ls (learned (to_place fr to) Null refl refl refl refl (subst (λ o. Fits p (seen s.cells) o Null) (sym eo) tt) refl) leads.1.0)
       go (Maybe x y) (Some o) ek eo leads f = well p t c s fr sh ls at_hand _ (next fr) (set_register sh a (Own x y)) refl at_hand.items at_hand.undos (settle p t s.cells (next fr) (set_register sh a (Own x y)) ls (learned (next fr) (Own x y) refl refl refl refl (subst (λ z. Fits p (seen s.cells) z (Own x y)) (sym eo) (subst (λ z. Fits p (seen s.cells) z (Maybe x y)) eo (subst (λ k. Fits p (seen s.cells) (held s.cells (top ls a)) k) ek f))) refl) leads.0)
 
   pub law_jump : (to : ℕ) → Law p t c s fr sh ls at_hand (Jump to)
@@ -69,7 +78,8 @@ module _ (p : Image) (t : Typing) (c : Choice) (s : State) (fr : Frame) (sh : Sh
 
   -- both flows know what is known here
   pub goes_either : (to : ℕ) → AllLead t fr.method (flow_compare fr.place sh to) → (b : Bool) → WellTyped p t (applied p fr (tasks_of ls) s (jumps_if fr b to))
-  goes_either to leads true = well p t c s fr sh ls at_hand _ (to_place fr to) sh refl at_hand.items at_hand.undos (settle p t s.cells (to_place fr to) sh ls (placed (to_place fr to) refl refl refl refl) leads.1.0)
+  goes_either to leads true =
+      well p t c s fr sh ls at_hand _ (to_place fr to) sh refl at_hand.items at_hand.undos (settle p t s.cells (to_place fr to) sh ls (placed (to_place fr to) refl refl refl refl) leads.1.0)
   goes_either to leads false = well p t c s fr sh ls at_hand _ (next fr) sh refl at_hand.items at_hand.undos (settle p t s.cells (next fr) sh ls (stepped p t s.cells fr sh ls g) leads.0)
 
   -- what the jump learns of a field
@@ -131,5 +141,18 @@ module _ (p : Image) (t : Typing) (c : Choice) (s : State) (fr : Frame) (sh : Sh
   law_next depth to n leads = (tt, go (counter fr depth - 1))
     where
       go : (left : ℕ) → WellTyped p t (applied p fr (tasks_of ls) s (round left depth to))
-      go zero = let fr' = next (set_counter fr depth 0) in well p t c s fr sh ls at_hand _ fr' sh refl at_hand.items at_hand.undos (settle p t s.cells fr' sh ls (placed fr' refl refl refl refl) leads.1.0)
-      go (suc left) = let fr' = to_place (set_counter fr depth (suc left)) to in well p t c s fr sh ls at_hand _ fr' sh refl at_hand.items at_hand.undos (settle p t s.cells fr' sh ls (placed fr' refl refl refl refl) leads.0)
+      go zero =
+          let fr' = next (set_counter fr depth 0) in
+          well p t c s fr sh ls at_hand _ fr' sh refl at_hand.items at_hand.undos (settle p t s.cells fr' sh ls (placed fr' refl refl refl refl) leads.1.0)
+      go (suc left) =
+          let fr' = to_place (set_counter fr depth (suc left)) to in
+          well p t c s fr sh ls at_hand _ fr' sh refl at_hand.items at_hand.undos (settle p t s.cells fr' sh ls (placed fr' refl refl refl refl) leads.0)
+
+  -- each instruction of this file by its law
+  abbrev pub of_jumps : (i : Instr) → Option (Law p t c s fr sh ls at_hand i)
+  of_jumps (Jump to) = Some (law_jump to)
+  of_jumps (JumpNull a to) = Some (law_jump_null a to)
+  of_jumps (JumpEmpty f to) = Some (law_jump_empty f to)
+  of_jumps (Loop depth rounds) = Some (law_loop depth rounds)
+  of_jumps (Next depth to) = Some (law_next depth to)
+  of_jumps _ = None

@@ -16,15 +16,20 @@ module _ {G : Type 0} (P : List Layer → Type 0) where
   going_layer ts (Dying o ∷ ls) e h gives = gives o ls (cc) h
   going_layer ts _ e h gives = absurd cc
 
-  pub closing_layer : (ts : List Task) (ls : List Layer) → tasks_of ls ≡ Closing ∷ ts → P ls → ((o : Object) (left : List ℕ) (below : List Layer) → tasks_of below ≡ ts → P (Ending o left ∷ below) → G) → G
+  pub closing_layer :
+      (ts : List Task) (ls : List Layer) → tasks_of ls ≡ Closing ∷ ts → P ls → ((o : Object) (left : List ℕ) (below : List Layer) → tasks_of below ≡ ts → P (Ending o left ∷ below) → G) → G
   closing_layer ts (Ending o left ∷ ls) e h gives = gives o left ls (cc) h
   closing_layer ts _ e h gives = absurd cc
 
-  pub leave_layer : (code : ℤ) (ts : List Task) (ls : List Layer) → tasks_of ls ≡ Unwind code ∷ ts → P ls → ((es : List Pushed) (below : List Layer) → tasks_of below ≡ ts → P (Unwinding code es ∷ below) → G) → G
+  pub leave_layer :
+      (code : ℤ) (ts : List Task) (ls : List Layer) → tasks_of ls ≡ Unwind code ∷ ts → P ls →
+      ((es : List Pushed) (below : List Layer) → tasks_of below ≡ ts → P (Unwinding code es ∷ below) → G) → G
   leave_layer code ts (Unwinding code' es ∷ ls) e h gives = let same : code' ≡ code = cc in gives es ls (cc) (subst (λ x. P (Unwinding x es ∷ ls)) same h)
   leave_layer code ts _ e h gives = absurd cc
 
-  pub dispatch_layer : (d : Dispatch) (ts : List Task) (ls : List Layer) → tasks_of ls ≡ Dispatched d ∷ ts → P ls → ((seats : List Seat) (below : List Layer) → tasks_of below ≡ ts → P (Dispatching d seats ∷ below) → G) → G
+  pub dispatch_layer :
+      (d : Dispatch) (ts : List Task) (ls : List Layer) → tasks_of ls ≡ Dispatched d ∷ ts → P ls →
+      ((seats : List Seat) (below : List Layer) → tasks_of below ≡ ts → P (Dispatching d seats ∷ below) → G) → G
   dispatch_layer d ts (Dispatching d' seats ∷ ls) e h gives = let same : d' ≡ d = cc in gives seats ls (cc) (subst (λ x. P (Dispatching x seats ∷ ls)) same h)
   dispatch_layer d ts _ e h gives = absurd cc
 

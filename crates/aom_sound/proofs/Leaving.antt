@@ -22,7 +22,7 @@ use Rattle.aom_shape.specs.Kinds.{is_here}
 use Rattle.aom_shape.specs.declared.kind.Delivery.{Delivery}
 use Rattle.aom_shape.specs.declared.kind.Delivery.TheVariants.{Gone, Here}
 use Rattle.aom_sound.specs.Cleanup.{above_trap_is_free, has_trap, is_negative, leave_needs, to_trap}
-use Rattle.aom_sound.specs.Places.{In_service, Cell, Elsewhere, Entry, Field, Going, Object, Place, Register, Request, Root, Sight, held, named, requested, seen}
+use Rattle.aom_sound.specs.Places.{In_service, Cell, Elsewhere, Entry, Field, Object, Place, Register, Request, Root, Sight, held, named, requested, seen}
 use Rattle.aom_sound.specs.State.{Asks, AtRoot, Choice, Dispatch, Frame, Home, Inside, Run, State, Static, Unwind, next, Of_server, Accepts, Accepted, Accept_left, Serves, Service_left, Parts}
 use Rattle.aom_sound.specs.WellTyped.{HasMessage, AllUndo, EndsDispatch, Fits, IsApart, IsHoused, Leaves, Returns, Stack, WellTyped, past_going}
 use Rattle.aom_sound.specs.Effects.{Leaves, Same, applied, updates}
@@ -34,16 +34,12 @@ use Rattle.aom_image.specs.declared.class.ClassKind.{ClassKind}
 use Rattle.aom_sound.specs.Laws.{IsWired}
 use Rattle.aom_image.specs.declared.method.Role.{Role}
 use Rattle.aom_image.specs.declared.method.Role.TheVariants.{Cancel}
+use Rattle.aom_instructions.specs.declared.instr.Instr.{Instr}
 
 -- the entries of the methods over the innermost trap, the last first
 abbrev pub entries_over : List Layer → List Pushed
-entries_over [] = []
 entries_over (Method fr sh ∷ ls) = sh.entries ++ entries_over ls
-entries_over (Mark gv ∷ ls) = []
-entries_over (Dying o ∷ ls) = []
-entries_over (Ending o left ∷ ls) = []
-entries_over (Unwinding code es ∷ ls) = []
-entries_over (Dispatching d seats ∷ ls) = []
+entries_over _ = []
 
 -- the layers from that trap on
 abbrev pub from_trap : List Layer → List Layer
@@ -74,13 +70,12 @@ entries_join (e ∷ es) fs items k below =
     ap (λ n. cond (n == k) (entry_kind e) (entry_claim (es ++ fs) items k below)) (ap length (objects_append es fs items))
     ∙ ap (λ z. cond (length (objects es (objects fs items)) == k) (entry_kind e) z) (entries_join es fs items k below)
 
-join_claims : (p : Image) (d : Place → Kind) (code : ℤ) (es fs : List Pushed) (ls : List Layer) (r : Place) → claim p d (Unwinding code es ∷ Unwinding code fs ∷ ls) r ≡ claim p d (Unwinding code (es ++ fs) ∷ ls) r
-join_claims p d code es fs ls (Register f i) = refl
-join_claims p d code es fs ls (Entry k) = sym (entries_join es fs (items_of ls) k (claim p d ls (Entry k)))
-join_claims p d code es fs ls (Field n f) = refl
+join_claims :
+    (p : Image) (d : Place → Kind) (code : ℤ) (es fs : List Pushed) (ls : List Layer) (r : Place) →
+    claim p d (Unwinding code es ∷ Unwinding code fs ∷ ls) r ≡ claim p d (Unwinding code (es ++ fs) ∷ ls) r
 join_claims p d code es fs ls (Elsewhere Root) = refl
-join_claims p d code es fs ls (Elsewhere w) = refl
-join_claims p d code es fs ls (Going k) = refl
+join_claims p d code es fs ls (Entry k) = sym (entries_join es fs (items_of ls) k (claim p d ls (Entry k)))
+join_claims p d code es fs ls _ = refl
 
 -- what lies under a method that may leave: neither the end of the run nor a dispatch's
 no_end : {A : Type 0} (p : Image) (d : Dispatch) (m : ℕ) (home : Home) → leaves p m ≡ true → EndsDispatch p d (Returns m home) → A
@@ -98,7 +93,10 @@ not_going p t cs (Dying o ∷ ls) m home e s = absurd (true≢false (sym e ∙ s
 not_going p t cs _ m home e s = refl
 
 -- a method ends by a leave, and its entries are still there
-ended_by_leave : (p : Image) (cs : List Cell) (fr : Frame) (sh : Shape) (ls : List Layer) (code : ℤ) → IsHoused p cs ls fr.home → IsApart p fr.home ls → past_going ls ≡ ls → none_owns sh.registers ≡ true → (serves p fr.method ≡ true → sh.delivery ≡ Here) → HasMessage p fr ls → (r : Place) (h : Sight) (o : Option Object) → Fits p h o (claim p (declared p cs) (Method fr sh ∷ ls) r) → Fits p h o (claim p (declared p cs) (Unwinding code sh.entries ∷ ls) r)
+ended_by_leave :
+    (p : Image) (cs : List Cell) (fr : Frame) (sh : Shape) (ls : List Layer) (code : ℤ) → IsHoused p cs ls fr.home → IsApart p fr.home ls → past_going ls ≡ ls →
+    none_owns sh.registers ≡ true → (serves p fr.method ≡ true → sh.delivery ≡ Here) → HasMessage p fr ls → (r : Place) (h : Sight) (o : Option Object) →
+    Fits p h o (claim p (declared p cs) (Method fr sh ∷ ls) r) → Fits p h o (claim p (declared p cs) (Unwinding code sh.entries ∷ ls) r)
 ended_by_leave p cs fr sh ls code housed apart at_top n here served r h o fits = go r fits
   where
     -- the message is where it was
@@ -122,16 +120,22 @@ ended_by_leave p cs fr sh ls code housed apart at_top n here served r h o fits =
     go (Register f i) fits = ended p cs fr bare ls housed apart at_top refl n message (Register f i) h o fits
     go (Entry k) fits = fits
     go (Field m f) fits = ended p cs fr bare ls housed apart at_top refl n message (Field m f) h o (subst (λ k. Fits p h o k) (same_fields fr.home m f (claim p (declared p cs) ls (Field m f))) fits)
-    go (Elsewhere Root) fits = ended p cs fr bare ls housed apart at_top refl n message (Elsewhere Root) h o (subst (λ k. Fits p h o k) (same_root fr.home (claim p (declared p cs) ls (Elsewhere Root))) fits)
+    go (Elsewhere Root) fits =
+        ended p cs fr bare ls housed apart at_top refl n message (Elsewhere Root) h o (subst (λ k. Fits p h o k) (same_root fr.home (claim p (declared p cs) ls (Elsewhere Root))) fits)
     go (Elsewhere In_service) fits = ended p cs fr bare ls housed apart at_top refl n message (Elsewhere In_service) h o fits
     go _ fits = fits
 
 -- all methods over the trap end so
-all_ended : (p : Image) (t : Typing) (cs : List Cell) (code : ℤ) (ls : List Layer) (es : List Pushed) (m : ℕ) (home : Home) → leaves p m ≡ true → Stack p t cs (Returns m home) ls → (r : Place) (h : Sight) (o : Option Object) → Fits p h o (claim p (declared p cs) (Unwinding code es ∷ ls) r) → Fits p h o (claim p (declared p cs) (Unwinding code (es ++ entries_over ls) ∷ from_trap ls) r)
+all_ended :
+    (p : Image) (t : Typing) (cs : List Cell) (code : ℤ) (ls : List Layer) (es : List Pushed) (m : ℕ) (home : Home) → leaves p m ≡ true → Stack p t cs (Returns m home) ls →
+    (r : Place) (h : Sight) (o : Option Object) → Fits p h o (claim p (declared p cs) (Unwinding code es ∷ ls) r) →
+    Fits p h o (claim p (declared p cs) (Unwinding code (es ++ entries_over ls) ∷ from_trap ls) r)
 all_ended p t cs code (Method fr sh ∷ ls) es m home e s r h o fits =
     let may = s.0.0 e in
     let d = declared p cs in
-    let one = layer_rel (λ x y. Fits p h o x → Fits p h o y) (λ k f. f) p (Unwinding code es) (length (tasks_of (Method fr sh ∷ ls))) (items_of (Method fr sh ∷ ls)) r _ _ (ended_by_leave p cs fr sh ls code s.2 s.3 (not_going p t cs ls _ _ may.0 s.4) may.1 may.3 s.1.message r h o) fits in
+    let one =
+    layer_rel (λ x y. Fits p h o x → Fits p h o y) (λ k f. f) p (Unwinding code es) (length (tasks_of (Method fr sh ∷ ls))) (items_of (Method fr sh ∷ ls)) r _ _
+    (ended_by_leave p cs fr sh ls code s.2 s.3 (not_going p t cs ls _ _ may.0 s.4) may.1 may.3 s.1.message r h o) fits in
     let two = subst (λ k. Fits p h o k) (join_claims p d code es sh.entries ls r) one in
     subst (λ es. Fits p h o (claim p d (Unwinding code es ∷ from_trap ls) r)) (append_assoc es sh.entries (entries_over ls))
     (all_ended p t cs code ls (es ++ sh.entries) fr.method fr.home may.0 s.4 r h o two)
@@ -207,7 +211,9 @@ module _ (p : Image) (t : Typing) (wired : IsWired p) (cs : List Cell) (x : Obje
       known_plain p fr states (states_claim p x ls) (loud_cancels fr.method loud) ∙ ap (λ (b : Bool). record { states = states; cancelled = b }) (none_cancels ls fr.method fr.home loud s)
 
   module _ (lives : named cs x.name ≡ Some x) where
-    rested_left : (ls : List Layer) (m : ℕ) (home : Home) → leaves p m ≡ true → Stack p t cs (Returns m home) ls → Joins p x ls → Suits k (resting_in (rests_in p x)) r → Suits k (states_claim p x (from_trap ls)) r
+    rested_left :
+        (ls : List Layer) (m : ℕ) (home : Home) → leaves p m ≡ true → Stack p t cs (Returns m home) ls → Joins p x ls → Suits k (resting_in (rests_in p x)) r →
+        Suits k (states_claim p x (from_trap ls)) r
     rested_left (Method fr sh ∷ ls) m home e s (inl w) rests = rested_left ls fr.method fr.home (s.0.0 e).0 s.4 (on_it p cs ls x fr.home lives w s.2 s.3) rests
     rested_left (Method fr sh ∷ ls) m home e s (inr u) rests = rests_there p x (from_trap ls) r (unworked_from_trap x.name ls u.1) rests
     rested_left (Mark gv ∷ Method fr sh ∷ ls) m home e s j rests =
@@ -218,7 +224,9 @@ module _ (p : Image) (t : Typing) (wired : IsWired p) (cs : List Cell) (x : Obje
     rested_left _ m home e s j rests = absurd (first_of (assumption tt, cc))
 
     -- the object that a method which may leave works on
-    works_left : (fr : Frame) (sh : Shape) (ls : List Layer) → leaves p fr.method ≡ true → unissued sh.states ≡ true → IsHoused p cs ls fr.home → IsApart p fr.home ls → Stack p t cs (Returns fr.method fr.home) ls → works_at x.name fr.home ≡ true → Suits k (known_at p fr sh.states (states_claim p x ls)) r → Suits k (states_claim p x (from_trap ls)) r
+    works_left :
+        (fr : Frame) (sh : Shape) (ls : List Layer) → leaves p fr.method ≡ true → unissued sh.states ≡ true → IsHoused p cs ls fr.home → IsApart p fr.home ls →
+        Stack p t cs (Returns fr.method fr.home) ls → works_at x.name fr.home ≡ true → Suits k (known_at p fr sh.states (states_claim p x ls)) r → Suits k (states_claim p x (from_trap ls)) r
     works_left fr sh ls may u housed apart s w h =
         rested_left ls fr.method fr.home may s (on_it p cs ls x fr.home lives w housed apart)
         (suits_rests k sh.states r u (subst (λ n. Suits k n r) (known_leaving fr sh.states ls may s) h))
@@ -229,19 +237,25 @@ module _ (p : Image) (t : Typing) (wired : IsWired p) (cs : List Cell) (x : Obje
         below : Known
         below = states_claim p x ls
 
-        go : (b : Bool) → works_at x.name fr.home ≡ b → Suits k (cond b (known_at p fr sh.states below) below) r → (Suits k below r → Suits k (states_claim p x (from_trap ls)) r) → Suits k (states_claim p x (from_trap ls)) r
+        go :
+            (b : Bool) → works_at x.name fr.home ≡ b → Suits k (cond b (known_at p fr sh.states below) below) r → (Suits k below r → Suits k (states_claim p x (from_trap ls)) r) →
+            Suits k (states_claim p x (from_trap ls)) r
         go true w h rest = let may = s.0.0 e in works_left fr sh ls may.0 may.2 s.2 s.3 s.4 w h
         go false w h rest = rest h
     suits_left _ m home e s h = h
 
 -- so it is with all objects
-all_left : (p : Image) (t : Typing) (wired : IsWired p) (cs : List Cell) (code : ℤ) (es : List Pushed) (fr : Frame) (sh : Shape) (ls : List Layer) → Fitted p t cs fr sh ls → leaves p fr.method ≡ true → unissued sh.states ≡ true → AllSuit p cs (Unwinding code es ∷ from_trap ls)
+all_left :
+    (p : Image) (t : Typing) (wired : IsWired p) (cs : List Cell) (code : ℤ) (es : List Pushed) (fr : Frame) (sh : Shape) (ls : List Layer) → Fitted p t cs fr sh ls →
+    leaves p fr.method ≡ true → unissued sh.states ≡ true → AllSuit p cs (Unwinding code es ∷ from_trap ls)
 all_left p t wired cs code es fr sh ls g may u x lives = go (works_at x.name fr.home) refl (g.suits x lives)
   where
     below : Known
     below = states_claim p x ls
 
-    go : (b : Bool) → works_at x.name fr.home ≡ b → Suits (thing_kind p x.thing) (cond b (known_at p fr sh.states below) below) (requested cs x.name) → Suits (thing_kind p x.thing) (states_claim p x (from_trap ls)) (requested cs x.name)
+    go :
+        (b : Bool) → works_at x.name fr.home ≡ b → Suits (thing_kind p x.thing) (cond b (known_at p fr sh.states below) below) (requested cs x.name) →
+        Suits (thing_kind p x.thing) (states_claim p x (from_trap ls)) (requested cs x.name)
     go true w h = works_left p t wired cs x lives fr sh ls may u g.housed g.apart g.stack w h
     go false w h = suits_left p t wired cs x lives ls fr.method fr.home may g.stack h
 
@@ -250,13 +264,19 @@ abbrev RegistersFit : Image → List Cell → List Layer → Type 0
 RegistersFit p cs ls = (f i : ℕ) → f < length (tasks_of ls) → Fits p (seen cs) (held cs (Register f i)) (claim p (declared p cs) ls (Register f i))
 
 registers_below : (p : Image) (cs : List Cell) (fr : Frame) (sh : Shape) (ls : List Layer) → RegistersFit p cs (Method fr sh ∷ ls) → RegistersFit p cs ls
-registers_below p cs fr sh ls h f i lt = subst (λ k. Fits p (seen cs) (held cs (Register f i)) k) (ap (λ b. cond b (register sh i) (claim p (declared p cs) ls (Register f i))) (ne_eqb (length (tasks_of ls)) f (λ e. absurd (omega arith)))) (h f i (omega arith))
+registers_below p cs fr sh ls h f i lt =
+    subst (λ k. Fits p (seen cs) (held cs (Register f i)) k)
+    (ap (λ b. cond b (register sh i) (claim p (declared p cs) ls (Register f i))) (ne_eqb (length (tasks_of ls)) f (λ e. absurd (omega arith)))) (h f i (omega arith))
 
-frame_is_free : (p : Image) (cs : List Cell) (fr : Frame) (sh : Shape) (ls : List Layer) → RegistersFit p cs (Method fr sh ∷ ls) → none_owns sh.registers ≡ true → none_owns_but cs (length (tasks_of ls)) None ≡ true
+frame_is_free :
+    (p : Image) (cs : List Cell) (fr : Frame) (sh : Shape) (ls : List Layer) → RegistersFit p cs (Method fr sh ∷ ls) → none_owns sh.registers ≡ true →
+    none_owns_but cs (length (tasks_of ls)) None ≡ true
 frame_is_free p cs fr sh ls h n = none_owns_from cs (length (tasks_of ls)) None (λ i e. fits_unowning p (seen cs) _ (register sh i) (none_owns_at sh.registers i n) (subst (λ k. Fits p (seen cs) (held cs (Register (length (tasks_of ls)) i)) k) (claim_register p (declared p cs) fr sh ls i) (h (length (tasks_of ls)) i (omega arith))))
 
 -- under a method that may leave there is a trap, and the registers up to it own nothing
-below_leaving : (p : Image) (t : Typing) (cs : List Cell) (ls : List Layer) (m : ℕ) (home : Home) → leaves p m ≡ true → Stack p t cs (Returns m home) ls → RegistersFit p cs ls → (has_trap (tasks_of ls) ≡ true) × (above_trap_is_free cs (tasks_of ls) ≡ true)
+below_leaving :
+    (p : Image) (t : Typing) (cs : List Cell) (ls : List Layer) (m : ℕ) (home : Home) → leaves p m ≡ true → Stack p t cs (Returns m home) ls → RegistersFit p cs ls →
+    (has_trap (tasks_of ls) ≡ true) × (above_trap_is_free cs (tasks_of ls) ≡ true)
 below_leaving p t cs (Method fr sh ∷ ls) m home e s h =
     let may = s.0.0 e in
     let rest = below_leaving p t cs ls fr.method fr.home may.0 s.4 (registers_below p cs fr sh ls h) in
@@ -266,14 +286,18 @@ below_leaving p t cs (Dispatching d seats ∷ ls) m home e s h = no_end p d m ho
 below_leaving p t cs _ m home e s h = absurd (first_of (assumption tt, cc))
 
 -- where a method may leave and its registers own nothing, the needs of a leave are met; any frame may stand for its own
-pub leave_is_met : (p : Image) (t : Typing) (cs : List Cell) (fr top_frame : Frame) (sh : Shape) (ls : List Layer) → Fitted p t cs fr sh ls → leaves p fr.method ≡ true → none_owns sh.registers ≡ true → AllTrue (leave_needs cs (Run top_frame ∷ tasks_of ls))
+pub leave_is_met :
+    (p : Image) (t : Typing) (cs : List Cell) (fr top_frame : Frame) (sh : Shape) (ls : List Layer) → Fitted p t cs fr sh ls → leaves p fr.method ≡ true → none_owns sh.registers ≡ true →
+    AllTrue (leave_needs cs (Run top_frame ∷ tasks_of ls))
 leave_is_met p t cs fr top_frame sh ls g may n =
     let h : RegistersFit p cs (Method fr sh ∷ ls) = λ f i lt. g.fits (Register f i) in
     let rest = below_leaving p t cs ls fr.method fr.home may g.stack (registers_below p cs fr sh ls h) in
     (rest.0, (and_from _ _ (frame_is_free p cs fr sh ls h n) rest.1, tt))
 
 -- there is a trap under such a method
-pub trap_is_there : (p : Image) (t : Typing) (cs : List Cell) (fr : Frame) (sh : Shape) (ls : List Layer) → Fitted p t cs fr sh ls → leaves p fr.method ≡ true → none_owns sh.registers ≡ true → has_trap (tasks_of ls) ≡ true
+pub trap_is_there :
+    (p : Image) (t : Typing) (cs : List Cell) (fr : Frame) (sh : Shape) (ls : List Layer) → Fitted p t cs fr sh ls → leaves p fr.method ≡ true → none_owns sh.registers ≡ true →
+    has_trap (tasks_of ls) ≡ true
 trap_is_there p t cs fr sh ls g may n = (leave_is_met p t cs fr fr sh ls g may n).0
 
 pub here_is : (d : Delivery) → is_here d ≡ true → d ≡ Here
@@ -281,7 +305,10 @@ here_is Here e = refl
 here_is Gone e = cc
 
 -- a leave from such a state is well typed
-pub leave_keeps : (p : Image) (t : Typing) → IsWired p → (s : State) (code : ℤ) (fr : Frame) (sh : Shape) (ls : List Layer) → forms s.items ≡ objects sh.entries (items_of ls) → AllUndo p s.items → Fitted p t s.cells fr sh ls → leaves p fr.method ≡ true → none_owns sh.registers ≡ true → unissued sh.states ≡ true → is_here sh.delivery ≡ true → WellTyped p t (record s { tasks = Unwind code ∷ to_trap (tasks_of ls) })
+pub leave_keeps :
+    (p : Image) (t : Typing) → IsWired p → (s : State) (code : ℤ) (fr : Frame) (sh : Shape) (ls : List Layer) → forms s.items ≡ objects sh.entries (items_of ls) → AllUndo p s.items →
+    Fitted p t s.cells fr sh ls → leaves p fr.method ≡ true → none_owns sh.registers ≡ true → unissued sh.states ≡ true → is_here sh.delivery ≡ true →
+    WellTyped p t (record s { tasks = Unwind code ∷ to_trap (tasks_of ls) })
 leave_keeps p t wired s code fr sh ls items undos g may n u here = record {
   layers = Unwinding code (sh.entries ++ entries_over ls) ∷ from_trap ls;
   tasks = ap (λ ts. Unwind code ∷ ts) (tasks_from_trap ls);
@@ -301,7 +328,9 @@ module _ (p : Image) (t : Typing) (wired : IsWired p) (c : Choice) (s : State) (
   met : leaves p fr.method ≡ true → none_owns sh.registers ≡ true → AllTrue (leave_needs s.cells (Run fr ∷ tasks_of ls))
   met may n = leave_is_met p t s.cells fr fr sh ls (fitted p t s.cells fr sh ls at_hand.good) may n
 
-  leaves_here : (code : ℤ) → leaves p fr.method ≡ true → none_owns sh.registers ≡ true → unissued sh.states ≡ true → is_here sh.delivery ≡ true → WellTyped p t (applied p fr (tasks_of ls) s (Leaves code Same))
+  leaves_here :
+      (code : ℤ) → leaves p fr.method ≡ true → none_owns sh.registers ≡ true → unissued sh.states ≡ true → is_here sh.delivery ≡ true →
+      WellTyped p t (applied p fr (tasks_of ls) s (Leaves code Same))
   leaves_here code may n u here = leave_keeps p t wired s code fr sh ls at_hand.items at_hand.undos (fitted p t s.cells fr sh ls at_hand.good) may n u here
 
   pub law_leave : (a : ℕ) → Law p t c s fr sh ls at_hand (Leave a)
@@ -320,4 +349,12 @@ module _ (p : Image) (t : Typing) (wired : IsWired p) (c : Choice) (s : State) (
 
       goes : (b : Bool) → WellTyped p t (applied p fr (tasks_of ls) s (cond b (Leaves w Same) (updates fr Same)))
       goes true = leaves_here w n.1.0 n.1.1.0 n.1.1.1.0 n.1.1.1.1.0
-      goes false = well p t c s fr sh ls at_hand (applied p fr (tasks_of ls) s (updates fr Same)) (next fr) sh refl at_hand.items at_hand.undos (settle p t s.cells (next fr) sh ls (stepped p t s.cells fr sh ls (fitted p t s.cells fr sh ls at_hand.good)) leads.0)
+      goes false =
+          well p t c s fr sh ls at_hand (applied p fr (tasks_of ls) s (updates fr Same)) (next fr) sh refl at_hand.items at_hand.undos
+          (settle p t s.cells (next fr) sh ls (stepped p t s.cells fr sh ls (fitted p t s.cells fr sh ls at_hand.good)) leads.0)
+
+  -- each instruction of this file by its law
+  abbrev pub of_leaves : (i : Instr) → Option (Law p t c s fr sh ls at_hand i)
+  of_leaves (Leave a) = Some (law_leave a)
+  of_leaves (LeaveIf a) = Some (law_leave_if a)
+  of_leaves _ = None

@@ -22,14 +22,8 @@ place_from (suc (suc (suc (suc k)))) part a b = Elsewhere (other_from part a b)
 
 place_again : (p : Place) → place_from (place_kind p) (place_part p) (place_outer p) (place_inner p) ≡ p
 unfolding place_from other_from
-place_again (Register f r) = refl
-place_again (Entry k) = refl
-place_again (Field n f) = refl
-place_again (Elsewhere Root) = refl
 place_again (Elsewhere (Session s c)) = refl
-place_again (Elsewhere In_service) = refl
-place_again (Elsewhere (Queued s m)) = refl
-place_again (Going k) = refl
+place_again _ = refl
 
 pub same_place-true : (p q : Place) → same_place p q ≡ true → p ≡ q
 same_place-true p q e =
@@ -79,18 +73,26 @@ held_moved (c ∷ cs) p q r free =
     let f = front_free _ _ _ free in
     first (same_place c.owner p) refl f.0 (held_moved cs p q r f.1)
   where
-    second : (x y z : Bool) → same_place c.owner p ≡ false → same_place c.owner q ≡ false → same_place c.owner r ≡ x → same_place q r ≡ y → same_place p r ≡ z → held (moved p q cs) r ≡ cond y (held cs p) (cond z None (held cs r)) → cond x (Some c.object) (held (moved p q cs) r) ≡ cond y (held cs p) (cond z None (cond x (Some c.object) (held cs r)))
+    second :
+        (x y z : Bool) → same_place c.owner p ≡ false → same_place c.owner q ≡ false → same_place c.owner r ≡ x → same_place q r ≡ y → same_place p r ≡ z →
+        held (moved p q cs) r ≡ cond y (held cs p) (cond z None (held cs r)) →
+        cond x (Some c.object) (held (moved p q cs) r) ≡ cond y (held cs p) (cond z None (cond x (Some c.object) (held cs r)))
     second false y z np nq e f g ih = ih
     second true false false np nq e f g ih = refl
     second true true z np nq e f g ih = absurd (true≢false (sym (same_place_along c.owner r q e ∙ same_place_comm r q ∙ f) ∙ nq))
     second true false true np nq e f g ih = absurd (true≢false (sym (same_place_along c.owner r p e ∙ same_place_comm r p ∙ g) ∙ np))
 
-    third : (y z : Bool) → same_place c.owner r ≡ z → held (moved p q cs) r ≡ cond y (held cs p) (cond z None (held cs r)) → cond y (Some c.object) (held (moved p q cs) r) ≡ cond y (Some c.object) (cond z None (cond (same_place c.owner r) (Some c.object) (held cs r)))
+    third :
+        (y z : Bool) → same_place c.owner r ≡ z → held (moved p q cs) r ≡ cond y (held cs p) (cond z None (held cs r)) →
+        cond y (Some c.object) (held (moved p q cs) r) ≡ cond y (Some c.object) (cond z None (cond (same_place c.owner r) (Some c.object) (held cs r)))
     third true z e ih = refl
     third false true e ih = ih
     third false false e ih = ih ∙ sym (ap (λ b. cond b (Some c.object) (held cs r)) e)
 
-    first : (b : Bool) → same_place c.owner p ≡ b → same_place c.owner q ≡ false → held (moved p q cs) r ≡ transfer p q (held cs) r → cond (same_place (cond b q c.owner) r) (Some c.object) (held (moved p q cs) r) ≡ cond (same_place q r) (cond b (Some c.object) (held cs p)) (cond (same_place p r) None (cond (same_place c.owner r) (Some c.object) (held cs r)))
+    first :
+        (b : Bool) → same_place c.owner p ≡ b → same_place c.owner q ≡ false → held (moved p q cs) r ≡ transfer p q (held cs) r →
+        cond (same_place (cond b q c.owner) r) (Some c.object) (held (moved p q cs) r)
+        ≡ cond (same_place q r) (cond b (Some c.object) (held cs p)) (cond (same_place p r) None (cond (same_place c.owner r) (Some c.object) (held cs r)))
     first true e nq ih = third (same_place q r) (same_place p r) (same_place_along c.owner p r e) ih
     first false e nq ih = second (same_place c.owner r) (same_place q r) (same_place p r) e nq refl refl refl ih
 
@@ -112,7 +114,8 @@ tidy_moved (c ∷ cs) p q free t =
     rest r free e h = held_moved cs p q r free ∙ ap (λ b. cond b (held cs p) (cond (same_place p r) None (held cs r))) e ∙ ap (λ x. cond (same_place p r) None x) h ∙ cond_same (same_place p r) None
 
     own : (b : Bool) → same_place c.owner p ≡ b → same_place c.owner q ≡ false → held cs q ≡ None → held (moved p q cs) (cond b q c.owner) ≡ None
-    own true e nq free = held_moved cs p q q free ∙ ap (λ b. cond b (held cs p) (cond (same_place p q) None (held cs q))) (same_place_refl q) ∙ ap (λ r. held cs r) (sym (same_place-true c.owner p e)) ∙ t.0
+    own true e nq free =
+        held_moved cs p q q free ∙ ap (λ b. cond b (held cs p) (cond (same_place p q) None (held cs q))) (same_place_refl q) ∙ ap (λ r. held cs r) (sym (same_place-true c.owner p e)) ∙ t.0
     own false e nq free = rest c.owner free (same_place_comm q c.owner ∙ nq) t.0
 
 -- a list written at one place
@@ -131,7 +134,9 @@ pub held_named : (cs : List Cell) (p : Place) (o : Object) → held cs p ≡ Som
 held_named [] p o e n = cc
 held_named (c ∷ cs) p o e n = go (same_place c.owner p) (c.object.name == o.name) refl (held_named cs p o) e n
   where
-    go : (b x : Bool) → (c.object.name == o.name) ≡ x → (held cs p ≡ Some o → named cs o.name ≡ None → ⊥) → cond b (Some c.object) (held cs p) ≡ Some o → cond x (Some c.object) (named cs o.name) ≡ None → ⊥
+    go :
+        (b x : Bool) → (c.object.name == o.name) ≡ x → (held cs p ≡ Some o → named cs o.name ≡ None → ⊥) → cond b (Some c.object) (held cs p) ≡ Some o →
+        cond x (Some c.object) (named cs o.name) ≡ None → ⊥
     go b true f ih e n = none-some _ (sym n)
     go true false f ih e n = let same : c.object ≡ o = cc in false≢true (sym f ∙ eq-eqb _ _ (ap (λ x. x.name) same))
     go false false f ih e n = ih e n
@@ -140,7 +145,9 @@ pub one_place : (cs : List Cell) (p q : Place) (o x : Object) → Tidy cs → he
 one_place [] p q o x t e f n = cc
 one_place (c ∷ cs) p q o x t e f n = go (same_place c.owner p) (same_place c.owner q) (λ e f. one_place cs p q o x t.2 e f n) refl refl e f
   where
-    go : (a b : Bool) → (held cs p ≡ Some o → held cs q ≡ Some x → p ≡ q) → same_place c.owner p ≡ a → same_place c.owner q ≡ b → cond a (Some c.object) (held cs p) ≡ Some o → cond b (Some c.object) (held cs q) ≡ Some x → p ≡ q
+    go :
+        (a b : Bool) → (held cs p ≡ Some o → held cs q ≡ Some x → p ≡ q) → same_place c.owner p ≡ a → same_place c.owner q ≡ b → cond a (Some c.object) (held cs p) ≡ Some o →
+        cond b (Some c.object) (held cs q) ≡ Some x → p ≡ q
     go true true ih ea eb e f = sym (same_place-true c.owner p ea) ∙ same_place-true c.owner q eb
     go false false ih ea eb e f = ih e f
     go true false ih ea eb e f = let same : c.object ≡ o = cc in absurd (held_named cs q x f (ap (λ k. named cs k) (sym n ∙ sym (ap (λ y. y.name) same)) ∙ t.1))
@@ -151,7 +158,9 @@ pub held_lives : (cs : List Cell) (p : Place) (o : Object) → Tidy cs → held 
 held_lives [] p o t e = cc
 held_lives (c ∷ cs) p o t e = go (same_place c.owner p) (c.object.name == o.name) refl (held_lives cs p o t.2) e
   where
-    go : (b x : Bool) → (c.object.name == o.name) ≡ x → (held cs p ≡ Some o → named cs o.name ≡ Some o) → cond b (Some c.object) (held cs p) ≡ Some o → cond x (Some c.object) (named cs o.name) ≡ Some o
+    go :
+        (b x : Bool) → (c.object.name == o.name) ≡ x → (held cs p ≡ Some o → named cs o.name ≡ Some o) → cond b (Some c.object) (held cs p) ≡ Some o →
+        cond x (Some c.object) (named cs o.name) ≡ Some o
     go true true f ih e = e
     go true false f ih e = let same : c.object ≡ o = cc in absurd (false≢true (sym f ∙ eq-eqb _ _ (ap (λ x. x.name) same)))
     go false false f ih e = ih e
@@ -166,34 +175,36 @@ pub held_without : (cs : List Cell) (g r : Place) → held (without g cs) r ≡ 
 held_without [] g r = sym (cond_same (same_place g r) None)
 held_without (c ∷ cs) g r = go (same_place c.owner g) (same_place g r) (same_place c.owner r) refl refl refl (held_without cs g r)
   where
-    go : (x y z : Bool) → same_place c.owner g ≡ x → same_place g r ≡ y → same_place c.owner r ≡ z → held (without g cs) r ≡ cond y None (held cs r) → held (cond x (without g cs) (c ∷ without g cs)) r ≡ cond y None (cond z (Some c.object) (held cs r))
+    go :
+        (x y z : Bool) → same_place c.owner g ≡ x → same_place g r ≡ y → same_place c.owner r ≡ z → held (without g cs) r ≡ cond y None (held cs r) →
+        held (cond x (without g cs) (c ∷ without g cs)) r ≡ cond y None (cond z (Some c.object) (held cs r))
     go true true z ex ey ez ih = ih
     go true false z ex ey ez ih = ih ∙ ap (λ b. cond b (Some c.object) (held cs r)) (sym (sym ez ∙ same_place_along c.owner g r ex ∙ ey))
     go false true z ex ey ez ih = ap (λ b. cond b (Some c.object) (held (without g cs) r)) (ap (λ q. same_place c.owner q) (sym (same_place-true g r ey)) ∙ ex) ∙ ih
     go false false true ex ey ez ih = ap (λ b. cond b (Some c.object) (held (without g cs) r)) ez
     go false false false ex ey ez ih = ap (λ b. cond b (Some c.object) (held (without g cs) r)) ez ∙ ih
 
-pub named_without : (cs : List Cell) (g : Place) (o : Object) (n : ℕ) → Tidy cs → held cs g ≡ Some o → (o.name == n) ≡ false → named (without g cs) n ≡ named cs n
-named_without [] g o n t e d = refl
-named_without (c ∷ cs) g o n t e d = go (same_place c.owner g) refl (named_without cs g o n t.2) e
+-- what is read at the first cell of a name is the same but for the name of what goes
+pub read_without :
+    {A : Type 0} (read : List Cell → ℕ → A) (of : Cell → A) → ((c : Cell) (cs : List Cell) (n : ℕ) → read (c ∷ cs) n ≡ cond (c.object.name == n) (of c) (read cs n)) →
+    (cs : List Cell) (g : Place) (o : Object) (n : ℕ) → Tidy cs → held cs g ≡ Some o → (o.name == n) ≡ false → read (without g cs) n ≡ read cs n
+read_without read of first [] g o n t e d = refl
+read_without read of first (c ∷ cs) g o n t e d = go (same_place c.owner g) refl (read_without read of first cs g o n t.2) e ∙ sym (first c cs n)
   where
-    go : (x : Bool) → same_place c.owner g ≡ x → (held cs g ≡ Some o → (o.name == n) ≡ false → named (without g cs) n ≡ named cs n) → cond x (Some c.object) (held cs g) ≡ Some o → named (cond x (without g cs) (c ∷ without g cs)) n ≡ cond (c.object.name == n) (Some c.object) (named cs n)
+    go :
+        (x : Bool) → same_place c.owner g ≡ x → (held cs g ≡ Some o → (o.name == n) ≡ false → read (without g cs) n ≡ read cs n) → cond x (Some c.object) (held cs g) ≡ Some o →
+        read (cond x (without g cs) (c ∷ without g cs)) n ≡ cond (c.object.name == n) (of c) (read cs n)
     go true f ih e =
         let same : c.object ≡ o = cc in
-        ap (λ l. named l n) (without_none cs g (ap (λ q. held cs q) (sym (same_place-true c.owner g f)) ∙ t.0))
-        ∙ ap (λ b. cond b (Some c.object) (named cs n)) (sym (ap (λ x. x.name == n) same ∙ d))
-    go false f ih e = ap (λ x. cond (c.object.name == n) (Some c.object) x) (ih e d)
+        ap (λ l. read l n) (without_none cs g (ap (λ q. held cs q) (sym (same_place-true c.owner g f)) ∙ t.0))
+        ∙ ap (λ b. cond b (of c) (read cs n)) (sym (ap (λ x. x.name == n) same ∙ d))
+    go false f ih e = first c (without g cs) n ∙ ap (λ x. cond (c.object.name == n) (of c) x) (ih e d)
+
+pub named_without : (cs : List Cell) (g : Place) (o : Object) (n : ℕ) → Tidy cs → held cs g ≡ Some o → (o.name == n) ≡ false → named (without g cs) n ≡ named cs n
+named_without = read_without named (λ c. Some c.object) (λ c cs n. refl)
 
 pub requested_without : (cs : List Cell) (g : Place) (o : Object) (n : ℕ) → Tidy cs → held cs g ≡ Some o → (o.name == n) ≡ false → requested (without g cs) n ≡ requested cs n
-requested_without [] g o n t e d = refl
-requested_without (c ∷ cs) g o n t e d = go (same_place c.owner g) refl (requested_without cs g o n t.2) e
-  where
-    go : (x : Bool) → same_place c.owner g ≡ x → (held cs g ≡ Some o → (o.name == n) ≡ false → requested (without g cs) n ≡ requested cs n) → cond x (Some c.object) (held cs g) ≡ Some o → requested (cond x (without g cs) (c ∷ without g cs)) n ≡ cond (c.object.name == n) c.request (requested cs n)
-    go true f ih e =
-        let same : c.object ≡ o = cc in
-        ap (λ l. requested l n) (without_none cs g (ap (λ q. held cs q) (sym (same_place-true c.owner g f)) ∙ t.0))
-        ∙ ap (λ b. cond b c.request (requested cs n)) (sym (ap (λ x. x.name == n) same ∙ d))
-    go false f ih e = ap (λ x. cond (c.object.name == n) c.request x) (ih e d)
+requested_without = read_without requested (λ c. c.request) (λ c cs n. refl)
 
 named_gone : (cs : List Cell) (g : Place) (n : ℕ) → named cs n ≡ None → named (without g cs) n ≡ None
 named_gone [] g n e = refl
@@ -208,7 +219,9 @@ pub unnamed : (cs : List Cell) (g : Place) (o : Object) → Tidy cs → held cs 
 unnamed [] g o t e = cc
 unnamed (c ∷ cs) g o t e = go (same_place c.owner g) refl (unnamed cs g o t.2) e
   where
-    go : (x : Bool) → same_place c.owner g ≡ x → (held cs g ≡ Some o → named (without g cs) o.name ≡ None) → cond x (Some c.object) (held cs g) ≡ Some o → named (cond x (without g cs) (c ∷ without g cs)) o.name ≡ None
+    go :
+        (x : Bool) → same_place c.owner g ≡ x → (held cs g ≡ Some o → named (without g cs) o.name ≡ None) → cond x (Some c.object) (held cs g) ≡ Some o →
+        named (cond x (without g cs) (c ∷ without g cs)) o.name ≡ None
     go true f ih e = let same : c.object ≡ o = cc in named_gone cs g o.name (ap (λ x. named cs x.name) (sym same) ∙ t.1)
     go false f ih e = ap (λ b. cond b (Some c.object) (named (without g cs) o.name)) (ne_eqb c.object.name o.name (λ s. held_named cs g o e (ap (λ k. named cs k) (sym s) ∙ t.1))) ∙ ih e
 
@@ -222,7 +235,9 @@ pub unrequested : (cs : List Cell) (g : Place) (n : ℕ) → Tidy cs → request
 unrequested [] g n t e = refl
 unrequested (c ∷ cs) g n t e = go (same_place c.owner g) (c.object.name == n) refl (unrequested cs g n t.2) e
   where
-    go : (x b : Bool) → (c.object.name == n) ≡ b → (requested cs n ≡ None → requested (without g cs) n ≡ None) → cond b c.request (requested cs n) ≡ None → requested (cond x (without g cs) (c ∷ without g cs)) n ≡ None
+    go :
+        (x b : Bool) → (c.object.name == n) ≡ b → (requested cs n ≡ None → requested (without g cs) n ≡ None) → cond b c.request (requested cs n) ≡ None →
+        requested (cond x (without g cs) (c ∷ without g cs)) n ≡ None
     go true true f ih e = requested_unnamed (without g cs) n (named_gone cs g n (ap (λ k. named cs k) (sym (eqb-true _ _ f)) ∙ t.1))
     go true false f ih e = ih e
     go false true f ih e = ap (λ b. cond b c.request (requested (without g cs) n)) f ∙ e

@@ -33,6 +33,7 @@ use Rattle.aom_sound.specs.Objects.{is_thing}
 use Rattle.aom_sound.specs.Places.{Cell, Elsewhere, Field, In_service, Object, Place, Queued, Root, Sight, changed, held, moved, same_place, seen, without}
 use Rattle.aom_sound.specs.State.{AtRoot, Choice, Frame, Home, Inside, Of_server, Seat, Serves, State, Static, next, set_word, word}
 use Rattle.aom_sound.specs.WellTyped.{AllSit, Back, Fits, IsBelow, IsHoused, IsServed, NoSeatAt, NoneFrom, Returns, SitsIn, Stack, WordFits}
+use Rattle.aom_instructions.specs.declared.instr.Instr.{Instr}
 
 -- ---- the message in service
 
@@ -55,10 +56,10 @@ served_outside : (p : Image) (t : Typing) (cs : List Cell) (ls : List Layer) (ba
 served_outside p t cs (Mark gv ∷ Dispatching (Of_server x c (Serves o)) seats ∷ ls) back served s = (served_unseated cs seats s.1.2, subst (λ l. NoneFrom (Elsewhere In_service) l) (sym s.1.1) tt)
 served_outside p t cs _ back served s = absurd served
 
-served_elsewhere : (p : Image) (cs : List Cell) (ls : List Layer) (home : Home) → IsHoused p cs ls home → (o : Object) (from : Place) → home ≡ Inside o from → same_place (Elsewhere In_service) from ≡ false
+served_elsewhere :
+    (p : Image) (cs : List Cell) (ls : List Layer) (home : Home) → IsHoused p cs ls home → (o : Object) (from : Place) → home ≡ Inside o from → same_place (Elsewhere In_service) from ≡ false
 served_elsewhere p cs ls (Inside x q) h o from e = let same : q ≡ from = cc in served_apart from ls (subst (λ r. IsBelow r ls) same h.below)
-served_elsewhere p cs ls Static h o from e = cc
-served_elsewhere p cs ls AtRoot h o from e = cc
+served_elsewhere p cs ls _ h o from e = cc
 
 -- once it is taken no claim of it is left
 claim_taken :
@@ -135,7 +136,9 @@ module _ (p : Image) (t : Typing) (c : Choice) (s : State) (fr : Frame) (sh : Sh
       free : held s.cells (top ls a) ≡ None
       free = free_register p t c s fr sh ls at_hand a n.0
 
-      claims : (r : Place) → claim p d (Method fr after ∷ ls) r ≡ changed (changed (claim p d (Method fr sh ∷ ls)) (Elsewhere In_service) Null) (top ls a) (claim p d (Method fr sh ∷ ls) (Elsewhere In_service)) r
+      claims :
+          (r : Place) →
+          claim p d (Method fr after ∷ ls) r ≡ changed (changed (claim p d (Method fr sh ∷ ls)) (Elsewhere In_service) Null) (top ls a) (claim p d (Method fr sh ∷ ls) (Elsewhere In_service)) r
       claims r =
           claim-set_register p d fr (record sh { delivery = Gone }) ls a (Own Message Ready) r
           ∙ ap (λ x. cond (same_place (top ls a) r) (Own Message Ready) x) (claim_taken p d fr sh ls r n.1.0)
@@ -203,3 +206,9 @@ module _ (p : Image) (t : Typing) (c : Choice) (s : State) (fr : Frame) (sh : Sh
         apart = at_hand.good.stack.3;
         stack = subst (λ l. Stack p t l (Returns fr.method fr.home) ls) (place_dropped (top ls a) s.cells) (stack_without p t s.cells (top ls a) it.0 at_hand.good.tidy it.1 ls (Returns fr.method fr.home) (omega arith) (λ from. tt) at_hand.good.stack.4);
       }
+
+  -- each instruction of this file by its law
+  abbrev pub of_messages : (i : Instr) → Option (Law p t c s fr sh ls at_hand i)
+  of_messages (TakeMessage a) = Some (law_take_message a)
+  of_messages (Reply a b) = Some (law_reply a b)
+  of_messages _ = None

@@ -9,7 +9,7 @@ use Rattle.aom_shape.specs.Shape.{Shape}
 use Rattle.aom_shape.specs.Things.{field_thing, holder_of}
 use Rattle.aom_rules.specs.Typing.{Typing}
 use Rattle.aom_shape.specs.declared.kind.Filling.{Filling}
-use Rattle.aom_shape.specs.declared.kind.Filling.TheVariants.{Empty, Full, Perhaps}
+use Rattle.aom_shape.specs.declared.kind.Filling.TheVariants.{Empty}
 use Rattle.aom_shape.specs.declared.kind.Kind.{Kind}
 use Rattle.aom_shape.specs.declared.kind.Kind.TheVariants.{Null}
 use Rattle.aom_sound.proofs.Claimed.{claim-set_field, claim-set_register}
@@ -20,6 +20,7 @@ use Rattle.aom_sound.specs.Objects.{is_declared_thing}
 use Rattle.aom_sound.specs.Places.{Place, changed, held, moved, same_place, seen}
 use Rattle.aom_sound.specs.State.{Choice, Frame, State, field_place, home_holder, next, set_word, word}
 use Rattle.aom_sound.specs.WellTyped.{WordFits}
+use Rattle.aom_instructions.specs.declared.instr.Instr.{Instr}
 
 null_filled : (c : Option Thing) → filled c Empty ≡ Null
 null_filled None = refl
@@ -80,7 +81,10 @@ module _ (p : Image) (t : Typing) (c : Choice) (s : State) (fr : Frame) (sh : Sh
       no : word fr b ≡ None
       no = no_word p t c s fr sh ls at_hand b (declared_object p t c s fr sh ls at_hand _ k n.0)
 
-      claims : (r : Place) → claim p d (Method fr (set_field (set_register sh b Null) f (filling_of k)) ∷ ls) r ≡ changed (changed (claim p d (Method fr sh ∷ ls)) (top ls b) Null) q (claim p d (Method fr sh ∷ ls) (top ls b)) r
+      claims :
+          (r : Place) →
+          claim p d (Method fr (set_field (set_register sh b Null) f (filling_of k)) ∷ ls) r
+          ≡ changed (changed (claim p d (Method fr sh ∷ ls)) (top ls b) Null) q (claim p d (Method fr sh ∷ ls) (top ls b)) r
       claims r =
           claim-set_field p d fr fr.home (set_register sh b Null) ls f (filling_of k) k r refl some (refills p t c s fr sh ls at_hand _ k may n.1.0)
           ∙ ap (λ x. cond (same_place q r) k x) (claim-set_register p d fr sh ls b Null r)
@@ -118,12 +122,12 @@ module _ (p : Image) (t : Typing) (c : Choice) (s : State) (fr : Frame) (sh : Sh
       free = free_register p t c s fr sh ls at_hand a n.1.0
 
       no_word_in : (x : Option Thing) (y : Filling) → WordFits None (filled x y)
-      no_word_in None y = refl
       no_word_in (Some x) Empty = refl
-      no_word_in (Some x) Full = refl
-      no_word_in (Some x) Perhaps = refl
+      no_word_in _ _ = refl
 
-      claims : (r : Place) → claim p d (Method fr (set_register (set_field sh f Empty) a k) ∷ ls) r ≡ changed (changed (claim p d (Method fr sh ∷ ls)) q Null) (top ls a) (claim p d (Method fr sh ∷ ls) q) r
+      claims :
+          (r : Place) →
+          claim p d (Method fr (set_register (set_field sh f Empty) a k) ∷ ls) r ≡ changed (changed (claim p d (Method fr sh ∷ ls)) q Null) (top ls a) (claim p d (Method fr sh ∷ ls) q) r
       claims r =
           claim-set_register p d fr (set_field sh f Empty) ls a k r
           ∙ ap (λ x. cond (same_place (top ls a) r) k x) (claim-set_field p d fr fr.home sh ls f Empty Null r refl some (null_filled (field_thing p (home_holder fr.home) f)))
@@ -135,3 +139,10 @@ module _ (p : Image) (t : Typing) (c : Choice) (s : State) (fr : Frame) (sh : Sh
           (λ o from e. (field_not_from p t c s fr sh ls at_hand fr.home f refl o from e, tt))
           (λ r x e k f. refl) claims
           (words_set fr.words (set_field sh f Empty) a None k at_hand.good.stack.1.words (no_word_in _ (field sh f)))
+
+  -- each instruction of this file by its law
+  abbrev pub of_moves : (i : Instr) → Option (Law p t c s fr sh ls at_hand i)
+  of_moves (Move a b) = Some (law_move a b)
+  of_moves (Take a f) = Some (law_take a f)
+  of_moves (Put f b) = Some (law_put f b)
+  of_moves _ = None

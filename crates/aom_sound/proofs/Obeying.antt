@@ -4,7 +4,7 @@ use Rattle.aom_image.specs.Image.{Image}
 use Rattle.aom_image.specs.declared.method.Thing.TheVariants.{Message}
 use Rattle.aom_clients.specs.Table.{row, server_of}
 use Rattle.aom_clients.specs.declared.client.Client.{Client}
-use Rattle.aom_clients.specs.declared.client.Client.TheVariants.{Closing, Connecting, Dead, Dying, Gone, Open, Unconnected}
+use Rattle.aom_clients.specs.declared.client.Client.TheVariants.{Open}
 use Rattle.aom_clients.specs.declared.refusal.Refusal.{Refusal}
 use Rattle.aom_rules.specs.Typing.{Typing}
 use Rattle.aom_sound.proofs.ClientsAsk.{asked_there}
@@ -92,12 +92,7 @@ module _ (p : Image) (t : Typing) (wired : IsWired p) (s : State) (w : WellTyped
           let there = server_there p c s good.tidy fit server (fit.listed server c (ap server_of at)) in
           subst (λ n. Good p t (reserved (asked_last (Close_of c)) n (withdrawn c s.cells)) []) there.1
           (good_asked p t (withdrawn c s.cells) there.0 (server_stays p c s good.tidy fit waiting there.0 there.2 (fit.listed there.0.name c (ap server_of at ∙ ap (λ n. Some n) (sym there.1)))) (Close_of c) (λ m. refl) alone)
-      go Unconnected at = alone
-      go (Connecting server slots) at = alone
-      go (Closing server session) at = alone
-      go Gone at = alone
-      go Dead at = alone
-      go (Dying server session) at = alone
+      go _ at = alone
 
   -- whatever is commanded
   pub commanded_well : (command : Command) (name : ℕ) → named s.cells name ≡ None → WellTyped p t (commanded p c s command name)

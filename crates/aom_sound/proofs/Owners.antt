@@ -74,34 +74,48 @@ filled_thing (Some d) Perhaps x h = ap (λ z. Some z) (sym h)
 filled_thing _ _ x h = absurd h
 
 -- what is declared of a field, by the cell that has it
-declared_thing_of : (p : Image) (cs : List Cell) (n f : ℕ) (c : Thing) → HasThing (declared p cs (Field n f)) c → (o : Object) × (named cs n ≡ Some o) × (field_thing p (thing_holder o.thing) f ≡ Some c)
+declared_thing_of :
+    (p : Image) (cs : List Cell) (n f : ℕ) (c : Thing) → HasThing (declared p cs (Field n f)) c → (o : Object) × (named cs n ≡ Some o) × (field_thing p (thing_holder o.thing) f ≡ Some c)
 declared_thing_of p cs n f c h = go (named cs n) refl h
   where
     go : (o : Option Object) → named cs n ≡ o → HasThing (declared_field p o f) c → (o : Object) × (named cs n ≡ Some o) × (field_thing p (thing_holder o.thing) f ≡ Some c)
     go None e h = absurd h
     go (Some o) e h = (o, e, filled_thing (field_thing p (thing_holder o.thing) f) Perhaps c h)
 
-pub field_thing_of : (p : Image) (t : Typing) (cs : List Cell) (ls : List Layer) (back : Back) (n f : ℕ) (c : Thing) → Stack p t cs back ls → HasThing (claim p (declared p cs) ls (Field n f)) c → (o : Object) × (named cs n ≡ Some o) × (field_thing p (thing_holder o.thing) f ≡ Some c)
+pub field_thing_of :
+    (p : Image) (t : Typing) (cs : List Cell) (ls : List Layer) (back : Back) (n f : ℕ) (c : Thing) → Stack p t cs back ls → HasThing (claim p (declared p cs) ls (Field n f)) c →
+    (o : Object) × (named cs n ≡ Some o) × (field_thing p (thing_holder o.thing) f ≡ Some c)
 field_thing_of p t cs [] back n f c s h = declared_thing_of p cs n f c h
 field_thing_of p t cs (Method fr sh ∷ ls) back n f c s h = go fr.home s.2 (field_thing_of p t cs ls (Returns fr.method fr.home) n f c s.4) h
   where
-    go : (home : Home) → IsHoused p cs ls home → (HasThing (claim p (declared p cs) ls (Field n f)) c → (o : Object) × (named cs n ≡ Some o) × (field_thing p (thing_holder o.thing) f ≡ Some c)) → HasThing (home_claim p home sh n f (claim p (declared p cs) ls (Field n f))) c → (o : Object) × (named cs n ≡ Some o) × (field_thing p (thing_holder o.thing) f ≡ Some c)
+    go :
+        (home : Home) → IsHoused p cs ls home →
+        (HasThing (claim p (declared p cs) ls (Field n f)) c → (o : Object) × (named cs n ≡ Some o) × (field_thing p (thing_holder o.thing) f ≡ Some c)) →
+        HasThing (home_claim p home sh n f (claim p (declared p cs) ls (Field n f))) c → (o : Object) × (named cs n ≡ Some o) × (field_thing p (thing_holder o.thing) f ≡ Some c)
     go Static hs ih h = ih h
     go AtRoot hs ih h = ih h
     go (Inside o from) hs ih h = inside (o.name == n) refl h
       where
-        inside : (b : Bool) → (o.name == n) ≡ b → HasThing (cond b (filled (field_thing p (thing_holder o.thing) f) (field sh f)) (claim p (declared p cs) ls (Field n f))) c → (o : Object) × (named cs n ≡ Some o) × (field_thing p (thing_holder o.thing) f ≡ Some c)
+        inside :
+            (b : Bool) → (o.name == n) ≡ b → HasThing (cond b (filled (field_thing p (thing_holder o.thing) f) (field sh f)) (claim p (declared p cs) ls (Field n f))) c →
+            (o : Object) × (named cs n ≡ Some o) × (field_thing p (thing_holder o.thing) f ≡ Some c)
         inside true e h = (o, ap (λ m. named cs m) (sym (eqb-true o.name n e)) ∙ hs.lives, filled_thing (field_thing p (thing_holder o.thing) f) (field sh f) c h)
         inside false e h = ih h
 field_thing_of p t cs (Mark gv ∷ ls) back n f c s h = field_thing_of p t cs ls (Caught gv) n f c s.1 h
 field_thing_of p t cs (Ending o left ∷ ls) back n f c s h = ending (o.name == n) refl (field_thing_of p t cs ls Now n f c s.3) h
   where
-    ending : (b : Bool) → (o.name == n) ≡ b → (HasThing (claim p (declared p cs) ls (Field n f)) c → (o : Object) × (named cs n ≡ Some o) × (field_thing p (thing_holder o.thing) f ≡ Some c)) → HasThing (cond b (filled (field_thing p (thing_holder o.thing) f) Perhaps) (claim p (declared p cs) ls (Field n f))) c → (o : Object) × (named cs n ≡ Some o) × (field_thing p (thing_holder o.thing) f ≡ Some c)
+    ending :
+        (b : Bool) → (o.name == n) ≡ b → (HasThing (claim p (declared p cs) ls (Field n f)) c → (o : Object) × (named cs n ≡ Some o) × (field_thing p (thing_holder o.thing) f ≡ Some c)) →
+        HasThing (cond b (filled (field_thing p (thing_holder o.thing) f) Perhaps) (claim p (declared p cs) ls (Field n f))) c →
+        (o : Object) × (named cs n ≡ Some o) × (field_thing p (thing_holder o.thing) f ≡ Some c)
     ending true e below h = (o, ap (λ m. named cs m) (sym (eqb-true o.name n e)) ∙ s.0.lives, filled_thing (field_thing p (thing_holder o.thing) f) Perhaps c h)
     ending false e below h = below h
 field_thing_of p t cs (Unwinding code es ∷ ls) back n f c s h = field_thing_of p t cs ls Leaves n f c s.1 h
 field_thing_of p t cs (Dispatching w seats ∷ ls) back n f c s h = declared_thing_of p cs n f c (subst (λ l. HasThing (claim p (declared p cs) l (Field n f)) c) s.1 h)
-field_thing_of p t cs (Dying o ∷ ls) back n f c s h = let ih : (HasThing (claim p (declared p cs) ls (Field n f)) c → (o : Object) × (named cs n ≡ Some o) × (field_thing p (thing_holder o.thing) f ≡ Some c)) = field_thing_of p t cs ls Gone n f c s.2 in false_given (λ b. HasThing (cond b Null (claim p (declared p cs) ls (Field n f))) c) (o.name == n) h (λ h. h) (λ _ h. ih h)
+field_thing_of p t cs (Dying o ∷ ls) back n f c s h =
+    let ih : (HasThing (claim p (declared p cs) ls (Field n f)) c → (o : Object) × (named cs n ≡ Some o) × (field_thing p (thing_holder o.thing) f ≡ Some c)) =
+    field_thing_of p t cs ls Gone n f c s.2 in
+    false_given (λ b. HasThing (cond b Null (claim p (declared p cs) ls (Field n f))) c) (o.name == n) h (λ h. h) (λ _ h. ih h)
 
 -- ---- sessions and messages
 
@@ -114,8 +128,7 @@ declared_session_of p cs n c x h = go (has_session (service_of cs n) c) refl (na
   where
     go : (b : Bool) → has_session (service_of cs n) c ≡ b → (o : Option Object) → named cs n ≡ o → HasThing (cond b (filled (session_thing p o) Full) Null) x → IsSessionAt p cs n c x
     go true e (Some o) f h = (o, f, e, filled_thing (session_thing p (Some o)) Full x h)
-    go true e None f h = absurd h
-    go false e o f h = absurd h
+    go _ e _ f h = absurd h
 
 -- where a close is served its session is claimed no more
 by_close_below : (d : Dispatch) (n c : ℕ) (k : Kind) (x : Thing) → HasThing (by_close d n c k) x → HasThing k x
@@ -126,15 +139,20 @@ by_close_below (Of_server y client Parts) n c k x h = go ((y.object.name == n) &
     go false h = h
 by_close_below _ n c k x h = h
 
-pub session_thing_of : (p : Image) (t : Typing) (cs : List Cell) (ls : List Layer) (back : Back) (n c : ℕ) (x : Thing) → Stack p t cs back ls → HasThing (claim p (declared p cs) ls (Elsewhere (Session n c))) x → IsSessionAt p cs n c x
+pub session_thing_of :
+    (p : Image) (t : Typing) (cs : List Cell) (ls : List Layer) (back : Back) (n c : ℕ) (x : Thing) → Stack p t cs back ls →
+    HasThing (claim p (declared p cs) ls (Elsewhere (Session n c))) x → IsSessionAt p cs n c x
 session_thing_of p t cs [] back n c x s h = declared_session_of p cs n c x h
 session_thing_of p t cs (Method fr sh ∷ ls) back n c x s h = session_thing_of p t cs ls (Returns fr.method fr.home) n c x s.4 h
 session_thing_of p t cs (Mark gv ∷ ls) back n c x s h = session_thing_of p t cs ls (Caught gv) n c x s.1 h
 session_thing_of p t cs (Unwinding code es ∷ ls) back n c x s h = session_thing_of p t cs ls Leaves n c x s.1 h
-session_thing_of p t cs (Dispatching d seats ∷ ls) back n c x s h = declared_session_of p cs n c x (subst (λ l. HasThing (claim p (declared p cs) l (Elsewhere (Session n c))) x) s.1 (by_close_below d n c (claim p (declared p cs) ls (Elsewhere (Session n c))) x h))
+session_thing_of p t cs (Dispatching d seats ∷ ls) back n c x s h =
+    declared_session_of p cs n c x (subst (λ l. HasThing (claim p (declared p cs) l (Elsewhere (Session n c))) x) s.1 (by_close_below d n c (claim p (declared p cs) ls (Elsewhere (Session n c))) x h))
 session_thing_of p t cs (Dying o ∷ ls) back n c x s h = go (o.name == n) (session_thing_of p t cs ls Gone n c x s.2) h
   where
-    go : (b : Bool) → (HasThing (claim p (declared p cs) ls (Elsewhere (Session n c))) x → IsSessionAt p cs n c x) → HasThing (cond b Null (claim p (declared p cs) ls (Elsewhere (Session n c)))) x → IsSessionAt p cs n c x
+    go :
+        (b : Bool) → (HasThing (claim p (declared p cs) ls (Elsewhere (Session n c))) x → IsSessionAt p cs n c x) →
+        HasThing (cond b Null (claim p (declared p cs) ls (Elsewhere (Session n c)))) x → IsSessionAt p cs n c x
     go true below h = absurd h
     go false below h = below h
 session_thing_of p t cs (Ending o left ∷ ls) back n c x s h = go (o.name == n) refl (is_among c left) refl (session_thing_of p t cs ls Now n c x s.3) h
@@ -157,8 +175,7 @@ queued_thing_of p cs [] n m x h = go (has_message (service_of cs n) m) refl (nam
   where
     go : (b : Bool) → has_message (service_of cs n) m ≡ b → (o : Option Object) → named cs n ≡ o → HasThing (cond b (filled (message_thing p o) Full) Null) x → IsQueuedAt p cs n m x
     go true e (Some o) f h = (o, f, e, filled_thing (message_thing p (Some o)) Full x h)
-    go true e None f h = absurd h
-    go false e o f h = absurd h
+    go _ e _ f h = absurd h
 queued_thing_of p cs (l ∷ ls) n m x h = queued_thing_of p cs ls n m x h
 
 -- a message is served under a dispatch that serves it
@@ -171,7 +188,9 @@ by_stage_serves (Of_server y c (Serves o)) ls k x none h = refl
 by_stage_serves (Of_server y c (Service_left code)) ls k x none h = refl
 by_stage_serves _ ls k x none h = absurd (none h)
 
-pub service_lives : (p : Image) (t : Typing) (cs : List Cell) (ls : List Layer) (back : Back) (x : Thing) → Stack p t cs back ls → HasThing (claim p (declared p cs) ls (Elsewhere In_service)) x → HasService (tasks_of ls)
+pub service_lives :
+    (p : Image) (t : Typing) (cs : List Cell) (ls : List Layer) (back : Back) (x : Thing) → Stack p t cs back ls → HasThing (claim p (declared p cs) ls (Elsewhere In_service)) x →
+    HasService (tasks_of ls)
 service_lives p t cs [] back x s h = absurd h
 service_lives p t cs (Method fr sh ∷ ls) back x s h = go (serves p fr.method) refl (service_lives p t cs ls (Returns fr.method fr.home) x s.4) h
   where
@@ -184,7 +203,8 @@ service_lives p t cs (Mark gv ∷ ls) back x s h = service_lives p t cs ls (Caug
 service_lives p t cs (Dying o ∷ ls) back x s h = service_lives p t cs ls Gone x s.2 h
 service_lives p t cs (Ending o left ∷ ls) back x s h = service_lives p t cs ls Now x s.3 h
 service_lives p t cs (Unwinding code es ∷ ls) back x s h = service_lives p t cs ls Leaves x s.1 h
-service_lives p t cs (Dispatching d seats ∷ ls) back x s h = by_stage_serves d ls (claim p (declared p cs) ls (Elsewhere In_service)) x (λ h. subst (λ l. HasThing (claim p (declared p cs) l (Elsewhere In_service)) x) s.1 h) h
+service_lives p t cs (Dispatching d seats ∷ ls) back x s h =
+    by_stage_serves d ls (claim p (declared p cs) ls (Elsewhere In_service)) x (λ h. subst (λ l. HasThing (claim p (declared p cs) l (Elsewhere In_service)) x) s.1 h) h
 
 -- ---- the places that are claimed to own live
 
@@ -228,7 +248,9 @@ module _ (p : Image) (cs : List Cell) (x : Thing) where
   abbrev ClaimsOver : List Pushed → List Layer → ℕ → Type 0
   ClaimsOver es ls k = HasThing (entry_claim es (items_of ls) k (claim p (declared p cs) ls (Entry k))) x
 
-  entries_live : (es : List Pushed) (ls : List Layer) (k : ℕ) → (Claims ls (Entry k) → over (items_of ls) k ≡ Some Object_form) → ClaimsOver es ls k → over (objects es (items_of ls)) k ≡ Some Object_form
+  entries_live :
+      (es : List Pushed) (ls : List Layer) (k : ℕ) → (Claims ls (Entry k) → over (items_of ls) k ≡ Some Object_form) → ClaimsOver es ls k →
+      over (objects es (items_of ls)) k ≡ Some Object_form
   entries_live [] ls k below h = below h
   entries_live (e ∷ es) ls k below h = go (length (objects es (items_of ls)) == k) (entries_live es ls k below) h
     where
@@ -239,7 +261,9 @@ module _ (p : Image) (cs : List Cell) (x : Thing) where
       rest_claim : Kind
       rest_claim = entry_claim es (items_of ls) k (claim p (declared p cs) ls (Entry k))
 
-      go : (b : Bool) → (ClaimsOver es ls k → over (objects es (items_of ls)) k ≡ Some Object_form) → HasThing (cond b (entry_kind e) rest_claim) x → cond b (Some (entry_form e)) (over (objects es (items_of ls)) k) ≡ Some Object_form
+      go :
+          (b : Bool) → (ClaimsOver es ls k → over (objects es (items_of ls)) k ≡ Some Object_form) → HasThing (cond b (entry_kind e) rest_claim) x →
+          cond b (Some (entry_form e)) (over (objects es (items_of ls)) k) ≡ Some Object_form
       go true rest h = object e h
       go false rest h = rest h
 
@@ -279,7 +303,9 @@ objects_item (i ∷ items) k e = go (length items == k) (objects_item items k) (
     here An_object e = tt
     here _ e = cc
 
-    go : (b : Bool) → (over (forms items) k ≡ Some Object_form → IsObjects (over items k)) → cond b (Some (form i)) (over (forms items) k) ≡ Some Object_form → IsObjects (cond b (Some i) (over items k))
+    go :
+        (b : Bool) → (over (forms items) k ≡ Some Object_form → IsObjects (over items k)) → cond b (Some (form i)) (over (forms items) k) ≡ Some Object_form →
+        IsObjects (cond b (Some i) (over items k))
     go true rest e = here i e
     go false rest e = rest e
 
@@ -439,7 +465,8 @@ layers_none (l ∷ ls) e = cc
 module _ (p : Image) (t : Typing) (s : State) (w : WellTyped p t s) (idle : s.tasks ≡ []) (rootless : held s.cells (Elsewhere Root) ≡ None) where
   unheld : (q : Place) (o : Object) → declared p s.cells q ≡ Null → held s.cells q ≡ Some o → ⊥
   unheld q o null e =
-      let f : Fits p (seen s.cells) (held s.cells q) Null = subst (λ k. Fits p (seen s.cells) (held s.cells q) k) (ap (λ l. claim p (declared p s.cells) l q) (layers_none w.layers (sym w.tasks ∙ idle)) ∙ null) (w.good.fits q) in
+      let f : Fits p (seen s.cells) (held s.cells q) Null =
+      subst (λ k. Fits p (seen s.cells) (held s.cells q) k) (ap (λ l. claim p (declared p s.cells) l q) (layers_none w.layers (sym w.tasks ∙ idle)) ∙ null) (w.good.fits q) in
       subst (λ x. Fits p (seen s.cells) x Null) e f
 
   nowhere : (q : Place) (o : Object) → Ends s q → held s.cells q ≡ Some o → ⊥

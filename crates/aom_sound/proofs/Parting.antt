@@ -17,10 +17,10 @@ use Rattle.aom_sound.proofs.Services.{held_served, named_served, requested_serve
 use Rattle.aom_sound.proofs.Things.{stands_same}
 use Rattle.aom_sound.specs.Claims.{Dispatching, by_close, by_stage, claim, declared, declared_field, forms}
 use Rattle.aom_sound.specs.Moves.{dispatch_ends, needs_end, stage_ends}
-use Rattle.aom_sound.specs.Places.{Cell, Elsewhere, Entry, Field, Going, In_service, Object, Place, Queued, Register, Root, Service, Session, held, named, same_place, seen, service_of, set_service, without}
+use Rattle.aom_sound.specs.Places.{Cell, Elsewhere, Field, In_service, Object, Place, Queued, Service, Session, held, named, same_place, seen, service_of, set_service, without}
 use Rattle.aom_sound.specs.Requests.{Suits, states_claim, thing_kind}
 use Rattle.aom_sound.specs.Servers.{has_message, has_session, is_among, is_other, message_thing, parted, session_thing}
-use Rattle.aom_sound.specs.State.{Accept_left, Accepted, Accepts, CompletedTwice, Dispatched, Goes, IsStuck, Of_object, Of_server, Parts, Seat, Service_left, Serves, Stage, State, guarded}
+use Rattle.aom_sound.specs.State.{Accept_left, Accepted, CompletedTwice, Dispatched, Goes, IsStuck, Of_object, Of_server, Parts, Seat, Service_left, Serves, Stage, State, guarded}
 use Rattle.aom_sound.specs.WellTyped.{Now, AllSit, AllUndo, Fits, Good, Keeps, WellTyped}
 
 -- a client that has parted is not among them, and all others are
@@ -65,14 +65,11 @@ module _ (p : Image) (t : Typing) (s : State) (x : Seat) (client : ℕ) (seats :
   plain_good stage plain good = record { stack = (tt, refl, good.stack.2, good.stack.3, tt); fits = fits; suits = good.suits; tidy = good.tidy }
     where
       fits : (r : Place) → Fits p (seen s.cells) (held s.cells r) (claim p (declared p s.cells) (Dispatching (Of_object x) seats ∷ []) r)
-      fits (Register f i) = good.fits (Register f i)
-      fits (Entry k) = good.fits (Entry k)
-      fits (Field n f) = good.fits (Field n f)
-      fits (Going k) = good.fits (Going k)
-      fits (Elsewhere Root) = good.fits (Elsewhere Root)
-      fits (Elsewhere (Session n c)) = subst (λ k. Fits p (seen s.cells) (held s.cells (Elsewhere (Session n c))) k) (none_parts stage plain n c (declared p s.cells (Elsewhere (Session n c)))) (good.fits (Elsewhere (Session n c)))
+      fits (Elsewhere (Session n c)) =
+          subst (λ k. Fits p (seen s.cells) (held s.cells (Elsewhere (Session n c))) k) (none_parts stage plain n c (declared p s.cells (Elsewhere (Session n c))))
+          (good.fits (Elsewhere (Session n c)))
       fits (Elsewhere In_service) = subst (λ k. Fits p (seen s.cells) (held s.cells (Elsewhere In_service)) k) (none_served stage plain Null) (good.fits (Elsewhere In_service))
-      fits (Elsewhere (Queued n m)) = good.fits (Elsewhere (Queued n m))
+      fits r = good.fits r
 
   -- the message of a service that was left is completed
   module _ (code : ℤ) (good : Good p t s.cells (Dispatching (Of_server x client (Service_left code)) seats ∷ [])) where
@@ -107,14 +104,9 @@ module _ (p : Image) (t : Typing) (s : State) (x : Seat) (client : ℕ) (seats :
             (fits_dropped goes p s.cells good.tidy goes_message r (declared p s.cells r) e f)
 
         fits : (r : Place) → Fits p (seen left) (held left r) (claim p (declared p left) (Dispatching (Of_object x) seats ∷ []) r)
-        fits (Register f i) = same (Register f i) refl (good.fits (Register f i))
-        fits (Entry k) = same (Entry k) refl (good.fits (Entry k))
-        fits (Field n f) = same (Field n f) refl (good.fits (Field n f))
-        fits (Going k) = same (Going k) refl (good.fits (Going k))
-        fits (Elsewhere Root) = same (Elsewhere Root) refl (good.fits (Elsewhere Root))
         fits (Elsewhere (Session n c)) = same (Elsewhere (Session n c)) refl (good.fits (Elsewhere (Session n c)))
         fits (Elsewhere In_service) = subst (λ o. Fits p (seen left) o Null) (sym (held_dropped goes s.cells (Elsewhere In_service))) tt
-        fits (Elsewhere (Queued n m)) = same (Elsewhere (Queued n m)) refl (good.fits (Elsewhere (Queued n m)))
+        fits r = same r refl (good.fits r)
 
     completed_good : Good p t (without (Elsewhere In_service) s.cells) (Dispatching (Of_object x) seats ∷ [])
     completed_good = subst (λ l. Good p t l (Dispatching (Of_object x) seats ∷ [])) (sym (place_dropped (Elsewhere In_service) s.cells)) left_good
@@ -141,46 +133,45 @@ module _ (p : Image) (t : Typing) (s : State) (x : Seat) (client : ℕ) (seats :
     service_now = service_here s.cells n v x.object (sits_lives s.cells seats x good.stack.2 good.stack.3)
 
     declared_then : (r : Place) → declared p cs r ≡ claim p (declared p s.cells) (Dispatching (Of_server x client Parts) seats ∷ []) r
-    declared_then (Register f i) = refl
-    declared_then (Entry k) = refl
     declared_then (Field m f) = ap (λ o. declared_field p o f) (named_served s.cells n v m)
-    declared_then (Going k) = refl
-    declared_then (Elsewhere Root) = refl
     declared_then (Elsewhere (Session m k)) = ap (λ o. cond (has_session (service_of cs m) k) (filled (session_thing p o) Full) Null) (named_served s.cells n v m) ∙ go (n == m) refl
       where
-        at_client : (b : Bool) → (client == k) ≡ b → cond (has_session (service_of cs n) k) (filled (session_thing p (named s.cells n)) Full) Null ≡ cond b Null (cond (has_session (service_of s.cells n) k) (filled (session_thing p (named s.cells n)) Full) Null)
+        at_client :
+            (b : Bool) → (client == k) ≡ b →
+            cond (has_session (service_of cs n) k) (filled (session_thing p (named s.cells n)) Full) Null
+            ≡ cond b Null (cond (has_session (service_of s.cells n) k) (filled (session_thing p (named s.cells n)) Full) Null)
         at_client true e =
             ap (λ b. cond b (filled (session_thing p (named s.cells n)) Full) Null)
             (ap (λ w. has_session w k) service_now ∙ subst (λ i. is_among i (filter (is_other client) (service_of s.cells n).sessions) ≡ false) (eqb-true client k e) (among_parted client (service_of s.cells n).sessions))
         at_client false e = ap (λ b. cond b (filled (session_thing p (named s.cells n)) Full) Null) (ap (λ w. has_session w k) service_now ∙ among_others k client (service_of s.cells n).sessions e)
 
-        go : (b : Bool) → (n == m) ≡ b → cond (has_session (service_of cs m) k) (filled (session_thing p (named s.cells m)) Full) Null ≡ cond (b && (client == k)) Null (cond (has_session (service_of s.cells m) k) (filled (session_thing p (named s.cells m)) Full) Null)
+        go :
+            (b : Bool) → (n == m) ≡ b →
+            cond (has_session (service_of cs m) k) (filled (session_thing p (named s.cells m)) Full) Null
+            ≡ cond (b && (client == k)) Null (cond (has_session (service_of s.cells m) k) (filled (session_thing p (named s.cells m)) Full) Null)
         go true e =
             subst (λ i. cond (has_session (service_of cs i) k) (filled (session_thing p (named s.cells i)) Full) Null ≡ cond (client == k) Null (cond (has_session (service_of s.cells i) k) (filled (session_thing p (named s.cells i)) Full) Null))
             (eqb-true n m e) (at_client (client == k) refl)
         go false e = ap (λ w. cond (has_session w k) (filled (session_thing p (named s.cells m)) Full) Null) (service_there s.cells n m v e)
-    declared_then (Elsewhere In_service) = refl
     declared_then (Elsewhere (Queued m k)) = ap (λ o. cond (has_message (service_of cs m) k) (filled (message_thing p o) Full) Null) (named_served s.cells n v m) ∙ go (n == m) refl
       where
-        go : (b : Bool) → (n == m) ≡ b → cond (has_message (service_of cs m) k) (filled (message_thing p (named s.cells m)) Full) Null ≡ cond (has_message (service_of s.cells m) k) (filled (message_thing p (named s.cells m)) Full) Null
+        go :
+            (b : Bool) → (n == m) ≡ b →
+            cond (has_message (service_of cs m) k) (filled (message_thing p (named s.cells m)) Full) Null
+            ≡ cond (has_message (service_of s.cells m) k) (filled (message_thing p (named s.cells m)) Full) Null
         go true e =
             subst (λ i. cond (has_message (service_of cs i) k) (filled (message_thing p (named s.cells i)) Full) Null ≡ cond (has_message (service_of s.cells i) k) (filled (message_thing p (named s.cells i)) Full) Null)
             (eqb-true n m e) (ap (λ w. cond (has_message w k) (filled (message_thing p (named s.cells n)) Full) Null) service_now)
         go false e = ap (λ w. cond (has_message w k) (filled (message_thing p (named s.cells m)) Full) Null) (service_there s.cells n m v e)
+    declared_then _ = refl
 
     sits_then : (xs : List Seat) → AllSit s.cells xs → AllSit cs xs
     sits_then [] h = tt
     sits_then (y ∷ ys) h = ((held_served s.cells n v y.place ∙ h.0.0, named_served s.cells n v y.object.name ∙ h.0.1, h.0.2, h.0.3), sits_then ys h.1)
 
     object_claims : (r : Place) → claim p (declared p cs) (Dispatching (Of_object x) seats ∷ []) r ≡ declared p cs r
-    object_claims (Register f i) = refl
-    object_claims (Entry k) = refl
-    object_claims (Field m f) = refl
-    object_claims (Going k) = refl
-    object_claims (Elsewhere Root) = refl
     object_claims (Elsewhere (Session m k)) = refl
-    object_claims (Elsewhere In_service) = refl
-    object_claims (Elsewhere (Queued m k)) = refl
+    object_claims _ = refl
 
     parted_good : Good p t cs (Dispatching (Of_object x) seats ∷ [])
     parted_good = record {
@@ -193,12 +184,13 @@ module _ (p : Image) (t : Typing) (s : State) (x : Seat) (client : ℕ) (seats :
     }
 
   -- each stage
-  pub stage_keeps : (stage : Stage) → s.items ≡ [] → Good p t s.cells (Dispatching (Of_server x client stage) seats ∷ []) → Keeps p t (guarded (needs_end (Of_server x client stage) s.cells) (dispatch_ends p (Of_server x client stage) s))
-  stage_keeps Accepts items good = absurd good.stack.0
+  pub stage_keeps :
+      (stage : Stage) → s.items ≡ [] → Good p t s.cells (Dispatching (Of_server x client stage) seats ∷ []) →
+      Keeps p t (guarded (needs_end (Of_server x client stage) s.cells) (dispatch_ends p (Of_server x client stage) s))
   stage_keeps Accepted items good = served_well (stage_ends x client Accepted s) refl items (plain_good Accepted refl good)
   stage_keeps (Accept_left code) items good = served_well (stage_ends x client (Accept_left code) s) refl items (plain_good (Accept_left code) refl good)
-  stage_keeps (Serves o) items good = absurd good.stack.0
   stage_keeps (Service_left code) items good =
       subst (λ b. Keeps p t (cond b (Goes (stage_ends x client (Service_left code) s)) (IsStuck CompletedTwice))) (sym (is_there code good))
       (served_well (stage_ends x client (Service_left code) s) refl items (completed_good code good))
   stage_keeps Parts items good = served_well (stage_ends x client Parts s) refl items (parted_good good)
+  stage_keeps _ items good = absurd (assumption tt)

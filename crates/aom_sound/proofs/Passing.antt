@@ -24,7 +24,7 @@ use Rattle.aom_sound.proofs.Returning.{held_thing, may_own, word_is}
 use Rattle.aom_sound.proofs.Straight.{At, claim_register, fits_unowning, housed_relocated, kind_fits, no_word_fits, word_of_object, words_null, words_set}
 use Rattle.aom_sound.specs.Calls.{needs_each, passed_cells, passed_words}
 use Rattle.aom_sound.specs.Claims.{Layer, Method, claim, declared, tasks_of}
-use Rattle.aom_sound.specs.Places.{Cell, Elsewhere, Entry, Field, Going, Place, Register, Root, Tidy, changed, held, moved, same_place, seen}
+use Rattle.aom_sound.specs.Places.{Cell, Place, Register, Tidy, changed, held, moved, same_place, seen}
 use Rattle.aom_sound.specs.State.{Choice, Frame, State, word}
 use Rattle.aom_sound.specs.WellTyped.{Fits, Good, IsHoused, Returns, Stack, WordFits}
 use Rattle.aom_sound.proofs.Suiting.{all_moved}
@@ -46,10 +46,7 @@ length_more (x ∷ xs) v = ap suc (length_more xs v)
 -- the registers at that depth that the method called has so far, and nothing else of it
 abbrev pub filled_with : ℕ → List Kind → Place → Kind → Kind
 filled_with depth regs (Register f i) below = cond (depth == f) (at Unset regs i) below
-filled_with depth regs (Entry k) below = below
-filled_with depth regs (Field n f) below = below
-filled_with depth regs (Going k) below = below
-filled_with depth regs (Elsewhere w) below = below
+filled_with depth regs _ below = below
 
 pub filled_weaker_below : (depth : ℕ) (regs : List Kind) (r : Place) (x y : Kind) → Weaker x y → Weaker (filled_with depth regs r x) (filled_with depth regs r y)
 filled_weaker_below depth regs (Register f i) x y h = go (depth == f)
@@ -57,10 +54,7 @@ filled_weaker_below depth regs (Register f i) x y h = go (depth == f)
     go : (b : Bool) → Weaker (cond b (at Unset regs i) x) (cond b (at Unset regs i) y)
     go true = alike
     go false = h
-filled_weaker_below depth regs (Entry k) x y h = h
-filled_weaker_below depth regs (Field n f) x y h = h
-filled_weaker_below depth regs (Going k) x y h = h
-filled_weaker_below depth regs (Elsewhere w) x y h = h
+filled_weaker_below depth regs _ x y h = h
 
 -- a shape of these registers alone
 abbrev taken : List Kind → Shape
@@ -99,11 +93,7 @@ module _ (p : Image) (t : Typing) (fr : Frame) (ls : List Layer) (depth : ℕ) (
           go : (b : Bool) → (depth == f) ≡ b → Fits p (seen cs) (held cs (Register f i)) (cond b Unset (claim p (declared p cs) (Method fr sh ∷ ls) (Register f i)))
           go true e = subst (λ o. Fits p (seen cs) o Unset) (sym (fits_unowning p (seen cs) _ Null refl (subst (λ k. Fits p (seen cs) (held cs (Register f i)) k) (claim_register_above p cs (Method fr sh ∷ ls) f i (omega (arith, eqb-true _ _ e))) (g.fits (Register f i))))) tt
           go false e = g.fits (Register f i)
-      fits (Entry k) = g.fits (Entry k)
-      fits (Field n f) = g.fits (Field n f)
-      fits (Elsewhere Root) = g.fits (Elsewhere Root)
-      fits (Elsewhere w) = g.fits (Elsewhere w)
-      fits (Going k) = g.fits (Going k)
+      fits r = g.fits r
 
   -- the next register of the method called owns nothing
   next_free : (cs : List Cell) (sh : Shape) (regs : List Kind) (ws : List (Option ℤ)) → Passed cs sh regs ws → held cs (upper (length regs)) ≡ None
@@ -114,14 +104,13 @@ module _ (p : Image) (t : Typing) (fr : Frame) (ls : List Layer) (depth : ℕ) (
   pub under : (d : Place → Kind) (sh : Shape) (regs : List Kind) (a : ℕ) (v : Kind) (r : Place) → filling d regs (set_register sh a v) r ≡ changed (filling d regs sh) (lower a) v r
   under d sh regs a v (Register f i) = go (depth == f) refl
     where
-      go : (b : Bool) → (depth == f) ≡ b → cond b (at Unset regs i) (claim p d (Method fr (set_register sh a v) ∷ ls) (Register f i)) ≡ cond (same_place (lower a) (Register f i)) v (cond b (at Unset regs i) (claim p d (Method fr sh ∷ ls) (Register f i)))
+      go :
+          (b : Bool) → (depth == f) ≡ b →
+          cond b (at Unset regs i) (claim p d (Method fr (set_register sh a v) ∷ ls) (Register f i))
+          ≡ cond (same_place (lower a) (Register f i)) v (cond b (at Unset regs i) (claim p d (Method fr sh ∷ ls) (Register f i)))
       go true e = ap (λ b. cond (b && (a == i)) v (at Unset regs i)) (sym (ne_eqb (length (tasks_of ls)) f (λ n. absurd (omega (arith, eqb-true _ _ e)))))
       go false e = claim-set_register p d fr sh ls a v (Register f i)
-  under d sh regs a v (Entry k) = claim-set_register p d fr sh ls a v (Entry k)
-  under d sh regs a v (Field n f) = claim-set_register p d fr sh ls a v (Field n f)
-  under d sh regs a v (Elsewhere Root) = claim-set_register p d fr sh ls a v (Elsewhere Root)
-  under d sh regs a v (Elsewhere w) = claim-set_register p d fr sh ls a v (Elsewhere w)
-  under d sh regs a v (Going k) = claim-set_register p d fr sh ls a v (Going k)
+  under d sh regs a v r = claim-set_register p d fr sh ls a v r
 
   -- one more register is filled
   over : (d : Place → Kind) (sh : Shape) (regs : List Kind) (v : Kind) (r : Place) → filling d (regs ++ v ∷ []) sh r ≡ changed (filling d regs sh) (upper (length regs)) v r
@@ -130,16 +119,17 @@ module _ (p : Image) (t : Typing) (fr : Frame) (ls : List Layer) (depth : ℕ) (
       go : (r : Place) → filling d (put_at Unset regs (length regs) v) sh r ≡ changed (filling d regs sh) (upper (length regs)) v r
       go (Register f i) = at_depth (depth == f)
         where
-          at_depth : (b : Bool) → cond b (at Unset (put_at Unset regs (length regs) v) i) (claim p d (Method fr sh ∷ ls) (Register f i)) ≡ cond (b && (length regs == i)) v (cond b (at Unset regs i) (claim p d (Method fr sh ∷ ls) (Register f i)))
+          at_depth :
+              (b : Bool) →
+              cond b (at Unset (put_at Unset regs (length regs) v) i) (claim p d (Method fr sh ∷ ls) (Register f i))
+              ≡ cond (b && (length regs == i)) v (cond b (at Unset regs i) (claim p d (Method fr sh ∷ ls) (Register f i)))
           at_depth true = at-put_at Unset regs (length regs) i v
           at_depth false = refl
-      go (Entry k) = refl
-      go (Field n f) = refl
-      go (Elsewhere Root) = refl
-      go (Elsewhere w) = refl
-      go (Going k) = refl
+      go _ = refl
 
-  given_more : (regs : List Kind) (ws : List (Option ℤ)) (k : Kind) (w : Option ℤ) → length ws ≡ length regs → ((i : ℕ) → WordFits (at None ws i) (at Unset regs i)) → WordFits w k → (i : ℕ) → WordFits (at None (ws ++ w ∷ []) i) (at Unset (regs ++ k ∷ []) i)
+  given_more :
+      (regs : List Kind) (ws : List (Option ℤ)) (k : Kind) (w : Option ℤ) → length ws ≡ length regs → ((i : ℕ) → WordFits (at None ws i) (at Unset regs i)) → WordFits w k → (i : ℕ) →
+      WordFits (at None (ws ++ w ∷ []) i) (at Unset (regs ++ k ∷ []) i)
   given_more regs ws k w even given new i =
       subst (λ ks. WordFits (at None (ws ++ w ∷ []) i) (at Unset ks i)) (put_at_end Unset regs k)
       (subst (λ vs. WordFits (at None vs i) (at Unset (put_at Unset regs (length regs) k) i)) (ap (λ n. put_at None ws n w) (sym even) ∙ put_at_end None ws w)
@@ -166,7 +156,9 @@ module _ (p : Image) (t : Typing) (fr : Frame) (ls : List Layer) (depth : ℕ) (
       go r false e = g.fits r
 
   -- an object moves
-  object_passed : (cs : List Cell) (sh : Shape) (regs : List Kind) (ws : List (Option ℤ)) (a : ℕ) (k : Kind) → register sh a ≡ k → is_object_or_null k ≡ true → Passed cs sh regs ws → Passed (moved (lower a) (upper (length regs)) cs) (set_register sh a Null) (regs ++ k ∷ []) (ws ++ None ∷ [])
+  object_passed :
+      (cs : List Cell) (sh : Shape) (regs : List Kind) (ws : List (Option ℤ)) (a : ℕ) (k : Kind) → register sh a ≡ k → is_object_or_null k ≡ true → Passed cs sh regs ws →
+      Passed (moved (lower a) (upper (length regs)) cs) (set_register sh a Null) (regs ++ k ∷ []) (ws ++ None ∷ [])
   object_passed cs sh regs ws a k here object g = record {
     fits = λ r. subst (λ d. Fits p (seen cs') (held cs' r) (filling d (regs ++ k ∷ []) (set_register sh a Null) r)) (sym (declared_moved p cs q to))
         (keep_fits p (seen cs) (seen cs') before (filling (declared p cs) (regs ++ k ∷ []) (set_register sh a Null)) q to (λ r. held_moved cs q to r free) (requested_moved cs q to) claims (λ r x e f j. refl) g.fits r);
@@ -212,20 +204,26 @@ module _ (p : Image) (t : Typing) (fr : Frame) (ls : List Layer) (depth : ℕ) (
       all_join (argument_needs p x (register (set_register sh a Null) j)) _ (subst (λ k. AllTrue (argument_needs p x k)) (sym same) parts.0) (each_kept xs sh a (suc j) (omega arith) parts.1)
 
   -- all of them
-  pub all_passed : (ts : State) (xs : List Argument) (first to : ℕ) (cs : List Cell) (sh : Shape) (regs : List Kind) (ws : List (Option ℤ)) → to ≡ length regs → AllTrue (each_argument p sh xs first) → Passed cs sh regs ws
+  pub all_passed :
+      (ts : State) (xs : List Argument) (first to : ℕ) (cs : List Cell) (sh : Shape) (regs : List Kind) (ws : List (Option ℤ)) → to ≡ length regs → AllTrue (each_argument p sh xs first) →
+      Passed cs sh regs ws
       → Passed (passed_cells p fr (tasks_of ls) ts depth xs first to cs) (arguments_moved xs first sh) (regs ++ map argument_kind xs) (ws ++ passed_words p fr (tasks_of ls) ts xs first)
   all_passed s [] first to cs sh regs ws e n g = subst (λ vs. Passed cs sh (regs ++ []) vs) (sym (append-nil ws)) (subst (λ ks. Passed cs sh ks ws) (sym (append-nil regs)) g)
   all_passed s (Takes_word ∷ xs) first to cs sh regs ws e n g =
       let new : WordFits (word fr first) Word = (word_is p s (word fr first) (register sh first) n.0 (g.words first)).1 in
-      let rest = all_passed s xs (suc first) (suc to) cs sh (regs ++ Word ∷ []) (ws ++ word fr first ∷ []) (ap suc e ∙ sym (length_more regs Word)) n.1 (word_passed cs sh regs ws (word fr first) new g) in
+      let rest =
+      all_passed s xs (suc first) (suc to) cs sh (regs ++ Word ∷ []) (ws ++ word fr first ∷ []) (ap suc e ∙ sym (length_more regs Word)) n.1 (word_passed cs sh regs ws (word fr first) new g) in
       subst (λ vs. Passed (passed_cells p fr (tasks_of ls) s depth xs (suc first) (suc to) cs) (arguments_moved xs (suc first) sh) (regs ++ Word ∷ map argument_kind xs) vs) (append_assoc ws (word fr first ∷ []) (passed_words p fr (tasks_of ls) s xs (suc first)))
       (subst (λ ks. Passed (passed_cells p fr (tasks_of ls) s depth xs (suc first) (suc to) cs) (arguments_moved xs (suc first) sh) ks ((ws ++ word fr first ∷ []) ++ passed_words p fr (tasks_of ls) s xs (suc first))) (append_assoc regs (Word ∷ []) (map argument_kind xs)) rest)
   all_passed s (Takes_own x ∷ xs) first to cs sh regs ws e n g =
       let k = may_own p s x (register sh first) n.0 n.1.0 in
       let cs' = moved (lower first) (upper to) cs in
       let sh' = set_register sh first Null in
-      let one : Passed cs' sh' (regs ++ Own x Ready ∷ []) (ws ++ None ∷ []) = subst (λ i. Passed (moved (lower first) (upper i) cs) sh' (regs ++ Own x Ready ∷ []) (ws ++ None ∷ [])) (sym e) (object_passed cs sh regs ws first (Own x Ready) k refl g) in
-      let rest = all_passed s xs (suc first) (suc to) cs' sh' (regs ++ Own x Ready ∷ []) (ws ++ None ∷ []) (ap suc e ∙ sym (length_more regs (Own x Ready))) (each_kept xs sh first (suc first) (omega arith) n.1.1) one in
+      let one : Passed cs' sh' (regs ++ Own x Ready ∷ []) (ws ++ None ∷ []) =
+      subst (λ i. Passed (moved (lower first) (upper i) cs) sh' (regs ++ Own x Ready ∷ []) (ws ++ None ∷ [])) (sym e) (object_passed cs sh regs ws first (Own x Ready) k refl g) in
+      let rest =
+      all_passed s xs (suc first) (suc to) cs' sh' (regs ++ Own x Ready ∷ []) (ws ++ None ∷ []) (ap suc e ∙ sym (length_more regs (Own x Ready)))
+      (each_kept xs sh first (suc first) (omega arith) n.1.1) one in
       subst (λ vs. Passed (passed_cells p fr (tasks_of ls) s depth xs (suc first) (suc to) cs') (arguments_moved xs (suc first) sh') (regs ++ Own x Ready ∷ map argument_kind xs) vs) (append_assoc ws (None ∷ []) (passed_words p fr (tasks_of ls) s xs (suc first)))
       (subst (λ ks. Passed (passed_cells p fr (tasks_of ls) s depth xs (suc first) (suc to) cs') (arguments_moved xs (suc first) sh') ks ((ws ++ None ∷ []) ++ passed_words p fr (tasks_of ls) s xs (suc first))) (append_assoc regs (Own x Ready ∷ []) (map argument_kind xs)) rest)
 
@@ -236,5 +234,7 @@ module _ (p : Image) (t : Typing) (c : Choice) (s : State) (fr : Frame) (sh : Sh
   each_met (Takes_word ∷ xs) first n = ((word_is p s (word fr first) (register sh first) n.0 (at_hand.good.stack.1.words first)).0, each_met xs (suc first) n.1)
   each_met (Takes_own x ∷ xs) first n =
       let k = may_own p s x (register sh first) n.0 n.1.0 in
-      let h = held_thing p s x (held s.cells (Register (length (tasks_of ls)) first)) (subst (λ k. Fits p (seen s.cells) (held s.cells (Register (length (tasks_of ls)) first)) k) k (kind_fits p t c s fr sh ls at_hand first)) in
+      let h =
+      held_thing p s x (held s.cells (Register (length (tasks_of ls)) first))
+      (subst (λ k. Fits p (seen s.cells) (held s.cells (Register (length (tasks_of ls)) first)) k) k (kind_fits p t c s fr sh ls at_hand first)) in
       (ap is_none (word_of_object (word fr first) (register sh first) (ap is_object_or_null k) (at_hand.good.stack.1.words first)), (h.0, (h.1, each_met xs (suc first) n.1.1)))

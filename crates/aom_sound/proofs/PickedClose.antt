@@ -17,7 +17,7 @@ use Rattle.aom_sound.specs.Claims.{Dispatching, Layer, claim, declared, forms}
 use Rattle.aom_sound.specs.Clients.{client_at}
 use Rattle.aom_sound.specs.Kept.{ClientsFit, QueueFits}
 use Rattle.aom_sound.specs.Laws.{IsWired}
-use Rattle.aom_sound.specs.Places.{Asked, Cell, Close_of, Elsewhere, Entry, Field, Going, In_service, Object, Place, Queued, Register, Request, Root, Session, changed, held, moved, named, requested, same_place, seen, service_of}
+use Rattle.aom_sound.specs.Places.{Asked, Cell, Close_of, Elsewhere, Field, Going, Object, Place, Request, Root, Session, changed, held, moved, named, requested, same_place, seen, service_of}
 use Rattle.aom_sound.specs.Servers.{has_session, is_server, reserved, taken_first}
 use Rattle.aom_sound.specs.State.{Dispatched, Of_server, Parts, Seat, State}
 use Rattle.aom_sound.specs.Destruction.{begun}
@@ -64,14 +64,8 @@ module _ (p : Image) (t : Typing) (wired : IsWired p) (typed : IsTyped p t) (s :
   z_there = held_now p t wired typed s w idle_now fit x r there lives asked server q ∙ session_there.1
 
   claims : (r : Place) → claim p (declared p cs) below r ≡ changed (claim p (declared p cs) []) q Null r
-  claims (Register f i) = refl
-  claims (Entry k) = refl
-  claims (Field m f) = refl
-  claims (Elsewhere Root) = refl
   claims (Elsewhere (Session m c)) = refl
-  claims (Elsewhere In_service) = refl
-  claims (Elsewhere (Queued m k)) = refl
-  claims (Going k) = refl
+  claims _ = refl
 
   fits : (r : Place) → Fits p (seen cs) (held cs r) (declared p cs r)
   fits = fits_now p t wired typed s w idle_now fit x r there lives asked server (Close_of client) es queue (λ k. refl)

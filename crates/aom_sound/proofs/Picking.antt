@@ -1,5 +1,5 @@
 -- A server is picked: its `accept` or the `service` of a session enters over the dispatch.
-use Rattle.std.proofs.Common.{Bool, IsTrue, List, None, Option, Some, [], ap, arith, cond, false, inl, inr, length, refl, subst, suc, sym, true, zero, ℕ, ℤ, ◌&&◌, ◌<◌, ◌==◌, ◌∙◌, ◌∷◌, ◌≡◌}
+use Rattle.std.proofs.Common.{Bool, IsTrue, List, None, Option, Some, [], ap, arith, cond, false, inl, inr, length, refl, subst, suc, sym, true, ℕ, ℤ, ◌&&◌, ◌<◌, ◌==◌, ◌∙◌, ◌∷◌, ◌≡◌}
 use Rattle.std.proofs.lemmas.Bool.{eq-eqb, eqb-true, true≢false}
 use Rattle.std.specs.List.{list_any}
 use Rattle.std.specs.Prelude.{is_some, map, replicate, ◌||◌}
@@ -44,7 +44,7 @@ use Rattle.aom_sound.specs.Clients.{client_at}
 use Rattle.aom_sound.specs.Enlisted.{part_of}
 use Rattle.aom_sound.specs.Kept.{ClientsFit, QueueFits}
 use Rattle.aom_sound.specs.Laws.{IsAcceptor, IsAttendant, IsWired}
-use Rattle.aom_sound.specs.Places.{Asked, Cell, Connect_of, Elsewhere, Entry, Field, Going, In_service, Message_of, Object, Idle, Phase, Place, Queued, Register, Request, Root, Session, Sight, Tidy, held, moved, named, requested, seen, service_of, word_field}
+use Rattle.aom_sound.specs.Places.{Asked, Cell, Connect_of, Elsewhere, Field, In_service, Message_of, Object, Idle, Phase, Place, Queued, Request, Root, Session, Sight, Tidy, held, moved, named, requested, seen, service_of, word_field}
 use Rattle.aom_sound.specs.Requests.{Known, Suits, phase_state, resting_in, rests_in, thing_kind}
 use Rattle.aom_sound.specs.Servers.{has_message, has_session, is_message, is_server, of_class, session_class, message_thing, reserved, rest_of, session_thing, taken_first}
 use Rattle.aom_sound.specs.State.{A_mark, Accepts, Inside, Of_server, Serves, Seat, State, frame_of, thing_holder}
@@ -86,7 +86,9 @@ serving_class p (An_object_of c) e = go (sessions_at p c) refl e
 serving_class p Message e = cc
 
 -- a session is not enlisted
-pub suits_session : (p : Image) (c : ℕ) (n : ℕ) (known : Known) (r : Option Request) → is_session p c ≡ true → Suits (thing_kind p (An_object_of c)) known r → Suits (thing_kind p (An_object_of c)) (resting_in n) r
+pub suits_session :
+    (p : Image) (c : ℕ) (n : ℕ) (known : Known) (r : Option Request) → is_session p c ≡ true → Suits (thing_kind p (An_object_of c)) known r →
+    Suits (thing_kind p (An_object_of c)) (resting_in n) r
 unfolding kind_of is_session_in is_session_kind
 suits_session p c n known r e s = go (kind_at p c) e s
   where
@@ -100,14 +102,8 @@ own_held p h None x f = absurd f
 own_held p h (Some y) x f = (y, refl, f.0)
 
 pub plain_message : (d : Place → Kind) (r : Place) → with_message false d r ≡ d r
-plain_message d (Register f i) = refl
-plain_message d (Entry k) = refl
-plain_message d (Field n f) = refl
-plain_message d (Going k) = refl
-plain_message d (Elsewhere Root) = refl
 plain_message d (Elsewhere (Session s c)) = refl
-plain_message d (Elsewhere In_service) = refl
-plain_message d (Elsewhere (Queued s m)) = refl
+plain_message d _ = refl
 
 module _ (p : Image) (t : Typing) (wired : IsWired p) (typed : IsTyped p t) (s : State) (w : WellTyped p t s) (idle_now : s.tasks ≡ []) (fit : ClientsFit p s.clients s.cells)
     (x : Seat) (r : Request) (there : held s.cells x.place ≡ Some x.object) (lives : named s.cells x.object.name ≡ Some x.object) (asked : requested s.cells x.object.name ≡ Some r) (server : is_server p x.object.thing ≡ true) where
@@ -172,14 +168,13 @@ module _ (p : Image) (t : Typing) (wired : IsWired p) (typed : IsTyped p t) (s :
         (λ m other. refl) m
 
     declared_now : (q : Place) → declared p cs q ≡ declared p s.cells q
-    declared_now (Register f i) = refl
-    declared_now (Entry k) = refl
     declared_now (Field m f) = ap (λ y. declared_field p y f) (named_now m)
-    declared_now (Going k) = refl
-    declared_now (Elsewhere Root) = refl
-    declared_now (Elsewhere In_service) = refl
-    declared_now (Elsewhere (Session m c)) = ap (λ b. cond b (filled (session_thing p (named cs m)) Full) Null) (sessions_now m c) ∙ ap (λ y. cond (has_session (service_of s.cells m) c) (filled (session_thing p y) Full) Null) (named_now m)
-    declared_now (Elsewhere (Queued m k)) = ap (λ b. cond b (filled (message_thing p (named cs m)) Full) Null) (messages m k) ∙ ap (λ y. cond (has_message (service_of s.cells m) k) (filled (message_thing p y) Full) Null) (named_now m)
+    declared_now (Elsewhere (Session m c)) =
+        ap (λ b. cond b (filled (session_thing p (named cs m)) Full) Null) (sessions_now m c)
+        ∙ ap (λ y. cond (has_session (service_of s.cells m) c) (filled (session_thing p y) Full) Null) (named_now m)
+    declared_now (Elsewhere (Queued m k)) =
+        ap (λ b. cond b (filled (message_thing p (named cs m)) Full) Null) (messages m k) ∙ ap (λ y. cond (has_message (service_of s.cells m) k) (filled (message_thing p y) Full) Null) (named_now m)
+    declared_now _ = refl
 
     pub fits_now : (q : Place) → Fits p (seen cs) (held cs q) (declared p cs q)
     fits_now q = subst (λ y. Fits p (seen cs) y (declared p cs q)) (sym (held_now q)) (subst (λ k. Fits p (seen cs) (held s.cells q) k) (sym (declared_now q)) (fits_ready p (seen s.cells) (seen cs) (held s.cells q) (declared p s.cells q) (declared_ready p s.cells q) (good.fits q)))
@@ -209,14 +204,8 @@ module _ (p : Image) (t : Typing) (wired : IsWired p) (typed : IsTyped p t) (s :
     over = Mark (An_own (An_object_of its_class.1)) ∷ Dispatching (Of_server x client Accepts) (x ∷ above) ∷ []
 
     claims : (d : Place → Kind) (q : Place) → claim p d (Mark (An_own (An_object_of its_class.1)) ∷ Dispatching (Of_server x client Accepts) (x ∷ above) ∷ []) q ≡ with_message false d q
-    claims d (Register f i) = refl
-    claims d (Entry k) = refl
-    claims d (Field m f) = refl
-    claims d (Elsewhere Root) = refl
     claims d (Elsewhere (Session m c)) = refl
-    claims d (Elsewhere In_service) = refl
-    claims d (Elsewhere (Queued m k)) = refl
-    claims d (Going k) = refl
+    claims d _ = refl
 
     session : session_thing p (Some x.object) ≡ Some (An_object_of its_class.1)
     unfolding kind_of
@@ -335,21 +324,22 @@ module _ (p : Image) (t : Typing) (wired : IsWired p) (typed : IsTyped p t) (s :
     none_twice = ap (λ v. has_message v m) (service_here s.cells n (taken_first (service_of s.cells n)) x.object lives) ∙ ap (λ q. list_any (λ e. is_message m e) (rest_of q)) queue ∙ at_queue.0.1
 
     base : (q : Place) → Fits p (seen served) (held cs q) (declared p s.cells q)
-    base q = subst (λ y. Fits p (seen served) y (declared p s.cells q)) (sym (held_now q)) (fits_ready p (seen s.cells) (seen served) (held s.cells q) (declared p s.cells q) (declared_ready p s.cells q) (good.fits q))
+    base q =
+        subst (λ y. Fits p (seen served) y (declared p s.cells q)) (sym (held_now q))
+        (fits_ready p (seen s.cells) (seen served) (held s.cells q) (declared p s.cells q) (declared_ready p s.cells q) (good.fits q))
 
     -- where it neither waited nor is served
     there_still : (q : Place) → held served q ≡ held cs q → declared p cs q ≡ declared p s.cells q → Fits p (seen served) (held served q) (declared p served q)
-    there_still q places kinds = subst (λ y. Fits p (seen served) y (declared p served q)) (sym places) (subst (λ k. Fits p (seen served) (held cs q) k) (sym (ap (λ d. d q) (declared_moved p cs (Elsewhere (Queued n m)) (Elsewhere In_service)) ∙ kinds)) (base q))
+    there_still q places kinds =
+        subst (λ y. Fits p (seen served) y (declared p served q)) (sym places)
+        (subst (λ k. Fits p (seen served) (held cs q) k) (sym (ap (λ d. d q) (declared_moved p cs (Elsewhere (Queued n m)) (Elsewhere In_service)) ∙ kinds)) (base q))
 
     fits_served : (q : Place) → Fits p (seen served) (held served q) (with_message true (declared p served) q)
-    fits_served (Register f i) = there_still (Register f i) (held_served_so (Register f i)) refl
-    fits_served (Entry k) = there_still (Entry k) (held_served_so (Entry k)) refl
     fits_served (Field i f) = there_still (Field i f) (held_served_so (Field i f)) (ap (λ y. declared_field p y f) (named_now i))
-    fits_served (Going k) = there_still (Going k) (held_served_so (Going k)) refl
-    fits_served (Elsewhere Root) = there_still (Elsewhere Root) (held_served_so (Elsewhere Root)) refl
     fits_served (Elsewhere (Session i c)) = there_still (Elsewhere (Session i c)) (held_served_so (Elsewhere (Session i c)))
         (ap (λ b. cond b (filled (session_thing p (named cs i)) Full) Null) (sessions_now i c) ∙ ap (λ y. cond (has_session (service_of s.cells i) c) (filled (session_thing p y) Full) Null) (named_now i))
-    fits_served (Elsewhere In_service) = subst (λ y. Fits p (seen served) y (Own Message Ready)) (sym (held_served_so (Elsewhere In_service) ∙ held_now (Elsewhere (Queued n m)) ∙ its_message.1)) (its_message.2, tt)
+    fits_served (Elsewhere In_service) =
+        subst (λ y. Fits p (seen served) y (Own Message Ready)) (sym (held_served_so (Elsewhere In_service) ∙ held_now (Elsewhere (Queued n m)) ∙ its_message.1)) (its_message.2, tt)
     fits_served (Elsewhere (Queued i j)) = go ((n == i) && (m == j)) refl
       where
         both : (a b : Bool) → (a && b) ≡ true → (a ≡ true) × (b ≡ true)
@@ -366,11 +356,13 @@ module _ (p : Image) (t : Typing) (wired : IsWired p) (typed : IsTyped p t) (s :
         go : (b : Bool) → ((n == i) && (m == j)) ≡ b → Fits p (seen served) (held served (Elsewhere (Queued i j))) (declared p served (Elsewhere (Queued i j)))
         go true e =
             let parts = both (n == i) (m == j) e in
-            let none : has_message (service_of cs i) j ≡ false = ap (λ k. has_message (service_of cs k) j) (sym (eqb-true n i parts.0)) ∙ ap (λ k. has_message (service_of cs n) k) (sym (eqb-true m j parts.1)) ∙ none_twice in
+            let none : has_message (service_of cs i) j ≡ false =
+            ap (λ k. has_message (service_of cs k) j) (sym (eqb-true n i parts.0)) ∙ ap (λ k. has_message (service_of cs n) k) (sym (eqb-true m j parts.1)) ∙ none_twice in
             subst (λ y. Fits p (seen served) y (declared p served (Elsewhere (Queued i j)))) (sym (now ∙ ap (λ b. cond b None (held cs (Elsewhere (Queued i j)))) e))
             (subst (λ k. Fits p (seen served) None k) (sym (kind ∙ ap (λ b. cond b (filled (message_thing p (named cs i)) Full) Null) none)) tt)
         go false e = there_still (Elsewhere (Queued i j)) (now ∙ ap (λ b. cond b None (held cs (Elsewhere (Queued i j)))) e)
             (ap (λ b. cond b (filled (message_thing p (named cs i)) Full) Null) (messages_other i j e) ∙ ap (λ y. cond (has_message (service_of s.cells i) j) (filled (message_thing p y) Full) Null) (named_now i))
+    fits_served r = there_still r (held_served_so r) refl
 
     named_served_so : (i : ℕ) → named served i ≡ named s.cells i
     named_served_so i = named_moved cs (Elsewhere (Queued n m)) (Elsewhere In_service) i ∙ named_now i
@@ -415,30 +407,16 @@ module _ (p : Image) (t : Typing) (wired : IsWired p) (typed : IsTyped p t) (s :
     served_over = Mark Nothing ∷ Dispatching (Of_server x client (Serves z)) (x ∷ above) ∷ []
 
     served_claims : (d : Place → Kind) (q : Place) → claim p d (Mark Nothing ∷ Dispatching (Of_server x client (Serves z)) (x ∷ above) ∷ []) q ≡ with_message true d q
-    served_claims d (Register f i) = refl
-    served_claims d (Entry k) = refl
-    served_claims d (Field i f) = refl
-    served_claims d (Elsewhere Root) = refl
     served_claims d (Elsewhere (Session i c)) = refl
-    served_claims d (Elsewhere In_service) = refl
-    served_claims d (Elsewhere (Queued i k)) = refl
-    served_claims d (Going k) = refl
+    served_claims d _ = refl
 
     five_words : (a b c d e : ℤ) (i : ℕ) → WordFits (at None (Some a ∷ Some b ∷ Some c ∷ Some d ∷ Some e ∷ []) i) (at Unset (map argument_kind (replicate 5 Takes_word)) i)
-    five_words a b c d e zero = tt
-    five_words a b c d e (suc zero) = tt
-    five_words a b c d e (suc (suc zero)) = tt
-    five_words a b c d e (suc (suc (suc zero))) = tt
-    five_words a b c d e (suc (suc (suc (suc zero)))) = tt
     five_words a b c d e (suc (suc (suc (suc (suc i))))) = tt
+    five_words a b c d e _ = tt
 
     no_owner : (i : ℕ) → Fits p (seen served) None (at Unset (map argument_kind (replicate 5 Takes_word)) i)
-    no_owner zero = tt
-    no_owner (suc zero) = tt
-    no_owner (suc (suc zero)) = tt
-    no_owner (suc (suc (suc zero))) = tt
-    no_owner (suc (suc (suc (suc zero)))) = tt
     no_owner (suc (suc (suc (suc (suc i))))) = tt
+    no_owner _ = tt
 
     serves_it : serves p its_service.0 ≡ true
     serves_it = ap is_service service.role

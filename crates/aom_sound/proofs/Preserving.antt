@@ -8,7 +8,7 @@ use Rattle.aom_instructions.specs.declared.instr.Target.{Target}
 use Rattle.std.specs.Ordering.{int_eq}
 use Rattle.aom_image.specs.declared.method.Role.TheVariants.{Error}
 use Rattle.aom_image.specs.declared.method.Gives.{Gives}
-use Rattle.aom_image.specs.declared.method.Gives.TheVariants.{Left, Maybe as A_maybe, Nothing, Own as An_own, Word as A_word}
+use Rattle.aom_image.specs.declared.method.Gives.TheVariants.{Own as An_own}
 use Rattle.aom_classes.specs.Jumps.{jump_of}
 use Rattle.aom_classes.specs.Loops.{loop_in}
 use Rattle.aom_shape.specs.Needs.{AllTrue}
@@ -20,7 +20,7 @@ use Rattle.aom_sound.specs.Destruction.{destructed, parting, first_session, begu
 use Rattle.aom_sound.specs.Effects.{Calls, Cancels, Counts, Destroys, Destroys_last, Effect, Goes_on, Jumps, Leaves, Operates, Repeats, Returns, Sets_trap, applied, with_words}
 use Rattle.aom_sound.specs.Moves.{answered, asking, counted, dispatch_ends, error_frame, failed, handled, main_ends, needs, object_ends, step}
 use Rattle.aom_sound.specs.Places.{service_of, Elsewhere, Going, Object, Root, held}
-use Rattle.aom_sound.specs.State.{Closing, Home, Of_server, Accepts, Accepted, Accept_left, Serves, Service_left, Parts, A_mark, An_operation, Choice, Destroy, Dispatch, Dispatched, Frame, Goes, Inside, Item, Answered, Asks, Main_left, Object_left, Of_main, Of_object, Of_root, Run, Seat, State, Task, Trapped, Unwind, counter, frame_of, next, resumed, set_counter, set_word, to_place}
+use Rattle.aom_sound.specs.State.{Closing, Home, Of_server, Accepts, Accept_left, Serves, Parts, A_mark, An_operation, Choice, Destroy, Dispatch, Dispatched, Frame, Goes, Inside, Item, Answered, Asks, Object_left, Of_main, Of_object, Of_root, Run, Seat, State, Task, Trapped, Unwind, counter, frame_of, next, resumed, set_counter, set_word, to_place}
 use Rattle.aom_sound.specs.Steps.{Empties, Acts, Arrives, Clears, Comes_out, Ends, Fits, IsStraight, Move, Rests, Sets, Undoes, Vanishes}
 use Rattle.aom_sound.specs.Tasks.{Below, Holds, TaskLaw}
 use Rattle.aom_sound.specs.World.{heard_one, Heard, Outside, turn}
@@ -58,22 +58,18 @@ pub record Kept (p : Image) (c : Choice) (l : TaskLaw) (s : State) : Type 0 wher
   pub unwinds : (code : ℤ) (ts : List Task) → l.Stands ts → l.Unwinds code (Trapped ∷ ts)
 
 -- a result, and a code, change words alone
-pub receives : (p : Image) (fr : Frame) (ts : List Task) (v : State) (g : Gives) (a x : ℕ) (caller : Frame) → received p fr ts v g a x caller ≡ with_words caller (received p fr ts v g a x caller).words
-receives p fr ts v Nothing a x caller = refl
-receives p fr ts v A_word a x caller = refl
+pub receives :
+    (p : Image) (fr : Frame) (ts : List Task) (v : State) (g : Gives) (a x : ℕ) (caller : Frame) → received p fr ts v g a x caller ≡ with_words caller (received p fr ts v g a x caller).words
 receives p fr ts v (An_own t) a x caller = refl
-receives p fr ts v (A_maybe t) a x caller = refl
-receives p fr ts v (Left t) a x caller = refl
+receives p fr ts v _ a x caller = refl
 
 pub told : (g : Gives) (x : ℕ) (code : ℤ) (fr : Frame) → code_told g x code fr ≡ with_words fr (code_told g x code fr).words
-told Nothing x code fr = refl
-told A_word x code fr = refl
 told (An_own t) x code fr = refl
-told (A_maybe t) x code fr = refl
-told (Left t) x code fr = refl
+told _ x code fr = refl
 
 -- a destruction begins
-module _ (p : Image) (l : TaskLaw) (destructs : (o : Object) (m height : ℕ) (ts : List Task) → destructor_of p o.thing ≡ Some m → l.Runs (frame_of m (Inside o (Going (length ts))) height) (Destroy ∷ ts)) where
+module _ (p : Image) (l : TaskLaw)
+    (destructs : (o : Object) (m height : ℕ) (ts : List Task) → destructor_of p o.thing ≡ Some m → l.Runs (frame_of m (Inside o (Going (length ts))) height) (Destroy ∷ ts)) where
   destructed_holds : (o : Object) (height : ℕ) (ts : List Task) → Below l ts → Holds l (destructed p o height ts)
   destructed_holds o height ts b = go (destructor_of p o.thing) refl
     where
@@ -145,19 +141,13 @@ module _ (p : Image) (c : Choice) (l : TaskLaw) (s : State) (k : Kept p c l s) w
   asks_it x code (Some m) e = (k.asks x m code (length s.items) e, tt)
 
   ends : (d : Dispatch) → Holds l (dispatch_ends p d (counted p s)).tasks
-  ends Of_root = tt
-  ends (Main_left code) = tt
   ends Of_main = closes (counted p s) s.rest.stopped (held s.cells (Elsewhere Root))
   ends (Of_object x) = object_closes
   ends (Object_left x code) = asks_it x code (part_of p Error x.object.thing) refl
   ends (Asks x) = object_closes
   ends (Answered x answer) = answers answer
-  ends (Of_server x client Accepts) = tt
-  ends (Of_server x client Accepted) = tt
   ends (Of_server x client (Accept_left code)) = tt
-  ends (Of_server x client (Serves o)) = tt
-  ends (Of_server x client (Service_left code)) = tt
-  ends (Of_server x client Parts) = tt
+  ends _ = tt
 
   module _ (fr : Frame) (ts : List Task) (at_hand : s.tasks ≡ Run fr ∷ ts) (h : Holds l (Run fr ∷ ts)) where
     acting : (i : Instr) → instr_at p fr.method fr.place ≡ Some i → AllTrue (needs p c fr ts (counted p s) i) → Acting p c l s fr ts i
@@ -192,7 +182,8 @@ module _ (p : Image) (c : Choice) (l : TaskLaw) (s : State) (k : Kept p c l s) w
       let h' = subst (λ ts. Holds l ts) at h in
       subst (λ v. Holds l v.tasks) (sym same) (acts fr ts at h' i e (acting fr ts at h' i there met) fits)
   kept u h (Vanishes ts o at there owns same) = subst (λ v. Holds l v.tasks) (sym same) (resumes_all ts (subst (λ ts. Holds l ts) at h))
-  kept u h (Empties ts o at there same) = subst (λ v. Holds l v.tasks) (sym same) (empties o (first_session s.cells o.name (service_of s.cells o.name).sessions) ts (counted p s) (subst (λ ts. Holds l ts) at h))
+  kept u h (Empties ts o at there same) =
+      subst (λ v. Holds l v.tasks) (sym same) (empties o (first_session s.cells o.name (service_of s.cells o.name).sessions) ts (counted p s) (subst (λ ts. Holds l ts) at h))
   kept u h (Clears code ts items o at top there same) = subst (λ v. Holds l v.tasks) (sym same) (begins_over o (length items) (Unwind code ∷ ts) (subst (λ ts. Holds l ts) at h))
   kept u h (Undoes code ts items m w at top same) = subst (λ v. Holds l v.tasks) (sym same) (k.undoes m w items (Unwind code ∷ ts) top, subst (λ ts. Holds l ts) at h)
   kept u h (Arrives code fr ts items at top same) =

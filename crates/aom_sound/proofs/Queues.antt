@@ -36,7 +36,8 @@ front_none true x e = cc
 front_none false x e = (refl, e)
 
 -- none passes where none can
-pub none_passes : (test : Asked → Bool) (clients : List Client) (n : ℕ) → ((e : Asked) → test e ≡ true → EntryFits clients n e → ⊥) → (es : List Asked) → QueueFits clients n es → list_any test es ≡ false
+pub none_passes :
+    (test : Asked → Bool) (clients : List Client) (n : ℕ) → ((e : Asked) → test e ≡ true → EntryFits clients n e → ⊥) → (es : List Asked) → QueueFits clients n es → list_any test es ≡ false
 none_passes test clients n never [] fits = refl
 none_passes test clients n never (e ∷ es) fits = go (test e) refl (none_passes test clients n never es fits.1)
   where
@@ -61,12 +62,7 @@ again_swap : (e f : Asked) → asked_again e f ≡ false → asked_again f e ≡
 again_swap (Connect_of c) (Connect_of d) h = eqb_swap d c h
 again_swap (Message_of c m) (Message_of d k) h = eqb_swap k m h
 again_swap (Close_of c) (Close_of d) h = eqb_swap d c h
-again_swap (Connect_of c) (Message_of d k) h = refl
-again_swap (Connect_of c) (Close_of d) h = refl
-again_swap (Message_of c m) (Connect_of d) h = refl
-again_swap (Message_of c m) (Close_of d) h = refl
-again_swap (Close_of c) (Connect_of d) h = refl
-again_swap (Close_of c) (Message_of d k) h = refl
+again_swap _ _ h = refl
 
 -- ---- where clients and queues change
 
@@ -92,7 +88,8 @@ queue_stays clients n stays (e ∷ es) fits = go (stays e) (queue_stays clients 
     go false rest = rest
 
 -- something is asked last
-pub queue_last : (clients : List Client) (n : ℕ) (x : Asked) (es : List Asked) → EntryFits clients n x → list_any (asked_again x) es ≡ false → QueueFits clients n es → QueueFits clients n (es ++ x ∷ [])
+pub queue_last :
+    (clients : List Client) (n : ℕ) (x : Asked) (es : List Asked) → EntryFits clients n x → list_any (asked_again x) es ≡ false → QueueFits clients n es → QueueFits clients n (es ++ x ∷ [])
 queue_last clients n x [] own none fits = ((own, refl), tt)
 queue_last clients n x (e ∷ es) own none fits =
     let parts = front_none (asked_again x e) (list_any (asked_again x) es) none in

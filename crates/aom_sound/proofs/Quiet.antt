@@ -32,7 +32,9 @@ use Rattle.aom_sound.specs.World.{boot_state, main_tasks}
 use Rattle.aom_sound.proofs.Layers.{method_layer}
 
 -- the abstract state of the method at hand
-its_shape : (p : Image) (t : Typing) (cs : List Cell) (fr : Frame) (ts : List Task) (ls : List Layer) → Run fr ∷ ts ≡ tasks_of ls → Good p t cs ls → (sh : Shape) × (shape_at t fr.method fr.place ≡ Some sh)
+its_shape :
+    (p : Image) (t : Typing) (cs : List Cell) (fr : Frame) (ts : List Task) (ls : List Layer) → Run fr ∷ ts ≡ tasks_of ls → Good p t cs ls →
+    (sh : Shape) × (shape_at t fr.method fr.place ≡ Some sh)
 its_shape p t cs fr ts ls at good = method_layer (Good p t cs) fr ts ls (sym at) good (λ sh ls _ good. (sh, good.stack.0))
 
 module _ (p : Image) (t : Typing) (wired : IsWired p) (typed : IsTyped p t) (c : Choice) (s : State) (w : WellTyped p t s) where

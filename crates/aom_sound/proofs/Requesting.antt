@@ -36,6 +36,7 @@ use Rattle.aom_sound.specs.State.{AtRoot, Choice, Frame, Home, Inside, Run, Stat
 use Rattle.aom_sound.specs.WellTyped.{Fits, IsHoused, WellTyped}
 use Rattle.aom_sound.specs.Words.{read}
 use Rattle.std.specs.Ordering.{int_eq}
+use Rattle.aom_instructions.specs.declared.instr.Instr.{Instr}
 
 -- ---- what is known of a request
 
@@ -76,11 +77,15 @@ restated p t cs cs' fr sh ls o from states home lives alike listed others ready 
   stack = stack_alike p t cs cs' alike listed ls _ g.stack;
 }
   where
-    known : (x : Object) → named cs' x.name ≡ Some x → (b : Bool) → (o.name == x.name) ≡ b → Suits (thing_kind p x.thing) (cond b (known_at p fr states (states_claim p x ls)) (states_claim p x ls)) (requested cs' x.name)
-    known x here true e = subst (λ y. Suits (thing_kind p y.thing) (known_at p fr states (states_claim p y ls)) (requested cs' y.name)) (same_object cs o x lives (sym (alike.named_so x.name) ∙ here) e) suit
+    known :
+        (x : Object) → named cs' x.name ≡ Some x → (b : Bool) → (o.name == x.name) ≡ b →
+        Suits (thing_kind p x.thing) (cond b (known_at p fr states (states_claim p x ls)) (states_claim p x ls)) (requested cs' x.name)
+    known x here true e =
+        subst (λ y. Suits (thing_kind p y.thing) (known_at p fr states (states_claim p y ls)) (requested cs' y.name)) (same_object cs o x lives (sym (alike.named_so x.name) ∙ here) e) suit
     known x here false e =
         let below : Known = states_claim p x ls in
-        let before = subst (λ h. Suits (thing_kind p x.thing) (cond (works_at x.name h) (known_at p fr sh.states below) below) (requested cs x.name)) home (g.suits x (sym (alike.named_so x.name) ∙ here)) in
+        let before =
+        subst (λ h. Suits (thing_kind p x.thing) (cond (works_at x.name h) (known_at p fr sh.states below) below) (requested cs x.name)) home (g.suits x (sym (alike.named_so x.name) ∙ here)) in
         subst (λ r. Suits (thing_kind p x.thing) below r) (sym (others x.name e))
         (subst (λ b. Suits (thing_kind p x.thing) (cond b (known_at p fr sh.states below) below) (requested cs x.name)) e before)
 
@@ -126,10 +131,7 @@ listed_in (Some r) e = go r.phase
   where
     go : (q : Phase) → IsTrue (has enlisted (phase_state q))
     go Idle = refl
-    go Issued = refl
-    go Active = refl
-    go Cancelling = refl
-    go Aborted = refl
+    go _ = refl
 
 pub unlisted_in : (r : Option Request) → is_some r ≡ false → IsTrue (has unlisted (state_of r))
 unlisted_in None e = refl
@@ -141,10 +143,7 @@ no_state_is_none (Some r) = go r.phase
   where
     go : (q : Phase) → has 0 (phase_state q) ≡ false
     go Idle = refl
-    go Issued = refl
-    go Active = refl
-    go Cancelling = refl
-    go Aborted = refl
+    go _ = refl
 
 -- what is known to be in one state is
 only_unlisted : (r : Option Request) → IsTrue (has unlisted (state_of r)) → r ≡ None
@@ -153,10 +152,7 @@ only_unlisted (Some r) h = absurd (go r.phase h)
   where
     go : (q : Phase) → IsTrue (has unlisted (phase_state q)) → ⊥
     go Idle h = cc
-    go Issued h = cc
-    go Active h = cc
-    go Cancelling h = cc
-    go Aborted h = cc
+    go _ h = cc
 
 only_idle : (r : Option Request) → IsTrue (has idle (state_of r)) → (is_some r ≡ true) × (in_phase is_idle r ≡ true)
 only_idle None h = cc
@@ -164,10 +160,7 @@ only_idle (Some r) h = (refl, go r.phase h)
   where
     go : (q : Phase) → IsTrue (has idle (phase_state q)) → is_idle q ≡ true
     go Idle h = refl
-    go Issued h = cc
-    go Active h = cc
-    go Cancelling h = cc
-    go Aborted h = cc
+    go _ h = cc
 
 only_issued : (r : Option Request) → IsTrue (has issued (state_of r)) → (is_some r ≡ true) × (not (in_phase is_active r) ≡ true) × (in_phase is_issued r ≡ true)
 only_issued None h = cc
@@ -175,10 +168,7 @@ only_issued (Some r) h = let found = go r.phase h in (refl, found.0, found.1)
   where
     go : (q : Phase) → IsTrue (has issued (phase_state q)) → (not (is_active q) ≡ true) × (is_issued q ≡ true)
     go Issued h = (refl, refl)
-    go Idle h = cc
-    go Active h = cc
-    go Cancelling h = cc
-    go Aborted h = cc
+    go _ h = cc
 
 only_cancelled : (r : Option Request) → IsTrue (has (bit_or cancel_open cancel_done) (state_of r)) → in_phase is_cancelling r ≡ true
 only_cancelled None h = cc
@@ -187,9 +177,7 @@ only_cancelled (Some r) h = go r.phase h
     go : (q : Phase) → IsTrue (has (bit_or cancel_open cancel_done) (phase_state q)) → is_cancelling q ≡ true
     go Cancelling h = refl
     go Aborted h = refl
-    go Idle h = cc
-    go Issued h = cc
-    go Active h = cc
+    go _ h = cc
 
 -- an object that is enlisted is idle, one with a request made is issued, one that waits is active, and what is aborted is answered; whether it is being cancelled stays as it was
 suits_enlisted : (k : Option ClassKind) (n : Known) (cs : List Cell) (priority : ℤ) → is_listed_kind k ≡ true → Suits k n None → Suits k (record { states = idle; cancelled = n.cancelled }) (Some (first_request cs priority))
@@ -281,7 +269,9 @@ of_class :
 unfolding kind_of
 of_class p main_none fr holder listed = go (method_class p fr.method) refl listed
   where
-    go : (class : Option ℕ) → method_class p fr.method ≡ class → is_listed_kind (kind_of p class) ≡ true → (o : Object) × (from : Place) × (fr.home ≡ Inside o from) × (thing_kind p o.thing ≡ own_kind p fr.method)
+    go :
+        (class : Option ℕ) → method_class p fr.method ≡ class → is_listed_kind (kind_of p class) ≡ true →
+        (o : Object) × (from : Place) × (fr.home ≡ Inside o from) × (thing_kind p o.thing ≡ own_kind p fr.method)
     go None e l = cc
     go (Some c) e l =
         let no_main : method_role p fr.method ≡ Some Main → ⊥ = λ main. unlisted_none (own_kind p fr.method) listed (main_none fr.method main) in
@@ -289,7 +279,8 @@ of_class p main_none fr holder listed = go (method_class p fr.method) refl liste
         let found = home_member fr.home c member in
         (found.0, found.1, found.2, member_kind p found.0.thing c found.3 ∙ ap (λ x. kind_of p x) (sym e))
 
-module _ (p : Image) (t : Typing) (main_none : (m : ℕ) → method_role p m ≡ Some Main → own_kind p m ≡ None) (c : Choice) (s : State) (fr : Frame) (sh : Shape) (ls : List Layer) (at_hand : At p t s fr sh ls) where
+module _ (p : Image) (t : Typing) (main_none : (m : ℕ) → method_role p m ≡ Some Main → own_kind p m ≡ None) (c : Choice) (s : State) (fr : Frame) (sh : Shape) (ls : List Layer)
+    (at_hand : At p t s fr sh ls) where
   -- its object is one of the cells, and what is known of its request holds
   pub record OfObject : Type 0 where
     pub object : Object
@@ -346,7 +337,8 @@ module _ (p : Image) (t : Typing) (main_none : (m : ℕ) → method_role p m ≡
       let it = of_object listed in
       let others : (m : ℕ) → (it.object.name == m) ≡ false → requested (rerequested s.cells fr.home r) m ≡ requested s.cells m = λ m other.
       subst (λ h. requested (rerequested s.cells h r) m ≡ requested s.cells m) (sym it.home) (requested_there s.cells it.object.name m r other) in
-      let here : requested (rerequested s.cells fr.home r) it.object.name ≡ r = subst (λ h. requested (rerequested s.cells h r) it.object.name ≡ r) (sym it.home) (requested_here s.cells it.object.name r it.object it.lives) in
+      let here : requested (rerequested s.cells fr.home r) it.object.name ≡ r =
+      subst (λ h. requested (rerequested s.cells h r) it.object.name ≡ r) (sym it.home) (requested_here s.cells it.object.name r it.object it.lives) in
       restated p t s.cells (rerequested s.cells fr.home r) fr sh ls it.object it.from states it.home it.lives (rerequested_alike s.cells fr.home r) (listed_still s.cells fr.home r more) others (nowhere_fresh it)
       (subst (λ k. Suits k (its listed states) (requested (rerequested s.cells fr.home r) it.object.name)) (sym it.kind) (subst (λ x. Suits (own_kind p fr.method) (its listed states) x) (sym here) suit))
       (fitted p t s.cells fr sh ls at_hand.good)
@@ -439,3 +431,14 @@ module _ (p : Image) (t : Typing) (main_none : (m : ℕ) → method_role p m ≡
       let it = of_object listed in
       let under = only_cancelled own (in_state listed (bit_or cancel_open cancel_done) n.1.0) in
       ((active_home n.0, (under, tt)), asks listed cancel_done (on_request aborted own) (on_some aborted own) (suits_aborted (own_kind p fr.method) (its listed sh.states) own n.0 under it.suits) leads.0)
+
+  -- each instruction of this file by its law
+  abbrev pub of_requests : (i : Instr) → Option (Law p t c s fr sh ls at_hand i)
+  of_requests (JumpActive to) = Some (law_jump_active to)
+  of_requests (JumpAdded to) = Some (law_jump_added to)
+  of_requests (Enlist priority) = Some (law_enlist priority)
+  of_requests (Issue a b) = Some (law_issue a b)
+  of_requests SetActive = Some law_set_active
+  of_requests Abort = Some law_abort
+  of_requests (Status a) = Some (law_status a)
+  of_requests _ = None

@@ -42,7 +42,8 @@ pub move_rest : (p : Image) (c : Choice) (s u : State) → Move p c s u → Take
 move_rest p c s u (Acts fr ts i e at there met fits same) = let r = applied_rest p fr ts (counted p s) e in inl (r.0, ap (λ (x : State). x.rest) same ∙ r.1)
 move_rest p c s u (Rests still same) = inl (Goes_its_way, ap (λ (x : State). x.rest) same)
 move_rest p c s u (Vanishes ts o at there owns same) = inl (Goes_its_way, ap (λ (x : State). x.rest) same)
-move_rest p c s u (Empties ts o at there same) = inl (Goes_its_way, ap (λ (x : State). x.rest) same ∙ parting_rest p o (first_session s.cells o.name (service_of s.cells o.name).sessions) ts (counted p s))
+move_rest p c s u (Empties ts o at there same) =
+    inl (Goes_its_way, ap (λ (x : State). x.rest) same ∙ parting_rest p o (first_session s.cells o.name (service_of s.cells o.name).sessions) ts (counted p s))
 move_rest p c s u (Clears code ts items o at top there same) = inl (Goes_its_way, ap (λ (x : State). x.rest) same)
 move_rest p c s u (Undoes code ts items k w at top same) = inl (Goes_its_way, ap (λ (x : State). x.rest) same)
 move_rest p c s u (Arrives code fr ts items at top same) = inl (Goes_its_way, ap (λ (x : State). x.rest) same)

@@ -46,7 +46,9 @@ use Rattle.aom_shape.specs.declared.kind.Delivery.TheVariants.{Here}
 use Rattle.aom_image.specs.declared.method.Thing.TheVariants.{Message}
 use Rattle.aom_rules.specs.Rules.{rule_needs}
 
-loosen : (p : Image) (t : Typing) (cs : List Cell) (fr : Frame) (sh : Shape) (ls : List Layer) (c : ℕ) (k v : Kind) → Weaker v k → Fitted p t cs fr (set_register sh c k) ls → Fitted p t cs fr (set_register sh c v) ls
+loosen :
+    (p : Image) (t : Typing) (cs : List Cell) (fr : Frame) (sh : Shape) (ls : List Layer) (c : ℕ) (k v : Kind) → Weaker v k → Fitted p t cs fr (set_register sh c k) ls →
+    Fitted p t cs fr (set_register sh c v) ls
 loosen p t cs fr sh ls c k v w g = record {
   fits = λ r. fits_weaker p (seen cs) (held cs r) (claim_weaker p (declared p cs) fr (set_register sh c v) (set_register sh c k) ls r says) (g.fits r);
   suits = g.suits;
@@ -117,13 +119,16 @@ module _ (p : Image) (t : Typing) (c : Choice) (s : State) (fr fr2 : Frame) (sh 
           ∙ ap (λ b. cond b (entry_kind entry) (claim p (declared p s.cells) (Method fr bare ∷ below) r)) (ap (λ l. same_place (Entry (length (items_of l))) r) over ∙ f)
 
       go : (r : Place) (b : Bool) → same_place spot r ≡ b → Fits p (seen s.cells) (held s.cells r) (cond b (entry_kind entry) (claim p (declared p s.cells) (Method fr2 sh2 ∷ ls) r))
-      go r true f = subst (λ y. Fits p (seen s.cells) (held s.cells y) (entry_kind entry)) (ap (λ l. Entry (length (items_of l))) over ∙ same_place-true spot r f) (left_held p t c s fr sh below at_hand x e)
+      go r true f =
+          subst (λ y. Fits p (seen s.cells) (held s.cells y) (entry_kind entry)) (ap (λ l. Entry (length (items_of l))) over ∙ same_place-true spot r f) (left_held p t c s fr sh below at_hand x e)
       go r false f = subst (λ k. Fits p (seen s.cells) (held s.cells r) k) (same_claims (declared p s.cells) r)
           (ended p s.cells fr bare below at_hand.good.stack.2 at_hand.good.stack.3 at_top refl n (λ serving. absurd (unserving serving)) r (seen s.cells) (held s.cells r)
           (subst (λ k. Fits p (seen s.cells) (held s.cells r) k) (without r f) (at_hand.good.fits r)))
 
   -- the result goes to its register
-  pub carried : (a x : ℕ) → no_entry sh.entries ≡ true → none_owns (set_register sh a Null).registers ≡ true → is_unowning (register sh2 x) ≡ true → is_object_or_null (register sh a) ≡ true → Fitted p t (moved (top below a) (top ls x) s.cells) (set_word fr2 x None) (set_register sh2 x (register sh a)) ls
+  pub carried :
+      (a x : ℕ) → no_entry sh.entries ≡ true → none_owns (set_register sh a Null).registers ≡ true → is_unowning (register sh2 x) ≡ true → is_object_or_null (register sh a) ≡ true →
+      Fitted p t (moved (top below a) (top ls x) s.cells) (set_word fr2 x None) (set_register sh2 x (register sh a)) ls
   carried a x e n u obj =
       let g = at_hand.good in
       let free = fits_unowning p h _ (register sh2 x) u caller_fits in
@@ -175,10 +180,14 @@ module _ (p : Image) (t : Typing) (c : Choice) (s : State) (fr fr2 : Frame) (sh 
               (ended p s.cells fr (set_register sh a Null) below at_hand.good.stack.2 at_hand.good.stack.3 at_top e n (λ serving. absurd (unserving serving)) r (seen s.cells) (held s.cells r)
               (subst (λ k. Fits p (seen s.cells) (held s.cells r) k) (sym (claim-set_register p (declared p s.cells) fr sh below a Null r ∙ ap (λ b. cond b Null (claim p (declared p s.cells) (Method fr sh ∷ below) r)) f)) (at_hand.good.fits r)))
 
-      same : (r : Place) → claim p d (Method fr2 (set_register sh2 x k) ∷ ls) r ≡ changed (changed (changed (claim p d (Method fr2 sh2 ∷ ls)) q k) q Null) to (changed (claim p d (Method fr2 sh2 ∷ ls)) q k q) r
+      same :
+          (r : Place) →
+          claim p d (Method fr2 (set_register sh2 x k) ∷ ls) r ≡ changed (changed (changed (claim p d (Method fr2 sh2 ∷ ls)) q k) q Null) to (changed (claim p d (Method fr2 sh2 ∷ ls)) q k q) r
       same r = claim-set_register p d fr2 sh2 ls x k r ∙ go (same_place to r) (same_place q r) refl
         where
-          go : (b c : Bool) → same_place q r ≡ c → cond b k (claim p d (Method fr2 sh2 ∷ ls) r) ≡ cond b (cond (same_place q q) k (claim p d (Method fr2 sh2 ∷ ls) q)) (cond c Null (cond c k (claim p d (Method fr2 sh2 ∷ ls) r)))
+          go :
+              (b c : Bool) → same_place q r ≡ c →
+              cond b k (claim p d (Method fr2 sh2 ∷ ls) r) ≡ cond b (cond (same_place q q) k (claim p d (Method fr2 sh2 ∷ ls) q)) (cond c Null (cond c k (claim p d (Method fr2 sh2 ∷ ls) r)))
           go true c f = ap (λ b. cond b k (claim p d (Method fr2 sh2 ∷ ls) q)) (sym (same_place_refl q))
           go false true f = ap (λ y. claim p d (Method fr2 sh2 ∷ ls) y) (sym (same_place-true q r f)) ∙ claim_register_above p s.cells (Method fr2 sh2 ∷ ls) (length (tasks_of below)) a (omega arith)
           go false false f = refl
@@ -241,7 +250,9 @@ module _ (p : Image) (t : Typing) (wired : IsWired p) (c : Choice) (s : State) (
       Goal : Gives → Type 0
       Goal g = AllTrue (result_needs p fr (tasks_of below) s g a) × WellTyped p t (record s { cells = result_cells p fr (tasks_of below) s g a x (tasks_of ls); tasks = Run (next (received p fr (tasks_of below) s g a x fr2)) ∷ tasks_of ls })
 
-      go : is_cancel (method_role p fr.method) ≡ false → (g : Gives) → AllTrue (rule_result p fr.method fr.place sh g a) → entries_done p g sh.entries ≡ true → none_owns (result_moved p fr.method fr.place sh g a).registers ≡ true → Awaits g x sh2 → Leads t fr2.method (suc fr2.place) (brought g x sh2) → Goal g
+      go :
+          is_cancel (method_role p fr.method) ≡ false → (g : Gives) → AllTrue (rule_result p fr.method fr.place sh g a) → entries_done p g sh.entries ≡ true →
+          none_owns (result_moved p fr.method fr.place sh g a).registers ≡ true → Awaits g x sh2 → Leads t fr2.method (suc fr2.place) (brought g x sh2) → Goal g
       go still Nothing r e n w leads = (tt, finish s.cells fr2 sh2 refl refl (items e) (plain p t c s fr fr2 sh sh2 ls below at_hand (Returns fr.method fr.home) at_hand.good.stack.4 (λ d r. refl) (omega arith) refl (suits still) at_hand.good.stack.1.message.0 e n) leads)
       go still A_word r e n w leads =
           let i = word_is p s (word fr a) (register sh a) r.0 (at_hand.good.stack.1.words a) in
@@ -280,7 +291,8 @@ module _ (p : Image) (t : Typing) (wired : IsWired p) (c : Choice) (s : State) (
           (return_needs p t c s fr sh below at_hand a ended_so w.0 tt, ended_plainly p t c s fr sh below at_hand a ended_so still w.1)
 
 -- the same through a trap: an object is maybe there, and the code is 0
-module _ (p : Image) (t : Typing) (wired : IsWired p) (c : Choice) (s : State) (fr fr2 : Frame) (sh sh2 : Shape) (gv : Gives) (ls : List Layer) (at_hand : At p t s fr sh (Mark gv ∷ Method fr2 sh2 ∷ ls)) where
+module _ (p : Image) (t : Typing) (wired : IsWired p) (c : Choice) (s : State) (fr fr2 : Frame) (sh sh2 : Shape) (gv : Gives) (ls : List Layer)
+    (at_hand : At p t s fr sh (Mark gv ∷ Method fr2 sh2 ∷ ls)) where
   abbrev pub marked : List Layer
   marked = Mark gv ∷ Method fr2 sh2 ∷ ls
 
@@ -289,17 +301,16 @@ module _ (p : Image) (t : Typing) (wired : IsWired p) (c : Choice) (s : State) (
       let catches = at_hand.good.stack.4.0 in
       let e = catches.0 in
       let r = returnable p fr sh a n in
-      let w = go (gives_of p fr.method) (subst (λ g. LeavesNone g) (sym e) catches.1) r.result r.entries r.free caller.0.1 (subst (λ g. Awaits g x sh2) (sym e) caller.0.2) (subst (λ g. Leads t fr2.method (suc fr2.place) (caught g x sh2)) (sym e) caller.0.3) in
+      let w =
+      go (gives_of p fr.method) (subst (λ g. LeavesNone g) (sym e) catches.1) r.result r.entries r.free caller.0.1 (subst (λ g. Awaits g x sh2) (sym e) caller.0.2)
+      (subst (λ g. Leads t fr2.method (suc fr2.place) (caught g x sh2)) (sym e) caller.0.3) in
       let mark = mark_on_top s.items _ (same_items p t c s fr sh marked at_hand (entries_none (gives_of p fr.method) (subst (λ g. LeavesNone g) (sym e) catches.1) r.entries)) in
       (return_needs p t c s fr sh marked at_hand a r w.0 (mark, tt), ended_plainly p t c s fr sh marked at_hand a r catches.2 w.1)
     where
       -- what leaves no object has dealt with all its entries
       entries_none : (g : Gives) → LeavesNone g → entries_done p g sh.entries ≡ true → no_entry sh.entries ≡ true
-      entries_none Nothing none e = e
-      entries_none A_word none e = e
-      entries_none (An_own y) none e = e
-      entries_none (A_maybe y) none e = e
       entries_none (Left y) none e = absurd none
+      entries_none _ none e = e
 
       x : ℕ
       x = result_register (instr_at p fr2.method fr2.place)
@@ -323,7 +334,8 @@ module _ (p : Image) (t : Typing) (wired : IsWired p) (c : Choice) (s : State) (
           let fr'' = set_word fr' (suc x) (Some (pos 0)) in
           let sh'' = set_register sh' (suc x) Word in
           let w = write p t cs fr' sh' ls (suc x) (Some (pos 0)) Word f u (λ h. tt) tt in
-          let g = settle p t cs (next fr'') sh'' ls (stepped p t cs fr'' sh'' ls w) (subst (λ m. Leads t m (suc fr'.place) sh'') (sym em) (subst (λ l. Leads t fr2.method (suc l) sh'') (sym ep) leads)) in
+          let g =
+          settle p t cs (next fr'') sh'' ls (stepped p t cs fr'' sh'' ls w) (subst (λ m. Leads t m (suc fr'.place) sh'') (sym em) (subst (λ l. Leads t fr2.method (suc l) sh'') (sym ep) leads)) in
           record {
             layers = Method (next fr'') g.0 ∷ ls;
             tasks = refl;
@@ -335,7 +347,10 @@ module _ (p : Image) (t : Typing) (wired : IsWired p) (c : Choice) (s : State) (
       Goal : Gives → Type 0
       Goal g = AllTrue (result_needs p fr (tasks_of marked) s g a) × WellTyped p t (record s { cells = result_cells p fr (tasks_of marked) s g a x (tasks_of ls); tasks = Run (next (set_word (received p fr (tasks_of marked) s g a x fr2) (suc x) (Some (pos 0)))) ∷ tasks_of ls; items = below_top s.items })
 
-      go : (g : Gives) → LeavesNone g → AllTrue (rule_result p fr.method fr.place sh g a) → entries_done p g sh.entries ≡ true → none_owns (result_moved p fr.method fr.place sh g a).registers ≡ true → is_unowning (register sh2 (suc x)) ≡ true → Awaits g x sh2 → Leads t fr2.method (suc fr2.place) (caught g x sh2) → Goal g
+      go :
+          (g : Gives) → LeavesNone g → AllTrue (rule_result p fr.method fr.place sh g a) → entries_done p g sh.entries ≡ true →
+          none_owns (result_moved p fr.method fr.place sh g a).registers ≡ true → is_unowning (register sh2 (suc x)) ≡ true → Awaits g x sh2 →
+          Leads t fr2.method (suc fr2.place) (caught g x sh2) → Goal g
       go Nothing none r e n u w leads = (tt, finish s.cells fr2 sh2 refl refl (items e) u (plain p t c s fr fr2 sh sh2 ls marked at_hand (Caught gv) caller (λ d r. mark_claims p d gv (Method fr2 sh2 ∷ ls) r) (omega arith) refl suits at_hand.good.stack.1.message.0 e n) leads)
       go A_word none r e n u w leads =
           let i = word_is p s (word fr a) (register sh a) r.0 (at_hand.good.stack.1.words a) in
@@ -355,7 +370,8 @@ module _ (p : Image) (t : Typing) (wired : IsWired p) (c : Choice) (s : State) (
       go (Left y) none r e n u w leads = absurd none
 
 -- a method returns to its dispatch
-module _ (p : Image) (t : Typing) (c : Choice) (s : State) (fr : Frame) (sh : Shape) (gv : Gives) (w : Dispatch) (seats : List Seat) (ls : List Layer) (at_hand : At p t s fr sh (Mark gv ∷ Dispatching w seats ∷ ls)) where
+module _ (p : Image) (t : Typing) (c : Choice) (s : State) (fr : Frame) (sh : Shape) (gv : Gives) (w : Dispatch) (seats : List Seat) (ls : List Layer)
+    (at_hand : At p t s fr sh (Mark gv ∷ Dispatching w seats ∷ ls)) where
   abbrev pub dispatched : List Layer
   dispatched = Mark gv ∷ Dispatching w seats ∷ ls
 
@@ -386,7 +402,9 @@ module _ (p : Image) (t : Typing) (c : Choice) (s : State) (fr : Frame) (sh : Sh
           rests_there p o dispatched (requested s.cells o.name) apart.3 (suits_rests (thing_kind p o.thing) sh.states (requested s.cells o.name) r.settled (subst (λ k. Suits (thing_kind p o.thing) k (requested s.cells o.name)) (known_resting p o fr sh.states dispatched at_hand.good.stack.4.0.2 apart.3) h)))
 
   -- below the method, where it gives nothing and serves nothing
-  plain_below : no_entry sh.entries ≡ true → none_owns sh.registers ≡ true → (serves p fr.method ≡ true → ⊥) → (q : Place) → Fits p (seen s.cells) (held s.cells q) (claim p (declared p s.cells) (Dispatching w seats ∷ ls) q)
+  plain_below :
+      no_entry sh.entries ≡ true → none_owns sh.registers ≡ true → (serves p fr.method ≡ true → ⊥) → (q : Place) →
+      Fits p (seen s.cells) (held s.cells q) (claim p (declared p s.cells) (Dispatching w seats ∷ ls) q)
   plain_below entries free plain q =
       subst (λ k. Fits p (seen s.cells) (held s.cells q) k) (mark_claims p (declared p s.cells) gv (Dispatching w seats ∷ ls) q)
       (ended p s.cells fr sh dispatched at_hand.good.stack.2 at_hand.good.stack.3 refl entries free (λ serving. absurd (plain serving)) q (seen s.cells) (held s.cells q) (at_hand.good.fits q))
@@ -419,7 +437,8 @@ law_return_object p t c s fr sh gv x seats ls at_hand a n leads =
     return_nothing p t c s fr sh gv (Of_object x) seats ls at_hand (Of_object x) a n below.0 tt (λ r v. v) tt below.3 tt (λ r entries free. plain_below p t c s fr sh gv (Of_object x) seats ls at_hand entries free at_hand.good.stack.1.message.0)
 
 -- to that of a server which serves a message: it is taken, and the dispatch ends as an object's
-module _ (p : Image) (t : Typing) (c : Choice) (s : State) (fr : Frame) (sh : Shape) (gv : Gives) (x : Seat) (client : ℕ) (o : Object) (seats : List Seat) (ls : List Layer) (at_hand : At p t s fr sh (Mark gv ∷ Dispatching (Of_server x client (Serves o)) seats ∷ ls)) where
+module _ (p : Image) (t : Typing) (c : Choice) (s : State) (fr : Frame) (sh : Shape) (gv : Gives) (x : Seat) (client : ℕ) (o : Object) (seats : List Seat) (ls : List Layer)
+    (at_hand : At p t s fr sh (Mark gv ∷ Dispatching (Of_server x client (Serves o)) seats ∷ ls)) where
   serves_it : serves p fr.method ≡ true
   serves_it = at_hand.good.stack.1.message.1 tt
 
@@ -429,15 +448,21 @@ module _ (p : Image) (t : Typing) (c : Choice) (s : State) (fr : Frame) (sh : Sh
       subst (λ x. Fits p (seen s.cells) (held s.cells (Elsewhere In_service)) (delivered x)) (message_gone p fr sh a r serves_it)
       (subst (λ b. Fits p (seen s.cells) (held s.cells (Elsewhere In_service)) (cond b (delivered sh.delivery) (Own Message Ready))) serves_it (at_hand.good.fits (Elsewhere In_service)))
 
-  others_fit : (a : ℕ) → Returnable p fr sh a → no_entry sh.entries ≡ true → none_owns sh.registers ≡ true → (q : Place) → Fits p (seen s.cells) (held s.cells q) (claim p (declared p s.cells) (Dispatching (Of_object x) seats ∷ ls) q)
+  others_fit :
+      (a : ℕ) → Returnable p fr sh a → no_entry sh.entries ≡ true → none_owns sh.registers ≡ true → (q : Place) →
+      Fits p (seen s.cells) (held s.cells q) (claim p (declared p s.cells) (Dispatching (Of_object x) seats ∷ ls) q)
   others_fit a r entries free q = go q
     where
       bare : Shape
       bare = record sh { delivery = Here }
 
       -- with the message as it was, the method ends
-      whole : (q : Place) → Fits p (seen s.cells) (held s.cells q) (claim p (declared p s.cells) (Method fr bare ∷ Mark gv ∷ Dispatching (Of_server x client (Serves o)) seats ∷ ls) q) → Fits p (seen s.cells) (held s.cells q) (claim p (declared p s.cells) (Mark gv ∷ Dispatching (Of_server x client (Serves o)) seats ∷ ls) q)
-      whole q f = ended p s.cells fr bare (Mark gv ∷ Dispatching (Of_server x client (Serves o)) seats ∷ ls) at_hand.good.stack.2 at_hand.good.stack.3 refl entries free (λ serving. refl) q (seen s.cells) (held s.cells q) f
+      whole :
+          (q : Place) → Fits p (seen s.cells) (held s.cells q) (claim p (declared p s.cells) (Method fr bare ∷ Mark gv ∷ Dispatching (Of_server x client (Serves o)) seats ∷ ls) q) →
+          Fits p (seen s.cells) (held s.cells q) (claim p (declared p s.cells) (Mark gv ∷ Dispatching (Of_server x client (Serves o)) seats ∷ ls) q)
+      whole q f =
+          ended p s.cells fr bare (Mark gv ∷ Dispatching (Of_server x client (Serves o)) seats ∷ ls) at_hand.good.stack.2 at_hand.good.stack.3 refl entries free (λ serving. refl) q
+          (seen s.cells) (held s.cells q) f
 
       same_fields : (home : Home) (m f : ℕ) (k : Kind) → home_claim p home sh m f k ≡ home_claim p home (record sh { delivery = Here }) m f k
       same_fields Static m f k = refl
@@ -455,11 +480,16 @@ module _ (p : Image) (t : Typing) (c : Choice) (s : State) (fr : Frame) (sh : Sh
       go : (q : Place) → Fits p (seen s.cells) (held s.cells q) (claim p (declared p s.cells) (Dispatching (Of_object x) seats ∷ ls) q)
       go (Register f i) = whole (Register f i) (at_hand.good.fits (Register f i))
       go (Entry k) = whole (Entry k) (at_hand.good.fits (Entry k))
-      go (Field n f) = whole (Field n f) (subst (λ k. Fits p (seen s.cells) (held s.cells (Field n f)) k) (same_fields fr.home n f (claim p (declared p s.cells) below (Field n f))) (at_hand.good.fits (Field n f)))
+      go (Field n f) =
+          whole (Field n f) (subst (λ k. Fits p (seen s.cells) (held s.cells (Field n f)) k) (same_fields fr.home n f (claim p (declared p s.cells) below (Field n f))) (at_hand.good.fits (Field n f)))
       go (Going k) = whole (Going k) (at_hand.good.fits (Going k))
-      go (Elsewhere Root) = whole (Elsewhere Root) (subst (λ k. Fits p (seen s.cells) (held s.cells (Elsewhere Root)) k) (same_root fr.home (claim p (declared p s.cells) below (Elsewhere Root))) (at_hand.good.fits (Elsewhere Root)))
+      go (Elsewhere Root) =
+          whole (Elsewhere Root)
+          (subst (λ k. Fits p (seen s.cells) (held s.cells (Elsewhere Root)) k) (same_root fr.home (claim p (declared p s.cells) below (Elsewhere Root))) (at_hand.good.fits (Elsewhere Root)))
       go (Elsewhere (Session m k)) = at_hand.good.fits (Elsewhere (Session m k))
-      go (Elsewhere In_service) = subst (λ l. Fits p (seen s.cells) (held s.cells (Elsewhere In_service)) (claim p (declared p s.cells) (Dispatching (Of_object x) seats ∷ l) (Elsewhere In_service))) (sym at_hand.good.stack.4.1.1) (taken a r)
+      go (Elsewhere In_service) =
+          subst (λ l. Fits p (seen s.cells) (held s.cells (Elsewhere In_service)) (claim p (declared p s.cells) (Dispatching (Of_object x) seats ∷ l) (Elsewhere In_service)))
+          (sym at_hand.good.stack.4.1.1) (taken a r)
       go (Elsewhere (Queued m k)) = at_hand.good.fits (Elsewhere (Queued m k))
 
   pub law_return_served : (a : ℕ) → Law p t c s fr sh (Mark gv ∷ Dispatching (Of_server x client (Serves o)) seats ∷ ls) at_hand (Return a)
@@ -501,11 +531,7 @@ module _ (p : Image) (t : Typing) (c : Choice) (s : State) (fr : Frame) (sh : Sh
 
   same_claims : (answer : ℤ) (d : Place → Kind) (r : Place) → claim p d (Dispatching (Answered x answer) seats ∷ ls) r ≡ claim p d (Dispatching (Asks x) seats ∷ ls) r
   same_claims answer d (Register f i) = refl
-  same_claims answer d (Entry k) = refl
-  same_claims answer d (Field n f) = refl
-  same_claims answer d (Going k) = refl
-  same_claims answer d (Elsewhere Root) = refl
-  same_claims answer d (Elsewhere w) = refl
+  same_claims answer d _ = refl
 
   pub law_answer : (a : ℕ) → Law p t c s fr sh (Dispatching (Asks x) seats ∷ ls) at_hand (Return a)
   law_answer a n leads =

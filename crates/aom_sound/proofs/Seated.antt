@@ -19,7 +19,9 @@ fewer_stay : (test kept : Asked → Bool) (es : List Asked) → length (filter t
 fewer_stay test kept [] = omega arith
 fewer_stay test kept (e ∷ es) = go (kept e) (test e) refl (fewer_stay test kept es)
   where
-    go : (b d : Bool) → test e ≡ d → length (filter test (filter kept es)) ≤ length (filter test es) → length (filter test (cond b (e ∷ filter kept es) (filter kept es))) ≤ length (cond d (e ∷ filter test es) (filter test es))
+    go :
+        (b d : Bool) → test e ≡ d → length (filter test (filter kept es)) ≤ length (filter test es) →
+        length (filter test (cond b (e ∷ filter kept es) (filter kept es))) ≤ length (cond d (e ∷ filter test es) (filter test es))
     go true d at h = subst (λ x. length (cond x (e ∷ filter test (filter kept es)) (filter test (filter kept es))) ≤ length (cond d (e ∷ filter test es) (filter test es))) (sym at) (both d)
       where
         both : (d : Bool) → length (cond d (e ∷ filter test (filter kept es)) (filter test (filter kept es))) ≤ length (cond d (e ∷ filter test es) (filter test es))
@@ -36,7 +38,9 @@ one_last x [] = go (is_connect x)
     go false = refl
 one_last x (e ∷ es) = go (is_connect e) (one_last x es)
   where
-    go : (b : Bool) → length (filter is_connect (es ++ x ∷ [])) ≡ length (filter is_connect es) + cond (is_connect x) 1 0 → length (cond b (e ∷ filter is_connect (es ++ x ∷ [])) (filter is_connect (es ++ x ∷ []))) ≡ length (cond b (e ∷ filter is_connect es) (filter is_connect es)) + cond (is_connect x) 1 0
+    go :
+        (b : Bool) → length (filter is_connect (es ++ x ∷ [])) ≡ length (filter is_connect es) + cond (is_connect x) 1 0 →
+        length (cond b (e ∷ filter is_connect (es ++ x ∷ [])) (filter is_connect (es ++ x ∷ []))) ≡ length (cond b (e ∷ filter is_connect es) (filter is_connect es)) + cond (is_connect x) 1 0
     go true h = omega (arith, h)
     go false h = h
 
@@ -62,13 +66,15 @@ seats_parted c v = let less = fewer (is_other c) v.sessions in omega (arith, les
 
 pub seats_left : (c : ℕ) (v w : Service) → v.queue ≡ filter (stays c) w.queue → v.sessions ≡ w.sessions → seats_taken v ≤ seats_taken w
 seats_left c v w queue sessions =
-    let less : length (filter is_connect v.queue) ≤ length (filter is_connect w.queue) = subst (λ q. length (filter is_connect q) ≤ length (filter is_connect w.queue)) (sym queue) (fewer_stay is_connect (stays c) w.queue) in
+    let less : length (filter is_connect v.queue) ≤ length (filter is_connect w.queue) =
+    subst (λ q. length (filter is_connect q) ≤ length (filter is_connect w.queue)) (sym queue) (fewer_stay is_connect (stays c) w.queue) in
     let same : length v.sessions ≡ length w.sessions = ap (λ xs. length xs) sessions in
     omega (arith, less, same)
 
 -- what is taken first had its seat
 pub seats_first : (v : Service) (e : Asked) (es : List Asked) → v.queue ≡ e ∷ es → seats_taken v ≡ seats_taken (taken_first v) + cond (is_connect e) 1 0
-seats_first v e es queue = ap (λ q. seats_taken (record v { queue = q })) queue ∙ go (is_connect e) refl ∙ sym (ap (λ q. seats_taken (taken_first (record v { queue = q })) + cond (is_connect e) 1 0) queue)
+seats_first v e es queue =
+    ap (λ q. seats_taken (record v { queue = q })) queue ∙ go (is_connect e) refl ∙ sym (ap (λ q. seats_taken (taken_first (record v { queue = q })) + cond (is_connect e) 1 0) queue)
   where
     go : (b : Bool) → is_connect e ≡ b → length v.sessions + length (cond b (e ∷ filter is_connect es) (filter is_connect es)) ≡ (length v.sessions + length (filter is_connect es)) + cond b 1 0
     go true at = omega arith

@@ -19,7 +19,7 @@ use Rattle.aom_sound.proofs.Services.{held_served, named_served, requested_serve
 use Rattle.aom_sound.proofs.Straight.{fits_unowning}
 use Rattle.aom_sound.proofs.Things.{stands_itself}
 use Rattle.aom_sound.specs.Claims.{declared, declared_field}
-use Rattle.aom_sound.specs.Places.{Cell, Elsewhere, Entry, Field, Going, In_service, Message_of, Object, Place, Queued, Register, Root, Session, Tidy, held, named, requested, same_place, seen, service_of}
+use Rattle.aom_sound.specs.Places.{Cell, Elsewhere, Field, Message_of, Object, Place, Queued, Session, Tidy, held, named, requested, same_place, seen, service_of}
 use Rattle.aom_sound.specs.Requests.{AllSuit, Suits, resting_in, rests_in, thing_kind}
 use Rattle.aom_sound.specs.Servers.{asked_last, has_message, has_session, is_message, is_server, message_thing, reserved, session_thing}
 use Rattle.aom_sound.specs.WellTyped.{Fits, Good}
@@ -108,18 +108,28 @@ module _ (p : Image) (t : Typing) (cs : List Cell) (good : Good p t cs []) (o : 
       go false e = refl
 
   session_kind : (n d : ℕ) → declared p then (Elsewhere (Session n d)) ≡ declared p cs (Elsewhere (Session n d))
-  session_kind n d = ap (λ b. cond b (filled (session_thing p (named then n)) Full) Null) (sessions_then n d) ∙ ap (λ y. cond (has_session (service_of cs n) d) (filled (session_thing p y) Full) Null) (named_then n) ∙ go (name == n) refl
+  session_kind n d =
+      ap (λ b. cond b (filled (session_thing p (named then n)) Full) Null) (sessions_then n d)
+      ∙ ap (λ y. cond (has_session (service_of cs n) d) (filled (session_thing p y) Full) Null) (named_then n) ∙ go (name == n) refl
     where
-      go : (b : Bool) → (name == n) ≡ b → cond (has_session (service_of cs n) d) (filled (session_thing p (cond b (Some message.object) (named cs n))) Full) Null ≡ cond (has_session (service_of cs n) d) (filled (session_thing p (named cs n)) Full) Null
+      go :
+          (b : Bool) → (name == n) ≡ b →
+          cond (has_session (service_of cs n) d) (filled (session_thing p (cond b (Some message.object) (named cs n))) Full) Null
+          ≡ cond (has_session (service_of cs n) d) (filled (session_thing p (named cs n)) Full) Null
       go false e = refl
       go true e =
           let none : has_session (service_of cs n) d ≡ false = ap (λ v. has_session v d) (ap (λ k. service_of cs k) (sym (eqb-true name n e)) ∙ service_unnamed cs name free) in
           ap (λ b. cond b (filled (session_thing p (Some message.object)) Full) Null) none ∙ sym (ap (λ b. cond b (filled (session_thing p (named cs n)) Full) Null) none)
 
   queue_kind : (n m : ℕ) → ((o.name == n) && (name == m)) ≡ false → declared p then (Elsewhere (Queued n m)) ≡ declared p cs (Elsewhere (Queued n m))
-  queue_kind n m other = ap (λ b. cond b (filled (message_thing p (named then n)) Full) Null) (messages_then n m other) ∙ ap (λ y. cond (has_message (service_of cs n) m) (filled (message_thing p y) Full) Null) (named_then n) ∙ go (name == n) refl
+  queue_kind n m other =
+      ap (λ b. cond b (filled (message_thing p (named then n)) Full) Null) (messages_then n m other)
+      ∙ ap (λ y. cond (has_message (service_of cs n) m) (filled (message_thing p y) Full) Null) (named_then n) ∙ go (name == n) refl
     where
-      go : (b : Bool) → (name == n) ≡ b → cond (has_message (service_of cs n) m) (filled (message_thing p (cond b (Some message.object) (named cs n))) Full) Null ≡ cond (has_message (service_of cs n) m) (filled (message_thing p (named cs n)) Full) Null
+      go :
+          (b : Bool) → (name == n) ≡ b →
+          cond (has_message (service_of cs n) m) (filled (message_thing p (cond b (Some message.object) (named cs n))) Full) Null
+          ≡ cond (has_message (service_of cs n) m) (filled (message_thing p (named cs n)) Full) Null
       go false e = refl
       go true e =
           let none : has_message (service_of cs n) m ≡ false = ap (λ v. has_message v m) (ap (λ k. service_of cs k) (sym (eqb-true name n e)) ∙ service_unnamed cs name free) in
@@ -137,12 +147,7 @@ module _ (p : Image) (t : Typing) (cs : List Cell) (good : Good p t cs []) (o : 
       ∙ ap (λ b. filled (cond b (Some Message) None) Full) server
 
   fits : (q : Place) → Fits p (seen then) (held then q) (declared p then q)
-  fits (Register f i) = there_still (Register f i) (held_then (Register f i)) refl
-  fits (Entry k) = there_still (Entry k) (held_then (Entry k)) refl
   fits (Field n f) = there_still (Field n f) (held_then (Field n f)) (fields_then n f)
-  fits (Going k) = there_still (Going k) (held_then (Going k)) refl
-  fits (Elsewhere Root) = there_still (Elsewhere Root) (held_then (Elsewhere Root)) refl
-  fits (Elsewhere In_service) = there_still (Elsewhere In_service) (held_then (Elsewhere In_service)) refl
   fits (Elsewhere (Session n d)) = there_still (Elsewhere (Session n d)) (held_then (Elsewhere (Session n d))) (session_kind n d)
   fits (Elsewhere (Queued n m)) = go ((o.name == n) && (name == m)) refl
     where
@@ -150,9 +155,11 @@ module _ (p : Image) (t : Typing) (cs : List Cell) (good : Good p t cs []) (o : 
       go false e = there_still (Elsewhere (Queued n m)) (held_then (Elsewhere (Queued n m)) ∙ ap (λ b. cond b (Some message.object) (held cs (Elsewhere (Queued n m)))) e) (queue_kind n m e)
       go true e =
           let parts = both (o.name == n) (name == m) e in
-          let place : Elsewhere (Queued n m) ≡ Elsewhere (Queued o.name name) = ap (λ k. Elsewhere (Queued k m)) (sym (eqb-true o.name n parts.0)) ∙ ap (λ k. Elsewhere (Queued o.name k)) (sym (eqb-true name m parts.1)) in
+          let place : Elsewhere (Queued n m) ≡ Elsewhere (Queued o.name name) =
+          ap (λ k. Elsewhere (Queued k m)) (sym (eqb-true o.name n parts.0)) ∙ ap (λ k. Elsewhere (Queued o.name k)) (sym (eqb-true name m parts.1)) in
           subst (λ y. Fits p (seen then) y (declared p then (Elsewhere (Queued n m)))) (sym (held_then (Elsewhere (Queued n m)) ∙ ap (λ b. cond b (Some message.object) (held cs (Elsewhere (Queued n m)))) e))
           (subst (λ k. Fits p (seen then) (Some message.object) k) (sym (ap (λ q. declared p then q) place ∙ own_kind)) (subst (λ y. Fits p (seen then) (Some y) (Own Message Ready)) (sym named_so) (stands_itself p Message, tt)))
+  fits r = there_still r (held_then r) refl
 
   tidy : Tidy then
   tidy = (
@@ -167,7 +174,8 @@ module _ (p : Image) (t : Typing) (cs : List Cell) (good : Good p t cs []) (o : 
       go : (b : Bool) → (name == y.name) ≡ b → cond b (Some message.object) (named cs y.name) ≡ Some y → Suits (thing_kind p y.thing) (resting_in (rests_in p y)) (requested then y.name)
       go true e same =
           let one : message.object ≡ y = cc in
-          let asked : requested then y.name ≡ None = ap (λ k. cond (k == y.name) message.request (requested rest y.name)) name_is ∙ ap (λ b. cond b message.request (requested rest y.name)) e ∙ no_request in
+          let asked : requested then y.name ≡ None =
+          ap (λ k. cond (k == y.name) message.request (requested rest y.name)) name_is ∙ ap (λ b. cond b message.request (requested rest y.name)) e ∙ no_request in
           subst (λ r. Suits (thing_kind p y.thing) (resting_in (rests_in p y)) r) (sym asked) (plain p y (ap (λ z. z.thing) (sym one) ∙ ap (λ z. z.thing) named_so))
       go false e there = subst (λ r. Suits (thing_kind p y.thing) (resting_in (rests_in p y)) r)
           (sym (ap (λ k. cond (k == y.name) message.request (requested rest y.name)) name_is ∙ ap (λ b. cond b message.request (requested rest y.name)) e ∙ requested_served cs o.name (asked_last (Message_of c name) (service_of cs o.name)) y.name)) (good.suits y there)

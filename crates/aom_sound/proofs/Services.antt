@@ -4,8 +4,8 @@ use Rattle.std.proofs.lemmas.Bool.{eqb-true, eq-eqb, true≢false}
 use Rattle.aom_image.specs.Image.{Image}
 use Rattle.aom_sound.specs.WellTyped.{AllSit, SitsFirst, seat_of, EndsSessions, IsAttended, StageFits}
 use Rattle.aom_sound.specs.Servers.{is_among, has_session}
-use Rattle.aom_sound.specs.State.{Seat, Dispatch, Of_server, Stage, Accepts, Accepted, Accept_left, Serves, Service_left, Parts}
-use Rattle.aom_sound.proofs.Maps.{front_free, same_place-true, without_none}
+use Rattle.aom_sound.specs.State.{Seat, Dispatch, Of_server, Stage, Accepts, Accept_left}
+use Rattle.aom_sound.proofs.Maps.{front_free, read_without}
 use Rattle.aom_sound.specs.Natives.{all_bereaved}
 use Rattle.aom_sound.specs.Places.{Cell, Object, Place, Request, Service, Tidy, held, moved, named, requested, same_place, service_of, set_request, set_service, set_session, set_word_field, unserved, without}
 
@@ -36,15 +36,7 @@ service_unnamed (c ∷ cs) n e = let f = front_free _ _ _ e in ap (λ b. cond b 
 
 -- of all but what goes they have what they had
 pub service_without : (cs : List Cell) (g : Place) (o : Object) (n : ℕ) → Tidy cs → held cs g ≡ Some o → (o.name == n) ≡ false → service_of (without g cs) n ≡ service_of cs n
-service_without [] g o n t e d = refl
-service_without (c ∷ cs) g o n t e d = go (same_place c.owner g) refl (service_without cs g o n t.2) e
-  where
-    go : (x : Bool) → same_place c.owner g ≡ x → (held cs g ≡ Some o → (o.name == n) ≡ false → service_of (without g cs) n ≡ service_of cs n) → cond x (Some c.object) (held cs g) ≡ Some o → service_of (cond x (without g cs) (c ∷ without g cs)) n ≡ cond (c.object.name == n) c.service (service_of cs n)
-    go true f ih e =
-        let same : c.object ≡ o = cc in
-        ap (λ l. service_of l n) (without_none cs g (ap (λ q. held cs q) (sym (same_place-true c.owner g f)) ∙ t.0))
-        ∙ ap (λ b. cond b c.service (service_of cs n)) (sym (ap (λ x. x.name == n) same ∙ d))
-    go false f ih e = ap (λ x. cond (c.object.name == n) c.service x) (ih e d)
+service_without = read_without service_of (λ c. c.service) (λ c cs n. refl)
 
 -- ---- where they have something else at a cell
 
@@ -85,37 +77,29 @@ service_there (c ∷ cs) m n v other = go (c.object.name == n) (c.object.name ==
 
 -- ---- what a stack says of it
 
-module _ (p : Image) (cs cs' : List Cell) (service : (n : ℕ) → (service_of cs' n).sessions ≡ (service_of cs n).sessions) where
-  pub attended_kept : (d : Dispatch) → IsAttended p cs d → IsAttended p cs' d
-  attended_kept (Of_server x c stage) h = (h.0, go stage h.1)
-    where
-      same : (b : Bool) → has_session (service_of cs x.object.name) c ≡ b → has_session (service_of cs' x.object.name) c ≡ b
-      same b e = ap (λ ss. is_among c ss) (service x.object.name) ∙ e
-
-      go : (stage : Stage) → StageFits cs x c stage → StageFits cs' x c stage
-      go Accepts h = same false h
-      go Accepted h = same true h
-      go (Accept_left code) h = same false h
-      go (Serves o) h = same true h
-      go (Service_left code) h = same true h
-      go Parts h = same true h
-  attended_kept _ h = h
-
--- where it is so for the server of the dispatch
-pub attended_at : (p : Image) (cs cs' : List Cell) (d : Dispatch) → ((y : Seat) → seat_of d ≡ Some y → service_of cs' y.object.name ≡ service_of cs y.object.name) → IsAttended p cs d → IsAttended p cs' d
-attended_at p cs cs' (Of_server x c stage) service h = (h.0, go stage h.1)
+-- where its server has the same sessions
+attended_alike :
+    (p : Image) (cs cs' : List Cell) (d : Dispatch) → ((y : Seat) → seat_of d ≡ Some y → (service_of cs' y.object.name).sessions ≡ (service_of cs y.object.name).sessions) →
+    IsAttended p cs d → IsAttended p cs' d
+attended_alike p cs cs' (Of_server x c stage) sessions h = (h.0, go stage h.1)
   where
     same : (b : Bool) → has_session (service_of cs x.object.name) c ≡ b → has_session (service_of cs' x.object.name) c ≡ b
-    same b e = ap (λ v. has_session v c) (service x refl) ∙ e
+    same b e = ap (λ ss. is_among c ss) (sessions x refl) ∙ e
 
     go : (stage : Stage) → StageFits cs x c stage → StageFits cs' x c stage
     go Accepts h = same false h
-    go Accepted h = same true h
     go (Accept_left code) h = same false h
-    go (Serves o) h = same true h
-    go (Service_left code) h = same true h
-    go Parts h = same true h
-attended_at p cs cs' _ service h = h
+    go _ h = same true h
+attended_alike p cs cs' _ sessions h = h
+
+module _ (p : Image) (cs cs' : List Cell) (service : (n : ℕ) → (service_of cs' n).sessions ≡ (service_of cs n).sessions) where
+  pub attended_kept : (d : Dispatch) → IsAttended p cs d → IsAttended p cs' d
+  attended_kept d = attended_alike p cs cs' d (λ y e. service y.object.name)
+
+-- where it is so for the server of the dispatch
+pub attended_at :
+    (p : Image) (cs cs' : List Cell) (d : Dispatch) → ((y : Seat) → seat_of d ≡ Some y → service_of cs' y.object.name ≡ service_of cs y.object.name) → IsAttended p cs d → IsAttended p cs' d
+attended_at p cs cs' d service = attended_alike p cs cs' d (λ y e. ap (λ v. v.sessions) (service y e))
 
 -- the object that is dispatched lives, and is at its place
 pub sits_there : (cs : List Cell) (seats : List Seat) (y : Seat) → AllSit cs seats → SitsFirst cs (Some y) seats → (held cs y.place ≡ Some y.object) × (named cs y.object.name ≡ Some y.object)
@@ -127,7 +111,9 @@ sits_there cs [] y sits first = cc
 pub sits_lives : (cs : List Cell) (seats : List Seat) (y : Seat) → AllSit cs seats → SitsFirst cs (Some y) seats → named cs y.object.name ≡ Some y.object
 sits_lives cs seats y sits first = (sits_there cs seats y sits first).1
 
-pub sessions_kept : (p : Image) (cs cs' : List Cell) → ((n : ℕ) → named cs' n ≡ named cs n) → ((n : ℕ) → (service_of cs' n).sessions ≡ (service_of cs n).sessions) → (o : Object) (left : List ℕ) → EndsSessions p cs o left → EndsSessions p cs' o left
+pub sessions_kept :
+    (p : Image) (cs cs' : List Cell) → ((n : ℕ) → named cs' n ≡ named cs n) → ((n : ℕ) → (service_of cs' n).sessions ≡ (service_of cs n).sessions) → (o : Object) (left : List ℕ) →
+    EndsSessions p cs o left → EndsSessions p cs' o left
 sessions_kept p cs cs' names service o left h = record {
   server = h.server;
   lives = names o.name ∙ h.lives;

@@ -25,9 +25,10 @@ use Rattle.aom_sound.specs.Effects.{heard}
 use Rattle.aom_sound.specs.Enlisted.{home_kind, is_idle, own_request, pending}
 use Rattle.aom_sound.specs.Moves.{does}
 use Rattle.aom_sound.specs.Natives.{connected, is_owed, opens, replied, resessioned}
-use Rattle.aom_sound.specs.Places.{Aborted, Active, Cancelling, Idle, Issued, Phase, Request}
+use Rattle.aom_sound.specs.Places.{Idle, Phase, Request}
 use Rattle.aom_sound.specs.Requests.{phase_state, state_of}
 use Rattle.aom_sound.specs.State.{Choice, Frame, State, next, set_word}
+use Rattle.aom_instructions.specs.declared.instr.Instr.{Instr}
 
 native_listed : (k : Option ClassKind) → is_native_kind k ≡ true → is_listed_kind k ≡ true
 native_listed (Some (An_active (Native n) b)) e = refl
@@ -40,12 +41,10 @@ unowed (Some r) h = go r.phase h
   where
     go : (q : Phase) → IsTrue (has server_states (phase_state q)) → not (not (is_idle q) && int_eq r.status pending) ≡ true
     go Idle h = refl
-    go Issued h = cc
-    go Active h = cc
-    go Cancelling h = cc
-    go Aborted h = cc
+    go _ h = cc
 
-module _ (p : Image) (t : Typing) (main_none : (m : ℕ) → method_role p m ≡ Some Main → own_kind p m ≡ None) (c : Choice) (s : State) (fr : Frame) (sh : Shape) (ls : List Layer) (at_hand : At p t s fr sh ls) where
+module _ (p : Image) (t : Typing) (main_none : (m : ℕ) → method_role p m ≡ Some Main → own_kind p m ≡ None) (c : Choice) (s : State) (fr : Frame) (sh : Shape) (ls : List Layer)
+    (at_hand : At p t s fr sh ls) where
   native_home : is_native_kind (own_kind p fr.method) ≡ true → is_native_kind (home_kind p fr.home) ≡ true
   native_home n = ap is_native_kind (home_is_own p t main_none c s fr sh ls at_hand (native_listed (own_kind p fr.method) n)) ∙ n
 
@@ -74,3 +73,10 @@ module _ (p : Image) (t : Typing) (main_none : (m : ℕ) → method_role p m ≡
       let cs = resessioned s.cells fr.home false in
       let h = stepped p t cs fr sh ls (sessioned_fitted p t s.cells fr.home false fr sh ls (fitted p t s.cells fr sh ls at_hand.good)) in
       ((native_home n.0, (free, tt)), well p t c s fr sh ls at_hand (does p c fr (tasks_of ls) s Close) (next fr) sh refl at_hand.items at_hand.undos (settle p t cs (next fr) sh ls h leads.0))
+
+  -- each instruction of this file by its law
+  abbrev pub of_natives : (i : Instr) → Option (Law p t c s fr sh ls at_hand i)
+  of_natives (Connect a) = Some (law_connect a)
+  of_natives (Ask a b x) = Some (law_ask a b x)
+  of_natives Close = Some law_close
+  of_natives _ = None

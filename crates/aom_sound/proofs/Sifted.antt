@@ -27,37 +27,26 @@ abbrev pub service_in : Option Cell → Service
 service_in None = unserved
 service_in (Some c) = c.service
 
+-- what is read at one of two cells is what is read of the first, or of the others
+either_in : {A : Type 0} (read : Option Cell → A) (b : Bool) (c : Cell) (rest : A) (others : Option Cell) → rest ≡ read others → cond b (read (Some c)) rest ≡ read (cond b (Some c) others)
+either_in read true c rest others e = refl
+either_in read false c rest others e = e
+
 pub held_cell : (cs : List Cell) (q : Place) → held cs q ≡ object_in (cell_in cs q)
 held_cell [] q = refl
-held_cell (c ∷ cs) q = go (same_place c.owner q) (held_cell cs q)
-  where
-    go : (b : Bool) → held cs q ≡ object_in (cell_in cs q) → cond b (Some c.object) (held cs q) ≡ object_in (cond b (Some c) (cell_in cs q))
-    go true e = refl
-    go false e = e
+held_cell (c ∷ cs) q = either_in object_in (same_place c.owner q) c (held cs q) (cell_in cs q) (held_cell cs q)
 
 pub named_cell : (cs : List Cell) (n : ℕ) → named cs n ≡ object_in (cell_of cs n)
 named_cell [] n = refl
-named_cell (c ∷ cs) n = go (c.object.name == n) (named_cell cs n)
-  where
-    go : (b : Bool) → named cs n ≡ object_in (cell_of cs n) → cond b (Some c.object) (named cs n) ≡ object_in (cond b (Some c) (cell_of cs n))
-    go true e = refl
-    go false e = e
+named_cell (c ∷ cs) n = either_in object_in (c.object.name == n) c (named cs n) (cell_of cs n) (named_cell cs n)
 
 pub requested_cell : (cs : List Cell) (n : ℕ) → requested cs n ≡ request_in (cell_of cs n)
 requested_cell [] n = refl
-requested_cell (c ∷ cs) n = go (c.object.name == n) (requested_cell cs n)
-  where
-    go : (b : Bool) → requested cs n ≡ request_in (cell_of cs n) → cond b c.request (requested cs n) ≡ request_in (cond b (Some c) (cell_of cs n))
-    go true e = refl
-    go false e = e
+requested_cell (c ∷ cs) n = either_in request_in (c.object.name == n) c (requested cs n) (cell_of cs n) (requested_cell cs n)
 
 pub service_cell : (cs : List Cell) (n : ℕ) → service_of cs n ≡ service_in (cell_of cs n)
 service_cell [] n = refl
-service_cell (c ∷ cs) n = go (c.object.name == n) (service_cell cs n)
-  where
-    go : (b : Bool) → service_of cs n ≡ service_in (cell_of cs n) → cond b c.service (service_of cs n) ≡ service_in (cond b (Some c) (cell_of cs n))
-    go true e = refl
-    go false e = e
+service_cell (c ∷ cs) n = either_in service_in (c.object.name == n) c (service_of cs n) (cell_of cs n) (service_cell cs n)
 
 pub no_cell : (x : Option Cell) → object_in x ≡ None → x ≡ None
 no_cell None e = refl
@@ -88,13 +77,16 @@ pub cell_lives : (cs : List Cell) (q : Place) (c : Cell) → Tidy cs → cell_in
 cell_lives [] q c t e = cc
 cell_lives (x ∷ cs) q c t e = go (same_place x.owner q) (x.object.name == c.object.name) refl (cell_lives cs q c t.2) e
   where
-    go : (b d : Bool) → (x.object.name == c.object.name) ≡ d → (cell_in cs q ≡ Some c → cell_of cs c.object.name ≡ Some c) → cond b (Some x) (cell_in cs q) ≡ Some c → cond d (Some x) (cell_of cs c.object.name) ≡ Some c
+    go :
+        (b d : Bool) → (x.object.name == c.object.name) ≡ d → (cell_in cs q ≡ Some c → cell_of cs c.object.name ≡ Some c) → cond b (Some x) (cell_in cs q) ≡ Some c →
+        cond d (Some x) (cell_of cs c.object.name) ≡ Some c
     go true d f later e =
         let same : x ≡ c = cc in
         let here : (x.object.name == c.object.name) ≡ true = eq-eqb x.object.name c.object.name (ap (λ y. y.object.name) same) in
         ap (λ z. cond z (Some x) (cell_of cs c.object.name)) (sym f ∙ here) ∙ ap (λ y. Some y) same
     go false true f later e =
-        let none : cell_of cs c.object.name ≡ None = ap (λ n. cell_of cs n) (sym (eqb-true x.object.name c.object.name f)) ∙ no_cell (cell_of cs x.object.name) (sym (named_cell cs x.object.name) ∙ t.1) in
+        let none : cell_of cs c.object.name ≡ None =
+        ap (λ n. cell_of cs n) (sym (eqb-true x.object.name c.object.name f)) ∙ no_cell (cell_of cs x.object.name) (sym (named_cell cs x.object.name) ∙ t.1) in
         let clash : Some c ≡ None = sym (later e) ∙ none in
         cc
     go false false f later e = later e
@@ -212,6 +204,33 @@ module _ (drops : Cell → Bool) (f : Cell → Service) where
   -- of what is not there then nothing is served
   pub service_gone : (cs : List Cell) (n : ℕ) → Tidy cs → (c : Cell) → cell_of cs n ≡ Some c → drops c ≡ true → service_of (sifted drops f cs) n ≡ unserved
   service_gone cs n t c here goes = service_cell (sifted drops f cs) n ∙ ap service_in (cell_of_sifted cs n t ∙ ap kept here ∙ ap (λ d. cond d None (Some (record c { service = f c }))) goes)
+
+-- at each cell clients have what they had, where nobody is at one that goes
+module _ (drops : Cell → Bool) (cs : List Cell) (tidy : Tidy cs) (n : ℕ) (free : (x : Cell) → cell_of cs n ≡ Some x → drops x ≡ true → (x.service.queue ≡ []) × (x.service.sessions ≡ [])) where
+  abbrev left : List Cell
+  left = sifted drops (λ c. c.service) cs
+
+  abbrev SameClients : Type 0
+  SameClients = ((service_of left n).queue ≡ (service_of cs n).queue) × ((service_of left n).sessions ≡ (service_of cs n).sessions)
+
+  as_before : service_of left n ≡ service_of cs n → SameClients
+  as_before same = (ap (λ v. v.queue) same, ap (λ v. v.sessions) same)
+
+  at_cell : (x : Cell) → cell_of cs n ≡ Some x → (b : Bool) → drops x ≡ b → SameClients
+  at_cell x e true d =
+      let none = free x e d in
+      let was : service_of cs n ≡ x.service = service_cell cs n ∙ ap service_in e in
+      let now = service_gone drops (λ c. c.service) cs n tidy x e d in
+      (ap (λ v. v.queue) now ∙ sym (ap (λ v. v.queue) was ∙ none.0), ap (λ v. v.sessions) now ∙ sym (ap (λ v. v.sessions) was ∙ none.1))
+  at_cell x e false d = as_before (service_sifted drops (λ c. c.service) cs tidy n x e d ∙ sym (service_cell cs n ∙ ap service_in e))
+
+  pub clients_sifted : SameClients
+  clients_sifted = go (cell_of cs n) refl
+    where
+      go : (x : Option Cell) → cell_of cs n ≡ x → SameClients
+      go None e =
+          as_before (service_cell left n ∙ ap service_in (cell_of_sifted drops (λ c. c.service) cs n tidy ∙ ap (λ y. kept drops (λ c. c.service) y) e) ∙ sym (service_cell cs n ∙ ap service_in e))
+      go (Some x) e = at_cell x e (drops x) refl
 
 -- ---- the changes of servers and clients are such
 

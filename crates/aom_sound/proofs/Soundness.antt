@@ -26,10 +26,10 @@ use Rattle.aom_sound.specs.Moves.{IsOpen, answered, asking, counted, dispatch_en
 use Rattle.aom_sound.specs.Places.{Elsewhere, Object, Root, held}
 use Rattle.aom_sound.specs.Quiet.{IsCalm}
 use Rattle.aom_sound.specs.Registers.{AllInRange}
-use Rattle.aom_sound.specs.State.{Of_server, Accepts, Accepted, Accept_left, Serves, Service_left, Parts, Answered, Asks, Object_left, Of_object, Choice, Dispatch, Dispatched, Goes, IsStuck, Main_left, Of_main, Of_root, Outcome, Rest, State, Task}
+use Rattle.aom_sound.specs.State.{Of_server, Accept_left, Answered, Asks, Object_left, Of_object, Choice, Dispatch, Dispatched, Goes, IsStuck, Main_left, Of_main, Of_root, Outcome, Rest, State, Task}
 use Rattle.aom_sound.specs.Steps.{Move}
 use Rattle.aom_sound.specs.WellTyped.{Good, Keeps, WellTyped}
-use Rattle.aom_sound.specs.World.{Obeys, heard_one, Completes, Cuts, Heard, IsBetween, IsBusy, Outside, Passes, Picks, Reaches, Strays, Turning, Waits, begins, boot_state, moves, turn, turned, turning, turns, Hears, Kills, Polls}
+use Rattle.aom_sound.specs.World.{Obeys, heard_one, Cuts, Heard, IsBetween, IsBusy, Outside, Picks, Reaches, Strays, Turning, Waits, begins, boot_state, moves, turn, turned, turning, turns, Polls}
 use Rattle.aom_transcript.specs.declared.line.Ending.{Ending}
 use Rattle.aom_transcript.specs.declared.line.Ending.TheVariants.{Stopped}
 use Rattle.aom_transcript.specs.declared.line.Line.{Line}
@@ -52,7 +52,9 @@ not_stopped false f e = cc
 abbrev Uprooted : State → Type 0
 Uprooted s = (ts : List Task) → s.tasks ≡ Dispatched Of_root ∷ ts → held s.cells (Elsewhere Root) ≡ None
 
-main_holds : (p : Image) (s : State) (b : Bool) (root : Option Object) → s.rest.stopped ≡ b → held s.cells (Elsewhere Root) ≡ root → ((main_ends p b root s).rest.ended ≡ s.rest.ended) ⊎ IsAtRest (main_ends p b root s)
+main_holds :
+    (p : Image) (s : State) (b : Bool) (root : Option Object) → s.rest.stopped ≡ b → held s.cells (Elsewhere Root) ≡ root →
+    ((main_ends p b root s).rest.ended ≡ s.rest.ended) ⊎ IsAtRest (main_ends p b root s)
 main_holds p s true (Some o) f e = inl refl
 main_holds p s true None f e = inr (record { idle = refl; rootless = λ h. e })
 main_holds p s false root f e = inr (record { idle = refl; rootless = λ h. absurd (not_stopped s.rest.stopped f h) })
@@ -79,12 +81,8 @@ dispatch_holds p s (Object_left x code) rootless = go (part_of p Error_role x.ob
     go (Some m) = inl refl
 dispatch_holds p s (Asks x) rootless = object_holds p s
 dispatch_holds p s (Answered x answer) rootless = answer_holds p answer s
-dispatch_holds p s (Of_server x client Accepts) rootless = inl refl
-dispatch_holds p s (Of_server x client Accepted) rootless = inl refl
 dispatch_holds p s (Of_server x client (Accept_left code)) rootless = inl refl
-dispatch_holds p s (Of_server x client (Serves o)) rootless = inl refl
-dispatch_holds p s (Of_server x client (Service_left code)) rootless = inl refl
-dispatch_holds p s (Of_server x client Parts) rootless = inl refl
+dispatch_holds p s _ rootless = inl refl
 
 -- a move ends the run only where it leaves nothing at hand
 move_holds : (p : Image) (c : Choice) (s u : State) → Uprooted s → Move p c s u → (u.rest.ended ≡ s.rest.ended) ⊎ IsAtRest u
@@ -103,14 +101,11 @@ turn_holds p outside heard s u between e = go (turning outside heard s) e
     go : (k : Turning) → turned p s k ≡ Goes u → GoesOn u
     go Cuts e = subst (λ v. GoesOn v) (goes_same _ u e) (inr (record { idle = between.idle; rootless = λ h. cc }))
     go Waits e = subst (λ v. GoesOn v) (goes_same _ u e) (inr (record { idle = between.idle; rootless = λ h. cc }))
-    go (Completes o) e = subst (λ v. GoesOn v) (goes_same _ u e) (inl between.going)
-    go Hears e = subst (λ v. GoesOn v) (goes_same _ u e) (inl between.going)
-    go (Kills n) e = subst (λ v. GoesOn v) (goes_same _ u e) (inl between.going)
     go (Polls n answer) e = inl (ap (λ (r : Rest). r.ended) (polled_rest p s u n answer e) ∙ between.going)
-    go (Passes due) e = subst (λ v. GoesOn v) (goes_same _ u e) (inl between.going)
     go (Picks x) e = inl (ap (λ (r : Rest). r.ended) (picked_rest p s u x e) ∙ between.going)
     go (Obeys client command name) e = subst (λ v. GoesOn v) (goes_same _ u e) (inl (ap (λ (r : Rest). r.ended) (commanded_kept p client (heard_one s) command name).0 ∙ between.going))
     go Strays e = cc
+    go _ e = subst (λ v. GoesOn v) (goes_same _ u e) (inl between.going)
 
 busy_open : (s : State) → IsBusy s → GoesOn s → s.rest.ended ≡ None
 busy_open s busy (inl e) = e

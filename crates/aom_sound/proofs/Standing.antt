@@ -38,4 +38,5 @@ boot p (Some m) = (tt, (tt, tt))
 pub stand : (p : Image) (outside : Outside) (lines : List Line) (s : State) → Reaches p outside (boot_state p) lines s → AllAtTraps p s.tasks
 stand p outside _ _ begins = boot p (main_of p)
 stand p outside _ _ (moves {lines = lines} {s = s} {u = u} c before busy choice e) = stays p c s u (stand p outside lines s before) e
-stand p outside _ _ (turns {lines = lines} {s = s} {u = u} heard before between well e) = turn_keeps_it p outside heard (at_traps p) s u (λ m height home words d. tt) (λ d. tt) (λ o m height ts e. tt) (stand p outside lines s before) e
+stand p outside _ _ (turns {lines = lines} {s = s} {u = u} heard before between well e) =
+    turn_keeps_it p outside heard (at_traps p) s u (λ m height home words d. tt) (λ d. tt) (λ o m height ts e. tt) (stand p outside lines s before) e

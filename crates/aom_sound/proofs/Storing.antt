@@ -55,7 +55,13 @@ alike_itself cs = record { held_so = λ r. refl; named_so = λ n. refl; queues_s
 stored_alike : (cs : List Cell) (home : Home) (w : ℕ) (v : ℤ) → Alike cs (stored cs home w v)
 stored_alike cs Static w v = alike_itself cs
 stored_alike cs AtRoot w v = alike_itself cs
-stored_alike cs (Inside o from) w v = record { held_so = held_set_word cs o.name w v; named_so = named_set_word cs o.name w v; queues_so = λ n. ap (λ (v : Service). v.queue) (service_stored cs o.name w v n); sessions_so = λ n. ap (λ (v : Service). v.sessions) (service_stored cs o.name w v n); tidy = tidy_set_word cs o.name w v }
+stored_alike cs (Inside o from) w v = record {
+  held_so = held_set_word cs o.name w v;
+  named_so = named_set_word cs o.name w v;
+  queues_so = λ n. ap (λ (v : Service). v.queue) (service_stored cs o.name w v n);
+  sessions_so = λ n. ap (λ (v : Service). v.sessions) (service_stored cs o.name w v n);
+  tidy = tidy_set_word cs o.name w v;
+}
 
 stored_requests : (cs : List Cell) (home : Home) (w : ℕ) (v : ℤ) (n : ℕ) → requested (stored cs home w v) n ≡ requested cs n
 stored_requests cs Static w v n = refl
@@ -110,10 +116,14 @@ asked_some (c ∷ cs) n m r h some = go (c.object.name == m) (c.object.name == n
     go true false em en some rest = some
     go true true em en some rest = h (eq-eqb n m (sym (eqb-true c.object.name n en) ∙ eqb-true c.object.name m em))
 
-pub set_listed : (cs : List Cell) (n : ℕ) (r : Option Request) → (is_some (requested cs n) ≡ true → is_some r ≡ true) → (m : ℕ) → is_some (requested cs m) ≡ true → is_some (requested (set_request n r cs) m) ≡ true
+pub set_listed :
+    (cs : List Cell) (n : ℕ) (r : Option Request) → (is_some (requested cs n) ≡ true → is_some r ≡ true) → (m : ℕ) → is_some (requested cs m) ≡ true →
+    is_some (requested (set_request n r cs) m) ≡ true
 set_listed cs n r h m some = asked_some cs n m r (λ e. h (ap (λ k. is_some (requested cs k)) (eqb-true n m e) ∙ some)) some
 
-pub listed_still : (cs : List Cell) (home : Home) (r : Option Request) → (is_some (own_request cs home) ≡ true → is_some r ≡ true) → (m : ℕ) → is_some (requested cs m) ≡ true → is_some (requested (rerequested cs home r) m) ≡ true
+pub listed_still :
+    (cs : List Cell) (home : Home) (r : Option Request) → (is_some (own_request cs home) ≡ true → is_some r ≡ true) → (m : ℕ) → is_some (requested cs m) ≡ true →
+    is_some (requested (rerequested cs home r) m) ≡ true
 listed_still cs Static r h m some = some
 listed_still cs AtRoot r h m some = some
 listed_still cs (Inside o from) r h m some = set_listed cs o.name r h m some
@@ -121,7 +131,13 @@ listed_still cs (Inside o from) r h m some = set_listed cs o.name r h m some
 pub rerequested_alike : (cs : List Cell) (home : Home) (r : Option Request) → Alike cs (rerequested cs home r)
 rerequested_alike cs Static r = alike_itself cs
 rerequested_alike cs AtRoot r = alike_itself cs
-rerequested_alike cs (Inside o from) r = record { held_so = held_asked cs o.name r; named_so = named_asked cs o.name r; queues_so = λ n. ap (λ (v : Service). v.queue) (service_asked cs o.name r n); sessions_so = λ n. ap (λ (v : Service). v.sessions) (service_asked cs o.name r n); tidy = tidy_asked cs o.name r }
+rerequested_alike cs (Inside o from) r = record {
+  held_so = held_asked cs o.name r;
+  named_so = named_asked cs o.name r;
+  queues_so = λ n. ap (λ (v : Service). v.queue) (service_asked cs o.name r n);
+  sessions_so = λ n. ap (λ (v : Service). v.sessions) (service_asked cs o.name r n);
+  tidy = tidy_asked cs o.name r;
+}
 
 -- and the cells once a method is over
 pub ended_alike : (p : Image) (fr : Frame) (cs : List Cell) → Alike cs (ended_cells p fr cs)
@@ -137,8 +153,12 @@ ended_alike p fr cs = go (is_cancel (method_role p fr.method))
 module _ (p : Image) (t : Typing) (cs cs' : List Cell) (alike : Alike cs cs') where
   declared_alike : (r : Place) → declared p cs' r ≡ declared p cs r
   declared_alike (Field n f) = ap (λ o. declared_field p o f) (alike.named_so n)
-  declared_alike (Elsewhere (Session n c)) = ap (λ ss. cond (is_among c ss) (filled (session_thing p (named cs' n)) Full) Null) (alike.sessions_so n) ∙ ap (λ o. cond (has_session (service_of cs n) c) (filled (session_thing p o) Full) Null) (alike.named_so n)
-  declared_alike (Elsewhere (Queued n m)) = ap (λ es. cond (list_any (is_message m) es) (filled (message_thing p (named cs' n)) Full) Null) (alike.queues_so n) ∙ ap (λ o. cond (has_message (service_of cs n) m) (filled (message_thing p o) Full) Null) (alike.named_so n)
+  declared_alike (Elsewhere (Session n c)) =
+      ap (λ ss. cond (is_among c ss) (filled (session_thing p (named cs' n)) Full) Null) (alike.sessions_so n)
+      ∙ ap (λ o. cond (has_session (service_of cs n) c) (filled (session_thing p o) Full) Null) (alike.named_so n)
+  declared_alike (Elsewhere (Queued n m)) =
+      ap (λ es. cond (list_any (is_message m) es) (filled (message_thing p (named cs' n)) Full) Null) (alike.queues_so n)
+      ∙ ap (λ o. cond (has_message (service_of cs n) m) (filled (message_thing p o) Full) Null) (alike.named_so n)
   declared_alike _ = refl
 
   pub housed_alike : (ls : List Layer) (home : Home) → IsHoused p cs ls home → IsHoused p cs' ls home
@@ -157,7 +177,8 @@ module _ (p : Image) (t : Typing) (cs cs' : List Cell) (alike : Alike cs cs') wh
     stack_alike (Method fr sh ∷ ls) back s = (s.0, s.1, housed_alike ls fr.home s.2, s.3, stack_alike ls _ s.4)
     stack_alike (Mark gv ∷ ls) back s = (s.0, stack_alike ls _ s.1)
     stack_alike (Dying o ∷ ls) back s = ((alike.named_so o.name ∙ s.0.0, alike.held_so _ ∙ s.0.1), s.1, stack_alike ls _ s.2)
-    stack_alike (Dispatching d seats ∷ ls) back s = (s.0, s.1, sits_alike seats s.2, first_kept cs cs' (Entry 0) (seat_of d) seats (λ r o other there lives some. listed o.name some) tt s.2 s.3, attended_kept p cs cs' alike.sessions_so d s.4)
+    stack_alike (Dispatching d seats ∷ ls) back s =
+        (s.0, s.1, sits_alike seats s.2, first_kept cs cs' (Entry 0) (seat_of d) seats (λ r o other there lives some. listed o.name some) tt s.2 s.3, attended_kept p cs cs' alike.sessions_so d s.4)
     stack_alike (Ending o left ∷ ls) back s = (
       sessions_kept p cs cs' alike.named_so alike.sessions_so o left s.0,
       s.1,
@@ -194,7 +215,13 @@ tidy_session (c ∷ cs) n b t = (held_session cs n b c.owner ∙ t.0, named_sess
 pub resessioned_alike : (cs : List Cell) (home : Home) (b : Bool) → Alike cs (resessioned cs home b)
 resessioned_alike cs Static b = alike_itself cs
 resessioned_alike cs AtRoot b = alike_itself cs
-resessioned_alike cs (Inside o from) b = record { held_so = held_session cs o.name b; named_so = named_session cs o.name b; queues_so = λ n. ap (λ (v : Service). v.queue) (service_opened cs o.name b n); sessions_so = λ n. ap (λ (v : Service). v.sessions) (service_opened cs o.name b n); tidy = tidy_session cs o.name b }
+resessioned_alike cs (Inside o from) b = record {
+  held_so = held_session cs o.name b;
+  named_so = named_session cs o.name b;
+  queues_so = λ n. ap (λ (v : Service). v.queue) (service_opened cs o.name b n);
+  sessions_so = λ n. ap (λ (v : Service). v.sessions) (service_opened cs o.name b n);
+  tidy = tidy_session cs o.name b;
+}
 
 pub resessioned_requests : (cs : List Cell) (home : Home) (b : Bool) (n : ℕ) → requested (resessioned cs home b) n ≡ requested cs n
 resessioned_requests cs Static b n = refl
@@ -202,7 +229,9 @@ resessioned_requests cs AtRoot b n = refl
 resessioned_requests cs (Inside o from) b n = requested_session cs o.name b n
 
 -- other cells in the same places, with the same requests
-alike_fitted : (p : Image) (t : Typing) (cs cs' : List Cell) → Alike cs cs' → ((n : ℕ) → requested cs' n ≡ requested cs n) → (fr : Frame) (sh : Shape) (ls : List Layer) → Fitted p t cs fr sh ls → Fitted p t cs' fr sh ls
+alike_fitted :
+    (p : Image) (t : Typing) (cs cs' : List Cell) → Alike cs cs' → ((n : ℕ) → requested cs' n ≡ requested cs n) → (fr : Frame) (sh : Shape) (ls : List Layer) → Fitted p t cs fr sh ls →
+    Fitted p t cs' fr sh ls
 alike_fitted p t cs cs' alike requests fr sh ls g =
     record {
       fits = λ r. fits_alike p t cs cs' alike (Method fr sh ∷ ls) r (λ x e fresh. requests x.name) (g.fits r);
@@ -215,11 +244,13 @@ alike_fitted p t cs cs' alike requests fr sh ls g =
     }
 
 -- a session is open or not
-pub sessioned_fitted : (p : Image) (t : Typing) (cs : List Cell) (home : Home) (b : Bool) (fr : Frame) (sh : Shape) (ls : List Layer) → Fitted p t cs fr sh ls → Fitted p t (resessioned cs home b) fr sh ls
+pub sessioned_fitted :
+    (p : Image) (t : Typing) (cs : List Cell) (home : Home) (b : Bool) (fr : Frame) (sh : Shape) (ls : List Layer) → Fitted p t cs fr sh ls → Fitted p t (resessioned cs home b) fr sh ls
 sessioned_fitted p t cs home b = alike_fitted p t cs (resessioned cs home b) (resessioned_alike cs home b) (resessioned_requests cs home b)
 
 -- a word is stored
-pub stored_fitted : (p : Image) (t : Typing) (cs : List Cell) (home : Home) (w : ℕ) (v : ℤ) (fr : Frame) (sh : Shape) (ls : List Layer) → Fitted p t cs fr sh ls → Fitted p t (stored cs home w v) fr sh ls
+pub stored_fitted :
+    (p : Image) (t : Typing) (cs : List Cell) (home : Home) (w : ℕ) (v : ℤ) (fr : Frame) (sh : Shape) (ls : List Layer) → Fitted p t cs fr sh ls → Fitted p t (stored cs home w v) fr sh ls
 stored_fitted p t cs home w v = alike_fitted p t cs (stored cs home w v) (stored_alike cs home w v) (stored_requests cs home w v)
 
 -- ---- each cell may have another request and another session
@@ -246,13 +277,21 @@ module _ (f : Cell → Option Request) (g : Cell → Bool) where
   tidy_reset (c ∷ cs) t = (held_reset cs c.owner ∙ t.0, named_reset cs c.object.name ∙ t.1, tidy_reset cs t.2)
 
   pub reset_alike : (cs : List Cell) → Alike cs (map (reset f g) cs)
-  reset_alike cs = record { held_so = held_reset cs; named_so = named_reset cs; queues_so = λ n. ap (λ (v : Service). v.queue) (service_reset cs n); sessions_so = λ n. ap (λ (v : Service). v.sessions) (service_reset cs n); tidy = tidy_reset cs }
+  reset_alike cs = record {
+    held_so = held_reset cs;
+    named_so = named_reset cs;
+    queues_so = λ n. ap (λ (v : Service). v.queue) (service_reset cs n);
+    sessions_so = λ n. ap (λ (v : Service). v.sessions) (service_reset cs n);
+    tidy = tidy_reset cs;
+  }
 
 -- what a native that is killed leaves behind
 pub bereaved_alike : (p : Image) (n : ℕ) (cs : List Cell) → Alike cs (all_bereaved p n cs)
 bereaved_alike p n cs = reset_alike (λ c. (bereaved p n c).request) (λ c. (bereaved p n c).session) cs
 
-pub requested_bereaved : (p : Image) (n : ℕ) (cs : List Cell) (o : Object) → named cs o.name ≡ Some o → requested (all_bereaved p n cs) o.name ≡ cond (is_served_by p n o.thing) (terminated_request (requested cs o.name)) (requested cs o.name)
+pub requested_bereaved :
+    (p : Image) (n : ℕ) (cs : List Cell) (o : Object) → named cs o.name ≡ Some o →
+    requested (all_bereaved p n cs) o.name ≡ cond (is_served_by p n o.thing) (terminated_request (requested cs o.name)) (requested cs o.name)
 requested_bereaved p n [] o e = cc
 requested_bereaved p n (c ∷ cs) o e = go (c.object.name == o.name) e (requested_bereaved p n cs o)
   where

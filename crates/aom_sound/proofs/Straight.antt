@@ -40,7 +40,9 @@ pub record At (p : Image) (t : Typing) (s : State) (fr : Frame) (sh : Shape) (ls
   pub good : Good p t s.cells (Method fr sh ∷ ls)
 
 -- what a register is, on either side
-pub register_fits : (p : Image) (cs : List Cell) (fr : Frame) (sh : Shape) (ls : List Layer) → ((r : Place) → Fits p (seen cs) (held cs r) (claim p (declared p cs) (Method fr sh ∷ ls) r)) → (i : ℕ) → Fits p (seen cs) (held cs (Register (length (tasks_of ls)) i)) (register sh i)
+pub register_fits :
+    (p : Image) (cs : List Cell) (fr : Frame) (sh : Shape) (ls : List Layer) → ((r : Place) → Fits p (seen cs) (held cs r) (claim p (declared p cs) (Method fr sh ∷ ls) r)) → (i : ℕ) →
+    Fits p (seen cs) (held cs (Register (length (tasks_of ls)) i)) (register sh i)
 register_fits p cs fr sh ls fits i =
     subst (λ b. Fits p (seen cs) (held cs (Register (length (tasks_of ls)) i)) (cond b (register sh i) (claim p (declared p cs) ls (Register (length (tasks_of ls)) i)))) (eq-eqb (length (tasks_of ls)) _ refl) (fits (Register (length (tasks_of ls)) i))
 
@@ -72,7 +74,9 @@ pub fitted : (p : Image) (t : Typing) (cs : List Cell) (fr : Frame) (sh : Shape)
 fitted p t cs fr sh ls g = record { fits = g.fits; suits = g.suits; tidy = g.tidy; frames = g.stack.1; housed = g.stack.2; apart = g.stack.3; stack = g.stack.4 }
 
 -- the state that the typing has at the next place takes the flow's place
-pub settle : (p : Image) (t : Typing) (cs : List Cell) (fr : Frame) (sh : Shape) (ls : List Layer) → Fitted p t cs fr sh ls → Leads t fr.method fr.place sh → (after : Shape) × Good p t cs (Method fr after ∷ ls) × (after.entries ≡ sh.entries)
+pub settle :
+    (p : Image) (t : Typing) (cs : List Cell) (fr : Frame) (sh : Shape) (ls : List Layer) → Fitted p t cs fr sh ls → Leads t fr.method fr.place sh →
+    (after : Shape) × Good p t cs (Method fr after ∷ ls) × (after.entries ≡ sh.entries)
 settle p t cs fr sh ls g leads =
     let w = leads.2 in (
       leads.0,
@@ -85,7 +89,9 @@ settle p t cs fr sh ls g leads =
       w.entries,
     )
 
-pub housed_relocated : (p : Image) (cs : List Cell) (a b : Place) (ls : List Layer) (home : Home) → held cs b ≡ None → Outside a ls → Outside b ls → ((o : Object) (from : Place) → home ≡ Inside o from → NoFieldHere a from × NoFieldHere b from) → IsHoused p cs ls home → IsHoused p (moved a b cs) ls home
+pub housed_relocated :
+    (p : Image) (cs : List Cell) (a b : Place) (ls : List Layer) (home : Home) → held cs b ≡ None → Outside a ls → Outside b ls →
+    ((o : Object) (from : Place) → home ≡ Inside o from → NoFieldHere a from × NoFieldHere b from) → IsHoused p cs ls home → IsHoused p (moved a b cs) ls home
 housed_relocated p cs a b ls Static free oa ob n h = h
 housed_relocated p cs a b ls AtRoot free oa ob n h = h
 housed_relocated p cs a b ls (Inside o from) free oa ob n h =
@@ -93,7 +99,9 @@ housed_relocated p cs a b ls (Inside o from) free oa ob n h =
     holds_moved p cs a b ls o from free (outside_differs a from ls oa m.0 h.below) (outside_differs b from ls ob m.1 h.below) h
 
 -- a frame of the same method and home is as alone
-alone_too : (p : Image) (fr fr' : Frame) (ls : List Layer) → fr'.home ≡ fr.home → fr'.method ≡ fr.method → (is_cancel (method_role p fr.method) ≡ true → IsAlone p fr.home ls) → is_cancel (method_role p fr'.method) ≡ true → IsAlone p fr'.home ls
+alone_too :
+    (p : Image) (fr fr' : Frame) (ls : List Layer) → fr'.home ≡ fr.home → fr'.method ≡ fr.method → (is_cancel (method_role p fr.method) ≡ true → IsAlone p fr.home ls) →
+    is_cancel (method_role p fr'.method) ≡ true → IsAlone p fr'.home ls
 alone_too p fr fr' ls eh em alone e = subst (λ h. IsAlone p h ls) (sym eh) (alone (ap (λ m. is_cancel (method_role p m)) (sym em) ∙ e))
 
 -- and serves as it does
@@ -101,7 +109,9 @@ message_too : (p : Image) (fr fr' : Frame) (ls : List Layer) → fr'.method ≡ 
 message_too p fr fr' ls em message = (λ e. message.0 (ap (λ m. serves p m) (sym em) ∙ e), λ served. ap (λ m. serves p m) em ∙ message.1 served)
 
 -- the home, the method and the states alone count for requests
-pub same_suits : (p : Image) (cs : List Cell) (fr fr' : Frame) (sh sh' : Shape) (ls : List Layer) → fr'.home ≡ fr.home → fr'.method ≡ fr.method → sh'.states ≡ sh.states → AllSuit p cs (Method fr sh ∷ ls) → AllSuit p cs (Method fr' sh' ∷ ls)
+pub same_suits :
+    (p : Image) (cs : List Cell) (fr fr' : Frame) (sh sh' : Shape) (ls : List Layer) → fr'.home ≡ fr.home → fr'.method ≡ fr.method → sh'.states ≡ sh.states →
+    AllSuit p cs (Method fr sh ∷ ls) → AllSuit p cs (Method fr' sh' ∷ ls)
 same_suits p cs fr fr' sh sh' ls eh em es s o lives = subst (λ k. Suits (thing_kind p o.thing) k (requested cs o.name)) (sym same) (s o lives)
   where
     below : Known
@@ -167,7 +177,9 @@ pub claim_register : (p : Image) (d : Place → Kind) (fr : Frame) (sh : Shape) 
 claim_register p d fr sh ls i = ap (λ b. cond b (register sh i) (claim p d ls (Register (length (tasks_of ls)) i))) (eq-eqb (length (tasks_of ls)) _ refl)
 
 -- a register is written
-pub words_set : (words : List (Option ℤ)) (sh : Shape) (a : ℕ) (w : Option ℤ) (k : Kind) → ((i : ℕ) → WordFits (at None words i) (register sh i)) → WordFits w k → (i : ℕ) → WordFits (at None (put_at None words a w) i) (register (set_register sh a k) i)
+pub words_set :
+    (words : List (Option ℤ)) (sh : Shape) (a : ℕ) (w : Option ℤ) (k : Kind) → ((i : ℕ) → WordFits (at None words i) (register sh i)) → WordFits w k → (i : ℕ) →
+    WordFits (at None (put_at None words a w) i) (register (set_register sh a k) i)
 words_set words sh a w k h g i =
     subst (λ x. WordFits x (at Unset (put_at Unset sh.registers a k) i)) (sym (at-put_at None words a i w))
     (subst (λ x. WordFits (cond (a == i) w (at None words i)) x) (sym (at-put_at Unset sh.registers a i k)) (go (a == i)))
@@ -181,7 +193,9 @@ pub next_unowning : (ks : List Kind) (c : ℕ) (k : Kind) → is_unowning (at Un
 next_unowning ks c k u = ap is_unowning (at-put_at Unset ks c (suc c) k ∙ ap (λ b. cond b k (at Unset ks (suc c))) (ne_eqb c (suc c) (λ e. absurd (omega arith)))) ∙ u
 
 -- a register without a word becomes null
-pub words_null : (words : List (Option ℤ)) (sh : Shape) (a : ℕ) → ((i : ℕ) → WordFits (at None words i) (register sh i)) → at None words a ≡ None → (i : ℕ) → WordFits (at None words i) (register (set_register sh a Null) i)
+pub words_null :
+    (words : List (Option ℤ)) (sh : Shape) (a : ℕ) → ((i : ℕ) → WordFits (at None words i) (register sh i)) → at None words a ≡ None → (i : ℕ) →
+    WordFits (at None words i) (register (set_register sh a Null) i)
 words_null words sh a h e i = subst (λ x. WordFits (at None words i) x) (sym (at-put_at Unset sh.registers a i Null)) (go (a == i) refl)
   where
     go : (b : Bool) → (a == i) ≡ b → WordFits (at None words i) (cond b Null (register sh i))
@@ -234,9 +248,13 @@ write p t cs fr sh ls a w k g u new word =
     (subst (λ o. Fits p (seen cs) o k) (sym free) (new (seen cs))) (λ r. claim-set_register p (declared p cs) fr sh ls a k r) (words_set fr.words sh a w k g.frames.words word)
 
 -- a field of what the frame works on
-pub claim_field : (p : Image) (d : Place → Kind) (fr : Frame) (sh : Shape) (ls : List Layer) (home : Home) (f : ℕ) → fr.home ≡ home → is_some (field_thing p (home_holder home) f) ≡ true → claim p d (Method fr sh ∷ ls) (field_place home f) ≡ filled (field_thing p (home_holder home) f) (field sh f)
+pub claim_field :
+    (p : Image) (d : Place → Kind) (fr : Frame) (sh : Shape) (ls : List Layer) (home : Home) (f : ℕ) → fr.home ≡ home → is_some (field_thing p (home_holder home) f) ≡ true →
+    claim p d (Method fr sh ∷ ls) (field_place home f) ≡ filled (field_thing p (home_holder home) f) (field sh f)
 claim_field p d fr sh ls AtRoot zero e some = ap (λ h. root_claim p h sh (claim p d ls (Elsewhere Root))) e
-claim_field p d fr sh ls (Inside o from) f e some = ap (λ h. home_claim p h sh o.name f (claim p d ls (Field o.name f))) e ∙ ap (λ b. cond b (filled (field_thing p (thing_holder o.thing) f) (field sh f)) (claim p d ls (Field o.name f))) (eq-eqb o.name _ refl)
+claim_field p d fr sh ls (Inside o from) f e some =
+    ap (λ h. home_claim p h sh o.name f (claim p d ls (Field o.name f))) e
+    ∙ ap (λ b. cond b (filled (field_thing p (thing_holder o.thing) f) (field sh f)) (claim p d ls (Field o.name f))) (eq-eqb o.name _ refl)
 claim_field p d fr sh ls _ _ e some = cc
 
 module _ (p : Image) (t : Typing) (c : Choice) (s : State) (fr : Frame) (sh : Shape) (ls : List Layer) (at_hand : At p t s fr sh ls) where
@@ -247,10 +265,13 @@ module _ (p : Image) (t : Typing) (c : Choice) (s : State) (fr : Frame) (sh : Sh
   no_word b e = word_of_object (word fr b) (register sh b) e (at_hand.good.stack.1.words b)
 
   abbrev pub Law : Instr → Type 0
-  Law i = AllTrue (rule_needs p fr.method fr.place sh i) → AllLead t fr.method (flows p fr.method fr.place sh i) → AllTrue (needs p c fr (tasks_of ls) s i) × WellTyped p t (does p c fr (tasks_of ls) s i)
+  Law i =
+      AllTrue (rule_needs p fr.method fr.place sh i) → AllLead t fr.method (flows p fr.method fr.place sh i) → AllTrue (needs p c fr (tasks_of ls) s i) × WellTyped p t (does p c fr (tasks_of ls) s i)
 
   -- a well-typed state from its parts
-  pub well : (s' : State) (fr' : Frame) (sh' : Shape) → s'.tasks ≡ Run fr' ∷ tasks_of ls → forms s'.items ≡ objects sh'.entries (items_of ls) → AllUndo p s'.items → (after : Shape) × Good p t s'.cells (Method fr' after ∷ ls) × (after.entries ≡ sh'.entries) → WellTyped p t s'
+  pub well :
+      (s' : State) (fr' : Frame) (sh' : Shape) → s'.tasks ≡ Run fr' ∷ tasks_of ls → forms s'.items ≡ objects sh'.entries (items_of ls) → AllUndo p s'.items →
+      (after : Shape) × Good p t s'.cells (Method fr' after ∷ ls) × (after.entries ≡ sh'.entries) → WellTyped p t s'
   well s' fr' sh' tasks items undos g = record {
     layers = Method fr' g.0 ∷ ls;
     tasks = tasks;
@@ -259,8 +280,11 @@ module _ (p : Image) (t : Typing) (c : Choice) (s : State) (fr : Frame) (sh : Sh
     good = g.1;
   }
 
-  pub field_fits : (f : ℕ) → is_some (field_thing p (home_holder fr.home) f) ≡ true → Fits p (seen s.cells) (held s.cells (field_place fr.home f)) (filled (field_thing p (home_holder fr.home) f) (field sh f))
-  field_fits f some = subst (λ k. Fits p (seen s.cells) (held s.cells (field_place fr.home f)) k) (claim_field p (declared p s.cells) fr sh ls fr.home f refl some) (at_hand.good.fits (field_place fr.home f))
+  pub field_fits :
+      (f : ℕ) → is_some (field_thing p (home_holder fr.home) f) ≡ true →
+      Fits p (seen s.cells) (held s.cells (field_place fr.home f)) (filled (field_thing p (home_holder fr.home) f) (field sh f))
+  field_fits f some =
+      subst (λ k. Fits p (seen s.cells) (held s.cells (field_place fr.home f)) k) (claim_field p (declared p s.cells) fr sh ls fr.home f refl some) (at_hand.good.fits (field_place fr.home f))
 
   pub field_outside : (home : Home) (f : ℕ) → fr.home ≡ home → is_some (field_thing p (home_holder home) f) ≡ true → Outside (field_place home f) ls
   field_outside Static f e some = cc
@@ -307,7 +331,9 @@ module _ (p : Image) (t : Typing) (c : Choice) (s : State) (fr : Frame) (sh : Sh
   may_be_some (Some x) k e = refl
 
   -- what the frame works on is nowhere claimed to be fresh
-  pub this_is_ready : (home : Home) (f : ℕ) → fr.home ≡ home → (r : Place) (x : Object) → held s.cells r ≡ Some x → is_ready_kind (claim p (declared p s.cells) (Method fr sh ∷ ls) r) ≡ false → (g : ℕ) → same_place (field_place home f) (Field x.name g) ≡ false
+  pub this_is_ready :
+      (home : Home) (f : ℕ) → fr.home ≡ home → (r : Place) (x : Object) → held s.cells r ≡ Some x → is_ready_kind (claim p (declared p s.cells) (Method fr sh ∷ ls) r) ≡ false → (g : ℕ) →
+      same_place (field_place home f) (Field x.name g) ≡ false
   this_is_ready Static f e r x h fresh g = refl
   this_is_ready AtRoot f e r x h fresh g = refl
   this_is_ready (Inside o from) f e r x h fresh g = ap (λ b. b && (f == g)) (ne_eqb o.name x.name differs)

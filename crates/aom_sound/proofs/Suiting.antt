@@ -14,7 +14,7 @@ use Rattle.aom_shape.proofs.Sets.{has_along, has_itself}
 use Rattle.aom_shape.specs.Shape.{Shape}
 use Rattle.aom_sound.proofs.Maps.{named_moved, requested_moved}
 use Rattle.aom_sound.specs.Claims.{Dispatching, Dying, Layer, Mark, Method, Unwinding, Ending}
-use Rattle.aom_sound.specs.Places.{Aborted, Active, Cancelling, Cell, Idle, Issued, Object, Phase, Place, Request, moved, named, requested}
+use Rattle.aom_sound.specs.Places.{Aborted, Active, Cell, Idle, Issued, Object, Phase, Place, Request, moved, named, requested}
 use Rattle.aom_sound.specs.Enlisted.{cancelled, in_phase, is_aborted, is_cancelling, is_idle, is_unanswered, on_request, pending, status_of}
 use Rattle.std.specs.Ordering.{int_eq}
 use Rattle.aom_sound.specs.Requests.{AllSuit, Joins, Known, Suits, Unworked, is_timed, known_at, phase_state, resting_in, rests_in, state_of, states_claim, thing_kind, works_at}
@@ -23,7 +23,8 @@ use Rattle.aom_sound.specs.WellTyped.{IsHoused}
 use Rattle.aom_image.specs.declared.method.Gives.{Gives}
 
 -- a larger set
-pub suits_less : (k : Option ClassKind) (a b : ℕ) (c : Bool) (r : Option Request) → IsTrue (has a b) → Suits k (record { states = b; cancelled = c }) r → Suits k (record { states = a; cancelled = c }) r
+pub suits_less :
+    (k : Option ClassKind) (a b : ℕ) (c : Bool) (r : Option Request) → IsTrue (has a b) → Suits k (record { states = b; cancelled = c }) r → Suits k (record { states = a; cancelled = c }) r
 suits_less (Some (An_active v b)) a b' c r h s = (has_along a b' (state_of r) h s.0, s.1, s.2, s.3)
 suits_less (Some (A_server m x b)) a b' c r h s = (has_along a b' (state_of r) h s.0, s.1)
 suits_less _ a b c r h s = s
@@ -68,7 +69,9 @@ pub suits_first : (k : Option ClassKind) (r : Option Request) → r ≡ None →
 suits_first k r e = subst (λ r. Suits k (resting_in (first_of k)) r) (sym e) (begins_new k)
 
 -- a state that says no more
-pub claims_less : (p : Image) (o : Object) (fr : Frame) (a b : Shape) (ls : List Layer) (r : Option Request) → IsTrue (has a.states b.states) → Suits (thing_kind p o.thing) (states_claim p o (Method fr b ∷ ls)) r → Suits (thing_kind p o.thing) (states_claim p o (Method fr a ∷ ls)) r
+pub claims_less :
+    (p : Image) (o : Object) (fr : Frame) (a b : Shape) (ls : List Layer) (r : Option Request) → IsTrue (has a.states b.states) →
+    Suits (thing_kind p o.thing) (states_claim p o (Method fr b ∷ ls)) r → Suits (thing_kind p o.thing) (states_claim p o (Method fr a ∷ ls)) r
 claims_less p o fr a b ls r h = go (works_at o.name fr.home)
   where
     below : Known
@@ -97,31 +100,30 @@ pub same_object : (cs : List Cell) (o x : Object) → named cs o.name ≡ Some o
 same_object cs o x a b e = let same : Some o ≡ Some x = sym a ∙ ap (λ n. named cs n) (eqb-true o.name x.name e) ∙ b in cc
 
 -- what rests suits where no layer works on it
-pub rests_there : (p : Image) (o : Object) (ls : List Layer) (r : Option Request) → Unworked o.name ls → Suits (thing_kind p o.thing) (resting_in (rests_in p o)) r → Suits (thing_kind p o.thing) (states_claim p o ls) r
+pub rests_there :
+    (p : Image) (o : Object) (ls : List Layer) (r : Option Request) → Unworked o.name ls → Suits (thing_kind p o.thing) (resting_in (rests_in p o)) r →
+    Suits (thing_kind p o.thing) (states_claim p o ls) r
 rests_there p o ls r u s = subst (λ k. Suits (thing_kind p o.thing) k r) (sym (unworked_rests p o ls u)) s
 
 -- a method that does not cancel leaves what is known below it
-pub known_plain : (p : Image) (fr : Frame) (states : ℕ) (below : Known) → is_cancel (method_role p fr.method) ≡ false → known_at p fr states below ≡ record { states = states; cancelled = below.cancelled }
+pub known_plain :
+    (p : Image) (fr : Frame) (states : ℕ) (below : Known) → is_cancel (method_role p fr.method) ≡ false → known_at p fr states below ≡ record { states = states; cancelled = below.cancelled }
 known_plain p fr states below e = ap (λ (b : Bool). record { states = states; cancelled = b || below.cancelled }) e
 
 -- nor is an object being cancelled on which none works below it
-pub known_resting : (p : Image) (o : Object) (fr : Frame) (states : ℕ) (ls : List Layer) → is_cancel (method_role p fr.method) ≡ false → Unworked o.name ls → known_at p fr states (states_claim p o ls) ≡ resting_in states
+pub known_resting :
+    (p : Image) (o : Object) (fr : Frame) (states : ℕ) (ls : List Layer) → is_cancel (method_role p fr.method) ≡ false → Unworked o.name ls →
+    known_at p fr states (states_claim p o ls) ≡ resting_in states
 known_resting p o fr states ls e u = known_plain p fr states (states_claim p o ls) e ∙ ap (λ (k : Known). record { states = states; cancelled = k.cancelled }) (unworked_rests p o ls u)
 
 -- a method that cancels ends with its request completed
 done_only : (q : Phase) (status : ℤ) → IsTrue (has cancel_done (phase_state q)) → (is_aborted q && int_eq status pending) ≡ false → int_eq status pending ≡ false
 done_only Aborted status h u = u
-done_only Idle status h u = cc
-done_only Issued status h u = cc
-done_only Active status h u = cc
-done_only Cancelling status h u = cc
+done_only _ status h u = cc
 
 served_only : (q : Phase) → IsTrue (has server_states (phase_state q)) → IsTrue (has cancel_done (phase_state q)) → ⊥
 served_only Idle h g = cc
-served_only Issued h g = cc
-served_only Active h g = cc
-served_only Cancelling h g = cc
-served_only Aborted h g = cc
+served_only _ h g = cc
 
 pub completed : (k : Option ClassKind) (n : Known) (r : Option Request) → IsTrue (has cancel_done n.states) → Suits k n r → int_eq (status_of r) pending ≡ false
 completed (Some (An_active v b)) n r h s = go r (has_along cancel_done n.states (state_of r) h s.0) s.2
@@ -151,7 +153,8 @@ idle_timed _ q e n = n
 
 -- a request that is made keeps its timer while it goes on
 pub timed_on : (v : Provider) (q : Request) (phase : Phase) → is_idle q.phase ≡ false → is_idle phase ≡ false → is_timed v (Some q) ≡ true → is_timed v (Some (record q { phase = phase })) ≡ true
-timed_on A_timer q phase before after t = ap (λ b. cond (not b && int_eq q.status pending) (is_some q.timer) (is_none q.timer)) after ∙ sym (ap (λ b. cond (not b && int_eq q.status pending) (is_some q.timer) (is_none q.timer)) before) ∙ t
+timed_on A_timer q phase before after t =
+    ap (λ b. cond (not b && int_eq q.status pending) (is_some q.timer) (is_none q.timer)) after ∙ sym (ap (λ b. cond (not b && int_eq q.status pending) (is_some q.timer) (is_none q.timer)) before) ∙ t
 timed_on _ q phase before after t = t
 
 -- and leaves its object idle
@@ -169,7 +172,11 @@ cancel_ends (Some (A_server m x b)) n r h s = go r (has_along cancel_done n.stat
 cancel_ends _ n r h s = ap (λ r. on_request cancelled r) s
 
 -- the object that a method worked on, by what stands below it; one that cancelled has left it idle
-pub rejoins_caller : (p : Image) (o : Object) (fr : Frame) (sh : Shape) (states : ℕ) (ls : List Layer) (ends : ℕ) (r : Option Request) → Joins p o (Method fr sh ∷ ls) → (works_at o.name fr.home ≡ true → IsTrue (has sh.states ends)) → IsTrue (has ends states) → unissued states ≡ true → Suits (thing_kind p o.thing) (record { states = states; cancelled = (states_claim p o (Method fr sh ∷ ls)).cancelled }) r → Suits (thing_kind p o.thing) (states_claim p o (Method fr sh ∷ ls)) r
+pub rejoins_caller :
+    (p : Image) (o : Object) (fr : Frame) (sh : Shape) (states : ℕ) (ls : List Layer) (ends : ℕ) (r : Option Request) → Joins p o (Method fr sh ∷ ls) →
+    (works_at o.name fr.home ≡ true → IsTrue (has sh.states ends)) → IsTrue (has ends states) → unissued states ≡ true →
+    Suits (thing_kind p o.thing) (record { states = states; cancelled = (states_claim p o (Method fr sh ∷ ls)).cancelled }) r →
+    Suits (thing_kind p o.thing) (states_claim p o (Method fr sh ∷ ls)) r
 rejoins_caller p o fr sh states ls ends r (inl w) well within u s = go (works_at o.name fr.home) w s
   where
     below : Known
@@ -181,7 +188,9 @@ rejoins_caller p o fr sh states ls ends r (inl w) well within u s = go (works_at
 rejoins_caller p o fr sh states ls ends r (inr n) well within u s =
     rests_there p o (Method fr sh ∷ ls) r n (suits_rests (thing_kind p o.thing) states r u (subst (λ (k : Known). Suits (thing_kind p o.thing) (record { states = states; cancelled = k.cancelled }) r) (unworked_rests p o (Method fr sh ∷ ls) n) s))
 
-pub rejoins_trap : (p : Image) (o : Object) (gv : Gives) (fr : Frame) (sh : Shape) (ls : List Layer) (states : ℕ) (r : Option Request) → Joins p o (Mark gv ∷ Method fr sh ∷ ls) → unissued states ≡ true → (states_claim p o (Method fr sh ∷ ls)).cancelled ≡ false → Suits (thing_kind p o.thing) (resting_in states) r → Suits (thing_kind p o.thing) (states_claim p o (Method fr sh ∷ ls)) r
+pub rejoins_trap :
+    (p : Image) (o : Object) (gv : Gives) (fr : Frame) (sh : Shape) (ls : List Layer) (states : ℕ) (r : Option Request) → Joins p o (Mark gv ∷ Method fr sh ∷ ls) → unissued states ≡ true →
+    (states_claim p o (Method fr sh ∷ ls)).cancelled ≡ false → Suits (thing_kind p o.thing) (resting_in states) r → Suits (thing_kind p o.thing) (states_claim p o (Method fr sh ∷ ls)) r
 rejoins_trap p o gv fr sh ls states r (inl w) u none s =
     rejoins_caller p o fr sh (rests_in p o) ls (rests_in p o) r (inl w.0) (λ e. w.1) (has_itself (rests_in p o)) (rests_unissued (thing_kind p o.thing))
     (subst (λ (b : Bool). Suits (thing_kind p o.thing) (record { states = rests_in p o; cancelled = b }) r) (sym none) (suits_rests (thing_kind p o.thing) states r u s))
@@ -204,12 +213,17 @@ all_returned p cs cs' fr sh below s housed same others back x lives' = go fr.hom
     kept : (requested cs' x.name ≡ requested cs x.name) → Suits (thing_kind p x.thing) below_it (requested cs x.name) → Suits (thing_kind p x.thing) below_it (requested cs' x.name)
     kept e s = subst (λ r. Suits (thing_kind p x.thing) below_it r) (sym e) s
 
-    go : (h : Home) → fr.home ≡ h → IsHoused p cs below h → (works_at x.name h ≡ false → requested cs' x.name ≡ requested cs x.name) → Suits (thing_kind p x.thing) (cond (works_at x.name h) (known_at p fr sh.states below_it) below_it) (requested cs x.name) → Suits (thing_kind p x.thing) below_it (requested cs' x.name)
+    go :
+        (h : Home) → fr.home ≡ h → IsHoused p cs below h → (works_at x.name h ≡ false → requested cs' x.name ≡ requested cs x.name) →
+        Suits (thing_kind p x.thing) (cond (works_at x.name h) (known_at p fr sh.states below_it) below_it) (requested cs x.name) →
+        Suits (thing_kind p x.thing) below_it (requested cs' x.name)
     go Static e h o s = kept (o refl) s
     go AtRoot e h o s = kept (o refl) s
     go (Inside o from) e h others s = inner (o.name == x.name) refl s
       where
-        inner : (b : Bool) → (o.name == x.name) ≡ b → Suits (thing_kind p x.thing) (cond b (known_at p fr sh.states below_it) below_it) (requested cs x.name) → Suits (thing_kind p x.thing) below_it (requested cs' x.name)
+        inner :
+            (b : Bool) → (o.name == x.name) ≡ b → Suits (thing_kind p x.thing) (cond b (known_at p fr sh.states below_it) below_it) (requested cs x.name) →
+            Suits (thing_kind p x.thing) below_it (requested cs' x.name)
         inner true same s =
             let one = same_object cs o x h.lives lives same in
             subst (λ y. Suits (thing_kind p y.thing) (states_claim p y below) (requested cs' y.name)) one (back o from e (subst (λ y. Suits (thing_kind p y.thing) (known_at p fr sh.states (states_claim p y below)) (requested cs y.name)) (sym one) s))

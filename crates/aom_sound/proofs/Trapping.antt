@@ -8,7 +8,7 @@ use Rattle.aom_instructions.specs.declared.instr.Instr.{Instr}
 use Rattle.aom_instructions.specs.declared.instr.Instr.TheVariants.{Trap}
 use Rattle.aom_instructions.specs.declared.instr.Target.{Target}
 use Rattle.aom_image.specs.declared.method.Gives.{Gives}
-use Rattle.aom_image.specs.declared.method.Gives.TheVariants.{Left, Maybe as A_maybe, Nothing, Own as An_own, Word as A_word}
+use Rattle.aom_image.specs.declared.method.Gives.TheVariants.{Own as An_own}
 use Rattle.aom_rules.specs.Typing.{IsTyped, Typing}
 use Rattle.aom_shape.specs.declared.kind.Entry.{Entry as Pushed_entry}
 use Rattle.aom_shape.specs.declared.kind.Entry.TheVariants.{Object as Pushed_object, Operation as Operation_entry}
@@ -171,11 +171,8 @@ module _ (p : Image) (c : Choice) (fr : Frame) (ts : List Task) (s : State) (at_
 
   -- a result changes words alone
   received_frame : (g : Gives) (a x : ℕ) (caller : Frame) (w : Option ℤ) → record (next (set_word (received p fr ts s g a x caller) (suc x) w)) { words = caller.words } ≡ next caller
-  received_frame Nothing a x caller w = refl
-  received_frame A_word a x caller w = refl
   received_frame (An_own t) a x caller w = refl
-  received_frame (A_maybe t) a x caller w = refl
-  received_frame (Left t) a x caller w = refl
+  received_frame _ a x caller w = refl
 
   -- the word 0 is told
   zero_told : (g : Gives) (a : ℕ) (caller : Frame) (under : List Task) → let x = result_register (instr_at p caller.method caller.place) in
@@ -256,10 +253,14 @@ module _ (p : Image) (c : Choice) (s : State) (below : List Task) where
   moved t u w o (Acts fr ts i e at there met fits same) = subst (λ v. Moved p below s v) (sym same) (acts fr ts i e at (under_frame below ts fr (subst (λ l. Ends below l) at o)))
   moved t u w o (Vanishes ts x at there owns same) = subst (λ v. Moved p below s v) (sym same) (inl (resumes below ts (under_going below ts (subst (λ l. Ends below l) at o)), inl refl))
   moved t u w o (Empties ts x at there same) = subst (λ v. Moved p below s v) (sym same) (inl (empties_there p x (first_session s.cells x.name (service_of s.cells x.name).sessions) below ts (counted p s) (under_going below ts (under_closing below (Destroy ∷ ts) (subst (λ l. Ends below l) at o)))))
-  moved t u w o (Clears code ts items x at top there same) = subst (λ v. Moved p below s v) (sym same) (inl (begins_there p x (length items) below (Unwind code ∷ ts) (subst (λ l. Ends below l) at o), inr (inr (An_object, top))))
-  moved t u w o (Undoes code ts items m x at top same) = subst (λ v. Moved p below s v) (sym same) (inl (with_task below (Unwind code ∷ ts) _ (subst (λ l. Ends below l) at o), inr (inr (An_operation m x, top))))
-  moved t u w o (Arrives code fr ts items at top same) = subst (λ v. Moved p below s v) (sym same) (arrives code fr ts items at top (under_trap below _ (under_leave below _ code (subst (λ l. Ends below l) at o))))
-  moved t u w o (Comes_out code d ts items at top same) = subst (λ v. Moved p below s v) (sym same) (comes_out code d ts items at top (under_trap below _ (under_leave below _ code (subst (λ l. Ends below l) at o))))
+  moved t u w o (Clears code ts items x at top there same) =
+      subst (λ v. Moved p below s v) (sym same) (inl (begins_there p x (length items) below (Unwind code ∷ ts) (subst (λ l. Ends below l) at o), inr (inr (An_object, top))))
+  moved t u w o (Undoes code ts items m x at top same) =
+      subst (λ v. Moved p below s v) (sym same) (inl (with_task below (Unwind code ∷ ts) _ (subst (λ l. Ends below l) at o), inr (inr (An_operation m x, top))))
+  moved t u w o (Arrives code fr ts items at top same) =
+      subst (λ v. Moved p below s v) (sym same) (arrives code fr ts items at top (under_trap below _ (under_leave below _ code (subst (λ l. Ends below l) at o))))
+  moved t u w o (Comes_out code d ts items at top same) =
+      subst (λ v. Moved p below s v) (sym same) (comes_out code d ts items at top (under_trap below _ (under_leave below _ code (subst (λ l. Ends below l) at o))))
   moved t u w o (A_dispatch_ends d ts at same) = absurd (none_below below (subst (λ l. Ends below l) (nothing_under p t s d ts w at) (under_dispatch below ts d (subst (λ l. Ends below l) at o))))
 
 -- ---- so the mark of the trap and what lies below it stay
@@ -319,7 +320,9 @@ module _ (p : Image) (t : Typing) (s u : State) (before : WellTyped p t s) (afte
   by_moved (inl stays) = inl (by_near stays.0.0 stays.0.1 stays.1)
   by_moved (inr ends) = inr (by_end ends.0 ends.1 ends.2)
 
-sets : (p : Image) (t : Typing) (c : Choice) (s u : State) (fr : Frame) (ts : List Task) (target : Target) (m first x : ℕ) → s.tasks ≡ Run fr ∷ ts → instr_at p fr.method fr.place ≡ Some (Trap target m first x) → step p c s ≡ Goes u → IsTrapping (Run fr ∷ ts) s.items u
+sets :
+    (p : Image) (t : Typing) (c : Choice) (s u : State) (fr : Frame) (ts : List Task) (target : Target) (m first x : ℕ) → s.tasks ≡ Run fr ∷ ts →
+    instr_at p fr.method fr.place ≡ Some (Trap target m first x) → step p c s ≡ Goes u → IsTrapping (Run fr ∷ ts) s.items u
 sets p t c s u fr ts target m first x at there e =
     let v = counted p s in
     let i = Trap target m first x in
@@ -337,43 +340,37 @@ module _ (p : Image) (t : Typing) (outside : Outside) (wired : IsWired p) (typed
   abbrev Lasts : State → Type 0
   Lasts s = IsTrapping below items s ⊎ WasPast p outside below items from s
 
+  -- what was so on the way stays so further on
+  past_on : (s u : State) (h : WasPast p outside below items from s) (lines : List Line) → Reaches p outside h.after lines u → WasPast p outside below items from u
+  past_on s u h lines reaches = record {
+    earlier = h.earlier;
+    last = h.last;
+    until = h.until;
+    trapping = h.trapping;
+    choice = h.choice;
+    after = h.after;
+    move = h.move;
+    past = h.past;
+    lines = lines;
+    reaches = reaches;
+  }
+
   moved_on : (lines : List Line) (s u : State) (c : Choice) → WellTyped p t s → Reaches p outside from lines s → IsBusy s → IsOpen p outside.refused c s → step p c s ≡ Goes u → Lasts s → Lasts u
   moved_on lines s u c w before busy choice e (inl h) = go (keeps_trap p t wired typed c s u w choice.name below items h e)
     where
       go : IsTrapping below items u ⊎ IsPast p below items s u → Lasts u
       go (inl on) = inl on
       go (inr off) = inr (record { earlier = lines; last = s; until = before; trapping = h; choice = c; after = u; move = e; past = off; lines = []; reaches = begins })
-  moved_on lines s u c w before busy choice e (inr h) = inr (record {
-    earlier = h.earlier;
-    last = h.last;
-    until = h.until;
-    trapping = h.trapping;
-    choice = h.choice;
-    after = h.after;
-    move = h.move;
-    past = h.past;
-    lines = _;
-    reaches = moves c h.reaches busy choice e;
-  })
+  moved_on lines s u c w before busy choice e (inr h) = inr (past_on s u h _ (moves c h.reaches busy choice e))
 
   turned : (heard : Heard) (s u : State) → IsBetween s → HearsWell p outside heard s → turn p outside heard s ≡ Goes u → Lasts s → Lasts u
   turned heard s u between hears e (inl h) = absurd (none_below below (h.over, sym between.idle ∙ h.tasks))
-  turned heard s u between hears e (inr h) = inr (record {
-    earlier = h.earlier;
-    last = h.last;
-    until = h.until;
-    trapping = h.trapping;
-    choice = h.choice;
-    after = h.after;
-    move = h.move;
-    past = h.past;
-    lines = _;
-    reaches = turns heard h.reaches between hears e;
-  })
+  turned heard s u between hears e (inr h) = inr (past_on s u h _ (turns heard h.reaches between hears e))
 
   lasts : IsTrapping below items from → (lines : List Line) (s : State) → Reaches p outside from lines s → Lasts s
   lasts h _ _ begins = inl h
-  lasts h _ _ (moves {lines = lines} {s = s} {u = u} c before busy choice e) = moved_on lines s u c (well_on p t outside wired typed from well lines s before).0 before busy choice e (lasts h lines s before)
+  lasts h _ _ (moves {lines = lines} {s = s} {u = u} c before busy choice e) =
+      moved_on lines s u c (well_on p t outside wired typed from well lines s before).0 before busy choice e (lasts h lines s before)
   lasts h _ _ (turns {lines = lines} {s = s} {u = u} heard before between hears e) = turned heard s u between hears e (lasts h lines s before)
 
 pub traps_keep : TrapsKeep

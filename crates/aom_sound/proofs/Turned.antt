@@ -8,7 +8,7 @@ use Rattle.aom_sound.specs.Enlisted.{completed_with, part_of, pending, recorded,
 use Rattle.aom_sound.specs.Natives.{all_bereaved, is_outstanding_at}
 use Rattle.aom_sound.specs.Places.{Asked, Connect_of, Message_of, Close_of, Elsewhere, Session, In_service, Queued, Going, held, moved, service_of, Cell, Object}
 use Rattle.aom_sound.specs.State.{Dispatched, Of_server, Accepts, Serves, Parts, frame_of, Inside, A_mark, CompletedTwice, Goes, Rest, Seat, State}
-use Rattle.aom_sound.specs.World.{Obeys, heard_one, serving, taken_from, message_words, serves_first, accepting, attending, attended, parting_with, picked as any_picked, Completes, Completion, Cuts, Heard, Hears, Kills, Outside, Passes, Picks, Polls, Strays, Turning, Waits, answered_by, cell_at, dispatched, past_native, polled, run_tasks, turn, turned, turning, with_request}
+use Rattle.aom_sound.specs.World.{Obeys, heard_one, serving, taken_from, message_words, serves_first, accepting, attending, attended, parting_with, picked as any_picked, Completes, Completion, Heard, Kills, Outside, Picks, Polls, Strays, Turning, answered_by, cell_at, dispatched, past_native, polled, run_tasks, turn, turned, turning, with_request}
 use Rattle.std.specs.Prelude.{[], length}
 use Rattle.aom_clients.specs.declared.client.Client.{Client}
 use Rattle.aom_clients.specs.declared.client.Client.TheVariants.{Open}
@@ -31,7 +31,9 @@ picked m x s =
 -- what the dispatch of an object or a server begins with
 pub data Picked (p : Image) (s : State) (x : Seat) : State → Type 0 where
   handles : (m : ℕ) → part_of p Handles x.object.thing ≡ Some m → Picked p s x (picked m x s)
-  accepts : (client m : ℕ) → part_of p Accepts_role x.object.thing ≡ Some m → Picked p s x (serving x client Accepts (frame_of m (Inside x.object x.place) (length (A_mark ∷ s.items))) (taken_from x.object.name s))
+  accepts :
+      (client m : ℕ) → part_of p Accepts_role x.object.thing ≡ Some m →
+      Picked p s x (serving x client Accepts (frame_of m (Inside x.object x.place) (length (A_mark ∷ s.items))) (taken_from x.object.name s))
   attends :
       (client message m : ℕ) (o : Object) → held s.cells (Elsewhere (Session x.object.name client)) ≡ Some o → part_of p Attends o.thing ≡ Some m →
       Picked p s x (serving x client (Serves o)
@@ -68,7 +70,9 @@ serves_so p s u x (Connect_of client ∷ es) e = go (part_of p Accepts_role x.ob
     go (Some m) at e = subst (λ v. Picked p s x v) (goes_same _ u e) (accepts client m at)
 serves_so p s u x (Message_of client message ∷ es) e = go (held s.cells (Elsewhere (Session x.object.name client))) refl e
   where
-    by_method : (o : Object) → held s.cells (Elsewhere (Session x.object.name client)) ≡ Some o → (m : Option ℕ) → part_of p Attends o.thing ≡ m → attending m x client o message (taken_from x.object.name s) ≡ Goes u → Picked p s x u
+    by_method :
+        (o : Object) → held s.cells (Elsewhere (Session x.object.name client)) ≡ Some o → (m : Option ℕ) → part_of p Attends o.thing ≡ m →
+        attending m x client o message (taken_from x.object.name s) ≡ Goes u → Picked p s x u
     by_method o there None at e = cc
     by_method o there (Some m) at e = subst (λ v. Picked p s x v) (goes_same _ u e) (attends client message m o there at)
 
@@ -160,16 +164,13 @@ polled_turned p s u n d = elim d as (λ v d. Turned p s v) [
 ]
 
 turned_so : (p : Image) (s u : State) (k : Turning) → turned p s k ≡ Goes u → Turned p s u
-turned_so p s u Cuts e = subst (λ v. Turned p s v) (goes_same _ u e) (keeps_all _)
 turned_so p s u (Completes o) e = subst (λ v. Turned p s v) (goes_same _ u e) (completes (pos 0) o s.rest refl)
-turned_so p s u Hears e = subst (λ v. Turned p s v) (goes_same _ u e) (keeps_all _)
 turned_so p s u (Kills n) e = subst (λ v. Turned p s v) (goes_same _ u e) (kills n _ _)
 turned_so p s u (Polls n answer) e = polled_turned p s u n (polled_so p s u n answer e)
 turned_so p s u (Obeys client command name) e = subst (λ v. Turned p s v) (goes_same _ u e) (obeys client command name)
 turned_so p s u (Picks x) e = picks x u (picked_so p s u x e)
 turned_so p s u Strays e = cc
-turned_so p s u (Passes time) e = subst (λ v. Turned p s v) (goes_same _ u e) (keeps_all _)
-turned_so p s u Waits e = subst (λ v. Turned p s v) (goes_same _ u e) (keeps_all _)
+turned_so p s u _ e = subst (λ v. Turned p s v) (goes_same _ u e) (keeps_all _)
 
 pub turns_so : (p : Image) (outside : Outside) (heard : Heard) (s u : State) → turn p outside heard s ≡ Goes u → Turned p s u
 turns_so p outside heard s u e = turned_so p s u (turning outside heard s) e

@@ -40,7 +40,7 @@ use Rattle.aom_sound.specs.Claims.{Dispatching, Layer, Mark, claim, declared, fo
 use Rattle.aom_sound.specs.Enlisted.{is_aborted, is_active, is_idle, on_request, part_of, pending, taken_up, completed_with, recorded}
 use Rattle.aom_sound.specs.Kept.{ClientsFit}
 use Rattle.aom_sound.specs.Laws.{IsHandler, IsWired, TurnGoesOn}
-use Rattle.aom_sound.specs.Places.{Active, Asked, Cell, Close_of, Connect_of, Elsewhere, Message_of, Entry, Field, Going, Object, Phase, Place, Register, Request, Root, Tidy, held, named, requested, seen, service_of}
+use Rattle.aom_sound.specs.Places.{Active, Asked, Cell, Close_of, Connect_of, Elsewhere, Message_of, Object, Phase, Place, Request, Root, Tidy, held, named, requested, seen, service_of}
 use Rattle.aom_sound.specs.Servers.{has_more, is_server}
 use Rattle.aom_sound.specs.Requests.{AllSuit, Known, Suits, is_timed, phase_state, resting_in, rests_in, thing_kind}
 use Rattle.aom_sound.specs.State.{A_mark, Inside, Of_object, Rest, Seat, State, thing_holder, Goes, IsStuck, CompletedTwice}
@@ -246,7 +246,9 @@ module _ (p : Image) (t : Typing) (s : State) (w : WellTyped p t s) (idle_now : 
 
   -- a native is polled, and completes what is outstanding at it
   answered_well : (n : ℕ) (a : Completion) (c : Cell) → is_outstanding_at p n c ≡ true → Keeps p t (answered_by p n (Some c) a.code s)
-  answered_well n a c owed = subst (λ b. Keeps p t (cond b (Goes (past_native n (record s { cells = with_request (completed_with (recorded a.code)) c.object s.cells }))) (IsStuck CompletedTwice))) (sym owed) (completed (recorded a.code) (recorded_so a.code) c.object _)
+  answered_well n a c owed =
+      subst (λ b. Keeps p t (cond b (Goes (past_native n (record s { cells = with_request (completed_with (recorded a.code)) c.object s.cells }))) (IsStuck CompletedTwice))) (sym owed)
+      (completed (recorded a.code) (recorded_so a.code) c.object _)
 
   polled_well : (n : ℕ) (answer : Option Completion) → AnswersWell p s (Polls n answer) → Keeps p t (polled p n answer s)
   polled_well n None owed = same_well _
@@ -287,12 +289,8 @@ module _ (p : Image) (t : Typing) (s : State) (w : WellTyped p t s) (idle_now : 
         over = Mark Nothing ∷ Dispatching (Of_object y.seat) (y.seat ∷ sits.0) ∷ []
 
         claims : (d : Place → _) (r : Place) → claim p d (Mark Nothing ∷ Dispatching (Of_object y.seat) (y.seat ∷ sits.0) ∷ []) r ≡ d r
-        claims d (Register f i) = refl
-        claims d (Entry k) = refl
-        claims d (Field n f) = refl
         claims d (Elsewhere Root) = refl
-        claims d (Elsewhere w) = refl
-        claims d (Going k) = refl
+        claims d _ = refl
 
         entering : Entering p t cs y.seat sits.0 over it.0 []
         entering = record {
@@ -324,7 +322,9 @@ module _ (p : Image) (t : Typing) (s : State) (w : WellTyped p t s) (idle_now : 
         well = enters p t typed cs y.seat sits.0 over it.0 [] entering (picked it.0 y.seat s) (length (A_mark ∷ s.items)) (ap (λ is. length (A_mark ∷ is)) items) refl refl (ap (λ is. forms (A_mark ∷ is)) items) w.undos
 
     -- what waits in the queue of a server is served
-    server_well : (y : Candidate) → Found s.cells y → is_server p y.seat.object.thing ≡ true → (queue : List Asked) → (service_of s.cells y.seat.object.name).queue ≡ queue → Keeps p t (serves_first p y.seat queue s)
+    server_well :
+        (y : Candidate) → Found s.cells y → is_server p y.seat.object.thing ≡ true → (queue : List Asked) → (service_of s.cells y.seat.object.name).queue ≡ queue →
+        Keeps p t (serves_first p y.seat queue s)
     server_well y it_is server [] e = absurd (true≢false (sym it_is.ready ∙ ap (λ q. is_ready y.request || has_more q) e ∙ or_false (is_ready y.request) ∙ idles (thing_kind p y.seat.object.thing) y.request server (subst (λ r. Suits (thing_kind p y.seat.object.thing) (resting_in (rests_in p y.seat.object)) r) it_is.asked (good.suits y.seat.object it_is.lives))))
     server_well y it_is server (Connect_of client ∷ es) e = accepts_well p t wired typed s w idle_now fit y.seat y.request it_is.there it_is.lives it_is.asked server client es e
     server_well y it_is server (Message_of client m ∷ es) e = attends_well p t wired typed s w idle_now fit y.seat y.request it_is.there it_is.lives it_is.asked server client m es e
@@ -336,7 +336,9 @@ module _ (p : Image) (t : Typing) (s : State) (w : WellTyped p t s) (idle_now : 
         it_is : Found s.cells y
         it_is = found s.cells good.tidy y e
 
-        go : (b : Bool) → is_server p y.seat.object.thing ≡ b → Keeps p t (cond b (serves_first p y.seat (service_of s.cells y.seat.object.name).queue s) (dispatched (part_of p Handles y.seat.object.thing) y.seat s))
+        go :
+            (b : Bool) → is_server p y.seat.object.thing ≡ b →
+            Keeps p t (cond b (serves_first p y.seat (service_of s.cells y.seat.object.name).queue s) (dispatched (part_of p Handles y.seat.object.thing) y.seat s))
         go true server = server_well y it_is server (service_of s.cells y.seat.object.name).queue refl
         go false plain = object_well y it_is (sym (or_false (is_ready y.request)) ∙ ap (λ q. is_ready y.request || has_more q) (sym (fit.servers y.seat.object it_is.lives plain).0) ∙ it_is.ready)
 
@@ -349,7 +351,9 @@ module _ (p : Image) (t : Typing) (s : State) (w : WellTyped p t s) (idle_now : 
     signal_well next = subst (λ b. Keeps p t (turned p s (picks b (first_ready s.cells) next))) (sym (signals_are_ready p t s w idle_now).1) (picks_well (first_ready s.cells) refl next)
 
     -- one test after another, as a turn makes them
-    poll_well : (n : Option ℕ) (answer : Option Completion) (after : Turning) → AnswersWell p s (polls n answer after) → (AnswersWell p s after → Keeps p t (turned p s after)) → Keeps p t (turned p s (polls n answer after))
+    poll_well :
+        (n : Option ℕ) (answer : Option Completion) (after : Turning) → AnswersWell p s (polls n answer after) → (AnswersWell p s after → Keeps p t (turned p s after)) →
+        Keeps p t (turned p s (polls n answer after))
     poll_well None answer after owed then = then owed
     poll_well (Some n) answer after owed then = polled_well n answer owed
 
@@ -366,7 +370,9 @@ module _ (p : Image) (t : Typing) (s : State) (w : WellTyped p t s) (idle_now : 
         go true = commanded_well p t wired (heard_one s) (same_well _) idle_now fit c command name free
         go false = same_well _
 
-    event_well : (outside : Outside) (name : ℕ) (next : Option TimedEvent) (after : Turning) → named s.cells name ≡ None → AnswersWell p s (by_event outside name s next after) → (AnswersWell p s after → Keeps p t (turned p s after)) → Keeps p t (turned p s (by_event outside name s next after))
+    event_well :
+        (outside : Outside) (name : ℕ) (next : Option TimedEvent) (after : Turning) → named s.cells name ≡ None → AnswersWell p s (by_event outside name s next after) →
+        (AnswersWell p s after → Keeps p t (turned p s after)) → Keeps p t (turned p s (by_event outside name s next after))
     event_well outside name None after free owed then = then owed
     event_well outside name (Some e) after free owed then = go (nat_le e.time s.rest.clock) owed
       where
@@ -374,7 +380,9 @@ module _ (p : Image) (t : Typing) (s : State) (w : WellTyped p t s) (idle_now : 
         go true owed = deliver_well outside name e.event free
         go false owed = then owed
 
-    timer_well : (next : Option Timed) (after : Turning) → AnswersWell p s (by_timer s next after) → (AnswersWell p s after → Keeps p t (turned p s after)) → Keeps p t (turned p s (by_timer s next after))
+    timer_well :
+        (next : Option Timed) (after : Turning) → AnswersWell p s (by_timer s next after) → (AnswersWell p s after → Keeps p t (turned p s after)) →
+        Keeps p t (turned p s (by_timer s next after))
     timer_well None after owed then = then owed
     timer_well (Some x) after owed then = go (nat_le x.timer.due s.rest.clock) owed
       where

@@ -2,7 +2,7 @@
 use Rattle.std.proofs.Common.{Bool, true, false, List, [], ap, cond, refl, ℕ, ◌==◌, ◌∙◌, ◌∷◌, ◌≡◌, Some}
 use Rattle.aom_sound.proofs.Storing.{Alike, alike_itself}
 use Rattle.aom_sound.specs.Clients.{each_unslotted}
-use Rattle.aom_sound.specs.Places.{Cell, Place, Tidy, held, named, requested, same_place, service_of}
+use Rattle.aom_sound.specs.Places.{Cell, Place, Service, Tidy, held, named, requested, same_place, service_of}
 use Rattle.aom_sound.specs.Servers.{unslotted, all_unslotted}
 
 held_unslotted : (c : ℕ) (cs : List Cell) (r : Place) → held (all_unslotted c cs) r ≡ held cs r
@@ -17,21 +17,22 @@ requested_unslotted : (c : ℕ) (cs : List Cell) (n : ℕ) → requested (all_un
 requested_unslotted c [] n = refl
 requested_unslotted c (x ∷ xs) n = ap (λ y. cond (x.object.name == n) x.request y) (requested_unslotted c xs n)
 
-queue_unslotted : (c : ℕ) (cs : List Cell) (n : ℕ) → (service_of (all_unslotted c cs) n).queue ≡ (service_of cs n).queue
-queue_unslotted c [] n = refl
-queue_unslotted c (x ∷ xs) n = go (x.object.name == n) (queue_unslotted c xs n)
+-- what clients have there but the slot of a message
+service_unslotted : {A : Type 0} (read : Service → A) → ((c : ℕ) (v : Service) → read (record v { sender = unslotted c v.sender }) ≡ read v) → (c : ℕ) (cs : List Cell) (n : ℕ) → read (service_of (all_unslotted c cs) n) ≡ read (service_of cs n)
+service_unslotted read same c [] n = refl
+service_unslotted read same c (x ∷ xs) n = go (x.object.name == n) (service_unslotted read same c xs n)
   where
-    go : (b : Bool) → (service_of (all_unslotted c xs) n).queue ≡ (service_of xs n).queue → (cond b (record x.service { sender = unslotted c x.service.sender }) (service_of (all_unslotted c xs) n)).queue ≡ (cond b x.service (service_of xs n)).queue
-    go true ih = refl
+    go :
+        (b : Bool) → read (service_of (all_unslotted c xs) n) ≡ read (service_of xs n) →
+        read (cond b (record x.service { sender = unslotted c x.service.sender }) (service_of (all_unslotted c xs) n)) ≡ read (cond b x.service (service_of xs n))
+    go true ih = same c x.service
     go false ih = ih
 
+queue_unslotted : (c : ℕ) (cs : List Cell) (n : ℕ) → (service_of (all_unslotted c cs) n).queue ≡ (service_of cs n).queue
+queue_unslotted = service_unslotted (λ v. v.queue) (λ c v. refl)
+
 sessions_unslotted : (c : ℕ) (cs : List Cell) (n : ℕ) → (service_of (all_unslotted c cs) n).sessions ≡ (service_of cs n).sessions
-sessions_unslotted c [] n = refl
-sessions_unslotted c (x ∷ xs) n = go (x.object.name == n) (sessions_unslotted c xs n)
-  where
-    go : (b : Bool) → (service_of (all_unslotted c xs) n).sessions ≡ (service_of xs n).sessions → (cond b (record x.service { sender = unslotted c x.service.sender }) (service_of (all_unslotted c xs) n)).sessions ≡ (cond b x.service (service_of xs n)).sessions
-    go true ih = refl
-    go false ih = ih
+sessions_unslotted = service_unslotted (λ v. v.sessions) (λ c v. refl)
 
 tidy_unslotted : (c : ℕ) (cs : List Cell) → Tidy cs → Tidy (all_unslotted c cs)
 tidy_unslotted c [] t = tt

@@ -12,12 +12,14 @@ use Rattle.aom_sound.specs.Claims.{Dispatching, Layer, Mark, Mark_form, Unwindin
 use Rattle.aom_sound.specs.Cleanup.{dealt_with, top_is_whole, unwound}
 use Rattle.aom_sound.specs.Laws.{IsWired}
 use Rattle.aom_sound.specs.Places.{Entry, Place, changed}
-use Rattle.aom_sound.specs.State.{Of_server, Accepts, Accepted, Accept_left, Serves, Service_left, Parts, A_mark, An_object, An_operation, Answered, Asks, Object_left, Of_object, Dispatch, Goes, IsStuck, Item, Main_left, NullOrDead, Of_main, Of_root, State, Unwind}
+use Rattle.aom_sound.specs.State.{Of_server, Accept_left, A_mark, An_object, An_operation, Dispatch, Goes, IsStuck, Item, NullOrDead, State, Unwind}
 use Rattle.aom_sound.specs.WellTyped.{AllUndo, EndsDispatch, Good, Keeps, Leaves, Stack, WellTyped}
 use Rattle.aom_sound.proofs.Items.{no_mark}
 
 -- one more entry to unwind
-claim_unwinding : (p : Image) (d : Place → Kind) (code : ℤ) (e : Pushed) (es : List Pushed) (ls : List Layer) (r : Place) → claim p d (Unwinding code (e ∷ es) ∷ ls) r ≡ changed (claim p d (Unwinding code es ∷ ls)) (Entry (length (items_of (Unwinding code es ∷ ls)))) (entry_kind e) r
+claim_unwinding :
+    (p : Image) (d : Place → Kind) (code : ℤ) (e : Pushed) (es : List Pushed) (ls : List Layer) (r : Place) →
+    claim p d (Unwinding code (e ∷ es) ∷ ls) r ≡ changed (claim p d (Unwinding code es ∷ ls)) (Entry (length (items_of (Unwinding code es ∷ ls)))) (entry_kind e) r
 claim_unwinding p d code e es ls (Entry k) = go (length (objects es (items_of ls)) == k)
   where
     go : (b : Bool) → cond b (entry_kind e) (entry_claim es (items_of ls) k (claim p d ls (Entry k))) ≡ cond (b && true) (entry_kind e) (entry_claim es (items_of ls) k (claim p d ls (Entry k)))
@@ -27,7 +29,9 @@ claim_unwinding p d code e es ls _ = refl
 
 module _ (p : Image) (t : Typing) (wired : IsWired p) (typed : IsTyped p t) (s : State) (code : ℤ) where
   -- an entry is left: it is dealt with over the unwinding
-  of_entry : (e : Pushed) (es : List Pushed) (ls : List Layer) → forms s.items ≡ entry_form e ∷ objects es (items_of ls) → AllUndo p s.items → Good p t s.cells (Unwinding code (e ∷ es) ∷ ls) → Keeps p t (unwound p code (tasks_of ls) s s.items)
+  of_entry :
+      (e : Pushed) (es : List Pushed) (ls : List Layer) → forms s.items ≡ entry_form e ∷ objects es (items_of ls) → AllUndo p s.items → Good p t s.cells (Unwinding code (e ∷ es) ∷ ls) →
+      Keeps p t (unwound p code (tasks_of ls) s s.items)
   of_entry e es ls same undos good =
       let d : Dealing p t s e (Unwinding code (e ∷ es) ∷ ls) (Unwinding code es ∷ ls) = record {
         fits = good.fits;
@@ -44,7 +48,9 @@ module _ (p : Image) (t : Typing) (wired : IsWired p) (typed : IsTyped p t) (s :
       let w = deals p t wired typed s e (Unwinding code (e ∷ es) ∷ ls) (Unwinding code es ∷ ls) d in
       go e s.items same w.0 w.1
     where
-      go : (e : Pushed) (items : List Item) → forms items ≡ entry_form e ∷ objects es (items_of ls) → top_is_whole s.cells items ≡ true → WellTyped p t (dealt_with p items (Unwind code ∷ tasks_of ls) s) → Keeps p t (unwound p code (tasks_of ls) s items)
+      go :
+          (e : Pushed) (items : List Item) → forms items ≡ entry_form e ∷ objects es (items_of ls) → top_is_whole s.cells items ≡ true →
+          WellTyped p t (dealt_with p items (Unwind code ∷ tasks_of ls) s) → Keeps p t (unwound p code (tasks_of ls) s items)
       go e [] same whole w = cc
       go e (An_object ∷ items) same whole w = subst (λ b. Keeps p t (cond b (Goes (dealt_with p (An_object ∷ items) (Unwind code ∷ tasks_of ls) s)) (IsStuck NullOrDead))) (sym whole) w
       go e (An_operation m x ∷ items) same whole w = w
@@ -61,21 +67,12 @@ module _ (p : Image) (t : Typing) (wired : IsWired p) (typed : IsTyped p t) (s :
   of_none (Dispatching d seats ∷ ls) same undos good = absurd (no_dispatch d good.stack.1.0)
     where
       no_dispatch : (d : Dispatch) → EndsDispatch p d Leaves → ⊥
-      no_dispatch Of_main e = e
-      no_dispatch (Main_left x) e = e
-      no_dispatch Of_root e = e
-      no_dispatch (Of_object x) e = e
-      no_dispatch (Object_left x c) e = e
-      no_dispatch (Asks x) e = e
-      no_dispatch (Answered x c) e = e
-      no_dispatch (Of_server x c Accepts) e = e
-      no_dispatch (Of_server x c Accepted) e = e
       no_dispatch (Of_server x c (Accept_left code)) e = e
-      no_dispatch (Of_server x c (Serves o)) e = e
-      no_dispatch (Of_server x c (Service_left code)) e = e
-      no_dispatch (Of_server x c Parts) e = e
+      no_dispatch _ e = e
   of_none _ same undos good = absurd (assumption tt)
 
-  pub unwinds : (es : List Pushed) (ls : List Layer) → forms s.items ≡ objects es (items_of ls) → AllUndo p s.items → Good p t s.cells (Unwinding code es ∷ ls) → Keeps p t (unwound p code (tasks_of ls) s s.items)
+  pub unwinds :
+      (es : List Pushed) (ls : List Layer) → forms s.items ≡ objects es (items_of ls) → AllUndo p s.items → Good p t s.cells (Unwinding code es ∷ ls) →
+      Keeps p t (unwound p code (tasks_of ls) s s.items)
   unwinds [] ls same undos good = of_none ls same undos good
   unwinds (e ∷ es) ls same undos good = of_entry e es ls same undos good

@@ -142,7 +142,9 @@ module _ (p : Image) (formed : WellFormed p) (linked : IsLinked p) where
           let s : IsMain (kind_of p d.class) d = of_role m d Main f role in
           of_none p d.class fits.class s.of
 
-  destructor_is : (c m : ℕ) → role_of p c Destruct ≡ Some m → (IsSome (method_at p m)) × (method_role p m ≡ Some Destruct) × (method_class p m ≡ Some c) × (leaves p m ≡ false) × (is_quiet p m ≡ true) × (gives_of p m ≡ Nothing) × (arguments_of p m ≡ [])
+  destructor_is :
+      (c m : ℕ) → role_of p c Destruct ≡ Some m →
+      (IsSome (method_at p m)) × (method_role p m ≡ Some Destruct) × (method_class p m ≡ Some c) × (leaves p m ≡ false) × (is_quiet p m ≡ true) × (gives_of p m ≡ Nothing) × (arguments_of p m ≡ [])
   unfolding role_in class_in leaves_in quiet_in gives_in arguments_in
   destructor_is c m e =
       let d = role_found p c m Destruct e in
@@ -167,46 +169,39 @@ module _ (p : Image) (formed : WellFormed p) (linked : IsLinked p) where
           let s : IsCancel (kind_of p d.class) d = of_role m d Cancel f role in
           (ap quiet_in f ∙ s.flags, ap gives_in f ∙ nothing_given d.gives s.gives)
 
-  canceller_is : (c m : ℕ) → role_of p c Cancel ≡ Some m → (IsSome (method_at p m)) × (method_role p m ≡ Some Cancel) × (method_class p m ≡ Some c) × (arguments_of p m ≡ []) × (before_of p m ≡ cancel_open)
+  canceller_is :
+      (c m : ℕ) → role_of p c Cancel ≡ Some m →
+      (IsSome (method_at p m)) × (method_role p m ≡ Some Cancel) × (method_class p m ≡ Some c) × (arguments_of p m ≡ []) × (before_of p m ≡ cancel_open)
   unfolding role_in class_in arguments_in before_in
   canceller_is c m e =
       let d = role_found p c m Cancel e in
       let s : IsCancel (kind_of p d.0.class) d.0 = of_role m d.0 Cancel d.1 d.3 in
       (rw d.1 refl, ap role_in d.1 ∙ ap (λ r. Some r) d.3, ap class_in d.1 ∙ d.2, ap arguments_in d.1 ∙ nil_from_length d.0.arguments s.takes.count, ap before_in d.1 ∙ s.begins)
 
-  -- a class of active objects needs one
-  has_canceller : (c : ℕ) → is_active_kind (kind_of p (Some c)) ≡ true → (m : ℕ) × (role_of p c Cancel ≡ Some m)
+  -- what a class of that kind needs
+  needs_of_kind : (c : ℕ) (k : ClassKind) → kind_of p (Some c) ≡ Some k → KindNeeds p c k
   unfolding kind_of kind_in class_at
-  has_canceller c active = go (class_at p c) refl active
+  needs_of_kind c k e = go (class_at p c) refl e
     where
-      some : (o : Option ℕ) → IsSome o → (m : ℕ) × (o ≡ Some m)
-      some None h = cc
-      some (Some m) h = (m, refl)
+      go : (o : Option ClassDecl) → class_at p c ≡ o → kind_in o ≡ Some k → KindNeeds p c k
+      go None f h = cc
+      go (Some d) f h = let same : d.kind ≡ k = cc in subst (λ k. KindNeeds p c k) same (at_place (NeedsMet p) p.classes c d linked.needs f).kind
 
-      of_kind : (d : ClassDecl) → class_at p c ≡ Some d → (k : ClassKind) → d.kind ≡ k → is_active_kind (Some k) ≡ true → (m : ℕ) × (role_of p c Cancel ≡ Some m)
-      of_kind d e (An_active v b) same h = let needs = subst (λ k. KindNeeds p c k) same (at_place (NeedsMet p) p.classes c d linked.needs e).kind in some (role_of p c Cancel) needs.cancel
-      of_kind d e _ same h = cc
-
-      go : (o : Option ClassDecl) → class_at p c ≡ o → is_active_kind (kind_in o) ≡ true → (m : ℕ) × (role_of p c Cancel ≡ Some m)
-      go None e h = cc
-      go (Some d) e h = of_kind d e d.kind refl h
+  -- a class of active objects has one
+  has_canceller : (c : ℕ) → is_active_kind (kind_of p (Some c)) ≡ true → (m : ℕ) × (role_of p c Cancel ≡ Some m)
+  has_canceller c active = go (kind_of p (Some c)) refl active
+    where
+      go : (o : Option ClassKind) → kind_of p (Some c) ≡ o → is_active_kind o ≡ true → (m : ℕ) × (role_of p c Cancel ≡ Some m)
+      go (Some (An_active v b)) e h = some_there (role_of p c Cancel) (needs_of_kind c (An_active v b) e).cancel
+      go _ e h = cc
 
   -- and one that is dispatched for its objects
   has_handler : (c : ℕ) → is_active_kind (kind_of p (Some c)) ≡ true → (m : ℕ) × (role_of p c Run ≡ Some m)
-  unfolding kind_of kind_in class_at
-  has_handler c active = go (class_at p c) refl active
+  has_handler c active = go (kind_of p (Some c)) refl active
     where
-      some : (o : Option ℕ) → IsSome o → (m : ℕ) × (o ≡ Some m)
-      some None h = cc
-      some (Some m) h = (m, refl)
-
-      of_kind : (d : ClassDecl) → class_at p c ≡ Some d → (k : ClassKind) → d.kind ≡ k → is_active_kind (Some k) ≡ true → (m : ℕ) × (role_of p c Run ≡ Some m)
-      of_kind d e (An_active v b) same h = let needs = subst (λ k. KindNeeds p c k) same (at_place (NeedsMet p) p.classes c d linked.needs e).kind in some (role_of p c Run) needs.run
-      of_kind d e _ same h = cc
-
-      go : (o : Option ClassDecl) → class_at p c ≡ o → is_active_kind (kind_in o) ≡ true → (m : ℕ) × (role_of p c Run ≡ Some m)
-      go None e h = cc
-      go (Some d) e h = of_kind d e d.kind refl h
+      go : (o : Option ClassKind) → kind_of p (Some c) ≡ o → is_active_kind o ≡ true → (m : ℕ) × (role_of p c Run ≡ Some m)
+      go (Some (An_active v b)) e h = some_there (role_of p c Run) (needs_of_kind c (An_active v b) e).run
+      go _ e h = cc
 
   handler_is : (c m : ℕ) → role_of p c Run ≡ Some m → IsHandler p c m
   unfolding role_in class_in arguments_in gives_in before_in
@@ -237,16 +232,12 @@ module _ (p : Image) (formed : WellFormed p) (linked : IsLinked p) where
 
   -- a server has a method that accepts
   has_acceptor : (c session : ℕ) → sessions_at p c ≡ Some session → (m : ℕ) × (role_of p c Accept ≡ Some m)
-  unfolding kind_in class_at sessions_in sessions_of
-  has_acceptor c session serves = go (class_at p c) refl serves
+  unfolding kind_of sessions_in sessions_of
+  has_acceptor c session serves = go (kind_of p (Some c)) refl serves
     where
-      of_kind : (d : ClassDecl) → class_at p c ≡ Some d → (k : ClassKind) → d.kind ≡ k → sessions_of k ≡ Some session → (m : ℕ) × (role_of p c Accept ≡ Some m)
-      of_kind d e (A_server most x b) same h = some_there (role_of p c Accept) (subst (λ k. KindNeeds p c k) same (at_place (NeedsMet p) p.classes c d linked.needs e).kind)
-      of_kind d e _ same h = cc
-
-      go : (o : Option ClassDecl) → class_at p c ≡ o → sessions_in (kind_in o) ≡ Some session → (m : ℕ) × (role_of p c Accept ≡ Some m)
-      go None e h = cc
-      go (Some d) e h = of_kind d e d.kind refl h
+      go : (o : Option ClassKind) → kind_of p (Some c) ≡ o → sessions_in o ≡ Some session → (m : ℕ) × (role_of p c Accept ≡ Some m)
+      go (Some (A_server most x b)) e h = some_there (role_of p c Accept) (needs_of_kind c (A_server most x b) e)
+      go _ e h = cc
 
   acceptor_is : (c session m : ℕ) → sessions_at p c ≡ Some session → role_of p c Accept ≡ Some m → IsAcceptor p c m session
   unfolding role_in class_in arguments_in gives_in before_in kind_of
@@ -286,16 +277,12 @@ module _ (p : Image) (formed : WellFormed p) (linked : IsLinked p) where
 
   -- which have a method that serves, and no sessions
   of_session : (c : ℕ) → is_session p c ≡ true → ((m : ℕ) × (role_of p c Service ≡ Some m)) × (sessions_at p c ≡ None)
-  unfolding kind_in class_at is_session_in is_session_kind sessions_in sessions_of
-  of_session c is = go (class_at p c) refl is
+  unfolding kind_of is_session_in is_session_kind sessions_in sessions_of
+  of_session c is = go (kind_of p (Some c)) refl is
     where
-      of_kind : (d : ClassDecl) → class_at p c ≡ Some d → (k : ClassKind) → d.kind ≡ k → is_session_kind k ≡ true → ((m : ℕ) × (role_of p c Service ≡ Some m)) × (sessions_of k ≡ None)
-      of_kind d e Session same h = (some_there (role_of p c Service) (subst (λ k. KindNeeds p c k) same (at_place (NeedsMet p) p.classes c d linked.needs e).kind), refl)
-      of_kind d e _ same h = cc
-
-      go : (o : Option ClassDecl) → class_at p c ≡ o → is_session_in (kind_in o) ≡ true → ((m : ℕ) × (role_of p c Service ≡ Some m)) × (sessions_in (kind_in o) ≡ None)
-      go None e h = cc
-      go (Some d) e h = of_kind d e d.kind refl h
+      go : (o : Option ClassKind) → kind_of p (Some c) ≡ o → is_session_in o ≡ true → ((m : ℕ) × (role_of p c Service ≡ Some m)) × (sessions_in o ≡ None)
+      go (Some Session) e h = (some_there (role_of p c Service) (needs_of_kind c Session e), refl)
+      go _ e h = cc
 
   has_attendant : (c session : ℕ) → sessions_at p c ≡ Some session → (m : ℕ) × (role_of p session Service ≡ Some m)
   has_attendant c session serves = (of_session session (session_before c session serves).1).0
@@ -367,7 +354,10 @@ module _ (p : Image) (formed : WellFormed p) (linked : IsLinked p) where
   none_destructs c none = go (class_at p c) refl
     where
       of_kind : (d : ClassDecl) → class_at p c ≡ Some d → (k : ClassKind) → d.kind ≡ k → last_of (Some k) ≡ states_of (Some k)
-      of_kind d e (An_active v b) same = let needs = subst (λ k. KindNeeds p c k) same (at_place (NeedsMet p) p.classes c d linked.needs e).kind in let clash : IsSome {T = ℕ} None = subst (λ (o : Option ℕ). IsSome o) none needs.destruct in cc
+      of_kind d e (An_active v b) same =
+          let needs = subst (λ k. KindNeeds p c k) same (at_place (NeedsMet p) p.classes c d linked.needs e).kind in
+          let clash : IsSome {T = ℕ} None = subst (λ (o : Option ℕ). IsSome o) none needs.destruct in
+          cc
       of_kind d e _ same = refl
 
       go : (o : Option ClassDecl) → class_at p c ≡ o → last_of (kind_in o) ≡ states_of (kind_in o)
@@ -439,7 +429,9 @@ module _ (p : Image) (formed : WellFormed p) (linked : IsLinked p) where
 
   owned_before : (c d f : ℕ) → field_thing p (Member c) f ≡ Some (An_object_of d) → d < c
   unfolding fields_in class_at
-  owned_before c d f e = some_given (λ o. slice_get (fields_in o) f ≡ Some (An_object_of d)) (class_at p c) e (λ e. cc) (λ k g e. (all_there (OwnsBefore p c) k.fields f (An_object_of d) (at_place (ClassOrdered p) p.classes c k linked.classes.classes g).fields e).0)
+  owned_before c d f e =
+      some_given (λ o. slice_get (fields_in o) f ≡ Some (An_object_of d)) (class_at p c) e (λ e. cc)
+      (λ k g e. (all_there (OwnsBefore p c) k.fields f (An_object_of d) (at_place (ClassOrdered p) p.classes c k linked.classes.classes g).fields e).0)
 
 pub linked_is_wired : (p : Image) → WellFormed p → IsLinked p → IsWired p
 linked_is_wired p formed linked = record {

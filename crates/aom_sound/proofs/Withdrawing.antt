@@ -19,7 +19,7 @@ use Rattle.aom_sound.proofs.Queues.{none_stays}
 use Rattle.aom_sound.proofs.Sifted.{cell_in, cell_in_sifted, cell_lives, cell_of, cell_of_sifted, cell_owner, cell_placed, held_cell, kept, named_cell, object_in, request_in, requested_cell, service_cell, service_in, sifted, tidy_sifted, withdrawn_so}
 use Rattle.aom_sound.specs.Claims.{declared, declared_field}
 use Rattle.aom_sound.specs.Kept.{ClientsFit, is_message_of}
-use Rattle.aom_sound.specs.Places.{Asked, Cell, Close_of, Connect_of, Elsewhere, Entry, Field, Going, In_service, Message_of, Object, Place, Queued, Register, Root, Sender, Session, held, named, requested, seen, service_of}
+use Rattle.aom_sound.specs.Places.{Asked, Cell, Close_of, Connect_of, Elsewhere, Field, Message_of, Object, Place, Queued, Sender, Session, held, named, requested, seen, service_of}
 use Rattle.aom_sound.specs.Requests.{AllSuit, Suits, resting_in, rests_in, thing_kind}
 use Rattle.aom_sound.specs.Servers.{has_message, has_session, is_from, is_message, is_queue, is_server, left_by, message_thing, session_thing, stays, withdrawn}
 use Rattle.aom_sound.specs.WellTyped.{Fits, Good}
@@ -42,7 +42,9 @@ none_left c m (Message_of d k ∷ es) own = go (stays c (Message_of d k)) refl (
     or_right true x h = refl
     or_right false x h = h
 
-    go : (b : Bool) → stays c (Message_of d k) ≡ b → (x : Bool) → (k == m) ≡ x → list_any (λ e. is_message m e) (filter (stays c) es) ≡ false → list_any (λ e. is_message m e) (cond b (Message_of d k ∷ filter (stays c) es) (filter (stays c) es)) ≡ false
+    go :
+        (b : Bool) → stays c (Message_of d k) ≡ b → (x : Bool) → (k == m) ≡ x → list_any (λ e. is_message m e) (filter (stays c) es) ≡ false →
+        list_any (λ e. is_message m e) (cond b (Message_of d k ∷ filter (stays c) es) (filter (stays c) es)) ≡ false
     go false s x e h = h
     go true s false e h = ap (λ b. b || list_any (λ e. is_message m e) (filter (stays c) es)) e ∙ h
     go true s true e h =
@@ -50,7 +52,9 @@ none_left c m (Message_of d k ∷ es) own = go (stays c (Message_of d k)) refl (
         absurd (true≢false (sym s ∙ ap not (eq-eqb d c same)))
 
 -- it stays, where none of that name is of the client
-stays_there : (c m : ℕ) (es : List Asked) → ((d : ℕ) → list_any (is_message_of d m) es ≡ true → (d == c) ≡ false) → list_any (λ e. is_message m e) es ≡ true → list_any (λ e. is_message m e) (filter (stays c) es) ≡ true
+stays_there :
+    (c m : ℕ) (es : List Asked) → ((d : ℕ) → list_any (is_message_of d m) es ≡ true → (d == c) ≡ false) → list_any (λ e. is_message m e) es ≡ true →
+    list_any (λ e. is_message m e) (filter (stays c) es) ≡ true
 stays_there c m [] other h = h
 stays_there c m (Connect_of d ∷ es) other h = go (stays c (Connect_of d)) (stays_there c m es other h)
   where
@@ -58,7 +62,8 @@ stays_there c m (Connect_of d ∷ es) other h = go (stays c (Connect_of d)) (sta
     go true h = h
     go false h = h
 stays_there c m (Close_of d ∷ es) other h = stays_there c m es other h
-stays_there c m (Message_of d k ∷ es) other h = go (k == m) refl (stays c (Message_of d k)) refl h (stays_there c m es (λ i h. other i (or_right ((d == i) && (k == m)) (list_any (is_message_of i m) es) h)))
+stays_there c m (Message_of d k ∷ es) other h =
+    go (k == m) refl (stays c (Message_of d k)) refl h (stays_there c m es (λ i h. other i (or_right ((d == i) && (k == m)) (list_any (is_message_of i m) es) h)))
   where
     or_right : (b x : Bool) → x ≡ true → (b || x) ≡ true
     or_right true x h = refl
@@ -84,7 +89,8 @@ from_apart c d (Some m) h k = ne_eqb d c (λ same. true≢false (sym (eq-eqb m.c
 
 -- ---- the cells
 
-module _ (p : Image) (t : Typing) (clients : List Client) (cs : List Cell) (good : Good p t cs []) (fit : ClientsFit p clients cs) (c : ℕ) (message : (n m : ℕ) (o : Object) → held cs (Elsewhere (Queued n m)) ≡ Some o → o.thing ≡ Message) where
+module _ (p : Image) (t : Typing) (clients : List Client) (cs : List Cell) (good : Good p t cs []) (fit : ClientsFit p clients cs) (c : ℕ)
+    (message : (n m : ℕ) (o : Object) → held cs (Elsewhere (Queued n m)) ≡ Some o → o.thing ≡ Message) where
   abbrev drops : Cell → Bool
   drops x = is_queue x.owner && is_from c x.service.sender
 
@@ -98,7 +104,9 @@ module _ (p : Image) (t : Typing) (clients : List Client) (cs : List Cell) (good
   waiting n m o e = message_plain p o.thing (message n m o e)
 
   service_now : (n : ℕ) → ((service_of left n).queue ≡ filter (stays c) (service_of cs n).queue) × ((service_of left n).sessions ≡ (service_of cs n).sessions)
-  service_now n = let l = service_left p clients cs good.tidy fit c waiting n in (ap (λ l. (service_of l n).queue) (sym (withdrawn_so c cs)) ∙ l.0, ap (λ l. (service_of l n).sessions) (sym (withdrawn_so c cs)) ∙ l.1)
+  service_now n =
+      let l = service_left p clients cs good.tidy fit c waiting n in
+      (ap (λ l. (service_of l n).queue) (sym (withdrawn_so c cs)) ∙ l.0, ap (λ l. (service_of l n).sessions) (sym (withdrawn_so c cs)) ∙ l.1)
 
   -- what is in no queue stays
   stays_held : (q : Place) → is_queue q ≡ false → held left q ≡ held cs q
@@ -106,7 +114,9 @@ module _ (p : Image) (t : Typing) (clients : List Client) (cs : List Cell) (good
     where
       go : (x : Option Cell) → cell_in cs q ≡ x → object_in (after x) ≡ object_in x
       go None e = refl
-      go (Some x) e = ap (λ b. object_in (cond b None (Some (record x { service = left_by c x.service })))) (ap (λ r. is_queue r && is_from c x.service.sender) (cell_owner cs q x e) ∙ ap (λ b. b && is_from c x.service.sender) apart)
+      go (Some x) e =
+          ap (λ b. object_in (cond b None (Some (record x { service = left_by c x.service }))))
+          (ap (λ r. is_queue r && is_from c x.service.sender) (cell_owner cs q x e) ∙ ap (λ b. b && is_from c x.service.sender) apart)
 
   -- a name is of what it was, or was of a message that is gone
   abbrev IsNamed : ℕ → Type 0
@@ -162,12 +172,15 @@ module _ (p : Image) (t : Typing) (clients : List Client) (cs : List Cell) (good
   session_kind : (n d : ℕ) → declared p left (Elsewhere (Session n d)) ≡ declared p cs (Elsewhere (Session n d))
   session_kind n d = ap (λ xs. cond (list_any (λ k. k == d) xs) (filled (session_thing p (named left n)) Full) Null) (service_now n).1 ∙ go (name_left n)
     where
-      go : IsNamed n → cond (has_session (service_of cs n) d) (filled (session_thing p (named left n)) Full) Null ≡ cond (has_session (service_of cs n) d) (filled (session_thing p (named cs n)) Full) Null
+      go :
+          IsNamed n →
+          cond (has_session (service_of cs n) d) (filled (session_thing p (named left n)) Full) Null ≡ cond (has_session (service_of cs n) d) (filled (session_thing p (named cs n)) Full) Null
       go (inl h) = ap (λ y. cond (has_session (service_of cs n) d) (filled (session_thing p y) Full) Null) h.0
       go (inr h) =
           let o = h.1.0 in
           let name : o.name ≡ n = named_name cs n o h.1.1 in
-          let none : has_session (service_of cs n) d ≡ false = ap (λ k. has_session (service_of cs k) d) (sym name) ∙ ap (λ xs. list_any (λ k. k == d) xs) (fit.servers o (ap (λ k. named cs k) name ∙ h.1.1) (message_plain p o.thing h.1.2)).1 in
+          let none : has_session (service_of cs n) d ≡ false =
+          ap (λ k. has_session (service_of cs k) d) (sym name) ∙ ap (λ xs. list_any (λ k. k == d) xs) (fit.servers o (ap (λ k. named cs k) name ∙ h.1.1) (message_plain p o.thing h.1.2)).1 in
           ap (λ b. cond b (filled (session_thing p (named left n)) Full) Null) none ∙ sym (ap (λ b. cond b (filled (session_thing p (named cs n)) Full) Null) none)
 
   thing_kind_left : (n : ℕ) → message_thing p (named left n) ≡ message_thing p (named cs n)
@@ -209,14 +222,16 @@ module _ (p : Image) (t : Typing) (clients : List Client) (cs : List Cell) (good
     -- a message was there, and goes or stays
     some_fits : (x : Cell) → cell_in cs q ≡ Some x → (g : Bool) → is_from c x.service.sender ≡ g → (b : Bool) → has_message (service_of cs n) m ≡ b → Fits p (seen left) (Some x.object) (cond b kind Null) → Fits p (seen left) (object_in (cond g None (Some (record x { service = left_by c x.service })))) (cond still kind Null)
     some_fits x e g from false has f = absurd f
-    some_fits x e true from true has f = subst (λ b. Fits p (seen left) None (cond b kind Null)) (sym (none_left c m (service_of cs n).queue (λ d h. from_same c d x.service.sender from (sender d h)))) tt
+    some_fits x e true from true has f =
+        subst (λ b. Fits p (seen left) None (cond b kind Null)) (sym (none_left c m (service_of cs n).queue (λ d h. from_same c d x.service.sender from (sender d h)))) tt
       where
         name : x.object.name ≡ m
         name = fit.names n m x.object (was (Some x) e)
 
         sender : (d : ℕ) → list_any (is_message_of d m) (service_of cs n).queue ≡ true → is_from d x.service.sender ≡ true
         sender d h = subst (λ v. is_from d v.sender ≡ true) (service_cell cs m ∙ ap service_in (ap (λ k. cell_of cs k) (sym name) ∙ cell_lives cs q x good.tidy e)) (fit.senders n d m h)
-    some_fits x e false from true has f = subst (λ b. Fits p (seen left) (Some x.object) (cond b kind Null)) (sym (stays_there c m (service_of cs n).queue (λ d h. from_apart c d x.service.sender from (sender d h)) has)) f
+    some_fits x e false from true has f =
+        subst (λ b. Fits p (seen left) (Some x.object) (cond b kind Null)) (sym (stays_there c m (service_of cs n).queue (λ d h. from_apart c d x.service.sender from (sender d h)) has)) f
       where
         name : x.object.name ≡ m
         name = fit.names n m x.object (was (Some x) e)
@@ -228,19 +243,17 @@ module _ (p : Image) (t : Typing) (clients : List Client) (cs : List Cell) (good
     queue_fits = subst (λ k. Fits p (seen left) (held left q) k) (sym kind_now) (go (cell_in cs q) refl)
       where
         go : (x : Option Cell) → cell_in cs q ≡ x → Fits p (seen left) (held left q) (cond still kind Null)
-        go None e = subst (λ y. Fits p (seen left) y (cond still kind Null)) (sym (held_now None e)) (free_fits (has_message (service_of cs n) m) refl (subst (λ y. Fits p (seen left) y (declared p cs q)) (was None e) (base q)))
+        go None e =
+            subst (λ y. Fits p (seen left) y (cond still kind Null)) (sym (held_now None e))
+            (free_fits (has_message (service_of cs n) m) refl (subst (λ y. Fits p (seen left) y (declared p cs q)) (was None e) (base q)))
         go (Some x) e = subst (λ y. Fits p (seen left) y (cond still kind Null)) (sym (held_now (Some x) e ∙ ap (λ b. object_in (cond b None (Some (record x { service = left_by c x.service })))) (ap (λ r. is_queue r && is_from c x.service.sender) (cell_owner cs q x e))))
             (some_fits x e (is_from c x.service.sender) refl (has_message (service_of cs n) m) refl (subst (λ y. Fits p (seen left) y (declared p cs q)) (was (Some x) e) (base q)))
 
   fits : (q : Place) → Fits p (seen left) (held left q) (declared p left q)
-  fits (Register f i) = there_still (Register f i) refl refl
-  fits (Entry k) = there_still (Entry k) refl refl
   fits (Field n f) = there_still (Field n f) refl (field_kind n f)
-  fits (Going k) = there_still (Going k) refl refl
-  fits (Elsewhere Root) = there_still (Elsewhere Root) refl refl
-  fits (Elsewhere In_service) = there_still (Elsewhere In_service) refl refl
   fits (Elsewhere (Session n d)) = there_still (Elsewhere (Session n d)) refl (session_kind n d)
   fits (Elsewhere (Queued n m)) = queue_fits n m
+  fits r = there_still r refl refl
 
   suits : AllSuit p left []
   suits y there = go (name_left y.name)

@@ -1,8 +1,8 @@
 -- The laws of the instructions on words.
-use Rattle.std.proofs.Common.{Bool, List, Option, Some, ap, refl, true, ℕ, ℤ, ◌∙◌, ◌≡◌, arith}
-use Rattle.std.specs.Prelude.{is_none, is_some, length, nat_lt}
+use Rattle.std.proofs.Common.{Bool, List, Option, Some, ap, refl, true, ℕ, ℤ, ◌∙◌, ◌≡◌, arith, None}
+use Rattle.std.specs.Prelude.{is_none, is_some, length, nat_lt, int_lt}
 use Rattle.aom_image.specs.Image.{Image}
-use Rattle.aom_instructions.specs.declared.instr.Instr.TheVariants.{Const, Copy, Load, Print, Store}
+use Rattle.aom_instructions.specs.declared.instr.Instr.TheVariants.{Const, Copy, Load, Print, Store, Add, And, JumpEqual, JumpLess, Mul, Or, Sub, Xor}
 use Rattle.aom_shape.specs.Kinds.{is_unowning, is_word, register, set_register}
 use Rattle.aom_shape.specs.Needs.{AllTrue}
 use Rattle.aom_shape.specs.Shape.{Shape}
@@ -21,6 +21,9 @@ use Rattle.aom_sound.specs.State.{Choice, Frame, State, home_holder, next, set_w
 use Rattle.aom_sound.specs.WellTyped.{WellTyped, WordFits}
 use Rattle.aom_sound.specs.Effects.{applied, computes, jumps_if, writes}
 use Rattle.aom_sound.specs.Words.{loaded, needs_binary, needs_compare, read, stored}
+use Rattle.aom_instructions.specs.declared.instr.Instr.{Instr}
+use Rattle.std.specs.Int.{int_bit_and, int_bit_or, int_bit_xor, int_wrapping_add, int_wrapping_mul, int_wrapping_sub, w32}
+use Rattle.std.specs.Ordering.{int_eq}
 
 is_read : (w : Option ℤ) (k : Kind) → is_word k ≡ true → WordFits w k → is_some w ≡ true
 is_read (Some w) Word e f = refl
@@ -74,3 +77,20 @@ module _ (p : Image) (t : Typing) (c : Choice) (s : State) (fr : Frame) (sh : Sh
       let cs = stored s.cells fr.home w v in
       let h = stepped p t cs fr sh ls (stored_fitted p t s.cells fr.home w v fr sh ls (fitted p t s.cells fr sh ls at_hand.good)) in
       ((has_word_field w n.0, (has_word b n.1.0, tt)), well p t c s fr sh ls at_hand (does p c fr (tasks_of ls) s (Store w b)) (next fr) sh refl at_hand.items at_hand.undos (settle p t cs (next fr) sh ls h leads.0))
+
+  -- each instruction of this file by its law
+  abbrev pub of_words : (i : Instr) → Option (Law p t c s fr sh ls at_hand i)
+  of_words (Const a w) = Some (law_const a w)
+  of_words (Copy a b) = Some (law_copy a b)
+  of_words (Add a b x) = Some (law_binary (int_wrapping_add w32) a b x)
+  of_words (Sub a b x) = Some (law_binary (int_wrapping_sub w32) a b x)
+  of_words (Mul a b x) = Some (law_binary (int_wrapping_mul w32) a b x)
+  of_words (And a b x) = Some (law_binary (int_bit_and w32) a b x)
+  of_words (Or a b x) = Some (law_binary (int_bit_or w32) a b x)
+  of_words (Xor a b x) = Some (law_binary (int_bit_xor w32) a b x)
+  of_words (JumpEqual a b to) = Some (law_compare int_eq a b to)
+  of_words (JumpLess a b to) = Some (law_compare int_lt a b to)
+  of_words (Load a w) = Some (law_load a w)
+  of_words (Store w b) = Some (law_store w b)
+  of_words (Print a) = Some (law_print a)
+  of_words _ = None
