@@ -98,7 +98,9 @@ module _ (p : Image) (outside : Outside) (s : State) where
     where
       go : (b : Bool) → AnswersWell p s (cond b Cuts (by_timer s (first_due s.cells) (by_event outside (top s.cells) s (next_event outside s) (polls (next_native outside s) None (picks (has_signal s.cells) (first_ready s.cells) (next_time outside s))))))
       go true = tt
-      go false = timer_well (first_due s.cells) _ (event_well (top s.cells) (next_event outside s) _ (polls_well (next_native outside s) _ (picks_well (has_signal s.cells) (first_ready s.cells) (next_time outside s))))
+      go false =
+          timer_well (first_due s.cells) _
+          (event_well (top s.cells) (next_event outside s) _ (polls_well (next_native outside s) _ (picks_well (has_signal s.cells) (first_ready s.cells) (next_time outside s))))
 
   hears_nothing : HearsWell p outside (quiet s) s
   hears_nothing = record { completion = completes_nothing; name = above s.cells (top s.cells) (omega arith) }
@@ -148,7 +150,8 @@ module _ (p : Image) (t : Typing) (outside : Outside) (few : outside.limit ≤ 2
 
   -- between dispatches, with so little left, and so few natives to poll
   abbrev Between : ℕ → ℕ → ℕ → Type 0
-  Between n k j = (lines : List Line) (s : State) → left outside s < k → natives_left outside s < j → spare outside.limit s < suc n → Reached lines s → WellTyped p t s → IsBetween s → CanEnd p outside lines
+  Between n k j =
+      (lines : List Line) (s : State) → left outside s < k → natives_left outside s < j → spare outside.limit s < suc n → Reached lines s → WellTyped p t s → IsBetween s → CanEnd p outside lines
 
   -- a turn after which nothing is at hand, and the run goes on
   module _ (s u : State) (tasks : u.tasks ≡ s.tasks) (dispatches : u.rest.dispatches ≡ s.rest.dispatches) (ended : u.rest.ended ≡ s.rest.ended) where
@@ -164,7 +167,9 @@ module _ (p : Image) (t : Typing) (outside : Outside) (few : outside.limit ≤ 2
   less_left n k again lines s u most falls spares tasks dispatches ended between r typed =
       again (suc (natives_left outside u)) lines u (omega (arith, falls, most)) (omega arith) (omega (arith, still_spare s u tasks dispatches ended, spares)) r typed (still_between s u tasks dispatches ended between)
 
-  by_kind : (n k j : ℕ) → Ends n → ((j : ℕ) → Between n k j) → Between n (suc k) j → (lines : List Line) (s : State) → left outside s ≤ k → natives_left outside s ≤ j → spare outside.limit s < suc n → WellTyped p t s → IsBetween s
+  by_kind :
+      (n k j : ℕ) → Ends n → ((j : ℕ) → Between n k j) → Between n (suc k) j → (lines : List Line) (s : State) → left outside s ≤ k → natives_left outside s ≤ j →
+      spare outside.limit s < suc n → WellTyped p t s → IsBetween s
       → (x : Turning) → Kind outside s x → (u : State) → turned p s x ≡ Goes u → Reached lines u → WellTyped p t u → CanEnd p outside lines
   by_kind n k j ends again polling lines s most few_natives spares w between _ cuts u goes r typed = over lines u Limit r (ap (λ (v : State). v.rest.ended) (sym (goes_same _ u goes)))
   by_kind n k j ends again polling lines s most few_natives spares w between _ waits u goes r typed = over lines u Waiting r (ap (λ (v : State). v.rest.ended) (sym (goes_same _ u goes)))
@@ -233,11 +238,16 @@ module _ (p : Image) (t : Typing) (outside : Outside) (few : outside.limit ≤ 2
       let kept = moved_spares p outside.limit few (choice s) s next.0 next.1 in
       further lines (written p s) (again (lines ++ written p s) next.0 (omega (arith, lower, less)) (omega (arith, kept, spares)) (moves (choice s) r busy free next.1) next.2)
 
-  by_tasks : (n : ℕ) → Ends n → (ts : List Task) (lines : List Line) (s : State) → s.tasks ≡ ts → s.rest.ended ≡ None → spare outside.limit s < suc n → Reached lines s → WellTyped p t s → (IsBusy s → CanEnd p outside lines) → CanEnd p outside lines
-  by_tasks n ends [] lines s none going spares r w busy = by_turns n (suc (left outside s)) (suc (natives_left outside s)) ends lines s (omega arith) (omega arith) spares r w (record { idle = none; going = going })
+  by_tasks :
+      (n : ℕ) → Ends n → (ts : List Task) (lines : List Line) (s : State) → s.tasks ≡ ts → s.rest.ended ≡ None → spare outside.limit s < suc n → Reached lines s → WellTyped p t s →
+      (IsBusy s → CanEnd p outside lines) → CanEnd p outside lines
+  by_tasks n ends [] lines s none going spares r w busy =
+      by_turns n (suc (left outside s)) (suc (natives_left outside s)) ends lines s (omega arith) (omega arith) spares r w (record { idle = none; going = going })
   by_tasks n ends (task ∷ tasks) lines s is going spares r w busy = busy (task, tasks, is)
 
-  by_end : (n : ℕ) → Ends n → (e : Option Ending) (lines : List Line) (s : State) → s.rest.ended ≡ e → spare outside.limit s < suc n → Reached lines s → WellTyped p t s → (IsBusy s → CanEnd p outside lines) → CanEnd p outside lines
+  by_end :
+      (n : ℕ) → Ends n → (e : Option Ending) (lines : List Line) (s : State) → s.rest.ended ≡ e → spare outside.limit s < suc n → Reached lines s → WellTyped p t s →
+      (IsBusy s → CanEnd p outside lines) → CanEnd p outside lines
   by_end n ends None lines s going spares r w busy = by_tasks n ends s.tasks lines s refl going spares r w busy
   by_end n ends (Some ending) lines s ended spares r w busy = over lines s ending r ended
 

@@ -140,7 +140,8 @@ nearer_reached (Some a) (Some b) time e = let same : min a b ≡ time = cc in go
     go true is same = ap (λ y. y || nat_le b time) (le-leb a time (omega (arith, leb-true a b is, same)))
     go false is same = ap (λ y. nat_le a time || y) (le-leb b time (omega (arith, leb-false a b is, same))) ∙ or_true (nat_le a time)
 
-pub passed_late : (outside : Outside) (s u : State) (time : ℕ) → next_time outside s ≡ Some time → u.cells ≡ s.cells → u.rest.clock ≡ time → u.rest.delivered ≡ s.rest.delivered → is_late outside u ≡ true
+pub passed_late :
+    (outside : Outside) (s u : State) (time : ℕ) → next_time outside s ≡ Some time → u.cells ≡ s.cells → u.rest.clock ≡ time → u.rest.delivered ≡ s.rest.delivered → is_late outside u ≡ true
 passed_late outside s u time next cells clock delivered =
     ap (λ cs. reached (due_of (first_due cs)) u.rest.clock || reached (time_of (event_at outside.events u.rest.delivered)) u.rest.clock) cells
     ∙ ap (λ k. reached (due_of (first_due s.cells)) u.rest.clock || reached (time_of (event_at outside.events k)) u.rest.clock) delivered
@@ -182,8 +183,11 @@ pub fewer_left : (outside : Outside) (s u : State) → timers_in u.cells + event
 fewer_left outside s u fewer = omega (arith, fewer, one_at_most (not (is_late outside u)))
 
 -- or as many, and time has come where it had not
-pub later_left : (outside : Outside) (s u : State) → timers_in u.cells + events_left outside u ≤ timers_in s.cells + events_left outside s → is_late outside s ≡ false → is_late outside u ≡ true → left outside u < left outside s
+pub later_left :
+    (outside : Outside) (s u : State) → timers_in u.cells + events_left outside u ≤ timers_in s.cells + events_left outside s → is_late outside s ≡ false → is_late outside u ≡ true →
+    left outside u < left outside s
 later_left outside s u same early late = omega (arith, same, ap (λ b. one_where (not b)) early, ap (λ b. one_where (not b)) late)
 
-pub no_more_left : (outside : Outside) (s u : State) → timers_in u.cells + events_left outside u ≤ timers_in s.cells + events_left outside s → is_late outside s ≡ false → left outside u ≤ left outside s
+pub no_more_left :
+    (outside : Outside) (s u : State) → timers_in u.cells + events_left outside u ≤ timers_in s.cells + events_left outside s → is_late outside s ≡ false → left outside u ≤ left outside s
 no_more_left outside s u same early = omega (arith, same, ap (λ b. one_where (not b)) early, one_at_most (not (is_late outside u)))

@@ -31,7 +31,9 @@ module _ (outside : Outside) (s : State) where
   abbrev event_early : Type 0
   event_early = reached (time_of (next_event outside s)) s.rest.clock ≡ false
 
-  picks_kind : (b : Bool) (ready : Option Candidate) (next : Option ℕ) → s.rest.dispatches < outside.limit → next_time outside s ≡ next → is_late outside s ≡ false → Kind outside s (picks b ready next)
+  picks_kind :
+      (b : Bool) (ready : Option Candidate) (next : Option ℕ) → s.rest.dispatches < outside.limit → next_time outside s ≡ next → is_late outside s ≡ false →
+      Kind outside s (picks b ready next)
   picks_kind true None next below is early = strays
   picks_kind true (Some x) next below is early = picks_one x below
   picks_kind false ready None below is early = waits

@@ -28,9 +28,13 @@ pub moved_spares : (p : Image) (limit : ℕ) → limit ≤ 2 ^ 64 - 1 → (c : C
 moved_spares p limit most c s u goes = go (restarts p s.tasks) refl
   where
     go : (b : Bool) → restarts p s.tasks ≡ b → spare limit u ≤ spare limit s
-    go b is = by_case b (dispatches_are_counted.moves p c s u goes ∙ ap (λ x. cond x (raised s.rest.dispatches) s.rest.dispatches) is) (ap (λ o. one_where (is_some o)) (payers p c s u goes ∙ ap (λ x. cond x None (payer s.tasks)) is))
+    go b is =
+        by_case b (dispatches_are_counted.moves p c s u goes ∙ ap (λ x. cond x (raised s.rest.dispatches) s.rest.dispatches) is)
+        (ap (λ o. one_where (is_some o)) (payers p c s u goes ∙ ap (λ x. cond x None (payer s.tasks)) is))
       where
-        by_case : (b : Bool) → u.rest.dispatches ≡ cond b (raised s.rest.dispatches) s.rest.dispatches → one_where (is_some (payer u.tasks)) ≡ one_where (is_some (cond b None (payer s.tasks))) → spare limit u ≤ spare limit s
+        by_case :
+            (b : Bool) → u.rest.dispatches ≡ cond b (raised s.rest.dispatches) s.rest.dispatches → one_where (is_some (payer u.tasks)) ≡ one_where (is_some (cond b None (payer s.tasks))) →
+            spare limit u ≤ spare limit s
         by_case true counts pays = omega (arith, counts, pays, one_at_most (is_some (payer s.tasks)), most)
         by_case false counts pays = omega (arith, counts, pays)
 
@@ -47,7 +51,9 @@ server_there p Message e = cc
 picked_class : (p : Image) (s u : State) (x : Seat) → turned p s (Picks x) ≡ Goes u → is_some (class_of x.object.thing) ≡ true
 picked_class p s u x goes = go (is_server p x.object.thing) refl goes
   where
-    go : (b : Bool) → is_server p x.object.thing ≡ b → cond b (serves_first p x (service_of s.cells x.object.name).queue s) (dispatched (part_of p Handles x.object.thing) x s) ≡ Goes u → is_some (class_of x.object.thing) ≡ true
+    go :
+        (b : Bool) → is_server p x.object.thing ≡ b → cond b (serves_first p x (service_of s.cells x.object.name).queue s) (dispatched (part_of p Handles x.object.thing) x s) ≡ Goes u →
+        is_some (class_of x.object.thing) ≡ true
     go true is e = server_there p x.object.thing is
     go false is e = let d = dispatched_so p s u x e in class_there p x.object.thing d.0 d.1
 

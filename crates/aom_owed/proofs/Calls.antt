@@ -94,12 +94,9 @@ module _ (p : Image) (answer : ℤ) (s : State) (holds : SessionsHold p s) (w : 
       opened n x f false e met = holds.lives k m (sym (ap (λ b. b || meets p s.cells k m) (and_right (takes_on answer) false refl)) ∙ met)
 
       go : (w : Option Wanted) → FindsWell p s w → meets_after w answer k m (meets p s.cells k m) ≡ true → is_dead s.killed k ≡ false
-      go None f e = holds.lives k m e
       go (Some (Opens n x)) f e = opened n x f.lives (is_for n x k m) refl e
-      go (Some (Starts n x y z)) f e = holds.lives k m e
-      go (Some (Asks n x y z)) f e = holds.lives k m e
-      go (Some (Cancels n x)) f e = holds.lives k m e
       go (Some (Closes n x)) f e = holds.lives k m (and_parts (not (is_for n x k m)) (meets p s.cells k m) e).1
+      go _ f e = holds.lives k m e
 
   pub sessions_after : (u : State) → Told p answer s w u.cells → u.killed ≡ s.killed → SessionsHold p u
   sessions_after u told killed = record {
@@ -282,9 +279,13 @@ module _ (p : Image) (answer : ℤ) (s : State) (fr : Frame) (ts : List Task) wh
   pub ended_same : not (is_cancel (method_role p fr.method) && int_eq (status_of (own_request s.cells fr.home)) pending) ≡ true → Unchanged p s.cells (ended_cells p fr s.cells)
   ended_same e = go (is_cancel (method_role p fr.method)) e
     where
-      go : (b : Bool) → not (b && int_eq (status_of (own_request s.cells fr.home)) pending) ≡ true → Unchanged p s.cells (cond b (rerequested s.cells fr.home (on_request cancelled (own_request s.cells fr.home))) s.cells)
+      go :
+          (b : Bool) → not (b && int_eq (status_of (own_request s.cells fr.home)) pending) ≡ true →
+          Unchanged p s.cells (cond b (rerequested s.cells fr.home (on_request cancelled (own_request s.cells fr.home))) s.cells)
       go false e = unchanged_itself p s.cells
-      go true e = asked_same p answer s fr.home _ (cancelled_owed (own_request s.cells fr.home) ∙ sym (completed_owed (own_request s.cells fr.home) (not-true (int_eq (status_of (own_request s.cells fr.home)) pending) e)))
+      go true e =
+          asked_same p answer s fr.home _
+          (cancelled_owed (own_request s.cells fr.home) ∙ sym (completed_owed (own_request s.cells fr.home) (not-true (int_eq (status_of (own_request s.cells fr.home)) pending) e)))
 
   -- an instruction that makes no call at any cell makes none
   pub unasked : (i : Instr) → ((n name : ℕ) → wanted_here s fr ts n name i ≡ None) → (h : Home) → wanted_by s p fr ts h (Some i) ≡ None
@@ -304,7 +305,9 @@ module _ (p : Image) (answer : ℤ) (s : State) (fr : Frame) (ts : List Task) wh
     connect_told a AtRoot alive = told_none p answer s _ (unchanged_itself p s.cells)
     connect_told a (Inside o from) alive = go (native_of (thing_kind p o.thing)) refl
       where
-        go : (x : Option ℕ) → native_of (thing_kind p o.thing) ≡ x → Told p answer s (wanted_at s fr ts o x (Some (Connect a))) (set_session o.name (opens (has_died s.killed x) (in_session s.cells o.name) answer) s.cells)
+        go :
+            (x : Option ℕ) → native_of (thing_kind p o.thing) ≡ x →
+            Told p answer s (wanted_at s fr ts o x (Some (Connect a))) (set_session o.name (opens (has_died s.killed x) (in_session s.cells o.name) answer) s.cells)
         go None e = opened_elsewhere p answer s o alive e _
         go (Some n) e = connects p answer s holds o alive n e (is_dead s.killed n) (in_session s.cells o.name) refl refl
 

@@ -211,7 +211,8 @@ module _ (p : Image) (cs : List Cell) (g : Place) (o : Object) (tidy : Tidy cs) 
     where
       go : (b : Bool) → (o.name == m) ≡ b → owes p (without g cs) k m ≡ (not b && owes p cs k m)
       go true e = ap (λ b. b && is_owed (requested (without g cs) m)) (serves_gone k m e)
-      go false e = ap (λ y. serves_object p k y && is_owed (requested (without g cs) m)) (named_without cs g o m tidy there e) ∙ ap (λ r. serves p cs k m && is_owed r) (requested_without cs g o m tidy there e)
+      go false e =
+          ap (λ y. serves_object p k y && is_owed (requested (without g cs) m)) (named_without cs g o m tidy there e) ∙ ap (λ r. serves p cs k m && is_owed r) (requested_without cs g o m tidy there e)
 
   pub meets_gone : (k m : ℕ) → meets p (without g cs) k m ≡ (not (o.name == m) && meets p cs k m)
   meets_gone k m = go (o.name == m) refl

@@ -99,7 +99,8 @@ module _ (c : Cell) (cs : List Cell) (y : Candidate) (tidy : Tidy (c ∷ cs)) (r
   me r = record { seat = record { object = c.object; place = c.owner }; request = r }
 
   ready_here : (r : Request) → c.request ≡ Some r → goes_now c r ≡ true → me r ≡ y → IsReady (c ∷ cs) y
-  ready_here r asked ready same = subst (λ z. IsReady (c ∷ cs) z) same (subst (λ q. IsCell (c ∷ cs) c.object q) asked (is_first c cs), ap (λ v. is_ready r || has_more v.queue) (service_first c cs) ∙ ready)
+  ready_here r asked ready same =
+      subst (λ z. IsReady (c ∷ cs) z) same (subst (λ q. IsCell (c ∷ cs) c.object q) asked (is_first c cs), ap (λ v. is_ready r || has_more v.queue) (service_first c cs) ∙ ready)
 
   first_of_all : (r : Request) → c.request ≡ Some r → goes_now c r ≡ true → (others : Option Candidate) → first_ready cs ≡ others → Some (before_others (me r) others) ≡ Some y → IsReady (c ∷ cs) y
   first_of_all r asked ready None same e = ready_here r asked ready cc
@@ -180,7 +181,9 @@ module _ (outside : Outside) (heard : Heard) (s : State) where
   within = by_timer s (first_due s.cells) (by_event outside heard.name s (next_event outside s) (polls (next_native outside s) heard.completion (picks (has_signal s.cells) (first_ready s.cells) (next_time outside s))))
 
   about_within : named s.cells heard.name ≡ None → IsAbout s within
-  about_within free = about_timer (first_due s.cells) _ refl (about_event heard.name (next_event outside s) _ free (about_native (next_native outside s) _ (about_ready (has_signal s.cells) (first_ready s.cells) (next_time outside s) refl)))
+  about_within free =
+      about_timer (first_due s.cells) _ refl
+      (about_event heard.name (next_event outside s) _ free (about_native (next_native outside s) _ (about_ready (has_signal s.cells) (first_ready s.cells) (next_time outside s) refl)))
 
   pub turn_about : named s.cells heard.name ≡ None → IsAbout s (turning outside heard s)
   turn_about free = go (nat_le outside.limit s.rest.dispatches)

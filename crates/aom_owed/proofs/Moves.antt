@@ -29,7 +29,7 @@ use Rattle.aom_sound.specs.Enlisted.{cancel_method, cancelling, ended_cells, fir
 use Rattle.aom_sound.specs.Moves.{stage_ends, answered, asking, counted, dispatch_ends, failed, handled, main_ends, needs, object_ends, step, step_instr, step_task}
 use Rattle.aom_sound.specs.Natives.{is_owed, native_of}
 use Rattle.aom_sound.specs.Places.{service_of, seen, In_service, Tidy, Cell, Elsewhere, Entry, Going, Object, Root, held, in_session, named, requested, without}
-use Rattle.aom_sound.specs.State.{Serves, Parts, Accepts, Accepted, Accept_left, Service_left, Of_server, Closing, Stage, Seat, An_object, An_operation, Answered, Asks, AtRoot, Choice, Destroy, Dispatch, Dispatched, Frame, Goes, Home, Inside, Item, Main_left, Object_left, Of_main, Of_object, Of_root, Run, State, Static, Task, Unwind}
+use Rattle.aom_sound.specs.State.{Parts, Service_left, Of_server, Closing, Stage, Seat, An_object, An_operation, Answered, Asks, AtRoot, Choice, Destroy, Dispatch, Dispatched, Frame, Goes, Home, Inside, Item, Main_left, Object_left, Of_main, Of_object, Of_root, Run, State, Static, Task, Unwind}
 use Rattle.aom_sound.specs.Steps.{Empties, Acts, Arrives, Clears, Comes_out, Ends, Fits, IsStill, Move, Rests, Undoes, Vanishes}
 use Rattle.aom_sound.specs.Wanted.{Closes, wanted, wanted_by, wanted_going, wanted_gone, wanted_here, wanted_if, wanted_task}
 use Rattle.aom_sound.specs.WellTyped.{Fits as FitsKind, Good, IsHoused, WellTyped}
@@ -44,13 +44,15 @@ use Rattle.aom_shape.specs.declared.kind.Age.TheVariants.{Ready}
 
 -- ---- an instruction
 
-module _ (p : Image) (t : Typing) (c : Choice) (fr : Frame) (ts : List Task) (s : State) (ls : List Layer) (good : Good p t s.cells ls) (holds : SessionsHold p s) (alive : IsAlive s.cells fr.home) (unused : named s.cells c.name ≡ None) where
+module _ (p : Image) (t : Typing) (c : Choice) (fr : Frame) (ts : List Task) (s : State) (ls : List Layer) (good : Good p t s.cells ls) (holds : SessionsHold p s)
+    (alive : IsAlive s.cells fr.home) (unused : named s.cells c.name ≡ None) where
   abbrev Tells : Instr → Type 0
   Tells i = Told p c.answer s (wanted_by s p fr ts fr.home (Some i)) (applied p fr ts (counted p s) (effect p c fr ts (counted p s) i)).cells
 
   -- one that makes no call
   silent : (i : Instr) → ((n name : ℕ) → wanted_here s fr ts n name i ≡ None) → Unchanged p s.cells (applied p fr ts (counted p s) (effect p c fr ts (counted p s) i)).cells → Tells i
-  silent i none same = subst (λ w. Told p c.answer s w (applied p fr ts (counted p s) (effect p c fr ts (counted p s) i)).cells) (sym (unasked p c.answer s fr ts i none fr.home)) (told_none p c.answer s _ same)
+  silent i none same =
+      subst (λ w. Told p c.answer s w (applied p fr ts (counted p s) (effect p c fr ts (counted p s) i)).cells) (sym (unasked p c.answer s fr ts i none fr.home)) (told_none p c.answer s _ same)
 
   aside : (i : Instr) → ((n name : ℕ) → wanted_here s fr ts n name i ≡ None) → IsAside c.name (effect p c fr ts (counted p s) i) → Tells i
   aside i none h = silent i none (applied_unchanged p fr ts (counted p s) c.name unused (effect p c fr ts (counted p s) i) h)
@@ -106,7 +108,8 @@ module _ (p : Image) (t : Typing) (c : Choice) (fr : Frame) (ts : List Task) (s 
   tells (Ask a b x) met = ask_told p c.answer s fr ts holds a b x fr.home alive
   tells Abort met = abort_told p c.answer s fr ts holds fr.home alive
   tells Close met = close_told p c.answer s fr ts holds fr.home alive (not-true (is_owed (own_request s.cells fr.home)) met.1.0)
-  tells (Enlist priority) met = silent (Enlist priority) (λ n name. refl) (asked_same p c.answer s fr.home (Some (first_request s.cells priority)) (sym (none_owed (own_request s.cells fr.home) met.1.0)))
+  tells (Enlist priority) met =
+      silent (Enlist priority) (λ n name. refl) (asked_same p c.answer s fr.home (Some (first_request s.cells priority)) (sym (none_owed (own_request s.cells fr.home) met.1.0)))
   tells SetActive met = silent SetActive (λ n name. refl) (asked_same p c.answer s fr.home (on_request waits (own_request s.cells fr.home)) (waits_owed (own_request s.cells fr.home) met.1.1.1.0))
   tells Cancel met = silent Cancel (λ n name. refl) (cancels (in_phase is_active (own_request s.cells fr.home)) refl (cancel_method p fr.home))
   tells (Return a) met = silent (Return a) (λ n name. refl) (returns a met)
@@ -120,7 +123,8 @@ module _ (p : Image) (t : Typing) (c : Choice) (fr : Frame) (ts : List Task) (s 
 
 -- ---- the going of a cell
 
-module _ (p : Image) (answer : ℤ) (s : State) (holds : SessionsHold p s) (tidy : Tidy s.cells) (k : ℕ) (o : Object) (there : held s.cells (Going k) ≡ Some o) (rests : is_at_rest (requested s.cells o.name) ≡ true) where
+module _ (p : Image) (answer : ℤ) (s : State) (holds : SessionsHold p s) (tidy : Tidy s.cells) (k : ℕ) (o : Object) (there : held s.cells (Going k) ≡ Some o)
+    (rests : is_at_rest (requested s.cells o.name) ≡ true) where
   lives : named s.cells o.name ≡ Some o
   lives = held_lives s.cells (Going k) o tidy there
 
@@ -191,16 +195,20 @@ answer_calm p answer s = go (int_eq answer (pos 0))
 
 module _ (p : Image) (t : Typing) (s : State) where
   -- what a service has left is a message
-  left_message : (x : Seat) (client : ℕ) (code : ℤ) (seats : List Seat) (below : List Layer) → Good p t s.cells (Dispatching (Of_server x client (Service_left code)) seats ∷ below) → (y : Object) → held s.cells (Elsewhere In_service) ≡ Some y → y.thing ≡ Message
-  left_message x client code seats below good y there = let f = subst (λ o. FitsKind p (seen s.cells) o (Own Message Ready)) there (good.fits (Elsewhere In_service)) in stands_same p y.thing Message f.0
+  left_message :
+      (x : Seat) (client : ℕ) (code : ℤ) (seats : List Seat) (below : List Layer) → Good p t s.cells (Dispatching (Of_server x client (Service_left code)) seats ∷ below) → (y : Object) →
+      held s.cells (Elsewhere In_service) ≡ Some y → y.thing ≡ Message
+  left_message x client code seats below good y there =
+      let f = subst (λ o. FitsKind p (seen s.cells) o (Own Message Ready)) there (good.fits (Elsewhere In_service)) in
+      stands_same p y.thing Message f.0
 
-  stage_calm : (x : Seat) (client : ℕ) (stage : Stage) (seats : List Seat) (below : List Layer) → Good p t s.cells (Dispatching (Of_server x client stage) seats ∷ below) → IsCalm p s (stage_ends x client stage s)
-  stage_calm x client (Service_left code) seats below good = (unchanged_completed p t s.cells (Dispatching (Of_server x client (Service_left code)) seats ∷ below) good (Elsewhere In_service) (left_message x client code seats below good), refl)
+  stage_calm :
+      (x : Seat) (client : ℕ) (stage : Stage) (seats : List Seat) (below : List Layer) → Good p t s.cells (Dispatching (Of_server x client stage) seats ∷ below) →
+      IsCalm p s (stage_ends x client stage s)
+  stage_calm x client (Service_left code) seats below good =
+      (unchanged_completed p t s.cells (Dispatching (Of_server x client (Service_left code)) seats ∷ below) good (Elsewhere In_service) (left_message x client code seats below good), refl)
   stage_calm x client Parts seats below good = (unchanged_served p s.cells x.object.name _, refl)
-  stage_calm x client Accepts seats below good = (unchanged_itself p s.cells, refl)
-  stage_calm x client Accepted seats below good = (unchanged_itself p s.cells, refl)
-  stage_calm x client (Accept_left code) seats below good = (unchanged_itself p s.cells, refl)
-  stage_calm x client (Serves o) seats below good = (unchanged_itself p s.cells, refl)
+  stage_calm x client _ seats below good = (unchanged_itself p s.cells, refl)
 
   end_calm : (d : Dispatch) (seats : List Seat) (below : List Layer) → Good p t s.cells (Dispatching d seats ∷ below) → IsCalm p s (dispatch_ends p d s)
   end_calm Of_main seats below good = (main_unchanged p s.rest.stopped (held s.cells (Elsewhere Root)) s, main_killed p s.rest.stopped (held s.cells (Elsewhere Root)) s)

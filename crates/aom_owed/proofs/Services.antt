@@ -21,7 +21,7 @@ use Rattle.aom_transcript.specs.declared.event.Command.{Command}
 use Rattle.aom_transcript.specs.declared.event.Command.TheVariants.{Close, Connect, Die, Send}
 use Rattle.aom_sound.specs.Clients.{Listed, asked_server, commanded, connecting, each_unslotted, leaving, own, refusal, sending, told}
 use Rattle.aom_sound.specs.Natives.{is_owed, is_served_by}
-use Rattle.aom_sound.specs.Places.{Message_of, Cell, Elsewhere, Entry, Field, Going, In_service, Object, Place, Queued, Register, Root, Service, Session, Tidy, held, in_session, named, requested, same_place, seen, service_of, set_service, with_new, without}
+use Rattle.aom_sound.specs.Places.{Message_of, Cell, Elsewhere, Going, Object, Place, Queued, Service, Tidy, held, in_session, named, requested, same_place, seen, service_of, set_service, with_new, without}
 use Rattle.aom_sound.specs.Servers.{all_unslotted, asked_last, has_message, is_from, is_queue, is_queue_of, reserved, without_queue, withdrawn}
 use Rattle.aom_sound.specs.State.{State}
 use Rattle.aom_sound.specs.WellTyped.{Fits, Good}
@@ -108,23 +108,11 @@ queued_message p t cs ls good n m x there =
 module _ (p : Image) (t : Typing) (cs : List Cell) (ls : List Layer) (good : Good p t cs ls) where
   queue_message : (r : Place) (x : Object) → is_queue r ≡ true → held cs r ≡ Some x → x.thing ≡ Message
   queue_message (Elsewhere (Queued n m)) x e there = queued_message p t cs ls good n m x there
-  queue_message (Register f i) x e there = cc
-  queue_message (Entry k) x e there = cc
-  queue_message (Field n f) x e there = cc
-  queue_message (Going k) x e there = cc
-  queue_message (Elsewhere Root) x e there = cc
-  queue_message (Elsewhere (Session n c)) x e there = cc
-  queue_message (Elsewhere In_service) x e there = cc
+  queue_message _ x e there = cc
 
   any_queue : (n : ℕ) (r : Place) → is_queue_of n r ≡ true → is_queue r ≡ true
   any_queue n (Elsewhere (Queued s m)) e = refl
-  any_queue n (Register f i) e = cc
-  any_queue n (Entry k) e = cc
-  any_queue n (Field m f) e = cc
-  any_queue n (Going k) e = cc
-  any_queue n (Elsewhere Root) e = cc
-  any_queue n (Elsewhere (Session s c)) e = cc
-  any_queue n (Elsewhere In_service) e = cc
+  any_queue n _ e = cc
 
   in_place : (c : Cell) → cell_in cs c.owner ≡ Some c → held cs c.owner ≡ Some c.object
   in_place c at = held_cell cs c.owner ∙ ap object_in at
@@ -174,7 +162,9 @@ module _ (p : Image) (t : Typing) (cs : List Cell) (ls : List Layer) (good : Goo
       drops c at e = message c.object (ap (λ r. held cs r) (sym (same_place-true c.owner q e)) ∙ in_place c at)
 
   pub unchanged_withdrawn : (client : ℕ) → Unchanged p cs (withdrawn client cs)
-  unchanged_withdrawn client = subst (λ l. Unchanged p cs l) (sym (withdrawn_so client cs)) (unchanged_sifted p _ _ cs good.tidy (λ c at e. queue_message c.owner c.object (and_parts (is_queue c.owner) (is_from client c.service.sender) e).0 (in_place c at)))
+  unchanged_withdrawn client =
+      subst (λ l. Unchanged p cs l) (sym (withdrawn_so client cs))
+      (unchanged_sifted p _ _ cs good.tidy (λ c at e. queue_message c.owner c.object (and_parts (is_queue c.owner) (is_from client c.service.sender) e).0 (in_place c at)))
 
 -- messages hold no slot any more
 pub unchanged_unslotted : (p : Image) (clients : List ℕ) (cs : List Cell) → Tidy cs → Unchanged p cs (each_unslotted clients cs)

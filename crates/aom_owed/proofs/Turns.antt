@@ -6,7 +6,7 @@ use Rattle.std.specs.Ordering.{int_eq}
 use Rattle.std.specs.Prelude.{is_none, not, ◌||◌}
 use Rattle.aom_image.specs.Image.{Image}
 use Rattle.aom_image.specs.declared.class.ClassKind.{ClassKind}
-use Rattle.aom_image.specs.declared.class.ClassKind.TheVariants.{Active as An_active, Plain, Server as A_server, Session}
+use Rattle.aom_image.specs.declared.class.ClassKind.TheVariants.{Active as An_active}
 use Rattle.aom_image.specs.declared.class.Provider.TheVariants.{Native, Own, Timer as A_timer}
 use Rattle.aom_image.specs.declared.method.Thing.{Thing}
 use Rattle.aom_owed.proofs.Calls.{asked_same, still, taken_off}
@@ -26,7 +26,7 @@ use Rattle.aom_sound.specs.Places.{Cell, Elsewhere, Going, In_service, Queued, R
 use Rattle.aom_sound.specs.Requests.{Known, Suits, states_claim}
 use Rattle.aom_sound.specs.State.{CompletedTwice, Goes, Inside, State}
 use Rattle.aom_sound.specs.WellTyped.{WellTyped}
-use Rattle.aom_sound.specs.World.{taken_from, heard_one, Obeys, AnswersWell, Candidate, Completes, Cuts, Hears, Kills, Passes, Picks, Polls, Strays, Timed, Turning, Waits, answered_by, cell_at, is_ready, turned, turning, with_request}
+use Rattle.aom_sound.specs.World.{taken_from, heard_one, Obeys, AnswersWell, Candidate, Completes, Kills, Picks, Polls, Strays, Timed, Turning, answered_by, cell_at, is_ready, turned, turning, with_request}
 use Rattle.aom_sound.specs.Servers.{has_more, is_server}
 use Rattle.aom_owed.proofs.Services.{unchanged_served, unchanged_commanded, commanded_killed}
 
@@ -124,11 +124,8 @@ module _ (p : Image) (t : Typing) (s : State) (w : WellTyped p t s) where
   server_unserved x server = go (thing_kind p x) server
     where
       go : (k : Option ClassKind) → is_some (sessions_in k) ≡ true → native_of k ≡ None
-      go (Some (A_server most session budget)) e = refl
-      go None e = refl
       go (Some (An_active provider budget)) e = cc
-      go (Some Plain) e = refl
-      go (Some Session) e = refl
+      go _ e = refl
 
   -- what is no server is ready, since nothing waits in its queue
   picked_same : (y : Candidate) → ClientsFit p s.clients s.cells → IsCell s.cells y.seat.object (Some y.request) → GoesNow s.cells y → Unchanged p s.cells (with_request taken_up y.seat.object s.cells)
@@ -143,7 +140,9 @@ module _ (p : Image) (t : Typing) (s : State) (w : WellTyped p t s) where
       go false plain = ready_same y cell (sym (or_right_false (is_ready y.request)) ∙ sym (ap (λ q. is_ready y.request || has_more q) (fit.servers y.seat.object cell.lives plain).0) ∙ now)
 
   -- an object is dispatched, or a server with the first of its queue
-  pick_same : (y : Candidate) (u : State) → ClientsFit p s.clients s.cells → IsCell s.cells y.seat.object (Some y.request) → GoesNow s.cells y → Picked p s y.seat u → Unchanged p s.cells u.cells × (u.killed ≡ s.killed)
+  pick_same :
+      (y : Candidate) (u : State) → ClientsFit p s.clients s.cells → IsCell s.cells y.seat.object (Some y.request) → GoesNow s.cells y → Picked p s y.seat u →
+      Unchanged p s.cells u.cells × (u.killed ≡ s.killed)
   pick_same y u fit cell now d = elim d as (λ v d. Unchanged p s.cells v.cells × (v.killed ≡ s.killed)) [
     | handles m at ↦ (picked_same y fit cell now, refl)
     | accepts client m at ↦ (unchanged_served p s.cells y.seat.object.name _, refl)
@@ -199,16 +198,12 @@ module _ (p : Image) (t : Typing) (s u : State) (w : WellTyped p t s) where
       })
 
   pub told : (k : Turning) → ClientsFit p s.clients s.cells → IsAbout s k → AnswersWell p s k → turned p s k ≡ Goes u → Tale p s u k
-  told Cuts fit about well e = subst (λ (v : State). Tale p s v Cuts) (goes_same _ u e) (record { completes = tt; owes = λ n m. refl; meets = λ n m. refl; killed = refl })
-  told Hears fit about well e = subst (λ (v : State). Tale p s v Hears) (goes_same _ u e) (record { completes = tt; owes = λ n m. refl; meets = λ n m. refl; killed = refl })
-  told (Passes time) fit about well e = subst (λ (v : State). Tale p s v (Passes time)) (goes_same _ u e) (record { completes = tt; owes = λ n m. refl; meets = λ n m. refl; killed = refl })
-  told Waits fit about well e = subst (λ (v : State). Tale p s v Waits) (goes_same _ u e) (record { completes = tt; owes = λ n m. refl; meets = λ n m. refl; killed = refl })
   told Strays fit about well e = cc
   told (Completes o) fit about well e =
       let same = subst (λ x. Unchanged p s.cells (with_request timed_out x s.cells)) about.2 (due_same p t s w about.0 (is_due s.cells w.good.tidy about.0 about.1)) in
       subst (λ (v : State). Tale p s v (Completes o)) (goes_same _ u e) (record { completes = tt; owes = same.owes; meets = same.meets; killed = refl })
-  told (Kills n) fit about well e = subst (λ (v : State). Tale p s v (Kills n)) (goes_same _ u e) (record { completes = tt; owes = owes_bereaved p n s.cells; meets = meets_bereaved p n s.cells; killed = refl })
-  told (Polls n None) fit about well e = subst (λ (v : State). Tale p s v (Polls n None)) (goes_same _ u e) (record { completes = tt; owes = λ n m. refl; meets = λ n m. refl; killed = refl })
+  told (Kills n) fit about well e =
+      subst (λ (v : State). Tale p s v (Kills n)) (goes_same _ u e) (record { completes = tt; owes = owes_bereaved p n s.cells; meets = meets_bereaved p n s.cells; killed = refl })
   told (Polls n (Some a)) fit about well e = asked_then a.cell well.0 well.1 n a.code well.2 (subst (λ c. answered_by p n c a.code s ≡ Goes u) well.1 e)
   told (Picks x) fit about well e =
       let cell = is_found_ready s.cells w.good.tidy about.0 about.1 in
@@ -217,6 +212,7 @@ module _ (p : Image) (t : Typing) (s u : State) (w : WellTyped p t s) where
   told (Obeys client command name) fit about well e =
       let same = unchanged_commanded p t (heard_one s) w.layers w.good client name about command in
       subst (λ (v : State). Tale p s v (Obeys client command name)) (goes_same _ u e) (record { completes = tt; owes = same.owes; meets = same.meets; killed = commanded_killed p (heard_one s) client name command })
+  told r fit about well e = subst (λ (v : State). Tale p s v r) (goes_same _ u e) (record { completes = tt; owes = λ n m. refl; meets = λ n m. refl; killed = refl })
 
 -- ---- sessions hold after it
 

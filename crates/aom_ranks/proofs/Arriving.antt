@@ -22,7 +22,8 @@ pub leads_on : (p : Image) (t : Typing) (o : Outcome) → Keeps p t o → (u : S
 leads_on p t (Goes u) k = (u, refl, k)
 leads_on p t (IsStuck kind) k = absurd k
 
-module _ (p : Image) (t : Typing) (wired : IsWired p) (linked : IsLinked p) (typed : IsTyped p t) (choose : State → Choice) (unused : (s : State) → named s.cells (choose s).name ≡ None) (code : ℤ) (below : List Task) (entries items : List Item) (from : State) where
+module _ (p : Image) (t : Typing) (wired : IsWired p) (linked : IsLinked p) (typed : IsTyped p t) (choose : State → Choice) (unused : (s : State) → named s.cells (choose s).name ≡ None)
+    (code : ℤ) (below : List Task) (entries items : List Item) (from : State) where
   abbrev Comes_from : State → Type 0
   Comes_from s = Comes p choose code below entries items from s
 
@@ -93,4 +94,5 @@ module _ (p : Image) (t : Typing) (wired : IsWired p) (linked : IsLinked p) (typ
   each (suc k) = higher k (each k)
 
 pub leaves_come : LeavesCome
-leaves_come p t wired linked typed choose unused s w code below entries items l = each p t wired linked typed choose unused code below entries items s (suc (rank p s)) s (omega arith) w [] entries refl leaves l
+leaves_come p t wired linked typed choose unused s w code below entries items l =
+    each p t wired linked typed choose unused code below entries items s (suc (rank p s)) s (omega arith) w [] entries refl leaves l

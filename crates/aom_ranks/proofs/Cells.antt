@@ -3,7 +3,7 @@ use Rattle.std.proofs.Common.{◌≡◌, ◌≤◌, ◌∙◌, ℕ, ℤ, suc, Bo
 use Rattle.aom_image.specs.declared.method.Thing.{Thing}
 use Rattle.aom_sound.specs.Enlisted.{rerequested}
 use Rattle.aom_sound.specs.Places.{Cell, Elsewhere, Going, Object, Place, Register, Request, Service, Session, held, moved, same_place, service_of, set_request, set_service, set_session, set_word_field, with_new, without}
-use Rattle.aom_sound.specs.State.{A_mark, Accepted, Accepts, Accept_left, An_object, An_operation, Answered, Asks, AtRoot, Dispatch, Home, Inside, Item, Main_left, Object_left, Of_main, Of_object, Of_root, Of_server, Parts, Serves, Service_left, Static, field_place}
+use Rattle.aom_sound.specs.State.{Accepts, Accept_left, An_object, AtRoot, Dispatch, Home, Inside, Item, Of_server, Static, field_place}
 use Rattle.aom_sound.specs.Calls.{accepted_cells, below_top}
 use Rattle.aom_sound.specs.Clients.{each_unslotted}
 use Rattle.aom_sound.specs.Servers.{all_unslotted, is_queue_of, opened, reserved, without_queue}
@@ -25,7 +25,9 @@ standing_moved from to (c ∷ cs) e = here (same_place c.owner from) refl (stand
     same true x y le = le
     same false x y le = omega (arith, le)
 
-    here : (b : Bool) → same_place c.owner from ≡ b → standing (moved from to cs) ≤ standing cs → cond (is_going (cond b to c.owner)) (standing (moved from to cs)) (suc (standing (moved from to cs))) ≤ cond (is_going c.owner) (standing cs) (suc (standing cs))
+    here :
+        (b : Bool) → same_place c.owner from ≡ b → standing (moved from to cs) ≤ standing cs →
+        cond (is_going (cond b to c.owner)) (standing (moved from to cs)) (suc (standing (moved from to cs))) ≤ cond (is_going c.owner) (standing cs) (suc (standing cs))
     here true s le = rw (ap is_going (same_place-true c.owner from s) ∙ e) (some (is_going to) (standing (moved from to cs)) (standing cs) le)
     here false s le = same (is_going c.owner) (standing (moved from to cs)) (standing cs) le
 
@@ -41,7 +43,10 @@ standing_goes from k o (c ∷ cs) e there = here (same_place c.owner from) refl 
     same true x y le = le
     same false x y le = omega (arith, le)
 
-    here : (b : Bool) → same_place c.owner from ≡ b → standing (moved from (Going k) cs) ≤ standing cs → (held cs from ≡ Some o → suc (standing (moved from (Going k) cs)) ≤ standing cs) → cond b (Some c.object) (held cs from) ≡ Some o → suc (cond (is_going (cond b (Going k) c.owner)) (standing (moved from (Going k) cs)) (suc (standing (moved from (Going k) cs)))) ≤ cond (is_going c.owner) (standing cs) (suc (standing cs))
+    here :
+        (b : Bool) → same_place c.owner from ≡ b → standing (moved from (Going k) cs) ≤ standing cs → (held cs from ≡ Some o → suc (standing (moved from (Going k) cs)) ≤ standing cs) →
+        cond b (Some c.object) (held cs from) ≡ Some o →
+        suc (cond (is_going (cond b (Going k) c.owner)) (standing (moved from (Going k) cs)) (suc (standing (moved from (Going k) cs)))) ≤ cond (is_going c.owner) (standing cs) (suc (standing cs))
     here true s le more there = rw (ap is_going (same_place-true c.owner from s) ∙ e) (omega (arith, le))
     here false s le more there = same (is_going c.owner) (standing (moved from (Going k) cs)) (standing cs) (more there)
 
@@ -101,18 +106,8 @@ pub standing_accepted : (d : Dispatch) (e i : ℕ) (cs : List Cell) → standing
 standing_accepted (Of_server x client Accepts) e i cs =
     let place = Elsewhere (Session x.object.name client) in
     omega (arith, standing_reserved (opened client) x.object.name (moved (Register e i) place cs), standing_moved (Register e i) place cs refl)
-standing_accepted (Of_server x client Accepted) e i cs = omega arith
 standing_accepted (Of_server x client (Accept_left code)) e i cs = omega arith
-standing_accepted (Of_server x client (Serves o)) e i cs = omega arith
-standing_accepted (Of_server x client (Service_left code)) e i cs = omega arith
-standing_accepted (Of_server x client Parts) e i cs = omega arith
-standing_accepted Of_main e i cs = omega arith
-standing_accepted (Main_left code) e i cs = omega arith
-standing_accepted Of_root e i cs = omega arith
-standing_accepted (Of_object x) e i cs = omega arith
-standing_accepted (Object_left x code) e i cs = omega arith
-standing_accepted (Asks x) e i cs = omega arith
-standing_accepted (Answered x answer) e i cs = omega arith
+standing_accepted _ e i cs = omega arith
 
 -- ---- a server goes
 
@@ -120,7 +115,9 @@ standing_unqueued : (n : ℕ) (cs : List Cell) → standing (without_queue n cs)
 standing_unqueued n [] = omega arith
 standing_unqueued n (c ∷ cs) = here (is_queue_of n c.owner) (is_going c.owner) refl (standing_unqueued n cs)
   where
-    here : (b g : Bool) → is_going c.owner ≡ g → standing (without_queue n cs) ≤ standing cs → standing (cond b (without_queue n cs) (c ∷ without_queue n cs)) ≤ cond g (standing cs) (suc (standing cs))
+    here :
+        (b g : Bool) → is_going c.owner ≡ g → standing (without_queue n cs) ≤ standing cs →
+        standing (cond b (without_queue n cs) (c ∷ without_queue n cs)) ≤ cond g (standing cs) (suc (standing cs))
     here true true e le = le
     here true false e le = omega (arith, le)
     here false true e le = rw e le
@@ -146,7 +143,5 @@ field_stands (Inside o from) f = refl
 -- ---- operations
 
 pub operations_below : (items : List Item) → operations (below_top items) ≤ operations items
-operations_below [] = omega arith
 operations_below (An_object ∷ items) = omega arith
-operations_below (An_operation m w ∷ items) = omega arith
-operations_below (A_mark ∷ items) = omega arith
+operations_below _ = omega arith

@@ -36,7 +36,7 @@ use Rattle.aom_ranks.specs.Ranks.{cell_rank, frame_rank, is_going, left_in, oper
 use Rattle.aom_ranks.specs.Within.{left}
 use Rattle.aom_ranks.proofs.Levels.{begun_paid, called_before, called_lower, cell_paid, cell_some, cell_two, loud_leaver, price_some, run_paid, trapped_before, undo_paid}
 use Rattle.aom_ranks.proofs.Places.{back, enters, jumps, leaves, straight_on}
-use Rattle.aom_ranks.proofs.Standing.{field_stands, operations_below, standing_asked, standing_goes, standing_moved, standing_new, standing_passes, standing_stored, standing_opened, standing_without}
+use Rattle.aom_ranks.proofs.Cells.{field_stands, operations_below, standing_asked, standing_goes, standing_moved, standing_new, standing_passes, standing_stored, standing_opened, standing_without}
 use Rattle.aom_ranks.proofs.Worths.{passed_less, to_trap_less}
 use Rattle.aom_ranks.proofs.Sums.{one_less, one_more, scaled, scaled_le}
 use Rattle.aom_image.proofs.Given.{false_given}
@@ -54,7 +54,9 @@ module _ (p : Image) (linked : IsLinked p) (c : Choice) (s : State) (fr : Frame)
   rest_at cs k = left_in (method_at p fr.method) cs k * price p fr.method
 
   pub paid : (cs : List ℕ) (k : ℕ) → left d.code cs k < left d.code fr.counters fr.place → rest_at cs k + price p fr.method ≤ frame_rank p fr
-  paid cs k less = subst (λ o. left_in o cs k * price p fr.method + price p fr.method ≤ left_in o fr.counters fr.place * price p fr.method) (sym declared_there) (scaled (left d.code cs k) (left d.code fr.counters fr.place) (price p fr.method) less)
+  paid cs k less =
+      subst (λ o. left_in o cs k * price p fr.method + price p fr.method ≤ left_in o fr.counters fr.place * price p fr.method) (sym declared_there)
+      (scaled (left d.code cs k) (left d.code fr.counters fr.place) (price p fr.method) less)
 
   -- the method goes on there, with as many cells and operations or fewer
   goes : (cs : List ℕ) (k m : ℕ) → left d.code cs k < left d.code fr.counters fr.place → m ≤ standing s.cells + operations s.items → rest_at cs k + waiting_rank p ts + m * cell_rank p < before
@@ -69,7 +71,9 @@ module _ (p : Image) (linked : IsLinked p) (c : Choice) (s : State) (fr : Frame)
 
     to_jump : (to : ℕ) → jump_of i ≡ Some to → rest_at fr.counters to + waiting_rank p ts + (standing s.cells + operations s.items) * cell_rank p < before
     unfolding method_at
-    to_jump to jump = goes fr.counters to (standing s.cells + operations s.items) (jumps d.code fr.counters fr.place to i (at_place (λ _ x. JumpsWell x.code) p.methods fr.method d linked.jumps declared_there) stands jump) (omega arith)
+    to_jump to jump =
+        goes fr.counters to (standing s.cells + operations s.items)
+        (jumps d.code fr.counters fr.place to i (at_place (λ _ x. JumpsWell x.code) p.methods fr.method d linked.jumps declared_there) stands jump) (omega arith)
 
   nests : LoopsNest d.code
   unfolding method_at
@@ -84,7 +88,9 @@ module _ (p : Image) (linked : IsLinked p) (c : Choice) (s : State) (fr : Frame)
       let lower = called_lower p fr.method m (called_before p linked fr.method fr.place d target m first x declared_there stands) (λ q. subst (λ b. only_if b (is_quiet p m) ≡ true) q quiet) in
       let run = run_paid p m _ lower in
       let passed = passed_less standing standing_passes p fr ts s (length (Run fr ∷ ts)) (arguments_of p m) first 0 s.cells in
-      let cells = scaled_le (standing (passed_cells p fr ts s (length (Run fr ∷ ts)) (arguments_of p m) first 0 s.cells) + operations s.items) (standing s.cells + operations s.items) (cell_rank p) (omega (arith, passed)) in
+      let cells =
+      scaled_le (standing (passed_cells p fr ts s (length (Run fr ∷ ts)) (arguments_of p m) first 0 s.cells) + operations s.items) (standing s.cells + operations s.items) (cell_rank p)
+      (omega (arith, passed)) in
       omega (arith, less, run, cells)
 
   cancels : (m : ℕ) → slice_get d.code fr.place ≡ Some Cancel → (m < fr.method) × (is_quiet p m ≡ true) → rank p (applied p fr ts s (Cancels m)) < before
@@ -104,20 +110,26 @@ module _ (p : Image) (linked : IsLinked p) (c : Choice) (s : State) (fr : Frame)
       let lower = called_lower p fr.method m (trapped_before p linked fr.method fr.place d target m first x declared_there stands) (λ q. absurd (true≢false (sym q ∙ loud))) in
       let run = run_paid p m _ lower in
       let passed = passed_less standing standing_passes p fr ts s (length (Trapped ∷ Run fr ∷ ts)) (arguments_of p m) first 0 s.cells in
-      let cells = scaled_le (standing (passed_cells p fr ts s (length (Trapped ∷ Run fr ∷ ts)) (arguments_of p m) first 0 s.cells) + operations s.items) (standing s.cells + operations s.items) (cell_rank p) (omega (arith, passed)) in
+      let cells =
+      scaled_le (standing (passed_cells p fr ts s (length (Trapped ∷ Run fr ∷ ts)) (arguments_of p m) first 0 s.cells) + operations s.items) (standing s.cells + operations s.items)
+      (cell_rank p) (omega (arith, passed)) in
       omega (arith, less, run, cells)
 
   -- ---- the cleanup stack, and leaves
 
   -- what is left of a state whose methods end up to the trap: so many cells and operations, one more at most
-  leaves_on : (i : Instr) → slice_get d.code fr.place ≡ Some i → loop_in (Some i) ≡ None → is_quiet p fr.method ≡ false → (m : ℕ) → m ≤ suc (standing s.cells + operations s.items) → 1 + waiting_rank p (to_trap ts) + m * cell_rank p < before
+  leaves_on :
+      (i : Instr) → slice_get d.code fr.place ≡ Some i → loop_in (Some i) ≡ None → is_quiet p fr.method ≡ false → (m : ℕ) → m ≤ suc (standing s.cells + operations s.items) →
+      1 + waiting_rank p (to_trap ts) + m * cell_rank p < before
   leaves_on i stands plain loud m more =
       let less = paid fr.counters (suc fr.place) (straight i stands plain) in
       let one = one_more m (standing s.cells + operations s.items) (cell_rank p) more in
       omega (arith, less, one, to_trap_less (rank_worths p) ts, cell_paid p fr.method loud, cell_two p)
 
   -- an item more, an operation at most
-  pushes_on : (i : Instr) → slice_get d.code fr.place ≡ Some i → loop_in (Some i) ≡ None → is_quiet p fr.method ≡ false → (m : ℕ) → m ≤ suc (standing s.cells + operations s.items) → rest_at fr.counters (suc fr.place) + waiting_rank p ts + m * cell_rank p < before
+  pushes_on :
+      (i : Instr) → slice_get d.code fr.place ≡ Some i → loop_in (Some i) ≡ None → is_quiet p fr.method ≡ false → (m : ℕ) → m ≤ suc (standing s.cells + operations s.items) →
+      rest_at fr.counters (suc fr.place) + waiting_rank p ts + m * cell_rank p < before
   pushes_on i stands plain loud m more =
       let less = paid fr.counters (suc fr.place) (straight i stands plain) in
       let one = one_more m (standing s.cells + operations s.items) (cell_rank p) more in
@@ -172,9 +184,11 @@ module _ (p : Image) (linked : IsLinked p) (c : Choice) (s : State) (fr : Frame)
         rest_at fr.counters (suc fr.place) + waiting_rank p ts + count_after u * cell_rank p < before
     goes_after i stands plain r (Made name x a) f = pushes_on i stands plain (loud_maker i f r) (count_after (Made name x a)) (more (Made name x a))
     goes_after i stands plain r (Pushed a) f = pushes_on i stands plain (loud_leaver p linked fr.method (subst Ruled f.0 r).1.0) (count_after (Pushed a)) (more (Pushed a))
-    goes_after i stands plain r (Pushed_operation m w) f = pushes_on i stands plain (loud_leaver p linked fr.method (subst Ruled f.1 r).1.0) (count_after (Pushed_operation m w)) (more (Pushed_operation m w))
+    goes_after i stands plain r (Pushed_operation m w) f =
+        pushes_on i stands plain (loud_leaver p linked fr.method (subst Ruled f.1 r).1.0) (count_after (Pushed_operation m w)) (more (Pushed_operation m w))
     goes_after i stands plain r Same f = on i stands plain (count_after Same) (omega arith)
-    goes_after i stands plain r (Carried from to) f = on i stands plain (count_after (Carried from to)) (omega (arith, standing_moved (spot_place p fr ts s from) (spot_place p fr ts s to) s.cells (spot_stands from)))
+    goes_after i stands plain r (Carried from to) f =
+        on i stands plain (count_after (Carried from to)) (omega (arith, standing_moved (spot_place p fr ts s from) (spot_place p fr ts s to) s.cells (spot_stands from)))
     goes_after i stands plain r (Written w v) f = on i stands plain (count_after (Written w v)) (omega (arith, standing_stored s.cells fr.home w v))
     goes_after i stands plain r (Requested q) f = on i stands plain (count_after (Requested q)) (omega (arith, standing_asked s.cells fr.home q))
     goes_after i stands plain r (Sessioned b) f = on i stands plain (count_after (Sessioned b)) (omega (arith, standing_opened s.cells fr.home b))
@@ -184,7 +198,8 @@ module _ (p : Image) (linked : IsLinked p) (c : Choice) (s : State) (fr : Frame)
 
     -- a round of a loop begins or ends
     counts : (i : Instr) → slice_get d.code fr.place ≡ Some i → (depth n : ℕ) → Sets i depth n → rank p (applied p fr ts s (Counts depth n)) < before
-    counts i stands depth n (inl e) = goes (put_at 0 fr.counters depth n) (suc fr.place) (standing s.cells + operations s.items) (enters d.code fr.counters fr.place depth n nests (stands ∙ ap (λ x. Some x) e)) (omega arith)
+    counts i stands depth n (inl e) =
+        goes (put_at 0 fr.counters depth n) (suc fr.place) (standing s.cells + operations s.items) (enters d.code fr.counters fr.place depth n nests (stands ∙ ap (λ x. Some x) e)) (omega arith)
     counts i stands depth n (inr e) =
         subst (λ k. rank p (applied p fr ts s (Counts depth k)) < before) (sym e.2)
         (goes (put_at 0 fr.counters depth 0) (suc fr.place) (standing s.cells + operations s.items) (leaves d.code fr.counters fr.place depth e.0 (stands ∙ ap (λ x. Some x) e.1)) (omega arith))
@@ -200,7 +215,8 @@ module _ (p : Image) (linked : IsLinked p) (c : Choice) (s : State) (fr : Frame)
         let less = paid fr.counters (suc fr.place) (straight i stands plain) in
         let destruction = begun_paid p linked o (length s.items) (Run (with_words fr words) ∷ ts) in
         let goes = standing_goes (here fr ts s a) (length (Run fr ∷ ts)) o s.cells refl there in
-        let cells = one_less (standing (moved (here fr ts s a) (Going (length (Run fr ∷ ts))) s.cells) + operations s.items) (standing s.cells + operations s.items) (cell_rank p) (omega (arith, goes)) in
+        let cells =
+        one_less (standing (moved (here fr ts s a) (Going (length (Run fr ∷ ts))) s.cells) + operations s.items) (standing s.cells + operations s.items) (cell_rank p) (omega (arith, goes)) in
         omega (arith, less, destruction, cells, price_some p fr.method)
 
     deletes_last :
@@ -211,7 +227,9 @@ module _ (p : Image) (linked : IsLinked p) (c : Choice) (s : State) (fr : Frame)
         let destruction = begun_paid p linked o (length (below_top s.items)) (Run fr ∷ ts) in
         let goes = standing_goes (top_place s.items) (length (Run fr ∷ ts)) o s.cells refl there in
         let same : operations s.items ≡ operations (below_top s.items) = ap operations top in
-        let cells = one_less (standing (moved (top_place s.items) (Going (length (Run fr ∷ ts))) s.cells) + operations (below_top s.items)) (standing s.cells + operations s.items) (cell_rank p) (omega (arith, goes, same)) in
+        let cells =
+        one_less (standing (moved (top_place s.items) (Going (length (Run fr ∷ ts))) s.cells) + operations (below_top s.items)) (standing s.cells + operations s.items) (cell_rank p)
+        (omega (arith, goes, same)) in
         omega (arith, less, destruction, cells, price_some p fr.method)
 
     -- an operation runs over it
@@ -239,7 +257,8 @@ module _ (p : Image) (linked : IsLinked p) (c : Choice) (s : State) (fr : Frame)
     falls undos i stands r (Goes_on ch) f returns lower = goes_after i stands f.0 r ch.update f.1
     falls undos i stands r (Jumps to) f returns lower = to_jump i stands to f
     falls undos i stands r (Counts depth n) f returns lower = counts i stands depth n f
-    falls undos i stands r (Repeats depth n to) f returns lower = subst (λ k. rank p (applied p fr ts s (Repeats depth k to)) < before) (sym f.2) (repeats depth to f.1 (stands ∙ ap (λ x. Some x) f.0) (f.3 ∙ f.2))
+    falls undos i stands r (Repeats depth n to) f returns lower =
+        subst (λ k. rank p (applied p fr ts s (Repeats depth k to)) < before) (sym f.2) (repeats depth to f.1 (stands ∙ ap (λ x. Some x) f.0) (f.3 ∙ f.2))
     falls undos i stands r (Calls target m first) f returns lower = calls target m first f.0 (stands ∙ ap (λ x. Some x) f.1) (called_quiet target m first f.0 (subst Ruled f.1 r))
     falls undos i stands r (Cancels m) f returns lower = let here = stands ∙ ap (λ x. Some x) f.0 in cancels m here (lower m here f.1)
     falls undos i stands r (Sets_trap target m first) f returns lower = traps target m first f.0 (stands ∙ ap (λ x. Some x) f.1) (loud_by (is_quiet p fr.method) (subst Ruled f.1 r).0)

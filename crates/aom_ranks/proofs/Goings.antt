@@ -9,7 +9,7 @@ use Rattle.aom_shape.specs.declared.kind.Age.TheVariants.{Ready}
 use Rattle.aom_shape.specs.declared.kind.Kind.TheVariants.{Null, Own}
 use Rattle.aom_sound.proofs.Maps.{held_without, same_place-true, same_place_refl, tidy_without}
 use Rattle.aom_sound.specs.Claims.{Dispatching, Dying, Ending, Layer, Mark, Unwinding, Method, claim, declared, tasks_of}
-use Rattle.aom_sound.specs.Places.{Cell, Elsewhere, Entry, Field, Going, Object, Place, Register, Sight, Tidy, held, same_place, seen, without}
+use Rattle.aom_sound.specs.Places.{Cell, Going, Object, Place, Sight, Tidy, held, same_place, seen, without}
 use Rattle.aom_sound.specs.State.{State}
 use Rattle.aom_sound.specs.WellTyped.{Back, Caught, Fits, Gone, Now, Returns, Stack, WellTyped, Leaves}
 use Rattle.aom_ranks.specs.Ranks.{destructions, is_going, standing}
@@ -24,17 +24,16 @@ all_stand [] none = refl
 all_stand (c ∷ cs) none = here c.owner refl (all_stand cs (λ k. (none_there c cs (Going k) (none k)).1))
   where
     here : (r : Place) → c.owner ≡ r → standing cs ≡ length cs → cond (is_going r) (standing cs) (suc (standing cs)) ≡ suc (length cs)
-    here (Register f i) e ih = ap suc ih
-    here (Entry k) e ih = ap suc ih
-    here (Field n f) e ih = ap suc ih
-    here (Elsewhere o) e ih = ap suc ih
     here (Going k) e ih = let clash : true ≡ false = sym (ap (λ r. same_place r (Going k)) e ∙ same_place_refl (Going k)) ∙ (none_there c cs (Going k) (none k)).0 in cc
+    here _ e ih = ap suc ih
 
 still_stand : (k : ℕ) (cs : List Cell) → standing (without (Going k) cs) ≡ standing cs
 still_stand k [] = refl
 still_stand k (c ∷ cs) = here (same_place c.owner (Going k)) refl (still_stand k cs)
   where
-    here : (b : Bool) → same_place c.owner (Going k) ≡ b → standing (without (Going k) cs) ≡ standing cs → standing (cond b (without (Going k) cs) (c ∷ without (Going k) cs)) ≡ cond (is_going c.owner) (standing cs) (suc (standing cs))
+    here :
+        (b : Bool) → same_place c.owner (Going k) ≡ b → standing (without (Going k) cs) ≡ standing cs →
+        standing (cond b (without (Going k) cs) (c ∷ without (Going k) cs)) ≡ cond (is_going c.owner) (standing cs) (suc (standing cs))
     here true e ih = ih ∙ ap (λ b. cond b (standing cs) (suc (standing cs))) (sym (ap is_going (same_place-true c.owner (Going k) e)))
     here false e ih = ap (λ n. cond (is_going c.owner) n (suc n)) ih
 
@@ -48,7 +47,9 @@ one_without : (g : Place) (cs : List Cell) (o : Object) → Tidy cs → held cs 
 one_without g [] o t e = cc
 one_without g (c ∷ cs) o t e = here (same_place c.owner g) refl (λ h. one_without g cs o t.2 h) e
   where
-    here : (b : Bool) → same_place c.owner g ≡ b → (held cs g ≡ Some o → suc (length (without g cs)) ≡ length cs) → cond b (Some c.object) (held cs g) ≡ Some o → suc (length (cond b (without g cs) (c ∷ without g cs))) ≡ suc (length cs)
+    here :
+        (b : Bool) → same_place c.owner g ≡ b → (held cs g ≡ Some o → suc (length (without g cs)) ≡ length cs) → cond b (Some c.object) (held cs g) ≡ Some o →
+        suc (length (cond b (without g cs) (c ∷ without g cs))) ≡ suc (length cs)
     here true s ih e = ap suc (none_without g cs (ap (λ r. held cs r) (sym (same_place-true c.owner g s)) ∙ t.0))
     here false s ih e = ap suc (ih e)
 
@@ -124,7 +125,9 @@ claims_none p cs (Mark gv ∷ ls) k e = claims_none p cs ls k e
 claims_none p cs (Unwinding code es ∷ ls) k e = claims_none p cs ls k e
 claims_none p cs (Ending o left ∷ ls) k e = claims_none p cs ls k e
 claims_none p cs (Dispatching d seats ∷ ls) k e = claims_none p cs ls k e
-claims_none p cs (Dying o ∷ ls) k e = let ih : (goes_at ls k ≡ false → claim p (declared p cs) ls (Going k) ≡ Null) = λ h. claims_none p cs ls k h in false_given (λ b. (b || goes_at ls k) ≡ false) (length (tasks_of ls) == k) e (λ e. cc) (λ s e. ap (λ b. cond b (Own o.thing Ready) (claim p (declared p cs) ls (Going k))) s ∙ ih e)
+claims_none p cs (Dying o ∷ ls) k e =
+    let ih : (goes_at ls k ≡ false → claim p (declared p cs) ls (Going k) ≡ Null) = λ h. claims_none p cs ls k h in
+    false_given (λ b. (b || goes_at ls k) ≡ false) (length (tasks_of ls) == k) e (λ e. cc) (λ s e. ap (λ b. cond b (Own o.thing Ready) (claim p (declared p cs) ls (Going k))) s ∙ ih e)
 
 pub nothing_of_null : (p : Image) (h : Sight) (o : Option Object) → Fits p h o Null → o ≡ None
 nothing_of_null p h o f = none_given (λ x. Fits p h x Null) o f (λ x fits. fits) (λ none fits. none)

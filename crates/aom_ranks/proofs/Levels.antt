@@ -167,7 +167,9 @@ quiet_canceller p linked c m e =
     ap quiet_in w.1 ∙ shape.flags
 
 -- and comes before what cancels by it
-pub canceller_before : (p : Image) → IsLinked p → (m place : ℕ) (d : Method) (c m' : ℕ) → method_at p m ≡ Some d → slice_get d.code place ≡ Some Cancel → d.class ≡ Some c → role_of p c Cancel_role ≡ Some m' → m' < m
+pub canceller_before :
+    (p : Image) → IsLinked p → (m place : ℕ) (d : Method) (c m' : ℕ) → method_at p m ≡ Some d → slice_get d.code place ≡ Some Cancel → d.class ≡ Some c → role_of p c Cancel_role ≡ Some m' →
+    m' < m
 unfolding method_at role_of
 canceller_before p linked m place d c m' is stands class e =
     let ordered : CallsOrdered p m d = at_place (CallsOrdered p) p.methods m d linked.calls is in

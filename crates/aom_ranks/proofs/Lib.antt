@@ -2,7 +2,7 @@ pub mod Sums
 pub mod Bodies
 pub mod Rounds
 pub mod Places
-pub mod Standing
+pub mod Cells
 pub mod Worths
 pub mod Levels
 pub mod Falling

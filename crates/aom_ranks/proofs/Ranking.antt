@@ -31,13 +31,13 @@ use Rattle.aom_sound.specs.WellTyped.{Keeps}
 use Rattle.aom_sound.specs.Moves.{answered, asking, counted, dispatch_ends, failed, handled, main_ends, object_ends, stage_ends, step}
 use Rattle.aom_sound.specs.Places.{Cell, Elsewhere, Entry, Going, In_service, Object, Root, Session, held, moved, service_of, without}
 use Rattle.aom_sound.specs.Servers.{parted, reserved}
-use Rattle.aom_sound.specs.State.{A_mark, Accept_left, Accepted, Accepts, An_object, An_operation, Answered, Asks, Choice, Closing, Destroy, Dispatch, Dispatched, Frame, Goes, Item, Main_left, Object_left, Of_main, Of_object, Of_root, Of_server, Outcome, Parts, Seat, Serves, Service_left, Stage, Run, State, Task, Trapped, Unwind, home_holder}
+use Rattle.aom_sound.specs.State.{A_mark, Accept_left, An_object, An_operation, Answered, Asks, Choice, Closing, Destroy, Dispatch, Dispatched, Frame, Goes, Item, Main_left, Object_left, Of_main, Of_object, Of_root, Of_server, Outcome, Parts, Seat, Serves, Service_left, Stage, Run, State, Task, Trapped, Unwind, home_holder}
 use Rattle.aom_sound.specs.WellTyped.{AllUndo, Good, Now, Stack, WellTyped}
 use Rattle.aom_sound.specs.World.{IsBusy}
 use Rattle.aom_ranks.specs.Ranks.{cell_rank, end_rank, frame_rank, is_going, operations, rank, rank_worths, run_rank, standing, tasks_rank, waiting_rank}
 use Rattle.aom_ranks.proofs.Falling.{falls, paid, straight}
 use Rattle.aom_ranks.proofs.Levels.{begun_paid, canceller_before, destructed_paid, price_some, quiet_canceller, undo_paid}
-use Rattle.aom_ranks.proofs.Standing.{operations_below, standing_accepted, standing_asked, standing_goes, standing_gone, standing_passes, standing_reserved, standing_without}
+use Rattle.aom_ranks.proofs.Cells.{operations_below, standing_accepted, standing_asked, standing_goes, standing_gone, standing_passes, standing_reserved, standing_without}
 use Rattle.aom_ranks.proofs.Sums.{one_less, scaled_le}
 use Rattle.aom_ranks.proofs.Worths.{resumed_alike, returned_less, told_alike}
 use Rattle.aom_sound.proofs.Layers.{method_layer}
@@ -49,7 +49,9 @@ use Rattle.aom_sound.proofs.Callees.{cancel_class}
 -- ---- a return
 
 -- something is left of a method that returns
-ends : (p : Image) → IsLinked p → (c : Choice) (s : State) (fr : Frame) (ts : List Task) (d : Method_declared) → method_at p fr.method ≡ Some d → (a : ℕ) → slice_get d.code fr.place ≡ Some (Return a) → 1 ≤ frame_rank p fr
+ends :
+    (p : Image) → IsLinked p → (c : Choice) (s : State) (fr : Frame) (ts : List Task) (d : Method_declared) → method_at p fr.method ≡ Some d → (a : ℕ) →
+    slice_get d.code fr.place ≡ Some (Return a) → 1 ≤ frame_rank p fr
 unfolding loop_in
 ends p linked c s fr ts d declared_there a stands =
     let less = paid p linked c s fr ts d declared_there fr.counters (suc fr.place) (straight p linked c s fr ts d declared_there (Return a) stands refl) in
@@ -57,19 +59,8 @@ ends p linked c s fr ts d declared_there a stands =
 
 -- the dispatch that heard it has no more before it
 well_less : (p : Image) (d : Dispatch) → end_rank p (ended_well d) ≤ end_rank p d
-well_less p (Of_server x client Accepts) = omega arith
 well_less p (Of_server x client (Serves o)) = omega arith
-well_less p (Of_server x client Accepted) = omega arith
-well_less p (Of_server x client (Accept_left code)) = omega arith
-well_less p (Of_server x client (Service_left code)) = omega arith
-well_less p (Of_server x client Parts) = omega arith
-well_less p Of_main = omega arith
-well_less p (Main_left code) = omega arith
-well_less p Of_root = omega arith
-well_less p (Of_object x) = omega arith
-well_less p (Object_left x code) = omega arith
-well_less p (Asks x) = omega arith
-well_less p (Answered x answer) = omega arith
+well_less p _ = omega arith
 
 -- to what stands below
 returns :
@@ -77,7 +68,9 @@ returns :
     rank p (returned p fr (tasks_of ls) (record s { cells = ended_cells p fr s.cells }) g a (tasks_of ls)) < tasks_rank p (Run fr ∷ tasks_of ls) + (standing s.cells + operations s.items) * cell_rank p
 returns p t s fr sh ls h some g a =
     let u = returned p fr (tasks_of ls) (record s { cells = ended_cells p fr s.cells }) g a (tasks_of ls) in
-    let less = returned_less (rank_worths p) standing operations standing_passes operations_below standing_asked (λ x answer. omega arith) (well_less p) p t s fr sh g a (λ d e i. standing_accepted d e i (ended_cells p fr s.cells)) ls h in
+    let less =
+    returned_less (rank_worths p) standing operations standing_passes operations_below standing_asked (λ x answer. omega arith) (well_less p) p t s fr sh g a
+    (λ d e i. standing_accepted d e i (ended_cells p fr s.cells)) ls h in
     let cells = scaled_le (standing u.cells + operations u.items) (standing s.cells + operations s.items) (cell_rank p) less.1 in
     omega (arith, some, less.0, cells)
 
@@ -136,7 +129,9 @@ module _ (p : Image) (t : Typing) (linked : IsLinked p) (typed : IsTyped p t) (c
           subst (λ (y : Seat). (is_going y.place ≡ false) × (held s.cells y.place ≡ Some y.object)) same (refl, there)
 
   -- a server lets go of a session, which pays for its destruction, or its destructor begins
-  empties : (ts : List Task) (o : Object) (y : Option Seat) → first_session s.cells o.name (service_of s.cells o.name).sessions ≡ y → rank p (parting p o y ts (counted p s)) < total (Closing ∷ Destroy ∷ ts)
+  empties :
+      (ts : List Task) (o : Object) (y : Option Seat) → first_session s.cells o.name (service_of s.cells o.name).sessions ≡ y →
+      rank p (parting p o y ts (counted p s)) < total (Closing ∷ Destroy ∷ ts)
   empties ts o None e = omega (arith, destructed_paid p linked o (length s.items) ts)
   empties ts o (Some x) e =
       let there = session_there o.name (service_of s.cells o.name).sessions x e in
@@ -156,7 +151,9 @@ module _ (p : Image) (t : Typing) (linked : IsLinked p) (typed : IsTyped p t) (c
   ends_main true (Some o) there v same alike =
       let destruction = begun_paid p linked o (length v.items) (Dispatched Of_root ∷ []) in
       let goes = standing_goes (Elsewhere Root) (length (Dispatched Of_root ∷ [])) o s.cells refl there in
-      let cells = one_less (standing (moved (Elsewhere Root) (Going (length (Dispatched Of_root ∷ []))) s.cells) + operations s.items) (standing s.cells + operations s.items) (cell_rank p) (omega (arith, goes)) in
+      let cells =
+      one_less (standing (moved (Elsewhere Root) (Going (length (Dispatched Of_root ∷ []))) s.cells) + operations s.items) (standing s.cells + operations s.items) (cell_rank p)
+      (omega (arith, goes)) in
       let these : (standing (moved (Elsewhere Root) (Going (length (Dispatched Of_root ∷ []))) v.cells) + operations v.items) * cell_rank p ≡ (standing (moved (Elsewhere Root) (Going (length (Dispatched Of_root ∷ []))) s.cells) + operations s.items) * cell_rank p =
       ap (λ cs. (standing (moved (Elsewhere Root) (Going (length (Dispatched Of_root ∷ []))) cs) + operations v.items) * cell_rank p) same
       ∙ ap (λ is. (standing (moved (Elsewhere Root) (Going (length (Dispatched Of_root ∷ []))) s.cells) + operations is) * cell_rank p) alike in
@@ -179,18 +176,17 @@ module _ (p : Image) (t : Typing) (linked : IsLinked p) (typed : IsTyped p t) (c
       go false = omega (arith, some)
 
   -- a whole run of the method that is asked is paid for
-  by_asking : (ts : List Task) (x : Seat) (code : ℤ) (m : Option ℕ) → rank p (asking p m x code (counted p s)) < waiting_rank p ts + (4 + run_rank p m) + (standing s.cells + operations s.items) * cell_rank p
+  by_asking :
+      (ts : List Task) (x : Seat) (code : ℤ) (m : Option ℕ) →
+      rank p (asking p m x code (counted p s)) < waiting_rank p ts + (4 + run_rank p m) + (standing s.cells + operations s.items) * cell_rank p
   by_asking ts x code None = omega (arith, by_answer ts (Answered x code) (omega arith) code)
   by_asking ts x code (Some m) = omega arith
 
   -- what is served ends as an object's dispatch does
   of_stage : (ts : List Task) (x : Seat) (client : ℕ) (stage : Stage) → rank p (stage_ends x client stage (counted p s)) < total (Dispatched (Of_server x client stage) ∷ ts)
-  of_stage ts x client Accepts = omega arith
-  of_stage ts x client Accepted = omega arith
-  of_stage ts x client (Accept_left code) = omega arith
-  of_stage ts x client (Serves o) = omega arith
   of_stage ts x client (Service_left code) = omega (arith, fewer_stand (without (Elsewhere In_service) s.cells) (standing_without (Elsewhere In_service) s.cells))
   of_stage ts x client Parts = omega (arith, fewer_stand (reserved (parted client) x.object.name s.cells) (omega (arith, standing_reserved (parted client) x.object.name s.cells)))
+  of_stage ts x client _ = omega arith
 
   of_dispatch : (ts : List Task) (d : Dispatch) → rank p (dispatch_ends p d (counted p s)) < total (Dispatched d ∷ ts)
   of_dispatch ts Of_main = of_main ts s.rest.stopped (held s.cells (Elsewhere Root)) refl
@@ -203,23 +199,14 @@ module _ (p : Image) (t : Typing) (linked : IsLinked p) (typed : IsTyped p t) (c
   of_dispatch ts (Of_server x client stage) = of_stage ts x client stage
 
   ended_alike : (code : ℤ) (d : Dispatch) → end_rank p (ended_by code d) ≤ end_rank p d
-  ended_alike code Of_main = omega arith
-  ended_alike code (Main_left n) = omega arith
-  ended_alike code Of_root = omega arith
-  ended_alike code (Of_object x) = omega arith
-  ended_alike code (Object_left x n) = omega arith
-  ended_alike code (Asks x) = omega arith
-  ended_alike code (Answered x n) = omega arith
-  ended_alike code (Of_server x client Accepts) = omega arith
-  ended_alike code (Of_server x client Accepted) = omega arith
   ended_alike code (Of_server x client (Accept_left n)) = omega arith
-  ended_alike code (Of_server x client (Serves o)) = omega arith
-  ended_alike code (Of_server x client (Service_left n)) = omega arith
-  ended_alike code (Of_server x client Parts) = omega arith
+  ended_alike code _ = omega arith
 
   -- the mark is no operation
   unmarked : (items : List Item) → s.items ≡ A_mark ∷ items → (standing s.cells + operations items) * cell_rank p ≤ (standing s.cells + operations s.items) * cell_rank p
-  unmarked items e = let same : operations s.items ≡ operations items = ap operations e in scaled_le (standing s.cells + operations items) (standing s.cells + operations s.items) (cell_rank p) (omega (arith, same))
+  unmarked items e =
+      let same : operations s.items ≡ operations items = ap operations e in
+      scaled_le (standing s.cells + operations items) (standing s.cells + operations s.items) (cell_rank p) (omega (arith, same))
 
   -- a leave deals with an item
   clears : (code : ℤ) (ts : List Task) (items : List Item) (o : Object) → s.items ≡ An_object ∷ items → held s.cells (Entry (length items)) ≡ Some o →
@@ -228,7 +215,9 @@ module _ (p : Image) (t : Typing) (linked : IsLinked p) (typed : IsTyped p t) (c
       let destruction = begun_paid p linked o (length items) (Unwind code ∷ ts) in
       let goes = standing_goes (Entry (length items)) (length (Unwind code ∷ ts)) o s.cells refl there in
       let same : operations s.items ≡ operations items = ap operations e in
-      let cells = one_less (standing (moved (Entry (length items)) (Going (length (Unwind code ∷ ts))) s.cells) + operations items) (standing s.cells + operations s.items) (cell_rank p) (omega (arith, goes, same)) in
+      let cells =
+      one_less (standing (moved (Entry (length items)) (Going (length (Unwind code ∷ ts))) s.cells) + operations items) (standing s.cells + operations s.items) (cell_rank p)
+      (omega (arith, goes, same)) in
       omega (arith, destruction, cells)
 
   undoes : (code : ℤ) (ts : List Task) (items : List Item) (m : ℕ) (x : ℤ) → s.items ≡ An_operation m x ∷ items → rank p (record (counted p s) { tasks = Run (operation_frame m x (length items)) ∷ Unwind code ∷ ts; items = items }) < total (Unwind code ∷ ts)

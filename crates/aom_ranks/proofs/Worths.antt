@@ -5,14 +5,14 @@ use Rattle.aom_image.specs.Views.{instr_at, method_role}
 use Rattle.aom_image.specs.declared.method.Argument.{Argument}
 use Rattle.aom_image.specs.declared.method.Argument.TheVariants.{Word as Takes_word, Own as Takes_own}
 use Rattle.aom_image.specs.declared.method.Gives.{Gives}
-use Rattle.aom_image.specs.declared.method.Gives.TheVariants.{Nothing, Word as A_word, Own as An_own, Maybe as A_maybe, Left}
+use Rattle.aom_image.specs.declared.method.Gives.TheVariants.{Own as An_own, Maybe as A_maybe}
 use Rattle.aom_shape.specs.Shape.{Shape}
 use Rattle.aom_rules.specs.Typing.{Typing}
 use Rattle.aom_sound.specs.Calls.{accepted_cells, answered_by, below_top, ended_well, passed_cells, received, result_cells, result_register, returned, told_answer}
 use Rattle.aom_sound.specs.Claims.{Dispatching, Dying, Ending, Layer, Mark, Method, Unwinding, tasks_of}
 use Rattle.aom_sound.specs.Cleanup.{code_told, to_trap}
 use Rattle.aom_sound.specs.Places.{Cell, Register, Request, moved}
-use Rattle.aom_sound.specs.State.{Answered, Asks, Closing, Destroy, Dispatch, Dispatched, Frame, Home, Item, Main_left, Object_left, Of_main, Of_object, Of_root, Of_server, Run, Seat, State, Task, Trapped, Unwind, next, resumed}
+use Rattle.aom_sound.specs.State.{Answered, Asks, Dispatch, Dispatched, Frame, Home, Item, Run, Seat, State, Task, Trapped, next, resumed}
 use Rattle.aom_sound.specs.WellTyped.{Caught, Now, Returns, Stack}
 use Rattle.aom_ranks.specs.Worths.{Worths, tasks_worth, waiting_worth}
 use Rattle.aom_sound.specs.Enlisted.{cancelled, ended_cells, on_request, own_request, rerequested}
@@ -42,41 +42,25 @@ module _ (f : List Cell → ℕ) (passes : (d i e j : ℕ) (cs : List Cell) → 
 module _ (w : Worths) where
   -- the methods over the trap end
   pub to_trap_less : (ts : List Task) → waiting_worth w (to_trap ts) ≤ waiting_worth w ts
-  to_trap_less [] = omega arith
   to_trap_less (Run fr ∷ ts) = omega (arith, to_trap_less ts)
-  to_trap_less (Trapped ∷ ts) = omega arith
-  to_trap_less (Destroy ∷ ts) = omega arith
-  to_trap_less (Closing ∷ ts) = omega arith
-  to_trap_less (Unwind code ∷ ts) = omega arith
-  to_trap_less (Dispatched d ∷ ts) = omega arith
+  to_trap_less _ = omega arith
 
   -- what waited goes on
   pub resumed_alike : (ts : List Task) → tasks_worth w (resumed ts) ≡ waiting_worth w ts
-  resumed_alike [] = refl
   resumed_alike (Run fr ∷ ts) = refl
-  resumed_alike (Trapped ∷ ts) = refl
-  resumed_alike (Destroy ∷ ts) = refl
-  resumed_alike (Closing ∷ ts) = refl
-  resumed_alike (Unwind code ∷ ts) = refl
-  resumed_alike (Dispatched d ∷ ts) = refl
+  resumed_alike _ = refl
 
   -- the code is a word, and changes no place
   pub told_alike : (g : Gives) (r : ℕ) (code : ℤ) (fr : Frame) (ts : List Task) → tasks_worth w (Run (next (code_told g r code fr)) ∷ ts) ≡ waiting_worth w (Run fr ∷ ts)
-  told_alike Nothing r code fr ts = refl
-  told_alike A_word r code fr ts = refl
   told_alike (An_own t) r code fr ts = refl
-  told_alike (A_maybe t) r code fr ts = refl
-  told_alike (Left x) r code fr ts = refl
+  told_alike _ r code fr ts = refl
 
   -- and so is a result
   received_alike :
       (p : Image) (fr : Frame) (ts : List Task) (s : State) (g : Gives) (a x : ℕ) (caller : Frame) (below : List Task) →
       tasks_worth w (Run (next (received p fr ts s g a x caller)) ∷ below) ≡ waiting_worth w (Run caller ∷ below)
-  received_alike p fr ts s Nothing a x caller below = refl
-  received_alike p fr ts s A_word a x caller below = refl
   received_alike p fr ts s (An_own t) a x caller below = refl
-  received_alike p fr ts s (A_maybe t) a x caller below = refl
-  received_alike p fr ts s (Left y) a x caller below = refl
+  received_alike p fr ts s _ a x caller below = refl
 
   -- a return to what stands below
   module _ (f : List Cell → ℕ) (g : List Item → ℕ)
@@ -101,13 +85,7 @@ module _ (w : Worths) where
     -- a dispatch that asked has its answer
     answered_less : (answer : ℤ) (d : Dispatch) → w.dispatch (answered_by answer d) ≤ w.dispatch d
     answered_less answer (Asks x) = answers x answer
-    answered_less answer Of_main = omega arith
-    answered_less answer (Main_left code) = omega arith
-    answered_less answer Of_root = omega arith
-    answered_less answer (Of_object x) = omega arith
-    answered_less answer (Object_left x code) = omega arith
-    answered_less answer (Answered x y) = omega arith
-    answered_less answer (Of_server x client stage) = omega arith
+    answered_less answer _ = omega arith
 
     abbrev pub after : List Layer → State
     after ls = returned p fr (tasks_of ls) ended gives a (tasks_of ls)
