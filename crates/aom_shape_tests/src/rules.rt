@@ -1,5 +1,5 @@
 //! Examples of rules, at places of small mains.
-ghost use Rattle.std.specs.Prelude.{◌<◌, length};
+ghost use Rattle.std.specs.Prelude.{◌≡◌, ◌<◌, [], length};
 
 use aom_asm::assemble;
 use aom_classes::{Linked, link};
@@ -19,6 +19,17 @@ fn main_of(alloc: Global, code: &str) -> Result<Linked, Fail> {
         Ok(linked) => Ok(linked),
         Err(_) => Err(Fail::from("the image is not linked")),
     }
+}
+
+/// Nothing is known, and there is no cleanup entry.
+fn nothing<'a>(piles: &'a Piles) -> Shape<'a>
+    ensures { result.entries ≡ [] }
+{
+    let kept = Kept {
+        known: Known::unset(),
+        pile: Pile::none(),
+    };
+    kept.shape(piles)
 }
 
 /// Where main may go on from one of its places, or why it may not.
@@ -46,68 +57,63 @@ fn fourth() -> Register {
     Register::new(4).unwrap()
 }
 
-/// What is told of a place: the number of what is missing, or 0 and the places where it goes on, the first and the last, and
-/// whether the fourth register holds a word at the first.
-type Telling = (u8, usize, usize, bool);
-
-fn told_of(shape: &Shape<'_>, flow: &Flow) -> Option<Telling> {
-    let way = flow.first?;
-    let is_word = matches!(shape.with_known(way.known).register(fourth()), Kind::Word);
-    match flow.second {
-        Some(last) => Some((0, way.to, last.to, is_word)),
-        None => Some((0, way.to, way.to, is_word)),
-    }
-}
-
-/// What is told of a place of a main of that code, where the third register holds that, and nothing else is known.
-fn told(alloc: Global, code: &str, place: usize, held: Kind) -> Result<Option<Telling>, Fail> {
-    let linked = main_of(alloc, code)?;
-    let piles = Piles::new(alloc);
-    let kept = Kept {
-        known: Known::unset(),
-        pile: Pile::none(),
-    };
-    let shape = kept.shape(&piles).with_register(third(), held);
-    match flow_from(&linked, place, &shape) {
-        Some(Ok(flow)) => Ok(told_of(&shape, &flow)),
-        Some(Err(why)) => Ok(Some((why.number(), 0, 0, false))),
-        None => Ok(None),
-    }
-}
-
 #[test]
 fn const_into_an_owning_register_is_refused(rt: HostRuntime) -> Result<(), Fail> {
-    let code = "const r3 1;const r4 1;ret";
+    let linked = main_of(rt.alloc(), "const r3 1;const r4 1;ret")?;
     let seventh = ClassNumber::new(7).unwrap();
     let owned = Kind::Own(Thing::Object(seventh), Age::Ready);
-    let refused = (Why::RegisterKind.number(), 0, 0, false);
-    assert_eq!(rt; told(rt.alloc(), code, 0, owned)?, Some(refused));
-    assert_eq!(rt; told(rt.alloc(), code, 1, owned)?, Some((0, 2, 2, true)));
+    let piles = Piles::new(rt.alloc());
+    let shape = nothing(&piles).with_register(third(), owned);
+    let Some(Err(why)) = flow_from(&linked, 0, &shape) else {
+        return Err(Fail::from("an own is lost"));
+    };
+    assert!(rt; why == Why::RegisterKind);
+    assert!(rt; matches!(flow_from(&linked, 1, &shape), Some(Ok(_))));
     Ok(())
 }
 
 #[test]
 fn a_jump_leads_to_its_place(rt: HostRuntime) -> Result<(), Fail> {
-    let told = told(rt.alloc(), "jump L;stop;L: ret", 0, Kind::Unset)?;
-    assert_eq!(rt; told, Some((0, 2, 2, false)));
+    let linked = main_of(rt.alloc(), "jump L;stop;L: ret")?;
+    let piles = Piles::new(rt.alloc());
+    let Some(Ok(flow)) = flow_from(&linked, 0, &nothing(&piles)) else {
+        return Err(Fail::from("no flow"));
+    };
+    let (Some(way), None) = (flow.first, flow.second) else {
+        return Err(Fail::from("not one way"));
+    };
+    assert_eq!(rt; way.to, 2);
     Ok(())
 }
 
 #[test]
 fn a_loop_goes_back_or_on(rt: HostRuntime) -> Result<(), Fail> {
-    let told = told(rt.alloc(), "loop 0 3;L: stop;next 0 L;ret", 2, Kind::Unset)?;
-    assert_eq!(rt; told, Some((0, 1, 3, false)));
+    let linked = main_of(rt.alloc(), "loop 0 3;L: stop;next 0 L;ret")?;
+    let piles = Piles::new(rt.alloc());
+    let Some(Ok(flow)) = flow_from(&linked, 2, &nothing(&piles)) else {
+        return Err(Fail::from("no flow"));
+    };
+    let (Some(back), Some(on)) = (flow.first, flow.second) else {
+        return Err(Fail::from("not two ways"));
+    };
+    assert_eq!(rt; back.to, 1);
+    assert_eq!(rt; on.to, 3);
     Ok(())
 }
 
 #[test]
 fn a_sum_of_words_is_a_word(rt: HostRuntime) -> Result<(), Fail> {
-    let code = "add r4 r3 r3;add r3 r3 r4;ret";
-    let refused = (Why::RegisterKind.number(), 0, 0, false);
-    assert_eq!(rt;
-        told(rt.alloc(), code, 0, Kind::Word)?,
-        Some((0, 1, 1, true))
-    );
-    assert_eq!(rt; told(rt.alloc(), code, 1, Kind::Word)?, Some(refused));
+    let linked = main_of(rt.alloc(), "add r4 r3 r3;add r3 r3 r4;ret")?;
+    let piles = Piles::new(rt.alloc());
+    let shape = nothing(&piles).with_register(third(), Kind::Word);
+    let Some(Ok(flow)) = flow_from(&linked, 0, &shape) else {
+        return Err(Fail::from("no flow"));
+    };
+    let Some(way) = flow.first else {
+        return Err(Fail::from("no way"));
+    };
+    let after = shape.with_known(way.known);
+    assert!(rt; matches!(after.register(fourth()), Kind::Word));
+    assert!(rt; matches!(flow_from(&linked, 1, &shape), Some(Err(_))));
     Ok(())
 }

@@ -13,67 +13,45 @@ fn own(class: u16) -> Kind {
     }
 }
 
-fn third() -> Register {
-    Register::new(3).unwrap()
-}
-
-/// A state where the third register holds that, and nothing else is known.
-fn holding<'a>(piles: &'a Piles, kind: Kind) -> Shape<'a> {
+/// A state with that known, and no cleanup entry.
+fn with<'a>(piles: &'a Piles, number: Register, kind: Kind) -> Shape<'a> {
     let kept = Kept {
         known: Known::unset(),
         pile: Pile::none(),
     };
-    kept.shape(piles).with_register(third(), kind)
-}
-
-/// The number of why two states do not meet, or 0.
-fn meet_number(first: &Shape<'_>, second: &Shape<'_>) -> u8 {
-    match meet(first, second) {
-        Ok(_) => 0,
-        Err(why) => why.number(),
-    }
-}
-
-/// What the third register and a field hold where two states meet.
-fn met(first: &Shape<'_>, second: &Shape<'_>, field: FieldIndex) -> Option<(Kind, Filling)> {
-    match meet(first, second) {
-        Ok(met) => Some((met.register(third()), met.field(field))),
-        Err(_) => None,
-    }
-}
-
-/// Whether what two states meet in says no more than the first, and than the second, and the first no more than it.
-fn orders(first: &Shape<'_>, second: &Shape<'_>) -> [bool; 3] {
-    match meet(first, second) {
-        Ok(met) => [
-            weaker(&met, first),
-            weaker(&met, second),
-            weaker(first, &met),
-        ],
-        Err(_) => [false; 3],
-    }
+    kept.shape(piles).with_register(number, kind)
 }
 
 #[test]
-fn own_and_null_meet_in_maybe(rt: HostRuntime) {
+fn own_and_null_meet_in_maybe(rt: HostRuntime) -> Result<(), Fail> {
+    let Some(third) = Register::new(3) else {
+        return Err(Fail::from("no register"));
+    };
     let piles = Piles::new(rt.alloc());
-    let first = holding(&piles, own(7));
-    let second = holding(&piles, Kind::Null);
-    let field = FieldIndex::new(0).unwrap();
-    assert!(rt;
-        matches!(
-            met(&first, &second, field),
-            Some((Kind::Maybe(_, Age::Ready), _))
-        )
-    );
-    assert_eq!(rt; orders(&first, &second), [true, true, false]);
+    let Ok(met) = meet(
+        &with(&piles, third, own(7)),
+        &with(&piles, third, Kind::Null),
+    ) else {
+        return Err(Fail::from("no meet"));
+    };
+    assert!(rt; matches!(met.register(third), Kind::Maybe(_, Age::Ready)));
+    assert!(rt; weaker(&met, &with(&piles, third, own(7))));
+    assert!(rt; weaker(&met, &with(&piles, third, Kind::Null)));
+    assert!(rt; !weaker(&with(&piles, third, own(7)), &met));
+    Ok(())
 }
 
 #[test]
-fn owns_of_two_classes_do_not_meet(rt: HostRuntime) {
+fn owns_of_two_classes_do_not_meet(rt: HostRuntime) -> Result<(), Fail> {
+    let Some(third) = Register::new(3) else {
+        return Err(Fail::from("no register"));
+    };
     let piles = Piles::new(rt.alloc());
-    let number = meet_number(&holding(&piles, own(7)), &holding(&piles, own(8)));
-    assert_eq!(rt; number, Why::RegisterKind.number());
+    let Err(why) = meet(&with(&piles, third, own(7)), &with(&piles, third, own(8))) else {
+        return Err(Fail::from("a meet"));
+    };
+    assert!(rt; why == Why::RegisterKind);
+    Ok(())
 }
 
 /// A state with one cleanup entry, of a ready object of that class.
@@ -98,15 +76,31 @@ fn entries_of_two_classes_do_not_meet(rt: HostRuntime) -> Result<(), Fail> {
     let seventh = stacked(&mut piles, 7)?;
     let eighth = stacked(&mut piles, 8)?;
     let again = stacked(&mut piles, 7)?;
-    let (first, second) = (seventh.shape(&piles), eighth.shape(&piles));
-    assert_eq!(rt; meet_number(&first, &second), Why::CleanupAtReturn.number());
-    assert!(rt; !weaker(&first, &second));
-    assert!(rt; weaker(&first, &again.shape(&piles)));
-    assert_eq!(rt; first.height(), 1);
-    // Registers come before entries.
-    let first = first.with_register(third(), own(7));
-    let second = second.with_register(third(), own(8));
-    assert_eq!(rt; meet_number(&first, &second), Why::RegisterKind.number());
+    let shape = seventh.shape(&piles);
+    let Err(why) = meet(&shape, &eighth.shape(&piles)) else {
+        return Err(Fail::from("a meet"));
+    };
+    assert!(rt; why == Why::CleanupAtReturn);
+    assert!(rt; !weaker(&shape, &eighth.shape(&piles)));
+    assert!(rt; weaker(&shape, &again.shape(&piles)));
+    assert_eq!(rt; shape.height(), 1);
+    Ok(())
+}
+
+#[test]
+fn registers_come_before_entries_in_a_meet(rt: HostRuntime) -> Result<(), Fail> {
+    let Some(third) = Register::new(3) else {
+        return Err(Fail::from("no register"));
+    };
+    let mut piles = Piles::new(rt.alloc());
+    let seventh = stacked(&mut piles, 7)?;
+    let eighth = stacked(&mut piles, 8)?;
+    let first = seventh.shape(&piles).with_register(third, own(7));
+    let second = eighth.shape(&piles).with_register(third, own(8));
+    let Err(why) = meet(&first, &second) else {
+        return Err(Fail::from("a meet"));
+    };
+    assert!(rt; why == Why::RegisterKind);
     Ok(())
 }
 
@@ -139,13 +133,22 @@ fn the_last_entry_comes_first(rt: HostRuntime) -> Result<(), Fail> {
 }
 
 #[test]
-fn fields_that_differ_meet_in_perhaps(rt: HostRuntime) {
-    let field = FieldIndex::new(2).unwrap();
+fn fields_that_differ_meet_in_perhaps(rt: HostRuntime) -> Result<(), Fail> {
+    let Some(field) = FieldIndex::new(2) else {
+        return Err(Fail::from("no field"));
+    };
     let piles = Piles::new(rt.alloc());
-    let unset = holding(&piles, Kind::Unset);
-    let empty = unset.with_field(field, Filling::Empty);
-    let full = unset.with_field(field, Filling::Full);
-    assert!(rt; matches!(met(&empty, &full, field), Some((_, Filling::Perhaps))));
+    let kept = Kept {
+        known: Known::unset(),
+        pile: Pile::none(),
+    };
+    let empty = kept.shape(&piles).with_field(field, Filling::Empty);
+    let full = kept.shape(&piles).with_field(field, Filling::Full);
+    let Ok(met) = meet(&empty, &full) else {
+        return Err(Fail::from("no meet"));
+    };
+    assert!(rt; met.field(field) == Filling::Perhaps);
+    Ok(())
 }
 
 #[test]
