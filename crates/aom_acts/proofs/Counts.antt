@@ -15,9 +15,9 @@ use Rattle.aom_rules.specs.Typing.{AllLead, IsTyped, Typing}
 use Rattle.aom_shape.specs.declared.kind.Entry.{Entry as Pushed}
 use Rattle.aom_shape.specs.declared.kind.Entry.TheVariants.{Object as Pushed_object, Operation as Pushed_operation}
 use Rattle.aom_shape.specs.declared.kind.Kind.TheVariants.{Null}
-use Rattle.aom_verify.specs.Strongest.{IsStrongest}
-use Rattle.aom_budget.specs.Depths.{HasDepths, alone}
-use Rattle.aom_budget.specs.Heights.{HasHeights}
+use Rattle.aom_bounds.specs.Strongest.{IsStrongest}
+use Rattle.aom_bounds.specs.Depths.{HasDepths, alone}
+use Rattle.aom_bounds.specs.Heights.{HasHeights}
 use Rattle.aom_sound.specs.Claims.{Ending, Dispatching, Dying, Form, Layer, Mark, Mark_form, Method, Object_form, Operation_form, Unwinding, forms, items_of, objects, tasks_of}
 use Rattle.aom_sound.specs.Laws.{IsWired}
 use Rattle.aom_sound.specs.Places.{Cell}

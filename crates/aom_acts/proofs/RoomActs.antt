@@ -29,10 +29,10 @@ use Rattle.aom_shape.specs.declared.kind.Entry.{Entry as Pushed_entry}
 use Rattle.aom_shape.specs.declared.kind.Entry.TheVariants.{Operation}
 use Rattle.aom_shape.specs.declared.kind.Kind.{Kind}
 use Rattle.aom_shape.specs.declared.kind.Kind.TheVariants.{Maybe, Null, Own}
-use Rattle.aom_verify.specs.Strongest.{IsStrongest}
-use Rattle.aom_budget.specs.Calls.{Among, MayCall, callees, destructors, listed, object_class, sessions_with, thing_class}
-use Rattle.aom_budget.specs.Calls as budget
-use Rattle.aom_budget.specs.Heights.{CallsOver, Enters, StandsWith}
+use Rattle.aom_bounds.specs.Strongest.{IsStrongest}
+use Rattle.aom_bounds.specs.Calls.{Among, MayCall, callees, destructors, listed, object_class, sessions_with, thing_class}
+use Rattle.aom_bounds.specs.Calls as bounds
+use Rattle.aom_bounds.specs.Heights.{CallsOver, Enters, StandsWith}
 use Rattle.aom_sound.proofs.Claimed.{length_objects}
 use Rattle.aom_sound.proofs.Destroying.{destroys}
 use Rattle.aom_sound.proofs.Finishing.{all_parts}
@@ -71,7 +71,7 @@ own_destructs : (p : Image) (o : Object) (m : ℕ) → destructor_of p o.thing �
 own_destructs p o m e = go o.thing e
   where
     go : (x : Thing) → destructor_of p x ≡ Some m → Among m (destructors p (thing_class x))
-    go (An_object_of c) e = subst (λ d. Among m (listed d ++ listed (budget.destructor_of p (sessions_with p (Some c))))) (sym e) (inl refl)
+    go (An_object_of c) e = subst (λ d. Among m (listed d ++ listed (bounds.destructor_of p (sessions_with p (Some c))))) (sym e) (inl refl)
     go Message e = cc
 
 -- what comes to no entries calls nothing that may
@@ -350,7 +350,7 @@ module _ (p : Image) (t : Typing) (depth heights : ℕ → ℕ) (tables : Tables
         let found = cancel_class p fr.home fr.method m h.holder e in
         let quiet = cancel_quiet p tables.wired fr.home m e in
         let stays : leaves p m ≡ false = false_given (λ b. b ≡ true → is_quiet p m ≡ false) (leaves p m) (tables.wired.quiets m) (λ loud. absurd (true≢false (sym quiet ∙ loud refl))) (λ stays loud. stays) in
-        let among : Among m (listed (budget.cancel_of p (method_class p fr.method))) = subst (λ o. Among m (listed o)) (sym (ap (λ o. budget.cancel_of p o) found.1 ∙ found.2)) (inl refl) in
+        let among : Among m (listed (bounds.cancel_of p (method_class p fr.method))) = subst (λ o. Among m (listed o)) (sym (ap (λ o. bounds.cancel_of p o) found.1 ∙ found.2)) (inl refl) in
         begins p depth heights (begun_cells fr s.cells) s.items (frame_of m fr.home (length s.items)) (Run fr ∷ ts) refl
         (may_call fr h.shape h.there Cancel m stands among)
         (λ may. absurd (pushes_none (is_quiet p m) (leaves p m) quiet stays may))

@@ -16,16 +16,16 @@ use Rattle.aom_shape.specs.Needs.{AllTrue}
 use Rattle.aom_rules.specs.Rules.{flows, rule_needs}
 use Rattle.aom_shape.specs.Tables.{at}
 use Rattle.aom_rules.specs.Typing.{AllLead, IsTyped, Typing}
-use Rattle.aom_verify.specs.Strongest.{IsStrongest}
-use Rattle.aom_budget.specs.Depths.{HasDepths}
-use Rattle.aom_budget.specs.Heights.{HasHeights}
+use Rattle.aom_bounds.specs.Strongest.{IsStrongest}
+use Rattle.aom_bounds.specs.Depths.{HasDepths}
+use Rattle.aom_bounds.specs.Heights.{HasHeights}
+use Rattle.aom_bounds.specs.Calls.{Among, destructors, listed, thing_class, destructor_of as bounds_destructor}
 use Rattle.aom_sound.proofs.Moving.{steps_are_moves}
 use Rattle.aom_sound.specs.Effects.{Effect, applied}
 use Rattle.aom_roles.specs.Classes.{sessions_at, sessions_in}
 use Rattle.aom_roles.specs.Shapes.{kind_of}
 use Rattle.aom_image.specs.declared.method.Thing.{Thing}
 use Rattle.aom_image.specs.declared.method.Thing.TheVariants.{Object as An_object_of, Message}
-use Rattle.aom_budget.specs.Calls.{Among, destructors, listed, thing_class, destructor_of as budget_destructor}
 use Rattle.aom_shape.specs.Kinds.{filled}
 use Rattle.aom_shape.specs.declared.kind.Filling.TheVariants.{Full}
 use Rattle.aom_shape.specs.declared.kind.Kind.TheVariants.{Null}
@@ -77,9 +77,9 @@ session_so p wired o so class has is = go o.thing has
     go : (x : Thing) → session_class p x ≡ Some class → SessionOf p (record { name = o.name; thing = x }) so
     go (An_object_of k) has = record {
       destructs = λ m d.
-          let own : Among m (listed (budget_destructor p (Some class)) ++ []) =
-          subst (λ j. Among m (listed (budget_destructor p (Some class)) ++ listed (budget_destructor p j))) (none k has) (subst (λ y. Among m (destructors p (thing_class y))) is d) in
-          among_right m (listed (budget_destructor p (Some k))) (listed (budget_destructor p (sessions_at p k))) (subst (λ j. Among m (listed (budget_destructor p j))) (sym has) (subst (Among m) (append-nil (listed (budget_destructor p (Some class)))) own));
+          let own : Among m (listed (bounds_destructor p (Some class)) ++ []) =
+          subst (λ j. Among m (listed (bounds_destructor p (Some class)) ++ listed (bounds_destructor p j))) (none k has) (subst (λ y. Among m (destructors p (thing_class y))) is d) in
+          among_right m (listed (bounds_destructor p (Some k))) (listed (bounds_destructor p (sessions_at p k))) (subst (λ j. Among m (listed (bounds_destructor p j))) (sym has) (subst (Among m) (append-nil (listed (bounds_destructor p (Some class)))) own));
       plain = ap (is_server p) is ∙ ap is_some (none k has);
     }
     go Message has = absurd (none-some class has)

@@ -20,7 +20,9 @@ use Rattle.aom_classes.proofs.Facts.{all_there}
 use Rattle.aom_classes.proofs.Playing.{main_found as main_method, role_found as role_method}
 use Rattle.aom_shape.specs.Tables.{at}
 use Rattle.aom_rules.specs.Typing.{Typing}
-use Rattle.aom_verify.specs.Strongest.{IsStrongest}
+use Rattle.aom_bounds.specs.Strongest.{IsStrongest}
+use Rattle.aom_bounds.specs.Depths.{DepthsWithin}
+use Rattle.aom_bounds.specs.Heights.{HeightsWithin}
 use Rattle.aom_prices.specs.Costs.{ArePrices, destructor_price}
 use Rattle.aom_prices.specs.Dispatches.{IsAffordable, main_price, method_price, root_price}
 use Rattle.aom_prices.specs.Layers.{SayTheSame}
@@ -30,10 +32,8 @@ use Rattle.aom_prices.proofs.Methods.{destructs_within, method_is_some}
 use Rattle.aom_prices.proofs.Going.{going_alike, found_of}
 use Rattle.aom_prices.proofs.Unique.{law_one}
 use Rattle.aom_budget.specs.Budgets.{BudgetsWithin, CostsWithin, IsBefore, IsOver, class_declares, class_price, declared_by, kind_declares, kind_price, payer_price, role_price}
-use Rattle.aom_budget.specs.Depths.{DepthsWithin}
 use Rattle.aom_budget.specs.Faults.{Refuses}
 use Rattle.aom_budget.specs.Figures.{ClassesWithin, IsWithin, TellsFirst, TellsOver, class_by, kind_by, main_by, payer_by, role_by, root_by}
-use Rattle.aom_budget.specs.Heights.{HeightsWithin}
 use Rattle.aom_budget.specs.Pricing.{ArePriced, destruction_by, price_by}
 use Rattle.aom_budget.specs.declared.fault.BudgetFault.{BudgetFault}
 use Rattle.aom_budget.specs.declared.fault.BudgetFault.TheVariants.{OverBudget, TooDeep, CleanupTooDeep, OutOfMemory}

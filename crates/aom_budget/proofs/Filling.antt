@@ -16,13 +16,13 @@ use Rattle.aom_shape.specs.Shape.{Shape}
 use Rattle.aom_shape.specs.Tables.{at}
 use Rattle.aom_shape.specs.declared.kind.Kind.{Kind}
 use Rattle.aom_shape.proofs.Lists.{at_past, at_within, at_set_here, at_set_other}
-use Rattle.aom_verify.specs.Shapes.{Shapes}
-use Rattle.aom_verify.specs.Strongest.{IsMethodStrongest}
-use Rattle.aom_budget.specs.Calls.{Among, listed, destructors, object_class, callees, CallsAt, MayCall}
-use Rattle.aom_budget.specs.Depths.{Frames}
-use Rattle.aom_budget.specs.Depths.Frames.{alone, calling}
-use Rattle.aom_budget.specs.Heights.{StandsAt, Enters, CallsOver, Heights}
-use Rattle.aom_budget.specs.Heights.Heights.{own, under}
+use Rattle.aom_bounds.specs.Shapes.{Shapes}
+use Rattle.aom_bounds.specs.Strongest.{IsMethodStrongest}
+use Rattle.aom_bounds.specs.Calls.{Among, listed, destructors, object_class, callees, CallsAt, MayCall}
+use Rattle.aom_bounds.specs.Depths.{Frames}
+use Rattle.aom_bounds.specs.Depths.Frames.{alone, calling}
+use Rattle.aom_bounds.specs.Heights.{StandsAt, Enters, CallsOver, Heights}
+use Rattle.aom_bounds.specs.Heights.Heights.{own, under}
 use Rattle.aom_budget.specs.Extents.{IsMost, entered, OfSome, Joined, ComesTo, FramesAt, EntriesAt, Before, IsFilled, most_at}
 use Rattle.aom_budget.proofs.Mentioned.{called_lower}
 use Rattle.aom_budget.proofs.Most.{of_none, alike, joined, of_methods}

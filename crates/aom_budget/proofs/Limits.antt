@@ -1,36 +1,29 @@
 -- Tables that keep to the limits have the depths and the heights, and one that does not says what is too much.
-use Rattle.std.proofs.Common.{◌≡◌, ℕ, zero, suc, true, false, ◌<◌, ◌≤◌, ◌+◌, List, [], ◌∷◌, length, Some, IsSome, inl, inr, refl, ap, arith}
+use Rattle.std.proofs.Common.{◌≡◌, ℕ, zero, suc, true, false, ◌<◌, ◌≤◌, ◌+◌, List, [], ◌∷◌, length, IsSome, inl, inr, ap, arith}
 use Rattle.std.specs.Prelude.{nat_le}
 use Rattle.std.specs.List.{list_all}
 use Rattle.std.proofs.lemmas.Bool.Decides.{leb_tells}
 use Rattle.aom_image.specs.Image.{Image}
-use Rattle.aom_image.specs.Views.{instr_at, method_at}
-use Rattle.aom_instructions.specs.declared.instr.Instr.{Instr}
+use Rattle.aom_image.specs.Views.{method_at}
 use Rattle.aom_classes.specs.Linked.{IsLinked}
 use Rattle.aom_classes.proofs.Each.{both}
-use Rattle.aom_classes.proofs.Facts.{of_method}
 use Rattle.aom_shape.specs.Shape.{Shape}
 use Rattle.aom_shape.specs.Tables.{at}
 use Rattle.aom_rules.specs.Typing.{Typing}
-use Rattle.aom_verify.specs.Strongest.{IsStrongest}
-use Rattle.aom_verify.proofs.Typings.{method_within, within_method}
-use Rattle.aom_budget.specs.Calls.{MayCall}
-use Rattle.aom_budget.specs.Depths.{Frames, AreDepths, HasDepths, DepthsWithin, IsTooDeep}
-use Rattle.aom_budget.specs.Depths.Frames.{alone, calling}
+use Rattle.aom_bounds.specs.Strongest.{IsStrongest}
+use Rattle.aom_bounds.specs.Calls.{MayCall}
+use Rattle.aom_bounds.specs.Depths.{Frames, AreDepths, IsTooDeep}
+use Rattle.aom_bounds.specs.Depths.Frames.{alone, calling}
+use Rattle.aom_bounds.specs.Heights.{StandsAt, StandsWith, Heights, AreHeights, IsTooHigh}
+use Rattle.aom_bounds.specs.Heights.Heights.{own, under}
+use Rattle.aom_bounds.proofs.Typings.{method_within, within_method}
+use Rattle.aom_bounds.proofs.Within.{caller, standing}
 use Rattle.aom_budget.specs.Extents.{IsFilled, KeepsTo, Exceeds}
-use Rattle.aom_budget.specs.Heights.{StandsAt, StandsWith, Heights, AreHeights, HasHeights, HeightsWithin, IsTooHigh}
-use Rattle.aom_budget.specs.Heights.Heights.{own, under}
 use Rattle.aom_budget.proofs.Filling.{entered_is_called}
 use Rattle.aom_budget.proofs.Mentioned.{called_lower}
 use Rattle.aom_budget.proofs.Most.{no_more, is_one, one_exceeds}
 
--- ---- what stands or calls is a method
-
-standing : (p : Image) (m place : ℕ) (i : Instr) → instr_at p m place ≡ Some i → IsSome (method_at p m)
-standing p m place i here = let w = of_method p m place i here in rw w.1 refl
-
-caller : (p : Image) (m k : ℕ) → MayCall p m k → IsSome (method_at p m)
-caller p m k call = standing p m call.place call.calls.instr call.calls.stands
+-- ---- what is called or stands is a method
 
 called : (p : Image) (m k : ℕ) → IsLinked p → MayCall p m k → IsSome (method_at p k)
 called p m k linked call = within_method p k (omega (arith, called_lower p m k linked call, method_within p m (caller p m k call)))
@@ -115,19 +108,3 @@ exceeds most (x ∷ xs) h = elim (leb_tells x most) [
   | inl w ↦ let rest = exceeds most xs (rw w.0 at h) in record { method = suc rest.method; within = omega (arith, rest.within); more = rest.more }
   | inr w ↦ record { method = zero; within = omega arith; more = w.1 }
 ]
-
--- ---- what an accepted image keeps to
-
-lowest : (p : Image) (m n : ℕ) → Frames p m n → IsSome (method_at p m)
-lowest p m n (alone some) = some
-lowest p m n (calling {k = k} call above) = caller p m k call
-
-pub all_within : (p : Image) → HasDepths p → DepthsWithin p
-all_within p h = record { within = λ m n frames. omega (arith, (h.are.each m (lowest p m n frames)).most n frames, h.are.within m) }
-
-heights_most : (p : Image) (hs : List ℕ) → AreHeights p hs → (m n : ℕ) → Heights p m n → n ≤ at 0 hs m
-heights_most p hs h m n (own stands) = h.own m n stands
-heights_most p hs h m n (under {k = k} {h = count} {n = above} call heights) = omega (arith, h.under m k count call, heights_most p hs h k above heights)
-
-pub all_high : (p : Image) → HasHeights p → HeightsWithin p
-all_high p h = record { within = λ m n heights. omega (arith, heights_most p h.heights h.are m n heights, h.are.within m) }

@@ -54,10 +54,10 @@ use Rattle.aom_shape.specs.declared.kind.Kind.TheVariants.{Unset, Word, Null, Ow
 use Rattle.aom_shape.proofs.Lists.{at_put}
 use Rattle.aom_rules.proofs.Branching.{by_states}
 use Rattle.aom_rules.proofs.Monotone.{needs_more, flows_more}
-use Rattle.aom_verify.specs.Shapes.{Shapes, Meets, AllMet, Applies, IsMethodTyped}
-use Rattle.aom_verify.specs.Strongest.{IsMethodStrongest}
+use Rattle.aom_bounds.specs.Shapes.{Shapes, Meets, AllMet, Applies, IsMethodTyped}
+use Rattle.aom_bounds.specs.Strongest.{IsMethodStrongest}
+use Rattle.aom_bounds.specs.Calls.{listed, destructor_of, destructors, cancel_of, thing_class, object_class, callees, Among, MayCall}
 use Rattle.aom_verify.proofs.Following.{follow_met}
-use Rattle.aom_budget.specs.Calls.{listed, destructor_of, destructors, cancel_of, thing_class, object_class, callees, Among, MayCall}
 
 -- ---- what runs as an object goes has a lower number
 

@@ -3,7 +3,7 @@ use Rattle.std.proofs.Common.{◌≡◌, ℕ, ◌<◌, ◌≤◌, ◌+◌, ◌�
 use Rattle.std.specs.Prelude.{min, max}
 use Rattle.std.proofs.lemmas.Bool.Decides.{eqb_tells, leb_tells}
 use Rattle.aom_shape.specs.Tables.{at}
-use Rattle.aom_budget.specs.Calls.{Among}
+use Rattle.aom_bounds.specs.Calls.{Among}
 use Rattle.aom_budget.specs.Extents.{IsMost, OfSome, Joined, Before, most_at}
 
 pub of_none : (cap : ℕ) (some : ℕ → Type 0) → ((k : ℕ) → some k → ⊥) → IsMost cap some 0

@@ -24,7 +24,9 @@ use Rattle.aom_shape.specs.declared.kind.Filling.{Filling}
 use Rattle.aom_shape.specs.declared.kind.Filling.TheVariants.{Empty, Full, Perhaps}
 use Rattle.aom_shape.specs.declared.kind.Kind.{Kind}
 use Rattle.aom_shape.specs.declared.kind.Kind.TheVariants.{Unset, Word, Null, Own, Maybe}
-use Rattle.aom_verify.specs.Shapes.{Shapes}
+use Rattle.aom_bounds.specs.Shapes.{Shapes}
+use Rattle.aom_bounds.specs.Calls.{Among, cancel_of, listed, thing_class, object_class, destructors, callees}
+use Rattle.aom_bounds.specs.Calls.{destructor_of as class_destructor}
 use Rattle.aom_prices.specs.Prices.{Prices, price, kind_price, own, perhaps_price}
 use Rattle.aom_prices.specs.Costs.{AmongFlows, Region, Whole, Round, destructor_price}
 use Rattle.aom_prices.specs.Layers.{Destructs}
@@ -32,8 +34,6 @@ use Rattle.aom_prices.specs.Sweeping.{Afters, IsInnermost, IsSweptFrom, all_goin
 use Rattle.aom_prices.proofs.At.{IsSweptAt, at_each, from_each}
 use Rattle.aom_prices.proofs.Going.{going_same}
 use Rattle.aom_prices.proofs.Regions.{ends_before, innermost_of_body}
-use Rattle.aom_budget.specs.Calls.{Among, cancel_of, listed, thing_class, object_class, destructors, callees}
-use Rattle.aom_budget.specs.Calls.{destructor_of as class_destructor}
 use Rattle.aom_budget.specs.Pricing.{kept, price_by, destruction_by, kind_by, own_by, null_targets, empty_targets, states_targets, targets_of, most_to, after_in, Found, Agrees, IsPassed}
 use Rattle.aom_prices.proofs.Among.{by_flow}
 use Rattle.aom_image.proofs.Given.{some_given}

@@ -18,9 +18,10 @@ use Rattle.aom_rules.specs.Typing.{Typing}
 use Rattle.aom_shape.specs.declared.kind.Kind.{Kind}
 use Rattle.aom_shape.specs.declared.kind.Kind.TheVariants.{Own, Maybe}
 use Rattle.aom_shape.proofs.Lists.{at_set_here, at_set_other}
-use Rattle.aom_verify.specs.Shapes.{Shapes}
-use Rattle.aom_verify.specs.Strongest.{IsMethodStrongest, IsStrongest}
-use Rattle.aom_verify.proofs.Typings.{image_strongest, method_within}
+use Rattle.aom_bounds.specs.Shapes.{Shapes}
+use Rattle.aom_bounds.specs.Strongest.{IsMethodStrongest, IsStrongest}
+use Rattle.aom_bounds.specs.Calls.{Among, cancel_of, listed, object_class, destructors, callees, CallsAt}
+use Rattle.aom_bounds.proofs.Typings.{image_strongest, method_within}
 use Rattle.aom_prices.specs.Prices.{Prices}
 use Rattle.aom_prices.specs.Costs.{destructor_price}
 use Rattle.aom_prices.specs.Layers.{KindDestructs, Pays, PaysBefore}
@@ -29,7 +30,6 @@ use Rattle.aom_prices.proofs.At.{from_each}
 use Rattle.aom_prices.proofs.Going.{going_same}
 use Rattle.aom_prices.proofs.Capping.{law_up_to}
 use Rattle.aom_prices.proofs.Places.{nothing_there}
-use Rattle.aom_budget.specs.Calls.{Among, cancel_of, listed, object_class, destructors, callees, CallsAt}
 use Rattle.aom_budget.specs.Pricing.{kept, Found, Agrees, IsMethodPriced, ArePricedBelow, ArePriced, IsPriceUpTo}
 use Rattle.aom_budget.proofs.Mentioned.{called_lower}
 use Rattle.aom_budget.proofs.Passing.{runs_among}

@@ -33,9 +33,9 @@ use Rattle.aom_shape.specs.declared.kind.Kind.{Kind}
 use Rattle.aom_shape.specs.declared.kind.Kind.TheVariants.{Unset, Word, Null, Own, Maybe}
 use Rattle.aom_rules.proofs.Branching.{by_states}
 use Rattle.aom_rules.proofs.Growing.{lasting_has}
-use Rattle.aom_verify.specs.Shapes.{Shapes, Meets, AllMet, IsMethodTyped}
-use Rattle.aom_budget.specs.Heights.{StandsAt, Enters, CallsOver, Heights}
-use Rattle.aom_budget.specs.Heights.Heights.{own, under}
+use Rattle.aom_bounds.specs.Shapes.{Shapes, Meets, AllMet, IsMethodTyped}
+use Rattle.aom_bounds.specs.Heights.{StandsAt, Enters, CallsOver, Heights}
+use Rattle.aom_bounds.specs.Heights.Heights.{own, under}
 use Rattle.aom_budget.proofs.Filling.{by_entering}
 
 -- ---- flags

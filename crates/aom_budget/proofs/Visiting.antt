@@ -12,8 +12,8 @@ use Rattle.aom_classes.specs.Loops.{loop_in, next_in}
 use Rattle.aom_shape.specs.Shape.{Shape}
 use Rattle.aom_shape.specs.Tables.{at}
 use Rattle.aom_shape.proofs.Lists.{at_set_here, at_set_other}
-use Rattle.aom_verify.specs.Shapes.{Shapes}
-use Rattle.aom_verify.specs.Strongest.{IsMethodStrongest}
+use Rattle.aom_bounds.specs.Shapes.{Shapes}
+use Rattle.aom_bounds.specs.Strongest.{IsMethodStrongest}
 use Rattle.aom_verify.specs.Sweep.{HasPlaces}
 use Rattle.aom_verify.proofs.Visiting.{has_instr}
 use Rattle.aom_prices.specs.Costs.{Region, Whole, Round}

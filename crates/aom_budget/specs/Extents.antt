@@ -6,10 +6,10 @@ use Rattle.aom_instructions.specs.declared.instr.Instr.{Instr}
 use Rattle.aom_instructions.specs.declared.instr.Instr.TheVariants.{Call, Trap}
 use Rattle.aom_shape.specs.Shape.{Shape}
 use Rattle.aom_shape.specs.Tables.{at}
-use Rattle.aom_verify.specs.Shapes.{Shapes}
-use Rattle.aom_budget.specs.Calls.{Among, listed, callees}
-use Rattle.aom_budget.specs.Depths.{Frames}
-use Rattle.aom_budget.specs.Heights.{Heights}
+use Rattle.aom_bounds.specs.Shapes.{Shapes}
+use Rattle.aom_bounds.specs.Calls.{Among, listed, callees}
+use Rattle.aom_bounds.specs.Depths.{Frames}
+use Rattle.aom_bounds.specs.Heights.{Heights}
 
 -- the greatest of some numbers, none of which counts for more than a cap; 0 where there are none
 pub record IsMost (cap : ℕ) (some : ℕ → Type 0) (n : ℕ) : Type 0 where

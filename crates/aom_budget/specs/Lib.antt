@@ -1,6 +1,3 @@
-pub mod Calls
-pub mod Depths
-pub mod Heights
 pub mod Faults
 pub mod Extents
 pub mod Pricing

@@ -16,14 +16,14 @@ use Rattle.aom_shape.specs.declared.kind.Filling.{Filling}
 use Rattle.aom_shape.specs.declared.kind.Filling.TheVariants.{Empty, Full, Perhaps}
 use Rattle.aom_shape.specs.declared.kind.Kind.{Kind}
 use Rattle.aom_shape.specs.declared.kind.Kind.TheVariants.{Unset, Word, Null, Own, Maybe}
-use Rattle.aom_verify.specs.Shapes.{Shapes}
-use Rattle.aom_verify.specs.Strongest.{IsMethodStrongest, IsStrongest}
+use Rattle.aom_bounds.specs.Shapes.{Shapes}
+use Rattle.aom_bounds.specs.Strongest.{IsMethodStrongest, IsStrongest}
+use Rattle.aom_bounds.specs.Calls.{Among, cancel_of}
 use Rattle.aom_verify.specs.Sweep.{HasPlaces}
 use Rattle.aom_prices.specs.Prices.{Prices, price}
 use Rattle.aom_prices.specs.Costs.{Region, Whole, Round, ArePrices, destructor_price}
 use Rattle.aom_prices.specs.Layers.{ArePricesUpTo}
 use Rattle.aom_prices.specs.Sweeping.{Afters, IsInnermost, IsSweptFrom, all_going, is_past}
-use Rattle.aom_budget.specs.Calls.{Among, cancel_of}
 use Rattle.aom_budget.specs.Extents.{IsMost, Before}
 use Rattle.aom_budget.specs.declared.pass.Round as rounds
 

@@ -1,6 +1,6 @@
 //! What an instruction may call.
 ghost use Rattle.std.specs.Prelude.{◌≡◌, ◌++◌, [], ◌∷◌, Some};
-ghost use Rattle.aom_budget.specs.Calls.{listed, destructors, cancel_of, thing_class, object_class, callees};
+ghost use Rattle.aom_bounds.specs.Calls.{listed, destructors, cancel_of, thing_class, object_class, callees};
 ghost use Rattle.aom_budget.specs.Extents.{entered};
 ghost use Rattle.aom_image.specs.Views.{method_class};
 

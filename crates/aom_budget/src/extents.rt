@@ -2,13 +2,13 @@
 ghost use Rattle.std.specs.Prelude.{◌≡◌, ◌+◌, ◌<◌, suc, min, max, length, replicate, IfOk, IfErr, IsSome};
 ghost use Rattle.aom_image.specs.Views.{method_at};
 ghost use Rattle.aom_shape.specs.Tables.{at};
-ghost use Rattle.aom_verify.specs.Strongest.{IsMethodStrongest};
-ghost use Rattle.aom_budget.specs.Calls.{listed, callees};
+ghost use Rattle.aom_bounds.specs.Strongest.{IsMethodStrongest};
+ghost use Rattle.aom_bounds.specs.Calls.{listed, callees};
+ghost use Rattle.aom_bounds.specs.Depths.{Frames, HasDepths};
+ghost use Rattle.aom_bounds.specs.Heights.{Heights, HasHeights};
 ghost use Rattle.aom_budget.specs.Budgets.{BudgetsWithin};
-ghost use Rattle.aom_budget.specs.Depths.{Frames, HasDepths};
 ghost use Rattle.aom_budget.specs.Extents.{IsMost, entered, most_at, FramesAt, EntriesAt, AreFilled};
 ghost use Rattle.aom_budget.specs.Faults.{Refuses};
-ghost use Rattle.aom_budget.specs.Heights.{Heights, HasHeights};
 
 use crate::BudgetFault;
 use crate::callees::Callees;

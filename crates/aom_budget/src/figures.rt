@@ -2,11 +2,11 @@
 ghost use Rattle.std.specs.Prelude.{◌≡◌, ◌≤◌, ◌<◌, length, IfOk, IfErr, IsSome};
 ghost use Rattle.aom_image.specs.Views.{class_at};
 ghost use Rattle.aom_shape.specs.Tables.{at};
+ghost use Rattle.aom_bounds.specs.Depths.{HasDepths};
+ghost use Rattle.aom_bounds.specs.Heights.{HasHeights};
 ghost use Rattle.aom_budget.specs.Budgets.{BudgetsWithin, kind_declares};
-ghost use Rattle.aom_budget.specs.Depths.{HasDepths};
 ghost use Rattle.aom_budget.specs.Faults.{Refuses};
 ghost use Rattle.aom_budget.specs.Figures.{AreFigures, class_by, ClassesWithin, kind_by, main_by, TellsFirst};
-ghost use Rattle.aom_budget.specs.Heights.{HasHeights};
 
 use crate::extents::Extents;
 use crate::prices::{kind_price, main_price, prices_of};

@@ -4,9 +4,9 @@ ghost use Rattle.aom_image.specs.Views.{method_at};
 ghost use Rattle.aom_classes.specs.Bodies.{IsIn};
 ghost use Rattle.aom_shape.specs.Shape.{Shape};
 ghost use Rattle.aom_shape.specs.Tables.{at};
-ghost use Rattle.aom_verify.specs.Strongest.{IsMethodStrongest};
+ghost use Rattle.aom_bounds.specs.Strongest.{IsMethodStrongest};
+ghost use Rattle.aom_bounds.specs.Calls.{listed};
 ghost use Rattle.aom_verify.specs.Sweep.{HasPlaces};
-ghost use Rattle.aom_budget.specs.Calls.{listed};
 ghost use Rattle.aom_budget.specs.Extents.{IsMost, Before};
 ghost use Rattle.aom_budget.specs.Pricing.{kept, kind_by, own_by, after_in, most_to, most_past, ExitsAt, Follows, IsPassing, IsMethodPriced, found_by, plain_cost, region_of};
 

@@ -2,7 +2,7 @@
 ghost use Rattle.std.specs.Prelude.{◌≡◌, ◌<◌, ◌++◌, nat_le, length, replicate, slice_set, IfOk};
 ghost use Rattle.std.specs.List.{list_all};
 ghost use Rattle.aom_shape.specs.Tables.{at};
-ghost use Rattle.aom_budget.specs.Calls.{listed};
+ghost use Rattle.aom_bounds.specs.Calls.{listed};
 ghost use Rattle.aom_budget.specs.Extents.{most_at};
 
 use crate::callees::Callees;

@@ -28,7 +28,7 @@ use Rattle.aom_sound.specs.Owned.{over}
 use Rattle.aom_sound.specs.Places.{Object, Register, held}
 use Rattle.aom_sound.specs.State.{Frame, Run, State, Task}
 use Rattle.aom_sound.proofs.Maps.{at-put_at}
-use Rattle.aom_verify.specs.Strongest.{IsShapeAt}
+use Rattle.aom_bounds.specs.Strongest.{IsShapeAt}
 use Rattle.aom_parts.specs.declared.parts.Parts.{Parts}
 use Rattle.aom_parts.specs.Agrees.{SameFrame, number}
 use Rattle.aom_parts.specs.Places.{value}

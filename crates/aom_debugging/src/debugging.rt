@@ -130,7 +130,7 @@ fn begin<'a>(
         Err((fault, _boxes)) => return Err(Fault::from(fault)),
     };
     let refused = Vec::from_slice(alloc, script.refused())?;
-    let turn = Turn::new(alloc, accepted, refused)?;
+    let turn = Turn::new(alloc, accepted.linked(), refused)?;
     match Debugger::new(alloc, machine, script, turn, limit) {
         Ok(debugger) => Ok(debugger),
         Err(_) => Err(Fault::Memory),

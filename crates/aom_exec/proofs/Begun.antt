@@ -5,7 +5,7 @@ use Rattle.std.specs.Prelude.{is_some}
 use Rattle.std.proofs.lemmas.Bool.{cases_lt, true≢false}
 use Rattle.std.proofs.lemmas.Option.{none-some, same_Some}
 use Rattle.aom_active.specs.Agrees.{Active}
-use Rattle.aom_budget.specs.Heights.{HasHeights}
+use Rattle.aom_bounds.specs.Heights.{HasHeights}
 use Rattle.aom_cells.specs.Heap.{class_at}
 use Rattle.aom_classes.specs.Roles.{destructor_of, role_of}
 use Rattle.aom_clients.specs.Clients as kept

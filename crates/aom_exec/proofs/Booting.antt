@@ -12,10 +12,10 @@ use Rattle.aom_frames.specs.declared.task.Task.TheVariants.{Run as Runs_frame, T
 use Rattle.aom_frames.specs.declared.dispatch.Dispatch.TheVariants.{Main}
 use Rattle.aom_sound.specs.State.{AtRoot, frame_of, Run, Trapped, Dispatched, Of_main, A_mark}
 use Rattle.aom_rules.specs.Typing.{Typing}
-use Rattle.aom_verify.specs.Strongest.{IsStrongest}
+use Rattle.aom_bounds.specs.Strongest.{IsStrongest}
+use Rattle.aom_bounds.specs.Depths.{HasDepths}
+use Rattle.aom_bounds.specs.Heights.{HasHeights}
 use Rattle.aom_budget.specs.Budgets.{CostsWithin}
-use Rattle.aom_budget.specs.Depths.{HasDepths}
-use Rattle.aom_budget.specs.Heights.{HasHeights}
 use Rattle.aom_sound.specs.Places.{Place, Register, Entry, Field, Going, Elsewhere, Root, Session, In_service, Queued}
 use Rattle.aom_sound.specs.Laws.{BootKeeps, StepKeeps, LinkedIsWired}
 use Rattle.aom_sound.proofs.ClientsKeep.{clients_keep}

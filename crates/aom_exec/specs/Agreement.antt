@@ -14,7 +14,7 @@ use Rattle.aom_shape.specs.declared.kind.Kind.TheVariants.{Maybe, Null, Own, Uns
 use Rattle.aom_sound.specs.Owned.{over}
 use Rattle.aom_sound.specs.Places.{Elsewhere, Entry, Field, Object, Place, Register, Root, held, named}
 use Rattle.aom_sound.specs.State.{An_object, Frame, Run, State, Task, field_place, home_holder, thing_holder}
-use Rattle.aom_verify.specs.Strongest.{IsStrongest}
+use Rattle.aom_bounds.specs.Strongest.{IsStrongest}
 use Rattle.aom_parts.specs.declared.parts.Parts.{Parts}
 use Rattle.aom_parts.specs.Agrees.{word_at}
 use Rattle.aom_parts.specs.Places.{value}

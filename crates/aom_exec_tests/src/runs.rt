@@ -87,7 +87,7 @@ fn write_on(
     trace: &mut Vec<u8>,
 ) -> Result<Progress, AllocError> {
     let refused = vec![in alloc; pace.refused]?;
-    let mut turn = Turn::new(alloc, machine.accepted(), refused)?;
+    let mut turn = Turn::new(alloc, machine.accepted().linked(), refused)?;
     let progress = go_on(machine, &mut turn, pace.is_far);
     match add_lines(trace, &turn) {
         Ok(()) => Ok(progress),

@@ -20,8 +20,8 @@ use Rattle.aom_shape.specs.declared.flow.Flow.{Flow as Changed}
 use Rattle.aom_shape.specs.Whys.{why_number}
 use Rattle.aom_shape.specs.declared.why.Why.{Why}
 use Rattle.aom_shape.specs.declared.why.Why.TheVariants.{RegisterKind, OwnedAtLeave, OwnedAtReturn, CleanupAtReturn, PopEmpty, LeaveNotAllowed, FieldNotNull, FieldsLeft, NotFresh, StillFresh, NotIdle, NotIssued, IssuedAtLeave, IssuedAtReturn, StillActive, NotCancelled, MessageAtLeave, MessageAtReturn, NotAdded, EntryState, QuietBroken}
+use Rattle.aom_bounds.specs.Shapes.{HasTyping, Shapes}
 use Rattle.aom_verify.specs.Arrivals.{StopsAt}
-use Rattle.aom_verify.specs.Shapes.{HasTyping, Shapes}
 use Rattle.aom_explaining.specs.Explained.{KnownThere, is_need, state_text, tells_why, ways_differ}
 use Rattle.aom_explaining.specs.Explained.KnownThere.{elsewhere, known, unrefused}
 

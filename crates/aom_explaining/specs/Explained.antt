@@ -9,8 +9,8 @@ use Rattle.aom_shape.specs.Needs.{Flow}
 use Rattle.aom_shape.specs.Shape.{Shape}
 use Rattle.aom_shape.specs.Whys.{why_number}
 use Rattle.aom_shape.specs.declared.why.Why.{Why}
+use Rattle.aom_bounds.specs.Shapes.{HasTyping, Shapes}
 use Rattle.aom_verify.specs.Arrivals.{StopsAt}
-use Rattle.aom_verify.specs.Shapes.{HasTyping, Shapes}
 use Rattle.aom_verify.specs.declared.refusal.Refusal.{Refusal}
 use Rattle.aom_verify.specs.declared.refusal.Refusal.TheVariants as refusals
 use Rattle.aom_explain.specs.Asm.{asm_texts}

@@ -4,7 +4,7 @@ ghost use Rattle.std.specs.List.{list_any};
 ghost use Rattle.aom_lines.specs.Turn.{step_lines};
 
 use crate::refusals::Refusals;
-use aom_budget::Accepted;
+use aom_classes::Linked;
 use aom_transcript::Line;
 use std::alloc::{AllocError, Global};
 use std::marker::Model;
@@ -37,12 +37,12 @@ impl Model for Turn {
 
 impl Turn {
     /// No lines, and room for all that one step of the image's machine can write, after as many as may be there before.
-    pub fn new(alloc: Global, accepted: &Accepted, refused: Vec<u32>) -> Result<Turn, AllocError>
+    pub fn new(alloc: Global, linked: &Linked, refused: Vec<u32>) -> Result<Turn, AllocError>
         ensures lines { IfOk result (λ t. t.lines ≡ []) }
         ensures refused { IfOk result (λ t. t.refused ≡ refused.items) }
-        ensures room { IfOk result (λ t. t.room ≡ 64 + step_lines accepted.now.header.messages) }
+        ensures room { IfOk result (λ t. t.room ≡ 64 + step_lines linked.now.header.messages) }
     {
-        let header = accepted.checked().linked().image().header();
+        let header = linked.image().header();
         let room = header.messages as usize + EARLIER_LINES + OTHER_LINES;
         let lines = Vec::with_capacity(alloc, room)?;
         let refused = Refusals::new(alloc, refused)?;

@@ -1,10 +1,8 @@
-use aom_budget::{Accepted, accept};
-use aom_classes::link;
+use aom_classes::{Linked, link};
 use aom_codec::decode;
 use aom_image::ClassNumber;
 use aom_lines::Turn;
 use aom_transcript::{Ending, Line, Page};
-use aom_verify::check;
 use std::alloc::Global;
 use std::test::Fail;
 
@@ -16,11 +14,9 @@ const STOPS: [u8; 80] = [
     0, 0, 0,
 ];
 
-fn accepted(alloc: Global, bytes: &[u8]) -> Option<Accepted> {
+fn linked(alloc: Global, bytes: &[u8]) -> Option<Linked> {
     let image = decode(alloc, bytes).ok()?;
-    let linked = link(alloc, image).ok()?;
-    let checked = check(alloc, linked).ok()?;
-    accept(alloc, checked).ok()
+    link(alloc, image).ok()
 }
 
 #[test]
@@ -63,10 +59,10 @@ fn a_page_has_room_for_many_lines(rt: HostRuntime) {
 
 #[test]
 fn a_turn_has_its_lines_and_its_refusals(rt: HostRuntime) -> Result<(), Fail> {
-    let Some(accepted) = accepted(rt.alloc(), &STOPS) else {
-        return Err(Fail::from("the image is not accepted"));
+    let Some(linked) = linked(rt.alloc(), &STOPS) else {
+        return Err(Fail::from("the image is not linked"));
     };
-    let mut turn = Turn::new(rt.alloc(), &accepted, vec![in rt.alloc(); 9, 2, 2]?)?;
+    let mut turn = Turn::new(rt.alloc(), &linked, vec![in rt.alloc(); 9, 2, 2]?)?;
     for (number, refused) in [(1, false), (2, true), (3, false), (9, true), (10, false)] {
         assert_eq!(rt; turn.is_refused(number), refused, "request {number}");
     }

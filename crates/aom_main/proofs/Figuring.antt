@@ -7,13 +7,13 @@ use Rattle.aom_classes.specs.declared.fault.LinkFault.TheVariants as links
 use Rattle.aom_image.specs.Image.{Image}
 use Rattle.aom_classes.specs.Linked.{IsLinked}
 use Rattle.aom_rules.specs.Typing.{Typing, IsTyped}
+use Rattle.aom_bounds.specs.Depths.{HasDepths}
+use Rattle.aom_bounds.specs.Heights.{HasHeights}
+use Rattle.aom_bounds.proofs.Within.{all_high, all_within}
 use Rattle.aom_budget.specs.Budgets.{BudgetsWithin}
-use Rattle.aom_budget.specs.Depths.{HasDepths}
 use Rattle.aom_budget.specs.Faults.{Refuses as RefusesBudget}
-use Rattle.aom_budget.specs.Heights.{HasHeights}
 use Rattle.aom_budget.specs.declared.fault.BudgetFault.{BudgetFault}
 use Rattle.aom_budget.proofs.Budgeting.{refuses_none}
-use Rattle.aom_budget.proofs.Limits.{all_high, all_within}
 use Rattle.aom_run.specs.Runs.{after}
 use Rattle.aom_main.specs.declared.status.ExitStatus.{ExitStatus}
 use Rattle.aom_main.specs.declared.status.ExitStatus.TheVariants as statuses

@@ -9,7 +9,7 @@ use Rattle.aom_classes.specs.declared.fault.LinkFault.{LinkFault}
 use Rattle.aom_classes.specs.declared.fault.LinkFault.TheVariants.{ClassOrder, CallOrder, MissingRole, DoubleRole, RoleShape, BadJump, BadLoop, NoMain, OutOfMemory}
 use Rattle.aom_classes.specs.Linked.{IsLinked}
 use Rattle.aom_rules.specs.Typing.{Typing, IsTyped}
-use Rattle.aom_verify.specs.Strongest.{IsStrongest}
+use Rattle.aom_bounds.specs.Strongest.{IsStrongest}
 use Rattle.aom_budget.specs.Faults.{RefusesOrWants as RefusesBudget}
 use Rattle.aom_budget.specs.declared.fault.BudgetFault.{BudgetFault}
 use Rattle.aom_budget.specs.declared.fault.BudgetFault.TheVariants.{OverBudget, TooDeep, CleanupTooDeep}

@@ -8,7 +8,7 @@ use Rattle.std.specs.Prelude.{◌⊎◌}
 use Rattle.aom_image.specs.Image.{Image}
 use Rattle.aom_classes.specs.Linked.{IsLinked}
 use Rattle.aom_rules.specs.Typing.{Typing}
-use Rattle.aom_verify.specs.Strongest.{IsStrongest}
+use Rattle.aom_bounds.specs.Strongest.{IsStrongest}
 use Rattle.aom_budget.specs.Budgets.{CostsWithin}
 use Rattle.aom_prices.specs.Dispatches.{IsAffordable}
 use Rattle.aom_prices.specs.Prices.{Prices}

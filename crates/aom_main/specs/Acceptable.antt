@@ -7,10 +7,10 @@ use Rattle.aom_codec.specs.Format.{first_fault}
 use Rattle.aom_classes.specs.Linked.{IsLinked}
 use Rattle.aom_classes.specs.Faults.{Fails}
 use Rattle.aom_rules.specs.Typing.{Typing, IsTyped}
+use Rattle.aom_bounds.specs.Depths.{DepthsWithin}
+use Rattle.aom_bounds.specs.Heights.{HeightsWithin}
 use Rattle.aom_verify.specs.Refusals.{Refuses as RefusesTyping}
 use Rattle.aom_budget.specs.Budgets.{BudgetsWithin}
-use Rattle.aom_budget.specs.Depths.{DepthsWithin}
-use Rattle.aom_budget.specs.Heights.{HeightsWithin}
 use Rattle.aom_budget.specs.Faults.{Refuses as RefusesBudget}
 use Rattle.aom_main.specs.declared.faults.Fault.{Fault}
 use Rattle.aom_main.specs.declared.faults.Fault.TheVariants.{Load, Link, Verify, Budget, Memory}

@@ -3,9 +3,9 @@ use Rattle.std.specs.Prelude.{ℕ, ◌≡◌, ◌⊎◌, true, List, ◌++◌, O
 use Rattle.aom_image.specs.Image.{Image}
 use Rattle.aom_classes.specs.Linked.{IsLinked}
 use Rattle.aom_rules.specs.Typing.{Typing, IsTyped}
+use Rattle.aom_bounds.specs.Depths.{HasDepths}
+use Rattle.aom_bounds.specs.Heights.{HasHeights}
 use Rattle.aom_budget.specs.Budgets.{BudgetsWithin}
-use Rattle.aom_budget.specs.Depths.{HasDepths}
-use Rattle.aom_budget.specs.Heights.{HasHeights}
 use Rattle.aom_budget.specs.Faults.{Refuses}
 use Rattle.aom_budget.specs.Figures.{Figures, AreFigures}
 use Rattle.aom_budget.specs.declared.fault.BudgetFault.{BudgetFault}

@@ -89,7 +89,7 @@ fn last_booted(
     requires fresh { IsFresh machine.old }
     ensures ok { IfOk result (λ last. IsLast accepted.now (hearing refused.items limit (natives_of machine.old) script.now.timed) last) }
 {
-    let mut turn = Turn::new(alloc, accepted, refused)?;
+    let mut turn = Turn::new(alloc, accepted.linked(), refused)?;
     let outcome = run(machine, script, &mut turn, limit, &mut Nowhere);
     Ok(Last {
         ending: ending_of(outcome),

@@ -55,7 +55,7 @@ fn run_booted<W: Sink>(
     ensures err { IfErr result (λ fault. (fault ≡ Memory) × (W.out out.new ≡ W.out out.old)) }
 {
     let refused = Vec::from_slice(alloc, script.refused())?;
-    let mut turn = Turn::new(alloc, accepted, refused)?;
+    let mut turn = Turn::new(alloc, accepted.linked(), refused)?;
     Ok(run(machine, script, &mut turn, limit, out))
 }
 

@@ -7,7 +7,7 @@ use Rattle.aom_instructions.specs.declared.instr.Instr.TheVariants.{Call, Trap}
 use Rattle.aom_frames.specs.declared.task.Task.{Task as Held_task}
 use Rattle.aom_frames.specs.declared.task.Task.TheVariants.{Run as Runs_frame, Trapped as Is_trap, Destroy as Destroys, Unwind as Unwinds, Dispatched as Ends}
 use Rattle.aom_sound.specs.Calls.{result_register}
-use Rattle.aom_budget.specs.Calls.{Among, destructors, thing_class}
+use Rattle.aom_bounds.specs.Calls.{Among, destructors, thing_class}
 use Rattle.aom_sound.specs.Places.{Entry, Going, Object, Cell, held}
 use Rattle.aom_sound.specs.State.{Task, Run, Trapped, Closing, Destroy, Unwind, Dispatched, Item, An_object, An_operation, A_mark, State}
 

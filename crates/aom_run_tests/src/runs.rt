@@ -54,7 +54,7 @@ fn run_accepted(
     let Ok(mut machine) = Machine::boot(alloc, accepted, Vec::new(alloc)) else {
         return None;
     };
-    let mut turn = Turn::new(alloc, accepted, Vec::new(alloc)).ok()?;
+    let mut turn = Turn::new(alloc, accepted.linked(), Vec::new(alloc)).ok()?;
     Some(run(&mut machine, &script, &mut turn, 1, sink))
 }
 

@@ -7,10 +7,10 @@ use Rattle.aom_shape.specs.Tables.{at}
 use Rattle.aom_shape.specs.declared.piles.Node.{Node}
 use Rattle.aom_shape.specs.declared.shape.Kept.{Kept}
 use Rattle.aom_shape.proofs.Lists.{at_set_other}
+use Rattle.aom_bounds.specs.Shapes.{Shapes, IsBelow}
 use Rattle.aom_verify.specs.Change.{IsChange, step_then, then}
-use Rattle.aom_verify.specs.Shapes.{Shapes}
 use Rattle.aom_verify.specs.States.{shapes_of}
-use Rattle.aom_verify.specs.Sweep.{AppliesAt, IsAhead, IsBelow, SameBut, SameUpTo}
+use Rattle.aom_verify.specs.Sweep.{AppliesAt, IsAhead, SameBut, SameUpTo}
 use Rattle.aom_verify.specs.declared.change.Change.{Change}
 use Rattle.aom_verify.specs.declared.change.Change.TheVariants.{Nothing}
 use Rattle.aom_verify.specs.declared.change.Step.{Step}

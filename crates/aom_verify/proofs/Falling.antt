@@ -13,8 +13,8 @@ use Rattle.aom_shape.specs.declared.kind.Filling.{Filling}
 use Rattle.aom_shape.specs.declared.kind.Filling.TheVariants.{Perhaps}
 use Rattle.aom_shape.specs.declared.kind.Kind.{Kind}
 use Rattle.aom_shape.specs.declared.kind.Kind.TheVariants.{Unset}
+use Rattle.aom_bounds.specs.Shapes.{Shapes}
 use Rattle.aom_verify.specs.Change.{kind_rank, filling_rank, states_rank, shape_rank, IsChange, then}
-use Rattle.aom_verify.specs.Shapes.{Shapes}
 use Rattle.aom_verify.specs.declared.change.Change.{Change}
 use Rattle.aom_verify.specs.declared.change.Change.TheVariants.{Nothing, Fell, Reached}
 

@@ -12,12 +12,12 @@ use Rattle.aom_shape.specs.Tables.{at}
 use Rattle.aom_shape.specs.declared.why.Why.{Why}
 use Rattle.aom_shape.proofs.Ordering.{reflexive, transitive}
 use Rattle.aom_shape.proofs.Lists.{at_within, at_set_here, at_set_other}
+use Rattle.aom_bounds.specs.Shapes.{Shapes, Meets, AllMet, IsBelow}
 use Rattle.aom_verify.specs.Arrivals.{Arrives, AllArrive, EachArrives, JoinFails}
 use Rattle.aom_verify.specs.Arrivals.Arrives.{met as met_there}
 use Rattle.aom_verify.specs.Arrivals.IsRefused.{without_meet}
 use Rattle.aom_verify.specs.Change.{place_rank, unreached, IsChange, then}
-use Rattle.aom_verify.specs.Shapes.{Shapes, Meets, AllMet}
-use Rattle.aom_verify.specs.Sweep.{IsBelow, AllWithin, Joins, CannotJoin}
+use Rattle.aom_verify.specs.Sweep.{AllWithin, Joins, CannotJoin}
 use Rattle.aom_verify.specs.declared.change.Change.{Change}
 use Rattle.aom_verify.specs.declared.change.Change.TheVariants.{Nothing, Fell, Reached}
 use Rattle.aom_verify.proofs.Ordering.{meets_below, below_self, below_along}

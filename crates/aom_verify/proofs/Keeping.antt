@@ -11,9 +11,9 @@ use Rattle.aom_shape.specs.declared.piles.Node.{Node}
 use Rattle.aom_shape.specs.declared.shape.Kept.{Kept}
 use Rattle.aom_shape.specs.declared.why.Why.{Why}
 use Rattle.aom_shape.proofs.Lists.{at_within, at_set_here, at_set_other}
+use Rattle.aom_bounds.specs.Shapes.{Shapes}
 use Rattle.aom_verify.specs.Entries.{IsFew}
 use Rattle.aom_verify.specs.Faults.{JoinStops}
-use Rattle.aom_verify.specs.Shapes.{Shapes}
 use Rattle.aom_verify.specs.States.{AreKept, Lowers, shape_of, shapes_of}
 use Rattle.aom_verify.specs.Sweep.{Joins}
 use Rattle.aom_verify.specs.declared.change.Change.TheVariants.{Nothing, Fell, Reached}

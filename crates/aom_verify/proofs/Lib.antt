@@ -9,6 +9,5 @@ pub mod Ways
 pub mod Visiting
 pub mod Sweeping
 pub mod Stopping
-pub mod Typings
 pub mod Places
 pub mod Refusing

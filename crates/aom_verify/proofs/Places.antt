@@ -6,8 +6,8 @@ use Rattle.aom_image.specs.WellFormed.{WellFormed, MethodFits}
 use Rattle.aom_image.specs.declared.method.Method.{Method}
 use Rattle.aom_classes.proofs.Facts.{all_there}
 use Rattle.aom_shape.specs.Shape.{Shape}
+use Rattle.aom_bounds.specs.Shapes.{Shapes}
 use Rattle.aom_verify.specs.Entries.{HasRoom}
-use Rattle.aom_verify.specs.Shapes.{Shapes}
 use Rattle.aom_verify.specs.Sweep.{HasPlaces, Spans}
 
 pub some_places : (p : Image) (m : ℕ) (d : Method) → WellFormed p → method_at p m ≡ Some d → 0 < length d.code

@@ -3,11 +3,11 @@ use Rattle.std.proofs.Common.{◌≡◌, ℕ, ◌<◌, IsSome, refl}
 use Rattle.aom_image.specs.Image.{Image}
 use Rattle.aom_image.specs.Views.{method_at}
 use Rattle.aom_rules.specs.Typing.{Typing, IsTyped}
+use Rattle.aom_bounds.specs.Shapes.{HasTyping}
+use Rattle.aom_bounds.proofs.Typings.{method_typed}
 use Rattle.aom_verify.specs.Refusals.{RefusesMethod, RefusesOrWants}
-use Rattle.aom_verify.specs.Shapes.{HasTyping}
 use Rattle.aom_verify.specs.declared.refusal.Refusal.{Refusal}
 use Rattle.aom_verify.specs.declared.refusal.Refusal.TheVariants.{OutOfMemory, Refused}
-use Rattle.aom_verify.proofs.Typings.{method_typed}
 
 -- the methods below are typed, and this one is refused
 pub refuses : (p : Image) (m : ℕ) (r : Refusal) → IsSome (method_at p m) → ((k : ℕ) → k < m → HasTyping p k) → RefusesMethod p m r → RefusesOrWants p r

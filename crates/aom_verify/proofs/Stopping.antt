@@ -7,12 +7,12 @@ use Rattle.aom_shape.specs.Shape.{Shape}
 use Rattle.aom_shape.specs.Tables.{at}
 use Rattle.aom_shape.specs.Arguments.{entry_shape}
 use Rattle.aom_shape.specs.declared.why.Why.{Why}
+use Rattle.aom_bounds.specs.Shapes.{Shapes}
 use Rattle.aom_verify.specs.Arrivals.{FailsFor, IsRefused, StopsAt}
 use Rattle.aom_verify.specs.Arrivals.FailsFor.{by_meet, by_rule}
 use Rattle.aom_verify.specs.Arrivals.IsRefused.{by_need, without_meet}
 use Rattle.aom_verify.specs.Faults.{JoinStops, Stops, refusal_of}
 use Rattle.aom_verify.specs.Refusals.{RefusesMethod}
-use Rattle.aom_verify.specs.Shapes.{Shapes}
 use Rattle.aom_verify.specs.Sweep.{Fails, Flows, HasPlaces, Joins, Keeps}
 use Rattle.aom_verify.specs.declared.change.Change.{Change}
 use Rattle.aom_verify.specs.declared.states.Fault.{Fault}

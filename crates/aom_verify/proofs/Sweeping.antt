@@ -9,12 +9,12 @@ use Rattle.aom_shape.specs.Tables.{at}
 use Rattle.aom_shape.specs.Arguments.{entry_shape}
 use Rattle.aom_shape.specs.declared.why.Why.{Why}
 use Rattle.aom_shape.proofs.Lists.{at_set_here, at_set_other, at_past}
+use Rattle.aom_bounds.specs.Shapes.{Shapes, IsBelow, IsMethodTyped, HasTyping}
+use Rattle.aom_bounds.specs.Strongest.{IsMethodStrongest}
 use Rattle.aom_verify.specs.Arrivals.{AllArrive, StatesFail}
 use Rattle.aom_verify.specs.Arrivals.Arrives.{begins}
 use Rattle.aom_verify.specs.Change.{step_then}
-use Rattle.aom_verify.specs.Shapes.{Shapes, IsMethodTyped, HasTyping}
-use Rattle.aom_verify.specs.Strongest.{IsMethodStrongest}
-use Rattle.aom_verify.specs.Sweep.{Spans, IsBelow, Keeps, Visits, Sweeps, Settles, NoTypingBelow}
+use Rattle.aom_verify.specs.Sweep.{Spans, Keeps, Visits, Sweeps, Settles, NoTypingBelow}
 use Rattle.aom_verify.specs.declared.change.Change.TheVariants.{Nothing}
 use Rattle.aom_verify.specs.declared.change.Step.{Step}
 use Rattle.aom_verify.proofs.Ahead.{applies_still, then_first, then_last, then_nothing}

@@ -9,11 +9,11 @@ use Rattle.aom_shape.specs.Shape.{Shape}
 use Rattle.aom_shape.specs.Tables.{at}
 use Rattle.aom_shape.specs.declared.why.Why.{Why}
 use Rattle.aom_rules.proofs.Monotone.{needs_more, flows_more}
+use Rattle.aom_bounds.specs.Shapes.{Shapes, AllMet, IsBelow, Applies, IsMethodTyped}
 use Rattle.aom_verify.specs.Arrivals.{Arrives, IsOneOf, AllArrive, EachArrives, JoinFails, StatesFail}
 use Rattle.aom_verify.specs.Arrivals.Arrives.{led}
 use Rattle.aom_verify.specs.Arrivals.IsRefused.{by_need}
-use Rattle.aom_verify.specs.Shapes.{Shapes, AllMet, Applies, IsMethodTyped}
-use Rattle.aom_verify.specs.Sweep.{Spans, IsBelow, Joins, CannotJoin, Flows, Fails, AppliesAt, IsAhead, Visits, NoTypingBelow, AllWithin, WithinMethod}
+use Rattle.aom_verify.specs.Sweep.{Spans, Joins, CannotJoin, Flows, Fails, AppliesAt, IsAhead, Visits, NoTypingBelow, AllWithin, WithinMethod}
 use Rattle.aom_verify.specs.declared.change.Change.TheVariants.{Nothing}
 use Rattle.aom_verify.specs.declared.change.Step.{Step}
 use Rattle.aom_verify.proofs.Ahead.{nothing_ahead}

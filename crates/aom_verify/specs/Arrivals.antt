@@ -11,7 +11,7 @@ use Rattle.aom_shape.specs.Shape.{Shape}
 use Rattle.aom_shape.specs.Tables.{at}
 use Rattle.aom_shape.specs.Arguments.{entry_shape}
 use Rattle.aom_shape.specs.declared.why.Why.{Why}
-use Rattle.aom_verify.specs.Shapes.{Shapes}
+use Rattle.aom_bounds.specs.Shapes.{Shapes}
 
 -- it is one of those flows
 abbrev pub IsOneOf : List Flow → Flow → Type 0

@@ -6,8 +6,8 @@ use Rattle.aom_image.specs.declared.method.Method.{Method}
 use Rattle.aom_shape.specs.Needs.{Flow}
 use Rattle.aom_shape.specs.Shape.{Shape}
 use Rattle.aom_shape.specs.Tables.{at}
+use Rattle.aom_bounds.specs.Shapes.{Shapes}
 use Rattle.aom_verify.specs.Change.{unreached_count}
-use Rattle.aom_verify.specs.Shapes.{Shapes}
 
 pub record HasFewEntries (s : Shapes) : Type 0 where
   pub each : (pc : ℕ) (sh : Shape) → at None s pc ≡ Some sh → length sh.entries + unreached_count s < length s

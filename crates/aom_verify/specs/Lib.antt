@@ -1,9 +1,7 @@
-pub mod Shapes
 pub mod Arrivals
 pub mod Change
 pub mod Entries
 pub mod States
 pub mod Sweep
 pub mod Faults
-pub mod Strongest
 pub mod Refusals

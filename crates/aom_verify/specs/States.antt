@@ -8,8 +8,8 @@ use Rattle.aom_shape.specs.Shape.{Known, Shape}
 use Rattle.aom_shape.specs.Tables.{at}
 use Rattle.aom_shape.specs.declared.piles.Node.{Node}
 use Rattle.aom_shape.specs.declared.shape.Kept.{Kept}
+use Rattle.aom_bounds.specs.Shapes.{Shapes}
 use Rattle.aom_verify.specs.Entries.{HasFewEntries}
-use Rattle.aom_verify.specs.Shapes.{Shapes}
 
 pub record States : Type 0 where
   -- none where a place is not reached

@@ -9,9 +9,9 @@ use Rattle.aom_shape.specs.Shape.{Shape}
 use Rattle.aom_shape.specs.Needs.{Flow, AllTrue}
 use Rattle.aom_rules.specs.Rules.{rule_needs, flows, rule}
 use Rattle.aom_shape.specs.declared.why.Why.{Why}
+use Rattle.aom_bounds.specs.Shapes.{Shapes, AllMet, IsBelow, Applies, IsMethodTyped}
 use Rattle.aom_verify.specs.Arrivals.{AllArrive, EachArrives}
 use Rattle.aom_verify.specs.Change.{IsChange, unreached_count}
-use Rattle.aom_verify.specs.Shapes.{Shapes, Meets, AllMet, Applies, IsMethodTyped}
 use Rattle.aom_verify.specs.declared.change.Change.{Change}
 use Rattle.aom_verify.specs.declared.change.Change.TheVariants.{Nothing}
 use Rattle.aom_verify.specs.declared.change.Step.{Step}
@@ -27,10 +27,6 @@ pub record Spans (p : Image) (m : ℕ) (s : Shapes) : Type 0 where
   pub method : Method
   pub is : method_at p m ≡ Some method
   pub size : length s ≡ length method.code
-
--- wherever the second list has a state, the first has one that says no more
-pub record IsBelow (t s : Shapes) : Type 0 where
-  pub each : (pc : ℕ) (sh : Shape) → at None s pc ≡ Some sh → Meets t pc sh
 
 -- each way is to one of so many places
 abbrev pub AllWithin : ℕ → List Flow → Type 0

@@ -19,7 +19,7 @@ pub struct Sheet {
 }
 
 impl Model for Sheet {
-    ghost use Rattle.aom_verify.specs.Shapes.{Shapes};
+    ghost use Rattle.aom_bounds.specs.Shapes.{Shapes};
     ghost use Rattle.aom_verify.specs.States.{shapes};
 
     ghost Value = { Shapes };

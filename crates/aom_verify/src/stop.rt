@@ -1,8 +1,8 @@
 //! What is known where a method without a typing fails.
 ghost use Rattle.std.specs.Prelude.{IfNone, IfOk, IfSome, IsSome};
 ghost use Rattle.aom_image.specs.Views.{method_at};
+ghost use Rattle.aom_bounds.specs.Shapes.{HasTyping};
 ghost use Rattle.aom_verify.specs.Arrivals.{StopsAt};
-ghost use Rattle.aom_verify.specs.Shapes.{HasTyping};
 
 use crate::checked::place_count;
 use crate::sheet::Sheet;

@@ -3,7 +3,7 @@ use Rattle.std.proofs.Common.{rules, ◌≡◌, ◌<◌, List, length, ◌∙◌
 use Rattle.aom_image.specs.Image.{Image}
 use Rattle.aom_image.specs.WellFormed.{WellFormed}
 use Rattle.aom_image.specs.declared.method.Method.{Method}
-use Rattle.aom_verify.proofs.Typings.{within_method}
+use Rattle.aom_bounds.proofs.Typings.{within_method}
 use Rattle.aom_budget.specs.Pricing.{IsMethodPriced}
 use Rattle.aom_budget.proofs.Priced.{are_priced, priced_first, priced_more}
 use Rattle.aom_budget.proofs.prices.prices_of.Goals as goal

@@ -2,7 +2,7 @@
 use Rattle.std.proofs.Common.{rules, ◌≡◌, ◌<◌, List, length, ◌∙◌, ap, arith}
 use Rattle.aom_image.specs.Image.{Image}
 use Rattle.aom_image.specs.declared.method.Method.{Method}
-use Rattle.aom_verify.proofs.Typings.{within_method}
+use Rattle.aom_bounds.proofs.Typings.{within_method}
 use Rattle.aom_budget_tests.proofs.accepting.price.Goals as goal
 
 pub price-requires : goal.price-requires

@@ -2,7 +2,7 @@
 use Rattle.std.proofs.Common.{rules, ◌≡◌, ◌<◌, List, length, ◌∙◌, ap, arith}
 use Rattle.aom_image.specs.Image.{Image}
 use Rattle.aom_image.specs.declared.method.Method.{Method}
-use Rattle.aom_verify.proofs.Typings.{within_method}
+use Rattle.aom_bounds.proofs.Typings.{within_method}
 use Rattle.aom_verify_tests.proofs.programs.stop_in.Goals as goal
 
 pub stop_of-requires : goal.stop_of-requires

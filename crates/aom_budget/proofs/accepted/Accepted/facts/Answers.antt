@@ -2,15 +2,15 @@
 use Rattle.std.proofs.Common.{◌∙◌, sym, subst}
 use Rattle.aom_image.specs.Image.{Image}
 use Rattle.aom_rules.specs.Typing.{Typing}
-use Rattle.aom_verify.specs.Strongest.{IsStrongest}
+use Rattle.aom_bounds.specs.Strongest.{IsStrongest}
+use Rattle.aom_bounds.specs.Depths.{DepthsWithin}
+use Rattle.aom_bounds.specs.Heights.{HeightsWithin}
+use Rattle.aom_bounds.proofs.Within.{all_within, all_high}
 use Rattle.aom_prices.specs.Dispatches.{IsAffordable}
 use Rattle.aom_prices.specs.Prices.{Prices}
 use Rattle.aom_classes.specs.Linked.{IsLinked}
 use Rattle.aom_budget.specs.Budgets.{CostsWithin}
-use Rattle.aom_budget.specs.Depths.{DepthsWithin}
-use Rattle.aom_budget.specs.Heights.{HeightsWithin}
 use Rattle.aom_budget.proofs.Budgeting.{affordable}
-use Rattle.aom_budget.proofs.Limits.{all_within, all_high}
 use Rattle.aom_budget.proofs.accepted.Accepted.facts.Goals as goal
 
 pub returns-clause-affordable : goal.returns-clause-affordable

@@ -1,6 +1,6 @@
 -- Each table has one method more.
 use Rattle.std.proofs.Common.{arith}
-use Rattle.aom_verify.proofs.Typings.{method_within}
+use Rattle.aom_bounds.proofs.Typings.{method_within}
 use Rattle.aom_budget.proofs.Filling.{filled_more}
 use Rattle.aom_budget.proofs.extents.Extents.find.Goals as goal
 

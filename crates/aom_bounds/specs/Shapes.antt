@@ -24,6 +24,10 @@ abbrev pub AllMet : Shapes → List Flow → Type 0
 AllMet s [] = Unit {0}
 AllMet s (flow ∷ flows) = Meets s flow.0 flow.1 × AllMet s flows
 
+-- wherever the second list has a state, the first has one that says no more
+pub record IsBelow (t s : Shapes) : Type 0 where
+  pub each : (pc : ℕ) (sh : Shape) → at None s pc ≡ Some sh → Meets t pc sh
+
 -- the rule applies to that state, and its flows lead on
 pub record Applies (p : Image) (m : ℕ) (s : Shapes) (pc : ℕ) (sh : Shape) : Type 0 where
   pub instr : Instr

@@ -3,7 +3,7 @@ use Rattle.std.specs.Prelude.{ℕ, suc, ◌≤◌, ◌<◌, List, IsSome}
 use Rattle.aom_image.specs.Image.{Image}
 use Rattle.aom_image.specs.Views.{method_at}
 use Rattle.aom_shape.specs.Tables.{at}
-use Rattle.aom_budget.specs.Calls.{MayCall}
+use Rattle.aom_bounds.specs.Calls.{MayCall}
 
 -- so many frames, the lowest one of that method, and each one called by an instruction of the one below it
 pub data Frames (p : Image) : ℕ → ℕ → Type 0 where

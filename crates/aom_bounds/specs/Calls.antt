@@ -14,8 +14,8 @@ use Rattle.aom_shape.specs.Shape.{Shape}
 use Rattle.aom_shape.specs.Tables.{at}
 use Rattle.aom_shape.specs.declared.kind.Kind.{Kind}
 use Rattle.aom_shape.specs.declared.kind.Kind.TheVariants.{Unset, Word, Null, Own, Maybe}
-use Rattle.aom_verify.specs.Shapes.{Shapes}
-use Rattle.aom_verify.specs.Strongest.{IsMethodStrongest}
+use Rattle.aom_bounds.specs.Shapes.{Shapes}
+use Rattle.aom_bounds.specs.Strongest.{IsMethodStrongest}
 
 -- one method, or none
 abbrev pub listed : Option ℕ → List ℕ

@@ -5,8 +5,7 @@ use Rattle.aom_image.specs.Views.{method_at}
 use Rattle.aom_shape.specs.Shape.{Shape}
 use Rattle.aom_shape.specs.Tables.{at}
 use Rattle.aom_rules.specs.Typing.{Typing, IsTyped}
-use Rattle.aom_verify.specs.Shapes.{Shapes, IsMethodTyped}
-use Rattle.aom_verify.specs.Sweep.{IsBelow}
+use Rattle.aom_bounds.specs.Shapes.{Shapes, IsBelow, IsMethodTyped}
 
 -- the strongest of a method
 pub record IsMethodStrongest (p : Image) (m : ℕ) (s : Shapes) : Type 0 where

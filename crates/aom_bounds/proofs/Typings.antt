@@ -9,8 +9,8 @@ use Rattle.aom_shape.specs.Shape.{Shape}
 use Rattle.aom_shape.specs.Tables.{at}
 use Rattle.aom_rules.specs.Typing.{Typing, IsTyped, Passes, AllLead, shape_at}
 use Rattle.aom_shape.proofs.Lists.{at_past, there}
-use Rattle.aom_verify.specs.Shapes.{Shapes, AllMet, Applies, IsMethodTyped, HasTyping}
-use Rattle.aom_verify.specs.Strongest.{IsMethodStrongest, IsStrongest}
+use Rattle.aom_bounds.specs.Shapes.{Shapes, AllMet, IsBelow, Applies, IsMethodTyped, HasTyping}
+use Rattle.aom_bounds.specs.Strongest.{IsMethodStrongest, IsStrongest}
 
 leads_all : (t : Typing) (m : ℕ) (ways : List Flow) → AllMet (at [] t m) ways → AllLead t m ways
 leads_all t m [] h = tt
@@ -39,6 +39,10 @@ states_typed p t m h some = record {
   each = λ pc sh e. applies p t m pc sh (h.each m pc sh e);
   entry = let k = h.entry m some in record { next = k.0; there = k.1; no_more = k.2 };
 }
+
+-- and says no more than the strongest one
+pub says_most : (p : Image) (strongest t : Typing) → IsStrongest p strongest → IsTyped p t → (m : ℕ) → IsSome (method_at p m) → IsBelow (at [] t m) (at [] strongest m)
+says_most p strongest t h typed m some = (h.each m some).least (at [] t m) (states_typed p t m typed some)
 
 pub method_typed : (p : Image) (t : Typing) (m : ℕ) → IsTyped p t → IsSome (method_at p m) → HasTyping p m
 method_typed p t m h some = record { states = at [] t m; typed = states_typed p t m h some }

@@ -1,0 +1,2 @@
+pub mod Typings
+pub mod Within
