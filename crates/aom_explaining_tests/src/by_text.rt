@@ -1,5 +1,5 @@
 //! Faults that are explained by the text that the image is of.
-use crate::pages::{ROOM, assembled, checked, checked_by, priced_by, runs, runs_by};
+use crate::pages::{Command, ROOM, answer, are_same, assembled, is, refuses};
 use aom_main::ExitStatus;
 use aom_pages::Answer;
 use std::alloc::Global;
@@ -25,12 +25,15 @@ ret
 end
 ";
 
-/// The image of a text is refused, and so much is said of it by that text.
-fn refuses(rt: &impl Abort, alloc: Global, text: &str, said: &str) -> Result<(), Fail> {
+/// Whether the image of a text is refused, and so much is said of it by that text.
+fn says(alloc: Global, text: &str, said: &str) -> Result<bool, Fail> {
     let image = assembled(alloc, text)?;
-    let told = Answer::told(alloc, ExitStatus::ImageRefused, "", said)?;
-    assert_eq!(rt; checked_by(alloc, image.as_slice(), text.as_bytes()), told);
-    Ok(())
+    Ok(refuses(
+        alloc,
+        &Command::CheckBy(text.as_bytes()),
+        image.as_slice(),
+        said,
+    ))
 }
 
 /// A register that has no word yet is printed.
@@ -53,7 +56,8 @@ In line 3: method show do
 At line 6: again: print r1
 Known of registers: r0 a word; all others unset
 ";
-    refuses(&rt, rt.alloc(), text, said)
+    assert!(rt; says(rt.alloc(), text, said)?);
+    Ok(())
 }
 
 /// A counter would be lost where `build` leaves. All of it stands in one line.
@@ -71,118 +75,134 @@ In line 3: method build do leaves
 At line 3: leaveif r0
 Known of registers: r0 a word; r1 owns an object of class 0; all others unset
 ";
-    refuses(&rt, rt.alloc(), text, said)
-}
-
-/// A budget is declared with its class, and main's with the image.
-#[test]
-fn a_budget_is_refused_at_its_line(rt: HostRuntime) -> Result<(), Fail> {
-    let alloc = rt.alloc();
-    let image = assembled(alloc, DEAR)?;
-    let class = checked_by(alloc, image.as_slice(), DEAR.as_bytes());
-    assert_eq!(rt; class.status, ExitStatus::ImageRefused);
-    assert!(rt;
-        class
-            .errors
-            .starts_with(b"budget 1 class 0 price 3 declared 1\n".as_slice())
-    );
-    let end =
-        b"Compared: class 0 may take 3 steps, and declared are 1\nDeclared in line 4: class Beat active self budget 1\n".as_slice();
-    assert!(rt; class.errors.ends_with(end));
-
-    let text = "\n  image   budget 1 # one\nmethod main main\nstop\nret\nend";
-    let image = assembled(alloc, text)?;
-    let main = priced_by(alloc, image.as_slice(), text.as_bytes());
-    assert_eq!(rt; main.status, ExitStatus::ImageRefused);
-    let figures =
-        b"main price 2 declared 1\nframes 1 of 256\nentries 0 of 1024\nmethod 0 price 2 frames 1 entries 0\n".as_slice();
-    assert_eq!(rt; main.out.as_slice(), figures);
-    let end =
-        b"Compared: main may take 2 steps, and declared are 1\nDeclared in line 2: image budget 1\n".as_slice();
-    assert!(rt; main.errors.ends_with(end));
+    assert!(rt; says(rt.alloc(), text, said)?);
     Ok(())
 }
 
-fn is_same(rt: &impl Abort, got: &Answer<ExitStatus>, told: &Answer<ExitStatus>) {
-    assert_eq!(rt; got.status, told.status);
-    assert_eq!(rt; got.out.as_slice(), told.out.as_slice());
-    assert_eq!(rt; got.errors.as_slice(), told.errors.as_slice());
+/// Whether an answer refuses an image with these figures, and an explanation between those lines.
+fn is_between(answer: &Answer<ExitStatus>, figures: &[u8], first: &[u8], last: &[u8]) -> bool {
+    answer.status == ExitStatus::ImageRefused
+        && answer.out.as_slice() == figures
+        && answer.errors.starts_with(first)
+        && answer.errors.ends_with(last)
+}
+
+/// A budget is declared with its class.
+#[test]
+fn a_budget_is_refused_at_its_line(rt: HostRuntime) -> Result<(), Fail> {
+    let image = assembled(rt.alloc(), DEAR)?;
+    let by_text = Command::CheckBy(DEAR.as_bytes());
+    let first = b"budget 1 class 0 price 3 declared 1\n";
+    let last =
+        b"Compared: class 0 may take 3 steps, and declared are 1\nDeclared in line 4: class Beat active self budget 1\n";
+    let got = answer(rt.alloc(), &by_text, image.as_slice(), ROOM);
+    assert!(rt; is_between(&got, b"", first, last));
+    Ok(())
+}
+
+/// Main's is declared with the image.
+#[test]
+fn mains_budget_is_refused_at_its_line(rt: HostRuntime) -> Result<(), Fail> {
+    let text = "\n  image   budget 1 # one\nmethod main main\nstop\nret\nend";
+    let image = assembled(rt.alloc(), text)?;
+    let by_text = Command::PricesBy(text.as_bytes());
+    let figures =
+        b"main price 2 declared 1\nframes 1 of 256\nentries 0 of 1024\nmethod 0 price 2 frames 1 entries 0\n";
+    let last =
+        b"Compared: main may take 2 steps, and declared are 1\nDeclared in line 2: image budget 1\n";
+    let got = answer(rt.alloc(), &by_text, image.as_slice(), ROOM);
+    assert!(rt; is_between(&got, figures, b"", last));
+    Ok(())
+}
+
+/// Whether a command refuses the text beside it, and says so much.
+fn refuses_text(alloc: Global, command: &Command<'_>, image: &[u8], said: &str) -> bool {
+    let got = answer(alloc, command, image, ROOM);
+    is(&got, ExitStatus::CallRefused, b"", said.as_bytes())
 }
 
 /// Each command that takes a text refuses this one beside that image.
-fn refuses_all(
-    rt: &impl Abort,
-    alloc: Global,
-    image: &[u8],
-    text: &[u8],
-    told: &Answer<ExitStatus>,
-) {
-    is_same(rt, &checked_by(alloc, image, text), told);
-    is_same(rt, &priced_by(alloc, image, text), told);
-    is_same(rt, &runs_by(alloc, image, text, b""), told);
+fn refuse_all(rt: &impl Abort, alloc: Global, image: &[u8], text: &[u8]) {
+    let said = "text
+text: The text that --text names denotes an image, and another one than is named beside it.
+To mend it: Name the text that the image is of, or assemble the text again and name that image.
+";
+    assert!(rt; refuses_text(alloc, &Command::CheckBy(text), image, said));
+    assert!(rt; refuses_text(alloc, &Command::PricesBy(text), image, said));
+    assert!(rt; refuses_text(alloc, &Command::RunBy(text, b""), image, said));
 }
 
 /// A text of another image is refused, and nothing is done with the image, be it accepted or none.
 #[test]
 fn a_text_of_another_image_is_refused(rt: HostRuntime) -> Result<(), Fail> {
     let alloc = rt.alloc();
-    let text = b"image budget 9; method main main; ret; end".as_slice();
+    let text = b"image budget 9; method main main; ret; end";
     let other = assembled(alloc, "image budget 8; method main main; ret; end")?;
-    let told = Answer::told(
-        alloc,
-        ExitStatus::CallRefused,
-        "",
-        "text
-text: The text that --text names denotes an image, and another one than is named beside it.
-To mend it: Name the text that the image is of, or assemble the text again and name that image.
-",
-    )?;
-    refuses_all(&rt, alloc, other.as_slice(), text, &told);
-    refuses_all(&rt, alloc, b"", text, &told);
-    refuses_all(&rt, alloc, text, text, &told);
+    refuse_all(&rt, alloc, other.as_slice(), text);
+    refuse_all(&rt, alloc, b"", text);
+    refuse_all(&rt, alloc, text, text);
     Ok(())
 }
 
 /// A faulty text is refused by its own fault, with status 2.
 #[test]
 fn a_faulty_text_is_refused(rt: HostRuntime) -> Result<(), Fail> {
-    let alloc = rt.alloc();
-    let image = assembled(alloc, "image budget 9; method main main; ret; end")?;
-    let text = b"image budget 9\nmethod main main\nred\nend\n".as_slice();
-    let told = Answer::told(
-        alloc,
-        ExitStatus::CallRefused,
-        "",
-        "asm 3 2
+    let image = assembled(rt.alloc(), "image budget 9; method main main; ret; end")?;
+    let text = b"image budget 9\nmethod main main\nred\nend\n";
+    let said = "asm 3 2
 unknown word: A word of the language is expected, and this one is none.
 To mend it: Look for a slip in the mnemonic, the role or the part's name.
 Line 3: red
-",
-    )?;
-    assert_eq!(rt; checked_by(alloc, image.as_slice(), text), told);
-    assert_eq!(rt; runs_by(alloc, image.as_slice(), text, b""), told);
+";
+    assert!(rt; refuses_text(rt.alloc(), &Command::CheckBy(text), image.as_slice(), said));
+    assert!(rt;
+        refuses_text(
+            rt.alloc(),
+            &Command::RunBy(text, b""),
+            image.as_slice(),
+            said
+        )
+    );
     Ok(())
 }
+
+/// Whether two commands answer the same on an image.
+fn agree(alloc: Global, command: &Command<'_>, other: &Command<'_>, image: &[u8]) -> bool {
+    are_same(
+        &answer(alloc, command, image, ROOM),
+        &answer(alloc, other, image, ROOM),
+    )
+}
+
+/// Whether each command answers an image and its text as the image alone.
+fn all_agree(alloc: Global, text: &str) -> Result<bool, Fail> {
+    let image = assembled(alloc, text)?;
+    let image = image.as_slice();
+    let text = text.as_bytes();
+    let late = b"5 kill 0\n4 kill 0";
+    Ok(
+        agree(alloc, &Command::CheckBy(text), &Command::Check, image)
+            && agree(alloc, &Command::RunBy(text, b""), &Command::Run(b""), image)
+            && agree(
+                alloc,
+                &Command::RunBy(text, late),
+                &Command::Run(late),
+                image,
+            ),
+    )
+}
+
+const TEXTS: [&str; 3] = [
+    "image budget 9\nmethod main main\nconst r0 7\nprint r0\nstop\nret\nend",
+    "image budget 9\nmethod main do\nret\nend",
+    "image natives 1 budget 9\nmethod main main\nret\nend",
+];
 
 /// What no statement of the text is about is told as without the text.
 #[test]
 fn other_answers_are_as_without_the_text(rt: HostRuntime) -> Result<(), Fail> {
-    let alloc = rt.alloc();
-    for text in [
-        "image budget 9\nmethod main main\nconst r0 7\nprint r0\nstop\nret\nend",
-        "image budget 9\nmethod main do\nret\nend",
-        "image natives 1 budget 9\nmethod main main\nret\nend",
-    ] {
-        let image = assembled(alloc, text)?;
-        let image = image.as_slice();
-        let text = text.as_bytes();
-        assert_eq!(rt; checked_by(alloc, image, text), checked(alloc, image, ROOM));
-        for script in [b"".as_slice(), b"5 kill 0\n4 kill 0"] {
-            assert_eq!(rt;
-                runs_by(alloc, image, text, script),
-                runs(alloc, image, script)
-            );
-        }
+    for text in &TEXTS {
+        assert!(rt; all_agree(rt.alloc(), text)?, "{text}");
     }
     Ok(())
 }

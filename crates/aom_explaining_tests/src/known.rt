@@ -1,5 +1,5 @@
 //! What is known at the place of a refusal, part by part.
-use crate::pages::{ROOM, assembled, checked};
+use crate::pages::{Command, ROOM, answer, assembled};
 use std::alloc::Global;
 use std::process::Abort;
 use std::test::Fail;
@@ -7,9 +7,11 @@ use std::test::Fail;
 /// The image of a text is refused at that place, and what is said of it ends so.
 fn ends(rt: &impl Abort, alloc: Global, text: &str, line: &str, known: &str) -> Result<(), Fail> {
     let image = assembled(alloc, text)?;
-    let errors = checked(alloc, image.as_slice(), ROOM).errors;
-    assert!(rt; errors.starts_with(line.as_bytes()));
-    assert!(rt; errors.ends_with(known.as_bytes()));
+    let said = answer(alloc, &Command::Check, image.as_slice(), ROOM).errors;
+    assert!(rt;
+        said.starts_with(line.as_bytes()) && said.ends_with(known.as_bytes()),
+        "{line}"
+    );
     Ok(())
 }
 

@@ -1,17 +1,12 @@
 //! The places of refusals: a method and an instruction, as a listing has them.
-use crate::pages::{ROOM, assembled, assembles, checked};
-use aom_main::ExitStatus;
-use aom_pages::Answer;
-use std::alloc::Global;
-use std::process::Abort;
+use crate::pages::{Command, assembled, refuses};
+use std::alloc::{AllocError, Global};
 use std::test::Fail;
 
-/// The image of a text is refused, and so much is said of it.
-fn refuses(rt: &impl Abort, alloc: Global, text: &str, said: &str) -> Result<(), Fail> {
+/// Whether the image of a text is refused, and so much is said of it.
+fn says(alloc: Global, text: &str, said: &str) -> Result<bool, Fail> {
     let image = assembled(alloc, text)?;
-    let told = Answer::told(alloc, ExitStatus::ImageRefused, "", said)?;
-    assert_eq!(rt; checked(alloc, image.as_slice(), ROOM), told);
-    Ok(())
+    Ok(refuses(alloc, &Command::Check, image.as_slice(), said))
 }
 
 /// An instruction that may leave between `issue` and `setactive`.
@@ -31,7 +26,8 @@ At 2: leaveif r0
 Known of registers: r0 a word; all others unset
 Known of request states: issued (s); no others
 ";
-    refuses(&rt, rt.alloc(), text, said)
+    assert!(rt; says(rt.alloc(), text, said)?);
+    Ok(())
 }
 
 /// A place to which something jumps has its label.
@@ -47,28 +43,33 @@ In: method m0 main in - out - args - gives none
 At 2: L2: ret r0
 Known of registers: r0 null, or owns an object of class 0; all others unset
 ";
-    refuses(&rt, rt.alloc(), text, said)
+    assert!(rt; says(rt.alloc(), text, said)?);
+    Ok(())
+}
+
+/// A text, 195 times the letter x, and another text.
+fn with_xs(alloc: Global, before: &str, behind: &str) -> Result<String, AllocError> {
+    let mut text = String::from_str(alloc, before)?;
+    for _ in 0..195u32 {
+        text.push('x')?;
+    }
+    text.push_str(behind)?;
+    Ok(text)
 }
 
 /// Of a long line its first 200 bytes are shown.
 #[test]
 fn a_long_line(rt: HostRuntime) -> Result<(), Fail> {
     let alloc = rt.alloc();
-    let mut text = Vec::from_slice(alloc, b"image budget 9\ncost ")?;
-    let mut told = Vec::from_slice(
+    let text = with_xs(alloc, "image budget 9\ncost ", "yyyyy")?;
+    let said = with_xs(
         alloc,
-        b"asm 2 2
+        "asm 2 2
 unknown word: A word of the language is expected, and this one is none.
 To mend it: Look for a slip in the mnemonic, the role or the part's name.
 Line 2: cost ",
+        "\n",
     )?;
-    for _ in 0..195 {
-        text.push(b'x')?;
-        told.push(b'x')?;
-    }
-    text.extend_from_slice(b"yyyyy")?;
-    told.push(b'\n')?;
-    let answer = assembles(alloc, text.as_slice());
-    assert_eq!(rt; answer.errors.as_slice(), told.as_slice());
+    assert!(rt; refuses(alloc, &Command::Asm, text.as_bytes(), said.as_str()));
     Ok(())
 }

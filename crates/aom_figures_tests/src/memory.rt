@@ -1,6 +1,7 @@
-//! Any request for memory may be refused: then the command says so, and writes nothing else. Nothing here but the
+//! Any request for memory may be refused: then a command says so, and writes nothing else. Nothing here but the
 //! command asks for memory.
-use aom_main::{ExitStatus, prices_bytes};
+use crate::pages::{Command, answer};
+use aom_main::ExitStatus;
 use aom_pages::Slip;
 use std::alloc::Global;
 use std::process::Abort;
@@ -15,44 +16,67 @@ fn first(declared: u8) -> [u8; 80] {
     ]
 }
 
-/// The prices are those, or memory was wanting.
-fn tells(
+/// A command ends so and writes that, or memory was wanting.
+fn may_tell(
     rt: &impl Abort,
     alloc: Global,
-    image: &[u8],
+    command: Command,
+    declared: u8,
     status: ExitStatus,
-    out: &[u8],
-    errors: &[u8],
+    text: &[u8],
+    line: &[u8],
 ) {
-    let mut written = Slip::blank();
-    let mut told = Slip::blank();
-    let ended = prices_bytes(alloc, image, &mut written, &mut told);
+    let mut out = Slip::blank();
+    let mut errors = Slip::blank();
+    let ended = answer(alloc, command, &first(declared), &mut out, &mut errors);
     if ended == ExitStatus::Fault {
-        assert!(rt; written.has(b"") && told.has(b"memory\n"));
+        assert!(rt; out.has(b"") && errors.has(b"memory\n"));
         return;
     }
-    assert_eq!(rt; ended, status);
-    assert!(rt; written.has(out) && told.has(errors));
+    assert!(rt; ended == status && out.has(text) && errors.has(line));
 }
 
 #[test]
 fn accepting_may_want_memory(rt: HostRuntime) {
-    let out =
+    let text =
         b"accepted\nmain price 4 declared 4\nframes 1 of 256\nentries 0 of 1024\nmethod 0 price 4 frames 1 entries 0\n";
-    tells(&rt, rt.alloc(), &first(4), ExitStatus::Done, out, b"");
+    may_tell(
+        &rt,
+        rt.alloc(),
+        Command::Prices,
+        4,
+        ExitStatus::Done,
+        text,
+        b"",
+    );
 }
 
 #[test]
 fn refusing_may_want_memory(rt: HostRuntime) {
-    let out =
+    let text =
         b"main price 4 declared 3\nframes 1 of 256\nentries 0 of 1024\nmethod 0 price 4 frames 1 entries 0\n";
-    let errors = b"budget 1 main price 4 declared 3\n";
-    tells(
+    let line = b"budget 1 main price 4 declared 3\n";
+    may_tell(
         &rt,
         rt.alloc(),
-        &first(3),
+        Command::Prices,
+        3,
         ExitStatus::ImageRefused,
-        out,
-        errors,
+        text,
+        line,
+    );
+}
+
+#[test]
+fn drawing_may_want_memory(rt: HostRuntime) {
+    let text = b"digraph aom {\nm0 [label=\"m0 main\\nprice 4 frames 1 entries 0\"]\n}\n";
+    may_tell(
+        &rt,
+        rt.alloc(),
+        Command::Dot,
+        4,
+        ExitStatus::Done,
+        text,
+        b"",
     );
 }

@@ -1,35 +1,9 @@
 //! Worked programs, each from its text to its transcript or its refusal.
-use crate::pages::{assembled, checks, runs};
+use crate::pages::{assembled, each_is_refused, each_stops, refuses, runs};
 use aom_main::ExitStatus;
 use std::alloc::Global;
 use std::process::Abort;
 use std::test::Fail;
-
-/// Runs the image of a text, which ends as stopped with that transcript.
-pub fn stops(rt: &impl Abort, alloc: Global, text: &str, transcript: &str) {
-    let image = assembled(rt, alloc, text);
-    runs(
-        rt,
-        alloc,
-        image.as_slice(),
-        "",
-        ExitStatus::Done,
-        transcript,
-    );
-}
-
-/// The image of a text is refused.
-pub fn refuses(rt: &impl Abort, alloc: Global, text: &str, line: &str) {
-    let image = assembled(rt, alloc, text);
-    checks(
-        rt,
-        alloc,
-        image.as_slice(),
-        ExitStatus::ImageRefused,
-        "",
-        line,
-    );
-}
 
 /// Construction in two phases: a destructor, a construct method with an argument, and main, which keeps the object at
 /// the root.
@@ -45,18 +19,8 @@ E: stop;ret
 end
 ";
 
-#[test]
-fn an_object_is_constructed_and_destroyed(rt: HostRuntime) -> Result<(), Fail> {
-    for (cells, gone) in [(1, ""), (2, "gone 0\n")] {
-        let text = format!(in rt.alloc(); "image cells {cells} budget 19 root P;{TWO_PHASES}")?;
-        let told = format!(in rt.alloc(); "@0 main\nout 3\n{gone}gone 1\nend stopped cells 0\n")?;
-        stops(&rt, rt.alloc(), text.as_str(), told.as_str());
-    }
-    Ok(())
-}
-
 /// 256 methods, each of which calls the one before it, and main, which calls one of them.
-fn stack_of_calls(alloc: Global, called: u32) -> Result<String, Fail> {
+fn stack_of_calls(alloc: Global, called: u32) -> Result<Vec<u8>, Fail> {
     let mut text = String::from_str(alloc, "image budget 600;method m0 do;ret;end\n")?;
     for number in 1..256u32 {
         let below = number - 1;
@@ -65,45 +29,27 @@ fn stack_of_calls(alloc: Global, called: u32) -> Result<String, Fail> {
     }
     let main = format!(in alloc; "method main main;call self m{called};stop;ret;end\n")?;
     text.push_str(main.as_str())?;
-    Ok(text)
+    assembled(alloc, text.as_str())
+}
+
+/// Whether it stops, with nothing to tell.
+fn is_shallow(alloc: Global, called: u32) -> Result<bool, Fail> {
+    let image = stack_of_calls(alloc, called)?;
+    let told = "@0 main\nend stopped cells 0\n";
+    Ok(runs(alloc, image.as_slice(), "", ExitStatus::Done, told))
+}
+
+/// Whether it is refused as too deep.
+fn is_too_deep(alloc: Global, called: u32) -> Result<bool, Fail> {
+    let image = stack_of_calls(alloc, called)?;
+    Ok(refuses(alloc, image.as_slice(), "budget 2\n"))
 }
 
 #[test]
 fn calls_may_be_256_frames_deep(rt: HostRuntime) -> Result<(), Fail> {
-    let text = stack_of_calls(rt.alloc(), 254)?;
-    stops(
-        &rt,
-        rt.alloc(),
-        text.as_str(),
-        "@0 main\nend stopped cells 0\n",
-    );
-    let text = stack_of_calls(rt.alloc(), 255)?;
-    refuses(&rt, rt.alloc(), text.as_str(), "budget 2\n");
+    assert!(rt; is_shallow(rt.alloc(), 254)?);
+    assert!(rt; is_too_deep(rt.alloc(), 255)?);
     Ok(())
-}
-
-#[test]
-fn a_loop_has_its_rounds(rt: HostRuntime) {
-    let text =
-        "image budget 10;method main main;const r0 5;loop 0 3;L: print r0;next 0 L;stop;ret;end";
-    stops(
-        &rt,
-        rt.alloc(),
-        text,
-        "@0 main\nout 5\nout 5\nout 5\nend stopped cells 0\n",
-    );
-}
-
-#[test]
-fn loops_nest(rt: HostRuntime) {
-    let text =
-        "image budget 100;method main main;const r0 5;loop 0 2;A: loop 1 2;B: print r0;next 1 B;next 0 A;stop;ret;end";
-    stops(
-        &rt,
-        rt.alloc(),
-        text,
-        "@0 main\nout 5\nout 5\nout 5\nout 5\nend stopped cells 0\n",
-    );
 }
 
 /// Main of a program that prints what its methods give, and an object whose words they write.
@@ -125,74 +71,10 @@ E: stop;ret
 end
 ";
 
-#[test]
-fn methods_take_arguments_and_give_results(rt: HostRuntime) {
-    stops(
-        &rt,
-        rt.alloc(),
-        COUNTER,
-        "@0 main\nout 40\nout 42\nout -3\ngone 0\nend stopped cells 0\n",
-    );
-}
-
-/// Classes of which one owns another, with the destructor of the owner.
-const OWNER: &str = "image cells 9 budget 99;class M plain;class P plain own M
-method pd destruct of P;take r0 f0;delete r0;ret;end
-";
-
-#[test]
-fn each_rule_refuses_its_smallest_program(rt: HostRuntime) -> Result<(), Fail> {
-    for (methods, line) in [
-        // r0 is a word where an object is wanted.
-        ("method a do args word;move r1 r0;ret;end", "verify 1 0 1\n"),
-        // What the argument owns is lost.
-        ("method a do args M;ret;end", "verify 1 0 3\n"),
-        // The field may own something already.
-        (
-            "method a do of P args M;put f0 r0;ret;end",
-            "verify 1 0 7\n",
-        ),
-        // A destructor leaves what its object owns.
-        (
-            "class Q plain own M;method a destruct of Q;ret;end",
-            "verify 1 0 8\n",
-        ),
-        // An object is constructed once, before it is used.
-        (
-            "method a construct of M;ret;end;method b do of M;call self a;ret;end",
-            "verify 2 0 9\n",
-        ),
-        (
-            "method a construct of M;ret;end;method b do of P;new r0 M;jnull r0 E;jempty f0 F;delete r0;E: ret;F: put f0 r0;ret;end",
-            "verify 2 5 10\n",
-        ),
-        // A quiet method makes nothing.
-        (
-            "method a do quiet;new r0 M;delete r0;ret;end",
-            "verify 1 0 21\n",
-        ),
-    ] {
-        let main = "method main main;ret;end";
-        let text = format!(in rt.alloc(); "{OWNER}{methods}\n{main}")?;
-        refuses(&rt, rt.alloc(), text.as_str(), line);
-    }
-    Ok(())
-}
-
 /// A root, whose destructor prints 9, and a loop that prints 4 three times.
 const ROUNDS: &str = "image cells 1 budget 100 root C; class C plain
 method d destruct of C; const r0 9; print r0; ret; end
 method main main; new r0 C; jnull r0 L; put f0 r0; L: const r1 4; loop 0 3; B: print r1; next 0 B; stop; ret; end";
-
-#[test]
-fn a_root_goes_once_the_run_has_stopped(rt: HostRuntime) {
-    stops(
-        &rt,
-        rt.alloc(),
-        ROUNDS,
-        "@0 main\nout 4\nout 4\nout 4\nout 9\ngone 0\nend stopped cells 0\n",
-    );
-}
 
 /// A method with arguments that are words and objects, and with a result, on self and on a field.
 const CALLS: &str = "image cells 2 budget 100 root B; class A plain words 1; class B plain own A
@@ -204,14 +86,107 @@ method hold do of B args A; jempty f0 F; take r1 f0; delete r1; F: put f0 r0; re
 method show do of B; jempty f0 F; call f0 get r0 r3; const r4 5; call self sum r3 r5; print r5; F: ret; end
 method main main; new r0 B; jnull r0 E; new r1 A; jnull r1 P; const r2 7; call r1 an r2; call r0 hold r1; P: put f0 r0; call f0 show; E: stop; ret; end";
 
-#[test]
-fn calls_are_made_on_self_registers_and_fields(rt: HostRuntime) {
-    stops(
-        &rt,
-        rt.alloc(),
+const STOPPED: [(&str, &str, &str); 7] = [
+    // an object is constructed and destroyed, where its second phase makes another or finds the heap full
+    (
+        "image cells 1 budget 19 root P;",
+        TWO_PHASES,
+        "@0 main\nout 3\ngone 1\nend stopped cells 0\n",
+    ),
+    (
+        "image cells 2 budget 19 root P;",
+        TWO_PHASES,
+        "@0 main\nout 3\ngone 0\ngone 1\nend stopped cells 0\n",
+    ),
+    // a loop has its rounds
+    (
+        "image budget 10;",
+        "method main main;const r0 5;loop 0 3;L: print r0;next 0 L;stop;ret;end",
+        "@0 main\nout 5\nout 5\nout 5\nend stopped cells 0\n",
+    ),
+    // loops nest
+    (
+        "image budget 100;",
+        "method main main;const r0 5;loop 0 2;A: loop 1 2;B: print r0;next 1 B;next 0 A;stop;ret;end",
+        "@0 main\nout 5\nout 5\nout 5\nout 5\nend stopped cells 0\n",
+    ),
+    // methods take arguments and give results
+    (
+        COUNTER,
+        "",
+        "@0 main\nout 40\nout 42\nout -3\ngone 0\nend stopped cells 0\n",
+    ),
+    // a root goes once the run has stopped
+    (
+        ROUNDS,
+        "",
+        "@0 main\nout 4\nout 4\nout 4\nout 9\ngone 0\nend stopped cells 0\n",
+    ),
+    // calls are made on self, registers and fields
+    (
         CALLS,
+        "",
         "@0 main\nout 12\ngone 0\ngone 1\nend stopped cells 0\n",
-    );
+    ),
+];
+
+#[test]
+fn programs_that_stop(rt: HostRuntime) -> Result<(), Fail> {
+    each_stops(&rt, rt.alloc(), &STOPPED)
+}
+
+/// Classes of which one owns another, with the destructor of the owner.
+const OWNER: &str = "image cells 9 budget 99;class M plain;class P plain own M
+method pd destruct of P;take r0 f0;delete r0;ret;end
+";
+
+const SMALLEST: [(&str, &str, &str); 7] = [
+    // r0 is a word where an object is wanted.
+    (
+        OWNER,
+        "method a do args word;move r1 r0;ret;end\nmethod main main;ret;end",
+        "verify 1 0 1\n",
+    ),
+    // What the argument owns is lost.
+    (
+        OWNER,
+        "method a do args M;ret;end\nmethod main main;ret;end",
+        "verify 1 0 3\n",
+    ),
+    // The field may own something already.
+    (
+        OWNER,
+        "method a do of P args M;put f0 r0;ret;end\nmethod main main;ret;end",
+        "verify 1 0 7\n",
+    ),
+    // A destructor leaves what its object owns.
+    (
+        OWNER,
+        "class Q plain own M;method a destruct of Q;ret;end\nmethod main main;ret;end",
+        "verify 1 0 8\n",
+    ),
+    // An object is constructed once, before it is used.
+    (
+        OWNER,
+        "method a construct of M;ret;end;method b do of M;call self a;ret;end\nmethod main main;ret;end",
+        "verify 2 0 9\n",
+    ),
+    (
+        OWNER,
+        "method a construct of M;ret;end;method b do of P;new r0 M;jnull r0 E;jempty f0 F;delete r0;E: ret;F: put f0 r0;ret;end\nmethod main main;ret;end",
+        "verify 2 5 10\n",
+    ),
+    // A quiet method makes nothing.
+    (
+        OWNER,
+        "method a do quiet;new r0 M;delete r0;ret;end\nmethod main main;ret;end",
+        "verify 1 0 21\n",
+    ),
+];
+
+#[test]
+fn each_rule_refuses_its_smallest_program(rt: HostRuntime) -> Result<(), Fail> {
+    each_is_refused(&rt, rt.alloc(), &SMALLEST)
 }
 
 /// Three requests, each with its number and the end of its cell where it is given.
@@ -221,28 +196,42 @@ A: new r1 C; jnull r1 B; const r3 2; print r3; delete r1
 B: new r2 C; jnull r2 D; const r3 3; print r3; delete r2
 D: stop; ret; end";
 
-#[test]
-fn a_refused_request_gives_null(rt: HostRuntime) -> Result<(), Fail> {
-    let alloc = rt.alloc();
-    let image = assembled(&rt, alloc, REQUESTS);
-    let (one, two, three) = ("out 1\ngone 0\n", "out 2\ngone 0\n", "out 3\ngone 0\n");
-    for (script, given) in [
-        ("", [one, two, three]),
-        ("refuse 4294967295", [one, two, three]),
-        ("refuse 2\n", [one, "", three]),
-        ("\nrefuse 3\r\n\trefuse 1 ", ["", two, ""]),
-        ("refuse 1\nrefuse 1\nrefuse 2\nrefuse 3", ["", "", ""]),
-    ] {
-        let [first, second, third] = given;
-        let text = format!(in alloc; "@0 main\n{first}{second}{third}end stopped cells 0\n")?;
-        runs(
-            &rt,
-            alloc,
-            image.as_slice(),
-            script,
-            ExitStatus::Done,
-            text.as_str(),
+const REFUSALS: [(&str, &str); 5] = [
+    (
+        "",
+        "@0 main\nout 1\ngone 0\nout 2\ngone 0\nout 3\ngone 0\nend stopped cells 0\n",
+    ),
+    (
+        "refuse 4294967295",
+        "@0 main\nout 1\ngone 0\nout 2\ngone 0\nout 3\ngone 0\nend stopped cells 0\n",
+    ),
+    (
+        "refuse 2\n",
+        "@0 main\nout 1\ngone 0\nout 3\ngone 0\nend stopped cells 0\n",
+    ),
+    (
+        "\nrefuse 3\r\n\trefuse 1 ",
+        "@0 main\nout 2\ngone 0\nend stopped cells 0\n",
+    ),
+    (
+        "refuse 1\nrefuse 1\nrefuse 2\nrefuse 3",
+        "@0 main\nend stopped cells 0\n",
+    ),
+];
+
+/// An image stops with each transcript under the script before it.
+fn stops_under_each(rt: &impl Abort, alloc: Global, image: &[u8], scripts: &[(&str, &str)]) {
+    for (number, script) in scripts.iter().enumerate() {
+        assert!(rt;
+            runs(alloc, image, script.0, ExitStatus::Done, script.1),
+            "{number}"
         );
     }
+}
+
+#[test]
+fn a_refused_request_gives_null(rt: HostRuntime) -> Result<(), Fail> {
+    let image = assembled(rt.alloc(), REQUESTS)?;
+    stops_under_each(&rt, rt.alloc(), image.as_slice(), &REFUSALS);
     Ok(())
 }

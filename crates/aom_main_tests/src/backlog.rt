@@ -1,10 +1,10 @@
 //! A native of the tests' own that refuses every second request and completes the last first, and what a run hears of it.
-ghost use Rattle.std.specs.Prelude.{pos, negsuc, ◌≡◌, ◌⊎◌, [], Option};
+ghost use Rattle.std.specs.Prelude.{pos, negsuc, ◌≡◌, ◌⊎◌, [], Option, IfOk};
 
-use crate::pages::Told;
 use crate::served::{TWO_SENSORS, serves_beside};
+use aom_main::ExitStatus;
 use aom_natives::Native;
-use std::alloc::Global;
+use std::alloc::{AllocError, Global};
 use std::cell::Cell;
 use std::process::Abort;
 use std::rc::Rc;
@@ -44,6 +44,15 @@ impl Backlog {
             starts: 0,
             drops,
         }
+    }
+
+    /// One with room for eight requests, in a box, which counts its drop there.
+    fn boxed(alloc: Global, drops: &Rc<Cell<u32>>) -> Result<Box<Backlog>, AllocError>
+        ensures { IfOk result (λ b. ⟦<Backlog as Native>⟧.owed b.value ≡ []) }
+    {
+        let ids = Vec::with_capacity(alloc, 8)?;
+        let numbers = Vec::with_capacity(alloc, 8)?;
+        Ok(Box::new(alloc, Backlog::new(ids, numbers, drops.clone()?))?)
     }
 }
 
@@ -105,40 +114,40 @@ impl Native for Backlog {
     fn close(&mut self, _id: u32) {}
 }
 
-/// Runs the two objects under a script beside a backlog, which is dropped once.
-fn serves_backlog(
-    rt: &impl Abort,
-    alloc: Global,
-    script: &str,
-    told: Told<'_>,
-) -> Result<(), Fail> {
+/// Two objects run under a script beside a backlog, which is dropped once, and tell that.
+fn serves_backlog(rt: &impl Abort, alloc: Global, script: &str, told: &[u8]) -> Result<(), Fail> {
     let drops = Rc::new(alloc, Cell::new(0))?;
-    let ids = Vec::with_capacity(alloc, 8)?;
-    let numbers = Vec::with_capacity(alloc, 8)?;
-    let native = Box::new(alloc, Backlog::new(ids, numbers, drops.clone()?))?;
-    serves_beside(rt, alloc, native, TWO_SENSORS, script, told)?;
-    assert_eq!(rt; drops.get(), 1);
+    serves_beside(
+        rt,
+        alloc,
+        Backlog::boxed(alloc, &drops)?,
+        &[TWO_SENSORS],
+        script,
+        ExitStatus::Unfinished,
+        told,
+    )?;
+    assert!(rt; drops.get() == 1);
     Ok(())
 }
 
 #[test]
 fn requests_are_refused_at_once_and_completed_later(rt: HostRuntime) -> Result<(), Fail> {
     let told =
-        "@0 main\n@1 run 0 -7\nout -7\n@2 run 0 3\nout 3\n@3 run 0 1\nout 1\n@4 run 0 -7\nout -7\nkilled 0\nend waiting cells 3\n";
-    serves_backlog(&rt, rt.alloc(), "5 kill 0", Told::unfinished(told))
+        b"@0 main\n@1 run 0 -7\nout -7\n@2 run 0 3\nout 3\n@3 run 0 1\nout 1\n@4 run 0 -7\nout -7\nkilled 0\nend waiting cells 3\n";
+    serves_backlog(&rt, rt.alloc(), "5 kill 0", told)
 }
 
 /// What is outstanding as the native is killed is completed with -15, and so is what is asked for later, at once.
 #[test]
 fn a_kill_completes_all_that_is_outstanding(rt: HostRuntime) -> Result<(), Fail> {
     let told =
-        "@0 main\n@1 run 0 -7\nout -7\nkilled 0\n@2 run 0 -15\nout -15\n@3 run 0 -15\nout -15\n@4 run 0 -15\nout -15\nend waiting cells 3\n";
-    serves_backlog(&rt, rt.alloc(), "2 kill 0", Told::unfinished(told))
+        b"@0 main\n@1 run 0 -7\nout -7\nkilled 0\n@2 run 0 -15\nout -15\n@3 run 0 -15\nout -15\n@4 run 0 -15\nout -15\nend waiting cells 3\n";
+    serves_backlog(&rt, rt.alloc(), "2 kill 0", told)
 }
 
 #[test]
 fn a_box_that_lives_on_is_dropped_with_its_machine(rt: HostRuntime) -> Result<(), Fail> {
     let told =
-        "@0 main\n@1 run 0 -7\nout -7\n@2 run 0 3\nout 3\n@3 run 0 1\nout 1\n@4 run 0 -7\nout -7\nend waiting cells 3\n";
-    serves_backlog(&rt, rt.alloc(), "", Told::unfinished(told))
+        b"@0 main\n@1 run 0 -7\nout -7\n@2 run 0 3\nout 3\n@3 run 0 1\nout 1\n@4 run 0 -7\nout -7\nend waiting cells 3\n";
+    serves_backlog(&rt, rt.alloc(), "", told)
 }

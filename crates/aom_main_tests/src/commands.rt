@@ -1,11 +1,10 @@
 //! Each command over bytes and pages, and what is told where something fails.
-use crate::pages::{
-    FIRST, FULL_HEAP, LISTING, SHORT, Told, assembles, checks, explores, lists, runs,
-};
+use crate::pages::{Call, Case, FIRST, FULL_HEAP, LISTING, SHORT, all_tell, is_told, tells};
 use aom_machine::BootFault;
 use aom_main::{ExitStatus, Fault, Part, run_bytes, tell};
 use aom_pages::Page;
 use std::alloc::Global;
+use std::process::Abort;
 use std::test::Fail;
 
 /// The first image with another byte at a place.
@@ -17,158 +16,285 @@ fn changed(alloc: Global, place: usize, byte: u8) -> Result<Vec<u8>, Fail> {
     Ok(bytes)
 }
 
-#[test]
-fn the_first_image_is_accepted_and_runs(rt: HostRuntime) {
-    let alloc = rt.alloc();
-    checks(&rt, alloc, &FIRST, 100, Told::done("accepted\n"));
-    let told = Told::done("@0 main\nout 7\nend stopped cells 0\n");
-    runs(&rt, alloc, &FIRST, b"", 100, told);
-}
+const ALL: Part = Part {
+    first: 1,
+    last: 1_000_000,
+};
+
+/// What each command answers, an image with a full heap, whose second cell is refused, among them.
+const ANSWERED: [Case<'static>; 9] = [
+    // the first image is accepted and runs
+    Case {
+        call: Call::Check(&FIRST),
+        room: 100,
+        status: ExitStatus::Done,
+        told: b"accepted\n",
+    },
+    Case {
+        call: Call::Run(&FIRST, b""),
+        room: 100,
+        status: ExitStatus::Done,
+        told: b"@0 main\nout 7\nend stopped cells 0\n",
+    },
+    // each request is refused in turn
+    Case {
+        call: Call::Explore(&FULL_HEAP, b"", ALL),
+        room: 100,
+        status: ExitStatus::Done,
+        told: b"refuse 1 end stopped cells 0\nrefuse 2 end stopped cells 0\n",
+    },
+    Case {
+        call: Call::Explore(&FULL_HEAP, b"refuse 1", Part { first: 2, last: 2 }),
+        room: 100,
+        status: ExitStatus::Done,
+        told: b"refuse 2 end stopped cells 0\n",
+    },
+    Case {
+        call: Call::Explore(&FIRST, b"", ALL),
+        room: 100,
+        status: ExitStatus::Done,
+        told: b"",
+    },
+    // a text is assembled, and an image listed
+    Case {
+        call: Call::Asm(SHORT),
+        room: 100,
+        status: ExitStatus::Done,
+        told: &FIRST,
+    },
+    Case {
+        call: Call::Asm(LISTING),
+        room: 100,
+        status: ExitStatus::Done,
+        told: &FIRST,
+    },
+    Case {
+        call: Call::Dis(&FIRST),
+        room: 200,
+        status: ExitStatus::Done,
+        told: LISTING,
+    },
+    // a full heap gives null
+    Case {
+        call: Call::Run(&FULL_HEAP, b"\n"),
+        room: 100,
+        status: ExitStatus::Done,
+        told: b"@0 main\nout 1\ngone 0\nend stopped cells 0\n",
+    },
+];
 
 #[test]
-fn each_request_is_refused_in_turn(rt: HostRuntime) {
-    let alloc = rt.alloc();
-    let all = Part {
-        first: 1,
-        last: 1_000_000,
-    };
-    let both = "refuse 1 end stopped cells 0\nrefuse 2 end stopped cells 0\n";
-    explores(&rt, alloc, &FULL_HEAP, b"", all, Told::done(both));
-    let second = Part { first: 2, last: 2 };
-    let told = Told::done("refuse 2 end stopped cells 0\n");
-    explores(&rt, alloc, &FULL_HEAP, b"refuse 1", second, told);
-    explores(&rt, alloc, &FIRST, b"", all, Told::done(""));
+fn each_command_answers(rt: HostRuntime) {
+    all_tell(&rt, rt.alloc(), &ANSWERED);
+}
+
+/// Bytes are refused with that line, whatever is to be done with them.
+fn is_refused(rt: &impl Abort, alloc: Global, bytes: &[u8], line: &[u8]) {
+    let status = ExitStatus::ImageRefused;
+    assert!(rt; tells(alloc, &Call::Check(bytes), 100, status, line));
+    assert!(rt; tells(alloc, &Call::Run(bytes, b"x"), 100, status, line));
+}
+
+/// So is the first image with another byte at a place.
+fn is_refused_with(
+    rt: &impl Abort,
+    alloc: Global,
+    place: usize,
+    byte: u8,
+    line: &[u8],
+) -> Result<(), Fail> {
+    let bytes = changed(alloc, place, byte)?;
+    is_refused(rt, alloc, bytes.as_slice(), line);
+    Ok(())
+}
+
+/// So is the first image with a byte more.
+fn is_refused_longer(rt: &impl Abort, alloc: Global, line: &[u8]) -> Result<(), Fail> {
+    let mut bytes = Vec::from_slice(alloc, &FIRST)?;
+    bytes.push(0)?;
+    is_refused(rt, alloc, bytes.as_slice(), line);
+    Ok(())
 }
 
 #[test]
 fn other_bytes_are_refused(rt: HostRuntime) -> Result<(), Fail> {
-    let alloc = rt.alloc();
-    let mut longer = Vec::from_slice(alloc, &FIRST)?;
-    longer.push(0)?;
-    let other_magic = changed(alloc, 0, 0x40)?;
-    let unset_register = changed(alloc, 57, 2)?;
-    for (bytes, line) in [
-        (&FIRST[..79], "load 3\n"),
-        (longer.as_slice(), "load 4\n"),
-        (other_magic.as_slice(), "load 1\n"),
-        (unset_register.as_slice(), "verify 0 1 1\n"),
-    ] {
-        checks(&rt, alloc, bytes, 100, Told::image_refused(line));
-        runs(&rt, alloc, bytes, b"x", 100, Told::image_refused(line));
-    }
-    Ok(())
+    is_refused(&rt, rt.alloc(), &FIRST[..79], b"load 3\n");
+    is_refused_longer(&rt, rt.alloc(), b"load 4\n")?;
+    is_refused_with(&rt, rt.alloc(), 0, 0x40, b"load 1\n")?;
+    is_refused_with(&rt, rt.alloc(), 57, 2, b"verify 0 1 1\n")
 }
 
-#[test]
-fn a_text_is_assembled_and_an_image_listed(rt: HostRuntime) {
-    let alloc = rt.alloc();
-    let bytes = Told {
-        status: ExitStatus::Done,
-        out: &FIRST,
-        errors: b"",
-    };
-    assembles(&rt, alloc, SHORT, 100, bytes);
-    assembles(&rt, alloc, LISTING, 100, bytes);
-    lists(&rt, alloc, &FIRST, 200, Told::done(LISTING));
+/// A text or a script, and the line that refuses it.
+#[derive(Clone, Copy)]
+struct Refused<'a> {
+    given: &'a [u8],
+    line: &'a [u8],
 }
+
+const TEXTS: [Refused<'static>; 7] = [
+    Refused {
+        given: b"# \x7f",
+        line: b"asm 1 1\n",
+    },
+    Refused {
+        given: b"image budget 4\nfoo",
+        line: b"asm 2 2\n",
+    },
+    Refused {
+        given: b"image cells x",
+        line: b"asm 1 3\n",
+    },
+    Refused {
+        given: b"image budget 4\n;method m main\njump L\nend",
+        line: b"asm 3 4\n",
+    },
+    Refused {
+        given: b"image budget 4\nclass C plain\nclass C plain",
+        line: b"asm 3 5\n",
+    },
+    Refused {
+        given: b"",
+        line: b"asm 1 6\n",
+    },
+    Refused {
+        given: b"\nimage version 3 budget 4",
+        line: b"asm 2 7\n",
+    },
+];
 
 #[test]
 fn a_text_is_refused_with_its_line(rt: HostRuntime) {
-    let alloc = rt.alloc();
-    for (text, line) in [
-        ("# \x7f", "asm 1 1\n"),
-        ("image budget 4\nfoo", "asm 2 2\n"),
-        ("image cells x", "asm 1 3\n"),
-        ("image budget 4\n;method m main\njump L\nend", "asm 3 4\n"),
-        ("image budget 4\nclass C plain\nclass C plain", "asm 3 5\n"),
-        ("", "asm 1 6\n"),
-        ("\nimage version 3 budget 4", "asm 2 7\n"),
-    ] {
-        assembles(&rt, alloc, text, 100, Told::image_refused(line));
+    for (number, text) in TEXTS.iter().enumerate() {
+        let call = Call::Asm(text.given);
+        let status = ExitStatus::ImageRefused;
+        assert!(rt;
+            tells(rt.alloc(), &call, 100, status, text.line),
+            "text {number}"
+        );
     }
-    assembles(&rt, alloc, SHORT, 4, Told::cut("AOIM"));
-    lists(
-        &rt,
-        alloc,
-        &FIRST[..79],
-        100,
-        Told::image_refused("load 3\n"),
-    );
-    lists(&rt, alloc, &FIRST, 5, Told::cut("image"));
 }
 
-#[test]
-fn a_full_heap_gives_null(rt: HostRuntime) {
-    let told = Told::done("@0 main\nout 1\ngone 0\nend stopped cells 0\n");
-    runs(&rt, rt.alloc(), &FULL_HEAP, b"\n", 100, told);
-}
-
-#[test]
-fn a_run_may_end_waiting(rt: HostRuntime) -> Result<(), Fail> {
-    let prints_twice = changed(rt.alloc(), 64, 0x13)?;
-    let told = Told::unfinished("@0 main\nout 7\nout 7\nend waiting cells 0\n");
-    runs(&rt, rt.alloc(), &prints_twice, b"", 100, told);
-    Ok(())
-}
+const SCRIPTS: [Refused<'static>; 6] = [
+    Refused {
+        given: b"x",
+        line: b"script 1 2\n",
+    },
+    Refused {
+        given: b"\n\n \x01\n",
+        line: b"script 3 1\n",
+    },
+    Refused {
+        given: b"refuse 1\nrefuse",
+        line: b"script 2 2\n",
+    },
+    Refused {
+        given: b"refuse x",
+        line: b"script 1 3\n",
+    },
+    Refused {
+        given: b"refuse 1\n\nrefuse 0",
+        line: b"script 3 5\n",
+    },
+    Refused {
+        given: b"5 kill 0\n4 kill 0",
+        line: b"script 2 4\n",
+    },
+];
 
 #[test]
 fn a_script_may_be_refused(rt: HostRuntime) {
-    for (script, line) in [
-        ("x", "script 1 2\n"),
-        ("\n\n \x01\n", "script 3 1\n"),
-        ("refuse 1\nrefuse", "script 2 2\n"),
-        ("refuse x", "script 1 3\n"),
-        ("refuse 1\n\nrefuse 0", "script 3 5\n"),
-        ("5 kill 0\n4 kill 0", "script 2 4\n"),
-    ] {
-        runs(
-            &rt,
-            rt.alloc(),
-            &FIRST,
-            script.as_bytes(),
-            100,
-            Told::call_refused(line),
+    for (number, script) in SCRIPTS.iter().enumerate() {
+        let call = Call::Run(&FIRST, script.given);
+        let status = ExitStatus::CallRefused;
+        assert!(rt;
+            tells(rt.alloc(), &call, 100, status, script.line),
+            "script {number}"
         );
     }
 }
 
 #[test]
-fn the_output_may_fail(rt: HostRuntime) {
-    for (room, text) in [(0, ""), (10, "@0 main\nou"), (20, "@0 main\nout 7\nend st")] {
-        runs(&rt, rt.alloc(), &FIRST, b"", room, Told::cut(text));
-    }
-    checks(&rt, rt.alloc(), &FIRST, 5, Told::cut("accep"));
+fn a_run_may_end_waiting(rt: HostRuntime) -> Result<(), Fail> {
+    let prints_twice = changed(rt.alloc(), 64, 0x13)?;
+    let call = Call::Run(prints_twice.as_slice(), b"");
+    let told = b"@0 main\nout 7\nout 7\nend waiting cells 0\n";
+    assert!(rt; tells(rt.alloc(), &call, 100, ExitStatus::Unfinished, told));
+    Ok(())
 }
 
+const CUT: [Case<'static>; 6] = [
+    Case {
+        call: Call::Asm(SHORT),
+        room: 4,
+        status: ExitStatus::Fault,
+        told: b"AOIM",
+    },
+    Case {
+        call: Call::Dis(&FIRST),
+        room: 5,
+        status: ExitStatus::Fault,
+        told: b"image",
+    },
+    Case {
+        call: Call::Run(&FIRST, b""),
+        room: 0,
+        status: ExitStatus::Fault,
+        told: b"",
+    },
+    Case {
+        call: Call::Run(&FIRST, b""),
+        room: 10,
+        status: ExitStatus::Fault,
+        told: b"@0 main\nou",
+    },
+    Case {
+        call: Call::Run(&FIRST, b""),
+        room: 20,
+        status: ExitStatus::Fault,
+        told: b"@0 main\nout 7\nend st",
+    },
+    Case {
+        call: Call::Check(&FIRST),
+        room: 5,
+        status: ExitStatus::Fault,
+        told: b"accep",
+    },
+];
+
 #[test]
-fn errors_that_fail_change_nothing_else(rt: HostRuntime) -> Result<(), Fail> {
+fn the_output_may_fail(rt: HostRuntime) {
+    all_tell(&rt, rt.alloc(), &CUT);
+}
+
+/// A listing is refused as its image is, and errors that fail change nothing else.
+#[test]
+fn a_refusal_may_be_cut(rt: HostRuntime) {
     let alloc = rt.alloc();
+    let call = Call::Dis(&FIRST[..79]);
+    assert!(rt; tells(alloc, &call, 100, ExitStatus::ImageRefused, b"load 3\n"));
     let mut out = Page::new(alloc, 100);
     let mut errors = Page::new(alloc, 3);
     let status = run_bytes(alloc, b"", b"", 1, Vec::new(alloc), &mut out, &mut errors);
-    assert_eq!(rt; status, ExitStatus::ImageRefused);
-    assert_eq!(rt; errors.text.as_slice(), b"loa".as_slice());
-    assert!(rt; out.text.is_empty());
-    Ok(())
+    assert!(rt; is_told(status, &out, &errors, ExitStatus::ImageRefused, b"loa"));
+}
+
+/// A fault is told with that line, and with a status of that number.
+fn is_told_so(rt: &impl Abort, alloc: Global, fault: &Fault, line: &[u8], number: u8) {
+    let mut errors = Page::new(alloc, 100);
+    let status = tell(fault, &mut errors);
+    assert!(rt; status.number() == number && errors.text.as_slice() == line);
 }
 
 #[test]
-fn each_fault_has_its_line_and_status(rt: HostRuntime) -> Result<(), Fail> {
+fn each_fault_has_its_line_and_status(rt: HostRuntime) {
     let alloc = rt.alloc();
-    for (fault, line, number) in [
-        (Fault::Boot(BootFault::TooFewNatives), "boot 1\n", 2),
-        (Fault::Native, "native\n", 2),
-        (Fault::File, "file\n", 5),
-        (Fault::Write, "write\n", 5),
-        (Fault::Memory, "memory\n", 5),
-    ] {
-        let mut errors = Page::new(alloc, 100);
-        let status = tell(&fault, &mut errors);
-        assert_eq!(rt; status.number(), number);
-        assert_eq!(rt; errors.text.as_slice(), line.as_bytes());
-    }
-    assert_eq!(rt; ExitStatus::Done.number(), 0);
-    assert_eq!(rt; ExitStatus::ImageRefused.number(), 1);
-    assert_eq!(rt; ExitStatus::Unfinished.number(), 3);
-    Ok(())
+    let boot = Fault::Boot(BootFault::TooFewNatives);
+    is_told_so(&rt, alloc, &boot, b"boot 1\n", 2);
+    is_told_so(&rt, alloc, &Fault::Native, b"native\n", 2);
+    is_told_so(&rt, alloc, &Fault::File, b"file\n", 5);
+    is_told_so(&rt, alloc, &Fault::Write, b"write\n", 5);
+    is_told_so(&rt, alloc, &Fault::Memory, b"memory\n", 5);
+    assert!(rt; ExitStatus::Done.number() == 0);
+    assert!(rt; ExitStatus::ImageRefused.number() == 1);
+    assert!(rt; ExitStatus::Unfinished.number() == 3);
 }

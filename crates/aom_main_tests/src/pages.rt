@@ -1,8 +1,13 @@
-//! What the tests share: two images and their texts, and what a command has to answer and to write.
+//! What the tests share: two images and their texts, the calls of commands, and what each has to answer and to write.
+ghost use Rattle.aom_natives.specs.Owed.{OweNothing};
+
 use aom_main::{ExitStatus, Part, asm_bytes, check_bytes, dis_bytes, explore_bytes, run_bytes};
+use aom_natives::Native;
 use aom_pages::Page;
+use aom_run::Sink;
 use std::alloc::Global;
 use std::process::Abort;
+use std::test::Fail;
 
 /// A main that prints 7 and stops.
 pub const FIRST: [u8; 80] = [
@@ -22,153 +27,149 @@ pub const FULL_HEAP: [u8; 156] = [
     0, 0x30, 0, 0, 0, 0, 0, 0, 0, 0x22, 0, 0, 0, 0, 0, 0, 0,
 ];
 
-/// What a command has to answer and to write.
+/// A command, and what it is given.
 #[derive(Clone, Copy)]
-pub struct Told<'a> {
+pub enum Call<'a> {
+    Asm(&'a [u8]),
+    Check(&'a [u8]),
+    Dis(&'a [u8]),
+    /// An image and a script, beside no native.
+    Run(&'a [u8], &'a [u8]),
+    Explore(&'a [u8], &'a [u8], Part),
+}
+
+/// Runs an image under a script beside these natives. What `run_bytes` promises is left behind here.
+pub fn run_beside<W: Sink, E: Sink>(
+    alloc: Global,
+    image: &[u8],
+    script: &[u8],
+    boxes: Vec<Box<dyn Native>>,
+    out: &mut W,
+    errors: &mut E,
+) -> ExitStatus
+    requires { OweNothing (λ b. (⟦<dyn Native as Native>⟧ b.vtable).owed b.value) boxes.items }
+{
+    run_bytes(alloc, image, script, 1_000_000, boxes, out, errors)
+}
+
+/// Makes a call. What the command promises is left behind here.
+pub fn answer<W: Sink, E: Sink>(
+    alloc: Global,
+    call: &Call<'_>,
+    out: &mut W,
+    errors: &mut E,
+) -> ExitStatus {
+    match *call {
+        Call::Asm(text) => asm_bytes(alloc, text, out, errors),
+        Call::Check(image) => check_bytes(alloc, image, out, errors),
+        Call::Dis(image) => dis_bytes(alloc, image, out, errors),
+        Call::Run(image, script) => run_beside(alloc, image, script, Vec::new(alloc), out, errors),
+        Call::Explore(image, script, part) => explore_bytes(
+            alloc,
+            image,
+            script,
+            1_000_000,
+            &[],
+            part,
+            out,
+            errors,
+        ),
+    }
+}
+
+/// The output and the errors of a call that ends so: a refusal goes to the errors, and all else to the output. Where that has
+/// failed it has a beginning of it.
+pub fn sides(status: ExitStatus, told: &[u8]) -> (&[u8], &[u8]) {
+    match status {
+        ExitStatus::ImageRefused | ExitStatus::CallRefused => (b"", told),
+        ExitStatus::Fault => (told, b"write\n"),
+        ExitStatus::Done | ExitStatus::Unfinished | ExitStatus::Broken => (told, b""),
+    }
+}
+
+/// Whether a call with so much room for the output ends so and tells that.
+pub fn tells(alloc: Global, call: &Call<'_>, room: usize, status: ExitStatus, told: &[u8]) -> bool {
+    let mut out = Page::new(alloc, room);
+    let mut errors = Page::new(alloc, 100);
+    let ended = answer(alloc, call, &mut out, &mut errors);
+    is_told(ended, &out, &errors, status, told)
+}
+
+/// Whether a call that has ended and written so has told that.
+pub fn is_told(
+    ended: ExitStatus,
+    out: &Page,
+    errors: &Page,
+    status: ExitStatus,
+    told: &[u8],
+) -> bool {
+    let (text, line) = sides(status, told);
+    ended == status && out.text.as_slice() == text && errors.text.as_slice() == line
+}
+
+/// A call, the room for its output, how it ends, and what it tells.
+#[derive(Clone, Copy)]
+pub struct Case<'a> {
+    pub call: Call<'a>,
+    pub room: usize,
     pub status: ExitStatus,
-    pub out: &'a [u8],
-    pub errors: &'a [u8],
+    pub told: &'a [u8],
 }
 
-impl<'a> Told<'a> {
-    /// It is done, and has written that.
-    pub fn done(out: &'a str) -> Told<'a> {
-        Told {
-            status: ExitStatus::Done,
-            out: out.as_bytes(),
-            errors: b"",
-        }
-    }
-
-    /// The run waits for what will not come.
-    pub fn unfinished(out: &'a str) -> Told<'a> {
-        Told {
-            status: ExitStatus::Unfinished,
-            out: out.as_bytes(),
-            errors: b"",
-        }
-    }
-
-    /// Main was left, or an error was not answered.
-    pub fn broken(out: &'a str) -> Told<'a> {
-        Told {
-            status: ExitStatus::Broken,
-            out: out.as_bytes(),
-            errors: b"",
-        }
-    }
-
-    /// The output took that, and no more.
-    pub fn cut(out: &'a str) -> Told<'a> {
-        Told {
-            status: ExitStatus::Fault,
-            out: out.as_bytes(),
-            errors: b"write\n",
-        }
-    }
-
-    /// The image or its text is refused with that line.
-    pub fn image_refused(line: &'a str) -> Told<'a> {
-        Told {
-            status: ExitStatus::ImageRefused,
-            out: b"",
-            errors: line.as_bytes(),
-        }
-    }
-
-    /// The script or the natives are refused with that line.
-    pub fn call_refused(line: &'a str) -> Told<'a> {
-        Told {
-            status: ExitStatus::CallRefused,
-            out: b"",
-            errors: line.as_bytes(),
-        }
+/// Each call ends and tells as its case says.
+pub fn all_tell(rt: &impl Abort, alloc: Global, cases: &[Case<'_>]) {
+    for (number, case) in cases.iter().enumerate() {
+        assert!(rt;
+            tells(alloc, &case.call, case.room, case.status, case.told),
+            "case {number}"
+        );
     }
 }
 
-/// A command has answered and written that.
-pub fn is_told(rt: &impl Abort, status: ExitStatus, out: &Page, errors: &Page, told: Told<'_>) {
-    assert_eq!(rt; errors.text.as_slice(), told.errors);
-    assert_eq!(rt; out.text.as_slice(), told.out);
-    assert_eq!(rt; status, told.status);
+/// A script in parts, how a run under it ends, and what that tells.
+#[derive(Clone, Copy)]
+pub struct Act<'a> {
+    pub script: &'a [&'a str],
+    pub status: ExitStatus,
+    pub told: &'a [u8],
 }
 
-/// Runs an image, with so much room for the output.
-pub fn runs(
-    rt: &impl Abort,
-    alloc: Global,
-    image: &[u8],
-    script: &[u8],
-    room: usize,
-    told: Told<'_>,
-) {
-    let mut out = Page::new(alloc, room);
+/// Each run of an image ends and tells as its act says.
+pub fn acts(rt: &impl Abort, alloc: Global, image: &[u8], acts: &[Act<'_>]) -> Result<(), Fail> {
+    for (number, act) in acts.iter().enumerate() {
+        let script = joined(alloc, act.script)?;
+        let call = Call::Run(image, script.as_bytes());
+        assert!(rt;
+            tells(alloc, &call, 1 << 10, act.status, act.told),
+            "act {number}"
+        );
+    }
+    Ok(())
+}
+
+/// The parts of a text, one behind the other.
+pub fn joined(alloc: Global, parts: &[&str]) -> Result<String, Fail> {
+    let mut text = String::new(alloc);
+    for part in parts {
+        text.push_str(part)?;
+    }
+    Ok(text)
+}
+
+/// The bytes of the image that a text in parts denotes.
+pub fn assembled(rt: &impl Abort, alloc: Global, parts: &[&str]) -> Result<Vec<u8>, Fail> {
+    let text = joined(alloc, parts)?;
+    let mut image = Page::new(alloc, 1 << 12);
     let mut errors = Page::new(alloc, 100);
-    let boxes = Vec::new(alloc);
-    let status = run_bytes(
-        alloc,
-        image,
-        script,
-        1_000_000,
-        boxes,
-        &mut out,
-        &mut errors,
-    );
-    is_told(rt, status, &out, &errors, told);
-}
-
-/// Explores a part of an image's requests.
-pub fn explores(
-    rt: &impl Abort,
-    alloc: Global,
-    image: &[u8],
-    script: &[u8],
-    part: Part,
-    told: Told<'_>,
-) {
-    let mut out = Page::new(alloc, 100);
-    let mut errors = Page::new(alloc, 100);
-    let status = explore_bytes(
-        alloc,
-        image,
-        script,
-        1_000_000,
-        &[],
-        part,
-        &mut out,
-        &mut errors,
-    );
-    is_told(rt, status, &out, &errors, told);
-}
-
-/// Checks an image, with so much room for the output.
-pub fn checks(rt: &impl Abort, alloc: Global, image: &[u8], room: usize, told: Told<'_>) {
-    let mut out = Page::new(alloc, room);
-    let mut errors = Page::new(alloc, 100);
-    let status = check_bytes(alloc, image, &mut out, &mut errors);
-    is_told(rt, status, &out, &errors, told);
-}
-
-/// Assembles a text, with so much room for the output.
-pub fn assembles(rt: &impl Abort, alloc: Global, text: &str, room: usize, told: Told<'_>) {
-    let mut out = Page::new(alloc, room);
-    let mut errors = Page::new(alloc, 100);
-    let status = asm_bytes(alloc, text.as_bytes(), &mut out, &mut errors);
-    is_told(rt, status, &out, &errors, told);
-}
-
-/// Lists an image, with so much room for the output.
-pub fn lists(rt: &impl Abort, alloc: Global, image: &[u8], room: usize, told: Told<'_>) {
-    let mut out = Page::new(alloc, room);
-    let mut errors = Page::new(alloc, 100);
-    let status = dis_bytes(alloc, image, &mut out, &mut errors);
-    is_told(rt, status, &out, &errors, told);
+    let status = answer(alloc, &Call::Asm(text.as_bytes()), &mut image, &mut errors);
+    assert!(rt; status == ExitStatus::Done, "a text that denotes no image");
+    Ok(image.text)
 }
 
 /// The first image as a text, with what may be left out left out.
-pub const SHORT: &str =
-    "image cells 1 budget 4; method main main; const r0 7; print r0; stop; ret; end";
+pub const SHORT: &[u8] =
+    b"image cells 1 budget 4; method main main; const r0 7; print r0; stop; ret; end";
 
 /// The listing of the first image.
-pub const LISTING: &str =
-    "image cells 1 messages 0 natives 0 budget 4\nmethod m0 main in - out - args - gives none\nconst r0 7\nprint r0\nstop\nret r0\nend\n";
+pub const LISTING: &[u8] =
+    b"image cells 1 messages 0 natives 0 budget 4\nmethod m0 main in - out - args - gives none\nconst r0 7\nprint r0\nstop\nret r0\nend\n";

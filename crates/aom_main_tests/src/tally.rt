@@ -1,17 +1,17 @@
 //! What a native is asked in a run.
-ghost use Rattle.std.specs.Prelude.{◌≡◌};
+ghost use Rattle.std.specs.Prelude.{◌≡◌, [], IfOk};
 
-use crate::pages::Told;
-use crate::served::{counting, serves_beside};
+use crate::served::{COUNTS, serves_beside};
+use aom_main::ExitStatus;
 use aom_natives::{Counter, Native};
-use std::alloc::Global;
+use std::alloc::{AllocError, Global};
 use std::cell::Cell;
 use std::process::Abort;
 use std::rc::Rc;
 use std::test::Fail;
 
 /// How often a native was asked for what, and the sum of its events' words.
-#[derive(Clone, Copy, PartialEq, Eq, Debug, Default)]
+#[derive(Clone, Copy, PartialEq, Eq, Default)]
 struct Asked {
     opens: u32,
     calls: u32,
@@ -104,26 +104,33 @@ impl<N: Native> Native for Tally<N> {
     }
 }
 
-/// Runs the image that counts under a script beside a counter, which is asked so often.
+/// A counter in a box, with what it is asked counted there.
+fn tallied(alloc: Global, asked: &Rc<Cell<Asked>>) -> Result<Box<Tally<Counter>>, AllocError>
+    ensures { IfOk result (λ b. ⟦<Tally<Counter> as Native>⟧.owed b.value ≡ []) }
+{
+    Ok(Box::new(alloc, Tally::new(Counter::new(), asked.clone()?))?)
+}
+
+/// A run of the image that counts, whose main ends as that text says, beside a counter that is asked so often.
 fn asks(
     rt: &impl Abort,
     alloc: Global,
-    is_stopping: bool,
+    end: &str,
     script: &str,
-    told: Told<'_>,
+    status: ExitStatus,
+    told: &[u8],
     wanted: Asked,
 ) -> Result<(), Fail> {
     let asked = Rc::new(alloc, Cell::new(Asked::default()))?;
-    let native = Box::new(alloc, Tally::new(Counter::new(), asked.clone()?))?;
-    let text = counting(alloc, is_stopping)?;
-    serves_beside(rt, alloc, native, text.as_str(), script, told)?;
-    assert_eq!(rt; asked.get(), wanted);
+    let native = tallied(alloc, &asked)?;
+    serves_beside(rt, alloc, native, &[COUNTS, end], script, status, told)?;
+    assert!(rt; asked.get() == wanted);
     Ok(())
 }
 
 #[test]
 fn a_box_is_asked_once_for_each_call(rt: HostRuntime) -> Result<(), Fail> {
-    let told = Told::done("@0 main\nout 7\nout 14\ngone 0\nend stopped cells 0\n");
+    let told = b"@0 main\nout 7\nout 14\ngone 0\nend stopped cells 0\n";
     let once = Asked {
         opens: 1,
         calls: 2,
@@ -133,13 +140,21 @@ fn a_box_is_asked_once_for_each_call(rt: HostRuntime) -> Result<(), Fail> {
         words: 0,
         drops: 1,
     };
-    asks(&rt, rt.alloc(), true, "", told, once)
+    asks(
+        &rt,
+        rt.alloc(),
+        "stop;ret;end",
+        "",
+        ExitStatus::Done,
+        told,
+        once,
+    )
 }
 
 /// The turn after main, and the one to which time passes, which is the last.
 #[test]
 fn a_box_is_polled_once_in_each_turn(rt: HostRuntime) -> Result<(), Fail> {
-    let told = Told::unfinished("@0 main\nout 7\nout 14\nend waiting cells 1\n");
+    let told = b"@0 main\nout 7\nout 14\nend waiting cells 1\n";
     let twice = Asked {
         opens: 1,
         calls: 2,
@@ -149,12 +164,20 @@ fn a_box_is_polled_once_in_each_turn(rt: HostRuntime) -> Result<(), Fail> {
         words: 0,
         drops: 1,
     };
-    asks(&rt, rt.alloc(), false, "5 event 1 3", told, twice)
+    asks(
+        &rt,
+        rt.alloc(),
+        "ret;end",
+        "5 event 1 3",
+        ExitStatus::Unfinished,
+        told,
+        twice,
+    )
 }
 
 #[test]
 fn an_event_reaches_its_box(rt: HostRuntime) -> Result<(), Fail> {
-    let told = Told::unfinished("@0 main\nout 7\nout 14\nkilled 0\nend waiting cells 1\n");
+    let told = b"@0 main\nout 7\nout 14\nkilled 0\nend waiting cells 1\n";
     let script = "0 event 0 3\n5 event 0 40\n5 event 1 500\n6 kill 0\n7 event 0 6000";
     let reached = Asked {
         opens: 1,
@@ -165,5 +188,13 @@ fn an_event_reaches_its_box(rt: HostRuntime) -> Result<(), Fail> {
         words: 43,
         drops: 1,
     };
-    asks(&rt, rt.alloc(), false, script, told, reached)
+    asks(
+        &rt,
+        rt.alloc(),
+        "ret;end",
+        script,
+        ExitStatus::Unfinished,
+        told,
+        reached,
+    )
 }

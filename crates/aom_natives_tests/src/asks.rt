@@ -31,6 +31,9 @@ pub enum Ask<'a> {
     StartEach(u32, u32, i32),
     /// Events with each word from 0 on, and how many.
     EventEach(i32),
+    IsAlive(bool),
+    /// How many natives there are, dead ones too.
+    Count(usize),
 }
 
 fn open(rt: &impl Abort, natives: &mut Natives, n: usize, id: u32) -> i32
@@ -126,16 +129,27 @@ fn ask_once(rt: &impl Abort, natives: &mut Natives, n: usize, ask: Ask)
         Ask::Outstanding(ids) => assert_eq!(rt; natives.outstanding(n), ids),
         Ask::StartEach(first, count, word) => start_each(rt, natives, n, first, count, word),
         Ask::EventEach(count) => event_each(rt, natives, n, count),
+        Ask::IsAlive(is_alive) => assert_eq!(rt; natives.is_alive(n), is_alive),
+        Ask::Count(count) => assert_eq!(rt; natives.count(), count),
     }
 }
 
 /// Asks the native of that number one after another.
-pub fn ask_each(rt: &impl Abort, natives: &mut Natives, n: usize, asks: &[Ask])
+fn ask_each(rt: &impl Abort, natives: &mut Natives, n: usize, asks: &[Ask])
     requires { AllAgree (λ l. l.ids) (λ l. (⟦<dyn Native as Native>⟧ l.native.vtable).owed l.native.value) natives.old.slots.items }
     ensures { AllAgree (λ l. l.ids) (λ l. (⟦<dyn Native as Native>⟧ l.native.vtable).owed l.native.value) natives.new.slots.items }
 {
     for it in asks {
         ask_once(rt, natives, n, *it);
+    }
+}
+
+/// Asks natives by their numbers, one after another.
+pub fn ask_in_turn(rt: &impl Abort, natives: &mut Natives, asks: &[(usize, Ask)])
+    requires { AllAgree (λ l. l.ids) (λ l. (⟦<dyn Native as Native>⟧ l.native.vtable).owed l.native.value) natives.old.slots.items }
+{
+    for (n, ask) in asks {
+        ask_once(rt, natives, *n, *ask);
     }
 }
 

@@ -1,11 +1,8 @@
 //! Boxes that come and go, and what they are asked.
-ghost use Rattle.aom_natives.specs.Slots.{AllAgree};
-
-use crate::asks::{Ask, adopt_two, ask_alone, ask_each};
+use crate::asks::{Ask, adopt_two, ask_alone, ask_in_turn};
 use crate::probe::Probe;
 use aom_natives::{Counter, Line, Native, Natives};
 use std::cell::Cell;
-use std::process::Abort;
 use std::rc::Rc;
 use std::test::Fail;
 
@@ -19,20 +16,20 @@ fn each_call_asks_its_box_once(rt: HostRuntime) -> Result<(), Fail> {
         Probe::boxed(alloc, &drops)?,
     )?;
     let asks = [
-        Ask::Open(0, -1),
-        Ask::Open(4, 1),
-        Ask::Event(50),
-        Ask::Call(4, 1, 0, 50),
-        Ask::Call(4, 0, 0, 5),
-        Ask::Start(4, 0, 0, 0),
-        Ask::Poll(Some((4, 50))),
-        Ask::Call(4, 0, 0, 8),
-        Ask::Close(4),
+        (1, Ask::Open(0, -1)),
+        (1, Ask::Open(4, 1)),
+        (1, Ask::Event(50)),
+        (1, Ask::Call(4, 1, 0, 50)),
+        (1, Ask::Call(4, 0, 0, 5)),
+        (1, Ask::Start(4, 0, 0, 0)),
+        (1, Ask::Poll(Some((4, 50)))),
+        (1, Ask::Call(4, 0, 0, 8)),
+        (1, Ask::Close(4)),
+        (0, Ask::Event(1)),
+        (1, Ask::Call(4, 0, 0, 10)),
+        (0, Ask::Count(2)),
     ];
-    ask_each(&rt, &mut natives, 1, &asks);
-    ask_each(&rt, &mut natives, 0, &[Ask::Event(1)]);
-    ask_each(&rt, &mut natives, 1, &[Ask::Call(4, 0, 0, 10)]);
-    assert_eq!(rt; natives.count(), 2);
+    ask_in_turn(&rt, &mut natives, &asks);
     Ok(())
 }
 
@@ -56,19 +53,6 @@ fn every_second_start_is_refused(rt: HostRuntime) -> Result<(), Fail> {
     ask_alone(&rt, rt.alloc(), Probe::boxed(rt.alloc(), &drops)?, &asks)
 }
 
-/// Kills the first of two natives, and tells of the second, whose number stays.
-fn kills_the_first(rt: &impl Abort, natives: &mut Natives)
-    requires { AllAgree (λ l. l.ids) (λ l. (⟦<dyn Native as Native>⟧ l.native.vtable).owed l.native.value) natives.old.slots.items }
-{
-    ask_each(rt, natives, 0, &[Ask::Start(30, 0, 0, 0)]);
-    ask_each(rt, natives, 1, &[Ask::Start(30, 0, 0, 0)]);
-    ask_each(rt, natives, 0, &[Ask::Kill(&[30])]);
-    ask_each(rt, natives, 1, &[Ask::Outstanding(&[30])]);
-    assert!(rt; !natives.is_alive(0) && natives.is_alive(1) && !natives.is_alive(2));
-    assert_eq!(rt; natives.count(), 2);
-    assert_eq!(rt; natives.outstanding(0).len(), 0);
-}
-
 #[test]
 fn a_box_is_dropped_once(rt: HostRuntime) -> Result<(), Fail> {
     let alloc = rt.alloc();
@@ -80,7 +64,19 @@ fn a_box_is_dropped_once(rt: HostRuntime) -> Result<(), Fail> {
             Probe::boxed(alloc, &killed)?,
             Probe::boxed(alloc, &kept)?,
         )?;
-        kills_the_first(&rt, &mut natives);
+        // The number of the second stays.
+        let asks = [
+            (0, Ask::Start(30, 0, 0, 0)),
+            (1, Ask::Start(30, 0, 0, 0)),
+            (0, Ask::Kill(&[30])),
+            (1, Ask::Outstanding(&[30])),
+            (0, Ask::IsAlive(false)),
+            (1, Ask::IsAlive(true)),
+            (2, Ask::IsAlive(false)),
+            (0, Ask::Count(2)),
+            (0, Ask::Outstanding(&[])),
+        ];
+        ask_in_turn(&rt, &mut natives, &asks);
         assert_eq!(rt; (killed.get(), kept.get()), (1, 0));
     }
     assert_eq!(rt; (killed.get(), kept.get()), (1, 1));
