@@ -4,7 +4,7 @@ use Rattle.std.specs.Prelude.{is_some, option_map}
 use Rattle.aom_image.specs.Image.{Image}
 use Rattle.aom_image.specs.Views.{instr_at, method_class, method_role}
 use Rattle.aom_instructions.specs.declared.instr.Instr.{Instr}
-use Rattle.aom_instructions.specs.declared.instr.Instr.TheVariants.{Call, Cancel, Delete, JumpActive, JumpAdded, JumpEmpty, JumpNull, Load, New, NewOrLeave, Next, Push, PushOperation, Put, Return, TakeMessage, Trap, Reply}
+use Rattle.aom_instructions.specs.declared.instr.Instr.TheVariants.{Abort, Add, And, Call, Cancel, Const, Copy, Delete, Enlist, Issue, JumpActive, JumpAdded, JumpEmpty, JumpNull, Load, Move, Mul, New, NewOrLeave, Next, Or, Pop, Push, PushOperation, Put, Return, SetActive, Status, Connect, Ask, Close, Store, Sub, Take, TakeMessage, Trap, Reply, Xor}
 use Rattle.aom_instructions.specs.declared.instr.Target.{Target}
 use Rattle.aom_instructions.specs.declared.instr.Target.TheVariants.{Entry as On_entry, Field as On_field, Register as On_register, This}
 use Rattle.aom_image.specs.declared.method.Gives.{Gives}
@@ -345,43 +345,56 @@ module _ (names : ℕ → ℕ) (one_to_one : IsOneToOne names) (p : Image) (c : 
   effect_renamed (Delete a) = ap (λ o. deletes fr' o a) (register_renamed names one_to_one s.cells ts a) ∙ deletes_renamed (held s.cells (Register (length ts) a)) a
   effect_renamed (JumpActive to) = branch_renamed (in_phase is_busy) to
   effect_renamed (JumpAdded to) = branch_renamed is_some to
+  effect_renamed (Enlist priority) = rw (order_kept names s.cells)
+  effect_renamed (Issue a b) = rw (kind_kept names p fr.home, timer_kept names s.cells, own_session_kept names one_to_one s.cells fr.home, own_request_kept names one_to_one s.cells fr.home)
+  effect_renamed SetActive = rw (own_request_kept names one_to_one s.cells fr.home)
   effect_renamed Cancel = cancel_renamed
-  -- of what is read of the object that the method works on, of one test or of the last item, or of nothing
-  effect_renamed _ = first_of (
-    cc,
-    rw (own_request_kept names one_to_one s.cells fr.home),
-    rw (kind_kept names p fr.home, own_session_kept names one_to_one s.cells fr.home),
-    rw (kind_kept names p fr.home, timer_kept names s.cells, own_session_kept names one_to_one s.cells fr.home, own_request_kept names one_to_one s.cells fr.home),
-    rw (order_kept names s.cells),
-    search (either_renamed),
-    search (dealt_alike),
-  )
+  effect_renamed Abort = rw (own_request_kept names one_to_one s.cells fr.home)
+  effect_renamed (Status a) = rw (own_request_kept names one_to_one s.cells fr.home)
+  effect_renamed (Connect a) = rw (kind_kept names p fr.home, own_session_kept names one_to_one s.cells fr.home)
+  effect_renamed (Ask a b x) = rw (kind_kept names p fr.home, own_session_kept names one_to_one s.cells fr.home)
+  effect_renamed _ = first_of (cc, search (either_renamed), search (dealt_alike))
 
   -- ---- what an instruction needs
 
   pub needs_kept : (i : Instr) → needs p c' fr' ts' s' i ≡ needs p c fr ts s i
+  needs_kept (Const a w) = rw (free_at names one_to_one s.cells ts a)
+  needs_kept (Copy a b) = rw (free_at names one_to_one s.cells ts a)
+  needs_kept (Add a b x) = rw (free_at names one_to_one s.cells ts a)
+  needs_kept (Sub a b x) = rw (free_at names one_to_one s.cells ts a)
+  needs_kept (Mul a b x) = rw (free_at names one_to_one s.cells ts a)
+  needs_kept (And a b x) = rw (free_at names one_to_one s.cells ts a)
+  needs_kept (Or a b x) = rw (free_at names one_to_one s.cells ts a)
+  needs_kept (Xor a b x) = rw (free_at names one_to_one s.cells ts a)
+  needs_kept (JumpEmpty f to) = rw (holder_kept names fr.home)
+  needs_kept (Load a w) = rw (holder_kept names fr.home, free_at names one_to_one s.cells ts a)
+  needs_kept (Store w b) = rw (holder_kept names fr.home)
+  needs_kept (Move a b) = rw (free_at names one_to_one s.cells ts a)
+  needs_kept (Take a f) = rw (holder_kept names fr.home, free_at names one_to_one s.cells ts a)
   needs_kept (Put f b) = put_kept names one_to_one p c fr ts s f b
+  needs_kept (New a x) = rw (free_at names one_to_one s.cells ts a)
   needs_kept (Delete a) = rw (message_at names one_to_one s.cells ts a)
   needs_kept (Call target m first a) = call_kept names one_to_one p c fr ts s target m first a
   needs_kept (Trap target m first a) = under_trap_kept names one_to_one p c fr ts s target m first a
   needs_kept (NewOrLeave a x) = rw (free_at names one_to_one s.cells ts a, refusal_kept names one_to_one p c fr ts s s.cells)
   needs_kept (Push a) = push_kept names one_to_one p c fr ts s a
   needs_kept (PushOperation a m) = rw (refusal_kept names one_to_one p c fr ts s s.cells, trap_kept names ts)
+  needs_kept (Pop a) = rw (free_at names one_to_one s.cells ts a)
+  needs_kept (JumpActive to) = rw (kind_kept names p fr.home)
+  needs_kept (JumpAdded to) = rw (kind_kept names p fr.home)
+  needs_kept (Enlist priority) = rw (kind_kept names p fr.home, own_request_kept names one_to_one s.cells fr.home)
+  needs_kept (Issue a b) = rw (kind_kept names p fr.home, own_request_kept names one_to_one s.cells fr.home)
+  needs_kept SetActive = rw (kind_kept names p fr.home, own_request_kept names one_to_one s.cells fr.home)
+  needs_kept Cancel = rw (kind_kept names p fr.home, own_request_kept names one_to_one s.cells fr.home)
+  needs_kept Abort = rw (kind_kept names p fr.home, own_request_kept names one_to_one s.cells fr.home)
+  needs_kept (Status a) = rw (kind_kept names p fr.home, free_at names one_to_one s.cells ts a)
+  needs_kept (Connect a) = rw (kind_kept names p fr.home, free_at names one_to_one s.cells ts a)
+  needs_kept (Ask a b x) = rw (kind_kept names p fr.home, free_at names one_to_one s.cells ts a)
+  needs_kept Close = rw (kind_kept names p fr.home, own_request_kept names one_to_one s.cells fr.home)
   needs_kept (TakeMessage a) = take_message_kept names one_to_one p c fr ts s a
   needs_kept (Reply a b) = reply_kept names one_to_one p c fr ts s a b
   needs_kept (Return a) = return_kept names one_to_one p c fr ts s a
-  -- of a register that is to be free, of the object that the method works on, of what a leave needs, of the last item, or of nothing
-  needs_kept _ = first_of (
-    cc,
-    rw (free_at names one_to_one s.cells ts),
-    rw (holder_kept names fr.home),
-    rw (holder_kept names fr.home, free_at names one_to_one s.cells ts),
-    rw (kind_kept names p fr.home),
-    rw (kind_kept names p fr.home, own_request_kept names one_to_one s.cells fr.home),
-    rw (kind_kept names p fr.home, free_at names one_to_one s.cells ts),
-    rw (leave_kept names s.cells (Run fr ∷ ts)),
-    rw (whole_kept names one_to_one s.cells s.items),
-  )
+  needs_kept _ = first_of (cc, rw (leave_kept names s.cells (Run fr ∷ ts)), rw (whole_kept names one_to_one s.cells s.items))
 
   pub does_renamed : (i : Instr) → does p c' fr' ts' s' i ≡ renamed names (does p c fr ts s i)
   does_renamed i = ap (applied p fr' ts' s') (effect_renamed i) ∙ applied_renamed (effect p c fr ts s i)

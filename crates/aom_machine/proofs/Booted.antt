@@ -1,5 +1,5 @@
 -- As a machine boots, its natives owe nothing.
-use Rattle.std.proofs.Common.{◌≡◌, ◌<◌, ◌≤◌, ℕ, zero, suc, List, [], ◌∷◌, Option, Some, None, refl, sym, ap, ◌∙◌, length, map, arith}
+use Rattle.std.proofs.Common.{◌≡◌, ◌<◌, ◌≤◌, ◌↔◌, ℕ, zero, suc, List, [], ◌∷◌, Option, Some, None, refl, sym, ap, ◌∙◌, length, map, arith}
 use Rattle.std.specs.Prelude.{option_map, IsSome}
 use Rattle.aom_image.specs.Image.{Image}
 use Rattle.aom_endings.specs.Endings.{one_where}
@@ -8,6 +8,12 @@ use Rattle.aom_natives.specs.Slots.{ids_at, living_at}
 use Rattle.aom_owed.proofs.Cells.{boot_owes_nothing}
 use Rattle.aom_sound.specs.World.{boot_state}
 use Rattle.aom_machine.specs.Standing.{Serves}
+use Rattle.aom_machine.specs.declared.fault.BootFault.{BootFault}
+use Rattle.aom_machine.specs.declared.fault.BootFault.TheVariants.{OutOfMemory, TooFewNatives}
+
+-- where memory is wanting, the natives are not too few
+pub memory_is_not_few : (fault : BootFault) (given named : ℕ) → fault ≡ OutOfMemory → named ≤ given → (fault ≡ TooFewNatives) ↔ (given < named)
+memory_is_not_few fault given named is enough = (λ few. absurd (let clash : OutOfMemory ≡ TooFewNatives = sym is ∙ few in cc), λ less. absurd (omega (arith, less, enough)))
 
 -- each slot has its box
 all_there : {L B : Type 0} (box : L → B) (slots : List (Option L)) (boxes : List B) → map (option_map box) slots ≡ map (λ b. Some b) boxes → (n : ℕ) → n < length slots → IsSome (living_at slots n)

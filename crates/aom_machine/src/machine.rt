@@ -2,6 +2,7 @@
 ghost use Rattle.std.specs.Prelude.{ℤ, ◌≡◌, ◌<◌, ◌≤◌, ◌+◌, ◌↔◌, IfErr, IfOk, map, option_map, length, Some};
 ghost use Rattle.aom_exec.specs.Steps.{rank};
 ghost use Rattle.aom_lines.specs.Turn.{step_lines};
+ghost use Rattle.aom_parts.specs.Stands.{StandsFor as CoreStands};
 ghost use Rattle.aom_parts.specs.declared.progress.Progress.TheVariants.{Running};
 ghost use Rattle.aom_machine.specs.Answers.{MayHear, asked_of};
 ghost use Rattle.aom_machine.specs.Calls.{Stands, StandsFor, SteppedOn, SteppedOnce, natives_of};
@@ -44,9 +45,28 @@ impl<'a> Machine<'a> {
         if boxes.len() < accepted.linked().image().header().natives as usize {
             return Err((BootFault::TooFewNatives, boxes));
         }
-        let Ok(core) = aom_exec::Machine::boot(alloc, accepted) else {
-            return Err((BootFault::OutOfMemory, boxes));
-        };
+        match aom_exec::Machine::boot(alloc, accepted) {
+            Ok(core) => Machine::beside(alloc, core, boxes),
+            Err(_) => Err((BootFault::OutOfMemory, boxes)),
+        }
+    }
+
+    /// A machine that has booted, beside those natives. It has as many as its image names.
+    fn beside(
+        alloc: Global,
+        core: aom_exec::Machine<'a>,
+        boxes: Vec<Box<dyn Native>>,
+    ) -> Result<Machine<'a>, (BootFault, Vec<Box<dyn Native>>)>
+        requires owed { OweNothing (λ b. (⟦<dyn Native as Native>⟧ b.vtable).owed b.value) boxes.items }
+        requires stands { CoreStands core (boot_state core.image) }
+        requires enough { core.image.header.natives ≤ length boxes.items }
+        ensures image { IfOk result (λ m. m.core.image ≡ core.image) }
+        ensures stands { IfOk result (λ m. StandsFor m (boot_state core.image)) }
+        ensures agree { IfOk result (λ m. AllAgree (λ l. l.ids) (λ l. (⟦<dyn Native as Native>⟧ l.native.vtable).owed l.native.value) m.natives.slots.items) }
+        ensures boxes { IfOk result (λ m. map (option_map (λ l. l.native)) m.natives.slots.items ≡ map (λ b. Some b) boxes.items) }
+        ensures memory { IfErr result (λ e. e.0 ≡ BootFault.OutOfMemory) }
+        ensures back { IfErr result (λ e. e.1.items ≡ boxes.items) }
+    {
         match Natives::adopt(alloc, boxes) {
             Ok(natives) => Ok(Machine { core, natives }),
             Err((_, boxes)) => Err((BootFault::OutOfMemory, boxes)),

@@ -1,19 +1,24 @@
-use Rattle.std.proofs.Common.{rules, ◌<◌, ◌≤◌, length, sym, subst, arith}
-use Rattle.aom_sound.specs.World.{boot_state}
-use Rattle.aom_machine.specs.Standing.{Serves}
-use Rattle.aom_machine.proofs.Booted.{count, serves_at_boot}
+-- The core is of the accepted image, and there are as many natives as it names.
+use Rattle.std.proofs.Common.{rules, length, ◌≤◌, ◌∙◌}
+use Rattle.std.proofs.lemmas.Result.{IfErr-weaker, IfOk-weaker}
+use Rattle.aom_machine.proofs.Booted.{memory_is_not_few}
 use Rattle.aom_machine.proofs.machine.Machine.boot.Goals as goal
 
-pub returns-in-Ok-adopt-clause-stands : goal.returns-in-Ok-adopt-clause-stands
-returns-in-Ok-adopt-clause-stands g c =
-    let p = c.args.accepted.now in
-    let slots = c.in-Ok-adopt.natives.slots.items in
-    let same = c.in-Ok-adopt.ensures.boxes in
-    let enough : p.header.natives ≤ length c.args.boxes.items = search rules in
-    let few : length c.args.boxes.items < 18446744073709551616 = search rules in
-    let many = count (λ l. l.ids) (λ l. l.native) p slots c.args.boxes.items same in
-    record {
-      stands = c.in-Ok.ensures.stands;
-      serves = subst (λ q. Serves (λ l. l.ids) q (boot_state p) slots) (sym c.in-Ok.ensures.image) (serves_at_boot (λ l. l.ids) (λ l. l.native) p slots c.args.boxes.items same enough c.in-Ok-adopt.ensures.nothing);
-      countable = omega (arith, few, many);
-    }
+pub beside-requires-clause-stands : goal.beside-requires-clause-stands
+beside-requires-clause-stands g c = rw c.in-Ok.ensures.image c.in-Ok.ensures.stands
+
+pub beside-requires-clause-enough : goal.beside-requires-clause-enough
+beside-requires-clause-enough g c =
+    let enough : c.args.accepted.now.header.natives ≤ length c.args.boxes.items = search rules in
+    rw c.in-Ok.ensures.image enough
+
+pub returns-in-Ok-clause-image : goal.returns-in-Ok-clause-image
+returns-in-Ok-clause-image g c = IfOk-weaker c.beside.result _ _ (λ m same. same ∙ c.in-Ok.ensures.image) c.beside.ensures.image
+
+pub returns-in-Ok-clause-stands : goal.returns-in-Ok-clause-stands
+returns-in-Ok-clause-stands g c = rw (← c.in-Ok.ensures.image) c.beside.ensures.stands
+
+pub returns-in-Ok-clause-few : goal.returns-in-Ok-clause-few
+returns-in-Ok-clause-few g c =
+    let enough : c.args.accepted.now.header.natives ≤ length c.args.boxes.items = search rules in
+    IfErr-weaker c.beside.result _ _ (λ e is. memory_is_not_few e.0 _ _ is enough) c.beside.ensures.memory
