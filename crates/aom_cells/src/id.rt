@@ -7,7 +7,7 @@ use std::marker::Model;
 pub const NULL: u32 = 4294967295;
 
 /// The number of a cell, below 4,096, which contracts see as a number.
-#[derive(Clone, Copy, PartialEq, Eq, Debug)]
+#[derive(Clone, Copy, PartialEq, Eq)]
 pub struct CellId {
     number: u32,
 }

@@ -2,7 +2,7 @@
 use aom_image::MethodNumber;
 
 /// What stands on the cleanup stack.
-#[derive(Clone, Copy, Default, PartialEq, Eq, Debug)]
+#[derive(Clone, Copy, Default, PartialEq, Eq)]
 pub enum Item {
     /// An object, by its number.
     Object(u32),

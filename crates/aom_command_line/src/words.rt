@@ -56,7 +56,7 @@ pub enum Words {
 }
 
 /// Why a command line is refused.
-#[derive(Debug, Drop)]
+#[derive(Drop)]
 pub enum WordsFault {
     /// What `clap` has to say, a fault or the help that was asked for; or that `--text` stands without `--explain`.
     Text(String),

@@ -11,7 +11,7 @@ use aom_debug_words::DebugFault;
 use aom_natives::Native;
 
 /// What a debugger shows of a machine.
-#[derive(Clone, Copy, PartialEq, Eq, Debug)]
+#[derive(Clone, Copy, PartialEq, Eq)]
 pub enum Look {
     /// How many cells live, and how many of each class that has any.
     Cells,

@@ -19,7 +19,7 @@ use aom_natives::Native;
 use aom_transcript::Page;
 
 /// Where steps end, if not before.
-#[derive(Clone, Copy, PartialEq, Eq, Debug)]
+#[derive(Clone, Copy, PartialEq, Eq)]
 pub enum Until {
     EndOfDispatch,
     Breakpoint,

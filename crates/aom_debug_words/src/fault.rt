@@ -3,7 +3,7 @@ ghost use Rattle.std.specs.Prelude.{◌≡◌};
 ghost use Rattle.aom_debug_words.specs.Faults.{number_of};
 
 /// What is wrong with a command. Of several the first here is told.
-#[derive(Clone, Copy, PartialEq, Eq, Debug)]
+#[derive(Clone, Copy, PartialEq, Eq)]
 pub enum DebugFault {
     /// A word that is unknown, too few or too many of them, a number that is none or out of its range, or a line that is too long.
     BadCommand,

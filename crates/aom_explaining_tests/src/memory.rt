@@ -16,7 +16,7 @@ fn explaining_may_want_memory(rt: HostRuntime) {
         assert!(rt; told.has(b"memory\nmemory\n") || told.has(said));
         return;
     }
-    assert_eq!(rt; ended, ExitStatus::ImageRefused);
+    assert!(rt; ended == ExitStatus::ImageRefused);
     let said =
         b"load 1\nwrong magic: The first four bytes are not AOIM. An assembly text is refused so.\nTo mend it: Assemble the text first, and name the image.\n";
     assert!(rt; told.has(b"load 1\nmemory\n") || told.has(said));

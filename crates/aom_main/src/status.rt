@@ -3,7 +3,7 @@ ghost use Rattle.std.specs.Prelude.{◌≡◌};
 ghost use Rattle.aom_main.specs.Status.{status_number};
 
 /// What the system is told as the program ends.
-#[derive(Clone, Copy, PartialEq, Eq, Debug)]
+#[derive(Clone, Copy, PartialEq, Eq)]
 pub enum ExitStatus {
     /// An image is accepted, or a run has stopped.
     Done,

@@ -8,7 +8,7 @@ use std::marker::Model;
 pub const FIRST: u32 = 4096;
 
 /// The place of a message, below 1,024, which contracts see as a number.
-#[derive(Clone, Copy, PartialEq, Eq, Debug)]
+#[derive(Clone, Copy, PartialEq, Eq)]
 pub struct MessageId {
     place: u16,
 }

@@ -4,7 +4,7 @@ ghost use Rattle.aom_natives.specs.Kinds.{word_of};
 ghost use Rattle.aom_natives.specs.declared.kind.NativeKind.{NativeKind};
 
 /// Which of this crate's natives is meant.
-#[derive(Clone, Copy, PartialEq, Eq, Debug)]
+#[derive(Clone, Copy, PartialEq, Eq)]
 pub enum NativeKind {
     Counter,
     Line,

@@ -5,7 +5,7 @@ use crate::Page;
 use std::alloc::{AllocError, Global};
 
 /// What a call answered and wrote, with its status.
-#[derive(Debug, PartialEq, Eq, Drop)]
+#[derive(PartialEq, Eq, Drop)]
 pub struct Answer<S> {
     pub status: S,
     pub out: Vec<u8>,

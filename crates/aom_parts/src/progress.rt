@@ -3,7 +3,7 @@
 use aom_transcript::Ending;
 
 /// What stands after a step.
-#[derive(Clone, Copy, PartialEq, Eq, Debug)]
+#[derive(Clone, Copy, PartialEq, Eq)]
 pub enum Progress {
     /// Something is at hand.
     Running,

@@ -110,7 +110,7 @@ fn is_told(
 ) {
     assert!(rt; number < 4096);
     let id = CellId::new(number);
-    assert_eq!(rt; objects.state(id), state);
+    assert!(rt; objects.state(id) == state);
     assert_eq!(rt; objects.is_active(id), state == Some(State::Active));
     let is_cancelled = state == Some(State::Cancelling) || state == Some(State::Aborted);
     assert_eq!(rt;

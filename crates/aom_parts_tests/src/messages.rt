@@ -23,5 +23,5 @@ fn keeps_words_until_a_message_goes(rt: HostRuntime) -> Result<(), Fail> {
 fn numbers_lie_behind_those_of_cells(rt: HostRuntime) {
     let third = MessageId::new(2);
     assert_eq!(rt; third.number(), 4098);
-    assert_eq!(rt; MessageId::numbered(4098), third);
+    assert!(rt; MessageId::numbered(4098) == third);
 }

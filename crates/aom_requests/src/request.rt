@@ -9,7 +9,7 @@ pub const PENDING: i32 = -2147483647;
 const GENERAL_ERROR: i32 = -2;
 
 /// How far an active object's request has come.
-#[derive(Clone, Copy, PartialEq, Eq, Debug)]
+#[derive(Clone, Copy, PartialEq, Eq)]
 pub enum State {
     /// No request is made.
     Idle,

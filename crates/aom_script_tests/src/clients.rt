@@ -32,7 +32,7 @@ fn clients_connect_send_close_and_die(rt: HostRuntime) -> Result<(), Fail> {
             event: Event::Client(63, Command::Die),
         },
     ];
-    assert_eq!(rt; script.events(), events.as_slice());
+    assert!(rt; script.events() == events.as_slice());
     Ok(())
 }
 

@@ -35,7 +35,7 @@ fn events_stand_in_the_order_of_the_text(rt: HostRuntime) -> Result<(), Fail> {
             event: Event::Kill(0),
         },
     ];
-    assert_eq!(rt; script.events(), events.as_slice());
+    assert!(rt; script.events() == events.as_slice());
     Ok(())
 }
 

@@ -1,7 +1,7 @@
 //! What a run hears from outside.
 
 /// What comes from outside between dispatches.
-#[derive(Clone, Copy, PartialEq, Eq, Debug)]
+#[derive(Clone, Copy, PartialEq, Eq)]
 pub enum Event {
     /// A word for the native of that number.
     Tell(u8, i32),
@@ -12,7 +12,7 @@ pub enum Event {
 }
 
 /// What a client does.
-#[derive(Clone, Copy, PartialEq, Eq, Debug)]
+#[derive(Clone, Copy, PartialEq, Eq)]
 pub enum Command {
     /// It asks a server of that class for a session with so many slots.
     Connect(u8, u8),
@@ -23,7 +23,7 @@ pub enum Command {
 }
 
 /// An event, and when it comes, in microseconds.
-#[derive(Clone, Copy, PartialEq, Eq, Debug)]
+#[derive(Clone, Copy, PartialEq, Eq)]
 pub struct TimedEvent {
     pub time: u64,
     pub event: Event,

@@ -35,7 +35,7 @@ pub enum Asked {
 }
 
 /// How a run ends.
-#[derive(Clone, Copy, PartialEq, Eq, Debug)]
+#[derive(Clone, Copy, PartialEq, Eq)]
 pub enum Ending {
     Stopped,
     Waiting,

@@ -4,7 +4,7 @@ ghost use Rattle.aom_verify.specs.Change.{step_then, then};
 ghost use Rattle.aom_verify.specs.declared.change.Change.TheVariants.{Nothing};
 
 /// What became of the states of a method.
-#[derive(Clone, Copy, PartialEq, Eq, Debug)]
+#[derive(Clone, Copy, PartialEq, Eq)]
 pub(crate) enum Change {
     Nothing,
     /// A state says less than before, and no place was reached first.
