@@ -24,7 +24,7 @@ use Rattle.aom_sound.specs.World.{goes_before, is_ready, is_sooner}
 use Rattle.aom_active.specs.Agrees.{Active, ComesSooner, GoesBefore, IsSooner, IsWhole, StandsFor, Tells, phase_of, timer_in}
 use Rattle.aom_active.specs.Meanings.{IsFirstDue, IsFirstReady, NoneDue, NoneReady, goes}
 use Rattle.aom_active.proofs.Halves.{Timely}
-use Rattle.aom_active.proofs.Lists.{Standing, both, id_of, standing}
+use Rattle.aom_active.proofs.Lists.{Numbered, both, id_of, standing}
 
 -- ---- timers
 
@@ -61,7 +61,7 @@ first_timer asked t ts s = record { timer = own.timer; runs = own.is; due_is = o
         set : IsSome (due_of n ts)
         set = ap is_some (later (t.id == n) refl (s.dues n ∙ ap (option_map (λ v. v.due)) e))
 
-        by_place : Standing id_of n (λ v. IsSooner (asked t.id) (asked v.id)) → is_sooner own.timer u ≡ true
+        by_place : Numbered id_of n (λ v. IsSooner (asked t.id) (asked v.id)) → is_sooner own.timer u ≡ true
         by_place w = subst (λ o. ComesSooner (Some own.timer) o) (ap (λ k. timer_in (asked k)) w.number_is ∙ e) (subst (λ o. ComesSooner o (timer_in (asked w.item.id))) own.is w.holds)
 
 -- it is the first that is due, or none is
@@ -210,13 +210,13 @@ told (Some h) None waits tells some = absurd tells
 
 module _ (a : Active) (w : IsWhole a) (asked : ℕ → Option Request) (queues : ℕ → Option Bool) (s : StandsFor a asked queues) where
   -- the entry of a request that is ready
-  entry_of : (P : Entry → Type 0) → All P a.roster.entries → (n : ℕ) (r : Request) → asked n ≡ Some r → goes r (queues n) ≡ true → Standing (λ e. e.id) n (λ e. P e × (e.is_ready ≡ true))
+  entry_of : (P : Entry → Type 0) → All P a.roster.entries → (n : ℕ) (r : Request) → asked n ≡ Some r → goes r (queues n) ≡ true → Numbered (λ e. e.id) n (λ e. P e × (e.is_ready ≡ true))
   entry_of P all n r e ready = record { item = found.item; number_is = found.number_is; holds = (found.holds.0, found.holds.1 ∙ ap (λ k. Held.is_ready (request_at a.table k)) found.number_is ∙ held_ready) }
     where
       held_ready : Held.is_ready (request_at a.table n) ≡ true
       held_ready = same_ready (request_at a.table n) r (queues n) (subst (λ o. Tells (request_at a.table n) o (queues n)) e (s.tells n)) ∙ ready
 
-      found : Standing (λ f. f.id) n (λ f. P f × (f.is_ready ≡ Held.is_ready (request_at a.table f.id)))
+      found : Numbered (λ f. f.id) n (λ f. P f × (f.is_ready ≡ Held.is_ready (request_at a.table f.id)))
       found =
           standing (λ f. f.id) n (λ f. P f × (f.is_ready ≡ Held.is_ready (request_at a.table f.id))) a.roster.entries (w.enlisted n ∙ ready_is_some (request_at a.table n) held_ready)
           (both P (λ f. f.is_ready ≡ Held.is_ready (request_at a.table f.id)) a.roster.entries all w.marks)

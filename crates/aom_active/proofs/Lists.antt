@@ -103,16 +103,16 @@ module _ {A : Type 0} (number : A → ℕ) where
       (without number id xs) (filter_passes (λ x. not (number x == id)) xs)
 
   -- what holds of all holds of an item that is there
-  pub record Standing (n : ℕ) (P : A → Type 0) : Type 0 where
+  pub record Numbered (n : ℕ) (P : A → Type 0) : Type 0 where
     pub item : A
     pub number_is : number item ≡ n
     pub holds : P item
 
-  pub standing : (n : ℕ) (P : A → Type 0) (xs : List A) → stands n xs ≡ true → All P xs → Standing n P
+  pub standing : (n : ℕ) (P : A → Type 0) (xs : List A) → stands n xs ≡ true → All P xs → Numbered n P
   standing n P [] some all = absurd (false≢true some)
   standing n P (x ∷ xs) some all = go (number x == n) refl (sym (stands_front n x xs) ∙ some) (λ later. standing n P xs later (All-tail P x xs all))
     where
-      go : (b : Bool) → (number x == n) ≡ b → cond b true (stands n xs) ≡ true → (stands n xs ≡ true → Standing n P) → Standing n P
+      go : (b : Bool) → (number x == n) ≡ b → cond b true (stands n xs) ≡ true → (stands n xs ≡ true → Numbered n P) → Numbered n P
       go true same some rest = record { item = x; number_is = eqb-true (number x) n same; holds = All-head P x xs all }
       go false other some rest = rest some
 

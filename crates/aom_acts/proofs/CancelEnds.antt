@@ -45,7 +45,7 @@ use Rattle.aom_acts.proofs.RequestActs.{requests_set}
 use Rattle.aom_parts.proofs.Services.{services_ended}
 use Rattle.aom_shape.specs.Kinds.{is_object}
 use Rattle.aom_acts.proofs.Housing.{at_hand, needs_met}
-use Rattle.aom_acts.proofs.Standing.{by_top}
+use Rattle.aom_acts.proofs.Running.{by_top}
 use Rattle.aom_acts.proofs.Stepping.{at_step}
 use Rattle.aom_parts.proofs.Asking.{cells_asked}
 use Rattle.aom_parts.proofs.Sessions.{natives_asked}

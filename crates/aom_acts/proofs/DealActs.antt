@@ -34,7 +34,7 @@ use Rattle.aom_parts.proofs.Alike.{Entries_alike, entries_alike, entries_own, en
 use Rattle.aom_parts.proofs.Entries.{owns_none, same_items_length, top_value, value_alike, value_popped}
 use Rattle.aom_acts.proofs.GoingActs.{aside_moved, begins, destructor_same, server_same, dying_shows, fresh_value, fresh_word}
 use Rattle.aom_acts.proofs.ReturnActs.{none_above}
-use Rattle.aom_acts.proofs.Standing.{begun_frame, nothing_held, object_small, reframed}
+use Rattle.aom_acts.proofs.Running.{begun_frame, nothing_held, object_small, reframed}
 use Rattle.aom_parts.proofs.Values.{going_past, kept, same_length, value_written, word_written, writes}
 use Rattle.aom_acts.proofs.WordActs.{plain_at}
 

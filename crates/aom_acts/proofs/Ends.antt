@@ -36,7 +36,7 @@ use Rattle.aom_parts.specs.Stands.{Stands}
 use Rattle.aom_acts.specs.Moves.{Moves}
 use Rattle.aom_parts.proofs.Alike.{Alike, An_end, Tops, alike, both_end, end_on_top, tops}
 use Rattle.aom_acts.proofs.Finding.{class_fits, root_lives}
-use Rattle.aom_acts.proofs.Standing.{object_small}
+use Rattle.aom_acts.proofs.Running.{object_small}
 use Rattle.aom_sound.proofs.Layers.{dispatch_layer}
 use Rattle.aom_sound.proofs.Services.{sits_lives}
 use Rattle.aom_sound.specs.WellTyped.{Good, SitsFirst}
@@ -45,7 +45,7 @@ use Rattle.aom_sound.specs.State.{Object_left}
 use Rattle.aom_parts.specs.Agrees.{subject_of}
 use Rattle.aom_sound.specs.Places.{named}
 use Rattle.aom_parts.proofs.Values.{kept, none_alike, value_written, word_written, writes}
-use Rattle.aom_acts.proofs.Standing.{an_open, begun_frame, not_null, reframed}
+use Rattle.aom_acts.proofs.Running.{an_open, begun_frame, not_null, reframed}
 use Rattle.aom_acts.proofs.CallActs.{Closing, closing, shows_null}
 use Rattle.aom_acts.proofs.OnTop.{ending_of}
 use Rattle.aom_acts.proofs.GoingActs.{end_value, end_word, fresh_value, fresh_word, uproots}

@@ -32,7 +32,7 @@ use Rattle.aom_acts.specs.Next.{IsNext}
 use Rattle.aom_acts.proofs.GoingActs.{thing_is}
 use Rattle.aom_acts.proofs.Housing.{at_hand, needs_met}
 use Rattle.aom_acts.proofs.RequestActs.{OnObject, asks_on, finds_object, kind_told, named_here, on_object, own_told, requests_enlisted, thing_here}
-use Rattle.aom_acts.proofs.Standing.{free}
+use Rattle.aom_acts.proofs.Running.{free}
 use Rattle.aom_acts.proofs.WordActs.{plain_at}
 
 -- ---- the lists of servers, as an object is enlisted

@@ -46,7 +46,7 @@ use Rattle.aom_parts.proofs.Services.{services_passed}
 use Rattle.aom_acts.proofs.Owned.{object_for}
 use Rattle.aom_sound.proofs.Maps.{held_lives}
 use Rattle.aom_acts.proofs.FieldActs.{this_is}
-use Rattle.aom_acts.proofs.Standing.{Top, by_top, begun_frame, object_small, reframed, no_word}
+use Rattle.aom_acts.proofs.Running.{Top, by_top, begun_frame, object_small, reframed, no_word}
 use Rattle.aom_acts.proofs.Stepping.{at_step}
 use Rattle.aom_parts.proofs.Values.{kept, moves, value_here, value_written, word_written, writes}
 use Rattle.aom_parts.proofs.Sessions.{natives_passed}

@@ -34,7 +34,7 @@ use Rattle.aom_parts.proofs.Entries.{and_true, entry_past, owns_none, same_items
 use Rattle.aom_acts.proofs.LeavingActs.{leaves, leaves_at}
 use Rattle.aom_parts.proofs.Services.{services_moved}
 use Rattle.aom_acts.proofs.ObjectActs.{asks_one, made_agrees, new_small, same_entry_refusal, same_refusal}
-use Rattle.aom_acts.proofs.Standing.{Top, word_here, no_word, free, nothing_held, null_unnamed, unnamed}
+use Rattle.aom_acts.proofs.Running.{Top, word_here, no_word, free, nothing_held, null_unnamed, unnamed}
 use Rattle.aom_acts.proofs.Stepping.{agrees_rest}
 use Rattle.aom_parts.proofs.Values.{kept, moves, value_here, value_written, word_written}
 use Rattle.aom_acts.proofs.WordActs.{plain_does, word_read}

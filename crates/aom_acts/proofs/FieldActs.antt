@@ -33,7 +33,7 @@ use Rattle.aom_parts.proofs.Values.{kept, value_here, value_written, word_writte
 use Rattle.aom_parts.proofs.Services.{services_moved, services_stored}
 use Rattle.aom_shape.specs.Kinds.{is_object}
 use Rattle.aom_sound.specs.Servers.{is_queue}
-use Rattle.aom_acts.proofs.Standing.{by_top, word_here, free, no_word, null_unnamed, object_there}
+use Rattle.aom_acts.proofs.Running.{by_top, word_here, free, no_word, null_unnamed, object_there}
 use Rattle.aom_parts.proofs.CellFields.{field_written, root_written, word_put_elsewhere, cell_of, cells_put, cells_stored}
 use Rattle.aom_acts.proofs.WordActs.{word_read, word_put, plain_does}
 use Rattle.aom_acts.proofs.ObjectActs.{jumps_empty, passes_full}

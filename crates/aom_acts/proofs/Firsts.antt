@@ -33,7 +33,7 @@ use Rattle.aom_parts.specs.Agrees.{Agrees, number, thing_in}
 use Rattle.aom_parts.specs.Places.{session_number, session_with}
 use Rattle.aom_parts.specs.Serving.{sessionless}
 use Rattle.aom_parts.specs.declared.parts.Parts.{Parts}
-use Rattle.aom_acts.proofs.Standing.{nothing_held, object_lives_at}
+use Rattle.aom_acts.proofs.Running.{nothing_held, object_lives_at}
 
 -- ---- what a client says of the number in the place of its session
 

@@ -41,7 +41,7 @@ use Rattle.aom_acts.specs.Going.{begun, destructed, destructor_in, destructor_at
 use Rattle.aom_parts.specs.Agrees.{word_in, word_at, Shows, SameTasks, thing_in, number, Agrees}
 use Rattle.aom_acts.specs.Acts.{requested, In_going, DoesIn}
 use Rattle.aom_parts.proofs.Values.{cases, same_length, kept, moves, at_depth, register_past, going_past, word_past, value_here, value_kept, value_written, word_next, word_written, destroys_value, destroys_word}
-use Rattle.aom_acts.proofs.Standing.{Aside, agrees_with, object_class, object_small, object_there, Top, by_top, reframed, moved_on, begun_frame, begun_registers, word_here, no_word, nothing_held, some_held}
+use Rattle.aom_acts.proofs.Running.{Aside, agrees_with, object_class, object_small, object_there, Top, by_top, reframed, moved_on, begun_frame, begun_registers, word_here, no_word, nothing_held, some_held}
 use Rattle.aom_parts.proofs.Cells.{cells_moved, unowned}
 use Rattle.aom_acts.proofs.ObjectActs.{shown}
 use Rattle.aom_acts.proofs.WordActs.{plain_at}

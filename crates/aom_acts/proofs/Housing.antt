@@ -15,7 +15,7 @@ use Rattle.aom_acts.specs.Acts.{At_hand, requested}
 use Rattle.aom_parts.specs.Fields.{this, ThisLives}
 use Rattle.aom_acts.specs.Next.{IsNext, counting}
 use Rattle.aom_parts.specs.Stands.{Stands}
-use Rattle.aom_acts.proofs.Standing.{an_open}
+use Rattle.aom_acts.proofs.Running.{an_open}
 use Rattle.aom_acts.proofs.Stepping.{met, frame_of, at_step, step_of_instr}
 use Rattle.aom_acts.proofs.FieldActs.{is_housed, has_cell}
 

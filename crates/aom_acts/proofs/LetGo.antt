@@ -36,7 +36,7 @@ use Rattle.aom_acts.proofs.Ends.{at_close}
 use Rattle.aom_acts.proofs.Firsts.{IsSeat, closing_found, its_session, no_session, session_lives, session_object}
 use Rattle.aom_acts.proofs.GoingActs.{aside_moved, begins, closes_value, closes_word, destructor_same, destructs, dying_shows, server_same}
 use Rattle.aom_acts.proofs.ReturnActs.{lives_within}
-use Rattle.aom_acts.proofs.Standing.{Aside, an_open, nothing_held, object_lives_at, object_small, object_there}
+use Rattle.aom_acts.proofs.Running.{Aside, an_open, nothing_held, object_lives_at, object_small, object_there}
 use Rattle.aom_acts.proofs.Stepping.{counted_by}
 use Rattle.aom_acts.specs.Going.{destructed, destructor_at, destructor_in, dying, is_server_class}
 use Rattle.aom_acts.specs.Moves.{Moves}

@@ -1,5 +1,5 @@
 pub mod OnTop
-pub mod Standing
+pub mod Running
 pub mod GoingOn
 pub mod WordActs
 pub mod LoopActs

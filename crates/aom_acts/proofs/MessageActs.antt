@@ -45,7 +45,7 @@ use Rattle.aom_acts.specs.Serving.{Completes, IsTaken, completion_lines}
 use Rattle.aom_acts.proofs.GoingOn.{framed, goes_on_with, written}
 use Rattle.aom_acts.proofs.Housing.{at_hand, needs_met}
 use Rattle.aom_acts.proofs.ObjectActs.{shown_here}
-use Rattle.aom_acts.proofs.Standing.{free, no_word}
+use Rattle.aom_acts.proofs.Running.{free, no_word}
 use Rattle.aom_acts.proofs.WordActs.{plain_does, word_read}
 
 -- what a completion changes of clients shows in no place

@@ -13,7 +13,7 @@ use Rattle.aom_parts.specs.Places.{others, value_in, set_register}
 use Rattle.aom_acts.specs.Acts.{Does}
 use Rattle.aom_parts.specs.Places as places
 use Rattle.aom_parts.proofs.Values.{value_here, value_written, word_written, moves}
-use Rattle.aom_acts.proofs.Standing.{word_here, free, no_word, reframed}
+use Rattle.aom_acts.proofs.Running.{word_here, free, no_word, reframed}
 use Rattle.aom_acts.proofs.WordActs.{plain_does}
 use Rattle.aom_acts.proofs.GoingOn.{goes_on_with}
 use Rattle.aom_parts.proofs.Cells.{cells_moved}

@@ -36,7 +36,7 @@ use Rattle.aom_acts.proofs.GoingOn.{Beside, goes_on_as, goes_on_with, still_none
 use Rattle.aom_acts.proofs.Housing.{needs_met}
 use Rattle.aom_acts.proofs.RequestActs.{OnObject, finds_cell, finds_object, heard_told, kind_told, on_object}
 use Rattle.aom_parts.proofs.Sessions.{cells_resessioned, natives_set}
-use Rattle.aom_acts.proofs.Standing.{free}
+use Rattle.aom_acts.proofs.Running.{free}
 use Rattle.aom_acts.proofs.WordActs.{heard_at, plain_does, word_put}
 
 -- objects that a native serves are active objects

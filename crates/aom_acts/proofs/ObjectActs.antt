@@ -30,7 +30,7 @@ use Rattle.aom_parts.specs.Cells.{refuses, refuses_entry, Made}
 use Rattle.aom_parts.specs.Places as places
 use Rattle.aom_parts.proofs.Values.{cases}
 use Rattle.aom_parts.proofs.Services.{services_made}
-use Rattle.aom_acts.proofs.Standing.{Top, by_top, register_shows, free, no_word, null_unnamed, unnamed, nothing_held, some_held}
+use Rattle.aom_acts.proofs.Running.{Top, by_top, register_shows, free, no_word, null_unnamed, unnamed, nothing_held, some_held}
 use Rattle.aom_parts.proofs.CellWords.{all_same, zeros_at}
 use Rattle.aom_acts.proofs.GoingOn.{goes_on_with, still_none, written}
 use Rattle.aom_acts.proofs.WordActs.{jumps, passes, plain_does, plain_at}

@@ -67,7 +67,7 @@ use Rattle.aom_shape.specs.Kinds.{is_object}
 use Rattle.aom_acts.proofs.GoingActs.{fresh_value, fresh_word, thing_is}
 use Rattle.aom_acts.proofs.GoingOn.{goes_on_as}
 use Rattle.aom_acts.proofs.Housing.{at_hand, needs_met}
-use Rattle.aom_acts.proofs.Standing.{begun_frame, by_top, free, object_class}
+use Rattle.aom_acts.proofs.Running.{begun_frame, by_top, free, object_class}
 use Rattle.aom_acts.proofs.Stepping.{at_step}
 use Rattle.aom_acts.proofs.WordActs.{heard_at, jumps, passes, plain_at, plain_does, word_put, word_read}
 use Rattle.aom_parts.proofs.Asking.{cells_asked}

@@ -75,7 +75,7 @@ use Rattle.aom_acts.proofs.Housing.{at_hand, needs_met}
 use Rattle.aom_acts.proofs.Stepping.{at_step}
 use Rattle.aom_parts.proofs.Premises.{connecting_below}
 use Rattle.aom_parts.proofs.Cells.{cell_small, cells_moved}
-use Rattle.aom_acts.proofs.Standing.{Top, by_top, free, goes_on, moved_on, no_word, object_lives_at, register_shows}
+use Rattle.aom_acts.proofs.Running.{Top, by_top, free, goes_on, moved_on, no_word, object_lives_at, register_shows}
 use Rattle.std.specs.Bool.{OnTrue}
 use Rattle.std.specs.Prelude.{IsSome, is_some}
 use Rattle.std.proofs.lemmas.Option.{none-some}

@@ -60,7 +60,7 @@ use Rattle.aom_acts.proofs.Ends.{at_close, at_end, seat_lives, step_of_end, whic
 use Rattle.aom_acts.proofs.GoingActs.{end_value, end_word}
 use Rattle.aom_acts.proofs.OnTop.{ending_of}
 use Rattle.aom_acts.proofs.ReturnActs.{lives_within}
-use Rattle.aom_acts.proofs.Standing.{an_open}
+use Rattle.aom_acts.proofs.Running.{an_open}
 use Rattle.aom_acts.specs.Going.{ending_here}
 use Rattle.aom_acts.specs.Moves.{Moves}
 use Rattle.aom_acts.specs.Serving.{CanEndStage, Completes, EndsStage, IsTaken, completion_lines}

@@ -56,7 +56,7 @@ use Rattle.aom_acts.proofs.LeavingActs.{unwinds_value, unwinds_word}
 use Rattle.aom_parts.proofs.Overs.{over_value, over_words}
 use Rattle.aom_parts.proofs.Alike.{A_caught_leave, A_last_leave, Alike, Alike_items, Entries_alike, Tops, alike, both_end, both_marks, both_run, both_trapped, both_unwind, caught_leave_on_top, entries_alike, entries_own, entries_run, items_alike, last_leave_on_top, same_below, tops}
 use Rattle.aom_acts.proofs.ReturnActs.{awaiting, bears, word_alone}
-use Rattle.aom_acts.proofs.Standing.{an_open, moved_on}
+use Rattle.aom_acts.proofs.Running.{an_open, moved_on}
 use Rattle.aom_acts.proofs.Stepping.{at_rest, goes_somewhere, step_of_unwinding, unwinding_of}
 use Rattle.aom_acts.proofs.Topping.{top_lives}
 use Rattle.aom_parts.proofs.Values.{kept, none_alike, same_length, value_written, word_written, writes}

@@ -32,7 +32,7 @@ use Rattle.aom_frames.specs.declared.task.Task.{Task as Held_task}
 use Rattle.aom_frames.specs.declared.task.Task.TheVariants.{Closing as Closes, Destroy as Destroys, Dispatched as Ends_dispatch, Run as Runs_frame, Trapped as Is_trap, Unwind as Unwinds}
 use Rattle.aom_parts.specs.Agrees.{word_at}
 use Rattle.aom_parts.specs.Agrees.{Shows as Held_shows}
-use Rattle.aom_acts.proofs.Standing.{not_null}
+use Rattle.aom_acts.proofs.Running.{not_null}
 use Rattle.aom_shape.specs.Kinds.{is_object}
 use Rattle.std.proofs.lemmas.Bool.{ltb-false, ltb-true}
 use Rattle.std.proofs.lemmas.List.{get_or_past}

@@ -21,7 +21,7 @@ use Rattle.aom_parts.specs.Places.{going_in, going_of, register_in, value}
 use Rattle.aom_parts.specs.Stands.{Machine, StandsFor}
 use Rattle.aom_parts.proofs.Alike.{by_tasks}
 use Rattle.aom_parts.proofs.Values.{same_length}
-use Rattle.aom_acts.proofs.Standing.{not_null}
+use Rattle.aom_acts.proofs.Running.{not_null}
 use Rattle.aom_debug_sights.specs.Owners.{Shows, ShowsNone, frame_over, goings_in, is_frame, is_going}
 
 -- ---- lists

@@ -28,7 +28,7 @@ use Rattle.aom_parts.specs.Serving.{SameClients, holds, is_taken, message_name, 
 use Rattle.aom_parts.specs.Stands.{Machine, StandsFor}
 use Rattle.aom_run.specs.Runs.{after}
 use Rattle.aom_acts.proofs.Finding.{object_lives}
-use Rattle.aom_acts.proofs.Standing.{null_unnamed}
+use Rattle.aom_acts.proofs.Running.{null_unnamed}
 use Rattle.aom_debug_words.specs.declared.fault.DebugFault.{DebugFault}
 use Rattle.aom_debug_sights.specs.Sights.{class_in, class_of}
 use Rattle.aom_debug_sights.specs.Owners.{Branch, By_field, By_session, In_register, Outer, Owned, Shows, ShowsNone, Way, beneath, branch_text, frame_registers, further, generations, grown, message_text, outer_text, owned_line, owners_text, sender_at, sender_of, thing_text, tree, way_text}

@@ -31,7 +31,7 @@ use Rattle.aom_parts.proofs.Values.{same_length}
 use Rattle.aom_parts.proofs.Alike.{Alike, alike, both_close, both_end, both_go, both_run, both_trapped, both_unwind, no_tasks}
 use Rattle.aom_acts.specs.Going.{ending_here}
 use Rattle.aom_acts.proofs.Firsts.{ClosesOver, closing_found, found_session, its_session, no_session, session_lives}
-use Rattle.aom_acts.proofs.Standing.{nothing_held, object_lives_at, object_there}
+use Rattle.aom_acts.proofs.Running.{nothing_held, object_lives_at, object_there}
 use Rattle.aom_debug_lines.specs.declared.answer.Answer.{Answer}
 use Rattle.aom_debug_lines.specs.declared.answer.Answer.TheVariants.{At, Gone}
 use Rattle.aom_debug_views.specs.Next.{GoesFirst, begins_by, destroyed_under, destruction_by, destruction_of, ends_all_in, first_number, goes_first, gone_by, going_of, is_last_in, next_in}

@@ -24,7 +24,7 @@ use Rattle.aom_debugging.specs.Answers.DebugBreaks.{input_fails, machine_wants_m
 use Rattle.aom_debugging.specs.Beginning.{IsBegun}
 use Rattle.aom_debugging.specs.Conversing.{BreaksDown, Broken, Given, Held, HoldsAll, IsUnread, Stopped, StopsShort}
 use Rattle.aom_debugging.specs.Hearing.{standing}
-use Rattle.aom_debugging.specs.Sessions.{Standing}
+use Rattle.aom_debugging.specs.Sessions.{SessionState}
 
 -- ---- an accepted image under a script
 
@@ -40,7 +40,7 @@ module _ (bytes text : List ℕ) (limit natives reads : ℕ) (p : Image) (script
     debugs = record { image = p; spelled = spelled; acceptable = acceptable; script = script; denotes = denotes; enough = begun.enough }
 
     -- what a session comes to from where the debugger begins
-    begun_so : (Q : Image → Outside → Standing → Type 0) → Q d.machine.core.image (outside_of d) (standing d (boot_state p)) → Q p (outside_by script limit natives) (start_of p)
+    begun_so : (Q : Image → Outside → SessionState → Type 0) → Q d.machine.core.image (outside_of d) (standing d (boot_state p)) → Q p (outside_by script limit natives) (start_of p)
     begun_so Q x =
         subst (λ q. Q q (outside_by script limit natives) (start_of p)) begun.image
         (subst (λ o. Q d.machine.core.image o (start_of p)) begun.outside (subst (λ ss. Q d.machine.core.image (outside_of d) (record { state = boot_state p; spots = ss; recent = [] })) begun.spots

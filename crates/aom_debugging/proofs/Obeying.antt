@@ -21,7 +21,7 @@ use Rattle.aom_debug.specs.Obeying.{Obeys}
 use Rattle.aom_debug.specs.declared.debugger.Debugger.{Debugger}
 use Rattle.aom_debug.specs.declared.looking.Look.TheVariants as look
 use Rattle.aom_debugging.specs.Hearing.{standing}
-use Rattle.aom_debugging.specs.Sessions.{Begins, Does, Goes as GoesSo, Heeds, MovesOn, Refuses, Sets as SetsSo, Shown, Standing, has_ended as is_ended}
+use Rattle.aom_debugging.specs.Sessions.{Begins, Does, Goes as GoesSo, Heeds, MovesOn, Refuses, Sets as SetsSo, Shown, SessionState, has_ended as is_ended}
 
 not_both : (b : Bool) → b ≡ true → b ≡ false → ⊥
 not_both b yes_is no_is = absurd cc
@@ -35,7 +35,7 @@ module _ {X : Type 0} {B : X → Type 0} (old new : Debugger X B) (out : Outgoin
 
   -- ---- what is done
 
-  abbrev pub Done : (Standing → List ℕ → Standing → Type 0) → Type 0
+  abbrev pub Done : (SessionState → List ℕ → SessionState → Type 0) → Type 0
   Done does = (s : State) → StandsFor old.machine s → (text : List ℕ) × (u : State) × does (standing old s) text (standing new u) × (out.now ≡ after out.before text) × StandsFor new.machine u
 
   goes_done : (leads : Debugger X B → Courses) → Goes leads old new out (Ok tt) → Done (λ a text b. GoesSo old.machine.core.image (leads old) a text b)

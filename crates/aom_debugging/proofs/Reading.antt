@@ -12,7 +12,7 @@ use Rattle.aom_debug.specs.Debugging.{outside_of}
 use Rattle.aom_debug.specs.declared.debugger.Debugger.{Debugger}
 use Rattle.aom_debugging.specs.Conversing.{BreaksDown, BreaksOff, Broken, Ends, Given, GoesOn, HoldsAll, StopsShort, Talks}
 use Rattle.aom_debugging.specs.Hearing.{standing}
-use Rattle.aom_debugging.specs.Sessions.{Standing}
+use Rattle.aom_debugging.specs.Sessions.{SessionState}
 use Rattle.aom_debugging.proofs.Talking.{talks_first, talks_stop}
 
 module _ {X : Type 0} {B : X → Type 0} where

@@ -21,11 +21,11 @@ use Rattle.aom_lines.specs.Turn.{Turn}
 use Rattle.aom_debug.specs.Turns.{hearing}
 use Rattle.aom_script.specs.Script.{Script}
 use Rattle.aom_debugging.specs.Hearing.{Heard, HeardPart, standing}
-use Rattle.aom_debugging.specs.Sessions.{Begins, Comes, Heeds, Session, Standing}
+use Rattle.aom_debugging.specs.Sessions.{Begins, Comes, Heeds, Session, SessionState}
 use Rattle.aom_debugging.specs.Sessions.Session.{begins, heeds}
 use Rattle.aom_debugging.proofs.Lines.{last_line, lines_before, some_parts, split_end, split_on}
 
-module _ {X : Type 0} {B : X → Type 0} (p : Image) (outside : Outside) (start : Standing) (text : List ℕ) (before : Option (List ℕ)) where
+module _ {X : Type 0} {B : X → Type 0} (p : Image) (outside : Outside) (start : SessionState) (text : List ℕ) (before : Option (List ℕ)) where
   -- nothing has come
   pub talks_first : (d : Debugger X B) (s : State) → StandsFor d.machine s → d.has_failed ≡ false → Talks d.machine.core.image (outside_of d) (standing d s) [] d (pending_of []) before before
   talks_first d s stands well =

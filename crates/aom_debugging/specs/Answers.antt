@@ -10,7 +10,7 @@ use Rattle.aom_main.specs.declared.faults.Fault.TheVariants as faults
 use Rattle.aom_main.specs.Acceptable.{IsAcceptable, IsSpelled}
 use Rattle.aom_main.specs.Headline.{Accepts, HasNatives, ImageWantsMemory, IsNoScript, IsRefused, IsSilent, Sent, Tells, WantsNatives, outside_of}
 use Rattle.aom_debugging.specs.Conversing.{Broken, Given, Gives, GivesAll, GivesNoEnd, Held, IsUnread, Stopped}
-use Rattle.aom_debugging.specs.Sessions.{Standing}
+use Rattle.aom_debugging.specs.Sessions.{SessionState}
 
 -- the bytes are an accepted image, the text is a script, and there are as many natives as the image names
 pub record Debugs (bytes text : List ℕ) (limit natives : ℕ) : Type 0 where
@@ -22,7 +22,7 @@ pub record Debugs (bytes text : List ℕ) (limit natives : ℕ) : Type 0 where
   pub enough : HasNatives image natives
 
 -- a session begins at the boot state, with no breakpoint, and no instruction was made
-abbrev pub start_of : Image → Standing
+abbrev pub start_of : Image → SessionState
 start_of p = record { state = boot_state p; spots = []; recent = [] }
 
 module _ {bytes text : List ℕ} {limit natives : ℕ} (d : Debugs bytes text limit natives) where

@@ -7,11 +7,11 @@ use Rattle.aom_debug_words.specs.declared.command.Command.{Command}
 use Rattle.aom_debug_words.specs.declared.fault.DebugFault.{DebugFault}
 use Rattle.aom_debug.specs.Debugging.{Outgoing, outside_of}
 use Rattle.aom_debug.specs.declared.debugger.Debugger.{Debugger}
-use Rattle.aom_debugging.specs.Sessions.{Begins, Heeds, Standing}
+use Rattle.aom_debugging.specs.Sessions.{Begins, Heeds, SessionState}
 
 module _ {X : Type 0} {B : X → Type 0} where
   -- where a session stands at a state
-  abbrev pub standing : Debugger X B → State → Standing
+  abbrev pub standing : Debugger X B → State → SessionState
   standing d s = record { state = s; spots = d.breakpoints; recent = d.recent }
 
   -- what a line says is done or refused, and what that tells is out

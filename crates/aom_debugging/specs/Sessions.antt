@@ -21,30 +21,30 @@ use Rattle.aom_debug.specs.Courses.{Courses, GoesBy, GoesToBreakpoint, TurnsOver
 use Rattle.aom_debug.specs.Commands.{NamesNoRoom, ShowsActives, ShowsCells, ShowsCleanup, ShowsOwners, ShowsRecent, is_count, moved_text, spot_named}
 
 -- where a session stands: at a state, with these breakpoints, and these were the latest instructions
-pub record Standing : Type 0 where
+pub record SessionState : Type 0 where
   pub state : State
   pub spots : List Spot
   pub recent : List Spot
 
-abbrev pub has_ended : Standing → Bool
+abbrev pub has_ended : SessionState → Bool
 has_ended a = is_some a.state.rest.ended
 
 -- ---- what a command tells, and where it leads
 
 -- nothing is changed
-abbrev pub Shown : (List ℕ → Type 0) → Standing → List ℕ → Standing → Type 0
+abbrev pub Shown : (List ℕ → Type 0) → SessionState → List ℕ → SessionState → Type 0
 Shown shows a text b = (b ≡ a) × shows text
 
 -- it goes on by such moves, and tells their lines and where they lead
-abbrev pub Goes : Image → Courses → Standing → List ℕ → Standing → Type 0
+abbrev pub Goes : Image → Courses → SessionState → List ℕ → SessionState → Type 0
 Goes p leads a text b = (has_ended a ≡ false) × (lines : List Line) × leads a.recent b.recent a.state lines b.state × (b.spots ≡ a.spots) × (text ≡ moved_text p lines b.state)
 
 -- a breakpoint is set
-abbrev pub Sets : Image → Number → Number → Standing → List ℕ → Standing → Type 0
+abbrev pub Sets : Image → Number → Number → SessionState → List ℕ → SessionState → Type 0
 Sets p method place a text b = (spot : Spot) × (spot_named p method place ≡ Some spot) × (is_set spot a.spots ≡ true) × (b ≡ record a { spots = with_spot spot a.spots }) × (text ≡ ended (answer_text Done))
 
 -- a command that is done
-abbrev pub Does : Image → Outside → Command → Standing → List ℕ → Standing → Type 0
+abbrev pub Does : Image → Outside → Command → SessionState → List ℕ → SessionState → Type 0
 Does p outside (Step n) a text b = (is_count n ≡ true) × Goes p (GoesBy p outside n) a text b
 Does p outside Turn a text b = Goes p (TurnsOver p outside) a text b
 Does p outside Go a text b = Goes p (GoesToBreakpoint p outside a.spots) a text b
@@ -56,7 +56,7 @@ Does p outside Actives a text b = Shown (λ t. ShowsActives p a.state t) a text 
 Does p outside Recent a text b = Shown (λ t. ShowsRecent a.recent t) a text b
 
 -- a command that is refused, and why
-abbrev pub Refuses : Image → Command → Standing → DebugFault → Type 0
+abbrev pub Refuses : Image → Command → SessionState → DebugFault → Type 0
 Refuses p (Step n) a faults.BadCommand = is_count n ≡ false
 Refuses p (Step n) a faults.Ended = (is_count n ≡ true) × (has_ended a ≡ true)
 Refuses p Turn a faults.Ended = has_ended a ≡ true
@@ -70,30 +70,30 @@ abbrev pub fault_text : DebugFault → List ℕ
 fault_text fault = ended (answer_text (Fault fault))
 
 -- a fault is told, and nothing is changed
-abbrev pub Told : DebugFault → Standing → List ℕ → Standing → Type 0
+abbrev pub Told : DebugFault → SessionState → List ℕ → SessionState → Type 0
 Told fault a text b = (b ≡ a) × (text ≡ fault_text fault)
 
 -- what a line says is done, or refused
-abbrev pub Heeds : Image → Outside → Result (Option Command) DebugFault → Standing → List ℕ → Standing → Type 0
+abbrev pub Heeds : Image → Outside → Result (Option Command) DebugFault → SessionState → List ℕ → SessionState → Type 0
 Heeds p outside (Err fault) a text b = Told fault a text b
 Heeds p outside (Ok None) a text b = (b ≡ a) × (text ≡ [])
 Heeds p outside (Ok (Some command)) a text b = Does p outside command a text b ⊎ ((fault : DebugFault) × Refuses p command a fault × Told fault a text b)
 
 -- lines one after another, and all that they tell
-pub data Session (p : Image) (outside : Outside) (a : Standing) : List (List ℕ) → List ℕ → Standing → Type 0 where
+pub data Session (p : Image) (outside : Outside) (a : SessionState) : List (List ℕ) → List ℕ → SessionState → Type 0 where
   begins : Session p outside a [] [] a
-  heeds : {lines : List (List ℕ)} {told : List ℕ} {b c : Standing} (line text : List ℕ) → Session p outside a lines told b → Heeds p outside (command_said line) b text c → Session p outside a (lines ++ line ∷ []) (told ++ text) c
+  heeds : {lines : List (List ℕ)} {told : List ℕ} {b c : SessionState} (line text : List ℕ) → Session p outside a lines told b → Heeds p outside (command_said line) b text c → Session p outside a (lines ++ line ∷ []) (told ++ text) c
 
 -- a command that goes on, and may
-abbrev pub MovesOn : Result (Option Command) DebugFault → Standing → Type 0
+abbrev pub MovesOn : Result (Option Command) DebugFault → SessionState → Type 0
 MovesOn (Ok (Some (Step n))) a = (is_count n ≡ true) × (has_ended a ≡ false)
 MovesOn (Ok (Some Turn)) a = has_ended a ≡ false
 MovesOn (Ok (Some Go)) a = has_ended a ≡ false
 MovesOn said a = ⊥
 
 -- what the next line tells is cut: of moves it is a beginning of what would be told of a run
-abbrev pub Begins : Image → Outside → Result (Option Command) DebugFault → Standing → List ℕ → Type 0
-Begins p outside said a text = ((b : Standing) × Heeds p outside said a text b) ⊎ (MovesOn said a × (lines : List Line) × (u : State) × Reaches p outside a.state lines u × (text ≡ moved_text p lines u))
+abbrev pub Begins : Image → Outside → Result (Option Command) DebugFault → SessionState → List ℕ → Type 0
+Begins p outside said a text = ((b : SessionState) × Heeds p outside said a text b) ⊎ (MovesOn said a × (lines : List Line) × (u : State) × Reaches p outside a.state lines u × (text ≡ moved_text p lines u))
 
 -- ---- the lines of what has come
 

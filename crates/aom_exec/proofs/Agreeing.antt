@@ -30,7 +30,7 @@ use Rattle.aom_parts.specs.Agrees.{Shows, number, word_at, word_in, word_of}
 use Rattle.aom_parts.specs.Places.{value}
 use Rattle.aom_parts.specs.Stands.{Machine, StandsFor}
 use Rattle.aom_parts.specs.Waits.{AllWait, KindSays, OthersWait, Waits}
-use Rattle.aom_acts.proofs.Standing.{null_unnamed}
+use Rattle.aom_acts.proofs.Running.{null_unnamed}
 use Rattle.aom_exec.proofs.Waiting.{runs_typed}
 
 -- ---- registers

@@ -41,7 +41,7 @@ use Rattle.aom_sound.specs.Places.{Asked, Cell, Close_of, Connect_of, Elsewhere,
 use Rattle.aom_sound.specs.Servers.{is_connect, is_message, seats_taken}
 use Rattle.aom_sound.specs.State.{Destroy, State, Task}
 use Rattle.aom_sound.specs.WellTyped.{Fits}
-use Rattle.aom_exec.proofs.Settling.{going_lines, told_one}
+use Rattle.aom_exec.proofs.StepLines.{going_lines, told_one}
 
 -- ---- messages that wait
 

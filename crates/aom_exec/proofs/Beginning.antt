@@ -21,7 +21,7 @@ use Rattle.aom_parts.specs.Agrees.{Agrees, SameDispatch, SameFrame, Shows, word_
 use Rattle.aom_parts.specs.Places.{others, value_in}
 use Rattle.aom_parts.proofs.Entries.{mark_shows_none}
 use Rattle.aom_parts.proofs.Serving.{at_set}
-use Rattle.aom_acts.proofs.Standing.{Aside}
+use Rattle.aom_acts.proofs.Running.{Aside}
 use Rattle.aom_exec.specs.Servers.{told_first, told_words}
 use Rattle.aom_exec.specs.Turns.{begins_under}
 

@@ -37,7 +37,7 @@ use Rattle.aom_acts.proofs.CallActs.{shows_null}
 use Rattle.aom_parts.proofs.Entries.{mark_shows_none}
 use Rattle.aom_exec.proofs.Paying.{boots_within, keeps_within}
 use Rattle.aom_acts.proofs.Rooms.{boot_room}
-use Rattle.aom_acts.proofs.Standing.{begun_frame, begun_registers}
+use Rattle.aom_acts.proofs.Running.{begun_frame, begun_registers}
 use Rattle.aom_exec.proofs.Waiting.{none_waits}
 use Rattle.aom_parts.specs.Stands.{Sound, StandsFor}
 use Rattle.aom_sessions.specs.Sessions.{Standing, is_open}

@@ -11,7 +11,7 @@ pub mod Killing
 pub mod Affording
 pub mod Paying
 pub mod Booting
-pub mod Settling
+pub mod StepLines
 pub mod Settled
 pub mod Working
 pub mod Unwanted

@@ -44,8 +44,8 @@ use Rattle.aom_parts.proofs.Withdrawing.{AllWait}
 use Rattle.aom_acts.proofs.Finding.{class_fits}
 use Rattle.aom_acts.proofs.Firsts.{session_object}
 use Rattle.aom_acts.proofs.RoomMoves.{none_formed}
-use Rattle.aom_acts.proofs.Standing.{object_class, object_small}
-use Rattle.aom_exec.specs.Servers.{CanServe, CanTake, HasSession, IsOfClass, taken_from as machine_taken}
+use Rattle.aom_acts.proofs.Running.{object_class, object_small}
+use Rattle.aom_exec.specs.Servers.{HasCaller, CanTake, HasSession, IsOfClass, taken_from as machine_taken}
 use Rattle.aom_exec.specs.Turns.{IsIdle}
 use Rattle.aom_exec.proofs.Dispatching.{served_object, session_named}
 
@@ -183,10 +183,10 @@ module _ (p : Image) (m : Machine_parts) (s : State) (st : StandsFor (record { i
         below None e h = absurd (false≢true (ap (λ c. is_some (class_of c)) (sym e) ∙ sym h))
         below (Some c) e h = subst (λ i. n < i) st.agrees.cells.limit (st.agrees.cells.below n c e)
 
-    pub server_can : CanServe p m n
+    pub server_can : HasCaller p m n
     server_can = go queue refl
       where
-        go : (es : List Entry) → queue ≡ es → CanServe p m n
+        go : (es : List Entry) → queue ≡ es → HasCaller p m n
         go [] at = absurd (first_keeps [] at)
         go (e ∷ es) at = record {
           within = within;
@@ -210,7 +210,7 @@ client_same m n e es at c = ap (λ q. kept.client_at (kept.taken n q m.clients) 
     by (Close i) = refl
 
 -- and what serves it is there still
-pub take_again : (p : Image) (m : Machine_parts) (n : ℕ) (active : Active) (can : CanServe p m n) (t : Taken) → kept.first_entry m.clients (kept.queue_at m.clients n) ≡ Some t → CanTake p can.class t.client t.entry (machine_taken n active m)
+pub take_again : (p : Image) (m : Machine_parts) (n : ℕ) (active : Active) (can : HasCaller p m n) (t : Taken) → kept.first_entry m.clients (kept.queue_at m.clients n) ≡ Some t → CanTake p can.class t.client t.entry (machine_taken n active m)
 take_again p m n active can t waits = go (kept.queue_at m.clients n) refl
   where
     session_again : (e : Entry) (es : List Entry) → kept.queue_at m.clients n ≡ e ∷ es → (c session kind : ℕ) → HasSession m c session kind → HasSession (machine_taken n active m) c session kind

@@ -14,7 +14,7 @@ use Rattle.aom_parts.specs.declared.parts.Parts.{Parts}
 use Rattle.aom_parts.specs.declared.progress.Progress.TheVariants.{Turned}
 use Rattle.aom_parts.specs.Progress.{progress_by}
 use Rattle.aom_parts.specs.Stands.{Machine, Stands, StandsFor}
-use Rattle.aom_exec.specs.Servers.{CanServe, ServesFirst}
+use Rattle.aom_exec.specs.Servers.{HasCaller, ServesFirst}
 use Rattle.aom_exec.specs.Turns.{Picked}
 use Rattle.aom_exec.proofs.Begun.{server_served}
 use Rattle.aom_exec.proofs.Queued.{server_can}
@@ -44,17 +44,17 @@ module _ (p : Image) (m : Parts) (turned : progress_by m.rest.ended m.stack.task
     asked : is_some (requested s.cells x.object.name) ≡ true
     asked = ap is_some (ap (requested s.cells) it_is.name ∙ it_is.asked)
 
-    can : CanServe p (record m { active = a }) id
+    can : HasCaller p (record m { active = a }) id
     can =
-        subst (λ y. CanServe p (record m { active = y }) id) (sym same_active)
-        (subst (λ i. CanServe p m i) it_is.name (server_can p m s st (machine_between was s st turned).idle x lives serving it_is.keeps))
+        subst (λ y. HasCaller p (record m { active = y }) id) (sym same_active)
+        (subst (λ i. HasCaller p m i) it_is.name (server_can p m s st (machine_between was s st turned).idle x lives serving it_is.keeps))
 
     module _ (told now : Turn) (new : Parts) (d : ServesFirst p id (record m { active = a }) told now new) where
       first : ServesFirst p x.object.name m told now new
       first = subst (λ i. ServesFirst p i m told now new) (sym it_is.name) (subst (λ y. ServesFirst p id (record m { active = y }) told now new) same_active d)
 
   -- the server that is picked can be served
-  pub can_serve : Stands was → meanings.Picks m.active a (Some id) → is_served (request_at a.table id) ≡ true → CanServe p (record m { active = a }) id
+  pub can_serve : Stands was → meanings.Picks m.active a (Some id) → is_served (request_at a.table id) ≡ true → HasCaller p (record m { active = a }) id
   can_serve (s, st) picks serves = can s st picks serves
 
   pub serves_one : (told now : Turn) (new : Parts) → meanings.Picks m.active a (Some id) → is_served (request_at a.table id) ≡ true → ServesFirst p id (record m { active = a }) told now new → Picked was true told now (record { image = p; parts = new })

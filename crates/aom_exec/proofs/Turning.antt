@@ -65,7 +65,7 @@ use Rattle.aom_parts.proofs.Overs.{over_value, over_words}
 use Rattle.aom_exec.proofs.Idle.{stands_idle}
 use Rattle.aom_exec.proofs.Progressing.{between, is_as_far}
 use Rattle.aom_acts.proofs.RoomMoves.{dispatches_with_room, none_formed}
-use Rattle.aom_acts.proofs.Standing.{begun_frame, lives_below}
+use Rattle.aom_acts.proofs.Running.{begun_frame, lives_below}
 use Rattle.aom_acts.proofs.Stepping.{agrees_rest, room_rest, typed_rest, within_rest}
 use Rattle.aom_parts.proofs.Values.{at_depth, going_past, none_alike, register_past}
 use Rattle.aom_parts.proofs.Asking.{cells_asked}

@@ -52,7 +52,7 @@ use Rattle.aom_sound.proofs.Layers.{method_layer}
 use Rattle.aom_acts.specs.Acts.{requested}
 use Rattle.aom_parts.specs.Waits.{AllWait, KindSays, OthersWait, Waits, while_waiting}
 use Rattle.aom_parts.proofs.Depths.{held_apart}
-use Rattle.aom_acts.proofs.Standing.{no_word}
+use Rattle.aom_acts.proofs.Running.{no_word}
 use Rattle.aom_acts.proofs.Stepping.{at_step, step_of_instr}
 use Rattle.std.specs.Ordering.{int_eq}
 use Rattle.aom_image.specs.declared.method.Role.TheVariants.{Error as Answers}

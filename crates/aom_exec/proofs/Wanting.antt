@@ -37,7 +37,7 @@ use Rattle.aom_acts.proofs.FieldActs.{housed, inside_number, inside_object, insi
 use Rattle.aom_acts.proofs.RequestActs.{kind_same}
 use Rattle.aom_acts.proofs.Finding.{object_lives}
 use Rattle.aom_acts.proofs.GoingActs.{by_going, going_object, number_of}
-use Rattle.aom_acts.proofs.Standing.{an_open, object_class}
+use Rattle.aom_acts.proofs.Running.{an_open, object_class}
 use Rattle.aom_acts.proofs.Stepping.{at_step, cell_found, frame_of, going_of, met, step_of_instr}
 use Rattle.aom_sound.proofs.Maps.{held_lives}
 use Rattle.aom_acts.proofs.WordActs.{word_read}

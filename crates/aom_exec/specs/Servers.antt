@@ -107,7 +107,7 @@ CanTake p class client (Message place) m = (place < 1024) × IsKept m.messages p
 CanTake p class client (Close c) m = (session kind : ℕ) × HasSession m c session kind
 
 -- a server of that number is enlisted and lives, and the first of its queue can be served
-pub record CanServe (p : Image) (m : Parts) (id : ℕ) : Type 0 where
+pub record HasCaller (p : Image) (m : Parts) (id : ℕ) : Type 0 where
   pub within : id < length m.clients.queues
   pub class : ℕ
   pub lives : IsOfClass m id class

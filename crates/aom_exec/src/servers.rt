@@ -1,6 +1,6 @@
 //! The dispatch of a server: the first of its queue is taken, and what serves it begins.
 ghost use Rattle.aom_classes.specs.Roles.{role_of};
-ghost use Rattle.aom_exec.specs.Servers.{AreRead, Begins, CanServe, CanTake, HasSession, Notes, ServesFirst, serve_asked, told_words};
+ghost use Rattle.aom_exec.specs.Servers.{AreRead, Begins, HasCaller, CanTake, HasSession, Notes, ServesFirst, serve_asked, told_words};
 ghost use Rattle.aom_exec.specs.Turns.{IsIdle};
 ghost use Rattle.aom_image.specs.declared.method.Role.TheVariants.{Accept, Service};
 ghost use Rattle.aom_messages.specs.Store.{IsKept};
@@ -44,7 +44,7 @@ pub fn note_queue(parts: &mut Parts, server: u16)
 
 /// The first of a server's queue is served, with its line. Its dispatch has taken no step.
 pub fn serve(parts: &mut Parts, id: CellId, linked: &Linked, turn: &mut Turn)
-    requires can { CanServe linked.now parts.old id }
+    requires can { HasCaller linked.now parts.old id }
     requires room { length turn.old.lines < turn.old.room }
     ensures { ServesFirst linked.now id parts.old turn.old turn.new parts.new }
 {

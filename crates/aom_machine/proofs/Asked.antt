@@ -16,7 +16,7 @@ use Rattle.aom_sound.specs.State.{State}
 use Rattle.aom_sound.specs.Wanted.{Wanted, Opens, Starts, Asks, Cancels, Closes}
 use Rattle.aom_parts.specs.Stands.{Machine as Core, StandsFor as Core_stands}
 use Rattle.aom_machine.specs.Answers.{Asked, MayAsk, times_after}
-use Rattle.aom_machine.specs.Standing.{Serves}
+use Rattle.aom_machine.specs.Beside.{Serves}
 use Rattle.aom_machine.proofs.Moving.{Went}
 use Rattle.aom_machine.proofs.Named.{at_most_one, few, serving_named}
 

@@ -18,7 +18,7 @@ use Rattle.aom_parts.specs.Stands.{Machine as Core, StandsFor as Core_stands}
 use Rattle.aom_exec.specs.Turns.{Answers, Takes as Core_takes}
 use Rattle.aom_machine.specs.declared.machine.Machine.{Machine}
 use Rattle.aom_machine.specs.Calls.{Delivered, StandsFor, Takes, natives_of}
-use Rattle.aom_machine.specs.Standing.{KeptSame}
+use Rattle.aom_machine.specs.Beside.{KeptSame}
 use Rattle.aom_machine.proofs.Asked.{one_there}
 use Rattle.aom_machine.proofs.Named.{there}
 use Rattle.aom_machine.proofs.Serving.{heard_plain, kept_but, serves_completed, serves_killed, tale_of, takes_plainly, takes_so, untouched, with_any_name}

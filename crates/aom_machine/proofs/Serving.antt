@@ -26,7 +26,7 @@ use Rattle.aom_exec.specs.Clients.{Obeyed}
 use Rattle.aom_exec.specs.Turns.{NoneDue, Completed as Core_completed, Picked as Core_picked, Takes as Core_takes, TakesAll as Core_takes_all}
 use Rattle.aom_machine.specs.declared.machine.Machine.{Machine}
 use Rattle.aom_machine.specs.Calls.{Completed, Delivered, Picked, StandsFor, Takes, TakesAll}
-use Rattle.aom_machine.specs.Standing.{KeptSame, Serves}
+use Rattle.aom_machine.specs.Beside.{KeptSame, Serves}
 
 -- a part of a turn that neither kills nor completes anything at a native
 pub record IsPlain (s : State) (part : Turning) : Type 0 where

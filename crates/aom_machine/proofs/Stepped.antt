@@ -20,7 +20,7 @@ use Rattle.aom_exec.specs.Steps.{Quiet, Stepped as Core_stepped, SteppedOn as Co
 use Rattle.aom_machine.specs.declared.machine.Machine.{Machine}
 use Rattle.aom_machine.specs.Answers.{Asked, MayAsk, MayHear, asked_by, asked_of}
 use Rattle.aom_machine.specs.Calls.{StandsFor, SteppedOn, SteppedOnce}
-use Rattle.aom_machine.specs.Standing.{Serves}
+use Rattle.aom_machine.specs.Beside.{Serves}
 use Rattle.aom_machine.proofs.Asked.{may_ask, serves_after, session_small}
 use Rattle.aom_machine.proofs.Moving.{asks_well, went_on}
 

@@ -14,7 +14,7 @@ use Rattle.aom_exec.specs.Steps.{Quiet, Steps}
 use Rattle.aom_parts.specs.Stands.{StandsFor as Core_stands}
 use Rattle.aom_exec.specs.Turns.{Answers, NoneDue}
 use Rattle.aom_machine.specs.declared.machine.Machine.{Machine}
-use Rattle.aom_machine.specs.Standing.{StandsBeside}
+use Rattle.aom_machine.specs.Beside.{StandsBeside}
 
 -- an event as a script has it
 abbrev pub EventInRange : Event → Type 0

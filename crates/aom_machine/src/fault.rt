@@ -1,6 +1,6 @@
 //! Why a machine does not boot.
 ghost use Rattle.std.specs.Prelude.{◌≡◌};
-ghost use Rattle.aom_machine.specs.Standing.{fault_number};
+ghost use Rattle.aom_machine.specs.Beside.{fault_number};
 
 use std::alloc::AllocError;
 use thiserror::Error;

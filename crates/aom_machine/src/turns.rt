@@ -4,7 +4,7 @@ ghost use Rattle.aom_exec.specs.Clients.{IsInRange};
 ghost use Rattle.aom_exec.specs.Steps.{progress, timers};
 ghost use Rattle.aom_parts.specs.declared.progress.Progress.TheVariants.{Turned};
 ghost use Rattle.aom_machine.specs.Calls.{Completed, Delivered, EventInRange, NoneIsDue, Picked, Polled, Stands, StandsFor, TakesAll, natives_of, to_poll};
-ghost use Rattle.aom_machine.specs.Standing.{KeptSame};
+ghost use Rattle.aom_machine.specs.Beside.{KeptSame};
 ghost use Rattle.aom_natives.specs.Slots.{AllAgree, living_at};
 ghost use Rattle.aom_sound.specs.State.{State};
 ghost use Rattle.aom_transcript.specs.declared.event.Event.TheVariants.{Client, Kill};
