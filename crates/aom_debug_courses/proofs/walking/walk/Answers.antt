@@ -1,25 +1,21 @@
 -- Steps as long as something is at hand and it is no place to stay.
-use Rattle.std.proofs.Common.{ap, refl, ◌∙◌, sym}
-use Rattle.aom_lines.specs.Turn.{Turn}
+use Rattle.std.proofs.Common.{ap, ◌∙◌, sym}
 use Rattle.aom_debug_moves.specs.Runs.{Moving}
 use Rattle.aom_debug_moves.proofs.Running.{given_up}
 use Rattle.aom_sound.specs.State.{State}
 use Rattle.aom_debug_moves.specs.Moves.{Strides}
 use Rattle.aom_debug_moves.specs.Sends.{Breaks, Sends}
-use Rattle.aom_debug_moves.proofs.Sending.{as_begun}
 use Rattle.aom_debug_courses.specs.Courses.{stays_at}
 use Rattle.aom_debug_courses.proofs.Strides.{not_there, nowhere, over, steps_cut, steps_more, there}
+use Rattle.aom_debug_moves.proofs.Keeping.{begun_as, keeps_all, keeps_on}
 use Rattle.aom_debug_courses.proofs.walking.walk.Goals as goal
 
 pub loop-progress-init : goal.loop-progress-init
 loop-progress-init g c = record {
   so_far = nowhere c.args.machine.now.core.image c.args.turn.now.refused (λ s. stays_at c.args.machine.now.core.image c.args.until c.args.breakpoints.now s) c.args.recent.now c.args.machine.now (g.W.Sink.out c.args.out.now);
   running = c.requires.running;
-  stands = c.requires.stands;
+  keeps = keeps_all _ _ c.requires.stands;
   agree = c.requires.agree;
-  image = refl;
-  natives = refl;
-  turn = refl;
 }
 
 pub returns-in_err-progress-clause-none : goal.returns-in_err-progress-clause-none
@@ -33,7 +29,7 @@ returns-in_err-progress-clause-none g c =
     let out = g.W.Sink.out c.stride.new.out in
     let stays = λ (s : State). stays_at p c.args.until c.args.breakpoints.now s in
     let off = c.in_err-progress.ensures.none in
-    let cut = as_begun (λ q r. Breaks (Moving q r) m here out n) i.image (ap (λ (t : Turn). t.refused) i.turn) off.1 in
+    let cut = begun_as (λ q r. Breaks (Moving q r) m here out n) i.keeps off.1 in
     given_up c.from_residual.result (off.0, steps_cut p refused stays c.args.recent.now c.loop-progress.recent c.args.machine.now m n (g.W.Sink.out c.args.out.now) here out i.so_far cut)
 
 pub returns-in_default-clause-some : goal.returns-in_default-clause-some
@@ -52,7 +48,7 @@ returns-in_default-clause-some g c =
     let out = g.W.Sink.out c.stride.new.out in
     let stays = λ (s : State). stays_at p c.args.until c.args.breakpoints.now s in
     let some = c.in_ok-progress.ensures.some in
-    let step = as_begun (λ q r. Sends (Strides q r mid new) m here out n) i.image (ap (λ (t : Turn). t.refused) i.turn) some.0 in
+    let step = begun_as (λ q r. Sends (Strides q r mid new) m here out n) i.keeps some.0 in
     (over p refused stays old new a n before out (steps_more p refused stays old mid a m n before here out i.so_far new i.running step) (λ is. c.in_default.not-Running (some.1 ∙ is)), some.1)
 
 pub returns-then-is_there-clause-some : goal.returns-then-is_there-clause-some
@@ -71,8 +67,8 @@ returns-then-is_there-clause-some g c =
     let out = g.W.Sink.out c.stride.new.out in
     let stays = λ (s : State). stays_at p c.args.until c.args.breakpoints.now s in
     let some = c.in_ok-progress.ensures.some in
-    let step = as_begun (λ q r. Sends (Strides q r mid new) m here out n) i.image (ap (λ (t : Turn). t.refused) i.turn) some.0 in
-    let image = c.stride.ensures.image ∙ i.image in (
+    let step = begun_as (λ q r. Sends (Strides q r mid new) m here out n) i.keeps some.0 in
+    let image = c.stride.ensures.image ∙ i.keeps.image in (
       there p refused stays old new a n before out (steps_more p refused stays old mid a m n before here out i.so_far new i.running step) c.is_there.result c.if-is_there.true
           (λ s st. c.is_there.ensures s st ∙ ap (λ q. stays_at q c.args.until c.args.breakpoints.now s) image),
       some.1,
@@ -94,15 +90,12 @@ loop-progress-preserved g c =
     let out = g.W.Sink.out c.stride.new.out in
     let stays = λ (s : State). stays_at p c.args.until c.args.breakpoints.now s in
     let some = c.in_ok-progress.ensures.some in
-    let step = as_begun (λ q r. Sends (Strides q r mid new) m here out n) i.image (ap (λ (t : Turn). t.refused) i.turn) some.0 in
-    let image = c.stride.ensures.image ∙ i.image in
+    let step = begun_as (λ q r. Sends (Strides q r mid new) m here out n) i.keeps some.0 in
+    let image = c.stride.ensures.image ∙ i.keeps.image in
     record {
       so_far = not_there p refused stays old new a n before out (steps_more p refused stays old mid a m n before here out i.so_far new i.running step) c.is_there.result c.if-is_there.false
           (λ s st. c.is_there.ensures s st ∙ ap (λ q. stays_at q c.args.until c.args.breakpoints.now s) image);
       running = sym some.1 ∙ c.in-Running.is;
-      stands = c.stride.ensures.stands;
+      keeps = keeps_on i.keeps c.stride.ensures.stands c.stride.ensures.image c.stride.ensures.natives c.stride.ensures.turn;
       agree = c.stride.ensures.agree;
-      image = image;
-      natives = c.stride.ensures.natives ∙ i.natives;
-      turn = c.stride.ensures.turn ∙ i.turn;
     }
