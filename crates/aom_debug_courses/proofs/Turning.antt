@@ -17,8 +17,7 @@ use Rattle.aom_debug_moves.proofs.Reaching.{reaches_both}
 use Rattle.aom_debug_moves.specs.Turns.{hearing}
 use Rattle.aom_lines.specs.Turn.{Turn}
 use Rattle.aom_transcript.specs.declared.event.TimedEvent.{TimedEvent}
-use Rattle.aom_debug_moves.proofs.Keeping.{Keeps, begun_as}
-use Rattle.aom_debug_moves.proofs.Sending.{after_none, breaks_then, reaches_arrived, sent_both}
+use Rattle.aom_debug_moves.proofs.Sending.{after_none, as_begun, breaks_then, reaches_arrived, sent_both}
 use Rattle.aom_debug_marks.specs.declared.spot.Spot.{Spot}
 use Rattle.aom_debug_moves.specs.Moves.{Arrives}
 use Rattle.aom_debug_courses.specs.Courses.{Courses, InDispatch}
@@ -48,6 +47,7 @@ turn_cut p outside a m c before mid out x y =
     (cut_run p outside m c mid out y)
 
 -- so where the turns keep the machine's image and what is refused
-module _ {X : Type 0} {B : X → Type 0} (a m n : Machine X B) (told now : Turn) (keeps : Keeps a m told now) (limit natives : ℕ) (events : List TimedEvent) (before mid out : Option (List ℕ)) where
-  pub walk_cut : Sends (Arrives a.core.image (hearing told.refused limit natives events)) a before mid m → Breaks (Moving m.core.image now.refused) m mid out n → Breaks (Reaches a.core.image (hearing told.refused limit natives events)) a before out n
-  walk_cut x y = turn_cut a.core.image (hearing told.refused limit natives events) a m n before mid out x (begun_as (λ q r. Breaks (Moving q r) m mid out n) keeps y)
+pub walk_cut : {X : Type 0} {B : X → Type 0} (a m n : Machine X B) {told now : Turn} → m.core.image ≡ a.core.image → now ≡ told → (limit natives : ℕ) (events : List TimedEvent) (before mid out : Option (List ℕ)) →
+    Sends (Arrives a.core.image (hearing told.refused limit natives events)) a before mid m → Breaks (Moving m.core.image now.refused) m mid out n → Breaks (Reaches a.core.image (hearing told.refused limit natives events)) a before out n
+walk_cut a m n {told} image turn limit natives events before mid out x y =
+    turn_cut a.core.image (hearing told.refused limit natives events) a m n before mid out x (as_begun (λ q r. Breaks (Moving q r) m mid out n) image (ap (λ (t : Turn). t.refused) turn) y)

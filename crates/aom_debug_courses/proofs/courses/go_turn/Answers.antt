@@ -10,10 +10,8 @@ use Rattle.aom_debug_courses.proofs.Turning.{in_dispatch, over_there, walk_cut}
 use Rattle.aom_debug_courses.proofs.courses.go_turn.Goals as goal
 
 pub returns-in-Running-clause-none : goal.returns-in-Running-clause-none
-returns-in-Running-clause-none g c =
-    let keeps : Keeps c.args.machine.now c.arrive.new.machine c.args.turn.now c.arrive.new.turn = record { stands = c.arrive.ensures.stands; image = c.arrive.ensures.image; natives = c.arrive.ensures.natives; turn = c.arrive.ensures.turn } in
-    if_none c.walk.result
-    (λ off. (off.0, walk_cut c.args.machine.now c.arrive.new.machine c.walk.new.machine _ _ keeps _ _ _ _ _ _ c.in_ok-other.ensures.some.0 off.1)) c.walk.ensures.none
+returns-in-Running-clause-none g c = if_none c.walk.result
+    (λ off. (off.0, walk_cut c.args.machine.now c.arrive.new.machine c.walk.new.machine c.arrive.ensures.image c.arrive.ensures.turn _ _ _ _ _ _ c.in_ok-other.ensures.some.0 off.1)) c.walk.ensures.none
 
 pub returns-in-Running-clause-some : goal.returns-in-Running-clause-some
 returns-in-Running-clause-some g c =
