@@ -100,13 +100,7 @@ fn with(alloc: Global, bytes: &[u8], edits: &[(usize, u8)]) -> Result<Vec<u8>, A
 }
 
 /// The bytes with others in some places are refused so.
-fn refuses(
-    rt: &impl Abort,
-    alloc: Global,
-    bytes: &[u8],
-    edits: &[(usize, u8)],
-    wanted: LoadFault,
-) {
+fn refuses(rt: &impl Abort, alloc: Global, bytes: &[u8], edits: &[(usize, u8)], wanted: LoadFault) {
     is_refused(rt, alloc, with(alloc, bytes, edits), wanted);
 }
 
