@@ -60,8 +60,8 @@ impl<'a> Machine<'a> {
         requires owed { OweNothing (λ b. (⟦<dyn Native as Native>⟧ b.vtable).owed b.value) boxes.items }
         requires stands { CoreStands core (boot_state core.image) }
         requires enough { core.image.header.natives ≤ length boxes.items }
-        ensures image { IfOk result (λ m. m.core.image ≡ core.image) }
-        ensures stands { IfOk result (λ m. StandsFor m (boot_state core.image)) }
+        ensures image { IfOk result (λ m. m.core.image ≡ core.entry.image) }
+        ensures stands { IfOk result (λ m. StandsFor m (boot_state core.entry.image)) }
         ensures agree { IfOk result (λ m. AllAgree (λ l. l.ids) (λ l. (⟦<dyn Native as Native>⟧ l.native.vtable).owed l.native.value) m.natives.slots.items) }
         ensures boxes { IfOk result (λ m. map (option_map (λ l. l.native)) m.natives.slots.items ≡ map (λ b. Some b) boxes.items) }
         ensures memory { IfErr result (λ e. e.0 ≡ BootFault.OutOfMemory) }

@@ -1,11 +1,13 @@
 -- The core is of the accepted image, and there are as many natives as it names.
-use Rattle.std.proofs.Common.{rules, length, ◌≤◌, ◌∙◌}
+use Rattle.std.proofs.Common.{rules, length, ◌≤◌, ◌∙◌, subst, sym}
 use Rattle.std.proofs.lemmas.Result.{IfErr-weaker, IfOk-weaker}
+use Rattle.aom_sound.specs.World.{boot_state}
+use Rattle.aom_parts.specs.Stands.{StandsFor as CoreStands}
 use Rattle.aom_machine.proofs.Booted.{memory_is_not_few}
 use Rattle.aom_machine.proofs.machine.Machine.boot.Goals as goal
 
 pub beside-requires-clause-stands : goal.beside-requires-clause-stands
-beside-requires-clause-stands g c = rw c.in-Ok.ensures.image c.in-Ok.ensures.stands
+beside-requires-clause-stands g c = subst (λ p. CoreStands c.in-Ok.core (boot_state p)) (sym c.in-Ok.ensures.image) c.in-Ok.ensures.stands
 
 pub beside-requires-clause-enough : goal.beside-requires-clause-enough
 beside-requires-clause-enough g c =
