@@ -22,17 +22,17 @@ enum Each {
     ServesClose,
 }
 
-/// What is told of the call at a place. A client leaves by a close, if its number is even, and else by its death.
-fn call(clients: &mut Clients, each: Each, client: u8, at: u16, is_even: bool) -> Told {
+/// The call at a place. A client leaves by a close, if its number is even, and else by its death.
+fn call(each: Each, client: u8, at: u16, is_even: bool) -> Act {
     match each {
-        Each::Opens => carry_out(clients, Act::Open(client, SERVER, at, 16)),
-        Each::LooksOn => carry_out(clients, Act::NextSession(client)),
-        Each::Sends => carry_out(clients, Act::Send(client, at)),
-        Each::Takes => carry_out(clients, Act::Next(SERVER)),
-        Each::Completes | Each::CompletesLeft => carry_out(clients, Act::Complete(at)),
-        Each::Leaves if is_even => carry_out(clients, Act::Close(client)),
-        Each::Leaves => carry_out(clients, Act::Die(client)),
-        Each::ServesClose => carry_out(clients, Act::ServeClose(client, SERVER)),
+        Each::Opens => Act::Open(client, SERVER, at, 16),
+        Each::LooksOn => Act::NextSession(client),
+        Each::Sends => Act::Send(client, at),
+        Each::Takes => Act::Next(SERVER),
+        Each::Completes | Each::CompletesLeft => Act::Complete(at),
+        Each::Leaves if is_even => Act::Close(client),
+        Each::Leaves => Act::Die(client),
+        Each::ServesClose => Act::ServeClose(client, SERVER),
     }
 }
 
@@ -56,7 +56,7 @@ fn go_round(rt: &impl Abort, clients: &mut Clients, round: Round) {
     let (each, from, to) = round;
     for at in from..to {
         let client = (at % 64) as u8;
-        let told = call(clients, each, client, at, client % 2 == 0);
+        let told = carry_out(clients, call(each, client, at, client % 2 == 0));
         assert!(rt; told == wanted(each, client), "at {at}");
     }
 }

@@ -10,22 +10,21 @@ use std::test::Fail;
 /// The cell of the server of these tests, of which client 3 is at one state after another.
 const SERVER: u16 = 7;
 
-/// What is told of client 3's last call, and what the client is at then.
-fn told_last(clients: &mut Clients, way: &[Act], acts: &[Act]) -> (Told, Told) {
-    for act in way {
-        carry_out(clients, *act);
-    }
+/// What is told of the last call.
+fn last_told(clients: &mut Clients, acts: &[Act]) -> Told {
     let mut last = Nothing;
     for act in acts {
         last = carry_out(clients, *act);
     }
-    (last, carry_out(clients, Act::State(3)))
+    last
 }
 
-/// The same of new clients.
+/// What is told of the last call of new clients, and what client 3 is at then.
 fn told_after(alloc: Global, way: &[Act], acts: &[Act]) -> Result<(Told, Told), AllocError> {
     let mut clients = Clients::with_limit(alloc, 16)?;
-    Ok(told_last(&mut clients, way, acts))
+    last_told(&mut clients, way);
+    let last = last_told(&mut clients, acts);
+    Ok((last, carry_out(&mut clients, Act::State(3))))
 }
 
 /// What is told of the last call in each of the seven states, of which an open one has two slots, and the state then.

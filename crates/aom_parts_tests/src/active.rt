@@ -100,6 +100,23 @@ fn due(objects: &mut ActiveObjects, now: u64) -> Option<u32>
     }
 }
 
+/// The status of an object, if it has one.
+fn status_of(objects: &ActiveObjects, id: CellId) -> Option<i32> {
+    match objects.state(id) {
+        Some(_) => Some(objects.status(id)),
+        None => None,
+    }
+}
+
+/// The state of an object, whether it waits, and whether it is busy.
+fn told_of(objects: &ActiveObjects, id: CellId) -> (Option<State>, bool, bool) {
+    (
+        objects.state(id),
+        objects.is_active(id),
+        objects.is_busy(id),
+    )
+}
+
 /// An object has that state, and that status if it is enlisted; its state says too whether it waits, and whether it is busy.
 fn is_told(
     rt: &impl Abort,
@@ -110,15 +127,11 @@ fn is_told(
 ) {
     assert!(rt; number < 4096);
     let id = CellId::new(number);
-    assert!(rt; objects.state(id) == state);
-    assert_eq!(rt; objects.is_active(id), state == Some(State::Active));
+    let waits = state == Some(State::Active);
     let is_cancelled = state == Some(State::Cancelling) || state == Some(State::Aborted);
-    assert_eq!(rt;
-        objects.is_busy(id),
-        state == Some(State::Active) || is_cancelled
-    );
-    if objects.state(id).is_some() {
-        assert_eq!(rt; objects.status(id), status, "object {number}");
+    assert!(rt; told_of(objects, id) == (state, waits, waits || is_cancelled));
+    if state.is_some() {
+        assert_eq!(rt; status_of(objects, id), Some(status), "object {number}");
     }
 }
 
