@@ -1,10 +1,11 @@
 use aom_command_line::{RunWords, Words, WordsFault, read_words};
 use aom_natives::NativeKind;
 use std::alloc::Global;
+use std::process::Abort;
 use std::test::Fail;
 
 /// What a command line asks or is refused for, in short.
-#[derive(Clone, Copy, PartialEq, Eq, Debug)]
+#[derive(Clone, Copy, PartialEq, Eq)]
 enum Asked {
     Check,
     Prices,
@@ -75,28 +76,35 @@ fn explains(alloc: Global, line: &str) -> Result<Option<bool>, Fail> {
     })
 }
 
-#[test]
-fn a_fault_is_explained_where_that_is_asked(rt: HostRuntime) -> Result<(), Fail> {
-    for (line, expected) in [
-        ("aom check one.image", Some(false)),
-        ("aom check --explain one.image", Some(true)),
-        ("aom check --prices one.image --explain", Some(true)),
-        ("aom check --prices one.image", Some(false)),
-        ("aom run one.image one.script", Some(false)),
-        (
-            "aom run --explain --limit 7 one.image one.script",
-            Some(true),
-        ),
-        ("aom run one.image one.script line --explain", Some(true)),
-        ("aom asm one.text", Some(false)),
-        ("aom asm --explain one.text", Some(true)),
-        ("aom explore --explain one.image one.script", None),
-        ("aom dis --explain one.image", None),
-        ("aom check --explain=3 one.image", None),
-    ] {
-        assert_eq!(rt; explains(rt.alloc(), line)?, expected, "{line}");
+/// Command lines, and whether a fault is to be explained; none where the line is refused.
+const EXPLAINING: [(&str, Option<bool>); 12] = [
+    ("aom check one.image", Some(false)),
+    ("aom check --explain one.image", Some(true)),
+    ("aom check --prices one.image --explain", Some(true)),
+    ("aom check --prices one.image", Some(false)),
+    ("aom run one.image one.script", Some(false)),
+    (
+        "aom run --explain --limit 7 one.image one.script",
+        Some(true),
+    ),
+    ("aom run one.image one.script line --explain", Some(true)),
+    ("aom asm one.text", Some(false)),
+    ("aom asm --explain one.text", Some(true)),
+    ("aom explore --explain one.image one.script", None),
+    ("aom dis --explain one.image", None),
+    ("aom check --explain=3 one.image", None),
+];
+
+fn all_explain(rt: &impl Abort, alloc: Global, lines: &[(&str, Option<bool>)]) -> Result<(), Fail> {
+    for (line, expected) in lines {
+        assert!(rt; explains(alloc, line)? == *expected, "{line}");
     }
     Ok(())
+}
+
+#[test]
+fn a_fault_is_explained_where_that_is_asked(rt: HostRuntime) -> Result<(), Fail> {
+    all_explain(&rt, rt.alloc(), &EXPLAINING)
 }
 
 /// The text that a command line names beside its image.
@@ -108,157 +116,197 @@ fn text_beside(alloc: Global, line: &str) -> Result<Option<String>, Fail> {
     }
 }
 
-fn is_one_text(text: &Option<String>) -> bool {
-    match text {
-        Some(name) => name.as_str() == "one.text",
-        None => false,
-    }
+/// Whether a command line names no text, or the one that is called so.
+fn names(alloc: Global, line: &str, is_named: bool) -> Result<bool, Fail> {
+    Ok(match text_beside(alloc, line)? {
+        Some(name) => is_named && name.as_str() == "one.text",
+        None => !is_named,
+    })
 }
 
-#[test]
-fn a_text_is_named_beside_an_image(rt: HostRuntime) -> Result<(), Fail> {
-    for line in [
-        "aom check --explain --text one.text one.image",
-        "aom check one.image --text=one.text --explain",
+/// Command lines, and whether a text is named.
+const NAMING: [(&str, bool); 6] = [
+    ("aom check --explain --text one.text one.image", true),
+    ("aom check one.image --text=one.text --explain", true),
+    (
         "aom check --prices --explain --text one.text one.image",
+        true,
+    ),
+    (
         "aom run --text one.text --explain one.image one.script line",
-    ] {
-        assert!(rt; is_one_text(&text_beside(rt.alloc(), line)?), "{line}");
-    }
-    for line in [
-        "aom check --explain one.image",
-        "aom run one.image one.script",
-    ] {
-        assert!(rt; text_beside(rt.alloc(), line)?.is_none(), "{line}");
-    }
-    for line in [
-        "aom check --text one.text one.image",
-        "aom run --text one.text one.image one.script",
-        "aom check --explain --text",
-        "aom check --explain --text one.text",
+        true,
+    ),
+    ("aom check --explain one.image", false),
+    ("aom run one.image one.script", false),
+];
+
+const TEXTS: [(&str, Asked); 7] = [
+    ("aom check --text one.text one.image", Asked::Text),
+    ("aom run --text one.text one.image one.script", Asked::Text),
+    ("aom check --explain --text", Asked::Text),
+    ("aom check --explain --text one.text", Asked::Text),
+    (
         "aom check --explain --text one.text --text one.text one.image",
-        "aom asm --explain --text one.text one.text",
+        Asked::Text,
+    ),
+    ("aom asm --explain --text one.text one.text", Asked::Text),
+    (
         "aom explore --text one.text one.image one.script",
-    ] {
-        assert_eq!(rt; ask(rt.alloc(), line)?, Asked::Text, "{line}");
+        Asked::Text,
+    ),
+];
+
+fn all_name(rt: &impl Abort, alloc: Global, lines: &[(&str, bool)]) -> Result<(), Fail> {
+    for (line, is_named) in lines {
+        assert!(rt; names(alloc, line, *is_named)?, "{line}");
+    }
+    Ok(())
+}
+
+fn all_ask(rt: &impl Abort, alloc: Global, lines: &[(&str, Asked)]) -> Result<(), Fail> {
+    for (line, expected) in lines {
+        assert!(rt; ask(alloc, line)? == *expected, "{line}");
     }
     Ok(())
 }
 
 #[test]
+fn a_text_is_named_beside_an_image(rt: HostRuntime) -> Result<(), Fail> {
+    all_name(&rt, rt.alloc(), &NAMING)?;
+    all_ask(&rt, rt.alloc(), &TEXTS)
+}
+
+/// Command lines, and what they ask or are refused for.
+const READ: [(&str, Asked); 50] = [
+    ("aom check one.image", Asked::Check),
+    ("aom check --prices one.image", Asked::Prices),
+    ("aom check one.image --prices", Asked::Prices),
+    ("aom check --prices", Asked::Text),
+    ("aom check --prices=3 one.image", Asked::Text),
+    ("aom check --prices --prices one.image", Asked::Text),
+    ("aom check --limit 7 one.image", Asked::Text),
+    ("aom run --prices one.image one.script", Asked::Text),
+    ("aom run one.image one.script", Asked::Run(1_000_000)),
+    ("aom asm one.text", Asked::Asm),
+    ("aom dis one.image", Asked::Dis),
+    ("aom dot one.image", Asked::Dot),
+    ("aom dot", Asked::Text),
+    ("aom asm", Asked::Text),
+    ("aom dis one.image one.text", Asked::Text),
+    ("aom run --limit 7 one.image one.script", Asked::Run(7)),
+    (
+        "aom run one.image one.script --limit 1000000000",
+        Asked::Run(1_000_000_000),
+    ),
+    ("aom run --limit 0 one.image one.script", Asked::Text),
+    (
+        "aom run --limit 1000000001 one.image one.script",
+        Asked::Text,
+    ),
+    ("aom run --limit 7x one.image one.script", Asked::Text),
+    ("aom run --limit 007 one.image one.script", Asked::Run(7)),
+    ("aom run --limit +7 one.image one.script", Asked::Run(7)),
+    ("aom run --limit 00 one.image one.script", Asked::Text),
+    ("aom run one.image", Asked::Text),
+    (
+        "aom explore one.image one.script",
+        Asked::Explore(1_000_000, 1, u32::MAX),
+    ),
+    (
+        "aom explore --from 3 --to 2 --limit 7 one.image one.script",
+        Asked::Explore(7, 3, 2),
+    ),
+    (
+        "aom explore one.image --to=0017 one.script --from +4294967295",
+        Asked::Explore(1_000_000, u32::MAX, 17),
+    ),
+    ("aom explore --from 0 one.image one.script", Asked::Text),
+    ("aom explore --to x one.image one.script", Asked::Text),
+    (
+        "aom explore --to 4294967296 one.image one.script",
+        Asked::Text,
+    ),
+    ("aom explore one.image", Asked::Text),
+    ("aom debug one.image one.script", Asked::Debug(1_000_000)),
+    ("aom debug --limit 7 one.image one.script", Asked::Debug(7)),
+    ("aom debug --limit 0 one.image one.script", Asked::Text),
+    ("aom debug --explain one.image one.script", Asked::Text),
+    ("aom debug one.image", Asked::Text),
+    ("aom debug one.image one.script clock", Asked::Native),
+    ("aom run --from 3 one.image one.script", Asked::Text),
+    ("aom check one.image one.script", Asked::Text),
+    ("aom", Asked::Text),
+    ("aom --help", Asked::Text),
+    ("aom help run", Asked::Text),
+    ("aom walk", Asked::Text),
+    ("aom run one.image one.script clock", Asked::Native),
+    ("aom run one.image one.script Counter", Asked::Native),
+    (
+        "aom run one.image one.script counter line delays",
+        Asked::Native,
+    ),
+    (
+        "aom explore --from 3 one.image one.script count",
+        Asked::Native,
+    ),
+    (
+        "aom run one.image one.script line line line line line line line line line line line line line line line line line",
+        Asked::Native,
+    ),
+    ("aom check one.image counter", Asked::Text),
+    (
+        "aom run --limit 0 one.image one.script counter",
+        Asked::Text,
+    ),
+];
+
+#[test]
 fn the_command_line_is_read(rt: HostRuntime) -> Result<(), Fail> {
-    for (line, expected) in [
-        ("aom check one.image", Asked::Check),
-        ("aom check --prices one.image", Asked::Prices),
-        ("aom check one.image --prices", Asked::Prices),
-        ("aom check --prices", Asked::Text),
-        ("aom check --prices=3 one.image", Asked::Text),
-        ("aom check --prices --prices one.image", Asked::Text),
-        ("aom check --limit 7 one.image", Asked::Text),
-        ("aom run --prices one.image one.script", Asked::Text),
-        ("aom run one.image one.script", Asked::Run(1_000_000)),
-        ("aom asm one.text", Asked::Asm),
-        ("aom dis one.image", Asked::Dis),
-        ("aom dot one.image", Asked::Dot),
-        ("aom dot", Asked::Text),
-        ("aom asm", Asked::Text),
-        ("aom dis one.image one.text", Asked::Text),
-        ("aom run --limit 7 one.image one.script", Asked::Run(7)),
-        (
-            "aom run one.image one.script --limit 1000000000",
-            Asked::Run(1_000_000_000),
-        ),
-        ("aom run --limit 0 one.image one.script", Asked::Text),
-        (
-            "aom run --limit 1000000001 one.image one.script",
-            Asked::Text,
-        ),
-        ("aom run --limit 7x one.image one.script", Asked::Text),
-        ("aom run --limit 007 one.image one.script", Asked::Run(7)),
-        ("aom run --limit +7 one.image one.script", Asked::Run(7)),
-        ("aom run --limit 00 one.image one.script", Asked::Text),
-        ("aom run one.image", Asked::Text),
-        (
-            "aom explore one.image one.script",
-            Asked::Explore(1_000_000, 1, u32::MAX),
-        ),
-        (
-            "aom explore --from 3 --to 2 --limit 7 one.image one.script",
-            Asked::Explore(7, 3, 2),
-        ),
-        (
-            "aom explore one.image --to=0017 one.script --from +4294967295",
-            Asked::Explore(1_000_000, u32::MAX, 17),
-        ),
-        ("aom explore --from 0 one.image one.script", Asked::Text),
-        ("aom explore --to x one.image one.script", Asked::Text),
-        (
-            "aom explore --to 4294967296 one.image one.script",
-            Asked::Text,
-        ),
-        ("aom explore one.image", Asked::Text),
-        ("aom debug one.image one.script", Asked::Debug(1_000_000)),
-        ("aom debug --limit 7 one.image one.script", Asked::Debug(7)),
-        ("aom debug --limit 0 one.image one.script", Asked::Text),
-        ("aom debug --explain one.image one.script", Asked::Text),
-        ("aom debug one.image", Asked::Text),
-        ("aom debug one.image one.script clock", Asked::Native),
-        ("aom run --from 3 one.image one.script", Asked::Text),
-        ("aom check one.image one.script", Asked::Text),
-        ("aom", Asked::Text),
-        ("aom --help", Asked::Text),
-        ("aom help run", Asked::Text),
-        ("aom walk", Asked::Text),
-        ("aom run one.image one.script clock", Asked::Native),
-        ("aom run one.image one.script Counter", Asked::Native),
-        (
-            "aom run one.image one.script counter line delays",
-            Asked::Native,
-        ),
-        (
-            "aom explore --from 3 one.image one.script count",
-            Asked::Native,
-        ),
-        (
-            "aom run one.image one.script line line line line line line line line line line line line line line line line line",
-            Asked::Native,
-        ),
-        ("aom check one.image counter", Asked::Text),
-        (
-            "aom run --limit 0 one.image one.script counter",
-            Asked::Text,
-        ),
-    ] {
-        assert_eq!(rt; ask(rt.alloc(), line)?, expected);
+    all_ask(&rt, rt.alloc(), &READ)
+}
+
+/// Command lines, and the natives that they name.
+const NATIVES: [(&str, &[NativeKind]); 6] = [
+    ("aom run one.image one.script", &[]),
+    (
+        "aom run one.image one.script counter",
+        &[NativeKind::Counter],
+    ),
+    (
+        "aom run --limit 7 one.image one.script line counter delay line",
+        &[
+            NativeKind::Line,
+            NativeKind::Counter,
+            NativeKind::Delay,
+            NativeKind::Line,
+        ],
+    ),
+    (
+        "aom explore --to 3 one.image one.script delay",
+        &[NativeKind::Delay],
+    ),
+    (
+        "aom debug one.image one.script line delay",
+        &[NativeKind::Line, NativeKind::Delay],
+    ),
+    (
+        "aom run one.image one.script line line line line line line line line line line line line line line line line",
+        &[NativeKind::Line; 16],
+    ),
+];
+
+fn all_are_named(
+    rt: &impl Abort,
+    alloc: Global,
+    lines: &[(&str, &[NativeKind])],
+) -> Result<(), Fail> {
+    for (line, expected) in lines {
+        assert!(rt; named(alloc, line)?.as_slice() == *expected, "{line}");
     }
     Ok(())
 }
 
 #[test]
 fn natives_are_named_in_their_order(rt: HostRuntime) -> Result<(), Fail> {
-    use NativeKind::{Counter, Delay, Line};
-
-    for (line, expected) in [
-        ("aom run one.image one.script", &[][..]),
-        ("aom run one.image one.script counter", &[Counter][..]),
-        (
-            "aom run --limit 7 one.image one.script line counter delay line",
-            &[Line, Counter, Delay, Line][..],
-        ),
-        (
-            "aom explore --to 3 one.image one.script delay",
-            &[Delay][..],
-        ),
-        (
-            "aom debug one.image one.script line delay",
-            &[Line, Delay][..],
-        ),
-        (
-            "aom run one.image one.script line line line line line line line line line line line line line line line line",
-            &[Line; 16][..],
-        ),
-    ] {
-        assert!(rt; named(rt.alloc(), line)?.as_slice() == expected);
-    }
-    Ok(())
+    all_are_named(&rt, rt.alloc(), &NATIVES)
 }

@@ -20,3 +20,8 @@ pub fn accepted_of(alloc: Global, text: &[u8]) -> Option<Accepted> {
     let linked = linked_of(alloc, text)?;
     accepted_linked(alloc, linked)
 }
+
+/// Whether it is.
+pub fn is_accepted(alloc: Global, text: &[u8]) -> bool {
+    accepted_of(alloc, text).is_some()
+}

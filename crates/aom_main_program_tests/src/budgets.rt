@@ -140,7 +140,11 @@ fn a_cleanup_stack_has_1024_entries(rt: HostRuntime) -> Result<(), Fail> {
     let told = "@0 main\nleave 0\nend stopped cells 0\n";
     assert!(rt; runs(rt.alloc(), deep.as_slice(), "", ExitStatus::Done, told));
     for case in &STACKS {
-        assert!(rt; are_too_dear(rt.alloc(), case.0, case.1, case.2)?, "{}", case.2);
+        assert!(rt;
+            are_too_dear(rt.alloc(), case.0, case.1, case.2)?,
+            "{}",
+            case.2
+        );
     }
     Ok(())
 }

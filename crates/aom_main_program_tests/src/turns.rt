@@ -100,7 +100,10 @@ const ENDINGS: [(&str, ExitStatus, &str); 3] = [
 #[test]
 fn programs_of_active_objects_end(rt: HostRuntime) -> Result<(), Fail> {
     for (number, case) in ENDINGS.iter().enumerate() {
-        assert!(rt; runs_to(rt.alloc(), case.0, 100, case.1, case.2)?, "{number}");
+        assert!(rt;
+            runs_to(rt.alloc(), case.0, 100, case.1, case.2)?,
+            "{number}"
+        );
     }
     Ok(())
 }

@@ -24,68 +24,39 @@ const ALL: Part = Part {
 /// What each command answers, an image with a full heap, whose second cell is refused, among them.
 const ANSWERED: [Case<'static>; 9] = [
     // the first image is accepted and runs
-    Case {
-        call: Call::Check(&FIRST),
-        room: 100,
-        status: ExitStatus::Done,
-        told: b"accepted\n",
-    },
-    Case {
-        call: Call::Run(&FIRST, b""),
-        room: 100,
-        status: ExitStatus::Done,
-        told: b"@0 main\nout 7\nend stopped cells 0\n",
-    },
+    (Call::Check(&FIRST), 100, b"accepted\n"),
+    (
+        Call::Run(&FIRST, b""),
+        100,
+        b"@0 main\nout 7\nend stopped cells 0\n",
+    ),
     // each request is refused in turn
-    Case {
-        call: Call::Explore(&FULL_HEAP, b"", ALL),
-        room: 100,
-        status: ExitStatus::Done,
-        told: b"refuse 1 end stopped cells 0\nrefuse 2 end stopped cells 0\n",
-    },
-    Case {
-        call: Call::Explore(&FULL_HEAP, b"refuse 1", Part { first: 2, last: 2 }),
-        room: 100,
-        status: ExitStatus::Done,
-        told: b"refuse 2 end stopped cells 0\n",
-    },
-    Case {
-        call: Call::Explore(&FIRST, b"", ALL),
-        room: 100,
-        status: ExitStatus::Done,
-        told: b"",
-    },
+    (
+        Call::Explore(&FULL_HEAP, b"", ALL),
+        100,
+        b"refuse 1 end stopped cells 0\nrefuse 2 end stopped cells 0\n",
+    ),
+    (
+        Call::Explore(&FULL_HEAP, b"refuse 1", Part { first: 2, last: 2 }),
+        100,
+        b"refuse 2 end stopped cells 0\n",
+    ),
+    (Call::Explore(&FIRST, b"", ALL), 100, b""),
     // a text is assembled, and an image listed
-    Case {
-        call: Call::Asm(SHORT),
-        room: 100,
-        status: ExitStatus::Done,
-        told: &FIRST,
-    },
-    Case {
-        call: Call::Asm(LISTING),
-        room: 100,
-        status: ExitStatus::Done,
-        told: &FIRST,
-    },
-    Case {
-        call: Call::Dis(&FIRST),
-        room: 200,
-        status: ExitStatus::Done,
-        told: LISTING,
-    },
+    (Call::Asm(SHORT), 100, &FIRST),
+    (Call::Asm(LISTING), 100, &FIRST),
+    (Call::Dis(&FIRST), 200, LISTING),
     // a full heap gives null
-    Case {
-        call: Call::Run(&FULL_HEAP, b"\n"),
-        room: 100,
-        status: ExitStatus::Done,
-        told: b"@0 main\nout 1\ngone 0\nend stopped cells 0\n",
-    },
+    (
+        Call::Run(&FULL_HEAP, b"\n"),
+        100,
+        b"@0 main\nout 1\ngone 0\nend stopped cells 0\n",
+    ),
 ];
 
 #[test]
 fn each_command_answers(rt: HostRuntime) {
-    all_tell(&rt, rt.alloc(), &ANSWERED);
+    all_tell(&rt, rt.alloc(), ExitStatus::Done, &ANSWERED);
 }
 
 /// Bytes are refused with that line, whatever is to be done with them.
@@ -124,93 +95,49 @@ fn other_bytes_are_refused(rt: HostRuntime) -> Result<(), Fail> {
     is_refused_with(&rt, rt.alloc(), 57, 2, b"verify 0 1 1\n")
 }
 
-/// A text or a script, and the line that refuses it.
-#[derive(Clone, Copy)]
-struct Refused<'a> {
-    given: &'a [u8],
-    line: &'a [u8],
-}
-
-const TEXTS: [Refused<'static>; 7] = [
-    Refused {
-        given: b"# \x7f",
-        line: b"asm 1 1\n",
-    },
-    Refused {
-        given: b"image budget 4\nfoo",
-        line: b"asm 2 2\n",
-    },
-    Refused {
-        given: b"image cells x",
-        line: b"asm 1 3\n",
-    },
-    Refused {
-        given: b"image budget 4\n;method m main\njump L\nend",
-        line: b"asm 3 4\n",
-    },
-    Refused {
-        given: b"image budget 4\nclass C plain\nclass C plain",
-        line: b"asm 3 5\n",
-    },
-    Refused {
-        given: b"",
-        line: b"asm 1 6\n",
-    },
-    Refused {
-        given: b"\nimage version 3 budget 4",
-        line: b"asm 2 7\n",
-    },
+const TEXTS: [Case<'static>; 7] = [
+    (Call::Asm(b"# \x7f"), 100, b"asm 1 1\n"),
+    (Call::Asm(b"image budget 4\nfoo"), 100, b"asm 2 2\n"),
+    (Call::Asm(b"image cells x"), 100, b"asm 1 3\n"),
+    (
+        Call::Asm(b"image budget 4\n;method m main\njump L\nend"),
+        100,
+        b"asm 3 4\n",
+    ),
+    (
+        Call::Asm(b"image budget 4\nclass C plain\nclass C plain"),
+        100,
+        b"asm 3 5\n",
+    ),
+    (Call::Asm(b""), 100, b"asm 1 6\n"),
+    (Call::Asm(b"\nimage version 3 budget 4"), 100, b"asm 2 7\n"),
 ];
 
 #[test]
 fn a_text_is_refused_with_its_line(rt: HostRuntime) {
-    for (number, text) in TEXTS.iter().enumerate() {
-        let call = Call::Asm(text.given);
-        let status = ExitStatus::ImageRefused;
-        assert!(rt;
-            tells(rt.alloc(), &call, 100, status, text.line),
-            "text {number}"
-        );
-    }
+    all_tell(&rt, rt.alloc(), ExitStatus::ImageRefused, &TEXTS);
 }
 
-const SCRIPTS: [Refused<'static>; 6] = [
-    Refused {
-        given: b"x",
-        line: b"script 1 2\n",
-    },
-    Refused {
-        given: b"\n\n \x01\n",
-        line: b"script 3 1\n",
-    },
-    Refused {
-        given: b"refuse 1\nrefuse",
-        line: b"script 2 2\n",
-    },
-    Refused {
-        given: b"refuse x",
-        line: b"script 1 3\n",
-    },
-    Refused {
-        given: b"refuse 1\n\nrefuse 0",
-        line: b"script 3 5\n",
-    },
-    Refused {
-        given: b"5 kill 0\n4 kill 0",
-        line: b"script 2 4\n",
-    },
+const SCRIPTS: [Case<'static>; 6] = [
+    (Call::Run(&FIRST, b"x"), 100, b"script 1 2\n"),
+    (Call::Run(&FIRST, b"\n\n \x01\n"), 100, b"script 3 1\n"),
+    (Call::Run(&FIRST, b"refuse 1\nrefuse"), 100, b"script 2 2\n"),
+    (Call::Run(&FIRST, b"refuse x"), 100, b"script 1 3\n"),
+    (
+        Call::Run(&FIRST, b"refuse 1\n\nrefuse 0"),
+        100,
+        b"script 3 5\n",
+    ),
+    (
+        Call::Run(&FIRST, b"5 kill 0\n4 kill 0"),
+        100,
+        b"script 2 4\n",
+    ),
 ];
 
 #[test]
 fn a_script_may_be_refused(rt: HostRuntime) {
-    for (number, script) in SCRIPTS.iter().enumerate() {
-        let call = Call::Run(&FIRST, script.given);
-        let status = ExitStatus::CallRefused;
-        assert!(rt;
-            tells(rt.alloc(), &call, 100, status, script.line),
-            "script {number}"
-        );
-    }
+    all_tell(&rt, rt.alloc(), ExitStatus::CallRefused, &SCRIPTS);
 }
 
 #[test]
@@ -223,47 +150,17 @@ fn a_run_may_end_waiting(rt: HostRuntime) -> Result<(), Fail> {
 }
 
 const CUT: [Case<'static>; 6] = [
-    Case {
-        call: Call::Asm(SHORT),
-        room: 4,
-        status: ExitStatus::Fault,
-        told: b"AOIM",
-    },
-    Case {
-        call: Call::Dis(&FIRST),
-        room: 5,
-        status: ExitStatus::Fault,
-        told: b"image",
-    },
-    Case {
-        call: Call::Run(&FIRST, b""),
-        room: 0,
-        status: ExitStatus::Fault,
-        told: b"",
-    },
-    Case {
-        call: Call::Run(&FIRST, b""),
-        room: 10,
-        status: ExitStatus::Fault,
-        told: b"@0 main\nou",
-    },
-    Case {
-        call: Call::Run(&FIRST, b""),
-        room: 20,
-        status: ExitStatus::Fault,
-        told: b"@0 main\nout 7\nend st",
-    },
-    Case {
-        call: Call::Check(&FIRST),
-        room: 5,
-        status: ExitStatus::Fault,
-        told: b"accep",
-    },
+    (Call::Asm(SHORT), 4, b"AOIM"),
+    (Call::Dis(&FIRST), 5, b"image"),
+    (Call::Run(&FIRST, b""), 0, b""),
+    (Call::Run(&FIRST, b""), 10, b"@0 main\nou"),
+    (Call::Run(&FIRST, b""), 20, b"@0 main\nout 7\nend st"),
+    (Call::Check(&FIRST), 5, b"accep"),
 ];
 
 #[test]
 fn the_output_may_fail(rt: HostRuntime) {
-    all_tell(&rt, rt.alloc(), &CUT);
+    all_tell(&rt, rt.alloc(), ExitStatus::Fault, &CUT);
 }
 
 /// A listing is refused as its image is, and errors that fail change nothing else.

@@ -1,6 +1,6 @@
 //! Any request for memory may be refused: then a command says so, and writes nothing else. Nothing here but the
 //! command asks for memory.
-use crate::pages::{Call, Case, FIRST, FULL_HEAP, LISTING, SHORT, answer, sides};
+use crate::pages::{Call, FIRST, FULL_HEAP, LISTING, SHORT, answer, sides};
 use aom_main::ExitStatus;
 use aom_pages::Slip;
 use std::alloc::Global;
@@ -19,53 +19,45 @@ fn may_tell(rt: &impl Abort, alloc: Global, call: &Call<'_>, status: ExitStatus,
     assert!(rt; ended == status && out.has(text) && errors.has(line));
 }
 
-/// The calls, none of which is cut: the room is for all of it.
-const CASES: [Case<'static>; 6] = [
-    Case {
-        call: Call::Check(&FULL_HEAP),
-        room: 256,
-        status: ExitStatus::Done,
-        told: b"accepted\n",
-    },
-    Case {
-        call: Call::Run(&FULL_HEAP, b"\n"),
-        room: 256,
-        status: ExitStatus::Done,
-        told: b"@0 main\nout 1\ngone 0\nend stopped cells 0\n",
-    },
-    Case {
-        call: Call::Asm(SHORT),
-        room: 256,
-        status: ExitStatus::Done,
-        told: &FIRST,
-    },
-    Case {
-        call: Call::Dis(&FIRST),
-        room: 256,
-        status: ExitStatus::Done,
-        told: LISTING,
-    },
+/// The calls, how they end, and what they tell.
+const CASES: [(Call<'static>, ExitStatus, &[u8]); 6] = [
+    (Call::Check(&FULL_HEAP), ExitStatus::Done, b"accepted\n"),
+    (
+        Call::Run(&FULL_HEAP, b"\n"),
+        ExitStatus::Done,
+        b"@0 main\nout 1\ngone 0\nend stopped cells 0\n",
+    ),
+    (Call::Asm(SHORT), ExitStatus::Done, &FIRST),
+    (Call::Dis(&FIRST), ExitStatus::Done, LISTING),
     // a refusal may want memory too
-    Case {
-        call: Call::Asm(b"image budget 4\nfoo"),
-        room: 256,
-        status: ExitStatus::ImageRefused,
-        told: b"asm 2 2\n",
-    },
-    Case {
-        call: Call::Run(&FIRST, b"x"),
-        room: 256,
-        status: ExitStatus::CallRefused,
-        told: b"script 1 2\n",
-    },
+    (
+        Call::Asm(b"image budget 4\nfoo"),
+        ExitStatus::ImageRefused,
+        b"asm 2 2\n",
+    ),
+    (
+        Call::Run(&FIRST, b"x"),
+        ExitStatus::CallRefused,
+        b"script 1 2\n",
+    ),
 ];
+
+/// Each of these ends and tells so, or wants memory.
+fn all_may_tell(rt: &impl Abort, alloc: Global, cases: &[(Call<'_>, ExitStatus, &[u8])]) {
+    for case in cases {
+        may_tell(rt, alloc, &case.0, case.1, case.2);
+    }
+}
 
 #[test]
 fn each_call_may_want_memory(rt: HostRuntime) {
-    for case in &CASES {
-        may_tell(&rt, rt.alloc(), &case.call, case.status, case.told);
-    }
-    let image = Call::Check(&FIRST[..79]);
-    let status = ExitStatus::ImageRefused;
-    may_tell(&rt, rt.alloc(), &image, status, b"load 3\n");
+    all_may_tell(&rt, rt.alloc(), &CASES);
+    let short = Call::Check(&FIRST[..79]);
+    may_tell(
+        &rt,
+        rt.alloc(),
+        &short,
+        ExitStatus::ImageRefused,
+        b"load 3\n",
+    );
 }

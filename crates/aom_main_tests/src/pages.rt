@@ -107,20 +107,14 @@ pub fn is_told(
     ended == status && out.text.as_slice() == text && errors.text.as_slice() == line
 }
 
-/// A call, the room for its output, how it ends, and what it tells.
-#[derive(Clone, Copy)]
-pub struct Case<'a> {
-    pub call: Call<'a>,
-    pub room: usize,
-    pub status: ExitStatus,
-    pub told: &'a [u8],
-}
+/// A call, the room for its output, and what it tells.
+pub type Case<'a> = (Call<'a>, usize, &'a [u8]);
 
-/// Each call ends and tells as its case says.
-pub fn all_tell(rt: &impl Abort, alloc: Global, cases: &[Case<'_>]) {
+/// Each call ends so, and tells as its case says.
+pub fn all_tell(rt: &impl Abort, alloc: Global, status: ExitStatus, cases: &[Case<'_>]) {
     for (number, case) in cases.iter().enumerate() {
         assert!(rt;
-            tells(alloc, &case.call, case.room, case.status, case.told),
+            tells(alloc, &case.0, case.1, status, case.2),
             "case {number}"
         );
     }

@@ -69,14 +69,20 @@ impl Native for Bell {
     fn close(&mut self, _id: u32) {}
 }
 
+const PRESSED: [Ask<'static>; 5] = [
+    Ask::Start(5, 0, 0, 0),
+    Ask::Start(6, 0, 0, -16),
+    Ask::Poll(None),
+    Ask::Event(3),
+    Ask::Poll(Some((5, 3))),
+];
+
 #[test]
 fn a_bell_rings_once_it_was_pressed(rt: HostRuntime) -> Result<(), Fail> {
-    let asks = [
-        Ask::Start(5, 0, 0, 0),
-        Ask::Start(6, 0, 0, -16),
-        Ask::Poll(None),
-        Ask::Event(3),
-        Ask::Poll(Some((5, 3))),
-    ];
-    ask_alone(&rt, rt.alloc(), Box::new(rt.alloc(), Bell::new())?, &asks)
+    ask_alone(
+        &rt,
+        rt.alloc(),
+        Box::new(rt.alloc(), Bell::new())?,
+        &PRESSED,
+    )
 }

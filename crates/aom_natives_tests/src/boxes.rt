@@ -6,6 +6,21 @@ use std::cell::Cell;
 use std::rc::Rc;
 use std::test::Fail;
 
+const CALLS: [(usize, Ask<'static>); 12] = [
+    (1, Ask::Open(0, -1)),
+    (1, Ask::Open(4, 1)),
+    (1, Ask::Event(50)),
+    (1, Ask::Call(4, 1, 0, 50)),
+    (1, Ask::Call(4, 0, 0, 5)),
+    (1, Ask::Start(4, 0, 0, 0)),
+    (1, Ask::Poll(Some((4, 50)))),
+    (1, Ask::Call(4, 0, 0, 8)),
+    (1, Ask::Close(4)),
+    (0, Ask::Event(1)),
+    (1, Ask::Call(4, 0, 0, 10)),
+    (0, Ask::Count(2)),
+];
+
 #[test]
 fn each_call_asks_its_box_once(rt: HostRuntime) -> Result<(), Fail> {
     let alloc = rt.alloc();
@@ -15,43 +30,43 @@ fn each_call_asks_its_box_once(rt: HostRuntime) -> Result<(), Fail> {
         Box::new(alloc, Counter::new())?,
         Probe::boxed(alloc, &drops)?,
     )?;
-    let asks = [
-        (1, Ask::Open(0, -1)),
-        (1, Ask::Open(4, 1)),
-        (1, Ask::Event(50)),
-        (1, Ask::Call(4, 1, 0, 50)),
-        (1, Ask::Call(4, 0, 0, 5)),
-        (1, Ask::Start(4, 0, 0, 0)),
-        (1, Ask::Poll(Some((4, 50)))),
-        (1, Ask::Call(4, 0, 0, 8)),
-        (1, Ask::Close(4)),
-        (0, Ask::Event(1)),
-        (1, Ask::Call(4, 0, 0, 10)),
-        (0, Ask::Count(2)),
-    ];
-    ask_in_turn(&rt, &mut natives, &asks);
+    ask_in_turn(&rt, &mut natives, &CALLS);
     Ok(())
 }
+
+const STARTS: [Ask<'static>; 12] = [
+    Ask::Start(1, 0, 0, 0),
+    Ask::Start(2, 0, 0, -7),
+    Ask::Start(2, 0, 0, 0),
+    Ask::Start(3, 0, 0, -7),
+    Ask::Start(3, 0, 0, 0),
+    Ask::Outstanding(&[1, 2, 3]),
+    Ask::Poll(Some((3, 0))),
+    Ask::Outstanding(&[1, 2]),
+    Ask::Cancel(1),
+    Ask::Outstanding(&[2]),
+    Ask::Poll(Some((2, 0))),
+    Ask::Poll(None),
+];
 
 #[test]
 fn every_second_start_is_refused(rt: HostRuntime) -> Result<(), Fail> {
     let drops = Rc::new(rt.alloc(), Cell::new(0))?;
-    let asks = [
-        Ask::Start(1, 0, 0, 0),
-        Ask::Start(2, 0, 0, -7),
-        Ask::Start(2, 0, 0, 0),
-        Ask::Start(3, 0, 0, -7),
-        Ask::Start(3, 0, 0, 0),
-        Ask::Outstanding(&[1, 2, 3]),
-        Ask::Poll(Some((3, 0))),
-        Ask::Outstanding(&[1, 2]),
-        Ask::Cancel(1),
-        Ask::Outstanding(&[2]),
-        Ask::Poll(Some((2, 0))),
-        Ask::Poll(None),
-    ];
-    ask_alone(&rt, rt.alloc(), Probe::boxed(rt.alloc(), &drops)?, &asks)
+    ask_alone(&rt, rt.alloc(), Probe::boxed(rt.alloc(), &drops)?, &STARTS)
 }
+
+/// The number of the second stays.
+const DROPS: [(usize, Ask<'static>); 9] = [
+    (0, Ask::Start(30, 0, 0, 0)),
+    (1, Ask::Start(30, 0, 0, 0)),
+    (0, Ask::Kill(&[30])),
+    (1, Ask::Outstanding(&[30])),
+    (0, Ask::IsAlive(false)),
+    (1, Ask::IsAlive(true)),
+    (2, Ask::IsAlive(false)),
+    (0, Ask::Count(2)),
+    (0, Ask::Outstanding(&[])),
+];
 
 #[test]
 fn a_box_is_dropped_once(rt: HostRuntime) -> Result<(), Fail> {
@@ -64,19 +79,7 @@ fn a_box_is_dropped_once(rt: HostRuntime) -> Result<(), Fail> {
             Probe::boxed(alloc, &killed)?,
             Probe::boxed(alloc, &kept)?,
         )?;
-        // The number of the second stays.
-        let asks = [
-            (0, Ask::Start(30, 0, 0, 0)),
-            (1, Ask::Start(30, 0, 0, 0)),
-            (0, Ask::Kill(&[30])),
-            (1, Ask::Outstanding(&[30])),
-            (0, Ask::IsAlive(false)),
-            (1, Ask::IsAlive(true)),
-            (2, Ask::IsAlive(false)),
-            (0, Ask::Count(2)),
-            (0, Ask::Outstanding(&[])),
-        ];
-        ask_in_turn(&rt, &mut natives, &asks);
+        ask_in_turn(&rt, &mut natives, &DROPS);
         assert_eq!(rt; (killed.get(), kept.get()), (1, 0));
     }
     assert_eq!(rt; (killed.get(), kept.get()), (1, 1));
