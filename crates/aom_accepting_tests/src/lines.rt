@@ -1,25 +1,13 @@
 //! The texts of lines, and the room of pages and turns.
-use aom_classes::{Linked, link};
-use aom_codec::decode;
+use crate::images::linked_of;
 use aom_image::ClassNumber;
 use aom_lines::Turn;
 use aom_transcript::{Ending, Line, Page};
-use std::alloc::Global;
 use std::process::Abort;
 use std::test::Fail;
 
 /// A main that prints 7 and stops.
-const STOPS: [u8; 80] = [
-    0x41, 0x4f, 0x49, 0x4d, 0, 1, 0, 0, 0, 1, 0, 1, 0, 0, 0, 0, 0xff, 0xff, 0, 0, 0, 0, 0, 4, //
-    0xff, 0xff, 1, 0, 0, 0, 0, 0, 0, 0, 0, 0, 0, 0, 0, 0, 0, 0, 0, 0, 0xff, 0xff, 0, 4, //
-    1, 0, 0, 0, 0, 0, 0, 7, 0x13, 0, 0, 0, 0, 0, 0, 0, 0x30, 0, 0, 0, 0, 0, 0, 0, 0x22, 0, 0, 0, 0,
-    0, 0, 0,
-];
-
-fn linked(alloc: Global, bytes: &[u8]) -> Option<Linked> {
-    let image = decode(alloc, bytes).ok()?;
-    link(alloc, image).ok()
-}
+const STOPS: &str = "image budget 4;method main main;const r0 7;print r0;stop;ret;end";
 
 /// Whether the text of a line is that.
 fn has_text(line: &Line, text: &str) -> bool {
@@ -75,7 +63,7 @@ fn refuses_two(rt: &impl Abort, turn: &Turn) {
 
 #[test]
 fn a_turn_has_its_lines_and_its_refusals(rt: HostRuntime) -> Result<(), Fail> {
-    let Some(linked) = linked(rt.alloc(), &STOPS) else {
+    let Some(linked) = linked_of(rt.alloc(), STOPS) else {
         return Err(Fail::from("the image is not linked"));
     };
     let mut turn = Turn::new(rt.alloc(), &linked, vec![in rt.alloc(); 9, 2, 2]?)?;

@@ -1,7 +1,7 @@
 //! Examples of rules, at places of small mains.
 ghost use Rattle.std.specs.Prelude.{◌<◌, length};
 
-use crate::images::linked_of;
+use crate::images::linked_between;
 use aom_classes::Linked;
 use aom_image::{ClassNumber, Register, Thing};
 use aom_rules::rule;
@@ -11,11 +11,7 @@ use std::test::Fail;
 
 /// A linked image of a main of that code.
 fn main_of(alloc: Global, code: &str) -> Result<Linked, Fail> {
-    let text = format!(in alloc; "image budget 100;method main main;{code};end")?;
-    match linked_of(alloc, text.as_str()) {
-        Some(linked) => Ok(linked),
-        None => Err(Fail::from("the text denotes no image that is linked")),
-    }
+    linked_between(alloc, "image budget 100;method main main;", code, ";end")
 }
 
 /// Where main may go on from one of its places, or why it may not.

@@ -1,5 +1,5 @@
 //! Programs of one plain class C, each with what the check says of it.
-use crate::images::linked_of;
+use crate::images::linked_between;
 use aom_classes::Linked;
 use aom_image::MethodNumber;
 use aom_shape::Why;
@@ -8,12 +8,12 @@ use std::alloc::Global;
 use std::process::Abort;
 use std::test::Fail;
 
+/// What comes before the methods of each image.
+const HEAD: &str = "image cells 4 budget 100;class C plain;";
+
 /// The line of the refusal of an image of those methods, or `checked`.
 fn answer_to(alloc: Global, methods: &str) -> Result<String, Fail> {
-    let text = format!(in alloc; "image cells 4 budget 100;class C plain;{methods}")?;
-    let Some(linked) = linked_of(alloc, text.as_str()) else {
-        return Err(Fail::from("the text denotes no image that is linked"));
-    };
+    let linked = linked_between(alloc, HEAD, methods, "")?;
     match check(alloc, linked).err() {
         Some(refusal) => Ok(refusal.to_string(alloc)?),
         None => Ok(String::from_str(alloc, "checked")?),
@@ -258,12 +258,15 @@ fn stop_in(alloc: Global, linked: &Linked, number: u16) -> Option<Stop> {
 }
 
 /// The place where a main of that code fails, the number of the reason, and whether the first two registers hold words there.
-fn known_in(alloc: Global, code: &str) -> Option<(usize, u8, bool, bool)> {
-    let text = format!(in alloc;
-        "image cells 4 budget 100;class C plain;method main main;{code};end"
-    );
-    let linked = linked_of(alloc, text.ok()?.as_str())?;
-    let stop = stop_in(alloc, &linked, 0)?;
+fn known_in(alloc: Global, code: &str) -> Result<Option<(usize, u8, bool, bool)>, Fail> {
+    let before = "image cells 4 budget 100;class C plain;method main main;";
+    let linked = linked_between(alloc, before, code, ";end")?;
+    Ok(known_of(alloc, &linked))
+}
+
+/// The same of a linked image.
+fn known_of(alloc: Global, linked: &Linked) -> Option<(usize, u8, bool, bool)> {
+    let stop = stop_in(alloc, linked, 0)?;
     let shape = stop.sheet.shape(stop.place)?;
     let (first, second) = (shape.kind_at(0).is_word(), shape.kind_at(1).is_word());
     Some((stop.place, stop.why.number(), first, second))
@@ -290,10 +293,11 @@ const KNOWN: [(&str, &str, Option<(usize, u8, bool, bool)>); 4] = [
 ];
 
 #[test]
-fn what_is_known_where_a_method_fails(rt: HostRuntime) {
+fn what_is_known_where_a_method_fails(rt: HostRuntime) -> Result<(), Fail> {
     for case in &KNOWN {
-        assert!(rt; known_in(rt.alloc(), case.1) == case.2, "{}", case.0);
+        assert!(rt; known_in(rt.alloc(), case.1)? == case.2, "{}", case.0);
     }
+    Ok(())
 }
 
 #[test]

@@ -1,11 +1,56 @@
-//! Calls of the clients, each of which looks first whether it may be made, and is told as a number.
+//! Calls of the clients, each of which looks first whether it may be made, and what is told of it.
 use aom_clients::{Client, Clients, Completion, Entry, Place, Refusal, Server, Taken};
 use std::alloc::Global;
 use std::process::Abort;
 use std::test::Fail;
 
-/// What is told of a call that may not be made.
-const UNFIT: i32 = 1000;
+/// What a client is at.
+#[derive(Clone, Copy, PartialEq)]
+pub enum State {
+    Unconnected,
+    Connecting,
+    Open,
+    Closing,
+    Gone,
+    Dead,
+    Dying,
+}
+
+/// What a place of messages has: none, one that waits, one that is held, and one that is discarded.
+#[derive(Clone, Copy, PartialEq)]
+pub enum Kept {
+    Free,
+    Waiting,
+    Held,
+    Discarded,
+}
+
+/// What is told of a call.
+#[derive(Clone, Copy, PartialEq)]
+pub enum Told {
+    /// It may not be made.
+    Unfit,
+    /// It is made, and there is none to tell of: no entry, no session and no client.
+    Nothing,
+    /// The code of a command: 0 where it is not refused.
+    Code(i32),
+    /// How many messages a client took out of the queue.
+    Took(usize),
+    /// An entry, by its client.
+    Connect(u8),
+    Message(u8),
+    Close(u8),
+    /// A client whose session goes with its server.
+    SessionGone(u8),
+    /// The client is told of the completion, or it is discarded.
+    Completed,
+    Discarded,
+    Session(u16),
+    Client(u8),
+    IsQueued(bool),
+    State(State),
+    Kept(Kept),
+}
 
 /// A call, with the numbers of clients, of servers' cells, and of places of messages.
 #[derive(Clone, Copy)]
@@ -17,28 +62,23 @@ pub enum Act {
     Send(u8, u16),
     /// No place is free.
     SendNowhere(u8),
-    /// Told is how many messages it took out of the queue.
     Close(u8),
     Die(u8),
-    /// Told is the server's next entry: 100 for a connect, 200 for a message, 300 for a close, and its client; 0 for none.
+    /// Told is the server's next entry.
     Next(u16),
     Connected(u8, Option<u16>),
     Closed(u8),
-    /// Told is 1 for a completion that is told, 2 for one that is discarded, 0 for none.
     Complete(u16),
-    /// Told is what goes with the server: first the entries of its queue, as `Next`, and then its sessions: 400, and the client.
+    /// Told is what goes with the server: first the entries of its queue, and then its sessions.
     Gone(u16),
-    /// Told is the session, or -1.
+    /// Told is the session.
     Release(u8),
     IsQueued(u16),
-    /// Told is the client, or -1.
     FirstSession(u16),
     FirstThere(u16),
-    /// Told is the client that was connected right after this one to the same server, or -1.
+    /// Told is the client that was connected right after this one to the same server.
     NextSession(u8),
-    /// Told is what the client is at: 0 unconnected, 1 connecting, 2 open, 3 closing, 4 gone, 5 dead, 6 dying.
     State(u8),
-    /// Told is 0 for a free place, 1 for a message that waits, 2 for one that is held, 3 for one that is discarded.
     Kept(u16),
     /// A client connects to a server and is served: its session is open then, where the server took it. With session and slots.
     Open(u8, u16, u16, u8),
@@ -48,131 +88,135 @@ pub enum Act {
     AllGone(u16),
 }
 
-/// 0 for a command that is not refused.
-fn code(outcome: Result<(), Refusal>) -> i32 {
+fn code(outcome: Result<(), Refusal>) -> Told {
     match outcome {
-        Ok(()) => 0,
-        Err(refusal) => refusal.code(),
+        Ok(()) => Told::Code(0),
+        Err(refusal) => Told::Code(refusal.code()),
     }
 }
 
-fn number(client: Option<u8>) -> i32 {
+fn client_of(client: Option<u8>) -> Told {
     match client {
-        Some(client) => i32::from(client),
-        None => -1,
+        Some(client) => Told::Client(client),
+        None => Told::Nothing,
     }
 }
 
-fn kind(taken: Option<Taken>) -> i32 {
+fn entry(taken: Option<Taken>) -> Told {
     let Some(taken) = taken else {
-        return 0;
+        return Told::Nothing;
     };
-    let kind = match taken.entry {
-        Entry::Connect { .. } => 100,
-        Entry::Message { .. } => 200,
-        Entry::Close { .. } => 300,
-    };
-    kind + i32::from(taken.client)
+    match taken.entry {
+        Entry::Connect { .. } => Told::Connect(taken.client),
+        Entry::Message { .. } => Told::Message(taken.client),
+        Entry::Close { .. } => Told::Close(taken.client),
+    }
 }
 
-fn state(client: Client) -> i32 {
+fn state_of(client: Client) -> State {
     match client {
-        Client::Unconnected => 0,
-        Client::Connecting { .. } => 1,
-        Client::Open { .. } => 2,
-        Client::Closing { .. } => 3,
-        Client::Gone => 4,
-        Client::Dead => 5,
-        Client::Dying { .. } => 6,
+        Client::Unconnected => State::Unconnected,
+        Client::Connecting { .. } => State::Connecting,
+        Client::Open { .. } => State::Open,
+        Client::Closing { .. } => State::Closing,
+        Client::Gone => State::Gone,
+        Client::Dead => State::Dead,
+        Client::Dying { .. } => State::Dying,
     }
 }
 
-fn kept(place: Place) -> i32 {
+fn kept_in(place: Place) -> Kept {
     match place {
-        Place::Free => 0,
-        Place::Queued { .. } => 1,
-        Place::Held { .. } => 2,
-        Place::Discarded { .. } => 3,
+        Place::Free => Kept::Free,
+        Place::Queued { .. } => Kept::Waiting,
+        Place::Held { .. } => Kept::Held,
+        Place::Discarded { .. } => Kept::Discarded,
     }
 }
 
-fn next_session(clients: &Clients, client: u8) -> i32 {
+fn next_session(clients: &Clients, client: u8) -> Told {
     if client >= 64 {
-        return UNFIT;
+        return Told::Unfit;
     }
     match clients.client(client) {
         Client::Open { server, .. }
         | Client::Closing { server, .. }
-        | Client::Dying { server, .. } => number(clients.next_session(server, client)),
-        _ => -1,
+        | Client::Dying { server, .. } => client_of(clients.next_session(server, client)),
+        _ => Told::Nothing,
     }
 }
 
-fn look(clients: &Clients, act: Act) -> i32 {
+fn look(clients: &Clients, act: Act) -> Told {
     let cells = clients.cells();
     match act {
-        Act::IsQueued(cell) if (cell as usize) < cells => i32::from(clients.is_queued(cell)),
-        Act::FirstSession(cell) if (cell as usize) < cells => number(clients.first_session(cell)),
-        Act::FirstThere(cell) if (cell as usize) < cells => number(clients.first_there(cell)),
+        Act::IsQueued(cell) if (cell as usize) < cells => Told::IsQueued(clients.is_queued(cell)),
+        Act::FirstSession(cell) if (cell as usize) < cells => client_of(clients.first_session(
+            cell,
+        )),
+        Act::FirstThere(cell) if (cell as usize) < cells => client_of(clients.first_there(cell)),
         Act::NextSession(client) => next_session(clients, client),
-        Act::State(client) if client < 64 => state(clients.client(client)),
-        Act::Kept(place) if place < 1024 => kept(clients.place(place)),
-        _ => UNFIT,
+        Act::State(client) if client < 64 => Told::State(state_of(clients.client(client))),
+        Act::Kept(place) if place < 1024 => Told::Kept(kept_in(clients.place(place))),
+        _ => Told::Unfit,
     }
 }
 
-fn complete(clients: &mut Clients, place: u16) -> i32 {
+fn complete(clients: &mut Clients, place: u16) -> Told {
     if place >= 1024 {
-        return UNFIT;
+        return Told::Unfit;
     }
     if clients.place(place).completion().is_none() {
-        return 0;
+        return Told::Nothing;
     }
     let Completion { is_told, .. } = clients.complete(place);
-    if is_told { 1 } else { 2 }
+    if is_told {
+        Told::Completed
+    } else {
+        Told::Discarded
+    }
 }
 
-fn gone(clients: &mut Clients, cell: u16) -> i32 {
+fn gone(clients: &mut Clients, cell: u16) -> Told {
     if (cell as usize) >= clients.cells() {
-        return UNFIT;
+        return Told::Unfit;
     }
     match clients.next_gone(cell) {
-        Some(taken) => kind(Some(taken)),
+        Some(taken) => entry(Some(taken)),
         None => session_gone(clients, cell),
     }
 }
 
-fn session_gone(clients: &mut Clients, cell: u16) -> i32 {
+fn session_gone(clients: &mut Clients, cell: u16) -> Told {
     if (cell as usize) >= clients.cells() || clients.is_queued(cell) {
-        return UNFIT;
+        return Told::Unfit;
     }
     match clients.session_gone(cell) {
-        Some(client) => 400 + i32::from(client),
-        None => 0,
+        Some(client) => Told::SessionGone(client),
+        None => Told::Nothing,
     }
 }
 
-fn release(clients: &mut Clients, client: u8) -> i32 {
+fn release(clients: &mut Clients, client: u8) -> Told {
     if client >= 64 {
-        return UNFIT;
+        return Told::Unfit;
     }
     match clients.release_session(client) {
-        Some(session) => i32::from(session),
-        None => -1,
+        Some(session) => Told::Session(session),
+        None => Told::Nothing,
     }
 }
 
-fn serve(clients: &mut Clients, act: Act) -> i32 {
+fn serve(clients: &mut Clients, act: Act) -> Told {
     let cells = clients.cells();
     match act {
-        Act::Next(cell) if (cell as usize) < cells => kind(clients.next(cell)),
+        Act::Next(cell) if (cell as usize) < cells => entry(clients.next(cell)),
         Act::Connected(client, session) if client < 64 => {
             clients.connected(client, session);
-            0
+            Told::Nothing
         }
         Act::Closed(client) if client < 64 => {
             clients.closed(client);
-            0
+            Told::Nothing
         }
         Act::Complete(place) => complete(clients, place),
         Act::Gone(cell) => gone(clients, cell),
@@ -181,17 +225,17 @@ fn serve(clients: &mut Clients, act: Act) -> i32 {
     }
 }
 
-fn send(clients: &mut Clients, client: u8, place: u16) -> i32 {
+fn send(clients: &mut Clients, client: u8, place: u16) -> Told {
     if client >= 64 || place >= 1024 {
-        return UNFIT;
+        return Told::Unfit;
     }
     match clients.place(place) {
         Place::Free => code(clients.send(client, Some(place))),
-        _ => UNFIT,
+        _ => Told::Unfit,
     }
 }
 
-fn command(clients: &mut Clients, act: Act) -> i32 {
+fn command(clients: &mut Clients, act: Act) -> Told {
     let cells = clients.cells();
     match act {
         Act::Connect(client, cell, most, slots)
@@ -201,18 +245,18 @@ fn command(clients: &mut Clients, act: Act) -> i32 {
         Act::ConnectNowhere(client) if client < 64 => code(clients.connect(client, None, 1)),
         Act::Send(client, place) => send(clients, client, place),
         Act::SendNowhere(client) if client < 64 => code(clients.send(client, None)),
-        Act::Close(client) if client < 64 => clients.close(client).len() as i32,
-        Act::Die(client) if client < 64 => clients.die(client).len() as i32,
+        Act::Close(client) if client < 64 => Told::Took(clients.close(client).len()),
+        Act::Die(client) if client < 64 => Told::Took(clients.die(client).len()),
         _ => serve(clients, act),
     }
 }
 
 /// What is told of a call.
-pub fn told(clients: &mut Clients, act: Act) -> i32 {
+pub fn carry_out(clients: &mut Clients, act: Act) -> Told {
     match act {
         Act::Open(client, cell, session, slots) => {
             let code = command(clients, Act::Connect(client, cell, 64, slots));
-            if code == 0 {
+            if code == Told::Code(0) {
                 serve(clients, Act::Next(cell));
                 serve(clients, Act::Connected(client, Some(session)));
             }
@@ -227,20 +271,21 @@ pub fn told(clients: &mut Clients, act: Act) -> i32 {
             for _ in 0..1300 {
                 gone(clients, cell);
             }
-            0
+            Told::Nothing
         }
         _ => command(clients, act),
     }
 }
 
-fn tell_each(rt: &impl Abort, clients: &mut Clients, turns: &[(Act, i32)]) {
+/// Calls, one after another, and what is told of each.
+pub fn tell_each(rt: &impl Abort, clients: &mut Clients, turns: &[(Act, Told)]) {
     for (at, (act, wanted)) in turns.iter().enumerate() {
-        assert_eq!(rt; told(clients, *act), *wanted, "at {at}");
+        assert!(rt; carry_out(clients, *act) == *wanted, "at {at}");
     }
 }
 
 /// The calls of new clients, one after another, and what is told of each.
-pub fn walk(rt: &impl Abort, alloc: Global, turns: &[(Act, i32)]) -> Result<(), Fail> {
+pub fn walk(rt: &impl Abort, alloc: Global, turns: &[(Act, Told)]) -> Result<(), Fail> {
     let mut clients = Clients::with_limit(alloc, 8)?;
     tell_each(rt, &mut clients, turns);
     Ok(())

@@ -1,24 +1,24 @@
 //! Messages on their way, and the going of a server.
-use crate::calls::{Act, walk};
+use crate::calls::{Act, Kept, State, Told, walk};
 use std::test::Fail;
 
 #[test]
 fn entries_go_in_the_order_in_which_they_came(rt: HostRuntime) -> Result<(), Fail> {
     let turns = [
-        (Act::Open(0, 2, 3, 4), 0),
-        (Act::Open(1, 2, 3, 4), 0),
-        (Act::Send(0, 5), 0),
-        (Act::Connect(9, 2, 4, 1), 0),
-        (Act::Send(0, 6), 0),
-        (Act::Close(1), 0),
-        (Act::Next(2), 200),
-        (Act::Next(2), 109),
-        (Act::Next(2), 200),
-        (Act::Next(2), 301),
-        (Act::Next(2), 0),
-        (Act::NextSession(0), 1),
-        (Act::Closed(1), 0),
-        (Act::NextSession(0), -1),
+        (Act::Open(0, 2, 3, 4), Told::Code(0)),
+        (Act::Open(1, 2, 3, 4), Told::Code(0)),
+        (Act::Send(0, 5), Told::Code(0)),
+        (Act::Connect(9, 2, 4, 1), Told::Code(0)),
+        (Act::Send(0, 6), Told::Code(0)),
+        (Act::Close(1), Told::Took(0)),
+        (Act::Next(2), Told::Message(0)),
+        (Act::Next(2), Told::Connect(9)),
+        (Act::Next(2), Told::Message(0)),
+        (Act::Next(2), Told::Close(1)),
+        (Act::Next(2), Told::Nothing),
+        (Act::NextSession(0), Told::Client(1)),
+        (Act::Closed(1), Told::Nothing),
+        (Act::NextSession(0), Told::Nothing),
     ];
     walk(&rt, rt.alloc(), &turns)
 }
@@ -26,17 +26,17 @@ fn entries_go_in_the_order_in_which_they_came(rt: HostRuntime) -> Result<(), Fai
 #[test]
 fn a_close_takes_what_waits_and_discards_what_is_held(rt: HostRuntime) -> Result<(), Fail> {
     let turns = [
-        (Act::Open(0, 2, 3, 3), 0),
-        (Act::Send(0, 10), 0),
-        (Act::Send(0, 11), 0),
-        (Act::Send(0, 12), 0),
-        (Act::Next(2), 200),
-        (Act::Close(0), 2),
-        (Act::Kept(10), 3),
-        (Act::Kept(11), 0),
-        (Act::Kept(12), 0),
-        (Act::Next(2), 300),
-        (Act::Next(2), 0),
+        (Act::Open(0, 2, 3, 3), Told::Code(0)),
+        (Act::Send(0, 10), Told::Code(0)),
+        (Act::Send(0, 11), Told::Code(0)),
+        (Act::Send(0, 12), Told::Code(0)),
+        (Act::Next(2), Told::Message(0)),
+        (Act::Close(0), Told::Took(2)),
+        (Act::Kept(10), Told::Kept(Kept::Discarded)),
+        (Act::Kept(11), Told::Kept(Kept::Free)),
+        (Act::Kept(12), Told::Kept(Kept::Free)),
+        (Act::Next(2), Told::Close(0)),
+        (Act::Next(2), Told::Nothing),
     ];
     walk(&rt, rt.alloc(), &turns)
 }
@@ -44,16 +44,16 @@ fn a_close_takes_what_waits_and_discards_what_is_held(rt: HostRuntime) -> Result
 #[test]
 fn a_new_session_has_its_slots(rt: HostRuntime) -> Result<(), Fail> {
     let turns = [
-        (Act::Open(0, 2, 3, 1), 0),
-        (Act::Send(0, 10), 0),
-        (Act::Next(2), 200),
-        (Act::Close(0), 0),
-        (Act::ServeClose(0, 2), 300),
-        (Act::Open(0, 2, 3, 1), 0),
-        (Act::Send(0, 11), 0),
-        (Act::Complete(10), 2),
-        (Act::Send(0, 12), -16),
-        (Act::Complete(10), 0),
+        (Act::Open(0, 2, 3, 1), Told::Code(0)),
+        (Act::Send(0, 10), Told::Code(0)),
+        (Act::Next(2), Told::Message(0)),
+        (Act::Close(0), Told::Took(0)),
+        (Act::ServeClose(0, 2), Told::Close(0)),
+        (Act::Open(0, 2, 3, 1), Told::Code(0)),
+        (Act::Send(0, 11), Told::Code(0)),
+        (Act::Complete(10), Told::Discarded),
+        (Act::Send(0, 12), Told::Code(-16)),
+        (Act::Complete(10), Told::Nothing),
     ];
     walk(&rt, rt.alloc(), &turns)
 }
@@ -61,14 +61,14 @@ fn a_new_session_has_its_slots(rt: HostRuntime) -> Result<(), Fail> {
 #[test]
 fn a_slot_is_held_until_the_completion(rt: HostRuntime) -> Result<(), Fail> {
     let turns = [
-        (Act::Open(0, 2, 3, 1), 0),
-        (Act::Send(0, 10), 0),
-        (Act::Complete(10), 0),
-        (Act::Next(2), 200),
-        (Act::Send(0, 11), -16),
-        (Act::Complete(10), 1),
-        (Act::Send(0, 11), 0),
-        (Act::Die(0), 1),
+        (Act::Open(0, 2, 3, 1), Told::Code(0)),
+        (Act::Send(0, 10), Told::Code(0)),
+        (Act::Complete(10), Told::Nothing),
+        (Act::Next(2), Told::Message(0)),
+        (Act::Send(0, 11), Told::Code(-16)),
+        (Act::Complete(10), Told::Completed),
+        (Act::Send(0, 11), Told::Code(0)),
+        (Act::Die(0), Told::Took(1)),
     ];
     walk(&rt, rt.alloc(), &turns)
 }
@@ -76,26 +76,26 @@ fn a_slot_is_held_until_the_completion(rt: HostRuntime) -> Result<(), Fail> {
 #[test]
 fn what_goes_with_a_server(rt: HostRuntime) -> Result<(), Fail> {
     let turns = [
-        (Act::Open(0, 2, 3, 2), 0),
-        (Act::Open(1, 2, 3, 2), 0),
-        (Act::Open(2, 2, 3, 2), 0),
-        (Act::Send(0, 10), 0),
-        (Act::Next(2), 200),
-        (Act::Send(0, 11), 0),
-        (Act::Connect(5, 2, 9, 1), 0),
-        (Act::Close(1), 0),
-        (Act::Die(2), 0),
-        (Act::Gone(2), 200),
-        (Act::Gone(2), 105),
-        (Act::Gone(2), 301),
-        (Act::Gone(2), 302),
-        (Act::Gone(2), 400),
-        (Act::Gone(2), 401),
-        (Act::Gone(2), 402),
-        (Act::Gone(2), 0),
-        (Act::State(0), 4),
-        (Act::Kept(10), 2),
-        (Act::Kept(11), 0),
+        (Act::Open(0, 2, 3, 2), Told::Code(0)),
+        (Act::Open(1, 2, 3, 2), Told::Code(0)),
+        (Act::Open(2, 2, 3, 2), Told::Code(0)),
+        (Act::Send(0, 10), Told::Code(0)),
+        (Act::Next(2), Told::Message(0)),
+        (Act::Send(0, 11), Told::Code(0)),
+        (Act::Connect(5, 2, 9, 1), Told::Code(0)),
+        (Act::Close(1), Told::Took(0)),
+        (Act::Die(2), Told::Took(0)),
+        (Act::Gone(2), Told::Message(0)),
+        (Act::Gone(2), Told::Connect(5)),
+        (Act::Gone(2), Told::Close(1)),
+        (Act::Gone(2), Told::Close(2)),
+        (Act::Gone(2), Told::SessionGone(0)),
+        (Act::Gone(2), Told::SessionGone(1)),
+        (Act::Gone(2), Told::SessionGone(2)),
+        (Act::Gone(2), Told::Nothing),
+        (Act::State(0), Told::State(State::Gone)),
+        (Act::Kept(10), Told::Kept(Kept::Held)),
+        (Act::Kept(11), Told::Kept(Kept::Free)),
     ];
     walk(&rt, rt.alloc(), &turns)
 }
@@ -103,14 +103,14 @@ fn what_goes_with_a_server(rt: HostRuntime) -> Result<(), Fail> {
 #[test]
 fn a_message_whose_server_went_is_told(rt: HostRuntime) -> Result<(), Fail> {
     let turns = [
-        (Act::Open(0, 2, 3, 1), 0),
-        (Act::Send(0, 10), 0),
-        (Act::Next(2), 200),
-        (Act::AllGone(2), 0),
-        (Act::Open(0, 3, 4, 1), 0),
-        (Act::Send(0, 20), 0),
-        (Act::Complete(10), 1),
-        (Act::Send(0, 21), -16),
+        (Act::Open(0, 2, 3, 1), Told::Code(0)),
+        (Act::Send(0, 10), Told::Code(0)),
+        (Act::Next(2), Told::Message(0)),
+        (Act::AllGone(2), Told::Nothing),
+        (Act::Open(0, 3, 4, 1), Told::Code(0)),
+        (Act::Send(0, 20), Told::Code(0)),
+        (Act::Complete(10), Told::Completed),
+        (Act::Send(0, 21), Told::Code(-16)),
     ];
     walk(&rt, rt.alloc(), &turns)
 }
@@ -118,17 +118,17 @@ fn a_message_whose_server_went_is_told(rt: HostRuntime) -> Result<(), Fail> {
 #[test]
 fn a_client_whose_server_went_may_close_and_die(rt: HostRuntime) -> Result<(), Fail> {
     let turns = [
-        (Act::Open(0, 2, 3, 2), 0),
-        (Act::Send(0, 10), 0),
-        (Act::Next(2), 200),
-        (Act::Open(1, 2, 3, 2), 0),
-        (Act::Send(1, 11), 0),
-        (Act::Next(2), 201),
-        (Act::AllGone(2), 0),
-        (Act::Close(0), 0),
-        (Act::Die(1), 0),
-        (Act::Complete(10), 2),
-        (Act::Complete(11), 2),
+        (Act::Open(0, 2, 3, 2), Told::Code(0)),
+        (Act::Send(0, 10), Told::Code(0)),
+        (Act::Next(2), Told::Message(0)),
+        (Act::Open(1, 2, 3, 2), Told::Code(0)),
+        (Act::Send(1, 11), Told::Code(0)),
+        (Act::Next(2), Told::Message(1)),
+        (Act::AllGone(2), Told::Nothing),
+        (Act::Close(0), Told::Took(0)),
+        (Act::Die(1), Told::Took(0)),
+        (Act::Complete(10), Told::Discarded),
+        (Act::Complete(11), Told::Discarded),
     ];
     walk(&rt, rt.alloc(), &turns)
 }
@@ -136,16 +136,16 @@ fn a_client_whose_server_went_may_close_and_die(rt: HostRuntime) -> Result<(), F
 #[test]
 fn a_server_takes_so_many_sessions(rt: HostRuntime) -> Result<(), Fail> {
     let turns = [
-        (Act::Connect(0, 2, 2, 1), 0),
-        (Act::Connect(1, 2, 2, 1), 0),
-        (Act::Connect(2, 2, 2, 1), -16),
-        (Act::Next(2), 100),
-        (Act::Connected(0, Some(3)), 0),
-        (Act::Connect(2, 2, 2, 1), -16),
-        (Act::Close(1), 0),
-        (Act::Connect(2, 2, 2, 1), 0),
-        (Act::Close(0), 0),
-        (Act::Connect(1, 2, 2, 1), -16),
+        (Act::Connect(0, 2, 2, 1), Told::Code(0)),
+        (Act::Connect(1, 2, 2, 1), Told::Code(0)),
+        (Act::Connect(2, 2, 2, 1), Told::Code(-16)),
+        (Act::Next(2), Told::Connect(0)),
+        (Act::Connected(0, Some(3)), Told::Nothing),
+        (Act::Connect(2, 2, 2, 1), Told::Code(-16)),
+        (Act::Close(1), Told::Took(0)),
+        (Act::Connect(2, 2, 2, 1), Told::Code(0)),
+        (Act::Close(0), Told::Took(0)),
+        (Act::Connect(1, 2, 2, 1), Told::Code(-16)),
     ];
     walk(&rt, rt.alloc(), &turns)
 }
@@ -153,15 +153,15 @@ fn a_server_takes_so_many_sessions(rt: HostRuntime) -> Result<(), Fail> {
 #[test]
 fn sessions_go_one_after_another(rt: HostRuntime) -> Result<(), Fail> {
     let turns = [
-        (Act::Open(4, 2, 5, 2), 0),
-        (Act::Open(1, 2, 6, 2), 0),
-        (Act::Close(1), 0),
-        (Act::FirstThere(2), 4),
-        (Act::Release(4), 5),
-        (Act::FirstThere(2), 1),
-        (Act::Release(1), 6),
-        (Act::FirstThere(2), -1),
-        (Act::Release(7), -1),
+        (Act::Open(4, 2, 5, 2), Told::Code(0)),
+        (Act::Open(1, 2, 6, 2), Told::Code(0)),
+        (Act::Close(1), Told::Took(0)),
+        (Act::FirstThere(2), Told::Client(4)),
+        (Act::Release(4), Told::Session(5)),
+        (Act::FirstThere(2), Told::Client(1)),
+        (Act::Release(1), Told::Session(6)),
+        (Act::FirstThere(2), Told::Nothing),
+        (Act::Release(7), Told::Nothing),
     ];
     walk(&rt, rt.alloc(), &turns)
 }

@@ -1,5 +1,7 @@
 //! Each command, and each part of a service, in each state.
-use crate::calls::{Act, told};
+use crate::calls::State::{self, Closing, Connecting, Dead, Dying, Gone, Open, Unconnected};
+use crate::calls::Told::{self, Code, Nothing, Took};
+use crate::calls::{Act, carry_out};
 use aom_clients::Clients;
 use std::alloc::{AllocError, Global};
 use std::process::Abort;
@@ -9,29 +11,29 @@ use std::test::Fail;
 const SERVER: u16 = 7;
 
 /// What is told of client 3's last call, and what the client is at then.
-fn told_last(clients: &mut Clients, way: &[Act], acts: &[Act]) -> (i32, i32) {
+fn told_last(clients: &mut Clients, way: &[Act], acts: &[Act]) -> (Told, Told) {
     for act in way {
-        told(clients, *act);
+        carry_out(clients, *act);
     }
-    let mut code = 0;
+    let mut last = Nothing;
     for act in acts {
-        code = told(clients, *act);
+        last = carry_out(clients, *act);
     }
-    (code, told(clients, Act::State(3)))
+    (last, carry_out(clients, Act::State(3)))
 }
 
 /// The same of new clients.
-fn told_after(alloc: Global, way: &[Act], acts: &[Act]) -> Result<(i32, i32), AllocError> {
+fn told_after(alloc: Global, way: &[Act], acts: &[Act]) -> Result<(Told, Told), AllocError> {
     let mut clients = Clients::with_limit(alloc, 16)?;
     Ok(told_last(&mut clients, way, acts))
 }
 
-/// Two calls in the seven states: 0 unconnected, 1 connecting, 2 open with two slots, 3 closing, 4 gone, 5 dead, 6 dying.
+/// What is told of the last call in each of the seven states, of which an open one has two slots, and the state then.
 fn compare(
     rt: &impl Abort,
     alloc: Global,
     acts: &[Act],
-    wanted: &[(i32, i32)],
+    wanted: &[(Told, State)],
 ) -> Result<(), Fail> {
     let look = Act::State(3);
     let open = Act::Open(3, SERVER, 9, 2);
@@ -44,9 +46,9 @@ fn compare(
         [look, Act::Die(3)],
         [open, Act::Die(3)],
     ];
-    for (way, wanted) in ways.iter().zip(wanted) {
-        let told = told_after(alloc, way, acts)?;
-        assert_eq!(rt; told, *wanted);
+    for (way, (wanted, then)) in ways.iter().zip(wanted) {
+        let (last, state) = told_after(alloc, way, acts)?;
+        assert!(rt; last == *wanted && state == Told::State(*then));
     }
     Ok(())
 }
@@ -58,76 +60,100 @@ fn commands_in_each_state(rt: HostRuntime) -> Result<(), Fail> {
         // Nothing, but a look at the state.
         (
             Act::State(3),
-            [(0, 0), (1, 1), (2, 2), (3, 3), (4, 4), (5, 5), (6, 6)],
+            [
+                (Told::State(Unconnected), Unconnected),
+                (Told::State(Connecting), Connecting),
+                (Told::State(Open), Open),
+                (Told::State(Closing), Closing),
+                (Told::State(Gone), Gone),
+                (Told::State(Dead), Dead),
+                (Told::State(Dying), Dying),
+            ],
         ),
         (
             Act::ConnectNowhere(3),
             [
-                (-1, 0),
-                (-16, 1),
-                (-16, 2),
-                (-16, 3),
-                (-1, 4),
-                (-13, 5),
-                (-13, 6),
+                (Code(-1), Unconnected),
+                (Code(-16), Connecting),
+                (Code(-16), Open),
+                (Code(-16), Closing),
+                (Code(-1), Gone),
+                (Code(-13), Dead),
+                (Code(-13), Dying),
             ],
         ),
         // To a server that is full, and to one that is not.
         (
             Act::Connect(3, SERVER, 0, 2),
             [
-                (-16, 0),
-                (-16, 1),
-                (-16, 2),
-                (-16, 3),
-                (-16, 4),
-                (-13, 5),
-                (-13, 6),
+                (Code(-16), Unconnected),
+                (Code(-16), Connecting),
+                (Code(-16), Open),
+                (Code(-16), Closing),
+                (Code(-16), Gone),
+                (Code(-13), Dead),
+                (Code(-13), Dying),
             ],
         ),
         (
             Act::Connect(3, SERVER, 4, 2),
             [
-                (0, 1),
-                (-16, 1),
-                (-16, 2),
-                (-16, 3),
-                (0, 1),
-                (-13, 5),
-                (-13, 6),
+                (Code(0), Connecting),
+                (Code(-16), Connecting),
+                (Code(-16), Open),
+                (Code(-16), Closing),
+                (Code(0), Connecting),
+                (Code(-13), Dead),
+                (Code(-13), Dying),
             ],
         ),
         (
             Act::Send(3, 100),
             [
-                (-1, 0),
-                (-16, 1),
-                (0, 2),
-                (-16, 3),
-                (-15, 4),
-                (-13, 5),
-                (-13, 6),
+                (Code(-1), Unconnected),
+                (Code(-16), Connecting),
+                (Code(0), Open),
+                (Code(-16), Closing),
+                (Code(-15), Gone),
+                (Code(-13), Dead),
+                (Code(-13), Dying),
             ],
         ),
         (
             Act::SendNowhere(3),
             [
-                (-1, 0),
-                (-16, 1),
-                (-16, 2),
-                (-16, 3),
-                (-15, 4),
-                (-13, 5),
-                (-13, 6),
+                (Code(-1), Unconnected),
+                (Code(-16), Connecting),
+                (Code(-16), Open),
+                (Code(-16), Closing),
+                (Code(-15), Gone),
+                (Code(-13), Dead),
+                (Code(-13), Dying),
             ],
         ),
         (
             Act::Close(3),
-            [(0, 0), (0, 0), (0, 3), (0, 3), (0, 0), (0, 5), (0, 6)],
+            [
+                (Took(0), Unconnected),
+                (Took(0), Unconnected),
+                (Took(0), Closing),
+                (Took(0), Closing),
+                (Took(0), Unconnected),
+                (Took(0), Dead),
+                (Took(0), Dying),
+            ],
         ),
         (
             Act::Die(3),
-            [(0, 5), (0, 5), (0, 6), (0, 6), (0, 5), (0, 5), (0, 6)],
+            [
+                (Took(0), Dead),
+                (Took(0), Dead),
+                (Took(0), Dying),
+                (Took(0), Dying),
+                (Took(0), Dead),
+                (Took(0), Dead),
+                (Took(0), Dying),
+            ],
         ),
     ];
     for (act, wanted) in &rows {
@@ -143,19 +169,51 @@ fn services_in_each_state(rt: HostRuntime) -> Result<(), Fail> {
     let rows = [
         (
             [next, Act::Connected(3, Some(9))],
-            [(0, 0), (0, 2), (0, 2), (0, 3), (0, 4), (0, 5), (0, 6)],
+            [
+                (Nothing, Unconnected),
+                (Nothing, Open),
+                (Nothing, Open),
+                (Nothing, Closing),
+                (Nothing, Gone),
+                (Nothing, Dead),
+                (Nothing, Dying),
+            ],
         ),
         (
             [next, Act::Connected(3, None)],
-            [(0, 0), (0, 0), (0, 2), (0, 3), (0, 4), (0, 5), (0, 6)],
+            [
+                (Nothing, Unconnected),
+                (Nothing, Unconnected),
+                (Nothing, Open),
+                (Nothing, Closing),
+                (Nothing, Gone),
+                (Nothing, Dead),
+                (Nothing, Dying),
+            ],
         ),
         (
             [next, Act::Closed(3)],
-            [(0, 0), (0, 1), (0, 2), (0, 0), (0, 4), (0, 5), (0, 5)],
+            [
+                (Nothing, Unconnected),
+                (Nothing, Connecting),
+                (Nothing, Open),
+                (Nothing, Unconnected),
+                (Nothing, Gone),
+                (Nothing, Dead),
+                (Nothing, Dead),
+            ],
         ),
         (
             [Act::State(7), Act::AllGone(SERVER)],
-            [(0, 0), (0, 0), (0, 4), (0, 0), (0, 4), (0, 5), (0, 5)],
+            [
+                (Nothing, Unconnected),
+                (Nothing, Unconnected),
+                (Nothing, Gone),
+                (Nothing, Unconnected),
+                (Nothing, Gone),
+                (Nothing, Dead),
+                (Nothing, Dead),
+            ],
         ),
     ];
     for (acts, wanted) in &rows {

@@ -20,10 +20,12 @@ enum Asked {
     Memory,
 }
 
+fn is(name: &String, word: &str) -> bool {
+    name.as_str() == word
+}
+
 fn is_one(run: &RunWords) -> bool {
-    run.image.as_str() == "one.image"
-        && run.script.as_str() == "one.script"
-        && run.natives.is_empty()
+    is(&run.image, "one.image") && is(&run.script, "one.script") && run.natives.is_empty()
 }
 
 fn words_of(alloc: Global, line: &str) -> Result<Vec<String>, Fail> {

@@ -1,10 +1,13 @@
 -- What a call of a debugger answers, by what was told.
 use Rattle.std.proofs.Common.{◌≡◌, ◌≢◌, ◌∙◌, ◌⊎◌, ◌||◌, ℕ, Bool, true, false, cond, List, Option, Result, Ok, Err, IfErr, IfNone, IfOk, IfSome, Some, None, take, refl, sym, ap, subst, inl, inr}
+use Rattle.std.specs.Prelude.{All}
 use Rattle.aom_sound.specs.State.{State}
 use Rattle.aom_sound.specs.World.{Outside, Reaches}
 use Rattle.aom_transcript.specs.declared.event.TimedEvent.{TimedEvent}
 use Rattle.aom_transcript.specs.declared.line.Line.{Line}
-use Rattle.aom_debug_courses.specs.Calls.{StandsFor, natives_of}
+use Rattle.aom_debug_courses.specs.Calls.{EventInRange, StandsFor, natives_of}
+use Rattle.aom_debug_courses.proofs.Gets.{ranged}
+use Rattle.aom_script.specs.Script.{IsTimely}
 use Rattle.aom_debug_courses.specs.Runs.{after}
 use Rattle.aom_debug_words.specs.declared.fault.DebugFault.{DebugFault}
 use Rattle.aom_debug_words.specs.declared.fault.DebugFault.TheVariants.{BadCommand, NoSuch, Ended, OutOfMemory, WriteFault}
@@ -18,6 +21,10 @@ use Rattle.aom_debug_courses.specs.Turns.{hearing}
 use Rattle.aom_debug.specs.Debugging.{Answer, Cut, Declined, Goes, GivesUp, Looks, MayGo, Outgoing, Seen, SeenPart, Shows, has_ended, outside_of}
 use Rattle.aom_debug.proofs.Moving.{all_out, cut_out, part_out}
 use Rattle.aom_debug.specs.declared.debugger.Debugger.{Debugger}
+
+-- the events of a script are as a machine needs them
+pub events_fit : (events timed : List TimedEvent) → events ≡ timed → IsTimely timed → All (λ e. EventInRange e.event) events
+events_fit events timed same timely = subst (λ (es : List TimedEvent). All (λ e. EventInRange e.event) es) (sym same) (ranged timed timely)
 
 module _ {X : Type 0} {B : X → Type 0} where
   -- where moves have led

@@ -138,6 +138,7 @@ impl<'a> Debugger<'a> {
     }
 
     /// So many steps.
+    #[tactic(auto, using(crate::proofs::Answering::events_fit))]
     fn step_on<W: Sink>(&mut self, steps: u32, out: &mut W) -> Result<(), DebugFault>
         requires agree { AllAgree (λ l. l.ids) (λ l. (⟦<dyn Native as Native>⟧ l.native.vtable).owed l.native.value) self.old.machine.natives.slots.items }
         requires ready { IsReady self.old }
@@ -164,6 +165,7 @@ impl<'a> Debugger<'a> {
     }
 
     /// Goes on to the end of the dispatch at hand, or of the next, or to the end of the run.
+    #[tactic(auto, using(crate::proofs::Answering::events_fit))]
     pub fn turn<W: Sink>(&mut self, out: &mut W) -> Result<(), DebugFault>
         requires agree { AllAgree (λ l. l.ids) (λ l. (⟦<dyn Native as Native>⟧ l.native.vtable).owed l.native.value) self.old.machine.natives.slots.items }
         requires ready { IsReady self.old }
@@ -190,6 +192,7 @@ impl<'a> Debugger<'a> {
     }
 
     /// Goes on until an instruction with a breakpoint is next, but for where it begins, or to the end of the run.
+    #[tactic(auto, using(crate::proofs::Answering::events_fit))]
     pub fn go<W: Sink>(&mut self, out: &mut W) -> Result<(), DebugFault>
         requires agree { AllAgree (λ l. l.ids) (λ l. (⟦<dyn Native as Native>⟧ l.native.vtable).owed l.native.value) self.old.machine.natives.slots.items }
         requires ready { IsReady self.old }

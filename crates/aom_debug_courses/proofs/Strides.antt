@@ -13,6 +13,8 @@ use Rattle.aom_debug_moves.specs.Calls.{Stands, StandsFor}
 use Rattle.aom_debug_moves.specs.Sends.{Breaks, Leads, Machine, Sends}
 use Rattle.aom_debug_moves.specs.Runs.{Moving, after, begins as stays_there}
 use Rattle.aom_debug_moves.proofs.Reaching.{moving_both}
+use Rattle.aom_lines.specs.Turn.{Turn}
+use Rattle.aom_debug_moves.proofs.Keeping.{Keeps, begun_as}
 use Rattle.aom_debug_moves.proofs.Sending.{after_none, breaks_then, moving_stride, sent_both}
 use Rattle.aom_debug_marks.specs.declared.spot.Spot.{Spot}
 use Rattle.aom_debug_moves.specs.Moves.{Strides}
@@ -79,3 +81,12 @@ module _ {X : Type 0} {B : X → Type 0} (p : Image) (refused : List ℕ) (stays
     pub walked_on : (b : Bool) → ((s : State) → StandsFor a s → b ≡ stays s) → Sends (WalksUnless b p refused stays old new) a before out c → Sends (WalksOn p refused stays old new) a before out c
     walked_on true told x s stands = let f = x s stands in (f.0, f.1, inl (sym (told s stands), f.2), f.3, f.4)
     walked_on false told x s stands = let f = x s stands in (f.0, f.1, inr (sym (told s stands), f.2), f.3, f.4)
+
+-- ---- by what a loop of steps keeps
+
+module _ {X : Type 0} {B : X → Type 0} (a m n : Machine X B) (told now : Turn) (keeps : Keeps a m told now) (stays : State → Bool) (old mid : List Spot) (before here out : Option (List ℕ)) (so_far : Sends (Underway a.core.image told.refused stays old mid) a before here m) where
+  pub stepped : (new : List Spot) → progress m.core ≡ Running → Sends (Strides m.core.image now.refused mid new) m here out n → Sends (Begun a.core.image told.refused stays old new) a before out n
+  stepped new running step = steps_more a.core.image told.refused stays old mid a m n before here out so_far new running (begun_as (λ q r. Sends (Strides q r mid new) m here out n) keeps step)
+
+  pub step_cut : Breaks (Moving m.core.image now.refused) m here out n → Breaks (Moving a.core.image told.refused) a before out n
+  step_cut cut = steps_cut a.core.image told.refused stays old mid a m n before here out so_far (begun_as (λ q r. Breaks (Moving q r) m here out n) keeps cut)

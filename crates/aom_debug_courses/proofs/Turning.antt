@@ -14,7 +14,10 @@ use Rattle.aom_debug_moves.specs.Calls.{Stands, StandsFor}
 use Rattle.aom_debug_moves.specs.Sends.{Breaks, Leads, Machine, Sends, Then}
 use Rattle.aom_debug_moves.specs.Runs.{Moving, after}
 use Rattle.aom_debug_moves.proofs.Reaching.{reaches_both}
-use Rattle.aom_debug_moves.proofs.Sending.{after_none, breaks_then, reaches_arrived, sent_both}
+use Rattle.aom_debug_moves.specs.Turns.{hearing}
+use Rattle.aom_lines.specs.Turn.{Turn}
+use Rattle.aom_transcript.specs.declared.event.TimedEvent.{TimedEvent}
+use Rattle.aom_debug_moves.proofs.Sending.{after_none, as_begun, breaks_then, reaches_arrived, sent_both}
 use Rattle.aom_debug_marks.specs.declared.spot.Spot.{Spot}
 use Rattle.aom_debug_moves.specs.Moves.{Arrives}
 use Rattle.aom_debug_courses.specs.Courses.{Courses, InDispatch}
@@ -42,3 +45,9 @@ pub turn_cut : {X : Type 0} {B : X → Type 0} (p : Image) (outside : Outside) (
 turn_cut p outside a m c before mid out x y =
     breaks_then a m c before mid out (Arrives p outside) (Reaches p outside) x (Reaches p outside) (λ s ls v ks u f g. reaches_both p outside s ls v ks u (reaches_arrived p outside s ls v f) g)
     (cut_run p outside m c mid out y)
+
+-- so where the turns keep the machine's image and what is refused
+pub walk_cut : {X : Type 0} {B : X → Type 0} (a m n : Machine X B) {told now : Turn} → m.core.image ≡ a.core.image → now ≡ told → (limit natives : ℕ) (events : List TimedEvent) (before mid out : Option (List ℕ)) →
+    Sends (Arrives a.core.image (hearing told.refused limit natives events)) a before mid m → Breaks (Moving m.core.image now.refused) m mid out n → Breaks (Reaches a.core.image (hearing told.refused limit natives events)) a before out n
+walk_cut a m n {told} image turn limit natives events before mid out x y =
+    turn_cut a.core.image (hearing told.refused limit natives events) a m n before mid out x (as_begun (λ q r. Breaks (Moving q r) m mid out n) image (ap (λ (t : Turn). t.refused) turn) y)

@@ -1,3 +1,4 @@
+pub mod Keeping
 pub mod Sending
 pub use Rattle.aom_exec.proofs.Progressing
 pub use Rattle.aom_run.proofs.Gets

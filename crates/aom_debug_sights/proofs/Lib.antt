@@ -1,3 +1,4 @@
+pub mod Over
 pub mod Telling
 pub mod Showing
 pub mod Trees

@@ -411,6 +411,14 @@ module _ (m : Machine) (s : State) (st : StandsFor m s) (sessions_once : Session
       let third = sum_same (λ d. g (Going d)) (λ d. h (Going d)) (length s.tasks) (λ d less. goings d) in
       omega (arith, root, first, second, service, third)
 
+  -- no way ends at a register
+  no_registers : (g : Place → ℕ) → ((d i : ℕ) → g (Register d i) ≡ 0) → sum_to (λ d. sum_to (λ i. g (Register d i)) 16) (length s.tasks) ≡ 0
+  no_registers g none = sum_none (λ d. sum_to (λ i. g (Register d i)) 16) (length s.tasks) (λ d less. sum_none (λ i. g (Register d i)) 16 (λ i few. none d i))
+
+  -- or at one of that number
+  met : (n : ℕ) → bit ((n == n) && true) ≡ 1
+  met n = ap (λ b. bit (b && true)) (eq-eqb n n refl)
+
   -- each way ends at just one of them, or at a queue, and goes through no other
   weigh_one : (q : Place) (e : Up s q) → weigh (λ r. occurs r q e) ≡ bit (ends_told e)
   weigh_one (Field n f) (up_field y above there holds high few ends) =
@@ -436,34 +444,22 @@ module _ (m : Machine) (s : State) (st : StandsFor m s) (sessions_once : Session
       other_register true b other = ap bit other
       other_register false b other = refl
   weigh_one (Entry K) (up_entry high) =
-      let entries = sum_one (λ k. here k) K (length s.items) high (λ k other. ap (λ b. bit (b && true)) other) in
-      let registers = sum_none (λ d. sum_to (λ i. occurs (Register d i) (Entry K) (up_entry high)) 16) (length s.tasks) (λ d less. sum_none (λ i. occurs (Register d i) (Entry K) (up_entry high)) 16 (λ i few. refl)) in
+      let entries = sum_one (λ k. bit ((k == K) && true)) K (length s.items) high (λ k other. ap (λ b. bit (b && true)) other) in
+      let registers = no_registers (λ r. occurs r (Entry K) (up_entry high)) (λ d i. refl) in
       let goings = sum_none (λ d. occurs (Going d) (Entry K) (up_entry high)) (length s.tasks) (λ k less. refl) in
-      omega (arith, entries, registers, goings, one)
-    where
-      here : ℕ → ℕ
-      here k = bit ((k == K) && true)
-
-      one : here K ≡ 1
-      one = ap (λ b. bit (b && true)) (eq-eqb K K refl)
+      omega (arith, entries, registers, goings, met K)
   weigh_one (Going D) (up_going deep) =
-      let goings = sum_one (λ d. here d) D (length s.tasks) deep (λ d other. ap (λ b. bit (b && true)) other) in
-      let registers = sum_none (λ d. sum_to (λ i. occurs (Register d i) (Going D) (up_going deep)) 16) (length s.tasks) (λ d less. sum_none (λ i. occurs (Register d i) (Going D) (up_going deep)) 16 (λ i few. refl)) in
+      let goings = sum_one (λ d. bit ((d == D) && true)) D (length s.tasks) deep (λ d other. ap (λ b. bit (b && true)) other) in
+      let registers = no_registers (λ r. occurs r (Going D) (up_going deep)) (λ d i. refl) in
       let entries = sum_none (λ k. occurs (Entry k) (Going D) (up_going deep)) (length s.items) (λ k less. refl) in
-      omega (arith, entries, registers, goings, one)
-    where
-      here : ℕ → ℕ
-      here d = bit ((d == D) && true)
-
-      one : here D ≡ 1
-      one = ap (λ b. bit (b && true)) (eq-eqb D D refl)
+      omega (arith, entries, registers, goings, met D)
   weigh_one (Elsewhere Root) up_root =
-      let registers = sum_none (λ d. sum_to (λ i. occurs (Register d i) (Elsewhere Root) up_root) 16) (length s.tasks) (λ d less. sum_none (λ i. occurs (Register d i) (Elsewhere Root) up_root) 16 (λ i few. refl)) in
+      let registers = no_registers (λ r. occurs r (Elsewhere Root) up_root) (λ d i. refl) in
       let entries = sum_none (λ k. occurs (Entry k) (Elsewhere Root) up_root) (length s.items) (λ k less. refl) in
       let goings = sum_none (λ d. occurs (Going d) (Elsewhere Root) up_root) (length s.tasks) (λ k less. refl) in
       omega (arith, registers, entries, goings)
   weigh_one (Elsewhere In_service) up_service =
-      let registers = sum_none (λ d. sum_to (λ i. occurs (Register d i) (Elsewhere In_service) up_service) 16) (length s.tasks) (λ d less. sum_none (λ i. occurs (Register d i) (Elsewhere In_service) up_service) 16 (λ i few. refl)) in
+      let registers = no_registers (λ r. occurs r (Elsewhere In_service) up_service) (λ d i. refl) in
       let entries = sum_none (λ k. occurs (Entry k) (Elsewhere In_service) up_service) (length s.items) (λ k less. refl) in
       let goings = sum_none (λ d. occurs (Going d) (Elsewhere In_service) up_service) (length s.tasks) (λ k less. refl) in
       omega (arith, registers, entries, goings)

@@ -141,23 +141,14 @@ keeps_none a b (inl gone) is = ap is_unowning gone
 keeps_none a b (inr same) is = sym (readied_none b) ∙ ap is_unowning same ∙ readied_none a ∙ is
 
 -- the state that says no more says of each register whether it may own
-weaker_object : (a b : Kind) → Weaker a b → may_own a ≡ true → is_object_or_null b ≡ true
-weaker_object (Own t x) _ alike is = refl
-weaker_object (Maybe t x) _ alike is = refl
-weaker_object _ _ alike is = cc
-weaker_object _ _ unset_word is = cc
-weaker_object _ _ unset_null is = refl
-weaker_object _ _ maybe_null is = refl
-weaker_object _ _ maybe_own is = refl
-
-weaker_none : (a b : Kind) → Weaker a b → may_own a ≡ false → is_unowning b ≡ true
-weaker_none (Own t x) _ alike is = cc
-weaker_none (Maybe t x) _ alike is = cc
-weaker_none _ _ alike is = refl
-weaker_none _ _ unset_word is = refl
-weaker_none _ _ unset_null is = refl
-weaker_none _ _ maybe_null is = cc
-weaker_none _ _ maybe_own is = cc
+weaker_owns : (a b : Kind) → Weaker a b → (may_own a ≡ true → is_object_or_null b ≡ true) × (may_own a ≡ false → is_unowning b ≡ true)
+weaker_owns (Own t x) _ alike = (λ is. refl, λ is. cc)
+weaker_owns (Maybe t x) _ alike = (λ is. refl, λ is. cc)
+weaker_owns _ _ alike = (λ is. cc, λ is. refl)
+weaker_owns _ _ unset_word = (λ is. cc, λ is. refl)
+weaker_owns _ _ unset_null = (λ is. refl, λ is. refl)
+weaker_owns _ _ maybe_null = (λ is. refl, λ is. cc)
+weaker_owns _ _ maybe_own = (λ is. refl, λ is. cc)
 
 number_shown : (p : Image) (k : Kind) (n : ℕ) (o : Option Object) → is_object_or_null k ≡ true → NumberSays p k n o → n ≡ number o
 number_shown p Null n o is says = says.number ∙ ap number (sym says.none)
@@ -222,9 +213,10 @@ module _ (p : Image) (m : Parts) (agrees : AgreesInAll (record { image = p; part
       let fr = frame_there p m s st k f there in
       let r = reached s st k f fr.0 (Some sh) fr.1 fr.2 shape in
       let weaker : Weaker (register sh i) (register r.1.shape i) = subst (λ (x : Shape). Weaker (register x i) (register r.1.shape i)) (sym (same_Some sh r.2 r.3)) (r.4.registers i) in
-      let keeps = state_keeps p r.0 fr.0 r.1.shape i in (
+      let keeps = state_keeps p r.0 fr.0 r.1.shape i in
+      let owns = weaker_owns (register sh i) (register r.1.shape i) weaker in (
         register (state_under p r.0 fr.0 r.1.shape) i,
-        (λ is. keeps_object (register r.1.shape i) _ keeps (weaker_object (register sh i) (register r.1.shape i) weaker is), λ is. keeps_none (register r.1.shape i) _ keeps (weaker_none (register sh i) (register r.1.shape i) weaker is)),
+        (λ is. keeps_object (register r.1.shape i) _ keeps (owns.0 is), λ is. keeps_none (register r.1.shape i) _ keeps (owns.1 is)),
         r.1.registers i,
       )
 

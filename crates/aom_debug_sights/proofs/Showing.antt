@@ -25,6 +25,7 @@ use Rattle.aom_parts.proofs.Alike.{by_items}
 use Rattle.aom_parts.proofs.Entries.{same_items_length}
 use Rattle.aom_debug_lines.specs.declared.answer.Answer.{Answer}
 use Rattle.aom_debug_lines.specs.declared.answer.Answer.TheVariants.{Object as Object_answer, Operation}
+use Rattle.aom_debug_sights.proofs.Over.{BothOver, one_over}
 use Rattle.aom_debug_sights.specs.Owners.{entries_of, is_entry}
 use Rattle.aom_debug_sights.specs.Sights.{class_in, class_of, held_answer, item_answer}
 
@@ -75,20 +76,11 @@ module _ (p : Image) (m : Parts) (s : State) (st : StandsFor (record { image = p
 
 -- ---- the cleanup stack
 
--- what stands over as many on both sides
 abbrev SameOver : Option Held_item → Option Item → Type 0
-SameOver None None = Unit {0}
-SameOver (Some i) (Some j) = SameItem i j
-SameOver _ _ = ⊥
+SameOver i j = BothOver SameItem i j
 
 both_over : (k : ℕ) (is : List Held_item) (js : List Item) → SameItems is js → SameOver (over is k) (over js k)
-both_over k = by_items (λ is js. SameOver (over is k) (over js k)) tt (λ i j is js same rest below. step i j is js same below (length is == k) (length js == k) (ap (λ n. n == k) (same_items_length is js rest)))
-  where
-    step : (i : Held_item) (j : Item) (is : List Held_item) (js : List Item) → SameItem i j → SameOver (over is k) (over js k) → (a b : Bool) → a ≡ b → SameOver (cond a (Some i) (over is k)) (cond b (Some j) (over js k))
-    step i j is js same below true true e = same
-    step i j is js same below false false e = below
-    step i j is js same below true false e = cc
-    step i j is js same below false true e = cc
+both_over k = by_items (λ is js. SameOver (over is k) (over js k)) tt (λ i j is js same rest below. one_over SameItem i j k is js same (same_items_length is js rest) below)
 
 abbrev pub answer_at : Heap → Option Held_item → Option Answer
 answer_at h None = None

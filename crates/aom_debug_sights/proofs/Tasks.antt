@@ -22,6 +22,7 @@ use Rattle.aom_parts.specs.Stands.{Machine, StandsFor}
 use Rattle.aom_parts.proofs.Alike.{by_tasks}
 use Rattle.aom_parts.proofs.Values.{same_length}
 use Rattle.aom_acts.proofs.Running.{not_null}
+use Rattle.aom_debug_sights.proofs.Over.{BothOver, one_over}
 use Rattle.aom_debug_sights.specs.Owners.{Shows, ShowsNone, frame_over, goings_in, is_frame, is_going}
 
 -- ---- lists
@@ -59,18 +60,10 @@ module _ {A : Type 0} where
 -- ---- tasks
 
 abbrev pub SameOver : Option Held_task → Option Task → Type 0
-SameOver None None = Unit {0}
-SameOver (Some m) (Some u) = SameTask m u
-SameOver _ _ = ⊥
+SameOver m u = BothOver SameTask m u
 
 both_over : (k : ℕ) (ms : List Held_task) (us : List Task) → SameTasks ms us → SameOver (over ms k) (over us k)
-both_over k = by_tasks (λ ms us. SameOver (over ms k) (over us k)) tt (λ m u ms us same rest below. step m u ms us same below (length ms == k) (length us == k) (ap (λ n. n == k) (same_length ms us rest)))
-  where
-    step : (m : Held_task) (u : Task) (ms : List Held_task) (us : List Task) → SameTask m u → SameOver (over ms k) (over us k) → (a b : Bool) → a ≡ b → SameOver (cond a (Some m) (over ms k)) (cond b (Some u) (over us k))
-    step m u ms us same below true true e = same
-    step m u ms us same below false false e = below
-    step m u ms us same below true false e = cc
-    step m u ms us same below false true e = cc
+both_over k = by_tasks (λ ms us. SameOver (over ms k) (over us k)) tt (λ m u ms us same rest below. one_over SameTask m u k ms us same (same_length ms us rest) below)
 
 -- a frame
 frame_by : (f : Held_frame) (u : Option Task) → SameOver (Some (Runs_frame f)) u → (fr : Frame) × (u ≡ Some (Run fr)) × SameFrame f fr
@@ -87,29 +80,19 @@ frame_found (Some (Ends d)) f is = absurd (none-some f is)
 frame_found None f is = absurd (none-some f is)
 
 -- how many frames and destructions that is
-frame_counted : (o : Option Held_task) (u : Option Task) → SameOver o u → is_some (frame_over o) ≡ is_frame u
-frame_counted None None same = refl
-frame_counted (Some (Runs_frame f)) (Some (Run fr)) same = refl
-frame_counted (Some Is_trap) (Some Trapped) same = refl
-frame_counted (Some (Destroys x)) (Some Destroy) same = refl
-frame_counted (Some Closes) (Some Closing) same = refl
-frame_counted (Some (Unwinds code)) (Some (Unwind c)) same = refl
-frame_counted (Some (Ends d)) (Some (Dispatched e)) same = refl
-frame_counted _ _ same = absurd same
-
 abbrev goings_over : Option Held_task → ℕ
 goings_over None = 0
 goings_over (Some t) = goings_in t
 
-going_counted : (o : Option Held_task) (u : Option Task) → SameOver o u → goings_over o ≡ cond (is_going u) 1 0
-going_counted None None same = refl
-going_counted (Some (Runs_frame f)) (Some (Run fr)) same = refl
-going_counted (Some Is_trap) (Some Trapped) same = refl
-going_counted (Some (Destroys x)) (Some Destroy) same = refl
-going_counted (Some Closes) (Some Closing) same = refl
-going_counted (Some (Unwinds code)) (Some (Unwind c)) same = refl
-going_counted (Some (Ends d)) (Some (Dispatched e)) same = refl
-going_counted _ _ same = absurd same
+counted : (o : Option Held_task) (u : Option Task) → SameOver o u → (is_some (frame_over o) ≡ is_frame u) × (goings_over o ≡ cond (is_going u) 1 0)
+counted None None same = (refl, refl)
+counted (Some (Runs_frame f)) (Some (Run fr)) same = (refl, refl)
+counted (Some Is_trap) (Some Trapped) same = (refl, refl)
+counted (Some (Destroys x)) (Some Destroy) same = (refl, refl)
+counted (Some Closes) (Some Closing) same = (refl, refl)
+counted (Some (Unwinds code)) (Some (Unwind c)) same = (refl, refl)
+counted (Some (Ends d)) (Some (Dispatched e)) same = (refl, refl)
+counted _ _ same = absurd same
 
 -- ---- the numbers in the places of a task
 
@@ -184,10 +167,10 @@ module _ (p : Image) (m : Parts) where
   frame_stands k f is = frame_found (over tasks k) f (sym is)
 
   pub frames_told : (s : State) → StandsFor M s → (k : ℕ) → is_some (frame_over (over tasks k)) ≡ is_frame (over s.tasks k)
-  frames_told s st k = frame_counted (over tasks k) (over s.tasks k) (same_over s st k)
+  frames_told s st k = (counted (over tasks k) (over s.tasks k) (same_over s st k)).0
 
   pub goings_told : (s : State) → StandsFor M s → (k : ℕ) (o : Option Held_task) → o ≡ slice_get (reverse tasks) k → goings_over o ≡ cond (is_going (over s.tasks k)) 1 0
-  goings_told s st k o is = ap goings_over (is ∙ over_from_bottom tasks k) ∙ going_counted (over tasks k) (over s.tasks k) (same_over s st k)
+  goings_told s st k o is = ap goings_over (is ∙ over_from_bottom tasks k) ∙ (counted (over tasks k) (over s.tasks k) (same_over s st k)).1
 
   -- the number in a register, and that of what goes
   pub register_value : (k i : ℕ) (f : Held_frame) → over tasks k ≡ Some (Runs_frame f) → value m (Register k i) ≡ slice_index_or f.registers i null

@@ -1,13 +1,6 @@
-pub mod Asm
-pub mod Boot
-pub mod Budget
 pub mod Compared
 pub mod Entries
 pub mod Known
-pub mod Link
-pub mod Load
 pub mod Places
-pub mod Script
 pub mod Sources
-pub mod Verify
-pub mod Word
+pub mod Table

@@ -280,7 +280,7 @@ fn put_entry_parts(out: &mut Writer, shape: &Shape<'_>) -> Result<(), AllocError
 fn put_more(out: &mut Writer, height: usize) -> Result<(), AllocError>
     ensures { OnOk result (out.new ≡ out.old ++ more_words height) }
 {
-    if height > 16 {
+    if height > NAMED as usize {
         out.words(b"; others below them")
     } else {
         Ok(())

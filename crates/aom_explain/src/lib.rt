@@ -1,11 +1,12 @@
 //! What each fault means, in plain words: one table with an entry for each fault number of every kind, and what is said of the
 //! place where a fault is.
 //!
-//! `load_entry` and its like answer just the texts of `specs/`, which docs/reasons.md tells too, word by word. `put_entry` writes
-//! an entry, and `put_line`, `put_method` and `put_compared` what `specs/Places.antt` and `specs/Compared.antt` say of a line of a
-//! text, of an instruction and of a budget. A method and an instruction are written as in a listing; `put_source` and
-//! `put_declared` write in their place the statements of a text, as `specs/Sources.antt` says. `put_known` writes what is known
-//! where a method stands (`specs/Known.antt`). Nothing here knows which command was refused, nor where a text goes.
+//! `load_entry` and its like answer just the texts of `specs/Table.antt`, which docs/reasons.md tells too, word by word; each
+//! kind's own texts stand in a file of its name. `put_entry` writes an entry, and `put_line`, `put_method` and `put_compared` what
+//! `specs/Places.antt` and `specs/Compared.antt` say of a line of a text, of an instruction and of a budget. A method and an
+//! instruction are written as in a listing; `put_source` and `put_declared` write in their place the statements of a text, as
+//! `specs/Sources.antt` says. `put_known` writes what is known where a method stands (`specs/Known.antt`). Nothing here knows which
+//! command was refused, nor where a text goes.
 #![tactic(auto)]
 
 mod asm;
@@ -19,19 +20,16 @@ mod load;
 mod place;
 mod script;
 mod source;
+mod table;
 mod verify;
 mod word;
 
-pub use asm::asm_entry;
-pub use boot::boot_entry;
-pub use budget::budget_entry;
 pub use compared::put_compared;
 pub use entry::{Entry, put_entry};
 pub use known::put_known;
-pub use link::link_entry;
-pub use load::load_entry;
 pub use place::{put_line, put_method};
-pub use script::script_entry;
 pub use source::{put_declared, put_source};
-pub use verify::verify_entry;
-pub use word::{file_entry, memory_entry, native_entry, text_entry, write_entry};
+pub use table::{
+    asm_entry, boot_entry, budget_entry, file_entry, link_entry, load_entry, memory_entry,
+    native_entry, script_entry, text_entry, verify_entry, write_entry,
+};

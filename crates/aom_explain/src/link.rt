@@ -1,72 +1,51 @@
 //! Images whose parts do not go together.
-ghost use Rattle.std.specs.Prelude.{◌≡◌};
-ghost use Rattle.aom_explain.specs.Link.{link_texts};
 
 use crate::Entry;
-use crate::word::MEMORY;
-use aom_classes::LinkFault;
 
-const CLASS_ORDER: Entry = Entry {
+pub(crate) const CLASS_ORDER: Entry = Entry {
     name: b"order of classes",
     meaning: b"A class owns objects of a class that does not come before it (its own is none that does), or owns sessions; the sessions of a server are of a class that does not come before it, or is none of sessions; or the root is a session.",
     mend: b"Declare what is owned first, and the class of its sessions before a server. A class cannot own its like, so chains are made of several classes.",
 };
 
-const CALL_ORDER: Entry = Entry {
+pub(crate) const CALL_ORDER: Entry = Entry {
     name: b"order of calls",
     meaning: b"A method calls, traps or pushes one that does not come before it, has to do with a class whose destructor, or that of whose sessions, does not come before it, or cancels before the cancel method of its class.",
     mend: b"Put destructors first, then each method before those that call it, and main last. A method cannot call itself: use a loop.",
 };
 
-const MISSING_ROLE: Entry = Entry {
+pub(crate) const MISSING_ROLE: Entry = Entry {
     name: b"missing method",
     meaning: b"A class with owning fields has no destruct method; one of active objects lacks run, cancel or destruct; a server has no accept method, or a session no service.",
     mend: b"Write it. A destructor takes what each field owns and deletes it, accept gives a new session, and service takes its message.",
 };
 
-const DOUBLE_ROLE: Entry = Entry {
+pub(crate) const DOUBLE_ROLE: Entry = Entry {
     name: b"one method too many",
     meaning: b"A class has two methods of one role, do aside, or there are two mains.",
     mend: b"Keep one; make the other a do.",
 };
 
-const ROLE_SHAPE: Entry = Entry {
+pub(crate) const ROLE_SHAPE: Entry = Entry {
     name: b"wrong shape of a role",
     meaning: b"A method takes, gives or declares what its role may not, or a call, trap or pushop names a method of a role that it may not name.",
     mend: b"Compare the method with the row of its role in linking.md. trap takes no construct method, and pushop an undo method alone.",
 };
 
-const BAD_JUMP: Entry = Entry {
+pub(crate) const BAD_JUMP: Entry = Entry {
     name: b"bad jump",
     meaning: b"A jump goes back or into a loop's body from outside, or a run may go on past the method's last instruction.",
     mend: b"Go back by loop and next. End each method with ret or leave, also behind stop.",
 };
 
-const BAD_LOOP: Entry = Entry {
+pub(crate) const BAD_LOOP: Entry = Entry {
     name: b"bad loop",
     meaning: b"A loop has no next that goes back to the place behind it, a next closes none, loops overlap, or a depth is not the count of loops around.",
     mend: b"Put the label on the instruction behind loop, and close inner loops first: depth 0 outside, 1 within it.",
 };
 
-const NO_MAIN: Entry = Entry {
+pub(crate) const NO_MAIN: Entry = Entry {
     name: b"no main",
     meaning: b"No method is main.",
     mend: b"Declare one as main.",
 };
-
-/// What is told of an image whose parts do not go together.
-pub fn link_entry(fault: LinkFault) -> Entry
-    ensures { result ≡ link_texts fault }
-{
-    match fault {
-        LinkFault::ClassOrder => CLASS_ORDER,
-        LinkFault::CallOrder => CALL_ORDER,
-        LinkFault::MissingRole => MISSING_ROLE,
-        LinkFault::DoubleRole => DOUBLE_ROLE,
-        LinkFault::RoleShape => ROLE_SHAPE,
-        LinkFault::BadJump => BAD_JUMP,
-        LinkFault::BadLoop => BAD_LOOP,
-        LinkFault::NoMain => NO_MAIN,
-        LinkFault::OutOfMemory => MEMORY,
-    }
-}

@@ -1,79 +1,57 @@
 //! Bytes that are no image.
-ghost use Rattle.std.specs.Prelude.{◌≡◌};
-ghost use Rattle.aom_explain.specs.Load.{load_texts};
 
 use crate::Entry;
-use crate::word::MEMORY;
-use aom_codec::LoadFault;
 
-const BAD_MAGIC: Entry = Entry {
+pub(crate) const BAD_MAGIC: Entry = Entry {
     name: b"wrong magic",
     meaning: b"The first four bytes are not AOIM. An assembly text is refused so.",
     mend: b"Assemble the text first, and name the image.",
 };
 
-const BAD_VERSION: Entry = Entry {
+pub(crate) const BAD_VERSION: Entry = Entry {
     name: b"wrong version",
     meaning: b"The version is not 1.",
     mend: b"Make the image in version 1.",
 };
 
-const TRUNCATED: Entry = Entry {
+pub(crate) const TRUNCATED: Entry = Entry {
     name: b"cut off",
     meaning: b"The bytes end within a field. An empty file is refused so.",
     mend: b"Copy the whole file; look at the counts of classes, methods and instructions.",
 };
 
-const TRAILING: Entry = Entry {
+pub(crate) const TRAILING: Entry = Entry {
     name: b"bytes left over",
     meaning: b"Bytes stand behind the last method.",
     mend: b"Take them away; look at the count of methods.",
 };
 
-const LIMIT_PASSED: Entry = Entry {
+pub(crate) const LIMIT_PASSED: Entry = Entry {
     name: b"past a limit",
     meaning: b"A count or a limit is out of its range, there is a ninth server class, or the file has more than 1 MiB.",
     mend: b"Declare less.",
 };
 
-const BAD_OPCODE: Entry = Entry {
+pub(crate) const BAD_OPCODE: Entry = Entry {
     name: b"no instruction",
     meaning: b"An opcode is none of the table.",
     mend: b"Take an opcode from 01 to 30; look whether an instruction has its 8 bytes.",
 };
 
-const BAD_OPERAND: Entry = Entry {
+pub(crate) const BAD_OPERAND: Entry = Entry {
     name: b"no operand",
     meaning: b"An operand, a kind, a role, a flag or a set of states is none, or not for this kind.",
     mend: b"Look up the range of the field.",
 };
 
-const BAD_INDEX: Entry = Entry {
+pub(crate) const BAD_INDEX: Entry = Entry {
     name: b"no such number",
     meaning: b"A class, method, place or native of that number is not there.",
     mend: b"Count from 0; write ffff where there is no class.",
 };
 
-const NOT_ZERO: Entry = Entry {
+pub(crate) const NOT_ZERO: Entry = Entry {
     name: b"unused byte",
     meaning: b"A byte that is not used here is not zero.",
     mend: b"Write zero.",
 };
-
-/// What is told of bytes that are no image.
-pub fn load_entry(fault: LoadFault) -> Entry
-    ensures { result ≡ load_texts fault }
-{
-    match fault {
-        LoadFault::BadMagic => BAD_MAGIC,
-        LoadFault::BadVersion => BAD_VERSION,
-        LoadFault::Truncated => TRUNCATED,
-        LoadFault::Trailing => TRAILING,
-        LoadFault::LimitPassed => LIMIT_PASSED,
-        LoadFault::BadOpcode => BAD_OPCODE,
-        LoadFault::BadOperand => BAD_OPERAND,
-        LoadFault::BadIndex => BAD_INDEX,
-        LoadFault::NotZero => NOT_ZERO,
-        LoadFault::OutOfMemory => MEMORY,
-    }
-}

@@ -1,28 +1,26 @@
 //! Faults that have no number.
-ghost use Rattle.std.specs.Prelude.{◌≡◌};
-ghost use Rattle.aom_explain.specs.Word.{file_texts, memory_texts, native_texts, text_texts, write_texts};
 
 use crate::Entry;
 
-const NATIVE: Entry = Entry {
+pub(crate) const NATIVE: Entry = Entry {
     name: b"native",
     meaning: b"A word behind the script names no native that there is, or there are more than sixteen words.",
     mend: b"Write counter, line or delay; a native of one's own is for a program of one's own, as natives.md says.",
 };
 
-const FILE: Entry = Entry {
+pub(crate) const FILE: Entry = Entry {
     name: b"file",
     meaning: b"A file that the words name cannot be read.",
     mend: b"Look at the name, and whether it is a file that may be read.",
 };
 
-const TEXT: Entry = Entry {
+pub(crate) const TEXT: Entry = Entry {
     name: b"text",
     meaning: b"The text that --text names denotes an image, and another one than is named beside it.",
     mend: b"Name the text that the image is of, or assemble the text again and name that image.",
 };
 
-const WRITE: Entry = Entry {
+pub(crate) const WRITE: Entry = Entry {
     name: b"write",
     meaning: b"The standard output took nothing more. What is out is a beginning.",
     mend: b"Look for a full disk, or a reader that has ended.",
@@ -33,38 +31,3 @@ pub(crate) const MEMORY: Entry = Entry {
     meaning: b"A request for memory was refused, whatever it was for. It says nothing about the image, the text or the script.",
     mend: b"Give the program more memory.",
 };
-
-/// What is told of a word that names no native.
-pub fn native_entry() -> Entry
-    ensures { result ≡ native_texts }
-{
-    NATIVE
-}
-
-/// What is told of a file that cannot be read.
-pub fn file_entry() -> Entry
-    ensures { result ≡ file_texts }
-{
-    FILE
-}
-
-/// What is told of a text that the image beside it is not of.
-pub fn text_entry() -> Entry
-    ensures { result ≡ text_texts }
-{
-    TEXT
-}
-
-/// What is told of an output that has failed.
-pub fn write_entry() -> Entry
-    ensures { result ≡ write_texts }
-{
-    WRITE
-}
-
-/// What is told of want of memory.
-pub fn memory_entry() -> Entry
-    ensures { result ≡ memory_texts }
-{
-    MEMORY
-}

@@ -13,19 +13,12 @@ use Rattle.aom_bounds.specs.Shapes.{HasTyping, Shapes}
 use Rattle.aom_verify.specs.Arrivals.{StopsAt}
 use Rattle.aom_verify.specs.declared.refusal.Refusal.{Refusal}
 use Rattle.aom_verify.specs.declared.refusal.Refusal.TheVariants as refusals
-use Rattle.aom_explain.specs.Asm.{asm_texts}
-use Rattle.aom_explain.specs.Boot.{boot_texts}
-use Rattle.aom_explain.specs.Budget.{budget_texts}
 use Rattle.aom_explain.specs.Compared.{compared_text}
 use Rattle.aom_explain.specs.Entries.{Texts, entry_text}
 use Rattle.aom_explain.specs.Known.{known_text}
-use Rattle.aom_explain.specs.Link.{link_texts}
-use Rattle.aom_explain.specs.Load.{load_texts}
 use Rattle.aom_explain.specs.Places.{line_text, method_text}
-use Rattle.aom_explain.specs.Script.{script_texts}
 use Rattle.aom_explain.specs.Sources.{declared_text, source_text}
-use Rattle.aom_explain.specs.Verify.{verify_texts}
-use Rattle.aom_explain.specs.Word.{file_texts, memory_texts, native_texts, write_texts}
+use Rattle.aom_explain.specs.Table.{asm_texts, boot_texts, budget_texts, file_texts, link_texts, load_texts, memory_texts, native_texts, script_texts, verify_texts, write_texts}
 use Rattle.aom_main.specs.Acceptable.{IsSpelled}
 use Rattle.aom_main.specs.declared.faults.Fault.{Fault}
 use Rattle.aom_main.specs.declared.faults.Fault.TheVariants.{Load, Asm, Link, Verify, Budget, Script, Boot, Native, File, Write, Memory}

@@ -1,7 +1,7 @@
 -- What a command promises that explains its fault.
 use Rattle.std.specs.Prelude.{ℕ, ◌≡◌, ◌≢◌, List, [], codes}
 use Rattle.aom_explain.specs.Entries.{entry_text}
-use Rattle.aom_explain.specs.Word.{text_texts}
+use Rattle.aom_explain.specs.Table.{text_texts}
 use Rattle.aom_main.specs.Assembly.{IsFaulty, Makes}
 use Rattle.aom_main.specs.declared.status.ExitStatus.{ExitStatus}
 use Rattle.aom_main.specs.declared.status.ExitStatus.TheVariants.{CallRefused, Fault as Faulty}

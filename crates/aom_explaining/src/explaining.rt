@@ -3,7 +3,7 @@ ghost use Rattle.std.specs.Prelude.{◌≡◌, ◌++◌, IfOk, OnOk};
 ghost use Rattle.aom_explain.specs.Compared.{compared_text};
 ghost use Rattle.aom_explain.specs.Entries.{entry_text};
 ghost use Rattle.aom_explain.specs.Sources.{declared_text};
-ghost use Rattle.aom_explain.specs.Word.{text_texts};
+ghost use Rattle.aom_explain.specs.Table.{text_texts};
 ghost use Rattle.aom_main.specs.Acceptable.{IsSpelled};
 ghost use Rattle.aom_explaining.specs.Explained.{Adds, AddsBeside, AddsKnown, AddsRefusal, Explains, ExplainsByText, refusal_source, refusal_texts, texts_of};
 

@@ -3,7 +3,7 @@ ghost use Rattle.std.specs.Prelude.{◌≡◌, codes};
 ghost use Rattle.aom_main.specs.Headline.{Says, Sent, Told};
 ghost use Rattle.aom_transcript.specs.Text.{ended};
 ghost use Rattle.aom_explain.specs.Entries.{entry_text};
-ghost use Rattle.aom_explain.specs.Word.{text_texts};
+ghost use Rattle.aom_explain.specs.Table.{text_texts};
 ghost use Rattle.aom_explaining.specs.Explained.{ExplainsByText};
 ghost use Rattle.aom_explaining.specs.Explaining.{TellsText, ToldAndExplained};
 

@@ -36,10 +36,11 @@ fn says(alloc: Global, text: &str, said: &str) -> Result<bool, Fail> {
     ))
 }
 
-/// A register that has no word yet is printed.
-#[test]
-fn a_register_is_refused_at_its_line(rt: HostRuntime) -> Result<(), Fail> {
-    let text = "image budget 9
+/// Texts, and what is said of the refusals of their images by them.
+const LINES: [(&str, &str); 2] = [
+    // a register that has no word yet is printed
+    (
+        "image budget 9
 
 method  show  do   # shows what it does not have
   const r0 7
@@ -48,35 +49,43 @@ again:\tprint r1\t# here
   ret
 end
 method main main; ret; end
-";
-    let said = "verify 0 1 1
+",
+        "verify 0 1 1
 wrong kind: A register, a field, a cleanup entry or an operand is not of the kind that the instruction needs, or ways come together here that know different kinds of a register.
 To mend it: Compare what the instruction needs with what each way to it leaves there; reasons.md has the cases, one by one.
 In line 3: method show do
 At line 6: again: print r1
 Known of registers: r0 a word; all others unset
-";
-    assert!(rt; says(rt.alloc(), text, said)?);
-    Ok(())
-}
-
-/// A counter would be lost where `build` leaves. All of it stands in one line.
-#[test]
-fn a_leave_over_an_owner_is_refused_at_its_line(rt: HostRuntime) -> Result<(), Fail> {
-    let text = "image cells 1 budget 9
+",
+    ),
+    // a counter would be lost where `build` leaves. All of it stands in one line
+    (
+        "image cells 1 budget 9
 class Counter plain words 1
 method add do of Counter; ret; end; method build do leaves; newl r1 Counter; const r0 -4; leaveif r0; delete r1; ret; end
 method main main; ret; end
-";
-    let said = "verify 1 2 2
+",
+        "verify 1 2 2
 owner lost by a leave: The instruction may leave, and a register may own something that would be lost.
 To mend it: Push the object before, put it in a field, or delete it; or trap what leaves.
 In line 3: method build do leaves
 At line 3: leaveif r0
 Known of registers: r0 a word; r1 owns an object of class 0; all others unset
-";
-    assert!(rt; says(rt.alloc(), text, said)?);
+",
+    ),
+];
+
+/// So much is said of each.
+fn all_say(rt: &impl Abort, alloc: Global, cases: &[(&str, &str)]) -> Result<(), Fail> {
+    for (number, case) in cases.iter().enumerate() {
+        assert!(rt; says(alloc, case.0, case.1)?, "{number}");
+    }
     Ok(())
+}
+
+#[test]
+fn an_instruction_is_refused_at_its_line(rt: HostRuntime) -> Result<(), Fail> {
+    all_say(&rt, rt.alloc(), &LINES)
 }
 
 /// Whether an answer refuses an image with these figures, and an explanation between those lines.

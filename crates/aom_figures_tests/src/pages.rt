@@ -14,8 +14,7 @@ method f do leaves;newl r0 C;push r0;newl r0 D;push r0;newl r0 E;push r0;const r
 method main main;trap self f r0 r0;print r1;stop;ret;end";
 
 /// A class owns another, and a root; main calls a constructor.
-pub const ROOTED: &str =
-    "image cells 2 budget 30 root P;class M plain;class P plain words 1 own M
+pub const ROOTED: &str = "image cells 2 budget 30 root P;class M plain;class P plain words 1 own M
 method pd destruct of P;take r0 f0;delete r0;ret;end
 method pn construct of P args word
 store w0 r0;load r2 w0;print r2;new r1 M;jnull r1 L;put f0 r1

@@ -28,27 +28,12 @@ use Rattle.aom_main.specs.Prices.PricesBreaks.{accepted_fails, refused_fails}
 -- ---- faults before budgets
 
 pub load_early : (fault : LoadFault) → IsEarly (of_load fault)
-load_early loads.BadMagic = tt
-load_early loads.BadVersion = tt
-load_early loads.Truncated = tt
-load_early loads.Trailing = tt
-load_early loads.LimitPassed = tt
-load_early loads.BadOpcode = tt
-load_early loads.BadOperand = tt
-load_early loads.BadIndex = tt
-load_early loads.NotZero = tt
 load_early loads.OutOfMemory = tt
+load_early _ = tt
 
 pub link_early : (fault : LinkFault) → IsEarly (of_link fault)
-link_early links.ClassOrder = tt
-link_early links.CallOrder = tt
-link_early links.MissingRole = tt
-link_early links.DoubleRole = tt
-link_early links.RoleShape = tt
-link_early links.BadJump = tt
-link_early links.BadLoop = tt
-link_early links.NoMain = tt
 link_early links.OutOfMemory = tt
+link_early _ = tt
 
 -- ---- what was sent
 

@@ -1,5 +1,7 @@
 -- Faults on the way to an accepted image. An acceptable one is refused for want of memory alone.
-use Rattle.std.proofs.Common.{◌≡◌, ◌≢◌, ℕ, List, Some, refl, subst}
+use Rattle.std.proofs.Common.{◌≡◌, ◌≢◌, ℕ, List, Result, Some, refl, subst}
+use Rattle.std.specs.Prelude.{IfOk, IsErrAnd}
+use Rattle.std.proofs.lemmas.Result.{err_from_is_err_and}
 use Rattle.aom_codec.specs.Format.{first_fault}
 use Rattle.aom_codec.specs.declared.fault.LoadFault.{LoadFault}
 use Rattle.aom_codec.specs.declared.fault.LoadFault.TheVariants as loads
@@ -17,6 +19,10 @@ use Rattle.aom_budget.specs.declared.fault.BudgetFault.TheVariants as budgets
 use Rattle.aom_main.specs.declared.faults.Fault.TheVariants.{Memory}
 use Rattle.aom_main.specs.Status.{of_load, of_link, of_budget}
 use Rattle.aom_main.specs.Acceptable.{IsSpelled, IsAcceptable, RefusesOrWants}
+
+-- what the exit of a `?` returns has no value
+pub no_value : {T E : Type 0} (result : Result T E) (P : T → Type 0) (Q : E → Type 0) → IsErrAnd result Q → IfOk result P
+no_value result P Q exits = let error = err_from_is_err_and result exits in rw error.1 tt
 
 -- bytes that are no image have a fault, unless it is that memory was wanting
 pub load_refused : (bytes : List ℕ) (fault : LoadFault) → (fault ≢ loads.OutOfMemory → first_fault bytes ≡ Some fault) → RefusesOrWants bytes (of_load fault)

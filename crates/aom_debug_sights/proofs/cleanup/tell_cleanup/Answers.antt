@@ -33,7 +33,4 @@ loop-height-preserved g c = λ p. tells_next of_answer (record { image = p; part
 pub returns-clause-ok : goal.returns-clause-ok
 returns-clause-ok g c =
     let parts = c.args.parts.now in
-    let count = c.len-height-end.ensures.value in
-    let most = c.loop-height.auto.height-end in
-    let least = c.loop-height-test.false in
-    λ p. tells_all of_answer (record { image = p; parts = parts }) told (λ s. length s.items) c.loop-height.height _ _ (c.loop-height.invariant p) (λ s st. let many = as_many_items p parts s st in omega (arith, count, most, least, many))
+    λ p. tells_all of_answer (record { image = p; parts = parts }) told (λ s. length s.items) c.loop-height.height _ _ (c.loop-height.invariant p) (λ s st. let many = as_many_items p parts s st in omega (arith, c.len-height-end.ensures.value, c.loop-height.auto.height-end, c.loop-height-test.false, many))

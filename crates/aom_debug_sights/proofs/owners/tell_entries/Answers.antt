@@ -27,11 +27,9 @@ returns-in_err-tell_place-clause-err g c =
     let error = err_from_is_err_and c.from_residual.result c.from_residual.ensures.1 in
     let m = c.args.parts.now in
     let k = c.loop-height.height in
-    let within = c.loop-height-test.true in
-    let count = c.len-height-end.ensures.value in
     rw (error.1, error.2) (λ p.
     let cut = c.in_err-tell_place.ensures.err p (In_entry c.loop-height.entries) (Entry k) c.entry-way.ensures.text (subst (λ n. Shows (record { image = p; parts = m }) n (Entry k)) (sym c.item_number.ensures) (entry_shows p m k)) in
-    part_further owned_line (record { image = p; parts = m }) hangs (λ s. length s.items) k _ _ _ _ _ (c.loop-height.invariant.out p) (λ s st. let many = as_many_items p m s st in omega (arith, within, count, many))
+    part_further owned_line (record { image = p; parts = m }) hangs (λ s. length s.items) k _ _ _ _ _ (c.loop-height.invariant.out p) (λ s st. let many = as_many_items p m s st in omega (arith, c.loop-height-test.true, c.len-height-end.ensures.value, many))
     (part_same (record { image = p; parts = m }) _ (λ s. owners_text (hangs s k)) (numbered p m c.loop-height.entries k c.loop-height.invariant.count) _ _ _ _ cut))
 
 pub loop-height-preserved : goal.loop-height-preserved
@@ -39,9 +37,8 @@ loop-height-preserved g c =
     let m = c.args.parts.now in
     let k = c.loop-height.height in
     let few = c.loop-height.invariant.few in
-    let one = c.entries_at-entries.ensures.few in
     record {
-      few = omega (arith, few, one);
+      few = omega (arith, few, c.entries_at-entries.ensures.few);
       count = λ p s st. counted_next (λ j. is_entry (over s.items j)) k c.loop-height.entries c.entries_at-entries.result (c.loop-height.invariant.count p s st) (c.entries_at-entries.ensures.value p s st);
       out = λ p.
           let told = c.in_ok-tell_place.ensures.ok p (In_entry c.loop-height.entries) (Entry k) c.entry-way.ensures.text (subst (λ n. Shows (record { image = p; parts = m }) n (Entry k)) (sym c.item_number.ensures) (entry_shows p m k)) in
@@ -51,7 +48,4 @@ loop-height-preserved g c =
 pub returns-clause-ok : goal.returns-clause-ok
 returns-clause-ok g c =
     let m = c.args.parts.now in
-    let count = c.len-height-end.ensures.value in
-    let most = c.loop-height.auto.height-end in
-    let least = c.loop-height-test.false in
-    λ p. tells_all owned_line (record { image = p; parts = m }) hangs (λ s. length s.items) c.loop-height.height _ _ (c.loop-height.invariant.out p) (λ s st. let many = as_many_items p m s st in omega (arith, count, most, least, many))
+    λ p. tells_all owned_line (record { image = p; parts = m }) hangs (λ s. length s.items) c.loop-height.height _ _ (c.loop-height.invariant.out p) (λ s st. let many = as_many_items p m s st in omega (arith, c.len-height-end.ensures.value, c.loop-height.auto.height-end, c.loop-height-test.false, many))

@@ -26,11 +26,9 @@ returns-in_err-tell_place-clause-err g c =
     let error = err_from_is_err_and c.from_residual.result c.from_residual.ensures.1 in
     let m = c.args.parts.now in
     let k = c.loop-depth.depth in
-    let within = c.loop-depth-test.true in
-    let count = c.len-depth-end.ensures in
     rw (error.1, error.2) (λ p.
     let cut = c.in_err-tell_place.ensures.err p (In_going c.loop-depth.goings) (Going k) c.going-way.ensures.text (subst (λ n. Shows (record { image = p; parts = m }) n (Going k)) (sym c.going_number.ensures) (going_shows p m k)) in
-    part_further owned_line (record { image = p; parts = m }) hangs (λ s. length s.tasks) k _ _ _ _ _ (c.loop-depth.invariant.out p) (λ s st. let many = as_many_tasks p m s st in omega (arith, within, count, many))
+    part_further owned_line (record { image = p; parts = m }) hangs (λ s. length s.tasks) k _ _ _ _ _ (c.loop-depth.invariant.out p) (λ s st. let many = as_many_tasks p m s st in omega (arith, c.loop-depth-test.true, c.len-depth-end.ensures, many))
     (part_same (record { image = p; parts = m }) _ (λ s. owners_text (hangs s k)) (numbered p m c.loop-depth.goings k c.loop-depth.invariant.count) _ _ _ _ cut))
 
 pub loop-depth-preserved : goal.loop-depth-preserved
@@ -38,9 +36,8 @@ loop-depth-preserved g c =
     let m = c.args.parts.now in
     let k = c.loop-depth.depth in
     let few = c.loop-depth.invariant.few in
-    let one = c.goings_at-goings.ensures.few in
     record {
-      few = omega (arith, few, one);
+      few = omega (arith, few, c.goings_at-goings.ensures.few);
       count = λ p s st. counted_next (λ j. is_going (over s.tasks j)) k c.loop-depth.goings c.goings_at-goings.result (c.loop-depth.invariant.count p s st) (c.goings_at-goings.ensures.value p s st);
       out = λ p.
           let told = c.in_ok-tell_place.ensures.ok p (In_going c.loop-depth.goings) (Going k) c.going-way.ensures.text (subst (λ n. Shows (record { image = p; parts = m }) n (Going k)) (sym c.going_number.ensures) (going_shows p m k)) in
@@ -50,7 +47,4 @@ loop-depth-preserved g c =
 pub returns-clause-ok : goal.returns-clause-ok
 returns-clause-ok g c =
     let m = c.args.parts.now in
-    let count = c.len-depth-end.ensures in
-    let most = c.loop-depth.auto.depth-end in
-    let least = c.loop-depth-test.false in
-    λ p. tells_all owned_line (record { image = p; parts = m }) hangs (λ s. length s.tasks) c.loop-depth.depth _ _ (c.loop-depth.invariant.out p) (λ s st. let many = as_many_tasks p m s st in omega (arith, count, most, least, many))
+    λ p. tells_all owned_line (record { image = p; parts = m }) hangs (λ s. length s.tasks) c.loop-depth.depth _ _ (c.loop-depth.invariant.out p) (λ s st. let many = as_many_tasks p m s st in omega (arith, c.len-depth-end.ensures, c.loop-depth.auto.depth-end, c.loop-depth-test.false, many))

@@ -27,9 +27,7 @@ pub returns-in_err-tell_any-clause-err : goal.returns-in_err-tell_any-clause-err
 returns-in_err-tell_any-clause-err g c =
     let error = err_from_is_err_and c.from_residual.result c.from_residual.ensures.1 in
     let spots = c.args.recent.now in
-    let within = c.loop-index-test.true in
-    let count = c.count-index-end.ensures.value in
-    let cut = lines_cut of_answer (told spots) (g.W.Sink.out c.args.out.now) _ _ c.loop-index.index (length spots) (listed c.recent_answer.result) _ _ (omega (arith, within, count)) c.loop-index.invariant (ap listed c.recent_answer.ensures) c.in_err-tell_any.ensures.err in
+    let cut = lines_cut of_answer (told spots) (g.W.Sink.out c.args.out.now) _ _ c.loop-index.index (length spots) (listed c.recent_answer.result) _ _ (omega (arith, c.loop-index-test.true, c.count-index-end.ensures.value)) c.loop-index.invariant (ap listed c.recent_answer.ensures) c.in_err-tell_any.ensures.err in
     rw (error.1, error.2) (recent_cut spots _ _ _ _ cut)
 
 pub loop-index-preserved : goal.loop-index-preserved
@@ -38,8 +36,5 @@ loop-index-preserved g c = line_sent of_answer (told c.args.recent.now) _ _ _ c.
 pub returns-clause-ok : goal.returns-clause-ok
 returns-clause-ok g c =
     let spots = c.args.recent.now in
-    let count = c.count-index-end.ensures.value in
-    let most = c.loop-index.auto.index-end in
-    let least = c.loop-index-test.false in
-    let all : c.loop-index.index ≡ length spots = omega (arith, count, most, least) in
+    let all : c.loop-index.index ≡ length spots = omega (arith, c.count-index-end.ensures.value, c.loop-index.auto.index-end, c.loop-index-test.false) in
     c.loop-index.invariant ∙ ap (λ k. after (g.W.Sink.out c.args.out.now) (answers_text (gathered (told spots) k))) all ∙ ap (λ xs. after (g.W.Sink.out c.args.out.now) (answers_text xs)) (items_answered (λ spot. Ran spot) spots)

@@ -1,33 +1,30 @@
 -- The session is one from the boot state of an accepted image. That its machine did not boot is a fault.
 use Rattle.std.proofs.Common.{◌≡◌, length, refl}
-use Rattle.aom_main.specs.Acceptable.{IsAcceptable}
 use Rattle.aom_main.specs.Headline.{Sent}
+use Rattle.aom_main.proofs.Acceptance.{acceptable_of}
 use Rattle.aom_debugging.specs.Conversing.{Given}
 use Rattle.aom_debugging.proofs.Answering.{broken_of, held_of, unbegun}
 use Rattle.aom_debugging.proofs.debugging.debug_script.Goals as goal
 
 pub returns-in-Err : goal.returns-in-Err
 returns-in-Err g c =
-    let facts = c.facts.ensures in
-    let acceptable : IsAcceptable c.args.accepted.now = record { linked = facts.linked; typing = facts.typed.0; typed = facts.typed.1; budgets = facts.budgets; depths = facts.within; heights = facts.high } in
     λ bytes text spelled denotes errors status told.
-    unbegun bytes text c.args.limit (length c.args.boxes.items) c.args.reads c.args.accepted.now c.args.script acceptable spelled denotes _ _ errors c.in-Err.fault status c.in-Err.ensures.err refl refl told
+    unbegun bytes text c.args.limit (length c.args.boxes.items) c.args.reads c.args.accepted.now c.args.script
+    (acceptable_of c.facts.ensures.linked c.facts.ensures.typed c.facts.ensures.budgets c.facts.ensures.within c.facts.ensures.high) spelled denotes _ _ errors c.in-Err.fault status c.in-Err.ensures.err refl refl told
 
 pub returns-in-Ok-converse : goal.returns-in-Ok-converse
 returns-in-Ok-converse g c =
-    let facts = c.facts.ensures in
-    let acceptable : IsAcceptable c.args.accepted.now = record { linked = facts.linked; typing = facts.typed.0; typed = facts.typed.1; budgets = facts.budgets; depths = facts.within; heights = facts.high } in
     let given : Given = record { before = g.R.Reader.given c.args.reader.now; now = g.R.Reader.given c.converse.new.reader; ended = g.R.Reader.ended c.converse.new.reader; failed = g.R.Reader.failed c.converse.new.reader } in
     let out : Sent = record { before = g.W.Sink.out c.args.out.now; now = g.W.Sink.out c.converse.new.out; failed = g.W.Sink.failed c.converse.new.out } in
     λ bytes text spelled denotes errors silent.
-    held_of bytes text c.args.limit (length c.args.boxes.items) c.args.reads c.args.accepted.now c.args.script acceptable spelled denotes given out errors c.in-Ok.debugger c.in-Ok.ensures.begun c.in-Ok-converse.ensures.ok silent
+    held_of bytes text c.args.limit (length c.args.boxes.items) c.args.reads c.args.accepted.now c.args.script
+    (acceptable_of c.facts.ensures.linked c.facts.ensures.typed c.facts.ensures.budgets c.facts.ensures.within c.facts.ensures.high) spelled denotes given out errors c.in-Ok.debugger c.in-Ok.ensures.begun c.in-Ok-converse.ensures.ok silent
 
 pub returns : goal.returns
 returns g c =
-    let facts = c.facts.ensures in
-    let acceptable : IsAcceptable c.args.accepted.now = record { linked = facts.linked; typing = facts.typed.0; typed = facts.typed.1; budgets = facts.budgets; depths = facts.within; heights = facts.high } in
     let given : Given = record { before = g.R.Reader.given c.args.reader.now; now = g.R.Reader.given c.converse.new.reader; ended = g.R.Reader.ended c.converse.new.reader; failed = g.R.Reader.failed c.converse.new.reader } in
     let out : Sent = record { before = g.W.Sink.out c.args.out.now; now = g.W.Sink.out c.converse.new.out; failed = g.W.Sink.failed c.converse.new.out } in
     λ bytes text spelled denotes errors status told.
-    broken_of bytes text c.args.limit (length c.args.boxes.items) c.args.reads c.args.accepted.now c.args.script acceptable spelled denotes given out errors c.in-Ok.debugger c.in-Ok.ensures.begun c.in-Err-converse.fault status
+    broken_of bytes text c.args.limit (length c.args.boxes.items) c.args.reads c.args.accepted.now c.args.script
+    (acceptable_of c.facts.ensures.linked c.facts.ensures.typed c.facts.ensures.budgets c.facts.ensures.within c.facts.ensures.high) spelled denotes given out errors c.in-Ok.debugger c.in-Ok.ensures.begun c.in-Err-converse.fault status
     c.in-Err-converse.ensures.err told

@@ -29,35 +29,15 @@ returns-in_err-link-clause-early c =
     let e = err_from_is_err_and c.from_residual-in_err-link.result c.from_residual-in_err-link.ensures.1 in
     rw (e.1, e.2) (link_early _)
 
-pub returns-in_err-image-clause-ok : goal.returns-in_err-image-clause-ok
-returns-in_err-image-clause-ok c =
-    let e = err_from_is_err_and c.from_residual.result c.from_residual.ensures.1 in
-    rw e.1 tt
-
 pub returns-in_err-image-clause-err : goal.returns-in_err-image-clause-err
 returns-in_err-image-clause-err c =
     let e = err_from_is_err_and c.from_residual.result c.from_residual.ensures.1 in
     rw (e.1, e.2) (load_refused c.args.bytes.now c.in_err-image.field-0.0 c.in_err-image.ensures.fault)
 
-pub returns-in_err-image-clause-only : goal.returns-in_err-image-clause-only
-returns-in_err-image-clause-only c =
-    let e = err_from_is_err_and c.from_residual.result c.from_residual.ensures.1 in
-    λ p spelled. rw e.1 tt
-
 pub returns-in_err-image-clause-complete : goal.returns-in_err-image-clause-complete
 returns-in_err-image-clause-complete c =
     let e = err_from_is_err_and c.from_residual.result c.from_residual.ensures.1 in
     λ p spelled acceptable. rw (e.1, e.2) (ap of_load (c.in_err-image.ensures.only p spelled.formed spelled.spelling))
-
-pub returns-in_err-link-clause-ok : goal.returns-in_err-link-clause-ok
-returns-in_err-link-clause-ok c =
-    let e = err_from_is_err_and c.from_residual-in_err-link.result c.from_residual-in_err-link.ensures.1 in
-    rw e.1 tt
-
-pub returns-in_err-link-clause-only : goal.returns-in_err-link-clause-only
-returns-in_err-link-clause-only c =
-    let e = err_from_is_err_and c.from_residual-in_err-link.result c.from_residual-in_err-link.ensures.1 in
-    λ p spelled. rw e.1 tt
 
 pub returns-clause-ok : goal.returns-clause-ok
 returns-clause-ok c =

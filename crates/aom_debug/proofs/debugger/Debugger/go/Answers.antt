@@ -1,9 +1,5 @@
 -- Moves to a breakpoint, and then where they have led.
-use Rattle.std.proofs.Common.{List, refl, subst, sym}
-use Rattle.std.specs.Prelude.{All}
-use Rattle.aom_transcript.specs.declared.event.TimedEvent.{TimedEvent}
-use Rattle.aom_debug_courses.specs.Calls.{EventInRange}
-use Rattle.aom_debug_courses.proofs.Gets.{ranged}
+use Rattle.std.proofs.Common.{refl}
 use Rattle.aom_sound.specs.World.{Outside}
 use Rattle.aom_debug_courses.specs.Courses.{GoesToBreakpoint, stays_at}
 use Rattle.aom_debug_courses.specs.declared.walking.Until.TheVariants.{Breakpoint}
@@ -12,18 +8,13 @@ use Rattle.aom_debug.specs.Debugging.{outside_of}
 use Rattle.aom_debug.proofs.Answering.{answered, may_go}
 use Rattle.aom_debug.proofs.debugger.Debugger.go.Goals as goal
 
--- the events of the script are as a machine needs them
-pub go_on-went-requires-clause-ranged : goal.go_on-went-requires-clause-ranged
-go_on-went-requires-clause-ranged g c = subst (λ (es : List TimedEvent). All (λ e. EventInRange e.event) es) (sym c.events.ensures) (ranged c.args.self.now.script.timed c.requires.ready.timely)
-
 pub returns-clause-agree : goal.returns-clause-agree
 returns-clause-agree g c = rw c.arrived.ensures.machine c.go_on-went.ensures.agree
 
 pub returns-clause-answer : goal.returns-clause-answer
 returns-clause-answer g c =
-    let old = c.args.self.now in
-    let mid = record old { machine = c.go_on-went.new.machine; recent = c.go_on-went.new.recent; turn = c.go_on-went.new.turn } in
-    let may = may_go old c.is_done.result c.if-is_done.false c.is_done.ensures in
-    answered (λ d (outside : Outside). GoesToBreakpoint d.machine.core.image outside d.breakpoints) old mid c.arrived.new.self may c.go_on-went.ensures.image (g.W.Sink.out c.args.out.now) (g.W.Sink.out c.go_on-went.new.out) (g.W.Sink.out c.arrived.new.out) (g.W.Sink.failed c.arrived.new.out)
-    c.events.result.now c.events.ensures (reaches_on old.machine.core.image (outside_of old) (λ s. stays_at old.machine.core.image Breakpoint old.breakpoints s) old.recent mid.recent) refl refl c.go_on-went.result (g.W.Sink.failed c.go_on-went.new.out) c.arrived.result
-    c.go_on-went.ensures.none c.go_on-went.ensures.some c.arrived.ensures.none c.arrived.ensures.failed c.arrived.ensures.some
+    let mid = record c.args.self.now { machine = c.go_on-went.new.machine; recent = c.go_on-went.new.recent; turn = c.go_on-went.new.turn } in
+    answered (λ d (outside : Outside). GoesToBreakpoint d.machine.core.image outside d.breakpoints) c.args.self.now mid c.arrived.new.self (may_go c.args.self.now c.is_done.result c.if-is_done.false c.is_done.ensures) c.go_on-went.ensures.image
+    (g.W.Sink.out c.args.out.now) (g.W.Sink.out c.go_on-went.new.out) (g.W.Sink.out c.arrived.new.out) (g.W.Sink.failed c.arrived.new.out) c.events.result.now c.events.ensures
+    (reaches_on c.args.self.now.machine.core.image (outside_of c.args.self.now) (λ s. stays_at c.args.self.now.machine.core.image Breakpoint c.args.self.now.breakpoints s) c.args.self.now.recent mid.recent) refl refl c.go_on-went.result
+    (g.W.Sink.failed c.go_on-went.new.out) c.arrived.result c.go_on-went.ensures.none c.go_on-went.ensures.some c.arrived.ensures.none c.arrived.ensures.failed c.arrived.ensures.some

@@ -1,0 +1,19 @@
+-- What stands over as many members of two lists that stand for each other, shown from the last one on.
+use Rattle.std.proofs.Common.{◌≡◌, ℕ, Bool, true, false, cond, ◌==◌, List, ◌∷◌, length, Option, Some, None, ap}
+use Rattle.aom_sound.specs.Owned.{over}
+
+-- one on each side, and the two stand for each other, or none on either
+abbrev pub BothOver : {A B : Type 0} → (A → B → Type 0) → Option A → Option B → Type 0
+BothOver Same None None = Unit {0}
+BothOver Same (Some a) (Some b) = Same a b
+BothOver Same _ _ = ⊥
+
+-- so with a member more on each side
+pub one_over : {A B : Type 0} (Same : A → B → Type 0) (a : A) (b : B) (k : ℕ) (xs : List A) (ys : List B) → Same a b → length xs ≡ length ys → BothOver Same (over xs k) (over ys k) → BothOver Same (over (a ∷ xs) k) (over (b ∷ ys) k)
+one_over Same a b k xs ys same long below = go (length xs == k) (length ys == k) (ap (λ n. n == k) long)
+  where
+    go : (x y : Bool) → x ≡ y → BothOver Same (cond x (Some a) (over xs k)) (cond y (Some b) (over ys k))
+    go true true e = same
+    go false false e = below
+    go true false e = cc
+    go false true e = cc

@@ -1,0 +1,163 @@
+//! The entry of each fault.
+ghost use Rattle.std.specs.Prelude.{◌≡◌};
+ghost use Rattle.aom_explain.specs.Table.{asm_texts, boot_texts, budget_texts, file_texts, link_texts, load_texts, memory_texts, native_texts, script_texts, text_texts, verify_texts, write_texts};
+
+use crate::{Entry, asm, boot, budget, link, load, script, verify, word};
+use aom_budget::BudgetFault;
+use aom_classes::LinkFault;
+use aom_codec::LoadFault;
+use aom_machine::BootFault;
+use aom_script::ScriptFaultKind;
+use aom_shape::Why;
+use aom_text::AsmFaultKind;
+
+/// What is told of bytes that are no image.
+pub fn load_entry(fault: LoadFault) -> Entry
+    ensures { result ≡ load_texts fault }
+{
+    match fault {
+        LoadFault::BadMagic => load::BAD_MAGIC,
+        LoadFault::BadVersion => load::BAD_VERSION,
+        LoadFault::Truncated => load::TRUNCATED,
+        LoadFault::Trailing => load::TRAILING,
+        LoadFault::LimitPassed => load::LIMIT_PASSED,
+        LoadFault::BadOpcode => load::BAD_OPCODE,
+        LoadFault::BadOperand => load::BAD_OPERAND,
+        LoadFault::BadIndex => load::BAD_INDEX,
+        LoadFault::NotZero => load::NOT_ZERO,
+        LoadFault::OutOfMemory => word::MEMORY,
+    }
+}
+
+/// What is told of a text that denotes no image.
+pub fn asm_entry(kind: AsmFaultKind) -> Entry
+    ensures { result ≡ asm_texts kind }
+{
+    match kind {
+        AsmFaultKind::NotAscii => asm::NOT_ASCII,
+        AsmFaultKind::UnknownWord => asm::UNKNOWN_WORD,
+        AsmFaultKind::BadNumber => asm::BAD_NUMBER,
+        AsmFaultKind::UnknownName => asm::UNKNOWN_NAME,
+        AsmFaultKind::DoubleName => asm::DOUBLE_NAME,
+        AsmFaultKind::BadShape => asm::BAD_SHAPE,
+        AsmFaultKind::LimitPassed => asm::LIMIT_PASSED,
+        AsmFaultKind::OutOfMemory => word::MEMORY,
+    }
+}
+
+/// What is told of an image whose parts do not go together.
+pub fn link_entry(fault: LinkFault) -> Entry
+    ensures { result ≡ link_texts fault }
+{
+    match fault {
+        LinkFault::ClassOrder => link::CLASS_ORDER,
+        LinkFault::CallOrder => link::CALL_ORDER,
+        LinkFault::MissingRole => link::MISSING_ROLE,
+        LinkFault::DoubleRole => link::DOUBLE_ROLE,
+        LinkFault::RoleShape => link::ROLE_SHAPE,
+        LinkFault::BadJump => link::BAD_JUMP,
+        LinkFault::BadLoop => link::BAD_LOOP,
+        LinkFault::NoMain => link::NO_MAIN,
+        LinkFault::OutOfMemory => word::MEMORY,
+    }
+}
+
+/// What is told of a method without a typing.
+pub fn verify_entry(why: Why) -> Entry
+    ensures { result ≡ verify_texts why }
+{
+    match why {
+        Why::RegisterKind => verify::REGISTER_KIND,
+        Why::OwnedAtLeave => verify::OWNED_AT_LEAVE,
+        Why::OwnedAtReturn => verify::OWNED_AT_RETURN,
+        Why::CleanupAtReturn => verify::CLEANUP_AT_RETURN,
+        Why::PopEmpty => verify::POP_EMPTY,
+        Why::LeaveNotAllowed => verify::LEAVE_NOT_ALLOWED,
+        Why::FieldNotNull => verify::FIELD_NOT_NULL,
+        Why::FieldsLeft => verify::FIELDS_LEFT,
+        Why::NotFresh => verify::NOT_FRESH,
+        Why::StillFresh => verify::STILL_FRESH,
+        Why::NotIdle => verify::NOT_IDLE,
+        Why::NotIssued => verify::NOT_ISSUED,
+        Why::IssuedAtLeave => verify::ISSUED_AT_LEAVE,
+        Why::IssuedAtReturn => verify::ISSUED_AT_RETURN,
+        Why::StillActive => verify::STILL_ACTIVE,
+        Why::NotCancelled => verify::NOT_CANCELLED,
+        Why::MessageAtLeave => verify::MESSAGE_AT_LEAVE,
+        Why::MessageAtReturn => verify::MESSAGE_AT_RETURN,
+        Why::NotAdded => verify::NOT_ADDED,
+        Why::EntryState => verify::ENTRY_STATE,
+        Why::QuietBroken => verify::QUIET_BROKEN,
+    }
+}
+
+/// What is told of an image that may come to too much.
+pub fn budget_entry(fault: BudgetFault) -> Entry
+    ensures { result ≡ budget_texts fault }
+{
+    match fault {
+        BudgetFault::OverBudget { .. } => budget::OVER_BUDGET,
+        BudgetFault::TooDeep => budget::TOO_DEEP,
+        BudgetFault::CleanupTooDeep => budget::CLEANUP_TOO_DEEP,
+        BudgetFault::OutOfMemory => word::MEMORY,
+    }
+}
+
+/// What is told of a text that is no script.
+pub fn script_entry(kind: ScriptFaultKind) -> Entry
+    ensures { result ≡ script_texts kind }
+{
+    match kind {
+        ScriptFaultKind::NotAscii => script::NOT_ASCII,
+        ScriptFaultKind::BadLine => script::BAD_LINE,
+        ScriptFaultKind::BadNumber => script::BAD_NUMBER,
+        ScriptFaultKind::TimeBack => script::TIME_BACK,
+        ScriptFaultKind::LimitPassed => script::LIMIT_PASSED,
+        ScriptFaultKind::OutOfMemory => word::MEMORY,
+    }
+}
+
+/// What is told of a machine that is not made.
+pub fn boot_entry(fault: BootFault) -> Entry
+    ensures { result ≡ boot_texts fault }
+{
+    match fault {
+        BootFault::TooFewNatives => boot::TOO_FEW_NATIVES,
+        BootFault::OutOfMemory => word::MEMORY,
+    }
+}
+
+/// What is told of a word that names no native.
+pub fn native_entry() -> Entry
+    ensures { result ≡ native_texts }
+{
+    word::NATIVE
+}
+
+/// What is told of a file that cannot be read.
+pub fn file_entry() -> Entry
+    ensures { result ≡ file_texts }
+{
+    word::FILE
+}
+
+/// What is told of a text that the image beside it is not of.
+pub fn text_entry() -> Entry
+    ensures { result ≡ text_texts }
+{
+    word::TEXT
+}
+
+/// What is told of an output that has failed.
+pub fn write_entry() -> Entry
+    ensures { result ≡ write_texts }
+{
+    word::WRITE
+}
+
+/// What is told of want of memory.
+pub fn memory_entry() -> Entry
+    ensures { result ≡ memory_texts }
+{
+    word::MEMORY
+}

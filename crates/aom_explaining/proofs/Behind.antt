@@ -1,0 +1,27 @@
+-- A command's fault that is told, and explained behind its line: it answers as it does without.
+use Rattle.std.proofs.Common.{ℕ, ◌≡◌, Bool, List, Option, Result, Err, refl}
+use Rattle.std.specs.Prelude.{IfErr, IfOk}
+use Rattle.aom_main.specs.declared.status.ExitStatus.{ExitStatus}
+use Rattle.aom_main.specs.declared.faults.Fault.{Fault}
+use Rattle.aom_main.specs.declared.faults.Fault.TheVariants.{Memory}
+use Rattle.aom_main.specs.Headline.{Says, Sent, Tells, Told}
+use Rattle.aom_main.specs.Untold.{Untold}
+use Rattle.aom_explaining.specs.Explaining.{Explaining, ToldAndExplained}
+use Rattle.aom_explaining.specs.Explaining.Explaining.{behind}
+use Rattle.aom_explaining.proofs.Saying.{said_or_told}
+
+-- each way to tell the fault makes an answer, and so does this one
+pub told_behind : (answers : Sent → ExitStatus → Type 0) (explains : Fault → List ℕ → Type 0) (fault : Fault) (errors : Sent) (status : ExitStatus) → Untold answers (Err fault) →
+    ToldAndExplained (Told fault status) (explains fault) errors → Explaining answers explains errors status
+told_behind answers explains fault errors status untold more = behind fault more (untold more.line status more.told)
+
+-- the explanation begins where the line has ended
+pub told_first : {X E : Type 0} (made : Result X E) (items : X → List ℕ) (tells : Sent → Type 0) (explains : List ℕ → Type 0) (before middle now : Option (List ℕ)) (told_fails fails : Bool) →
+    tells (record { before = before; now = middle; failed = told_fails }) → IfOk made (λ v. explains (items v)) → IfOk made (λ v. Says (items v) (record { before = middle; now = now; failed = fails })) →
+    IfErr made (λ e. Tells Memory (record { before = middle; now = now; failed = fails })) → ToldAndExplained tells explains (record { before = before; now = now; failed = fails })
+told_first made items tells explains before middle now told_fails fails told right says wanting = record {
+  line = record { before = before; now = middle; failed = told_fails };
+  begins = refl;
+  told = told;
+  explained = said_or_told made items explains (record { before = middle; now = now; failed = fails }) right says wanting;
+}
