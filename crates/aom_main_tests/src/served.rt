@@ -284,19 +284,17 @@ const SERVICES: [Service<'static>; 13] = [
     },
 ];
 
-#[test]
-fn each_native_serves(rt: HostRuntime) -> Result<(), Fail> {
-    for service in &SERVICES {
-        serves_kind(
-            &rt,
-            rt.alloc(),
-            service.kind,
-            service.text,
-            service.script,
-            service.told,
-        )?;
+/// Each run tells so.
+fn all_serve(rt: &impl Abort, alloc: Global, services: &[Service<'_>]) -> Result<(), Fail> {
+    for it in services {
+        serves_kind(rt, alloc, it.kind, it.text, it.script, it.told)?;
     }
     Ok(())
+}
+
+#[test]
+fn each_native_serves(rt: HostRuntime) -> Result<(), Fail> {
+    all_serve(&rt, rt.alloc(), &SERVICES)
 }
 
 /// Two objects ask a line that is killed at that time.
