@@ -1,5 +1,5 @@
 //! Tests of `aom_main`, from outside: each command over bytes and sinks, and programs beside natives, those of the tests' own
-//! among them, and servers beside their clients. Other programs are in `aom_main_program_tests`.
+//! among them, and servers beside their clients. Other programs stand on the pages in tests/.
 #![tactic(auto)]
 
 #[cfg(test)]
