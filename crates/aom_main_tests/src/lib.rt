@@ -7,6 +7,8 @@ mod backlog;
 #[cfg(test)]
 mod commands;
 #[cfg(test)]
+mod cut;
+#[cfg(test)]
 mod memory;
 #[cfg(test)]
 mod pages;

@@ -20,12 +20,22 @@ fn may_tell(rt: &impl Abort, alloc: Global, call: &Call<'_>, status: ExitStatus,
 }
 
 /// The calls, how they end, and what they tell.
-const CASES: [(Call<'static>, ExitStatus, &[u8]); 6] = [
+const CASES: [(Call<'static>, ExitStatus, &[u8]); 8] = [
     (Call::Check(&FULL_HEAP), ExitStatus::Done, b"accepted\n"),
     (
         Call::Run(&FULL_HEAP, b"\n"),
         ExitStatus::Done,
         b"@0 main\nout 1\ngone 0\nend stopped cells 0\n",
+    ),
+    (
+        Call::Prices(&FIRST),
+        ExitStatus::Done,
+        b"accepted\nmain price 4 declared 4\nframes 1 of 256\nentries 0 of 1024\nmethod 0 price 4 frames 1 entries 0\n",
+    ),
+    (
+        Call::Dot(&FIRST),
+        ExitStatus::Done,
+        b"digraph aom {\nm0 [label=\"m0 main\\nprice 4 frames 1 entries 0\"]\n}\n",
     ),
     (Call::Asm(SHORT), ExitStatus::Done, &FIRST),
     (Call::Dis(&FIRST), ExitStatus::Done, LISTING),
@@ -60,4 +70,28 @@ fn each_call_may_want_memory(rt: HostRuntime) {
         ExitStatus::ImageRefused,
         b"load 3\n",
     );
+}
+
+/// The first image, which declares a step less than main takes.
+const UNPAID: [u8; 80] = [
+    0x41, 0x4f, 0x49, 0x4d, 0, 1, 0, 0, 0, 1, 0, 1, 0, 0, 0, 0, 0xff, 0xff, 0, 0, 0, 0, 0, 3, //
+    0xff, 0xff, 1, 0, 0, 0, 0, 0, 0, 0, 0, 0, 0, 0, 0, 0, 0, 0, 0, 0, 0xff, 0xff, 0, 4, //
+    1, 0, 0, 0, 0, 0, 0, 7, 0x13, 0, 0, 0, 0, 0, 0, 0, 0x30, 0, 0, 0, 0, 0, 0, 0, 0x22, 0, 0, 0, 0,
+    0, 0, 0,
+];
+
+/// Figures of an image that is refused go to the output, and why it is refused to the errors.
+#[test]
+fn refusing_with_figures_may_want_memory(rt: HostRuntime) {
+    let mut out = Slip::blank();
+    let mut errors = Slip::blank();
+    let ended = answer(rt.alloc(), &Call::Prices(&UNPAID), &mut out, &mut errors);
+    if ended == ExitStatus::Fault {
+        assert!(rt; out.has(b"") && errors.has(b"memory\n"));
+        return;
+    }
+    let text =
+        b"main price 4 declared 3\nframes 1 of 256\nentries 0 of 1024\nmethod 0 price 4 frames 1 entries 0\n";
+    let line = b"budget 1 main price 4 declared 3\n";
+    assert!(rt; ended == ExitStatus::ImageRefused && out.has(text) && errors.has(line));
 }

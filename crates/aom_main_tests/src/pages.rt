@@ -1,7 +1,10 @@
 //! What the tests share: two images and their texts, the calls of commands, and what each has to answer and to write.
 ghost use Rattle.aom_natives.specs.Owed.{OweNothing};
 
-use aom_main::{ExitStatus, Part, asm_bytes, check_bytes, dis_bytes, explore_bytes, run_bytes};
+use aom_main::{
+    ExitStatus, Part, asm_bytes, check_bytes, dis_bytes, dot_bytes, explore_bytes, prices_bytes,
+    run_bytes,
+};
 use aom_natives::Native;
 use aom_pages::Page;
 use aom_run::Sink;
@@ -32,7 +35,10 @@ pub const FULL_HEAP: [u8; 156] = [
 pub enum Call<'a> {
     Asm(&'a [u8]),
     Check(&'a [u8]),
+    /// `check --prices`.
+    Prices(&'a [u8]),
     Dis(&'a [u8]),
+    Dot(&'a [u8]),
     /// An image and a script, beside no native.
     Run(&'a [u8], &'a [u8]),
     Explore(&'a [u8], &'a [u8], Part),
@@ -62,7 +68,9 @@ pub fn answer<W: Sink, E: Sink>(
     match *call {
         Call::Asm(text) => asm_bytes(alloc, text, out, errors),
         Call::Check(image) => check_bytes(alloc, image, out, errors),
+        Call::Prices(image) => prices_bytes(alloc, image, out, errors),
         Call::Dis(image) => dis_bytes(alloc, image, out, errors),
+        Call::Dot(image) => dot_bytes(alloc, image, out, errors),
         Call::Run(image, script) => run_beside(alloc, image, script, Vec::new(alloc), out, errors),
         Call::Explore(image, script, part) => explore_bytes(
             alloc,
