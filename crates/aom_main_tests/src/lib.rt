@@ -9,6 +9,8 @@ mod commands;
 #[cfg(test)]
 mod cut;
 #[cfg(test)]
+mod explaining;
+#[cfg(test)]
 mod memory;
 #[cfg(test)]
 mod pages;
