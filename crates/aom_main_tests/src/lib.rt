@@ -1,11 +1,9 @@
-//! Tests of `aom_main`, from outside: each command over bytes and sinks, and programs beside natives, those of the tests' own
-//! among them, and servers beside their clients. Other programs stand on the pages in tests/.
+//! Tests of `aom_main` and `aom_explaining`, of what cannot be said from outside: outputs that fail at some byte, memory that is
+//! refused, and programs beside natives of the tests' own. Whole commands stand on the pages in tests/.
 #![tactic(auto)]
 
 #[cfg(test)]
 mod backlog;
-#[cfg(test)]
-mod commands;
 #[cfg(test)]
 mod cut;
 #[cfg(test)]
@@ -16,7 +14,5 @@ mod memory;
 mod pages;
 #[cfg(test)]
 mod served;
-#[cfg(test)]
-mod servers;
 #[cfg(test)]
 mod tally;

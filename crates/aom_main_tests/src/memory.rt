@@ -1,7 +1,7 @@
 //! Any request for memory may be refused: then a command says so, and writes nothing else. Nothing here but the
 //! command asks for memory.
 use crate::pages::{Call, FIRST, FULL_HEAP, LISTING, SHORT, answer, sides};
-use aom_main::ExitStatus;
+use aom_main::{ExitStatus, Fault, tell};
 use aom_pages::Slip;
 use std::alloc::Global;
 use std::process::Abort;
@@ -94,4 +94,12 @@ fn refusing_with_figures_may_want_memory(rt: HostRuntime) {
         b"main price 4 declared 3\nframes 1 of 256\nentries 0 of 1024\nmethod 0 price 4 frames 1 entries 0\n";
     let line = b"budget 1 main price 4 declared 3\n";
     assert!(rt; ended == ExitStatus::ImageRefused && out.has(text) && errors.has(line));
+}
+
+/// That it is wanting has its line and its status.
+#[test]
+fn want_of_memory_is_told(rt: HostRuntime) {
+    let mut errors = Slip::blank();
+    let status = tell(&Fault::Memory, &mut errors);
+    assert!(rt; status.number() == 5 && errors.has(b"memory\n"));
 }

@@ -1,10 +1,7 @@
 //! What the tests share: two images and their texts, the calls of commands, and what each has to answer and to write.
 ghost use Rattle.aom_natives.specs.Owed.{OweNothing};
 
-use aom_main::{
-    ExitStatus, Part, asm_bytes, check_bytes, dis_bytes, dot_bytes, explore_bytes, prices_bytes,
-    run_bytes,
-};
+use aom_main::{ExitStatus, asm_bytes, check_bytes, dis_bytes, dot_bytes, prices_bytes, run_bytes};
 use aom_natives::Native;
 use aom_pages::Page;
 use aom_run::Sink;
@@ -41,7 +38,6 @@ pub enum Call<'a> {
     Dot(&'a [u8]),
     /// An image and a script, beside no native.
     Run(&'a [u8], &'a [u8]),
-    Explore(&'a [u8], &'a [u8], Part),
 }
 
 /// Runs an image under a script beside these natives. What `run_bytes` promises is left behind here.
@@ -72,16 +68,6 @@ pub fn answer<W: Sink, E: Sink>(
         Call::Dis(image) => dis_bytes(alloc, image, out, errors),
         Call::Dot(image) => dot_bytes(alloc, image, out, errors),
         Call::Run(image, script) => run_beside(alloc, image, script, Vec::new(alloc), out, errors),
-        Call::Explore(image, script, part) => explore_bytes(
-            alloc,
-            image,
-            script,
-            1_000_000,
-            &[],
-            part,
-            out,
-            errors,
-        ),
     }
 }
 
@@ -126,27 +112,6 @@ pub fn all_tell(rt: &impl Abort, alloc: Global, status: ExitStatus, cases: &[Cas
             "case {number}"
         );
     }
-}
-
-/// A script in parts, how a run under it ends, and what that tells.
-#[derive(Clone, Copy)]
-pub struct Act<'a> {
-    pub script: &'a [&'a str],
-    pub status: ExitStatus,
-    pub told: &'a [u8],
-}
-
-/// Each run of an image ends and tells as its act says.
-pub fn acts(rt: &impl Abort, alloc: Global, image: &[u8], acts: &[Act<'_>]) -> Result<(), Fail> {
-    for (number, act) in acts.iter().enumerate() {
-        let script = joined(alloc, act.script)?;
-        let call = Call::Run(image, script.as_bytes());
-        assert!(rt;
-            tells(alloc, &call, 1 << 10, act.status, act.told),
-            "act {number}"
-        );
-    }
-    Ok(())
 }
 
 /// The parts of a text, one behind the other.
