@@ -1,4 +1,5 @@
-//! Tests of `aom_debugging`, from outside: debugging sessions on whole programs.
+//! Tests of `aom_debugging`, of what cannot be said from outside: readers and outputs that fail at some byte, and memory that is
+//! refused. Whole sessions stand on a page in tests/.
 #![tactic(auto)]
 
 #[cfg(test)]
