@@ -176,7 +176,8 @@ module _ {X : Type 0} {B : X → Type 0} (p : Image) (outside : Outside) (stays 
 
 -- ---- by what a loop of dispatches keeps
 
-module _ {X : Type 0} {B : X → Type 0} (a m n : Machine X B) (told now : Turn) (keeps : Keeps a m told now) (limit : ℕ) (events : List TimedEvent) (marks mid new : List Spot) (here out : Option (List ℕ)) where
+module _ {X : Type 0} {B : X → Type 0} (a m n : Machine X B) (told now : Turn) (keeps : Keeps a m told now) (limit : ℕ) (events : List TimedEvent) (marks mid new : List Spot)
+    (here out : Option (List ℕ)) where
   -- a dispatch from one state to another, up to a breakpoint
   abbrev Passed : Image → List ℕ → ℕ → Type 0
   Passed q refused natives = Sends (InDispatch q (hearing refused limit natives events) (WalksOn q refused (λ (s : State). stays_at q Breakpoint marks s)) mid new) m here out n

@@ -84,7 +84,8 @@ module _ {X : Type 0} {B : X → Type 0} (p : Image) (refused : List ℕ) (stays
 
 -- ---- by what a loop of steps keeps
 
-module _ {X : Type 0} {B : X → Type 0} (a m n : Machine X B) (told now : Turn) (keeps : Keeps a m told now) (stays : State → Bool) (old mid : List Spot) (before here out : Option (List ℕ)) (so_far : Sends (Underway a.core.image told.refused stays old mid) a before here m) where
+module _ {X : Type 0} {B : X → Type 0} (a m n : Machine X B) (told now : Turn) (keeps : Keeps a m told now) (stays : State → Bool) (old mid : List Spot) (before here out : Option (List ℕ))
+    (so_far : Sends (Underway a.core.image told.refused stays old mid) a before here m) where
   pub stepped : (new : List Spot) → progress m.core ≡ Running → Sends (Strides m.core.image now.refused mid new) m here out n → Sends (Begun a.core.image told.refused stays old new) a before out n
   stepped new running step = steps_more a.core.image told.refused stays old mid a m n before here out so_far new running (begun_as (λ q r. Sends (Strides q r mid new) m here out n) keeps step)
 

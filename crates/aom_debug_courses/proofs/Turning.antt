@@ -47,7 +47,9 @@ turn_cut p outside a m c before mid out x y =
     (cut_run p outside m c mid out y)
 
 -- so where the turns keep the machine's image and what is refused
-pub walk_cut : {X : Type 0} {B : X → Type 0} (a m n : Machine X B) {told now : Turn} → m.core.image ≡ a.core.image → now ≡ told → (limit natives : ℕ) (events : List TimedEvent) (before mid out : Option (List ℕ)) →
-    Sends (Arrives a.core.image (hearing told.refused limit natives events)) a before mid m → Breaks (Moving m.core.image now.refused) m mid out n → Breaks (Reaches a.core.image (hearing told.refused limit natives events)) a before out n
+pub walk_cut : {X : Type 0} {B : X → Type 0} (a m n : Machine X B) {told now : Turn} → m.core.image ≡ a.core.image → now ≡ told →
+    (limit natives : ℕ) (events : List TimedEvent) (before mid out : Option (List ℕ)) →
+    Sends (Arrives a.core.image (hearing told.refused limit natives events)) a before mid m → Breaks (Moving m.core.image now.refused) m mid out n →
+    Breaks (Reaches a.core.image (hearing told.refused limit natives events)) a before out n
 walk_cut a m n {told} image turn limit natives events before mid out x y =
     turn_cut a.core.image (hearing told.refused limit natives events) a m n before mid out x (as_begun (λ q r. Breaks (Moving q r) m mid out n) image (ap (λ (t : Turn). t.refused) turn) y)

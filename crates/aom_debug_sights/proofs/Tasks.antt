@@ -22,7 +22,7 @@ use Rattle.aom_parts.specs.Stands.{Machine, StandsFor}
 use Rattle.aom_parts.proofs.Alike.{by_tasks}
 use Rattle.aom_parts.proofs.Values.{same_length}
 use Rattle.aom_acts.proofs.Running.{not_null}
-use Rattle.aom_debug_sights.proofs.Over.{BothOver, one_over}
+use Rattle.aom_debug_sights.proofs.Over.{BothOver, one_over, read_over, read_there}
 use Rattle.aom_debug_sights.specs.Owners.{Shows, ShowsNone, frame_over, goings_in, is_frame, is_going}
 
 -- ---- lists
@@ -97,40 +97,22 @@ counted _ _ same = absurd same
 -- ---- the numbers in the places of a task
 
 abbrev pub register_over : Option Held_task → ℕ → ℕ
-register_over None i = null
-register_over (Some t) i = register_of t i
+register_over o i = read_over (λ t. register_of t i) null o
 
 pub register_there : (ms : List Held_task) (k i : ℕ) → register_in ms k i ≡ register_over (over ms k) i
-register_there [] k i = refl
-register_there (m ∷ ms) k i = go (register_there ms k i) (length ms == k)
-  where
-    go : register_in ms k i ≡ register_over (over ms k) i → (b : Bool) → cond b (register_of m i) (register_in ms k i) ≡ register_over (cond b (Some m) (over ms k)) i
-    go below true = refl
-    go below false = below
+register_there ms k i = read_there (λ t. register_of t i) null (λ ts. register_in ts k i) k refl (λ t ts. refl) ms
 
 abbrev word_over : Option Task → ℕ → Option ℤ
-word_over None i = None
-word_over (Some u) i = word_of u i
+word_over o i = read_over (λ u. word_of u i) None o
 
 word_there : (us : List Task) (k i : ℕ) → word_in us k i ≡ word_over (over us k) i
-word_there [] k i = refl
-word_there (u ∷ us) k i = go (word_there us k i) (length us == k)
-  where
-    go : word_in us k i ≡ word_over (over us k) i → (b : Bool) → cond b (word_of u i) (word_in us k i) ≡ word_over (cond b (Some u) (over us k)) i
-    go below true = refl
-    go below false = below
+word_there us k i = read_there (λ u. word_of u i) None (λ ts. word_in ts k i) k refl (λ u ts. refl) us
 
 abbrev pub going_over : Option Held_task → ℕ
-going_over None = null
-going_over (Some t) = going_of t
+going_over o = read_over going_of null o
 
 pub going_there : (ms : List Held_task) (k : ℕ) → going_in ms k ≡ going_over (over ms k)
-going_there [] k = refl
-going_there (m ∷ ms) k = go (going_there ms k) (length ms == k)
-  where
-    go : going_in ms k ≡ going_over (over ms k) → (b : Bool) → cond b (going_of m) (going_in ms k) ≡ going_over (cond b (Some m) (over ms k))
-    go below true = refl
-    go below false = below
+going_there ms k = read_there going_of null (λ ts. going_in ts k) k refl (λ t ts. refl) ms
 
 -- what is no frame has neither numbers nor words
 no_frame : (o : Option Held_task) (u : Option Task) (i : ℕ) → SameOver o u → frame_over o ≡ None → (register_over o i ≡ null) × (word_over u i ≡ None)

@@ -1,4 +1,4 @@
-use Rattle.std.proofs.Common.{◌≡◌, ◌≤◌, ◌-◌}
+use Rattle.std.proofs.Common.{◌≤◌, ◌-◌}
 use Rattle.aom_debug_moves.specs.Calls.{natives_of}
 use Rattle.aom_natives.specs.Slots.{AllAgree}
 use Rattle.aom_debug_moves.specs.Turns.{hearing}

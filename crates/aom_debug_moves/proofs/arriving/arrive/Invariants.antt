@@ -1,4 +1,3 @@
-use Rattle.std.proofs.Common.{◌≡◌}
 use Rattle.aom_exec.specs.Steps.{progress}
 use Rattle.aom_machine.specs.Calls.{natives_of}
 use Rattle.aom_natives.specs.Slots.{AllAgree}

@@ -18,18 +18,14 @@ shape-requires g c =
     frame_method p m c.requires.agrees c.requires.stands c.args.depth c.in-Some.frame (frame_stands p m c.args.depth c.in-Some.frame c.in-Some.ensures)
 
 pub returns-in-Some-shape-clause-ok : goal.returns-in-Some-shape-clause-ok
-returns-in-Some-shape-clause-ok g c =
-    let p = c.args.checked.now in
-    let m = c.args.parts.now in
-    let f = c.in-Some.frame in
-    IfOk-weaker c.tell_frame.result _ _ (λ _ told. told p c.args.depth (frame_shown p m c.requires.agrees c.args.depth f c.in-Some-shape.shape (frame_stands p m c.args.depth f c.in-Some.ensures) c.in-Some-shape.ensures)) c.tell_frame.ensures.ok
+returns-in-Some-shape-clause-ok g c = IfOk-weaker c.tell_frame.result _ _ (λ _ told. told c.args.checked.now c.args.depth
+    (frame_shown c.args.checked.now c.args.parts.now c.requires.agrees c.args.depth c.in-Some.frame c.in-Some-shape.shape
+    (frame_stands c.args.checked.now c.args.parts.now c.args.depth c.in-Some.frame c.in-Some.ensures) c.in-Some-shape.ensures)) c.tell_frame.ensures.ok
 
 pub returns-in-Some-shape-clause-err : goal.returns-in-Some-shape-clause-err
-returns-in-Some-shape-clause-err g c =
-    let p = c.args.checked.now in
-    let m = c.args.parts.now in
-    let f = c.in-Some.frame in
-    IfErr-weaker c.tell_frame.result _ _ (λ fault cut. cut p c.args.depth (frame_shown p m c.requires.agrees c.args.depth f c.in-Some-shape.shape (frame_stands p m c.args.depth f c.in-Some.ensures) c.in-Some-shape.ensures)) c.tell_frame.ensures.err
+returns-in-Some-shape-clause-err g c = IfErr-weaker c.tell_frame.result _ _ (λ fault cut. cut c.args.checked.now c.args.depth
+    (frame_shown c.args.checked.now c.args.parts.now c.requires.agrees c.args.depth c.in-Some.frame c.in-Some-shape.shape
+    (frame_stands c.args.checked.now c.args.parts.now c.args.depth c.in-Some.frame c.in-Some.ensures) c.in-Some-shape.ensures)) c.tell_frame.ensures.err
 
 pub returns-in-None-clause-ok : goal.returns-in-None-clause-ok
 returns-in-None-clause-ok g c =

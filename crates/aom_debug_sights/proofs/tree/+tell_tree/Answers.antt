@@ -1,5 +1,5 @@
 -- The line of what is held, and then what hangs from its fields, one field after another, and from its sessions, one after another.
-use Rattle.std.proofs.Common.{◌≡◌, ◌∙◌, ◌<◌, ◌-◌, ◌++◌, ◌∷◌, [], ℕ, IfSome, List, Option, Some, ap, append_assoc, arith, length, refl, subst, suc, sym, take}
+use Rattle.std.proofs.Common.{◌≡◌, ◌≢◌, ◌∙◌, ◌<◌, ◌-◌, ◌++◌, ◌∷◌, [], ℕ, IfSome, List, Option, Some, ap, append_assoc, arith, length, refl, subst, suc, sym, take}
 use Rattle.std.proofs.Math.Seq.{take-append_seam}
 use Rattle.std.proofs.lemmas.Bool.{false≢true}
 use Rattle.std.proofs.lemmas.List.{append-nil}
@@ -26,28 +26,25 @@ one_behind done xs next c once inside is all =
     ∙ ap (λ o. done ++ from o xs) (sym is)
     ∙ all
 
+-- a depth that is not 0 is one more than another
+deeper : (n : ℕ) → n ≢ 0 → n ≡ suc (n - 1)
+deeper n some = omega (arith, some)
+
 pub returns-in_default-clause-ok : goal.returns-in_default-clause-ok
-returns-in_default-clause-ok g t c =
-    let lives = c.in_default.ensures.lives in
-    let some = c.if-depth-eq0.false in
-    let deep : c.args.depth ≡ suc (c.args.depth - 1) = omega (arith, some) in
-    IfOk-weaker c.tell_message.result _ _ (λ done put p w r is shows.
-    uncelled_told p c.args.parts.now c.args.number (c.args.depth - 1) c.args.depth w r c.args.way.now shows (λ l. false≢true (lives.1 l)) is deep _ _ put) c.tell_message.ensures.ok
+returns-in_default-clause-ok g t c = IfOk-weaker c.tell_message.result _ _ (λ done put p w r is shows.
+    uncelled_told p c.args.parts.now c.args.number (c.args.depth - 1) c.args.depth w r c.args.way.now shows (λ l. false≢true (c.in_default.ensures.lives.1 l)) is
+    (deeper c.args.depth c.if-depth-eq0.false) _ _ put) c.tell_message.ensures.ok
 
 pub returns-in_default-clause-err : goal.returns-in_default-clause-err
-returns-in_default-clause-err g t c =
-    let lives = c.in_default.ensures.lives in
-    let some = c.if-depth-eq0.false in
-    let deep : c.args.depth ≡ suc (c.args.depth - 1) = omega (arith, some) in
-    IfErr-weaker c.tell_message.result _ _ (λ fault cut p w r is shows.
-    uncelled_cut p c.args.parts.now c.args.number (c.args.depth - 1) c.args.depth w r c.args.way.now shows (λ l. false≢true (lives.1 l)) is deep _ _ fault _ cut) c.tell_message.ensures.err
+returns-in_default-clause-err g t c = IfErr-weaker c.tell_message.result _ _ (λ fault cut p w r is shows.
+    uncelled_cut p c.args.parts.now c.args.number (c.args.depth - 1) c.args.depth w r c.args.way.now shows (λ l. false≢true (c.in_default.ensures.lives.1 l)) is
+    (deeper c.args.depth c.if-depth-eq0.false) _ _ fault _ cut) c.tell_message.ensures.err
 
 pub returns-in_err-tell_owned-clause-err : goal.returns-in_err-tell_owned-clause-err
 returns-in_err-tell_owned-clause-err g t c =
     let error = err_from_is_err_and c.from_residual.result c.from_residual.ensures.1 in
     let m = c.args.parts.now in
-    let some = c.if-depth-eq0.false in
-    let deep : c.args.depth ≡ suc (c.args.depth - 1) = omega (arith, some) in
+    let deep = deeper c.args.depth c.if-depth-eq0.false in
     rw (error.1, error.2) (λ p w r is shows.
     line_unsent p m c.in-Some.id c.class.result (c.args.depth - 1) c.args.depth w r c.args.way.now (subst (λ k. Shows (record { image = p; parts = m }) k r) (sym c.in-Some.ensures.value) shows) c.class.ensures is deep _ _ _ _ c.in_err-tell_owned.ensures.err)
 
@@ -57,8 +54,7 @@ returns-in_err-tell_tree-clause-err g t c =
     let m = c.args.parts.now in
     let id = c.in-Some.id in
     let at = c.loop-field.field in
-    let some = c.if-depth-eq0.false in
-    let deep : c.args.depth ≡ suc (c.args.depth - 1) = omega (arith, some) in
+    let deep = deeper c.args.depth c.if-depth-eq0.false in
     rw (error.1, error.2) (λ p w r is shows.
     let begun = c.tell_owned.ensures.same ∙ is in
     let here = way_further w (By_field at) c.loop-field.way c.enter.new.self (c.loop-field.invariant.same ∙ begun) c.enter.ensures.text in
@@ -105,8 +101,7 @@ returns-in_err-tell_tree-2-clause-err g t c =
     let client = c.in-Some-next.client in
     let xs = sessions_at m.clients id in
     let i = c.loop-next.invariant in
-    let some = c.if-depth-eq0.false in
-    let deep : c.args.depth ≡ suc (c.args.depth - 1) = omega (arith, some) in
+    let deep = deeper c.args.depth c.if-depth-eq0.false in
     let most = c.loop-field.auto.field-end in
     let least = c.loop-field-test.false in
     let all = one_behind i.so_far.0 xs c.loop-next.next client (c.are_apart.ensures.once id) (i.inside client c.in-Some-next.is) c.in-Some-next.is i.so_far.1 in
@@ -159,8 +154,7 @@ returns-clause-ok g t c =
     let id = c.in-Some.id in
     let xs = sessions_at m.clients id in
     let i = c.loop-next.invariant in
-    let some = c.if-depth-eq0.false in
-    let deep : c.args.depth ≡ suc (c.args.depth - 1) = omega (arith, some) in
+    let deep = deeper c.args.depth c.if-depth-eq0.false in
     let most = c.loop-field.auto.field-end in
     let least = c.loop-field-test.false in
     let all : i.so_far.0 ≡ xs = sym (append-nil i.so_far.0) ∙ ap (λ o. i.so_far.0 ++ from o xs) (sym c.in_default-next.is) ∙ i.so_far.1 in
