@@ -1,11 +1,15 @@
 //! A debugger over the bytes of files, as commands come.
-ghost use Rattle.std.specs.Prelude.{ℕ, ◌≡◌, IfErr, IfOk, List, Ok, length};
+ghost use Rattle.std.specs.Prelude.{ℕ, ◌≡◌, ◌+◌, IfErr, IfOk, List, Ok, length};
 ghost use Rattle.aom_natives.specs.Owed.{OweNothing};
 ghost use Rattle.aom_natives.specs.Slots.{AllAgree};
+ghost use Rattle.aom_sound.specs.World.{boot_state};
+ghost use Rattle.aom_lines.specs.Turn.{step_lines};
+ghost use Rattle.aom_machine.specs.Calls.{StandsFor, natives_of};
 ghost use Rattle.aom_script.specs.Script.{IsTimely, denoted};
 ghost use Rattle.aom_debug.specs.Debugging.{IsReady};
 ghost use Rattle.aom_main.specs.Acceptable.{IsSpelled};
 ghost use Rattle.aom_main.specs.Headline.{RefusesBoot};
+ghost use Rattle.aom_main.specs.declared.faults.Fault.TheVariants.{Memory};
 ghost use Rattle.aom_main.specs.Untold.{Untold};
 ghost use Rattle.aom_debugging.specs.Answers.{DebugAnswers};
 ghost use Rattle.aom_debugging.specs.Beginning.{IsBegun};
@@ -19,7 +23,7 @@ use aom_machine::Machine;
 use aom_main::{ExitStatus, Fault, accept_bytes, tell};
 use aom_natives::Native;
 use aom_script::{Script, read_script};
-use std::alloc::Global;
+use std::alloc::{AllocError, Global};
 
 /// Runs an image under a script beside those natives as commands say, which come from a reader, and writes what they tell. The image is looked
 /// at before the script, and the script before the natives. After so many reads that give no end it is a fault.
@@ -125,14 +129,43 @@ fn begin<'a>(
     ensures begun { IfOk result (λ d. IsBegun accepted.now script limit (length boxes.items) d) }
     ensures err { IfErr result (λ fault. RefusesBoot accepted.now (length boxes.items) fault) }
 {
-    let machine = match Machine::boot(alloc, accepted, boxes) {
-        Ok(machine) => machine,
-        Err((fault, _boxes)) => return Err(Fault::from(fault)),
+    match Machine::boot(alloc, accepted, boxes) {
+        Ok(machine) => begun(alloc, accepted, machine, script, limit),
+        Err((fault, _boxes)) => Err(Fault::from(fault)),
+    }
+}
+
+/// A debugger of a machine that has booted.
+fn begun<'a>(
+    alloc: Global,
+    accepted: &Accepted,
+    machine: Machine<'a>,
+    script: Script,
+    limit: u32,
+) -> Result<Debugger<'a>, Fault>
+    requires agree { AllAgree (λ l. l.ids) (λ l. (⟦<dyn Native as Native>⟧ l.native.vtable).owed l.native.value) machine.natives.slots.items }
+    requires image { machine.core.image ≡ accepted.now }
+    requires stands { StandsFor machine (boot_state accepted.now) }
+    requires timely { IsTimely script.timed }
+    ensures agree { IfOk result (λ d. AllAgree (λ l. l.ids) (λ l. (⟦<dyn Native as Native>⟧ l.native.vtable).owed l.native.value) d.machine.natives.slots.items) }
+    ensures ready { IfOk result (λ d. IsReady d) }
+    ensures begun { IfOk result (λ d. IsBegun accepted.now script limit (natives_of machine.entry) d) }
+    ensures err { IfErr result (λ fault. fault ≡ Memory) }
+{
+    let Ok(turn) = turn_of(alloc, accepted, &script) else {
+        return Err(Fault::Memory);
     };
-    let refused = Vec::from_slice(alloc, script.refused())?;
-    let turn = Turn::new(alloc, accepted.linked(), refused)?;
     match Debugger::new(alloc, machine, script, turn, limit) {
         Ok(debugger) => Ok(debugger),
         Err(_) => Err(Fault::Memory),
     }
+}
+
+/// The turn of a run under a script.
+fn turn_of(alloc: Global, accepted: &Accepted, script: &Script) -> Result<Turn, AllocError>
+    ensures refused { IfOk result (λ t. t.refused ≡ script.now.refused) }
+    ensures room { IfOk result (λ t. t.room ≡ 64 + step_lines accepted.now.header.messages) }
+{
+    let refused = Vec::from_slice(alloc, script.refused())?;
+    Turn::new(alloc, accepted.linked(), refused)
 }
