@@ -65,7 +65,7 @@ natives_bite =
 
 pub moves_bite : MovesBite
 unfolding is_role role_number kind_of sessions_in sessions_of class_at class_in fields_in gives_in instr_in method_at role_in
-moves_bite = record { going = refl; unwinding = refl; arrival = refl; traps = refl; standing = refl; later = refl }
+moves_bite = record { going = refl; unwinding = refl; arrival = refl; traps = refl; standing = refl }
 
 pub servers_bite : ServersBite
 unfolding is_role role_number role_of plays kind_of kind_in sessions_in sessions_of class_at class_in fields_in gives_in instr_in method_at role_in

@@ -13,6 +13,7 @@ pub mod Events
 pub mod Servers
 pub mod Owners
 pub mod Kept
+pub mod Programs
 pub mod Running
 pub mod Served
 pub mod Further

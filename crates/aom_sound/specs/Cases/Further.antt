@@ -1,53 +1,19 @@
 -- Further runs with servers and clients, line by line.
 use Rattle.std.specs.Prelude.{ℕ, ℤ, pos, negsuc, ◌≡◌, List, [], ◌∷◌, Option, Some, None}
-use Rattle.aom_image.specs.Image.{Image}
-use Rattle.aom_image.specs.declared.class.ClassDecl.{ClassDecl}
-use Rattle.aom_image.specs.declared.class.ClassKind.TheVariants.{Active, Plain, Server, Session}
-use Rattle.aom_image.specs.declared.class.Provider.TheVariants.{Timer}
-use Rattle.aom_instructions.specs.declared.instr.Instr.{Instr}
-use Rattle.aom_instructions.specs.declared.instr.Instr.TheVariants.{Abort, Call, Cancel, Const, Delete, Enlist, Issue, Leave as Leave_with, Load, NewOrLeave, Pop, Print, Push, Put, Reply, Return, SetActive, Stop, Store, Take, TakeMessage}
-use Rattle.aom_instructions.specs.declared.instr.Target.TheVariants.{Entry}
-use Rattle.aom_image.specs.declared.method.Argument.TheVariants.{Word as Takes_word}
-use Rattle.aom_image.specs.declared.method.Gives.TheVariants.{Nothing, Own as An_own}
-use Rattle.aom_image.specs.declared.method.Method.{Method}
-use Rattle.aom_image.specs.declared.method.Role.TheVariants.{Accept, Cancel as Cancels, Construct, Destruct, Run as Runs, Service}
-use Rattle.aom_image.specs.declared.method.Thing.TheVariants.{Object as An_object_of}
 use Rattle.aom_transcript.specs.declared.line.Ending.TheVariants.{Stopped, Waiting}
 use Rattle.aom_transcript.specs.declared.event.Command.TheVariants.{Connect, Send, Close, Die}
 use Rattle.aom_transcript.specs.declared.line.Asked.TheVariants.{Connect as A_connect, Message as A_message, Close as A_close}
 use Rattle.aom_transcript.specs.declared.event.TimedEvent.{TimedEvent}
 use Rattle.aom_transcript.specs.declared.line.Line.TheVariants.{Main, Out, Leave, Gone, Run as Run_line, Serve, Reply as Reply_line, Refuse}
+use Rattle.aom_sound.specs.Cases.Programs.{stopping, declining, stops_accepting, small, narrow, owning, two_servers}
 use Rattle.aom_sound.specs.Cases.Running.{Ends, at, run_of}
-use Rattle.aom_sound.specs.Cases.Served.{a_method, client_dies, client_lives, clients_refused, five_words, leaves_after_taking, main_of, returns_untaken, returns_with_message, service_leaves, service_stops, session_closed, slot_refused, words}
-
--- one server of class 1, whose sessions are of class 0, with so many cells and messages and so many sessions at most
-abbrev pub one_server : (cells messages most : ℕ) → (accept serve : List Instr) → Image
-one_server cells messages most accept serve =
-    record {
-      header = record { cells = cells; messages = messages; natives = 0; root = Some 1; budget = 90 };
-      classes = record { kind = Session; words = 0; fields = [] } ∷ record { kind = Server most 0 40; words = 0; fields = [] } ∷ [];
-      methods =
-          a_method (Some 0) Service five_words Nothing serve
-          ∷ a_method (Some 1) Accept [] (An_own (An_object_of 0)) accept
-          ∷ a_method (Some 1) Construct [] Nothing (Enlist (pos 0) ∷ Return 0 ∷ [])
-          ∷ main_of 1 2
-          ∷ [];
-    }
-
-abbrev pub accepts : List Instr
-accepts = NewOrLeave 0 0 ∷ Return 0 ∷ []
-
-abbrev pub replies : List Instr
-replies = TakeMessage 5 ∷ Reply 5 0 ∷ Return 0 ∷ []
+use Rattle.aom_sound.specs.Cases.Served.{client_dies, client_lives, clients_refused, leaves_after_taking, returns_untaken, returns_with_message, service_leaves, service_stops, session_closed, slot_refused, words}
 
 -- a server goes: its sessions in order of connection, then what waits in order, a close untold, and then the server
 abbrev pub going_events : List TimedEvent
 going_events =
     at 1 2 (Connect 1 2) ∷ at 1 0 (Connect 1 2) ∷ at 1 1 (Connect 1 2)
     ∷ at 5 0 (Send (words (pos 1))) ∷ at 5 1 (Send (words (pos 2))) ∷ at 5 3 (Connect 1 2) ∷ at 5 2 Close ∷ at 5 0 (Send (words (pos 3))) ∷ []
-
-abbrev pub stopping : Image
-stopping = one_server 5 4 4 accepts (TakeMessage 5 ∷ Reply 5 0 ∷ Stop ∷ Return 0 ∷ [])
 
 abbrev pub server_goes : Type 0
 server_goes =
@@ -63,13 +29,10 @@ server_goes =
     ∷ Gone 1
     ∷ []) Stopped 0
 
--- a connect is left with 0: there is no session
-abbrev pub declining : Image
-declining = one_server 4 4 4 (Const 0 (pos 0) ∷ Leave_with 0 ∷ []) replies
-
 abbrev pub declining_events : List TimedEvent
 declining_events = at 1 0 (Connect 1 2) ∷ at 2 0 (Send (words (pos 1))) ∷ at 2 0 (Connect 1 2) ∷ []
 
+-- a connect is left with 0: there is no session
 abbrev pub accept_leaves : Type 0
 accept_leaves =
     run_of 200 declining declining_events
@@ -80,16 +43,13 @@ accept_leaves =
 -- `accept` stops the run, and its client is told all the same
 abbrev pub accept_stops : Type 0
 accept_stops =
-    run_of 200 (one_server 4 4 4 (NewOrLeave 0 0 ∷ Stop ∷ Return 0 ∷ []) replies) (at 1 0 (Connect 1 2) ∷ [])
+    run_of 200 stops_accepting (at 1 0 (Connect 1 2) ∷ [])
     ≡ Ends (Main 0 ∷ Serve 1 1 A_connect 0 ∷ Reply_line 0 (pos 0) ∷ Gone 0 ∷ Gone 1 ∷ []) Stopped 0
-
--- messages are no cells, and there are as many as the image says
-abbrev pub small : Image
-small = one_server 2 1 4 accepts replies
 
 abbrev pub small_events : List TimedEvent
 small_events = at 1 0 (Connect 1 2) ∷ at 1 1 (Connect 1 2) ∷ at 5 0 (Send (words (pos 1))) ∷ at 5 0 (Send (words (pos 2))) ∷ at 7 0 (Send (words (pos 3))) ∷ []
 
+-- messages are no cells, and there are as many as the image says
 abbrev pub no_place : Type 0
 no_place =
     run_of 200 small small_events
@@ -101,15 +61,12 @@ no_place =
     ∷ Serve 7 1 A_message 0 ∷ Reply_line 0 (pos 3)
     ∷ []) Waiting 2
 
--- a connect that waits is taken back by a close; a server takes so many sessions and connects at most
-abbrev pub narrow : Image
-narrow = one_server 3 1 1 accepts replies
-
 abbrev pub narrow_events : List TimedEvent
 narrow_events =
     at 1 0 (Connect 1 2) ∷ at 1 1 (Connect 1 2) ∷ at 1 0 Close ∷ at 1 1 (Connect 1 2) ∷ at 1 0 (Connect 1 2)
     ∷ at 3 1 (Send (words (pos 1))) ∷ at 3 1 Die ∷ at 3 0 (Connect 1 1) ∷ at 5 0 (Connect 1 1) ∷ at 7 0 (Send (words (pos 7))) ∷ []
 
+-- a connect that waits is taken back by a close; a server takes so many sessions and connects at most
 abbrev pub taken_back : Type 0
 taken_back =
     run_of 200 narrow narrow_events
@@ -123,28 +80,6 @@ taken_back =
     ∷ []) Waiting 2
 
 -- ---- an object that owns a server deletes it
-
-abbrev pub owning : Image
-owning =
-    record {
-      header = record { cells = 4; messages = 4; natives = 0; root = Some 2; budget = 200 };
-      classes =
-          record { kind = Session; words = 0; fields = [] }
-          ∷ record { kind = Server 4 0 40; words = 0; fields = [] }
-          ∷ record { kind = Active Timer 100; words = 0; fields = An_object_of 1 ∷ [] }
-          ∷ [];
-      methods =
-          a_method (Some 0) Service five_words Nothing replies
-          ∷ a_method (Some 1) Accept [] (An_own (An_object_of 0)) accepts
-          ∷ a_method (Some 1) Construct [] Nothing (Enlist (pos 0) ∷ Return 0 ∷ [])
-          ∷ a_method (Some 2) Cancels [] Nothing (Abort ∷ Return 0 ∷ [])
-          ∷ a_method (Some 2) Destruct [] Nothing (Cancel ∷ Take 0 0 ∷ Delete 0 ∷ Return 0 ∷ [])
-          ∷ a_method (Some 2) Runs [] Nothing (Take 0 0 ∷ Delete 0 ∷ Return 0 ∷ [])
-          ∷ a_method (Some 2) Construct [] Nothing
-          (NewOrLeave 0 1 ∷ Push 0 ∷ Call (Entry 0) 2 0 0 ∷ Pop 0 ∷ Put 0 0 ∷ Enlist (pos 5) ∷ Const 1 (pos 10) ∷ Issue 1 1 ∷ SetActive ∷ Return 0 ∷ [])
-          ∷ main_of 2 6
-          ∷ [];
-    }
 
 abbrev pub owning_events : List TimedEvent
 owning_events =
@@ -167,26 +102,6 @@ server_deleted =
     ∷ []) Waiting 1
 
 -- ---- two servers of a class, each with a word of its own that its `accept` prints
-
-abbrev pub two_servers : Image
-two_servers =
-    record {
-      header = record { cells = 6; messages = 4; natives = 0; root = Some 2; budget = 200 };
-      classes =
-          record { kind = Session; words = 0; fields = [] }
-          ∷ record { kind = Server 1 0 40; words = 1; fields = [] }
-          ∷ record { kind = Plain; words = 0; fields = An_object_of 1 ∷ An_object_of 1 ∷ [] }
-          ∷ [];
-      methods =
-          a_method (Some 0) Service five_words Nothing replies
-          ∷ a_method (Some 1) Accept [] (An_own (An_object_of 0)) (Load 1 0 ∷ Print 1 ∷ accepts)
-          ∷ a_method (Some 1) Construct (Takes_word ∷ []) Nothing (Enlist (pos 0) ∷ Store 0 0 ∷ Return 0 ∷ [])
-          ∷ a_method (Some 2) Destruct [] Nothing (Take 0 0 ∷ Delete 0 ∷ Take 0 1 ∷ Delete 0 ∷ Return 0 ∷ [])
-          ∷ a_method (Some 2) Construct [] Nothing
-          (NewOrLeave 0 1 ∷ Push 0 ∷ Const 1 (pos 5) ∷ Call (Entry 0) 2 1 0 ∷ Pop 0 ∷ Put 1 0 ∷ NewOrLeave 0 1 ∷ Push 0 ∷ Const 1 (pos 6) ∷ Call (Entry 0) 2 1 0 ∷ Pop 0 ∷ Put 0 0 ∷ Return 0 ∷ [])
-          ∷ main_of 2 4
-          ∷ [];
-    }
 
 -- the one that was enlisted first alone is asked
 abbrev pub first_alone : Type 0

@@ -1,13 +1,13 @@
 -- The needs of the moves that are no instruction, and of the place where a method stands.
 use Rattle.std.specs.Prelude.{pos, Bool, false, List, [], ◌∷◌, ◌≡◌, map, None, Some}
 use Rattle.aom_image.specs.Image.{Image}
-use Rattle.aom_instructions.specs.declared.instr.Instr.TheVariants.{Stop, Cancel, TakeMessage, Reply}
+use Rattle.aom_instructions.specs.declared.instr.Instr.TheVariants.{Stop}
 use Rattle.aom_image.specs.declared.method.Gives.TheVariants.{Nothing}
 use Rattle.aom_image.specs.declared.method.Thing.TheVariants.{Message}
 use Rattle.aom_sound.specs.Places.{Entry, Field, Going, Phase, Idle, Issued, Active, Cancelling, Aborted}
 use Rattle.aom_sound.specs.State.{Static, frame_of, Task, Run, Trapped, Destroy, Unwind, Dispatched, Of_main, An_object, An_operation, A_mark, State, Stuck, Unbalanced, ActiveDestroyed, Orphan, NullOrDead, WrongKind}
 use Rattle.aom_sound.specs.Moves.{step}
-use Rattle.aom_sound.specs.Cases.Building.{leaf, pair, waiter, a_method, a_cell, at_bottom, small_image, state_of, Case, fails, is_stuck_by, missed, AllBite}
+use Rattle.aom_sound.specs.Cases.Building.{leaf, pair, waiter, a_method, a_cell, at_bottom, small_image, state_of, is_stuck_by, missed}
 
 -- a state, and the kind in which the machine is stuck there, if it is
 pub record Turning : Type 0 where
@@ -94,14 +94,6 @@ standing_cases =
     ∷ at (WrongKind ∷ []) (state_of (Run (frame_of 2 Static 1) ∷ at_bottom) [] (A_mark ∷ []))
     ∷ []
 
--- what cancels works on an object, what takes a message serves one, and what is completed is one
-abbrev pub later_cases : List Case
-later_cases =
-    fails Cancel (WrongKind ∷ [])
-    ∷ fails (TakeMessage 0) (NullOrDead ∷ NullOrDead ∷ [])
-    ∷ fails (Reply 0 1) (NullOrDead ∷ WrongKind ∷ [])
-    ∷ []
-
 -- each need of a move bites
 pub record MovesBite : Type 0 where
   pub going : AllTurn going_cases
@@ -109,4 +101,3 @@ pub record MovesBite : Type 0 where
   pub arrival : AllTurn arrival_cases
   pub traps : AllTurn trap_cases
   pub standing : AllTurn standing_cases
-  pub later : AllBite later_cases

@@ -73,6 +73,8 @@ set_active_cases =
 abbrev pub cancel_cases : List Case
 cancel_cases =
     unlisted_case Cancel []
+    -- what cancels works on an object
+    ∷ fails Cancel (WrongKind ∷ [])
     ∷ listed_case Cancel Idle []
     ∷ listed_case Cancel Active []
     ∷ listed_case Cancel Issued (RequestOverlap ∷ [])

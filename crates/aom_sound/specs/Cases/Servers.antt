@@ -41,6 +41,7 @@ taking = record (fails (TakeMessage 0) []) { role = Attends; cells = a_message �
 abbrev pub taking_cases : List Case
 taking_cases =
     taking
+    ∷ fails (TakeMessage 0) (NullOrDead ∷ NullOrDead ∷ [])
     ∷ record taking { role = Do; unmet = NullOrDead ∷ [] }
     ∷ record taking { cells = []; unmet = NullOrDead ∷ [] }
     ∷ record taking { cells = a_message ∷ a_cell 3 leaf (mine 0) ∷ []; unmet = Orphan ∷ [] }
@@ -53,6 +54,7 @@ replying = record (fails (Reply 0 1) []) { words = None ∷ seven ∷ []; cells 
 abbrev pub replying_cases : List Case
 replying_cases =
     replying
+    ∷ fails (Reply 0 1) (NullOrDead ∷ WrongKind ∷ [])
     ∷ record replying { words = seven ∷ seven ∷ []; unmet = WrongKind ∷ [] }
     ∷ record replying { cells = []; unmet = NullOrDead ∷ [] }
     ∷ record replying { cells = a_cell 1 leaf (mine 0) ∷ []; unmet = WrongKind ∷ [] }
