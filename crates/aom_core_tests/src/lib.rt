@@ -6,24 +6,4 @@
 #![tactic(auto)]
 
 #[cfg(test)]
-mod boots;
-#[cfg(test)]
-mod budgets;
-#[cfg(test)]
-mod images;
-#[cfg(test)]
-mod lines;
-#[cfg(test)]
-mod prices;
-#[cfg(test)]
-mod rules;
-#[cfg(test)]
-mod runs;
-#[cfg(test)]
-mod states;
-#[cfg(test)]
-mod steps;
-#[cfg(test)]
-mod transcripts;
-#[cfg(test)]
-mod verifier;
+mod tests;

@@ -2,20 +2,4 @@
 #![tactic(auto)]
 
 #[cfg(test)]
-mod asks;
-#[cfg(test)]
-mod bell;
-#[cfg(test)]
-mod boxes;
-#[cfg(test)]
-mod calls;
-#[cfg(test)]
-mod many;
-#[cfg(test)]
-mod probe;
-#[cfg(test)]
-mod services;
-#[cfg(test)]
-mod table;
-#[cfg(test)]
-mod types;
+mod tests;

@@ -4,30 +4,4 @@
 #![tactic(auto)]
 
 #[cfg(test)]
-mod backlog;
-#[cfg(test)]
-mod cut;
-#[cfg(test)]
-mod explaining;
-#[cfg(test)]
-mod files;
-#[cfg(test)]
-mod input;
-#[cfg(test)]
-mod memory;
-#[cfg(test)]
-mod output;
-#[cfg(test)]
-mod pages;
-#[cfg(test)]
-mod programs;
-#[cfg(test)]
-mod readers;
-#[cfg(test)]
-mod served;
-#[cfg(test)]
-mod sessions;
-#[cfg(test)]
-mod sessions_memory;
-#[cfg(test)]
-mod tally;
+mod tests;

@@ -3,14 +3,4 @@
 #![tactic(auto)]
 
 #[cfg(test)]
-mod clients;
-#[cfg(test)]
-mod conditions;
-#[cfg(test)]
-mod drafts;
-#[cfg(test)]
-mod events;
-#[cfg(test)]
-mod scripts;
-#[cfg(test)]
-mod words;
+mod tests;

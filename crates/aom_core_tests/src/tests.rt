@@ -1,0 +1,11 @@
+mod boots;
+mod budgets;
+mod images;
+mod lines;
+mod prices;
+mod rules;
+mod runs;
+mod states;
+mod steps;
+mod transcripts;
+mod verifier;

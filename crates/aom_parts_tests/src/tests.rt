@@ -1,0 +1,8 @@
+mod active;
+mod cells;
+mod cleanup;
+mod frames;
+mod messages;
+mod requests;
+mod schedules;
+mod told;

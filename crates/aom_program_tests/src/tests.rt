@@ -1,0 +1,14 @@
+mod backlog;
+mod cut;
+mod explaining;
+mod files;
+mod input;
+mod memory;
+mod output;
+mod pages;
+mod programs;
+mod readers;
+mod served;
+mod sessions;
+mod sessions_memory;
+mod tally;

@@ -1,0 +1,49 @@
+//! Explanations where memory is wanting, and where the output fails.
+use super::pages::FIRST;
+use aom_explaining::{check_explained, explanation};
+use aom_main::{ExitStatus, Fault};
+use aom_pages::{Page, Slip};
+use std::test::Fail;
+
+/// Any request for memory may be refused: then the command says so behind the fault's line. Nothing here but the command asks
+/// for memory.
+#[test]
+fn explaining_may_want_memory(rt: HostRuntime) {
+    let mut written = Slip::blank();
+    let mut told = Slip::blank();
+    let ended = check_explained(rt.alloc(), b"a text", &mut written, &mut told);
+    assert!(rt; written.has(b""));
+    if ended == ExitStatus::Fault {
+        let said =
+            b"memory\nmemory: A request for memory was refused, whatever it was for. It says nothing about the image, the text or the script.\nTo mend it: Give the program more memory.\n";
+        assert!(rt; told.has(b"memory\nmemory\n") || told.has(said));
+        return;
+    }
+    assert!(rt; ended == ExitStatus::ImageRefused);
+    let said =
+        b"load 1\nwrong magic: The first four bytes are not AOIM. An assembly text is refused so.\nTo mend it: Assemble the text first, and name the image.\n";
+    assert!(rt; told.has(b"load 1\nmemory\n") || told.has(said));
+}
+
+#[test]
+fn want_of_memory_is_explained(rt: HostRuntime) -> Result<(), Fail> {
+    let said = "memory: A request for memory was refused, whatever it was for.";
+    let text = explanation(rt.alloc(), &Fault::Memory, b"", b"")?;
+    assert!(rt; text.starts_with(said.as_bytes()));
+    Ok(())
+}
+
+/// Whether a call ended and wrote so.
+fn is(ended: ExitStatus, out: &Page, errors: &Page, text: &[u8], line: &[u8]) -> bool {
+    ended == ExitStatus::Fault && out.text.as_slice() == text && errors.text.as_slice() == line
+}
+
+#[test]
+fn an_output_that_fails_is_explained(rt: HostRuntime) {
+    let mut out = Page::new(rt.alloc(), 6);
+    let mut errors = Page::new(rt.alloc(), 4096);
+    let ended = check_explained(rt.alloc(), &FIRST, &mut out, &mut errors);
+    let line =
+        b"write\nwrite: The standard output took nothing more. What is out is a beginning.\nTo mend it: Look for a full disk, or a reader that has ended.\n";
+    assert!(rt; is(ended, &out, &errors, b"accept", line));
+}

@@ -1,0 +1,105 @@
+//! Any request for memory may be refused: then a command says so, and writes nothing else. Nothing here but the
+//! command asks for memory.
+use super::pages::{Call, FIRST, FULL_HEAP, LISTING, SHORT, answer, sides};
+use aom_main::{ExitStatus, Fault, tell};
+use aom_pages::Slip;
+use std::alloc::Global;
+use std::process::Abort;
+
+/// A call ends so and tells that, or wants memory.
+fn may_tell(rt: &impl Abort, alloc: Global, call: &Call<'_>, status: ExitStatus, told: &[u8]) {
+    let mut out = Slip::blank();
+    let mut errors = Slip::blank();
+    let ended = answer(alloc, call, &mut out, &mut errors);
+    if ended == ExitStatus::Fault {
+        assert!(rt; out.has(b"") && errors.has(b"memory\n"));
+        return;
+    }
+    let (text, line) = sides(status, told);
+    assert!(rt; ended == status && out.has(text) && errors.has(line));
+}
+
+/// The calls, how they end, and what they tell.
+const CASES: [(Call<'static>, ExitStatus, &[u8]); 8] = [
+    (Call::Check(&FULL_HEAP), ExitStatus::Done, b"accepted\n"),
+    (
+        Call::Run(&FULL_HEAP, b"\n"),
+        ExitStatus::Done,
+        b"@0 main\nout 1\ngone 0\nend stopped cells 0\n",
+    ),
+    (
+        Call::Prices(&FIRST),
+        ExitStatus::Done,
+        b"accepted\nmain price 4 declared 4\nframes 1 of 256\nentries 0 of 1024\nmethod 0 price 4 frames 1 entries 0\n",
+    ),
+    (
+        Call::Dot(&FIRST),
+        ExitStatus::Done,
+        b"digraph aom {\nm0 [label=\"m0 main\\nprice 4 frames 1 entries 0\"]\n}\n",
+    ),
+    (Call::Asm(SHORT), ExitStatus::Done, &FIRST),
+    (Call::Dis(&FIRST), ExitStatus::Done, LISTING),
+    // a refusal may want memory too
+    (
+        Call::Asm(b"image budget 4\nfoo"),
+        ExitStatus::ImageRefused,
+        b"asm 2 2\n",
+    ),
+    (
+        Call::Run(&FIRST, b"x"),
+        ExitStatus::CallRefused,
+        b"script 1 2\n",
+    ),
+];
+
+/// Each of these ends and tells so, or wants memory.
+fn all_may_tell(rt: &impl Abort, alloc: Global, cases: &[(Call<'_>, ExitStatus, &[u8])]) {
+    for case in cases {
+        may_tell(rt, alloc, &case.0, case.1, case.2);
+    }
+}
+
+#[test]
+fn each_call_may_want_memory(rt: HostRuntime) {
+    all_may_tell(&rt, rt.alloc(), &CASES);
+    let short = Call::Check(&FIRST[..79]);
+    may_tell(
+        &rt,
+        rt.alloc(),
+        &short,
+        ExitStatus::ImageRefused,
+        b"load 3\n",
+    );
+}
+
+/// The first image, which declares a step less than main takes.
+const UNPAID: [u8; 80] = [
+    0x41, 0x4f, 0x49, 0x4d, 0, 1, 0, 0, 0, 1, 0, 1, 0, 0, 0, 0, 0xff, 0xff, 0, 0, 0, 0, 0, 3, //
+    0xff, 0xff, 1, 0, 0, 0, 0, 0, 0, 0, 0, 0, 0, 0, 0, 0, 0, 0, 0, 0, 0xff, 0xff, 0, 4, //
+    1, 0, 0, 0, 0, 0, 0, 7, 0x13, 0, 0, 0, 0, 0, 0, 0, 0x30, 0, 0, 0, 0, 0, 0, 0, 0x22, 0, 0, 0, 0,
+    0, 0, 0,
+];
+
+/// Figures of an image that is refused go to the output, and why it is refused to the errors.
+#[test]
+fn refusing_with_figures_may_want_memory(rt: HostRuntime) {
+    let mut out = Slip::blank();
+    let mut errors = Slip::blank();
+    let ended = answer(rt.alloc(), &Call::Prices(&UNPAID), &mut out, &mut errors);
+    if ended == ExitStatus::Fault {
+        assert!(rt; out.has(b"") && errors.has(b"memory\n"));
+        return;
+    }
+    let text =
+        b"main price 4 declared 3\nframes 1 of 256\nentries 0 of 1024\nmethod 0 price 4 frames 1 entries 0\n";
+    let line = b"budget 1 main price 4 declared 3\n";
+    assert!(rt; ended == ExitStatus::ImageRefused && out.has(text) && errors.has(line));
+}
+
+/// That it is wanting has its line and its status.
+#[test]
+fn want_of_memory_is_told(rt: HostRuntime) {
+    let mut errors = Slip::blank();
+    let status = tell(&Fault::Memory, &mut errors);
+    assert!(rt; status.number() == 5 && errors.has(b"memory\n"));
+}

@@ -1,0 +1,6 @@
+mod clients;
+mod conditions;
+mod drafts;
+mod events;
+mod scripts;
+mod words;

@@ -1,0 +1,5 @@
+mod images;
+mod listings;
+mod programs;
+mod statements;
+mod vectors;
