@@ -1,5 +1,5 @@
 -- What the cases are made of: a small image, states of it, and what comes of a case.
-use Rattle.std.specs.Prelude.{ℕ, ◌+◌, ℤ, pos, Bool, true, false, cond, ◌&&◌, ◌==◌, ◌≡◌, map, List, [], ◌∷◌, Option, Some, None}
+use Rattle.std.specs.Prelude.{ℕ, ◌+◌, ℤ, pos, Bool, true, false, cond, ◌&&◌, ◌≡◌, map, List, [], ◌∷◌, Option, Some, None}
 use Rattle.aom_image.specs.Image.{Image}
 use Rattle.aom_image.specs.declared.class.ClassDecl.{ClassDecl}
 use Rattle.aom_image.specs.declared.class.ClassKind.TheVariants.{Active, Plain, Server}
@@ -155,36 +155,38 @@ abbrev pub unmet : List Need → List Stuck
 unmet [] = []
 unmet (need ∷ needs) = cond need.0 (unmet needs) (need.1 ∷ unmet needs)
 
-abbrev pub kind_number : Stuck → ℕ
-kind_number Unbalanced = 1
-kind_number PopUnder = 2
-kind_number PushNoTrap = 3
-kind_number LeaveNoTrap = 4
-kind_number AlreadyActive = 5
-kind_number ActiveDestroyed = 6
-kind_number Stray = 7
-kind_number AddedWrong = 8
-kind_number RequestOverlap = 9
-kind_number CancelHang = 10
-kind_number CompletedTwice = 11
-kind_number MessageLost = 12
-kind_number Orphan = 13
-kind_number NullOrDead = 14
-kind_number WrongKind = 15
-kind_number ClosedWhileOutstanding = 16
+-- whether two kinds are one
+abbrev pub same_kind : Stuck → Stuck → Bool
+same_kind Unbalanced Unbalanced = true
+same_kind PopUnder PopUnder = true
+same_kind PushNoTrap PushNoTrap = true
+same_kind LeaveNoTrap LeaveNoTrap = true
+same_kind AlreadyActive AlreadyActive = true
+same_kind ActiveDestroyed ActiveDestroyed = true
+same_kind Stray Stray = true
+same_kind AddedWrong AddedWrong = true
+same_kind RequestOverlap RequestOverlap = true
+same_kind CancelHang CancelHang = true
+same_kind CompletedTwice CompletedTwice = true
+same_kind MessageLost MessageLost = true
+same_kind Orphan Orphan = true
+same_kind NullOrDead NullOrDead = true
+same_kind WrongKind WrongKind = true
+same_kind ClosedWhileOutstanding ClosedWhileOutstanding = true
+same_kind _ _ = false
 
 abbrev pub same_kinds : List Stuck → List Stuck → Bool
 same_kinds [] [] = true
 same_kinds [] (k ∷ ks) = false
 same_kinds (k ∷ ks) [] = false
-same_kinds (k ∷ ks) (x ∷ xs) = (kind_number k == kind_number x) && same_kinds ks xs
+same_kinds (k ∷ ks) (x ∷ xs) = same_kind k x && same_kinds ks xs
 
 -- stuck by the first of these kinds, or not stuck where there is none
 abbrev pub is_stuck_by : List Stuck → Outcome → Bool
 is_stuck_by [] (Goes s) = true
 is_stuck_by [] (IsStuck kind) = false
 is_stuck_by (k ∷ ks) (Goes s) = false
-is_stuck_by (k ∷ ks) (IsStuck kind) = kind_number kind == kind_number k
+is_stuck_by (k ∷ ks) (IsStuck kind) = same_kind k kind
 
 -- just those needs are not met, and the machine is stuck by the first of them
 abbrev pub bites : Case → Bool
