@@ -10,7 +10,7 @@ use thiserror::Error;
 #[derive(Clone, Copy, PartialEq, Eq, Debug, Error)]
 pub enum LinkFault {
     #[error("link 1")]
-    ClassOrder,
+    ClassOrder = 1,
     #[error("link 2")]
     CallOrder,
     #[error("link 3")]
@@ -34,17 +34,7 @@ impl LinkFault {
     pub fn number(self) -> u8
         ensures { result ≡ number_of self }
     {
-        match self {
-            LinkFault::ClassOrder => 1,
-            LinkFault::CallOrder => 2,
-            LinkFault::MissingRole => 3,
-            LinkFault::DoubleRole => 4,
-            LinkFault::RoleShape => 5,
-            LinkFault::BadJump => 6,
-            LinkFault::BadLoop => 7,
-            LinkFault::NoMain => 8,
-            LinkFault::OutOfMemory => 9,
-        }
+        self as u8
     }
 }
 

@@ -11,7 +11,7 @@ use thiserror::Error;
 /// The first fault of the bytes from left to right, or want of memory.
 #[derive(Clone, Copy, PartialEq, Eq, Debug, Error)]
 pub enum LoadFault {
-    BadMagic,
+    BadMagic = 1,
     BadVersion,
     /// A field whose bytes are not all there.
     Truncated,
@@ -32,18 +32,7 @@ impl LoadFault {
     pub fn number(self) -> u8
         ensures { result ≡ fault_number self }
     {
-        match self {
-            LoadFault::BadMagic => 1,
-            LoadFault::BadVersion => 2,
-            LoadFault::Truncated => 3,
-            LoadFault::Trailing => 4,
-            LoadFault::LimitPassed => 5,
-            LoadFault::BadOpcode => 6,
-            LoadFault::BadOperand => 7,
-            LoadFault::BadIndex => 8,
-            LoadFault::NotZero => 9,
-            LoadFault::OutOfMemory => 10,
-        }
+        self as u8
     }
 }
 

@@ -6,7 +6,7 @@ ghost use Rattle.aom_debug_words.specs.Faults.{number_of};
 #[derive(Clone, Copy, PartialEq, Eq)]
 pub enum DebugFault {
     /// A word that is unknown, too few or too many of them, a number that is none or out of its range, or a line that is too long.
-    BadCommand,
+    BadCommand = 1,
     /// A place that is none, or a breakpoint more than there may be.
     NoSuch,
     /// The run has ended, or nothing can be written any more.
@@ -21,12 +21,6 @@ impl DebugFault {
     pub fn number(self) -> u32
         ensures { result ≡ number_of self }
     {
-        match self {
-            DebugFault::BadCommand => 1,
-            DebugFault::NoSuch => 2,
-            DebugFault::Ended => 3,
-            DebugFault::OutOfMemory => 4,
-            DebugFault::WriteFault => 5,
-        }
+        self as u32
     }
 }

@@ -34,18 +34,7 @@ impl Role {
         ensures value { result ≡ role_number self }
         ensures small { result < 10 }
     {
-        match self {
-            Role::Do => 0,
-            Role::Main => 1,
-            Role::Construct => 2,
-            Role::Destruct => 3,
-            Role::Run => 4,
-            Role::Cancel => 5,
-            Role::Error => 6,
-            Role::Accept => 7,
-            Role::Service => 8,
-            Role::Undo => 9,
-        }
+        self as u8
     }
 }
 

@@ -9,7 +9,7 @@ use thiserror::Error;
 pub enum BootFault {
     /// There are fewer natives than the image names.
     #[error("boot 1")]
-    TooFewNatives,
+    TooFewNatives = 1,
     #[error("boot 2")]
     OutOfMemory,
 }
@@ -19,9 +19,6 @@ impl BootFault {
     pub fn number(self) -> u8
         ensures { result ≡ fault_number self }
     {
-        match self {
-            BootFault::TooFewNatives => 1,
-            BootFault::OutOfMemory => 2,
-        }
+        self as u8
     }
 }

@@ -22,13 +22,6 @@ impl ExitStatus {
     pub fn number(self) -> u8
         ensures { result ≡ status_number self }
     {
-        match self {
-            ExitStatus::Done => 0,
-            ExitStatus::ImageRefused => 1,
-            ExitStatus::CallRefused => 2,
-            ExitStatus::Unfinished => 3,
-            ExitStatus::Broken => 4,
-            ExitStatus::Fault => 5,
-        }
+        self as u8
     }
 }

@@ -10,7 +10,7 @@ use std::fmt;
 #[derive(Clone, Copy, PartialEq, Eq, Debug)]
 pub enum ScriptFaultKind {
     /// A byte outside 32 to 126 that is no tab, carriage return or line feed.
-    NotAscii,
+    NotAscii = 1,
     /// No line of a script begins so, or it has too few or too many words.
     BadLine,
     /// A word that should be a number is none.
@@ -28,14 +28,7 @@ impl ScriptFaultKind {
     pub fn number(self) -> u32
         ensures { result ≡ number_of self }
     {
-        match self {
-            ScriptFaultKind::NotAscii => 1,
-            ScriptFaultKind::BadLine => 2,
-            ScriptFaultKind::BadNumber => 3,
-            ScriptFaultKind::TimeBack => 4,
-            ScriptFaultKind::LimitPassed => 5,
-            ScriptFaultKind::OutOfMemory => 6,
-        }
+        self as u32
     }
 }
 

@@ -5,7 +5,7 @@ ghost use Rattle.aom_shape.specs.Whys.{why_number};
 /// The first need of an instruction that its abstract state does not meet.
 #[derive(Clone, Copy, PartialEq, Eq, Debug)]
 pub enum Why {
-    RegisterKind,
+    RegisterKind = 1,
     OwnedAtLeave,
     OwnedAtReturn,
     CleanupAtReturn,
@@ -33,6 +33,6 @@ impl Why {
     pub fn number(self) -> u8
         ensures { result ≡ why_number self }
     {
-        self as u8 + 1
+        self as u8
     }
 }

@@ -10,7 +10,7 @@ use std::fmt;
 #[derive(Clone, Copy, PartialEq, Eq, Debug)]
 pub enum AsmFaultKind {
     /// A byte outside 32 to 126 that is no tab, carriage return or line feed.
-    NotAscii,
+    NotAscii = 1,
     /// Where a word of the language is expected, a word that is none.
     UnknownWord,
     /// A word that should be a number is none.
@@ -31,16 +31,7 @@ impl AsmFaultKind {
     pub fn number(self) -> u32
         ensures { result ≡ number_of self }
     {
-        match self {
-            AsmFaultKind::NotAscii => 1,
-            AsmFaultKind::UnknownWord => 2,
-            AsmFaultKind::BadNumber => 3,
-            AsmFaultKind::UnknownName => 4,
-            AsmFaultKind::DoubleName => 5,
-            AsmFaultKind::BadShape => 6,
-            AsmFaultKind::LimitPassed => 7,
-            AsmFaultKind::OutOfMemory => 8,
-        }
+        self as u32
     }
 }
 
