@@ -70,8 +70,7 @@ unfolding kind_of sessions_in
 serving_class p (An_object_of c) e = go (sessions_at p c) refl e
   where
     go : (k : Option ℕ) → sessions_at p c ≡ k → is_some k ≡ true → (d k : ℕ) × (An_object_of c ≡ An_object_of d) × (sessions_at p d ≡ Some k)
-    go None at e = cc
-    go (Some k) at e = (c, k, refl, at)
+    go k at e = grind arith
 serving_class p Message e = cc
 
 -- a session is not enlisted
