@@ -1,5 +1,5 @@
 -- What clients have at the cells where these change: by what a change keeps of a cell.
-use Rattle.std.proofs.Common.{Bool, List, None, Option, Some, [], ap, false, refl, subst, true, ℕ, ℤ, ◌==◌, ◌∙◌, ◌∷◌, ◌≡◌}
+use Rattle.std.proofs.Common.{arith, Bool, List, None, Option, Some, [], ap, false, refl, subst, true, ℕ, ℤ, ◌==◌, ◌∙◌, ◌∷◌, ◌≡◌}
 use Rattle.aom_image.specs.Image.{Image}
 use Rattle.aom_sound.specs.WellTyped.{AllSit, SitsFirst, seat_of, EndsSessions, IsAttended, StageFits}
 use Rattle.aom_sound.specs.Servers.{is_among, has_session}
@@ -77,10 +77,7 @@ attended_at p cs cs' d service = attended_alike p cs cs' d (λ y e. ap (λ v. v.
 
 -- the object that is dispatched lives, and is at its place
 pub sits_there : (cs : List Cell) (seats : List Seat) (y : Seat) → AllSit cs seats → SitsFirst cs (Some y) seats → (held cs y.place ≡ Some y.object) × (named cs y.object.name ≡ Some y.object)
-sits_there cs (x ∷ seats) y sits first =
-    let same : x ≡ y = cc in
-    subst (λ (z : Seat). (held cs z.place ≡ Some z.object) × (named cs z.object.name ≡ Some z.object)) same (sits.0.0, sits.0.1)
-sits_there cs [] y sits first = cc
+sits_there cs seats y sits first = grind arith
 
 pub sits_lives : (cs : List Cell) (seats : List Seat) (y : Seat) → AllSit cs seats → SitsFirst cs (Some y) seats → named cs y.object.name ≡ Some y.object
 sits_lives cs seats y sits first = (sits_there cs seats y sits first).1

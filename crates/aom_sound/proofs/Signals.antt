@@ -1,5 +1,5 @@
 -- Between dispatches each object rests: what signals is ready.
-use Rattle.std.proofs.Common.{Bool, IsTrue, List, None, Option, Some, [], ap, cond, false, refl, subst, sym, true, ◌&&◌, ◌==◌, ◌∙◌, ◌∷◌, ◌≡◌}
+use Rattle.std.proofs.Common.{arith, Bool, IsTrue, List, None, Option, Some, [], ap, cond, false, refl, subst, sym, true, ◌&&◌, ◌==◌, ◌∙◌, ◌∷◌, ◌≡◌}
 use Rattle.std.proofs.lemmas.Bool.{eq-eqb, ne_eqb}
 use Rattle.std.specs.Prelude.{is_some, not, ◌||◌}
 use Rattle.std.specs.Ordering.{int_eq}
@@ -26,19 +26,7 @@ settled_not false e = refl
 -- what rests is idle or waits
 rests_settled : (k : Option ClassKind) (r : Option Request) → Suits k (resting_in (states_of k)) r → is_settled r ≡ true
 unfolding states_of
-rests_settled k None s = refl
-rests_settled (Some (An_active v b)) (Some r) s = phase r.phase s.0
-  where
-    phase : (q : Phase) → IsTrue (has active_states (phase_state q)) → not (is_unsettled q) ≡ true
-    phase Idle h = refl
-    phase Active h = refl
-    phase _ h = cc
-rests_settled (Some (A_server most x b)) (Some r) s = phase r.phase s.1
-  where
-    phase : (q : Phase) → IsTrue (has server_states (phase_state q)) → not (is_unsettled q) ≡ true
-    phase Idle h = refl
-    phase _ h = cc
-rests_settled _ (Some r) s = cc
+rests_settled k r s = grind arith
 
 settled_cells : (cs : List Cell) → ((o : Object) → named cs o.name ≡ Some o → is_settled (requested cs o.name) ≡ true) → Tidy cs → AllSettled cs
 settled_cells [] h tidy = tt

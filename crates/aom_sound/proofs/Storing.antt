@@ -6,7 +6,7 @@ use Rattle.aom_sound.proofs.Altering.{Alters, asking, bereaving, held_kept, name
 use Rattle.aom_sound.proofs.Services.{attended_kept, sessions_kept}
 use Rattle.aom_sound.specs.Servers.{is_among, is_message, message_thing, has_message, has_session, session_thing}
 use Rattle.aom_sound.proofs.Seats.{first_kept}
-use Rattle.std.proofs.Common.{Bool, List, Option, Some, [], ap, cond, false, refl, subst, sym, true, ℕ, ℤ, ◌==◌, ◌∙◌, ◌∷◌, ◌≡◌}
+use Rattle.std.proofs.Common.{arith, Bool, List, Option, Some, [], ap, cond, false, refl, subst, sym, true, ℕ, ℤ, ◌==◌, ◌∙◌, ◌∷◌, ◌≡◌}
 use Rattle.aom_image.specs.Image.{Image}
 use Rattle.aom_shape.specs.Kinds.{is_ready_kind, filled}
 use Rattle.aom_shape.specs.Shape.{Shape}
@@ -71,8 +71,7 @@ pub requested_there : (cs : List Cell) (n m : ℕ) (r : Option Request) → (n =
 requested_there cs n m r = read_there (asking n r) requests n r (λ c. refl) cs m
 
 pub on_some : (f : Request → Request) (r : Option Request) → is_some r ≡ true → is_some (on_request f r) ≡ true
-on_some f (Some r) e = refl
-on_some f _ e = cc
+on_some f r e = grind arith
 
 -- what is enlisted stays so where another request is put in the place of one that there is
 asked_some : (cs : List Cell) (n m : ℕ) (r : Option Request) → ((n == m) ≡ true → is_some r ≡ true) → is_some (requested cs m) ≡ true → is_some (requested (set_request n r cs) m) ≡ true
