@@ -1,5 +1,5 @@
 -- The layer on top of a stack of layers, read off the task on top of its tasks.
-use Rattle.std.proofs.Common.{arith, ℕ, List, ◌∷◌, ◌≡◌, ℤ, subst}
+use Rattle.std.proofs.Common.{ℕ, List, ◌∷◌, ◌≡◌, ℤ, subst}
 use Rattle.aom_image.specs.declared.method.Gives.{Gives}
 use Rattle.aom_shape.specs.Shape.{Shape}
 use Rattle.aom_shape.specs.declared.kind.Entry.{Entry as Pushed}

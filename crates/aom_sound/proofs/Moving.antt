@@ -1,5 +1,5 @@
 -- Each step is a move: an instruction has its effect, and may have it.
-use Rattle.std.proofs.Common.{arith, List, None, Option, Some, [], cond, length, refl, subst, sym, ℤ, ◌∷◌, ◌≡◌}
+use Rattle.std.proofs.Common.{List, None, Option, Some, [], cond, length, refl, subst, sym, ℤ, ◌∷◌, ◌≡◌}
 use Rattle.std.specs.Prelude.{is_some}
 use Rattle.aom_image.specs.Image.{Image}
 use Rattle.aom_image.specs.Views.{instr_at}

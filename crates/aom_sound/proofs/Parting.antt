@@ -1,5 +1,5 @@
 -- What a server's dispatch ends with: the entry is served, and it goes on as the dispatch of an object.
-use Rattle.std.proofs.Common.{arith, Bool, List, None, Option, Some, [], ap, cond, false, refl, subst, sym, true, ℕ, ℤ, ◌==◌, ◌∙◌, ◌∷◌, ◌≡◌}
+use Rattle.std.proofs.Common.{arith, Bool, List, Option, Some, [], ap, cond, false, refl, subst, sym, true, ℕ, ℤ, ◌==◌, ◌∙◌, ◌∷◌, ◌≡◌}
 use Rattle.std.proofs.lemmas.Bool.{eqb-true}
 use Rattle.std.specs.Prelude.{filter, is_some, not, ◌&&◌, ◌||◌}
 use Rattle.aom_image.specs.Image.{Image}
@@ -20,7 +20,7 @@ use Rattle.aom_sound.specs.Moves.{dispatch_ends, needs_end, stage_ends}
 use Rattle.aom_sound.specs.Places.{Cell, Elsewhere, Field, In_service, Object, Place, Queued, Service, Session, held, named, same_place, seen, service_of, set_service, without}
 use Rattle.aom_sound.specs.Requests.{Suits, states_claim, thing_kind}
 use Rattle.aom_sound.specs.Servers.{has_message, has_session, is_among, is_other, message_thing, parted, session_thing}
-use Rattle.aom_sound.specs.State.{Accept_left, Accepted, CompletedTwice, Dispatched, Goes, IsStuck, Of_object, Of_server, Parts, Seat, Service_left, Serves, Stage, State, guarded}
+use Rattle.aom_sound.specs.State.{Accept_left, Accepted, CompletedTwice, Dispatched, Goes, IsStuck, Of_object, Of_server, Parts, Seat, Service_left, Stage, State, guarded}
 use Rattle.aom_sound.specs.WellTyped.{Now, AllSit, AllUndo, Fits, Good, Keeps, WellTyped}
 
 -- a client that has parted is not among them, and all others are

@@ -6,9 +6,6 @@ use Rattle.std.specs.Prelude.{bit_and, bit_or, is_none, is_some, not}
 use Rattle.aom_image.specs.Image.{Image}
 use Rattle.aom_image.specs.Views.{has, method_class, method_role}
 use Rattle.aom_image.specs.declared.class.ClassKind.{ClassKind}
-use Rattle.aom_image.specs.declared.class.ClassKind.TheVariants.{Active as An_active, Server as A_server}
-use Rattle.aom_image.specs.declared.class.Provider.{Provider}
-use Rattle.aom_image.specs.declared.class.Provider.TheVariants.{Own, Timer as A_timer, Native}
 use Rattle.aom_image.specs.declared.method.Role.TheVariants.{Main}
 use Rattle.aom_instructions.specs.declared.instr.Instr.TheVariants.{Abort, Enlist, Issue, JumpActive, JumpAdded, SetActive, Status}
 use Rattle.aom_roles.specs.Shapes.{kind_of}
@@ -24,18 +21,17 @@ use Rattle.aom_shape.specs.Things.{holder_by, holder_of}
 use Rattle.aom_sound.proofs.Callees.{holder_member, home_member, member_kind}
 use Rattle.aom_sound.proofs.Storing.{Alike, alike_itself, fits_alike, housed_alike, listed_still, on_some, requested_here, requested_there, rerequested_alike, stack_alike}
 use Rattle.aom_sound.proofs.Straight.{At, Fitted, Law, fitted, reframed, settle, stepped, this_is_ready, well}
-use Rattle.aom_sound.proofs.Suiting.{idle_timed, timed_on, same_object}
+use Rattle.aom_sound.proofs.Suiting.{same_object}
 use Rattle.aom_sound.proofs.Words.{has_word, unowned, writes_word}
 use Rattle.aom_sound.specs.Claims.{Layer, Method, claim, declared, home_claim, root_claim, tasks_of}
 use Rattle.aom_sound.specs.Effects.{Requested, applied, jumps_if, updates, asking_with}
-use Rattle.aom_sound.specs.Enlisted.{aborted, cancelled_code, first_request, home_kind, in_phase, is_active, is_busy, is_cancelling, is_idle, is_issued, issued_by, issued_of, on_request, own_request, pending, rerequested, status_of, waits, Asking}
+use Rattle.aom_sound.specs.Enlisted.{aborted, first_request, home_kind, in_phase, is_active, is_busy, is_cancelling, is_idle, is_issued, issued_of, on_request, own_request, rerequested, status_of, waits, Asking}
 use Rattle.aom_sound.specs.Laws.{IsWired}
-use Rattle.aom_sound.specs.Places.{Aborted, Active, Cancelling, Cell, Elsewhere, Entry, Field, Idle, Issued, Object, Phase, Place, Register, Request, Root, held, named, requested, same_place, seen}
-use Rattle.aom_sound.specs.Requests.{is_timed, Known, Suits, known_at, phase_state, state_of, states_claim, thing_kind, works_at}
+use Rattle.aom_sound.specs.Places.{Cell, Elsewhere, Entry, Field, Object, Place, Register, Request, Root, held, named, requested, same_place, seen}
+use Rattle.aom_sound.specs.Requests.{Known, Suits, known_at, state_of, states_claim, thing_kind, works_at}
 use Rattle.aom_sound.specs.State.{AtRoot, Choice, Frame, Home, Inside, Run, State, Static, field_place, home_holder, next, to_place}
 use Rattle.aom_sound.specs.WellTyped.{Fits, IsHoused, WellTyped}
 use Rattle.aom_sound.specs.Words.{read}
-use Rattle.std.specs.Ordering.{int_eq}
 use Rattle.aom_instructions.specs.declared.instr.Instr.{Instr}
 
 -- ---- what is known of a request

@@ -1,5 +1,5 @@
 -- Seats: which places are none, and that those who sit stay where cells change elsewhere.
-use Rattle.std.proofs.Common.{arith, List, Option, Some, None, [], ap, refl, subst, true, false, ◌&&◌, ◌==◌, ◌∷◌, ◌≡◌}
+use Rattle.std.proofs.Common.{arith, List, Option, Some, None, [], subst, true, false, ◌∷◌, ◌≡◌}
 use Rattle.std.specs.Prelude.{is_some}
 use Rattle.aom_sound.specs.Places.{Cell, Elsewhere, Entry, Field, Going, Object, Place, Register, held, named, requested, same_place}
 use Rattle.aom_sound.specs.State.{Seat}

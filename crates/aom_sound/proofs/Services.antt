@@ -1,5 +1,5 @@
 -- What clients have at the cells where these change: by what a change keeps of a cell.
-use Rattle.std.proofs.Common.{arith, Bool, List, None, Option, Some, [], ap, false, refl, subst, true, ℕ, ℤ, ◌==◌, ◌∙◌, ◌∷◌, ◌≡◌}
+use Rattle.std.proofs.Common.{arith, Bool, List, None, Option, Some, ap, false, refl, true, ℕ, ℤ, ◌==◌, ◌∙◌, ◌≡◌}
 use Rattle.aom_image.specs.Image.{Image}
 use Rattle.aom_sound.specs.WellTyped.{AllSit, SitsFirst, seat_of, EndsSessions, IsAttended, StageFits}
 use Rattle.aom_sound.specs.Servers.{is_among, has_session}

@@ -5,8 +5,6 @@ use Rattle.std.specs.Ordering.{int_eq}
 use Rattle.aom_image.specs.Image.{Image}
 use Rattle.aom_image.specs.Views.{has, method_role}
 use Rattle.aom_image.specs.declared.class.ClassKind.{ClassKind}
-use Rattle.aom_image.specs.declared.class.ClassKind.TheVariants.{Active as An_active}
-use Rattle.aom_image.specs.declared.class.Provider.TheVariants.{Native}
 use Rattle.aom_image.specs.declared.method.Role.TheVariants.{Main}
 use Rattle.aom_instructions.specs.declared.instr.Instr.TheVariants.{Ask, Close, Connect}
 use Rattle.aom_roles.specs.States.{server_states}
@@ -25,7 +23,7 @@ use Rattle.aom_sound.specs.Effects.{heard}
 use Rattle.aom_sound.specs.Enlisted.{home_kind, is_idle, own_request, pending}
 use Rattle.aom_sound.specs.Moves.{does}
 use Rattle.aom_sound.specs.Natives.{connected, is_owed, opens, replied, resessioned}
-use Rattle.aom_sound.specs.Places.{Idle, Phase, Request}
+use Rattle.aom_sound.specs.Places.{Phase, Request}
 use Rattle.aom_sound.specs.Requests.{phase_state, state_of}
 use Rattle.aom_sound.specs.State.{Choice, Frame, State, next, set_word}
 use Rattle.aom_instructions.specs.declared.instr.Instr.{Instr}

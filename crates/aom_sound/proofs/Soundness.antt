@@ -4,8 +4,6 @@ use Rattle.aom_image.specs.declared.method.Role.TheVariants.{Error as Error_role
 use Rattle.aom_sound.proofs.ClientsKeep.{clients_keep}
 use Rattle.aom_sound.specs.Kept.{IsKept}
 use Rattle.aom_sound.specs.Enlisted.{part_of}
-use Rattle.aom_sound.proofs.Turned.{commanded_kept, picked_rest, polled_rest}
-use Rattle.aom_sound.proofs.Guarded.{goes_same}
 use Rattle.aom_sound.proofs.Signals.{signals_are_ready}
 use Rattle.aom_sound.proofs.Turning.{turn_goes_on}
 use Rattle.std.proofs.Common.{arith, Bool, List, None, Option, Some, [], ap, cond, false, inl, inr, refl, subst, sym, true, ⊎_elim, ◌∙◌, ◌∷◌, ◌≡◌, pos, ℤ, ℕ}
@@ -26,10 +24,10 @@ use Rattle.aom_sound.specs.Moves.{IsOpen, answered, asking, counted, dispatch_en
 use Rattle.aom_sound.specs.Places.{Elsewhere, Object, Root, held}
 use Rattle.aom_sound.specs.Quiet.{IsCalm}
 use Rattle.aom_sound.specs.Registers.{AllInRange}
-use Rattle.aom_sound.specs.State.{Of_server, Accept_left, Answered, Asks, Object_left, Of_object, Choice, Dispatch, Dispatched, Goes, IsStuck, Main_left, Of_main, Of_root, Outcome, Rest, State, Task}
+use Rattle.aom_sound.specs.State.{Of_server, Accept_left, Answered, Asks, Object_left, Of_object, Choice, Dispatch, Dispatched, Goes, Main_left, Of_main, Of_root, Outcome, Rest, State, Task}
 use Rattle.aom_sound.specs.Steps.{Move}
 use Rattle.aom_sound.specs.WellTyped.{Good, Keeps, WellTyped}
-use Rattle.aom_sound.specs.World.{Obeys, heard_one, Cuts, Heard, IsBetween, IsBusy, Outside, Picks, Reaches, Strays, Turning, Waits, begins, boot_state, moves, turn, turned, turning, turns, Polls}
+use Rattle.aom_sound.specs.World.{Heard, IsBetween, IsBusy, Outside, Reaches, Turning, begins, boot_state, moves, turn, turned, turning, turns}
 use Rattle.aom_transcript.specs.declared.line.Ending.{Ending}
 use Rattle.aom_transcript.specs.declared.line.Ending.TheVariants.{Stopped}
 use Rattle.aom_transcript.specs.declared.line.Line.{Line}

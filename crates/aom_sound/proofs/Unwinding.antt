@@ -1,5 +1,5 @@
 -- Each move of an unwinding keeps the typing: an object is destroyed, an operation runs, or the code arrives.
-use Rattle.std.proofs.Common.{arith, Bool, List, [], ap, cond, false, length, refl, subst, sym, true, ℤ, ◌&&◌, ◌==◌, ◌∷◌, ◌≡◌}
+use Rattle.std.proofs.Common.{Bool, List, [], ap, cond, false, length, refl, subst, sym, true, ℤ, ◌&&◌, ◌==◌, ◌∷◌, ◌≡◌}
 use Rattle.aom_image.specs.Image.{Image}
 use Rattle.aom_shape.specs.Kinds.{entry_kind}
 use Rattle.aom_rules.specs.Requests.{is_cancel}

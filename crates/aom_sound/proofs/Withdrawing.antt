@@ -1,6 +1,6 @@
 -- Between dispatches the cells that a client leaves as it closes or dies are well typed: its messages that wait go with their entries.
 use Rattle.std.proofs.Common.{arith, Bool, List, None, Option, Some, [], ap, cond, false, inl, inr, refl, subst, sym, true, ℕ, ◌&&◌, ◌==◌, ◌∙◌, ◌∷◌, ◌≡◌}
-use Rattle.std.proofs.lemmas.Bool.{eq-eqb, eqb-true, ne_eqb, true≢false}
+use Rattle.std.proofs.lemmas.Bool.{eq-eqb, true≢false}
 use Rattle.std.specs.List.{list_any}
 use Rattle.std.specs.Prelude.{filter, not, ◌||◌, ◌⊎◌}
 use Rattle.aom_image.specs.Image.{Image}
