@@ -37,7 +37,7 @@ use Rattle.aom_sound.proofs.Owners.{rank}
 use Rattle.aom_sound.proofs.Services.{held_served, named_served, requested_served, service_here, service_moved, tidy_served}
 use Rattle.aom_sound.proofs.Signals.{at_rest}
 use Rattle.aom_sound.proofs.Straight.{fits_unowning}
-use Rattle.aom_sound.proofs.Things.{stands_same}
+use Rattle.aom_sound.proofs.Things.{serving_class, stands_same}
 use Rattle.aom_sound.specs.Claims.{Dispatching, Layer, Mark, claim, declared, declared_field, forms, items_of, serves}
 use Rattle.aom_sound.specs.Clients.{client_at}
 use Rattle.aom_sound.specs.Enlisted.{part_of}
@@ -63,15 +63,6 @@ sits_same cs cs' places names (x ∷ xs) s = ((places x.place ∙ s.0.0, names x
 pub suits_serving : (k : Option ClassKind) (r : Request) → is_some (sessions_in k) ≡ true → Suits k (resting_in (states_of k)) (Some r) → Suits k (resting_in idle) (Some r)
 unfolding sessions_in sessions_of states_of
 suits_serving k r e s = grind arith
-
--- its class
-pub serving_class : (p : Image) (x : Thing) → is_server p x ≡ true → (c k : ℕ) × (x ≡ An_object_of c) × (sessions_at p c ≡ Some k)
-unfolding kind_of sessions_in
-serving_class p (An_object_of c) e = go (sessions_at p c) refl e
-  where
-    go : (k : Option ℕ) → sessions_at p c ≡ k → is_some k ≡ true → (d k : ℕ) × (An_object_of c ≡ An_object_of d) × (sessions_at p d ≡ Some k)
-    go k at e = grind arith
-serving_class p Message e = cc
 
 -- a session is not enlisted
 pub suits_session :
