@@ -21,7 +21,7 @@ use Rattle.aom_shape.specs.declared.kind.Kind.{Kind}
 use Rattle.aom_shape.specs.declared.kind.Kind.TheVariants.{Maybe, Null, Own, Unset, Word}
 use Rattle.aom_sound.proofs.Claimed.{claim_entry_above, claim_register_above}
 use Rattle.aom_sound.proofs.Items.{length_forms}
-use Rattle.aom_sound.proofs.Maps.{same_place-true, same_place_refl}
+use Rattle.aom_sound.proofs.Maps.{found, of_name, same_place-true, same_place_refl}
 use Rattle.aom_sound.proofs.Things.{serving_class, stands_same}
 use Rattle.aom_sound.specs.Claims.{Dispatching, Dying, Ending, Layer, Mark, Mark_form, Method, Object_form, Unwinding, by_close, by_stage, claim, delivered, serves, declared, declared_field, entry_claim, entry_form, form, forms, home_claim, is_of_root, items_of, objects, root_claim, task_of, tasks_of}
 use Rattle.aom_sound.specs.Laws.{EndsEmpty, EndsOwned, IsWired}
@@ -59,12 +59,8 @@ later cs c q o t h = go (same_place c.owner q) refl
 
 -- a cell that is named is held somewhere
 pub named_held : (cs : List Cell) (n : ℕ) (o : Object) → Tidy cs → named cs n ≡ Some o → (q : Place) × (held cs q ≡ Some o)
-named_held [] n o t e = cc
-named_held (c ∷ cs) n o t e = go (c.object.name == n) (λ e. named_held cs n o t.2 e) e
-  where
-    go : (b : Bool) → (named cs n ≡ Some o → (q : Place) × (held cs q ≡ Some o)) → cond b (Some c.object) (named cs n) ≡ Some o → (q : Place) × (held (c ∷ cs) q ≡ Some o)
-    go true ih e = (c.owner, held_first c cs ∙ e)
-    go false ih e = let w = ih e in (w.0, later cs c w.0 o t w.1)
+named_held cs n o t e = found (of_name n) o (λ cs. Tidy cs → (q : Place) × (held cs q ≡ Some o)) (λ c cs at is t. (c.owner, held_first c cs ∙ ap (λ x. Some x) is))
+    (λ c cs other e rest t. let w = rest t.2 in (w.0, later cs c w.0 o t w.1)) cs e t
 
 -- what is claimed to be filled is declared for a thing
 filled_thing : (k : Option Thing) (y : Filling) (x : Thing) → HasThing (filled k y) x → k ≡ Some x
@@ -315,14 +311,16 @@ pub lower_rank : (p : Image) → IsWired p → (x y : Thing) (f : ℕ) → field
 lower_rank p wired x y f e = grind arith
 
 -- only classes that are there declare fields
+declaring_class : (p : Image) (x y : Thing) (f : ℕ) → field_thing p (thing_holder x) f ≡ Some y → (c : ℕ) × (x ≡ An_object_of c)
+declaring_class p x y f e = grind arith
+
 declaring : (p : Image) (x y : Thing) (f : ℕ) → field_thing p (thing_holder x) f ≡ Some y → rank x ≤ length p.classes
 unfolding class_at fields_in
-declaring p (An_object_of c) y f e = go (slice_get p.classes c) refl e
-  where
-    go : (k : Option ClassDecl) → slice_get p.classes c ≡ k → slice_get (fields_in k) f ≡ Some y → suc c ≤ length p.classes
-    go None at h = let clash : slice_get {X = Thing} [] f ≡ Some y = h in cc
-    go (Some k) at h = let lt = slice_get_within p.classes c k at in omega arith
-declaring p Message y f e = cc
+declaring p x y f e =
+    let class = declaring_class p x y f e in
+    let its = ap (λ z. field_thing p (thing_holder z) f) (sym class.1) ∙ e in
+    subst (λ z. rank z ≤ length p.classes) (sym class.1)
+    (some_given (λ k. slice_get (fields_in k) f ≡ Some y) (slice_get p.classes class.0) its (λ none. (let clash : slice_get {X = Thing} [] f ≡ Some y = none in cc)) (λ k at _. (let lt = slice_get_within p.classes class.0 k at in omega arith)))
 
 -- what is at a server stands lower than it, and its class is there
 module _ (p : Image) (wired : IsWired p) where
