@@ -1,6 +1,6 @@
 -- A message that a client sends is well typed in the queue of its server.
 use Rattle.std.proofs.Common.{Bool, List, None, Some, [], ap, cond, false, refl, subst, sym, true, ℕ, ◌&&◌, ◌==◌, ◌∙◌, ◌∷◌, ◌≡◌}
-use Rattle.std.proofs.lemmas.Bool.{eq-eqb, eqb-true, ne_eqb}
+use Rattle.std.proofs.lemmas.Bool.{eq-eqb, eqb-true, ne_eqb, and_parts}
 use Rattle.std.proofs.lemmas.List.Folds.{list_any-append}
 use Rattle.std.specs.List.{list_any}
 use Rattle.std.specs.Prelude.{◌||◌}
@@ -135,11 +135,6 @@ module _ (p : Image) (t : Typing) (cs : List Cell) (good : Good p t cs []) (o : 
           let none : has_message (service_of cs n) m ≡ false = ap (λ v. has_message v m) (ap (λ k. service_of cs k) (sym (eqb-true name n e)) ∙ service_unnamed cs name free) in
           ap (λ b. cond b (filled (message_thing p (Some message.object)) Full) Null) none ∙ sym (ap (λ b. cond b (filled (message_thing p (named cs n)) Full) Null) none)
 
-  both : (a b : Bool) → (a && b) ≡ true → (a ≡ true) × (b ≡ true)
-  both true true e = (refl, refl)
-  both true false e = cc
-  both false b e = cc
-
   own_kind : declared p then (Elsewhere (Queued o.name name)) ≡ Own Message Ready
   own_kind =
       ap (λ b. cond b (filled (message_thing p (named then o.name)) Full) Null) waits
@@ -154,7 +149,7 @@ module _ (p : Image) (t : Typing) (cs : List Cell) (good : Good p t cs []) (o : 
       go : (b : Bool) → ((o.name == n) && (name == m)) ≡ b → Fits p (seen then) (held then (Elsewhere (Queued n m))) (declared p then (Elsewhere (Queued n m)))
       go false e = there_still (Elsewhere (Queued n m)) (held_then (Elsewhere (Queued n m)) ∙ ap (λ b. cond b (Some message.object) (held cs (Elsewhere (Queued n m)))) e) (queue_kind n m e)
       go true e =
-          let parts = both (o.name == n) (name == m) e in
+          let parts = and_parts (o.name == n) (name == m) e in
           let place : Elsewhere (Queued n m) ≡ Elsewhere (Queued o.name name) =
           ap (λ k. Elsewhere (Queued k m)) (sym (eqb-true o.name n parts.0)) ∙ ap (λ k. Elsewhere (Queued o.name k)) (sym (eqb-true name m parts.1)) in
           subst (λ y. Fits p (seen then) y (declared p then (Elsewhere (Queued n m)))) (sym (held_then (Elsewhere (Queued n m)) ∙ ap (λ b. cond b (Some message.object) (held cs (Elsewhere (Queued n m)))) e))

@@ -169,14 +169,10 @@ pub rejoins_caller :
     (works_at o.name fr.home ≡ true → IsTrue (has sh.states ends)) → IsTrue (has ends states) → unissued states ≡ true →
     Suits (thing_kind p o.thing) (record { states = states; cancelled = (states_claim p o (Method fr sh ∷ ls)).cancelled }) r →
     Suits (thing_kind p o.thing) (states_claim p o (Method fr sh ∷ ls)) r
-rejoins_caller p o fr sh states ls ends r (inl w) well within u s = go (works_at o.name fr.home) w s
-  where
-    below : Known
-    below = states_claim p o ls
-
-    go : (b : Bool) → b ≡ true → Suits (thing_kind p o.thing) (record { states = states; cancelled = (cond b (known_at p fr sh.states below) below).cancelled }) r → Suits (thing_kind p o.thing) (cond b (known_at p fr sh.states below) below) r
-    go true e s = suits_less (thing_kind p o.thing) sh.states states _ r (has_along sh.states ends states (well w) within) s
-    go false e s = cc
+rejoins_caller p o fr sh states ls ends r (inl w) well within u s =
+    let there : Known = known_at p fr sh.states (states_claim p o ls) in
+    subst (λ b. Suits (thing_kind p o.thing) (cond b there (states_claim p o ls)) r) (sym w) (suits_less (thing_kind p o.thing) sh.states states _ r (has_along sh.states ends states (well w) within)
+    (subst (λ b. Suits (thing_kind p o.thing) (record { states = states; cancelled = (cond b there (states_claim p o ls)).cancelled }) r) w s))
 rejoins_caller p o fr sh states ls ends r (inr n) well within u s =
     rests_there p o (Method fr sh ∷ ls) r n (suits_rests (thing_kind p o.thing) states r u (subst (λ (k : Known). Suits (thing_kind p o.thing) (record { states = states; cancelled = k.cancelled }) r) (unworked_rests p o (Method fr sh ∷ ls) n) s))
 
