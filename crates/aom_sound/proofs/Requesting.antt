@@ -3,6 +3,7 @@ use Rattle.std.proofs.Common.{Bool, arith, IsTrue, List, None, Option, Some, [],
 use Rattle.std.proofs.lemmas.Bool.{eq-eqb, eqb-true, true≢false}
 use Rattle.std.proofs.lemmas.Nat.{and_assoc}
 use Rattle.std.specs.Prelude.{bit_and, bit_or, is_none, is_some, not}
+use Rattle.aom_image.proofs.Given.{some_given}
 use Rattle.aom_image.specs.Image.{Image}
 use Rattle.aom_image.specs.Views.{has, method_class, method_role}
 use Rattle.aom_image.specs.declared.class.ClassKind.{ClassKind}
@@ -176,17 +177,11 @@ of_class :
     (p : Image) → ((m : ℕ) → method_role p m ≡ Some Main → own_kind p m ≡ None) → (fr : Frame) → home_holder fr.home ≡ holder_of p fr.method → is_listed_kind (own_kind p fr.method) ≡ true →
     (o : Object) × (from : Place) × (fr.home ≡ Inside o from) × (thing_kind p o.thing ≡ own_kind p fr.method)
 unfolding kind_of
-of_class p main_none fr holder listed = go (method_class p fr.method) refl listed
-  where
-    go :
-        (class : Option ℕ) → method_class p fr.method ≡ class → is_listed_kind (kind_of p class) ≡ true →
-        (o : Object) × (from : Place) × (fr.home ≡ Inside o from) × (thing_kind p o.thing ≡ own_kind p fr.method)
-    go None e l = cc
-    go (Some c) e l =
-        let no_main : method_role p fr.method ≡ Some Main → ⊥ = λ main. (let none = main_none fr.method main in grind arith) in
-        let member = holder ∙ ap (λ x. holder_by (method_role p fr.method) x) e ∙ holder_member (method_role p fr.method) c no_main in
-        let found = home_member fr.home c member in
-        (found.0, found.1, found.2, member_kind p found.0.thing c found.3 ∙ ap (λ x. kind_of p x) (sym e))
+of_class p main_none fr holder listed = some_given (λ class. is_listed_kind (kind_of p class) ≡ true) (method_class p fr.method) listed (λ none. cc) (λ c e l.
+    let no_main : method_role p fr.method ≡ Some Main → ⊥ = λ main. (let none = main_none fr.method main in grind arith) in
+    let member = holder ∙ ap (λ x. holder_by (method_role p fr.method) x) e ∙ holder_member (method_role p fr.method) c no_main in
+    let found = home_member fr.home c member in
+    (found.0, found.1, found.2, member_kind p found.0.thing c found.3 ∙ ap (λ x. kind_of p x) (sym e)))
 
 module _ (p : Image) (t : Typing) (main_none : (m : ℕ) → method_role p m ≡ Some Main → own_kind p m ≡ None) (c : Choice) (s : State) (fr : Frame) (sh : Shape) (ls : List Layer)
     (at_hand : At p t s fr sh ls) where

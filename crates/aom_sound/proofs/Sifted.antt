@@ -2,6 +2,7 @@
 use Rattle.std.proofs.Common.{arith, Bool, List, None, Option, Some, [], ap, cond, false, refl, subst, sym, true, ℕ, ◌&&◌, ◌==◌, ◌∙◌, ◌∷◌, ◌≡◌}
 use Rattle.std.proofs.lemmas.Bool.{eq-eqb, eqb-true, ne_eqb}
 use Rattle.std.proofs.lemmas.Option.{none-some}
+use Rattle.aom_image.proofs.Given.{false_given}
 use Rattle.aom_sound.proofs.Maps.{Finds, found, same_place-true, same_place_refl}
 use Rattle.aom_sound.specs.Places.{Cell, Object, Place, Request, Service, Tidy, held, named, requested, same_place, service_of, unserved}
 use Rattle.aom_sound.specs.Servers.{all_unslotted, is_from, is_queue, is_queue_of, left_by, unslotted, without_queue, withdrawn}
@@ -167,8 +168,7 @@ module _ (drops : Cell → Bool) (f : Cell → Service) where
   named_before cs n o t e = go (cell_of cs n) refl (sym (ap object_in (cell_of_sifted cs n t)) ∙ sym (named_cell (sifted drops f cs) n) ∙ e)
     where
       at : (c : Cell) → cell_of cs n ≡ Some c → (d : Bool) → drops c ≡ d → object_in (cond d None (Some (record c { service = f c }))) ≡ Some o → (c : Cell) × (cell_of cs n ≡ Some c) × (c.object ≡ o) × (drops c ≡ false)
-      at c there true ed e = cc
-      at c there false ed e = (c, there, cc, ed)
+      at c there d ed e = false_given (λ d. (drops c ≡ d) × (object_in (cond d None (Some (record c { service = f c }))) ≡ Some o)) d (ed, e) (λ h. (let clash = h.1 in cc)) (λ is h. (let same = h.1 in (c, there, (cc), h.0)))
 
       go : (x : Option Cell) → cell_of cs n ≡ x → object_in (kept x) ≡ Some o → (c : Cell) × (cell_of cs n ≡ Some c) × (c.object ≡ o) × (drops c ≡ false)
       go x there e = grind arith
