@@ -37,6 +37,17 @@ none_named m (Message_of c k ∷ es) none =
     ap (λ b. b || list_any (λ e. is_message m e) es) (sym (ap (λ b. b && (k == m)) (eq-eqb c c refl)) ∙ own)
     ∙ none_named m es (λ d. (or_parts ((c == d) && (k == m)) (list_any (is_message_of d m) es) (none d)).1)
 
+-- the cell of a message that a client sends to the server of that name
+abbrev pub message_cell : (client name : ℕ) → List ℤ → (server : ℕ) → Cell
+message_cell client name words server = record {
+  object = record { name = name; thing = Message };
+  words = words;
+  request = None;
+  session = false;
+  service = record unserved { sender = Some (record { client = client; holds_slot = true; is_told = true }) };
+  owner = Elsewhere (Queued server name);
+}
+
 module _ (p : Image) (c : ℕ) (s : State) (tidy : Tidy s.cells) (fit : ClientsFit p s.clients s.cells) where
   abbrev own : Client
   own = client_at s.clients c
@@ -103,14 +114,7 @@ module _ (p : Image) (c : ℕ) (s : State) (tidy : Tidy s.cells) (fit : ClientsF
       subst (λ l. ClientsFit p s.clients l) same (subst (λ n. ClientsFit p s.clients (reserved (asked_last (Message_of c name)) n (message ∷ s.cells))) there.1 sent)
     where
       message : Cell
-      message = record {
-        object = record { name = name; thing = Message };
-        words = words;
-        request = None;
-        session = false;
-        service = record unserved { sender = Some (record { client = c; holds_slot = true; is_told = true }) };
-        owner = Elsewhere (Queued server name);
-      }
+      message = message_cell c name words server
 
       there : (o : Object) × (o.name ≡ server) × (named s.cells o.name ≡ Some o) × (is_server p o.thing ≡ true)
       there = server_there server (fit.listed server c (ap server_of at))

@@ -110,6 +110,10 @@ module _ (p : Image) (formed : WellFormed p) (linked : IsLinked p) where
   of_role : (m : ℕ) (d : Method_declared) (r : Role) → method_at p m ≡ Some d → d.role ≡ r → HasShape r (kind_of p d.class) d
   of_role m d r e same = subst (λ x. HasShape x (kind_of p d.class) d) same (shaped m d e).role
 
+  -- a method that plays a role in a class, and its shape
+  its_role : (c m : ℕ) (r : Role) → role_of p c r ≡ Some m → (d : Method_declared) × (method_at p m ≡ Some d) × (d.class ≡ Some c) × (d.role ≡ r) × HasShape r (kind_of p d.class) d
+  its_role c m r e = let d = role_found p c m r e in (d.0, d.1, d.2, d.3, of_role m d.0 r d.1 d.3)
+
   main_is : (m : ℕ) → main_of p ≡ Some m → (IsSome (method_at p m)) × (method_role p m ≡ Some Main) × (gives_of p m ≡ Nothing) × (arguments_of p m ≡ [])
   unfolding role_in gives_in arguments_in
   main_is m e =
@@ -135,15 +139,14 @@ module _ (p : Image) (formed : WellFormed p) (linked : IsLinked p) where
       (IsSome (method_at p m)) × (method_role p m ≡ Some Destruct) × (method_class p m ≡ Some c) × (leaves p m ≡ false) × (is_quiet p m ≡ true) × (gives_of p m ≡ Nothing) × (arguments_of p m ≡ [])
   unfolding role_in class_in leaves_in quiet_in gives_in arguments_in
   destructor_is c m e =
-      let d = role_found p c m Destruct e in
-      let s : IsDestruct (kind_of p d.0.class) d.0 = of_role m d.0 Destruct d.1 d.3 in (
+      let d = its_role c m Destruct e in (
         rw d.1 refl,
         ap role_in d.1 ∙ ap (λ r. Some r) d.3,
         ap class_in d.1 ∙ d.2,
-        ap leaves_in d.1 ∙ (shaped m d.0 d.1).flags.quiet s.flags,
-        ap quiet_in d.1 ∙ s.flags,
-        ap gives_in d.1 ∙ nothing_given d.0.gives s.gives,
-        ap arguments_in d.1 ∙ nil_from_length d.0.arguments s.takes.count,
+        ap leaves_in d.1 ∙ (shaped m d.0 d.1).flags.quiet d.4.flags,
+        ap quiet_in d.1 ∙ d.4.flags,
+        ap gives_in d.1 ∙ nothing_given d.0.gives d.4.gives,
+        ap arguments_in d.1 ∙ nil_from_length d.0.arguments d.4.takes.count,
       )
 
   cancel_is : (m : ℕ) → method_role p m ≡ Some Cancel → (is_quiet p m ≡ true) × (gives_of p m ≡ Nothing)
@@ -158,9 +161,8 @@ module _ (p : Image) (formed : WellFormed p) (linked : IsLinked p) where
       (IsSome (method_at p m)) × (method_role p m ≡ Some Cancel) × (method_class p m ≡ Some c) × (arguments_of p m ≡ []) × (before_of p m ≡ cancel_open)
   unfolding role_in class_in arguments_in before_in
   canceller_is c m e =
-      let d = role_found p c m Cancel e in
-      let s : IsCancel (kind_of p d.0.class) d.0 = of_role m d.0 Cancel d.1 d.3 in
-      (rw d.1 refl, ap role_in d.1 ∙ ap (λ r. Some r) d.3, ap class_in d.1 ∙ d.2, ap arguments_in d.1 ∙ nil_from_length d.0.arguments s.takes.count, ap before_in d.1 ∙ s.begins)
+      let d = its_role c m Cancel e in
+      (rw d.1 refl, ap role_in d.1 ∙ ap (λ r. Some r) d.3, ap class_in d.1 ∙ d.2, ap arguments_in d.1 ∙ nil_from_length d.0.arguments d.4.takes.count, ap before_in d.1 ∙ d.4.begins)
 
   -- what a class needs by its kind
   abbrev Needs : ℕ → Option ClassKind → Type 0
@@ -187,28 +189,26 @@ module _ (p : Image) (formed : WellFormed p) (linked : IsLinked p) where
   handler_is : (c m : ℕ) → role_of p c Run ≡ Some m → IsHandler p c m
   unfolding role_in class_in arguments_in gives_in before_in
   handler_is c m e =
-      let d = role_found p c m Run e in
-      let s : IsRun (kind_of p d.0.class) d.0 = of_role m d.0 Run d.1 d.3 in record {
+      let d = its_role c m Run e in record {
         there = rw d.1 refl;
         role = ap role_in d.1 ∙ ap (λ r. Some r) d.3;
         class = ap class_in d.1 ∙ d.2;
-        arguments = ap arguments_in d.1 ∙ nil_from_length d.0.arguments s.takes.count;
-        gives = ap gives_in d.1 ∙ nothing_given d.0.gives s.gives;
-        begins = ap before_in d.1 ∙ s.begins;
+        arguments = ap arguments_in d.1 ∙ nil_from_length d.0.arguments d.4.takes.count;
+        gives = ap gives_in d.1 ∙ nothing_given d.0.gives d.4.gives;
+        begins = ap before_in d.1 ∙ d.4.begins;
       }
 
   answerer_is : (c m : ℕ) → role_of p c Error ≡ Some m → IsAnswerer p c m
   unfolding role_in class_in arguments_in gives_in leaves_in before_in
   answerer_is c m e =
-      let d = role_found p c m Error e in
-      let s : IsError (kind_of p d.0.class) d.0 = of_role m d.0 Error d.1 d.3 in record {
+      let d = its_role c m Error e in record {
         there = rw d.1 refl;
         role = ap role_in d.1 ∙ ap (λ r. Some r) d.3;
         class = ap class_in d.1 ∙ d.2;
-        arguments = ap arguments_in d.1 ∙ words_alone 1 d.0.arguments s.takes.count s.takes.words;
-        gives = ap gives_in d.1 ∙ word_given d.0.gives s.gives;
-        leaves = ap leaves_in d.1 ∙ s.flags;
-        begins = ap before_in d.1 ∙ s.begins;
+        arguments = ap arguments_in d.1 ∙ words_alone 1 d.0.arguments d.4.takes.count d.4.takes.words;
+        gives = ap gives_in d.1 ∙ word_given d.0.gives d.4.gives;
+        leaves = ap leaves_in d.1 ∙ d.4.flags;
+        begins = ap before_in d.1 ∙ d.4.begins;
       }
 
   -- a server has a method that accepts
@@ -222,28 +222,26 @@ module _ (p : Image) (formed : WellFormed p) (linked : IsLinked p) where
   acceptor_is : (c session m : ℕ) → sessions_at p c ≡ Some session → role_of p c Accept ≡ Some m → IsAcceptor p c m session
   unfolding role_in class_in arguments_in gives_in before_in kind_of
   acceptor_is c session m serves e =
-      let d = role_found p c m Accept e in
-      let s : IsAccept (kind_of p d.0.class) d.0 = of_role m d.0 Accept d.1 d.3 in
-      let gives : IsTrue (gives_object session d.0.gives) = subst (λ o. IfSome o (λ k. IsTrue (gives_object k d.0.gives))) (ap (λ k. sessions_in (kind_of p k)) d.2 ∙ serves) s.gives in record {
+      let d = its_role c m Accept e in
+      let gives : IsTrue (gives_object session d.0.gives) = subst (λ o. IfSome o (λ k. IsTrue (gives_object k d.0.gives))) (ap (λ k. sessions_in (kind_of p k)) d.2 ∙ serves) d.4.gives in record {
         there = rw d.1 refl;
         role = ap role_in d.1 ∙ ap (λ r. Some r) d.3;
         class = ap class_in d.1 ∙ d.2;
-        arguments = ap arguments_in d.1 ∙ nil_from_length d.0.arguments s.takes.count;
+        arguments = ap arguments_in d.1 ∙ nil_from_length d.0.arguments d.4.takes.count;
         gives = ap gives_in d.1 ∙ object_given session d.0.gives gives;
-        begins = ap before_in d.1 ∙ s.begins;
+        begins = ap before_in d.1 ∙ d.4.begins;
       }
 
   attendant_is : (c m : ℕ) → role_of p c Service ≡ Some m → IsAttendant p c m
   unfolding role_in class_in arguments_in gives_in kind_of
   attendant_is c m e =
-      let d = role_found p c m Service e in
-      let s : IsService (kind_of p d.0.class) d.0 = of_role m d.0 Service d.1 d.3 in record {
-        session = ap (λ k. is_session_in (kind_of p k)) (sym d.2) ∙ s.of;
+      let d = its_role c m Service e in record {
+        session = ap (λ k. is_session_in (kind_of p k)) (sym d.2) ∙ d.4.of;
         there = rw d.1 refl;
         role = ap role_in d.1 ∙ ap (λ r. Some r) d.3;
         class = ap class_in d.1 ∙ d.2;
-        arguments = ap arguments_in d.1 ∙ words_alone 5 d.0.arguments s.takes.count s.takes.words;
-        gives = ap gives_in d.1 ∙ nothing_given d.0.gives s.gives;
+        arguments = ap arguments_in d.1 ∙ words_alone 5 d.0.arguments d.4.takes.count d.4.takes.words;
+        gives = ap gives_in d.1 ∙ nothing_given d.0.gives d.4.gives;
       }
 
   -- its sessions are of a class of sessions before it
@@ -318,9 +316,8 @@ module _ (p : Image) (formed : WellFormed p) (linked : IsLinked p) where
   destruct_states : (c m : ℕ) → role_of p c Destruct ≡ Some m → (before_of p m ≡ states_of (kind_of p (Some c))) × (after_of p m ≡ last_of (kind_of p (Some c)))
   unfolding before_in after_in
   destruct_states c m e =
-      let d = role_found p c m Destruct e in
-      let s : IsDestruct (kind_of p d.0.class) d.0 = of_role m d.0 Destruct d.1 d.3 in
-      (ap before_in d.1 ∙ s.begins ∙ ap (λ k. states_of (kind_of p k)) d.2, ap after_in d.1 ∙ s.ends ∙ ap (λ k. last_of (kind_of p k)) d.2)
+      let d = its_role c m Destruct e in
+      (ap before_in d.1 ∙ d.4.begins ∙ ap (λ k. states_of (kind_of p k)) d.2, ap after_in d.1 ∙ d.4.ends ∙ ap (λ k. last_of (kind_of p k)) d.2)
 
   -- only a class of active objects has to have a destructor for its requests
   none_destructs : (c : ℕ) → role_of p c Destruct ≡ None → last_of (kind_of p (Some c)) ≡ states_of (kind_of p (Some c))
