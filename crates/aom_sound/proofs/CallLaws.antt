@@ -24,7 +24,7 @@ use Rattle.aom_sound.specs.Calls.{called, given_cells, needs_each, needs_result,
 use Rattle.aom_sound.specs.Claims.{Layer, Mark, Mark_form, Method, tasks_of}
 use Rattle.aom_sound.specs.Laws.{IsCalled, IsWired}
 use Rattle.aom_sound.specs.Moves.{does}
-use Rattle.aom_sound.specs.Places.{Cell, Elsewhere, Field, Object, Place, Root, Session, In_service, Queued}
+use Rattle.aom_sound.specs.Places.{Cell, Object, Place}
 use Rattle.aom_sound.specs.State.{AtRoot, Choice, Frame, Home, Inside, State, Static}
 use Rattle.aom_sound.specs.WellTyped.{Awaits, Caught, EndsWell, IsApart, IsBelow, IsHoused, Returns, Stands}
 use Rattle.aom_sound.proofs.Callees.{none_owns_each, only_then}
@@ -105,12 +105,7 @@ module _ (p : Image) (t : Typing) (wired : IsWired p) (typed : IsTyped p t) (c :
 
 -- over a trap's mark
 below_mark : (from : Place) (gv : Gives) (ls : List Layer) → IsBelow from ls → IsBelow from (Mark gv ∷ ls)
-below_mark (Field n f) gv ls b = b
-below_mark (Elsewhere Root) gv ls b = tt
-below_mark (Elsewhere (Session n c)) gv ls b = b
-below_mark (Elsewhere In_service) gv ls b = absurd b
-below_mark (Elsewhere (Queued n m)) gv ls b = absurd b
-below_mark _ gv ls b = omega arith
+below_mark x gv ls b = grind arith
 
 housed_mark : (p : Image) (cs : List Cell) (home : Home) (gv : Gives) (ls : List Layer) → IsHoused p cs ls home → IsHoused p cs (Mark gv ∷ ls) home
 housed_mark p _ Static gv ls h = h

@@ -101,8 +101,7 @@ module _ (p : Image) (t : Typing) (wired : IsWired p) (typed : IsTyped p t) (c :
   serves_not = called_plain p m is_called
 
   pub kind_begun : (home : Home) (sh' : Shape) → BeginsWell home sh' → (o : Object) (from : Place) → home ≡ Inside o from → thing_kind p o.thing ≡ kind_of p (method_class p m)
-  kind_begun (Inside x q) sh' b o from e = let same : x ≡ o = cc in subst (λ y. thing_kind p y.thing ≡ kind_of p (method_class p m)) same b.1
-  kind_begun _ sh' b o from e = cc
+  kind_begun x sh' b o from e = grind arith
 
   -- the caller while the call lasts, and the home of the method called
   pub record Entering (ended : ℕ) (home : Home) (sh' : Shape) : Type 0 where
@@ -152,9 +151,7 @@ module _ (p : Image) (t : Typing) (wired : IsWired p) (typed : IsTyped p t) (c :
     begins home sh' e after w (Elsewhere Root) = go home e.fields
       where
         go : (home : Home) → FieldsBegin home → Fits p (seen cs) (held cs (Elsewhere Root)) (claims_over home after sh' (Elsewhere Root))
-        go Static b = e.fits (Elsewhere Root)
-        go AtRoot b = absurd b
-        go (Inside o from) b = e.fits (Elsewhere Root)
+        go x b = grind arith
     begins home sh' e after w (Elsewhere In_service) =
         subst (λ k. Fits p (seen cs) (held cs (Elsewhere In_service)) k)
         (sym (plain_claim (serves p m) after (claim p (declared p cs) (Method fr sh' ∷ ls) (Elsewhere In_service)) serves_not)) (e.fits (Elsewhere In_service))
@@ -716,8 +713,7 @@ module _ (p : Image) (t : Typing) (wired : IsWired p) (typed : IsTyped p t) (c :
         )
       where
         something : (x : Option Thing) (y : Filling) (z : Thing) (a : Age) → filled x y ≡ Own z a → is_some x ≡ true
-        something None y z a e = cc
-        something (Some x) y z a e = refl
+        something x y z a e = grind arith
 
         -- what a field owns is ready
         ready : (x : Option Thing) (y : Filling) → (method_role p m ≡ Some Do) ⊎ ((method_role p m ≡ Some Construct) × (is_fresh_kind (filled x y) ≡ true)) → method_role p m ≡ Some Do

@@ -31,7 +31,7 @@ use Rattle.aom_sound.specs.Leaves.{AreEntries, AreMethods, Arrives, ArrivesAt, B
 use Rattle.aom_sound.specs.Steps.{Fits as MayHave}
 use Rattle.aom_sound.specs.Moves.{announcement, counted, does, main_left, needs, step, step_instr, step_task, written_task}
 use Rattle.aom_sound.specs.Places.{Cell, Entry, Going, Object, Place, Register, held, moved, named, same_place, seen}
-use Rattle.aom_sound.specs.State.{Destroy, Closing, Of_server, Accepts, Accept_left, Serves, Of_object, A_mark, An_object, An_operation, Choice, Dispatch, Dispatched, Frame, Goes, Inside, IsStuck, Item, Main_left, NullOrDead, Of_main, Run, State, Task, Trapped, Unwind, frame_of, next, set_word, word}
+use Rattle.aom_sound.specs.State.{Destroy, Closing, Of_server, Accepts, Serves, Of_object, A_mark, An_object, An_operation, Choice, Dispatch, Dispatched, Frame, Goes, Inside, IsStuck, Item, Main_left, NullOrDead, Of_main, Run, State, Task, Trapped, Unwind, frame_of, next, set_word, word}
 use Rattle.aom_sound.specs.WellTyped.{AllUndo, Awaits, EndsDispatch, Fits, Good, Keeps, Leaves, Now, Stack, WellTyped}
 use Rattle.aom_sound.specs.Effects.{Leaves, Update, applied}
 use Rattle.aom_sound.specs.Words.{word_or_zero}
@@ -59,9 +59,7 @@ split (x ∷ es) fs (A_mark ∷ all) e = absurd (no_mark x cc)
 split _ fs _ e = cc
 
 no_dispatch : {A : Type 0} (p : Image) (d : Dispatch) → EndsDispatch p d Leaves → A
-no_dispatch p Of_main e = absurd e
-no_dispatch p (Of_server x c (Accept_left code)) e = absurd e
-no_dispatch p _ e = absurd e
+no_dispatch p x e = grind arith
 
 -- a leave on top has entries over the mark of its trap
 pub splits :
@@ -127,8 +125,7 @@ trapping (Trapped ∷ ts) e = record { methods = []; below = ts; all = refl; ove
 trapping _ e = cc
 
 is_there : {A : Type 0} (x : Option A) → is_some x ≡ true → (y : A) × (x ≡ Some y)
-is_there None e = cc
-is_there (Some y) e = (y, refl)
+is_there x e = grind arith
 
 module _ (p : Image) (t : Typing) (c : Choice) (fr : Frame) (ts : List Task) (s u : State) (at_hand : s.tasks ≡ Run fr ∷ ts) (w : WellTyped p t s) (keeps : WellTyped p t u) where
   -- the leave is at hand over the innermost trap
@@ -221,9 +218,7 @@ module _ (p : Image) (t : Typing) (wired : IsWired p) (s u : State) (w : WellTyp
   of_item undos A_mark rest es same plain e = absurd plain
 
 others : (i : Item) (rest : List Item) → AreEntries (i ∷ rest) → AreEntries rest
-others An_object rest h = h
-others (An_operation m w) rest h = h
-others A_mark rest h = absurd h
+others x rest h = grind arith
 
 pub deals :
     (p : Image) (t : Typing) → IsWired p → (c : Choice) (s u : State) → WellTyped p t s →

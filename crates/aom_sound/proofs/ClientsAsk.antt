@@ -12,9 +12,8 @@ use Rattle.aom_image.specs.declared.method.Thing.TheVariants.{Message, Object as
 use Rattle.aom_clients.specs.Nodes.{is_connecting_at, is_open_at}
 use Rattle.aom_clients.specs.Table.{row, server_of}
 use Rattle.aom_clients.specs.declared.client.Client.{Client}
-use Rattle.aom_clients.specs.declared.client.Client.TheVariants.{Connecting, Gone, Unconnected}
+use Rattle.aom_clients.specs.declared.client.Client.TheVariants.{Connecting}
 use Rattle.aom_clients.specs.declared.refusal.Refusal.{Refusal}
-use Rattle.aom_clients.specs.declared.refusal.Refusal.TheVariants.{ServerBusy}
 use Rattle.aom_roles.specs.Classes.{sessions_in, sessions_of}
 use Rattle.aom_roles.specs.Shapes.{kind_of}
 use Rattle.aom_sound.proofs.ClientsFit.{IsFree, by_server, fit_changed, none_of_free, names_then, servers_then, seats_then, enlisted_then}
@@ -109,17 +108,10 @@ listed_room p class v Message of room = cc
 
 -- a connect that is not refused
 pub asked_none : (r : Option Refusal) (most : ℕ) (x : Listed) (cs : List Cell) → asked_of r most (Some x) cs ≡ None → (r ≡ None) × (nat_lt (seats_taken (service_of cs x.name)) most ≡ true)
-asked_none (Some refusal) most x cs e = cc
-asked_none None most x cs e = (refl, go (nat_lt (seats_taken (service_of cs x.name)) most) e)
-  where
-    go : (b : Bool) → cond b None (Some ServerBusy) ≡ None → b ≡ true
-    go true e = refl
-    go false e = cc
+asked_none y most x cs e = grind arith
 
 pub connects_free : (k : Client) → (row k).connect ≡ None → IsFree k
-connects_free Unconnected e = record { connects = λ n. refl; opens = λ n. refl; leaves = λ n. refl; alone = refl }
-connects_free Gone e = record { connects = λ n. refl; opens = λ n. refl; leaves = λ n. refl; alone = refl }
-connects_free _ e = cc
+connects_free x e = grind arith
 
 or_false : (b : Bool) → (b || false) ≡ b
 or_false true = refl
@@ -155,8 +147,7 @@ module _ (p : Image) (clients : List Client) (cs : List Cell) (fit : ClientsFit 
       entry = ap (λ x. is_connecting_at o.name x) (client_here c (Connecting o.name slots) clients) ∙ eq-eqb o.name o.name refl
 
       never : (e : Asked) → is_connect_of c e ≡ true → EntryFits clients o.name e → ⊥
-      never (Connect_of d) at f = true≢false (sym (ap (λ k. is_connecting_at o.name (client_at clients k)) (sym (eqb-true d c at)) ∙ f) ∙ free.connects o.name)
-      never _ at f = cc
+      never x at f = grind arith
 
       unlisted : (n : ℕ) → has_session (service_of cs n) c ≡ true → None ≡ Some n
       unlisted n h = sym free.alone ∙ fit.sessions n c h

@@ -1,5 +1,5 @@
 -- Clients, and what they have at servers, say the same in each state of a run: as it boots, in each move and in each turn.
-use Rattle.std.proofs.Common.{[], Bool, List, None, Option, Some, ap, cond, false, length, pos, refl, subst, sym, true, ℕ, ℤ, ◌∙◌, ◌∷◌, ◌≡◌}
+use Rattle.std.proofs.Common.{[], Bool, List, None, Option, Some, ap, cond, false, length, pos, refl, subst, sym, true, ℕ, ℤ, ◌∙◌, ◌∷◌, ◌≡◌, arith}
 use Rattle.std.specs.List.{list_any}
 use Rattle.std.specs.Ordering.{int_eq}
 use Rattle.aom_image.specs.Image.{Image}
@@ -92,9 +92,7 @@ module _ (p : Image) (s : State) (fit : ClientsFit p s.clients s.cells) where
   arrival_stage code _ ts k = tt
 
   arrived_kept : (code : ℤ) (ts : List Task) (items : List Item) (u : State) → TasksKept p s.clients s.cells ts → arrived p code ts items s ≡ Goes u → IsKept p u
-  arrived_kept code (Trapped ∷ Run fr ∷ ts) items u stage e = subst (λ v. IsKept p v) (goes_same _ u e) (same_cells _ refl refl stage)
-  arrived_kept code (Trapped ∷ Dispatched d ∷ ts) items u stage e = subst (λ v. IsKept p v) (goes_same _ u e) (same_cells _ refl refl (arrival_stage code d ts stage))
-  arrived_kept code _ items u stage e = cc
+  arrived_kept code x items u stage e = grind arith
 
   unwound_kept : (code : ℤ) (ts : List Task) (items : List Item) (u : State) → TasksKept p s.clients s.cells ts → unwound p code ts s items ≡ Goes u → IsKept p u
   unwound_kept code ts [] u stage e = cc

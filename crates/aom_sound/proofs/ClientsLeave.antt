@@ -30,15 +30,7 @@ message_stays c d m (e ∷ es) h = go (stays c e) refl (message_stays c d m es) 
     or_right false x e = e
 
     other : (e : Asked) → stays c e ≡ true → is_message_of d m e ≡ true → (c == d) ≡ false
-    other (Message_of k i) s at = ne_eqb c d (λ same. own k i s at same)
-      where
-        own : (k i : ℕ) → not (k == c) ≡ true → ((k == d) && (i == m)) ≡ true → c ≡ d → ⊥
-        own k i s at same = go (k == d) refl at
-          where
-            go : (b : Bool) → (k == d) ≡ b → (b && (i == m)) ≡ true → ⊥
-            go true e at = true≢false (sym s ∙ ap not (eq-eqb k c (eqb-true k d e ∙ sym same)))
-            go false e at = cc
-    other _ s at = cc
+    other x s at = grind arith
 
     go :
         (b : Bool) → stays c e ≡ b → (list_any (is_message_of d m) (filter (stays c) es) ≡ true → ((c == d) ≡ false) × (list_any (is_message_of d m) es ≡ true)) →
@@ -97,16 +89,10 @@ queue_leaving clients c n to still (e ∷ es) fits = go (stays c e) refl (queue_
 -- ---- the cells
 
 from_kept : (c d : ℕ) (x : Option Sender) → is_from d x ≡ true → is_from d (discarded c x) ≡ true
-from_kept c d None h = cc
-from_kept c d (Some m) h = go (m.client == c) h
-  where
-    go : (b : Bool) → (m.client == d) ≡ true → ((cond b (record m { holds_slot = false; is_told = false }) m).client == d) ≡ true
-    go true h = h
-    go false h = h
+from_kept c d x h = grind arith
 
 from_other : (c d : ℕ) (x : Option Sender) → (c == d) ≡ false → is_from d x ≡ true → is_from c x ≡ false
-from_other c d None other h = cc
-from_other c d (Some m) other h = ne_eqb m.client c (λ same. true≢false (sym (eq-eqb c d (sym same ∙ eqb-true m.client d h)) ∙ other))
+from_other c d x other h = grind arith
 
 or_false : (b : Bool) → (b || false) ≡ b
 or_false true = refl

@@ -64,8 +64,7 @@ fit_same p clients cs cs' like fit = record {
 
 -- a request that changes is there still
 pub on_none : (f : Request → Request) (r : Option Request) → on_request f r ≡ None → r ≡ None
-on_none f None e = refl
-on_none f (Some r) e = cc
+on_none f x e = grind arith
 
 pub listed_asked : (cs : List Cell) (m : ℕ) (r : Option Request) → (r ≡ None → requested cs m ≡ None) → (n : ℕ) → requested (set_request m r cs) n ≡ None → requested cs n ≡ None
 listed_asked cs m r keeps n e = go (m == n) refl

@@ -38,12 +38,10 @@ serves_none (Of_server x client stage) = false
 serves_none _ = true
 
 none_parts : (d : Dispatch) → serves_none d ≡ true → (n c : ℕ) (k : Kind) → by_close d n c k ≡ k
-none_parts (Of_server x client stage) e n c k = cc
-none_parts _ e n c k = refl
+none_parts x e n c k = grind arith
 
 none_served : (d : Dispatch) → serves_none d ≡ true → (k : Kind) → by_stage d k ≡ k
-none_served (Of_server x client stage) e k = cc
-none_served _ e k = refl
+none_served x e k = grind arith
 
 module _ (p : Image) (t : Typing) (s : State) where
   -- with nothing at hand

@@ -179,8 +179,7 @@ deals p t wired typed s e before below d = go e s.items d d.items d.undos
     Goal items = (top_is_whole s.cells items ≡ true) × WellTyped p t (dealt_with p items (tasks_of below) s)
 
     whole : (o : Option Object) (c : ℕ) (a : Age) → Fits p (seen s.cells) o (Own (An_object_of c) a) → (x : Object) × (o ≡ Some x)
-    whole None c a f = absurd f
-    whole (Some x) c a f = (x, refl)
+    whole x c a f = grind arith
 
     go : (e : Pushed) (items : List Item) → Dealing p t s e before below → forms items ≡ entry_form e ∷ items_of below → AllUndo p items → Goal items
     go (Pushed_object c a) (An_object ∷ items) d h u =

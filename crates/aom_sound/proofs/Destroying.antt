@@ -45,7 +45,6 @@ use Rattle.aom_roles.specs.States.{last_of, states_of}
 use Rattle.aom_sound.specs.Servers.{is_among, session_thing, is_server, session_class, of_class, has_session}
 use Rattle.aom_roles.specs.Classes.{sessions_in, sessions_of}
 use Rattle.aom_image.specs.declared.class.ClassKind.{ClassKind}
-use Rattle.aom_image.specs.declared.class.ClassKind.TheVariants.{Active as An_active}
 use Rattle.aom_sound.proofs.Attending.{plain_claim}
 
 -- no layer works on that cell, or claims anything of its fields but what is declared
@@ -58,8 +57,7 @@ pub record Untouched (p : Image) (k : ℕ → Kind) (n : ℕ) (ls : List Layer) 
 
 -- a server whose sessions go first is the cell that goes below
 ending_apart : (x : Object) (n : ℕ) (ls : List Layer) → IsOverDying x ls → Unworked n ls → (x.name == n) ≡ false
-ending_apart x n (Dying y ∷ ls) same u = ap (λ (z : Object). z.name == n) (sym same) ∙ u.0
-ending_apart x n _ same u = absurd same
+ending_apart x n y same u = grind arith
 
 pub eqb_comm : (a b : ℕ) → (a == b) ≡ (b == a)
 eqb_comm a b = elim (cases_Bool (a == b)) as (λ x. (a == b) ≡ (b == a)) [
@@ -80,13 +78,7 @@ module _ (p : Image) (t : Typing) (cs : List Cell) (q : Place) (o : Object) (tid
       Result home = (WorksOn o.name home → ⊥) × ((f : ℕ) → home_claim p home sh o.name f (k f) ≡ k f) × NotIn o.name home × (works_at o.name home ≡ false)
 
       not_in : (from : Place) → IsBelow from ls → IsNoFieldOf o.name from
-      not_in (Register f i) b = tt
-      not_in (Entry j) b = tt
-      not_in (Field m f) b = ne_eqb o.name m (λ e. u.some (subst (λ x. SomeIn x ls) (sym e) b))
-      not_in (Elsewhere Root) b = tt
-      not_in (Elsewhere (Session m c)) b = ne_eqb o.name m (λ e. u.some (subst (λ x. SomeIn x ls) (sym e) b))
-      not_in (Elsewhere w) b = absurd b
-      not_in (Going j) b = tt
+      not_in x b = grind arith
 
       of : (home : Home) → fr.home ≡ home → IsHoused p cs ls home → Result home
       of Static same h = (λ x. x, λ f. refl, tt, refl)
@@ -109,10 +101,7 @@ module _ (p : Image) (t : Typing) (cs : List Cell) (q : Place) (o : Object) (tid
   unseated xs h s = go xs (no_seat cs q xs h s) s
     where
       not_in : (xs : List Seat) (r : Place) → SitsIn r xs → (SomeSits o.name xs → ⊥) → IsNoFieldOf o.name r
-      not_in xs (Field m f) h none = ne_eqb o.name m (λ e. none (subst (λ x. SomeSits x xs) (sym e) h))
-      not_in xs (Elsewhere Root) h none = tt
-      not_in xs (Elsewhere (Session m c)) h none = ne_eqb o.name m (λ e. none (subst (λ x. SomeSits x xs) (sym e) h))
-      not_in xs _ h none = absurd h
+      not_in xs x h none = grind arith
 
       go : (xs : List Seat) → NoSeatAt q xs → AllSit cs xs → (SomeSits o.name xs → ⊥) × NoSeatIn o.name xs
       go [] h s = (λ x. x, tt)
@@ -364,8 +353,7 @@ module _ (p : Image) (t : Typing) (linked : IsWired p) (typed : IsTyped p t) (cs
 -- the objects of a server's class may rest as they go
 pub server_last : (k : Option ClassKind) → is_some (sessions_in k) ≡ true → last_of k ≡ states_of k
 unfolding last_of states_of sessions_in sessions_of
-server_last (Some (An_active provider budget)) e = cc
-server_last _ e = refl
+server_last x e = grind arith
 
 module _ (p : Image) (t : Typing) (linked : IsWired p) (typed : IsTyped p t) (cs : List Cell) (o : Object) (ls : List Layer)
     (fits : (r : Place) → Fits p (seen cs) (held cs r) (Dies p cs o ls r))
@@ -499,10 +487,7 @@ module _ (p : Image) (t : Typing) (c : Choice) (s : State) (fr : Frame) (sh : Sh
   law_delete linked typed a n leads = ((ap is_none none, (no_message (held s.cells (top ls a)) (register sh a) n.0 (kind_fits p t c s fr sh ls at_hand a), tt)), go (held s.cells (top ls a)) refl)
     where
       destroyed_object : (k : Kind) → may_be_destroyed k ≡ true → is_object_or_null k ≡ true
-      destroyed_object Null e = refl
-      destroyed_object (Own x a) e = refl
-      destroyed_object (Maybe x a) e = refl
-      destroyed_object _ e = cc
+      destroyed_object x e = grind arith
 
       no_message : (o : Option Object) (k : Kind) → may_be_destroyed k ≡ true → Fits p (seen s.cells) o k → is_no_message o ≡ true
       no_message None k e f = refl

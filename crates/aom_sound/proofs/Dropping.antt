@@ -1,5 +1,5 @@
 -- Where messages go that wait in a queue or are served, all else is as it was: by the cells one after another.
-use Rattle.std.proofs.Common.{[], length, Bool, List, None, Option, Some, ap, cond, false, inl, inr, refl, subst, sym, true, ⊎_elim, ℕ, ◌==◌, ◌∙◌, ◌∷◌, ◌≡◌, ◌⊎◌}
+use Rattle.std.proofs.Common.{[], length, Bool, List, None, Option, Some, ap, cond, false, inl, inr, refl, subst, sym, true, ⊎_elim, ℕ, ◌==◌, ◌∙◌, ◌∷◌, ◌≡◌, ◌⊎◌, arith}
 use Rattle.std.proofs.lemmas.Bool.{cases_Bool, eqb-true, true≢false}
 use Rattle.aom_image.specs.Image.{Image}
 use Rattle.aom_image.specs.declared.method.Thing.{Thing}
@@ -12,7 +12,7 @@ use Rattle.aom_shape.specs.declared.kind.Kind.TheVariants.{Null}
 use Rattle.aom_sound.proofs.Maps.{cond_same, front_free, held_lives, same_place-true, same_place_refl}
 use Rattle.aom_sound.proofs.Services.{attended_at}
 use Rattle.aom_sound.specs.Claims.{claim, Dispatching, Dying, Ending, Layer, Mark, Method, Unwinding, declared, declared_field, tasks_of}
-use Rattle.aom_sound.specs.Places.{Sight, seen, Cell, Elsewhere, Field, Going, In_service, Object, Place, Queued, Root, Session, Tidy, held, named, requested, same_place, service_of, without}
+use Rattle.aom_sound.specs.Places.{Sight, seen, Cell, Elsewhere, Field, Going, In_service, Object, Place, Queued, Session, Tidy, held, named, requested, same_place, service_of, without}
 use Rattle.aom_sound.specs.Servers.{is_server, has_message, has_session, is_queue_of, message_thing, session_thing, without_queue}
 use Rattle.aom_sound.specs.State.{AtRoot, Home, Inside, Seat, Static}
 use Rattle.aom_sound.specs.WellTyped.{EndsSessions, Fits, SitsFirst, AllSit, Back, IsBelow, IsHoused, SitsIn, Stack, seat_of}
@@ -200,17 +200,10 @@ module _ (gone : Place → Bool) where
       spared r e = ⊎_elim (λ g. absurd (true≢false (sym (sent r g) ∙ e))) (λ g. g) (cases_Bool (gone r))
 
       below_spared : (r : Place) (ls : List Layer) → IsBelow r ls → gone r ≡ false
-      below_spared (Elsewhere In_service) ls b = absurd b
-      below_spared (Elsewhere (Queued n m)) ls b = absurd b
-      below_spared r ls b = spared r refl
+      below_spared r ls b = grind arith
 
       sits_spared : (r : Place) (xs : List Seat) → SitsIn r xs → gone r ≡ false
-      sits_spared (Field n f) xs b = spared (Field n f) refl
-      sits_spared (Elsewhere Root) xs b = spared (Elsewhere Root) refl
-      sits_spared (Elsewhere (Session n c)) xs b = spared (Elsewhere (Session n c)) refl
-      sits_spared (Elsewhere In_service) xs b = absurd b
-      sits_spared (Elsewhere (Queued n m)) xs b = absurd b
-      sits_spared _ xs b = absurd b
+      sits_spared x xs b = grind arith
 
       housed_dropped : (ls : List Layer) (home : Home) → IsHoused p cs ls home → IsHoused p (dropped cs) ls home
       housed_dropped ls Static h = h

@@ -203,9 +203,7 @@ module _ (p : Image) (wired : IsWired p) (fr : Frame) (ts : List Task) (s : Stat
   apply_in_range _ fits = all
 
 arrive_in_range : (p : Image) (code : ℤ) (ts : List Task) (items : List Item) (s u : State) → AllInRange s.cells → arrived p code ts items s ≡ Goes u → AllInRange u.cells
-arrive_in_range p code (Trapped ∷ Run fr ∷ ts) items s u all e = subst (λ v. AllInRange v.cells) (goes_same _ u e) all
-arrive_in_range p code (Trapped ∷ Dispatched d ∷ ts) items s u all e = subst (λ v. AllInRange v.cells) (goes_same _ u e) all
-arrive_in_range p code _ items s u all e = cc
+arrive_in_range p code x items s u all e = grind arith
 
 unwind_in_range : (p : Image) (code : ℤ) (ts : List Task) (items : List Item) (s u : State) → AllInRange s.cells → unwound p code ts s items ≡ Goes u → AllInRange u.cells
 unwind_in_range p code ts [] s u all e = cc

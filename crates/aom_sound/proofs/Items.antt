@@ -20,13 +20,11 @@ length_forms (i ∷ items) = ap suc (length_forms items)
 
 -- below the last item
 pub forms_below : (items : List Item) (x : Form) (rest : List Form) → forms items ≡ x ∷ rest → forms (below_top items) ≡ rest
-forms_below [] x rest e = cc
-forms_below (i ∷ items) x rest e = cc
+forms_below y x rest e = grind arith
 
 -- a mark is the last item
 pub mark_on_top : (items : List Item) (rest : List Form) → forms items ≡ Mark_form ∷ rest → tops_mark items ≡ true
-mark_on_top (A_mark ∷ items) rest e = refl
-mark_on_top _ rest e = cc
+mark_on_top x rest e = grind arith
 
 pub undos_below : (p : Image) (items : List Item) → AllUndo p items → AllUndo p (below_top items)
 undos_below p (An_operation m w ∷ items) u = u.1
@@ -39,8 +37,7 @@ length_each (e ∷ es) below = omega (arith, length_each es below)
 
 -- the form of no entry is a mark's
 pub no_mark : (x : Pushed) → Mark_form ≡ entry_form x → ⊥
-no_mark (Pushed_object c a) e = cc
-no_mark Pushed_operation e = cc
+no_mark x e = grind arith
 
 -- an entry is among the items
 pub entry_there : (es : List Pushed) (below : List Form) (items : List Item) (k : ℕ) → forms items ≡ objects es below → k < length es → is_some (entry_at items k) ≡ true
