@@ -26,8 +26,8 @@ use Rattle.aom_sound.proofs.Claimed.{length_objects}
 use Rattle.aom_sound.proofs.Maps.{at-put_at, held_moved}
 use Rattle.aom_sound.proofs.Passing.{lower, upper}
 use Rattle.aom_sound.specs.Calls.{passed_cells}
-use Rattle.aom_sound.specs.Claims.{Layer, Method, items_of, tasks_of}
-use Rattle.aom_sound.specs.Places.{Cell, Elsewhere, Entry, Field, Going, Object, Place, Register, Sight, held, moved, same_place, Root, Session}
+use Rattle.aom_sound.specs.Claims.{Layer, Method, tasks_of}
+use Rattle.aom_sound.specs.Places.{Cell, Object, Place, Sight, held, moved, same_place}
 use Rattle.aom_sound.specs.State.{Frame, Home, Inside, State, home_holder, thing_holder}
 use Rattle.aom_sound.specs.WellTyped.{Fits, IsBelow}
 use Rattle.aom_sound.specs.Requests.{thing_kind}
@@ -81,13 +81,7 @@ moved_register (Takes_own t ∷ xs) first sh r (inr le) =
     ∙ at-put_at Unset sh.registers first r Null ∙ ap (λ b. cond b Null (register sh r)) (ne_eqb first r (λ e. absurd (omega arith)))
 
 pub below_more : (from : Place) (fr : Frame) (sh : Shape) (ls : List Layer) → IsBelow from ls → IsBelow from (Method fr sh ∷ ls)
-below_more (Register f i) fr sh ls b = omega arith
-below_more (Entry k) fr sh ls b = omega (arith, length_objects sh.entries (items_of ls))
-below_more (Field n f) fr sh ls b = inr b
-below_more (Elsewhere Root) fr sh ls b = tt
-below_more (Elsewhere (Session n c)) fr sh ls b = inr b
-below_more (Going k) fr sh ls b = omega arith
-below_more _ fr sh ls b = absurd b
+below_more x fr sh ls b = grind (arith, length_objects)
 
 -- whose fields a called method works on, by its class
 pub holder_static : (r : Option Role) → (r ≡ Some Do) ⊎ (r ≡ Some Construct) → holder_by r None ≡ Nobody

@@ -138,16 +138,7 @@ module _ (p : Image) (t : Typing) (wired : IsWired p) (typed : IsTyped p t) (c :
     begins home sh' e after w (Field n f) = go home e.fields
       where
         go : (home : Home) → FieldsBegin home → Fits p (seen cs) (held cs (Field n f)) (home_claim p home after n f (claim p (declared p cs) (Method fr sh' ∷ ls) (Field n f)))
-        go Static b = e.fits (Field n f)
-        go AtRoot b = absurd b
-        go (Inside o from) b = inside (o.name == n) refl
-          where
-            inside :
-                (x : Bool) → (o.name == n) ≡ x →
-                Fits p (seen cs) (held cs (Field n f)) (cond x (filled (field_thing p (thing_holder o.thing) f) (field after f)) (claim p (declared p cs) (Method fr sh' ∷ ls) (Field n f)))
-            inside true same = subst (λ m. Fits p (seen cs) (held cs (Field m f)) (filled (field_thing p (thing_holder o.thing) f) (field after f))) (eqb-true o.name n same)
-                (fits_weaker p (seen cs) (held cs (Field o.name f)) (filled_weaker (field_thing p (thing_holder o.thing) f) (w.fields f)) (b f))
-            inside false other = e.fits (Field n f)
+        go x b = grind (arith, eqb-true, fits_weaker, filled_weaker)
     begins home sh' e after w (Elsewhere Root) = go home e.fields
       where
         go : (home : Home) → FieldsBegin home → Fits p (seen cs) (held cs (Elsewhere Root)) (claims_over home after sh' (Elsewhere Root))

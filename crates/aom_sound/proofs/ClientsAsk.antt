@@ -95,8 +95,7 @@ takes_some (Some (A_server most session budget)) n e = refl
 takes_some _ n e = absurd (true≢false (sym e ∙ le-ltb n 0 (omega arith)))
 
 pub listed_serves : (p : Image) (class n : ℕ) (x : Thing) → is_of_class class x ≡ true → nat_lt n (most_of (kind_of p (Some class))) ≡ true → is_server p x ≡ true
-listed_serves p class n (An_object_of d) of room = ap (λ k. is_some (sessions_in (kind_of p (Some k)))) (eqb-true d class of) ∙ takes_some (kind_of p (Some class)) n room
-listed_serves p class n Message of room = cc
+listed_serves p class n x of room = grind (arith, eqb-true, takes_some)
 
 -- and so it has a seat left
 pub listed_room :

@@ -164,10 +164,7 @@ module _ (p : Image) (clients : List Client) (cs : List Cell) (tidy : Tidy cs) (
   sender_left d m other h = go (cell_of cs m) refl (subst (λ v. is_from d v.sender ≡ true) (service_cell cs m) h)
     where
       go : (x : Option Cell) → cell_of cs m ≡ x → is_from d (service_in x).sender ≡ true → is_from d (service_of (withdrawn c cs) m).sender ≡ true
-      go None e h = cc
-      go (Some x) e h =
-          let stays : drops x ≡ false = ap (λ b. is_queue x.owner && b) (from_other c d x.service.sender other h) ∙ and_false (is_queue x.owner) in
-          subst (λ v. is_from d v.sender ≡ true) (sym (ap (λ l. service_of l m) (withdrawn_so c cs) ∙ service_sifted drops left cs tidy m x e stays)) (from_kept c d x.service.sender h)
+      go x e h = grind (arith, from_other, and_false, withdrawn_so, service_sifted, from_kept)
 
   -- the client is at something else then, and asks for nothing more
   module _ (to : Client) (session : server_of to ≡ server_of (client_at clients c)) (queues : (n : ℕ) → QueueFits (with_client c to clients) n (filter (stays c) (service_of cs n).queue)) where

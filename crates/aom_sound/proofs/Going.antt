@@ -55,10 +55,7 @@ module _ (p : Image) (t : Typing) (cs : List Cell) (g : Place) (o : Object) (tid
 
   -- the server that goes above a layer is another cell
   ending_other : (x : Object) (ls : List Layer) → Outside g ls → IsOverDying x ls → Stack p t cs Now ls → (o.name == x.name) ≡ false
-  ending_other x (Dying y ∷ ls) out same s =
-      ne_eqb o.name x.name
-      (λ e. true≢false (sym (eq-eqb y.name o.name (ap (λ (z : Object). z.name) same ∙ sym e)) ∙ other_name p t cs g o tidy there (Going (length (tasks_of ls))) y s.0.1 (going_differs g y ls out)))
-  ending_other x _ out same s = absurd same
+  ending_other x y out same s = grind (arith, ne_eqb, eq-eqb, other_name, going_differs)
 
   first_apart : (xs : List Seat) (y : Seat) → SitsFirst cs (Some y) xs → NoSeatAt g xs → same_place g y.place ≡ false
   first_apart x y f none = grind arith

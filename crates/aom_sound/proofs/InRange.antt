@@ -17,12 +17,12 @@ use Rattle.aom_sound.proofs.Fitting.{EffectFits, SpotFits, UpdateFits, fits}
 use Rattle.aom_sound.proofs.Guarded.{goes_same, guarded_goes, guarded_met}
 use Rattle.aom_sound.specs.Calls.{accepted_cells, passed_cells, result_cells, result_register, returned}
 use Rattle.aom_sound.specs.Cleanup.{arrived, dealt_with, destroyed, top_is_whole, top_place, unwound}
-use Rattle.aom_sound.specs.Destruction.{vanished, parting, parting_from, first_session, closing, gone, needs_gone}
+use Rattle.aom_sound.specs.Destruction.{parting, closing, gone}
 use Rattle.aom_sound.specs.Effects.{Replied, The_message, Calls, Cancels, Carried, Destroys, Destroys_last, Effect, Goes_on, In_field, In_register, Leaves, Made, Popped, Pushed, Requested, Returns, Sets_trap, Spot, Update, Written, applied, cells_after, effect, spot_place, Sessioned}
 use Rattle.aom_sound.specs.Enlisted.{cancelled, cancelling, ended_cells, on_request, own_request, rerequested, part_of}
 use Rattle.aom_sound.specs.Laws.{IsWired, RegistersKeep}
 use Rattle.aom_sound.specs.Moves.{needs_end, counted, dispatch_ends, does, main_ends, needs, step, step_instr, step_task, answered, asking, failed, handled, object_ends}
-use Rattle.aom_sound.specs.Places.{Service, set_service, Session, In_service, Queued, service_of, Cell, Elsewhere, Entry, Going, Object, Place, Register, Request, Root, held, moved, same_place, set_request, set_word_field, without, set_session}
+use Rattle.aom_sound.specs.Places.{Service, set_service, Session, In_service, Queued, Cell, Elsewhere, Entry, Going, Object, Place, Register, Request, Root, held, moved, same_place, set_request, set_word_field, without, set_session}
 use Rattle.aom_sound.specs.Registers.{AllInRange, IsInRange}
 use Rattle.aom_sound.specs.State.{Seat, Of_server, Accepts, Service_left, Parts, Closing, A_mark, An_object, An_operation, AtRoot, Choice, Destroy, Dispatch, Dispatched, Frame, Goes, Home, Inside, IsStuck, Item, NullOrDead, Of_main, Run, State, Static, Task, Trapped, Unwind, field_place, Answered, Asks, Object_left, Of_object}
 use Rattle.aom_sound.specs.Words.{here, stored}
@@ -216,10 +216,7 @@ unwind_in_range p code ts (An_operation m w ∷ items) s u all e = subst (λ v. 
 unwind_in_range p code ts (A_mark ∷ items) s u all e = arrive_in_range p code ts items s u all e
 
 go_in_range : (o : Option Object) (ts : List Task) (s u : State) → AllInRange s.cells → gone o ts s ≡ Goes u → AllInRange u.cells
-go_in_range None ts s u all e = cc
-go_in_range (Some o) ts s u all e =
-    subst (λ v. AllInRange v.cells) (guarded_goes (needs_gone (without_queue o.name s.cells) o) (vanished o ts s) u e)
-    (each_unslotted_in_range (service_of s.cells o.name).sessions (without (Going (length ts)) (without_queue o.name s.cells)) (end_in_range (Going (length ts)) (without_queue o.name s.cells) (dequeued_in_range o.name s.cells all)))
+go_in_range x ts s u all e = grind (arith, guarded_goes, each_unslotted_in_range, end_in_range, dequeued_in_range)
 
 -- a session goes before its server
 parting_in_range : (p : Image) (o : Object) (x : Option Seat) (below : List Task) (s : State) → AllInRange s.cells → AllInRange (parting p o x below s).cells
@@ -227,12 +224,7 @@ parting_in_range p o None below s all = all
 parting_in_range p o (Some x) below s all = move_in_range x.place (Going (suc (suc (length below)))) s.cells tt all
 
 closing_in_range : (p : Image) (ts : List Task) (s u : State) → AllInRange s.cells → closing p ts s ≡ Goes u → AllInRange u.cells
-closing_in_range p (Destroy ∷ ts) s u all e = go (held s.cells (Going (length ts))) e
-  where
-    go : (o : Option Object) → parting_from p o ts s ≡ Goes u → AllInRange u.cells
-    go None e = cc
-    go (Some o) e = subst (λ v. AllInRange v.cells) (goes_same _ u e) (parting_in_range p o (first_session s.cells o.name (service_of s.cells o.name).sessions) ts s all)
-closing_in_range p _ s u all e = cc
+closing_in_range p x s u all e = grind (arith, goes_same, parting_in_range)
 
 close_in_range : (p : Image) (s : State) (b : Bool) (root : Option Object) → AllInRange s.cells → AllInRange (main_ends p b root s).cells
 close_in_range p s true (Some o) all = move_in_range (Elsewhere Root) (Going 1) s.cells tt all
