@@ -119,12 +119,7 @@ module _ (p : Image) (s : State) (fit : ClientsFit p s.clients s.cells) where
   parting_kept o (Some x) below stage = begun_kept x.place _ x.object (length s.items) (Closing ∷ Destroy ∷ below) _ refl refl refl stage
 
   closing_kept : (ts : List Task) (u : State) → TasksKept p s.clients s.cells ts → closing p ts s ≡ Goes u → IsKept p u
-  closing_kept (Destroy ∷ below) u stage e = go (held s.cells (Going (length below))) e
-    where
-      go : (o : Option Object) → parting_from p o below s ≡ Goes u → IsKept p u
-      go None e = cc
-      go (Some o) e = subst (λ v. IsKept p v) (goes_same _ u e) (parting_kept o (first_session s.cells o.name (service_of s.cells o.name).sessions) below stage)
-  closing_kept _ u stage e = cc
+  closing_kept x u stage e = grind (arith, goes_same, parting_kept)
 
   -- ---- a dispatch ends
 

@@ -372,14 +372,7 @@ module _ (p : Image) (t : Typing) (linked : IsWired p) (typed : IsTyped p t) (cs
 
   -- what is no server has none
   none_at : is_server p o.thing ≡ false → (c : ℕ) → Fits p (seen cs) (held cs (Elsewhere (Session o.name c))) Null
-  none_at plain c = go (session_class p o.thing) plain (has_session (service_of cs o.name) c) (sessions_fit c)
-    where
-      go :
-          (x : Option ℕ) → is_some x ≡ false → (b : Bool) → Fits p (seen cs) (held cs (Elsewhere (Session o.name c))) (cond b (filled (of_class x) Full) Null) →
-          Fits p (seen cs) (held cs (Elsewhere (Session o.name c))) Null
-      go None e true h = h
-      go None e false h = h
-      go (Some k) e b h = cc
+  none_at plain c = grind arith
 
   bare_fits : is_server p o.thing ≡ false → (r : Place) → Fits p (seen cs) (held cs r) (Bare p cs o ls r)
   bare_fits plain (Elsewhere (Session m c)) = go (o.name == m) refl
