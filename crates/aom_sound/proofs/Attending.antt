@@ -24,8 +24,7 @@ called_plain p m c = go c.role
     go (inr e) = ap is_service e
 
 pub plain_claim : (b : Bool) (sh : Shape) (below : Kind) → b ≡ false → cond b (delivered sh.delivery) below ≡ below
-plain_claim true sh below e = cc
-plain_claim false sh below e = refl
+plain_claim x sh below e = grind arith
 
 -- the layers below a method that serves claim the message
 pub served_claim : (p : Image) (d : Place → Kind) (ls : List Layer) → IsServed ls → claim p d ls (Elsewhere In_service) ≡ Own Message Ready

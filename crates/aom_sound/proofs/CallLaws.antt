@@ -63,8 +63,7 @@ ends_well p m fr sh (Inside o from) plain e =
     λ w. subst (λ n. IsTrue (has sh.states n)) (sym (ap (λ b. cond b idle (after_of p m)) plain)) (subst (λ k. IsTrue (has k (after_of p m))) (sym (e o from refl w)) (has_itself (after_of p m)))
 
 not_then : (b : Bool) → not b ≡ true → b ≡ false
-not_then true e = cc
-not_then false e = refl
+not_then x e = grind arith
 
 module _ (p : Image) (t : Typing) (wired : IsWired p) (typed : IsTyped p t) (c : Choice) (s : State) (fr : Frame) (sh : Shape) (ls : List Layer) (at_hand : At p t s fr sh ls) where
   pub law_call : (target : Target) (m first x : ℕ) → instr_at p fr.method fr.place ≡ Some (Call target m first x) → Law p t c s fr sh ls at_hand (Call target m first x)

@@ -246,8 +246,7 @@ module _ (p : Image) (t : Typing) (wired : IsWired p) (typed : IsTyped p t) (c :
         none = uncancelled (own_kind p fr.method) (known_at p fr sh.states below) request is_kind is_active_now it.suits
 
         rest : (x y : Bool) → (x || y) ≡ false → y ≡ false
-        rest true y e = cc
-        rest false y e = e
+        rest x y e = grind arith
 
         go : (b : Bool) → (cond b (known_at p fr idle below) below).cancelled ≡ false
         go true = none

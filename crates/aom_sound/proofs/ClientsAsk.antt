@@ -82,8 +82,7 @@ asked_listed : (p : Image) (class : ℕ) (cs : List Cell) (x : Listed) → asked
 asked_listed p class cs x = go (is_server p (An_object_of class))
   where
     go : (b : Bool) → cond b (first_listed class cs) None ≡ Some x → first_listed class cs ≡ Some x
-    go true e = e
-    go false e = cc
+    go x e = grind arith
 
 pub asked_there : (p : Image) (class : ℕ) (cs : List Cell) (x : Listed) → Tidy cs → asked_server p class cs ≡ Some x → IsListed class cs x
 asked_there p class cs x t e = listed_there class cs x t (asked_listed p class cs x e)
@@ -235,9 +234,7 @@ module _ (p : Image) (clients : List Client) (cs : List Cell) (fit : ClientsFit 
       senders k d = by_server p cs o lives (asked_last (Message_of c m)) (λ k v. is_from d (service_of cs k).sender ≡ true → is_from d v.sender ≡ true) (λ h. h) (λ n other h. h) k
 
       both : (a b : Bool) → (a && b) ≡ true → (a ≡ true) × (b ≡ true)
-      both true true e = (refl, refl)
-      both true false e = cc
-      both false b e = cc
+      both x b e = grind arith
 
       last : (d k : ℕ) (b : Bool) → list_any (is_message_of d k) (service_of cs o.name).queue ≡ b → (b || (((c == d) && (m == k)) || false)) ≡ true → is_from d (service_of cs k).sender ≡ true
       last d k true at h = fit.senders o.name d k at

@@ -1,5 +1,5 @@
 -- What is kept of clients stays so in each effect of an instruction: by the cells that it changes, and the tasks below it.
-use Rattle.std.proofs.Common.{Bool, List, None, Option, Some, cond, false, length, refl, subst, suc, sym, true, zero, ℕ, ◌∷◌, ◌≡◌, arith}
+use Rattle.std.proofs.Common.{Bool, List, None, Option, Some, cond, false, length, refl, subst, suc, sym, true, zero, ℕ, ◌∷◌, ◌≡◌}
 use Rattle.aom_image.specs.Image.{Image}
 use Rattle.aom_image.specs.Views.{arguments_of}
 use Rattle.aom_clients.specs.declared.client.Client.{Client}

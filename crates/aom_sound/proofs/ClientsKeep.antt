@@ -28,7 +28,7 @@ use Rattle.aom_sound.specs.Objects.{is_thing}
 use Rattle.aom_sound.specs.Words.{here}
 use Rattle.aom_sound.proofs.Guarded.{goes_same, guarded_goes, guarded_met}
 use Rattle.aom_sound.specs.Cleanup.{arrived, dealt_with, destroyed, ended_by, top_is_whole, unwound}
-use Rattle.aom_sound.specs.Destruction.{begun, begun_by, closing, first_session, gone, needs_gone, parting, parting_from, vanished}
+use Rattle.aom_sound.specs.Destruction.{begun, begun_by, closing, gone, needs_gone, parting, vanished}
 use Rattle.aom_sound.specs.Effects.{applied, effect, needs}
 use Rattle.aom_sound.specs.Enlisted.{ended_cells, part_of}
 use Rattle.aom_sound.specs.Kept.{ClientsFit, IsKept, StageKept, TasksKept, is_message_of}

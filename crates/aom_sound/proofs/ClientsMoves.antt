@@ -156,8 +156,7 @@ steady_moved cs a b apart = record {
 }
   where
     queued : (n m : ℕ) (o : Object) (x : Bool) → cond x None (held cs (Elsewhere (Queued n m))) ≡ Some o → held cs (Elsewhere (Queued n m)) ≡ Some o
-    queued n m o true h = cc
-    queued n m o false h = h
+    queued n m o x h = grind arith
 
 pub steady_new : (cs : List Cell) (name : ℕ) (x : Thing) (ws : List ℤ) (owner : Place) → NoQueue owner → named cs name ≡ None → Steady cs (with_new name x ws owner cs)
 steady_new cs name x ws owner apart free = record {

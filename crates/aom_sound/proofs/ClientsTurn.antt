@@ -88,8 +88,7 @@ listed_bereaved p n (c ∷ cs) m e = go (c.object.name == m) e (listed_bereaved 
     ends true (Some r) e = owed (is_owed (Some r)) e
       where
         owed : (b : Bool) → cond b (on_request (completed_with terminated) (Some r)) (Some r) ≡ None → Some r ≡ None
-        owed true e = cc
-        owed false e = e
+        owed x e = grind arith
     ends false r e = e
 
     go :
@@ -122,8 +121,7 @@ fit_moved p clients cs a b free apart fit = record {
 }
   where
     names : (n m : ℕ) (o : Object) (x : Bool) → cond x None (held cs (Elsewhere (Queued n m))) ≡ Some o → o.name ≡ m
-    names n m o true h = cc
-    names n m o false h = fit.names n m o h
+    names n m o x h = grind arith
 
 -- the first of a queue is taken
 pub fit_taken :

@@ -42,7 +42,7 @@ use Rattle.aom_sound.proofs.Suiting.{all_moved, known_plain, same_object, suits_
 use Rattle.aom_sound.specs.Requests.{AllSuit, Known, Suits, Unworked, known_at, resting_in, states_claim, thing_kind, works_at}
 use Rattle.aom_rules.specs.Requests.{is_service, is_cancel}
 use Rattle.aom_roles.specs.States.{last_of, states_of}
-use Rattle.aom_sound.specs.Servers.{is_among, session_thing, is_server, session_class, of_class, has_session}
+use Rattle.aom_sound.specs.Servers.{is_among, session_thing, is_server, has_session}
 use Rattle.aom_roles.specs.Classes.{sessions_in, sessions_of}
 use Rattle.aom_image.specs.declared.class.ClassKind.{ClassKind}
 use Rattle.aom_sound.proofs.Attending.{plain_claim}

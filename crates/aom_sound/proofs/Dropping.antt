@@ -20,7 +20,6 @@ use Rattle.std.specs.Prelude.{is_some}
 use Rattle.std.proofs.lemmas.Option.{same_Some}
 use Rattle.aom_shape.specs.declared.kind.Kind.{Kind}
 use Rattle.aom_sound.proofs.Claimed.{fits_age}
-use Rattle.aom_sound.proofs.Things.{stands_same}
 use Rattle.aom_sound.specs.Requests.{AllSuit, Suits, states_claim, thing_kind}
 use Rattle.aom_roles.specs.Shapes.{kind_of}
 
@@ -266,9 +265,4 @@ queued_claim p d (l ∷ ls) n m = queued_claim p d ls n m
 
 -- what waits in a queue is a message
 pub waits_message : (p : Image) (h : Sight) (x : Object) (b : Bool) (o : Option Object) → Fits p h (Some x) (cond b (filled (message_thing p o) Full) Null) → x.thing ≡ Message
-waits_message p h x true (Some y) f = go (is_server p y.thing) f
-  where
-    go : (b : Bool) → Fits p h (Some x) (filled (cond b (Some Message) None) Full) → x.thing ≡ Message
-    go true f = stands_same p x.thing Message f.0
-    go false f = absurd f
-waits_message p h x _ _ f = absurd f
+waits_message p h x y z f = grind arith

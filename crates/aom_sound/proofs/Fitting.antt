@@ -91,8 +91,7 @@ module _ (p : Image) (c : Choice) (fr : Frame) (ts : List Task) (s : State) wher
 
   -- where it leaves, it may
   may_leave : (b : Bool) (cs : List Cell) → AllTrue (cond b (leave_needs cs (Run fr ∷ ts)) []) → b ≡ true → has_trap ts ≡ true
-  may_leave true cs n e = n.0
-  may_leave false cs n e = cc
+  may_leave x cs n e = grind arith
 
   dealing :
       (items : List Item) (o : Option Object) → s.items ≡ items → held s.cells (top_place items) ≡ o → tops_entry items ≡ true → top_is_whole s.cells items ≡ true →
@@ -156,8 +155,7 @@ module _ (p : Image) (c : Choice) (fr : Frame) (ts : List Task) (s : State) wher
   off_of _ = Same
 
   taken : (b : Bool) (off on : Effect) → b ≡ true → cond b off on ≡ off
-  taken true off on e = refl
-  taken false off on e = cc
+  taken x off on e = grind arith
 
   refused : (code : ℤ) (off : Update) (on : Effect) → (c.refused ≡ true) × (code ≡ negsuc 3) → cond c.refused (Leaves no_memory off) on ≡ Leaves code off
   refused code off on h = taken c.refused (Leaves no_memory off) on h.0 ∙ ap (λ k. Leaves k off) (sym h.1)

@@ -1,5 +1,5 @@
 -- What is kept of clients in closed states: by computation, and by the name of the server where all names are spoken of.
-use Rattle.std.proofs.Common.{Bool, List, None, Some, [], ap, arith, cond, false, refl, subst, sym, true, zero, suc, ℕ, ◌==◌, ◌∙◌, ◌∷◌, ◌≡◌, ◌≤◌, ◌<◌}
+use Rattle.std.proofs.Common.{Bool, List, None, Some, [], ap, arith, cond, false, refl, subst, sym, true, ℕ, ◌==◌, ◌∙◌, ◌∷◌, ◌≡◌, ◌≤◌, ◌<◌}
 use Rattle.std.proofs.lemmas.Bool.{eqb-true, true≢false}
 use Rattle.aom_clients.specs.Table.{server_of}
 use Rattle.aom_image.specs.Views.{class_at}
@@ -55,8 +55,7 @@ one : (x : ℕ) → ((0 == x) || false) ≡ true → 0 ≡ x
 one x e = grind (arith, eqb-true)
 
 is_listed : (n c : ℕ) → server_of (client_at opened c) ≡ Some n → has_session (service_of cells n) c ≡ true
-is_listed n zero e = let same : 5 ≡ n = cc in subst (λ k. has_session (service_of cells k) 0 ≡ true) same refl
-is_listed n (suc c) e = cc
+is_listed n x e = grind arith
 
 has_its_own : (n c : ℕ) → has_session (service_of cells n) c ≡ true → server_of (client_at opened c) ≡ Some n
 has_its_own n c h = by_name (λ k. has_session (service_of cells k) c ≡ true → server_of (client_at opened c) ≡ Some k)
