@@ -10,7 +10,7 @@ use Rattle.aom_clients.specs.declared.client.Client.{Client}
 use Rattle.aom_rules.specs.Typing.{Typing}
 use Rattle.aom_sound.proofs.ClientsCommand.{fit_commanded}
 use Rattle.aom_sound.proofs.ClientsFit.{by_server, seats_then, enlisted_then}
-use Rattle.aom_sound.proofs.Maps.{held_moved, named_moved, requested_moved}
+use Rattle.aom_sound.proofs.Maps.{held_moved, named_moved, requested_moved, requested_unnamed}
 use Rattle.aom_sound.proofs.Owners.{IsQueuedAt, in_queue, queued_lower}
 use Rattle.aom_sound.proofs.Services.{held_served, named_served, service_asked, service_bereaved, service_here, service_moved}
 use Rattle.aom_sound.proofs.Signals.{at_rest}
@@ -38,7 +38,6 @@ use Rattle.aom_transcript.specs.declared.event.Event.TheVariants.{Client as From
 use Rattle.aom_transcript.specs.declared.event.TimedEvent.{TimedEvent}
 use Rattle.aom_sound.proofs.Seated.{seats_first, seats_rest}
 use Rattle.aom_sound.proofs.Things.{message_plain}
-use Rattle.aom_sound.proofs.Dropping.{requested_unnamed}
 use Rattle.std.proofs.lemmas.Bool.{eqb-true}
 
 -- ---- cells of which clients have the same

@@ -9,7 +9,8 @@ use Rattle.aom_rules.specs.Typing.{Typing}
 use Rattle.aom_shape.specs.Kinds.{filled}
 use Rattle.aom_shape.specs.declared.kind.Filling.TheVariants.{Full}
 use Rattle.aom_shape.specs.declared.kind.Kind.TheVariants.{Null}
-use Rattle.aom_sound.proofs.Maps.{cond_same, front_free, held_lives, same_place-true, same_place_refl}
+pub use Rattle.aom_sound.proofs.Maps.{requested_unnamed}
+use Rattle.aom_sound.proofs.Maps.{cond_same, held_lives, same_place-true, same_place_refl}
 use Rattle.aom_sound.proofs.Services.{attended_at}
 use Rattle.aom_sound.specs.Claims.{claim, Dispatching, Dying, Ending, Layer, Mark, Method, Unwinding, declared, declared_field, tasks_of}
 use Rattle.aom_sound.specs.Places.{Sight, seen, Cell, Elsewhere, Field, Going, In_service, Object, Place, Queued, Session, Tidy, held, named, requested, same_place, service_of, without}
@@ -28,10 +29,6 @@ abbrev pub is_sent : Place → Bool
 is_sent (Elsewhere In_service) = true
 is_sent (Elsewhere (Queued s m)) = true
 is_sent _ = false
-
-pub requested_unnamed : (cs : List Cell) (n : ℕ) → named cs n ≡ None → requested cs n ≡ None
-requested_unnamed [] n e = refl
-requested_unnamed (c ∷ cs) n e = let f = front_free _ _ _ e in ap (λ b. cond b c.request (requested cs n)) f.0 ∙ requested_unnamed cs n f.1
 
 -- what these places own goes
 module _ (gone : Place → Bool) where

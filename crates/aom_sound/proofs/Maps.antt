@@ -3,6 +3,7 @@ use Rattle.std.proofs.lemmas.Option.{none-some}
 use Rattle.std.proofs.Common.{Bool, List, None, Option, Some, [], ap, cond, false, refl, subst, suc, sym, true, zero, ℕ, ◌==◌, ◌∙◌, ◌∷◌, ◌≡◌}
 use Rattle.std.proofs.lemmas.Bool.{and_from, and_parts, eq-eqb, eqb-true, false≢true, ne_eqb, true≢false}
 use Rattle.aom_shape.specs.Tables.{at, put_at}
+use Rattle.aom_sound.proofs.Altering.{Reads, moving, named_kept, names, read_kept, requests}
 use Rattle.aom_sound.specs.Places.{Cell, Elsewhere, Entry, Field, Going, Object, Other, Place, Queued, Register, Root, In_service, Session, Tidy, changed, held, moved, named, place_inner, place_kind, place_outer, place_part, requested, same_place, without}
 use lib.Dec.{eqb-suc-suc, eqb-suc-zero, eqb-zero-suc}
 
@@ -97,12 +98,10 @@ held_moved (c ∷ cs) p q r free =
     first false e nq ih = second (same_place c.owner r) (same_place q r) (same_place p r) e nq refl refl refl ih
 
 pub named_moved : (cs : List Cell) (p q : Place) (n : ℕ) → named (moved p q cs) n ≡ named cs n
-named_moved [] p q n = refl
-named_moved (c ∷ cs) p q n = ap (λ x. cond (c.object.name == n) (Some c.object) x) (named_moved cs p q n)
+named_moved cs p q = named_kept (moving p q) cs
 
 pub requested_moved : (cs : List Cell) (p q : Place) (n : ℕ) → requested (moved p q cs) n ≡ requested cs n
-requested_moved [] p q n = refl
-requested_moved (c ∷ cs) p q n = ap (λ x. cond (c.object.name == n) c.request x) (requested_moved cs p q n)
+requested_moved cs p q = read_kept (moving p q) requests (λ c. refl) cs
 
 pub tidy_moved : (cs : List Cell) (p q : Place) → held cs q ≡ None → Tidy cs → Tidy (moved p q cs)
 tidy_moved [] p q free t = tt
@@ -186,25 +185,24 @@ held_without (c ∷ cs) g r = go (same_place c.owner g) (same_place g r) (same_p
 
 -- what is read at the first cell of a name is the same but for the name of what goes
 pub read_without :
-    {A : Type 0} (read : List Cell → ℕ → A) (of : Cell → A) → ((c : Cell) (cs : List Cell) (n : ℕ) → read (c ∷ cs) n ≡ cond (c.object.name == n) (of c) (read cs n)) →
-    (cs : List Cell) (g : Place) (o : Object) (n : ℕ) → Tidy cs → held cs g ≡ Some o → (o.name == n) ≡ false → read (without g cs) n ≡ read cs n
-read_without read of first [] g o n t e d = refl
-read_without read of first (c ∷ cs) g o n t e d = go (same_place c.owner g) refl (read_without read of first cs g o n t.2) e ∙ sym (first c cs n)
+    {A : Type 0} {read : List Cell → ℕ → A} (r : Reads read) (cs : List Cell) (g : Place) (o : Object) (n : ℕ) → Tidy cs → held cs g ≡ Some o → (o.name == n) ≡ false → read (without g cs) n ≡ read cs n
+read_without r [] g o n t e d = refl
+read_without {read = read} r (c ∷ cs) g o n t e d = go (same_place c.owner g) refl (read_without r cs g o n t.2) e ∙ sym (r.first c cs n)
   where
     go :
         (x : Bool) → same_place c.owner g ≡ x → (held cs g ≡ Some o → (o.name == n) ≡ false → read (without g cs) n ≡ read cs n) → cond x (Some c.object) (held cs g) ≡ Some o →
-        read (cond x (without g cs) (c ∷ without g cs)) n ≡ cond (c.object.name == n) (of c) (read cs n)
+        read (cond x (without g cs) (c ∷ without g cs)) n ≡ cond (c.object.name == n) (r.of c) (read cs n)
     go true f ih e =
         let same : c.object ≡ o = cc in
         ap (λ l. read l n) (without_none cs g (ap (λ q. held cs q) (sym (same_place-true c.owner g f)) ∙ t.0))
-        ∙ ap (λ b. cond b (of c) (read cs n)) (sym (ap (λ x. x.name == n) same ∙ d))
-    go false f ih e = first c (without g cs) n ∙ ap (λ x. cond (c.object.name == n) (of c) x) (ih e d)
+        ∙ ap (λ b. cond b (r.of c) (read cs n)) (sym (ap (λ x. x.name == n) same ∙ d))
+    go false f ih e = r.first c (without g cs) n ∙ ap (λ x. cond (c.object.name == n) (r.of c) x) (ih e d)
 
 pub named_without : (cs : List Cell) (g : Place) (o : Object) (n : ℕ) → Tidy cs → held cs g ≡ Some o → (o.name == n) ≡ false → named (without g cs) n ≡ named cs n
-named_without = read_without named (λ c. Some c.object) (λ c cs n. refl)
+named_without = read_without names
 
 pub requested_without : (cs : List Cell) (g : Place) (o : Object) (n : ℕ) → Tidy cs → held cs g ≡ Some o → (o.name == n) ≡ false → requested (without g cs) n ≡ requested cs n
-requested_without = read_without requested (λ c. c.request) (λ c cs n. refl)
+requested_without = read_without requests
 
 named_gone : (cs : List Cell) (g : Place) (n : ℕ) → named cs n ≡ None → named (without g cs) n ≡ None
 named_gone [] g n e = refl
@@ -225,10 +223,13 @@ unnamed (c ∷ cs) g o t e = go (same_place c.owner g) refl (unnamed cs g o t.2)
     go true f ih e = let same : c.object ≡ o = cc in named_gone cs g o.name (ap (λ x. named cs x.name) (sym same) ∙ t.1)
     go false f ih e = ap (λ b. cond b (Some c.object) (named (without g cs) o.name)) (ne_eqb c.object.name o.name (λ s. held_named cs g o e (ap (λ k. named cs k) (sym s) ∙ t.1))) ∙ ih e
 
--- what is not there has no request
-requested_unnamed : (cs : List Cell) (n : ℕ) → named cs n ≡ None → requested cs n ≡ None
-requested_unnamed [] n e = refl
-requested_unnamed (c ∷ cs) n e = let f = front_free _ _ _ e in ap (λ b. cond b c.request (requested cs n)) f.0 ∙ requested_unnamed cs n f.1
+-- of what is not there nothing is read
+pub read_unnamed : {A : Type 0} {read : List Cell → ℕ → A} (r : Reads read) (cs : List Cell) (n : ℕ) → named cs n ≡ None → read cs n ≡ read [] n
+read_unnamed r [] n e = refl
+read_unnamed {read = read} r (c ∷ cs) n e = let f = front_free _ _ _ e in r.first c cs n ∙ ap (λ b. cond b (r.of c) (read cs n)) f.0 ∙ read_unnamed r cs n f.1
+
+pub requested_unnamed : (cs : List Cell) (n : ℕ) → named cs n ≡ None → requested cs n ≡ None
+requested_unnamed = read_unnamed requests
 
 -- what had no request has none where another cell is gone
 pub unrequested : (cs : List Cell) (g : Place) (n : ℕ) → Tidy cs → requested cs n ≡ None → requested (without g cs) n ≡ None

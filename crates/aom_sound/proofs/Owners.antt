@@ -15,7 +15,6 @@ use Rattle.aom_shape.specs.Kinds.{entry_kind, field, filled, register}
 use Rattle.aom_shape.specs.Things.{Program, field_thing}
 use Rattle.aom_rules.specs.Typing.{Typing}
 use Rattle.aom_shape.specs.declared.kind.Entry.{Entry as Pushed}
-use Rattle.aom_shape.specs.declared.kind.Entry.TheVariants.{Object as Pushed_object, Operation as Pushed_operation}
 use Rattle.aom_shape.specs.declared.kind.Filling.{Filling}
 use Rattle.aom_shape.specs.declared.kind.Filling.TheVariants.{Full, Perhaps}
 use Rattle.aom_shape.specs.declared.kind.Kind.{Kind}
@@ -30,7 +29,7 @@ use Rattle.aom_sound.specs.Owned.{AllOwned, Ends, HasRegisters, HasService, IsOb
 use Rattle.aom_sound.specs.Places.{Cell, Elsewhere, Entry, Field, Going, Object, Place, Register, Root, Sight, Tidy, held, named, same_place, seen, service_of, Session, In_service, Queued}
 use Rattle.aom_sound.specs.Registers.{AllInRange, IsInRange}
 use Rattle.aom_sound.specs.Servers.{has_message, has_session, is_among, is_server, message_thing, of_class, session_class, session_thing}
-use Rattle.aom_sound.specs.State.{An_object, AtRoot, Dispatch, Dispatched, Home, Inside, Item, Of_root, Of_server, Parts, Run, Service_left, Serves, State, Static, thing_holder}
+use Rattle.aom_sound.specs.State.{AtRoot, Dispatch, Dispatched, Home, Inside, Item, Of_root, Of_server, Parts, Run, Service_left, Serves, State, Static, thing_holder}
 use Rattle.aom_sound.specs.WellTyped.{Back, Caught, Fits, Gone, IsHoused, IsServed, Leaves, Now, Returns, Stack, WellTyped}
 
 -- what a kind of an owning place says of the thing
@@ -69,9 +68,7 @@ named_held (c ∷ cs) n o t e = go (c.object.name == n) (λ e. named_held cs n o
 
 -- what is claimed to be filled is declared for a thing
 filled_thing : (k : Option Thing) (y : Filling) (x : Thing) → HasThing (filled k y) x → k ≡ Some x
-filled_thing (Some d) Full x h = ap (λ z. Some z) (sym h)
-filled_thing (Some d) Perhaps x h = ap (λ z. Some z) (sym h)
-filled_thing _ _ x h = absurd h
+filled_thing k y x h = grind arith
 
 -- what is declared of a field, by the cell that has it
 declared_thing_of :
@@ -79,8 +76,7 @@ declared_thing_of :
 declared_thing_of p cs n f c h = go (named cs n) refl h
   where
     go : (o : Option Object) → named cs n ≡ o → HasThing (declared_field p o f) c → (o : Object) × (named cs n ≡ Some o) × (field_thing p (thing_holder o.thing) f ≡ Some c)
-    go None e h = absurd h
-    go (Some o) e h = (o, e, filled_thing (field_thing p (thing_holder o.thing) f) Perhaps c h)
+    go o e h = grind arith
 
 pub field_thing_of :
     (p : Image) (t : Typing) (cs : List Cell) (ls : List Layer) (back : Back) (n f : ℕ) (c : Thing) → Stack p t cs back ls → HasThing (claim p (declared p cs) ls (Field n f)) c →
@@ -180,8 +176,7 @@ queued_thing_of p cs (l ∷ ls) n m x h = queued_thing_of p cs ls n m x h
 
 -- a message is served under a dispatch that serves it
 served_below : (ls : List Layer) → IsServed ls → HasService (tasks_of ls)
-served_below (Mark gv ∷ Dispatching (Of_server x c (Serves o)) seats ∷ ls) h = refl
-served_below _ h = absurd h
+served_below ls h = grind arith
 
 by_stage_serves : (d : Dispatch) (ls : List Layer) (k : Kind) (x : Thing) → (HasThing k x → ⊥) → HasThing (by_stage d k) x → HasService (Dispatched d ∷ tasks_of ls)
 by_stage_serves (Of_server y c (Serves o)) ls k x none h = refl
@@ -255,8 +250,7 @@ module _ (p : Image) (cs : List Cell) (x : Thing) where
   entries_live (e ∷ es) ls k below h = go (length (objects es (items_of ls)) == k) (entries_live es ls k below) h
     where
       object : (e : Pushed) → HasThing (entry_kind e) x → Some (entry_form e) ≡ Some Object_form
-      object (Pushed_object c a) h = refl
-      object Pushed_operation h = absurd h
+      object e h = grind arith
 
       rest_claim : Kind
       rest_claim = entry_claim es (items_of ls) k (claim p (declared p cs) ls (Entry k))
@@ -300,8 +294,7 @@ objects_item [] k e = cc
 objects_item (i ∷ items) k e = go (length items == k) (objects_item items k) (ap (λ n. cond (n == k) (Some (form i)) (over (forms items) k)) (sym (length_forms items)) ∙ e)
   where
     here : (i : Item) → Some (form i) ≡ Some Object_form → IsObjects (Some i)
-    here An_object e = tt
-    here _ e = cc
+    here i e = grind arith
 
     go :
         (b : Bool) → (over (forms items) k ≡ Some Object_form → IsObjects (over items k)) → cond b (Some (form i)) (over (forms items) k) ≡ Some Object_form →
@@ -327,9 +320,7 @@ rank (An_object_of c) = suc c
 rank Message = 0
 
 pub lower_rank : (p : Image) → IsWired p → (x y : Thing) (f : ℕ) → field_thing p (thing_holder x) f ≡ Some y → rank y < rank x
-lower_rank p wired (An_object_of c) (An_object_of d) f e = let lt = wired.ordered c d f e in omega arith
-lower_rank p wired (An_object_of c) Message f e = omega arith
-lower_rank p wired Message y f e = cc
+lower_rank p wired x y f e = grind arith
 
 -- only classes that are there declare fields
 declaring : (p : Image) (x y : Thing) (f : ℕ) → field_thing p (thing_holder x) f ≡ Some y → rank x ≤ length p.classes

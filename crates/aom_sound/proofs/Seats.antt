@@ -1,5 +1,5 @@
 -- Seats: which places are none, and that those who sit stay where cells change elsewhere.
-use Rattle.std.proofs.Common.{List, Option, Some, None, [], ap, refl, subst, true, false, ◌&&◌, ◌==◌, ◌∷◌, ◌≡◌}
+use Rattle.std.proofs.Common.{arith, List, Option, Some, None, [], subst, true, false, ◌∷◌, ◌≡◌}
 use Rattle.std.specs.Prelude.{is_some}
 use Rattle.aom_sound.specs.Places.{Cell, Elsewhere, Entry, Field, Going, Object, Place, Register, held, named, requested, same_place}
 use Rattle.aom_sound.specs.State.{Seat}
@@ -22,16 +22,7 @@ NoSeatHere (Elsewhere w) xs = NoSeatAt (Elsewhere w) xs
 NoSeatHere (Going k) xs = Unit {0}
 
 is_elsewhere : (q r : Place) (xs : List Seat) → SitsIn r xs → NoFieldHere q r → same_place q r ≡ false
-is_elsewhere (Register f i) (Field m g) xs h a = refl
-is_elsewhere (Register f i) (Elsewhere w) xs h a = refl
-is_elsewhere (Entry k) (Field m g) xs h a = refl
-is_elsewhere (Entry k) (Elsewhere w) xs h a = refl
-is_elsewhere (Field n f) (Field m g) xs h a = ap (λ b. b && (f == g)) a
-is_elsewhere (Field n f) (Elsewhere w) xs h a = refl
-is_elsewhere (Going k) (Field m g) xs h a = refl
-is_elsewhere (Going k) (Elsewhere w) xs h a = refl
-is_elsewhere (Elsewhere w) r xs h a = a
-is_elsewhere _ _ xs h a = absurd h
+is_elsewhere q r xs h a = grind arith
 
 pub no_seat : (cs : List Cell) (q : Place) (xs : List Seat) → NoSeatHere q xs → AllSit cs xs → NoSeatAt q xs
 no_seat cs q [] h s = tt

@@ -1,5 +1,5 @@
 -- Cells of which some go, and at the others clients have something else: by the cells one after another.
-use Rattle.std.proofs.Common.{Bool, List, None, Option, Some, [], ap, cond, false, refl, subst, sym, true, ℕ, ◌&&◌, ◌==◌, ◌∙◌, ◌∷◌, ◌≡◌}
+use Rattle.std.proofs.Common.{arith, Bool, List, None, Option, Some, [], ap, cond, false, refl, subst, sym, true, ℕ, ◌&&◌, ◌==◌, ◌∙◌, ◌∷◌, ◌≡◌}
 use Rattle.std.proofs.lemmas.Bool.{eq-eqb, eqb-true}
 use Rattle.aom_sound.proofs.Maps.{same_place-true, same_place_refl}
 use Rattle.aom_sound.specs.Places.{Cell, Object, Place, Request, Service, Tidy, held, named, requested, same_place, service_of, unserved}
@@ -49,12 +49,10 @@ service_cell [] n = refl
 service_cell (c ∷ cs) n = either_in service_in (c.object.name == n) c (service_of cs n) (cell_of cs n) (service_cell cs n)
 
 pub no_cell : (x : Option Cell) → object_in x ≡ None → x ≡ None
-no_cell None e = refl
-no_cell (Some c) e = cc
+no_cell x e = grind arith
 
 pub a_cell_of : (x : Option Cell) (o : Object) → object_in x ≡ Some o → (c : Cell) × (x ≡ Some c) × (c.object ≡ o)
-a_cell_of None o e = cc
-a_cell_of (Some c) o e = (c, refl, cc)
+a_cell_of x o e = grind arith
 
 pub cell_owner : (cs : List Cell) (q : Place) (c : Cell) → cell_in cs q ≡ Some c → c.owner ≡ q
 cell_owner [] q c e = cc
@@ -195,8 +193,7 @@ module _ (drops : Cell → Bool) (f : Cell → Service) where
       at c there false ed e = (c, there, cc, ed)
 
       go : (x : Option Cell) → cell_of cs n ≡ x → object_in (kept x) ≡ Some o → (c : Cell) × (cell_of cs n ≡ Some c) × (c.object ≡ o) × (drops c ≡ false)
-      go None there e = cc
-      go (Some c) there e = at c there (drops c) refl e
+      go x there e = grind arith
 
   pub requested_before : (cs : List Cell) (n : ℕ) (o : Object) → Tidy cs → named (sifted drops f cs) n ≡ Some o → requested (sifted drops f cs) n ≡ requested cs n
   requested_before cs n o t e = let b = named_before cs n o t e in requested_sifted cs t n b.0 b.1 b.3 ∙ sym (requested_cell cs n ∙ ap request_in b.1)

@@ -1,19 +1,17 @@
 -- Between dispatches each object rests: what signals is ready.
-use Rattle.std.proofs.Common.{Bool, IsTrue, List, None, Option, Some, [], ap, cond, false, refl, subst, sym, true, ◌&&◌, ◌==◌, ◌∙◌, ◌∷◌, ◌≡◌}
+use Rattle.std.proofs.Common.{arith, Bool, List, None, Option, Some, [], ap, cond, false, refl, subst, sym, true, ◌&&◌, ◌==◌, ◌∙◌, ◌∷◌, ◌≡◌}
 use Rattle.std.proofs.lemmas.Bool.{eq-eqb, ne_eqb}
 use Rattle.std.specs.Prelude.{is_some, not, ◌||◌}
 use Rattle.std.specs.Ordering.{int_eq}
 use Rattle.aom_image.specs.Image.{Image}
-use Rattle.aom_image.specs.Views.{has}
 use Rattle.aom_image.specs.declared.class.ClassKind.{ClassKind}
-use Rattle.aom_image.specs.declared.class.ClassKind.TheVariants.{Active as An_active, Server as A_server}
-use Rattle.aom_roles.specs.States.{active_states, server_states, states_of}
+use Rattle.aom_roles.specs.States.{states_of}
 use Rattle.aom_rules.specs.Typing.{Typing}
 use Rattle.aom_sound.proofs.Owners.{layers_none}
 use Rattle.aom_sound.specs.Enlisted.{is_active, is_idle, is_unsettled, pending}
 use Rattle.aom_sound.specs.Laws.{SignalsAreReady}
 use Rattle.aom_sound.specs.Places.{Active, Cell, Idle, Object, Phase, Request, Tidy, named, requested}
-use Rattle.aom_sound.specs.Requests.{AllSuit, Suits, phase_state, resting_in, thing_kind}
+use Rattle.aom_sound.specs.Requests.{AllSuit, Suits, resting_in, thing_kind}
 use Rattle.aom_sound.specs.Servers.{is_asked_for}
 use Rattle.aom_sound.specs.State.{State}
 use Rattle.aom_sound.specs.WellTyped.{WellTyped}
@@ -26,19 +24,7 @@ settled_not false e = refl
 -- what rests is idle or waits
 rests_settled : (k : Option ClassKind) (r : Option Request) → Suits k (resting_in (states_of k)) r → is_settled r ≡ true
 unfolding states_of
-rests_settled k None s = refl
-rests_settled (Some (An_active v b)) (Some r) s = phase r.phase s.0
-  where
-    phase : (q : Phase) → IsTrue (has active_states (phase_state q)) → not (is_unsettled q) ≡ true
-    phase Idle h = refl
-    phase Active h = refl
-    phase _ h = cc
-rests_settled (Some (A_server most x b)) (Some r) s = phase r.phase s.1
-  where
-    phase : (q : Phase) → IsTrue (has server_states (phase_state q)) → not (is_unsettled q) ≡ true
-    phase Idle h = refl
-    phase _ h = cc
-rests_settled _ (Some r) s = cc
+rests_settled k r s = grind arith
 
 settled_cells : (cs : List Cell) → ((o : Object) → named cs o.name ≡ Some o → is_settled (requested cs o.name) ≡ true) → Tidy cs → AllSettled cs
 settled_cells [] h tidy = tt

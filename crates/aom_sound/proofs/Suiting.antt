@@ -1,6 +1,6 @@
 -- How what is known of requests changes with the layers, and how it goes on to hold.
-use Rattle.std.proofs.Common.{Bool, IsTrue, List, None, Option, Some, [], ap, cond, false, inl, inr, refl, subst, sym, true, ℕ, ℤ, ◌&&◌, ◌==◌, ◌∙◌, ◌∷◌, ◌≡◌}
-use Rattle.std.proofs.lemmas.Bool.{eqb-true, true≢false}
+use Rattle.std.proofs.Common.{arith, Bool, IsTrue, List, None, Option, Some, [], ap, cond, false, inl, inr, refl, subst, sym, true, ℕ, ℤ, ◌&&◌, ◌==◌, ◌∙◌, ◌∷◌, ◌≡◌}
+use Rattle.std.proofs.lemmas.Bool.{eqb-true}
 use Rattle.std.specs.Prelude.{is_none, is_some, not, ◌||◌}
 use Rattle.aom_image.specs.Image.{Image}
 use Rattle.aom_image.specs.Views.{has, method_role}
@@ -14,7 +14,7 @@ use Rattle.aom_shape.proofs.Sets.{has_along, has_itself}
 use Rattle.aom_shape.specs.Shape.{Shape}
 use Rattle.aom_sound.proofs.Maps.{named_moved, requested_moved}
 use Rattle.aom_sound.specs.Claims.{Dispatching, Dying, Layer, Mark, Method, Unwinding, Ending}
-use Rattle.aom_sound.specs.Places.{Aborted, Active, Cell, Idle, Issued, Object, Phase, Place, Request, moved, named, requested}
+use Rattle.aom_sound.specs.Places.{Cell, Idle, Object, Phase, Place, Request, moved, named, requested}
 use Rattle.aom_sound.specs.Enlisted.{cancelled, in_phase, is_aborted, is_cancelling, is_idle, is_unanswered, on_request, pending, status_of}
 use Rattle.std.specs.Ordering.{int_eq}
 use Rattle.aom_sound.specs.Requests.{AllSuit, Joins, Known, Suits, Unworked, is_timed, known_at, phase_state, resting_in, rests_in, state_of, states_claim, thing_kind, works_at}
@@ -35,10 +35,7 @@ unfolding states_of
 suits_rests (Some (An_active v b)) states r u s = (go r s.0 s.1, s.1, s.2, s.3)
   where
     phase : (q : Phase) → IsTrue (has states (phase_state q)) → is_cancelling q ≡ false → IsTrue (has active_states (phase_state q))
-    phase Idle h g = refl
-    phase Issued h g = absurd (true≢false (sym u ∙ ap not h))
-    phase Active h g = refl
-    phase _ h g = cc
+    phase q h g = grind arith
 
     go : (r : Option Request) → IsTrue (has states (state_of r)) → in_phase is_cancelling r ≡ false → IsTrue (has active_states (state_of r))
     go None h g = refl
@@ -118,19 +115,16 @@ known_resting p o fr states ls e u = known_plain p fr states (states_claim p o l
 
 -- a method that cancels ends with its request completed
 done_only : (q : Phase) (status : ℤ) → IsTrue (has cancel_done (phase_state q)) → (is_aborted q && int_eq status pending) ≡ false → int_eq status pending ≡ false
-done_only Aborted status h u = u
-done_only _ status h u = cc
+done_only q status h u = grind arith
 
 served_only : (q : Phase) → IsTrue (has server_states (phase_state q)) → IsTrue (has cancel_done (phase_state q)) → ⊥
-served_only Idle h g = cc
-served_only _ h g = cc
+served_only q h g = grind arith
 
 pub completed : (k : Option ClassKind) (n : Known) (r : Option Request) → IsTrue (has cancel_done n.states) → Suits k n r → int_eq (status_of r) pending ≡ false
 completed (Some (An_active v b)) n r h s = go r (has_along cancel_done n.states (state_of r) h s.0) s.2
   where
     go : (r : Option Request) → IsTrue (has cancel_done (state_of r)) → is_unanswered r ≡ false → int_eq (status_of r) pending ≡ false
-    go None h u = cc
-    go (Some q) h u = done_only q.phase q.status h u
+    go r h u = grind arith
 completed (Some (A_server m x b)) n r h s = go r s.1 (has_along cancel_done n.states (state_of r) h s.0)
   where
     go : (r : Option Request) → IsTrue (has server_states (state_of r)) → IsTrue (has cancel_done (state_of r)) → int_eq (status_of r) pending ≡ false
@@ -162,13 +156,11 @@ pub cancel_ends : (k : Option ClassKind) (n : Known) (r : Option Request) → Is
 cancel_ends (Some (An_active v b)) n r h s = go r (has_along cancel_done n.states (state_of r) h s.0) s.2 s.3
   where
     go : (r : Option Request) → IsTrue (has cancel_done (state_of r)) → is_unanswered r ≡ false → is_timed v r ≡ true → Suits (Some (An_active v b)) (resting_in idle) (on_request cancelled r)
-    go None h u t = cc
-    go (Some q) h u t = (refl, refl, refl, idle_timed v (cancelled q) refl (untimed v q (done_only q.phase q.status h u) t))
+    go r h u t = grind arith
 cancel_ends (Some (A_server m x b)) n r h s = go r (has_along cancel_done n.states (state_of r) h s.0)
   where
     go : (r : Option Request) → IsTrue (has cancel_done (state_of r)) → Suits (Some (A_server m x b)) (resting_in idle) (on_request cancelled r)
-    go None h = cc
-    go (Some q) h = (refl, refl)
+    go r h = grind arith
 cancel_ends _ n r h s = ap (λ r. on_request cancelled r) s
 
 -- the object that a method worked on, by what stands below it; one that cancelled has left it idle

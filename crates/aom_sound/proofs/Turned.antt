@@ -1,5 +1,5 @@
 -- What a turn changes: nothing but what no place tells, the request of an object that is completed, what a native that is killed leaves behind, or what a client's command comes to, or all that a dispatch begins with.
-use Rattle.std.proofs.Common.{Bool, List, None, Option, Some, cond, false, negsuc, pos, refl, subst, sym, true, ℕ, ℤ, ◌∷◌, ◌≡◌}
+use Rattle.std.proofs.Common.{arith, Bool, List, None, Option, Some, cond, false, negsuc, pos, refl, subst, sym, true, ℕ, ℤ, ◌∷◌, ◌≡◌}
 use Rattle.std.specs.Ordering.{int_eq}
 use Rattle.aom_image.specs.Image.{Image}
 use Rattle.aom_image.specs.declared.method.Role.TheVariants.{Accept as Accepts_role, Service as Attends, Run as Handles}
@@ -57,8 +57,7 @@ pub dispatched_so : (p : Image) (s u : State) (x : Seat) → dispatched (part_of
 dispatched_so p s u x e = go (part_of p Handles x.object.thing) refl e
   where
     go : (m : Option ℕ) → part_of p Handles x.object.thing ≡ m → dispatched m x s ≡ Goes u → (m : ℕ) × (part_of p Handles x.object.thing ≡ Some m) × (u ≡ picked m x s)
-    go None at e = cc
-    go (Some m) at e = (m, at, sym (goes_same (picked m x s) u e))
+    go m at e = grind arith
 
 -- the first of a server's queue is served
 serves_so : (p : Image) (s u : State) (x : Seat) (queue : List Asked) → serves_first p x queue s ≡ Goes u → Picked p s x u

@@ -1,6 +1,6 @@
 -- What a linked image gives the laws: main and the destructors are as they must be, what is called does or constructs, and what is owned is of a class before its owner's.
 use Rattle.std.proofs.lemmas.List.{nil_from_length}
-use Rattle.std.proofs.lemmas.Bool.{cases_Bool, eqb-true, true≢false}
+use Rattle.std.proofs.lemmas.Bool.{cases_Bool, true≢false}
 use Rattle.std.proofs.Common.{Bool, IfSome, IsSome, IsTrue, List, None, Option, Some, [], ap, arith, false, inl, inr, length, refl, slice_get, subst, suc, sym, true, zero, ℕ, ◌<◌, ◌∙◌, ◌∷◌, ◌≡◌}
 use Rattle.aom_image.proofs.Given.{some_given}
 use Rattle.std.specs.Prelude.{is_none, not, replicate, ◌||◌, ◌⊎◌}
@@ -15,7 +15,7 @@ use Rattle.aom_instructions.specs.declared.instr.Instr.TheVariants.{Call, PushOp
 use Rattle.aom_instructions.specs.declared.instr.Target.{Target}
 use Rattle.aom_instructions.specs.declared.limits.Limits.{Limits}
 use Rattle.aom_image.specs.declared.method.Gives.{Gives}
-use Rattle.aom_image.specs.declared.method.Gives.TheVariants.{Left, Nothing, Own as An_own, Word as A_word}
+use Rattle.aom_image.specs.declared.method.Gives.TheVariants.{Nothing, Own as An_own, Word as A_word}
 use Rattle.aom_image.specs.declared.method.Method.{Method as Method_declared}
 use Rattle.aom_image.specs.declared.method.Role.{Role}
 use Rattle.aom_image.specs.declared.method.Role.TheVariants.{Accept, Cancel, Construct, Destruct, Do, Error, Main, Run, Service, Undo}
@@ -42,13 +42,11 @@ use Rattle.aom_shape.proofs.Sets.{has_along}
 
 nothing_given : (g : Gives) → gives_nothing g ≡ true → g ≡ Nothing
 unfolding gives_nothing
-nothing_given Nothing e = refl
-nothing_given _ e = cc
+nothing_given g e = grind arith
 
 word_given : (g : Gives) → gives_word g ≡ true → g ≡ A_word
 unfolding gives_word
-word_given A_word e = refl
-word_given _ e = cc
+word_given g e = grind arith
 
 -- so many words
 words_alone : (n : ℕ) (xs : List Argument) → length xs ≡ n → IsTrue (list_all is_word xs) → xs ≡ replicate n Takes_word
@@ -59,17 +57,14 @@ words_alone (suc n) _ e w = cc
 
 object_given : (c : ℕ) (g : Gives) → gives_object c g ≡ true → g ≡ An_own (An_object_of c)
 unfolding gives_object is_object
-object_given c (An_own (An_object_of d)) e = ap (λ k. An_own (An_object_of k)) (eqb-true d c e)
-object_given c _ e = cc
+object_given c g e = grind arith
 
 some_there : (o : Option ℕ) → IsSome o → (m : ℕ) × (o ≡ Some m)
-some_there None h = cc
-some_there (Some m) h = (m, refl)
+some_there o h = grind arith
 
 leaves_none : (g : Gives) → gives_left g ≡ false → LeavesNone g
 unfolding gives_left
-leaves_none (Left c) e = cc
-leaves_none _ e = tt
+leaves_none g e = grind arith
 
 one_of : (a b : Bool) → IsTrue (a || b) → IsTrue a ⊎ IsTrue b
 one_of true b h = inl refl
@@ -100,8 +95,7 @@ unfolding class_in role_in method_at kind_of
 main_of_none p linked m e = go (method_at p m) refl e
   where
     none : (k : Option ClassKind) → IsTrue (is_none k) → k ≡ None
-    none None e = refl
-    none (Some k) e = cc
+    none k e = grind arith
 
     go : (o : Option Method_declared) → method_at p m ≡ o → role_in o ≡ Some Main → kind_of p (class_in o) ≡ None
     go None f e = refl
@@ -184,8 +178,7 @@ module _ (p : Image) (formed : WellFormed p) (linked : IsLinked p) where
   needs_of_kind c k e = go (class_at p c) refl e
     where
       go : (o : Option ClassDecl) → class_at p c ≡ o → kind_in o ≡ Some k → KindNeeds p c k
-      go None f h = cc
-      go (Some d) f h = let same : d.kind ≡ k = cc in subst (λ k. KindNeeds p c k) same (at_place (NeedsMet p) p.classes c d linked.needs f).kind
+      go o f h = grind arith
 
   -- a class of active objects has one
   has_canceller : (c : ℕ) → is_active_kind (kind_of p (Some c)) ≡ true → (m : ℕ) × (role_of p c Cancel ≡ Some m)
@@ -272,8 +265,7 @@ module _ (p : Image) (formed : WellFormed p) (linked : IsLinked p) where
   session_before c session serves = go (class_at p c) refl serves
     where
       go : (o : Option ClassDecl) → class_at p c ≡ o → sessions_in (kind_in o) ≡ Some session → (session < c) × (is_session p session ≡ true)
-      go None e h = cc
-      go (Some d) e h = subst (λ o. IfSome o (λ s. (s < c) × (is_session p s ≡ true))) h (at_place (ClassOrdered p) p.classes c d linked.classes.classes e).sessions
+      go o e h = grind arith
 
   -- which have a method that serves, and no sessions
   of_session : (c : ℕ) → is_session p c ≡ true → ((m : ℕ) × (role_of p c Service ≡ Some m)) × (sessions_at p c ≡ None)
