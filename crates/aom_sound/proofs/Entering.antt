@@ -19,10 +19,11 @@ use Rattle.aom_shape.specs.declared.kind.Age.TheVariants.{Ready}
 use Rattle.aom_image.specs.declared.method.Thing.TheVariants.{Message}
 use Rattle.aom_sound.proofs.Attending.{with_message, with_message_ready}
 use Rattle.aom_sound.proofs.Claimed.{fits_weaker, word_fits_weaker}
+use Rattle.aom_sound.proofs.Items.{begins_well}
 use Rattle.aom_sound.proofs.Destroying.{perhaps_only}
 use Rattle.aom_sound.proofs.Straight.{fits_unowning}
 use Rattle.aom_sound.proofs.Suiting.{known_plain, same_object, suits_less}
-use Rattle.aom_sound.specs.Claims.{Layer, Method, claim, declared, declared_field, entry_claim, forms, items_of, objects, tasks_of, delivered, serves}
+use Rattle.aom_sound.specs.Claims.{Layer, Method, claim, declared, declared_field, entry_claim, forms, items_of, tasks_of, delivered, serves}
 use Rattle.aom_sound.specs.Places.{In_service, Cell, Elsewhere, Entry, Field, Going, Object, Place, Register, Root, Tidy, held, named, requested, seen}
 use Rattle.aom_sound.specs.Requests.{AllSuit, Joins, Known, Suits, known_at, resting_in, rests_in, states_claim, thing_kind}
 use Rattle.aom_sound.specs.State.{Frame, Inside, Run, Seat, State, frame_of, thing_holder}
@@ -159,10 +160,4 @@ module _ (p : Image) (t : Typing) (typed : IsTyped p t) (cs : List Cell) (x : Se
         suits = suits height leads.0 w;
         tidy = e.tidy;
       } in
-      record {
-        layers = Method (begun height) leads.0 ∷ over;
-        tasks = tasks;
-        items = items ∙ ap (λ es. objects es (items_of over)) (sym w.entries);
-        undos = undos;
-        good = subst (λ cs. Good p t cs (Method (begun height) leads.0 ∷ over)) (sym cells) good;
-      }
+      begins_well p t cs (begun height) leads.0 over s w.entries good cells tasks items undos
