@@ -1,4 +1,5 @@
 -- What a client asks of a server, and what it sends, is kept: by the entry that is queued last.
+use Rattle.std.proofs.Math.Bool.{or-false}
 use Rattle.std.proofs.Common.{[], Bool, List, None, Option, Some, ap, arith, cond, false, refl, subst, sym, true, ℕ, ◌&&◌, ◌<◌, ◌==◌, ◌∙◌, ◌∷◌, ◌≡◌, ◌≤◌}
 use Rattle.std.proofs.lemmas.Bool.{eq-eqb, eqb-true, le-ltb, ne_eqb, true≢false, ltb-true}
 use Rattle.std.proofs.lemmas.List.Folds.{list_any-append}
@@ -111,10 +112,6 @@ asked_none y most x cs e = grind arith
 pub connects_free : (k : Client) → (row k).connect ≡ None → IsFree k
 connects_free x e = grind arith
 
-or_false : (b : Bool) → (b || false) ≡ b
-or_false true = refl
-or_false false = refl
-
 module _ (p : Image) (clients : List Client) (cs : List Cell) (fit : ClientsFit p clients cs) (o : Object) (lives : named cs o.name ≡ Some o) (serves : is_server p o.thing ≡ true)
     (listed : is_some (requested cs o.name) ≡ true) (c : ℕ) where
   -- ---- a connect
@@ -132,7 +129,7 @@ module _ (p : Image) (clients : List Client) (cs : List Cell) (fit : ClientsFit 
     servers = servers_then p cs o lives (asked_last (Connect_of c)) serves clients fit;
     names = names_then p cs o lives (asked_last (Connect_of c)) serves clients fit;
     senders = λ n d m. by_server p cs o lives (asked_last (Connect_of c)) (λ n v. list_any (is_message_of d m) v.queue ≡ true → is_from d (service_of (reserved (asked_last (Connect_of c)) o.name cs) m).sender ≡ true)
-        (λ h. senders m d (fit.senders o.name d m (sym (list_any-append (is_message_of d m) (service_of cs o.name).queue (Connect_of c ∷ []) ∙ or_false (list_any (is_message_of d m) (service_of cs o.name).queue)) ∙ h)))
+        (λ h. senders m d (fit.senders o.name d m (sym (list_any-append (is_message_of d m) (service_of cs o.name).queue (Connect_of c ∷ []) ∙ or-false (list_any (is_message_of d m) (service_of cs o.name).queue)) ∙ h)))
         (λ n other h. senders m d (fit.senders n d m h)) n;
     enlisted = enlisted_then p cs o lives (asked_last (Connect_of c)) listed clients fit;
     seats = seats_then p cs o lives (asked_last (Connect_of c)) clients fit (let one = seats_asked (Connect_of c) (service_of cs o.name) in omega (arith, room, one));
@@ -239,5 +236,5 @@ module _ (p : Image) (clients : List Client) (cs : List Cell) (fit : ClientsFit 
       last : (d k : ℕ) (b : Bool) → list_any (is_message_of d k) (service_of cs o.name).queue ≡ b → (b || (((c == d) && (m == k)) || false)) ≡ true → is_from d (service_of cs k).sender ≡ true
       last d k true at h = fit.senders o.name d k at
       last d k false at h =
-          let own = both (c == d) (m == k) (sym (or_false ((c == d) && (m == k))) ∙ h) in
+          let own = both (c == d) (m == k) (sym (or-false ((c == d) && (m == k))) ∙ h) in
           subst (λ i. is_from d (service_of cs i).sender ≡ true) (eqb-true m k own.1) (subst (λ i. is_from i (service_of cs m).sender ≡ true) (eqb-true c d own.0) from)

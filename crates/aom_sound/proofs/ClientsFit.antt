@@ -1,4 +1,5 @@
 -- Clients and what they have at servers say the same where one client is at something else: by its entries, its session, and those of all others.
+use Rattle.std.proofs.Math.Bool.{or-false, or-true}
 use Rattle.std.proofs.Common.{[], Bool, List, None, Some, ap, arith, false, refl, subst, sym, true, ℕ, ◌<◌, ◌==◌, ◌∙◌, ◌∷◌, ◌≡◌, ◌≤◌}
 use Rattle.std.proofs.lemmas.Bool.{eq-eqb, eqb-true, ne_eqb, true≢false}
 use Rattle.std.proofs.lemmas.List.Folds.{list_any-append}
@@ -190,15 +191,7 @@ module _ (p : Image) (clients : List Client) (cs : List Cell) (fit : ClientsFit 
   own = client_at clients c
 
   eqb_same : (xs : List ℕ) → list_any (λ x. x == c) (xs ++ c ∷ []) ≡ true
-  eqb_same xs = list_any-append (λ x. x == c) xs (c ∷ []) ∙ ap (λ b. list_any (λ x. x == c) xs || (b || false)) (eq-eqb c c refl) ∙ or_true (list_any (λ x. x == c) xs)
-    where
-      or_true : (b : Bool) → (b || true) ≡ true
-      or_true true = refl
-      or_true false = refl
-
-  or_false : (b : Bool) → (b || false) ≡ b
-  or_false true = refl
-  or_false false = refl
+  eqb_same xs = list_any-append (λ x. x == c) xs (c ∷ []) ∙ ap (λ b. list_any (λ x. x == c) xs || (b || false)) (eq-eqb c c refl) ∙ or-true (list_any (λ x. x == c) xs)
 
   module _ (session : ℕ) (at : is_connecting_at o.name own ≡ true) (none : list_any (is_connect_of c) (service_of cs o.name).queue ≡ false)
       (room : seats_taken (service_of cs o.name) < most_of (thing_kind p o.thing)) where
@@ -209,7 +202,7 @@ module _ (p : Image) (clients : List Client) (cs : List Cell) (fit : ClientsFit 
     fit_accepted = fit_changed p c (at_opening session own) clients cs (reserved (opened c) o.name cs) fit record {
       queues = by_server p cs o lives (opened c) (λ n v. QueueFits (with_client c (at_opening session own) clients) n v.queue) (queues o.name) (λ n e. queues n);
       others = λ n d e. by_server p cs o lives (opened c) (λ n v. has_session v d ≡ has_session (service_of cs n) d)
-          (list_any-append (λ x. x == d) (service_of cs o.name).sessions (c ∷ []) ∙ ap (λ b. list_any (λ x. x == d) (service_of cs o.name).sessions || (b || false)) e ∙ or_false (list_any (λ x. x == d) (service_of cs o.name).sessions))
+          (list_any-append (λ x. x == d) (service_of cs o.name).sessions (c ∷ []) ∙ ap (λ b. list_any (λ x. x == d) (service_of cs o.name).sessions || (b || false)) e ∙ or-false (list_any (λ x. x == d) (service_of cs o.name).sessions))
           (λ n other. refl) n;
       has = by_server p cs o lives (opened c) (λ n v. has_session v c ≡ true → server_of (at_opening session own) ≡ Some n) (λ h. is_open own at) (λ n other h. let clash : Some n ≡ None = sym (fit.sessions n c h) ∙ (connecting_only o.name n own at).2 in cc);
       listed = by_server p cs o lives (opened c) (λ n v. server_of (at_opening session own) ≡ Some n → has_session v c ≡ true) (λ h. eqb_same (service_of cs o.name).sessions) (λ n other h.
