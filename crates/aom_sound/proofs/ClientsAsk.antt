@@ -1,4 +1,5 @@
 -- What a client asks of a server, and what it sends, is kept: by the entry that is queued last.
+use Rattle.std.proofs.Math.Bool.{or-false}
 use Rattle.std.proofs.Common.{[], Bool, List, None, Option, Some, ap, arith, cond, false, refl, subst, sym, true, ℕ, ◌&&◌, ◌<◌, ◌==◌, ◌∙◌, ◌∷◌, ◌≡◌, ◌≤◌}
 use Rattle.std.proofs.lemmas.Bool.{eq-eqb, eqb-true, le-ltb, ne_eqb, true≢false, ltb-true}
 use Rattle.std.proofs.lemmas.List.Folds.{list_any-append}
@@ -12,9 +13,8 @@ use Rattle.aom_image.specs.declared.method.Thing.TheVariants.{Message, Object as
 use Rattle.aom_clients.specs.Nodes.{is_connecting_at, is_open_at}
 use Rattle.aom_clients.specs.Table.{row, server_of}
 use Rattle.aom_clients.specs.declared.client.Client.{Client}
-use Rattle.aom_clients.specs.declared.client.Client.TheVariants.{Connecting, Gone, Unconnected}
+use Rattle.aom_clients.specs.declared.client.Client.TheVariants.{Connecting}
 use Rattle.aom_clients.specs.declared.refusal.Refusal.{Refusal}
-use Rattle.aom_clients.specs.declared.refusal.Refusal.TheVariants.{ServerBusy}
 use Rattle.aom_roles.specs.Classes.{sessions_in, sessions_of}
 use Rattle.aom_roles.specs.Shapes.{kind_of}
 use Rattle.aom_sound.proofs.ClientsFit.{IsFree, by_server, fit_changed, none_of_free, names_then, servers_then, seats_then, enlisted_then}
@@ -83,8 +83,7 @@ asked_listed : (p : Image) (class : ℕ) (cs : List Cell) (x : Listed) → asked
 asked_listed p class cs x = go (is_server p (An_object_of class))
   where
     go : (b : Bool) → cond b (first_listed class cs) None ≡ Some x → first_listed class cs ≡ Some x
-    go true e = e
-    go false e = cc
+    go x e = grind arith
 
 pub asked_there : (p : Image) (class : ℕ) (cs : List Cell) (x : Listed) → Tidy cs → asked_server p class cs ≡ Some x → IsListed class cs x
 asked_there p class cs x t e = listed_there class cs x t (asked_listed p class cs x e)
@@ -96,8 +95,7 @@ takes_some (Some (A_server most session budget)) n e = refl
 takes_some _ n e = absurd (true≢false (sym e ∙ le-ltb n 0 (omega arith)))
 
 pub listed_serves : (p : Image) (class n : ℕ) (x : Thing) → is_of_class class x ≡ true → nat_lt n (most_of (kind_of p (Some class))) ≡ true → is_server p x ≡ true
-listed_serves p class n (An_object_of d) of room = ap (λ k. is_some (sessions_in (kind_of p (Some k)))) (eqb-true d class of) ∙ takes_some (kind_of p (Some class)) n room
-listed_serves p class n Message of room = cc
+listed_serves p class n x of room = grind (arith, eqb-true, takes_some)
 
 -- and so it has a seat left
 pub listed_room :
@@ -109,21 +107,10 @@ listed_room p class v Message of room = cc
 
 -- a connect that is not refused
 pub asked_none : (r : Option Refusal) (most : ℕ) (x : Listed) (cs : List Cell) → asked_of r most (Some x) cs ≡ None → (r ≡ None) × (nat_lt (seats_taken (service_of cs x.name)) most ≡ true)
-asked_none (Some refusal) most x cs e = cc
-asked_none None most x cs e = (refl, go (nat_lt (seats_taken (service_of cs x.name)) most) e)
-  where
-    go : (b : Bool) → cond b None (Some ServerBusy) ≡ None → b ≡ true
-    go true e = refl
-    go false e = cc
+asked_none y most x cs e = grind arith
 
 pub connects_free : (k : Client) → (row k).connect ≡ None → IsFree k
-connects_free Unconnected e = record { connects = λ n. refl; opens = λ n. refl; leaves = λ n. refl; alone = refl }
-connects_free Gone e = record { connects = λ n. refl; opens = λ n. refl; leaves = λ n. refl; alone = refl }
-connects_free _ e = cc
-
-or_false : (b : Bool) → (b || false) ≡ b
-or_false true = refl
-or_false false = refl
+connects_free x e = grind arith
 
 module _ (p : Image) (clients : List Client) (cs : List Cell) (fit : ClientsFit p clients cs) (o : Object) (lives : named cs o.name ≡ Some o) (serves : is_server p o.thing ≡ true)
     (listed : is_some (requested cs o.name) ≡ true) (c : ℕ) where
@@ -142,7 +129,7 @@ module _ (p : Image) (clients : List Client) (cs : List Cell) (fit : ClientsFit 
     servers = servers_then p cs o lives (asked_last (Connect_of c)) serves clients fit;
     names = names_then p cs o lives (asked_last (Connect_of c)) serves clients fit;
     senders = λ n d m. by_server p cs o lives (asked_last (Connect_of c)) (λ n v. list_any (is_message_of d m) v.queue ≡ true → is_from d (service_of (reserved (asked_last (Connect_of c)) o.name cs) m).sender ≡ true)
-        (λ h. senders m d (fit.senders o.name d m (sym (list_any-append (is_message_of d m) (service_of cs o.name).queue (Connect_of c ∷ []) ∙ or_false (list_any (is_message_of d m) (service_of cs o.name).queue)) ∙ h)))
+        (λ h. senders m d (fit.senders o.name d m (sym (list_any-append (is_message_of d m) (service_of cs o.name).queue (Connect_of c ∷ []) ∙ or-false (list_any (is_message_of d m) (service_of cs o.name).queue)) ∙ h)))
         (λ n other h. senders m d (fit.senders n d m h)) n;
     enlisted = enlisted_then p cs o lives (asked_last (Connect_of c)) listed clients fit;
     seats = seats_then p cs o lives (asked_last (Connect_of c)) clients fit (let one = seats_asked (Connect_of c) (service_of cs o.name) in omega (arith, room, one));
@@ -155,8 +142,7 @@ module _ (p : Image) (clients : List Client) (cs : List Cell) (fit : ClientsFit 
       entry = ap (λ x. is_connecting_at o.name x) (client_here c (Connecting o.name slots) clients) ∙ eq-eqb o.name o.name refl
 
       never : (e : Asked) → is_connect_of c e ≡ true → EntryFits clients o.name e → ⊥
-      never (Connect_of d) at f = true≢false (sym (ap (λ k. is_connecting_at o.name (client_at clients k)) (sym (eqb-true d c at)) ∙ f) ∙ free.connects o.name)
-      never _ at f = cc
+      never x at f = grind arith
 
       unlisted : (n : ℕ) → has_session (service_of cs n) c ≡ true → None ≡ Some n
       unlisted n h = sym free.alone ∙ fit.sessions n c h
@@ -245,12 +231,10 @@ module _ (p : Image) (clients : List Client) (cs : List Cell) (fit : ClientsFit 
       senders k d = by_server p cs o lives (asked_last (Message_of c m)) (λ k v. is_from d (service_of cs k).sender ≡ true → is_from d v.sender ≡ true) (λ h. h) (λ n other h. h) k
 
       both : (a b : Bool) → (a && b) ≡ true → (a ≡ true) × (b ≡ true)
-      both true true e = (refl, refl)
-      both true false e = cc
-      both false b e = cc
+      both x b e = grind arith
 
       last : (d k : ℕ) (b : Bool) → list_any (is_message_of d k) (service_of cs o.name).queue ≡ b → (b || (((c == d) && (m == k)) || false)) ≡ true → is_from d (service_of cs k).sender ≡ true
       last d k true at h = fit.senders o.name d k at
       last d k false at h =
-          let own = both (c == d) (m == k) (sym (or_false ((c == d) && (m == k))) ∙ h) in
+          let own = both (c == d) (m == k) (sym (or-false ((c == d) && (m == k))) ∙ h) in
           subst (λ i. is_from d (service_of cs i).sender ≡ true) (eqb-true m k own.1) (subst (λ i. is_from i (service_of cs m).sender ≡ true) (eqb-true c d own.0) from)

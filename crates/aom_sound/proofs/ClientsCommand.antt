@@ -1,6 +1,6 @@
 -- What a client's command comes to is kept: it connects, sends, closes or dies, or nothing comes of it.
-use Rattle.std.proofs.Common.{[], Bool, List, None, Option, Some, ap, cond, false, refl, subst, sym, true, ℕ, ℤ, ◌&&◌, ◌==◌, ◌∙◌, ◌∷◌, ◌≡◌}
-use Rattle.std.proofs.lemmas.Bool.{eq-eqb, eqb-true, ne_eqb, true≢false, or_parts}
+use Rattle.std.proofs.Common.{[], Bool, List, None, Option, Some, ap, cond, false, refl, subst, sym, true, ℕ, ℤ, ◌&&◌, ◌==◌, ◌∙◌, ◌∷◌, ◌≡◌, arith}
+use Rattle.std.proofs.lemmas.Bool.{eq-eqb, ne_eqb, true≢false, or_parts}
 use Rattle.std.specs.List.{list_any}
 use Rattle.std.specs.Prelude.{nat_lt, ◌||◌, is_some}
 use Rattle.aom_image.specs.Image.{Image}
@@ -151,8 +151,7 @@ module _ (p : Image) (c : ℕ) (s : State) (tidy : Tidy s.cells) (fit : ClientsF
     no_close stays n = none_passes (is_close_of c) s.clients n never (service_of s.cells n).queue (fit.queues n)
       where
         never : (e : Asked) → is_close_of c e ≡ true → EntryFits s.clients n e → ⊥
-        never (Close_of d) at f = true≢false (sym (ap (λ k. is_leaving n (client_at s.clients k)) (sym (eqb-true d c at)) ∙ f) ∙ stays n)
-        never _ at f = cc
+        never x at f = grind arith
 
     -- with no session open
     goes_alone : (to : Client) → server_of to ≡ server_of own → ((n : ℕ) → is_leaving n own ≡ false) → ClientsFit p (with_client c to s.clients) (withdrawn c s.cells)

@@ -1,4 +1,5 @@
 -- Clients and what they have at servers say the same where one client is at something else: by its entries, its session, and those of all others.
+use Rattle.std.proofs.Math.Bool.{or-false, or-true}
 use Rattle.std.proofs.Common.{[], Bool, List, None, Some, ap, arith, false, refl, subst, sym, true, ℕ, ◌<◌, ◌==◌, ◌∙◌, ◌∷◌, ◌≡◌, ◌≤◌}
 use Rattle.std.proofs.lemmas.Bool.{eq-eqb, eqb-true, ne_eqb, true≢false, or_parts}
 use Rattle.std.proofs.lemmas.List.Folds.{list_any-append}
@@ -9,7 +10,6 @@ use Rattle.aom_image.specs.Image.{Image}
 use Rattle.aom_clients.specs.Nodes.{is_connecting_at, is_leaving, is_open_at}
 use Rattle.aom_clients.specs.Table.{server_of}
 use Rattle.aom_clients.specs.declared.client.Client.{Client}
-use Rattle.aom_clients.specs.declared.client.Client.TheVariants.{Closing, Connecting, Dying}
 use Rattle.aom_sound.proofs.Queues.{client_here, client_of, client_there, is_of, none_passes, queue_other}
 use Rattle.aom_sound.proofs.Seated.{seats_opened, seats_parted}
 use Rattle.aom_sound.proofs.Services.{held_served, named_served, service_here, service_there, requested_served}
@@ -22,13 +22,10 @@ use Rattle.aom_sound.specs.Servers.{has_session, is_from, is_other, is_server, o
 -- ---- what a client that connects, closes or has its session open is not
 
 pub connecting_only : (k n : ℕ) (x : Client) → is_connecting_at k x ≡ true → (is_open_at n x ≡ false) × (is_leaving n x ≡ false) × (server_of x ≡ None) × (is_connecting_at n x ≡ true → k ≡ n)
-connecting_only k n (Connecting server slots) e = (refl, refl, refl, λ f. sym (eqb-true server k e) ∙ eqb-true server n f)
-connecting_only k n _ e = cc
+connecting_only k n x e = grind arith
 
 pub leaving_only : (k n : ℕ) (x : Client) → is_leaving k x ≡ true → (is_open_at n x ≡ false) × (is_connecting_at n x ≡ false) × (server_of x ≡ Some k) × (is_leaving n x ≡ true → k ≡ n)
-leaving_only k n (Closing server session) e = (refl, refl, ap (λ z. Some z) (eqb-true server k e), λ f. sym (eqb-true server k e) ∙ eqb-true server n f)
-leaving_only k n (Dying server session) e = (refl, refl, ap (λ z. Some z) (eqb-true server k e), λ f. sym (eqb-true server k e) ∙ eqb-true server n f)
-leaving_only k n _ e = cc
+leaving_only k n x e = grind arith
 
 -- a client that is at no server
 pub record IsFree (x : Client) : Type 0 where
@@ -39,9 +36,7 @@ pub record IsFree (x : Client) : Type 0 where
 
 -- the session is closed
 pub parted_free : (k : ℕ) (x : Client) → is_leaving k x ≡ true → IsFree (at_parting x)
-parted_free k (Closing server session) e = record { connects = λ n. refl; opens = λ n. refl; leaves = λ n. refl; alone = refl }
-parted_free k (Dying server session) e = record { connects = λ n. refl; opens = λ n. refl; leaves = λ n. refl; alone = refl }
-parted_free k _ e = cc
+parted_free k x e = grind arith
 
 -- ---- its entries
 
@@ -196,27 +191,18 @@ module _ (p : Image) (clients : List Client) (cs : List Cell) (fit : ClientsFit 
   own = client_at clients c
 
   eqb_same : (xs : List ℕ) → list_any (λ x. x == c) (xs ++ c ∷ []) ≡ true
-  eqb_same xs = list_any-append (λ x. x == c) xs (c ∷ []) ∙ ap (λ b. list_any (λ x. x == c) xs || (b || false)) (eq-eqb c c refl) ∙ or_true (list_any (λ x. x == c) xs)
-    where
-      or_true : (b : Bool) → (b || true) ≡ true
-      or_true true = refl
-      or_true false = refl
-
-  or_false : (b : Bool) → (b || false) ≡ b
-  or_false true = refl
-  or_false false = refl
+  eqb_same xs = list_any-append (λ x. x == c) xs (c ∷ []) ∙ ap (λ b. list_any (λ x. x == c) xs || (b || false)) (eq-eqb c c refl) ∙ or-true (list_any (λ x. x == c) xs)
 
   module _ (session : ℕ) (at : is_connecting_at o.name own ≡ true) (none : list_any (is_connect_of c) (service_of cs o.name).queue ≡ false)
       (room : seats_taken (service_of cs o.name) < most_of (thing_kind p o.thing)) where
     is_open : (x : Client) → is_connecting_at o.name x ≡ true → server_of (at_opening session x) ≡ Some o.name
-    is_open (Connecting server slots) e = ap (λ z. Some z) (eqb-true server o.name e)
-    is_open _ e = cc
+    is_open x e = grind arith
 
     pub fit_accepted : ClientsFit p (with_client c (at_opening session own) clients) (reserved (opened c) o.name cs)
     fit_accepted = fit_changed p c (at_opening session own) clients cs (reserved (opened c) o.name cs) fit record {
       queues = by_server p cs o lives (opened c) (λ n v. QueueFits (with_client c (at_opening session own) clients) n v.queue) (queues o.name) (λ n e. queues n);
       others = λ n d e. by_server p cs o lives (opened c) (λ n v. has_session v d ≡ has_session (service_of cs n) d)
-          (list_any-append (λ x. x == d) (service_of cs o.name).sessions (c ∷ []) ∙ ap (λ b. list_any (λ x. x == d) (service_of cs o.name).sessions || (b || false)) e ∙ or_false (list_any (λ x. x == d) (service_of cs o.name).sessions))
+          (list_any-append (λ x. x == d) (service_of cs o.name).sessions (c ∷ []) ∙ ap (λ b. list_any (λ x. x == d) (service_of cs o.name).sessions || (b || false)) e ∙ or-false (list_any (λ x. x == d) (service_of cs o.name).sessions))
           (λ n other. refl) n;
       has = by_server p cs o lives (opened c) (λ n v. has_session v c ≡ true → server_of (at_opening session own) ≡ Some n) (λ h. is_open own at) (λ n other h. let clash : Some n ≡ None = sym (fit.sessions n c h) ∙ (connecting_only o.name n own at).2 in cc);
       listed = by_server p cs o lives (opened c) (λ n v. server_of (at_opening session own) ≡ Some n → has_session v c ≡ true) (λ h. eqb_same (service_of cs o.name).sessions) (λ n other h.

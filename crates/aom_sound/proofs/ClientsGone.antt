@@ -7,7 +7,7 @@ use Rattle.aom_image.specs.Image.{Image}
 use Rattle.aom_clients.specs.Nodes.{is_connecting_at, is_leaving, is_open_at}
 use Rattle.aom_clients.specs.Table.{at_gone, server_of}
 use Rattle.aom_clients.specs.declared.client.Client.{Client}
-use Rattle.aom_clients.specs.declared.client.Client.TheVariants.{Connecting, Open, Unconnected}
+use Rattle.aom_clients.specs.declared.client.Client.TheVariants.{Open, Unconnected}
 use Rattle.aom_sound.proofs.Altering.{held_kept, named_kept, read_kept, requests, unslotting}
 use Rattle.aom_sound.proofs.ClientsFit.{connecting_only, leaving_only}
 use Rattle.aom_sound.proofs.Maps.{cond_same, same_place-true, same_place_comm, same_place_refl}
@@ -58,13 +58,11 @@ gone_alone (Open server session slots) = refl
 gone_alone _ = refl
 
 pub open_server : (n : ℕ) (x : Client) → is_open_at n x ≡ true → server_of x ≡ Some n
-open_server n (Open server session slots) e = ap (λ k. Some k) (eqb-true server n e)
-open_server n _ e = cc
+open_server n x e = grind arith
 
 -- who has a session, or may have one, connects to nobody
 has_server : (k n : ℕ) (x : Client) → server_of x ≡ Some n → is_connecting_at k x ≡ false
-has_server k n (Connecting server slots) e = cc
-has_server k n _ e = refl
+has_server k n x e = grind arith
 
 -- ---- the cells
 
@@ -74,12 +72,7 @@ module _ (p : Image) (clients : List Client) (c : ℕ) where
   unslot x = record x.service { sender = unslotted c x.service.sender }
 
   from_unslotted : (d : ℕ) (x : Option Sender) → is_from d x ≡ true → is_from d (unslotted c x) ≡ true
-  from_unslotted d None h = cc
-  from_unslotted d (Some m) h = go (m.client == c) h
-    where
-      go : (b : Bool) → (m.client == d) ≡ true → ((cond b (record m { holds_slot = false }) m).client == d) ≡ true
-      go true h = h
-      go false h = h
+  from_unslotted d x h = grind arith
 
   held_unslotted : (cs : List Cell) (q : Place) → held (all_unslotted c cs) q ≡ held cs q
   held_unslotted = held_kept (unslotting c) (λ x. refl)
@@ -144,8 +137,7 @@ module _
       ∙ ap (λ b. cond b Unconnected (client_at clients d)) (none_passes (is_connect_of d) clients o.name never (service_of cs o.name).queue (fit.queues o.name))
     where
       never : (e : Asked) → is_connect_of d e ≡ true → EntryFits clients o.name e → ⊥
-      never (Connect_of k) at f = true≢false (sym (ap (λ i. is_connecting_at o.name (client_at clients i)) (sym (eqb-true k d at)) ∙ f) ∙ connects)
-      never _ at f = cc
+      never x at f = grind arith
 
   no_session : (n d : ℕ) → (o.name == n) ≡ false → server_of (client_at clients d) ≡ Some n → has_session (service_of cs o.name) d ≡ false
   no_session n d other e = go (has_session (service_of cs o.name) d) refl

@@ -1,4 +1,5 @@
 -- A client that closes or dies leaves what is kept: its messages that wait go, and where its session was open a close is asked last.
+use Rattle.std.proofs.Math.Bool.{or-false, and-false}
 use Rattle.std.proofs.Common.{[], Bool, List, None, Option, Some, ap, arith, cond, false, refl, subst, sym, true, ℕ, ◌&&◌, ◌==◌, ◌∙◌, ◌∷◌, ◌≡◌, ◌≤◌}
 use Rattle.std.proofs.lemmas.Bool.{eq-eqb, eqb-true, ne_eqb, true≢false}
 use Rattle.std.proofs.lemmas.List.Folds.{list_any-append}
@@ -30,15 +31,7 @@ message_stays c d m (e ∷ es) h = go (stays c e) refl (message_stays c d m es) 
     or_right false x e = e
 
     other : (e : Asked) → stays c e ≡ true → is_message_of d m e ≡ true → (c == d) ≡ false
-    other (Message_of k i) s at = ne_eqb c d (λ same. own k i s at same)
-      where
-        own : (k i : ℕ) → not (k == c) ≡ true → ((k == d) && (i == m)) ≡ true → c ≡ d → ⊥
-        own k i s at same = go (k == d) refl at
-          where
-            go : (b : Bool) → (k == d) ≡ b → (b && (i == m)) ≡ true → ⊥
-            go true e at = true≢false (sym s ∙ ap not (eq-eqb k c (eqb-true k d e ∙ sym same)))
-            go false e at = cc
-    other _ s at = cc
+    other x s at = grind arith
 
     go :
         (b : Bool) → stays c e ≡ b → (list_any (is_message_of d m) (filter (stays c) es) ≡ true → ((c == d) ≡ false) × (list_any (is_message_of d m) es ≡ true)) →
@@ -97,24 +90,10 @@ queue_leaving clients c n to still (e ∷ es) fits = go (stays c e) refl (queue_
 -- ---- the cells
 
 from_kept : (c d : ℕ) (x : Option Sender) → is_from d x ≡ true → is_from d (discarded c x) ≡ true
-from_kept c d None h = cc
-from_kept c d (Some m) h = go (m.client == c) h
-  where
-    go : (b : Bool) → (m.client == d) ≡ true → ((cond b (record m { holds_slot = false; is_told = false }) m).client == d) ≡ true
-    go true h = h
-    go false h = h
+from_kept c d x h = grind arith
 
 from_other : (c d : ℕ) (x : Option Sender) → (c == d) ≡ false → is_from d x ≡ true → is_from c x ≡ false
-from_other c d None other h = cc
-from_other c d (Some m) other h = ne_eqb m.client c (λ same. true≢false (sym (eq-eqb c d (sym same ∙ eqb-true m.client d h)) ∙ other))
-
-or_false : (b : Bool) → (b || false) ≡ b
-or_false true = refl
-or_false false = refl
-
-and_false : (b : Bool) → (b && false) ≡ false
-and_false true = refl
-and_false false = refl
+from_other c d x other h = grind arith
 
 module _ (p : Image) (clients : List Client) (cs : List Cell) (tidy : Tidy cs) (fit : ClientsFit p clients cs) (c : ℕ)
     (waiting : (n m : ℕ) (o : Object) → held cs (Elsewhere (Queued n m)) ≡ Some o → is_server p o.thing ≡ false) where
@@ -178,10 +157,7 @@ module _ (p : Image) (clients : List Client) (cs : List Cell) (tidy : Tidy cs) (
   sender_left d m other h = go (cell_of cs m) refl (subst (λ v. is_from d v.sender ≡ true) (service_cell cs m) h)
     where
       go : (x : Option Cell) → cell_of cs m ≡ x → is_from d (service_in x).sender ≡ true → is_from d (service_of (withdrawn c cs) m).sender ≡ true
-      go None e h = cc
-      go (Some x) e h =
-          let stays : drops x ≡ false = ap (λ b. is_queue x.owner && b) (from_other c d x.service.sender other h) ∙ and_false (is_queue x.owner) in
-          subst (λ v. is_from d v.sender ≡ true) (sym (ap (λ l. service_of l m) (withdrawn_so c cs) ∙ service_sifted drops left cs tidy m x e stays)) (from_kept c d x.service.sender h)
+      go x e h = grind (arith, from_other, and-false, withdrawn_so, service_sifted, from_kept)
 
   -- the client is at something else then, and asks for nothing more
   module _ (to : Client) (session : server_of to ≡ server_of (client_at clients c)) (queues : (n : ℕ) → QueueFits (with_client c to clients) n (filter (stays c) (service_of cs n).queue)) where
@@ -245,7 +221,7 @@ module _ (p : Image) (clients : List Client) (cs : List Cell) (fit : ClientsFit 
     servers = servers_then p cs o lives (asked_last (Close_of c)) serves clients fit;
     names = names_then p cs o lives (asked_last (Close_of c)) serves clients fit;
     senders = λ n d k. by_server p cs o lives (asked_last (Close_of c)) (λ n v. list_any (is_message_of d k) v.queue ≡ true → is_from d (service_of (reserved (asked_last (Close_of c)) o.name cs) k).sender ≡ true)
-        (λ h. senders k d (fit.senders o.name d k (sym (list_any-append (is_message_of d k) (service_of cs o.name).queue (Close_of c ∷ []) ∙ or_false (list_any (is_message_of d k) (service_of cs o.name).queue)) ∙ h)))
+        (λ h. senders k d (fit.senders o.name d k (sym (list_any-append (is_message_of d k) (service_of cs o.name).queue (Close_of c ∷ []) ∙ or-false (list_any (is_message_of d k) (service_of cs o.name).queue)) ∙ h)))
         (λ n other h. senders k d (fit.senders n d k h)) n;
     enlisted = enlisted_then p cs o lives (asked_last (Close_of c)) listed clients fit;
     seats = seats_then p cs o lives (asked_last (Close_of c)) clients fit (let one = seats_asked (Close_of c) (service_of cs o.name) in let was = fit.seats o lives in omega (arith, one, was));

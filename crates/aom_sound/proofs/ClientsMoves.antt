@@ -20,14 +20,13 @@ use Rattle.aom_sound.proofs.ClientsTurn.{Same, on_none, same_requested}
 use Rattle.aom_sound.proofs.Maps.{named_moved, same_place-true, same_place_along, requested_moved, requested_unnamed}
 use Rattle.aom_sound.proofs.Queues.{queue_other}
 use Rattle.aom_sound.proofs.Services.{service_moved, service_unnamed}
-use Rattle.aom_sound.specs.Cleanup.{top_place}
 use Rattle.aom_sound.specs.Calls.{passed_cells, result_cells}
 use Rattle.aom_sound.specs.Clients.{client_at, with_client, most_of}
-use Rattle.aom_sound.specs.Effects.{Carried, In_field, In_register, Made, Popped, Popped_operation, Pushed, Pushed_operation, Replied, Requested, Same as Unchanged, Sessioned, Spot, The_message, Update, Written, cells_after, spot_place}
+use Rattle.aom_sound.specs.Effects.{In_field, In_register, Made, Replied, Requested, Spot, The_message, Update, cells_after, spot_place}
 use Rattle.aom_sound.specs.Enlisted.{cancelled, ended_cells, on_request, own_request, rerequested, thing_kind}
 use Rattle.aom_sound.specs.Kept.{ClientsFit, QueueFits, ConnectKept, StageKept, TasksKept, is_close_of, is_connect_of, is_message_of}
 use Rattle.aom_sound.specs.Natives.{resessioned}
-use Rattle.aom_sound.specs.Places.{Cell, Elsewhere, Entry, Object, Place, Queued, Register, Request, held, moved, named, same_place, service_of, set_request, unserved, with_new, requested}
+use Rattle.aom_sound.specs.Places.{Cell, Elsewhere, Object, Place, Queued, Register, Request, held, moved, named, same_place, service_of, set_request, unserved, with_new, requested}
 use Rattle.aom_sound.specs.Servers.{is_from, is_server, seats_taken}
 use Rattle.aom_sound.specs.State.{Accept_left, Accepted, Accepts, AtRoot, Closing, Destroy, Dispatched, Frame, Home, Inside, Of_server, Parts, Run, Service_left, Serves, Stage, State, Static, Task, Trapped, Unwind, field_place}
 use Rattle.aom_sound.specs.Words.{here, stored}
@@ -157,8 +156,7 @@ steady_moved cs a b apart = record {
 }
   where
     queued : (n m : ℕ) (o : Object) (x : Bool) → cond x None (held cs (Elsewhere (Queued n m))) ≡ Some o → held cs (Elsewhere (Queued n m)) ≡ Some o
-    queued n m o true h = cc
-    queued n m o false h = h
+    queued n m o x h = grind arith
 
 pub steady_new : (cs : List Cell) (name : ℕ) (x : Thing) (ws : List ℤ) (owner : Place) → NoQueue owner → named cs name ≡ None → Steady cs (with_new name x ws owner cs)
 steady_new cs name x ws owner apart free = record {
@@ -236,17 +234,7 @@ module _ (p : Image) (fr : Frame) (ts : List Task) (s : State) where
   IsSteady _ = Unit {0}
 
   pub steady_update : (u : Update) → IsSteady u → Steady s.cells (cells_after p fr ts s u)
-  steady_update (Carried from to) h = steady_moved s.cells (spot_place p fr ts s from) (spot_place p fr ts s to) (spot_apart to)
-  steady_update (Made name class a) h = steady_new s.cells name _ _ (here fr ts s a) (λ n m. refl) h
-  steady_update (Written w v) h = steady_stored s.cells fr.home w v
-  steady_update (Requested r) h = steady_asked s.cells fr.home r h
-  steady_update (Sessioned b) h = steady_opened s.cells fr.home b
-  steady_update (Replied a) h = absurd h
-  steady_update (Pushed a) h = steady_moved s.cells (here fr ts s a) (Entry (length s.items)) (λ n m. refl)
-  steady_update (Popped a) h = steady_moved s.cells (top_place s.items) (here fr ts s a) (λ n m. refl)
-  steady_update Unchanged h = steady_itself s.cells
-  steady_update (Pushed_operation m w) h = steady_itself s.cells
-  steady_update Popped_operation h = steady_itself s.cells
+  steady_update x h = grind (arith, steady_moved, steady_new, steady_stored, steady_asked, steady_opened, steady_itself)
 
   -- arguments are passed, and a result is brought
   pub steady_passed : (depth : ℕ) (xs : List Argument) (first to : ℕ) (cs : List Cell) → Steady cs (passed_cells p fr ts s depth xs first to cs)

@@ -24,7 +24,7 @@ use Rattle.aom_sound.proofs.Things.{stands_itself}
 use Rattle.aom_sound.specs.Claims.{Ending, Dispatching, Dying, Layer, Mark, Method, Unwinding, claim, declared, declared_field, home_claim, tasks_of}
 use Rattle.aom_sound.specs.Effects.{applied, makes_unless, sets}
 use Rattle.aom_sound.specs.Objects.{no_words}
-use Rattle.aom_sound.specs.Places.{Elsewhere, Session, Queued, service_of, unserved, Cell, Field, Object, Place, Register, Request, Sight, held, named, requested, same_place, seen, with_new}
+use Rattle.aom_sound.specs.Places.{Elsewhere, Session, Queued, service_of, unserved, Service, Cell, Field, Object, Place, Register, Request, Sight, held, named, requested, same_place, seen, with_new}
 use Rattle.aom_sound.specs.State.{Dispatch, Seat, AtRoot, Choice, Frame, Home, Inside, State, Static, next, set_word, thing_holder, word}
 use Rattle.aom_sound.specs.WellTyped.{AllSit, SitsFirst, IsAttended, Back, Fits, HasAge, IsHoused, Returns, Stack, WellTyped, WordFits, seat_of}
 use Rattle.aom_sound.proofs.Seats.{NoFieldHere, first_kept, sits_kept}
@@ -32,6 +32,20 @@ use Rattle.aom_sound.specs.Requests.{AllSuit, Suits, Unworked, states_claim, thi
 use Rattle.aom_sound.proofs.Suiting.{suits_new, unworked_rests}
 use Rattle.aom_sound.specs.Servers.{has_session, has_message, session_thing, message_thing}
 use Rattle.aom_sound.proofs.Services.{service_unnamed, attended_at, sits_lives}
+
+-- what a service says with its server's class: of a new cell nothing is said, and of the others what was
+serves_new :
+    (cs : List Cell) (n : ℕ) (x : Thing) → named cs n ≡ None → (m : ℕ) (has : Service → Bool) (thing : Option Object → Option Thing) → has unserved ≡ false →
+    Weaker (cond (has (cond (n == m) unserved (service_of cs m))) (filled (thing (cond (n == m) (Some (record { name = n; thing = x })) (named cs m))) Full) Null)
+    (cond (has (service_of cs m)) (filled (thing (named cs m)) Full) Null)
+serves_new cs n x e m has thing none = go (n == m) refl
+  where
+    go : (b : Bool) → (n == m) ≡ b →
+        Weaker (cond (has (cond b unserved (service_of cs m))) (filled (thing (cond b (Some (record { name = n; thing = x })) (named cs m))) Full) Null) (cond (has (service_of cs m)) (filled (thing (named cs m)) Full) Null)
+    go true h = subst (λ v. Weaker (cond (has unserved) (filled (thing (Some (record { name = n; thing = x }))) Full) Null) (cond (has v) (filled (thing (named cs m)) Full) Null))
+        (sym (service_unnamed cs m (ap (λ k. named cs k) (sym (eqb-true n m h)) ∙ e)))
+        (subst (λ b. Weaker (cond b (filled (thing (Some (record { name = n; thing = x }))) Full) Null) (cond b (filled (thing (named cs m)) Full) Null)) (sym none) alike)
+    go false h = alike
 
 -- nothing but a new cell's fields is declared anew
 declared_new : (p : Image) (cs : List Cell) (n : ℕ) (x : Thing) (ws : List ℤ) (owner : Place) → named cs n ≡ None → (r : Place) → Weaker (declared p (with_new n x ws owner cs) r) (declared p cs r)
@@ -44,18 +58,8 @@ declared_new p cs n x ws owner e (Field m f) = go (n == m) refl
     go : (b : Bool) → (n == m) ≡ b → Weaker (declared_field p (cond b (Some (record { name = n; thing = x })) (named cs m)) f) (declared_field p (named cs m) f)
     go true h = subst (λ o. Weaker (filled (field_thing p (thing_holder x) f) Perhaps) (declared_field p o f)) (sym e ∙ ap (λ k. named cs k) (eqb-true n m h)) (null (field_thing p (thing_holder x) f))
     go false h = alike
-declared_new p cs n x ws owner e (Elsewhere (Session m c)) = go (n == m) refl
-  where
-    go : (b : Bool) → (n == m) ≡ b →
-        Weaker (cond (has_session (cond b unserved (service_of cs m)) c) (filled (session_thing p (cond b (Some (record { name = n; thing = x })) (named cs m))) Full) Null) (cond (has_session (service_of cs m) c) (filled (session_thing p (named cs m)) Full) Null)
-    go true h = subst (λ v. Weaker Null (cond (has_session v c) (filled (session_thing p (named cs m)) Full) Null)) (sym (service_unnamed cs m (ap (λ k. named cs k) (sym (eqb-true n m h)) ∙ e))) alike
-    go false h = alike
-declared_new p cs n x ws owner e (Elsewhere (Queued m k)) = go (n == m) refl
-  where
-    go : (b : Bool) → (n == m) ≡ b →
-        Weaker (cond (has_message (cond b unserved (service_of cs m)) k) (filled (message_thing p (cond b (Some (record { name = n; thing = x })) (named cs m))) Full) Null) (cond (has_message (service_of cs m) k) (filled (message_thing p (named cs m)) Full) Null)
-    go true h = subst (λ v. Weaker Null (cond (has_message v k) (filled (message_thing p (named cs m)) Full) Null)) (sym (service_unnamed cs m (ap (λ k. named cs k) (sym (eqb-true n m h)) ∙ e))) alike
-    go false h = alike
+declared_new p cs n x ws owner e (Elsewhere (Session m c)) = serves_new cs n x e m (λ v. has_session v c) (λ o. session_thing p o) refl
+declared_new p cs n x ws owner e (Elsewhere (Queued m k)) = serves_new cs n x e m (λ v. has_message v k) (λ o. message_thing p o) refl
 declared_new p cs n x ws owner e _ = alike
 
 -- what clients have at what there was is as it was

@@ -43,16 +43,13 @@ use Rattle.aom_instructions.specs.declared.instr.Instr.{Instr}
 -- ---- kinds of objects that may be pushed
 
 entry_again : (k : Kind) → owns_object k ≡ true → entry_kind (entry_of k) ≡ k
-entry_again (Own (An_object_of c) a) e = refl
-entry_again _ e = cc
+entry_again x e = grind arith
 
 object_again : (k : Kind) → owns_object k ≡ true → entry_form (entry_of k) ≡ Object_form
-object_again (Own (An_object_of c) a) e = refl
-object_again _ e = cc
+object_again x e = grind arith
 
 owned_or_null : (k : Kind) → owns_object k ≡ true → is_object_or_null k ≡ true
-owned_or_null (Own t a) e = refl
-owned_or_null _ e = cc
+owned_or_null x e = grind arith
 
 -- such a place holds an object, and no message
 owned_met : (p : Image) (h : Sight) (o : Option Object) (k : Kind) → owns_object k ≡ true → Fits p h o k → (is_some o ≡ true) × (is_no_message o ≡ true)
