@@ -1,7 +1,7 @@
 -- What a move of ownership does to the places, and lists that are read and written by place.
 use Rattle.std.proofs.lemmas.Option.{none-some}
 use Rattle.std.proofs.Common.{Bool, List, None, Option, Some, [], ap, cond, false, inl, inr, refl, subst, suc, sym, true, zero, ℕ, ⊎_elim, ◌==◌, ◌∙◌, ◌∷◌, ◌≡◌}
-use Rattle.std.proofs.lemmas.Bool.{and_from, and_parts, eq-eqb, eqb-true, false≢true, ne_eqb, true≢false}
+use Rattle.std.proofs.lemmas.Bool.{and_from, and_parts, eq-eqb, eqb-true, ne_eqb, true≢false}
 use Rattle.std.specs.Prelude.{◌⊎◌}
 use Rattle.aom_shape.specs.Tables.{at, put_at}
 use Rattle.aom_sound.proofs.Altering.{Reads, moving, named_kept, names, read_kept, requests}

@@ -26,11 +26,11 @@ use Rattle.aom_sound.proofs.Going.{housed_without, stack_without}
 use Rattle.aom_sound.proofs.Maps.{same_place-true, same_place_comm}
 use Rattle.aom_sound.proofs.Picking.{own_held}
 use Rattle.aom_sound.proofs.Straight.{At, Fitted, Law, fitted, free_register, kind_fits, no_word, relocate, same_suits, settle, top, well, words_set}
-use Rattle.aom_sound.specs.Claims.{Dispatching, Layer, Mark, Method, claim, declared, delivered, home_claim, root_claim, serves, tasks_of}
+use Rattle.aom_sound.specs.Claims.{Layer, Method, claim, declared, delivered, home_claim, root_claim, serves, tasks_of}
 use Rattle.aom_sound.specs.Moves.{does}
 use Rattle.aom_sound.specs.Objects.{is_thing}
 use Rattle.aom_sound.specs.Places.{Cell, Elsewhere, Field, In_service, Object, Place, Root, Sight, changed, held, moved, same_place, seen, without}
-use Rattle.aom_sound.specs.State.{AtRoot, Choice, Frame, Home, Inside, Of_server, Seat, Serves, State, Static, next, set_word, word}
+use Rattle.aom_sound.specs.State.{AtRoot, Choice, Frame, Home, Inside, Seat, State, Static, next, set_word, word}
 use Rattle.aom_sound.specs.WellTyped.{AllSit, Back, Fits, IsBelow, IsHoused, IsServed, NoSeatAt, NoneFrom, Returns, SitsIn, Stack, WordFits}
 use Rattle.aom_instructions.specs.declared.instr.Instr.{Instr}
 

@@ -1,5 +1,5 @@
 -- Each step is a move: an instruction has its effect, and may have it.
-use Rattle.std.proofs.Common.{List, None, Option, Some, [], cond, length, refl, subst, sym, ℤ, ◌∷◌, ◌≡◌}
+use Rattle.std.proofs.Common.{List, [], cond, length, refl, subst, sym, ℤ, ◌∷◌, ◌≡◌}
 use Rattle.std.specs.Prelude.{is_some}
 use Rattle.aom_image.proofs.Given.{some_given}
 use Rattle.aom_image.specs.Image.{Image}
@@ -12,7 +12,7 @@ use Rattle.aom_sound.specs.Cleanup.{arrived, destroyed, unwound}
 use Rattle.aom_sound.specs.Destruction.{vanished, parting_from, closing, gone, needs_gone}
 use Rattle.aom_sound.specs.Effects.{applied, effect}
 use Rattle.aom_sound.specs.Moves.{needs_end, act, counted, does, needs, step_instr, step_task}
-use Rattle.aom_sound.specs.Places.{Entry, Going, Object, held}
+use Rattle.aom_sound.specs.Places.{Entry, Going, held}
 use Rattle.aom_sound.specs.State.{Closing, A_mark, An_object, An_operation, Choice, Destroy, Dispatched, Frame, Goes, IsStuck, Item, NullOrDead, Run, State, Task, Trapped, Unwind}
 use Rattle.aom_sound.specs.Steps.{Empties, Acts, Arrives, Clears, Comes_out, Ends, Fits, IsStill, Move, Rests, StepsAreMoves, Undoes, Vanishes}
 use Rattle.aom_sound.specs.Servers.{without_queue}

@@ -1,5 +1,5 @@
 -- A client's command between dispatches leads to a well-typed state.
-use Rattle.std.proofs.Common.{List, None, Option, Some, [], ap, false, refl, subst, sym, true, ℕ, ℤ, ◌∙◌, ◌∷◌, ◌≡◌}
+use Rattle.std.proofs.Common.{List, None, Option, Some, [], ap, false, refl, subst, sym, ℕ, ℤ, ◌∙◌, ◌∷◌, ◌≡◌}
 use Rattle.aom_image.specs.Image.{Image}
 use Rattle.aom_image.specs.declared.method.Thing.TheVariants.{Message}
 use Rattle.aom_clients.specs.Table.{row, server_of}
@@ -19,7 +19,7 @@ use Rattle.aom_sound.specs.Clients.{asked_server, Listed, client_at, commanded, 
 use Rattle.aom_sound.specs.Kept.{ClientsFit}
 use Rattle.aom_sound.specs.Laws.{IsWired}
 use Rattle.aom_sound.specs.Owned.{NoneGoes}
-use Rattle.aom_sound.specs.Places.{Cell, Close_of, Connect_of, Elsewhere, Message_of, Object, Queued, held, named, service_of, unserved}
+use Rattle.aom_sound.specs.Places.{Cell, Close_of, Connect_of, Elsewhere, Message_of, Object, Queued, held, named, service_of}
 use Rattle.aom_sound.specs.Servers.{asked_last, is_server, reserved, withdrawn}
 use Rattle.aom_sound.specs.State.{State}
 use Rattle.aom_sound.specs.WellTyped.{AllUndo, Good, WellTyped}

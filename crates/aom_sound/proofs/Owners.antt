@@ -6,7 +6,6 @@ use Rattle.std.proofs.lemmas.Option.{slice_get_within}
 use Rattle.std.specs.Prelude.{IsSome, is_some, option_map, slice_get}
 use Rattle.aom_image.specs.Image.{Image}
 use Rattle.aom_image.specs.Views.{class_at, fields_in}
-use Rattle.aom_image.specs.declared.class.ClassDecl.{ClassDecl}
 use Rattle.aom_image.specs.declared.method.Thing.{Thing}
 use Rattle.aom_image.specs.declared.method.Thing.TheVariants.{Message, Object as An_object_of}
 use Rattle.aom_roles.specs.Classes.{kind_in, sessions_at, sessions_in}
@@ -29,7 +28,7 @@ use Rattle.aom_sound.specs.Owned.{AllOwned, Ends, HasRegisters, HasService, IsOb
 use Rattle.aom_sound.specs.Places.{Cell, Elsewhere, Entry, Field, Going, Object, Place, Register, Root, Sight, Tidy, held, named, same_place, seen, service_of, Session, In_service, Queued}
 use Rattle.aom_sound.specs.Registers.{AllInRange, IsInRange}
 use Rattle.aom_sound.specs.Servers.{has_message, has_session, is_among, is_server, message_thing, of_class, session_class, session_thing}
-use Rattle.aom_sound.specs.State.{AtRoot, Dispatch, Dispatched, Home, Inside, Item, Of_root, Of_server, Parts, Run, Service_left, Serves, State, Static, thing_holder}
+use Rattle.aom_sound.specs.State.{AtRoot, Dispatch, Dispatched, Home, Inside, Item, Of_server, Parts, Run, Service_left, Serves, State, Static, thing_holder}
 use Rattle.aom_sound.specs.WellTyped.{Back, Caught, Fits, Gone, IsHoused, IsServed, Leaves, Now, Returns, Stack, WellTyped}
 
 -- what a kind of an owning place says of the thing

@@ -2,7 +2,6 @@
 use Rattle.std.proofs.Common.{arith, Bool, List, None, Option, Some, [], ap, cond, false, refl, subst, sym, true, ℕ, ◌&&◌, ◌==◌, ◌∙◌, ◌∷◌, ◌≡◌}
 use Rattle.std.proofs.lemmas.Bool.{eq-eqb, eqb-true, ne_eqb}
 use Rattle.std.proofs.lemmas.Option.{none-some}
-use Rattle.aom_image.proofs.Given.{false_given}
 use Rattle.aom_sound.proofs.Maps.{Finds, found, same_place-true, same_place_refl}
 use Rattle.aom_sound.specs.Places.{Cell, Object, Place, Request, Service, Tidy, held, named, requested, same_place, service_of, unserved}
 use Rattle.aom_sound.specs.Servers.{all_unslotted, is_from, is_queue, is_queue_of, left_by, unslotted, without_queue, withdrawn}
@@ -72,7 +71,11 @@ cell_name cs n c = found (cells_of n) c (λ cs. c.object.name ≡ n) (λ x cs at
 pub cell_lives : (cs : List Cell) (q : Place) (c : Cell) → Tidy cs → cell_in cs q ≡ Some c → cell_of cs c.object.name ≡ Some c
 cell_lives cs q c t e = found (cells_in q) c (λ cs. Tidy cs → cell_of cs c.object.name ≡ Some c)
     (λ x cs at is t. ap (λ b. cond b (Some x) (cell_of cs c.object.name)) (eq-eqb x.object.name c.object.name (ap (λ y. y.object.name) is)) ∙ ap (λ y. Some y) is)
-    (λ x cs other e rest t. ap (λ b. cond b (Some x) (cell_of cs c.object.name)) (ne_eqb x.object.name c.object.name (λ same. none-some c (sym (no_cell (cell_of cs c.object.name) (sym (named_cell cs c.object.name) ∙ ap (λ n. named cs n) (sym same) ∙ t.1)) ∙ rest t.2))) ∙ rest t.2) cs e t
+    (λ x cs other e rest t. ap (λ b. cond b (Some x) (cell_of cs c.object.name)) (apart x cs t (rest t.2)) ∙ rest t.2) cs e t
+  where
+    apart : (x : Cell) (cs : List Cell) → Tidy (x ∷ cs) → cell_of cs c.object.name ≡ Some c → (x.object.name == c.object.name) ≡ false
+    apart x cs t there = ne_eqb x.object.name c.object.name (λ same.
+        none-some c (sym (no_cell (cell_of cs c.object.name) (sym (named_cell cs c.object.name) ∙ ap (λ n. named cs n) (sym same) ∙ t.1)) ∙ there))
 
 pub cell_placed : (cs : List Cell) (n : ℕ) (c : Cell) → Tidy cs → cell_of cs n ≡ Some c → cell_in cs c.owner ≡ Some c
 cell_placed cs n c t e = found (cells_of n) c (λ cs. Tidy cs → cell_in cs c.owner ≡ Some c)
@@ -167,9 +170,6 @@ module _ (drops : Cell → Bool) (f : Cell → Service) where
   pub named_before : (cs : List Cell) (n : ℕ) (o : Object) → Tidy cs → named (sifted drops f cs) n ≡ Some o → (c : Cell) × (cell_of cs n ≡ Some c) × (c.object ≡ o) × (drops c ≡ false)
   named_before cs n o t e = go (cell_of cs n) refl (sym (ap object_in (cell_of_sifted cs n t)) ∙ sym (named_cell (sifted drops f cs) n) ∙ e)
     where
-      at : (c : Cell) → cell_of cs n ≡ Some c → (d : Bool) → drops c ≡ d → object_in (cond d None (Some (record c { service = f c }))) ≡ Some o → (c : Cell) × (cell_of cs n ≡ Some c) × (c.object ≡ o) × (drops c ≡ false)
-      at c there d ed e = false_given (λ d. (drops c ≡ d) × (object_in (cond d None (Some (record c { service = f c }))) ≡ Some o)) d (ed, e) (λ h. (let clash = h.1 in cc)) (λ is h. (let same = h.1 in (c, there, (cc), h.0)))
-
       go : (x : Option Cell) → cell_of cs n ≡ x → object_in (kept x) ≡ Some o → (c : Cell) × (cell_of cs n ≡ Some c) × (c.object ≡ o) × (drops c ≡ false)
       go x there e = grind arith
 

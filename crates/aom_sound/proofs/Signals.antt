@@ -12,7 +12,7 @@ use Rattle.aom_rules.specs.Typing.{Typing}
 use Rattle.aom_sound.proofs.Owners.{layers_none}
 use Rattle.aom_sound.specs.Enlisted.{is_active, is_idle, is_unsettled, pending}
 use Rattle.aom_sound.specs.Laws.{SignalsAreReady}
-use Rattle.aom_sound.specs.Places.{Active, Cell, Idle, Object, Phase, Request, Tidy, named, requested}
+use Rattle.aom_sound.specs.Places.{Cell, Object, Phase, Request, Tidy, named, requested}
 use Rattle.aom_sound.specs.Requests.{AllSuit, Suits, resting_in, thing_kind}
 use Rattle.aom_sound.specs.Servers.{is_asked_for}
 use Rattle.aom_sound.specs.State.{State}

@@ -21,7 +21,7 @@ use Rattle.aom_sound.specs.State.{AtRoot, Frame, Home, Inside, Seat, Static}
 use Rattle.aom_sound.specs.WellTyped.{AllSit, Back, Fits, IsHoused, Stack, seat_of}
 use Rattle.aom_sound.specs.Words.{stored}
 use Rattle.aom_sound.specs.Requests.{Suits, states_claim, thing_kind}
-use Rattle.std.proofs.lemmas.Bool.{eq-eqb, eqb-true}
+use Rattle.std.proofs.lemmas.Bool.{eqb-true}
 use Rattle.aom_sound.specs.Enlisted.{cancelled, ended_cells, on_request, own_request, rerequested}
 use Rattle.aom_rules.specs.Requests.{is_cancel}
 use Rattle.aom_image.specs.Views.{method_role}

@@ -67,7 +67,7 @@ marks_of_layers (Ending o left ∷ ls) = marks_of_layers ls
 marks_of_layers (Unwinding code es ∷ ls) = marks_under es (items_of ls) ∙ marks_of_layers ls
 marks_of_layers (Dispatching d seats ∷ ls) = marks_of_layers ls
 
-all_matched : (p : Image) (t : Typing) (s : State) → WellTyped p t s → marks s.items ≡ traps s.tasks
+pub all_matched : (p : Image) (t : Typing) (s : State) → WellTyped p t s → marks s.items ≡ traps s.tasks
 all_matched p t s w = sym (marks_of_forms s.items) ∙ ap mark_forms w.items ∙ marks_of_layers w.layers ∙ ap traps (sym w.tasks)
 
 marks_join : (a b : List Item) → marks (a ++ b) ≡ marks a + marks b

@@ -7,7 +7,7 @@ use Rattle.aom_image.specs.declared.method.Role.TheVariants.{Accept as Accepts_r
 use Rattle.aom_sound.proofs.Guarded.{goes_same, guarded_goes}
 use Rattle.aom_sound.specs.Enlisted.{completed_with, part_of, pending, recorded, taken_up}
 use Rattle.aom_sound.specs.Natives.{all_bereaved, is_outstanding_at}
-use Rattle.aom_sound.specs.Places.{Asked, Connect_of, Message_of, Close_of, Elsewhere, Session, In_service, Queued, Going, held, moved, service_of, Cell, Object}
+use Rattle.aom_sound.specs.Places.{Asked, Connect_of, Message_of, Close_of, Elsewhere, Session, In_service, Queued, Going, held, moved, service_of, Object}
 use Rattle.aom_sound.specs.State.{Dispatched, Of_server, Accepts, Serves, Parts, frame_of, Inside, A_mark, CompletedTwice, Goes, Rest, Seat, State}
 use Rattle.aom_sound.specs.World.{Obeys, heard_one, serving, taken_from, message_words, serves_first, accepting, attending, attended, parting_with, picked as any_picked, Completes, Completion, Heard, Kills, Outside, Picks, Polls, Strays, Turning, answered_by, cell_at, dispatched, past_native, polled, run_tasks, turn, turned, turning, with_request}
 use Rattle.std.specs.Prelude.{[], length}
