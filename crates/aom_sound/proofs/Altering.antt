@@ -69,7 +69,7 @@ module _ {change : List Cell → List Cell} (a : Alters change) where
         go :
             (b : Bool) → (c.object.name == n) ≡ b →
             (((d : Cell) → (d.object.name == n) ≡ true → named cs n ≡ Some d.object → r.of (a.each d) ≡ becomes (r.of d)) →
-              (named cs n ≡ None → read [] n ≡ becomes (read [] n)) → read (change cs) n ≡ becomes (read cs n)) →
+            (named cs n ≡ None → read [] n ≡ becomes (read [] n)) → read (change cs) n ≡ becomes (read cs n)) →
             ((d : Cell) → (d.object.name == n) ≡ true → cond b (Some c.object) (named cs n) ≡ Some d.object → r.of (a.each d) ≡ becomes (r.of d)) →
             (cond b (Some c.object) (named cs n) ≡ None → read [] n ≡ becomes (read [] n)) →
             cond b (r.of (a.each c)) (read (change cs) n) ≡ becomes (cond b (r.of c) (read cs n))

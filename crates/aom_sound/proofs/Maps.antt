@@ -241,7 +241,7 @@ pub unnamed : (cs : List Cell) (g : Place) (o : Object) → Tidy cs → held cs 
 unnamed cs g o t e = found (in_place g) o (λ cs. Tidy cs → named (without g cs) o.name ≡ None)
     (λ c cs at is t. ap (λ b. named (cond b (without g cs) (c ∷ without g cs)) o.name) at ∙ named_gone cs g o.name (ap (λ x. named cs x.name) (sym is) ∙ t.1))
     (λ c cs other e rest t. ap (λ b. named (cond b (without g cs) (c ∷ without g cs)) o.name) other
-      ∙ ap (λ b. cond b (Some c.object) (named (without g cs) o.name)) (ne_eqb c.object.name o.name (λ s. held_named cs g o e (ap (λ k. named cs k) (sym s) ∙ t.1))) ∙ rest t.2) cs e t
+    ∙ ap (λ b. cond b (Some c.object) (named (without g cs) o.name)) (ne_eqb c.object.name o.name (λ s. held_named cs g o e (ap (λ k. named cs k) (sym s) ∙ t.1))) ∙ rest t.2) cs e t
 
 -- of what is not there nothing is read
 pub read_unnamed : {A : Type 0} {read : List Cell → ℕ → A} (r : Reads read) (cs : List Cell) (n : ℕ) → named cs n ≡ None → read cs n ≡ read [] n

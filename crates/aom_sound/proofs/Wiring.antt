@@ -363,17 +363,17 @@ module _ (p : Image) (formed : WellFormed p) (linked : IsLinked p) where
       let w = of_method p m place (PushOperation a m') e in
       let names = all_there (NamesRoles p) w.0.code place (PushOperation a m') (shaped m w.0 w.1).code w.2 in
       some_given (λ o. IsTrue (is_role Undo (role_in o))) (method_at p m') names (λ names. cc) (λ d f names.
-          let role : d.role ≡ Undo = same_roles d.role Undo names in
-          let fits = all_there (MethodFits (length p.classes) (length p.methods)) p.methods m' d formed.methods.each f in
-          let u : ShapedUndo (kind_of p d.class) d = of_role m' d Undo f role in record {
-            there = rw f refl;
-            role = ap role_in f ∙ ap (λ r. Some r) role;
-            class = ap class_in f ∙ of_none p d.class fits.class u.of;
-            leaves = ap leaves_in f ∙ (shaped m' d f).flags.quiet u.flags;
-            quiet = ap quiet_in f ∙ u.flags;
-            gives = ap gives_in f ∙ nothing_given d.gives u.gives;
-            arguments = ap arguments_in f ∙ words_alone 1 d.arguments u.takes.count u.takes.words;
-          })
+      let role : d.role ≡ Undo = same_roles d.role Undo names in
+      let fits = all_there (MethodFits (length p.classes) (length p.methods)) p.methods m' d formed.methods.each f in
+      let u : ShapedUndo (kind_of p d.class) d = of_role m' d Undo f role in record {
+        there = rw f refl;
+        role = ap role_in f ∙ ap (λ r. Some r) role;
+        class = ap class_in f ∙ of_none p d.class fits.class u.of;
+        leaves = ap leaves_in f ∙ (shaped m' d f).flags.quiet u.flags;
+        quiet = ap quiet_in f ∙ u.flags;
+        gives = ap gives_in f ∙ nothing_given d.gives u.gives;
+        arguments = ap arguments_in f ∙ words_alone 1 d.arguments u.takes.count u.takes.words;
+      })
 
   -- a class without a destructor owns nothing
   owns_none : (c : ℕ) → role_of p c Destruct ≡ None → (f : ℕ) → field_thing p (Member c) f ≡ None
