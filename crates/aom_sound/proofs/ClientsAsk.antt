@@ -101,9 +101,7 @@ listed_serves p class n x of room = grind (arith, eqb-true, takes_some)
 pub listed_room :
     (p : Image) (class : ℕ) (v : Service) (x : Thing) → is_of_class class x ≡ true → nat_lt (seats_taken v) (most_of (kind_of p (Some class))) ≡ true →
     seats_taken v < most_of (thing_kind p x)
-listed_room p class v (An_object_of d) of room =
-    subst (λ k. seats_taken v < most_of (kind_of p (Some k))) (sym (eqb-true d class of)) (ltb-true (seats_taken v) (most_of (kind_of p (Some class))) room)
-listed_room p class v Message of room = cc
+listed_room p class v x of room = grind (arith, eqb-true, ltb-true)
 
 -- a connect that is not refused
 pub asked_none : (r : Option Refusal) (most : ℕ) (x : Listed) (cs : List Cell) → asked_of r most (Some x) cs ≡ None → (r ≡ None) × (nat_lt (seats_taken (service_of cs x.name)) most ≡ true)

@@ -80,9 +80,7 @@ module _ (clients : List Client) (c n : ℕ) where
       x = client_at clients c
 
       entry : (e : Asked) → c ≡ client_of e → EntryFits clients n e → (k ≡ n) × (is_connect_of c e ≡ true)
-      entry (Connect_of d) same f = ((connecting_only k n x at).3 (ap (λ i. is_connecting_at n (client_at clients i)) same ∙ f), eq-eqb d c (sym same))
-      entry (Message_of d m) same f = absurd (true≢false (sym (ap (λ i. is_open_at n (client_at clients i)) same ∙ f) ∙ (connecting_only k n x at).0))
-      entry (Close_of d) same f = absurd (true≢false (sym (ap (λ i. is_leaving n (client_at clients i)) same ∙ f) ∙ (connecting_only k n x at).1))
+      entry e same f = grind (arith, eq-eqb, connecting_only)
 
   -- of one that closes
   pub none_of_leaving : (k : ℕ) → is_leaving k (client_at clients c) ≡ true → (es : List Asked) → QueueFits clients n es → (k ≡ n → list_any (is_close_of c) es ≡ false) → list_any (is_of c) es ≡ false
@@ -92,9 +90,7 @@ module _ (clients : List Client) (c n : ℕ) where
       x = client_at clients c
 
       entry : (e : Asked) → c ≡ client_of e → EntryFits clients n e → (k ≡ n) × (is_close_of c e ≡ true)
-      entry (Close_of d) same f = ((leaving_only k n x at).3 (ap (λ i. is_leaving n (client_at clients i)) same ∙ f), eq-eqb d c (sym same))
-      entry (Message_of d m) same f = absurd (true≢false (sym (ap (λ i. is_open_at n (client_at clients i)) same ∙ f) ∙ (leaving_only k n x at).0))
-      entry (Connect_of d) same f = absurd (true≢false (sym (ap (λ i. is_connecting_at n (client_at clients i)) same ∙ f) ∙ (leaving_only k n x at).1))
+      entry e same f = grind (arith, eq-eqb, leaving_only)
 
 -- ---- one client is at something else
 

@@ -56,9 +56,7 @@ none_but_close c (e ∷ es) none = go (stays c e) refl (is_close_of c e) refl no
     go :
         (b : Bool) → stays c e ≡ b → (x : Bool) → is_close_of c e ≡ x → (x || list_any (is_close_of c) es) ≡ false → (list_any (is_close_of c) es ≡ false → list_any (is_of c) (filter (stays c) es) ≡ false) →
         list_any (is_of c) (cond b (e ∷ filter (stays c) es) (filter (stays c) es)) ≡ false
-    go true s false at none rest = ap (λ y. y || list_any (is_of c) (filter (stays c) es)) (entry e s at) ∙ rest none
-    go false s false at none rest = rest none
-    go b s true at none rest = cc
+    go b s x at none rest = grind (arith, entry)
 
 -- so that what is left of a queue fits whatever it is at then
 pub queue_left :
