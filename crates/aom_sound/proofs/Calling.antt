@@ -341,8 +341,7 @@ module _ (p : Image) (t : Typing) (wired : IsWired p) (typed : IsTyped p t) (c :
         own_begun lives = go (works_at o.name fr.home) own_home_works (passed.suits o lives)
           where
             go : (b : Bool) → b ≡ true → Suits (thing_kind p o.thing) (cond b (known_at p fr after_arguments.states (below o)) (below o)) (requested cs o.name) → Suits (thing_kind p o.thing) (record { states = before_of p m; cancelled = (cond b (known_at p fr ended (below o)) (below o)).cancelled }) (requested cs o.name)
-            go true e h = suits_less (thing_kind p o.thing) (before_of p m) after_arguments.states _ (requested cs o.name) before h
-            go false e h = cc
+            go b e h = grind (arith, suits_less)
 
         other_suits :
             (x : Object) → named cs x.name ≡ Some x → works_at x.name (Inside o from) ≡ false →

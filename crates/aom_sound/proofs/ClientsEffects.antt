@@ -1,5 +1,5 @@
 -- What is kept of clients stays so in each effect of an instruction: by the cells that it changes, and the tasks below it.
-use Rattle.std.proofs.Common.{Bool, List, None, Option, Some, cond, false, length, refl, subst, suc, sym, true, zero, ℕ, ◌∷◌, ◌≡◌}
+use Rattle.std.proofs.Common.{Bool, List, None, Option, Some, cond, false, length, refl, subst, suc, sym, true, zero, ℕ, ◌∷◌, ◌≡◌, arith}
 use Rattle.aom_image.specs.Image.{Image}
 use Rattle.aom_image.specs.Views.{arguments_of}
 use Rattle.aom_clients.specs.declared.client.Client.{Client}
@@ -83,10 +83,7 @@ tasks_to_trap p clients cs _ k = k
 
 module _ (p : Image) (fr : Frame) (ts : List Task) (s : State) (fit : ClientsFit p s.clients s.cells) (stage : TasksKept p s.clients s.cells ts) where
   steady : (u : Update) → IsFine fr s u → Steady s.cells (cells_after p fr ts s u)
-  steady (Made name class a) f = steady_update p fr ts s (Made name class a) f
-  steady (Requested r) f = steady_update p fr ts s (Requested r) f
-  steady (Replied a) f = absurd f
-  steady r f = steady_update p fr ts s r tt
+  steady u f = grind (arith, steady_update)
 
   -- with those cells, and tasks over these
   kept_by : (u : State) → u.clients ≡ s.clients → Steady s.cells u.cells → (TasksKept p s.clients u.cells ts → TasksKept p s.clients u.cells u.tasks) → IsKept p u

@@ -80,9 +80,7 @@ module _ (clients : List Client) (c n : ℕ) where
       x = client_at clients c
 
       entry : (e : Asked) → c ≡ client_of e → EntryFits clients n e → (k ≡ n) × (is_connect_of c e ≡ true)
-      entry (Connect_of d) same f = ((connecting_only k n x at).3 (ap (λ i. is_connecting_at n (client_at clients i)) same ∙ f), eq-eqb d c (sym same))
-      entry (Message_of d m) same f = absurd (true≢false (sym (ap (λ i. is_open_at n (client_at clients i)) same ∙ f) ∙ (connecting_only k n x at).0))
-      entry (Close_of d) same f = absurd (true≢false (sym (ap (λ i. is_leaving n (client_at clients i)) same ∙ f) ∙ (connecting_only k n x at).1))
+      entry e same f = grind (arith, eq-eqb, connecting_only)
 
   -- of one that closes
   pub none_of_leaving : (k : ℕ) → is_leaving k (client_at clients c) ≡ true → (es : List Asked) → QueueFits clients n es → (k ≡ n → list_any (is_close_of c) es ≡ false) → list_any (is_of c) es ≡ false
@@ -92,9 +90,7 @@ module _ (clients : List Client) (c n : ℕ) where
       x = client_at clients c
 
       entry : (e : Asked) → c ≡ client_of e → EntryFits clients n e → (k ≡ n) × (is_close_of c e ≡ true)
-      entry (Close_of d) same f = ((leaving_only k n x at).3 (ap (λ i. is_leaving n (client_at clients i)) same ∙ f), eq-eqb d c (sym same))
-      entry (Message_of d m) same f = absurd (true≢false (sym (ap (λ i. is_open_at n (client_at clients i)) same ∙ f) ∙ (leaving_only k n x at).0))
-      entry (Connect_of d) same f = absurd (true≢false (sym (ap (λ i. is_connecting_at n (client_at clients i)) same ∙ f) ∙ (leaving_only k n x at).1))
+      entry e same f = grind (arith, eq-eqb, leaving_only)
 
 -- ---- one client is at something else
 
@@ -171,6 +167,16 @@ module _ (p : Image) (cs : List Cell) (o : Object) (lives : named cs o.name ≡ 
       others : (n : ℕ) → (o.name == n) ≡ false → named cs n ≡ Some x → n ≡ x.name → seats_taken (service_of cs n) ≤ most_of (thing_kind p x.thing)
       others n other at same = subst (λ k. seats_taken (service_of cs k) ≤ most_of (thing_kind p x.thing)) (sym same) (fit.seats x (ap (λ k. named cs k) (sym same) ∙ at))
 
+  -- a message that waits is of its sender
+  pub senders_then :
+      (clients : List Client) → ClientsFit p clients cs → ((d : ℕ) → is_from d (service_of cs o.name).sender ≡ true → is_from d (f (service_of cs o.name)).sender ≡ true) →
+      ((d m : ℕ) → list_any (is_message_of d m) (f (service_of cs o.name)).queue ≡ true → is_from d (service_of cs m).sender ≡ true) →
+      (n d m : ℕ) → list_any (is_message_of d m) (service_of then n).queue ≡ true → is_from d (service_of then m).sender ≡ true
+  senders_then clients fit keeps here n d m = by_server (λ n v. list_any (is_message_of d m) v.queue ≡ true → is_from d (service_of then m).sender ≡ true) (λ h. still (here d m h)) (λ n other h. still (fit.senders n d m h)) n
+    where
+      still : is_from d (service_of cs m).sender ≡ true → is_from d (service_of then m).sender ≡ true
+      still = by_server (λ m v. is_from d (service_of cs m).sender ≡ true → is_from d v.sender ≡ true) (keeps d) (λ n other h. h) m
+
   module _ (serves : is_server p o.thing ≡ true) (clients : List Client) (fit : ClientsFit p clients cs) where
     pub servers_then : (x : Object) → named then x.name ≡ Some x → is_server p x.thing ≡ false → ((service_of then x.name).queue ≡ []) × ((service_of then x.name).sessions ≡ [])
     servers_then x there plain =
@@ -210,7 +216,7 @@ module _ (p : Image) (clients : List Client) (cs : List Cell) (fit : ClientsFit 
           absurd (true≢false (sym (eq-eqb o.name n cc) ∙ other)));
       servers = servers_then p cs o lives (opened c) serves clients fit;
       names = names_then p cs o lives (opened c) serves clients fit;
-      senders = λ n d m. by_server p cs o lives (opened c) (λ n v. list_any (is_message_of d m) v.queue ≡ true → is_from d (service_of (reserved (opened c) o.name cs) m).sender ≡ true) (λ h. senders m d (fit.senders o.name d m h)) (λ n other h. senders m d (fit.senders n d m h)) n;
+      senders = senders_then p cs o lives (opened c) clients fit (λ d h. h) (λ d m h. fit.senders o.name d m h);
       enlisted = enlisted_then p cs o lives (opened c) listed clients fit;
       seats = seats_then p cs o lives (opened c) clients fit (let one = seats_opened c (service_of cs o.name) in omega (arith, room, one));
     }
@@ -218,9 +224,6 @@ module _ (p : Image) (clients : List Client) (cs : List Cell) (fit : ClientsFit 
         queues : (n : ℕ) → QueueFits (with_client c (at_opening session own) clients) n (service_of cs n).queue
         queues n = queue_other c n (at_opening session own) clients (service_of cs n).queue
             (none_of_connecting clients c n o.name at (service_of cs n).queue (fit.queues n) (λ same. subst (λ k. list_any (is_connect_of c) (service_of cs k).queue ≡ false) same none)) (fit.queues n)
-
-        senders : (m d : ℕ) → is_from d (service_of cs m).sender ≡ true → is_from d (service_of (reserved (opened c) o.name cs) m).sender ≡ true
-        senders m d = by_server p cs o lives (opened c) (λ m v. is_from d (service_of cs m).sender ≡ true → is_from d v.sender ≡ true) (λ h. h) (λ n other h. h) m
 
   -- ---- a close is served
 
@@ -241,7 +244,7 @@ module _ (p : Image) (clients : List Client) (cs : List Cell) (fit : ClientsFit 
       listed = λ n h. let clash : None ≡ Some n = sym free.alone ∙ h in cc;
       servers = servers_then p cs o lives (parted c) serves clients fit;
       names = names_then p cs o lives (parted c) serves clients fit;
-      senders = λ n d m. by_server p cs o lives (parted c) (λ n v. list_any (is_message_of d m) v.queue ≡ true → is_from d (service_of (reserved (parted c) o.name cs) m).sender ≡ true) (λ h. senders m d (fit.senders o.name d m h)) (λ n other h. senders m d (fit.senders n d m h)) n;
+      senders = senders_then p cs o lives (parted c) clients fit (λ d h. h) (λ d m h. fit.senders o.name d m h);
       enlisted = enlisted_then p cs o lives (parted c) listed clients fit;
       seats = seats_then p cs o lives (parted c) clients fit (let less = seats_parted c (service_of cs o.name) in let was = fit.seats o lives in omega (arith, less, was));
     }
@@ -249,6 +252,3 @@ module _ (p : Image) (clients : List Client) (cs : List Cell) (fit : ClientsFit 
         queues : (n : ℕ) → QueueFits (with_client c (at_parting own) clients) n (service_of cs n).queue
         queues n = queue_other c n (at_parting own) clients (service_of cs n).queue
             (none_of_leaving clients c n o.name at (service_of cs n).queue (fit.queues n) (λ same. subst (λ k. list_any (is_close_of c) (service_of cs k).queue ≡ false) same none)) (fit.queues n)
-
-        senders : (m d : ℕ) → is_from d (service_of cs m).sender ≡ true → is_from d (service_of (reserved (parted c) o.name cs) m).sender ≡ true
-        senders m d = by_server p cs o lives (parted c) (λ m v. is_from d (service_of cs m).sender ≡ true → is_from d v.sender ≡ true) (λ h. h) (λ n other h. h) m

@@ -1,23 +1,23 @@
 -- A client that closes or dies leaves what is kept: its messages that wait go, and where its session was open a close is asked last.
-use Rattle.std.proofs.Math.Bool.{or-false, and-false}
+use Rattle.std.proofs.Math.Bool.{and-false}
 use Rattle.std.proofs.Common.{[], Bool, List, None, Option, Some, ap, arith, cond, false, refl, subst, sym, true, ℕ, ◌&&◌, ◌==◌, ◌∙◌, ◌∷◌, ◌≡◌, ◌≤◌}
 use Rattle.std.proofs.lemmas.Bool.{eq-eqb, eqb-true, ne_eqb, true≢false}
-use Rattle.std.proofs.lemmas.List.Folds.{list_any-append}
 use Rattle.std.specs.List.{list_any}
 use Rattle.std.specs.Prelude.{filter, not, ◌||◌, is_some}
 use Rattle.aom_image.specs.Image.{Image}
 use Rattle.aom_clients.specs.Nodes.{is_leaving}
 use Rattle.aom_clients.specs.Table.{server_of}
 use Rattle.aom_clients.specs.declared.client.Client.{Client}
-use Rattle.aom_sound.proofs.ClientsFit.{by_server, fit_changed, names_then, seats_then, servers_then, enlisted_then}
-use Rattle.aom_sound.proofs.Queues.{client_here, client_of, entry_other, is_of, none_stays, queue_last, queue_other, queue_stays}
+use Rattle.aom_sound.proofs.ClientsAsk.{fit_asked}
+use Rattle.aom_sound.proofs.ClientsFit.{fit_changed}
+use Rattle.aom_sound.proofs.Queues.{client_here, client_of, entry_other, is_of, none_stays, queue_other, queue_stays}
 use Rattle.aom_sound.proofs.Seated.{seats_asked, seats_left}
 use Rattle.aom_sound.proofs.Sifted.{cell_in, cell_of_sifted, kept, unheld_sifted, cell_lives, cell_of, cell_placed, held_cell, held_sifted, named_before, named_cell, object_in, service_cell, service_gone, service_in, service_sifted, sifted, withdrawn_so, requested_before}
 use Rattle.aom_sound.specs.Clients.{client_at, most_of, with_client}
 use Rattle.aom_sound.specs.Enlisted.{thing_kind}
 use Rattle.aom_sound.specs.Kept.{ClientsFit, EntryFits, QueueFits, asked_again, is_close_of, is_message_of}
 use Rattle.aom_sound.specs.Places.{Asked, Cell, Close_of, Connect_of, Elsewhere, Message_of, Object, Place, Queued, Sender, Service, Tidy, held, named, service_of, unserved, requested}
-use Rattle.aom_sound.specs.Servers.{asked_last, discarded, has_session, reserved, is_from, is_queue, is_server, left_by, seats_taken, stays, withdrawn}
+use Rattle.aom_sound.specs.Servers.{asked_last, discarded, reserved, is_from, is_queue, is_server, left_by, seats_taken, stays, withdrawn}
 
 -- ---- lists
 
@@ -56,9 +56,7 @@ none_but_close c (e ∷ es) none = go (stays c e) refl (is_close_of c e) refl no
     go :
         (b : Bool) → stays c e ≡ b → (x : Bool) → is_close_of c e ≡ x → (x || list_any (is_close_of c) es) ≡ false → (list_any (is_close_of c) es ≡ false → list_any (is_of c) (filter (stays c) es) ≡ false) →
         list_any (is_of c) (cond b (e ∷ filter (stays c) es) (filter (stays c) es)) ≡ false
-    go true s false at none rest = ap (λ y. y || list_any (is_of c) (filter (stays c) es)) (entry e s at) ∙ rest none
-    go false s false at none rest = rest none
-    go b s true at none rest = cc
+    go b s x at none rest = grind (arith, entry)
 
 -- so that what is left of a queue fits whatever it is at then
 pub queue_left :
@@ -214,18 +212,6 @@ module _ (p : Image) (clients : List Client) (cs : List Cell) (tidy : Tidy cs) (
 module _ (p : Image) (clients : List Client) (cs : List Cell) (fit : ClientsFit p clients cs) (o : Object) (lives : named cs o.name ≡ Some o) (serves : is_server p o.thing ≡ true)
     (listed : is_some (requested cs o.name) ≡ true) (c : ℕ) where
   pub fit_told : is_leaving o.name (client_at clients c) ≡ true → list_any (is_close_of c) (service_of cs o.name).queue ≡ false → ClientsFit p clients (reserved (asked_last (Close_of c)) o.name cs)
-  fit_told leaves new = record {
-    queues = by_server p cs o lives (asked_last (Close_of c)) (λ n v. QueueFits clients n v.queue) (queue_last clients o.name (Close_of c) (service_of cs o.name).queue leaves new (fit.queues o.name)) (λ n e. fit.queues n);
-    sessions = by_server p cs o lives (asked_last (Close_of c)) (λ n v. (d : ℕ) → has_session v d ≡ true → server_of (client_at clients d) ≡ Some n) (fit.sessions o.name) (λ n e. fit.sessions n);
-    listed = by_server p cs o lives (asked_last (Close_of c)) (λ n v. (d : ℕ) → server_of (client_at clients d) ≡ Some n → has_session v d ≡ true) (fit.listed o.name) (λ n e. fit.listed n);
-    servers = servers_then p cs o lives (asked_last (Close_of c)) serves clients fit;
-    names = names_then p cs o lives (asked_last (Close_of c)) serves clients fit;
-    senders = λ n d k. by_server p cs o lives (asked_last (Close_of c)) (λ n v. list_any (is_message_of d k) v.queue ≡ true → is_from d (service_of (reserved (asked_last (Close_of c)) o.name cs) k).sender ≡ true)
-        (λ h. senders k d (fit.senders o.name d k (sym (list_any-append (is_message_of d k) (service_of cs o.name).queue (Close_of c ∷ []) ∙ or-false (list_any (is_message_of d k) (service_of cs o.name).queue)) ∙ h)))
-        (λ n other h. senders k d (fit.senders n d k h)) n;
-    enlisted = enlisted_then p cs o lives (asked_last (Close_of c)) listed clients fit;
-    seats = seats_then p cs o lives (asked_last (Close_of c)) clients fit (let one = seats_asked (Close_of c) (service_of cs o.name) in let was = fit.seats o lives in omega (arith, one, was));
-  }
-    where
-      senders : (k d : ℕ) → is_from d (service_of cs k).sender ≡ true → is_from d (service_of (reserved (asked_last (Close_of c)) o.name cs) k).sender ≡ true
-      senders k d = by_server p cs o lives (asked_last (Close_of c)) (λ k v. is_from d (service_of cs k).sender ≡ true → is_from d v.sender ≡ true) (λ h. h) (λ n other h. h) k
+  fit_told leaves new =
+      fit_asked p clients cs fit o lives serves listed (Close_of c) leaves new (λ d m h. cc)
+      (let one = seats_asked (Close_of c) (service_of cs o.name) in let was = fit.seats o lives in omega (arith, one, was))

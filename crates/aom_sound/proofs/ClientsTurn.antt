@@ -9,7 +9,7 @@ use Rattle.aom_clients.specs.Table.{server_of}
 use Rattle.aom_clients.specs.declared.client.Client.{Client}
 use Rattle.aom_rules.specs.Typing.{Typing}
 use Rattle.aom_sound.proofs.ClientsCommand.{fit_commanded}
-use Rattle.aom_sound.proofs.ClientsFit.{by_server, seats_then, enlisted_then}
+use Rattle.aom_sound.proofs.ClientsFit.{senders_then, by_server, seats_then, enlisted_then}
 use Rattle.aom_sound.proofs.Maps.{held_moved, named_moved, requested_moved, requested_unnamed}
 use Rattle.aom_sound.proofs.Owners.{IsQueuedAt, in_queue, queued_lower}
 use Rattle.aom_sound.proofs.Services.{held_served, named_served, service_asked, service_bereaved, service_here, service_moved}
@@ -132,9 +132,8 @@ fit_taken p clients cs o lives listed e es queue fit = record {
   listed = by_server p cs o lives taken_first (λ n v. (d : ℕ) → server_of (client_at clients d) ≡ Some n → has_session v d ≡ true) (fit.listed o.name) (λ n other. fit.listed n);
   servers = λ x h plain. by_server p cs o lives taken_first (λ n v. ((service_of cs n).queue ≡ []) × ((service_of cs n).sessions ≡ []) → (v.queue ≡ []) × (v.sessions ≡ [])) (λ h. (ap rest h.0, h.1)) (λ n other h. h) x.name (fit.servers x (sym (named_served cs o.name (taken_first (service_of cs o.name)) x.name) ∙ h) plain);
   names = λ n m x h. fit.names n m x (sym (held_served cs o.name (taken_first (service_of cs o.name)) (Elsewhere (Queued n m))) ∙ h);
-  senders = λ n d m. by_server p cs o lives taken_first (λ n v. list_any (is_message_of d m) v.queue ≡ true → is_from d (service_of (reserved taken_first o.name cs) m).sender ≡ true)
-      (λ h. senders m d (fit.senders o.name d m (ap (λ q. list_any (is_message_of d m) q) queue ∙ or_right (is_message_of d m e) (list_any (is_message_of d m) es) (ap (λ q. list_any (is_message_of d m) (rest q)) (sym queue) ∙ h))))
-      (λ n other h. senders m d (fit.senders n d m h)) n;
+  senders = senders_then p cs o lives taken_first clients fit (λ d h. h)
+      (λ d m h. fit.senders o.name d m (ap (λ q. list_any (is_message_of d m) q) queue ∙ or_right (is_message_of d m e) (list_any (is_message_of d m) es) (ap (λ q. list_any (is_message_of d m) (rest q)) (sym queue) ∙ h)));
   enlisted = enlisted_then p cs o lives taken_first listed clients fit;
   seats = seats_then p cs o lives taken_first clients fit (let less = seats_rest (service_of cs o.name) in let was = fit.seats o lives in omega (arith, less, was));
 }
@@ -142,9 +141,6 @@ fit_taken p clients cs o lives listed e es queue fit = record {
     or_right : (b x : Bool) → x ≡ true → (b || x) ≡ true
     or_right true x h = refl
     or_right false x h = h
-
-    senders : (m d : ℕ) → is_from d (service_of cs m).sender ≡ true → is_from d (service_of (reserved taken_first o.name cs) m).sender ≡ true
-    senders m d = by_server p cs o lives taken_first (λ m v. is_from d (service_of cs m).sender ≡ true → is_from d v.sender ≡ true) (λ h. h) (λ n other h. h) m
 
 -- ---- tasks
 

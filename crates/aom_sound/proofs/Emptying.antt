@@ -42,8 +42,7 @@ none_first cs n (d ∷ ss) e c among = go (held cs (Elsewhere (Session n d))) re
     go :
         (o : Option Object) → held cs (Elsewhere (Session n d)) ≡ o → seat_or o (Elsewhere (Session n d)) (first_session cs n ss) ≡ None →
         (first_session cs n ss ≡ None → is_among c ss ≡ true → held cs (Elsewhere (Session n c)) ≡ None) → held cs (Elsewhere (Session n c)) ≡ None
-    go None there e later = here (d == c) refl among there e later
-    go (Some o) there e later = cc
+    go o there e later = grind (arith, here)
 
 record Found (cs : List Cell) (n : ℕ) (ss : List ℕ) (x : Seat) : Type 0 where
   client : ℕ
