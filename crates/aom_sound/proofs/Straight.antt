@@ -13,7 +13,6 @@ use Rattle.aom_shape.specs.Shape.{Shape}
 use Rattle.aom_shape.specs.Tables.{at, put_at}
 use Rattle.aom_shape.specs.Things.{field_thing, holder_of}
 use Rattle.aom_rules.specs.Typing.{AllLead, Leads, Typing}
-use Rattle.aom_shape.specs.declared.kind.Age.TheVariants.{Ready}
 use Rattle.aom_shape.specs.declared.kind.Filling.{Filling}
 use Rattle.aom_shape.specs.declared.kind.Kind.{Kind}
 use Rattle.aom_shape.specs.declared.kind.Kind.TheVariants.{Maybe, Null, Own, Unset}
