@@ -27,6 +27,17 @@ use Rattle.aom_transcript.specs.declared.event.Command.TheVariants.{Close, Conne
 
 -- ---- what stands where clients are
 
+-- a message as its client sends it to a server
+abbrev pub sent_message : ℕ → ℕ → List ℤ → ℕ → Cell
+sent_message c name words server = record {
+  object = record { name = name; thing = Message };
+  words = words;
+  request = None;
+  session = false;
+  service = record unserved { sender = Some (record { client = c; holds_slot = true; is_told = true }) };
+  owner = Elsewhere (Queued server name);
+}
+
 -- no client has a message of that name there, so that none waits
 pub none_named : (m : ℕ) (es : List Asked) → ((d : ℕ) → list_any (is_message_of d m) es ≡ false) → list_any (λ e. is_message m e) es ≡ false
 none_named m [] none = refl
@@ -103,14 +114,7 @@ module _ (p : Image) (c : ℕ) (s : State) (tidy : Tidy s.cells) (fit : ClientsF
       subst (λ l. ClientsFit p s.clients l) same (subst (λ n. ClientsFit p s.clients (reserved (asked_last (Message_of c name)) n (message ∷ s.cells))) there.1 sent)
     where
       message : Cell
-      message = record {
-        object = record { name = name; thing = Message };
-        words = words;
-        request = None;
-        session = false;
-        service = record unserved { sender = Some (record { client = c; holds_slot = true; is_told = true }) };
-        owner = Elsewhere (Queued server name);
-      }
+      message = sent_message c name words server
 
       there : (o : Object) × (o.name ≡ server) × (named s.cells o.name ≡ Some o) × (is_server p o.thing ≡ true)
       there = server_there server (fit.listed server c (ap server_of at))
