@@ -27,6 +27,17 @@ use Rattle.aom_transcript.specs.declared.event.Command.TheVariants.{Close, Conne
 
 -- ---- what stands where clients are
 
+-- a message as its client sends it to a server
+abbrev pub sent_message : ℕ → ℕ → List ℤ → ℕ → Cell
+sent_message c name words server = record {
+  object = record { name = name; thing = Message };
+  words = words;
+  request = None;
+  session = false;
+  service = record unserved { sender = Some (record { client = c; holds_slot = true; is_told = true }) };
+  owner = Elsewhere (Queued server name);
+}
+
 -- no client has a message of that name there, so that none waits
 pub none_named : (m : ℕ) (es : List Asked) → ((d : ℕ) → list_any (is_message_of d m) es ≡ false) → list_any (λ e. is_message m e) es ≡ false
 none_named m [] none = refl
@@ -36,17 +47,6 @@ none_named m (Message_of c k ∷ es) none =
     let own = (or_parts ((c == c) && (k == m)) (list_any (is_message_of c m) es) (none c)).0 in
     ap (λ b. b || list_any (λ e. is_message m e) es) (sym (ap (λ b. b && (k == m)) (eq-eqb c c refl)) ∙ own)
     ∙ none_named m es (λ d. (or_parts ((c == d) && (k == m)) (list_any (is_message_of d m) es) (none d)).1)
-
--- the cell of a message that a client sends to the server of that name
-abbrev pub message_cell : (client name : ℕ) → List ℤ → (server : ℕ) → Cell
-message_cell client name words server = record {
-  object = record { name = name; thing = Message };
-  words = words;
-  request = None;
-  session = false;
-  service = record unserved { sender = Some (record { client = client; holds_slot = true; is_told = true }) };
-  owner = Elsewhere (Queued server name);
-}
 
 module _ (p : Image) (c : ℕ) (s : State) (tidy : Tidy s.cells) (fit : ClientsFit p s.clients s.cells) where
   abbrev own : Client
@@ -114,7 +114,7 @@ module _ (p : Image) (c : ℕ) (s : State) (tidy : Tidy s.cells) (fit : ClientsF
       subst (λ l. ClientsFit p s.clients l) same (subst (λ n. ClientsFit p s.clients (reserved (asked_last (Message_of c name)) n (message ∷ s.cells))) there.1 sent)
     where
       message : Cell
-      message = message_cell c name words server
+      message = sent_message c name words server
 
       there : (o : Object) × (o.name ≡ server) × (named s.cells o.name ≡ Some o) × (is_server p o.thing ≡ true)
       there = server_there server (fit.listed server c (ap server_of at))

@@ -16,7 +16,7 @@ use Rattle.aom_sound.proofs.Sifted.{a_cell_of, cell_in, cell_lives, cell_name, c
 use Rattle.aom_sound.proofs.Unslotting.{each_unslotted_alike, service_unslotted}
 use Rattle.aom_sound.specs.Clients.{client_at, each_unslotted, queue_ended, sessions_ended, with_client, most_of}
 use Rattle.aom_sound.specs.Kept.{ClientsFit, EntryFits, QueueFits, ConnectKept, StageKept, is_close_of, is_connect_of, is_message_of}
-use Rattle.aom_sound.specs.Places.{Asked, Cell, Close_of, Connect_of, Elsewhere, Message_of, Object, Place, Queued, Sender, Tidy, held, named, same_place, service_of, unserved, without, requested}
+use Rattle.aom_sound.specs.Places.{Asked, Cell, Service, Close_of, Connect_of, Elsewhere, Message_of, Object, Place, Queued, Sender, Tidy, held, named, same_place, service_of, unserved, without, requested}
 use Rattle.aom_sound.specs.State.{Accept_left, Accepted, Accepts, Parts, Service_left, Serves, Stage}
 use Rattle.aom_sound.specs.Servers.{all_unslotted, has_session, is_from, is_queue_of, is_server, unslotted, without_queue, seats_taken}
 use Rattle.aom_sound.specs.Enlisted.{thing_kind}
@@ -63,6 +63,17 @@ open_server n x e = grind arith
 -- who has a session, or may have one, connects to nobody
 has_server : (k n : ℕ) (x : Client) → server_of x ≡ Some n → is_connecting_at k x ≡ false
 has_server k n x e = grind arith
+
+-- what is held of the cells that are left was held before
+pub held_before : (drops : Cell → Bool) (left : Cell → Service) (cs : List Cell) (q : Place) (x : Object) → Tidy cs → held (sifted drops left cs) q ≡ Some x → held cs q ≡ Some x
+held_before drops left cs q x tidy h = go (cell_in cs q) refl h
+  where
+    unless_some : (b : Bool) (y : Option Object) → cond b None y ≡ Some x → y ≡ Some x
+    unless_some b y h = grind arith
+
+    go : (y : Option Cell) → cell_in cs q ≡ y → held (sifted drops left cs) q ≡ Some x → held cs q ≡ Some x
+    go None e h = let clash : None ≡ Some x = sym (unheld_sifted drops left cs q tidy (held_cell cs q ∙ ap object_in e)) ∙ h in cc
+    go (Some y) e h = held_cell cs q ∙ ap object_in e ∙ unless_some (drops y) (Some y.object) (sym (held_sifted drops left cs q tidy y e) ∙ h)
 
 -- ---- the cells
 
@@ -270,15 +281,7 @@ module _
       go false e = let none = fit.servers x was plain in ((service_left x.name e).0 ∙ none.0, (service_left x.name e).1 ∙ none.1)
 
   names_left : (n m : ℕ) (x : Object) → held left (Elsewhere (Queued n m)) ≡ Some x → x.name ≡ m
-  names_left n m x h = go (cell_in cs (Elsewhere (Queued n m))) refl h
-    where
-      at : (y : Cell) → cell_in cs (Elsewhere (Queued n m)) ≡ Some y → (b : Bool) → cond b None (Some y.object) ≡ Some x → x.name ≡ m
-      at y e true h = cc
-      at y e false h = let same : y.object ≡ x = cc in fit.names n m x (held_cell cs (Elsewhere (Queued n m)) ∙ ap object_in e ∙ ap (λ z. Some z) same)
-
-      go : (y : Option Cell) → cell_in cs (Elsewhere (Queued n m)) ≡ y → held left (Elsewhere (Queued n m)) ≡ Some x → x.name ≡ m
-      go None e h = let clash : None ≡ Some x = sym (unheld_sifted drops (λ c. c.service) cs (Elsewhere (Queued n m)) tidy (held_cell cs (Elsewhere (Queued n m)) ∙ ap object_in e)) ∙ h in cc
-      go (Some y) e h = at y e (drops y) (sym (held_sifted drops (λ c. c.service) cs (Elsewhere (Queued n m)) tidy y e) ∙ h)
+  names_left n m x h = fit.names n m x (held_before drops (λ c. c.service) cs (Elsewhere (Queued n m)) x tidy h)
 
   fit_left : ClientsFit p then left
   fit_left = record {

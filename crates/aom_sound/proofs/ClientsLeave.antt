@@ -8,11 +8,12 @@ use Rattle.aom_image.specs.Image.{Image}
 use Rattle.aom_clients.specs.Nodes.{is_leaving}
 use Rattle.aom_clients.specs.Table.{server_of}
 use Rattle.aom_clients.specs.declared.client.Client.{Client}
+use Rattle.aom_sound.proofs.ClientsGone.{held_before}
 use Rattle.aom_sound.proofs.ClientsAsk.{fit_asked}
 use Rattle.aom_sound.proofs.ClientsFit.{fit_changed}
 use Rattle.aom_sound.proofs.Queues.{client_here, client_of, entry_other, is_of, none_stays, queue_other, queue_stays}
 use Rattle.aom_sound.proofs.Seated.{seats_asked, seats_left}
-use Rattle.aom_sound.proofs.Sifted.{cell_in, cell_of_sifted, kept, unheld_sifted, cell_lives, cell_of, cell_placed, held_cell, held_sifted, named_before, named_cell, object_in, service_cell, service_gone, service_in, service_sifted, sifted, withdrawn_so, requested_before}
+use Rattle.aom_sound.proofs.Sifted.{cell_of_sifted, kept, cell_lives, cell_of, cell_placed, held_cell, named_before, named_cell, object_in, service_cell, service_gone, service_in, service_sifted, sifted, withdrawn_so, requested_before}
 use Rattle.aom_sound.specs.Clients.{client_at, most_of, with_client}
 use Rattle.aom_sound.specs.Enlisted.{thing_kind}
 use Rattle.aom_sound.specs.Kept.{ClientsFit, EntryFits, QueueFits, asked_again, is_close_of, is_message_of}
@@ -197,15 +198,7 @@ module _ (p : Image) (clients : List Client) (cs : List Cell) (tidy : Tidy cs) (
             ((service_left o.name).0 ∙ ap (λ q. filter (stays c) q) none.0, (service_left o.name).1 ∙ none.1)
 
         names : (n m : ℕ) (o : Object) → held (withdrawn c cs) (Elsewhere (Queued n m)) ≡ Some o → o.name ≡ m
-        names n m o h = go (cell_in cs (Elsewhere (Queued n m))) refl (ap (λ l. held l (Elsewhere (Queued n m))) (sym (withdrawn_so c cs)) ∙ h)
-          where
-            at : (x : Cell) → cell_in cs (Elsewhere (Queued n m)) ≡ Some x → (b : Bool) → cond b None (Some x.object) ≡ Some o → o.name ≡ m
-            at x e true h = cc
-            at x e false h = let same : x.object ≡ o = cc in fit.names n m o (held_cell cs (Elsewhere (Queued n m)) ∙ ap object_in e ∙ ap (λ y. Some y) same)
-
-            go : (x : Option Cell) → cell_in cs (Elsewhere (Queued n m)) ≡ x → held (sifted drops left cs) (Elsewhere (Queued n m)) ≡ Some o → o.name ≡ m
-            go None e h = let clash : None ≡ Some o = sym (unheld_sifted drops left cs (Elsewhere (Queued n m)) tidy (held_cell cs (Elsewhere (Queued n m)) ∙ ap object_in e)) ∙ h in cc
-            go (Some x) e h = at x e (drops x) (sym (held_sifted drops left cs (Elsewhere (Queued n m)) tidy x e) ∙ h)
+        names n m o h = fit.names n m o (held_before drops left cs (Elsewhere (Queued n m)) o tidy (ap (λ l. held l (Elsewhere (Queued n m))) (sym (withdrawn_so c cs)) ∙ h))
 
 -- ---- a close is asked last
 

@@ -289,10 +289,7 @@ module _ (p : Image) (t : Typing) (s : State) (o : Object) (ls : List Layer) (go
   waits_sent x e = grind arith
 
   waits_messages : (r : Place) (x : Object) → is_queue_of o.name r ≡ true → held s.cells r ≡ Some x → x.thing ≡ Message
-  waits_messages (Elsewhere (Queued n m)) x e there =
-      waits_message p (seen s.cells) x (has_message (service_of s.cells n) m) (named s.cells n)
-      (subst (λ k. Fits p (seen s.cells) (Some x) k) (queued_claim p (declared p s.cells) (Dying o ∷ ls) n m) (subst (λ y. Fits p (seen s.cells) y (claim p (declared p s.cells) (Dying o ∷ ls) (Elsewhere (Queued n m)))) there (good.fits (Elsewhere (Queued n m)))))
-  waits_messages _ x e there = cc
+  waits_messages r x e there = grind (arith, waits_message, queued_claim)
 
   abbrev less : List Cell
   less = dropped waits s.cells
