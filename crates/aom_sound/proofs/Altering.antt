@@ -6,7 +6,7 @@ use Rattle.aom_shape.specs.Kinds.{is_object}
 use Rattle.aom_shape.specs.Tables.{put_at}
 use Rattle.aom_image.specs.Image.{Image}
 use Rattle.aom_sound.specs.Natives.{all_bereaved, bereaved}
-use Rattle.aom_sound.specs.Places.{Cell, Object, Place, Request, Service, Tidy, count_cells, held, in_session, moved, named, requested, same_place, service_of, set_request, set_service, set_session, set_word_field}
+use Rattle.aom_sound.specs.Places.{Cell, Object, Place, Request, Service, Tidy, count_cells, held, moved, named, requested, same_place, service_of, set_request, set_service, set_session, set_word_field}
 use Rattle.aom_sound.specs.Servers.{all_unslotted, unslotted}
 
 -- each cell is changed by itself, and stays that of its object
@@ -53,9 +53,6 @@ requests = record { of = λ c. c.request; first = λ c cs n. refl }
 abbrev pub services : Reads service_of
 services = record { of = λ c. c.service; first = λ c cs n. refl }
 
-abbrev pub opens : Reads in_session
-opens = record { of = λ c. c.session; first = λ c cs n. refl }
-
 -- ---- what is read after a change
 
 module _ {change : List Cell → List Cell} (a : Alters change) where
@@ -70,7 +67,9 @@ module _ {change : List Cell → List Cell} (a : Alters change) where
         ∙ go (c.object.name == n) refl (λ so nothing. read_so n becomes cs so nothing) so nothing ∙ sym (ap becomes (r.first c cs n))
       where
         go :
-            (b : Bool) → (c.object.name == n) ≡ b → (((d : Cell) → (d.object.name == n) ≡ true → named cs n ≡ Some d.object → r.of (a.each d) ≡ becomes (r.of d)) → (named cs n ≡ None → read [] n ≡ becomes (read [] n)) → read (change cs) n ≡ becomes (read cs n)) →
+            (b : Bool) → (c.object.name == n) ≡ b →
+            (((d : Cell) → (d.object.name == n) ≡ true → named cs n ≡ Some d.object → r.of (a.each d) ≡ becomes (r.of d)) →
+            (named cs n ≡ None → read [] n ≡ becomes (read [] n)) → read (change cs) n ≡ becomes (read cs n)) →
             ((d : Cell) → (d.object.name == n) ≡ true → cond b (Some c.object) (named cs n) ≡ Some d.object → r.of (a.each d) ≡ becomes (r.of d)) →
             (cond b (Some c.object) (named cs n) ≡ None → read [] n ≡ becomes (read [] n)) →
             cond b (r.of (a.each c)) (read (change cs) n) ≡ becomes (cond b (r.of c) (read cs n))

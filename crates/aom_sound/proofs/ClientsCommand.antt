@@ -1,6 +1,6 @@
 -- What a client's command comes to is kept: it connects, sends, closes or dies, or nothing comes of it.
 use Rattle.std.proofs.Common.{[], Bool, List, None, Option, Some, ap, cond, false, refl, subst, sym, true, ℕ, ℤ, ◌&&◌, ◌==◌, ◌∙◌, ◌∷◌, ◌≡◌, arith}
-use Rattle.std.proofs.lemmas.Bool.{eq-eqb, ne_eqb, true≢false}
+use Rattle.std.proofs.lemmas.Bool.{eq-eqb, ne_eqb, true≢false, or_parts}
 use Rattle.std.specs.List.{list_any}
 use Rattle.std.specs.Prelude.{nat_lt, ◌||◌, is_some}
 use Rattle.aom_image.specs.Image.{Image}
@@ -14,7 +14,7 @@ use Rattle.aom_roles.specs.Shapes.{kind_of}
 use Rattle.aom_sound.proofs.ClientsAsk.{asked_none, connects_free, fit_connecting, fit_sent, fit_with, listed_room, listed_serves, asked_there}
 use Rattle.aom_sound.proofs.ClientsLeave.{empty, fit_told, fit_withdrawn, queue_leaving, queue_left, service_left}
 use Rattle.aom_sound.proofs.Maps.{named_name}
-use Rattle.aom_sound.proofs.Queues.{client_here, front_none, none_passes, none_stays}
+use Rattle.aom_sound.proofs.Queues.{client_here, none_passes, none_stays}
 use Rattle.aom_sound.proofs.Services.{service_unnamed}
 use Rattle.aom_sound.proofs.Sifted.{a_cell_of, cell_of, named_cell, named_sifted, service_cell, service_in, withdrawn_so, requested_before}
 use Rattle.aom_sound.specs.Clients.{asked_server, Listed, asked_of, client_at, commanded, connecting, leaving, most_of, refusal, sending, told, with_client, with_message}
@@ -27,26 +27,26 @@ use Rattle.aom_transcript.specs.declared.event.Command.TheVariants.{Close, Conne
 
 -- ---- what stands where clients are
 
--- a message as its client sends it to a server
-abbrev pub sent_message : ℕ → ℕ → List ℤ → ℕ → Cell
-sent_message c name words server = record {
-  object = record { name = name; thing = Message };
-  words = words;
-  request = None;
-  session = false;
-  service = record unserved { sender = Some (record { client = c; holds_slot = true; is_told = true }) };
-  owner = Elsewhere (Queued server name);
-}
-
 -- no client has a message of that name there, so that none waits
 pub none_named : (m : ℕ) (es : List Asked) → ((d : ℕ) → list_any (is_message_of d m) es ≡ false) → list_any (λ e. is_message m e) es ≡ false
 none_named m [] none = refl
 none_named m (Connect_of c ∷ es) none = none_named m es none
 none_named m (Close_of c ∷ es) none = none_named m es none
 none_named m (Message_of c k ∷ es) none =
-    let own = (front_none ((c == c) && (k == m)) (list_any (is_message_of c m) es) (none c)).0 in
+    let own = (or_parts ((c == c) && (k == m)) (list_any (is_message_of c m) es) (none c)).0 in
     ap (λ b. b || list_any (λ e. is_message m e) es) (sym (ap (λ b. b && (k == m)) (eq-eqb c c refl)) ∙ own)
-    ∙ none_named m es (λ d. (front_none ((c == d) && (k == m)) (list_any (is_message_of d m) es) (none d)).1)
+    ∙ none_named m es (λ d. (or_parts ((c == d) && (k == m)) (list_any (is_message_of d m) es) (none d)).1)
+
+-- the cell of a message that a client sends to the server of that name
+abbrev pub message_cell : (client name : ℕ) → List ℤ → (server : ℕ) → Cell
+message_cell client name words server = record {
+  object = record { name = name; thing = Message };
+  words = words;
+  request = None;
+  session = false;
+  service = record unserved { sender = Some (record { client = client; holds_slot = true; is_told = true }) };
+  owner = Elsewhere (Queued server name);
+}
 
 module _ (p : Image) (c : ℕ) (s : State) (tidy : Tidy s.cells) (fit : ClientsFit p s.clients s.cells) where
   abbrev own : Client
@@ -114,7 +114,7 @@ module _ (p : Image) (c : ℕ) (s : State) (tidy : Tidy s.cells) (fit : ClientsF
       subst (λ l. ClientsFit p s.clients l) same (subst (λ n. ClientsFit p s.clients (reserved (asked_last (Message_of c name)) n (message ∷ s.cells))) there.1 sent)
     where
       message : Cell
-      message = sent_message c name words server
+      message = message_cell c name words server
 
       there : (o : Object) × (o.name ≡ server) × (named s.cells o.name ≡ Some o) × (is_server p o.thing ≡ true)
       there = server_there server (fit.listed server c (ap server_of at))

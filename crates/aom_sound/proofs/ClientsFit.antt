@@ -1,7 +1,7 @@
 -- Clients and what they have at servers say the same where one client is at something else: by its entries, its session, and those of all others.
 use Rattle.std.proofs.Math.Bool.{or-false, or-true}
 use Rattle.std.proofs.Common.{[], Bool, List, None, Some, ap, arith, false, refl, subst, sym, true, ℕ, ◌<◌, ◌==◌, ◌∙◌, ◌∷◌, ◌≡◌, ◌≤◌}
-use Rattle.std.proofs.lemmas.Bool.{eq-eqb, eqb-true, ne_eqb, true≢false}
+use Rattle.std.proofs.lemmas.Bool.{eq-eqb, eqb-true, ne_eqb, true≢false, or_parts}
 use Rattle.std.proofs.lemmas.List.Folds.{list_any-append}
 use Rattle.std.proofs.lemmas.Map.Views.{any-filter_same}
 use Rattle.std.specs.List.{list_any}
@@ -10,7 +10,7 @@ use Rattle.aom_image.specs.Image.{Image}
 use Rattle.aom_clients.specs.Nodes.{is_connecting_at, is_leaving, is_open_at}
 use Rattle.aom_clients.specs.Table.{server_of}
 use Rattle.aom_clients.specs.declared.client.Client.{Client}
-use Rattle.aom_sound.proofs.Queues.{client_here, client_of, client_there, front_none, is_of, none_passes, queue_other}
+use Rattle.aom_sound.proofs.Queues.{client_here, client_of, client_there, is_of, none_passes, queue_other}
 use Rattle.aom_sound.proofs.Seated.{seats_opened, seats_parted}
 use Rattle.aom_sound.proofs.Services.{held_served, named_served, service_here, service_there, requested_served}
 use Rattle.aom_sound.specs.Clients.{at_opening, at_parting, client_at, most_of, with_client}
@@ -46,10 +46,10 @@ module _ (clients : List Client) (c n : ℕ) where
       (own : Asked → Bool) → ((e : Asked) → c ≡ client_of e → EntryFits clients n e → own e ≡ true) → (es : List Asked) → QueueFits clients n es → list_any own es ≡ false →
       list_any (is_of c) es ≡ false
   only_own own only [] fits none = refl
-  only_own own only (e ∷ es) fits none = go (is_of c e) refl (only_own own only es fits.1 (front_none (own e) (list_any own es) none).1)
+  only_own own only (e ∷ es) fits none = go (is_of c e) refl (only_own own only es fits.1 (or_parts (own e) (list_any own es) none).1)
     where
       go : (b : Bool) → is_of c e ≡ b → list_any (is_of c) es ≡ false → (is_of c e || list_any (is_of c) es) ≡ false
-      go true at rest = absurd (true≢false (sym (only e (eqb-true c (client_of e) at) fits.0.0) ∙ (front_none (own e) (list_any own es) none).0))
+      go true at rest = absurd (true≢false (sym (only e (eqb-true c (client_of e) at) fits.0.0) ∙ (or_parts (own e) (list_any own es) none).0))
       go false at rest = ap (λ b. b || list_any (is_of c) es) at ∙ rest
 
   -- of a client that is at no server

@@ -16,7 +16,7 @@ use Rattle.aom_sound.proofs.Sifted.{a_cell_of, cell_in, cell_lives, cell_name, c
 use Rattle.aom_sound.proofs.Unslotting.{each_unslotted_alike, service_unslotted}
 use Rattle.aom_sound.specs.Clients.{client_at, each_unslotted, queue_ended, sessions_ended, with_client, most_of}
 use Rattle.aom_sound.specs.Kept.{ClientsFit, EntryFits, QueueFits, ConnectKept, StageKept, is_close_of, is_connect_of, is_message_of}
-use Rattle.aom_sound.specs.Places.{Asked, Cell, Close_of, Connect_of, Elsewhere, Message_of, Object, Place, Queued, Sender, Service, Tidy, held, named, same_place, service_of, unserved, without, requested}
+use Rattle.aom_sound.specs.Places.{Asked, Cell, Close_of, Connect_of, Elsewhere, Message_of, Object, Place, Queued, Sender, Tidy, held, named, same_place, service_of, unserved, without, requested, Service}
 use Rattle.aom_sound.specs.State.{Accept_left, Accepted, Accepts, Parts, Service_left, Serves, Stage}
 use Rattle.aom_sound.specs.Servers.{all_unslotted, has_session, is_from, is_queue_of, is_server, unslotted, without_queue, seats_taken}
 use Rattle.aom_sound.specs.Enlisted.{thing_kind}
@@ -79,9 +79,6 @@ held_before drops left cs q x tidy h = go (cell_in cs q) refl h
 
 -- they lose no place and no queue where messages lose their slots
 module _ (p : Image) (clients : List Client) (c : ℕ) where
-  unslot : Cell → Service
-  unslot x = record x.service { sender = unslotted c x.service.sender }
-
   from_unslotted : (d : ℕ) (x : Option Sender) → is_from d x ≡ true → is_from d (unslotted c x) ≡ true
   from_unslotted d x h = grind arith
 

@@ -26,11 +26,11 @@ use Rattle.aom_sound.proofs.Going.{housed_without, stack_without}
 use Rattle.aom_sound.proofs.Maps.{same_place-true, same_place_comm}
 use Rattle.aom_sound.proofs.Picking.{own_held}
 use Rattle.aom_sound.proofs.Straight.{At, Fitted, Law, fitted, free_register, kind_fits, no_word, relocate, same_suits, settle, top, well, words_set}
-use Rattle.aom_sound.specs.Claims.{Dispatching, Layer, Mark, Method, claim, declared, delivered, home_claim, root_claim, serves, tasks_of}
+use Rattle.aom_sound.specs.Claims.{Layer, Method, claim, declared, delivered, home_claim, root_claim, serves, tasks_of}
 use Rattle.aom_sound.specs.Moves.{does}
 use Rattle.aom_sound.specs.Objects.{is_thing}
 use Rattle.aom_sound.specs.Places.{Cell, Elsewhere, Field, In_service, Object, Place, Root, Sight, changed, held, moved, same_place, seen, without}
-use Rattle.aom_sound.specs.State.{AtRoot, Choice, Frame, Home, Inside, Of_server, Seat, Serves, State, Static, next, set_word, word}
+use Rattle.aom_sound.specs.State.{AtRoot, Choice, Frame, Home, Inside, Seat, State, Static, next, set_word, word}
 use Rattle.aom_sound.specs.WellTyped.{AllSit, Back, Fits, IsBelow, IsHoused, IsServed, NoSeatAt, NoneFrom, Returns, SitsIn, Stack, WordFits}
 use Rattle.aom_instructions.specs.declared.instr.Instr.{Instr}
 
@@ -48,13 +48,11 @@ served_unseated cs (x ∷ xs) s = (apart x.place s.0.2, served_unseated cs xs s.
     apart q sits = grind arith
 
 served_outside : (p : Image) (t : Typing) (cs : List Cell) (ls : List Layer) (back : Back) → IsServed ls → Stack p t cs back ls → NoneFrom (Elsewhere In_service) ls
-served_outside p t cs (Mark gv ∷ Dispatching (Of_server x c (Serves o)) seats ∷ ls) back served s = (served_unseated cs seats s.1.2, subst (λ l. NoneFrom (Elsewhere In_service) l) (sym s.1.1) tt)
-served_outside p t cs _ back served s = absurd served
+served_outside p t cs ls back served s = grind (arith, served_unseated)
 
 served_elsewhere :
     (p : Image) (cs : List Cell) (ls : List Layer) (home : Home) → IsHoused p cs ls home → (o : Object) (from : Place) → home ≡ Inside o from → same_place (Elsewhere In_service) from ≡ false
-served_elsewhere p cs ls (Inside x q) h o from e = let same : q ≡ from = cc in served_apart from ls (subst (λ r. IsBelow r ls) same h.below)
-served_elsewhere p cs ls _ h o from e = cc
+served_elsewhere p cs ls home h o from e = let housed : IsHoused p cs ls (Inside o from) = subst (λ k. IsHoused p cs ls k) e h in served_apart from ls housed.below
 
 -- once it is taken no claim of it is left
 claim_taken :

@@ -8,7 +8,7 @@ use Rattle.aom_clients.specs.declared.client.Client.TheVariants.{Open}
 use Rattle.aom_clients.specs.declared.refusal.Refusal.{Refusal}
 use Rattle.aom_rules.specs.Typing.{Typing}
 use Rattle.aom_sound.proofs.ClientsAsk.{asked_there}
-use Rattle.aom_sound.proofs.ClientsCommand.{sent_message, nobody, none_named, server_stays, server_there}
+use Rattle.aom_sound.proofs.ClientsCommand.{message_cell, nobody, none_named, server_stays, server_there}
 use Rattle.aom_sound.proofs.Commanding.{good_asked}
 use Rattle.aom_sound.proofs.Owners.{IsQueuedAt, in_queue, queued_lower}
 use Rattle.aom_sound.proofs.Sending.{good_sent}
@@ -67,7 +67,7 @@ module _ (p : Image) (t : Typing) (wired : IsWired p) (s : State) (w : WellTyped
       (good_sent p t s.cells good there.0 there.2 there.3 c name free (the_message there.0.name) refl refl refl refl refl (none_named name (service_of s.cells there.0.name).queue (nobody p c s good.tidy fit there.0.name name free))))
     where
       the_message : ℕ → Cell
-      the_message = sent_message c name words
+      the_message n = message_cell c name words n
 
       sent : ℕ → List Cell
       sent n = the_message n ∷ reserved (asked_last (Message_of c name)) n s.cells

@@ -1,6 +1,6 @@
 -- A server is picked: its `accept` or the `service` of a session enters over the dispatch.
 use Rattle.std.proofs.Common.{Bool, List, None, Option, Some, [], ap, arith, cond, false, inl, inr, length, refl, subst, suc, sym, true, ℕ, ℤ, ◌&&◌, ◌<◌, ◌==◌, ◌∙◌, ◌∷◌, ◌≡◌}
-use Rattle.std.proofs.lemmas.Bool.{eq-eqb, eqb-true, true≢false}
+use Rattle.std.proofs.lemmas.Bool.{eq-eqb, eqb-true, true≢false, and_parts}
 use Rattle.std.specs.List.{list_any}
 use Rattle.std.specs.Prelude.{is_some, map, replicate, ◌||◌}
 use Rattle.aom_image.specs.Image.{Image}
@@ -35,15 +35,15 @@ use Rattle.aom_sound.proofs.Entering.{Entering, enters}
 use Rattle.aom_sound.proofs.Maps.{held_lives, held_moved, named_moved, requested_moved, tidy_moved, transfer}
 use Rattle.aom_sound.proofs.Owners.{rank}
 use Rattle.aom_sound.proofs.Services.{held_served, named_served, requested_served, service_here, service_moved, tidy_served}
-use Rattle.aom_sound.proofs.Signals.{at_rest}
+use Rattle.aom_sound.proofs.Signals.{at_rest, items_at_rest}
 use Rattle.aom_sound.proofs.Straight.{fits_unowning}
-use Rattle.aom_sound.proofs.Things.{stands_same}
-use Rattle.aom_sound.specs.Claims.{Dispatching, Layer, Mark, claim, declared, declared_field, forms, items_of, serves}
+use Rattle.aom_sound.proofs.Things.{serving_class, stands_same}
+use Rattle.aom_sound.specs.Claims.{Dispatching, Layer, Mark, claim, declared, declared_field, forms, serves}
 use Rattle.aom_sound.specs.Clients.{client_at}
 use Rattle.aom_sound.specs.Enlisted.{part_of}
 use Rattle.aom_sound.specs.Kept.{ClientsFit, QueueFits}
 use Rattle.aom_sound.specs.Laws.{IsAcceptor, IsAttendant, IsWired}
-use Rattle.aom_sound.specs.Places.{Asked, Cell, Connect_of, Elsewhere, Field, In_service, Message_of, Object, Place, Queued, Request, Root, Session, Sight, Tidy, held, moved, named, requested, seen, service_of, word_field}
+use Rattle.aom_sound.specs.Places.{Asked, Cell, Connect_of, Elsewhere, Field, In_service, Message_of, Object, Place, Queued, Request, Session, Sight, Tidy, held, moved, named, requested, seen, service_of, word_field}
 use Rattle.aom_sound.specs.Requests.{Known, Suits, resting_in, rests_in, thing_kind}
 use Rattle.aom_sound.specs.Servers.{has_message, has_session, is_message, is_server, of_class, session_class, message_thing, reserved, rest_of, session_thing, taken_first}
 use Rattle.aom_sound.specs.State.{A_mark, Accepts, Inside, Of_server, Serves, Seat, State, frame_of, thing_holder}
@@ -63,15 +63,6 @@ sits_same cs cs' places names (x ∷ xs) s = ((places x.place ∙ s.0.0, names x
 pub suits_serving : (k : Option ClassKind) (r : Request) → is_some (sessions_in k) ≡ true → Suits k (resting_in (states_of k)) (Some r) → Suits k (resting_in idle) (Some r)
 unfolding sessions_in sessions_of states_of
 suits_serving k r e s = grind arith
-
--- its class
-pub serving_class : (p : Image) (x : Thing) → is_server p x ≡ true → (c k : ℕ) × (x ≡ An_object_of c) × (sessions_at p c ≡ Some k)
-unfolding kind_of sessions_in
-serving_class p (An_object_of c) e = go (sessions_at p c) refl e
-  where
-    go : (k : Option ℕ) → sessions_at p c ≡ k → is_some k ≡ true → (d k : ℕ) × (An_object_of c ≡ An_object_of d) × (sessions_at p d ≡ Some k)
-    go k at e = grind arith
-serving_class p Message e = cc
 
 -- a session is not enlisted
 pub suits_session :
@@ -103,11 +94,7 @@ module _ (p : Image) (t : Typing) (wired : IsWired p) (typed : IsTyped p t) (s :
   good = subst (λ ls. Good p t s.cells ls) (at_rest p t s w idle_now) w.good
 
   pub no_items : s.items ≡ []
-  no_items = go s.items (w.items ∙ ap items_of (at_rest p t s w idle_now))
-    where
-      go : (is : List _) → forms is ≡ [] → is ≡ []
-      go [] e = refl
-      go (i ∷ is) e = cc
+  no_items = items_at_rest p t s w idle_now
 
   pub its_class : (c k : ℕ) × (x.object.thing ≡ An_object_of c) × (sessions_at p c ≡ Some k)
   its_class = serving_class p x.object.thing server
@@ -328,11 +315,6 @@ module _ (p : Image) (t : Typing) (wired : IsWired p) (typed : IsTyped p t) (s :
         subst (λ y. Fits p (seen served) y (Own Message Ready)) (sym (held_served_so (Elsewhere In_service) ∙ held_now (Elsewhere (Queued n m)) ∙ its_message.1)) (its_message.2, tt)
     fits_served (Elsewhere (Queued i j)) = go ((n == i) && (m == j)) refl
       where
-        both : (a b : Bool) → (a && b) ≡ true → (a ≡ true) × (b ≡ true)
-        both true true e = (refl, refl)
-        both true false e = cc
-        both false b e = cc
-
         now : held served (Elsewhere (Queued i j)) ≡ cond ((n == i) && (m == j)) None (held cs (Elsewhere (Queued i j)))
         now = held_served_so (Elsewhere (Queued i j))
 
@@ -341,7 +323,7 @@ module _ (p : Image) (t : Typing) (wired : IsWired p) (typed : IsTyped p t) (s :
 
         go : (b : Bool) → ((n == i) && (m == j)) ≡ b → Fits p (seen served) (held served (Elsewhere (Queued i j))) (declared p served (Elsewhere (Queued i j)))
         go true e =
-            let parts = both (n == i) (m == j) e in
+            let parts = and_parts (n == i) (m == j) e in
             let none : has_message (service_of cs i) j ≡ false =
             ap (λ k. has_message (service_of cs k) j) (sym (eqb-true n i parts.0)) ∙ ap (λ k. has_message (service_of cs n) k) (sym (eqb-true m j parts.1)) ∙ none_twice in
             subst (λ y. Fits p (seen served) y (declared p served (Elsewhere (Queued i j)))) (sym (now ∙ ap (λ b. cond b None (held cs (Elsewhere (Queued i j)))) e))
@@ -361,11 +343,11 @@ module _ (p : Image) (t : Typing) (wired : IsWired p) (typed : IsTyped p t) (s :
     sits_served [] h = tt
     sits_served (y ∷ ys) h = ((place y.place h.0.2 ∙ h.0.0, named_moved cs (Elsewhere (Queued n m)) (Elsewhere In_service) y.object.name ∙ h.0.1, h.0.2, h.0.3), sits_served ys h.1)
       where
+        unchanged : (q : Place) → SitsIn q ys → transfer (Elsewhere (Queued n m)) (Elsewhere In_service) (held cs) q ≡ held cs q
+        unchanged q e = grind arith
+
         place : (q : Place) → SitsIn q ys → held served q ≡ held cs q
-        place (Field i f) e = held_served_so (Field i f)
-        place (Elsewhere Root) e = held_served_so (Elsewhere Root)
-        place (Elsewhere (Session i c)) e = held_served_so (Elsewhere (Session i c))
-        place _ e = absurd e
+        place q e = held_served_so q ∙ unchanged q e
 
     suits_served : (y : Object) → named served y.name ≡ Some y → Suits (thing_kind p y.thing) (resting_in (rests_in p y)) (requested served y.name)
     suits_served y there = subst (λ k. Suits (thing_kind p y.thing) (resting_in (rests_in p y)) k) (sym (requested_served_so y.name)) (good.suits y (sym (named_served_so y.name) ∙ there))

@@ -3,6 +3,7 @@ use Rattle.std.proofs.Common.{Bool, arith, IsTrue, List, None, Option, Some, [],
 use Rattle.std.proofs.lemmas.Bool.{eq-eqb, eqb-true, true≢false}
 use Rattle.std.proofs.lemmas.Nat.{and_assoc}
 use Rattle.std.specs.Prelude.{bit_and, bit_or, is_none, is_some, not}
+use Rattle.aom_image.proofs.Given.{some_given}
 use Rattle.aom_image.specs.Image.{Image}
 use Rattle.aom_image.specs.Views.{has, method_class, method_role}
 use Rattle.aom_image.specs.declared.class.ClassKind.{ClassKind}
@@ -144,13 +145,10 @@ has_common a b k h g = eq-eqb (bit_and (bit_and a b) k) k (and_assoc k a b ∙ a
 
 -- ---- the flows
 
-lead_first : (t : Typing) (m : ℕ) (xs ys : List Flow) → AllLead t m (xs ++ ys) → AllLead t m xs
-lead_first t m [] ys l = tt
-lead_first t m (x ∷ xs) ys l = (l.0, lead_first t m xs ys l.1)
-
-lead_rest : (t : Typing) (m : ℕ) (xs ys : List Flow) → AllLead t m (xs ++ ys) → AllLead t m ys
-lead_rest t m [] ys l = l
-lead_rest t m (x ∷ xs) ys l = lead_rest t m xs ys l.1
+-- ways that lead together lead by parts
+lead_parts : (t : Typing) (m : ℕ) (xs ys : List Flow) → AllLead t m (xs ++ ys) → AllLead t m xs × AllLead t m ys
+lead_parts t m [] ys l = (tt, l)
+lead_parts t m (x ∷ xs) ys l = let rest = lead_parts t m xs ys l.1 in ((l.0, rest.0), rest.1)
 
 -- a set that has a state is not empty
 not_empty_by : (n k : ℕ) → IsTrue (has n k) → has 0 k ≡ false → (n == 0) ≡ false
@@ -176,17 +174,11 @@ of_class :
     (p : Image) → ((m : ℕ) → method_role p m ≡ Some Main → own_kind p m ≡ None) → (fr : Frame) → home_holder fr.home ≡ holder_of p fr.method → is_listed_kind (own_kind p fr.method) ≡ true →
     (o : Object) × (from : Place) × (fr.home ≡ Inside o from) × (thing_kind p o.thing ≡ own_kind p fr.method)
 unfolding kind_of
-of_class p main_none fr holder listed = go (method_class p fr.method) refl listed
-  where
-    go :
-        (class : Option ℕ) → method_class p fr.method ≡ class → is_listed_kind (kind_of p class) ≡ true →
-        (o : Object) × (from : Place) × (fr.home ≡ Inside o from) × (thing_kind p o.thing ≡ own_kind p fr.method)
-    go None e l = cc
-    go (Some c) e l =
-        let no_main : method_role p fr.method ≡ Some Main → ⊥ = λ main. (let none = main_none fr.method main in grind arith) in
-        let member = holder ∙ ap (λ x. holder_by (method_role p fr.method) x) e ∙ holder_member (method_role p fr.method) c no_main in
-        let found = home_member fr.home c member in
-        (found.0, found.1, found.2, member_kind p found.0.thing c found.3 ∙ ap (λ x. kind_of p x) (sym e))
+of_class p main_none fr holder listed = some_given (λ class. is_listed_kind (kind_of p class) ≡ true) (method_class p fr.method) listed (λ none. cc) (λ c e l.
+    let no_main : method_role p fr.method ≡ Some Main → ⊥ = λ main. (let none = main_none fr.method main in grind arith) in
+    let member = holder ∙ ap (λ x. holder_by (method_role p fr.method) x) e ∙ holder_member (method_role p fr.method) c no_main in
+    let found = home_member fr.home c member in
+    (found.0, found.1, found.2, member_kind p found.0.thing c found.3 ∙ ap (λ x. kind_of p x) (sym e)))
 
 module _ (p : Image) (t : Typing) (main_none : (m : ℕ) → method_role p m ≡ Some Main → own_kind p m ≡ None) (c : Choice) (s : State) (fr : Frame) (sh : Shape) (ls : List Layer)
     (at_hand : At p t s fr sh ls) where
@@ -279,6 +271,9 @@ module _ (p : Image) (t : Typing) (main_none : (m : ℕ) → method_role p m ≡
       WellTyped p t (applied p fr (tasks_of ls) s (jumps_if fr b to))
   goes_by listed there here to b if_there if_here leads = go b refl
     where
+      parts : AllLead t fr.method (flow_narrowed sh (suc fr.place) here) × AllLead t fr.method (flow_narrowed sh to there)
+      parts = lead_parts t fr.method (flow_narrowed sh (suc fr.place) here) (flow_narrowed sh to there) leads
+
       goes : (fr' : Frame) (place x : ℕ) → fr'.home ≡ fr.home → fr'.method ≡ fr.method → fr'.height ≡ fr.height → fr'.words ≡ fr.words → fr'.place ≡ place → IsTrue (has x (state_of own)) → AllLead t fr.method (flow_narrowed sh place x) → WellTyped p t (record s { tasks = Run fr' ∷ tasks_of ls })
       goes fr' place x eh em eg ew ep h l =
           let sh' : Shape = record sh { states = bit_and sh.states x } in
@@ -287,8 +282,8 @@ module _ (p : Image) (t : Typing) (main_none : (m : ℕ) → method_role p m ≡
           (settle p t s.cells fr' sh' ls (reframed p t s.cells fr fr' sh' ls eh em eg ew (learned listed (bit_and sh.states x) (within listed x h))) (subst (λ m. Leads t m fr'.place sh') (sym em) (subst (λ q. Leads t fr.method q sh') (sym ep) goes_on)))
 
       go : (x : Bool) → b ≡ x → WellTyped p t (applied p fr (tasks_of ls) s (jumps_if fr x to))
-      go true e = goes (to_place fr to) to there refl refl refl refl refl (if_there e) (lead_rest t fr.method (flow_narrowed sh (suc fr.place) here) (flow_narrowed sh to there) leads)
-      go false e = goes (next fr) (suc fr.place) here refl refl refl refl refl (if_here e) (lead_first t fr.method (flow_narrowed sh (suc fr.place) here) (flow_narrowed sh to there) leads)
+      go true e = goes (to_place fr to) to there refl refl refl refl refl (if_there e) parts.1
+      go false e = goes (next fr) (suc fr.place) here refl refl refl refl refl (if_here e) parts.0
 
   pub law_jump_active : (to : ℕ) → Law p t c s fr sh ls at_hand (JumpActive to)
   law_jump_active to n leads = ((active_home n.0, tt), goes_by (active_listed (own_kind p fr.method) n.0) outstanding inactive to (in_phase is_busy own) (busy_in own) (free_in own) leads)

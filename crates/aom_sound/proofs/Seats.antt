@@ -51,11 +51,7 @@ pub first_kept :
     ((r : Place) (o : Object) → same_place a r ≡ false → held cs r ≡ Some o → named cs o.name ≡ Some o → is_some (requested cs o.name) ≡ true → is_some (requested cs' o.name) ≡ true) →
     NoSeatHere a xs → AllSit cs xs → SitsFirst cs d xs → SitsFirst cs' d xs
 first_kept cs cs' a None xs stays na s f = f
-first_kept cs cs' a (Some x) xs stays na s f = (go xs f.1 f.2 (no_seat cs a xs na s) s f.0, f.1, f.2)
-  where
-    go : (xs above : List Seat) → xs ≡ x ∷ above → NoSeatAt a xs → AllSit cs xs → is_some (requested cs x.object.name) ≡ true → is_some (requested cs' x.object.name) ≡ true
-    go (y ∷ ys) above e na s some =
-        let same : y ≡ x = cc in
-        let here = subst (λ (z : Seat). (same_place a z.place ≡ false) × (held cs z.place ≡ Some z.object) × (named cs z.object.name ≡ Some z.object)) same (na.0, s.0.0, s.0.1) in
-        stays x.place x.object here.0 here.1 here.2 some
-    go [] above e na s some = cc
+first_kept cs cs' a (Some x) xs stays na s f =
+    let apart : NoSeatAt a (x ∷ f.1) = subst (λ ys. NoSeatAt a ys) f.2 (no_seat cs a xs na s) in
+    let sits : AllSit cs (x ∷ f.1) = subst (λ ys. AllSit cs ys) f.2 s in
+    (stays x.place x.object apart.0 sits.0.0 sits.0.1 f.0, f.1, f.2)

@@ -43,8 +43,7 @@ abbrev GoesOn : State → Type 0
 GoesOn s = (s.rest.ended ≡ None) ⊎ IsAtRest s
 
 not_stopped : (b : Bool) → b ≡ false → cond b (Some Stopped) None ≡ Some Stopped → ⊥
-not_stopped true f e = cc
-not_stopped false f e = cc
+not_stopped b f e = let clash : cond false (Some Stopped) None ≡ Some Stopped = ap (λ x. cond x (Some Stopped) None) (sym f) ∙ e in cc
 
 -- at the end of a run the root is gone
 abbrev Uprooted : State → Type 0

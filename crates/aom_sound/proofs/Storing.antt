@@ -1,5 +1,7 @@
 -- The words of a cell count for no place, and its request for the age of objects alone: where these change, what is claimed holds on.
 use Rattle.std.specs.Prelude.{is_some}
+use Rattle.aom_sound.proofs.Maps.{requested_unnamed}
+use Rattle.aom_image.proofs.Given.{some_given}
 use Rattle.aom_shape.specs.declared.kind.Kind.TheVariants.{Null}
 use Rattle.aom_shape.specs.declared.kind.Filling.TheVariants.{Full}
 use Rattle.aom_sound.proofs.Altering.{Alters, asking, bereaving, held_kept, named_kept, opening, read_here, read_kept, read_so, read_there, requests, services, storing, tidy_kept}
@@ -19,7 +21,7 @@ use Rattle.aom_sound.specs.State.{AtRoot, Frame, Home, Inside, Seat, Static}
 use Rattle.aom_sound.specs.WellTyped.{AllSit, Back, Fits, IsHoused, Stack, seat_of}
 use Rattle.aom_sound.specs.Words.{stored}
 use Rattle.aom_sound.specs.Requests.{Suits, states_claim, thing_kind}
-use Rattle.std.proofs.lemmas.Bool.{eq-eqb, eqb-true}
+use Rattle.std.proofs.lemmas.Bool.{eqb-true}
 use Rattle.aom_sound.specs.Enlisted.{cancelled, ended_cells, on_request, own_request, rerequested}
 use Rattle.aom_rules.specs.Requests.{is_cancel}
 use Rattle.aom_image.specs.Views.{method_role}
@@ -75,15 +77,13 @@ on_some f r e = grind arith
 
 -- what is enlisted stays so where another request is put in the place of one that there is
 asked_some : (cs : List Cell) (n m : ℕ) (r : Option Request) → ((n == m) ≡ true → is_some r ≡ true) → is_some (requested cs m) ≡ true → is_some (requested (set_request n r cs) m) ≡ true
-asked_some [] n m r h some = cc
-asked_some (c ∷ cs) n m r h some = go (c.object.name == m) (c.object.name == n) refl refl some (asked_some cs n m r h)
+asked_some cs n m r h some = go (n == m) refl
   where
-    go :
-        (x y : Bool) → (c.object.name == m) ≡ x → (c.object.name == n) ≡ y → is_some (cond x c.request (requested cs m)) ≡ true →
-        (is_some (requested cs m) ≡ true → is_some (requested (set_request n r cs) m) ≡ true) → is_some (cond x (cond y r c.request) (requested (set_request n r cs) m)) ≡ true
-    go false y em en some rest = rest some
-    go true false em en some rest = some
-    go true true em en some rest = h (eq-eqb n m (sym (eqb-true c.object.name n en) ∙ eqb-true c.object.name m em))
+    go : (b : Bool) → (n == m) ≡ b → is_some (requested (set_request n r cs) m) ≡ true
+    go false other = ap is_some (requested_there cs n m r other) ∙ some
+    go true same =
+        some_given (λ x. named cs m ≡ x) (named cs m) refl (λ none. (let clash : false ≡ true = sym (ap is_some (requested_unnamed cs m none)) ∙ some in cc))
+        (λ o is lives. ap (λ k. is_some (requested (set_request k r cs) m)) (eqb-true n m same) ∙ ap is_some (requested_here cs m r o lives) ∙ h same)
 
 pub set_listed :
     (cs : List Cell) (n : ℕ) (r : Option Request) → (is_some (requested cs n) ≡ true → is_some r ≡ true) → (m : ℕ) → is_some (requested cs m) ≡ true →

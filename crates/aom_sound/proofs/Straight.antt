@@ -2,6 +2,7 @@
 use Rattle.std.proofs.Common.{Bool, List, None, Option, Some, ap, arith, cond, false, length, refl, subst, suc, sym, true, zero, ℕ, ℤ, ◌&&◌, ◌==◌, ◌∙◌, ◌∷◌, ◌≡◌}
 use Rattle.std.proofs.lemmas.Bool.{eq-eqb, eqb-true, ne_eqb, true≢false}
 use Rattle.std.specs.Prelude.{is_some, ◌||◌}
+use Rattle.aom_image.proofs.Given.{some_given}
 use Rattle.aom_image.specs.Image.{Image}
 use Rattle.aom_instructions.specs.declared.instr.Instr.{Instr}
 use Rattle.aom_image.specs.declared.method.Thing.{Thing}
@@ -12,7 +13,6 @@ use Rattle.aom_shape.specs.Shape.{Shape}
 use Rattle.aom_shape.specs.Tables.{at, put_at}
 use Rattle.aom_shape.specs.Things.{field_thing, holder_of}
 use Rattle.aom_rules.specs.Typing.{AllLead, Leads, Typing}
-use Rattle.aom_shape.specs.declared.kind.Age.TheVariants.{Ready}
 use Rattle.aom_shape.specs.declared.kind.Filling.{Filling}
 use Rattle.aom_shape.specs.declared.kind.Kind.{Kind}
 use Rattle.aom_shape.specs.declared.kind.Kind.TheVariants.{Maybe, Null, Own, Unset}
@@ -295,17 +295,13 @@ module _ (p : Image) (t : Typing) (c : Choice) (s : State) (fr : Frame) (sh : Sh
   thing_ok x _ _ e f = absurd f
 
   pub declared_ok : (x : Option Thing) (o : Option Object) (k : Kind) → may_be_declared p x k ≡ true → Fits p (seen s.cells) o k → is_declared_thing p x o ≡ true
-  declared_ok None o k e f = cc
-  declared_ok (Some x) o k e f = thing_ok x o k e f
+  declared_ok x o k e f = some_given (λ x. may_be_declared p x k ≡ true) x e (λ none. cc) (λ y is e. subst (λ z. is_declared_thing p z o ≡ true) (sym is) (thing_ok y o k e f))
 
   pub declared_object : (x : Option Thing) (k : Kind) → may_be_declared p x k ≡ true → is_object_or_null k ≡ true
   declared_object x k e = grind arith
 
   pub refills : (x : Option Thing) (k : Kind) → may_be_declared p x k ≡ true → is_ready_kind k ≡ true → filled x (filling_of k) ≡ k
-  refills (Some x) Null e r = refl
-  refills (Some x) (Own y Ready) e r = ap (λ z. Own z Ready) (sym (stands_same p y x e))
-  refills (Some x) (Maybe y Ready) e r = ap (λ z. Maybe z Ready) (sym (stands_same p y x e))
-  refills _ _ e r = cc
+  refills x k e r = grind (arith, stands_same p)
 
   pub empties : (x : Option Thing) (y : Filling) → is_empty y ≡ true → is_unowning (filled x y) ≡ true
   empties x y e = grind arith

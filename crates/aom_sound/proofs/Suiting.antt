@@ -1,5 +1,5 @@
 -- How what is known of requests changes with the layers, and how it goes on to hold.
-use Rattle.std.proofs.Common.{arith, Bool, IsTrue, List, None, Option, Some, [], ap, cond, false, inl, inr, refl, subst, sym, true, ℕ, ℤ, ◌&&◌, ◌==◌, ◌∙◌, ◌∷◌, ◌≡◌}
+use Rattle.std.proofs.Common.{arith, Bool, IsTrue, List, None, Option, Some, [], ap, cond, false, inl, inr, refl, subst, sym, true, ℕ, ◌&&◌, ◌==◌, ◌∙◌, ◌∷◌, ◌≡◌}
 use Rattle.std.proofs.lemmas.Bool.{eqb-true}
 use Rattle.std.specs.Prelude.{is_none, is_some, not, ◌||◌}
 use Rattle.aom_image.specs.Image.{Image}
@@ -15,7 +15,7 @@ use Rattle.aom_shape.specs.Shape.{Shape}
 use Rattle.aom_sound.proofs.Maps.{named_moved, requested_moved}
 use Rattle.aom_sound.specs.Claims.{Dispatching, Dying, Layer, Mark, Method, Unwinding, Ending}
 use Rattle.aom_sound.specs.Places.{Cell, Idle, Object, Phase, Place, Request, moved, named, requested}
-use Rattle.aom_sound.specs.Enlisted.{cancelled, in_phase, is_aborted, is_cancelling, is_idle, is_unanswered, on_request, pending, status_of}
+use Rattle.aom_sound.specs.Enlisted.{cancelled, in_phase, is_cancelling, is_idle, is_unanswered, on_request, pending, status_of}
 use Rattle.std.specs.Ordering.{int_eq}
 use Rattle.aom_sound.specs.Requests.{AllSuit, Joins, Known, Suits, Unworked, is_timed, known_at, phase_state, resting_in, rests_in, state_of, states_claim, thing_kind, works_at}
 use Rattle.aom_sound.specs.State.{AtRoot, Frame, Home, Inside, Static}
@@ -114,9 +114,6 @@ pub known_resting :
 known_resting p o fr states ls e u = known_plain p fr states (states_claim p o ls) e ∙ ap (λ (k : Known). record { states = states; cancelled = k.cancelled }) (unworked_rests p o ls u)
 
 -- a method that cancels ends with its request completed
-done_only : (q : Phase) (status : ℤ) → IsTrue (has cancel_done (phase_state q)) → (is_aborted q && int_eq status pending) ≡ false → int_eq status pending ≡ false
-done_only q status h u = grind arith
-
 served_only : (q : Phase) → IsTrue (has server_states (phase_state q)) → IsTrue (has cancel_done (phase_state q)) → ⊥
 served_only q h g = grind arith
 
@@ -169,14 +166,10 @@ pub rejoins_caller :
     (works_at o.name fr.home ≡ true → IsTrue (has sh.states ends)) → IsTrue (has ends states) → unissued states ≡ true →
     Suits (thing_kind p o.thing) (record { states = states; cancelled = (states_claim p o (Method fr sh ∷ ls)).cancelled }) r →
     Suits (thing_kind p o.thing) (states_claim p o (Method fr sh ∷ ls)) r
-rejoins_caller p o fr sh states ls ends r (inl w) well within u s = go (works_at o.name fr.home) w s
-  where
-    below : Known
-    below = states_claim p o ls
-
-    go : (b : Bool) → b ≡ true → Suits (thing_kind p o.thing) (record { states = states; cancelled = (cond b (known_at p fr sh.states below) below).cancelled }) r → Suits (thing_kind p o.thing) (cond b (known_at p fr sh.states below) below) r
-    go true e s = suits_less (thing_kind p o.thing) sh.states states _ r (has_along sh.states ends states (well w) within) s
-    go false e s = cc
+rejoins_caller p o fr sh states ls ends r (inl w) well within u s =
+    let there : Known = known_at p fr sh.states (states_claim p o ls) in
+    subst (λ b. Suits (thing_kind p o.thing) (cond b there (states_claim p o ls)) r) (sym w) (suits_less (thing_kind p o.thing) sh.states states _ r (has_along sh.states ends states (well w) within)
+    (subst (λ b. Suits (thing_kind p o.thing) (record { states = states; cancelled = (cond b there (states_claim p o ls)).cancelled }) r) w s))
 rejoins_caller p o fr sh states ls ends r (inr n) well within u s =
     rests_there p o (Method fr sh ∷ ls) r n (suits_rests (thing_kind p o.thing) states r u (subst (λ (k : Known). Suits (thing_kind p o.thing) (record { states = states; cancelled = k.cancelled }) r) (unworked_rests p o (Method fr sh ∷ ls) n) s))
 
@@ -220,7 +213,3 @@ all_returned p cs cs' fr sh below s housed same others back x lives' = go fr.hom
             let one = same_object cs o x h.lives lives same in
             subst (λ y. Suits (thing_kind p y.thing) (states_claim p y below) (requested cs' y.name)) one (back o from e (subst (λ y. Suits (thing_kind p y.thing) (known_at p fr sh.states (states_claim p y below)) (requested cs y.name)) (sym one) s))
         inner false other s = kept (others other) s
-
--- what works on an object works on its fields, on what it holds and on no other
-pub works_on_it : (n : ℕ) (o : Object) (from : Place) → works_at n (Inside o from) ≡ true → o.name ≡ n
-works_on_it n o from e = eqb-true o.name n e

@@ -1,7 +1,7 @@
 -- A turn from a well-typed state goes on to one: a timer completes a request, an object is dispatched, or time passes.
 use Rattle.std.proofs.Common.{Bool, List, None, Option, Some, [], ap, arith, cond, false, inl, inr, length, refl, subst, sym, true, ℕ, ℤ, ◌&&◌, ◌<◌, ◌==◌, ◌∙◌, ◌∷◌, ◌≡◌, pos}
-use Rattle.std.proofs.lemmas.Bool.{and_parts, eq-eqb, eqb-true, ne_eqb, true≢false}
-use Rattle.std.specs.Prelude.{is_some, map, nat_le, not, ◌||◌, nat_lt}
+use Rattle.std.proofs.lemmas.Bool.{eq-eqb, eqb-true, ne_eqb, true≢false}
+use Rattle.std.specs.Prelude.{is_some, map, nat_le, ◌||◌, nat_lt}
 use Rattle.std.specs.Ordering.{int_eq}
 use Rattle.aom_image.specs.Image.{Image}
 use Rattle.aom_image.specs.Views.{method_class}
@@ -29,11 +29,11 @@ use Rattle.aom_sound.proofs.Owners.{later}
 use Rattle.aom_sound.proofs.Owners.{rank}
 use Rattle.aom_sound.proofs.PickedClose.{parts_well}
 use Rattle.aom_sound.proofs.Picking.{accepts_well, attends_well, plain_message}
-use Rattle.aom_sound.proofs.Signals.{at_rest, signals_are_ready}
+use Rattle.aom_sound.proofs.Signals.{at_rest, signals_are_ready, items_at_rest}
 use Rattle.aom_sound.proofs.Storing.{Alike, fits_alike, requested_here, requested_there, rerequested_alike, sits_alike, bereaved_alike, requested_bereaved}
 use Rattle.aom_sound.proofs.Turned.{picked, recorded_so}
-use Rattle.aom_sound.specs.Claims.{Dispatching, Layer, Mark, claim, declared, forms, items_of}
-use Rattle.aom_sound.specs.Enlisted.{is_active, on_request, part_of, pending, taken_up, completed_with, recorded}
+use Rattle.aom_sound.specs.Claims.{Dispatching, Layer, Mark, claim, declared, forms}
+use Rattle.aom_sound.specs.Enlisted.{on_request, part_of, pending, taken_up, completed_with, recorded}
 use Rattle.aom_sound.specs.Kept.{ClientsFit}
 use Rattle.aom_sound.specs.Laws.{IsHandler, IsWired, TurnGoesOn}
 use Rattle.aom_sound.specs.Places.{Asked, Cell, Close_of, Connect_of, Elsewhere, Message_of, Object, Place, Request, Root, Tidy, held, named, requested, seen, service_of}
@@ -103,13 +103,6 @@ pub found : (cs : List Cell) → Tidy cs → (y : Candidate) → first_ready cs 
 found [] tidy y e = cc
 found (c ∷ cs) tidy y e = of_request c cs y tidy (λ e. found cs tidy.2 y e) c.request refl e
 
-is_completed : (r : Request) → is_ready r ≡ true → int_eq r.status pending ≡ false
-is_completed r e = go (int_eq r.status pending) (and_parts (is_active r.phase) (not (int_eq r.status pending)) e).1
-  where
-    go : (b : Bool) → not b ≡ true → b ≡ false
-    go true e = cc
-    go false e = refl
-
 -- it is of a class of active objects
 ready_active : (k : Option ClassKind) (r : Request) → is_ready r ≡ true → Suits k (resting_in (states_of k)) (Some r) → is_active_kind k ≡ true
 ready_active k r e s = grind arith
@@ -151,11 +144,7 @@ module _ (p : Image) (t : Typing) (s : State) (w : WellTyped p t s) (idle_now : 
   good = subst (λ ls. Good p t s.cells ls) (at_rest p t s w idle_now) w.good
 
   items : s.items ≡ []
-  items = go s.items (w.items ∙ ap items_of (at_rest p t s w idle_now))
-    where
-      go : (is : List _) → forms is ≡ [] → is ≡ []
-      go [] e = refl
-      go (i ∷ is) e = cc
+  items = items_at_rest p t s w idle_now
 
   -- nothing but what no place tells changes
   same_well : (r : Rest) → WellTyped p t (record s { rest = r })
