@@ -1,4 +1,5 @@
 -- A method that accepts returns to its dispatch: what it gives is the session of the client.
+use Rattle.std.proofs.Math.Bool.{or-true}
 use Rattle.std.proofs.Common.{[], Bool, List, None, Some, ap, cond, false, length, refl, subst, sym, true, ℕ, ◌==◌, ◌∙◌, ◌∷◌, ◌≡◌}
 use Rattle.std.proofs.lemmas.Bool.{eq-eqb, eqb-true}
 use Rattle.std.specs.Prelude.{is_none, is_some, ◌&&◌, ◌++◌, ◌||◌}
@@ -37,11 +38,7 @@ use Rattle.aom_sound.specs.WellTyped.{AllSit, Fits, Good, IsApart, NoSeatAt}
 -- the client is among those with one more if it is the one, or was among them
 among_new : (c : ℕ) (ss : List ℕ) → is_among c (ss ++ c ∷ []) ≡ true
 among_new c [] = ap (λ b. b || false) (eq-eqb c c refl)
-among_new c (d ∷ ss) = ap (λ b. (d == c) || b) (among_new c ss) ∙ or_true (d == c)
-  where
-    or_true : (b : Bool) → (b || true) ≡ true
-    or_true true = refl
-    or_true false = refl
+among_new c (d ∷ ss) = ap (λ b. (d == c) || b) (among_new c ss) ∙ or-true (d == c)
 
 among_old : (k c : ℕ) (ss : List ℕ) → (c == k) ≡ false → is_among k (ss ++ c ∷ []) ≡ is_among k ss
 among_old k c [] e = ap (λ b. b || false) e

@@ -1,15 +1,14 @@
 -- An `error` method enters over the dispatch that asks it.
-use Rattle.std.proofs.Common.{[], inr, false, inl, IsTrue, List, None, Option, Some, ap, length, refl, subst, suc, sym, true, zero, ℕ, ℤ, ◌∙◌, ◌∷◌, ◌≡◌}
+use Rattle.std.proofs.Common.{[], inr, false, inl, List, None, Option, Some, ap, length, refl, subst, suc, sym, true, zero, ℕ, ℤ, ◌∙◌, ◌∷◌, ◌≡◌, arith}
 use Rattle.std.specs.Prelude.{bit_or, is_some, map}
 use Rattle.aom_image.specs.Image.{Image}
-use Rattle.aom_image.specs.Views.{has, method_class}
+use Rattle.aom_image.specs.Views.{method_class}
 use Rattle.aom_image.specs.declared.class.ClassKind.{ClassKind}
-use Rattle.aom_image.specs.declared.class.ClassKind.TheVariants.{Active as An_active, Server as A_server}
 use Rattle.aom_image.specs.declared.method.Argument.TheVariants.{Word as Takes_word}
 use Rattle.aom_image.specs.declared.method.Role.TheVariants.{Error}
 use Rattle.aom_image.specs.declared.method.Thing.{Thing}
 use Rattle.aom_image.specs.declared.method.Thing.TheVariants.{Message, Object as An_object_of}
-use Rattle.aom_roles.specs.States.{active, active_states, idle, server_states, states_of}
+use Rattle.aom_roles.specs.States.{active, idle, states_of}
 use Rattle.aom_rules.specs.Requests.{is_service, is_cancel}
 use Rattle.aom_rules.specs.Typing.{IsTyped, Typing}
 use Rattle.aom_shape.specs.Arguments.{argument_kind, entry_fields}
@@ -24,8 +23,8 @@ use Rattle.aom_sound.specs.Claims.{Dispatching, Layer, claim, declared, forms}
 use Rattle.aom_sound.specs.Enlisted.{part_of}
 use Rattle.aom_sound.specs.Laws.{IsAnswerer, IsWired}
 use Rattle.aom_sound.specs.Moves.{asking}
-use Rattle.aom_sound.specs.Places.{Active, Elsewhere, Idle, Phase, Place, Request, Root, held, requested, seen}
-use Rattle.aom_sound.specs.Requests.{Suits, phase_state, resting_in, thing_kind}
+use Rattle.aom_sound.specs.Places.{Elsewhere, Place, Request, Root, held, requested, seen}
+use Rattle.aom_sound.specs.Requests.{Suits, resting_in, thing_kind}
 use Rattle.aom_sound.specs.State.{Asks, Object_left, Seat, State, thing_holder}
 use Rattle.aom_sound.specs.WellTyped.{AllUndo, Fits, Good, WellTyped, WordFits}
 use Rattle.aom_sound.proofs.Attending.{with_message}
@@ -34,19 +33,7 @@ use Rattle.std.proofs.lemmas.Bool.{true≢false}
 -- what rests and is enlisted is idle or active
 pub rests_listed : (k : Option ClassKind) (r : Option Request) → is_some r ≡ true → Suits k (resting_in (states_of k)) r → Suits k (resting_in (bit_or idle active)) r
 unfolding states_of
-rests_listed (Some (An_active v b)) (Some r) some s = (phase r.phase s.0, s.1, s.2, s.3)
-  where
-    phase : (q : Phase) → IsTrue (has active_states (phase_state q)) → IsTrue (has (bit_or idle active) (phase_state q))
-    phase Idle h = refl
-    phase Active h = refl
-    phase _ h = cc
-rests_listed (Some (A_server most x b)) (Some r) some s = (phase r.phase s.1, s.1)
-  where
-    phase : (q : Phase) → IsTrue (has server_states (phase_state q)) → IsTrue (has (bit_or idle active) (phase_state q))
-    phase Idle h = refl
-    phase _ h = cc
-rests_listed k None some s = cc
-rests_listed _ r some s = s
+rests_listed k r some s = grind arith
 
 -- the method of a thing in that role
 pub found : (p : Image) → IsWired p → (x : Thing) (m : ℕ) → part_of p Error x ≡ Some m → (c : ℕ) × (x ≡ An_object_of c) × IsAnswerer p c m

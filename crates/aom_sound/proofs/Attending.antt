@@ -1,5 +1,5 @@
 -- Of the message that is served a method claims nothing where it does not serve: by its role.
-use Rattle.std.proofs.Common.{List, ◌∷◌, Bool, Some, ap, cond, false, refl, true, ℕ, ◌≡◌, ◌⊎◌, inl, inr}
+use Rattle.std.proofs.Common.{List, Bool, Some, ap, cond, false, refl, true, ℕ, ◌≡◌, ◌⊎◌, inl, inr, arith}
 use Rattle.aom_image.specs.Image.{Image}
 use Rattle.aom_image.specs.Views.{method_role}
 use Rattle.aom_image.specs.declared.method.Role.TheVariants.{Construct, Do}
@@ -10,8 +10,7 @@ use Rattle.aom_shape.specs.Kinds.{is_ready_kind}
 use Rattle.aom_shape.specs.declared.kind.Age.TheVariants.{Ready}
 use Rattle.aom_image.specs.declared.method.Thing.TheVariants.{Message}
 use Rattle.aom_rules.specs.Requests.{is_service}
-use Rattle.aom_sound.specs.Claims.{Dispatching, Layer, Mark, claim, delivered, serves}
-use Rattle.aom_sound.specs.State.{Of_server, Serves}
+use Rattle.aom_sound.specs.Claims.{Layer, claim, delivered, serves}
 use Rattle.aom_sound.specs.WellTyped.{IsServed}
 use Rattle.aom_sound.specs.Laws.{IsCalled}
 use Rattle.aom_sound.specs.Places.{Elsewhere, In_service, Place, Session}
@@ -25,13 +24,11 @@ called_plain p m c = go c.role
     go (inr e) = ap is_service e
 
 pub plain_claim : (b : Bool) (sh : Shape) (below : Kind) → b ≡ false → cond b (delivered sh.delivery) below ≡ below
-plain_claim true sh below e = cc
-plain_claim false sh below e = refl
+plain_claim x sh below e = grind arith
 
 -- the layers below a method that serves claim the message
 pub served_claim : (p : Image) (d : Place → Kind) (ls : List Layer) → IsServed ls → claim p d ls (Elsewhere In_service) ≡ Own Message Ready
-served_claim p d (Mark gv ∷ Dispatching (Of_server x client (Serves o)) seats ∷ ls) s = refl
-served_claim p d _ s = absurd s
+served_claim p d x s = grind arith
 
 -- with the message that is served, where one is
 abbrev pub with_message : Bool → (Place → Kind) → Place → Kind

@@ -1,5 +1,5 @@
 -- The boot state is well typed.
-use Rattle.std.proofs.Common.{Bool, List, None, Option, Some, [], ap, cond, false, length, refl, subst, sym, true, ℕ, ◌==◌, ◌∙◌, ◌∷◌, ◌≡◌}
+use Rattle.std.proofs.Common.{Bool, List, None, Option, Some, [], ap, cond, false, length, refl, subst, sym, true, ℕ, ◌==◌, ◌∙◌, ◌∷◌, ◌≡◌, arith}
 use Rattle.std.specs.Prelude.{IsSome}
 use Rattle.aom_classes.specs.Roles.{main_of}
 use Rattle.aom_image.specs.Image.{Image}
@@ -85,8 +85,7 @@ booted p t wired typed m e s cells tasks items =
     }
 
 some_of : {A : Type 0} (x : Option A) → IsSome x → (y : A) × (x ≡ Some y)
-some_of None s = cc
-some_of (Some y) s = (y, refl)
+some_of x s = grind arith
 
 pub boot_keeps : (p : Image) (t : Typing) → IsWired p → IsTyped p t → WellTyped p t (boot_state p)
 boot_keeps p t wired typed = let m = some_of (main_of p) wired.has_main in booted p t wired typed m.0 m.1 (boot_state p) refl (ap main_tasks m.1) refl

@@ -24,7 +24,7 @@ use Rattle.aom_sound.specs.Calls.{called, given_cells, needs_each, needs_result,
 use Rattle.aom_sound.specs.Claims.{Layer, Mark, Mark_form, Method, tasks_of}
 use Rattle.aom_sound.specs.Laws.{IsCalled, IsWired}
 use Rattle.aom_sound.specs.Moves.{does}
-use Rattle.aom_sound.specs.Places.{Cell, Elsewhere, Field, Object, Place, Root, Session, In_service, Queued}
+use Rattle.aom_sound.specs.Places.{Cell, Object, Place}
 use Rattle.aom_sound.specs.State.{AtRoot, Choice, Frame, Home, Inside, State, Static}
 use Rattle.aom_sound.specs.WellTyped.{Awaits, Caught, EndsWell, IsApart, IsBelow, IsHoused, Returns, Stands}
 use Rattle.aom_sound.proofs.Callees.{none_owns_each, only_then}
@@ -63,8 +63,7 @@ ends_well p m fr sh (Inside o from) plain e =
     λ w. subst (λ n. IsTrue (has sh.states n)) (sym (ap (λ b. cond b idle (after_of p m)) plain)) (subst (λ k. IsTrue (has k (after_of p m))) (sym (e o from refl w)) (has_itself (after_of p m)))
 
 not_then : (b : Bool) → not b ≡ true → b ≡ false
-not_then true e = cc
-not_then false e = refl
+not_then x e = grind arith
 
 module _ (p : Image) (t : Typing) (wired : IsWired p) (typed : IsTyped p t) (c : Choice) (s : State) (fr : Frame) (sh : Shape) (ls : List Layer) (at_hand : At p t s fr sh ls) where
   pub law_call : (target : Target) (m first x : ℕ) → instr_at p fr.method fr.place ≡ Some (Call target m first x) → Law p t c s fr sh ls at_hand (Call target m first x)
@@ -105,12 +104,7 @@ module _ (p : Image) (t : Typing) (wired : IsWired p) (typed : IsTyped p t) (c :
 
 -- over a trap's mark
 below_mark : (from : Place) (gv : Gives) (ls : List Layer) → IsBelow from ls → IsBelow from (Mark gv ∷ ls)
-below_mark (Field n f) gv ls b = b
-below_mark (Elsewhere Root) gv ls b = tt
-below_mark (Elsewhere (Session n c)) gv ls b = b
-below_mark (Elsewhere In_service) gv ls b = absurd b
-below_mark (Elsewhere (Queued n m)) gv ls b = absurd b
-below_mark _ gv ls b = omega arith
+below_mark x gv ls b = grind arith
 
 housed_mark : (p : Image) (cs : List Cell) (home : Home) (gv : Gives) (ls : List Layer) → IsHoused p cs ls home → IsHoused p cs (Mark gv ∷ ls) home
 housed_mark p _ Static gv ls h = h

@@ -9,7 +9,6 @@ use Rattle.aom_image.specs.declared.method.Argument.TheVariants.{Own as Takes_ow
 use Rattle.aom_image.specs.declared.method.Role.{Role}
 use Rattle.aom_image.specs.declared.method.Role.TheVariants.{Cancel, Construct, Do, Main}
 use Rattle.aom_image.specs.declared.method.Thing.{Thing}
-use Rattle.aom_image.specs.declared.method.Thing.TheVariants.{Object as An_object_of}
 use Rattle.aom_shape.specs.Arguments.{arguments_moved}
 use Rattle.aom_rules.specs.Calls.{is_among}
 use Rattle.aom_shape.specs.Kinds.{is_own_for, filled, is_ready_kind, is_unowning, none_owns, register, set_register}
@@ -27,21 +26,20 @@ use Rattle.aom_sound.proofs.Claimed.{length_objects}
 use Rattle.aom_sound.proofs.Maps.{at-put_at, held_moved}
 use Rattle.aom_sound.proofs.Passing.{lower, upper}
 use Rattle.aom_sound.specs.Calls.{passed_cells}
-use Rattle.aom_sound.specs.Claims.{Layer, Method, items_of, tasks_of}
-use Rattle.aom_sound.specs.Places.{Cell, Elsewhere, Entry, Field, Going, Object, Place, Register, Sight, held, moved, same_place, Root, Session}
+use Rattle.aom_sound.specs.Claims.{Layer, Method, tasks_of}
+use Rattle.aom_sound.specs.Places.{Cell, Object, Place, Sight, held, moved, same_place}
 use Rattle.aom_sound.specs.State.{Frame, Home, Inside, State, home_holder, thing_holder}
 use Rattle.aom_sound.specs.WellTyped.{Fits, IsBelow}
 use Rattle.aom_sound.specs.Requests.{thing_kind}
 use Rattle.aom_roles.specs.Shapes.{kind_of}
-use Rattle.aom_sound.specs.Enlisted.{cancel_method, cancel_of}
+use Rattle.aom_sound.specs.Enlisted.{cancel_method}
 use Rattle.aom_sound.specs.Laws.{IsWired}
-use Rattle.aom_image.specs.Views.{is_quiet, method_class, method_role}
+use Rattle.aom_image.specs.Views.{is_quiet, method_class}
 use Rattle.aom_classes.specs.Roles.{role_of}
 
 -- the kind of class of what a member is
 pub member_kind : (p : Image) (x : Thing) (k : ℕ) → thing_holder x ≡ Member k → thing_kind p x ≡ kind_of p (Some k)
-member_kind p (An_object_of c) k e = let same : c ≡ k = cc in ap (λ c. kind_of p (Some c)) same
-member_kind p _ k e = cc
+member_kind p x k e = grind arith
 
 -- what a test that is asked for says
 pub only_then : (a b : Bool) → only_if a b ≡ true → a ≡ true → b ≡ true
@@ -83,13 +81,7 @@ moved_register (Takes_own t ∷ xs) first sh r (inr le) =
     ∙ at-put_at Unset sh.registers first r Null ∙ ap (λ b. cond b Null (register sh r)) (ne_eqb first r (λ e. absurd (omega arith)))
 
 pub below_more : (from : Place) (fr : Frame) (sh : Shape) (ls : List Layer) → IsBelow from ls → IsBelow from (Method fr sh ∷ ls)
-below_more (Register f i) fr sh ls b = omega arith
-below_more (Entry k) fr sh ls b = omega (arith, length_objects sh.entries (items_of ls))
-below_more (Field n f) fr sh ls b = inr b
-below_more (Elsewhere Root) fr sh ls b = tt
-below_more (Elsewhere (Session n c)) fr sh ls b = inr b
-below_more (Going k) fr sh ls b = omega arith
-below_more _ fr sh ls b = absurd b
+below_more x fr sh ls b = grind (arith, length_objects)
 
 -- whose fields a called method works on, by its class
 pub holder_static : (r : Option Role) → (r ≡ Some Do) ⊎ (r ≡ Some Construct) → holder_by r None ≡ Nobody
@@ -105,16 +97,13 @@ holder_member (Some Main) c no_main = absurd (no_main refl)
 holder_member _ c no_main = refl
 
 pub home_member : (h : Home) (c : ℕ) → home_holder h ≡ Member c → (o : Object) × (from : Place) × (h ≡ Inside o from) × (thing_holder o.thing ≡ Member c)
-home_member (Inside o from) c e = (o, from, refl, e)
-home_member _ c e = cc
+home_member x c e = grind arith
 
 pub own_for : (p : Image) (t : Thing) (k : Kind) → is_own_for p t k ≡ true → (x : Thing) × (a : Age) × (k ≡ Own x a) × (stands_for p x t ≡ true)
-own_for p t (Own x a) e = (x, a, refl, e)
-own_for p t _ e = cc
+own_for p t x e = grind arith
 
 pub held_own : (p : Image) (h : Sight) (o : Option Object) (x : Thing) (a : Age) → Fits p h o (Own x a) → (y : Object) × (o ≡ Some y) × (stands_for p y.thing x ≡ true)
-held_own p h None x a f = absurd f
-held_own p h (Some y) x a f = (y, refl, f.0)
+held_own p h y x a f = grind arith
 
 pub filled_ready : (x : Option Thing) (y : Filling) → is_ready_kind (filled x y) ≡ true
 filled_ready (Some x) Empty = refl
@@ -158,23 +147,11 @@ module _ (p : Image) (s : State) (fr : Frame) (ls : List Layer) (depth : ℕ) (d
 
 -- the method that cancels is quiet
 pub cancel_quiet : (p : Image) → IsWired p → (home : Home) (m : ℕ) → cancel_method p home ≡ Some m → is_quiet p m ≡ true
-cancel_quiet p wired (Inside o from) m e = of_thing o.thing e
-  where
-    of_thing : (x : Thing) → cancel_of p x ≡ Some m → is_quiet p m ≡ true
-    of_thing (An_object_of c) e = (wired.cancels m (wired.canceller c m e).1).0
-    of_thing _ e = cc
-cancel_quiet p wired _ m e = cc
+cancel_quiet p wired x m e = grind arith
 
 -- what a method works on is of the method's class, and so is the method that cancels for it
 class_of_member : (r : Option Role) (class : Option ℕ) (c : ℕ) → Member c ≡ holder_by r class → class ≡ Some c
-class_of_member (Some Main) class c e = cc
-class_of_member _ None c e = cc
-class_of_member _ (Some k) c e = cc
+class_of_member x class c e = grind arith
 
 pub cancel_class : (p : Image) (h : Home) (m k : ℕ) → home_holder h ≡ holder_of p m → cancel_method p h ≡ Some k → (c : ℕ) × (method_class p m ≡ Some c) × (role_of p c Cancel ≡ Some k)
-cancel_class p (Inside o from) m k h e = of_thing o.thing h e
-  where
-    of_thing : (x : Thing) → thing_holder x ≡ holder_of p m → cancel_of p x ≡ Some k → (c : ℕ) × (method_class p m ≡ Some c) × (role_of p c Cancel ≡ Some k)
-    of_thing (An_object_of c) h e = (c, class_of_member (method_role p m) (method_class p m) c h, e)
-    of_thing _ h e = cc
-cancel_class p _ m k h e = cc
+cancel_class p x m k h e = grind arith

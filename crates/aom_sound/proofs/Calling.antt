@@ -33,7 +33,7 @@ use Rattle.aom_shape.specs.declared.kind.Kind.TheVariants.{Null, Own, Unset}
 use Rattle.aom_sound.proofs.Claimed.{Outside, OwnsNoMore, claim_from, claim_register_above, claim_unclaimed, claim_weaker, filled_weaker, fits_weaker, outside_differs, word_fits_weaker}
 use Rattle.aom_sound.proofs.Destroying.{Untouched, at_alike, eqb_comm, other_name, untouched, untouched_method}
 use Rattle.aom_sound.proofs.Finishing.{all_join}
-use Rattle.aom_sound.proofs.Items.{entry_claimed, entry_owns, entry_there, length_each, length_forms, readied_claim, readied_items}
+use Rattle.aom_sound.proofs.Items.{begins_well, entry_claimed, entry_owns, entry_there, length_each, length_forms, readied_claim, readied_items}
 use Rattle.aom_sound.proofs.Jumps.{words_kept}
 use Rattle.aom_sound.proofs.Maps.{at-put_at, held_lives, same_place-true}
 use Rattle.aom_sound.proofs.Passing.{Passed, filled_weaker_below, filling, lower, under, upper}
@@ -101,8 +101,7 @@ module _ (p : Image) (t : Typing) (wired : IsWired p) (typed : IsTyped p t) (c :
   serves_not = called_plain p m is_called
 
   pub kind_begun : (home : Home) (sh' : Shape) → BeginsWell home sh' → (o : Object) (from : Place) → home ≡ Inside o from → thing_kind p o.thing ≡ kind_of p (method_class p m)
-  kind_begun (Inside x q) sh' b o from e = let same : x ≡ o = cc in subst (λ y. thing_kind p y.thing ≡ kind_of p (method_class p m)) same b.1
-  kind_begun _ sh' b o from e = cc
+  kind_begun x sh' b o from e = grind arith
 
   -- the caller while the call lasts, and the home of the method called
   pub record Entering (ended : ℕ) (home : Home) (sh' : Shape) : Type 0 where
@@ -139,22 +138,11 @@ module _ (p : Image) (t : Typing) (wired : IsWired p) (typed : IsTyped p t) (c :
     begins home sh' e after w (Field n f) = go home e.fields
       where
         go : (home : Home) → FieldsBegin home → Fits p (seen cs) (held cs (Field n f)) (home_claim p home after n f (claim p (declared p cs) (Method fr sh' ∷ ls) (Field n f)))
-        go Static b = e.fits (Field n f)
-        go AtRoot b = absurd b
-        go (Inside o from) b = inside (o.name == n) refl
-          where
-            inside :
-                (x : Bool) → (o.name == n) ≡ x →
-                Fits p (seen cs) (held cs (Field n f)) (cond x (filled (field_thing p (thing_holder o.thing) f) (field after f)) (claim p (declared p cs) (Method fr sh' ∷ ls) (Field n f)))
-            inside true same = subst (λ m. Fits p (seen cs) (held cs (Field m f)) (filled (field_thing p (thing_holder o.thing) f) (field after f))) (eqb-true o.name n same)
-                (fits_weaker p (seen cs) (held cs (Field o.name f)) (filled_weaker (field_thing p (thing_holder o.thing) f) (w.fields f)) (b f))
-            inside false other = e.fits (Field n f)
+        go x b = grind (arith, eqb-true, fits_weaker, filled_weaker)
     begins home sh' e after w (Elsewhere Root) = go home e.fields
       where
         go : (home : Home) → FieldsBegin home → Fits p (seen cs) (held cs (Elsewhere Root)) (claims_over home after sh' (Elsewhere Root))
-        go Static b = e.fits (Elsewhere Root)
-        go AtRoot b = absurd b
-        go (Inside o from) b = e.fits (Elsewhere Root)
+        go x b = grind arith
     begins home sh' e after w (Elsewhere In_service) =
         subst (λ k. Fits p (seen cs) (held cs (Elsewhere In_service)) k)
         (sym (plain_claim (serves p m) after (claim p (declared p cs) (Method fr sh' ∷ ls) (Elsewhere In_service)) serves_not)) (e.fits (Elsewhere In_service))
@@ -193,18 +181,18 @@ module _ (p : Image) (t : Typing) (wired : IsWired p) (typed : IsTyped p t) (c :
         let leads = typed.entry m is_called.there in
         let w = leads.2 in
         let good : Good p t cs (Method (callee home) leads.0 ∷ over) = record {
-          stack = (leads.1, record { words = λ i. word_fits_weaker (at None ws i) (w.registers i) (passed.given i); holder = e.holder; height = sym high; alone = λ cancels. absurd (true≢false (sym cancels ∙ cancels_not)); message = (λ serving. absurd (true≢false (sym serving ∙ serves_not)), λ served. absurd (unserved served)) }, housed, apart, stack);
+          stack = (
+            leads.1,
+            record { words = λ i. word_fits_weaker (at None ws i) (w.registers i) (passed.given i); holder = e.holder; height = sym high; alone = λ cancels. absurd (true≢false (sym cancels ∙ cancels_not)); message = (λ serving. absurd (true≢false (sym serving ∙ serves_not)), λ served. absurd (unserved served)) },
+            housed,
+            apart,
+            stack,
+          );
           fits = λ r. subst (λ k. Fits p (seen cs) (held cs r) k) (sym (as_begun leads.0 w r)) (begins home sh' e leads.0 w r);
           suits = begun_suits home sh' over leads.0 w.states housed same_states e.begun (λ x lives other. subst (λ k. Suits (thing_kind p x.thing) k (requested cs x.name)) (sym (same_states x)) (e.suits x lives other));
           tidy = passed.tidy;
         } in
-        record {
-          layers = Method (callee home) leads.0 ∷ over;
-          tasks = tasks;
-          items = items ∙ ap (λ es. objects es (items_of over)) (sym w.entries);
-          undos = undos;
-          good = subst (λ cs. Good p t cs (Method (callee home) leads.0 ∷ over)) (sym cells) good;
-        }
+        begins_well p t cs (callee home) leads.0 over s' w.entries good cells tasks items undos
       where
         as_begun : (after : Shape) → SaysNoMore after (entry_shape p m) → (r : Place) → claim p (declared p cs) (Method (callee home) after ∷ over) r ≡ claims_over home after sh' r
         as_begun after w (Register f i) =
@@ -240,6 +228,21 @@ module _ (p : Image) (t : Typing) (wired : IsWired p) (typed : IsTyped p t) (c :
     construct_fields o from null role f =
         subst (λ y. Fits p (seen cs) (held cs (Field o.name f)) (filled (field_thing p (thing_holder o.thing) f) y)) (sym (ap (λ r. at Perhaps (entry_fields r) f) role))
         (subst (λ y. Fits p (seen cs) y (filled (field_thing p (thing_holder o.thing) f) (at Perhaps (replicate 8 Empty) f))) (sym (null f)) (fits_fresh p (seen cs) (field_thing p (thing_holder o.thing) f) 8 f))
+
+    -- it is a plain call, or it constructs what is fresh
+    abbrev Ages : Age → Type 0
+    Ages a = method_role p m ≡ Some Do ⊎ ((method_role p m ≡ Some Construct) × (a ≡ Fresh))
+
+    -- so what it constructs was asked nothing
+    fresh_one : (o : Object) (z : Thing) (a : Age) → Fits p (seen cs) (Some o) (Own z a) → Ages a → (method_role p m ≡ Some Do) ⊎ ((method_role p m ≡ Some Construct) × (requested cs o.name ≡ None))
+    fresh_one o z a here (inl role) = inl role
+    fresh_one o z a here (inr w) = inr (w.0, (subst (λ a. Fits p (seen cs) (Some o) (Own z a)) w.1 here).1.1)
+
+    begins_fields :
+        (o : Object) (from : Place) (sh' : Shape) (z : Thing) (a : Age) → ((r : Place) → Fits p (seen cs) (held cs r) (filling p t fr ls depth deep (declared p cs) regs sh' r)) → named cs o.name ≡ Some o →
+        IsApart p (Inside o from) (Method fr sh' ∷ ls) → Fits p (seen cs) (Some o) (Own z a) → Ages a → FieldsBegin (Inside o from)
+    begins_fields o from sh' z a fits lives apart here (inl role) = do_fields o from sh' fits lives apart role
+    begins_fields o from sh' z a fits lives apart here (inr w) = construct_fields o from (subst (λ a. Fits p (seen cs) (Some o) (Own z a)) w.1 here).1.0 w.0
 
     -- what a target asks, and how the method begins
     abbrev Answer : ℕ → Target → Type 0
@@ -338,8 +341,7 @@ module _ (p : Image) (t : Typing) (wired : IsWired p) (typed : IsTyped p t) (c :
         own_begun lives = go (works_at o.name fr.home) own_home_works (passed.suits o lives)
           where
             go : (b : Bool) → b ≡ true → Suits (thing_kind p o.thing) (cond b (known_at p fr after_arguments.states (below o)) (below o)) (requested cs o.name) → Suits (thing_kind p o.thing) (record { states = before_of p m; cancelled = (cond b (known_at p fr ended (below o)) (below o)).cancelled }) (requested cs o.name)
-            go true e h = suits_less (thing_kind p o.thing) (before_of p m) after_arguments.states _ (requested cs o.name) before h
-            go false e h = cc
+            go b e h = grind (arith, suits_less)
 
         other_suits :
             (x : Object) → named cs x.name ≡ Some x → works_at x.name (Inside o from) ≡ false →
@@ -415,10 +417,10 @@ module _ (p : Image) (t : Typing) (wired : IsWired p) (typed : IsTyped p t) (c :
       owned : (o : Object) × (held s.cells q ≡ Some o) × (stands_for p o.thing z ≡ true)
       owned = held_own p (seen s.cells) (held s.cells q) z a (subst (λ k. Fits p (seen s.cells) (held s.cells q) k) kind (kind_fits p t c s fr sh ls at_hand r))
 
-      on_register : (ended : ℕ) → begins_there p m ≡ true → method_role p m ≡ Some Do ⊎ ((method_role p m ≡ Some Construct) × (a ≡ Fresh)) → Entering ended (Inside owned.0 q) readied_shape
+      on_register : (ended : ℕ) → begins_there p m ≡ true → Ages a → Entering ended (Inside owned.0 q) readied_shape
       on_register ended may ages = record {
         suits = λ x lives other. passed.suits x lives;
-        begun = well_begun owned.0 readied_shape lives u.unworked (target_kind y owned.0 z class owned.2 for) may (fresh_one ages);
+        begun = well_begun owned.0 readied_shape lives u.unworked (target_kind y owned.0 z class owned.2 for) may (fresh_one owned.0 z a here_fits ages);
         settles = settles_not ended readied_shape owned.0 q u.unworked.0;
         fits = fits;
         words = words_kept fr.words after_arguments r (readied (register after_arguments r)) passed.words (subst (λ k. WordFits (word fr r) k) (sym now_ready) (subst (λ k. WordFits (word fr r) k) same_kind (passed.words r)));
@@ -427,7 +429,7 @@ module _ (p : Image) (t : Typing) (wired : IsWired p) (typed : IsTyped p t) (c :
         holder = target_holder y owned.0 z class owned.2 for;
         owning = owning;
         items = ap (λ es. objects es (items_of ls)) (moved_entries xs first sh);
-        fields = begun ages;
+        fields = begins_fields owned.0 q readied_shape z a fits lives apart_so here_fits ages;
       }
         where
           there : held cs q ≡ Some owned.0
@@ -468,16 +470,6 @@ module _ (p : Image) (t : Typing) (wired : IsWired p) (typed : IsTyped p t) (c :
               go : (b : Bool) → (r == i) ≡ b → is_unowning (cond b (readied (register after_arguments r)) (register after_arguments i)) ≡ is_unowning (register after_arguments i)
               go true e = ap is_unowning now_ready ∙ sym (ap (λ j. is_unowning (register after_arguments j)) (sym (eqb-true r i e)) ∙ ap is_unowning same_kind)
               go false e = refl
-
-          fresh_one :
-              method_role p m ≡ Some Do ⊎ ((method_role p m ≡ Some Construct) × (a ≡ Fresh)) →
-              (method_role p m ≡ Some Do) ⊎ ((method_role p m ≡ Some Construct) × (requested cs owned.0.name ≡ None))
-          fresh_one (inl role) = inl role
-          fresh_one (inr w) = inr (w.0, (subst (λ a. Fits p (seen cs) (Some owned.0) (Own z a)) w.1 here_fits).1.1)
-
-          begun : method_role p m ≡ Some Do ⊎ ((method_role p m ≡ Some Construct) × (a ≡ Fresh)) → FieldsBegin (Inside owned.0 q)
-          begun (inl role) = do_fields owned.0 q readied_shape fits lives apart_so role
-          begun (inr w) = construct_fields owned.0 q (subst (λ a. Fits p (seen cs) (Some owned.0) (Own z a)) w.1 here_fits).1.0 w.0
 
     -- what a field owns
     module _ (f y : ℕ) (class : method_class p m ≡ Some y) (z : Thing) (a : Age) (kind : filled (field_thing p (home_holder fr.home) f) (field sh f) ≡ Own z a)
@@ -580,10 +572,10 @@ module _ (p : Image) (t : Typing) (wired : IsWired p) (typed : IsTyped p t) (c :
       piled : (o : Object) × (held s.cells pile ≡ Some o) × (stands_for p o.thing z ≡ true)
       piled = held_own p (seen s.cells) (held s.cells pile) z a (subst (λ k. Fits p (seen s.cells) (held s.cells pile) k) (claimed (declared p s.cells) ∙ kind) (at_hand.good.fits pile))
 
-      on_entry : (ended : ℕ) → begins_there p m ≡ true → method_role p m ≡ Some Do ⊎ ((method_role p m ≡ Some Construct) × (a ≡ Fresh)) → Entering ended (Inside piled.0 pile) readied_pile
+      on_entry : (ended : ℕ) → begins_there p m ≡ true → Ages a → Entering ended (Inside piled.0 pile) readied_pile
       on_entry ended may ages = record {
         suits = λ x lives other. passed.suits x lives;
-        begun = well_begun piled.0 readied_pile lives u.unworked (target_kind y piled.0 z class piled.2 for) may (fresh_one ages);
+        begun = well_begun piled.0 readied_pile lives u.unworked (target_kind y piled.0 z class piled.2 for) may (fresh_one piled.0 z a here_fits ages);
         settles = settles_not ended readied_pile piled.0 pile u.unworked.0;
         fits = fits;
         words = passed.words;
@@ -592,7 +584,7 @@ module _ (p : Image) (t : Typing) (wired : IsWired p) (typed : IsTyped p t) (c :
         holder = target_holder y piled.0 z class piled.2 for;
         owning = λ i. refl;
         items = same_items;
-        fields = begun ages;
+        fields = begins_fields piled.0 pile readied_pile z a fits lives apart_so here_fits ages;
       }
         where
           same_items : objects readied_pile.entries (items_of ls) ≡ objects sh.entries (items_of ls)
@@ -636,16 +628,6 @@ module _ (p : Image) (t : Typing) (wired : IsWired p) (typed : IsTyped p t) (c :
 
           apart_so : IsApart p (Inside piled.0 pile) (Method fr readied_pile ∷ ls)
           apart_so = (tt, u.none_in, u.unclaimed, inr u.unworked)
-
-          fresh_one :
-              method_role p m ≡ Some Do ⊎ ((method_role p m ≡ Some Construct) × (a ≡ Fresh)) →
-              (method_role p m ≡ Some Do) ⊎ ((method_role p m ≡ Some Construct) × (requested cs piled.0.name ≡ None))
-          fresh_one (inl role) = inl role
-          fresh_one (inr w) = inr (w.0, (subst (λ a. Fits p (seen cs) (Some piled.0) (Own z a)) w.1 here_fits).1.1)
-
-          begun : method_role p m ≡ Some Do ⊎ ((method_role p m ≡ Some Construct) × (a ≡ Fresh)) → FieldsBegin (Inside piled.0 pile)
-          begun (inl role) = do_fields piled.0 pile readied_pile fits lives apart_so role
-          begun (inr w) = construct_fields piled.0 pile (subst (λ a. Fits p (seen cs) (Some piled.0) (Own z a)) w.1 here_fits).1.0 w.0
 
     -- what a place owns is what the method works on
     at_home : {ended : ℕ} (q : Place) (o : Object) (sh' : Shape) → held s.cells q ≡ Some o → Entering ended (Inside o q) sh' → Entering ended (home_at (held s.cells q) q) sh'
@@ -716,8 +698,7 @@ module _ (p : Image) (t : Typing) (wired : IsWired p) (typed : IsTyped p t) (c :
         )
       where
         something : (x : Option Thing) (y : Filling) (z : Thing) (a : Age) → filled x y ≡ Own z a → is_some x ≡ true
-        something None y z a e = cc
-        something (Some x) y z a e = refl
+        something x y z a e = grind arith
 
         -- what a field owns is ready
         ready : (x : Option Thing) (y : Filling) → (method_role p m ≡ Some Do) ⊎ ((method_role p m ≡ Some Construct) × (is_fresh_kind (filled x y) ≡ true)) → method_role p m ≡ Some Do

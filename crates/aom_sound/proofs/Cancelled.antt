@@ -1,5 +1,5 @@
 -- A method that cancels returns: the request of its object is idle, and its signal is taken.
-use Rattle.std.proofs.Common.{Bool, IsTrue, List, Option, Some, ap, cond, false, refl, subst, sym, true, ℕ, ◌∙◌, ◌∷◌, ◌≡◌}
+use Rattle.std.proofs.Common.{Bool, IsTrue, List, Option, Some, ap, cond, false, refl, subst, sym, true, ℕ, ◌∙◌, ◌∷◌, ◌≡◌, arith}
 use Rattle.std.proofs.lemmas.Bool.{ne_eqb, true≢false}
 use Rattle.aom_image.specs.Image.{Image}
 use Rattle.aom_image.specs.Views.{has, method_role}
@@ -27,8 +27,7 @@ use Rattle.aom_sound.specs.State.{AtRoot, Choice, Frame, Home, Inside, State, St
 use Rattle.aom_sound.specs.WellTyped.{EndsWell, Holds, IsAlone, IsApart, IsHoused, Returns, Stack}
 
 pub role_cancels : (r : Option Role) → is_cancel r ≡ true → r ≡ Some Cancel
-role_cancels (Some Cancel) e = refl
-role_cancels _ e = cc
+role_cancels x e = grind arith
 
 module _ (p : Image) (t : Typing) (c : Choice) (s : State) (fr fr2 : Frame) (sh sh2 : Shape) (ls : List Layer) (at_hand : At p t s fr sh (Method fr2 sh2 ∷ ls)) (a : ℕ)
     (r : Returnable p fr sh a) (cancels : is_cancel (method_role p fr.method) ≡ true) where

@@ -6,7 +6,6 @@ use Rattle.aom_classes.specs.Roles.{role_of}
 use Rattle.aom_image.specs.Image.{Image}
 use Rattle.aom_image.specs.Views.{has, instr_at, method_class, method_role}
 use Rattle.aom_image.specs.declared.class.ClassKind.{ClassKind}
-use Rattle.aom_image.specs.declared.class.ClassKind.TheVariants.{Active as An_active}
 use Rattle.aom_image.specs.declared.method.Role.TheVariants.{Cancel as Cancel_role}
 use Rattle.aom_image.specs.declared.method.Thing.{Thing}
 use Rattle.aom_image.specs.declared.method.Thing.TheVariants.{Object as An_object_of}
@@ -35,13 +34,13 @@ use Rattle.aom_sound.proofs.Maps.{one_place}
 use Rattle.aom_sound.proofs.Requesting.{OfObject, active_home, active_listed, has_common, in_state, its, learned, main_of_none, of_object, suits_in}
 use Rattle.aom_sound.proofs.Storing.{Alike, fits_alike, housed_alike, listed_still, on_some, requested_here, requested_there, rerequested_alike, stack_alike}
 use Rattle.aom_sound.proofs.Straight.{At, Law, fits_unowning, settle, stepped, well}
-use Rattle.aom_sound.proofs.Suiting.{timed_on, same_object}
+use Rattle.aom_sound.proofs.Suiting.{same_object}
 use Rattle.aom_sound.specs.Claims.{serves, Layer, Method, claim, declared, entry_claim, home_claim, items_of, objects, root_claim, tasks_of}
 use Rattle.aom_sound.specs.Calls.{result_register}
 use Rattle.aom_sound.specs.Effects.{applied, cancels_if}
 use Rattle.aom_sound.specs.Enlisted.{begun_cells, cancel_method, cancel_of, cancelling, in_phase, is_active, is_cancelling, is_unsettled, on_request, own_request, rerequested, is_idle}
 use Rattle.aom_sound.specs.Laws.{IsWired}
-use Rattle.aom_sound.specs.Places.{In_service, Active, Cancelling, Cell, Elsewhere, Entry, Field, Going, Idle, Object, Phase, Place, Register, Request, Root, held, requested, seen}
+use Rattle.aom_sound.specs.Places.{In_service, Cell, Elsewhere, Entry, Field, Going, Object, Phase, Place, Register, Request, Root, held, requested, seen}
 use Rattle.aom_sound.specs.Requests.{AllSuit, Known, Suits, known_at, phase_state, state_of, states_claim, thing_kind, works_at}
 use Rattle.aom_sound.specs.State.{Choice, Frame, Home, Inside, State, frame_of, home_holder, next, thing_holder}
 use Rattle.aom_sound.specs.WellTyped.{Awaits, EndsWell, Fits, Good, Holds, IsAlone, IsApart, IsHoused, NotIn, Returns, Stack, Stands, Unclaimed, WellTyped, WordFits, by_field}
@@ -55,9 +54,7 @@ settled_only None h = refl
 settled_only (Some r) h = go r.phase h
   where
     go : (q : Phase) → IsTrue (has active_states (phase_state q)) → not (is_unsettled q) ≡ true
-    go Idle h = refl
-    go Active h = refl
-    go _ h = cc
+    go x h = grind arith
 
 -- and what is not active is in one of a server's
 rests_only : (r : Option Request) → IsTrue (has active_states (state_of r)) → in_phase is_active r ≡ false → IsTrue (has server_states (state_of r))
@@ -65,34 +62,24 @@ rests_only None h e = refl
 rests_only (Some r) h e = go r.phase h e
   where
     go : (q : Phase) → IsTrue (has active_states (phase_state q)) → is_active q ≡ false → IsTrue (has server_states (phase_state q))
-    go Idle h e = refl
-    go _ h e = cc
+    go x h e = grind arith
 
 active_state : (r : Option Request) → in_phase is_active r ≡ true → state_of r ≡ active
-active_state None e = cc
-active_state (Some r) e = go r.phase e
-  where
-    go : (q : Phase) → is_active q ≡ true → phase_state q ≡ active
-    go Active e = refl
-    go _ e = cc
+active_state x e = grind arith
 
 active_still : (q : Phase) → is_active q ≡ true → is_cancelling q ≡ false
-active_still Active e = refl
-active_still _ e = cc
+active_still x e = grind arith
 
 active_made : (q : Phase) → is_active q ≡ true → is_idle q ≡ false
-active_made Active e = refl
-active_made _ e = cc
+active_made x e = grind arith
 
 -- what is active is not being cancelled
 uncancelled : (k : Option ClassKind) (n : Known) (r : Option Request) → is_active_kind k ≡ true → in_phase is_active r ≡ true → Suits k n r → n.cancelled ≡ false
-uncancelled (Some (An_active v b)) n (Some r) e a s = sym s.1 ∙ active_still r.phase a
-uncancelled _ n _ e a s = cc
+uncancelled x n y e a s = grind arith
 
 -- and is so once its cancel begins
 suits_cancelling : (k : Option ClassKind) (states : ℕ) (n : Known) (r : Option Request) → is_active_kind k ≡ true → in_phase is_active r ≡ true → IsTrue (has states cancel_open) → Suits k n r → Suits k (record { states = states; cancelled = true }) (on_request cancelling r)
-suits_cancelling (Some (An_active v b)) states n (Some r) e a h s = (h, refl, refl, timed_on v r Cancelling (active_made r.phase a) refl s.3)
-suits_cancelling _ states n _ e a h s = cc
+suits_cancelling x states n y e a h s = grind arith
 
 -- a state that is not active stays once it is cancelled, and an active one is idle
 stays_cancelled : (states k : ℕ) → IsTrue (has (bit_and states server_states) k) → IsTrue (has (once_cancelled states) k)
@@ -119,14 +106,12 @@ unknown_at i x = subst (λ y. WeakerFilling y x) (sym (at_alike 8 Perhaps i)) (u
 
 -- the class of what is cancelled
 cancelled_class : (p : Image) (x : Thing) (m : ℕ) → cancel_of p x ≡ Some m → (c : ℕ) × (x ≡ An_object_of c) × (role_of p c Cancel_role ≡ Some m)
-cancelled_class p (An_object_of c) m e = (c, refl, e)
-cancelled_class p _ m e = cc
+cancelled_class p x m e = grind arith
 
 -- a class of active objects has a method that cancels
 has_cancel : (p : Image) → IsWired p → (x : Thing) → is_active_kind (thing_kind p x) ≡ true → cancel_of p x ≡ None → ⊥
 unfolding kind_of
-has_cancel p wired (An_object_of c) a e = let found = wired.cancel c a in let clash : Some found.0 ≡ None = sym found.1 ∙ e in cc
-has_cancel p wired _ a e = cc
+has_cancel p wired x a e = grind arith
 
 module _ (p : Image) (t : Typing) (wired : IsWired p) (typed : IsTyped p t) (c : Choice) (s : State) (fr : Frame) (sh : Shape) (ls : List Layer) (at_hand : At p t s fr sh ls)
     (is_kind : is_active_kind (own_kind p fr.method) ≡ true) (leads : Leads t fr.method (suc fr.place) (after_cancel sh)) where
@@ -261,8 +246,7 @@ module _ (p : Image) (t : Typing) (wired : IsWired p) (typed : IsTyped p t) (c :
         none = uncancelled (own_kind p fr.method) (known_at p fr sh.states below) request is_kind is_active_now it.suits
 
         rest : (x y : Bool) → (x || y) ≡ false → y ≡ false
-        rest true y e = cc
-        rest false y e = e
+        rest x y e = grind arith
 
         go : (b : Bool) → (cond b (known_at p fr idle below) below).cancelled ≡ false
         go true = none

@@ -18,20 +18,20 @@ use Rattle.aom_sound.proofs.Claimed.{claim_entry_above, claim_going_above}
 use Rattle.aom_sound.proofs.Clearing.{begins_over}
 use Rattle.aom_sound.proofs.Fitting.{fits, leaves_so, off_of}
 use Rattle.aom_sound.proofs.Items.{length_forms, no_mark}
-use Rattle.aom_sound.proofs.Guarded.{goes_same, guarded_goes, guarded_met}
+use Rattle.aom_sound.proofs.Guarded.{acts_at, goes_same, guarded_goes, guarded_met}
 use Rattle.aom_sound.proofs.Maps.{at-put_at, held_moved, same_place-true, same_place_refl}
 use Rattle.aom_sound.proofs.Straight.{claim_register, fits_unowning}
 use Rattle.aom_sound.specs.Calls.{called, result_register}
-use Rattle.aom_sound.specs.Claims.{Ending, Dispatching, Dying, Form, Layer, Mark, Mark_form, Method, Unwinding, declared, forms, items_of, objects, tasks_of}
+use Rattle.aom_sound.specs.Claims.{Dispatching, Form, Layer, Mark, Mark_form, Method, Unwinding, declared, forms, items_of, objects, tasks_of}
 use Rattle.aom_sound.specs.Cleanup.{arrival, arrived, code_told, destroyed, has_trap, operation_frame, to_trap, unwound}
 use Rattle.aom_classes.specs.Roles.{destructor_of}
 use Rattle.aom_sound.specs.Destruction.{begun_by}
 use Rattle.aom_sound.specs.Laws.{IsWired}
 use Rattle.aom_sound.specs.Leaves.{AreEntries, AreMethods, Arrives, ArrivesAt, Begins, HasMoved, HasNoResult, HasPushed, Hears, IsBegun, IsDestroyed, IsLeaving, IsOver, LeavesWith}
 use Rattle.aom_sound.specs.Steps.{Fits as MayHave}
-use Rattle.aom_sound.specs.Moves.{announcement, counted, does, main_left, needs, step, step_instr, step_task, written_task}
+use Rattle.aom_sound.specs.Moves.{announcement, counted, does, main_left, needs, step, step_task, written_task}
 use Rattle.aom_sound.specs.Places.{Cell, Entry, Going, Object, Place, Register, held, moved, named, same_place, seen}
-use Rattle.aom_sound.specs.State.{Destroy, Closing, Of_server, Accepts, Accept_left, Serves, Of_object, A_mark, An_object, An_operation, Choice, Dispatch, Dispatched, Frame, Goes, Inside, IsStuck, Item, Main_left, NullOrDead, Of_main, Run, State, Task, Trapped, Unwind, frame_of, next, set_word, word}
+use Rattle.aom_sound.specs.State.{Destroy, Closing, Of_server, Accepts, Serves, Of_object, A_mark, An_object, An_operation, Choice, Dispatch, Dispatched, Frame, Goes, Inside, Item, Main_left, NullOrDead, Of_main, Run, State, Task, Trapped, Unwind, frame_of, next, set_word, word}
 use Rattle.aom_sound.specs.WellTyped.{AllUndo, Awaits, EndsDispatch, Fits, Good, Keeps, Leaves, Now, Stack, WellTyped}
 use Rattle.aom_sound.specs.Effects.{Leaves, Update, applied}
 use Rattle.aom_sound.specs.Words.{word_or_zero}
@@ -55,13 +55,10 @@ split (x ∷ es) fs (An_operation m w ∷ all) e =
     let same : forms all ≡ objects es (Mark_form ∷ fs) = cc in
     let r = split es fs all same in
     (An_operation m w ∷ r.0, r.1, ap (λ l. An_operation m w ∷ l) r.2, r.3)
-split (x ∷ es) fs (A_mark ∷ all) e = absurd (no_mark x cc)
-split _ fs _ e = cc
+split _ fs _ e = grind (arith, no_mark)
 
 no_dispatch : {A : Type 0} (p : Image) (d : Dispatch) → EndsDispatch p d Leaves → A
-no_dispatch p Of_main e = absurd e
-no_dispatch p (Of_server x c (Accept_left code)) e = absurd e
-no_dispatch p _ e = absurd e
+no_dispatch p x e = grind arith
 
 -- a leave on top has entries over the mark of its trap
 pub splits :
@@ -74,13 +71,9 @@ splits p t s w code below at =
     under :
         (es : List Pushed) (ls : List Layer) → forms s.items ≡ objects es (items_of ls) → Stack p t s.cells Leaves ls →
         (entries : List Item) × (items : List Item) × (s.items ≡ entries ++ (A_mark ∷ items)) × AreEntries entries
-    under es [] f stack = cc
-    under es (Method fr sh ∷ ls) f stack = absurd stack.0
     under es (Mark gv ∷ ls) f stack = split es (items_of ls) s.items f
-    under es (Dying o ∷ ls) f stack = absurd stack.1
-    under es (Ending o left ∷ ls) f stack = absurd stack.1
-    under es (Unwinding x fs ∷ ls) f stack = absurd stack.0
     under es (Dispatching d seats ∷ ls) f stack = no_dispatch p d stack.0
+    under es _ f stack = grind arith
 
     go :
         (ls : List Layer) → Unwind code ∷ below ≡ tasks_of ls → forms s.items ≡ items_of ls → Stack p t s.cells Now ls →
@@ -127,8 +120,7 @@ trapping (Trapped ∷ ts) e = record { methods = []; below = ts; all = refl; ove
 trapping _ e = cc
 
 is_there : {A : Type 0} (x : Option A) → is_some x ≡ true → (y : A) × (x ≡ Some y)
-is_there None e = cc
-is_there (Some y) e = (y, refl)
+is_there x e = grind arith
 
 module _ (p : Image) (t : Typing) (c : Choice) (fr : Frame) (ts : List Task) (s u : State) (at_hand : s.tasks ≡ Run fr ∷ ts) (w : WellTyped p t s) (keeps : WellTyped p t u) where
   -- the leave is at hand over the innermost trap
@@ -173,11 +165,8 @@ pub begins :
     (p : Image) (t : Typing) → IsWired p → IsTyped p t → (c : Choice) (s u : State) → WellTyped p t s → named s.cells c.name ≡ None →
     (fr : Frame) (ts : List Task) (i : Instr) (code : ℤ) → s.tasks ≡ Run fr ∷ ts → instr_at p fr.method fr.place ≡ Some i → LeavesWith c fr i code → step p c s ≡ Goes u → Begins p code fr (length ts) i s u
 begins p t wired typed c s u w unused fr ts i code at there h e =
-    let v = counted p s in
-    let e' : step_instr p c fr ts v (Some i) ≡ Goes u = subst (λ x. step_instr p c fr ts v x ≡ Goes u) there (subst (λ l. step_task p c v l ≡ Goes u) at e) in
-    begins_by p t c fr ts s u at w (subst (λ o. Keeps p t o) e (step_keeps p t wired typed c s w unused)) i code h
-    (guarded_met (needs p c fr ts v i) (does p c fr ts v i) u e')
-    (guarded_goes (needs p c fr ts v i) (does p c fr ts v i) u e')
+    let a = acts_at p c s u fr ts i at there e in
+    begins_by p t c fr ts s u at w (subst (λ o. Keeps p t o) e (step_keeps p t wired typed c s w unused)) i code h a.0 a.1
 
 -- ---- the entry that is dealt with
 
@@ -198,21 +187,18 @@ module _ (p : Image) (t : Typing) (wired : IsWired p) (s u : State) (w : WellTyp
   abbrev Dealt : Item → List Item → State → Type 0
   Dealt i rest v = IsOver p (length v.items) code below v.tasks × (v.items ≡ rest) × IsBegun p (Unwind code ∷ below) i (length rest) s v
 
-  of_object : (rest : List Item) (o : Option Object) → held s.cells (Entry (length rest)) ≡ o → is_some o ≡ true → Dealt An_object rest (destroyed p o rest (Unwind code ∷ below) (counted p s))
-  of_object rest None there some = cc
-  of_object rest (Some o) there some =
+  of_object : (rest : List Item) → is_some (held s.cells (Entry (length rest))) ≡ true → Dealt An_object rest (destroyed p (held s.cells (Entry (length rest))) rest (Unwind code ∷ below) (counted p s))
+  of_object rest some =
+      let o = is_there (held s.cells (Entry (length rest))) some in
       let g = Going (length (Unwind code ∷ below)) in
       let free = none_on_its_way p t s w (Unwind code ∷ below) at_hand in
-      (begins_over p wired o (length rest) code below (Unwind code ∷ below) (refl, refl), refl, (o, has_moved s.cells (Entry (length rest)) g o there free refl, destroyed_over (is_server p o.thing) (destructor_of p o.thing) o (length rest) (Unwind code ∷ below)))
-
-  of_whole :
-      (rest : List Item) (b : Bool) → is_some (held s.cells (Entry (length rest))) ≡ b →
-      cond b (Goes (destroyed p (held s.cells (Entry (length rest))) rest (Unwind code ∷ below) (counted p s))) (IsStuck NullOrDead) ≡ Goes u → Dealt An_object rest u
-  of_whole rest true some e = subst (λ v. Dealt An_object rest v) (goes_same _ u e) (of_object rest (held s.cells (Entry (length rest))) refl some)
-  of_whole rest false some e = cc
+      subst (λ x. Dealt An_object rest (destroyed p x rest (Unwind code ∷ below) (counted p s))) (sym o.1)
+      (begins_over p wired o.0 (length rest) code below (Unwind code ∷ below) (refl, refl), refl, (o.0, has_moved s.cells (Entry (length rest)) g o.0 o.1 free refl, destroyed_over (is_server p o.0.thing) (destructor_of p o.0.thing) o.0 (length rest) (Unwind code ∷ below)))
 
   of_item : AllUndo p s.items → (i : Item) (rest es : List Item) → s.items ≡ i ∷ rest → AreEntries (i ∷ es) → unwound p code below (counted p s) (i ∷ rest) ≡ Goes u → Dealt i rest u
-  of_item undos An_object rest es same plain e = of_whole rest (is_some (held s.cells (Entry (length rest)))) refl e
+  of_item undos An_object rest es same plain e =
+      let whole = (is_some (held s.cells (Entry (length rest))), NullOrDead) ∷ [] in
+      subst (λ v. Dealt An_object rest v) (guarded_goes whole _ u e) (of_object rest (guarded_met whole _ u e).0)
   of_item undos (An_operation m x) rest es same plain e =
       let fr = operation_frame m x (length rest) in
       let undo = subst (λ l. AllUndo p l) same undos in
@@ -221,9 +207,7 @@ module _ (p : Image) (t : Typing) (wired : IsWired p) (s u : State) (w : WellTyp
   of_item undos A_mark rest es same plain e = absurd plain
 
 others : (i : Item) (rest : List Item) → AreEntries (i ∷ rest) → AreEntries rest
-others An_object rest h = h
-others (An_operation m w) rest h = h
-others A_mark rest h = absurd h
+others x rest h = grind arith
 
 pub deals :
     (p : Image) (t : Typing) → IsWired p → (c : Choice) (s u : State) → WellTyped p t s →
@@ -321,22 +305,18 @@ module _ (p : Image) (t : Typing) (s u : State) (code : ℤ) (items : List Item)
   below_trap :
       (ls : List Layer) (gv : Gives) (es : List Pushed) → Good p t s.cells (Unwinding code es ∷ Mark gv ∷ ls) → arrived p code (Trapped ∷ tasks_of ls) items (counted p s) ≡ Goes u →
       Arrived (Trapped ∷ tasks_of ls) u
-  below_trap [] gv es good e = cc
   below_trap (Method fr sh ∷ ls) gv es good e = subst (λ v. Arrived (Trapped ∷ Run fr ∷ tasks_of ls) v) (goes_same _ u e) (at_method fr sh ls gv es good)
-  below_trap (Dying o ∷ ls) gv es good e = absurd good.stack.1.1.1
-  below_trap (Ending o left ∷ ls) gv es good e = absurd good.stack.1.1.1
   below_trap (Dispatching (Of_server x c Accepts) seats ∷ ls) gv es good e = subst (λ v. Arrived (Trapped ∷ Dispatched (Of_server x c Accepts) ∷ tasks_of ls) v) (goes_same _ u e) (refl, refl, refl)
   below_trap (Dispatching (Of_server x c (Serves o)) seats ∷ ls) gv es good e =
       subst (λ v. Arrived (Trapped ∷ Dispatched (Of_server x c (Serves o)) ∷ tasks_of ls) v) (goes_same _ u e) (refl, refl, refl)
   below_trap (Dispatching Of_main seats ∷ ls) gv es good e = subst (λ v. Arrived (Trapped ∷ Dispatched Of_main ∷ tasks_of ls) v) (goes_same _ u e) (refl, refl, refl)
   below_trap (Dispatching (Of_object x) seats ∷ ls) gv es good e = subst (λ v. Arrived (Trapped ∷ Dispatched (Of_object x) ∷ tasks_of ls) v) (goes_same _ u e) (refl, refl, refl)
-  below_trap _ gv es good e = absurd good.stack.1.1.0
+  below_trap _ gv es good e = grind arith
 
   below_leave : (ls : List Layer) (es : List Pushed) → Good p t s.cells (Unwinding code es ∷ ls) → arrived p code (tasks_of ls) items (counted p s) ≡ Goes u → Arrived (tasks_of ls) u
   below_leave (Mark gv ∷ ls) es good e = below_trap ls gv es good e
   below_leave (Dispatching d seats ∷ ls) es good e = no_dispatch p d good.stack.1.0
-  below_leave [] es good e = cc
-  below_leave _ es good e = absurd (assumption tt)
+  below_leave _ es good e = grind arith
 
   by_layers : (below : List Task) (ls : List Layer) → tasks_of ls ≡ Unwind code ∷ below → Good p t s.cells ls → arrived p code below items (counted p s) ≡ Goes u → Arrived below u
   by_layers below (Unwinding x es ∷ ls) at good e =

@@ -79,8 +79,7 @@ module _ (p : Image) (t : Typing) (wired : IsWired p) (s : State) (w : WellTyped
       let none = (queued_lower p wired owner.0 o.thing owner.3).0 in
       let low : 0 < 0 = subst (λ x. 0 < rank x) none pos in
       absurd (omega (arith, low))
-  follow _ o (by_server {w = Root} z q other there held_so ends) e pos = cc
-  follow _ o (by_server {w = In_service} z q other there held_so ends) e pos = cc
+  follow _ o (by_server z q other there held_so ends) e pos = cc
 
   -- so what a place owns sits there, and nothing that stands lower sits with it
   pub chain : (q : Place) (o : Object) → held s.cells q ≡ Some o → 0 < rank o.thing →

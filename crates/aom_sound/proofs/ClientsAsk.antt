@@ -1,6 +1,7 @@
 -- What a client asks of a server, and what it sends, is kept: by the entry that is queued last.
+use Rattle.std.proofs.Math.Bool.{or-false}
 use Rattle.std.proofs.Common.{[], Bool, List, None, Option, Some, ap, arith, cond, false, refl, subst, sym, true, ℕ, ◌&&◌, ◌<◌, ◌==◌, ◌∙◌, ◌∷◌, ◌≡◌, ◌≤◌}
-use Rattle.std.proofs.lemmas.Bool.{eq-eqb, eqb-true, le-ltb, ne_eqb, true≢false, ltb-true}
+use Rattle.std.proofs.lemmas.Bool.{eq-eqb, eqb-true, le-ltb, ne_eqb, true≢false, ltb-true, and_parts}
 use Rattle.std.proofs.lemmas.List.Folds.{list_any-append}
 use Rattle.std.specs.List.{list_any}
 use Rattle.std.specs.Prelude.{is_some, nat_lt, ◌||◌}
@@ -8,23 +9,22 @@ use Rattle.aom_image.specs.Image.{Image}
 use Rattle.aom_image.specs.declared.class.ClassKind.{ClassKind}
 use Rattle.aom_image.specs.declared.class.ClassKind.TheVariants.{Server as A_server}
 use Rattle.aom_image.specs.declared.method.Thing.{Thing}
-use Rattle.aom_image.specs.declared.method.Thing.TheVariants.{Message, Object as An_object_of}
+use Rattle.aom_image.specs.declared.method.Thing.TheVariants.{Object as An_object_of}
 use Rattle.aom_clients.specs.Nodes.{is_connecting_at, is_open_at}
 use Rattle.aom_clients.specs.Table.{row, server_of}
 use Rattle.aom_clients.specs.declared.client.Client.{Client}
-use Rattle.aom_clients.specs.declared.client.Client.TheVariants.{Connecting, Gone, Unconnected}
+use Rattle.aom_clients.specs.declared.client.Client.TheVariants.{Connecting}
 use Rattle.aom_clients.specs.declared.refusal.Refusal.{Refusal}
-use Rattle.aom_clients.specs.declared.refusal.Refusal.TheVariants.{ServerBusy}
 use Rattle.aom_roles.specs.Classes.{sessions_in, sessions_of}
 use Rattle.aom_roles.specs.Shapes.{kind_of}
-use Rattle.aom_sound.proofs.ClientsFit.{IsFree, by_server, fit_changed, none_of_free, names_then, servers_then, seats_then, enlisted_then}
+use Rattle.aom_sound.proofs.ClientsFit.{senders_then, IsFree, by_server, fit_changed, none_of_free, names_then, servers_then, seats_then, enlisted_then}
 use Rattle.aom_sound.proofs.Maps.{same_place-true}
 use Rattle.aom_sound.proofs.Queues.{client_here, none_passes, queue_last, queue_other}
 use Rattle.aom_sound.proofs.Seated.{seats_asked, seats_none}
 use Rattle.aom_sound.proofs.Services.{service_unnamed}
 use Rattle.aom_sound.specs.Clients.{Listed, among_listed, asked_of, asked_server, client_at, earlier, first_listed, is_of_class, most_of, with_client}
 use Rattle.aom_sound.specs.Enlisted.{thing_kind}
-use Rattle.aom_sound.specs.Kept.{ClientsFit, EntryFits, QueueFits, is_connect_of, is_message_of}
+use Rattle.aom_sound.specs.Kept.{ClientsFit, EntryFits, QueueFits, is_connect_of, is_message_of, asked_again}
 use Rattle.aom_sound.specs.Places.{Asked, Cell, Connect_of, Elsewhere, Message_of, Object, Queued, Request, Service, Tidy, held, named, same_place, service_of, requested}
 use Rattle.aom_sound.specs.Servers.{asked_last, has_session, is_from, is_message, is_server, reserved, seats_taken}
 
@@ -83,8 +83,7 @@ asked_listed : (p : Image) (class : ℕ) (cs : List Cell) (x : Listed) → asked
 asked_listed p class cs x = go (is_server p (An_object_of class))
   where
     go : (b : Bool) → cond b (first_listed class cs) None ≡ Some x → first_listed class cs ≡ Some x
-    go true e = e
-    go false e = cc
+    go x e = grind arith
 
 pub asked_there : (p : Image) (class : ℕ) (cs : List Cell) (x : Listed) → Tidy cs → asked_server p class cs ≡ Some x → IsListed class cs x
 asked_there p class cs x t e = listed_there class cs x t (asked_listed p class cs x e)
@@ -96,34 +95,50 @@ takes_some (Some (A_server most session budget)) n e = refl
 takes_some _ n e = absurd (true≢false (sym e ∙ le-ltb n 0 (omega arith)))
 
 pub listed_serves : (p : Image) (class n : ℕ) (x : Thing) → is_of_class class x ≡ true → nat_lt n (most_of (kind_of p (Some class))) ≡ true → is_server p x ≡ true
-listed_serves p class n (An_object_of d) of room = ap (λ k. is_some (sessions_in (kind_of p (Some k)))) (eqb-true d class of) ∙ takes_some (kind_of p (Some class)) n room
-listed_serves p class n Message of room = cc
+listed_serves p class n x of room = grind (arith, eqb-true, takes_some)
 
 -- and so it has a seat left
 pub listed_room :
     (p : Image) (class : ℕ) (v : Service) (x : Thing) → is_of_class class x ≡ true → nat_lt (seats_taken v) (most_of (kind_of p (Some class))) ≡ true →
     seats_taken v < most_of (thing_kind p x)
-listed_room p class v (An_object_of d) of room =
-    subst (λ k. seats_taken v < most_of (kind_of p (Some k))) (sym (eqb-true d class of)) (ltb-true (seats_taken v) (most_of (kind_of p (Some class))) room)
-listed_room p class v Message of room = cc
+listed_room p class v x of room = grind (arith, eqb-true, ltb-true)
 
 -- a connect that is not refused
 pub asked_none : (r : Option Refusal) (most : ℕ) (x : Listed) (cs : List Cell) → asked_of r most (Some x) cs ≡ None → (r ≡ None) × (nat_lt (seats_taken (service_of cs x.name)) most ≡ true)
-asked_none (Some refusal) most x cs e = cc
-asked_none None most x cs e = (refl, go (nat_lt (seats_taken (service_of cs x.name)) most) e)
-  where
-    go : (b : Bool) → cond b None (Some ServerBusy) ≡ None → b ≡ true
-    go true e = refl
-    go false e = cc
+asked_none y most x cs e = grind arith
 
 pub connects_free : (k : Client) → (row k).connect ≡ None → IsFree k
-connects_free Unconnected e = record { connects = λ n. refl; opens = λ n. refl; leaves = λ n. refl; alone = refl }
-connects_free Gone e = record { connects = λ n. refl; opens = λ n. refl; leaves = λ n. refl; alone = refl }
-connects_free _ e = cc
+connects_free x e = grind arith
 
-or_false : (b : Bool) → (b || false) ≡ b
-or_false true = refl
-or_false false = refl
+-- ---- one more entry waits at a server
+
+module _ (p : Image) (clients : List Client) (cs : List Cell) (fit : ClientsFit p clients cs) (o : Object) (lives : named cs o.name ≡ Some o) where
+  -- which is of its sender, where it is a message
+  senders_asked :
+      (e : Asked) → ((d m : ℕ) → is_message_of d m e ≡ true → is_from d (service_of cs m).sender ≡ true) →
+      (n d m : ℕ) → list_any (is_message_of d m) (service_of (reserved (asked_last e) o.name cs) n).queue ≡ true → is_from d (service_of (reserved (asked_last e) o.name cs) m).sender ≡ true
+  senders_asked e own = senders_then p cs o lives (asked_last e) clients fit (λ d h. h)
+      (λ d m h. last d m (list_any (is_message_of d m) (service_of cs o.name).queue) refl (sym (list_any-append (is_message_of d m) (service_of cs o.name).queue (e ∷ [])) ∙ h))
+    where
+      last : (d m : ℕ) (b : Bool) → list_any (is_message_of d m) (service_of cs o.name).queue ≡ b → (b || (is_message_of d m e || false)) ≡ true → is_from d (service_of cs m).sender ≡ true
+      last d m true at h = fit.senders o.name d m at
+      last d m false at h = own d m (sym (or-false (is_message_of d m e)) ∙ h)
+
+  -- with clients that are at what they were
+  pub fit_asked :
+      is_server p o.thing ≡ true → is_some (requested cs o.name) ≡ true → (e : Asked) → EntryFits clients o.name e → list_any (asked_again e) (service_of cs o.name).queue ≡ false →
+      ((d m : ℕ) → is_message_of d m e ≡ true → is_from d (service_of cs m).sender ≡ true) → seats_taken (asked_last e (service_of cs o.name)) ≤ most_of (thing_kind p o.thing) →
+      ClientsFit p clients (reserved (asked_last e) o.name cs)
+  fit_asked serves listed e entry new own room = record {
+    queues = by_server p cs o lives (asked_last e) (λ n v. QueueFits clients n v.queue) (queue_last clients o.name e (service_of cs o.name).queue entry new (fit.queues o.name)) (λ n other. fit.queues n);
+    sessions = by_server p cs o lives (asked_last e) (λ n v. (d : ℕ) → has_session v d ≡ true → server_of (client_at clients d) ≡ Some n) (fit.sessions o.name) (λ n other. fit.sessions n);
+    listed = by_server p cs o lives (asked_last e) (λ n v. (d : ℕ) → server_of (client_at clients d) ≡ Some n → has_session v d ≡ true) (fit.listed o.name) (λ n other. fit.listed n);
+    servers = servers_then p cs o lives (asked_last e) serves clients fit;
+    names = names_then p cs o lives (asked_last e) serves clients fit;
+    senders = senders_asked e own;
+    enlisted = enlisted_then p cs o lives (asked_last e) listed clients fit;
+    seats = seats_then p cs o lives (asked_last e) clients fit room;
+  }
 
 module _ (p : Image) (clients : List Client) (cs : List Cell) (fit : ClientsFit p clients cs) (o : Object) (lives : named cs o.name ≡ Some o) (serves : is_server p o.thing ≡ true)
     (listed : is_some (requested cs o.name) ≡ true) (c : ℕ) where
@@ -141,9 +156,7 @@ module _ (p : Image) (clients : List Client) (cs : List Cell) (fit : ClientsFit 
     listed = λ n h. cc;
     servers = servers_then p cs o lives (asked_last (Connect_of c)) serves clients fit;
     names = names_then p cs o lives (asked_last (Connect_of c)) serves clients fit;
-    senders = λ n d m. by_server p cs o lives (asked_last (Connect_of c)) (λ n v. list_any (is_message_of d m) v.queue ≡ true → is_from d (service_of (reserved (asked_last (Connect_of c)) o.name cs) m).sender ≡ true)
-        (λ h. senders m d (fit.senders o.name d m (sym (list_any-append (is_message_of d m) (service_of cs o.name).queue (Connect_of c ∷ []) ∙ or_false (list_any (is_message_of d m) (service_of cs o.name).queue)) ∙ h)))
-        (λ n other h. senders m d (fit.senders n d m h)) n;
+    senders = senders_asked p clients cs fit o lives (Connect_of c) (λ d m h. cc);
     enlisted = enlisted_then p cs o lives (asked_last (Connect_of c)) listed clients fit;
     seats = seats_then p cs o lives (asked_last (Connect_of c)) clients fit (let one = seats_asked (Connect_of c) (service_of cs o.name) in omega (arith, room, one));
   }
@@ -155,14 +168,10 @@ module _ (p : Image) (clients : List Client) (cs : List Cell) (fit : ClientsFit 
       entry = ap (λ x. is_connecting_at o.name x) (client_here c (Connecting o.name slots) clients) ∙ eq-eqb o.name o.name refl
 
       never : (e : Asked) → is_connect_of c e ≡ true → EntryFits clients o.name e → ⊥
-      never (Connect_of d) at f = true≢false (sym (ap (λ k. is_connecting_at o.name (client_at clients k)) (sym (eqb-true d c at)) ∙ f) ∙ free.connects o.name)
-      never _ at f = cc
+      never x at f = grind arith
 
       unlisted : (n : ℕ) → has_session (service_of cs n) c ≡ true → None ≡ Some n
       unlisted n h = sym free.alone ∙ fit.sessions n c h
-
-      senders : (m d : ℕ) → is_from d (service_of cs m).sender ≡ true → is_from d (service_of (reserved (asked_last (Connect_of c)) o.name cs) m).sender ≡ true
-      senders m d = by_server p cs o lives (asked_last (Connect_of c)) (λ m v. is_from d (service_of cs m).sender ≡ true → is_from d v.sender ≡ true) (λ h. h) (λ n other h. h) m
 
 -- ---- a new cell
 
@@ -228,29 +237,11 @@ module _ (p : Image) (clients : List Client) (cs : List Cell) (fit : ClientsFit 
   pub fit_sent :
       is_open_at o.name (client_at clients c) ≡ true → list_any (is_message m) (service_of cs o.name).queue ≡ false → is_from c (service_of cs m).sender ≡ true →
       ClientsFit p clients (reserved (asked_last (Message_of c m)) o.name cs)
-  fit_sent open_there new from = record {
-    queues = by_server p cs o lives (asked_last (Message_of c m)) (λ n v. QueueFits clients n v.queue) (queue_last clients o.name (Message_of c m) (service_of cs o.name).queue open_there new (fit.queues o.name)) (λ n e. fit.queues n);
-    sessions = by_server p cs o lives (asked_last (Message_of c m)) (λ n v. (d : ℕ) → has_session v d ≡ true → server_of (client_at clients d) ≡ Some n) (fit.sessions o.name) (λ n e. fit.sessions n);
-    listed = by_server p cs o lives (asked_last (Message_of c m)) (λ n v. (d : ℕ) → server_of (client_at clients d) ≡ Some n → has_session v d ≡ true) (fit.listed o.name) (λ n e. fit.listed n);
-    servers = servers_then p cs o lives (asked_last (Message_of c m)) serves clients fit;
-    names = names_then p cs o lives (asked_last (Message_of c m)) serves clients fit;
-    senders = λ n d k. by_server p cs o lives (asked_last (Message_of c m)) (λ n v. list_any (is_message_of d k) v.queue ≡ true → is_from d (service_of (reserved (asked_last (Message_of c m)) o.name cs) k).sender ≡ true)
-        (λ h. senders k d (last d k (list_any (is_message_of d k) (service_of cs o.name).queue) refl (sym (list_any-append (is_message_of d k) (service_of cs o.name).queue (Message_of c m ∷ [])) ∙ h)))
-        (λ n other h. senders k d (fit.senders n d k h)) n;
-    enlisted = enlisted_then p cs o lives (asked_last (Message_of c m)) listed clients fit;
-    seats = seats_then p cs o lives (asked_last (Message_of c m)) clients fit (let one = seats_asked (Message_of c m) (service_of cs o.name) in let was = fit.seats o lives in omega (arith, one, was));
-  }
+  fit_sent open_there new from =
+      fit_asked p clients cs fit o lives serves listed (Message_of c m) open_there new own
+      (let one = seats_asked (Message_of c m) (service_of cs o.name) in let was = fit.seats o lives in omega (arith, one, was))
     where
-      senders : (k d : ℕ) → is_from d (service_of cs k).sender ≡ true → is_from d (service_of (reserved (asked_last (Message_of c m)) o.name cs) k).sender ≡ true
-      senders k d = by_server p cs o lives (asked_last (Message_of c m)) (λ k v. is_from d (service_of cs k).sender ≡ true → is_from d v.sender ≡ true) (λ h. h) (λ n other h. h) k
-
-      both : (a b : Bool) → (a && b) ≡ true → (a ≡ true) × (b ≡ true)
-      both true true e = (refl, refl)
-      both true false e = cc
-      both false b e = cc
-
-      last : (d k : ℕ) (b : Bool) → list_any (is_message_of d k) (service_of cs o.name).queue ≡ b → (b || (((c == d) && (m == k)) || false)) ≡ true → is_from d (service_of cs k).sender ≡ true
-      last d k true at h = fit.senders o.name d k at
-      last d k false at h =
-          let own = both (c == d) (m == k) (sym (or_false ((c == d) && (m == k))) ∙ h) in
-          subst (λ i. is_from d (service_of cs i).sender ≡ true) (eqb-true m k own.1) (subst (λ i. is_from i (service_of cs m).sender ≡ true) (eqb-true c d own.0) from)
+      own : (d k : ℕ) → ((c == d) && (m == k)) ≡ true → is_from d (service_of cs k).sender ≡ true
+      own d k h =
+          let same = and_parts (c == d) (m == k) h in
+          subst (λ i. is_from d (service_of cs i).sender ≡ true) (eqb-true m k same.1) (subst (λ i. is_from i (service_of cs m).sender ≡ true) (eqb-true c d same.0) from)

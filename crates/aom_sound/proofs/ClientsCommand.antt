@@ -1,6 +1,6 @@
 -- What a client's command comes to is kept: it connects, sends, closes or dies, or nothing comes of it.
-use Rattle.std.proofs.Common.{[], Bool, List, None, Option, Some, ap, cond, false, refl, subst, sym, true, ℕ, ℤ, ◌&&◌, ◌==◌, ◌∙◌, ◌∷◌, ◌≡◌}
-use Rattle.std.proofs.lemmas.Bool.{eq-eqb, eqb-true, ne_eqb, true≢false}
+use Rattle.std.proofs.Common.{[], Bool, List, None, Option, Some, ap, cond, false, refl, subst, sym, true, ℕ, ℤ, ◌&&◌, ◌==◌, ◌∙◌, ◌∷◌, ◌≡◌, arith}
+use Rattle.std.proofs.lemmas.Bool.{eq-eqb, ne_eqb, true≢false, or_parts}
 use Rattle.std.specs.List.{list_any}
 use Rattle.std.specs.Prelude.{nat_lt, ◌||◌, is_some}
 use Rattle.aom_image.specs.Image.{Image}
@@ -14,7 +14,7 @@ use Rattle.aom_roles.specs.Shapes.{kind_of}
 use Rattle.aom_sound.proofs.ClientsAsk.{asked_none, connects_free, fit_connecting, fit_sent, fit_with, listed_room, listed_serves, asked_there}
 use Rattle.aom_sound.proofs.ClientsLeave.{empty, fit_told, fit_withdrawn, queue_leaving, queue_left, service_left}
 use Rattle.aom_sound.proofs.Maps.{named_name}
-use Rattle.aom_sound.proofs.Queues.{client_here, front_none, none_passes, none_stays}
+use Rattle.aom_sound.proofs.Queues.{client_here, none_passes, none_stays}
 use Rattle.aom_sound.proofs.Services.{service_unnamed}
 use Rattle.aom_sound.proofs.Sifted.{a_cell_of, cell_of, named_cell, named_sifted, service_cell, service_in, withdrawn_so, requested_before}
 use Rattle.aom_sound.specs.Clients.{asked_server, Listed, asked_of, client_at, commanded, connecting, leaving, most_of, refusal, sending, told, with_client, with_message}
@@ -27,15 +27,26 @@ use Rattle.aom_transcript.specs.declared.event.Command.TheVariants.{Close, Conne
 
 -- ---- what stands where clients are
 
+-- a message as its client sends it to a server
+abbrev pub sent_message : ℕ → ℕ → List ℤ → ℕ → Cell
+sent_message c name words server = record {
+  object = record { name = name; thing = Message };
+  words = words;
+  request = None;
+  session = false;
+  service = record unserved { sender = Some (record { client = c; holds_slot = true; is_told = true }) };
+  owner = Elsewhere (Queued server name);
+}
+
 -- no client has a message of that name there, so that none waits
 pub none_named : (m : ℕ) (es : List Asked) → ((d : ℕ) → list_any (is_message_of d m) es ≡ false) → list_any (λ e. is_message m e) es ≡ false
 none_named m [] none = refl
 none_named m (Connect_of c ∷ es) none = none_named m es none
 none_named m (Close_of c ∷ es) none = none_named m es none
 none_named m (Message_of c k ∷ es) none =
-    let own = (front_none ((c == c) && (k == m)) (list_any (is_message_of c m) es) (none c)).0 in
+    let own = (or_parts ((c == c) && (k == m)) (list_any (is_message_of c m) es) (none c)).0 in
     ap (λ b. b || list_any (λ e. is_message m e) es) (sym (ap (λ b. b && (k == m)) (eq-eqb c c refl)) ∙ own)
-    ∙ none_named m es (λ d. (front_none ((c == d) && (k == m)) (list_any (is_message_of d m) es) (none d)).1)
+    ∙ none_named m es (λ d. (or_parts ((c == d) && (k == m)) (list_any (is_message_of d m) es) (none d)).1)
 
 module _ (p : Image) (c : ℕ) (s : State) (tidy : Tidy s.cells) (fit : ClientsFit p s.clients s.cells) where
   abbrev own : Client
@@ -103,14 +114,7 @@ module _ (p : Image) (c : ℕ) (s : State) (tidy : Tidy s.cells) (fit : ClientsF
       subst (λ l. ClientsFit p s.clients l) same (subst (λ n. ClientsFit p s.clients (reserved (asked_last (Message_of c name)) n (message ∷ s.cells))) there.1 sent)
     where
       message : Cell
-      message = record {
-        object = record { name = name; thing = Message };
-        words = words;
-        request = None;
-        session = false;
-        service = record unserved { sender = Some (record { client = c; holds_slot = true; is_told = true }) };
-        owner = Elsewhere (Queued server name);
-      }
+      message = sent_message c name words server
 
       there : (o : Object) × (o.name ≡ server) × (named s.cells o.name ≡ Some o) × (is_server p o.thing ≡ true)
       there = server_there server (fit.listed server c (ap server_of at))
@@ -127,11 +131,8 @@ module _ (p : Image) (c : ℕ) (s : State) (tidy : Tidy s.cells) (fit : ClientsF
       same : reserved (asked_last (Message_of c name)) server (message ∷ s.cells) ≡ with_message p c s name words server
       same = ap (λ b. record message { service = cond b (asked_last (Message_of c name) (cond b message.service (service_of s.cells server))) message.service } ∷ set_service server (asked_last (Message_of c name) (cond b message.service (service_of s.cells server))) s.cells) other_server
 
-      placed : (n m : ℕ) → Elsewhere (Queued server name) ≡ Elsewhere (Queued n m) → name ≡ m
-      placed n m e = cc
-
       with_it : ClientsFit p s.clients (message ∷ s.cells)
-      with_it = fit_with p s.clients s.cells message free refl refl placed fit
+      with_it = fit_with p s.clients s.cells message free refl refl (λ n m e. cc) fit
 
       sent : ClientsFit p s.clients (reserved (asked_last (Message_of c name)) there.0.name (message ∷ s.cells))
       sent = fit_sent p s.clients (message ∷ s.cells) with_it there.0 (ap (λ b. cond b (Some message.object) (named s.cells there.0.name)) other ∙ there.2) there.3 (ap (λ b. is_some (cond b None (requested s.cells there.0.name))) other ∙ listed) c name
@@ -147,8 +148,7 @@ module _ (p : Image) (c : ℕ) (s : State) (tidy : Tidy s.cells) (fit : ClientsF
     no_close stays n = none_passes (is_close_of c) s.clients n never (service_of s.cells n).queue (fit.queues n)
       where
         never : (e : Asked) → is_close_of c e ≡ true → EntryFits s.clients n e → ⊥
-        never (Close_of d) at f = true≢false (sym (ap (λ k. is_leaving n (client_at s.clients k)) (sym (eqb-true d c at)) ∙ f) ∙ stays n)
-        never _ at f = cc
+        never x at f = grind arith
 
     -- with no session open
     goes_alone : (to : Client) → server_of to ≡ server_of own → ((n : ℕ) → is_leaving n own ≡ false) → ClientsFit p (with_client c to s.clients) (withdrawn c s.cells)

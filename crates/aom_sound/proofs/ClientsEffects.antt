@@ -1,5 +1,5 @@
 -- What is kept of clients stays so in each effect of an instruction: by the cells that it changes, and the tasks below it.
-use Rattle.std.proofs.Common.{Bool, List, None, Option, Some, cond, false, length, refl, subst, suc, sym, true, zero, ℕ, ◌∷◌, ◌≡◌}
+use Rattle.std.proofs.Common.{Bool, List, None, Option, Some, cond, false, length, refl, subst, suc, sym, true, zero, ℕ, ◌∷◌, ◌≡◌, arith}
 use Rattle.aom_image.specs.Image.{Image}
 use Rattle.aom_image.specs.Views.{arguments_of}
 use Rattle.aom_clients.specs.declared.client.Client.{Client}
@@ -11,7 +11,7 @@ use Rattle.aom_sound.specs.Cleanup.{to_trap, top_place}
 use Rattle.aom_sound.specs.Effects.{Calls, Cancels, Destroys, Destroys_last, Effect, Goes_on, Leaves, Made, Replied, Requested, Returns, Same as Unchanged, Sets_trap, Update, applied, cancels_if, cells_after, deals, deletes, effect, jumps_unless, makes_unless, round}
 use Rattle.aom_sound.specs.Enlisted.{cancelling, on_request, own_request}
 use Rattle.aom_sound.specs.Kept.{ClientsFit, IsKept, TasksKept}
-use Rattle.aom_sound.specs.Places.{Cell, Going, Object, named}
+use Rattle.aom_sound.specs.Places.{Cell, Going, Object, Request, named}
 use Rattle.aom_sound.specs.State.{An_object, Choice, Frame, Item, Run, State, Task}
 use Rattle.aom_sound.specs.Words.{here}
 
@@ -66,15 +66,14 @@ module _ (p : Image) (c : Choice) (fr : Frame) (ts : List Task) (s : State) (fre
   fine_makes true x a = tt
   fine_makes false x a = free
 
+  fine_some : (r : Request) → IsFine fr s (Requested (Some r))
+  fine_some r = λ e. cc
+
   pub fine_effect : (i : Instr) → IsUsual i → Fine fr s (effect p c fr ts s i)
-  fine_effect (instrs.Enlist priority) usual = λ e. cc
-  fine_effect (instrs.Issue a b) usual = λ e. on_none _ (own_request s.cells fr.home) e
-  fine_effect instrs.SetActive usual = λ e. on_none _ (own_request s.cells fr.home) e
-  fine_effect instrs.Abort usual = λ e. on_none _ (own_request s.cells fr.home) e
   fine_effect (instrs.Reply a b) usual = absurd usual
   fine_effect (instrs.Return a) usual = absurd usual
   -- by the form of its effect
-  fine_effect _ usual = search (free, fine_cond, fine_unless, fine_round, fine_makes, fine_deletes, fine_deals, fine_cancels)
+  fine_effect _ usual = search (free, fine_cond, fine_unless, fine_round, fine_makes, fine_deletes, fine_deals, fine_cancels, fine_some, on_none)
 
 -- ---- the effects
 
@@ -84,10 +83,7 @@ tasks_to_trap p clients cs _ k = k
 
 module _ (p : Image) (fr : Frame) (ts : List Task) (s : State) (fit : ClientsFit p s.clients s.cells) (stage : TasksKept p s.clients s.cells ts) where
   steady : (u : Update) → IsFine fr s u → Steady s.cells (cells_after p fr ts s u)
-  steady (Made name class a) f = steady_update p fr ts s (Made name class a) f
-  steady (Requested r) f = steady_update p fr ts s (Requested r) f
-  steady (Replied a) f = absurd f
-  steady r f = steady_update p fr ts s r tt
+  steady u f = grind (arith, steady_update)
 
   -- with those cells, and tasks over these
   kept_by : (u : State) → u.clients ≡ s.clients → Steady s.cells u.cells → (TasksKept p s.clients u.cells ts → TasksKept p s.clients u.cells u.tasks) → IsKept p u

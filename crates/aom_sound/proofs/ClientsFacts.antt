@@ -14,7 +14,6 @@ use Rattle.aom_shape.specs.declared.kind.Filling.TheVariants.{Full}
 use Rattle.aom_shape.specs.declared.kind.Kind.{Kind}
 use Rattle.aom_shape.specs.declared.kind.Kind.TheVariants.{Null, Own}
 use Rattle.aom_shape.specs.declared.kind.Delivery.{Delivery}
-use Rattle.aom_shape.specs.declared.kind.Delivery.TheVariants.{Gone as Gone_now, Here}
 use Rattle.aom_sound.proofs.Destroying.{Untouched, untouched}
 use Rattle.aom_sound.proofs.Maps.{named_name}
 use Rattle.aom_sound.proofs.Owners.{HasThing, IsQueuedAt, fits_thing, queued_lower, queued_thing_of}
@@ -120,8 +119,7 @@ message_by_stage (Of_server y c (Service_left code)) k x none h = h
 message_by_stage _ k x none h = absurd (none h)
 
 message_delivered : (d : Delivery) (x : Thing) → HasThing (delivered d) x → x ≡ Message
-message_delivered Here x h = h
-message_delivered Gone_now x h = absurd h
+message_delivered y x h = grind arith
 
 -- is a message
 pub service_message :

@@ -1,6 +1,7 @@
 -- Clients and what they have at servers say the same where one client is at something else: by its entries, its session, and those of all others.
+use Rattle.std.proofs.Math.Bool.{or-false, or-true}
 use Rattle.std.proofs.Common.{[], Bool, List, None, Some, ap, arith, false, refl, subst, sym, true, ℕ, ◌<◌, ◌==◌, ◌∙◌, ◌∷◌, ◌≡◌, ◌≤◌}
-use Rattle.std.proofs.lemmas.Bool.{eq-eqb, eqb-true, ne_eqb, true≢false}
+use Rattle.std.proofs.lemmas.Bool.{eq-eqb, eqb-true, ne_eqb, true≢false, or_parts}
 use Rattle.std.proofs.lemmas.List.Folds.{list_any-append}
 use Rattle.std.proofs.lemmas.Map.Views.{any-filter_same}
 use Rattle.std.specs.List.{list_any}
@@ -9,8 +10,7 @@ use Rattle.aom_image.specs.Image.{Image}
 use Rattle.aom_clients.specs.Nodes.{is_connecting_at, is_leaving, is_open_at}
 use Rattle.aom_clients.specs.Table.{server_of}
 use Rattle.aom_clients.specs.declared.client.Client.{Client}
-use Rattle.aom_clients.specs.declared.client.Client.TheVariants.{Closing, Connecting, Dying}
-use Rattle.aom_sound.proofs.Queues.{client_here, client_of, client_there, front_none, is_of, none_passes, queue_other}
+use Rattle.aom_sound.proofs.Queues.{client_here, client_of, client_there, is_of, none_passes, queue_other}
 use Rattle.aom_sound.proofs.Seated.{seats_opened, seats_parted}
 use Rattle.aom_sound.proofs.Services.{held_served, named_served, service_here, service_there, requested_served}
 use Rattle.aom_sound.specs.Clients.{at_opening, at_parting, client_at, most_of, with_client}
@@ -22,13 +22,10 @@ use Rattle.aom_sound.specs.Servers.{has_session, is_from, is_other, is_server, o
 -- ---- what a client that connects, closes or has its session open is not
 
 pub connecting_only : (k n : ℕ) (x : Client) → is_connecting_at k x ≡ true → (is_open_at n x ≡ false) × (is_leaving n x ≡ false) × (server_of x ≡ None) × (is_connecting_at n x ≡ true → k ≡ n)
-connecting_only k n (Connecting server slots) e = (refl, refl, refl, λ f. sym (eqb-true server k e) ∙ eqb-true server n f)
-connecting_only k n _ e = cc
+connecting_only k n x e = grind arith
 
 pub leaving_only : (k n : ℕ) (x : Client) → is_leaving k x ≡ true → (is_open_at n x ≡ false) × (is_connecting_at n x ≡ false) × (server_of x ≡ Some k) × (is_leaving n x ≡ true → k ≡ n)
-leaving_only k n (Closing server session) e = (refl, refl, ap (λ z. Some z) (eqb-true server k e), λ f. sym (eqb-true server k e) ∙ eqb-true server n f)
-leaving_only k n (Dying server session) e = (refl, refl, ap (λ z. Some z) (eqb-true server k e), λ f. sym (eqb-true server k e) ∙ eqb-true server n f)
-leaving_only k n _ e = cc
+leaving_only k n x e = grind arith
 
 -- a client that is at no server
 pub record IsFree (x : Client) : Type 0 where
@@ -39,9 +36,7 @@ pub record IsFree (x : Client) : Type 0 where
 
 -- the session is closed
 pub parted_free : (k : ℕ) (x : Client) → is_leaving k x ≡ true → IsFree (at_parting x)
-parted_free k (Closing server session) e = record { connects = λ n. refl; opens = λ n. refl; leaves = λ n. refl; alone = refl }
-parted_free k (Dying server session) e = record { connects = λ n. refl; opens = λ n. refl; leaves = λ n. refl; alone = refl }
-parted_free k _ e = cc
+parted_free k x e = grind arith
 
 -- ---- its entries
 
@@ -51,10 +46,10 @@ module _ (clients : List Client) (c n : ℕ) where
       (own : Asked → Bool) → ((e : Asked) → c ≡ client_of e → EntryFits clients n e → own e ≡ true) → (es : List Asked) → QueueFits clients n es → list_any own es ≡ false →
       list_any (is_of c) es ≡ false
   only_own own only [] fits none = refl
-  only_own own only (e ∷ es) fits none = go (is_of c e) refl (only_own own only es fits.1 (front_none (own e) (list_any own es) none).1)
+  only_own own only (e ∷ es) fits none = go (is_of c e) refl (only_own own only es fits.1 (or_parts (own e) (list_any own es) none).1)
     where
       go : (b : Bool) → is_of c e ≡ b → list_any (is_of c) es ≡ false → (is_of c e || list_any (is_of c) es) ≡ false
-      go true at rest = absurd (true≢false (sym (only e (eqb-true c (client_of e) at) fits.0.0) ∙ (front_none (own e) (list_any own es) none).0))
+      go true at rest = absurd (true≢false (sym (only e (eqb-true c (client_of e) at) fits.0.0) ∙ (or_parts (own e) (list_any own es) none).0))
       go false at rest = ap (λ b. b || list_any (is_of c) es) at ∙ rest
 
   -- of a client that is at no server
@@ -85,9 +80,7 @@ module _ (clients : List Client) (c n : ℕ) where
       x = client_at clients c
 
       entry : (e : Asked) → c ≡ client_of e → EntryFits clients n e → (k ≡ n) × (is_connect_of c e ≡ true)
-      entry (Connect_of d) same f = ((connecting_only k n x at).3 (ap (λ i. is_connecting_at n (client_at clients i)) same ∙ f), eq-eqb d c (sym same))
-      entry (Message_of d m) same f = absurd (true≢false (sym (ap (λ i. is_open_at n (client_at clients i)) same ∙ f) ∙ (connecting_only k n x at).0))
-      entry (Close_of d) same f = absurd (true≢false (sym (ap (λ i. is_leaving n (client_at clients i)) same ∙ f) ∙ (connecting_only k n x at).1))
+      entry e same f = grind (arith, eq-eqb, connecting_only)
 
   -- of one that closes
   pub none_of_leaving : (k : ℕ) → is_leaving k (client_at clients c) ≡ true → (es : List Asked) → QueueFits clients n es → (k ≡ n → list_any (is_close_of c) es ≡ false) → list_any (is_of c) es ≡ false
@@ -97,9 +90,7 @@ module _ (clients : List Client) (c n : ℕ) where
       x = client_at clients c
 
       entry : (e : Asked) → c ≡ client_of e → EntryFits clients n e → (k ≡ n) × (is_close_of c e ≡ true)
-      entry (Close_of d) same f = ((leaving_only k n x at).3 (ap (λ i. is_leaving n (client_at clients i)) same ∙ f), eq-eqb d c (sym same))
-      entry (Message_of d m) same f = absurd (true≢false (sym (ap (λ i. is_open_at n (client_at clients i)) same ∙ f) ∙ (leaving_only k n x at).0))
-      entry (Connect_of d) same f = absurd (true≢false (sym (ap (λ i. is_connecting_at n (client_at clients i)) same ∙ f) ∙ (leaving_only k n x at).1))
+      entry e same f = grind (arith, eq-eqb, leaving_only)
 
 -- ---- one client is at something else
 
@@ -176,6 +167,16 @@ module _ (p : Image) (cs : List Cell) (o : Object) (lives : named cs o.name ≡ 
       others : (n : ℕ) → (o.name == n) ≡ false → named cs n ≡ Some x → n ≡ x.name → seats_taken (service_of cs n) ≤ most_of (thing_kind p x.thing)
       others n other at same = subst (λ k. seats_taken (service_of cs k) ≤ most_of (thing_kind p x.thing)) (sym same) (fit.seats x (ap (λ k. named cs k) (sym same) ∙ at))
 
+  -- a message that waits is of its sender
+  pub senders_then :
+      (clients : List Client) → ClientsFit p clients cs → ((d : ℕ) → is_from d (service_of cs o.name).sender ≡ true → is_from d (f (service_of cs o.name)).sender ≡ true) →
+      ((d m : ℕ) → list_any (is_message_of d m) (f (service_of cs o.name)).queue ≡ true → is_from d (service_of cs m).sender ≡ true) →
+      (n d m : ℕ) → list_any (is_message_of d m) (service_of then n).queue ≡ true → is_from d (service_of then m).sender ≡ true
+  senders_then clients fit keeps here n d m = by_server (λ n v. list_any (is_message_of d m) v.queue ≡ true → is_from d (service_of then m).sender ≡ true) (λ h. still (here d m h)) (λ n other h. still (fit.senders n d m h)) n
+    where
+      still : is_from d (service_of cs m).sender ≡ true → is_from d (service_of then m).sender ≡ true
+      still = by_server (λ m v. is_from d (service_of cs m).sender ≡ true → is_from d v.sender ≡ true) (keeps d) (λ n other h. h) m
+
   module _ (serves : is_server p o.thing ≡ true) (clients : List Client) (fit : ClientsFit p clients cs) where
     pub servers_then : (x : Object) → named then x.name ≡ Some x → is_server p x.thing ≡ false → ((service_of then x.name).queue ≡ []) × ((service_of then x.name).sessions ≡ [])
     servers_then x there plain =
@@ -196,27 +197,18 @@ module _ (p : Image) (clients : List Client) (cs : List Cell) (fit : ClientsFit 
   own = client_at clients c
 
   eqb_same : (xs : List ℕ) → list_any (λ x. x == c) (xs ++ c ∷ []) ≡ true
-  eqb_same xs = list_any-append (λ x. x == c) xs (c ∷ []) ∙ ap (λ b. list_any (λ x. x == c) xs || (b || false)) (eq-eqb c c refl) ∙ or_true (list_any (λ x. x == c) xs)
-    where
-      or_true : (b : Bool) → (b || true) ≡ true
-      or_true true = refl
-      or_true false = refl
-
-  or_false : (b : Bool) → (b || false) ≡ b
-  or_false true = refl
-  or_false false = refl
+  eqb_same xs = list_any-append (λ x. x == c) xs (c ∷ []) ∙ ap (λ b. list_any (λ x. x == c) xs || (b || false)) (eq-eqb c c refl) ∙ or-true (list_any (λ x. x == c) xs)
 
   module _ (session : ℕ) (at : is_connecting_at o.name own ≡ true) (none : list_any (is_connect_of c) (service_of cs o.name).queue ≡ false)
       (room : seats_taken (service_of cs o.name) < most_of (thing_kind p o.thing)) where
     is_open : (x : Client) → is_connecting_at o.name x ≡ true → server_of (at_opening session x) ≡ Some o.name
-    is_open (Connecting server slots) e = ap (λ z. Some z) (eqb-true server o.name e)
-    is_open _ e = cc
+    is_open x e = grind arith
 
     pub fit_accepted : ClientsFit p (with_client c (at_opening session own) clients) (reserved (opened c) o.name cs)
     fit_accepted = fit_changed p c (at_opening session own) clients cs (reserved (opened c) o.name cs) fit record {
       queues = by_server p cs o lives (opened c) (λ n v. QueueFits (with_client c (at_opening session own) clients) n v.queue) (queues o.name) (λ n e. queues n);
       others = λ n d e. by_server p cs o lives (opened c) (λ n v. has_session v d ≡ has_session (service_of cs n) d)
-          (list_any-append (λ x. x == d) (service_of cs o.name).sessions (c ∷ []) ∙ ap (λ b. list_any (λ x. x == d) (service_of cs o.name).sessions || (b || false)) e ∙ or_false (list_any (λ x. x == d) (service_of cs o.name).sessions))
+          (list_any-append (λ x. x == d) (service_of cs o.name).sessions (c ∷ []) ∙ ap (λ b. list_any (λ x. x == d) (service_of cs o.name).sessions || (b || false)) e ∙ or-false (list_any (λ x. x == d) (service_of cs o.name).sessions))
           (λ n other. refl) n;
       has = by_server p cs o lives (opened c) (λ n v. has_session v c ≡ true → server_of (at_opening session own) ≡ Some n) (λ h. is_open own at) (λ n other h. let clash : Some n ≡ None = sym (fit.sessions n c h) ∙ (connecting_only o.name n own at).2 in cc);
       listed = by_server p cs o lives (opened c) (λ n v. server_of (at_opening session own) ≡ Some n → has_session v c ≡ true) (λ h. eqb_same (service_of cs o.name).sessions) (λ n other h.
@@ -224,7 +216,7 @@ module _ (p : Image) (clients : List Client) (cs : List Cell) (fit : ClientsFit 
           absurd (true≢false (sym (eq-eqb o.name n cc) ∙ other)));
       servers = servers_then p cs o lives (opened c) serves clients fit;
       names = names_then p cs o lives (opened c) serves clients fit;
-      senders = λ n d m. by_server p cs o lives (opened c) (λ n v. list_any (is_message_of d m) v.queue ≡ true → is_from d (service_of (reserved (opened c) o.name cs) m).sender ≡ true) (λ h. senders m d (fit.senders o.name d m h)) (λ n other h. senders m d (fit.senders n d m h)) n;
+      senders = senders_then p cs o lives (opened c) clients fit (λ d h. h) (λ d m h. fit.senders o.name d m h);
       enlisted = enlisted_then p cs o lives (opened c) listed clients fit;
       seats = seats_then p cs o lives (opened c) clients fit (let one = seats_opened c (service_of cs o.name) in omega (arith, room, one));
     }
@@ -232,9 +224,6 @@ module _ (p : Image) (clients : List Client) (cs : List Cell) (fit : ClientsFit 
         queues : (n : ℕ) → QueueFits (with_client c (at_opening session own) clients) n (service_of cs n).queue
         queues n = queue_other c n (at_opening session own) clients (service_of cs n).queue
             (none_of_connecting clients c n o.name at (service_of cs n).queue (fit.queues n) (λ same. subst (λ k. list_any (is_connect_of c) (service_of cs k).queue ≡ false) same none)) (fit.queues n)
-
-        senders : (m d : ℕ) → is_from d (service_of cs m).sender ≡ true → is_from d (service_of (reserved (opened c) o.name cs) m).sender ≡ true
-        senders m d = by_server p cs o lives (opened c) (λ m v. is_from d (service_of cs m).sender ≡ true → is_from d v.sender ≡ true) (λ h. h) (λ n other h. h) m
 
   -- ---- a close is served
 
@@ -255,7 +244,7 @@ module _ (p : Image) (clients : List Client) (cs : List Cell) (fit : ClientsFit 
       listed = λ n h. let clash : None ≡ Some n = sym free.alone ∙ h in cc;
       servers = servers_then p cs o lives (parted c) serves clients fit;
       names = names_then p cs o lives (parted c) serves clients fit;
-      senders = λ n d m. by_server p cs o lives (parted c) (λ n v. list_any (is_message_of d m) v.queue ≡ true → is_from d (service_of (reserved (parted c) o.name cs) m).sender ≡ true) (λ h. senders m d (fit.senders o.name d m h)) (λ n other h. senders m d (fit.senders n d m h)) n;
+      senders = senders_then p cs o lives (parted c) clients fit (λ d h. h) (λ d m h. fit.senders o.name d m h);
       enlisted = enlisted_then p cs o lives (parted c) listed clients fit;
       seats = seats_then p cs o lives (parted c) clients fit (let less = seats_parted c (service_of cs o.name) in let was = fit.seats o lives in omega (arith, less, was));
     }
@@ -263,6 +252,3 @@ module _ (p : Image) (clients : List Client) (cs : List Cell) (fit : ClientsFit 
         queues : (n : ℕ) → QueueFits (with_client c (at_parting own) clients) n (service_of cs n).queue
         queues n = queue_other c n (at_parting own) clients (service_of cs n).queue
             (none_of_leaving clients c n o.name at (service_of cs n).queue (fit.queues n) (λ same. subst (λ k. list_any (is_close_of c) (service_of cs k).queue ≡ false) same none)) (fit.queues n)
-
-        senders : (m d : ℕ) → is_from d (service_of cs m).sender ≡ true → is_from d (service_of (reserved (parted c) o.name cs) m).sender ≡ true
-        senders m d = by_server p cs o lives (parted c) (λ m v. is_from d (service_of cs m).sender ≡ true → is_from d v.sender ≡ true) (λ h. h) (λ n other h. h) m

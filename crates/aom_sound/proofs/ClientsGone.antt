@@ -7,14 +7,16 @@ use Rattle.aom_image.specs.Image.{Image}
 use Rattle.aom_clients.specs.Nodes.{is_connecting_at, is_leaving, is_open_at}
 use Rattle.aom_clients.specs.Table.{at_gone, server_of}
 use Rattle.aom_clients.specs.declared.client.Client.{Client}
-use Rattle.aom_clients.specs.declared.client.Client.TheVariants.{Connecting, Open, Unconnected}
+use Rattle.aom_clients.specs.declared.client.Client.TheVariants.{Open, Unconnected}
+use Rattle.aom_sound.proofs.Altering.{held_kept, named_kept, read_kept, requests, unslotting}
 use Rattle.aom_sound.proofs.ClientsFit.{connecting_only, leaving_only}
 use Rattle.aom_sound.proofs.Maps.{cond_same, same_place-true, same_place_comm, same_place_refl}
 use Rattle.aom_sound.proofs.Queues.{client_here, client_there, none_passes}
 use Rattle.aom_sound.proofs.Sifted.{a_cell_of, cell_in, cell_lives, cell_name, cell_of, cell_owner, cell_placed, held_cell, held_sifted, named_before, named_cell, object_in, service_cell, service_gone, service_in, service_sifted, sifted, unheld_sifted, requested_before, clients_sifted}
+use Rattle.aom_sound.proofs.Unslotting.{each_unslotted_alike, service_unslotted}
 use Rattle.aom_sound.specs.Clients.{client_at, each_unslotted, queue_ended, sessions_ended, with_client, most_of}
 use Rattle.aom_sound.specs.Kept.{ClientsFit, EntryFits, QueueFits, ConnectKept, StageKept, is_close_of, is_connect_of, is_message_of}
-use Rattle.aom_sound.specs.Places.{Asked, Cell, Close_of, Connect_of, Elsewhere, Message_of, Object, Place, Queued, Sender, Service, Tidy, held, named, same_place, service_of, unserved, without, requested}
+use Rattle.aom_sound.specs.Places.{Asked, Cell, Service, Close_of, Connect_of, Elsewhere, Message_of, Object, Place, Queued, Sender, Tidy, held, named, same_place, service_of, unserved, without, requested}
 use Rattle.aom_sound.specs.State.{Accept_left, Accepted, Accepts, Parts, Service_left, Serves, Stage}
 use Rattle.aom_sound.specs.Servers.{all_unslotted, has_session, is_from, is_queue_of, is_server, unslotted, without_queue, seats_taken}
 use Rattle.aom_sound.specs.Enlisted.{thing_kind}
@@ -56,72 +58,54 @@ gone_alone (Open server session slots) = refl
 gone_alone _ = refl
 
 pub open_server : (n : ℕ) (x : Client) → is_open_at n x ≡ true → server_of x ≡ Some n
-open_server n (Open server session slots) e = ap (λ k. Some k) (eqb-true server n e)
-open_server n _ e = cc
+open_server n x e = grind arith
 
 -- who has a session, or may have one, connects to nobody
 has_server : (k n : ℕ) (x : Client) → server_of x ≡ Some n → is_connecting_at k x ≡ false
-has_server k n (Connecting server slots) e = cc
-has_server k n _ e = refl
+has_server k n x e = grind arith
+
+-- what is held of the cells that are left was held before
+pub held_before : (drops : Cell → Bool) (left : Cell → Service) (cs : List Cell) (q : Place) (x : Object) → Tidy cs → held (sifted drops left cs) q ≡ Some x → held cs q ≡ Some x
+held_before drops left cs q x tidy h = go (cell_in cs q) refl h
+  where
+    unless_some : (b : Bool) (y : Option Object) → cond b None y ≡ Some x → y ≡ Some x
+    unless_some b y h = grind arith
+
+    go : (y : Option Cell) → cell_in cs q ≡ y → held (sifted drops left cs) q ≡ Some x → held cs q ≡ Some x
+    go None e h = let clash : None ≡ Some x = sym (unheld_sifted drops left cs q tidy (held_cell cs q ∙ ap object_in e)) ∙ h in cc
+    go (Some y) e h = held_cell cs q ∙ ap object_in e ∙ unless_some (drops y) (Some y.object) (sym (held_sifted drops left cs q tidy y e) ∙ h)
 
 -- ---- the cells
 
 -- they lose no place and no queue where messages lose their slots
 module _ (p : Image) (clients : List Client) (c : ℕ) where
-  unslot : Cell → Service
-  unslot x = record x.service { sender = unslotted c x.service.sender }
-
   from_unslotted : (d : ℕ) (x : Option Sender) → is_from d x ≡ true → is_from d (unslotted c x) ≡ true
-  from_unslotted d None h = cc
-  from_unslotted d (Some m) h = go (m.client == c) h
-    where
-      go : (b : Bool) → (m.client == d) ≡ true → ((cond b (record m { holds_slot = false }) m).client == d) ≡ true
-      go true h = h
-      go false h = h
-
-  service_unslotted : (cs : List Cell) (n : ℕ) → service_of (all_unslotted c cs) n ≡ record (service_of cs n) { sender = unslotted c (service_of cs n).sender }
-  service_unslotted [] n = refl
-  service_unslotted (x ∷ cs) n = go (x.object.name == n) (service_unslotted cs n)
-    where
-      go : (b : Bool) → service_of (all_unslotted c cs) n ≡ record (service_of cs n) { sender = unslotted c (service_of cs n).sender } → cond b (record x.service { sender = unslotted c x.service.sender }) (service_of (all_unslotted c cs) n) ≡ record (cond b x.service (service_of cs n)) { sender = unslotted c (cond b x.service (service_of cs n)).sender }
-      go true e = refl
-      go false e = e
+  from_unslotted d x h = grind arith
 
   held_unslotted : (cs : List Cell) (q : Place) → held (all_unslotted c cs) q ≡ held cs q
-  held_unslotted [] q = refl
-  held_unslotted (x ∷ cs) q = ap (λ y. cond (same_place x.owner q) (Some x.object) y) (held_unslotted cs q)
+  held_unslotted = held_kept (unslotting c) (λ x. refl)
 
   named_unslotted : (cs : List Cell) (n : ℕ) → named (all_unslotted c cs) n ≡ named cs n
-  named_unslotted [] n = refl
-  named_unslotted (x ∷ cs) n = ap (λ y. cond (x.object.name == n) (Some x.object) y) (named_unslotted cs n)
+  named_unslotted = named_kept (unslotting c)
 
   requested_unslotted : (cs : List Cell) (n : ℕ) → requested (all_unslotted c cs) n ≡ requested cs n
-  requested_unslotted [] n = refl
-  requested_unslotted (x ∷ cs) n = ap (λ y. cond (x.object.name == n) x.request y) (requested_unslotted cs n)
+  requested_unslotted = read_kept (unslotting c) requests (λ x. refl)
 
   pub fit_unslotted : (cs : List Cell) → ClientsFit p clients cs → ClientsFit p clients (all_unslotted c cs)
   fit_unslotted cs fit = record {
-    queues = λ n. subst (λ v. QueueFits clients n v.queue) (sym (service_unslotted cs n)) (fit.queues n);
-    sessions = λ n d h. fit.sessions n d (ap (λ v. has_session v d) (sym (service_unslotted cs n)) ∙ h);
-    listed = λ n d h. ap (λ v. has_session v d) (service_unslotted cs n) ∙ fit.listed n d h;
-    servers = λ o h plain. subst (λ v. (v.queue ≡ []) × (v.sessions ≡ [])) (sym (service_unslotted cs o.name)) (fit.servers o (sym (named_unslotted cs o.name) ∙ h) plain);
+    queues = λ n. subst (λ v. QueueFits clients n v.queue) (sym (service_unslotted c cs n)) (fit.queues n);
+    sessions = λ n d h. fit.sessions n d (ap (λ v. has_session v d) (sym (service_unslotted c cs n)) ∙ h);
+    listed = λ n d h. ap (λ v. has_session v d) (service_unslotted c cs n) ∙ fit.listed n d h;
+    servers = λ o h plain. subst (λ v. (v.queue ≡ []) × (v.sessions ≡ [])) (sym (service_unslotted c cs o.name)) (fit.servers o (sym (named_unslotted cs o.name) ∙ h) plain);
     names = λ n m o h. fit.names n m o (sym (held_unslotted cs (Elsewhere (Queued n m))) ∙ h);
-    senders = λ n d m h. subst (λ v. is_from d v.sender ≡ true) (sym (service_unslotted cs m)) (from_unslotted d (service_of cs m).sender (fit.senders n d m (ap (λ v. list_any (is_message_of d m) v.queue) (sym (service_unslotted cs n)) ∙ h)));
-    seats = λ o h. subst (λ v. seats_taken v ≤ most_of (thing_kind p o.thing)) (sym (service_unslotted cs o.name)) (fit.seats o (sym (named_unslotted cs o.name) ∙ h));
-    enlisted = λ o h e. subst (λ v. (v.queue ≡ []) × (v.sessions ≡ [])) (sym (service_unslotted cs o.name)) (fit.enlisted o (sym (named_unslotted cs o.name) ∙ h) (sym (requested_unslotted cs o.name) ∙ e));
+    senders = λ n d m h. subst (λ v. is_from d v.sender ≡ true) (sym (service_unslotted c cs m)) (from_unslotted d (service_of cs m).sender (fit.senders n d m (ap (λ v. list_any (is_message_of d m) v.queue) (sym (service_unslotted c cs n)) ∙ h)));
+    seats = λ o h. subst (λ v. seats_taken v ≤ most_of (thing_kind p o.thing)) (sym (service_unslotted c cs o.name)) (fit.seats o (sym (named_unslotted cs o.name) ∙ h));
+    enlisted = λ o h e. subst (λ v. (v.queue ≡ []) × (v.sessions ≡ [])) (sym (service_unslotted c cs o.name)) (fit.enlisted o (sym (named_unslotted cs o.name) ∙ h) (sym (requested_unslotted cs o.name) ∙ e));
   }
 
 pub fit_each_unslotted : (p : Image) (clients : List Client) (xs : List ℕ) (cs : List Cell) → ClientsFit p clients cs → ClientsFit p clients (each_unslotted xs cs)
 fit_each_unslotted p clients [] cs fit = fit
 fit_each_unslotted p clients (c ∷ xs) cs fit = fit_each_unslotted p clients xs (all_unslotted c cs) (fit_unslotted p clients c cs fit)
-
-pub queue_unslotted : (p : Image) (clients : List Client) (xs : List ℕ) (cs : List Cell) (n : ℕ) → (service_of (each_unslotted xs cs) n).queue ≡ (service_of cs n).queue
-queue_unslotted p clients [] cs n = refl
-queue_unslotted p clients (c ∷ xs) cs n = queue_unslotted p clients xs (all_unslotted c cs) n ∙ ap (λ v. v.queue) (service_unslotted p clients c cs n)
-
-pub sessions_unslotted : (p : Image) (clients : List Client) (xs : List ℕ) (cs : List Cell) (n : ℕ) → (service_of (each_unslotted xs cs) n).sessions ≡ (service_of cs n).sessions
-sessions_unslotted p clients [] cs n = refl
-sessions_unslotted p clients (c ∷ xs) cs n = sessions_unslotted p clients xs (all_unslotted c cs) n ∙ ap (λ v. v.sessions) (service_unslotted p clients c cs n)
 
 -- what goes with it
 abbrev pub goes_with : ℕ → Place → Cell → Bool
@@ -161,8 +145,7 @@ module _
       ∙ ap (λ b. cond b Unconnected (client_at clients d)) (none_passes (is_connect_of d) clients o.name never (service_of cs o.name).queue (fit.queues o.name))
     where
       never : (e : Asked) → is_connect_of d e ≡ true → EntryFits clients o.name e → ⊥
-      never (Connect_of k) at f = true≢false (sym (ap (λ i. is_connecting_at o.name (client_at clients i)) (sym (eqb-true k d at)) ∙ f) ∙ connects)
-      never _ at f = cc
+      never x at f = grind arith
 
   no_session : (n d : ℕ) → (o.name == n) ≡ false → server_of (client_at clients d) ≡ Some n → has_session (service_of cs o.name) d ≡ false
   no_session n d other e = go (has_session (service_of cs o.name) d) refl
@@ -298,15 +281,7 @@ module _
       go false e = let none = fit.servers x was plain in ((service_left x.name e).0 ∙ none.0, (service_left x.name e).1 ∙ none.1)
 
   names_left : (n m : ℕ) (x : Object) → held left (Elsewhere (Queued n m)) ≡ Some x → x.name ≡ m
-  names_left n m x h = go (cell_in cs (Elsewhere (Queued n m))) refl h
-    where
-      at : (y : Cell) → cell_in cs (Elsewhere (Queued n m)) ≡ Some y → (b : Bool) → cond b None (Some y.object) ≡ Some x → x.name ≡ m
-      at y e true h = cc
-      at y e false h = let same : y.object ≡ x = cc in fit.names n m x (held_cell cs (Elsewhere (Queued n m)) ∙ ap object_in e ∙ ap (λ z. Some z) same)
-
-      go : (y : Option Cell) → cell_in cs (Elsewhere (Queued n m)) ≡ y → held left (Elsewhere (Queued n m)) ≡ Some x → x.name ≡ m
-      go None e h = let clash : None ≡ Some x = sym (unheld_sifted drops (λ c. c.service) cs (Elsewhere (Queued n m)) tidy (held_cell cs (Elsewhere (Queued n m)) ∙ ap object_in e)) ∙ h in cc
-      go (Some y) e h = at y e (drops y) (sym (held_sifted drops (λ c. c.service) cs (Elsewhere (Queued n m)) tidy y e) ∙ h)
+  names_left n m x h = fit.names n m x (held_before drops (λ c. c.service) cs (Elsewhere (Queued n m)) x tidy h)
 
   fit_left : ClientsFit p then left
   fit_left = record {
@@ -363,10 +338,10 @@ module _
       n = x.name
 
       sessions : (service_of (each_unslotted (service_of cs o.name).sessions (without g (without_queue o.name cs))) n).sessions ≡ (service_of cs n).sessions
-      sessions = sessions_unslotted p clients (service_of cs o.name).sessions (without g (without_queue o.name cs)) n ∙ ap (λ l. (service_of l n).sessions) (gone_so o.name g cs) ∙ (service_left n other).1
+      sessions = (each_unslotted_alike (service_of cs o.name).sessions (without g (without_queue o.name cs))).sessions_so n ∙ ap (λ l. (service_of l n).sessions) (gone_so o.name g cs) ∙ (service_left n other).1
 
       queue : (service_of (each_unslotted (service_of cs o.name).sessions (without g (without_queue o.name cs))) n).queue ≡ (service_of cs n).queue
-      queue = queue_unslotted p clients (service_of cs o.name).sessions (without g (without_queue o.name cs)) n ∙ ap (λ l. (service_of l n).queue) (gone_so o.name g cs) ∙ (service_left n other).0
+      queue = (each_unslotted_alike (service_of cs o.name).sessions (without g (without_queue o.name cs))).queues_so n ∙ ap (λ l. (service_of l n).queue) (gone_so o.name g cs) ∙ (service_left n other).0
 
       connect : ConnectKept p clients cs x c → ConnectKept p then (each_unslotted (service_of cs o.name).sessions (without g (without_queue o.name cs))) x c
       connect k = (

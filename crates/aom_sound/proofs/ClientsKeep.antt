@@ -3,7 +3,7 @@ use Rattle.std.proofs.Common.{[], Bool, List, None, Option, Some, ap, cond, fals
 use Rattle.std.specs.List.{list_any}
 use Rattle.std.specs.Ordering.{int_eq}
 use Rattle.aom_image.specs.Image.{Image}
-use Rattle.aom_image.specs.Views.{gives_of, instr_at}
+use Rattle.aom_image.specs.Views.{gives_of}
 use Rattle.aom_instructions.specs.declared.instr.Instr.{Instr}
 use Rattle.aom_instructions.specs.declared.instr.Instr.TheVariants as instrs
 use Rattle.aom_image.specs.declared.method.Role.TheVariants.{Error as Answers}
@@ -26,17 +26,19 @@ use Rattle.aom_image.specs.declared.method.Gives.{Gives}
 use Rattle.aom_sound.specs.Calls.{returned}
 use Rattle.aom_sound.specs.Objects.{is_thing}
 use Rattle.aom_sound.specs.Words.{here}
-use Rattle.aom_sound.proofs.Guarded.{goes_same, guarded_goes, guarded_met}
-use Rattle.aom_sound.specs.Cleanup.{arrived, dealt_with, destroyed, ended_by, top_is_whole, unwound}
-use Rattle.aom_sound.specs.Destruction.{begun, begun_by, closing, first_session, gone, needs_gone, parting, parting_from, vanished}
+use Rattle.aom_sound.proofs.Moving.{steps_are_moves}
+use Rattle.aom_sound.specs.Steps.{Acts, Arrives, Clears, Comes_out, Empties, Ends, Move, Rests, Undoes, Vanishes}
+use Rattle.aom_sound.proofs.Guarded.{acts_at}
+use Rattle.aom_sound.specs.Cleanup.{ended_by}
+use Rattle.aom_sound.specs.Destruction.{begun, begun_by, parting, vanished, first_session}
 use Rattle.aom_sound.specs.Effects.{applied, effect, needs}
 use Rattle.aom_sound.specs.Enlisted.{ended_cells, part_of}
 use Rattle.aom_sound.specs.Kept.{ClientsFit, IsKept, StageKept, TasksKept, is_message_of}
 use Rattle.aom_sound.specs.Laws.{ClientsKeep, IsWired}
-use Rattle.aom_sound.specs.Moves.{answered, asking, counted, step_instr, dispatch_ends, failed, handled, main_ends, needs_end, object_ends, stage_ends, step_task}
+use Rattle.aom_sound.specs.Moves.{answered, asking, counted, dispatch_ends, failed, handled, main_ends, object_ends, stage_ends, step}
 use Rattle.aom_sound.specs.Places.{Cell, Elsewhere, Entry, Going, In_service, Object, Place, Queued, Root, Tidy, held, moved, named, service_of, without, requested, Request}
-use Rattle.aom_sound.specs.Servers.{is_server, without_queue}
-use Rattle.aom_sound.specs.State.{Accept_left, Accepted, Accepts, Answered, Asks, Choice, Closing, Destroy, Dispatch, Dispatched, Frame, Goes, Item, A_mark, An_object, An_operation, IsStuck, Main_left, NullOrDead, Object_left, Of_main, Of_object, Of_root, Of_server, Parts, Run, Seat, Service_left, Serves, Stage, State, Task, Trapped, Unwind, resumed}
+use Rattle.aom_sound.specs.Servers.{is_server}
+use Rattle.aom_sound.specs.State.{Accept_left, Accepted, Accepts, Answered, Asks, Choice, Closing, Destroy, Dispatch, Dispatched, Frame, Goes, Main_left, Object_left, Of_main, Of_object, Of_root, Of_server, Parts, Run, Seat, Service_left, Serves, Stage, State, Task, Trapped, Unwind, resumed}
 use Rattle.aom_sound.specs.WellTyped.{Now, WellTyped}
 use Rattle.aom_sound.specs.World.{boot_state, main_tasks}
 use Rattle.std.specs.Prelude.{is_some}
@@ -91,25 +93,6 @@ module _ (p : Image) (s : State) (fit : ClientsFit p s.clients s.cells) where
   arrival_stage code (Of_server x c Parts) ts k = k
   arrival_stage code _ ts k = tt
 
-  arrived_kept : (code : ℤ) (ts : List Task) (items : List Item) (u : State) → TasksKept p s.clients s.cells ts → arrived p code ts items s ≡ Goes u → IsKept p u
-  arrived_kept code (Trapped ∷ Run fr ∷ ts) items u stage e = subst (λ v. IsKept p v) (goes_same _ u e) (same_cells _ refl refl stage)
-  arrived_kept code (Trapped ∷ Dispatched d ∷ ts) items u stage e = subst (λ v. IsKept p v) (goes_same _ u e) (same_cells _ refl refl (arrival_stage code d ts stage))
-  arrived_kept code _ items u stage e = cc
-
-  unwound_kept : (code : ℤ) (ts : List Task) (items : List Item) (u : State) → TasksKept p s.clients s.cells ts → unwound p code ts s items ≡ Goes u → IsKept p u
-  unwound_kept code ts [] u stage e = cc
-  unwound_kept code ts (An_object ∷ items) u stage e = go (top_is_whole s.cells (An_object ∷ items)) e
-    where
-      by : (o : Option Object) → IsKept p (destroyed p o items (Unwind code ∷ ts) s)
-      by None = same_cells _ refl refl stage
-      by (Some o) = begun_kept (Entry (length items)) _ o (length items) (Unwind code ∷ ts) _ refl refl refl stage
-
-      go : (b : Bool) → cond b (Goes (dealt_with p (An_object ∷ items) (Unwind code ∷ ts) s)) (IsStuck NullOrDead) ≡ Goes u → IsKept p u
-      go true e = subst (λ v. IsKept p v) (goes_same _ u e) (by (held s.cells (Entry (length items))))
-      go false e = cc
-  unwound_kept code ts (An_operation m w ∷ items) u stage e = subst (λ v. IsKept p v) (goes_same _ u e) (same_cells _ refl refl stage)
-  unwound_kept code ts (A_mark ∷ items) u stage e = arrived_kept code ts items u stage e
-
   -- ---- a server lets go of a session
 
   parting_kept : (o : Object) (x : Option Seat) (below : List Task) → TasksKept p s.clients s.cells below → IsKept p (parting p o x below s)
@@ -119,14 +102,6 @@ module _ (p : Image) (s : State) (fit : ClientsFit p s.clients s.cells) where
       go None = stage
       go (Some m) = stage
   parting_kept o (Some x) below stage = begun_kept x.place _ x.object (length s.items) (Closing ∷ Destroy ∷ below) _ refl refl refl stage
-
-  closing_kept : (ts : List Task) (u : State) → TasksKept p s.clients s.cells ts → closing p ts s ≡ Goes u → IsKept p u
-  closing_kept (Destroy ∷ below) u stage e = go (held s.cells (Going (length below))) e
-    where
-      go : (o : Option Object) → parting_from p o below s ≡ Goes u → IsKept p u
-      go None e = cc
-      go (Some o) e = subst (λ v. IsKept p v) (goes_same _ u e) (parting_kept o (first_session s.cells o.name (service_of s.cells o.name).sessions) below stage)
-  closing_kept _ u stage e = cc
 
   -- ---- a dispatch ends
 
@@ -248,32 +223,44 @@ module _ (p : Image) (t : Typing) (wired : IsWired p) (c : Choice) (s : State) (
         usual : (i : Instr) → IsUsual i → IsKept p (applied p fr ts (counted p s) (effect p c fr ts (counted p s) i))
         usual i u = effect_kept p fr ts (counted p s) kept.fit stage_below (effect p c fr ts (counted p s) i) (fine_effect p c fr ts (counted p s) free i u)
 
-    run_kept : (i : Option Instr) (u : State) → step_instr p c fr ts (counted p s) i ≡ Goes u → IsKept p u
-    run_kept None u e = cc
-    run_kept (Some i) u e = subst (λ v. IsKept p v) (guarded_goes (needs p c fr ts (counted p s) i) _ u e) (act_kept i (guarded_met (needs p c fr ts (counted p s) i) _ u e))
+  stage_at : (ts : List Task) → s.tasks ≡ ts → TasksKept p s.clients s.cells ts
+  stage_at ts at = subst (λ l. TasksKept p s.clients s.cells l) at kept.stage
 
-  gone_kept : (ts : List Task) (u : State) → s.tasks ≡ Destroy ∷ ts → (o : Option Object) → held s.cells (Going (length ts)) ≡ o → gone o ts (counted p s) ≡ Goes u → IsKept p u
-  gone_kept ts u tasks None at e = cc
-  gone_kept ts u tasks (Some o) at e = subst (λ v. IsKept p v) (guarded_goes (needs_gone (without_queue o.name s.cells) o) (vanished o ts (counted p s)) u e) (record {
+  gone_kept : (ts : List Task) (o : Object) → s.tasks ≡ Destroy ∷ ts → held s.cells (Going (length ts)) ≡ Some o → IsKept p (vanished o ts (counted p s))
+  gone_kept ts o tasks at = record {
     fit = fit_gone p s.clients s.cells tidy kept.fit o (Going (length ts)) at (λ n m. refl) (waiting_well p t wired s w) queued;
     stage = tasks_resumed p _ _ ts (tasks_staged p s.clients _ s.cells _ ts
         (λ x d stage below k. stage_gone p s.clients s.cells tidy kept.fit o (Going (length ts)) at (λ n m. refl) (waiting_well p t wired s w) queued x.object d stage (goes_apart p t s w ts tasks o at x d stage below) k)
-        (subst (λ l. TasksKept p s.clients s.cells l) tasks kept.stage));
-  })
+        (stage_at (Destroy ∷ ts) tasks));
+  }
 
-  moved_kept : (ts : List Task) → s.tasks ≡ ts → (u : State) → step_task p c (counted p s) ts ≡ Goes u → IsKept p u
-  moved_kept [] tasks u e = subst (λ v. IsKept p v) (goes_same _ u e) (same_cells p s kept.fit _ refl refl kept.stage)
-  moved_kept (Run fr ∷ ts) tasks u e = run_kept fr ts tasks (instr_at p fr.method fr.place) u e
-  moved_kept (Trapped ∷ ts) tasks u e = cc
-  moved_kept (Destroy ∷ ts) tasks u e = gone_kept ts u tasks (held s.cells (Going (length ts))) refl e
-  moved_kept (Closing ∷ ts) tasks u e = closing_kept p (counted p s) kept.fit ts u (subst (λ l. TasksKept p s.clients s.cells l) tasks kept.stage) e
-  moved_kept (Unwind code ∷ ts) tasks u e = unwound_kept p (counted p s) kept.fit code ts s.items u (subst (λ l. TasksKept p s.clients s.cells l) tasks kept.stage) e
-  moved_kept (Dispatched d ∷ ts) tasks u e = subst (λ v. IsKept p v) (guarded_goes (needs_end d s.cells) _ u e)
-      (dispatch_kept p (counted p s) kept.fit tidy queued (serving_plain p t s w) d ts (λ x k stage same. there (Dispatched d ∷ ts) tasks x k stage same) (subst (λ l. TasksKept p s.clients s.cells l) tasks kept.stage))
+  moved_kept : (u : State) → step p c s ≡ Goes u → IsKept p u
+  moved_kept u e = of (steps_are_moves p c s u e)
+    where
+      v : State
+      v = counted p s
+
+      along : (w : State) → u ≡ w → IsKept p w → IsKept p u
+      along w same k = subst (λ v. IsKept p v) (sym same) k
+
+      of : Move p c s u → IsKept p u
+      of (Rests still same) = along _ same (same_cells p v kept.fit _ refl refl kept.stage)
+      of (Acts fr ts i x tasks there met may same) = let a = acts_at p c s u fr ts i tasks there e in along _ (sym a.1) (act_kept fr ts tasks i a.0)
+      of (Vanishes ts o tasks there none same) = along _ same (gone_kept ts o tasks there)
+      of (Empties ts o tasks there same) =
+          along _ same (parting_kept p v kept.fit o (first_session s.cells o.name (service_of s.cells o.name).sessions) ts (stage_at (Closing ∷ Destroy ∷ ts) tasks))
+      of (Clears code ts items o tasks top there same) =
+          along _ same (begun_kept p v kept.fit (Entry (length items)) _ o (length items) (Unwind code ∷ ts) _ refl refl refl (stage_at (Unwind code ∷ ts) tasks))
+      of (Undoes code ts items m word tasks top same) = along _ same (same_cells p v kept.fit _ refl refl (stage_at (Unwind code ∷ ts) tasks))
+      of (Arrives code fr ts items tasks top same) = along _ same (same_cells p v kept.fit _ refl refl (stage_at (Unwind code ∷ Trapped ∷ Run fr ∷ ts) tasks))
+      of (Comes_out code d ts items tasks top same) =
+          along _ same (same_cells p v kept.fit _ refl refl (arrival_stage p v kept.fit code d ts (stage_at (Unwind code ∷ Trapped ∷ Dispatched d ∷ ts) tasks)))
+      of (Ends d ts tasks same) =
+          along _ same (dispatch_kept p v kept.fit tidy queued (serving_plain p t s w) d ts (λ x k stage same. there (Dispatched d ∷ ts) tasks x k stage same) (stage_at (Dispatched d ∷ ts) tasks))
 
 pub clients_keep : ClientsKeep
 clients_keep = record {
   boot = boot_kept;
-  moves = λ p t wired typed c s u w free kept e. moved_kept p t wired c s w free kept s.tasks refl u e;
+  moves = λ p t wired typed c s u w free kept e. moved_kept p t wired c s w free kept u e;
   turns = λ p t outside wired typed heard s u w between hears kept e. turn_kept p t wired s w between.idle kept outside heard u hears.name e;
 }

@@ -1,22 +1,24 @@
 -- A client that closes or dies leaves what is kept: its messages that wait go, and where its session was open a close is asked last.
+use Rattle.std.proofs.Math.Bool.{and-false}
 use Rattle.std.proofs.Common.{[], Bool, List, None, Option, Some, ap, arith, cond, false, refl, subst, sym, true, ℕ, ◌&&◌, ◌==◌, ◌∙◌, ◌∷◌, ◌≡◌, ◌≤◌}
 use Rattle.std.proofs.lemmas.Bool.{eq-eqb, eqb-true, ne_eqb, true≢false}
-use Rattle.std.proofs.lemmas.List.Folds.{list_any-append}
 use Rattle.std.specs.List.{list_any}
 use Rattle.std.specs.Prelude.{filter, not, ◌||◌, is_some}
 use Rattle.aom_image.specs.Image.{Image}
 use Rattle.aom_clients.specs.Nodes.{is_leaving}
 use Rattle.aom_clients.specs.Table.{server_of}
 use Rattle.aom_clients.specs.declared.client.Client.{Client}
-use Rattle.aom_sound.proofs.ClientsFit.{by_server, fit_changed, names_then, seats_then, servers_then, enlisted_then}
-use Rattle.aom_sound.proofs.Queues.{client_here, client_of, entry_other, is_of, none_stays, queue_last, queue_other, queue_stays}
+use Rattle.aom_sound.proofs.ClientsGone.{held_before}
+use Rattle.aom_sound.proofs.ClientsAsk.{fit_asked}
+use Rattle.aom_sound.proofs.ClientsFit.{fit_changed}
+use Rattle.aom_sound.proofs.Queues.{client_here, client_of, entry_other, is_of, none_stays, queue_other, queue_stays}
 use Rattle.aom_sound.proofs.Seated.{seats_asked, seats_left}
-use Rattle.aom_sound.proofs.Sifted.{cell_in, cell_of_sifted, kept, unheld_sifted, cell_lives, cell_of, cell_placed, held_cell, held_sifted, named_before, named_cell, object_in, service_cell, service_gone, service_in, service_sifted, sifted, withdrawn_so, requested_before}
+use Rattle.aom_sound.proofs.Sifted.{cell_of_sifted, kept, cell_lives, cell_of, cell_placed, held_cell, named_before, named_cell, object_in, service_cell, service_gone, service_in, service_sifted, sifted, withdrawn_so, requested_before}
 use Rattle.aom_sound.specs.Clients.{client_at, most_of, with_client}
 use Rattle.aom_sound.specs.Enlisted.{thing_kind}
 use Rattle.aom_sound.specs.Kept.{ClientsFit, EntryFits, QueueFits, asked_again, is_close_of, is_message_of}
 use Rattle.aom_sound.specs.Places.{Asked, Cell, Close_of, Connect_of, Elsewhere, Message_of, Object, Place, Queued, Sender, Service, Tidy, held, named, service_of, unserved, requested}
-use Rattle.aom_sound.specs.Servers.{asked_last, discarded, has_session, reserved, is_from, is_queue, is_server, left_by, seats_taken, stays, withdrawn}
+use Rattle.aom_sound.specs.Servers.{asked_last, discarded, reserved, is_from, is_queue, is_server, left_by, seats_taken, stays, withdrawn}
 
 -- ---- lists
 
@@ -30,15 +32,7 @@ message_stays c d m (e ∷ es) h = go (stays c e) refl (message_stays c d m es) 
     or_right false x e = e
 
     other : (e : Asked) → stays c e ≡ true → is_message_of d m e ≡ true → (c == d) ≡ false
-    other (Message_of k i) s at = ne_eqb c d (λ same. own k i s at same)
-      where
-        own : (k i : ℕ) → not (k == c) ≡ true → ((k == d) && (i == m)) ≡ true → c ≡ d → ⊥
-        own k i s at same = go (k == d) refl at
-          where
-            go : (b : Bool) → (k == d) ≡ b → (b && (i == m)) ≡ true → ⊥
-            go true e at = true≢false (sym s ∙ ap not (eq-eqb k c (eqb-true k d e ∙ sym same)))
-            go false e at = cc
-    other _ s at = cc
+    other x s at = grind arith
 
     go :
         (b : Bool) → stays c e ≡ b → (list_any (is_message_of d m) (filter (stays c) es) ≡ true → ((c == d) ≡ false) × (list_any (is_message_of d m) es ≡ true)) →
@@ -63,9 +57,7 @@ none_but_close c (e ∷ es) none = go (stays c e) refl (is_close_of c e) refl no
     go :
         (b : Bool) → stays c e ≡ b → (x : Bool) → is_close_of c e ≡ x → (x || list_any (is_close_of c) es) ≡ false → (list_any (is_close_of c) es ≡ false → list_any (is_of c) (filter (stays c) es) ≡ false) →
         list_any (is_of c) (cond b (e ∷ filter (stays c) es) (filter (stays c) es)) ≡ false
-    go true s false at none rest = ap (λ y. y || list_any (is_of c) (filter (stays c) es)) (entry e s at) ∙ rest none
-    go false s false at none rest = rest none
-    go b s true at none rest = cc
+    go b s x at none rest = grind (arith, entry)
 
 -- so that what is left of a queue fits whatever it is at then
 pub queue_left :
@@ -97,24 +89,10 @@ queue_leaving clients c n to still (e ∷ es) fits = go (stays c e) refl (queue_
 -- ---- the cells
 
 from_kept : (c d : ℕ) (x : Option Sender) → is_from d x ≡ true → is_from d (discarded c x) ≡ true
-from_kept c d None h = cc
-from_kept c d (Some m) h = go (m.client == c) h
-  where
-    go : (b : Bool) → (m.client == d) ≡ true → ((cond b (record m { holds_slot = false; is_told = false }) m).client == d) ≡ true
-    go true h = h
-    go false h = h
+from_kept c d x h = grind arith
 
 from_other : (c d : ℕ) (x : Option Sender) → (c == d) ≡ false → is_from d x ≡ true → is_from c x ≡ false
-from_other c d None other h = cc
-from_other c d (Some m) other h = ne_eqb m.client c (λ same. true≢false (sym (eq-eqb c d (sym same ∙ eqb-true m.client d h)) ∙ other))
-
-or_false : (b : Bool) → (b || false) ≡ b
-or_false true = refl
-or_false false = refl
-
-and_false : (b : Bool) → (b && false) ≡ false
-and_false true = refl
-and_false false = refl
+from_other c d x other h = grind arith
 
 module _ (p : Image) (clients : List Client) (cs : List Cell) (tidy : Tidy cs) (fit : ClientsFit p clients cs) (c : ℕ)
     (waiting : (n m : ℕ) (o : Object) → held cs (Elsewhere (Queued n m)) ≡ Some o → is_server p o.thing ≡ false) where
@@ -178,10 +156,7 @@ module _ (p : Image) (clients : List Client) (cs : List Cell) (tidy : Tidy cs) (
   sender_left d m other h = go (cell_of cs m) refl (subst (λ v. is_from d v.sender ≡ true) (service_cell cs m) h)
     where
       go : (x : Option Cell) → cell_of cs m ≡ x → is_from d (service_in x).sender ≡ true → is_from d (service_of (withdrawn c cs) m).sender ≡ true
-      go None e h = cc
-      go (Some x) e h =
-          let stays : drops x ≡ false = ap (λ b. is_queue x.owner && b) (from_other c d x.service.sender other h) ∙ and_false (is_queue x.owner) in
-          subst (λ v. is_from d v.sender ≡ true) (sym (ap (λ l. service_of l m) (withdrawn_so c cs) ∙ service_sifted drops left cs tidy m x e stays)) (from_kept c d x.service.sender h)
+      go x e h = grind (arith, from_other, and-false, withdrawn_so, service_sifted, from_kept)
 
   -- the client is at something else then, and asks for nothing more
   module _ (to : Client) (session : server_of to ≡ server_of (client_at clients c)) (queues : (n : ℕ) → QueueFits (with_client c to clients) n (filter (stays c) (service_of cs n).queue)) where
@@ -223,33 +198,13 @@ module _ (p : Image) (clients : List Client) (cs : List Cell) (tidy : Tidy cs) (
             ((service_left o.name).0 ∙ ap (λ q. filter (stays c) q) none.0, (service_left o.name).1 ∙ none.1)
 
         names : (n m : ℕ) (o : Object) → held (withdrawn c cs) (Elsewhere (Queued n m)) ≡ Some o → o.name ≡ m
-        names n m o h = go (cell_in cs (Elsewhere (Queued n m))) refl (ap (λ l. held l (Elsewhere (Queued n m))) (sym (withdrawn_so c cs)) ∙ h)
-          where
-            at : (x : Cell) → cell_in cs (Elsewhere (Queued n m)) ≡ Some x → (b : Bool) → cond b None (Some x.object) ≡ Some o → o.name ≡ m
-            at x e true h = cc
-            at x e false h = let same : x.object ≡ o = cc in fit.names n m o (held_cell cs (Elsewhere (Queued n m)) ∙ ap object_in e ∙ ap (λ y. Some y) same)
-
-            go : (x : Option Cell) → cell_in cs (Elsewhere (Queued n m)) ≡ x → held (sifted drops left cs) (Elsewhere (Queued n m)) ≡ Some o → o.name ≡ m
-            go None e h = let clash : None ≡ Some o = sym (unheld_sifted drops left cs (Elsewhere (Queued n m)) tidy (held_cell cs (Elsewhere (Queued n m)) ∙ ap object_in e)) ∙ h in cc
-            go (Some x) e h = at x e (drops x) (sym (held_sifted drops left cs (Elsewhere (Queued n m)) tidy x e) ∙ h)
+        names n m o h = fit.names n m o (held_before drops left cs (Elsewhere (Queued n m)) o tidy (ap (λ l. held l (Elsewhere (Queued n m))) (sym (withdrawn_so c cs)) ∙ h))
 
 -- ---- a close is asked last
 
 module _ (p : Image) (clients : List Client) (cs : List Cell) (fit : ClientsFit p clients cs) (o : Object) (lives : named cs o.name ≡ Some o) (serves : is_server p o.thing ≡ true)
     (listed : is_some (requested cs o.name) ≡ true) (c : ℕ) where
   pub fit_told : is_leaving o.name (client_at clients c) ≡ true → list_any (is_close_of c) (service_of cs o.name).queue ≡ false → ClientsFit p clients (reserved (asked_last (Close_of c)) o.name cs)
-  fit_told leaves new = record {
-    queues = by_server p cs o lives (asked_last (Close_of c)) (λ n v. QueueFits clients n v.queue) (queue_last clients o.name (Close_of c) (service_of cs o.name).queue leaves new (fit.queues o.name)) (λ n e. fit.queues n);
-    sessions = by_server p cs o lives (asked_last (Close_of c)) (λ n v. (d : ℕ) → has_session v d ≡ true → server_of (client_at clients d) ≡ Some n) (fit.sessions o.name) (λ n e. fit.sessions n);
-    listed = by_server p cs o lives (asked_last (Close_of c)) (λ n v. (d : ℕ) → server_of (client_at clients d) ≡ Some n → has_session v d ≡ true) (fit.listed o.name) (λ n e. fit.listed n);
-    servers = servers_then p cs o lives (asked_last (Close_of c)) serves clients fit;
-    names = names_then p cs o lives (asked_last (Close_of c)) serves clients fit;
-    senders = λ n d k. by_server p cs o lives (asked_last (Close_of c)) (λ n v. list_any (is_message_of d k) v.queue ≡ true → is_from d (service_of (reserved (asked_last (Close_of c)) o.name cs) k).sender ≡ true)
-        (λ h. senders k d (fit.senders o.name d k (sym (list_any-append (is_message_of d k) (service_of cs o.name).queue (Close_of c ∷ []) ∙ or_false (list_any (is_message_of d k) (service_of cs o.name).queue)) ∙ h)))
-        (λ n other h. senders k d (fit.senders n d k h)) n;
-    enlisted = enlisted_then p cs o lives (asked_last (Close_of c)) listed clients fit;
-    seats = seats_then p cs o lives (asked_last (Close_of c)) clients fit (let one = seats_asked (Close_of c) (service_of cs o.name) in let was = fit.seats o lives in omega (arith, one, was));
-  }
-    where
-      senders : (k d : ℕ) → is_from d (service_of cs k).sender ≡ true → is_from d (service_of (reserved (asked_last (Close_of c)) o.name cs) k).sender ≡ true
-      senders k d = by_server p cs o lives (asked_last (Close_of c)) (λ k v. is_from d (service_of cs k).sender ≡ true → is_from d v.sender ≡ true) (λ h. h) (λ n other h. h) k
+  fit_told leaves new =
+      fit_asked p clients cs fit o lives serves listed (Close_of c) leaves new (λ d m h. cc)
+      (let one = seats_asked (Close_of c) (service_of cs o.name) in let was = fit.seats o lives in omega (arith, one, was))

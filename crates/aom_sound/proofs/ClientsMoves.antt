@@ -14,24 +14,23 @@ use Rattle.aom_clients.specs.Nodes.{is_connecting_at}
 use Rattle.aom_clients.specs.declared.client.Client.{Client}
 use Rattle.aom_clients.specs.declared.client.Client.TheVariants.{Unconnected}
 use Rattle.aom_rules.specs.Requests.{is_cancel}
+use Rattle.aom_sound.proofs.Altering.{Alters, held_kept, named_kept, opening, read_kept, requests, services, storing}
 use Rattle.aom_sound.proofs.ClientsFit.{connecting_only, fit_changed, none_of_connecting}
 use Rattle.aom_sound.proofs.ClientsTurn.{Same, on_none, same_requested}
-use Rattle.aom_sound.proofs.Maps.{named_moved, same_place-true, same_place_along, requested_moved}
+use Rattle.aom_sound.proofs.Maps.{named_moved, same_place-true, same_place_along, requested_moved, requested_unnamed}
 use Rattle.aom_sound.proofs.Queues.{queue_other}
-use Rattle.aom_sound.proofs.Services.{service_moved, service_opened, service_stored, service_unnamed}
-use Rattle.aom_sound.specs.Cleanup.{top_place}
+use Rattle.aom_sound.proofs.Services.{service_moved, service_unnamed}
 use Rattle.aom_sound.specs.Calls.{passed_cells, result_cells}
 use Rattle.aom_sound.specs.Clients.{client_at, with_client, most_of}
-use Rattle.aom_sound.specs.Effects.{Carried, In_field, In_register, Made, Popped, Popped_operation, Pushed, Pushed_operation, Replied, Requested, Same as Unchanged, Sessioned, Spot, The_message, Update, Written, cells_after, spot_place}
+use Rattle.aom_sound.specs.Effects.{In_field, In_register, Made, Replied, Requested, Spot, The_message, Update, cells_after, spot_place}
 use Rattle.aom_sound.specs.Enlisted.{cancelled, ended_cells, on_request, own_request, rerequested, thing_kind}
 use Rattle.aom_sound.specs.Kept.{ClientsFit, QueueFits, ConnectKept, StageKept, TasksKept, is_close_of, is_connect_of, is_message_of}
 use Rattle.aom_sound.specs.Natives.{resessioned}
-use Rattle.aom_sound.specs.Places.{Cell, Elsewhere, Entry, Object, Place, Queued, Register, Request, held, moved, named, same_place, service_of, set_request, set_session, set_word_field, unserved, with_new, requested}
+use Rattle.aom_sound.specs.Places.{Cell, Elsewhere, Object, Place, Queued, Register, Request, held, moved, named, same_place, service_of, set_request, unserved, with_new, requested}
 use Rattle.aom_sound.specs.Servers.{is_from, is_server, seats_taken}
 use Rattle.aom_sound.specs.State.{Accept_left, Accepted, Accepts, AtRoot, Closing, Destroy, Dispatched, Frame, Home, Inside, Of_server, Parts, Run, Service_left, Serves, Stage, State, Static, Task, Trapped, Unwind, field_place}
 use Rattle.aom_sound.specs.Words.{here, stored}
 use Rattle.aom_sound.proofs.Seated.{seats_none, seats_same}
-use Rattle.aom_sound.proofs.Dropping.{requested_unnamed}
 
 -- ---- cells of which servers have the same
 
@@ -157,8 +156,7 @@ steady_moved cs a b apart = record {
 }
   where
     queued : (n m : ℕ) (o : Object) (x : Bool) → cond x None (held cs (Elsewhere (Queued n m))) ≡ Some o → held cs (Elsewhere (Queued n m)) ≡ Some o
-    queued n m o true h = cc
-    queued n m o false h = h
+    queued n m o x h = grind arith
 
 pub steady_new : (cs : List Cell) (name : ℕ) (x : Thing) (ws : List ℤ) (owner : Place) → NoQueue owner → named cs name ≡ None → Steady cs (with_new name x ws owner cs)
 steady_new cs name x ws owner apart free = record {
@@ -189,43 +187,26 @@ steady_asked cs Static r keeps = steady_itself cs
 steady_asked cs AtRoot r keeps = steady_itself cs
 steady_asked cs (Inside o from) r keeps = steady_same cs (set_request o.name r cs) (same_requested cs o r keeps)
 
-held_opened : (cs : List Cell) (m : ℕ) (b : Bool) (q : Place) → held (set_session m b cs) q ≡ held cs q
-held_opened [] m b q = refl
-held_opened (c ∷ cs) m b q = ap (λ x. cond (same_place c.owner q) (Some c.object) x) (held_opened cs m b q)
-
-named_opened : (cs : List Cell) (m : ℕ) (b : Bool) (n : ℕ) → named (set_session m b cs) n ≡ named cs n
-named_opened [] m b n = refl
-named_opened (c ∷ cs) m b n = ap (λ x. cond (c.object.name == n) (Some c.object) x) (named_opened cs m b n)
-
-requested_opened : (cs : List Cell) (m : ℕ) (b : Bool) (n : ℕ) → requested (set_session m b cs) n ≡ requested cs n
-requested_opened [] m b n = refl
-requested_opened (c ∷ cs) m b n = ap (λ x. cond (c.object.name == n) c.request x) (requested_opened cs m b n)
+-- each cell is changed by itself, and stays in its place, with its request and for its clients
+steady_altered :
+    {change : List Cell → List Cell} (a : Alters change) → ((c : Cell) → (a.each c).owner ≡ c.owner) → ((c : Cell) → (a.each c).request ≡ c.request) →
+    ((c : Cell) → (a.each c).service ≡ c.service) → (cs : List Cell) → Steady cs (change cs)
+steady_altered {change = change} a stays asks serves cs = steady_same cs (change cs) (record {
+  service_so = read_kept a services serves cs;
+  named_so = named_kept a cs;
+  held_so = held_kept a stays cs;
+  listed_so = λ n e. sym (read_kept a requests asks cs n) ∙ e;
+})
 
 pub steady_opened : (cs : List Cell) (home : Home) (b : Bool) → Steady cs (resessioned cs home b)
 steady_opened cs Static b = steady_itself cs
 steady_opened cs AtRoot b = steady_itself cs
-steady_opened cs (Inside o from) b =
-    steady_same cs (set_session o.name b cs)
-    (record { service_so = service_opened cs o.name b; named_so = named_opened cs o.name b; held_so = held_opened cs o.name b; listed_so = λ n e. sym (requested_opened cs o.name b n) ∙ e })
-
-held_stored : (cs : List Cell) (m w : ℕ) (v : ℤ) (q : Place) → held (set_word_field m w v cs) q ≡ held cs q
-held_stored [] m w v q = refl
-held_stored (c ∷ cs) m w v q = ap (λ x. cond (same_place c.owner q) (Some c.object) x) (held_stored cs m w v q)
-
-named_stored : (cs : List Cell) (m w : ℕ) (v : ℤ) (n : ℕ) → named (set_word_field m w v cs) n ≡ named cs n
-named_stored [] m w v n = refl
-named_stored (c ∷ cs) m w v n = ap (λ x. cond (c.object.name == n) (Some c.object) x) (named_stored cs m w v n)
-
-requested_stored : (cs : List Cell) (m w : ℕ) (v : ℤ) (n : ℕ) → requested (set_word_field m w v cs) n ≡ requested cs n
-requested_stored [] m w v n = refl
-requested_stored (c ∷ cs) m w v n = ap (λ x. cond (c.object.name == n) c.request x) (requested_stored cs m w v n)
+steady_opened cs (Inside o from) b = steady_altered (opening o.name b) (λ c. refl) (λ c. refl) (λ c. refl) cs
 
 pub steady_stored : (cs : List Cell) (home : Home) (w : ℕ) (v : ℤ) → Steady cs (stored cs home w v)
 steady_stored cs Static w v = steady_itself cs
 steady_stored cs AtRoot w v = steady_itself cs
-steady_stored cs (Inside o from) w v =
-    steady_same cs (set_word_field o.name w v cs)
-    (record { service_so = service_stored cs o.name w v; named_so = named_stored cs o.name w v; held_so = held_stored cs o.name w v; listed_so = λ n e. sym (requested_stored cs o.name w v n) ∙ e })
+steady_stored cs (Inside o from) w v = steady_altered (storing o.name w v) (λ c. refl) (λ c. refl) (λ c. refl) cs
 
 pub steady_ended : (p : Image) (fr : Frame) (cs : List Cell) → Steady cs (ended_cells p fr cs)
 steady_ended p fr cs = go (is_cancel (method_role p fr.method))
@@ -253,17 +234,7 @@ module _ (p : Image) (fr : Frame) (ts : List Task) (s : State) where
   IsSteady _ = Unit {0}
 
   pub steady_update : (u : Update) → IsSteady u → Steady s.cells (cells_after p fr ts s u)
-  steady_update (Carried from to) h = steady_moved s.cells (spot_place p fr ts s from) (spot_place p fr ts s to) (spot_apart to)
-  steady_update (Made name class a) h = steady_new s.cells name _ _ (here fr ts s a) (λ n m. refl) h
-  steady_update (Written w v) h = steady_stored s.cells fr.home w v
-  steady_update (Requested r) h = steady_asked s.cells fr.home r h
-  steady_update (Sessioned b) h = steady_opened s.cells fr.home b
-  steady_update (Replied a) h = absurd h
-  steady_update (Pushed a) h = steady_moved s.cells (here fr ts s a) (Entry (length s.items)) (λ n m. refl)
-  steady_update (Popped a) h = steady_moved s.cells (top_place s.items) (here fr ts s a) (λ n m. refl)
-  steady_update Unchanged h = steady_itself s.cells
-  steady_update (Pushed_operation m w) h = steady_itself s.cells
-  steady_update Popped_operation h = steady_itself s.cells
+  steady_update x h = grind (arith, steady_moved, steady_new, steady_stored, steady_asked, steady_opened, steady_itself)
 
   -- arguments are passed, and a result is brought
   pub steady_passed : (depth : ℕ) (xs : List Argument) (first to : ℕ) (cs : List Cell) → Steady cs (passed_cells p fr ts s depth xs first to cs)

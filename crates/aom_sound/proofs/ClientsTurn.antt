@@ -9,15 +9,15 @@ use Rattle.aom_clients.specs.Table.{server_of}
 use Rattle.aom_clients.specs.declared.client.Client.{Client}
 use Rattle.aom_rules.specs.Typing.{Typing}
 use Rattle.aom_sound.proofs.ClientsCommand.{fit_commanded}
-use Rattle.aom_sound.proofs.ClientsFit.{by_server, seats_then, enlisted_then}
-use Rattle.aom_sound.proofs.Maps.{held_moved, named_moved, requested_moved}
+use Rattle.aom_sound.proofs.ClientsFit.{senders_then, by_server, seats_then, enlisted_then}
+use Rattle.aom_sound.proofs.Maps.{held_moved, named_moved, requested_moved, requested_unnamed}
 use Rattle.aom_sound.proofs.Owners.{IsQueuedAt, in_queue, queued_lower}
 use Rattle.aom_sound.proofs.Services.{held_served, named_served, service_asked, service_bereaved, service_here, service_moved}
 use Rattle.aom_sound.proofs.Signals.{at_rest}
 use Rattle.aom_sound.proofs.Storing.{bereaved_alike, rerequested_alike, requested_here, requested_there}
 use Rattle.aom_sound.proofs.Straight.{fits_unowning}
 use Rattle.aom_sound.proofs.Turned.{Polled, answers, commanded_kept, dispatched_so, nothing, polled_so}
-use Rattle.aom_sound.proofs.Guarded.{goes_same}
+use Rattle.aom_sound.proofs.Guarded.{goes_some, goes_same}
 use Rattle.aom_sound.proofs.Turning.{found}
 use Rattle.aom_sound.specs.Claims.{declared}
 use Rattle.aom_sound.specs.Clients.{client_at, most_of, client_count}
@@ -30,7 +30,7 @@ use Rattle.aom_sound.specs.Kept.{ClientsFit, IsKept, QueueFits, TasksKept, is_cl
 use Rattle.aom_sound.specs.Laws.{IsWired}
 use Rattle.aom_sound.specs.Places.{Asked, Cell, Close_of, Connect_of, Elsewhere, Going, In_service, Message_of, Object, Place, Queued, Request, Root, Session, held, moved, named, requested, same_place, seen, service_of, set_request}
 use Rattle.aom_sound.specs.Servers.{has_session, is_from, is_server, reserved, rest_of as rest, taken_first, seats_taken}
-use Rattle.aom_sound.specs.State.{Closing, Destroy, Dispatched, Goes, Inside, Of_server, Parts, Seat, State, Task}
+use Rattle.aom_sound.specs.State.{NullOrDead, WrongKind, Closing, Destroy, Dispatched, Goes, Inside, Of_server, Parts, Seat, State, Task}
 use Rattle.aom_sound.specs.WellTyped.{Fits, Good, WellTyped}
 use Rattle.aom_sound.specs.World.{Candidate, Completes, Completion, Cuts, Heard, Hears, Kills, Obeys, Outside, Passes, Picks, Polls, Strays, Timed, Turning, Waits, accepting, attended, attending, by_event, by_timer, delivers, dispatched, first_due, first_ready, has_signal, heard_one, lives, next_event, next_native, next_time, parting_with, picks, picked, polls, serves_first, taken_from, turn, turned, turning, with_request}
 use Rattle.aom_transcript.specs.declared.event.Event.{Event}
@@ -38,7 +38,6 @@ use Rattle.aom_transcript.specs.declared.event.Event.TheVariants.{Client as From
 use Rattle.aom_transcript.specs.declared.event.TimedEvent.{TimedEvent}
 use Rattle.aom_sound.proofs.Seated.{seats_first, seats_rest}
 use Rattle.aom_sound.proofs.Things.{message_plain}
-use Rattle.aom_sound.proofs.Dropping.{requested_unnamed}
 use Rattle.std.proofs.lemmas.Bool.{eqb-true}
 
 -- ---- cells of which clients have the same
@@ -64,8 +63,7 @@ fit_same p clients cs cs' like fit = record {
 
 -- a request that changes is there still
 pub on_none : (f : Request → Request) (r : Option Request) → on_request f r ≡ None → r ≡ None
-on_none f None e = refl
-on_none f (Some r) e = cc
+on_none f x e = grind arith
 
 pub listed_asked : (cs : List Cell) (m : ℕ) (r : Option Request) → (r ≡ None → requested cs m ≡ None) → (n : ℕ) → requested (set_request m r cs) n ≡ None → requested cs n ≡ None
 listed_asked cs m r keeps n e = go (m == n) refl
@@ -89,8 +87,7 @@ listed_bereaved p n (c ∷ cs) m e = go (c.object.name == m) e (listed_bereaved 
     ends true (Some r) e = owed (is_owed (Some r)) e
       where
         owed : (b : Bool) → cond b (on_request (completed_with terminated) (Some r)) (Some r) ≡ None → Some r ≡ None
-        owed true e = cc
-        owed false e = e
+        owed x e = grind arith
     ends false r e = e
 
     go :
@@ -123,8 +120,7 @@ fit_moved p clients cs a b free apart fit = record {
 }
   where
     names : (n m : ℕ) (o : Object) (x : Bool) → cond x None (held cs (Elsewhere (Queued n m))) ≡ Some o → o.name ≡ m
-    names n m o true h = cc
-    names n m o false h = fit.names n m o h
+    names n m o x h = grind arith
 
 -- the first of a queue is taken
 pub fit_taken :
@@ -136,9 +132,8 @@ fit_taken p clients cs o lives listed e es queue fit = record {
   listed = by_server p cs o lives taken_first (λ n v. (d : ℕ) → server_of (client_at clients d) ≡ Some n → has_session v d ≡ true) (fit.listed o.name) (λ n other. fit.listed n);
   servers = λ x h plain. by_server p cs o lives taken_first (λ n v. ((service_of cs n).queue ≡ []) × ((service_of cs n).sessions ≡ []) → (v.queue ≡ []) × (v.sessions ≡ [])) (λ h. (ap rest h.0, h.1)) (λ n other h. h) x.name (fit.servers x (sym (named_served cs o.name (taken_first (service_of cs o.name)) x.name) ∙ h) plain);
   names = λ n m x h. fit.names n m x (sym (held_served cs o.name (taken_first (service_of cs o.name)) (Elsewhere (Queued n m))) ∙ h);
-  senders = λ n d m. by_server p cs o lives taken_first (λ n v. list_any (is_message_of d m) v.queue ≡ true → is_from d (service_of (reserved taken_first o.name cs) m).sender ≡ true)
-      (λ h. senders m d (fit.senders o.name d m (ap (λ q. list_any (is_message_of d m) q) queue ∙ or_right (is_message_of d m e) (list_any (is_message_of d m) es) (ap (λ q. list_any (is_message_of d m) (rest q)) (sym queue) ∙ h))))
-      (λ n other h. senders m d (fit.senders n d m h)) n;
+  senders = senders_then p cs o lives taken_first clients fit (λ d h. h)
+      (λ d m h. fit.senders o.name d m (ap (λ q. list_any (is_message_of d m) q) queue ∙ or_right (is_message_of d m e) (list_any (is_message_of d m) es) (ap (λ q. list_any (is_message_of d m) (rest q)) (sym queue) ∙ h)));
   enlisted = enlisted_then p cs o lives taken_first listed clients fit;
   seats = seats_then p cs o lives taken_first clients fit (let less = seats_rest (service_of cs o.name) in let was = fit.seats o lives in omega (arith, less, was));
 }
@@ -146,9 +141,6 @@ fit_taken p clients cs o lives listed e es queue fit = record {
     or_right : (b x : Bool) → x ≡ true → (b || x) ≡ true
     or_right true x h = refl
     or_right false x h = h
-
-    senders : (m d : ℕ) → is_from d (service_of cs m).sender ≡ true → is_from d (service_of (reserved taken_first o.name cs) m).sender ≡ true
-    senders m d = by_server p cs o lives taken_first (λ m v. is_from d (service_of cs m).sender ≡ true → is_from d v.sender ≡ true) (λ h. h) (λ n other h. h) m
 
 -- ---- tasks
 
@@ -205,10 +197,11 @@ module _ (p : Image) (t : Typing) (wired : IsWired p) (s : State) (w : WellTyped
       queue_now = ap (λ v. v.queue) (service_here s.cells n (taken_first (service_of s.cells n)) x.object there) ∙ ap rest queue
 
     connect_kept : (c : ℕ) (es : List Asked) → (service_of s.cells n).queue ≡ Connect_of c ∷ es → (m : Option ℕ) → accepting m x c (taken_from n s) ≡ Goes u → IsKept p u
-    connect_kept c es queue None e = cc
-    connect_kept c es queue (Some m) e =
+    connect_kept c es queue m e =
         let first = first_fits (Connect_of c) es queue in
-        subst (λ v. IsKept p v) (goes_same _ u e) (record { fit = taken (Connect_of c) es queue; stage = (first.0.0, ap (λ q. list_any (is_connect_of c) q) (queue_now (Connect_of c) es queue) ∙ first.0.1, room) })
+        let method = goes_some m (λ m. accepting m x c (taken_from n s)) WrongKind u refl e in
+        subst (λ v. IsKept p v) (goes_same _ u method.2)
+        (record { fit = taken (Connect_of c) es queue; stage = (first.0.0, ap (λ q. list_any (is_connect_of c) q) (queue_now (Connect_of c) es queue) ∙ first.0.1, room) })
       where
         room : seats_taken (service_of cs n) < most_of (thing_kind p x.object.thing)
         room =
@@ -217,21 +210,20 @@ module _ (p : Image) (t : Typing) (wired : IsWired p) (s : State) (w : WellTyped
             subst (λ v. seats_taken v < most_of (thing_kind p x.object.thing)) (sym (service_here s.cells n (taken_first (service_of s.cells n)) x.object there)) (omega (arith, was, one))
 
     message_kept : (c m : ℕ) (es : List Asked) → (service_of s.cells n).queue ≡ Message_of c m ∷ es → (o : Option Object) → attended p x c o m (taken_from n s) ≡ Goes u → IsKept p u
-    message_kept c m es queue None e = cc
-    message_kept c m es queue (Some o) e = go (part_of p Attends_role o.thing) e
-      where
-        go : (k : Option ℕ) → attending k x c o m (taken_from n s) ≡ Goes u → IsKept p u
-        go None e = cc
-        go (Some k) e = subst (λ v. IsKept p v) (goes_same _ u e) (record { fit = fit_moved p s.clients cs (Elsewhere (Queued n m)) (Elsewhere In_service) (empty_now (Elsewhere In_service) refl) (λ i j. refl) (taken (Message_of c m) es queue); stage = tt })
+    message_kept c m es queue o e =
+        let session = goes_some o (λ o. attended p x c o m (taken_from n s)) NullOrDead u refl e in
+        let method = goes_some (part_of p Attends_role session.0.thing) (λ k. attending k x c session.0 m (taken_from n s)) WrongKind u refl session.2 in
+        subst (λ v. IsKept p v) (goes_same _ u method.2)
+        (record { fit = fit_moved p s.clients cs (Elsewhere (Queued n m)) (Elsewhere In_service) (empty_now (Elsewhere In_service) refl) (λ i j. refl) (taken (Message_of c m) es queue); stage = tt })
 
     close_kept : (c : ℕ) (es : List Asked) → (service_of s.cells n).queue ≡ Close_of c ∷ es → (o : Option Object) → parting_with p x c o (taken_from n s) ≡ Goes u → IsKept p u
-    close_kept c es queue None e = cc
-    close_kept c es queue (Some o) e =
+    close_kept c es queue o e =
         let first = first_fits (Close_of c) es queue in
         let then = moved (Elsewhere (Session n c)) (Going 1) cs in
-        subst (λ v. IsKept p v) (goes_same _ u e) (record {
+        let session = goes_some o (λ o. parting_with p x c o (taken_from n s)) NullOrDead u refl e in
+        subst (λ v. IsKept p v) (goes_same _ u session.2) (record {
           fit = fit_moved p s.clients cs (Elsewhere (Session n c)) (Going 1) (empty_now (Going 1) refl) (λ i j. refl) (taken (Close_of c) es queue);
-          stage = tasks_begun p s.clients then o (length s.items) (Dispatched (Of_server x c Parts) ∷ [])
+          stage = tasks_begun p s.clients then session.0 (length s.items) (Dispatched (Of_server x c Parts) ∷ [])
               (first.0.0, ap (λ q. list_any (is_close_of c) q) (ap (λ v. v.queue) (service_moved cs (Elsewhere (Session n c)) (Going 1) n) ∙ queue_now (Close_of c) es queue) ∙ first.0.1);
         })
 

@@ -11,16 +11,14 @@ use Rattle.aom_shape.specs.Things.{Program, field_thing}
 use Rattle.aom_rules.specs.Typing.{IsTyped, Typing}
 use Rattle.aom_shape.specs.declared.kind.Filling.TheVariants.{Perhaps}
 use Rattle.aom_shape.specs.declared.kind.Kind.TheVariants.{Null}
-use Rattle.aom_sound.proofs.Destroying.{begin, goes_fitting, goes_there, no_going}
-use Rattle.aom_sound.proofs.Maps.{held_lives, named_moved, tidy_moved}
+use Rattle.aom_sound.proofs.Destroying.{no_going, goes_well}
 use Rattle.aom_sound.proofs.Straight.{fits_unowning}
 use Rattle.aom_sound.specs.Claims.{by_close, by_stage, Dispatching, Layer, claim, declared, forms, items_of, tasks_of, is_of_root}
 use Rattle.aom_sound.specs.Laws.{IsWired}
 use Rattle.aom_sound.specs.Moves.{needs_end, closed, dispatch_ends, main_ends, main_left, over, uprooted, answered, asking, failed, handled, object_ends}
-use Rattle.aom_sound.specs.Places.{Session, In_service, Elsewhere, Going, Object, Place, Root, changed, held, moved, seen}
+use Rattle.aom_sound.specs.Places.{Session, In_service, Elsewhere, Going, Object, Place, Root, changed, held, seen}
 use Rattle.aom_sound.specs.State.{guarded, Of_server, Dispatch, Item, Main_left, Of_main, Of_root, State, Answered, Asks, Object_left, Of_object, Seat}
 use Rattle.aom_sound.specs.WellTyped.{Keeps, AllUndo, Fits, Good, WellTyped}
-use Rattle.aom_sound.proofs.Suiting.{all_moved}
 use Rattle.aom_shape.specs.declared.kind.Kind.{Kind}
 use Rattle.aom_sound.proofs.Parting.{stage_keeps}
 
@@ -38,12 +36,10 @@ serves_none (Of_server x client stage) = false
 serves_none _ = true
 
 none_parts : (d : Dispatch) → serves_none d ≡ true → (n c : ℕ) (k : Kind) → by_close d n c k ≡ k
-none_parts (Of_server x client stage) e n c k = cc
-none_parts _ e n c k = refl
+none_parts x e n c k = grind arith
 
 none_served : (d : Dispatch) → serves_none d ≡ true → (k : Kind) → by_stage d k ≡ k
-none_served (Of_server x client stage) e k = cc
-none_served _ e k = refl
+none_served x e k = grind arith
 
 module _ (p : Image) (t : Typing) (s : State) where
   -- with nothing at hand
@@ -78,14 +74,10 @@ module _ (p : Image) (t : Typing) (s : State) where
       let before = Dispatching d seats ∷ [] in
       let below = Dispatching Of_root [] ∷ [] in
       let free = no_going p t s.cells o q before below good.fits there (omega arith) claims in
-      begin p t wired typed (moved q g s.cells) o below
-      (goes_fitting p t s.cells o q before below good.fits there (omega arith) claims)
-      (tidy_moved s.cells q g free good.tidy)
+      goes_well p t s.cells o q before below good.fits there (omega arith) claims wired typed good.tidy
       (tt, refl, tt, refl, tt)
-      (goes_there p t s.cells o q before below good.fits there (omega arith) claims)
-      (named_moved s.cells q g o.name ∙ held_lives s.cells q o good.tidy there)
       (record { some = λ x. ⊎_elim (λ y. y) (λ y. y) x; unclaimed = λ f. refl; none_in = (tt, tt); unworked = tt; sessions = λ d c. refl })
-      (all_moved p s.cells q g below good.suits)
+      good.suits
       (uprooted p o s) (length s.items) (ap length items) refl refl (ap forms items) (subst (λ is. AllUndo p is) (sym items) tt)
     where
       claims : (r : Place) → claim p (declared p s.cells) (Dispatching Of_root [] ∷ []) r ≡ changed (claim p (declared p s.cells) (Dispatching d seats ∷ [])) (Elsewhere Root) Null r

@@ -1,5 +1,6 @@
 -- What a client's command comes to between dispatches is well typed: a queue is longer, a message more waits in one, or those of a client go.
-use Rattle.std.proofs.Common.{[], Bool, List, Some, ap, cond, false, refl, subst, sym, true, ℕ, ◌∙◌, ◌∷◌, ◌≡◌}
+use Rattle.std.proofs.Math.Bool.{or-false}
+use Rattle.std.proofs.Common.{[], List, Some, ap, cond, false, refl, subst, sym, ℕ, ◌∙◌, ◌∷◌, ◌≡◌}
 use Rattle.std.proofs.lemmas.List.Folds.{list_any-append}
 use Rattle.std.specs.List.{list_any}
 use Rattle.std.specs.Prelude.{◌||◌}
@@ -17,10 +18,6 @@ use Rattle.aom_sound.specs.Places.{Asked, Cell, Elsewhere, Field, Object, Place,
 use Rattle.aom_sound.specs.Requests.{AllSuit, Suits, resting_in, rests_in, thing_kind}
 use Rattle.aom_sound.specs.Servers.{asked_last, has_message, has_session, is_message, message_thing, reserved, session_thing}
 use Rattle.aom_sound.specs.WellTyped.{Fits, Good}
-
-or_false : (b : Bool) → (b || false) ≡ b
-or_false true = refl
-or_false false = refl
 
 -- ---- what is declared goes by names, messages and sessions
 
@@ -57,7 +54,7 @@ good_asked p t cs o lives e plain good =
   where
     messages : (n m : ℕ) → has_message (service_of (reserved (asked_last e) o.name cs) n) m ≡ has_message (service_of cs n) m
     messages n m = by_server p cs o lives (asked_last e) (λ n v. has_message v m ≡ has_message (service_of cs n) m)
-        (list_any-append (λ x. is_message m x) (service_of cs o.name).queue (e ∷ []) ∙ ap (λ b. list_any (λ x. is_message m x) (service_of cs o.name).queue || (b || false)) (plain m) ∙ or_false (list_any (λ x. is_message m x) (service_of cs o.name).queue))
+        (list_any-append (λ x. is_message m x) (service_of cs o.name).queue (e ∷ []) ∙ ap (λ b. list_any (λ x. is_message m x) (service_of cs o.name).queue || (b || false)) (plain m) ∙ or-false (list_any (λ x. is_message m x) (service_of cs o.name).queue))
         (λ n other. refl) n
 
     sessions : (n c : ℕ) → has_session (service_of (reserved (asked_last e) o.name cs) n) c ≡ has_session (service_of cs n) c

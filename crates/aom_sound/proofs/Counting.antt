@@ -3,8 +3,7 @@ use Rattle.std.specs.Prelude.{◌⊎◌, is_none}
 use Rattle.std.specs.Ordering.{int_eq}
 use Rattle.aom_image.specs.declared.method.Role.TheVariants.{Error}
 use Rattle.aom_sound.specs.Enlisted.{part_of}
-use Rattle.aom_sound.proofs.Turned.{commanded_kept, picked_rest, polled_rest}
-use Rattle.aom_sound.proofs.Guarded.{goes_same, guarded_goes}
+use Rattle.aom_sound.proofs.Guarded.{guarded_goes}
 use Rattle.std.proofs.Common.{Bool, List, None, Option, Some, ap, arith, cond, false, refl, true, ℕ, ◌+◌, ◌≤◌, ◌∙◌, ◌∷◌, ◌≡◌, inl, inr, sym, subst, pos, ℤ}
 use Rattle.aom_image.specs.Image.{Image}
 use Rattle.aom_sound.proofs.Moving.{steps_are_moves}
@@ -14,7 +13,7 @@ use Rattle.aom_sound.specs.Effects.{Course, Goes_its_way, Stops, coursed}
 use Rattle.aom_sound.specs.Moves.{needs_end, answered, asking, counted, dispatch_ends, failed, handled, is_counted, main_ends, object_ends, step, step_task}
 use Rattle.aom_sound.specs.Places.{Elsewhere, Object, Root, held}
 use Rattle.aom_sound.specs.State.{Of_server, Accept_left, Answered, Asks, Choice, Destroy, Dispatch, Dispatched, Goes, Object_left, Of_main, Of_object, Rest, Run, State, Task, raised}
-use Rattle.aom_sound.specs.World.{Obeys, heard_one, Heard, Outside, Picks, Reaches, Strays, Turning, begins, boot_state, moves, turn, turned, turning, turns, Polls}
+use Rattle.aom_sound.specs.World.{Heard, Outside, Reaches, Turning, begins, boot_state, moves, turn, turned, turning, turns}
 use Rattle.aom_transcript.specs.declared.line.Line.{Line}
 
 -- the counts after a move, by those before it: where the dispatch of an object ends steps are counted anew, and it counts
@@ -98,22 +97,14 @@ turn_count : (p : Image) (outside : Outside) (heard : Heard) (s u : State) → t
 turn_count p outside heard s u e = go (turning outside heard s) e
   where
     go : (k : Turning) → turned p s k ≡ Goes u → u.rest.steps ≡ cond (starts k) 0 s.rest.steps
-    go (Picks x) e = ap (λ (r : Rest). r.steps) (picked_rest p s u x e)
-    go (Obeys client command name) e = ap (λ (v : State). v.rest.steps) (sym (goes_same _ u e)) ∙ ap (λ (r : Rest). r.steps) (commanded_kept p client (heard_one s) command name).0
-    go Strays e = cc
-    go (Polls n answer) e = ap (λ (r : Rest). r.steps) (polled_rest p s u n answer e)
-    go _ e = ap (λ (v : State). v.rest.steps) (sym (goes_same _ u e))
+    go x e = grind arith
 
 -- and ends no dispatch
 turn_dispatches : (p : Image) (outside : Outside) (heard : Heard) (s u : State) → turn p outside heard s ≡ Goes u → u.rest.dispatches ≡ s.rest.dispatches
 turn_dispatches p outside heard s u e = go (turning outside heard s) e
   where
     go : (k : Turning) → turned p s k ≡ Goes u → u.rest.dispatches ≡ s.rest.dispatches
-    go (Picks x) e = ap (λ (r : Rest). r.dispatches) (picked_rest p s u x e)
-    go (Obeys client command name) e = ap (λ (v : State). v.rest.dispatches) (sym (goes_same _ u e)) ∙ ap (λ (r : Rest). r.dispatches) (commanded_kept p client (heard_one s) command name).0
-    go Strays e = cc
-    go (Polls n answer) e = ap (λ (r : Rest). r.dispatches) (polled_rest p s u n answer e)
-    go _ e = ap (λ (v : State). v.rest.dispatches) (sym (goes_same _ u e))
+    go x e = grind arith
 
 anew : (b : Bool) (n : ℕ) → cond b 0 (in_range n) ≡ in_range (cond b 0 n)
 anew true n = refl

@@ -5,6 +5,7 @@ use Rattle.std.proofs.lemmas.Option.{none-some}
 use Rattle.aom_image.specs.Image.{Image}
 use Rattle.aom_image.specs.declared.method.Thing.TheVariants.{Object as An_object_of, Message}
 use Rattle.aom_shape.specs.Kinds.{is_object}
+use Rattle.aom_sound.proofs.Altering.{asking, bereaving, count_kept, moving, opening, storing}
 use Rattle.aom_sound.proofs.Maps.{same_place-true, without_none}
 use Rattle.aom_sound.specs.Natives.{all_bereaved}
 use Rattle.aom_sound.specs.Places.{Cell, Object, Place, Request, Tidy, count_cells, held, moved, named, same_place, set_request, set_session, set_word_field, with_new, without}
@@ -12,24 +13,19 @@ use Rattle.aom_sound.specs.Places.{Cell, Object, Place, Request, Tidy, count_cel
 -- ---- what changes no thing changes no count
 
 pub count_moved : (cs : List Cell) (p q : Place) → count_cells (moved p q cs) ≡ count_cells cs
-count_moved [] p q = refl
-count_moved (c ∷ cs) p q = ap (λ n. cond (is_object c.object.thing) (suc n) n) (count_moved cs p q)
+count_moved cs p q = count_kept (moving p q) cs
 
 pub count_asked : (cs : List Cell) (n : ℕ) (r : Option Request) → count_cells (set_request n r cs) ≡ count_cells cs
-count_asked [] n r = refl
-count_asked (c ∷ cs) n r = ap (λ k. cond (is_object c.object.thing) (suc k) k) (count_asked cs n r)
+count_asked cs n r = count_kept (asking n r) cs
 
 pub count_opened : (cs : List Cell) (n : ℕ) (session : Bool) → count_cells (set_session n session cs) ≡ count_cells cs
-count_opened [] n session = refl
-count_opened (c ∷ cs) n session = ap (λ k. cond (is_object c.object.thing) (suc k) k) (count_opened cs n session)
+count_opened cs n session = count_kept (opening n session) cs
 
 pub count_stored : (cs : List Cell) (n w : ℕ) (v : ℤ) → count_cells (set_word_field n w v cs) ≡ count_cells cs
-count_stored [] n w v = refl
-count_stored (c ∷ cs) n w v = ap (λ k. cond (is_object c.object.thing) (suc k) k) (count_stored cs n w v)
+count_stored cs n w v = count_kept (storing n w v) cs
 
 pub count_bereaved : (p : Image) (n : ℕ) (cs : List Cell) → count_cells (all_bereaved p n cs) ≡ count_cells cs
-count_bereaved p n [] = refl
-count_bereaved p n (c ∷ cs) = ap (λ k. cond (is_object c.object.thing) (suc k) k) (count_bereaved p n cs)
+count_bereaved p n = count_kept (bereaving p n)
 
 -- ---- what comes and what goes
 

@@ -1,5 +1,5 @@
 -- The law of a new cell.
-use Rattle.std.proofs.Common.{[], Bool, List, None, Option, Some, ap, arith, cond, eq-eqb, false, length, refl, subst, sym, true, ℕ, ℤ, ◌==◌, ◌∙◌, ◌∷◌, ◌≡◌, ◌≤◌}
+use Rattle.std.proofs.Common.{[], Bool, List, None, Option, Some, ap, arith, cond, eq-eqb, false, length, refl, subst, sym, true, ℕ, ℤ, ◌==◌, ◌∙◌, ◌∷◌, ◌≡◌, ◌≤◌, suc}
 use Rattle.std.proofs.lemmas.Bool.{eqb-true, ne_eqb}
 use Rattle.std.specs.Prelude.{is_none}
 use Rattle.aom_image.specs.Image.{Image}
@@ -11,7 +11,7 @@ use Rattle.aom_rules.specs.Objects.{new_age}
 use Rattle.aom_shape.specs.Order.{Weaker, alike, maybe_null}
 use Rattle.aom_shape.specs.Shape.{Shape}
 use Rattle.aom_shape.specs.Things.{field_thing}
-use Rattle.aom_rules.specs.Typing.{Typing}
+use Rattle.aom_rules.specs.Typing.{Typing, Leads}
 use Rattle.aom_shape.specs.declared.kind.Age.{Age}
 use Rattle.aom_shape.specs.declared.kind.Age.TheVariants.{Fresh, Ready}
 use Rattle.aom_shape.specs.declared.kind.Filling.TheVariants.{Full, Perhaps}
@@ -22,9 +22,9 @@ use Rattle.aom_sound.proofs.Claimed.{Outside, claim-set_register, claim_frame, c
 use Rattle.aom_sound.proofs.Straight.{At, Fitted, Law, fits_unowning, fitted, free_register, relabel, settle, top, well, words_set}
 use Rattle.aom_sound.proofs.Things.{stands_itself}
 use Rattle.aom_sound.specs.Claims.{Ending, Dispatching, Dying, Layer, Mark, Method, Unwinding, claim, declared, declared_field, home_claim, tasks_of}
-use Rattle.aom_sound.specs.Effects.{applied, makes_unless, sets}
+use Rattle.aom_sound.specs.Effects.{applied, makes_unless, sets, Made}
 use Rattle.aom_sound.specs.Objects.{no_words}
-use Rattle.aom_sound.specs.Places.{Elsewhere, Session, Queued, service_of, unserved, Cell, Field, Object, Place, Register, Request, Sight, held, named, requested, same_place, seen, with_new}
+use Rattle.aom_sound.specs.Places.{Elsewhere, Session, Queued, service_of, unserved, Service, Cell, Field, Object, Place, Register, Request, Sight, held, named, requested, same_place, seen, with_new}
 use Rattle.aom_sound.specs.State.{Dispatch, Seat, AtRoot, Choice, Frame, Home, Inside, State, Static, next, set_word, thing_holder, word}
 use Rattle.aom_sound.specs.WellTyped.{AllSit, SitsFirst, IsAttended, Back, Fits, HasAge, IsHoused, Returns, Stack, WellTyped, WordFits, seat_of}
 use Rattle.aom_sound.proofs.Seats.{NoFieldHere, first_kept, sits_kept}
@@ -32,6 +32,20 @@ use Rattle.aom_sound.specs.Requests.{AllSuit, Suits, Unworked, states_claim, thi
 use Rattle.aom_sound.proofs.Suiting.{suits_new, unworked_rests}
 use Rattle.aom_sound.specs.Servers.{has_session, has_message, session_thing, message_thing}
 use Rattle.aom_sound.proofs.Services.{service_unnamed, attended_at, sits_lives}
+
+-- what a service says with its server's class: of a new cell nothing is said, and of the others what was
+serves_new :
+    (cs : List Cell) (n : ℕ) (x : Thing) → named cs n ≡ None → (m : ℕ) (has : Service → Bool) (thing : Option Object → Option Thing) → has unserved ≡ false →
+    Weaker (cond (has (cond (n == m) unserved (service_of cs m))) (filled (thing (cond (n == m) (Some (record { name = n; thing = x })) (named cs m))) Full) Null)
+    (cond (has (service_of cs m)) (filled (thing (named cs m)) Full) Null)
+serves_new cs n x e m has thing none = go (n == m) refl
+  where
+    go : (b : Bool) → (n == m) ≡ b →
+        Weaker (cond (has (cond b unserved (service_of cs m))) (filled (thing (cond b (Some (record { name = n; thing = x })) (named cs m))) Full) Null) (cond (has (service_of cs m)) (filled (thing (named cs m)) Full) Null)
+    go true h = subst (λ v. Weaker (cond (has unserved) (filled (thing (Some (record { name = n; thing = x }))) Full) Null) (cond (has v) (filled (thing (named cs m)) Full) Null))
+        (sym (service_unnamed cs m (ap (λ k. named cs k) (sym (eqb-true n m h)) ∙ e)))
+        (subst (λ b. Weaker (cond b (filled (thing (Some (record { name = n; thing = x }))) Full) Null) (cond b (filled (thing (named cs m)) Full) Null)) (sym none) alike)
+    go false h = alike
 
 -- nothing but a new cell's fields is declared anew
 declared_new : (p : Image) (cs : List Cell) (n : ℕ) (x : Thing) (ws : List ℤ) (owner : Place) → named cs n ≡ None → (r : Place) → Weaker (declared p (with_new n x ws owner cs) r) (declared p cs r)
@@ -44,18 +58,8 @@ declared_new p cs n x ws owner e (Field m f) = go (n == m) refl
     go : (b : Bool) → (n == m) ≡ b → Weaker (declared_field p (cond b (Some (record { name = n; thing = x })) (named cs m)) f) (declared_field p (named cs m) f)
     go true h = subst (λ o. Weaker (filled (field_thing p (thing_holder x) f) Perhaps) (declared_field p o f)) (sym e ∙ ap (λ k. named cs k) (eqb-true n m h)) (null (field_thing p (thing_holder x) f))
     go false h = alike
-declared_new p cs n x ws owner e (Elsewhere (Session m c)) = go (n == m) refl
-  where
-    go : (b : Bool) → (n == m) ≡ b →
-        Weaker (cond (has_session (cond b unserved (service_of cs m)) c) (filled (session_thing p (cond b (Some (record { name = n; thing = x })) (named cs m))) Full) Null) (cond (has_session (service_of cs m) c) (filled (session_thing p (named cs m)) Full) Null)
-    go true h = subst (λ v. Weaker Null (cond (has_session v c) (filled (session_thing p (named cs m)) Full) Null)) (sym (service_unnamed cs m (ap (λ k. named cs k) (sym (eqb-true n m h)) ∙ e))) alike
-    go false h = alike
-declared_new p cs n x ws owner e (Elsewhere (Queued m k)) = go (n == m) refl
-  where
-    go : (b : Bool) → (n == m) ≡ b →
-        Weaker (cond (has_message (cond b unserved (service_of cs m)) k) (filled (message_thing p (cond b (Some (record { name = n; thing = x })) (named cs m))) Full) Null) (cond (has_message (service_of cs m) k) (filled (message_thing p (named cs m)) Full) Null)
-    go true h = subst (λ v. Weaker Null (cond (has_message v k) (filled (message_thing p (named cs m)) Full) Null)) (sym (service_unnamed cs m (ap (λ k. named cs k) (sym (eqb-true n m h)) ∙ e))) alike
-    go false h = alike
+declared_new p cs n x ws owner e (Elsewhere (Session m c)) = serves_new cs n x e m (λ v. has_session v c) (λ o. session_thing p o) refl
+declared_new p cs n x ws owner e (Elsewhere (Queued m k)) = serves_new cs n x e m (λ v. has_message v k) (λ o. message_thing p o) refl
 declared_new p cs n x ws owner e _ = alike
 
 -- what clients have at what there was is as it was
@@ -211,6 +215,20 @@ module _ (p : Image) (t : Typing) (c : Choice) (s : State) (fr : Frame) (sh : Sh
   age_fits h Fresh o n u = (n, u)
   age_fits h Ready o n u = tt
 
+  -- a new cell comes to a register that owned nothing
+  pub made_well :
+      (a x : ℕ) (k : Kind) → held s.cells (top ls a) ≡ None → IsUnused →
+      ((h : Sight) → HasAge h (record { name = c.name; thing = An_object_of x }) (new_age p x) → Fits p h (Some (record { name = c.name; thing = An_object_of x })) k) → WordFits None k →
+      Leads t fr.method (suc fr.place) (set_register sh a k) → WellTyped p t (applied p fr (tasks_of ls) s (sets fr a None (Made c.name x a)))
+  made_well a x k free unused owns word leads = well p t c s fr sh ls at_hand _ fr' (set_register sh a k) refl at_hand.items at_hand.undos (settle p t _ fr' (set_register sh a k) ls makes leads)
+    where
+      fr' : Frame
+      fr' = next (set_word fr a None)
+
+      makes : Fitted p t (with_new c.name (An_object_of x) (no_words p x) (top ls a) s.cells) fr' (set_register sh a k) ls
+      makes = create p t s.cells fr sh ls c.name (An_object_of x) (no_words p x) a k (fitted p t s.cells fr sh ls at_hand.good) unused free
+          (λ h nf u. owns h (age_fits h (new_age p x) (record { name = c.name; thing = An_object_of x }) nf u)) word
+
   pub law_new : (a x : ℕ) → IsUnused → Law p t c s fr sh ls at_hand (New a x)
   law_new a x unused n leads = ((ap is_none free, tt), go c.refused)
     where
@@ -227,9 +245,6 @@ module _ (p : Image) (t : Typing) (c : Choice) (s : State) (fr : Frame) (sh : Sh
       refuses = relabel p t s.cells fr fr' sh (set_register sh a k) ls (top ls a) k (fitted p t s.cells fr sh ls at_hand.good) refl refl refl refl
           (subst (λ o. Fits p (seen s.cells) o k) (sym free) tt) (λ r. claim-set_register p (declared p s.cells) fr sh ls a k r) (words_set fr.words sh a None k at_hand.good.stack.1.words refl)
 
-      makes : Fitted p t (with_new c.name (An_object_of x) (no_words p x) (top ls a) s.cells) fr' (set_register sh a k) ls
-      makes = create p t s.cells fr sh ls c.name (An_object_of x) (no_words p x) a k (fitted p t s.cells fr sh ls at_hand.good) unused free (λ h nf u. (stands_itself p (An_object_of x), age_fits h (new_age p x) (record { name = c.name; thing = An_object_of x }) nf u)) refl
-
       go : (b : Bool) → WellTyped p t (applied p fr (tasks_of ls) s (sets fr a None (makes_unless b c.name x a)))
       go true = well p t c s fr sh ls at_hand _ fr' (set_register sh a k) refl at_hand.items at_hand.undos (settle p t _ fr' (set_register sh a k) ls refuses leads.0)
-      go false = well p t c s fr sh ls at_hand _ fr' (set_register sh a k) refl at_hand.items at_hand.undos (settle p t _ fr' (set_register sh a k) ls makes leads.0)
+      go false = made_well a x k free unused (λ h age. (stands_itself p (An_object_of x), age)) refl leads.0

@@ -20,9 +20,9 @@ use Rattle.aom_shape.specs.declared.kind.Filling.TheVariants.{Perhaps}
 use Rattle.aom_shape.specs.declared.kind.Kind.{Kind}
 use Rattle.aom_shape.specs.declared.kind.Kind.TheVariants.{Null, Own, Unset, Word}
 use Rattle.aom_sound.proofs.Claimed.{claim_entry_above, claim_register_above, fits_weaker, stack_moved, word_fits_weaker}
-use Rattle.aom_sound.proofs.Destroying.{begin, goes_fitting, goes_there, no_going, untouched}
+use Rattle.aom_sound.proofs.Destroying.{no_going, untouched, goes_well}
 use Rattle.aom_sound.proofs.Items.{length_forms}
-use Rattle.aom_sound.proofs.Maps.{held_lives, named_moved, same_place-true, same_place_refl, tidy_moved}
+use Rattle.aom_sound.proofs.Maps.{same_place-true, same_place_refl}
 use Rattle.aom_sound.proofs.Straight.{fits_unowning}
 use Rattle.aom_sound.specs.Claims.{serves, Layer, Method, claim, declared, entry_claim, entry_form, forms, items_of, objects, tasks_of}
 use Rattle.aom_sound.specs.Calls.{below_top}
@@ -33,7 +33,6 @@ use Rattle.aom_sound.specs.Laws.{IsWired}
 use Rattle.aom_sound.specs.Places.{In_service, Elsewhere, Entry, Going, Object, Place, Register, Tidy, changed, held, moved, same_place, seen}
 use Rattle.aom_sound.specs.State.{An_object, An_operation, Frame, Item, Run, State, Static, Task, thing_holder, word}
 use Rattle.aom_sound.specs.WellTyped.{IsServed, AllUndo, Fits, Gone, IsUndo, Returns, Stack, WellTyped, WordFits}
-use Rattle.aom_sound.proofs.Suiting.{all_moved}
 use Rattle.aom_sound.specs.Requests.{AllSuit}
 use Rattle.aom_sound.proofs.Attending.{plain_claim}
 use Rattle.aom_rules.specs.Requests.{is_service}
@@ -81,14 +80,10 @@ module _ (p : Image) (t : Typing) (wired : IsWired p) (typed : IsTyped p t) (s :
       let deep : length (tasks_of before) ≤ length (tasks_of below) = omega (arith, d.deep) in
       let free = no_going p t s.cells o q before below d.fits there deep less in
       let k : ℕ → Kind = λ f. filled (field_thing p (thing_holder o.thing) f) Perhaps in
-      begin p t wired typed (moved q g s.cells) o below
-      (goes_fitting p t s.cells o q before below d.fits there deep less)
-      (tidy_moved s.cells q g free d.tidy)
+      goes_well p t s.cells o q before below d.fits there deep less wired typed d.tidy
       (stack_moved p t s.cells q g below Gone free (omega arith) (omega arith) d.under_object)
-      (goes_there p t s.cells o q before below d.fits there deep less)
-      (named_moved s.cells q g o.name ∙ held_lives s.cells q o d.tidy there)
       (untouched p t s.cells q o d.tidy there k below Gone (omega arith) d.under_object)
-      (all_moved p s.cells q g below d.suits)
+      d.suits
       (destroyed p (Some o) items (tasks_of below) s) (length items) high (ap (λ n. moved (Entry n) g s.cells) high) refl same undos
 
   module _ (m : ℕ) (w : ℤ) (undo : IsUndo p m) (operation : entry_kind e ≡ Null) where
@@ -179,8 +174,7 @@ deals p t wired typed s e before below d = go e s.items d d.items d.undos
     Goal items = (top_is_whole s.cells items ≡ true) × WellTyped p t (dealt_with p items (tasks_of below) s)
 
     whole : (o : Option Object) (c : ℕ) (a : Age) → Fits p (seen s.cells) o (Own (An_object_of c) a) → (x : Object) × (o ≡ Some x)
-    whole None c a f = absurd f
-    whole (Some x) c a f = (x, refl)
+    whole x c a f = grind arith
 
     go : (e : Pushed) (items : List Item) → Dealing p t s e before below → forms items ≡ entry_form e ∷ items_of below → AllUndo p items → Goal items
     go (Pushed_object c a) (An_object ∷ items) d h u =

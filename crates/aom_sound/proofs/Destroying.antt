@@ -23,12 +23,12 @@ use Rattle.aom_shape.specs.declared.kind.Filling.TheVariants.{Full, Perhaps}
 use Rattle.aom_shape.specs.declared.kind.Kind.{Kind}
 use Rattle.aom_shape.specs.declared.kind.Kind.TheVariants.{Maybe, Null, Own, Unset}
 use Rattle.aom_sound.proofs.Claimed.{no_seat_outside, Outside, claim-set_register, claim_frame, claim_going_above, claim_register_above, claim_unclaimed, declared_moved, going_differs, keep_fits, no_field_here, outside_differs, outside_less, stack_moved}
-use Rattle.aom_sound.proofs.Items.{length_forms}
+use Rattle.aom_sound.proofs.Items.{begins_well, length_forms}
 use Rattle.aom_sound.proofs.Seats.{NoFieldHere, NoSeatHere, no_seat}
 use Rattle.aom_sound.proofs.Maps.{held_lives, held_moved, named_moved, one_place, requested_moved, same_place-true, same_place_refl, tidy_moved}
 use Rattle.aom_sound.proofs.Straight.{At, Law, fits_unowning, fitted, housed_relocated, kind_fits, no_word, relabel, settle, top, well, words_set}
 use Rattle.aom_sound.proofs.Things.{stands_itself, stands_same}
-use Rattle.aom_sound.specs.Claims.{Ending, by_close, serves, Dispatching, Dying, Layer, Mark, Method, Unwinding, claim, declared, declared_field, entry_claim, forms, home_claim, items_of, objects, tasks_of}
+use Rattle.aom_sound.specs.Claims.{Ending, by_close, serves, Dispatching, Dying, Layer, Mark, Method, Unwinding, claim, declared, declared_field, entry_claim, forms, home_claim, items_of, tasks_of}
 use Rattle.aom_classes.specs.Roles.{destructor_of}
 use Rattle.aom_sound.specs.Destruction.{destructed, begun, begun_by}
 use Rattle.aom_sound.specs.Laws.{IsWired}
@@ -42,10 +42,9 @@ use Rattle.aom_sound.proofs.Suiting.{all_moved, known_plain, same_object, suits_
 use Rattle.aom_sound.specs.Requests.{AllSuit, Known, Suits, Unworked, known_at, resting_in, states_claim, thing_kind, works_at}
 use Rattle.aom_rules.specs.Requests.{is_service, is_cancel}
 use Rattle.aom_roles.specs.States.{last_of, states_of}
-use Rattle.aom_sound.specs.Servers.{is_among, session_thing, is_server, session_class, of_class, has_session}
+use Rattle.aom_sound.specs.Servers.{is_among, session_thing, is_server, has_session}
 use Rattle.aom_roles.specs.Classes.{sessions_in, sessions_of}
 use Rattle.aom_image.specs.declared.class.ClassKind.{ClassKind}
-use Rattle.aom_image.specs.declared.class.ClassKind.TheVariants.{Active as An_active}
 use Rattle.aom_sound.proofs.Attending.{plain_claim}
 
 -- no layer works on that cell, or claims anything of its fields but what is declared
@@ -58,8 +57,7 @@ pub record Untouched (p : Image) (k : ℕ → Kind) (n : ℕ) (ls : List Layer) 
 
 -- a server whose sessions go first is the cell that goes below
 ending_apart : (x : Object) (n : ℕ) (ls : List Layer) → IsOverDying x ls → Unworked n ls → (x.name == n) ≡ false
-ending_apart x n (Dying y ∷ ls) same u = ap (λ (z : Object). z.name == n) (sym same) ∙ u.0
-ending_apart x n _ same u = absurd same
+ending_apart x n y same u = grind arith
 
 pub eqb_comm : (a b : ℕ) → (a == b) ≡ (b == a)
 eqb_comm a b = elim (cases_Bool (a == b)) as (λ x. (a == b) ≡ (b == a)) [
@@ -80,13 +78,7 @@ module _ (p : Image) (t : Typing) (cs : List Cell) (q : Place) (o : Object) (tid
       Result home = (WorksOn o.name home → ⊥) × ((f : ℕ) → home_claim p home sh o.name f (k f) ≡ k f) × NotIn o.name home × (works_at o.name home ≡ false)
 
       not_in : (from : Place) → IsBelow from ls → IsNoFieldOf o.name from
-      not_in (Register f i) b = tt
-      not_in (Entry j) b = tt
-      not_in (Field m f) b = ne_eqb o.name m (λ e. u.some (subst (λ x. SomeIn x ls) (sym e) b))
-      not_in (Elsewhere Root) b = tt
-      not_in (Elsewhere (Session m c)) b = ne_eqb o.name m (λ e. u.some (subst (λ x. SomeIn x ls) (sym e) b))
-      not_in (Elsewhere w) b = absurd b
-      not_in (Going j) b = tt
+      not_in x b = grind arith
 
       of : (home : Home) → fr.home ≡ home → IsHoused p cs ls home → Result home
       of Static same h = (λ x. x, λ f. refl, tt, refl)
@@ -109,10 +101,7 @@ module _ (p : Image) (t : Typing) (cs : List Cell) (q : Place) (o : Object) (tid
   unseated xs h s = go xs (no_seat cs q xs h s) s
     where
       not_in : (xs : List Seat) (r : Place) → SitsIn r xs → (SomeSits o.name xs → ⊥) → IsNoFieldOf o.name r
-      not_in xs (Field m f) h none = ne_eqb o.name m (λ e. none (subst (λ x. SomeSits x xs) (sym e) h))
-      not_in xs (Elsewhere Root) h none = tt
-      not_in xs (Elsewhere (Session m c)) h none = ne_eqb o.name m (λ e. none (subst (λ x. SomeSits x xs) (sym e) h))
-      not_in xs _ h none = absurd h
+      not_in xs x h none = grind arith
 
       go : (xs : List Seat) → NoSeatAt q xs → AllSit cs xs → (SomeSits o.name xs → ⊥) × NoSeatIn o.name xs
       go [] h s = (λ x. x, tt)
@@ -228,8 +217,12 @@ Bare p cs o ls (Elsewhere (Session m c)) = cond (o.name == m) Null (claim p (dec
 Bare p cs o ls (Elsewhere In_service) = Dies p cs o ls (Elsewhere In_service)
 Bare p cs o ls (Elsewhere (Queued m k)) = Dies p cs o ls (Elsewhere (Queued m k))
 
+-- the objects of a server's class may rest as they go
+pub server_last : (k : Option ClassKind) → is_some (sessions_in k) ≡ true → last_of k ≡ states_of k
+unfolding last_of states_of sessions_in sessions_of
+server_last x e = grind arith
+
 module _ (p : Image) (t : Typing) (linked : IsWired p) (typed : IsTyped p t) (cs : List Cell) (o : Object) (ls : List Layer)
-    (fits : (r : Place) → Fits p (seen cs) (held cs r) (Bare p cs o ls r))
     (tidy : Tidy cs)
     (stack : Stack p t cs Gone ls)
     (there : held cs (Going (length (tasks_of ls))) ≡ Some o)
@@ -239,227 +232,202 @@ module _ (p : Image) (t : Typing) (linked : IsWired p) (typed : IsTyped p t) (cs
   fields_claim : (f : ℕ) → claim p (declared p cs) ls (Field o.name f) ≡ filled (field_thing p (thing_holder o.thing) f) Perhaps
   fields_claim f = claim_unclaimed p (declared p cs) ls o.name f (λ f. filled (field_thing p (thing_holder o.thing) f) Perhaps) apart.unclaimed (ap (λ x. declared_field p x f) lives)
 
-  fields_fit : (n f : ℕ) → (o.name == n) ≡ true → Fits p (seen cs) (held cs (Field n f)) (filled (field_thing p (thing_holder o.thing) f) Perhaps)
-  fields_fit n f e =
-      subst (λ m. Fits p (seen cs) (held cs (Field m f)) (filled (field_thing p (thing_holder o.thing) f) Perhaps)) (eqb-true o.name n e)
-      (subst (λ k. Fits p (seen cs) (held cs (Field o.name f)) k) (fields_claim f) (fits (Field o.name f)))
-
-  -- with no destructor
-  bare : destructor_of p o.thing ≡ None → (r : Place) → Fits p (seen cs) (held cs r) (claim p (declared p cs) (Dying o ∷ ls) r)
-  bare none (Field n f) = go (o.name == n) refl
-    where
-      go : (b : Bool) → (o.name == n) ≡ b → Fits p (seen cs) (held cs (Field n f)) (cond b Null (claim p (declared p cs) ls (Field n f)))
-      go true e = subst (λ x. Fits p (seen cs) (held cs (Field n f)) (filled x Perhaps)) (no_fields_declared p linked o.thing none f) (fields_fit n f e)
-      go false e = fits (Field n f)
-  bare none (Going k) = subst (λ b. Fits p (seen cs) (held cs (Going k)) (cond b (Own o.thing Ready) (claim p (declared p cs) ls (Going k)))) (tail (length (tasks_of ls) == k)) (fits (Going k))
-    where
-      tail : (b : Bool) → (b && true) ≡ b
-      tail true = refl
-      tail false = refl
-  bare none (Elsewhere Root) = fits (Elsewhere Root)
-  bare none r = fits r
-
-  -- with one
-  clothed :
-      (m height : ℕ) (after : Shape) → Destroys p o.thing m → SaysNoMore after (entry_shape p m) → (r : Place) →
-      Fits p (seen cs) (held cs r) (claim p (declared p cs) (Method (frame_of m (Inside o (Going (length (tasks_of ls)))) height) after ∷ Dying o ∷ ls) r)
-  clothed m height after is w (Register f i) = go (length (tasks_of (Dying o ∷ ls)) == f) refl
-    where
-      go : (b : Bool) → (length (tasks_of (Dying o ∷ ls)) == f) ≡ b → Fits p (seen cs) (held cs (Register f i)) (cond b (register after i) (claim p (declared p cs) ls (Register f i)))
-      go true e = subst (λ k. Fits p (seen cs) (held cs (Register f i)) k) (sym (unset_only (subst (λ k. Weaker (register after i) k) (entry_registers p m is.arguments i) (w.registers i))))
-          (subst (λ x. Fits p (seen cs) x Unset) (sym (fits_unowning p (seen cs) _ Null refl (null_of p (seen cs) _ _ (claim_register_above p cs ls f i (omega (arith, eqb-true _ _ e))) (fits (Register f i))))) tt)
-      go false e = fits (Register f i)
-  clothed m height after is w (Entry k) = subst (λ es. Fits p (seen cs) (held cs (Entry k)) (entry_claim es (items_of ls) k (claim p (declared p cs) ls (Entry k)))) (sym w.entries) (fits (Entry k))
-  clothed m height after is w (Field n f) = go (o.name == n) refl
-    where
-      go :
-          (b : Bool) → (o.name == n) ≡ b →
-          Fits p (seen cs) (held cs (Field n f)) (cond b (filled (field_thing p (thing_holder o.thing) f) (field after f)) (cond b Null (claim p (declared p cs) ls (Field n f))))
-      go true e =
-          subst (λ x. Fits p (seen cs) (held cs (Field n f)) (filled (field_thing p (thing_holder o.thing) f) x))
-          (sym (perhaps_only (subst (λ x. WeakerFilling (field after f) x) (destruct_fields p m is.role f) (w.fields f)))) (fields_fit n f e)
-      go false e = fits (Field n f)
-  clothed m height after is w (Elsewhere Root) = fits (Elsewhere Root)
-  clothed m height after is w (Elsewhere In_service) =
-      subst (λ k. Fits p (seen cs) (held cs (Elsewhere In_service)) k) (sym (plain_claim (serves p m) after (claim p (declared p cs) ls (Elsewhere In_service)) (ap is_service is.role)))
-      (fits (Elsewhere In_service))
-  clothed m height after is w (Elsewhere w') = fits (Elsewhere w')
-  clothed m height after is w (Going k) =
-      subst (λ b. Fits p (seen cs) (held cs (Going k)) (cond b (Own o.thing Ready) (claim p (declared p cs) ls (Going k)))) (tail (length (tasks_of ls) == k)) (fits (Going k))
-    where
-      tail : (b : Bool) → (b && true) ≡ b
-      tail true = refl
-      tail false = refl
-
-  -- the object rests as it begins to go, and all others are as they were
+  -- the object rests as it begins to go
   rested : Suits (thing_kind p o.thing) (resting_in (states_of (thing_kind p o.thing))) (requested cs o.name)
   rested = subst (λ k. Suits (thing_kind p o.thing) k (requested cs o.name)) (unworked_rests p o ls apart.unworked) (suits o lives)
 
-  bare_suits : last_of (thing_kind p o.thing) ≡ states_of (thing_kind p o.thing) → AllSuit p cs (Dying o ∷ ls)
-  bare_suits last x there = at_name (o.name == x.name) refl
-    where
-      at_name : (b : Bool) → (o.name == x.name) ≡ b → Suits (thing_kind p x.thing) (cond b (resting_in (last_of (thing_kind p x.thing))) (states_claim p x ls)) (requested cs x.name)
-      at_name true e =
-          subst (λ y. Suits (thing_kind p y.thing) (resting_in (last_of (thing_kind p y.thing))) (requested cs y.name)) (same_object cs o x lives there e)
-          (subst (λ n. Suits (thing_kind p o.thing) (resting_in n) (requested cs o.name)) (sym last) rested)
-      at_name false e = suits x there
+  -- with no session of its own any more
+  module _ (fits : (r : Place) → Fits p (seen cs) (held cs r) (Bare p cs o ls r)) where
+    fields_fit : (n f : ℕ) → (o.name == n) ≡ true → Fits p (seen cs) (held cs (Field n f)) (filled (field_thing p (thing_holder o.thing) f) Perhaps)
+    fields_fit n f e =
+        subst (λ m. Fits p (seen cs) (held cs (Field m f)) (filled (field_thing p (thing_holder o.thing) f) Perhaps)) (eqb-true o.name n e)
+        (subst (λ k. Fits p (seen cs) (held cs (Field o.name f)) k) (fields_claim f) (fits (Field o.name f)))
 
-  clothed_suits :
-      (m height : ℕ) (after : Shape) → Destroys p o.thing m → SaysNoMore after (entry_shape p m) →
-      AllSuit p cs (Method (frame_of m (Inside o (Going (length (tasks_of ls)))) height) after ∷ Dying o ∷ ls)
-  clothed_suits m height after is w x there = at_name (o.name == x.name) refl
-    where
-      fr : Frame
-      fr = frame_of m (Inside o (Going (length (tasks_of ls)))) height
+    -- with no destructor
+    bare : destructor_of p o.thing ≡ None → (r : Place) → Fits p (seen cs) (held cs r) (claim p (declared p cs) (Dying o ∷ ls) r)
+    bare none (Field n f) = go (o.name == n) refl
+      where
+        go : (b : Bool) → (o.name == n) ≡ b → Fits p (seen cs) (held cs (Field n f)) (cond b Null (claim p (declared p cs) ls (Field n f)))
+        go true e = subst (λ x. Fits p (seen cs) (held cs (Field n f)) (filled x Perhaps)) (no_fields_declared p linked o.thing none f) (fields_fit n f e)
+        go false e = fits (Field n f)
+    bare none (Going k) = subst (λ b. Fits p (seen cs) (held cs (Going k)) (cond b (Own o.thing Ready) (claim p (declared p cs) ls (Going k)))) (tail (length (tasks_of ls) == k)) (fits (Going k))
+      where
+        tail : (b : Bool) → (b && true) ≡ b
+        tail true = refl
+        tail false = refl
+    bare none (Elsewhere Root) = fits (Elsewhere Root)
+    bare none r = fits r
 
-      below : Bool → Known
-      below b = cond b (resting_in (last_of (thing_kind p x.thing))) (states_claim p x ls)
+    -- with one
+    clothed :
+        (m height : ℕ) (after : Shape) → Destroys p o.thing m → SaysNoMore after (entry_shape p m) → (r : Place) →
+        Fits p (seen cs) (held cs r) (claim p (declared p cs) (Method (frame_of m (Inside o (Going (length (tasks_of ls)))) height) after ∷ Dying o ∷ ls) r)
+    clothed m height after is w (Register f i) = go (length (tasks_of (Dying o ∷ ls)) == f) refl
+      where
+        go : (b : Bool) → (length (tasks_of (Dying o ∷ ls)) == f) ≡ b → Fits p (seen cs) (held cs (Register f i)) (cond b (register after i) (claim p (declared p cs) ls (Register f i)))
+        go true e = subst (λ k. Fits p (seen cs) (held cs (Register f i)) k) (sym (unset_only (subst (λ k. Weaker (register after i) k) (entry_registers p m is.arguments i) (w.registers i))))
+            (subst (λ x. Fits p (seen cs) x Unset) (sym (fits_unowning p (seen cs) _ Null refl (null_of p (seen cs) _ _ (claim_register_above p cs ls f i (omega (arith, eqb-true _ _ e))) (fits (Register f i))))) tt)
+        go false e = fits (Register f i)
+    clothed m height after is w (Entry k) = subst (λ es. Fits p (seen cs) (held cs (Entry k)) (entry_claim es (items_of ls) k (claim p (declared p cs) ls (Entry k)))) (sym w.entries) (fits (Entry k))
+    clothed m height after is w (Field n f) = go (o.name == n) refl
+      where
+        go :
+            (b : Bool) → (o.name == n) ≡ b →
+            Fits p (seen cs) (held cs (Field n f)) (cond b (filled (field_thing p (thing_holder o.thing) f) (field after f)) (cond b Null (claim p (declared p cs) ls (Field n f))))
+        go true e =
+            subst (λ x. Fits p (seen cs) (held cs (Field n f)) (filled (field_thing p (thing_holder o.thing) f) x))
+            (sym (perhaps_only (subst (λ x. WeakerFilling (field after f) x) (destruct_fields p m is.role f) (w.fields f)))) (fields_fit n f e)
+        go false e = fits (Field n f)
+    clothed m height after is w (Elsewhere Root) = fits (Elsewhere Root)
+    clothed m height after is w (Elsewhere In_service) =
+        subst (λ k. Fits p (seen cs) (held cs (Elsewhere In_service)) k) (sym (plain_claim (serves p m) after (claim p (declared p cs) ls (Elsewhere In_service)) (ap is_service is.role)))
+        (fits (Elsewhere In_service))
+    clothed m height after is w (Elsewhere w') = fits (Elsewhere w')
+    clothed m height after is w (Going k) =
+        subst (λ b. Fits p (seen cs) (held cs (Going k)) (cond b (Own o.thing Ready) (claim p (declared p cs) ls (Going k)))) (tail (length (tasks_of ls) == k)) (fits (Going k))
+      where
+        tail : (b : Bool) → (b && true) ≡ b
+        tail true = refl
+        tail false = refl
 
-      at_name : (b : Bool) → (o.name == x.name) ≡ b → Suits (thing_kind p x.thing) (cond b (known_at p fr after.states (below b)) (below b)) (requested cs x.name)
-      at_name true e =
-          subst (λ y. Suits (thing_kind p y.thing) (known_at p fr after.states (resting_in (last_of (thing_kind p y.thing)))) (requested cs y.name)) (same_object cs o x lives there e)
-          (subst (λ k. Suits (thing_kind p o.thing) k (requested cs o.name)) (sym (known_plain p fr after.states (resting_in (last_of (thing_kind p o.thing))) (ap is_cancel is.role)))
-          (suits_less (thing_kind p o.thing) after.states (before_of p m) false (requested cs o.name) w.states (subst (λ n. Suits (thing_kind p o.thing) (resting_in n) (requested cs o.name)) (sym is.begins) rested)))
-      at_name false e = suits x there
+    -- and all others are as they were
+    bare_suits : last_of (thing_kind p o.thing) ≡ states_of (thing_kind p o.thing) → AllSuit p cs (Dying o ∷ ls)
+    bare_suits last x there = at_name (o.name == x.name) refl
+      where
+        at_name : (b : Bool) → (o.name == x.name) ≡ b → Suits (thing_kind p x.thing) (cond b (resting_in (last_of (thing_kind p x.thing))) (states_claim p x ls)) (requested cs x.name)
+        at_name true e =
+            subst (λ y. Suits (thing_kind p y.thing) (resting_in (last_of (thing_kind p y.thing))) (requested cs y.name)) (same_object cs o x lives there e)
+            (subst (λ n. Suits (thing_kind p o.thing) (resting_in n) (requested cs o.name)) (sym last) rested)
+        at_name false e = suits x there
 
-  -- so a destructor begins
-  pub destruct :
-      (s : State) (height : ℕ) → height ≡ length (items_of ls) → s.cells ≡ cs → s.tasks ≡ destructed p o height (tasks_of ls) → forms s.items ≡ items_of ls → AllUndo p s.items →
-      WellTyped p t s
-  destruct s height high cells tasks items undos = go (destructor_of p o.thing) refl tasks
-    where
-      go : (d : Option ℕ) → destructor_of p o.thing ≡ d → s.tasks ≡ begun_by d o height (tasks_of ls) → WellTyped p t s
-      go None e tasks = record {
-        layers = Dying o ∷ ls;
-        tasks = tasks;
-        items = items;
-        undos = undos;
-        good = subst (λ cs. Good p t cs (Dying o ∷ ls)) (sym cells) (record { stack = ((lives, there), tt, stack); fits = bare e; suits = bare_suits (undestructed p linked o.thing e); tidy = tidy });
-      }
-      go (Some m) e tasks =
-          let d = destroys p linked o.thing m e in
-          let leads = typed.entry m d.there in
-          let w = leads.2 in
-          let fr = frame_of m (Inside o (Going (length (tasks_of ls)))) height in
-          let good : Good p t cs (Method fr leads.0 ∷ Dying o ∷ ls) = record {
-            stack = (
-              leads.1,
-              record { words = λ i. subst (λ k. WordFits None k) (sym (unset_only (subst (λ k. Weaker (register leads.0 i) k) (entry_registers p m d.arguments i) (w.registers i)))) tt; holder = sym d.holder; height = high; alone = λ e. absurd (true≢false (sym e ∙ ap is_cancel d.role)); message = (λ e. absurd (true≢false (sym e ∙ ap is_service d.role)), λ served. absurd served) },
-              record { there = there; lives = lives; below = omega arith; ready = ap (λ b. is_ready_kind (cond b (Own o.thing Ready) (claim p (λ x. Null) ls (Going (length (tasks_of ls)))))) (eq-eqb (length (tasks_of ls)) _ refl) },
-              (tt, apart.none_in, apart.unclaimed, apart.unworked),
-              ((lives, there), (d.stays, refl, ap is_destruct d.role, d.gives, d.ends, d.quiet), stack),
-            );
-            fits = clothed m height leads.0 d w;
-            suits = clothed_suits m height leads.0 d w;
+    clothed_suits :
+        (m height : ℕ) (after : Shape) → Destroys p o.thing m → SaysNoMore after (entry_shape p m) →
+        AllSuit p cs (Method (frame_of m (Inside o (Going (length (tasks_of ls)))) height) after ∷ Dying o ∷ ls)
+    clothed_suits m height after is w x there = at_name (o.name == x.name) refl
+      where
+        fr : Frame
+        fr = frame_of m (Inside o (Going (length (tasks_of ls)))) height
+
+        below : Bool → Known
+        below b = cond b (resting_in (last_of (thing_kind p x.thing))) (states_claim p x ls)
+
+        at_name : (b : Bool) → (o.name == x.name) ≡ b → Suits (thing_kind p x.thing) (cond b (known_at p fr after.states (below b)) (below b)) (requested cs x.name)
+        at_name true e =
+            subst (λ y. Suits (thing_kind p y.thing) (known_at p fr after.states (resting_in (last_of (thing_kind p y.thing)))) (requested cs y.name)) (same_object cs o x lives there e)
+            (subst (λ k. Suits (thing_kind p o.thing) k (requested cs o.name)) (sym (known_plain p fr after.states (resting_in (last_of (thing_kind p o.thing))) (ap is_cancel is.role)))
+            (suits_less (thing_kind p o.thing) after.states (before_of p m) false (requested cs o.name) w.states (subst (λ n. Suits (thing_kind p o.thing) (resting_in n) (requested cs o.name)) (sym is.begins) rested)))
+        at_name false e = suits x there
+
+    -- so a destructor begins
+    pub destruct :
+        (s : State) (height : ℕ) → height ≡ length (items_of ls) → s.cells ≡ cs → s.tasks ≡ destructed p o height (tasks_of ls) → forms s.items ≡ items_of ls → AllUndo p s.items →
+        WellTyped p t s
+    destruct s height high cells tasks items undos = go (destructor_of p o.thing) refl tasks
+      where
+        go : (d : Option ℕ) → destructor_of p o.thing ≡ d → s.tasks ≡ begun_by d o height (tasks_of ls) → WellTyped p t s
+        go None e tasks = record {
+          layers = Dying o ∷ ls;
+          tasks = tasks;
+          items = items;
+          undos = undos;
+          good = subst (λ cs. Good p t cs (Dying o ∷ ls)) (sym cells) (record { stack = ((lives, there), tt, stack); fits = bare e; suits = bare_suits (undestructed p linked o.thing e); tidy = tidy });
+        }
+        go (Some m) e tasks =
+            let d = destroys p linked o.thing m e in
+            let leads = typed.entry m d.there in
+            let w = leads.2 in
+            let fr = frame_of m (Inside o (Going (length (tasks_of ls)))) height in
+            let good : Good p t cs (Method fr leads.0 ∷ Dying o ∷ ls) = record {
+              stack = (
+                leads.1,
+                record { words = λ i. subst (λ k. WordFits None k) (sym (unset_only (subst (λ k. Weaker (register leads.0 i) k) (entry_registers p m d.arguments i) (w.registers i)))) tt; holder = sym d.holder; height = high; alone = λ e. absurd (true≢false (sym e ∙ ap is_cancel d.role)); message = (λ e. absurd (true≢false (sym e ∙ ap is_service d.role)), λ served. absurd served) },
+                record { there = there; lives = lives; below = omega arith; ready = ap (λ b. is_ready_kind (cond b (Own o.thing Ready) (claim p (λ x. Null) ls (Going (length (tasks_of ls)))))) (eq-eqb (length (tasks_of ls)) _ refl) },
+                (tt, apart.none_in, apart.unclaimed, apart.unworked),
+                ((lives, there), (d.stays, refl, ap is_destruct d.role, d.gives, d.ends, d.quiet), stack),
+              );
+              fits = clothed m height leads.0 d w;
+              suits = clothed_suits m height leads.0 d w;
+              tidy = tidy;
+            } in
+            begins_well p t cs fr leads.0 (Dying o ∷ ls) s w.entries good cells tasks items undos
+
+  -- with its sessions
+  module _ (fits : (r : Place) → Fits p (seen cs) (held cs r) (Dies p cs o ls r)) where
+    -- what its clients have is a session each
+    sessions_fit : (c : ℕ) → Fits p (seen cs) (held cs (Elsewhere (Session o.name c))) (cond (has_session (service_of cs o.name) c) (filled (session_thing p (Some o)) Full) Null)
+    sessions_fit c =
+        subst (λ k. Fits p (seen cs) (held cs (Elsewhere (Session o.name c))) k)
+        (apart.sessions (declared p cs) c ∙ ap (λ x. cond (has_session (service_of cs o.name) c) (filled (session_thing p x) Full) Null) lives)
+        (fits (Elsewhere (Session o.name c)))
+
+    -- what is no server has none
+    none_at : is_server p o.thing ≡ false → (c : ℕ) → Fits p (seen cs) (held cs (Elsewhere (Session o.name c))) Null
+    none_at plain c = grind arith
+
+    bare_fits : is_server p o.thing ≡ false → (r : Place) → Fits p (seen cs) (held cs r) (Bare p cs o ls r)
+    bare_fits plain (Elsewhere (Session m c)) = go (o.name == m) refl
+      where
+        go : (b : Bool) → (o.name == m) ≡ b → Fits p (seen cs) (held cs (Elsewhere (Session m c))) (cond b Null (claim p (declared p cs) ls (Elsewhere (Session m c))))
+        go true e = subst (λ n. Fits p (seen cs) (held cs (Elsewhere (Session n c))) Null) (eqb-true o.name m e) (none_at plain c)
+        go false e = fits (Elsewhere (Session m c))
+    bare_fits plain r = fits r
+
+    -- all of them are left
+    ending_fits : (r : Place) → Fits p (seen cs) (held cs r) (claim p (declared p cs) (Ending o (service_of cs o.name).sessions ∷ Dying o ∷ ls) r)
+    ending_fits (Field n f) = go (o.name == n) refl
+      where
+        go :
+            (b : Bool) → (o.name == n) ≡ b →
+            Fits p (seen cs) (held cs (Field n f)) (cond b (filled (field_thing p (thing_holder o.thing) f) Perhaps) (cond b Null (claim p (declared p cs) ls (Field n f))))
+        go true e =
+            subst (λ m. Fits p (seen cs) (held cs (Field m f)) (filled (field_thing p (thing_holder o.thing) f) Perhaps)) (eqb-true o.name n e)
+            (subst (λ k. Fits p (seen cs) (held cs (Field o.name f)) k) (fields_claim f) (fits (Field o.name f)))
+        go false e = fits (Field n f)
+    ending_fits (Elsewhere (Session m c)) = go (o.name == m) refl
+      where
+        go : (b : Bool) → (o.name == m) ≡ b → Fits p (seen cs) (held cs (Elsewhere (Session m c))) (cond b (cond (has_session (service_of cs o.name) c) (filled (session_thing p (Some o)) Full) Null) (cond b Null (claim p (declared p cs) ls (Elsewhere (Session m c)))))
+        go true e =
+            subst (λ n. Fits p (seen cs) (held cs (Elsewhere (Session n c))) (cond (has_session (service_of cs o.name) c) (filled (session_thing p (Some o)) Full) Null)) (eqb-true o.name m e)
+            (sessions_fit c)
+        go false e = fits (Elsewhere (Session m c))
+    ending_fits (Going k) = subst (λ b. Fits p (seen cs) (held cs (Going k)) (cond b (Own o.thing Ready) (claim p (declared p cs) ls (Going k)))) (tail (length (tasks_of ls) == k)) (fits (Going k))
+      where
+        tail : (b : Bool) → (b && true) ≡ b
+        tail true = refl
+        tail false = refl
+    ending_fits r = fits r
+
+    -- so a destruction begins
+    pub begin : (s : State) (height : ℕ) → height ≡ length (items_of ls) → s.cells ≡ cs → s.tasks ≡ begun p o height (tasks_of ls) → forms s.items ≡ items_of ls → AllUndo p s.items → WellTyped p t s
+    begin s height high cells tasks items undos = go (is_server p o.thing) refl tasks
+      where
+        left : List ℕ
+        left = (service_of cs o.name).sessions
+
+        rests : is_server p o.thing ≡ true → AllSuit p cs (Dying o ∷ ls)
+        rests server x lives' = at_name (o.name == x.name) refl
+          where
+            at_name : (b : Bool) → (o.name == x.name) ≡ b → Suits (thing_kind p x.thing) (cond b (resting_in (last_of (thing_kind p x.thing))) (states_claim p x ls)) (requested cs x.name)
+            at_name true e =
+                subst (λ y. Suits (thing_kind p y.thing) (resting_in (last_of (thing_kind p y.thing))) (requested cs y.name)) (same_object cs o x lives lives' e)
+                (subst (λ n. Suits (thing_kind p o.thing) (resting_in n) (requested cs o.name)) (sym (server_last (thing_kind p o.thing) server))
+                rested)
+            at_name false e = suits x lives'
+
+        go : (b : Bool) → is_server p o.thing ≡ b → s.tasks ≡ cond b (Closing ∷ Destroy ∷ tasks_of ls) (destructed p o height (tasks_of ls)) → WellTyped p t s
+        go false plain tasks = destruct (bare_fits plain) s height high cells tasks items undos
+        go true server tasks = record {
+          layers = Ending o left ∷ Dying o ∷ ls;
+          tasks = tasks;
+          items = items;
+          undos = undos;
+          good = subst (λ cs'. Good p t cs' (Ending o left ∷ Dying o ∷ ls)) (sym cells) (record {
+            stack = (record { server = server; lives = lives; listed = λ c h. h }, tt, refl, ((lives, there), tt, stack));
+            fits = ending_fits;
+            suits = rests server;
             tidy = tidy;
-          } in
-          record {
-            layers = Method fr leads.0 ∷ Dying o ∷ ls;
-            tasks = tasks;
-            items = items ∙ ap (λ es. objects es (items_of ls)) (sym w.entries);
-            undos = undos;
-            good = subst (λ cs. Good p t cs (Method fr leads.0 ∷ Dying o ∷ ls)) (sym cells) good;
-          }
-
--- the objects of a server's class may rest as they go
-pub server_last : (k : Option ClassKind) → is_some (sessions_in k) ≡ true → last_of k ≡ states_of k
-unfolding last_of states_of sessions_in sessions_of
-server_last (Some (An_active provider budget)) e = cc
-server_last _ e = refl
-
-module _ (p : Image) (t : Typing) (linked : IsWired p) (typed : IsTyped p t) (cs : List Cell) (o : Object) (ls : List Layer)
-    (fits : (r : Place) → Fits p (seen cs) (held cs r) (Dies p cs o ls r))
-    (tidy : Tidy cs)
-    (stack : Stack p t cs Gone ls)
-    (there : held cs (Going (length (tasks_of ls))) ≡ Some o)
-    (lives : named cs o.name ≡ Some o)
-    (apart : Untouched p (λ f. filled (field_thing p (thing_holder o.thing) f) Perhaps) o.name ls)
-    (suits : AllSuit p cs ls) where
-  -- what its clients have is a session each
-  sessions_fit : (c : ℕ) → Fits p (seen cs) (held cs (Elsewhere (Session o.name c))) (cond (has_session (service_of cs o.name) c) (filled (session_thing p (Some o)) Full) Null)
-  sessions_fit c =
-      subst (λ k. Fits p (seen cs) (held cs (Elsewhere (Session o.name c))) k)
-      (apart.sessions (declared p cs) c ∙ ap (λ x. cond (has_session (service_of cs o.name) c) (filled (session_thing p x) Full) Null) lives)
-      (fits (Elsewhere (Session o.name c)))
-
-  -- what is no server has none
-  none_at : is_server p o.thing ≡ false → (c : ℕ) → Fits p (seen cs) (held cs (Elsewhere (Session o.name c))) Null
-  none_at plain c = go (session_class p o.thing) plain (has_session (service_of cs o.name) c) (sessions_fit c)
-    where
-      go :
-          (x : Option ℕ) → is_some x ≡ false → (b : Bool) → Fits p (seen cs) (held cs (Elsewhere (Session o.name c))) (cond b (filled (of_class x) Full) Null) →
-          Fits p (seen cs) (held cs (Elsewhere (Session o.name c))) Null
-      go None e true h = h
-      go None e false h = h
-      go (Some k) e b h = cc
-
-  bare_fits : is_server p o.thing ≡ false → (r : Place) → Fits p (seen cs) (held cs r) (Bare p cs o ls r)
-  bare_fits plain (Elsewhere (Session m c)) = go (o.name == m) refl
-    where
-      go : (b : Bool) → (o.name == m) ≡ b → Fits p (seen cs) (held cs (Elsewhere (Session m c))) (cond b Null (claim p (declared p cs) ls (Elsewhere (Session m c))))
-      go true e = subst (λ n. Fits p (seen cs) (held cs (Elsewhere (Session n c))) Null) (eqb-true o.name m e) (none_at plain c)
-      go false e = fits (Elsewhere (Session m c))
-  bare_fits plain r = fits r
-
-  -- all of them are left
-  ending_fits : (r : Place) → Fits p (seen cs) (held cs r) (claim p (declared p cs) (Ending o (service_of cs o.name).sessions ∷ Dying o ∷ ls) r)
-  ending_fits (Field n f) = go (o.name == n) refl
-    where
-      claims : claim p (declared p cs) ls (Field o.name f) ≡ filled (field_thing p (thing_holder o.thing) f) Perhaps
-      claims = claim_unclaimed p (declared p cs) ls o.name f (λ f. filled (field_thing p (thing_holder o.thing) f) Perhaps) apart.unclaimed (ap (λ x. declared_field p x f) lives)
-
-      go :
-          (b : Bool) → (o.name == n) ≡ b →
-          Fits p (seen cs) (held cs (Field n f)) (cond b (filled (field_thing p (thing_holder o.thing) f) Perhaps) (cond b Null (claim p (declared p cs) ls (Field n f))))
-      go true e =
-          subst (λ m. Fits p (seen cs) (held cs (Field m f)) (filled (field_thing p (thing_holder o.thing) f) Perhaps)) (eqb-true o.name n e)
-          (subst (λ k. Fits p (seen cs) (held cs (Field o.name f)) k) claims (fits (Field o.name f)))
-      go false e = fits (Field n f)
-  ending_fits (Elsewhere (Session m c)) = go (o.name == m) refl
-    where
-      go : (b : Bool) → (o.name == m) ≡ b → Fits p (seen cs) (held cs (Elsewhere (Session m c))) (cond b (cond (has_session (service_of cs o.name) c) (filled (session_thing p (Some o)) Full) Null) (cond b Null (claim p (declared p cs) ls (Elsewhere (Session m c)))))
-      go true e =
-          subst (λ n. Fits p (seen cs) (held cs (Elsewhere (Session n c))) (cond (has_session (service_of cs o.name) c) (filled (session_thing p (Some o)) Full) Null)) (eqb-true o.name m e)
-          (sessions_fit c)
-      go false e = fits (Elsewhere (Session m c))
-  ending_fits (Going k) = subst (λ b. Fits p (seen cs) (held cs (Going k)) (cond b (Own o.thing Ready) (claim p (declared p cs) ls (Going k)))) (tail (length (tasks_of ls) == k)) (fits (Going k))
-    where
-      tail : (b : Bool) → (b && true) ≡ b
-      tail true = refl
-      tail false = refl
-  ending_fits r = fits r
-
-  -- so a destruction begins
-  pub begin : (s : State) (height : ℕ) → height ≡ length (items_of ls) → s.cells ≡ cs → s.tasks ≡ begun p o height (tasks_of ls) → forms s.items ≡ items_of ls → AllUndo p s.items → WellTyped p t s
-  begin s height high cells tasks items undos = go (is_server p o.thing) refl tasks
-    where
-      left : List ℕ
-      left = (service_of cs o.name).sessions
-
-      rests : is_server p o.thing ≡ true → AllSuit p cs (Dying o ∷ ls)
-      rests server x lives' = at_name (o.name == x.name) refl
-        where
-          at_name : (b : Bool) → (o.name == x.name) ≡ b → Suits (thing_kind p x.thing) (cond b (resting_in (last_of (thing_kind p x.thing))) (states_claim p x ls)) (requested cs x.name)
-          at_name true e =
-              subst (λ y. Suits (thing_kind p y.thing) (resting_in (last_of (thing_kind p y.thing))) (requested cs y.name)) (same_object cs o x lives lives' e)
-              (subst (λ n. Suits (thing_kind p o.thing) (resting_in n) (requested cs o.name)) (sym (server_last (thing_kind p o.thing) server))
-              (subst (λ k. Suits (thing_kind p o.thing) k (requested cs o.name)) (unworked_rests p o ls apart.unworked) (suits o lives)))
-          at_name false e = suits x lives'
-
-      go : (b : Bool) → is_server p o.thing ≡ b → s.tasks ≡ cond b (Closing ∷ Destroy ∷ tasks_of ls) (destructed p o height (tasks_of ls)) → WellTyped p t s
-      go false plain tasks = destruct p t linked typed cs o ls (bare_fits plain) tidy stack there lives apart suits s height high cells tasks items undos
-      go true server tasks = record {
-        layers = Ending o left ∷ Dying o ∷ ls;
-        tasks = tasks;
-        items = items;
-        undos = undos;
-        good = subst (λ cs'. Good p t cs' (Ending o left ∷ Dying o ∷ ls)) (sym cells) (record {
-          stack = (record { server = server; lives = lives; listed = λ c h. h }, tt, refl, ((lives, there), tt, stack));
-          fits = ending_fits;
-          suits = rests server;
-          tidy = tidy;
-        });
-      }
+          });
+        }
 
 -- a thing goes from q to the place of its destruction
 module _ (p : Image) (t : Typing) (cs : List Cell) (o : Object) (q : Place) (ls ls' : List Layer)
@@ -494,15 +462,22 @@ module _ (p : Image) (t : Typing) (cs : List Cell) (o : Object) (q : Place) (ls 
           subst (λ x. Fits p (seen cs') (held cs' x) (Own o.thing Ready)) (same_place-true g r e) (subst (λ x. Fits p (seen cs') x (Own o.thing Ready)) (sym goes_there) (stands_itself p o.thing, tt))
       go false e f = subst (λ k. Fits p (seen cs') (held cs' r) k) (sym (claims r)) f
 
+  -- so its destruction begins
+  pub goes_well :
+      IsWired p → IsTyped p t → Tidy cs → Stack p t (moved q (Going (length (tasks_of ls'))) cs) Gone ls' →
+      Untouched p (λ f. filled (field_thing p (thing_holder o.thing) f) Perhaps) o.name ls' → AllSuit p cs ls' → (s : State) (height : ℕ) → height ≡ length (items_of ls') →
+      s.cells ≡ moved q (Going (length (tasks_of ls'))) cs → s.tasks ≡ begun p o height (tasks_of ls') → forms s.items ≡ items_of ls' → AllUndo p s.items → WellTyped p t s
+  goes_well wired typed tidy stack apart suits s height high cells tasks items undos =
+      let g = Going (length (tasks_of ls')) in
+      begin p t wired typed (moved q g cs) o ls' (tidy_moved cs q g no_going tidy) stack goes_there (named_moved cs q g o.name ∙ held_lives cs q o tidy there) apart (all_moved p cs q g ls' suits) goes_fitting
+      s height high cells tasks items undos
+
 module _ (p : Image) (t : Typing) (c : Choice) (s : State) (fr : Frame) (sh : Shape) (ls : List Layer) (at_hand : At p t s fr sh ls) where
   pub law_delete : IsWired p → IsTyped p t → (a : ℕ) → Law p t c s fr sh ls at_hand (Delete a)
   law_delete linked typed a n leads = ((ap is_none none, (no_message (held s.cells (top ls a)) (register sh a) n.0 (kind_fits p t c s fr sh ls at_hand a), tt)), go (held s.cells (top ls a)) refl)
     where
       destroyed_object : (k : Kind) → may_be_destroyed k ≡ true → is_object_or_null k ≡ true
-      destroyed_object Null e = refl
-      destroyed_object (Own x a) e = refl
-      destroyed_object (Maybe x a) e = refl
-      destroyed_object _ e = cc
+      destroyed_object x e = grind arith
 
       no_message : (o : Option Object) (k : Kind) → may_be_destroyed k ≡ true → Fits p (seen s.cells) o k → is_no_message o ≡ true
       no_message None k e f = refl
@@ -539,12 +514,8 @@ module _ (p : Image) (t : Typing) (c : Choice) (s : State) (fr : Frame) (sh : Sh
           let free = no_going p t cs o q before below at_hand.good.fits e (omega arith) claims in
           let housed = housed_relocated p cs q g ls fr.home free (omega arith) (omega arith) (λ o from e. (tt, tt)) at_hand.good.stack.2 in
           let k : ℕ → Kind = λ f. filled (field_thing p (thing_holder o.thing) f) Perhaps in
-          begin p t linked typed (moved q g cs) o below
-          (goes_fitting p t cs o q before below at_hand.good.fits e (omega arith) claims)
-          (tidy_moved cs q g free at_hand.good.tidy)
+          goes_well p t cs o q before below at_hand.good.fits e (omega arith) claims linked typed at_hand.good.tidy
           (leads.0, record { words = words; holder = at_hand.good.stack.1.holder; height = at_hand.good.stack.1.height; alone = at_hand.good.stack.1.alone; message = at_hand.good.stack.1.message }, housed, at_hand.good.stack.3, stack_moved p t cs q g ls _ free (omega arith) (omega arith) at_hand.good.stack.4)
-          (goes_there p t cs o q before below at_hand.good.fits e (omega arith) claims)
-          (named_moved cs q g o.name ∙ held_lives cs q o at_hand.good.tidy e)
           (untouched_method p t cs q o at_hand.good.tidy e k fr' sh' ls (λ x from e. tt) (omega arith) at_hand.good.stack.2 (untouched p t cs q o at_hand.good.tidy e k ls _ (omega arith) at_hand.good.stack.4))
-          (all_moved p cs q g below at_hand.good.suits)
+          at_hand.good.suits
           (applied p fr (tasks_of ls) s (deletes fr (Some o) a)) (length s.items) (sym (length_forms s.items) ∙ ap length at_hand.items) refl refl at_hand.items at_hand.undos

@@ -11,14 +11,13 @@ use Rattle.aom_shape.specs.Kinds.{all_empty, field, filled, is_empty, no_entry, 
 use Rattle.aom_rules.specs.Calls.{fields_done, is_destruct, result_moved}
 use Rattle.aom_rules.specs.Requests.{is_service, is_cancel}
 use Rattle.aom_image.specs.declared.method.Role.{Role}
-use Rattle.aom_image.specs.declared.method.Role.TheVariants.{Destruct}
 use Rattle.aom_shape.specs.Needs.{AllTrue}
 use Rattle.aom_shape.specs.Shape.{Shape}
 use Rattle.aom_shape.specs.Tables.{at}
 use Rattle.aom_shape.specs.Things.{field_thing, holder_of}
 use Rattle.aom_rules.specs.Typing.{Typing}
 use Rattle.aom_shape.specs.declared.kind.Filling.{Filling}
-use Rattle.aom_shape.specs.declared.kind.Filling.TheVariants.{Empty, Perhaps}
+use Rattle.aom_shape.specs.declared.kind.Filling.TheVariants.{Perhaps}
 use Rattle.aom_shape.specs.declared.kind.Kind.TheVariants.{Null}
 use Rattle.aom_sound.proofs.Claimed.{claim_register_above}
 use Rattle.aom_sound.proofs.Finishing.{ended_plainly, no_entries, none_left, none_owns_at, return_needs, returnable, same_items}
@@ -60,8 +59,7 @@ module _ (p : Image) (t : Typing) (c : Choice) (s : State) (fr : Frame) (sh : Sh
       go (Some y) e h = empty (field sh f) (empty_field p o.thing sh.fields f y done e) h
         where
           empty : (z : Filling) → is_empty z ≡ true → Fits p (seen s.cells) x (filled (Some y) z) → Fits p (seen s.cells) x Null
-          empty Empty e h = h
-          empty _ e h = cc
+          empty x e h = grind arith
 
   fits_dying :
       is_service (method_role p fr.method) ≡ false → fr.home ≡ Inside o (Going (length (tasks_of ls))) → no_entry sh.entries ≡ true → none_owns sh.registers ≡ true →
@@ -116,12 +114,10 @@ module _ (p : Image) (t : Typing) (c : Choice) (s : State) (fr : Frame) (sh : Sh
 
   -- what destructs does not cancel
   destructs_only : (r : Option Role) → is_destruct r ≡ true → is_cancel r ≡ false
-  destructs_only (Some Destruct) e = refl
-  destructs_only _ e = cc
+  destructs_only x e = grind arith
 
   destructs_plainly : (r : Option Role) → is_destruct r ≡ true → is_service r ≡ false
-  destructs_plainly (Some Destruct) e = refl
-  destructs_plainly _ e = cc
+  destructs_plainly x e = grind arith
 
   pub law_destructor : (a : ℕ) → Law p t c s fr sh (Dying o ∷ ls) at_hand (Return a)
   law_destructor a n leads =

@@ -1,5 +1,5 @@
 -- Where messages go that wait in a queue or are served, all else is as it was: by the cells one after another.
-use Rattle.std.proofs.Common.{[], length, Bool, List, None, Option, Some, ap, cond, false, inl, inr, refl, subst, sym, true, ⊎_elim, ℕ, ◌==◌, ◌∙◌, ◌∷◌, ◌≡◌, ◌⊎◌}
+use Rattle.std.proofs.Common.{[], length, Bool, List, None, Option, Some, ap, cond, false, inl, inr, refl, subst, sym, true, ⊎_elim, ℕ, ◌==◌, ◌∙◌, ◌∷◌, ◌≡◌, ◌⊎◌, arith}
 use Rattle.std.proofs.lemmas.Bool.{cases_Bool, eqb-true, true≢false}
 use Rattle.aom_image.specs.Image.{Image}
 use Rattle.aom_image.specs.declared.method.Thing.{Thing}
@@ -9,10 +9,11 @@ use Rattle.aom_rules.specs.Typing.{Typing}
 use Rattle.aom_shape.specs.Kinds.{filled}
 use Rattle.aom_shape.specs.declared.kind.Filling.TheVariants.{Full}
 use Rattle.aom_shape.specs.declared.kind.Kind.TheVariants.{Null}
-use Rattle.aom_sound.proofs.Maps.{cond_same, front_free, held_lives, same_place-true, same_place_refl}
+pub use Rattle.aom_sound.proofs.Maps.{requested_unnamed}
+use Rattle.aom_sound.proofs.Maps.{cond_same, held_lives, same_place-true, same_place_refl}
 use Rattle.aom_sound.proofs.Services.{attended_at}
 use Rattle.aom_sound.specs.Claims.{claim, Dispatching, Dying, Ending, Layer, Mark, Method, Unwinding, declared, declared_field, tasks_of}
-use Rattle.aom_sound.specs.Places.{Sight, seen, Cell, Elsewhere, Field, Going, In_service, Object, Place, Queued, Root, Session, Tidy, held, named, requested, same_place, service_of, without}
+use Rattle.aom_sound.specs.Places.{Sight, seen, Cell, Elsewhere, Field, Going, In_service, Object, Place, Queued, Session, Tidy, held, named, requested, same_place, service_of, without, Service}
 use Rattle.aom_sound.specs.Servers.{is_server, has_message, has_session, is_queue_of, message_thing, session_thing, without_queue}
 use Rattle.aom_sound.specs.State.{AtRoot, Home, Inside, Seat, Static}
 use Rattle.aom_sound.specs.WellTyped.{EndsSessions, Fits, SitsFirst, AllSit, Back, IsBelow, IsHoused, SitsIn, Stack, seat_of}
@@ -20,7 +21,6 @@ use Rattle.std.specs.Prelude.{is_some}
 use Rattle.std.proofs.lemmas.Option.{same_Some}
 use Rattle.aom_shape.specs.declared.kind.Kind.{Kind}
 use Rattle.aom_sound.proofs.Claimed.{fits_age}
-use Rattle.aom_sound.proofs.Things.{stands_same}
 use Rattle.aom_sound.specs.Requests.{AllSuit, Suits, states_claim, thing_kind}
 use Rattle.aom_roles.specs.Shapes.{kind_of}
 
@@ -29,10 +29,6 @@ abbrev pub is_sent : Place → Bool
 is_sent (Elsewhere In_service) = true
 is_sent (Elsewhere (Queued s m)) = true
 is_sent _ = false
-
-pub requested_unnamed : (cs : List Cell) (n : ℕ) → named cs n ≡ None → requested cs n ≡ None
-requested_unnamed [] n e = refl
-requested_unnamed (c ∷ cs) n e = let f = front_free _ _ _ e in ap (λ b. cond b c.request (requested cs n)) f.0 ∙ requested_unnamed cs n f.1
 
 -- what these places own goes
 module _ (gone : Place → Bool) where
@@ -156,30 +152,25 @@ module _ (gone : Place → Bool) where
     pub stays_same : (r : Place) (x : Object) → gone r ≡ false → held cs r ≡ Some x → Same cs x.name
     stays_same r x e h = ⊎_elim (λ s. s) (λ w. let clash : Some x ≡ None = sym (stays_named r x e h) ∙ w.none in cc) (each_name cs tidy x.name)
 
+    -- what a service says with its server's kind, where a message's is null
+    serves_dropped :
+        (n : ℕ) (has : Service → Bool) (kind : Option Object → Kind) → kind None ≡ Null → ((x : Object) → x.thing ≡ Message → kind (Some x) ≡ Null) →
+        cond (has (service_of (dropped cs) n)) (kind (named (dropped cs) n)) Null ≡ cond (has (service_of cs n)) (kind (named cs n)) Null
+    serves_dropped n has kind none of_message = ⊎_elim
+        (λ s. ap (λ v. cond (has v) (kind (named (dropped cs) n)) Null) s.service ∙ ap (λ o. cond (has (service_of cs n)) (kind o) Null) s.name)
+        (λ w. null (has (service_of (dropped cs) n)) _ (ap kind w.none ∙ none) ∙ sym (null (has (service_of cs n)) _ (ap kind w.was ∙ of_message w.object (messages w.place w.object w.goes w.there))))
+        (each_name cs tidy n)
+      where
+        null : (b : Bool) (k : Kind) → k ≡ Null → cond b k Null ≡ Null
+        null b k e = ap (λ k. cond b k Null) e ∙ cond_same b Null
+
     pub declared_dropped : (r : Place) → declared p (dropped cs) r ≡ declared p cs r
     unfolding sessions_in kind_of
-    declared_dropped (Field n f) = ⊎_elim (λ s. ap (λ o. declared_field p o f) s.name) (λ w. ap (λ o. declared_field p o f) w.none ∙ sym (ap (λ o. declared_field p o f) w.was ∙ of_message w.object (messages w.place w.object w.goes w.there))) (each_name cs tidy n)
-      where
-        of_message : (x : Object) → x.thing ≡ Message → declared_field p (Some x) f ≡ Null
-        of_message x e = ap (λ y. declared_field p (Some (record { name = x.name; thing = y })) f) e
+    declared_dropped (Field n f) = serves_dropped n (λ v. true) (λ o. declared_field p o f) refl (λ x e. ap (λ y. declared_field p (Some (record { name = x.name; thing = y })) f) e)
     declared_dropped (Elsewhere (Session n c)) =
-        ⊎_elim (λ s. ap (λ v. cond (has_session v c) (filled (session_thing p (named (dropped cs) n)) Full) Null) s.service ∙ ap (λ o. cond (has_session (service_of cs n) c) (filled (session_thing p o) Full) Null) s.name)
-        (λ w. ap (λ o. cond (has_session (service_of (dropped cs) n) c) (filled (session_thing p o) Full) Null) w.none ∙ cond_same (has_session (service_of (dropped cs) n) c) Null
-        ∙ sym (ap (λ o. cond (has_session (service_of cs n) c) (filled (session_thing p o) Full) Null) w.was ∙ of_message w.object (messages w.place w.object w.goes w.there)))
-        (each_name cs tidy n)
-      where
-        of_message : (x : Object) → x.thing ≡ Message → cond (has_session (service_of cs n) c) (filled (session_thing p (Some x)) Full) Null ≡ Null
-        of_message x e =
-            ap (λ y. cond (has_session (service_of cs n) c) (filled (session_thing p (Some (record { name = x.name; thing = y }))) Full) Null) e ∙ cond_same (has_session (service_of cs n) c) Null
+        serves_dropped n (λ v. has_session v c) (λ o. filled (session_thing p o) Full) refl (λ x e. ap (λ y. filled (session_thing p (Some (record { name = x.name; thing = y }))) Full) e)
     declared_dropped (Elsewhere (Queued n m)) =
-        ⊎_elim (λ s. ap (λ v. cond (has_message v m) (filled (message_thing p (named (dropped cs) n)) Full) Null) s.service ∙ ap (λ o. cond (has_message (service_of cs n) m) (filled (message_thing p o) Full) Null) s.name)
-        (λ w. ap (λ o. cond (has_message (service_of (dropped cs) n) m) (filled (message_thing p o) Full) Null) w.none ∙ cond_same (has_message (service_of (dropped cs) n) m) Null
-        ∙ sym (ap (λ o. cond (has_message (service_of cs n) m) (filled (message_thing p o) Full) Null) w.was ∙ of_message w.object (messages w.place w.object w.goes w.there)))
-        (each_name cs tidy n)
-      where
-        of_message : (x : Object) → x.thing ≡ Message → cond (has_message (service_of cs n) m) (filled (message_thing p (Some x)) Full) Null ≡ Null
-        of_message x e =
-            ap (λ y. cond (has_message (service_of cs n) m) (filled (message_thing p (Some (record { name = x.name; thing = y }))) Full) Null) e ∙ cond_same (has_message (service_of cs n) m) Null
+        serves_dropped n (λ v. has_message v m) (λ o. filled (message_thing p o) Full) refl (λ x e. ap (λ y. filled (message_thing p (Some (record { name = x.name; thing = y }))) Full) e)
     declared_dropped _ = refl
 
     pub suits_dropped : (ls : List Layer) → AllSuit p cs ls → AllSuit p (dropped cs) ls
@@ -200,17 +191,10 @@ module _ (gone : Place → Bool) where
       spared r e = ⊎_elim (λ g. absurd (true≢false (sym (sent r g) ∙ e))) (λ g. g) (cases_Bool (gone r))
 
       below_spared : (r : Place) (ls : List Layer) → IsBelow r ls → gone r ≡ false
-      below_spared (Elsewhere In_service) ls b = absurd b
-      below_spared (Elsewhere (Queued n m)) ls b = absurd b
-      below_spared r ls b = spared r refl
+      below_spared r ls b = grind arith
 
       sits_spared : (r : Place) (xs : List Seat) → SitsIn r xs → gone r ≡ false
-      sits_spared (Field n f) xs b = spared (Field n f) refl
-      sits_spared (Elsewhere Root) xs b = spared (Elsewhere Root) refl
-      sits_spared (Elsewhere (Session n c)) xs b = spared (Elsewhere (Session n c)) refl
-      sits_spared (Elsewhere In_service) xs b = absurd b
-      sits_spared (Elsewhere (Queued n m)) xs b = absurd b
-      sits_spared _ xs b = absurd b
+      sits_spared x xs b = grind arith
 
       housed_dropped : (ls : List Layer) (home : Home) → IsHoused p cs ls home → IsHoused p (dropped cs) ls home
       housed_dropped ls Static h = h
@@ -273,9 +257,4 @@ queued_claim p d (l ∷ ls) n m = queued_claim p d ls n m
 
 -- what waits in a queue is a message
 pub waits_message : (p : Image) (h : Sight) (x : Object) (b : Bool) (o : Option Object) → Fits p h (Some x) (cond b (filled (message_thing p o) Full) Null) → x.thing ≡ Message
-waits_message p h x true (Some y) f = go (is_server p y.thing) f
-  where
-    go : (b : Bool) → Fits p h (Some x) (filled (cond b (Some Message) None) Full) → x.thing ≡ Message
-    go true f = stands_same p x.thing Message f.0
-    go false f = absurd f
-waits_message p h x _ _ f = absurd f
+waits_message p h x y z f = grind arith

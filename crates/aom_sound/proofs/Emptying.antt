@@ -8,17 +8,17 @@ use Rattle.aom_shape.specs.Kinds.{filled}
 use Rattle.aom_shape.specs.Things.{field_thing}
 use Rattle.aom_shape.specs.declared.kind.Filling.TheVariants.{Full, Perhaps}
 use Rattle.aom_shape.specs.declared.kind.Kind.TheVariants.{Own, Null}
-use Rattle.aom_sound.proofs.Destroying.{server_last, Bare, Untouched, begin, destruct, goes_fitting, goes_there, no_going, untouched}
+use Rattle.aom_sound.proofs.Destroying.{server_last, Bare, Untouched, destruct, no_going, untouched, goes_well}
 use Rattle.aom_sound.proofs.Items.{length_forms}
 use Rattle.aom_sound.proofs.Claimed.{claim_unclaimed, stack_moved}
-use Rattle.aom_sound.proofs.Maps.{held_lives, named_moved, same_place-true, tidy_moved}
+use Rattle.aom_sound.proofs.Maps.{same_place-true}
 use Rattle.aom_sound.proofs.Parting.{among_others, among_parted}
 use Rattle.aom_sound.proofs.Straight.{fits_unowning}
-use Rattle.aom_sound.proofs.Suiting.{same_object, unworked_rests, all_moved}
+use Rattle.aom_sound.proofs.Suiting.{same_object, unworked_rests}
 use Rattle.aom_sound.specs.Claims.{declared_field, Dispatching, Dying, Ending, Layer, Mark, Method, Unwinding, claim, declared, forms, items_of, tasks_of}
 use Rattle.aom_sound.specs.Destruction.{closing, first_session, parting, parting_from, seat_or}
 use Rattle.aom_sound.specs.Laws.{IsWired}
-use Rattle.aom_sound.specs.Places.{requested, Cell, Elsewhere, Field, Going, Object, Place, Session, changed, held, moved, named, same_place, seen, service_of}
+use Rattle.aom_sound.specs.Places.{requested, Cell, Elsewhere, Field, Going, Object, Place, Session, changed, held, named, same_place, seen, service_of}
 use Rattle.aom_sound.specs.Requests.{Suits, resting_in, states_claim, thing_kind, AllSuit}
 use Rattle.aom_sound.specs.Servers.{is_among, is_other, session_thing}
 use Rattle.aom_sound.specs.State.{AtRoot, Home, Inside, Seat, State, Static, thing_holder}
@@ -42,8 +42,7 @@ none_first cs n (d ∷ ss) e c among = go (held cs (Elsewhere (Session n d))) re
     go :
         (o : Option Object) → held cs (Elsewhere (Session n d)) ≡ o → seat_or o (Elsewhere (Session n d)) (first_session cs n ss) ≡ None →
         (first_session cs n ss ≡ None → is_among c ss ≡ true → held cs (Elsewhere (Session n c)) ≡ None) → held cs (Elsewhere (Session n c)) ≡ None
-    go None there e later = here (d == c) refl among there e later
-    go (Some o) there e later = cc
+    go o there e later = grind (arith, here)
 
 record Found (cs : List Cell) (n : ℕ) (ss : List ℕ) (x : Seat) : Type 0 where
   client : ℕ
@@ -160,7 +159,7 @@ module _ (p : Image) (t : Typing) (wired : IsWired p) (typed : IsTyped p t) (s :
         go false e h = h
 
     last_gone : WellTyped p t (parting p o None (tasks_of ls) s)
-    last_gone = destruct p t wired typed cs o ls bare good.tidy good.stack.3.2 there lives own suits_below (parting p o None (tasks_of ls) s) (length s.items) high refl refl items undos
+    last_gone = destruct p t wired typed cs o ls good.tidy good.stack.3.2 there lives own suits_below bare (parting p o None (tasks_of ls) s) (length s.items) high refl refl items undos
 
   -- one more goes
   module _ (c : ℕ) (so : Object) (holds : held cs (Elsewhere (Session o.name c)) ≡ Some so) where
@@ -203,14 +202,10 @@ module _ (p : Image) (t : Typing) (wired : IsWired p) (typed : IsTyped p t) (s :
     session_gone : WellTyped p t (parting p o (Some (record { object = so; place = q })) (tasks_of ls) s)
     session_gone =
         let k : ℕ → Kind = λ f. filled (field_thing p (thing_holder so.thing) f) Perhaps in
-        begin p t wired typed (moved q g cs) so over
-        (goes_fitting p t cs so q before over good.fits holds (omega arith) claims)
-        (tidy_moved cs q g free good.tidy)
+        goes_well p t cs so q before over good.fits holds (omega arith) claims wired typed good.tidy
         (stack_moved p t cs q g over Gone free outside (omega arith) stack_over)
-        (goes_there p t cs so q before over good.fits holds (omega arith) claims)
-        (named_moved cs q g so.name ∙ held_lives cs q so good.tidy holds)
         (untouched p t cs q so good.tidy holds k over Gone outside stack_over)
-        (all_moved p cs q g over good.suits)
+        good.suits
         (parting p o (Some (record { object = so; place = q })) (tasks_of ls) s) (length s.items) high refl refl items undos
 
   closing_well : (x : Option Seat) → first_session cs o.name (service_of cs o.name).sessions ≡ x → WellTyped p t (parting p o x (tasks_of ls) s)

@@ -1,6 +1,6 @@
 -- A method enters over its dispatch, on the object that is dispatched.
-use Rattle.std.proofs.Common.{inr, Bool, List, None, Option, Some, [], ap, cond, false, length, refl, subst, sym, true, ℕ, ℤ, ◌==◌, ◌∙◌, ◌∷◌, ◌≡◌}
-use Rattle.std.proofs.lemmas.Bool.{eqb-true, ne_eqb, true≢false}
+use Rattle.std.proofs.Common.{inr, Bool, List, None, Option, Some, [], ap, cond, false, length, refl, subst, sym, true, ℕ, ℤ, ◌==◌, ◌∙◌, ◌∷◌, ◌≡◌, arith}
+use Rattle.std.proofs.lemmas.Bool.{eqb-true, true≢false}
 use Rattle.std.specs.Prelude.{IsSome}
 use Rattle.aom_image.specs.Image.{Image}
 use Rattle.aom_image.specs.Views.{method_at, method_role}
@@ -19,11 +19,12 @@ use Rattle.aom_shape.specs.declared.kind.Age.TheVariants.{Ready}
 use Rattle.aom_image.specs.declared.method.Thing.TheVariants.{Message}
 use Rattle.aom_sound.proofs.Attending.{with_message, with_message_ready}
 use Rattle.aom_sound.proofs.Claimed.{fits_weaker, word_fits_weaker}
+use Rattle.aom_sound.proofs.Items.{begins_well}
 use Rattle.aom_sound.proofs.Destroying.{perhaps_only}
 use Rattle.aom_sound.proofs.Straight.{fits_unowning}
 use Rattle.aom_sound.proofs.Suiting.{known_plain, same_object, suits_less}
-use Rattle.aom_sound.specs.Claims.{Layer, Method, claim, declared, declared_field, entry_claim, forms, items_of, objects, tasks_of, delivered, serves}
-use Rattle.aom_sound.specs.Places.{In_service, Cell, Elsewhere, Entry, Field, Going, Object, Place, Register, Root, Tidy, held, named, requested, seen, Session}
+use Rattle.aom_sound.specs.Claims.{Layer, Method, claim, declared, declared_field, entry_claim, forms, items_of, tasks_of, delivered, serves}
+use Rattle.aom_sound.specs.Places.{In_service, Cell, Elsewhere, Entry, Field, Going, Object, Place, Register, Root, Tidy, held, named, requested, seen}
 use Rattle.aom_sound.specs.Requests.{AllSuit, Joins, Known, Suits, known_at, resting_in, rests_in, states_claim, thing_kind}
 use Rattle.aom_sound.specs.State.{Frame, Inside, Run, Seat, State, frame_of, thing_holder}
 use Rattle.aom_sound.specs.WellTyped.{IsServed, AllSit, AllUndo, Fits, Good, Holds, IsApart, IsBelow, IsNoFieldOf, NoSeatIn, NoneIn, Returns, SitsIn, SomeIn, SomeSits, Stack, WellTyped, WordFits, by_field, past_going}
@@ -55,10 +56,7 @@ pub record Entering (p : Image) (t : Typing) (cs : List Cell) (x : Seat) (above 
 
 -- no field of an object that does not sit is a seat
 no_field : (n : ℕ) (q : Place) (xs : List Seat) → (SomeSits n xs → ⊥) → SitsIn q xs → IsNoFieldOf n q
-no_field n (Field m f) xs none h = ne_eqb n m (λ e. none (subst (λ k. SomeSits k xs) (sym e) h))
-no_field n (Elsewhere Root) xs none h = tt
-no_field n (Elsewhere (Session m c)) xs none h = ne_eqb n m (λ e. none (subst (λ k. SomeSits k xs) (sym e) h))
-no_field n _ xs none h = absurd h
+no_field n x xs none h = grind arith
 
 pub no_fields : (cs : List Cell) (n : ℕ) (xs : List Seat) → (SomeSits n xs → ⊥) → AllSit cs xs → NoSeatIn n xs
 no_fields cs n [] none s = tt
@@ -75,10 +73,7 @@ module _ (p : Image) (t : Typing) (typed : IsTyped p t) (cs : List Cell) (x : Se
   housed = record { there = e.sits.0.0; lives = e.sits.0.1; below = below x.place e.sits.0.2; ready = ap is_ready_kind (e.claims (λ r. Null) x.place) ∙ with_message_ready e.served x.place }
     where
       below : (q : Place) → SitsIn q above → IsBelow q over
-      below (Field n f) h = e.some_in n h
-      below (Elsewhere Root) h = tt
-      below (Elsewhere (Session n c)) h = e.some_in n h
-      below _ h = absurd h
+      below x h = grind arith
 
   apart : IsApart p (Inside x.object x.place) over
   apart = (
@@ -165,10 +160,4 @@ module _ (p : Image) (t : Typing) (typed : IsTyped p t) (cs : List Cell) (x : Se
         suits = suits height leads.0 w;
         tidy = e.tidy;
       } in
-      record {
-        layers = Method (begun height) leads.0 ∷ over;
-        tasks = tasks;
-        items = items ∙ ap (λ es. objects es (items_of over)) (sym w.entries);
-        undos = undos;
-        good = subst (λ cs. Good p t cs (Method (begun height) leads.0 ∷ over)) (sym cells) good;
-      }
+      begins_well p t cs (begun height) leads.0 over s w.entries good cells tasks items undos

@@ -19,7 +19,7 @@ use Rattle.aom_shape.specs.declared.kind.Entry.TheVariants.{Object as Pushed_obj
 use Rattle.aom_shape.specs.declared.kind.Kind.{Kind}
 use Rattle.aom_shape.specs.declared.kind.Kind.TheVariants.{Null, Own}
 use Rattle.aom_sound.proofs.Claimed.{claim-set_register, claim_entry_above, claim_push, length_objects}
-use Rattle.aom_sound.proofs.Creation.{IsUnused, age_fits, create}
+use Rattle.aom_sound.proofs.Creation.{made_well, IsUnused}
 use Rattle.aom_sound.proofs.Dealing.{dealing, Dealing, deals, less_claims}
 use Rattle.aom_sound.proofs.Items.{length_forms}
 use Rattle.aom_sound.proofs.Leaving.{leave_is_met, leave_keeps, trap_is_there}
@@ -32,8 +32,8 @@ use Rattle.aom_sound.specs.Claims.{Form, Layer, Method, Object_form, Operation_f
 use Rattle.aom_sound.specs.Cleanup.{leave_needs, no_memory, pushed_cells, top_place, tops_entry, tops_object, tops_operation}
 use Rattle.aom_sound.specs.Laws.{IsWired}
 use Rattle.aom_sound.specs.Moves.{does, needs}
-use Rattle.aom_sound.specs.Objects.{is_no_message, no_words}
-use Rattle.aom_sound.specs.Places.{Cell, Entry, Object, Place, Sight, changed, held, moved, same_place, seen, with_new}
+use Rattle.aom_sound.specs.Objects.{is_no_message}
+use Rattle.aom_sound.specs.Places.{Cell, Entry, Object, Place, Sight, changed, held, moved, same_place, seen}
 use Rattle.aom_sound.specs.State.{An_object, An_operation, Choice, Frame, Item, Run, State, Static, next, set_word}
 use Rattle.aom_sound.specs.WellTyped.{AllUndo, Awaits, Fits, Gone, IsUndo, Returns, Stack, WellTyped}
 use Rattle.aom_sound.specs.Effects.{Made, Pushed as Object_pushed, Pushed_operation as Operation_pushed, Same, applied, sets, unless_refused, updates}
@@ -43,16 +43,13 @@ use Rattle.aom_instructions.specs.declared.instr.Instr.{Instr}
 -- ---- kinds of objects that may be pushed
 
 entry_again : (k : Kind) → owns_object k ≡ true → entry_kind (entry_of k) ≡ k
-entry_again (Own (An_object_of c) a) e = refl
-entry_again _ e = cc
+entry_again x e = grind arith
 
 object_again : (k : Kind) → owns_object k ≡ true → entry_form (entry_of k) ≡ Object_form
-object_again (Own (An_object_of c) a) e = refl
-object_again _ e = cc
+object_again x e = grind arith
 
 owned_or_null : (k : Kind) → owns_object k ≡ true → is_object_or_null k ≡ true
-owned_or_null (Own t a) e = refl
-owned_or_null _ e = cc
+owned_or_null x e = grind arith
 
 -- such a place holds an object, and no message
 owned_met : (p : Image) (h : Sight) (o : Option Object) (k : Kind) → owns_object k ≡ true → Fits p h o k → (is_some o ≡ true) × (is_no_message o ≡ true)
@@ -332,18 +329,8 @@ module _ (p : Image) (t : Typing) (c : Choice) (s : State) (fr : Frame) (sh : Sh
       k : Kind
       k = Own (An_object_of x) (new_age p x)
 
-      fr' : Frame
-      fr' = next (set_word fr a None)
-
       free : held s.cells (top ls a) ≡ None
       free = free_register p t c s fr sh ls at_hand a n.0
-
-      cells : List Cell
-      cells = with_new c.name (An_object_of x) (no_words p x) (top ls a) s.cells
-
-      makes : Fitted p t cells fr' (set_register sh a k) ls
-      makes = create p t s.cells fr sh ls c.name (An_object_of x) (no_words p x) a k g unused free
-          (λ h nf u. (stands_itself p (An_object_of x), age_fits p t c s fr sh ls at_hand h (new_age p x) (record { name = c.name; thing = An_object_of x }) nf u)) refl
 
       needed : (b : Bool) → AllTrue (cond b (leave_needs s.cells (Run fr ∷ tasks_of ls)) [])
       needed true = leave_is_met p t s.cells fr fr sh ls g n.1.1.0 n.1.1.1.0
@@ -351,7 +338,7 @@ module _ (p : Image) (t : Typing) (c : Choice) (s : State) (fr : Frame) (sh : Sh
 
       goes : (b : Bool) → WellTyped p t (applied p fr (tasks_of ls) s (unless_refused b Same (sets fr a None (Made c.name x a))))
       goes true = leave_keeps p t wired s no_memory fr sh ls at_hand.items at_hand.undos g n.1.1.0 n.1.1.1.0 n.1.1.1.1.0 n.1.1.1.1.1.0
-      goes false = well p t c s fr sh ls at_hand _ fr' (set_register sh a k) refl at_hand.items at_hand.undos (settle p t cells fr' (set_register sh a k) ls makes leads.0)
+      goes false = made_well p t c s fr sh ls at_hand a x k free unused (λ h age. (stands_itself p (An_object_of x), age)) refl leads.0
 
   -- each instruction of this file by its law
   abbrev pub of_entries : IsWired p → IsTyped p t → IsUnused p t c s fr sh ls at_hand → (i : Instr) → instr_at p fr.method fr.place ≡ Some i → Option (Law p t c s fr sh ls at_hand i)

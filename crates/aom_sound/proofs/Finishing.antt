@@ -10,15 +10,14 @@ use Rattle.aom_image.specs.declared.method.Gives.TheVariants.{Left, Maybe as A_m
 use Rattle.aom_image.specs.declared.method.Thing.{Thing}
 use Rattle.aom_image.specs.declared.method.Thing.TheVariants.{Object as An_object_of}
 use Rattle.aom_rules.specs.Calls.{entries_done, fields_done, is_destructor, leaves_one, result_moved, rule_ended, rule_left, rule_result}
-use Rattle.aom_shape.specs.Kinds.{is_here, is_own_for, field, filled, is_ready_kind, is_unowning, no_entry, none_owns, register, set_register}
+use Rattle.aom_shape.specs.Kinds.{is_here, field, filled, is_unowning, no_entry, none_owns, register, set_register}
 use Rattle.aom_shape.specs.Needs.{AllTrue, only_if}
 use Rattle.aom_rules.specs.Rules.{rule_needs}
 use Rattle.aom_shape.specs.Shape.{Shape}
 use Rattle.aom_shape.specs.Tables.{at}
 use Rattle.aom_shape.specs.Things.{Program, field_thing, holder_of}
 use Rattle.aom_rules.specs.Typing.{Typing}
-use Rattle.aom_shape.specs.declared.kind.Age.{Age}
-use Rattle.aom_shape.specs.declared.kind.Age.TheVariants.{Fresh, Ready}
+use Rattle.aom_shape.specs.declared.kind.Age.TheVariants.{Ready}
 use Rattle.aom_shape.specs.declared.kind.Entry.{Entry as Pushed}
 use Rattle.aom_shape.specs.declared.kind.Entry.TheVariants.{Object as Pushed_object}
 use Rattle.aom_shape.specs.declared.kind.Filling.{Filling}
@@ -29,7 +28,6 @@ use Rattle.aom_sound.proofs.Claimed.{claim_register_above, claim_unclaimed}
 use Rattle.aom_sound.proofs.Destroying.{eqb_comm}
 use Rattle.aom_sound.proofs.Items.{length_forms}
 use Rattle.aom_sound.proofs.Maps.{at-put_at, front_free}
-use Rattle.aom_sound.proofs.Things.{stands_same}
 use Rattle.aom_sound.proofs.Straight.{At, fits_unowning, free_register, top}
 use Rattle.aom_sound.specs.Calls.{end_needs, is_level, is_register_but, leaves_object, none_owns_but, result_needs, result_source, returned}
 use Rattle.aom_sound.specs.Claims.{serves, delivered, Dispatching, Dying, Layer, Mark, Method, Object_form, Unwinding, claim, declared, declared_field, entry_claim, forms, home_claim, items_of, objects, root_claim, tasks_of, Ending}
@@ -46,7 +44,7 @@ use Rattle.std.specs.Ordering.{int_eq}
 use Rattle.aom_sound.specs.Requests.{Known, Suits, known_at, states_claim, thing_kind, works_at}
 use Rattle.aom_sound.proofs.Suiting.{completed}
 use Rattle.aom_shape.specs.declared.kind.Delivery.{Delivery}
-use Rattle.aom_shape.specs.declared.kind.Delivery.TheVariants.{Here, Gone}
+use Rattle.aom_shape.specs.declared.kind.Delivery.TheVariants.{Gone}
 
 pub none_owns_at : (ks : List Kind) (i : ℕ) → none_owns ks ≡ true → is_unowning (at Unset ks i) ≡ true
 none_owns_at [] i e = refl
@@ -54,8 +52,7 @@ none_owns_at (k ∷ ks) zero e = (and_parts _ _ e).0
 none_owns_at (k ∷ ks) (suc i) e = none_owns_at ks i (and_parts _ _ e).1
 
 pub no_entries : (es : List Pushed) → no_entry es ≡ true → es ≡ []
-no_entries [] e = refl
-no_entries (x ∷ es) e = cc
+no_entries x e = grind arith
 
 -- needs in two parts
 pub all_parts : {W : Type 0} (xs ys : List (Bool × W)) → AllTrue (xs ++ ys) → AllTrue xs × AllTrue ys
@@ -111,9 +108,7 @@ claim_root p d [] u = refl
 claim_root p d (Method fr sh ∷ ls) u = go fr.home u.0 ∙ claim_root p d ls u.1
   where
     go : (h : Home) → NotAtRoot h → root_claim p h sh (claim p d ls (Elsewhere Root)) ≡ claim p d ls (Elsewhere Root)
-    go Static n = refl
-    go AtRoot n = absurd n
-    go (Inside o from) n = refl
+    go x n = grind arith
 claim_root p d (Mark gv ∷ ls) u = claim_root p d ls u
 claim_root p d (Dying o ∷ ls) u = claim_root p d ls u
 claim_root p d (Ending o left ∷ ls) u = claim_root p d ls u
@@ -188,8 +183,7 @@ pub message_gone : (p : Image) (fr : Frame) (sh : Shape) (a : ℕ) → Returnabl
 message_gone p fr sh a r serving = go sh.delivery (ap (λ b. only_if b (not (is_here sh.delivery))) (sym serving) ∙ r.message)
   where
     go : (d : Delivery) → not (is_here d) ≡ true → d ≡ Gone
-    go Here e = cc
-    go Gone e = refl
+    go x e = grind arith
 
 -- a method that gives nothing leaves no entry
 pub none_left : (p : Image) (fr : Frame) (sh : Shape) (a : ℕ) → gives_of p fr.method ≡ Nothing → Returnable p fr sh a → no_entry sh.entries ≡ true
@@ -197,15 +191,7 @@ none_left p fr sh a nothing r = ap (λ g. entries_done p g sh.entries) (sym noth
 
 -- one that leaves an object leaves it alone
 pub left_alone : (p : Image) (x : ℕ) (es : List Pushed) → leaves_one p x es ≡ true → es ≡ Pushed_object x Ready ∷ []
-left_alone p x (Pushed_object y a ∷ es) e =
-    let owned = and_parts (is_own_for p (An_object_of x) (Own (An_object_of y) a)) (is_ready_kind (Own (An_object_of y) a) && no_entry es) e in
-    let ready = and_parts (is_ready_kind (Own (An_object_of y) a)) (no_entry es) owned.1 in
-    ap (λ z. z ∷ es) (one_class a (stands_same p (An_object_of y) (An_object_of x) owned.0) ready.0) ∙ ap (λ zs. Pushed_object x Ready ∷ zs) (no_entries es ready.1)
-  where
-    one_class : (a : Age) → An_object_of y ≡ An_object_of x → is_ready_kind (Own (An_object_of y) a) ≡ true → Pushed_object y a ≡ Pushed_object x Ready
-    one_class Fresh f e = cc
-    one_class Ready f e = cc
-left_alone p x _ e = cc
+left_alone p x y e = grind arith
 
 module _ (p : Image) (t : Typing) (c : Choice) (s : State) (fr : Frame) (sh : Shape) (ls : List Layer) (at_hand : At p t s fr sh ls) where
   -- the cleanup stack is as it was
@@ -230,8 +216,7 @@ module _ (p : Image) (t : Typing) (c : Choice) (s : State) (fr : Frame) (sh : Sh
   one_left x e = go s.items (at_hand.items ∙ ap (λ es. objects es (items_of ls)) (left_alone p x sh.entries e))
     where
       there : (o : Option Object) → Fits p (seen s.cells) o (Own (An_object_of x) Ready) → (is_some o && is_thing p (An_object_of x) o) ≡ true
-      there None f = absurd f
-      there (Some o) f = f.0
+      there x f = grind arith
 
       go : (items : List Item) → forms items ≡ Object_form ∷ items_of ls → leaves_object p fr (tasks_of ls) s x items ≡ true
       go (An_object ∷ items) f =

@@ -1,5 +1,5 @@
 -- Each instruction may have its effect, and the registers that the effect names are among those of a method.
-use Rattle.std.proofs.Common.{Bool, List, None, Option, Some, [], ap, cond, false, inl, inr, length, refl, subst, suc, sym, true, zero, ℕ, ℤ, negsuc, pos, arith, ◌+◌, ◌-◌, ◌∙◌, ◌∷◌, ◌≡◌, ◌≤◌}
+use Rattle.std.proofs.Common.{Bool, List, None, Option, Some, [], ap, cond, false, inl, inr, length, refl, subst, suc, sym, true, zero, ℕ, ℤ, negsuc, arith, ◌+◌, ◌-◌, ◌∙◌, ◌∷◌, ◌≡◌, ◌≤◌}
 use Rattle.std.proofs.lemmas.Bool.{leb-true}
 use Rattle.std.specs.Ordering.{int_eq}
 use Rattle.std.specs.Prelude.{int_lt, is_some}
@@ -17,7 +17,7 @@ use Rattle.aom_shape.specs.Needs.{AllTrue}
 use Rattle.aom_sound.proofs.Finishing.{all_parts}
 use Rattle.aom_sound.specs.Calls.{below_top, needs_entering, needs_target}
 use Rattle.aom_sound.specs.Cleanup.{has_trap, is_negative, leave_needs, no_memory, top_is_whole, top_place, tops_entry, tops_object, tops_operation}
-use Rattle.aom_sound.specs.Effects.{The_message, Calls, Cancels, Carried, Destroys, Destroys_last, Effect, Goes_on, In_field, In_register, Leaves, Made, Operates, Popped, Pushed, Pushed_operation, Same, Sets_trap, Spot, Update, cancels_if, deals, deletes, effect, jumps_if, jumps_unless, makes_unless, round, sets, updates}
+use Rattle.aom_sound.specs.Effects.{The_message, Calls, Cancels, Carried, Destroys, Destroys_last, Effect, Goes_on, In_field, In_register, Leaves, Made, Operates, Popped, Pushed, Pushed_operation, Same, Sets_trap, Spot, Update, cancels_if, deals, deletes, effect, jumps_if, jumps_unless, makes_unless, round, sets}
 use Rattle.aom_sound.specs.Enlisted.{cancel_method, in_phase, is_active, is_busy, own_request}
 use Rattle.aom_sound.specs.Leaves.{LeavesWith}
 use Rattle.aom_sound.specs.Moves.{needs}
@@ -28,13 +28,11 @@ use Rattle.aom_sound.specs.Words.{here, read, word_or_zero}
 
 -- the word that a register has
 read_word : (o : Option ℤ) → is_some o ≡ true → o ≡ Some (word_or_zero o)
-read_word None e = cc
-read_word (Some w) e = refl
+read_word x e = grind arith
 
 -- the last item, by what is asked of it
 object_on_top : (items : List Item) → tops_object items ≡ true → items ≡ An_object ∷ below_top items
-object_on_top (An_object ∷ items) e = refl
-object_on_top _ e = cc
+object_on_top x e = grind arith
 
 operation_on_top : (items : List Item) → tops_operation items ≡ true → (m : ℕ) × (w : ℤ) × (items ≡ An_operation m w ∷ below_top items)
 operation_on_top (An_operation m w ∷ items) e = (m, w, refl)
@@ -93,8 +91,7 @@ module _ (p : Image) (c : Choice) (fr : Frame) (ts : List Task) (s : State) wher
 
   -- where it leaves, it may
   may_leave : (b : Bool) (cs : List Cell) → AllTrue (cond b (leave_needs cs (Run fr ∷ ts)) []) → b ≡ true → has_trap ts ≡ true
-  may_leave true cs n e = n.0
-  may_leave false cs n e = cc
+  may_leave x cs n e = grind arith
 
   dealing :
       (items : List Item) (o : Option Object) → s.items ≡ items → held s.cells (top_place items) ≡ o → tops_entry items ≡ true → top_is_whole s.cells items ≡ true →
@@ -158,22 +155,14 @@ module _ (p : Image) (c : Choice) (fr : Frame) (ts : List Task) (s : State) wher
   off_of _ = Same
 
   taken : (b : Bool) (off on : Effect) → b ≡ true → cond b off on ≡ off
-  taken true off on e = refl
-  taken false off on e = cc
+  taken x off on e = grind arith
 
   refused : (code : ℤ) (off : Update) (on : Effect) → (c.refused ≡ true) × (code ≡ negsuc 3) → cond c.refused (Leaves no_memory off) on ≡ Leaves code off
   refused code off on h = taken c.refused (Leaves no_memory off) on h.0 ∙ ap (λ k. Leaves k off) (sym h.1)
 
   -- an instruction that leaves with a code has that effect
   pub leaves_so : (i : Instr) (code : ℤ) → LeavesWith c fr i code → effect p c fr ts s i ≡ Leaves code (off_of i)
-  leaves_so (Leave a) code h = ap (λ x. Leaves (word_or_zero x) Same) h
-  leaves_so (LeaveIf a) code h =
-      ap (λ x. cond (is_negative p c fr ts s (word_or_zero x)) (Leaves (word_or_zero x) Same) (updates fr Same)) h.0
-      ∙ taken (int_lt code (pos 0)) (Leaves code Same) (updates fr Same) h.1
-  leaves_so (NewOrLeave a x) code h = refused code Same (sets fr a None (Made c.name x a)) h
-  leaves_so (Push a) code h = refused code (Pushed a) (sets fr a None (Pushed a)) h
-  leaves_so (PushOperation a m) code h = refused code (Pushed_operation m (read fr ts s a)) (updates fr (Pushed_operation m (read fr ts s a))) h
-  leaves_so _ code h = absurd h
+  leaves_so x code h = grind arith
 
   -- no loop begins at an instruction that calls or leaves, or lets an object or an operation go
   abbrev pub StraightBy : Instr → Effect → Type 0
@@ -188,8 +177,7 @@ module _ (p : Image) (c : Choice) (fr : Frame) (ts : List Task) (s : State) wher
 
   leaver_straight : (i : Instr) (code : ℤ) → LeavesWith c fr i code → IsStraight i
   unfolding loop_in
-  leaver_straight (Loop depth rounds) code h = absurd h
-  leaver_straight _ code h = refl
+  leaver_straight x code h = grind arith
 
   pub straight_by : (i : Instr) (e : Effect) → Fits p c fr ts s i e → StraightBy i e
   unfolding loop_in

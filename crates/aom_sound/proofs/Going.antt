@@ -1,5 +1,5 @@
 -- A cell goes.
-use Rattle.std.proofs.Common.{Bool, IsTrue, List, None, Option, Some, [], ap, arith, cond, false, length, refl, subst, sym, true, ℕ, ◌&&◌, ◌==◌, ◌∙◌, ◌∷◌, ◌≡◌}
+use Rattle.std.proofs.Common.{Bool, List, None, Option, Some, [], ap, arith, cond, false, length, refl, subst, sym, true, ℕ, ◌&&◌, ◌==◌, ◌∙◌, ◌∷◌, ◌≡◌}
 use Rattle.std.proofs.lemmas.Bool.{and_from, eq-eqb, eqb-true, ne_eqb, true≢false}
 use Rattle.std.specs.Prelude.{not}
 use Rattle.aom_image.specs.Image.{Image}
@@ -14,15 +14,12 @@ use Rattle.aom_sound.proofs.Maps.{cond_same, same_place_refl, front_free, held_w
 use Rattle.aom_sound.proofs.Straight.{Fitted, fits_unowning, settle}
 use Rattle.aom_sound.specs.Claims.{Ending, Dispatching, Dying, Layer, Mark, Method, Unwinding, claim, declared, declared_field, forms, items_of, objects, tasks_of}
 use Rattle.aom_sound.specs.Destruction.{gone, is_at_rest, is_field_of, owns_nothing}
-use Rattle.aom_sound.specs.Enlisted.{is_idle}
-use Rattle.aom_sound.specs.Places.{Session, Queued, service_of, Cell, Elsewhere, Field, Going, Idle, Object, Phase, Place, Request, Tidy, held, named, requested, same_place, seen, without}
+use Rattle.aom_sound.specs.Places.{Session, Queued, service_of, Cell, Elsewhere, Field, Going, Object, Place, Request, Tidy, held, named, requested, same_place, seen, without}
 use Rattle.aom_sound.specs.State.{Of_server, Parts, Seat, ActiveDestroyed, AtRoot, Home, Inside, IsStuck, Of_root, Orphan, State, Static, guarded, next, resumed}
 use Rattle.aom_sound.specs.WellTyped.{IsOverDying, SitsFirst, NoSeatAt, seat_of, AllUndo, Back, Caught, Fits, Gone, Good, Holds, IsHoused, Keeps, Leaves, Now, Returns, Stack, WellTyped}
-use Rattle.aom_sound.specs.Requests.{AllSuit, Suits, phase_state, resting_in, states_claim, thing_kind}
-use Rattle.aom_roles.specs.States.{last_of, server_states}
-use Rattle.aom_image.specs.Views.{has}
+use Rattle.aom_sound.specs.Requests.{AllSuit, Suits, resting_in, states_claim, thing_kind}
+use Rattle.aom_roles.specs.States.{last_of}
 use Rattle.aom_image.specs.declared.class.ClassKind.{ClassKind}
-use Rattle.aom_image.specs.declared.class.ClassKind.TheVariants.{Active as An_active, Server as A_server}
 use Rattle.aom_sound.specs.Servers.{has_session, has_message, session_thing, message_thing, is_queue_of, without_queue}
 use Rattle.aom_sound.specs.Clients.{each_unslotted, queue_ended, sessions_ended}
 use Rattle.aom_sound.proofs.Dropping.{dropped, held_dropped, queue_dropped, queued_claim, waits_message, is_sent, stack_dropped, tidy_dropped, fits_dropped, declared_dropped, suits_dropped, stays_same}
@@ -58,14 +55,10 @@ module _ (p : Image) (t : Typing) (cs : List Cell) (g : Place) (o : Object) (tid
 
   -- the server that goes above a layer is another cell
   ending_other : (x : Object) (ls : List Layer) → Outside g ls → IsOverDying x ls → Stack p t cs Now ls → (o.name == x.name) ≡ false
-  ending_other x (Dying y ∷ ls) out same s =
-      ne_eqb o.name x.name
-      (λ e. true≢false (sym (eq-eqb y.name o.name (ap (λ (z : Object). z.name) same ∙ sym e)) ∙ other_name p t cs g o tidy there (Going (length (tasks_of ls))) y s.0.1 (going_differs g y ls out)))
-  ending_other x _ out same s = absurd same
+  ending_other x y out same s = grind (arith, ne_eqb, eq-eqb, other_name, going_differs)
 
   first_apart : (xs : List Seat) (y : Seat) → SitsFirst cs (Some y) xs → NoSeatAt g xs → same_place g y.place ≡ false
-  first_apart (z ∷ xs) y f none = let same : z ≡ y = cc in subst (λ (z : Seat). same_place g z.place ≡ false) same none.0
-  first_apart [] y f none = cc
+  first_apart x y f none = grind arith
 
   pub stack_without : (ls : List Layer) (back : Back) → Outside g ls → ((from : Place) → NoFieldHere g from) → Stack p t cs back ls → Stack p t (without g cs) back ls
   stack_without [] back out plain s = s
@@ -122,10 +115,7 @@ module _ (p : Image) (t : Typing) (cs : List Cell) (o : Object) (ls : List Layer
   nothing_left = nothing_in (without_queue o.name cs) o.name (λ r e. ap (λ l. held l r) (queue_dropped o.name cs) ∙ held_dropped (is_queue_of o.name) cs r ∙ none r e)
     where
       none : (r : Place) → is_field_of o.name r ≡ true → cond (is_queue_of o.name r) None (held cs r) ≡ None
-      none (Field m f) e = ap (λ n. held cs (Field n f)) (sym (eqb-true o.name m e)) ∙ no_fields f
-      none (Elsewhere (Session m c)) e = ap (λ n. held cs (Elsewhere (Session n c))) (sym (eqb-true o.name m e)) ∙ no_sessions c
-      none (Elsewhere (Queued m k)) e = ap (λ b. cond b None (held cs (Elsewhere (Queued m k)))) (eq-eqb m o.name (sym (eqb-true o.name m e)))
-      none _ e = cc
+      none x e = grind arith
 
 -- once nothing waits in its queue
 module _ (p : Image) (t : Typing) (cs : List Cell) (o : Object) (ls : List Layer) (stack : Stack p t cs Now (Dying o ∷ ls)) (tidy : Tidy cs) (suits : AllSuit p cs (Dying o ∷ ls))
@@ -282,18 +272,7 @@ goes_on p t s _ stack fits suits tidy tasks items undos = absurd stack.0
 -- what is about to go is at rest
 dying_rests : (k : Option ClassKind) (r : Option Request) → Suits k (resting_in (last_of k)) r → is_at_rest r ≡ true
 unfolding last_of
-dying_rests k None s = refl
-dying_rests (Some (An_active v b)) (Some r) s = phase r.phase s.0
-  where
-    phase : (q : Phase) → IsTrue (has server_states (phase_state q)) → is_idle q ≡ true
-    phase Idle h = refl
-    phase _ h = cc
-dying_rests (Some (A_server most x b)) (Some r) s = phase r.phase s.1
-  where
-    phase : (q : Phase) → IsTrue (has server_states (phase_state q)) → is_idle q ≡ true
-    phase Idle h = refl
-    phase _ h = cc
-dying_rests _ (Some r) s = cc
+dying_rests k x s = grind arith
 
 rests_as_it_goes : (p : Image) (t : Typing) (cs : List Cell) (o : Object) (ls : List Layer) → Good p t cs (Dying o ∷ ls) → is_at_rest (requested cs o.name) ≡ true
 rests_as_it_goes p t cs o ls good =
@@ -307,14 +286,10 @@ module _ (p : Image) (t : Typing) (s : State) (o : Object) (ls : List Layer) (go
   waits = is_queue_of o.name
 
   waits_sent : (r : Place) → is_queue_of o.name r ≡ true → is_sent r ≡ true
-  waits_sent (Elsewhere (Queued n m)) e = refl
-  waits_sent _ e = cc
+  waits_sent x e = grind arith
 
   waits_messages : (r : Place) (x : Object) → is_queue_of o.name r ≡ true → held s.cells r ≡ Some x → x.thing ≡ Message
-  waits_messages (Elsewhere (Queued n m)) x e there =
-      waits_message p (seen s.cells) x (has_message (service_of s.cells n) m) (named s.cells n)
-      (subst (λ k. Fits p (seen s.cells) (Some x) k) (queued_claim p (declared p s.cells) (Dying o ∷ ls) n m) (subst (λ y. Fits p (seen s.cells) y (claim p (declared p s.cells) (Dying o ∷ ls) (Elsewhere (Queued n m)))) there (good.fits (Elsewhere (Queued n m)))))
-  waits_messages _ x e there = cc
+  waits_messages r x e there = grind (arith, waits_message, queued_claim)
 
   abbrev less : List Cell
   less = dropped waits s.cells

@@ -1,14 +1,18 @@
 -- A move that goes on has met its needs, and goes where it says.
-use Rattle.std.proofs.Common.{List, [], cond, ◌∷◌, ◌≡◌}
+use Rattle.std.proofs.Common.{List, None, Option, Some, [], cond, refl, subst, ◌∷◌, ◌≡◌}
 use Rattle.aom_image.proofs.Given.{true_given}
+use Rattle.aom_image.specs.Image.{Image}
+use Rattle.aom_image.specs.Views.{instr_at}
+use Rattle.aom_instructions.specs.declared.instr.Instr.{Instr}
 use Rattle.aom_shape.specs.Needs.{AllTrue}
-use Rattle.aom_sound.specs.State.{Goes, IsStuck, Need, State, guarded}
+use Rattle.aom_sound.specs.Moves.{counted, does, needs, step, step_instr, step_task}
+use Rattle.aom_sound.specs.State.{Choice, Frame, Goes, IsStuck, Need, Outcome, Run, State, Stuck, Task, guarded}
 
 pub goes_same : (s u : State) → Goes s ≡ Goes u → s ≡ u
 goes_same s u e = cc
 
 pub guarded_goes : (needs : List Need) (s u : State) → guarded needs s ≡ Goes u → s ≡ u
-guarded_goes [] s u e = cc
+guarded_goes [] s u e = goes_same s u e
 guarded_goes (need ∷ needs) s u e =
     let rest : (guarded needs s ≡ Goes u → s ≡ u) = guarded_goes needs s u in
     true_given (λ b. cond b (guarded needs s) (IsStuck need.1) ≡ Goes u) need.0 e (λ e. cc) (λ _ e. rest e)
@@ -18,3 +22,17 @@ guarded_met [] s u e = tt
 guarded_met (need ∷ list) s u e =
     let rest : (guarded list s ≡ Goes u → AllTrue list) = guarded_met list s u in
     true_given (λ b. cond b (guarded list s) (IsStuck need.1) ≡ Goes u) need.0 e (λ e. cc) (λ h e. (h, rest e))
+
+-- the instruction at hand as a step goes on has met its needs, and does what it does
+pub acts_at :
+    (p : Image) (c : Choice) (s u : State) (fr : Frame) (ts : List Task) (i : Instr) → s.tasks ≡ Run fr ∷ ts → instr_at p fr.method fr.place ≡ Some i → step p c s ≡ Goes u →
+    AllTrue (needs p c fr ts (counted p s) i) × (does p c fr ts (counted p s) i ≡ u)
+acts_at p c s u fr ts i at there e =
+    let v = counted p s in
+    let goes : step_instr p c fr ts v (Some i) ≡ Goes u = subst (λ o. step_instr p c fr ts v o ≡ Goes u) there (subst (λ l. step_task p c v l ≡ Goes u) at e) in
+    (guarded_met (needs p c fr ts v i) (does p c fr ts v i) u goes, guarded_goes (needs p c fr ts v i) (does p c fr ts v i) u goes)
+
+-- where nothing is stuck, the option has something
+pub goes_some : {A : Type 0} (o : Option A) (run : Option A → Outcome) (stuck : Stuck) (u : State) → run None ≡ IsStuck stuck → run o ≡ Goes u → (x : A) × (o ≡ Some x) × (run (Some x) ≡ Goes u)
+goes_some None run stuck u none e = cc
+goes_some (Some x) run stuck u none e = (x, refl, e)

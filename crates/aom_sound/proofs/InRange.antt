@@ -3,7 +3,7 @@ use Rattle.std.specs.Ordering.{int_eq}
 use Rattle.aom_image.specs.declared.method.Role.TheVariants.{Error}
 use Rattle.aom_sound.specs.World.{heard_one, taken_from, Heard, Outside, turn}
 use Rattle.aom_sound.proofs.Turned.{obeys, handles, accepts, attends, parts, completes, keeps_all, kills, picks, turns_so}
-use Rattle.std.proofs.Common.{Bool, List, None, Option, Some, [], arith, cond, false, length, refl, subst, suc, true, ℕ, ℤ, ◌+◌, ◌∷◌, ◌≡◌, ◌≤◌, pos}
+use Rattle.std.proofs.Common.{Bool, List, None, Option, Some, [], arith, cond, false, length, refl, subst, suc, true, ℕ, ℤ, ◌+◌, ◌∷◌, ◌≡◌, ◌≤◌, pos, sym}
 use Rattle.aom_image.specs.Image.{Image}
 use Rattle.aom_instructions.specs.Operands.{IsRegister}
 use Rattle.aom_image.specs.Views.{arguments_of, instr_at, method_role}
@@ -14,17 +14,19 @@ use Rattle.aom_image.specs.declared.method.Argument.TheVariants.{Own as Takes_ow
 use Rattle.aom_image.specs.declared.method.Gives.{Gives}
 use Rattle.aom_image.specs.declared.method.Gives.TheVariants.{Left, Maybe as A_maybe, Nothing, Own as An_own, Word as A_word}
 use Rattle.aom_sound.proofs.Fitting.{EffectFits, SpotFits, UpdateFits, fits}
-use Rattle.aom_sound.proofs.Guarded.{goes_same, guarded_goes, guarded_met}
+use Rattle.aom_sound.proofs.Moving.{steps_are_moves}
+use Rattle.aom_sound.specs.Steps.{Acts, Arrives, Clears, Comes_out, Empties, Ends, Move, Rests, Undoes, Vanishes}
+use Rattle.aom_sound.proofs.Guarded.{acts_at}
 use Rattle.aom_sound.specs.Calls.{accepted_cells, passed_cells, result_cells, result_register, returned}
-use Rattle.aom_sound.specs.Cleanup.{arrived, dealt_with, destroyed, top_is_whole, top_place, unwound}
-use Rattle.aom_sound.specs.Destruction.{vanished, parting, parting_from, first_session, closing, gone, needs_gone}
+use Rattle.aom_sound.specs.Cleanup.{dealt_with, destroyed, top_place}
+use Rattle.aom_sound.specs.Destruction.{parting, first_session}
 use Rattle.aom_sound.specs.Effects.{Replied, The_message, Calls, Cancels, Carried, Destroys, Destroys_last, Effect, Goes_on, In_field, In_register, Leaves, Made, Popped, Pushed, Requested, Returns, Sets_trap, Spot, Update, Written, applied, cells_after, effect, spot_place, Sessioned}
 use Rattle.aom_sound.specs.Enlisted.{cancelled, cancelling, ended_cells, on_request, own_request, rerequested, part_of}
 use Rattle.aom_sound.specs.Laws.{IsWired, RegistersKeep}
-use Rattle.aom_sound.specs.Moves.{needs_end, counted, dispatch_ends, does, main_ends, needs, step, step_instr, step_task, answered, asking, failed, handled, object_ends}
-use Rattle.aom_sound.specs.Places.{Service, set_service, Session, In_service, Queued, service_of, Cell, Elsewhere, Entry, Going, Object, Place, Register, Request, Root, held, moved, same_place, set_request, set_word_field, without, set_session}
+use Rattle.aom_sound.specs.Moves.{counted, dispatch_ends, main_ends, step, answered, asking, failed, handled, object_ends}
+use Rattle.aom_sound.specs.Places.{Service, set_service, Session, In_service, Queued, Cell, Elsewhere, Entry, Going, Object, Place, Register, Request, Root, held, moved, same_place, set_request, set_word_field, without, set_session, service_of}
 use Rattle.aom_sound.specs.Registers.{AllInRange, IsInRange}
-use Rattle.aom_sound.specs.State.{Seat, Of_server, Accepts, Service_left, Parts, Closing, A_mark, An_object, An_operation, AtRoot, Choice, Destroy, Dispatch, Dispatched, Frame, Goes, Home, Inside, IsStuck, Item, NullOrDead, Of_main, Run, State, Static, Task, Trapped, Unwind, field_place, Answered, Asks, Object_left, Of_object}
+use Rattle.aom_sound.specs.State.{Seat, Of_server, Accepts, Service_left, Parts, A_mark, An_object, An_operation, AtRoot, Choice, Dispatch, Dispatched, Frame, Goes, Home, Inside, Item, Of_main, Run, State, Static, Task, Trapped, field_place, Answered, Asks, Object_left, Of_object}
 use Rattle.aom_sound.specs.Words.{here, stored}
 use Rattle.aom_rules.specs.Requests.{is_cancel}
 use Rattle.aom_sound.specs.Natives.{all_bereaved, resessioned}
@@ -202,39 +204,10 @@ module _ (p : Image) (wired : IsWired p) (fr : Frame) (ts : List Task) (s : Stat
   apply_in_range (Destroys_last o) fits = move_in_range (top_place s.items) (Going (suc (length ts))) s.cells tt all
   apply_in_range _ fits = all
 
-arrive_in_range : (p : Image) (code : ℤ) (ts : List Task) (items : List Item) (s u : State) → AllInRange s.cells → arrived p code ts items s ≡ Goes u → AllInRange u.cells
-arrive_in_range p code (Trapped ∷ Run fr ∷ ts) items s u all e = subst (λ v. AllInRange v.cells) (goes_same _ u e) all
-arrive_in_range p code (Trapped ∷ Dispatched d ∷ ts) items s u all e = subst (λ v. AllInRange v.cells) (goes_same _ u e) all
-arrive_in_range p code _ items s u all e = cc
-
-unwind_in_range : (p : Image) (code : ℤ) (ts : List Task) (items : List Item) (s u : State) → AllInRange s.cells → unwound p code ts s items ≡ Goes u → AllInRange u.cells
-unwind_in_range p code ts [] s u all e = cc
-unwind_in_range p code ts (An_object ∷ items) s u all e = go (top_is_whole s.cells (An_object ∷ items)) e
-  where
-    go : (b : Bool) → cond b (Goes (dealt_with p (An_object ∷ items) (Unwind code ∷ ts) s)) (IsStuck NullOrDead) ≡ Goes u → AllInRange u.cells
-    go true e = subst (λ v. AllInRange v.cells) (goes_same _ u e) (deal_in_range p (An_object ∷ items) (Unwind code ∷ ts) s all)
-    go false e = cc
-unwind_in_range p code ts (An_operation m w ∷ items) s u all e = subst (λ v. AllInRange v.cells) (goes_same _ u e) all
-unwind_in_range p code ts (A_mark ∷ items) s u all e = arrive_in_range p code ts items s u all e
-
-go_in_range : (o : Option Object) (ts : List Task) (s u : State) → AllInRange s.cells → gone o ts s ≡ Goes u → AllInRange u.cells
-go_in_range None ts s u all e = cc
-go_in_range (Some o) ts s u all e =
-    subst (λ v. AllInRange v.cells) (guarded_goes (needs_gone (without_queue o.name s.cells) o) (vanished o ts s) u e)
-    (each_unslotted_in_range (service_of s.cells o.name).sessions (without (Going (length ts)) (without_queue o.name s.cells)) (end_in_range (Going (length ts)) (without_queue o.name s.cells) (dequeued_in_range o.name s.cells all)))
-
 -- a session goes before its server
 parting_in_range : (p : Image) (o : Object) (x : Option Seat) (below : List Task) (s : State) → AllInRange s.cells → AllInRange (parting p o x below s).cells
 parting_in_range p o None below s all = all
 parting_in_range p o (Some x) below s all = move_in_range x.place (Going (suc (suc (length below)))) s.cells tt all
-
-closing_in_range : (p : Image) (ts : List Task) (s u : State) → AllInRange s.cells → closing p ts s ≡ Goes u → AllInRange u.cells
-closing_in_range p (Destroy ∷ ts) s u all e = go (held s.cells (Going (length ts))) e
-  where
-    go : (o : Option Object) → parting_from p o ts s ≡ Goes u → AllInRange u.cells
-    go None e = cc
-    go (Some o) e = subst (λ v. AllInRange v.cells) (goes_same _ u e) (parting_in_range p o (first_session s.cells o.name (service_of s.cells o.name).sessions) ts s all)
-closing_in_range p _ s u all e = cc
 
 close_in_range : (p : Image) (s : State) (b : Bool) (root : Option Object) → AllInRange s.cells → AllInRange (main_ends p b root s).cells
 close_in_range p s true (Some o) all = move_in_range (Elsewhere Root) (Going 1) s.cells tt all
@@ -291,23 +264,27 @@ module _ (p : Image) (client : ℕ) (s : State) (all : AllInRange s.cells) where
   commands_in_range Die name = leaves_in_range _
 
 moves : (p : Image) → IsWired p → (c : Choice) (s u : State) → AllInRange s.cells → step p c s ≡ Goes u → AllInRange u.cells
-moves p wired c s u all e = go s.tasks e
+moves p wired c s u all e = of (steps_are_moves p c s u e)
   where
-    go : (ts : List Task) → step_task p c (counted p s) ts ≡ Goes u → AllInRange u.cells
-    go [] e = subst (λ v. AllInRange v.cells) (goes_same _ u e) all
-    go (Run fr ∷ ts) e = runs (instr_at p fr.method fr.place) refl e
-      where
-        runs : (i : Option Instr) → instr_at p fr.method fr.place ≡ i → step_instr p c fr ts (counted p s) i ≡ Goes u → AllInRange u.cells
-        runs None at e = cc
-        runs (Some i) at e =
-            let named = wired.operands fr.method fr.place i at in
-            subst (λ v. AllInRange v.cells) (guarded_goes (needs p c fr ts (counted p s) i) (does p c fr ts (counted p s) i) u e)
-            (apply_in_range p wired fr ts (counted p s) all (effect p c fr ts (counted p s) i) ((fits p c fr ts (counted p s) i (guarded_met (needs p c fr ts (counted p s) i) (does p c fr ts (counted p s) i) u e)).1 named.0 named.1))
-    go (Trapped ∷ ts) e = cc
-    go (Destroy ∷ ts) e = go_in_range (held s.cells (Going (length ts))) ts (counted p s) u all e
-    go (Closing ∷ ts) e = closing_in_range p ts (counted p s) u all e
-    go (Unwind code ∷ ts) e = unwind_in_range p code ts s.items (counted p s) u all e
-    go (Dispatched d ∷ ts) e = subst (λ v. AllInRange v.cells) (guarded_goes (needs_end d s.cells) _ u e) (dispatch_in_range p d (counted p s) all)
+    along : (v : State) → u ≡ v → AllInRange v.cells → AllInRange u.cells
+    along v same h = subst (λ v. AllInRange v.cells) (sym same) h
+
+    of : Move p c s u → AllInRange u.cells
+    of (Acts fr ts i x at there met may same) =
+        let a = acts_at p c s u fr ts i at there e in
+        let named = wired.operands fr.method fr.place i there in
+        along _ (sym a.1) (apply_in_range p wired fr ts (counted p s) all (effect p c fr ts (counted p s) i) ((fits p c fr ts (counted p s) i a.0).1 named.0 named.1))
+    of (Vanishes ts o at there none same) =
+        along _ same (each_unslotted_in_range (service_of s.cells o.name).sessions (without (Going (length ts)) (without_queue o.name s.cells))
+        (end_in_range (Going (length ts)) (without_queue o.name s.cells) (dequeued_in_range o.name s.cells all)))
+    of (Empties ts o at there same) = along _ same (parting_in_range p o (first_session s.cells o.name (service_of s.cells o.name).sessions) ts (counted p s) all)
+    of (Clears code ts items o at top there same) = along _ same (move_in_range (Entry (length items)) (Going (suc (length ts))) s.cells tt all)
+    of (Ends d ts at same) = along _ same (dispatch_in_range p d (counted p s) all)
+    -- the others change no cell
+    of (Rests still same) = along _ same all
+    of (Undoes code ts items m w at top same) = along _ same all
+    of (Arrives code fr ts items at top same) = along _ same all
+    of (Comes_out code d ts items at top same) = along _ same all
 
 turns : (p : Image) (outside : Outside) (heard : Heard) (s u : State) → AllInRange s.cells → turn p outside heard s ≡ Goes u → AllInRange u.cells
 turns p outside heard s u all e = elim (turns_so p outside heard s u e) as (λ v d. AllInRange v.cells) [

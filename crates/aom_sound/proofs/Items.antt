@@ -1,5 +1,5 @@
 -- What the layers know of the cleanup stack's items.
-use Rattle.std.proofs.Common.{Bool, List, [], ap, arith, cond, false, length, refl, suc, sym, true, zero, ℕ, ◌+◌, ◌-◌, ◌<◌, ◌==◌, ◌∙◌, ◌∷◌, ◌≡◌}
+use Rattle.std.proofs.Common.{Bool, List, [], ap, arith, cond, false, length, refl, subst, suc, sym, true, zero, ℕ, ◌+◌, ◌-◌, ◌<◌, ◌==◌, ◌∙◌, ◌∷◌, ◌≡◌}
 use Rattle.std.proofs.lemmas.Bool.{eq-eqb, eqb-true, ne_eqb}
 use Rattle.std.specs.Prelude.{is_some}
 use Rattle.aom_image.specs.Image.{Image}
@@ -10,9 +10,12 @@ use Rattle.aom_shape.specs.declared.kind.Entry.{Entry as Pushed}
 use Rattle.aom_shape.specs.declared.kind.Entry.TheVariants.{Object as Pushed_object, Operation as Pushed_operation}
 use Rattle.aom_shape.specs.declared.kind.Kind.{Kind}
 use Rattle.aom_sound.specs.Calls.{below_top, entry_at, is_no_operation, tops_mark}
-use Rattle.aom_sound.specs.Claims.{Form, Mark_form, entry_claim, entry_form, forms, objects}
-use Rattle.aom_sound.specs.State.{A_mark, An_object, An_operation, Item}
-use Rattle.aom_sound.specs.WellTyped.{AllUndo}
+use Rattle.aom_sound.specs.Claims.{Form, Layer, Mark_form, Method, entry_claim, entry_form, forms, items_of, objects, tasks_of}
+use Rattle.aom_sound.specs.State.{A_mark, An_object, An_operation, Frame, Item, Run, State}
+use Rattle.aom_sound.specs.WellTyped.{AllUndo, Good, WellTyped}
+use Rattle.aom_sound.specs.Places.{Cell}
+use Rattle.aom_shape.specs.Shape.{Shape}
+use Rattle.aom_rules.specs.Typing.{Typing}
 
 pub length_forms : (items : List Item) → length (forms items) ≡ length items
 length_forms [] = refl
@@ -20,13 +23,11 @@ length_forms (i ∷ items) = ap suc (length_forms items)
 
 -- below the last item
 pub forms_below : (items : List Item) (x : Form) (rest : List Form) → forms items ≡ x ∷ rest → forms (below_top items) ≡ rest
-forms_below [] x rest e = cc
-forms_below (i ∷ items) x rest e = cc
+forms_below y x rest e = grind arith
 
 -- a mark is the last item
 pub mark_on_top : (items : List Item) (rest : List Form) → forms items ≡ Mark_form ∷ rest → tops_mark items ≡ true
-mark_on_top (A_mark ∷ items) rest e = refl
-mark_on_top _ rest e = cc
+mark_on_top x rest e = grind arith
 
 pub undos_below : (p : Image) (items : List Item) → AllUndo p items → AllUndo p (below_top items)
 undos_below p (An_operation m w ∷ items) u = u.1
@@ -39,8 +40,7 @@ length_each (e ∷ es) below = omega (arith, length_each es below)
 
 -- the form of no entry is a mark's
 pub no_mark : (x : Pushed) → Mark_form ≡ entry_form x → ⊥
-no_mark (Pushed_object c a) e = cc
-no_mark Pushed_operation e = cc
+no_mark x e = grind arith
 
 -- an entry is among the items
 pub entry_there : (es : List Pushed) (below : List Form) (items : List Item) (k : ℕ) → forms items ≡ objects es below → k < length es → is_some (entry_at items k) ≡ true
@@ -114,3 +114,15 @@ readied_claim (x ∷ es) below (suc k) j rest lt =
     past true false f g = refl
     past false true f g = refl
     past false false f g = refl
+
+-- a method that begins with no entry over layers that are as they should be
+pub begins_well :
+    (p : Image) (t : Typing) (cs : List Cell) (fr : Frame) (sh : Shape) (over : List Layer) (s : State) → sh.entries ≡ [] → Good p t cs (Method fr sh ∷ over) →
+    s.cells ≡ cs → s.tasks ≡ Run fr ∷ tasks_of over → forms s.items ≡ items_of over → AllUndo p s.items → WellTyped p t s
+begins_well p t cs fr sh over s none good cells tasks items undos = record {
+  layers = Method fr sh ∷ over;
+  tasks = tasks;
+  items = items ∙ ap (λ es. objects es (items_of over)) (sym none);
+  undos = undos;
+  good = subst (λ cs. Good p t cs (Method fr sh ∷ over)) (sym cells) good;
+}

@@ -1,5 +1,5 @@
 -- The laws of jumps and loops.
-use Rattle.std.proofs.Common.{Bool, List, None, Option, Some, ap, cond, false, refl, subst, suc, sym, true, zero, ℕ, ℤ, ◌-◌, ◌==◌, ◌∙◌, ◌∷◌, ◌≡◌}
+use Rattle.std.proofs.Common.{Bool, List, None, Option, Some, ap, cond, false, refl, subst, suc, sym, true, zero, ℕ, ℤ, ◌-◌, ◌==◌, ◌∙◌, ◌∷◌, ◌≡◌, arith}
 use Rattle.std.proofs.lemmas.Bool.{eqb-true}
 use Rattle.std.specs.Prelude.{is_none, is_some}
 use Rattle.aom_image.specs.Image.{Image}
@@ -88,16 +88,14 @@ module _ (p : Image) (t : Typing) (c : Choice) (s : State) (fr : Frame) (sh : Sh
   holds_nothing (Some x) = tt
 
   holds_something : (x : Option Thing) (o : Object) → is_some x ≡ true → Fits p (seen s.cells) (Some o) (filled x Perhaps) → Fits p (seen s.cells) (Some o) (filled x Full)
-  holds_something None o some f = cc
-  holds_something (Some x) o some f = f
+  holds_something x o some f = grind arith
 
   pub not_empty : (x : Option Thing) (o : Object) → Fits p (seen s.cells) (Some o) (filled x Empty) → ⊥
   not_empty None o f = f
   not_empty (Some x) o f = f
 
   pub not_full : (x : Option Thing) → is_some x ≡ true → Fits p (seen s.cells) None (filled x Full) → ⊥
-  not_full None some f = cc
-  not_full (Some x) some f = f
+  not_full x some f = grind arith
 
   -- two flows: what the jump has learned of the field is claimed on each
   pub law_jump_empty : (f to : ℕ) → Law p t c s fr sh ls at_hand (JumpEmpty f to)

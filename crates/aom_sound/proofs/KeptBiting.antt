@@ -1,5 +1,5 @@
 -- What is kept of clients in closed states: by computation, and by the name of the server where all names are spoken of.
-use Rattle.std.proofs.Common.{Bool, List, None, Some, [], ap, arith, cond, false, refl, subst, sym, true, zero, suc, ℕ, ◌==◌, ◌∙◌, ◌∷◌, ◌≡◌, ◌≤◌, ◌<◌}
+use Rattle.std.proofs.Common.{Bool, List, None, Some, [], ap, arith, cond, false, refl, subst, sym, true, ℕ, ◌==◌, ◌∙◌, ◌∷◌, ◌≡◌, ◌≤◌, ◌<◌}
 use Rattle.std.proofs.lemmas.Bool.{eqb-true, true≢false}
 use Rattle.aom_clients.specs.Table.{server_of}
 use Rattle.aom_image.specs.Views.{class_at}
@@ -49,23 +49,13 @@ unserved_at n e f g =
 
 -- one number is another, where both tests say so
 both : (a b x y : ℕ) → (((a == x) && (b == y)) || false) ≡ true → (a ≡ x) × (b ≡ y)
-both a b x y e = go (a == x) (b == y) refl refl e
-  where
-    go : (c d : Bool) → (a == x) ≡ c → (b == y) ≡ d → ((c && d) || false) ≡ true → (a ≡ x) × (b ≡ y)
-    go true true f g e = (eqb-true a x f, eqb-true b y g)
-    go true false f g e = cc
-    go false d f g e = cc
+both a b x y e = grind (arith, eqb-true)
 
 one : (x : ℕ) → ((0 == x) || false) ≡ true → 0 ≡ x
-one x e = go (0 == x) refl e
-  where
-    go : (b : Bool) → (0 == x) ≡ b → (b || false) ≡ true → 0 ≡ x
-    go true f e = eqb-true 0 x f
-    go false f e = cc
+one x e = grind (arith, eqb-true)
 
 is_listed : (n c : ℕ) → server_of (client_at opened c) ≡ Some n → has_session (service_of cells n) c ≡ true
-is_listed n zero e = let same : 5 ≡ n = cc in subst (λ k. has_session (service_of cells k) 0 ≡ true) same refl
-is_listed n (suc c) e = cc
+is_listed n x e = grind arith
 
 has_its_own : (n c : ℕ) → has_session (service_of cells n) c ≡ true → server_of (client_at opened c) ≡ Some n
 has_its_own n c h = by_name (λ k. has_session (service_of cells k) c ≡ true → server_of (client_at opened c) ≡ Some k)
@@ -88,12 +78,7 @@ none_unlisted o there idle = by_name (λ n. requested cells n ≡ None → HasNo
     (λ n e f g h. subst (λ v. (v.queue ≡ []) × (v.sessions ≡ [])) (sym (unserved_at n e f g)) (refl, refl)) o.name idle
 
 stands_there : (n m : ℕ) (o : Object) → held cells (Elsewhere (Queued n m)) ≡ Some o → o.name ≡ m
-stands_there n m o e = go (5 == n) (7 == m) refl e
-  where
-    go : (b d : Bool) → (7 == m) ≡ d → cond (b && d) (Some (record { name = 7; thing = Message })) None ≡ Some o → o.name ≡ m
-    go true true f e = let same : record { name = 7; thing = Message } ≡ o = cc in ap (λ (y : Object). y.name) (sym same) ∙ eqb-true 7 m f
-    go true false f e = cc
-    go false d f e = cc
+stands_there n m o e = grind (arith, eqb-true)
 
 sent_so : (n c m : ℕ) → list_any (is_message_of c m) (service_of cells n).queue ≡ true → is_from c (service_of cells m).sender ≡ true
 sent_so n c m h = by_name (λ k. list_any (is_message_of c m) (service_of cells k).queue ≡ true → is_from c (service_of cells m).sender ≡ true)

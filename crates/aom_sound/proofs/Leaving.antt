@@ -20,16 +20,16 @@ use Rattle.aom_sound.specs.Claims.{Dispatching, Dying, Form, Layer, Mark, Method
 use Rattle.aom_sound.proofs.Attending.{served_claim}
 use Rattle.aom_shape.specs.Kinds.{is_here}
 use Rattle.aom_shape.specs.declared.kind.Delivery.{Delivery}
-use Rattle.aom_shape.specs.declared.kind.Delivery.TheVariants.{Gone, Here}
+use Rattle.aom_shape.specs.declared.kind.Delivery.TheVariants.{Here}
 use Rattle.aom_sound.specs.Cleanup.{above_trap_is_free, has_trap, is_negative, leave_needs, to_trap}
 use Rattle.aom_sound.specs.Places.{In_service, Cell, Elsewhere, Entry, Field, Object, Place, Register, Request, Root, Sight, held, named, requested, seen}
-use Rattle.aom_sound.specs.State.{Asks, AtRoot, Choice, Dispatch, Frame, Home, Inside, Run, State, Static, Unwind, next, Of_server, Accepts, Accepted, Accept_left, Serves, Service_left, Parts}
+use Rattle.aom_sound.specs.State.{AtRoot, Choice, Dispatch, Frame, Home, Inside, Run, State, Static, Unwind, next}
 use Rattle.aom_sound.specs.WellTyped.{HasMessage, AllUndo, EndsDispatch, Fits, IsApart, IsHoused, Leaves, Returns, Stack, WellTyped, past_going}
 use Rattle.aom_sound.specs.Effects.{Leaves, Same, applied, updates}
 use Rattle.aom_sound.specs.Words.{read}
 use Rattle.aom_rules.specs.Requests.{is_cancel, unissued}
 use Rattle.aom_sound.specs.Requests.{AllSuit, Joins, Known, Suits, Unworked, known_at, resting_in, rests_in, states_claim, thing_kind, works_at}
-use Rattle.aom_sound.proofs.Suiting.{known_plain, rejoins_trap, rests_there, rests_unissued, same_object, suits_rests}
+use Rattle.aom_sound.proofs.Suiting.{known_plain, rejoins_trap, rests_there, rests_unissued, suits_rests}
 use Rattle.aom_image.specs.declared.class.ClassKind.{ClassKind}
 use Rattle.aom_sound.specs.Laws.{IsWired}
 use Rattle.aom_image.specs.declared.method.Role.{Role}
@@ -79,14 +79,7 @@ join_claims p d code es fs ls _ = refl
 
 -- what lies under a method that may leave: neither the end of the run nor a dispatch's
 no_end : {A : Type 0} (p : Image) (d : Dispatch) (m : ℕ) (home : Home) → leaves p m ≡ true → EndsDispatch p d (Returns m home) → A
-no_end p (Asks x) m home may e = absurd (true≢false (sym may ∙ e.0))
-no_end p (Of_server x c Accepts) m home may e = absurd e
-no_end p (Of_server x c Accepted) m home may e = absurd e
-no_end p (Of_server x c (Accept_left code)) m home may e = absurd e
-no_end p (Of_server x c (Serves o)) m home may e = absurd e
-no_end p (Of_server x c (Service_left code)) m home may e = absurd e
-no_end p (Of_server x c Parts) m home may e = absurd e
-no_end p _ m home may e = absurd (assumption tt)
+no_end p d m home may e = grind arith
 
 not_going : (p : Image) (t : Typing) (cs : List Cell) (ls : List Layer) (m : ℕ) (home : Home) → leaves p m ≡ true → Stack p t cs (Returns m home) ls → past_going ls ≡ ls
 not_going p t cs (Dying o ∷ ls) m home e s = absurd (true≢false (sym e ∙ s.1.0))
@@ -157,8 +150,7 @@ unworked_from_trap n (l ∷ ls) u = u
 
 -- the home of a method that works on the object
 on_it : (p : Image) (cs : List Cell) (ls : List Layer) (x : Object) (home : Home) → named cs x.name ≡ Some x → works_at x.name home ≡ true → IsHoused p cs ls home → IsApart p home ls → Joins p x ls
-on_it p cs ls x (Inside o from) lives w h a = subst (λ y. Joins p y ls) (same_object cs o x h.lives lives w) a.3
-on_it p cs ls x _ lives w h a = cc
+on_it p cs ls x home lives w h a = grind arith
 
 -- what is below a frame that is not quiet is not quiet either
 still_loud : (a b : Bool) → (a ≡ true → b ≡ true) → b ≡ false → a ≡ false
@@ -301,8 +293,7 @@ pub trap_is_there :
 trap_is_there p t cs fr sh ls g may n = (leave_is_met p t cs fr fr sh ls g may n).0
 
 pub here_is : (d : Delivery) → is_here d ≡ true → d ≡ Here
-here_is Here e = refl
-here_is Gone e = cc
+here_is d e = grind arith
 
 -- a leave from such a state is well typed
 pub leave_keeps :

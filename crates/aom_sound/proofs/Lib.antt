@@ -1,3 +1,4 @@
+pub mod Altering
 pub mod Maps
 pub mod Counts
 pub mod Services

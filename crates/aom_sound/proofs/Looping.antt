@@ -55,13 +55,7 @@ module _ (p : Image) (looped_so : IsLooped p) (fr : Frame) (rounds : RoundsAt p 
 
   -- one loop begins at a place
   one_loop : (m from d n e k : ℕ) → instr_at p m from ≡ Some (Loop d n) → instr_at p m from ≡ Some (Loop e k) → (d ≡ e) × (n ≡ k)
-  one_loop m from d n e k a b = let same : Some (Loop d n) ≡ Some (Loop e k) = sym a ∙ b in (loop_depth same, loop_rounds same)
-    where
-      loop_depth : Some (Loop d n) ≡ Some (Loop e k) → d ≡ e
-      loop_depth s = cc
-
-      loop_rounds : Some (Loop d n) ≡ Some (Loop e k) → n ≡ k
-      loop_rounds s = cc
+  one_loop m from d n e k a b = (cc, (cc))
 
   begins_rounds : (e k : ℕ) → instr_at p fr.method fr.place ≡ Some (Loop e k) → RoundsAt p (set_counter fr e k) (suc fr.place)
   begins_rounds e k at from to d n body inside = same_or from fr.place _ own other

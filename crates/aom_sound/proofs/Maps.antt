@@ -1,8 +1,10 @@
 -- What a move of ownership does to the places, and lists that are read and written by place.
 use Rattle.std.proofs.lemmas.Option.{none-some}
-use Rattle.std.proofs.Common.{Bool, List, None, Option, Some, [], ap, cond, false, refl, subst, suc, sym, true, zero, ℕ, ◌==◌, ◌∙◌, ◌∷◌, ◌≡◌}
-use Rattle.std.proofs.lemmas.Bool.{and_from, and_parts, eq-eqb, eqb-true, false≢true, ne_eqb, true≢false}
+use Rattle.std.proofs.Common.{Bool, List, None, Option, Some, [], ap, cond, false, inl, inr, refl, subst, suc, sym, true, zero, ℕ, ⊎_elim, ◌==◌, ◌∙◌, ◌∷◌, ◌≡◌}
+use Rattle.std.proofs.lemmas.Bool.{and_from, and_parts, eq-eqb, eqb-true, ne_eqb, true≢false}
+use Rattle.std.specs.Prelude.{◌⊎◌}
 use Rattle.aom_shape.specs.Tables.{at, put_at}
+use Rattle.aom_sound.proofs.Altering.{Reads, moving, named_kept, names, read_kept, requests}
 use Rattle.aom_sound.specs.Places.{Cell, Elsewhere, Entry, Field, Going, Object, Other, Place, Queued, Register, Root, In_service, Session, Tidy, changed, held, moved, named, place_inner, place_kind, place_outer, place_part, requested, same_place, without}
 use lib.Dec.{eqb-suc-suc, eqb-suc-zero, eqb-zero-suc}
 
@@ -97,12 +99,10 @@ held_moved (c ∷ cs) p q r free =
     first false e nq ih = second (same_place c.owner r) (same_place q r) (same_place p r) e nq refl refl refl ih
 
 pub named_moved : (cs : List Cell) (p q : Place) (n : ℕ) → named (moved p q cs) n ≡ named cs n
-named_moved [] p q n = refl
-named_moved (c ∷ cs) p q n = ap (λ x. cond (c.object.name == n) (Some c.object) x) (named_moved cs p q n)
+named_moved cs p q = named_kept (moving p q) cs
 
 pub requested_moved : (cs : List Cell) (p q : Place) (n : ℕ) → requested (moved p q cs) n ≡ requested cs n
-requested_moved [] p q n = refl
-requested_moved (c ∷ cs) p q n = ap (λ x. cond (c.object.name == n) c.request x) (requested_moved cs p q n)
+requested_moved cs p q = read_kept (moving p q) requests (λ c. refl) cs
 
 pub tidy_moved : (cs : List Cell) (p q : Place) → held cs q ≡ None → Tidy cs → Tidy (moved p q cs)
 tidy_moved [] p q free t = tt
@@ -129,42 +129,65 @@ at-put_at d (x ∷ xs) zero (suc j) v = ap (λ b. cond b v (at d xs j)) (sym (eq
 at-put_at d (x ∷ xs) (suc i) zero v = ap (λ b. cond b v x) (sym (eqb-suc-zero i))
 at-put_at d (x ∷ xs) (suc i) (suc j) v = at-put_at d xs i j v ∙ ap (λ b. cond b v (at d xs j)) (sym (eqb-suc-suc i j))
 
+-- ---- what is found
+
+-- a search finds what the first cell that passes its test has
+pub record Finds {A : Type 0} (find : List Cell → Option A) : Type 0 where
+  pub test : Cell → Bool
+  pub of : Cell → A
+  pub none : find [] ≡ None
+  pub some : (c : Cell) (cs : List Cell) → find (c ∷ cs) ≡ cond (test c) (Some (of c)) (find cs)
+
+abbrev pub in_place : (q : Place) → Finds (λ cs. held cs q)
+in_place q = record { test = λ c. same_place c.owner q; of = λ c. c.object; none = refl; some = λ c cs. refl }
+
+abbrev pub of_name : (n : ℕ) → Finds (λ cs. named cs n)
+of_name n = record { test = λ c. c.object.name == n; of = λ c. c.object; none = refl; some = λ c cs. refl }
+
+-- what holds where it is found at the front, and where it is found further on, holds
+pub found :
+    {A : Type 0} {find : List Cell → Option A} (f : Finds find) (x : A) (P : List Cell → Type 0) → ((c : Cell) (cs : List Cell) → f.test c ≡ true → f.of c ≡ x → P (c ∷ cs)) →
+    ((c : Cell) (cs : List Cell) → f.test c ≡ false → find cs ≡ Some x → P cs → P (c ∷ cs)) → (cs : List Cell) → find cs ≡ Some x → P cs
+found f x P front further [] e = let clash : Some x ≡ None = sym e ∙ f.none in cc
+found {find = find} f x P front further (c ∷ cs) e = go (f.test c) refl (sym (f.some c cs) ∙ e) (found f x P front further cs)
+  where
+    go : (b : Bool) → f.test c ≡ b → cond b (Some (f.of c)) (find cs) ≡ Some x → (find cs ≡ Some x → P cs) → P (c ∷ cs)
+    go true is e rest = front c cs is (cc)
+    go false other e rest = further c cs other e (rest e)
+
+held_front : (c : Cell) (cs : List Cell) (q : Place) (o : Object) → held (c ∷ cs) q ≡ Some o → ((c.owner ≡ q) × (c.object ≡ o)) ⊎ (held cs q ≡ Some o)
+held_front c cs q o e = go (same_place c.owner q) refl e
+  where
+    go : (b : Bool) → same_place c.owner q ≡ b → cond b (Some c.object) (held cs q) ≡ Some o → ((c.owner ≡ q) × (c.object ≡ o)) ⊎ (held cs q ≡ Some o)
+    go true is e = inl (same_place-true c.owner q is, (cc))
+    go false other e = inr e
+
+named_front : (c : Cell) (cs : List Cell) (o : Object) → c.object ≡ o → named (c ∷ cs) o.name ≡ Some o
+named_front c cs o is = ap (λ b. cond b (Some c.object) (named cs o.name)) (eq-eqb c.object.name o.name (ap (λ x. x.name) is)) ∙ ap (λ x. Some x) is
+
 -- a cell stands in one place
 pub held_named : (cs : List Cell) (p : Place) (o : Object) → held cs p ≡ Some o → named cs o.name ≡ None → ⊥
-held_named [] p o e n = cc
-held_named (c ∷ cs) p o e n = go (same_place c.owner p) (c.object.name == o.name) refl (held_named cs p o) e n
-  where
-    go :
-        (b x : Bool) → (c.object.name == o.name) ≡ x → (held cs p ≡ Some o → named cs o.name ≡ None → ⊥) → cond b (Some c.object) (held cs p) ≡ Some o →
-        cond x (Some c.object) (named cs o.name) ≡ None → ⊥
-    go b true f ih e n = none-some _ (sym n)
-    go true false f ih e n = let same : c.object ≡ o = cc in false≢true (sym f ∙ eq-eqb _ _ (ap (λ x. x.name) same))
-    go false false f ih e n = ih e n
+held_named cs p o = found (in_place p) o (λ cs. named cs o.name ≡ None → ⊥)
+    (λ c cs at is n. none-some _ (sym n ∙ named_front c cs o is))
+    (λ c cs other e rest n. rest (front_free _ _ _ n).1) cs
 
 pub one_place : (cs : List Cell) (p q : Place) (o x : Object) → Tidy cs → held cs p ≡ Some o → held cs q ≡ Some x → o.name ≡ x.name → p ≡ q
-one_place [] p q o x t e f n = cc
-one_place (c ∷ cs) p q o x t e f n = go (same_place c.owner p) (same_place c.owner q) (λ e f. one_place cs p q o x t.2 e f n) refl refl e f
-  where
-    go :
-        (a b : Bool) → (held cs p ≡ Some o → held cs q ≡ Some x → p ≡ q) → same_place c.owner p ≡ a → same_place c.owner q ≡ b → cond a (Some c.object) (held cs p) ≡ Some o →
-        cond b (Some c.object) (held cs q) ≡ Some x → p ≡ q
-    go true true ih ea eb e f = sym (same_place-true c.owner p ea) ∙ same_place-true c.owner q eb
-    go false false ih ea eb e f = ih e f
-    go true false ih ea eb e f = let same : c.object ≡ o = cc in absurd (held_named cs q x f (ap (λ k. named cs k) (sym n ∙ sym (ap (λ y. y.name) same)) ∙ t.1))
-    go false true ih ea eb e f = let same : c.object ≡ x = cc in absurd (held_named cs p o e (ap (λ k. named cs k) (n ∙ sym (ap (λ y. y.name) same)) ∙ t.1))
+one_place cs p q o x t e f n = found (in_place p) o (λ cs. Tidy cs → held cs q ≡ Some x → p ≡ q)
+    (λ c cs at is t f. ⊎_elim (λ h. sym (same_place-true c.owner p at) ∙ h.0) (λ h. absurd (held_named cs q x h (ap (λ k. named cs k) (sym n ∙ sym (ap (λ y. y.name) is)) ∙ t.1))) (held_front c cs q x f))
+    (λ c cs other e rest t f. ⊎_elim (λ h. absurd (held_named cs p o e (ap (λ k. named cs k) (n ∙ sym (ap (λ y. y.name) h.1)) ∙ t.1))) (λ h. rest t.2 h) (held_front c cs q x f)) cs e t f
 
 -- what is held is there under its name
 pub held_lives : (cs : List Cell) (p : Place) (o : Object) → Tidy cs → held cs p ≡ Some o → named cs o.name ≡ Some o
-held_lives [] p o t e = cc
-held_lives (c ∷ cs) p o t e = go (same_place c.owner p) (c.object.name == o.name) refl (held_lives cs p o t.2) e
+held_lives cs p o t e = found (in_place p) o (λ cs. Tidy cs → named cs o.name ≡ Some o)
+    (λ c cs at is t. named_front c cs o is)
+    (λ c cs other e rest t. ap (λ b. cond b (Some c.object) (named cs o.name)) (apart c cs e t) ∙ rest t.2) cs e t
   where
-    go :
-        (b x : Bool) → (c.object.name == o.name) ≡ x → (held cs p ≡ Some o → named cs o.name ≡ Some o) → cond b (Some c.object) (held cs p) ≡ Some o →
-        cond x (Some c.object) (named cs o.name) ≡ Some o
-    go true true f ih e = e
-    go true false f ih e = let same : c.object ≡ o = cc in absurd (false≢true (sym f ∙ eq-eqb _ _ (ap (λ x. x.name) same)))
-    go false false f ih e = ih e
-    go false true f ih e = absurd (held_named cs p o e (ap (λ k. named cs k) (sym (eqb-true _ _ f)) ∙ t.1))
+    apart : (c : Cell) (cs : List Cell) → held cs p ≡ Some o → Tidy (c ∷ cs) → (c.object.name == o.name) ≡ false
+    apart c cs e t = ne_eqb c.object.name o.name (λ s. held_named cs p o e (ap (λ k. named cs k) (sym s) ∙ t.1))
+
+-- the cell of a name has that name
+pub named_name : (cs : List Cell) (n : ℕ) (o : Object) → named cs n ≡ Some o → o.name ≡ n
+named_name cs n o = found (of_name n) o (λ cs. o.name ≡ n) (λ c cs at is. ap (λ (x : Object). x.name) (sym is) ∙ eqb-true c.object.name n at) (λ c cs other e rest. rest) cs
 
 -- what goes
 pub without_none : (cs : List Cell) (g : Place) → held cs g ≡ None → without g cs ≡ cs
@@ -186,25 +209,24 @@ held_without (c ∷ cs) g r = go (same_place c.owner g) (same_place g r) (same_p
 
 -- what is read at the first cell of a name is the same but for the name of what goes
 pub read_without :
-    {A : Type 0} (read : List Cell → ℕ → A) (of : Cell → A) → ((c : Cell) (cs : List Cell) (n : ℕ) → read (c ∷ cs) n ≡ cond (c.object.name == n) (of c) (read cs n)) →
-    (cs : List Cell) (g : Place) (o : Object) (n : ℕ) → Tidy cs → held cs g ≡ Some o → (o.name == n) ≡ false → read (without g cs) n ≡ read cs n
-read_without read of first [] g o n t e d = refl
-read_without read of first (c ∷ cs) g o n t e d = go (same_place c.owner g) refl (read_without read of first cs g o n t.2) e ∙ sym (first c cs n)
+    {A : Type 0} {read : List Cell → ℕ → A} (r : Reads read) (cs : List Cell) (g : Place) (o : Object) (n : ℕ) → Tidy cs → held cs g ≡ Some o → (o.name == n) ≡ false → read (without g cs) n ≡ read cs n
+read_without r [] g o n t e d = refl
+read_without {read = read} r (c ∷ cs) g o n t e d = go (same_place c.owner g) refl (read_without r cs g o n t.2) e ∙ sym (r.first c cs n)
   where
     go :
         (x : Bool) → same_place c.owner g ≡ x → (held cs g ≡ Some o → (o.name == n) ≡ false → read (without g cs) n ≡ read cs n) → cond x (Some c.object) (held cs g) ≡ Some o →
-        read (cond x (without g cs) (c ∷ without g cs)) n ≡ cond (c.object.name == n) (of c) (read cs n)
+        read (cond x (without g cs) (c ∷ without g cs)) n ≡ cond (c.object.name == n) (r.of c) (read cs n)
     go true f ih e =
         let same : c.object ≡ o = cc in
         ap (λ l. read l n) (without_none cs g (ap (λ q. held cs q) (sym (same_place-true c.owner g f)) ∙ t.0))
-        ∙ ap (λ b. cond b (of c) (read cs n)) (sym (ap (λ x. x.name == n) same ∙ d))
-    go false f ih e = first c (without g cs) n ∙ ap (λ x. cond (c.object.name == n) (of c) x) (ih e d)
+        ∙ ap (λ b. cond b (r.of c) (read cs n)) (sym (ap (λ x. x.name == n) same ∙ d))
+    go false f ih e = r.first c (without g cs) n ∙ ap (λ x. cond (c.object.name == n) (r.of c) x) (ih e d)
 
 pub named_without : (cs : List Cell) (g : Place) (o : Object) (n : ℕ) → Tidy cs → held cs g ≡ Some o → (o.name == n) ≡ false → named (without g cs) n ≡ named cs n
-named_without = read_without named (λ c. Some c.object) (λ c cs n. refl)
+named_without = read_without names
 
 pub requested_without : (cs : List Cell) (g : Place) (o : Object) (n : ℕ) → Tidy cs → held cs g ≡ Some o → (o.name == n) ≡ false → requested (without g cs) n ≡ requested cs n
-requested_without = read_without requested (λ c. c.request) (λ c cs n. refl)
+requested_without = read_without requests
 
 named_gone : (cs : List Cell) (g : Place) (n : ℕ) → named cs n ≡ None → named (without g cs) n ≡ None
 named_gone [] g n e = refl
@@ -216,19 +238,18 @@ named_gone (c ∷ cs) g n e = let f = front_free _ _ _ e in go (same_place c.own
 
 -- the cell that goes is there no more
 pub unnamed : (cs : List Cell) (g : Place) (o : Object) → Tidy cs → held cs g ≡ Some o → named (without g cs) o.name ≡ None
-unnamed [] g o t e = cc
-unnamed (c ∷ cs) g o t e = go (same_place c.owner g) refl (unnamed cs g o t.2) e
-  where
-    go :
-        (x : Bool) → same_place c.owner g ≡ x → (held cs g ≡ Some o → named (without g cs) o.name ≡ None) → cond x (Some c.object) (held cs g) ≡ Some o →
-        named (cond x (without g cs) (c ∷ without g cs)) o.name ≡ None
-    go true f ih e = let same : c.object ≡ o = cc in named_gone cs g o.name (ap (λ x. named cs x.name) (sym same) ∙ t.1)
-    go false f ih e = ap (λ b. cond b (Some c.object) (named (without g cs) o.name)) (ne_eqb c.object.name o.name (λ s. held_named cs g o e (ap (λ k. named cs k) (sym s) ∙ t.1))) ∙ ih e
+unnamed cs g o t e = found (in_place g) o (λ cs. Tidy cs → named (without g cs) o.name ≡ None)
+    (λ c cs at is t. ap (λ b. named (cond b (without g cs) (c ∷ without g cs)) o.name) at ∙ named_gone cs g o.name (ap (λ x. named cs x.name) (sym is) ∙ t.1))
+    (λ c cs other e rest t. ap (λ b. named (cond b (without g cs) (c ∷ without g cs)) o.name) other
+    ∙ ap (λ b. cond b (Some c.object) (named (without g cs) o.name)) (ne_eqb c.object.name o.name (λ s. held_named cs g o e (ap (λ k. named cs k) (sym s) ∙ t.1))) ∙ rest t.2) cs e t
 
--- what is not there has no request
-requested_unnamed : (cs : List Cell) (n : ℕ) → named cs n ≡ None → requested cs n ≡ None
-requested_unnamed [] n e = refl
-requested_unnamed (c ∷ cs) n e = let f = front_free _ _ _ e in ap (λ b. cond b c.request (requested cs n)) f.0 ∙ requested_unnamed cs n f.1
+-- of what is not there nothing is read
+pub read_unnamed : {A : Type 0} {read : List Cell → ℕ → A} (r : Reads read) (cs : List Cell) (n : ℕ) → named cs n ≡ None → read cs n ≡ read [] n
+read_unnamed r [] n e = refl
+read_unnamed {read = read} r (c ∷ cs) n e = let f = front_free _ _ _ e in r.first c cs n ∙ ap (λ b. cond b (r.of c) (read cs n)) f.0 ∙ read_unnamed r cs n f.1
+
+pub requested_unnamed : (cs : List Cell) (n : ℕ) → named cs n ≡ None → requested cs n ≡ None
+requested_unnamed = read_unnamed requests
 
 -- what had no request has none where another cell is gone
 pub unrequested : (cs : List Cell) (g : Place) (n : ℕ) → Tidy cs → requested cs n ≡ None → requested (without g cs) n ≡ None
@@ -252,12 +273,3 @@ tidy_without (c ∷ cs) g t = go (same_place c.owner g)
     go : (x : Bool) → held (without g cs) c.owner ≡ None → Tidy (without g cs) → Tidy (cond x (without g cs) (c ∷ without g cs))
     go true e ih = ih
     go false e ih = (e, named_gone cs g c.object.name t.1, ih)
-
--- the cell of a name has that name
-pub named_name : (cs : List Cell) (n : ℕ) (o : Object) → named cs n ≡ Some o → o.name ≡ n
-named_name [] n o e = cc
-named_name (c ∷ cs) n o e = go (c.object.name == n) refl e (λ e. named_name cs n o e)
-  where
-    go : (b : Bool) → (c.object.name == n) ≡ b → cond b (Some c.object) (named cs n) ≡ Some o → (named cs n ≡ Some o → o.name ≡ n) → o.name ≡ n
-    go true same e rest = let equal : c.object ≡ o = cc in ap (λ (x : Object). x.name) (sym equal) ∙ eqb-true c.object.name n same
-    go false other e rest = rest e

@@ -17,21 +17,20 @@ use Rattle.aom_shape.specs.Shape.{Shape}
 use Rattle.aom_shape.specs.Things.{stands_for}
 use Rattle.aom_shape.specs.declared.kind.Age.TheVariants.{Ready}
 use Rattle.aom_shape.specs.declared.kind.Delivery.{Delivery}
-use Rattle.aom_shape.specs.declared.kind.Delivery.TheVariants.{Gone, Here}
+use Rattle.aom_shape.specs.declared.kind.Delivery.TheVariants.{Gone}
 use Rattle.aom_shape.specs.declared.kind.Kind.{Kind}
-use Rattle.aom_shape.specs.declared.kind.Kind.TheVariants.{Null, Own, Word}
+use Rattle.aom_shape.specs.declared.kind.Kind.TheVariants.{Null, Own}
 use Rattle.aom_sound.proofs.Claimed.{claim-set_register, claim_frame, claim_rel}
 use Rattle.aom_sound.proofs.Dropping.{declared_dropped, dropped, fits_dropped, held_dropped, place_dropped, suits_dropped, tidy_dropped}
 use Rattle.aom_sound.proofs.Going.{housed_without, stack_without}
 use Rattle.aom_sound.proofs.Maps.{same_place-true, same_place_comm}
 use Rattle.aom_sound.proofs.Picking.{own_held}
 use Rattle.aom_sound.proofs.Straight.{At, Fitted, Law, fitted, free_register, kind_fits, no_word, relocate, same_suits, settle, top, well, words_set}
-use Rattle.aom_sound.proofs.Things.{stands_same}
-use Rattle.aom_sound.specs.Claims.{Dispatching, Layer, Mark, Method, claim, declared, delivered, home_claim, root_claim, serves, tasks_of}
+use Rattle.aom_sound.specs.Claims.{Layer, Method, claim, declared, delivered, home_claim, root_claim, serves, tasks_of}
 use Rattle.aom_sound.specs.Moves.{does}
 use Rattle.aom_sound.specs.Objects.{is_thing}
-use Rattle.aom_sound.specs.Places.{Cell, Elsewhere, Field, In_service, Object, Place, Queued, Root, Sight, changed, held, moved, same_place, seen, without}
-use Rattle.aom_sound.specs.State.{AtRoot, Choice, Frame, Home, Inside, Of_server, Seat, Serves, State, Static, next, set_word, word}
+use Rattle.aom_sound.specs.Places.{Cell, Elsewhere, Field, In_service, Object, Place, Root, Sight, changed, held, moved, same_place, seen, without}
+use Rattle.aom_sound.specs.State.{AtRoot, Choice, Frame, Home, Inside, Seat, State, Static, next, set_word, word}
 use Rattle.aom_sound.specs.WellTyped.{AllSit, Back, Fits, IsBelow, IsHoused, IsServed, NoSeatAt, NoneFrom, Returns, SitsIn, Stack, WordFits}
 use Rattle.aom_instructions.specs.declared.instr.Instr.{Instr}
 
@@ -39,27 +38,21 @@ use Rattle.aom_instructions.specs.declared.instr.Instr.{Instr}
 
 -- it holds no object of a seat, or of a method
 served_apart : (q : Place) (ls : List Layer) → IsBelow q ls → same_place (Elsewhere In_service) q ≡ false
-served_apart (Elsewhere In_service) ls b = absurd b
-served_apart (Elsewhere (Queued s m)) ls b = absurd b
-served_apart _ ls b = refl
+served_apart q ls b = grind arith
 
 served_unseated : (cs : List Cell) (xs : List Seat) → AllSit cs xs → NoSeatAt (Elsewhere In_service) xs
 served_unseated cs [] s = tt
 served_unseated cs (x ∷ xs) s = (apart x.place s.0.2, served_unseated cs xs s.1)
   where
     apart : (q : Place) → SitsIn q xs → same_place (Elsewhere In_service) q ≡ false
-    apart (Elsewhere In_service) sits = absurd sits
-    apart (Elsewhere (Queued s m)) sits = absurd sits
-    apart _ sits = refl
+    apart q sits = grind arith
 
 served_outside : (p : Image) (t : Typing) (cs : List Cell) (ls : List Layer) (back : Back) → IsServed ls → Stack p t cs back ls → NoneFrom (Elsewhere In_service) ls
-served_outside p t cs (Mark gv ∷ Dispatching (Of_server x c (Serves o)) seats ∷ ls) back served s = (served_unseated cs seats s.1.2, subst (λ l. NoneFrom (Elsewhere In_service) l) (sym s.1.1) tt)
-served_outside p t cs _ back served s = absurd served
+served_outside p t cs ls back served s = grind (arith, served_unseated)
 
 served_elsewhere :
     (p : Image) (cs : List Cell) (ls : List Layer) (home : Home) → IsHoused p cs ls home → (o : Object) (from : Place) → home ≡ Inside o from → same_place (Elsewhere In_service) from ≡ false
-served_elsewhere p cs ls (Inside x q) h o from e = let same : q ≡ from = cc in served_apart from ls (subst (λ r. IsBelow r ls) same h.below)
-served_elsewhere p cs ls _ h o from e = cc
+served_elsewhere p cs ls home h o from e = let housed : IsHoused p cs ls (Inside o from) = subst (λ k. IsHoused p cs ls k) e h in served_apart from ls housed.below
 
 -- once it is taken no claim of it is left
 claim_taken :
@@ -81,32 +74,25 @@ claim_taken p d fr sh ls (Elsewhere In_service) serving = ap (λ b. cond b Null 
 claim_taken p d fr sh ls _ serving = refl
 
 delivered_here : (x : Delivery) → is_here x ≡ true → delivered x ≡ Own Message Ready
-delivered_here Here e = refl
-delivered_here Gone e = cc
+delivered_here x e = grind arith
 
 serves_role : (r : Option Role) → is_service r ≡ true → is_role Service r ≡ true
 unfolding is_role role_number
-serves_role (Some Service) e = refl
-serves_role _ e = cc
+serves_role r e = grind arith
 
 -- a register that owns a message holds one
 module _ (p : Image) (h : Sight) where
   message_held : (o : Option Object) (k : Kind) → is_own_for p Message k ≡ true → Fits p h o k → (x : Object) × (o ≡ Some x) × (x.thing ≡ Message)
-  message_held (Some x) (Own y age) e f = (x, refl, stands_same p x.thing y f.0 ∙ stands_same p y Message e)
-  message_held None (Own y age) e f = absurd f
-  message_held o _ e f = cc
+  message_held o k e f = grind arith
 
 message_stands : (p : Image) (x : Thing) → x ≡ Message → stands_for p x Message ≡ true
 message_stands p x e = ap (λ y. stands_for p y Message) e
 
 own_object : (p : Image) (k : Kind) → is_own_for p Message k ≡ true → is_object_or_null k ≡ true
-own_object p (Own y age) e = refl
-own_object p _ e = cc
+own_object p k e = grind arith
 
 word_there : (w : Option ℤ) (k : Kind) → is_word k ≡ true → WordFits w k → is_some w ≡ true
-word_there (Some w) Word e f = refl
-word_there None Word e f = absurd f
-word_there w _ e f = cc
+word_there w k e f = grind arith
 
 module _ (p : Image) (t : Typing) (c : Choice) (s : State) (fr : Frame) (sh : Shape) (ls : List Layer) (at_hand : At p t s fr sh ls) where
   -- ---- a message is taken

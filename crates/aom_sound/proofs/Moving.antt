@@ -1,6 +1,7 @@
 -- Each step is a move: an instruction has its effect, and may have it.
-use Rattle.std.proofs.Common.{List, None, Option, Some, [], cond, length, refl, subst, sym, ℤ, ◌∷◌, ◌≡◌}
+use Rattle.std.proofs.Common.{List, [], cond, length, refl, subst, sym, ℤ, ◌∷◌, ◌≡◌}
 use Rattle.std.specs.Prelude.{is_some}
+use Rattle.aom_image.proofs.Given.{some_given}
 use Rattle.aom_image.specs.Image.{Image}
 use Rattle.aom_image.specs.Views.{instr_at}
 use Rattle.aom_instructions.specs.declared.instr.Instr.{Instr}
@@ -11,29 +12,22 @@ use Rattle.aom_sound.specs.Cleanup.{arrived, destroyed, unwound}
 use Rattle.aom_sound.specs.Destruction.{vanished, parting_from, closing, gone, needs_gone}
 use Rattle.aom_sound.specs.Effects.{applied, effect}
 use Rattle.aom_sound.specs.Moves.{needs_end, act, counted, does, needs, step_instr, step_task}
-use Rattle.aom_sound.specs.Places.{Entry, Going, Object, held}
+use Rattle.aom_sound.specs.Places.{Entry, Going, held}
 use Rattle.aom_sound.specs.State.{Closing, A_mark, An_object, An_operation, Choice, Destroy, Dispatched, Frame, Goes, IsStuck, Item, NullOrDead, Run, State, Task, Trapped, Unwind}
 use Rattle.aom_sound.specs.Steps.{Empties, Acts, Arrives, Clears, Comes_out, Ends, Fits, IsStill, Move, Rests, StepsAreMoves, Undoes, Vanishes}
 use Rattle.aom_sound.specs.Servers.{without_queue}
 
 -- a cell goes
 vanishes : (p : Image) (c : Choice) (ts : List Task) (s u : State) → s.tasks ≡ Destroy ∷ ts → gone (held s.cells (Going (length ts))) ts (counted p s) ≡ Goes u → Move p c s u
-vanishes p c ts s u at e = go (held s.cells (Going (length ts))) refl e
-  where
-    go : (o : Option Object) → held s.cells (Going (length ts)) ≡ o → gone o ts (counted p s) ≡ Goes u → Move p c s u
-    go None there e = cc
-    go (Some o) there e =
-        let needed = needs_gone (without_queue o.name s.cells) o in
-        let after : State = vanished o ts (counted p s) in
-        Vanishes ts o at there (guarded_met needed after u e).0 (sym (guarded_goes needed after u e))
+vanishes p c ts s u at e = some_given (λ o. gone o ts (counted p s) ≡ Goes u) (held s.cells (Going (length ts))) e (λ stuck. cc) (λ o there e.
+    let needed = needs_gone (without_queue o.name s.cells) o in
+    let after : State = vanished o ts (counted p s) in
+    Vanishes ts o at there (guarded_met needed after u e).0 (sym (guarded_goes needed after u e)))
 
 -- a server that goes has its sessions go first
 empties : (p : Image) (c : Choice) (ts : List Task) (s u : State) → s.tasks ≡ Closing ∷ ts → closing p ts (counted p s) ≡ Goes u → Move p c s u
-empties p c (Destroy ∷ ts) s u at e = go (held s.cells (Going (length ts))) refl e
-  where
-    go : (o : Option Object) → held s.cells (Going (length ts)) ≡ o → parting_from p o ts (counted p s) ≡ Goes u → Move p c s u
-    go None there e = cc
-    go (Some o) there e = Empties ts o at there (sym (goes_same _ u e))
+empties p c (Destroy ∷ ts) s u at e =
+    some_given (λ o. parting_from p o ts (counted p s) ≡ Goes u) (held s.cells (Going (length ts))) e (λ stuck. cc) (λ o there e. Empties ts o at there (sym (goes_same _ u e)))
 empties p c _ s u at e = cc
 
 -- a code arrives
@@ -48,11 +42,9 @@ unwinds :
     (p : Image) (c : Choice) (code : ℤ) (ts : List Task) (items : List Item) (s u : State) → s.tasks ≡ Unwind code ∷ ts → s.items ≡ items → unwound p code ts (counted p s) items ≡ Goes u →
     Move p c s u
 unwinds p c code ts [] s u at top e = cc
-unwinds p c code ts (An_object ∷ items) s u at top e = go (held s.cells (Entry (length items))) refl e
-  where
-    go : (o : Option Object) → held s.cells (Entry (length items)) ≡ o → cond (is_some o) (Goes (destroyed p o items (Unwind code ∷ ts) (counted p s))) (IsStuck NullOrDead) ≡ Goes u → Move p c s u
-    go None there e = cc
-    go (Some o) there e = Clears code ts items o at top there (sym (goes_same _ u e))
+unwinds p c code ts (An_object ∷ items) s u at top e =
+    some_given (λ o. cond (is_some o) (Goes (destroyed p o items (Unwind code ∷ ts) (counted p s))) (IsStuck NullOrDead) ≡ Goes u) (held s.cells (Entry (length items))) e
+    (λ stuck. cc) (λ o there e. Clears code ts items o at top there (sym (goes_same _ u e)))
 unwinds p c code ts (An_operation m w ∷ items) s u at top e = Undoes code ts items m w at top (sym (goes_same _ u e))
 unwinds p c code ts (A_mark ∷ items) s u at top e = arrives p c code ts items s u at top e
 
@@ -67,13 +59,13 @@ acted p c s u fr ts i e =
 pub steps_are_moves : StepsAreMoves
 steps_are_moves p c s u e = go s.tasks refl e
   where
-    runs : (fr : Frame) (ts : List Task) (o : Option Instr) → s.tasks ≡ Run fr ∷ ts → instr_at p fr.method fr.place ≡ o → step_instr p c fr ts (counted p s) o ≡ Goes u → Move p c s u
-    runs fr ts None at there e = cc
-    runs fr ts (Some i) at there e = let a = acted p c (counted p s) u fr ts i e in Acts fr ts i (effect p c fr ts (counted p s) i) at there a.0 a.1 a.2
+    runs : (fr : Frame) (ts : List Task) → s.tasks ≡ Run fr ∷ ts → step_instr p c fr ts (counted p s) (instr_at p fr.method fr.place) ≡ Goes u → Move p c s u
+    runs fr ts at e = some_given (λ o. step_instr p c fr ts (counted p s) o ≡ Goes u) (instr_at p fr.method fr.place) e (λ stuck. cc)
+        (λ i there e. let a = acted p c (counted p s) u fr ts i e in Acts fr ts i (effect p c fr ts (counted p s) i) at there a.0 a.1 a.2)
 
     go : (ts : List Task) → s.tasks ≡ ts → step_task p c (counted p s) ts ≡ Goes u → Move p c s u
     go [] at e = Rests (subst IsStill (sym at) tt) (sym (goes_same _ u e))
-    go (Run fr ∷ ts) at e = runs fr ts (instr_at p fr.method fr.place) at refl e
+    go (Run fr ∷ ts) at e = runs fr ts at e
     go (Trapped ∷ ts) at e = cc
     go (Destroy ∷ ts) at e = vanishes p c ts s u at e
     go (Closing ∷ ts) at e = empties p c ts s u at e

@@ -1,5 +1,5 @@
 -- A client's command between dispatches leads to a well-typed state.
-use Rattle.std.proofs.Common.{List, None, Option, Some, [], ap, false, refl, subst, sym, true, ℕ, ℤ, ◌∙◌, ◌∷◌, ◌≡◌}
+use Rattle.std.proofs.Common.{List, None, Option, Some, [], ap, false, refl, subst, sym, ℕ, ℤ, ◌∙◌, ◌∷◌, ◌≡◌}
 use Rattle.aom_image.specs.Image.{Image}
 use Rattle.aom_image.specs.declared.method.Thing.TheVariants.{Message}
 use Rattle.aom_clients.specs.Table.{row, server_of}
@@ -8,7 +8,7 @@ use Rattle.aom_clients.specs.declared.client.Client.TheVariants.{Open}
 use Rattle.aom_clients.specs.declared.refusal.Refusal.{Refusal}
 use Rattle.aom_rules.specs.Typing.{Typing}
 use Rattle.aom_sound.proofs.ClientsAsk.{asked_there}
-use Rattle.aom_sound.proofs.ClientsCommand.{nobody, none_named, server_stays, server_there}
+use Rattle.aom_sound.proofs.ClientsCommand.{sent_message, nobody, none_named, server_stays, server_there}
 use Rattle.aom_sound.proofs.Commanding.{good_asked}
 use Rattle.aom_sound.proofs.Owners.{IsQueuedAt, in_queue, queued_lower}
 use Rattle.aom_sound.proofs.Sending.{good_sent}
@@ -19,7 +19,7 @@ use Rattle.aom_sound.specs.Clients.{asked_server, Listed, client_at, commanded, 
 use Rattle.aom_sound.specs.Kept.{ClientsFit}
 use Rattle.aom_sound.specs.Laws.{IsWired}
 use Rattle.aom_sound.specs.Owned.{NoneGoes}
-use Rattle.aom_sound.specs.Places.{Cell, Close_of, Connect_of, Elsewhere, Message_of, Object, Queued, held, named, service_of, unserved}
+use Rattle.aom_sound.specs.Places.{Cell, Close_of, Connect_of, Elsewhere, Message_of, Object, Queued, held, named, service_of}
 use Rattle.aom_sound.specs.Servers.{asked_last, is_server, reserved, withdrawn}
 use Rattle.aom_sound.specs.State.{State}
 use Rattle.aom_sound.specs.WellTyped.{AllUndo, Good, WellTyped}
@@ -67,14 +67,7 @@ module _ (p : Image) (t : Typing) (wired : IsWired p) (s : State) (w : WellTyped
       (good_sent p t s.cells good there.0 there.2 there.3 c name free (the_message there.0.name) refl refl refl refl refl (none_named name (service_of s.cells there.0.name).queue (nobody p c s good.tidy fit there.0.name name free))))
     where
       the_message : ℕ → Cell
-      the_message n = record {
-        object = record { name = name; thing = Message };
-        words = words;
-        request = None;
-        session = false;
-        service = record unserved { sender = Some (record { client = c; holds_slot = true; is_told = true }) };
-        owner = Elsewhere (Queued n name);
-      }
+      the_message = sent_message c name words
 
       sent : ℕ → List Cell
       sent n = the_message n ∷ reserved (asked_last (Message_of c name)) n s.cells

@@ -1,12 +1,11 @@
 -- In a well-typed state each cell has one living owner, and following owners ends: by what the layers claim of the owner.
 use Rattle.std.proofs.Common.{Bool, List, None, Option, Some, [], ap, arith, cond, false, length, refl, subst, suc, sym, true, zero, ℕ, ⊎_elim, ◌&&◌, ◌+◌, ◌<◌, ◌==◌, ◌∙◌, ◌∷◌, ◌≡◌, ◌≤◌}
-use Rattle.aom_image.proofs.Given.{false_given}
+use Rattle.aom_image.proofs.Given.{false_given, nil_given, some_given}
 use Rattle.std.proofs.lemmas.Bool.{cases_lt, eqb-true, ne_eqb}
 use Rattle.std.proofs.lemmas.Option.{slice_get_within}
-use Rattle.std.specs.Prelude.{IsSome, is_some, slice_get}
+use Rattle.std.specs.Prelude.{IsSome, is_some, option_map, slice_get}
 use Rattle.aom_image.specs.Image.{Image}
 use Rattle.aom_image.specs.Views.{class_at, fields_in}
-use Rattle.aom_image.specs.declared.class.ClassDecl.{ClassDecl}
 use Rattle.aom_image.specs.declared.method.Thing.{Thing}
 use Rattle.aom_image.specs.declared.method.Thing.TheVariants.{Message, Object as An_object_of}
 use Rattle.aom_roles.specs.Classes.{kind_in, sessions_at, sessions_in}
@@ -15,22 +14,21 @@ use Rattle.aom_shape.specs.Kinds.{entry_kind, field, filled, register}
 use Rattle.aom_shape.specs.Things.{Program, field_thing}
 use Rattle.aom_rules.specs.Typing.{Typing}
 use Rattle.aom_shape.specs.declared.kind.Entry.{Entry as Pushed}
-use Rattle.aom_shape.specs.declared.kind.Entry.TheVariants.{Object as Pushed_object, Operation as Pushed_operation}
 use Rattle.aom_shape.specs.declared.kind.Filling.{Filling}
 use Rattle.aom_shape.specs.declared.kind.Filling.TheVariants.{Full, Perhaps}
 use Rattle.aom_shape.specs.declared.kind.Kind.{Kind}
 use Rattle.aom_shape.specs.declared.kind.Kind.TheVariants.{Maybe, Null, Own, Unset, Word}
 use Rattle.aom_sound.proofs.Claimed.{claim_entry_above, claim_register_above}
 use Rattle.aom_sound.proofs.Items.{length_forms}
-use Rattle.aom_sound.proofs.Maps.{same_place-true, same_place_refl}
-use Rattle.aom_sound.proofs.Things.{stands_same}
-use Rattle.aom_sound.specs.Claims.{Dispatching, Dying, Ending, Layer, Mark, Mark_form, Method, Object_form, Unwinding, by_close, by_stage, claim, delivered, serves, declared, declared_field, entry_claim, entry_form, form, forms, home_claim, items_of, objects, root_claim, task_of, tasks_of}
+use Rattle.aom_sound.proofs.Maps.{found, of_name, same_place-true, same_place_refl}
+use Rattle.aom_sound.proofs.Things.{serving_class, stands_same}
+use Rattle.aom_sound.specs.Claims.{Dispatching, Dying, Ending, Layer, Mark, Mark_form, Method, Object_form, Unwinding, by_close, by_stage, claim, delivered, serves, declared, declared_field, entry_claim, entry_form, form, forms, home_claim, is_of_root, items_of, objects, root_claim, task_of, tasks_of}
 use Rattle.aom_sound.specs.Laws.{EndsEmpty, EndsOwned, IsWired}
 use Rattle.aom_sound.specs.Owned.{AllOwned, Ends, HasRegisters, HasService, IsObjects, Lives, NoneGoes, Owned, at_entry, at_register, at_root, at_service, by_cell, by_server, over}
 use Rattle.aom_sound.specs.Places.{Cell, Elsewhere, Entry, Field, Going, Object, Place, Register, Root, Sight, Tidy, held, named, same_place, seen, service_of, Session, In_service, Queued}
 use Rattle.aom_sound.specs.Registers.{AllInRange, IsInRange}
 use Rattle.aom_sound.specs.Servers.{has_message, has_session, is_among, is_server, message_thing, of_class, session_class, session_thing}
-use Rattle.aom_sound.specs.State.{An_object, AtRoot, Dispatch, Dispatched, Home, Inside, Item, Of_root, Of_server, Parts, Run, Service_left, Serves, State, Static, thing_holder}
+use Rattle.aom_sound.specs.State.{AtRoot, Dispatch, Dispatched, Home, Inside, Item, Of_server, Parts, Run, Service_left, Serves, State, Static, thing_holder}
 use Rattle.aom_sound.specs.WellTyped.{Back, Caught, Fits, Gone, IsHoused, IsServed, Leaves, Now, Returns, Stack, WellTyped}
 
 -- what a kind of an owning place says of the thing
@@ -60,18 +58,20 @@ later cs c q o t h = go (same_place c.owner q) refl
 
 -- a cell that is named is held somewhere
 pub named_held : (cs : List Cell) (n : ℕ) (o : Object) → Tidy cs → named cs n ≡ Some o → (q : Place) × (held cs q ≡ Some o)
-named_held [] n o t e = cc
-named_held (c ∷ cs) n o t e = go (c.object.name == n) (λ e. named_held cs n o t.2 e) e
-  where
-    go : (b : Bool) → (named cs n ≡ Some o → (q : Place) × (held cs q ≡ Some o)) → cond b (Some c.object) (named cs n) ≡ Some o → (q : Place) × (held (c ∷ cs) q ≡ Some o)
-    go true ih e = (c.owner, held_first c cs ∙ e)
-    go false ih e = let w = ih e in (w.0, later cs c w.0 o t w.1)
+named_held cs n o t e = found (of_name n) o (λ cs. Tidy cs → (q : Place) × (held cs q ≡ Some o)) (λ c cs at is t. (c.owner, held_first c cs ∙ ap (λ x. Some x) is))
+    (λ c cs other e rest t. let w = rest t.2 in (w.0, later cs c w.0 o t w.1)) cs e t
 
 -- what is claimed to be filled is declared for a thing
 filled_thing : (k : Option Thing) (y : Filling) (x : Thing) → HasThing (filled k y) x → k ≡ Some x
-filled_thing (Some d) Full x h = ap (λ z. Some z) (sym h)
-filled_thing (Some d) Perhaps x h = ap (λ z. Some z) (sym h)
-filled_thing _ _ x h = absurd h
+filled_thing k y x h = grind arith
+
+-- and is so where a test holds
+filled_where : (b : Bool) (k : Option Thing) (x : Thing) → HasThing (cond b (filled k Full) Null) x → (b ≡ true) × (k ≡ Some x)
+filled_where b k x h = grind arith
+
+-- what is claimed under a test to be null is claimed below it
+below_null : (b : Bool) (k : Kind) (x : Thing) → HasThing (cond b Null k) x → HasThing k x
+below_null b k x h = false_given (λ b. HasThing (cond b Null k) x) b h (λ h. h) (λ _ h. h)
 
 -- what is declared of a field, by the cell that has it
 declared_thing_of :
@@ -79,8 +79,7 @@ declared_thing_of :
 declared_thing_of p cs n f c h = go (named cs n) refl h
   where
     go : (o : Option Object) → named cs n ≡ o → HasThing (declared_field p o f) c → (o : Object) × (named cs n ≡ Some o) × (field_thing p (thing_holder o.thing) f ≡ Some c)
-    go None e h = absurd h
-    go (Some o) e h = (o, e, filled_thing (field_thing p (thing_holder o.thing) f) Perhaps c h)
+    go o e h = grind arith
 
 pub field_thing_of :
     (p : Image) (t : Typing) (cs : List Cell) (ls : List Layer) (back : Back) (n f : ℕ) (c : Thing) → Stack p t cs back ls → HasThing (claim p (declared p cs) ls (Field n f)) c →
@@ -113,9 +112,7 @@ field_thing_of p t cs (Ending o left ∷ ls) back n f c s h = ending (o.name == 
 field_thing_of p t cs (Unwinding code es ∷ ls) back n f c s h = field_thing_of p t cs ls Leaves n f c s.1 h
 field_thing_of p t cs (Dispatching w seats ∷ ls) back n f c s h = declared_thing_of p cs n f c (subst (λ l. HasThing (claim p (declared p cs) l (Field n f)) c) s.1 h)
 field_thing_of p t cs (Dying o ∷ ls) back n f c s h =
-    let ih : (HasThing (claim p (declared p cs) ls (Field n f)) c → (o : Object) × (named cs n ≡ Some o) × (field_thing p (thing_holder o.thing) f ≡ Some c)) =
-    field_thing_of p t cs ls Gone n f c s.2 in
-    false_given (λ b. HasThing (cond b Null (claim p (declared p cs) ls (Field n f))) c) (o.name == n) h (λ h. h) (λ _ h. ih h)
+    field_thing_of p t cs ls Gone n f c s.2 (below_null (o.name == n) (claim p (declared p cs) ls (Field n f)) c h)
 
 -- ---- sessions and messages
 
@@ -124,19 +121,13 @@ abbrev pub IsSessionAt : Image → List Cell → ℕ → ℕ → Thing → Type 
 IsSessionAt p cs n c x = (o : Object) × (named cs n ≡ Some o) × (has_session (service_of cs n) c ≡ true) × (session_thing p (Some o) ≡ Some x)
 
 declared_session_of : (p : Image) (cs : List Cell) (n c : ℕ) (x : Thing) → HasThing (declared p cs (Elsewhere (Session n c))) x → IsSessionAt p cs n c x
-declared_session_of p cs n c x h = go (has_session (service_of cs n) c) refl (named cs n) refl h
-  where
-    go : (b : Bool) → has_session (service_of cs n) c ≡ b → (o : Option Object) → named cs n ≡ o → HasThing (cond b (filled (session_thing p o) Full) Null) x → IsSessionAt p cs n c x
-    go true e (Some o) f h = (o, f, e, filled_thing (session_thing p (Some o)) Full x h)
-    go _ e _ f h = absurd h
+declared_session_of p cs n c x h =
+    let found = filled_where (has_session (service_of cs n) c) (session_thing p (named cs n)) x h in
+    some_given (λ o. session_thing p o ≡ Some x) (named cs n) found.1 (λ none. cc) (λ o there its. (o, there, found.0, its))
 
 -- where a close is served its session is claimed no more
 by_close_below : (d : Dispatch) (n c : ℕ) (k : Kind) (x : Thing) → HasThing (by_close d n c k) x → HasThing k x
-by_close_below (Of_server y client Parts) n c k x h = go ((y.object.name == n) && (client == c)) h
-  where
-    go : (b : Bool) → HasThing (cond b Null k) x → HasThing k x
-    go true h = absurd h
-    go false h = h
+by_close_below (Of_server y client Parts) n c k x h = below_null ((y.object.name == n) && (client == c)) k x h
 by_close_below _ n c k x h = h
 
 pub session_thing_of :
@@ -148,40 +139,32 @@ session_thing_of p t cs (Mark gv ∷ ls) back n c x s h = session_thing_of p t c
 session_thing_of p t cs (Unwinding code es ∷ ls) back n c x s h = session_thing_of p t cs ls Leaves n c x s.1 h
 session_thing_of p t cs (Dispatching d seats ∷ ls) back n c x s h =
     declared_session_of p cs n c x (subst (λ l. HasThing (claim p (declared p cs) l (Elsewhere (Session n c))) x) s.1 (by_close_below d n c (claim p (declared p cs) ls (Elsewhere (Session n c))) x h))
-session_thing_of p t cs (Dying o ∷ ls) back n c x s h = go (o.name == n) (session_thing_of p t cs ls Gone n c x s.2) h
+session_thing_of p t cs (Dying o ∷ ls) back n c x s h =
+    session_thing_of p t cs ls Gone n c x s.2 (below_null (o.name == n) (claim p (declared p cs) ls (Elsewhere (Session n c))) x h)
+session_thing_of p t cs (Ending o left ∷ ls) back n c x s h = go (o.name == n) refl (session_thing_of p t cs ls Now n c x s.3) h
   where
     go :
-        (b : Bool) → (HasThing (claim p (declared p cs) ls (Elsewhere (Session n c))) x → IsSessionAt p cs n c x) →
-        HasThing (cond b Null (claim p (declared p cs) ls (Elsewhere (Session n c)))) x → IsSessionAt p cs n c x
-    go true below h = absurd h
-    go false below h = below h
-session_thing_of p t cs (Ending o left ∷ ls) back n c x s h = go (o.name == n) refl (is_among c left) refl (session_thing_of p t cs ls Now n c x s.3) h
-  where
-    go :
-        (b : Bool) → (o.name == n) ≡ b → (a : Bool) → is_among c left ≡ a → (HasThing (claim p (declared p cs) ls (Elsewhere (Session n c))) x → IsSessionAt p cs n c x) →
-        HasThing (cond b (cond a (filled (session_thing p (Some o)) Full) Null) (claim p (declared p cs) ls (Elsewhere (Session n c)))) x → IsSessionAt p cs n c x
-    go true e true f below h =
+        (b : Bool) → (o.name == n) ≡ b → (HasThing (claim p (declared p cs) ls (Elsewhere (Session n c))) x → IsSessionAt p cs n c x) →
+        HasThing (cond b (cond (is_among c left) (filled (session_thing p (Some o)) Full) Null) (claim p (declared p cs) ls (Elsewhere (Session n c)))) x → IsSessionAt p cs n c x
+    go true e below h =
         let same : o.name ≡ n = eqb-true o.name n e in
-        (o, ap (λ m. named cs m) (sym same) ∙ s.0.lives, ap (λ m. has_session (service_of cs m) c) (sym same) ∙ s.0.listed c f, filled_thing (session_thing p (Some o)) Full x h)
-    go true e false f below h = absurd h
-    go false e a f below h = below h
+        let found = filled_where (is_among c left) (session_thing p (Some o)) x h in
+        (o, ap (λ m. named cs m) (sym same) ∙ s.0.lives, ap (λ m. has_session (service_of cs m) c) (sym same) ∙ s.0.listed c found.0, found.1)
+    go false e below h = below h
 
 -- a message that waits is in the queue of a server that stands
 abbrev pub IsQueuedAt : Image → List Cell → ℕ → ℕ → Thing → Type 0
 IsQueuedAt p cs n m x = (o : Object) × (named cs n ≡ Some o) × (has_message (service_of cs n) m ≡ true) × (message_thing p (Some o) ≡ Some x)
 
 pub queued_thing_of : (p : Image) (cs : List Cell) (ls : List Layer) (n m : ℕ) (x : Thing) → HasThing (claim p (declared p cs) ls (Elsewhere (Queued n m))) x → IsQueuedAt p cs n m x
-queued_thing_of p cs [] n m x h = go (has_message (service_of cs n) m) refl (named cs n) refl h
-  where
-    go : (b : Bool) → has_message (service_of cs n) m ≡ b → (o : Option Object) → named cs n ≡ o → HasThing (cond b (filled (message_thing p o) Full) Null) x → IsQueuedAt p cs n m x
-    go true e (Some o) f h = (o, f, e, filled_thing (message_thing p (Some o)) Full x h)
-    go _ e _ f h = absurd h
+queued_thing_of p cs [] n m x h =
+    let found = filled_where (has_message (service_of cs n) m) (message_thing p (named cs n)) x h in
+    some_given (λ o. message_thing p o ≡ Some x) (named cs n) found.1 (λ none. cc) (λ o there its. (o, there, found.0, its))
 queued_thing_of p cs (l ∷ ls) n m x h = queued_thing_of p cs ls n m x h
 
 -- a message is served under a dispatch that serves it
 served_below : (ls : List Layer) → IsServed ls → HasService (tasks_of ls)
-served_below (Mark gv ∷ Dispatching (Of_server x c (Serves o)) seats ∷ ls) h = refl
-served_below _ h = absurd h
+served_below ls h = grind arith
 
 by_stage_serves : (d : Dispatch) (ls : List Layer) (k : Kind) (x : Thing) → (HasThing k x → ⊥) → HasThing (by_stage d k) x → HasService (Dispatched d ∷ tasks_of ls)
 by_stage_serves (Of_server y c (Serves o)) ls k x none h = refl
@@ -255,8 +238,7 @@ module _ (p : Image) (cs : List Cell) (x : Thing) where
   entries_live (e ∷ es) ls k below h = go (length (objects es (items_of ls)) == k) (entries_live es ls k below) h
     where
       object : (e : Pushed) → HasThing (entry_kind e) x → Some (entry_form e) ≡ Some Object_form
-      object (Pushed_object c a) h = refl
-      object Pushed_operation h = absurd h
+      object e h = grind arith
 
       rest_claim : Kind
       rest_claim = entry_claim es (items_of ls) k (claim p (declared p cs) ls (Entry k))
@@ -291,33 +273,31 @@ module _ (p : Image) (cs : List Cell) (x : Thing) where
   root_lives (Dying o ∷ ls) h = root_lives ls h
   root_lives (Ending o left ∷ ls) h = root_lives ls h
   root_lives (Unwinding code es ∷ ls) h = root_lives ls h
-  root_lives (Dispatching Of_root seats ∷ ls) h = absurd h
-  root_lives (Dispatching d seats ∷ ls) h = root_lives ls h
+  root_lives (Dispatching d seats ∷ ls) h = root_lives ls (below_null (is_of_root d) (claim p (declared p cs) ls (Elsewhere Root)) x h)
 
 -- an item of that form is an object's
-objects_item : (items : List Item) (k : ℕ) → over (forms items) k ≡ Some Object_form → IsObjects (over items k)
-objects_item [] k e = cc
-objects_item (i ∷ items) k e = go (length items == k) (objects_item items k) (ap (λ n. cond (n == k) (Some (form i)) (over (forms items) k)) (sym (length_forms items)) ∙ e)
+form_over : (items : List Item) (k : ℕ) → over (forms items) k ≡ option_map form (over items k)
+form_over [] k = refl
+form_over (i ∷ items) k = ap (λ n. cond (n == k) (Some (form i)) (over (forms items) k)) (length_forms items) ∙ go (length items == k) (form_over items k)
   where
-    here : (i : Item) → Some (form i) ≡ Some Object_form → IsObjects (Some i)
-    here An_object e = tt
-    here _ e = cc
+    go : (b : Bool) → over (forms items) k ≡ option_map form (over items k) → cond b (Some (form i)) (over (forms items) k) ≡ option_map form (cond b (Some i) (over items k))
+    go true rest = refl
+    go false rest = rest
 
-    go :
-        (b : Bool) → (over (forms items) k ≡ Some Object_form → IsObjects (over items k)) → cond b (Some (form i)) (over (forms items) k) ≡ Some Object_form →
-        IsObjects (cond b (Some i) (over items k))
-    go true rest e = here i e
-    go false rest e = rest e
+objects_item : (items : List Item) (k : ℕ) → over (forms items) k ≡ Some Object_form → IsObjects (over items k)
+objects_item items k e = of_item (over items k) (sym (form_over items k) ∙ e)
+  where
+    of_item : (o : Option Item) → option_map form o ≡ Some Object_form → IsObjects o
+    of_item o e = grind arith
 
 -- with no destruction at hand nothing is on its way
 none_going : (p : Image) (d : Place → Kind) (ls : List Layer) (k : ℕ) → NoneGoes (tasks_of ls) → claim p d ls (Going k) ≡ d (Going k)
 none_going p d [] k clear = refl
 none_going p d (Method fr sh ∷ ls) k clear = none_going p d ls k clear
 none_going p d (Mark gv ∷ ls) k clear = none_going p d ls k clear
-none_going p d (Dying o ∷ ls) k clear = absurd clear
-none_going p d (Ending o left ∷ ls) k clear = absurd clear
 none_going p d (Unwinding code es ∷ ls) k clear = none_going p d ls k clear
 none_going p d (Dispatching w seats ∷ ls) k clear = none_going p d ls k clear
+none_going p d _ k clear = absurd clear
 
 -- ---- following owners ends
 
@@ -327,61 +307,48 @@ rank (An_object_of c) = suc c
 rank Message = 0
 
 pub lower_rank : (p : Image) → IsWired p → (x y : Thing) (f : ℕ) → field_thing p (thing_holder x) f ≡ Some y → rank y < rank x
-lower_rank p wired (An_object_of c) (An_object_of d) f e = let lt = wired.ordered c d f e in omega arith
-lower_rank p wired (An_object_of c) Message f e = omega arith
-lower_rank p wired Message y f e = cc
+lower_rank p wired x y f e = grind arith
 
 -- only classes that are there declare fields
+declaring_class : (p : Image) (x y : Thing) (f : ℕ) → field_thing p (thing_holder x) f ≡ Some y → (c : ℕ) × (x ≡ An_object_of c)
+declaring_class p x y f e = grind arith
+
 declaring : (p : Image) (x y : Thing) (f : ℕ) → field_thing p (thing_holder x) f ≡ Some y → rank x ≤ length p.classes
 unfolding class_at fields_in
-declaring p (An_object_of c) y f e = go (slice_get p.classes c) refl e
-  where
-    go : (k : Option ClassDecl) → slice_get p.classes c ≡ k → slice_get (fields_in k) f ≡ Some y → suc c ≤ length p.classes
-    go None at h = let clash : slice_get {X = Thing} [] f ≡ Some y = h in cc
-    go (Some k) at h = let lt = slice_get_within p.classes c k at in omega arith
-declaring p Message y f e = cc
+declaring p x y f e =
+    let class = declaring_class p x y f e in
+    let its = ap (λ z. field_thing p (thing_holder z) f) (sym class.1) ∙ e in
+    subst (λ z. rank z ≤ length p.classes) (sym class.1)
+    (some_given (λ k. slice_get (fields_in k) f ≡ Some y) (slice_get p.classes class.0) its (λ none. (let clash : slice_get {X = Thing} [] f ≡ Some y = none in cc)) (λ k at _. (let lt = slice_get_within p.classes class.0 k at in omega arith)))
 
 -- what is at a server stands lower than it, and its class is there
 module _ (p : Image) (wired : IsWired p) where
-  serving_class : (c k : ℕ) → sessions_at p c ≡ Some k → suc c ≤ length p.classes
+  serving_within : (c k : ℕ) → sessions_at p c ≡ Some k → suc c ≤ length p.classes
   unfolding class_at kind_in sessions_in
-  serving_class c k e = go (slice_get p.classes c) refl e
-    where
-      go : (d : Option ClassDecl) → slice_get p.classes c ≡ d → sessions_in (kind_in d) ≡ Some k → suc c ≤ length p.classes
-      go None at h = cc
-      go (Some d) at h = let lt = slice_get_within p.classes c d at in omega arith
+  serving_within c k e = some_given (λ d. sessions_in (kind_in d) ≡ Some k) (slice_get p.classes c) e (λ none. cc) (λ d at _. (let lt = slice_get_within p.classes c d at in omega arith))
 
   abbrev IsLower : Thing → Thing → Type 0
   IsLower x y = (rank x < rank y) × (rank y ≤ length p.classes)
 
   pub session_lower : (o : Object) (x : Thing) → session_thing p (Some o) ≡ Some x → IsLower x o.thing
   unfolding kind_of sessions_in
-  session_lower o x e = of_thing o.thing e
+  session_lower o x e =
+      let is = serving_class p o.thing (is_so (session_class p o.thing) e) in
+      let same : An_object_of is.1 ≡ x = let session = ap of_class (sym is.3) ∙ ap (λ y. of_class (session_class p y)) (sym is.2) ∙ e in cc in
+      let lt = (wired.sessions is.0 is.1 is.3).0 in
+      subst (λ y. IsLower x y) (sym is.2) (subst (λ y. rank y < suc is.0) same (omega (arith, lt)), serving_within is.0 is.1 is.3)
     where
-      of_thing : (y : Thing) → of_class (session_class p y) ≡ Some x → IsLower x y
-      of_thing Message e = cc
-      of_thing (An_object_of c) e = go (sessions_at p c) refl e
-        where
-          go : (k : Option ℕ) → sessions_at p c ≡ k → of_class k ≡ Some x → IsLower x (An_object_of c)
-          go None f e = cc
-          go (Some k) f e =
-              let same : An_object_of k ≡ x = cc in
-              let lt = (wired.sessions c k f).0 in
-              (subst (λ y. rank y < suc c) same (omega (arith, lt)), serving_class c k f)
+      is_so : (k : Option ℕ) → of_class k ≡ Some x → is_some k ≡ true
+      is_so k e = grind arith
 
   pub queued_lower : (o : Object) (x : Thing) → message_thing p (Some o) ≡ Some x → (x ≡ Message) × (IsLower x o.thing)
-  unfolding kind_of sessions_in
-  queued_lower o x e = of_thing o.thing e
+  queued_lower o x e =
+      let waits = where_true (is_server p o.thing) e in
+      let is = serving_class p o.thing waits.0 in
+      (waits.1, subst (λ y. IsLower x y) (sym is.2) (subst (λ y. rank y < suc is.0) (sym waits.1) (omega arith), serving_within is.0 is.1 is.3))
     where
-      of_thing : (y : Thing) → cond (is_server p y) (Some Message) None ≡ Some x → (x ≡ Message) × (IsLower x y)
-      of_thing Message e = cc
-      of_thing (An_object_of c) e = go (sessions_at p c) refl e
-        where
-          go : (k : Option ℕ) → sessions_at p c ≡ k → cond (is_some k) (Some Message) None ≡ Some x → (x ≡ Message) × (IsLower x (An_object_of c))
-          go None f e = cc
-          go (Some k) f e =
-              let same : Message ≡ x = cc in
-              (sym same, (subst (λ y. rank y < suc c) same (omega arith), serving_class c k f))
+      where_true : (b : Bool) → cond b (Some Message) None ≡ Some x → (b ≡ true) × (x ≡ Message)
+      where_true b e = grind arith
 
 module _ (p : Image) (t : Typing) (wired : IsWired p) (s : State) (w : WellTyped p t s) (clear : NoneGoes s.tasks) where
   pub kind_at : (q : Place) (o : Object) → held s.cells q ≡ Some o → HasThing (claim p (declared p s.cells) w.layers q) o.thing
@@ -458,8 +425,7 @@ ends_owned p t wired s w fits = (
 
 -- the layers of what is at hand
 pub layers_none : (ls : List Layer) → tasks_of ls ≡ [] → ls ≡ []
-layers_none [] e = refl
-layers_none (l ∷ ls) e = cc
+layers_none ls e = nil_given (λ ls. tasks_of ls ≡ []) ls e (λ l ls e. cc) (λ none e. none)
 
 -- with nothing at hand a place but a field or the root holds nothing, so that without a root nothing is held
 module _ (p : Image) (t : Typing) (s : State) (w : WellTyped p t s) (idle : s.tasks ≡ []) (rootless : held s.cells (Elsewhere Root) ≡ None) where

@@ -30,9 +30,7 @@ held_by_them : (q : Place) (o : Object) → held two_cells q ≡ Some o → IsOf
 held_by_them q o e = go (same_place (Field 2 0) q) (same_place (Field 1 0) q) refl refl e
   where
     go : (b c : Bool) → same_place (Field 2 0) q ≡ b → same_place (Field 1 0) q ≡ c → cond b (Some first) (cond c (Some second) None) ≡ Some o → IsOfThem q
-    go true c e f h = inr (sym (same_place-true (Field 2 0) q e))
-    go false true e f h = inl (sym (same_place-true (Field 1 0) q f))
-    go false false e f h = cc
+    go b c e f h = grind (arith, same_place-true (Field 2 0) q, same_place-true (Field 1 0) q)
 
 no_end : (q : Place) → Ends two_round q → IsOfThem q → ⊥
 no_end _ (at_register {f = f} {i = i}) h = elim h [ inl e ↦ cc | inr e ↦ cc ]

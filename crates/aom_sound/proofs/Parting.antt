@@ -1,5 +1,5 @@
 -- What a server's dispatch ends with: the entry is served, and it goes on as the dispatch of an object.
-use Rattle.std.proofs.Common.{Bool, List, None, Option, Some, [], ap, cond, false, refl, subst, sym, true, ℕ, ℤ, ◌==◌, ◌∙◌, ◌∷◌, ◌≡◌}
+use Rattle.std.proofs.Common.{arith, Bool, List, Option, Some, [], ap, cond, false, refl, subst, sym, true, ℕ, ℤ, ◌==◌, ◌∙◌, ◌∷◌, ◌≡◌}
 use Rattle.std.proofs.lemmas.Bool.{eqb-true}
 use Rattle.std.specs.Prelude.{filter, is_some, not, ◌&&◌, ◌||◌}
 use Rattle.aom_image.specs.Image.{Image}
@@ -20,7 +20,7 @@ use Rattle.aom_sound.specs.Moves.{dispatch_ends, needs_end, stage_ends}
 use Rattle.aom_sound.specs.Places.{Cell, Elsewhere, Field, In_service, Object, Place, Queued, Service, Session, held, named, same_place, seen, service_of, set_service, without}
 use Rattle.aom_sound.specs.Requests.{Suits, states_claim, thing_kind}
 use Rattle.aom_sound.specs.Servers.{has_message, has_session, is_among, is_other, message_thing, parted, session_thing}
-use Rattle.aom_sound.specs.State.{Accept_left, Accepted, CompletedTwice, Dispatched, Goes, IsStuck, Of_object, Of_server, Parts, Seat, Service_left, Serves, Stage, State, guarded}
+use Rattle.aom_sound.specs.State.{Accept_left, Accepted, CompletedTwice, Dispatched, Goes, IsStuck, Of_object, Of_server, Parts, Seat, Service_left, Stage, State, guarded}
 use Rattle.aom_sound.specs.WellTyped.{Now, AllSit, AllUndo, Fits, Good, Keeps, WellTyped}
 
 -- a client that has parted is not among them, and all others are
@@ -48,13 +48,10 @@ claims_none _ = false
 
 module _ (p : Image) (t : Typing) (s : State) (x : Seat) (client : ℕ) (seats : List Seat) where
   none_parts : (stage : Stage) → claims_none stage ≡ true → (n c : ℕ) (k : Kind) → by_close (Of_server x client stage) n c k ≡ k
-  none_parts Parts e n c k = cc
-  none_parts _ e n c k = refl
+  none_parts stage e n c k = grind arith
 
   none_served : (stage : Stage) → claims_none stage ≡ true → (k : Kind) → by_stage (Of_server x client stage) k ≡ k
-  none_served (Serves o) e k = cc
-  none_served (Service_left code) e k = cc
-  none_served _ e k = refl
+  none_served stage e k = grind arith
 
   -- with such cells the dispatch goes on
   served_well : (u : State) → u.tasks ≡ Dispatched (Of_object x) ∷ [] → u.items ≡ [] → Good p t u.cells (Dispatching (Of_object x) seats ∷ []) → WellTyped p t u
@@ -115,8 +112,7 @@ module _ (p : Image) (t : Typing) (s : State) (x : Seat) (client : ℕ) (seats :
     is_there = go (held s.cells (Elsewhere In_service)) (good.fits (Elsewhere In_service))
       where
         go : (o : Option Object) → Fits p (seen s.cells) o (Own Message Ready) → is_some o ≡ true
-        go None f = absurd f
-        go (Some o) f = refl
+        go o f = grind arith
 
   -- after a close the client has no session with it
   module _ (good : Good p t s.cells (Dispatching (Of_server x client Parts) seats ∷ [])) where

@@ -6,13 +6,12 @@ use Rattle.aom_image.specs.Image.{Image}
 use Rattle.aom_rules.specs.Typing.{IsTyped, Typing}
 use Rattle.aom_shape.specs.declared.kind.Kind.TheVariants.{Null}
 use Rattle.aom_sound.proofs.ClientsFit.{leaving_only}
-use Rattle.aom_sound.proofs.Destroying.{begin, goes_fitting, goes_there, no_going}
+use Rattle.aom_sound.proofs.Destroying.{no_going, goes_well}
 use Rattle.aom_sound.proofs.Entering.{no_fields}
-use Rattle.aom_sound.proofs.Maps.{held_moved, named_moved, requested_moved, same_place-true, tidy_moved}
+use Rattle.aom_sound.proofs.Maps.{held_moved, named_moved, requested_moved, same_place-true}
 use Rattle.aom_sound.proofs.Owners.{rank}
-use Rattle.aom_sound.proofs.Picking.{above, fits_now, held_now, named_now, no_items, requested_now, session_held, sessions_now, sits, sits_now, suits_now, tidy_now}
+use Rattle.aom_sound.proofs.Picking.{above, fits_now, held_now, no_items, requested_now, session_held, sessions_now, sits, sits_now, suits_now, tidy_now}
 use Rattle.aom_sound.proofs.Services.{service_moved}
-use Rattle.aom_sound.proofs.Suiting.{all_moved}
 use Rattle.aom_sound.specs.Claims.{Dispatching, Layer, claim, declared, forms}
 use Rattle.aom_sound.specs.Clients.{client_at}
 use Rattle.aom_sound.specs.Kept.{ClientsFit, QueueFits}
@@ -96,14 +95,10 @@ module _ (p : Image) (t : Typing) (wired : IsWired p) (typed : IsTyped p t) (s :
   parted_well : WellTyped p t then
   parted_well =
       let items = no_items p t wired typed s w idle_now fit x r there lives asked server in
-      begin p t wired typed (moved q g cs) z below
-      (goes_fitting p t cs z q [] below fits z_there (omega arith) claims)
-      (tidy_moved cs q g free (tidy_now p t wired typed s w idle_now fit x r there lives asked server))
+      goes_well p t cs z q [] below fits z_there (omega arith) claims wired typed (tidy_now p t wired typed s w idle_now fit x r there lives asked server)
       (tt, refl, seats_moved seats not_seated seated, (ap is_some (requested_moved cs q g n ∙ requested_now p t wired typed s w idle_now fit x r there lives asked server n ∙ asked), above p t wired typed s w idle_now fit x r there lives asked server, refl), (server, has_then))
-      (goes_there p t cs z q [] below fits z_there (omega arith) claims)
-      (named_moved cs q g z.name ∙ named_now p t wired typed s w idle_now fit x r there lives asked server z.name ∙ session_there.2)
       (record { some = λ h. ⊎_elim not_seated (λ y. y) h; unclaimed = λ f. refl; none_in = (no_fields cs z.name seats not_seated seated, tt); unworked = tt; sessions = λ d c. ap (λ b. cond (b && (client == c)) Null (d (Elsewhere (Session z.name c)))) (ne_eqb n z.name (λ same. not_seated (inl same))) })
-      (all_moved p cs q g below (suits_now p t wired typed s w idle_now fit x r there lives asked server))
+      (suits_now p t wired typed s w idle_now fit x r there lives asked server)
       then (length s.items) (ap length items) refl refl (ap forms items) (subst (λ is. AllUndo p is) (sym items) tt)
     where
       has_then : has_session (service_of (moved q g cs) n) client ≡ true

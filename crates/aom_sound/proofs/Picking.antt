@@ -1,12 +1,11 @@
 -- A server is picked: its `accept` or the `service` of a session enters over the dispatch.
-use Rattle.std.proofs.Common.{Bool, IsTrue, List, None, Option, Some, [], ap, arith, cond, false, inl, inr, length, refl, subst, suc, sym, true, ℕ, ℤ, ◌&&◌, ◌<◌, ◌==◌, ◌∙◌, ◌∷◌, ◌≡◌}
-use Rattle.std.proofs.lemmas.Bool.{eq-eqb, eqb-true, true≢false}
+use Rattle.std.proofs.Common.{Bool, List, None, Option, Some, [], ap, arith, cond, false, inl, inr, length, refl, subst, suc, sym, true, ℕ, ℤ, ◌&&◌, ◌<◌, ◌==◌, ◌∙◌, ◌∷◌, ◌≡◌}
+use Rattle.std.proofs.lemmas.Bool.{eq-eqb, eqb-true, true≢false, and_parts}
 use Rattle.std.specs.List.{list_any}
 use Rattle.std.specs.Prelude.{is_some, map, replicate, ◌||◌}
 use Rattle.aom_image.specs.Image.{Image}
-use Rattle.aom_image.specs.Views.{has, method_class}
+use Rattle.aom_image.specs.Views.{method_class}
 use Rattle.aom_image.specs.declared.class.ClassKind.{ClassKind}
-use Rattle.aom_image.specs.declared.class.ClassKind.TheVariants.{Server as A_server, Session as A_session}
 use Rattle.aom_image.specs.declared.method.Argument.TheVariants.{Word as Takes_word}
 use Rattle.aom_image.specs.declared.method.Gives.TheVariants.{Nothing, Own as An_own}
 use Rattle.aom_image.specs.declared.method.Role.TheVariants.{Accept as Accepts_role, Service as Attends_role}
@@ -15,17 +14,17 @@ use Rattle.aom_image.specs.declared.method.Thing.TheVariants.{Message, Object as
 use Rattle.aom_clients.specs.Nodes.{is_connecting_at}
 use Rattle.aom_roles.specs.Classes.{is_session, is_session_in, is_session_kind, kind_at, sessions_at, sessions_in, sessions_of}
 use Rattle.aom_roles.specs.Shapes.{kind_of}
-use Rattle.aom_roles.specs.States.{idle, server_states, states_of}
+use Rattle.aom_roles.specs.States.{idle, states_of}
 use Rattle.aom_rules.specs.Requests.{is_cancel, is_service}
 use Rattle.aom_rules.specs.Typing.{IsTyped, Typing}
 use Rattle.aom_shape.specs.Arguments.{argument_kind, before_of, entry_fields}
 use Rattle.aom_shape.specs.Kinds.{filled, is_ready_kind}
 use Rattle.aom_shape.specs.Tables.{at}
 use Rattle.aom_shape.specs.Things.{holder_by, stands_for}
-use Rattle.aom_shape.specs.declared.kind.Age.TheVariants.{Fresh, Ready}
+use Rattle.aom_shape.specs.declared.kind.Age.TheVariants.{Ready}
 use Rattle.aom_shape.specs.declared.kind.Filling.TheVariants.{Full, Perhaps}
 use Rattle.aom_shape.specs.declared.kind.Kind.{Kind}
-use Rattle.aom_shape.specs.declared.kind.Kind.TheVariants.{Maybe, Null, Own, Unset}
+use Rattle.aom_shape.specs.declared.kind.Kind.TheVariants.{Null, Own, Unset}
 use Rattle.aom_sound.proofs.Attending.{with_message}
 use Rattle.aom_sound.proofs.Chains.{chain}
 use Rattle.aom_sound.proofs.Claimed.{declared_moved, declared_ready}
@@ -36,16 +35,16 @@ use Rattle.aom_sound.proofs.Entering.{Entering, enters}
 use Rattle.aom_sound.proofs.Maps.{held_lives, held_moved, named_moved, requested_moved, tidy_moved, transfer}
 use Rattle.aom_sound.proofs.Owners.{rank}
 use Rattle.aom_sound.proofs.Services.{held_served, named_served, requested_served, service_here, service_moved, tidy_served}
-use Rattle.aom_sound.proofs.Signals.{at_rest}
+use Rattle.aom_sound.proofs.Signals.{at_rest, items_at_rest}
 use Rattle.aom_sound.proofs.Straight.{fits_unowning}
-use Rattle.aom_sound.proofs.Things.{stands_same}
-use Rattle.aom_sound.specs.Claims.{Dispatching, Layer, Mark, claim, declared, declared_field, forms, items_of, serves}
+use Rattle.aom_sound.proofs.Things.{serving_class, stands_same}
+use Rattle.aom_sound.specs.Claims.{Dispatching, Layer, Mark, claim, declared, declared_field, forms, serves}
 use Rattle.aom_sound.specs.Clients.{client_at}
 use Rattle.aom_sound.specs.Enlisted.{part_of}
 use Rattle.aom_sound.specs.Kept.{ClientsFit, QueueFits}
 use Rattle.aom_sound.specs.Laws.{IsAcceptor, IsAttendant, IsWired}
-use Rattle.aom_sound.specs.Places.{Asked, Cell, Connect_of, Elsewhere, Field, In_service, Message_of, Object, Idle, Phase, Place, Queued, Request, Root, Session, Sight, Tidy, held, moved, named, requested, seen, service_of, word_field}
-use Rattle.aom_sound.specs.Requests.{Known, Suits, phase_state, resting_in, rests_in, thing_kind}
+use Rattle.aom_sound.specs.Places.{Asked, Cell, Connect_of, Elsewhere, Field, In_service, Message_of, Object, Place, Queued, Request, Session, Sight, Tidy, held, moved, named, requested, seen, service_of, word_field}
+use Rattle.aom_sound.specs.Requests.{Known, Suits, resting_in, rests_in, thing_kind}
 use Rattle.aom_sound.specs.Servers.{has_message, has_session, is_message, is_server, of_class, session_class, message_thing, reserved, rest_of, session_thing, taken_first}
 use Rattle.aom_sound.specs.State.{A_mark, Accepts, Inside, Of_server, Serves, Seat, State, frame_of, thing_holder}
 use Rattle.aom_sound.specs.WellTyped.{AllSit, Fits, Good, Keeps, SitsIn, SomeSits, WellTyped, WordFits}
@@ -53,12 +52,7 @@ use Rattle.aom_sound.specs.World.{accepting, attended, attending, message_words,
 
 -- what is ready fits whatever is asked for
 pub fits_ready : (p : Image) (h h' : Sight) (o : Option Object) (k : Kind) → is_ready_kind k ≡ true → Fits p h o k → Fits p h' o k
-fits_ready p h h' (Some o) (Own t Ready) ready f = (f.0, tt)
-fits_ready p h h' (Some o) (Maybe t Ready) ready f = (f.0, tt)
-fits_ready p h h' (Some o) (Own t Fresh) ready f = cc
-fits_ready p h h' (Some o) (Maybe t Fresh) ready f = cc
-fits_ready p h h' None (Maybe t a) ready f = tt
-fits_ready p h h' _ k ready f = f
+fits_ready p h h' o k ready f = grind arith
 
 -- seats stay where places and names do
 pub sits_same : (cs cs' : List Cell) → ((q : Place) → held cs' q ≡ held cs q) → ((n : ℕ) → named cs' n ≡ named cs n) → (xs : List Seat) → AllSit cs xs → AllSit cs' xs
@@ -68,22 +62,7 @@ sits_same cs cs' places names (x ∷ xs) s = ((places x.place ∙ s.0.0, names x
 -- a server rests idle
 pub suits_serving : (k : Option ClassKind) (r : Request) → is_some (sessions_in k) ≡ true → Suits k (resting_in (states_of k)) (Some r) → Suits k (resting_in idle) (Some r)
 unfolding sessions_in sessions_of states_of
-suits_serving (Some (A_server most y b)) r e s = (phase r.phase s.1, s.1)
-  where
-    phase : (q : Phase) → IsTrue (has server_states (phase_state q)) → IsTrue (has idle (phase_state q))
-    phase Idle h = refl
-    phase _ h = cc
-suits_serving _ r e s = cc
-
--- its class
-pub serving_class : (p : Image) (x : Thing) → is_server p x ≡ true → (c k : ℕ) × (x ≡ An_object_of c) × (sessions_at p c ≡ Some k)
-unfolding kind_of sessions_in
-serving_class p (An_object_of c) e = go (sessions_at p c) refl e
-  where
-    go : (k : Option ℕ) → sessions_at p c ≡ k → is_some k ≡ true → (d k : ℕ) × (An_object_of c ≡ An_object_of d) × (sessions_at p d ≡ Some k)
-    go None at e = cc
-    go (Some k) at e = (c, k, refl, at)
-serving_class p Message e = cc
+suits_serving k r e s = grind arith
 
 -- a session is not enlisted
 pub suits_session :
@@ -93,13 +72,11 @@ unfolding kind_of is_session_in is_session_kind
 suits_session p c n known r e s = go (kind_at p c) e s
   where
     go : (k : Option ClassKind) → is_session_in k ≡ true → Suits k known r → Suits k (resting_in n) r
-    go (Some A_session) e s = s
-    go _ e s = cc
+    go k e s = grind arith
 
 -- what a place owns is there
 pub own_held : (p : Image) (h : Sight) (o : Option Object) (x : Thing) → Fits p h o (Own x Ready) → (y : Object) × (o ≡ Some y) × (stands_for p y.thing x ≡ true)
-own_held p h None x f = absurd f
-own_held p h (Some y) x f = (y, refl, f.0)
+own_held p h o x f = grind arith
 
 pub plain_message : (d : Place → Kind) (r : Place) → with_message false d r ≡ d r
 plain_message d (Elsewhere (Session s c)) = refl
@@ -117,11 +94,7 @@ module _ (p : Image) (t : Typing) (wired : IsWired p) (typed : IsTyped p t) (s :
   good = subst (λ ls. Good p t s.cells ls) (at_rest p t s w idle_now) w.good
 
   pub no_items : s.items ≡ []
-  no_items = go s.items (w.items ∙ ap items_of (at_rest p t s w idle_now))
-    where
-      go : (is : List _) → forms is ≡ [] → is ≡ []
-      go [] e = refl
-      go (i ∷ is) e = cc
+  no_items = items_at_rest p t s w idle_now
 
   pub its_class : (c k : ℕ) × (x.object.thing ≡ An_object_of c) × (sessions_at p c ≡ Some k)
   its_class = serving_class p x.object.thing server
@@ -342,11 +315,6 @@ module _ (p : Image) (t : Typing) (wired : IsWired p) (typed : IsTyped p t) (s :
         subst (λ y. Fits p (seen served) y (Own Message Ready)) (sym (held_served_so (Elsewhere In_service) ∙ held_now (Elsewhere (Queued n m)) ∙ its_message.1)) (its_message.2, tt)
     fits_served (Elsewhere (Queued i j)) = go ((n == i) && (m == j)) refl
       where
-        both : (a b : Bool) → (a && b) ≡ true → (a ≡ true) × (b ≡ true)
-        both true true e = (refl, refl)
-        both true false e = cc
-        both false b e = cc
-
         now : held served (Elsewhere (Queued i j)) ≡ cond ((n == i) && (m == j)) None (held cs (Elsewhere (Queued i j)))
         now = held_served_so (Elsewhere (Queued i j))
 
@@ -355,7 +323,7 @@ module _ (p : Image) (t : Typing) (wired : IsWired p) (typed : IsTyped p t) (s :
 
         go : (b : Bool) → ((n == i) && (m == j)) ≡ b → Fits p (seen served) (held served (Elsewhere (Queued i j))) (declared p served (Elsewhere (Queued i j)))
         go true e =
-            let parts = both (n == i) (m == j) e in
+            let parts = and_parts (n == i) (m == j) e in
             let none : has_message (service_of cs i) j ≡ false =
             ap (λ k. has_message (service_of cs k) j) (sym (eqb-true n i parts.0)) ∙ ap (λ k. has_message (service_of cs n) k) (sym (eqb-true m j parts.1)) ∙ none_twice in
             subst (λ y. Fits p (seen served) y (declared p served (Elsewhere (Queued i j)))) (sym (now ∙ ap (λ b. cond b None (held cs (Elsewhere (Queued i j)))) e))
@@ -375,11 +343,11 @@ module _ (p : Image) (t : Typing) (wired : IsWired p) (typed : IsTyped p t) (s :
     sits_served [] h = tt
     sits_served (y ∷ ys) h = ((place y.place h.0.2 ∙ h.0.0, named_moved cs (Elsewhere (Queued n m)) (Elsewhere In_service) y.object.name ∙ h.0.1, h.0.2, h.0.3), sits_served ys h.1)
       where
+        unchanged : (q : Place) → SitsIn q ys → transfer (Elsewhere (Queued n m)) (Elsewhere In_service) (held cs) q ≡ held cs q
+        unchanged q e = grind arith
+
         place : (q : Place) → SitsIn q ys → held served q ≡ held cs q
-        place (Field i f) e = held_served_so (Field i f)
-        place (Elsewhere Root) e = held_served_so (Elsewhere Root)
-        place (Elsewhere (Session i c)) e = held_served_so (Elsewhere (Session i c))
-        place _ e = absurd e
+        place q e = held_served_so q ∙ unchanged q e
 
     suits_served : (y : Object) → named served y.name ≡ Some y → Suits (thing_kind p y.thing) (resting_in (rests_in p y)) (requested served y.name)
     suits_served y there = subst (λ k. Suits (thing_kind p y.thing) (resting_in (rests_in p y)) k) (sym (requested_served_so y.name)) (good.suits y (sym (named_served_so y.name) ∙ there))

@@ -1,6 +1,6 @@
 -- What waits in a queue fits where clients and queues change: by its entries one after another.
 use Rattle.std.proofs.Common.{Bool, List, [], ap, cond, false, refl, subst, sym, true, ℕ, ◌==◌, ◌∙◌, ◌∷◌, ◌≡◌}
-use Rattle.std.proofs.lemmas.Bool.{eq-eqb, ne_eqb, true≢false}
+use Rattle.std.proofs.lemmas.Bool.{eq-eqb, ne_eqb, true≢false, or_parts}
 use Rattle.std.proofs.lemmas.List.Folds.{list_any-append}
 use Rattle.std.specs.List.{list_any}
 use Rattle.std.specs.Prelude.{filter, ◌++◌, ◌||◌}
@@ -31,10 +31,6 @@ is_of c e = c == client_of e
 
 -- ---- tests of queues
 
-pub front_none : (b x : Bool) → (b || x) ≡ false → (b ≡ false) × (x ≡ false)
-front_none true x e = cc
-front_none false x e = (refl, e)
-
 -- none passes where none can
 pub none_passes :
     (test : Asked → Bool) (clients : List Client) (n : ℕ) → ((e : Asked) → test e ≡ true → EntryFits clients n e → ⊥) → (es : List Asked) → QueueFits clients n es → list_any test es ≡ false
@@ -48,10 +44,10 @@ none_passes test clients n never (e ∷ es) fits = go (test e) refl (none_passes
 -- what is no more among those that stay
 pub none_stays : (test stays : Asked → Bool) (es : List Asked) → list_any test es ≡ false → list_any test (filter stays es) ≡ false
 none_stays test stays [] none = refl
-none_stays test stays (e ∷ es) none = go (stays e) (none_stays test stays es (front_none (test e) (list_any test es) none).1)
+none_stays test stays (e ∷ es) none = go (stays e) (none_stays test stays es (or_parts (test e) (list_any test es) none).1)
   where
     go : (b : Bool) → list_any test (filter stays es) ≡ false → list_any test (cond b (e ∷ filter stays es) (filter stays es)) ≡ false
-    go true rest = ap (λ b. b || list_any test (filter stays es)) (front_none (test e) (list_any test es) none).0 ∙ rest
+    go true rest = ap (λ b. b || list_any test (filter stays es)) (or_parts (test e) (list_any test es) none).0 ∙ rest
     go false rest = rest
 
 eqb_swap : (a b : ℕ) → (a == b) ≡ false → (b == a) ≡ false
@@ -75,7 +71,7 @@ entry_other c n to clients (Close_of d) other fits = subst (λ x. is_leaving n x
 pub queue_other : (c n : ℕ) (to : Client) (clients : List Client) (es : List Asked) → list_any (is_of c) es ≡ false → QueueFits clients n es → QueueFits (with_client c to clients) n es
 queue_other c n to clients [] none fits = tt
 queue_other c n to clients (e ∷ es) none fits =
-    let parts = front_none (is_of c e) (list_any (is_of c) es) none in
+    let parts = or_parts (is_of c e) (list_any (is_of c) es) none in
     ((entry_other c n to clients e parts.0 fits.0.0, fits.0.1), queue_other c n to clients es parts.1 fits.1)
 
 -- some of it stays
@@ -92,5 +88,5 @@ pub queue_last :
     (clients : List Client) (n : ℕ) (x : Asked) (es : List Asked) → EntryFits clients n x → list_any (asked_again x) es ≡ false → QueueFits clients n es → QueueFits clients n (es ++ x ∷ [])
 queue_last clients n x [] own none fits = ((own, refl), tt)
 queue_last clients n x (e ∷ es) own none fits =
-    let parts = front_none (asked_again x e) (list_any (asked_again x) es) none in
+    let parts = or_parts (asked_again x e) (list_any (asked_again x) es) none in
     ((fits.0.0, list_any-append (asked_again e) es (x ∷ []) ∙ ap (λ b. b || (asked_again e x || false)) fits.0.1 ∙ ap (λ b. b || false) (again_swap x e parts.0)), queue_last clients n x es own parts.1 fits.1)

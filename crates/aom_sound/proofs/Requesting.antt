@@ -1,14 +1,12 @@
 -- The laws of the instructions on the request of what a method works on: it changes as what is known of it does, and no claim looks at another.
-use Rattle.std.proofs.Common.{Bool, IsTrue, List, None, Option, Some, [], ap, cond, false, refl, subst, suc, sym, true, ℕ, ℤ, ◌&&◌, ◌++◌, ◌==◌, ◌∙◌, ◌∷◌, ◌≡◌}
+use Rattle.std.proofs.Common.{Bool, arith, IsTrue, List, None, Option, Some, [], ap, cond, false, refl, subst, suc, sym, true, ℕ, ℤ, ◌&&◌, ◌++◌, ◌==◌, ◌∙◌, ◌∷◌, ◌≡◌}
 use Rattle.std.proofs.lemmas.Bool.{eq-eqb, eqb-true, true≢false}
 use Rattle.std.proofs.lemmas.Nat.{and_assoc}
 use Rattle.std.specs.Prelude.{bit_and, bit_or, is_none, is_some, not}
+use Rattle.aom_image.proofs.Given.{some_given}
 use Rattle.aom_image.specs.Image.{Image}
 use Rattle.aom_image.specs.Views.{has, method_class, method_role}
 use Rattle.aom_image.specs.declared.class.ClassKind.{ClassKind}
-use Rattle.aom_image.specs.declared.class.ClassKind.TheVariants.{Active as An_active, Server as A_server}
-use Rattle.aom_image.specs.declared.class.Provider.{Provider}
-use Rattle.aom_image.specs.declared.class.Provider.TheVariants.{Own, Timer as A_timer, Native}
 use Rattle.aom_image.specs.declared.method.Role.TheVariants.{Main}
 use Rattle.aom_instructions.specs.declared.instr.Instr.TheVariants.{Abort, Enlist, Issue, JumpActive, JumpAdded, SetActive, Status}
 use Rattle.aom_roles.specs.Shapes.{kind_of}
@@ -24,18 +22,17 @@ use Rattle.aom_shape.specs.Things.{holder_by, holder_of}
 use Rattle.aom_sound.proofs.Callees.{holder_member, home_member, member_kind}
 use Rattle.aom_sound.proofs.Storing.{Alike, alike_itself, fits_alike, housed_alike, listed_still, on_some, requested_here, requested_there, rerequested_alike, stack_alike}
 use Rattle.aom_sound.proofs.Straight.{At, Fitted, Law, fitted, reframed, settle, stepped, this_is_ready, well}
-use Rattle.aom_sound.proofs.Suiting.{idle_timed, timed_on, same_object}
+use Rattle.aom_sound.proofs.Suiting.{same_object}
 use Rattle.aom_sound.proofs.Words.{has_word, unowned, writes_word}
 use Rattle.aom_sound.specs.Claims.{Layer, Method, claim, declared, home_claim, root_claim, tasks_of}
 use Rattle.aom_sound.specs.Effects.{Requested, applied, jumps_if, updates, asking_with}
-use Rattle.aom_sound.specs.Enlisted.{aborted, cancelled_code, first_request, home_kind, in_phase, is_active, is_busy, is_cancelling, is_idle, is_issued, issued_by, issued_of, on_request, own_request, pending, rerequested, status_of, waits, Asking}
+use Rattle.aom_sound.specs.Enlisted.{aborted, first_request, home_kind, in_phase, is_active, is_busy, is_cancelling, is_idle, is_issued, issued_of, on_request, own_request, rerequested, status_of, waits, Asking}
 use Rattle.aom_sound.specs.Laws.{IsWired}
-use Rattle.aom_sound.specs.Places.{Aborted, Active, Cancelling, Cell, Elsewhere, Entry, Field, Idle, Issued, Object, Phase, Place, Register, Request, Root, held, named, requested, same_place, seen}
-use Rattle.aom_sound.specs.Requests.{is_timed, Known, Suits, known_at, phase_state, state_of, states_claim, thing_kind, works_at}
+use Rattle.aom_sound.specs.Places.{Cell, Elsewhere, Entry, Field, Object, Place, Register, Request, Root, held, named, requested, same_place, seen}
+use Rattle.aom_sound.specs.Requests.{Known, Suits, known_at, state_of, states_claim, thing_kind, works_at}
 use Rattle.aom_sound.specs.State.{AtRoot, Choice, Frame, Home, Inside, Run, State, Static, field_place, home_holder, next, to_place}
 use Rattle.aom_sound.specs.WellTyped.{Fits, IsHoused, WellTyped}
 use Rattle.aom_sound.specs.Words.{read}
-use Rattle.std.specs.Ordering.{int_eq}
 use Rattle.aom_instructions.specs.declared.instr.Instr.{Instr}
 
 -- ---- what is known of a request
@@ -91,139 +88,56 @@ restated p t cs cs' fr sh ls o from states home lives alike listed others ready 
 
 -- an object that may be enlisted is in one of the states in which it is known to be
 pub suits_in : (k : Option ClassKind) (n : Known) (r : Option Request) → is_listed_kind k ≡ true → Suits k n r → IsTrue (has n.states (state_of r))
-suits_in (Some (An_active v b)) n r e s = s.0
-suits_in (Some (A_server m x b)) n r e s = s.0
-suits_in _ n r e s = cc
+suits_in k n r e s = grind arith
 
 -- and in these, where it is in one of them
 suits_within : (k : Option ClassKind) (b : ℕ) (n : Known) (r : Option Request) → is_listed_kind k ≡ true → IsTrue (has b (state_of r)) → Suits k n r → Suits k (record { states = b; cancelled = n.cancelled }) r
-suits_within (Some (An_active v x)) b n r e h s = (h, s.1, s.2, s.3)
-suits_within (Some (A_server m x y)) b n r e h s = (h, s.1)
-suits_within _ b n r e h s = cc
+suits_within k b n r e h s = grind arith
 
 pub active_listed : (k : Option ClassKind) → is_active_kind k ≡ true → is_listed_kind k ≡ true
-active_listed (Some (An_active v b)) e = refl
-active_listed _ e = cc
+active_listed k e = grind arith
 
 -- the state of a request is one, and in the set that its phase is tested for
 pub busy_in : (r : Option Request) → in_phase is_busy r ≡ true → IsTrue (has outstanding (state_of r))
-busy_in None e = cc
-busy_in (Some r) e = go r.phase e
-  where
-    go : (q : Phase) → is_busy q ≡ true → IsTrue (has outstanding (phase_state q))
-    go Active e = refl
-    go Cancelling e = refl
-    go Aborted e = refl
-    go _ e = cc
+busy_in r e = grind arith
 
 pub free_in : (r : Option Request) → in_phase is_busy r ≡ false → IsTrue (has inactive (state_of r))
-free_in None e = refl
-free_in (Some r) e = go r.phase e
-  where
-    go : (q : Phase) → is_busy q ≡ false → IsTrue (has inactive (phase_state q))
-    go Idle e = refl
-    go Issued e = refl
-    go _ e = cc
+free_in r e = grind arith
 
 pub listed_in : (r : Option Request) → is_some r ≡ true → IsTrue (has enlisted (state_of r))
-listed_in None e = cc
-listed_in (Some r) e = go r.phase
-  where
-    go : (q : Phase) → IsTrue (has enlisted (phase_state q))
-    go Idle = refl
-    go _ = refl
+listed_in r e = grind arith
 
 pub unlisted_in : (r : Option Request) → is_some r ≡ false → IsTrue (has unlisted (state_of r))
-unlisted_in None e = refl
-unlisted_in (Some r) e = cc
+unlisted_in r e = grind arith
 
 no_state_is_none : (r : Option Request) → has 0 (state_of r) ≡ false
-no_state_is_none None = refl
-no_state_is_none (Some r) = go r.phase
-  where
-    go : (q : Phase) → has 0 (phase_state q) ≡ false
-    go Idle = refl
-    go _ = refl
+no_state_is_none r = grind arith
 
 -- what is known to be in one state is
 only_unlisted : (r : Option Request) → IsTrue (has unlisted (state_of r)) → r ≡ None
-only_unlisted None h = refl
-only_unlisted (Some r) h = absurd (go r.phase h)
-  where
-    go : (q : Phase) → IsTrue (has unlisted (phase_state q)) → ⊥
-    go Idle h = cc
-    go _ h = cc
+only_unlisted r h = grind arith
 
 only_idle : (r : Option Request) → IsTrue (has idle (state_of r)) → (is_some r ≡ true) × (in_phase is_idle r ≡ true)
-only_idle None h = cc
-only_idle (Some r) h = (refl, go r.phase h)
-  where
-    go : (q : Phase) → IsTrue (has idle (phase_state q)) → is_idle q ≡ true
-    go Idle h = refl
-    go _ h = cc
+only_idle r h = grind arith
 
 only_issued : (r : Option Request) → IsTrue (has issued (state_of r)) → (is_some r ≡ true) × (not (in_phase is_active r) ≡ true) × (in_phase is_issued r ≡ true)
-only_issued None h = cc
-only_issued (Some r) h = let found = go r.phase h in (refl, found.0, found.1)
-  where
-    go : (q : Phase) → IsTrue (has issued (phase_state q)) → (not (is_active q) ≡ true) × (is_issued q ≡ true)
-    go Issued h = (refl, refl)
-    go _ h = cc
+only_issued r h = grind arith
 
 only_cancelled : (r : Option Request) → IsTrue (has (bit_or cancel_open cancel_done) (state_of r)) → in_phase is_cancelling r ≡ true
-only_cancelled None h = cc
-only_cancelled (Some r) h = go r.phase h
-  where
-    go : (q : Phase) → IsTrue (has (bit_or cancel_open cancel_done) (phase_state q)) → is_cancelling q ≡ true
-    go Cancelling h = refl
-    go Aborted h = refl
-    go _ h = cc
+only_cancelled r h = grind arith
 
 -- an object that is enlisted is idle, one with a request made is issued, one that waits is active, and what is aborted is answered; whether it is being cancelled stays as it was
 suits_enlisted : (k : Option ClassKind) (n : Known) (cs : List Cell) (priority : ℤ) → is_listed_kind k ≡ true → Suits k n None → Suits k (record { states = idle; cancelled = n.cancelled }) (Some (first_request cs priority))
-suits_enlisted (Some (An_active v b)) n cs priority l s = (refl, s.1, refl, idle_timed v (first_request cs priority) refl refl)
-suits_enlisted (Some (A_server m x b)) n cs priority l s = (refl, refl)
-suits_enlisted _ n cs priority l s = cc
-
-idle_still : (q : Phase) → is_idle q ≡ true → is_cancelling q ≡ false
-idle_still Idle h = refl
-idle_still _ h = cc
-
-issued_still : (q : Phase) → is_issued q ≡ true → is_cancelling q ≡ false
-issued_still Issued h = refl
-issued_still _ h = cc
-
-issued_made : (q : Phase) → is_issued q ≡ true → is_idle q ≡ false
-issued_made Issued h = refl
-issued_made _ h = cc
+suits_enlisted k n cs priority l s = grind arith
 
 suits_issued : (k : Option ClassKind) (n : Known) (asking : Asking) (a : ℤ) (r : Option Request) → is_active_kind k ≡ true → in_phase is_idle r ≡ true → Suits k n r → Suits k (record { states = issued; cancelled = n.cancelled }) (on_request (issued_of k asking a) r)
-suits_issued (Some (An_active v b)) n asking a (Some r) e free s = go v
-  where
-    still : false ≡ n.cancelled
-    still = sym (idle_still r.phase free) ∙ s.1
-
-    go : (v : Provider) → Suits (Some (An_active v b)) (record { states = issued; cancelled = n.cancelled }) (Some (issued_by v asking a r))
-    go Own = (refl, still, refl, refl)
-    go A_timer = (refl, still, refl, refl)
-    go (Native m) = (refl, still, refl, refl)
-suits_issued _ n asking a _ e free s = cc
+suits_issued k n asking a r e free s = grind arith
 
 suits_active : (k : Option ClassKind) (n : Known) (r : Option Request) → is_active_kind k ≡ true → in_phase is_issued r ≡ true → Suits k n r → Suits k (record { states = active; cancelled = n.cancelled }) (on_request waits r)
-suits_active (Some (An_active v b)) n (Some r) e made s = (refl, sym (issued_still r.phase made) ∙ s.1, refl, timed_on v r Active (issued_made r.phase made) refl s.3)
-suits_active _ n _ e made s = cc
+suits_active k n r e made s = grind arith
 
 suits_aborted : (k : Option ClassKind) (n : Known) (r : Option Request) → is_active_kind k ≡ true → in_phase is_cancelling r ≡ true → Suits k n r → Suits k (record { states = cancel_done; cancelled = n.cancelled }) (on_request aborted r)
-suits_aborted (Some (An_active v b)) n (Some r) e under s = (refl, sym under ∙ s.1, answered (int_eq r.status pending) refl, timed v)
-  where
-    answered : (b : Bool) → int_eq r.status pending ≡ b → int_eq (cond b cancelled_code r.status) pending ≡ false
-    answered true e = refl
-    answered false e = e
-
-    timed : (v : Provider) → is_timed v (Some (aborted r)) ≡ true
-    timed A_timer = ap (λ b. cond b false true) (answered (int_eq r.status pending) refl)
-    timed _ = refl
-suits_aborted _ n _ e under s = cc
+suits_aborted k n r e under s = grind arith
 
 -- what is in each of two sets is in what they share
 pub has_common : (a b k : ℕ) → IsTrue (has a k) → IsTrue (has b k) → IsTrue (has (bit_and a b) k)
@@ -231,13 +145,10 @@ has_common a b k h g = eq-eqb (bit_and (bit_and a b) k) k (and_assoc k a b ∙ a
 
 -- ---- the flows
 
-lead_first : (t : Typing) (m : ℕ) (xs ys : List Flow) → AllLead t m (xs ++ ys) → AllLead t m xs
-lead_first t m [] ys l = tt
-lead_first t m (x ∷ xs) ys l = (l.0, lead_first t m xs ys l.1)
-
-lead_rest : (t : Typing) (m : ℕ) (xs ys : List Flow) → AllLead t m (xs ++ ys) → AllLead t m ys
-lead_rest t m [] ys l = l
-lead_rest t m (x ∷ xs) ys l = lead_rest t m xs ys l.1
+-- ways that lead together lead by parts
+lead_parts : (t : Typing) (m : ℕ) (xs ys : List Flow) → AllLead t m (xs ++ ys) → AllLead t m xs × AllLead t m ys
+lead_parts t m [] ys l = (tt, l)
+lead_parts t m (x ∷ xs) ys l = let rest = lead_parts t m xs ys l.1 in ((l.0, rest.0), rest.1)
 
 -- a set that has a state is not empty
 not_empty_by : (n k : ℕ) → IsTrue (has n k) → has 0 k ≡ false → (n == 0) ≡ false
@@ -253,10 +164,6 @@ narrowed_leads t m place x sh some l = (subst (λ b. AllLead t m (cond b [] ((pl
 
 -- ---- the laws
 
-unlisted_none : (k : Option ClassKind) → is_listed_kind k ≡ true → k ≡ None → ⊥
-unlisted_none None l e = cc
-unlisted_none (Some k) l e = cc
-
 -- main is of no class
 pub main_of_none : (p : Image) → IsWired p → (m : ℕ) → method_role p m ≡ Some Main → own_kind p m ≡ None
 unfolding kind_of
@@ -267,17 +174,11 @@ of_class :
     (p : Image) → ((m : ℕ) → method_role p m ≡ Some Main → own_kind p m ≡ None) → (fr : Frame) → home_holder fr.home ≡ holder_of p fr.method → is_listed_kind (own_kind p fr.method) ≡ true →
     (o : Object) × (from : Place) × (fr.home ≡ Inside o from) × (thing_kind p o.thing ≡ own_kind p fr.method)
 unfolding kind_of
-of_class p main_none fr holder listed = go (method_class p fr.method) refl listed
-  where
-    go :
-        (class : Option ℕ) → method_class p fr.method ≡ class → is_listed_kind (kind_of p class) ≡ true →
-        (o : Object) × (from : Place) × (fr.home ≡ Inside o from) × (thing_kind p o.thing ≡ own_kind p fr.method)
-    go None e l = cc
-    go (Some c) e l =
-        let no_main : method_role p fr.method ≡ Some Main → ⊥ = λ main. unlisted_none (own_kind p fr.method) listed (main_none fr.method main) in
-        let member = holder ∙ ap (λ x. holder_by (method_role p fr.method) x) e ∙ holder_member (method_role p fr.method) c no_main in
-        let found = home_member fr.home c member in
-        (found.0, found.1, found.2, member_kind p found.0.thing c found.3 ∙ ap (λ x. kind_of p x) (sym e))
+of_class p main_none fr holder listed = some_given (λ class. is_listed_kind (kind_of p class) ≡ true) (method_class p fr.method) listed (λ none. cc) (λ c e l.
+    let no_main : method_role p fr.method ≡ Some Main → ⊥ = λ main. (let none = main_none fr.method main in grind arith) in
+    let member = holder ∙ ap (λ x. holder_by (method_role p fr.method) x) e ∙ holder_member (method_role p fr.method) c no_main in
+    let found = home_member fr.home c member in
+    (found.0, found.1, found.2, member_kind p found.0.thing c found.3 ∙ ap (λ x. kind_of p x) (sym e)))
 
 module _ (p : Image) (t : Typing) (main_none : (m : ℕ) → method_role p m ≡ Some Main → own_kind p m ≡ None) (c : Choice) (s : State) (fr : Frame) (sh : Shape) (ls : List Layer)
     (at_hand : At p t s fr sh ls) where
@@ -370,6 +271,9 @@ module _ (p : Image) (t : Typing) (main_none : (m : ℕ) → method_role p m ≡
       WellTyped p t (applied p fr (tasks_of ls) s (jumps_if fr b to))
   goes_by listed there here to b if_there if_here leads = go b refl
     where
+      parts : AllLead t fr.method (flow_narrowed sh (suc fr.place) here) × AllLead t fr.method (flow_narrowed sh to there)
+      parts = lead_parts t fr.method (flow_narrowed sh (suc fr.place) here) (flow_narrowed sh to there) leads
+
       goes : (fr' : Frame) (place x : ℕ) → fr'.home ≡ fr.home → fr'.method ≡ fr.method → fr'.height ≡ fr.height → fr'.words ≡ fr.words → fr'.place ≡ place → IsTrue (has x (state_of own)) → AllLead t fr.method (flow_narrowed sh place x) → WellTyped p t (record s { tasks = Run fr' ∷ tasks_of ls })
       goes fr' place x eh em eg ew ep h l =
           let sh' : Shape = record sh { states = bit_and sh.states x } in
@@ -378,8 +282,8 @@ module _ (p : Image) (t : Typing) (main_none : (m : ℕ) → method_role p m ≡
           (settle p t s.cells fr' sh' ls (reframed p t s.cells fr fr' sh' ls eh em eg ew (learned listed (bit_and sh.states x) (within listed x h))) (subst (λ m. Leads t m fr'.place sh') (sym em) (subst (λ q. Leads t fr.method q sh') (sym ep) goes_on)))
 
       go : (x : Bool) → b ≡ x → WellTyped p t (applied p fr (tasks_of ls) s (jumps_if fr x to))
-      go true e = goes (to_place fr to) to there refl refl refl refl refl (if_there e) (lead_rest t fr.method (flow_narrowed sh (suc fr.place) here) (flow_narrowed sh to there) leads)
-      go false e = goes (next fr) (suc fr.place) here refl refl refl refl refl (if_here e) (lead_first t fr.method (flow_narrowed sh (suc fr.place) here) (flow_narrowed sh to there) leads)
+      go true e = goes (to_place fr to) to there refl refl refl refl refl (if_there e) parts.1
+      go false e = goes (next fr) (suc fr.place) here refl refl refl refl refl (if_here e) parts.0
 
   pub law_jump_active : (to : ℕ) → Law p t c s fr sh ls at_hand (JumpActive to)
   law_jump_active to n leads = ((active_home n.0, tt), goes_by (active_listed (own_kind p fr.method) n.0) outstanding inactive to (in_phase is_busy own) (busy_in own) (free_in own) leads)

@@ -195,8 +195,7 @@ module _ (p : Image) (t : Typing) (c : Choice) (s : State) (fr fr2 : Frame) (sh 
 -- what the rule says of the result, by its kind
 module _ (p : Image) (s : State) where
   pub may_own : (x : Thing) (k : Kind) → is_own_for p x k ≡ true → is_ready_kind k ≡ true → k ≡ Own x Ready
-  may_own x (Own y Ready) e r = ap (λ z. Own z Ready) (stands_same p y x e)
-  may_own x _ e r = cc
+  may_own x k e r = grind arith
 
   pub may_hold : (x : Thing) (k : Kind) → may_be p x k ≡ true → is_ready_kind k ≡ true → Weaker (Maybe x Ready) k
   may_hold x Null e r = maybe_null
@@ -209,8 +208,7 @@ module _ (p : Image) (s : State) where
   word_is _ _ e f = absurd (grind arith)
 
   pub held_thing : (x : Thing) (o : Option Object) → Fits p (seen s.cells) o (Own x Ready) → (is_some o ≡ true) × (is_thing p x o ≡ true)
-  held_thing x None f = absurd f
-  held_thing x (Some o) f = (refl, f.0)
+  held_thing x o f = grind arith
 
   pub held_maybe : (x : Thing) (o : Option Object) → Fits p (seen s.cells) o (Maybe x Ready) → is_thing p x o ≡ true
   held_maybe x None f = refl
@@ -309,8 +307,7 @@ module _ (p : Image) (t : Typing) (wired : IsWired p) (c : Choice) (s : State) (
     where
       -- what leaves no object has dealt with all its entries
       entries_none : (g : Gives) → LeavesNone g → entries_done p g sh.entries ≡ true → no_entry sh.entries ≡ true
-      entries_none (Left y) none e = absurd none
-      entries_none _ none e = e
+      entries_none g none e = grind arith
 
       x : ℕ
       x = result_register (instr_at p fr2.method fr2.place)

@@ -1,5 +1,5 @@
 -- Seats: which places are none, and that those who sit stay where cells change elsewhere.
-use Rattle.std.proofs.Common.{List, Option, Some, None, [], ap, refl, subst, true, false, ◌&&◌, ◌==◌, ◌∷◌, ◌≡◌}
+use Rattle.std.proofs.Common.{arith, List, Option, Some, None, [], subst, true, false, ◌∷◌, ◌≡◌}
 use Rattle.std.specs.Prelude.{is_some}
 use Rattle.aom_sound.specs.Places.{Cell, Elsewhere, Entry, Field, Going, Object, Place, Register, held, named, requested, same_place}
 use Rattle.aom_sound.specs.State.{Seat}
@@ -22,16 +22,7 @@ NoSeatHere (Elsewhere w) xs = NoSeatAt (Elsewhere w) xs
 NoSeatHere (Going k) xs = Unit {0}
 
 is_elsewhere : (q r : Place) (xs : List Seat) → SitsIn r xs → NoFieldHere q r → same_place q r ≡ false
-is_elsewhere (Register f i) (Field m g) xs h a = refl
-is_elsewhere (Register f i) (Elsewhere w) xs h a = refl
-is_elsewhere (Entry k) (Field m g) xs h a = refl
-is_elsewhere (Entry k) (Elsewhere w) xs h a = refl
-is_elsewhere (Field n f) (Field m g) xs h a = ap (λ b. b && (f == g)) a
-is_elsewhere (Field n f) (Elsewhere w) xs h a = refl
-is_elsewhere (Going k) (Field m g) xs h a = refl
-is_elsewhere (Going k) (Elsewhere w) xs h a = refl
-is_elsewhere (Elsewhere w) r xs h a = a
-is_elsewhere _ _ xs h a = absurd h
+is_elsewhere q r xs h a = grind arith
 
 pub no_seat : (cs : List Cell) (q : Place) (xs : List Seat) → NoSeatHere q xs → AllSit cs xs → NoSeatAt q xs
 no_seat cs q [] h s = tt
@@ -60,11 +51,7 @@ pub first_kept :
     ((r : Place) (o : Object) → same_place a r ≡ false → held cs r ≡ Some o → named cs o.name ≡ Some o → is_some (requested cs o.name) ≡ true → is_some (requested cs' o.name) ≡ true) →
     NoSeatHere a xs → AllSit cs xs → SitsFirst cs d xs → SitsFirst cs' d xs
 first_kept cs cs' a None xs stays na s f = f
-first_kept cs cs' a (Some x) xs stays na s f = (go xs f.1 f.2 (no_seat cs a xs na s) s f.0, f.1, f.2)
-  where
-    go : (xs above : List Seat) → xs ≡ x ∷ above → NoSeatAt a xs → AllSit cs xs → is_some (requested cs x.object.name) ≡ true → is_some (requested cs' x.object.name) ≡ true
-    go (y ∷ ys) above e na s some =
-        let same : y ≡ x = cc in
-        let here = subst (λ (z : Seat). (same_place a z.place ≡ false) × (held cs z.place ≡ Some z.object) × (named cs z.object.name ≡ Some z.object)) same (na.0, s.0.0, s.0.1) in
-        stays x.place x.object here.0 here.1 here.2 some
-    go [] above e na s some = cc
+first_kept cs cs' a (Some x) xs stays na s f =
+    let apart : NoSeatAt a (x ∷ f.1) = subst (λ ys. NoSeatAt a ys) f.2 (no_seat cs a xs na s) in
+    let sits : AllSit cs (x ∷ f.1) = subst (λ ys. AllSit cs ys) f.2 s in
+    (stays x.place x.object apart.0 sits.0.0 sits.0.1 f.0, f.1, f.2)

@@ -1,9 +1,10 @@
 -- A message that a client sends is well typed in the queue of its server.
-use Rattle.std.proofs.Common.{Bool, List, None, Some, [], ap, cond, false, refl, subst, sym, true, ℕ, ◌&&◌, ◌==◌, ◌∙◌, ◌∷◌, ◌≡◌}
-use Rattle.std.proofs.lemmas.Bool.{eq-eqb, eqb-true, ne_eqb}
+use Rattle.std.proofs.Common.{Option, Bool, List, None, Some, [], ap, cond, false, refl, subst, sym, true, ℕ, ◌&&◌, ◌==◌, ◌∙◌, ◌∷◌, ◌≡◌}
+use Rattle.std.proofs.lemmas.Bool.{eq-eqb, eqb-true, ne_eqb, and_parts}
 use Rattle.std.proofs.lemmas.List.Folds.{list_any-append}
 use Rattle.std.specs.List.{list_any}
 use Rattle.std.specs.Prelude.{◌||◌}
+use Rattle.aom_image.specs.declared.method.Thing.{Thing}
 use Rattle.aom_image.specs.Image.{Image}
 use Rattle.aom_image.specs.declared.method.Thing.TheVariants.{Message}
 use Rattle.aom_rules.specs.Typing.{Typing}
@@ -19,7 +20,7 @@ use Rattle.aom_sound.proofs.Services.{held_served, named_served, requested_serve
 use Rattle.aom_sound.proofs.Straight.{fits_unowning}
 use Rattle.aom_sound.proofs.Things.{stands_itself}
 use Rattle.aom_sound.specs.Claims.{declared, declared_field}
-use Rattle.aom_sound.specs.Places.{Cell, Elsewhere, Field, Message_of, Object, Place, Queued, Session, Tidy, held, named, requested, same_place, seen, service_of}
+use Rattle.aom_sound.specs.Places.{Service, unserved, Cell, Elsewhere, Field, Message_of, Object, Place, Queued, Session, Tidy, held, named, requested, same_place, seen, service_of}
 use Rattle.aom_sound.specs.Requests.{AllSuit, Suits, resting_in, rests_in, thing_kind}
 use Rattle.aom_sound.specs.Servers.{asked_last, has_message, has_session, is_message, is_server, message_thing, reserved, session_thing}
 use Rattle.aom_sound.specs.WellTyped.{Fits, Good}
@@ -107,38 +108,26 @@ module _ (p : Image) (t : Typing) (cs : List Cell) (good : Good p t cs []) (o : 
       go true e = ap (λ y. declared_field p (Some y) f) named_so ∙ sym (ap (λ y. declared_field p y f) (ap (λ k. named cs k) (sym (eqb-true name n e)) ∙ free))
       go false e = refl
 
-  session_kind : (n d : ℕ) → declared p then (Elsewhere (Session n d)) ≡ declared p cs (Elsewhere (Session n d))
-  session_kind n d =
-      ap (λ b. cond b (filled (session_thing p (named then n)) Full) Null) (sessions_then n d)
-      ∙ ap (λ y. cond (has_session (service_of cs n) d) (filled (session_thing p y) Full) Null) (named_then n) ∙ go (name == n) refl
+  -- what is told of what clients have at a server is as it was, since they have nothing at the message
+  kind_then :
+      (test : Service → Bool) (thing : Option Object → Option Thing) → test unserved ≡ false → (n : ℕ) → test (service_of then n) ≡ test (service_of cs n) →
+      cond (test (service_of then n)) (filled (thing (named then n)) Full) Null ≡ cond (test (service_of cs n)) (filled (thing (named cs n)) Full) Null
+  kind_then test thing nothing n same =
+      ap (λ b. cond b (filled (thing (named then n)) Full) Null) same ∙ ap (λ y. cond (test (service_of cs n)) (filled (thing y) Full) Null) (named_then n) ∙ go (name == n) refl
     where
       go :
           (b : Bool) → (name == n) ≡ b →
-          cond (has_session (service_of cs n) d) (filled (session_thing p (cond b (Some message.object) (named cs n))) Full) Null
-          ≡ cond (has_session (service_of cs n) d) (filled (session_thing p (named cs n)) Full) Null
+          cond (test (service_of cs n)) (filled (thing (cond b (Some message.object) (named cs n))) Full) Null ≡ cond (test (service_of cs n)) (filled (thing (named cs n)) Full) Null
       go false e = refl
       go true e =
-          let none : has_session (service_of cs n) d ≡ false = ap (λ v. has_session v d) (ap (λ k. service_of cs k) (sym (eqb-true name n e)) ∙ service_unnamed cs name free) in
-          ap (λ b. cond b (filled (session_thing p (Some message.object)) Full) Null) none ∙ sym (ap (λ b. cond b (filled (session_thing p (named cs n)) Full) Null) none)
+          let none : test (service_of cs n) ≡ false = ap test (ap (λ k. service_of cs k) (sym (eqb-true name n e)) ∙ service_unnamed cs name free) ∙ nothing in
+          ap (λ b. cond b (filled (thing (Some message.object)) Full) Null) none ∙ sym (ap (λ b. cond b (filled (thing (named cs n)) Full) Null) none)
+
+  session_kind : (n d : ℕ) → declared p then (Elsewhere (Session n d)) ≡ declared p cs (Elsewhere (Session n d))
+  session_kind n d = kind_then (λ v. has_session v d) (λ y. session_thing p y) refl n (sessions_then n d)
 
   queue_kind : (n m : ℕ) → ((o.name == n) && (name == m)) ≡ false → declared p then (Elsewhere (Queued n m)) ≡ declared p cs (Elsewhere (Queued n m))
-  queue_kind n m other =
-      ap (λ b. cond b (filled (message_thing p (named then n)) Full) Null) (messages_then n m other)
-      ∙ ap (λ y. cond (has_message (service_of cs n) m) (filled (message_thing p y) Full) Null) (named_then n) ∙ go (name == n) refl
-    where
-      go :
-          (b : Bool) → (name == n) ≡ b →
-          cond (has_message (service_of cs n) m) (filled (message_thing p (cond b (Some message.object) (named cs n))) Full) Null
-          ≡ cond (has_message (service_of cs n) m) (filled (message_thing p (named cs n)) Full) Null
-      go false e = refl
-      go true e =
-          let none : has_message (service_of cs n) m ≡ false = ap (λ v. has_message v m) (ap (λ k. service_of cs k) (sym (eqb-true name n e)) ∙ service_unnamed cs name free) in
-          ap (λ b. cond b (filled (message_thing p (Some message.object)) Full) Null) none ∙ sym (ap (λ b. cond b (filled (message_thing p (named cs n)) Full) Null) none)
-
-  both : (a b : Bool) → (a && b) ≡ true → (a ≡ true) × (b ≡ true)
-  both true true e = (refl, refl)
-  both true false e = cc
-  both false b e = cc
+  queue_kind n m other = kind_then (λ v. has_message v m) (λ y. message_thing p y) refl n (messages_then n m other)
 
   own_kind : declared p then (Elsewhere (Queued o.name name)) ≡ Own Message Ready
   own_kind =
@@ -154,7 +143,7 @@ module _ (p : Image) (t : Typing) (cs : List Cell) (good : Good p t cs []) (o : 
       go : (b : Bool) → ((o.name == n) && (name == m)) ≡ b → Fits p (seen then) (held then (Elsewhere (Queued n m))) (declared p then (Elsewhere (Queued n m)))
       go false e = there_still (Elsewhere (Queued n m)) (held_then (Elsewhere (Queued n m)) ∙ ap (λ b. cond b (Some message.object) (held cs (Elsewhere (Queued n m)))) e) (queue_kind n m e)
       go true e =
-          let parts = both (o.name == n) (name == m) e in
+          let parts = and_parts (o.name == n) (name == m) e in
           let place : Elsewhere (Queued n m) ≡ Elsewhere (Queued o.name name) =
           ap (λ k. Elsewhere (Queued k m)) (sym (eqb-true o.name n parts.0)) ∙ ap (λ k. Elsewhere (Queued o.name k)) (sym (eqb-true name m parts.1)) in
           subst (λ y. Fits p (seen then) y (declared p then (Elsewhere (Queued n m)))) (sym (held_then (Elsewhere (Queued n m)) ∙ ap (λ b. cond b (Some message.object) (held cs (Elsewhere (Queued n m)))) e))

@@ -1,79 +1,53 @@
--- What clients have at the cells where these change: by the cells one after another.
-use Rattle.std.proofs.Common.{Bool, List, None, Option, Some, [], ap, cond, false, refl, sym, subst, true, ℕ, ℤ, ◌==◌, ◌∙◌, ◌∷◌, ◌≡◌}
-use Rattle.std.proofs.lemmas.Bool.{eqb-true, eq-eqb, true≢false}
+-- What clients have at the cells where these change: by what a change keeps of a cell.
+use Rattle.std.proofs.Common.{arith, Bool, List, None, Option, Some, ap, false, refl, true, ℕ, ℤ, ◌==◌, ◌∙◌, ◌≡◌}
 use Rattle.aom_image.specs.Image.{Image}
 use Rattle.aom_sound.specs.WellTyped.{AllSit, SitsFirst, seat_of, EndsSessions, IsAttended, StageFits}
 use Rattle.aom_sound.specs.Servers.{is_among, has_session}
 use Rattle.aom_sound.specs.State.{Seat, Dispatch, Of_server, Stage, Accepts, Accept_left}
-use Rattle.aom_sound.proofs.Maps.{front_free, read_without}
+use Rattle.aom_sound.proofs.Altering.{asking, bereaving, held_kept, moving, named_kept, read_here, read_kept, read_there, requests, services, serving, storing, tidy_kept}
+use Rattle.aom_sound.proofs.Maps.{read_unnamed, read_without}
 use Rattle.aom_sound.specs.Natives.{all_bereaved}
-use Rattle.aom_sound.specs.Places.{Cell, Object, Place, Request, Service, Tidy, held, moved, named, requested, same_place, service_of, set_request, set_service, set_session, set_word_field, unserved, without}
+use Rattle.aom_sound.specs.Places.{Cell, Object, Place, Request, Service, Tidy, held, moved, named, requested, service_of, set_request, set_service, set_word_field, unserved, without}
 
 pub service_moved : (cs : List Cell) (p q : Place) (n : ℕ) → service_of (moved p q cs) n ≡ service_of cs n
-service_moved [] p q n = refl
-service_moved (c ∷ cs) p q n = ap (λ x. cond (c.object.name == n) c.service x) (service_moved cs p q n)
+service_moved cs p q = read_kept (moving p q) services (λ c. refl) cs
 
 pub service_asked : (cs : List Cell) (m : ℕ) (r : Option Request) (n : ℕ) → service_of (set_request m r cs) n ≡ service_of cs n
-service_asked [] m r n = refl
-service_asked (c ∷ cs) m r n = ap (λ x. cond (c.object.name == n) c.service x) (service_asked cs m r n)
-
-pub service_opened : (cs : List Cell) (m : ℕ) (b : Bool) (n : ℕ) → service_of (set_session m b cs) n ≡ service_of cs n
-service_opened [] m b n = refl
-service_opened (c ∷ cs) m b n = ap (λ x. cond (c.object.name == n) c.service x) (service_opened cs m b n)
-
-pub service_stored : (cs : List Cell) (m w : ℕ) (v : ℤ) (n : ℕ) → service_of (set_word_field m w v cs) n ≡ service_of cs n
-service_stored [] m w v n = refl
-service_stored (c ∷ cs) m w v n = ap (λ x. cond (c.object.name == n) c.service x) (service_stored cs m w v n)
+service_asked cs m r = read_kept (asking m r) services (λ c. refl) cs
 
 pub service_bereaved : (p : Image) (k : ℕ) (cs : List Cell) (n : ℕ) → service_of (all_bereaved p k cs) n ≡ service_of cs n
-service_bereaved p k [] n = refl
-service_bereaved p k (c ∷ cs) n = ap (λ x. cond (c.object.name == n) c.service x) (service_bereaved p k cs n)
+service_bereaved p k = read_kept (bereaving p k) services (λ c. refl)
+
+pub service_stored : (cs : List Cell) (m w : ℕ) (v : ℤ) (n : ℕ) → service_of (set_word_field m w v cs) n ≡ service_of cs n
+service_stored cs m w v = read_kept (storing m w v) services (λ c. refl) cs
 
 -- of what is not there they have nothing
 pub service_unnamed : (cs : List Cell) (n : ℕ) → named cs n ≡ None → service_of cs n ≡ unserved
-service_unnamed [] n e = refl
-service_unnamed (c ∷ cs) n e = let f = front_free _ _ _ e in ap (λ b. cond b c.service (service_of cs n)) f.0 ∙ service_unnamed cs n f.1
+service_unnamed = read_unnamed services
 
 -- of all but what goes they have what they had
 pub service_without : (cs : List Cell) (g : Place) (o : Object) (n : ℕ) → Tidy cs → held cs g ≡ Some o → (o.name == n) ≡ false → service_of (without g cs) n ≡ service_of cs n
-service_without = read_without service_of (λ c. c.service) (λ c cs n. refl)
+service_without = read_without services
 
 -- ---- where they have something else at a cell
 
 pub held_served : (cs : List Cell) (m : ℕ) (v : Service) (q : Place) → held (set_service m v cs) q ≡ held cs q
-held_served [] m v q = refl
-held_served (c ∷ cs) m v q = ap (λ x. cond (same_place c.owner q) (Some c.object) x) (held_served cs m v q)
+held_served cs m v = held_kept (serving m v) (λ c. refl) cs
 
 pub named_served : (cs : List Cell) (m : ℕ) (v : Service) (n : ℕ) → named (set_service m v cs) n ≡ named cs n
-named_served [] m v n = refl
-named_served (c ∷ cs) m v n = ap (λ x. cond (c.object.name == n) (Some c.object) x) (named_served cs m v n)
+named_served cs m v = named_kept (serving m v) cs
 
 pub requested_served : (cs : List Cell) (m : ℕ) (v : Service) (n : ℕ) → requested (set_service m v cs) n ≡ requested cs n
-requested_served [] m v n = refl
-requested_served (c ∷ cs) m v n = ap (λ x. cond (c.object.name == n) c.request x) (requested_served cs m v n)
+requested_served cs m v = read_kept (serving m v) requests (λ c. refl) cs
 
 pub tidy_served : (cs : List Cell) (m : ℕ) (v : Service) → Tidy cs → Tidy (set_service m v cs)
-tidy_served [] m v t = tt
-tidy_served (c ∷ cs) m v t = (held_served cs m v c.owner ∙ t.0, named_served cs m v c.object.name ∙ t.1, tidy_served cs m v t.2)
+tidy_served cs m v = tidy_kept (serving m v) (λ c. refl) cs
 
 pub service_here : (cs : List Cell) (m : ℕ) (v : Service) (o : Object) → named cs m ≡ Some o → service_of (set_service m v cs) m ≡ v
-service_here [] m v o e = cc
-service_here (c ∷ cs) m v o e = go (c.object.name == m) e (service_here cs m v o)
-  where
-    go : (b : Bool) → cond b (Some c.object) (named cs m) ≡ Some o → (named cs m ≡ Some o → service_of (set_service m v cs) m ≡ v) → cond b (cond b v c.service) (service_of (set_service m v cs) m) ≡ v
-    go true e rest = refl
-    go false e rest = rest e
+service_here cs m v = read_here (serving m v) services m v (λ c. refl) cs
 
 pub service_there : (cs : List Cell) (m n : ℕ) (v : Service) → (m == n) ≡ false → service_of (set_service m v cs) n ≡ service_of cs n
-service_there [] m n v other = refl
-service_there (c ∷ cs) m n v other = go (c.object.name == n) (c.object.name == m) refl refl (service_there cs m n v other)
-  where
-    go :
-        (x y : Bool) → (c.object.name == n) ≡ x → (c.object.name == m) ≡ y → service_of (set_service m v cs) n ≡ service_of cs n →
-        cond x (cond y v c.service) (service_of (set_service m v cs) n) ≡ cond x c.service (service_of cs n)
-    go false y en em rest = rest
-    go true false en em rest = refl
-    go true true en em rest = absurd (true≢false (sym (eq-eqb m n (sym (eqb-true c.object.name m em) ∙ eqb-true c.object.name n en)) ∙ other))
+service_there cs m n v = read_there (serving m v) services m v (λ c. refl) cs n
 
 -- ---- what a stack says of it
 
@@ -103,10 +77,7 @@ attended_at p cs cs' d service = attended_alike p cs cs' d (λ y e. ap (λ v. v.
 
 -- the object that is dispatched lives, and is at its place
 pub sits_there : (cs : List Cell) (seats : List Seat) (y : Seat) → AllSit cs seats → SitsFirst cs (Some y) seats → (held cs y.place ≡ Some y.object) × (named cs y.object.name ≡ Some y.object)
-sits_there cs (x ∷ seats) y sits first =
-    let same : x ≡ y = cc in
-    subst (λ (z : Seat). (held cs z.place ≡ Some z.object) × (named cs z.object.name ≡ Some z.object)) same (sits.0.0, sits.0.1)
-sits_there cs [] y sits first = cc
+sits_there cs seats y sits first = grind arith
 
 pub sits_lives : (cs : List Cell) (seats : List Seat) (y : Seat) → AllSit cs seats → SitsFirst cs (Some y) seats → named cs y.object.name ≡ Some y.object
 sits_lives cs seats y sits first = (sits_there cs seats y sits first).1

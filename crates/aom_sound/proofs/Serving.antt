@@ -1,12 +1,10 @@
 -- The laws of the instructions at the native that serves what a method works on: a session counts for no claim, and nothing is owed to an object that is idle.
-use Rattle.std.proofs.Common.{IsTrue, None, Option, Some, ap, refl, true, ℕ, ◌&&◌, ◌∙◌, ◌≡◌, List, false}
+use Rattle.std.proofs.Common.{arith, IsTrue, None, Option, Some, ap, refl, true, ℕ, ◌&&◌, ◌∙◌, ◌≡◌, List, false}
 use Rattle.std.specs.Prelude.{not}
 use Rattle.std.specs.Ordering.{int_eq}
 use Rattle.aom_image.specs.Image.{Image}
 use Rattle.aom_image.specs.Views.{has, method_role}
 use Rattle.aom_image.specs.declared.class.ClassKind.{ClassKind}
-use Rattle.aom_image.specs.declared.class.ClassKind.TheVariants.{Active as An_active}
-use Rattle.aom_image.specs.declared.class.Provider.TheVariants.{Native}
 use Rattle.aom_image.specs.declared.method.Role.TheVariants.{Main}
 use Rattle.aom_instructions.specs.declared.instr.Instr.TheVariants.{Ask, Close, Connect}
 use Rattle.aom_roles.specs.States.{server_states}
@@ -25,14 +23,13 @@ use Rattle.aom_sound.specs.Effects.{heard}
 use Rattle.aom_sound.specs.Enlisted.{home_kind, is_idle, own_request, pending}
 use Rattle.aom_sound.specs.Moves.{does}
 use Rattle.aom_sound.specs.Natives.{connected, is_owed, opens, replied, resessioned}
-use Rattle.aom_sound.specs.Places.{Idle, Phase, Request}
+use Rattle.aom_sound.specs.Places.{Phase, Request}
 use Rattle.aom_sound.specs.Requests.{phase_state, state_of}
 use Rattle.aom_sound.specs.State.{Choice, Frame, State, next, set_word}
 use Rattle.aom_instructions.specs.declared.instr.Instr.{Instr}
 
 native_listed : (k : Option ClassKind) → is_native_kind k ≡ true → is_listed_kind k ≡ true
-native_listed (Some (An_active (Native n) b)) e = refl
-native_listed _ e = cc
+native_listed k e = grind arith
 
 -- nothing is owed to what is not enlisted, or idle
 unowed : (r : Option Request) → IsTrue (has server_states (state_of r)) → not (is_owed r) ≡ true
@@ -40,8 +37,7 @@ unowed None h = refl
 unowed (Some r) h = go r.phase h
   where
     go : (q : Phase) → IsTrue (has server_states (phase_state q)) → not (not (is_idle q) && int_eq r.status pending) ≡ true
-    go Idle h = refl
-    go _ h = cc
+    go q h = grind arith
 
 module _ (p : Image) (t : Typing) (main_none : (m : ℕ) → method_role p m ≡ Some Main → own_kind p m ≡ None) (c : Choice) (s : State) (fr : Frame) (sh : Shape) (ls : List Layer)
     (at_hand : At p t s fr sh ls) where

@@ -1,7 +1,8 @@
 -- Cells of which some go, and at the others clients have something else: by the cells one after another.
-use Rattle.std.proofs.Common.{Bool, List, None, Option, Some, [], ap, cond, false, refl, subst, sym, true, ℕ, ◌&&◌, ◌==◌, ◌∙◌, ◌∷◌, ◌≡◌}
-use Rattle.std.proofs.lemmas.Bool.{eq-eqb, eqb-true}
-use Rattle.aom_sound.proofs.Maps.{same_place-true, same_place_refl}
+use Rattle.std.proofs.Common.{arith, Bool, List, None, Option, Some, [], ap, cond, false, refl, subst, sym, true, ℕ, ◌&&◌, ◌==◌, ◌∙◌, ◌∷◌, ◌≡◌}
+use Rattle.std.proofs.lemmas.Bool.{eq-eqb, eqb-true, ne_eqb}
+use Rattle.std.proofs.lemmas.Option.{none-some}
+use Rattle.aom_sound.proofs.Maps.{Finds, found, same_place-true, same_place_refl}
 use Rattle.aom_sound.specs.Places.{Cell, Object, Place, Request, Service, Tidy, held, named, requested, same_place, service_of, unserved}
 use Rattle.aom_sound.specs.Servers.{all_unslotted, is_from, is_queue, is_queue_of, left_by, unslotted, without_queue, withdrawn}
 
@@ -49,62 +50,41 @@ service_cell [] n = refl
 service_cell (c ∷ cs) n = either_in service_in (c.object.name == n) c (service_of cs n) (cell_of cs n) (service_cell cs n)
 
 pub no_cell : (x : Option Cell) → object_in x ≡ None → x ≡ None
-no_cell None e = refl
-no_cell (Some c) e = cc
+no_cell x e = grind arith
 
 pub a_cell_of : (x : Option Cell) (o : Object) → object_in x ≡ Some o → (c : Cell) × (x ≡ Some c) × (c.object ≡ o)
-a_cell_of None o e = cc
-a_cell_of (Some c) o e = (c, refl, cc)
+a_cell_of x o e = grind arith
+
+abbrev pub cells_in : (q : Place) → Finds (λ cs. cell_in cs q)
+cells_in q = record { test = λ c. same_place c.owner q; of = λ c. c; none = refl; some = λ c cs. refl }
+
+abbrev pub cells_of : (n : ℕ) → Finds (λ cs. cell_of cs n)
+cells_of n = record { test = λ c. c.object.name == n; of = λ c. c; none = refl; some = λ c cs. refl }
 
 pub cell_owner : (cs : List Cell) (q : Place) (c : Cell) → cell_in cs q ≡ Some c → c.owner ≡ q
-cell_owner [] q c e = cc
-cell_owner (x ∷ cs) q c e = go (same_place x.owner q) refl (cell_owner cs q c) e
-  where
-    go : (b : Bool) → same_place x.owner q ≡ b → (cell_in cs q ≡ Some c → c.owner ≡ q) → cond b (Some x) (cell_in cs q) ≡ Some c → c.owner ≡ q
-    go true f later e = let same : x ≡ c = cc in subst (λ y. y.owner ≡ q) same (same_place-true x.owner q f)
-    go false f later e = later e
+cell_owner cs q c = found (cells_in q) c (λ cs. c.owner ≡ q) (λ x cs at is. subst (λ y. y.owner ≡ q) is (same_place-true x.owner q at)) (λ x cs other e rest. rest) cs
 
 pub cell_name : (cs : List Cell) (n : ℕ) (c : Cell) → cell_of cs n ≡ Some c → c.object.name ≡ n
-cell_name [] n c e = cc
-cell_name (x ∷ cs) n c e = go (x.object.name == n) refl (cell_name cs n c) e
-  where
-    go : (b : Bool) → (x.object.name == n) ≡ b → (cell_of cs n ≡ Some c → c.object.name ≡ n) → cond b (Some x) (cell_of cs n) ≡ Some c → c.object.name ≡ n
-    go true f later e = let same : x ≡ c = cc in subst (λ y. y.object.name ≡ n) same (eqb-true x.object.name n f)
-    go false f later e = later e
+cell_name cs n c = found (cells_of n) c (λ cs. c.object.name ≡ n) (λ x cs at is. subst (λ y. y.object.name ≡ n) is (eqb-true x.object.name n at)) (λ x cs other e rest. rest) cs
 
 -- what stands in a place is of its name, and stands in its owner's place
 pub cell_lives : (cs : List Cell) (q : Place) (c : Cell) → Tidy cs → cell_in cs q ≡ Some c → cell_of cs c.object.name ≡ Some c
-cell_lives [] q c t e = cc
-cell_lives (x ∷ cs) q c t e = go (same_place x.owner q) (x.object.name == c.object.name) refl (cell_lives cs q c t.2) e
+cell_lives cs q c t e = found (cells_in q) c (λ cs. Tidy cs → cell_of cs c.object.name ≡ Some c)
+    (λ x cs at is t. ap (λ b. cond b (Some x) (cell_of cs c.object.name)) (eq-eqb x.object.name c.object.name (ap (λ y. y.object.name) is)) ∙ ap (λ y. Some y) is)
+    (λ x cs other e rest t. ap (λ b. cond b (Some x) (cell_of cs c.object.name)) (apart x cs t (rest t.2)) ∙ rest t.2) cs e t
   where
-    go :
-        (b d : Bool) → (x.object.name == c.object.name) ≡ d → (cell_in cs q ≡ Some c → cell_of cs c.object.name ≡ Some c) → cond b (Some x) (cell_in cs q) ≡ Some c →
-        cond d (Some x) (cell_of cs c.object.name) ≡ Some c
-    go true d f later e =
-        let same : x ≡ c = cc in
-        let here : (x.object.name == c.object.name) ≡ true = eq-eqb x.object.name c.object.name (ap (λ y. y.object.name) same) in
-        ap (λ z. cond z (Some x) (cell_of cs c.object.name)) (sym f ∙ here) ∙ ap (λ y. Some y) same
-    go false true f later e =
-        let none : cell_of cs c.object.name ≡ None =
-        ap (λ n. cell_of cs n) (sym (eqb-true x.object.name c.object.name f)) ∙ no_cell (cell_of cs x.object.name) (sym (named_cell cs x.object.name) ∙ t.1) in
-        let clash : Some c ≡ None = sym (later e) ∙ none in
-        cc
-    go false false f later e = later e
+    apart : (x : Cell) (cs : List Cell) → Tidy (x ∷ cs) → cell_of cs c.object.name ≡ Some c → (x.object.name == c.object.name) ≡ false
+    apart x cs t there = ne_eqb x.object.name c.object.name (λ same.
+        none-some c (sym (no_cell (cell_of cs c.object.name) (sym (named_cell cs c.object.name) ∙ ap (λ n. named cs n) (sym same) ∙ t.1)) ∙ there))
 
 pub cell_placed : (cs : List Cell) (n : ℕ) (c : Cell) → Tidy cs → cell_of cs n ≡ Some c → cell_in cs c.owner ≡ Some c
-cell_placed [] n c t e = cc
-cell_placed (x ∷ cs) n c t e = go (x.object.name == n) (same_place x.owner c.owner) refl (cell_placed cs n c t.2) e
+cell_placed cs n c t e = found (cells_of n) c (λ cs. Tidy cs → cell_in cs c.owner ≡ Some c)
+    (λ x cs at is t. ap (λ b. cond b (Some x) (cell_in cs c.owner)) (ap (λ y. same_place x.owner y.owner) (sym is) ∙ same_place_refl x.owner) ∙ ap (λ y. Some y) is)
+    (λ x cs other e rest t. go x cs (same_place x.owner c.owner) refl t (rest t.2)) cs e t
   where
-    go : (b d : Bool) → same_place x.owner c.owner ≡ d → (cell_of cs n ≡ Some c → cell_in cs c.owner ≡ Some c) → cond b (Some x) (cell_of cs n) ≡ Some c → cond d (Some x) (cell_in cs c.owner) ≡ Some c
-    go true d f later e =
-        let same : x ≡ c = cc in
-        let here : same_place x.owner c.owner ≡ true = ap (λ y. same_place x.owner y.owner) (sym same) ∙ same_place_refl x.owner in
-        ap (λ z. cond z (Some x) (cell_in cs c.owner)) (sym f ∙ here) ∙ ap (λ y. Some y) same
-    go false true f later e =
-        let none : cell_in cs c.owner ≡ None = ap (λ q. cell_in cs q) (sym (same_place-true x.owner c.owner f)) ∙ no_cell (cell_in cs x.owner) (sym (held_cell cs x.owner) ∙ t.0) in
-        let clash : Some c ≡ None = sym (later e) ∙ none in
-        cc
-    go false false f later e = later e
+    go : (x : Cell) (cs : List Cell) (b : Bool) → same_place x.owner c.owner ≡ b → Tidy (x ∷ cs) → cell_in cs c.owner ≡ Some c → cond b (Some x) (cell_in cs c.owner) ≡ Some c
+    go x cs true same t there = absurd (none-some c (sym (no_cell (cell_in cs c.owner) (sym (held_cell cs c.owner) ∙ ap (λ q. held cs q) (sym (same_place-true x.owner c.owner same)) ∙ t.0)) ∙ there))
+    go x cs false other t there = there
 
 -- ---- some go
 
@@ -190,13 +170,8 @@ module _ (drops : Cell → Bool) (f : Cell → Service) where
   pub named_before : (cs : List Cell) (n : ℕ) (o : Object) → Tidy cs → named (sifted drops f cs) n ≡ Some o → (c : Cell) × (cell_of cs n ≡ Some c) × (c.object ≡ o) × (drops c ≡ false)
   named_before cs n o t e = go (cell_of cs n) refl (sym (ap object_in (cell_of_sifted cs n t)) ∙ sym (named_cell (sifted drops f cs) n) ∙ e)
     where
-      at : (c : Cell) → cell_of cs n ≡ Some c → (d : Bool) → drops c ≡ d → object_in (cond d None (Some (record c { service = f c }))) ≡ Some o → (c : Cell) × (cell_of cs n ≡ Some c) × (c.object ≡ o) × (drops c ≡ false)
-      at c there true ed e = cc
-      at c there false ed e = (c, there, cc, ed)
-
       go : (x : Option Cell) → cell_of cs n ≡ x → object_in (kept x) ≡ Some o → (c : Cell) × (cell_of cs n ≡ Some c) × (c.object ≡ o) × (drops c ≡ false)
-      go None there e = cc
-      go (Some c) there e = at c there (drops c) refl e
+      go x there e = grind arith
 
   pub requested_before : (cs : List Cell) (n : ℕ) (o : Object) → Tidy cs → named (sifted drops f cs) n ≡ Some o → requested (sifted drops f cs) n ≡ requested cs n
   requested_before cs n o t e = let b = named_before cs n o t e in requested_sifted cs t n b.0 b.1 b.3 ∙ sym (requested_cell cs n ∙ ap request_in b.1)

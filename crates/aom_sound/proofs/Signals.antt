@@ -1,44 +1,28 @@
 -- Between dispatches each object rests: what signals is ready.
-use Rattle.std.proofs.Common.{Bool, IsTrue, List, None, Option, Some, [], ap, cond, false, refl, subst, sym, true, ◌&&◌, ◌==◌, ◌∙◌, ◌∷◌, ◌≡◌}
-use Rattle.std.proofs.lemmas.Bool.{eq-eqb, ne_eqb}
+use Rattle.std.proofs.Common.{arith, Bool, List, None, Option, Some, [], ap, cond, false, refl, subst, sym, true, ◌&&◌, ◌==◌, ◌∙◌, ◌∷◌, ◌≡◌}
+use Rattle.std.proofs.lemmas.Bool.{eq-eqb, ne_eqb, not-true}
 use Rattle.std.specs.Prelude.{is_some, not, ◌||◌}
 use Rattle.std.specs.Ordering.{int_eq}
+use Rattle.aom_sound.specs.Claims.{forms, items_of}
+use Rattle.aom_image.proofs.Given.{nil_given}
 use Rattle.aom_image.specs.Image.{Image}
-use Rattle.aom_image.specs.Views.{has}
 use Rattle.aom_image.specs.declared.class.ClassKind.{ClassKind}
-use Rattle.aom_image.specs.declared.class.ClassKind.TheVariants.{Active as An_active, Server as A_server}
-use Rattle.aom_roles.specs.States.{active_states, server_states, states_of}
+use Rattle.aom_roles.specs.States.{states_of}
 use Rattle.aom_rules.specs.Typing.{Typing}
 use Rattle.aom_sound.proofs.Owners.{layers_none}
 use Rattle.aom_sound.specs.Enlisted.{is_active, is_idle, is_unsettled, pending}
 use Rattle.aom_sound.specs.Laws.{SignalsAreReady}
-use Rattle.aom_sound.specs.Places.{Active, Cell, Idle, Object, Phase, Request, Tidy, named, requested}
-use Rattle.aom_sound.specs.Requests.{AllSuit, Suits, phase_state, resting_in, thing_kind}
+use Rattle.aom_sound.specs.Places.{Cell, Object, Phase, Request, Tidy, named, requested}
+use Rattle.aom_sound.specs.Requests.{AllSuit, Suits, resting_in, thing_kind}
 use Rattle.aom_sound.specs.Servers.{is_asked_for}
 use Rattle.aom_sound.specs.State.{State}
 use Rattle.aom_sound.specs.WellTyped.{WellTyped}
 use Rattle.aom_sound.specs.World.{AllSettled, Candidate, among_ready, before_others, first_ready, has_signal, is_settled, signals}
 
-settled_not : (b : Bool) → not b ≡ true → b ≡ false
-settled_not true e = cc
-settled_not false e = refl
-
 -- what rests is idle or waits
 rests_settled : (k : Option ClassKind) (r : Option Request) → Suits k (resting_in (states_of k)) r → is_settled r ≡ true
 unfolding states_of
-rests_settled k None s = refl
-rests_settled (Some (An_active v b)) (Some r) s = phase r.phase s.0
-  where
-    phase : (q : Phase) → IsTrue (has active_states (phase_state q)) → not (is_unsettled q) ≡ true
-    phase Idle h = refl
-    phase Active h = refl
-    phase _ h = cc
-rests_settled (Some (A_server most x b)) (Some r) s = phase r.phase s.1
-  where
-    phase : (q : Phase) → IsTrue (has server_states (phase_state q)) → not (is_unsettled q) ≡ true
-    phase Idle h = refl
-    phase _ h = cc
-rests_settled _ (Some r) s = cc
+rests_settled k r s = grind arith
 
 settled_cells : (cs : List Cell) → ((o : Object) → named cs o.name ≡ Some o → is_settled (requested cs o.name) ≡ true) → Tidy cs → AllSettled cs
 settled_cells [] h tidy = tt
@@ -58,17 +42,12 @@ settled_cells (c ∷ cs) h tidy = (here, settled_cells cs later tidy.2)
 -- a signal of what is settled is that of an object that waits, or of a server with a queue
 some_ready : (c : Cell) (r : Option Request) (others : Option Candidate) → is_settled r ≡ true → is_some (among_ready c r others) ≡ (signals c r || is_some others)
 some_ready c None others e = refl
-some_ready c (Some r) others e = go r.phase (not (int_eq r.status pending)) (is_asked_for c) (settled_not (is_unsettled r.phase) e)
+some_ready c (Some r) others e = go r.phase (not (int_eq r.status pending)) (is_asked_for c) (not-true (is_unsettled r.phase) e)
   where
     go :
         (q : Phase) (b asked : Bool) → is_unsettled q ≡ false →
         is_some (cond ((is_active q && b) || asked) (Some (before_others (record { seat = record { object = c.object; place = c.owner }; request = r }) others)) others) ≡ (((not (is_idle q) && b) || asked) || is_some others)
-    go Idle b true e = refl
-    go Idle b false e = refl
-    go Active true asked e = refl
-    go Active false true e = refl
-    go Active false false e = refl
-    go _ b asked e = cc
+    go q b asked e = grind arith
 
 same_signals : (cs : List Cell) → AllSettled cs → has_signal cs ≡ is_some (first_ready cs)
 same_signals [] s = refl
@@ -76,6 +55,9 @@ same_signals (c ∷ cs) s = ap (λ b. signals c c.request || b) (same_signals cs
 
 pub at_rest : (p : Image) (t : Typing) (s : State) (w : WellTyped p t s) → s.tasks ≡ [] → w.layers ≡ []
 at_rest p t s w idle = layers_none w.layers (sym w.tasks ∙ idle)
+
+pub items_at_rest : (p : Image) (t : Typing) (s : State) → WellTyped p t s → s.tasks ≡ [] → s.items ≡ []
+items_at_rest p t s w idle = nil_given (λ is. forms is ≡ []) s.items (w.items ∙ ap items_of (at_rest p t s w idle)) (λ i is e. cc) (λ none e. none)
 
 pub signals_are_ready : SignalsAreReady
 signals_are_ready p t s w idle =

@@ -4,11 +4,9 @@ use Rattle.aom_image.specs.declared.method.Role.TheVariants.{Error as Error_role
 use Rattle.aom_sound.proofs.ClientsKeep.{clients_keep}
 use Rattle.aom_sound.specs.Kept.{IsKept}
 use Rattle.aom_sound.specs.Enlisted.{part_of}
-use Rattle.aom_sound.proofs.Turned.{commanded_kept, picked_rest, polled_rest}
-use Rattle.aom_sound.proofs.Guarded.{goes_same}
 use Rattle.aom_sound.proofs.Signals.{signals_are_ready}
 use Rattle.aom_sound.proofs.Turning.{turn_goes_on}
-use Rattle.std.proofs.Common.{Bool, List, None, Option, Some, [], ap, cond, false, inl, inr, refl, subst, sym, true, ⊎_elim, ◌∙◌, ◌∷◌, ◌≡◌, pos, ℤ, ℕ}
+use Rattle.std.proofs.Common.{arith, Bool, List, None, Option, Some, [], ap, cond, false, inl, inr, refl, subst, sym, true, ⊎_elim, ◌∙◌, ◌∷◌, ◌≡◌, pos, ℤ, ℕ}
 use Rattle.std.specs.Prelude.{◌⊎◌}
 use Rattle.aom_image.specs.Image.{Image}
 use Rattle.aom_rules.specs.Typing.{IsTyped, Typing}
@@ -26,10 +24,10 @@ use Rattle.aom_sound.specs.Moves.{IsOpen, answered, asking, counted, dispatch_en
 use Rattle.aom_sound.specs.Places.{Elsewhere, Object, Root, held}
 use Rattle.aom_sound.specs.Quiet.{IsCalm}
 use Rattle.aom_sound.specs.Registers.{AllInRange}
-use Rattle.aom_sound.specs.State.{Of_server, Accept_left, Answered, Asks, Object_left, Of_object, Choice, Dispatch, Dispatched, Goes, IsStuck, Main_left, Of_main, Of_root, Outcome, Rest, State, Task}
+use Rattle.aom_sound.specs.State.{Of_server, Accept_left, Answered, Asks, Object_left, Of_object, Choice, Dispatch, Dispatched, Goes, Main_left, Of_main, Of_root, Outcome, Rest, State, Task}
 use Rattle.aom_sound.specs.Steps.{Move}
 use Rattle.aom_sound.specs.WellTyped.{Good, Keeps, WellTyped}
-use Rattle.aom_sound.specs.World.{Obeys, heard_one, Cuts, Heard, IsBetween, IsBusy, Outside, Picks, Reaches, Strays, Turning, Waits, begins, boot_state, moves, turn, turned, turning, turns, Polls}
+use Rattle.aom_sound.specs.World.{Heard, IsBetween, IsBusy, Outside, Reaches, Turning, begins, boot_state, moves, turn, turned, turning, turns}
 use Rattle.aom_transcript.specs.declared.line.Ending.{Ending}
 use Rattle.aom_transcript.specs.declared.line.Ending.TheVariants.{Stopped}
 use Rattle.aom_transcript.specs.declared.line.Line.{Line}
@@ -45,8 +43,7 @@ abbrev GoesOn : State → Type 0
 GoesOn s = (s.rest.ended ≡ None) ⊎ IsAtRest s
 
 not_stopped : (b : Bool) → b ≡ false → cond b (Some Stopped) None ≡ Some Stopped → ⊥
-not_stopped true f e = cc
-not_stopped false f e = cc
+not_stopped b f e = let clash : cond false (Some Stopped) None ≡ Some Stopped = ap (λ x. cond x (Some Stopped) None) (sym f) ∙ e in cc
 
 -- at the end of a run the root is gone
 abbrev Uprooted : State → Type 0
@@ -99,13 +96,7 @@ turn_holds : (p : Image) (outside : Outside) (heard : Heard) (s u : State) → I
 turn_holds p outside heard s u between e = go (turning outside heard s) e
   where
     go : (k : Turning) → turned p s k ≡ Goes u → GoesOn u
-    go Cuts e = subst (λ v. GoesOn v) (goes_same _ u e) (inr (record { idle = between.idle; rootless = λ h. cc }))
-    go Waits e = subst (λ v. GoesOn v) (goes_same _ u e) (inr (record { idle = between.idle; rootless = λ h. cc }))
-    go (Polls n answer) e = inl (ap (λ (r : Rest). r.ended) (polled_rest p s u n answer e) ∙ between.going)
-    go (Picks x) e = inl (ap (λ (r : Rest). r.ended) (picked_rest p s u x e) ∙ between.going)
-    go (Obeys client command name) e = subst (λ v. GoesOn v) (goes_same _ u e) (inl (ap (λ (r : Rest). r.ended) (commanded_kept p client (heard_one s) command name).0 ∙ between.going))
-    go Strays e = cc
-    go _ e = subst (λ v. GoesOn v) (goes_same _ u e) (inl between.going)
+    go k e = grind arith
 
 busy_open : (s : State) → IsBusy s → GoesOn s → s.rest.ended ≡ None
 busy_open s busy (inl e) = e
@@ -145,8 +136,7 @@ module _ (p : Image) (t : Typing) (outside : Outside) (wired : IsWired p) (typed
   }
 
   goes : (o : Outcome) → Keeps p t o → (u : State) × (o ≡ Goes u)
-  goes (Goes u) k = (u, refl)
-  goes (IsStuck kind) k = absurd k
+  goes o k = grind arith
 
   over : (s : State) (ending : Ending) → Stays s → s.rest.ended ≡ Some ending → IsAtRest s
   over s ending h e = go h.goes_on

@@ -1,5 +1,5 @@
 -- Every move from a well-typed state.
-use Rattle.std.proofs.Common.{List, None, Some, [], cond, refl, subst, sym, ℕ, ℤ, ◌∙◌, ◌∷◌, ◌≡◌, Option}
+use Rattle.std.proofs.Common.{arith, List, None, Some, [], cond, refl, subst, sym, ℕ, ℤ, ◌∙◌, ◌∷◌, ◌≡◌, Option}
 use Rattle.aom_image.specs.Image.{Image}
 use Rattle.aom_image.specs.Views.{instr_at}
 use Rattle.aom_instructions.specs.declared.instr.Instr.{Instr}
@@ -85,8 +85,7 @@ module _ (p : Image) (t : Typing) (wired : IsWired p) (typed : IsTyped p t) (c :
   law i here back = go (first (laws i here back)) (some i here back)
     where
       go : (o : Option (Law p t c s fr sh ls at_hand i)) → IsSome o → Law p t c s fr sh ls at_hand i
-      go None h = cc
-      go (Some x) h = x
+      go o h = grind arith
 
 -- no method stands right over the dispatch of a server
 no_stage : (p : Image) (x : Seat) (stage : Stage) (m : ℕ) (home : Home) → EndsStage p x stage (Returns m home) → ⊥

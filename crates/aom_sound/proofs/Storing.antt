@@ -1,11 +1,14 @@
 -- The words of a cell count for no place, and its request for the age of objects alone: where these change, what is claimed holds on.
-use Rattle.std.specs.Prelude.{is_some, map}
+use Rattle.std.specs.Prelude.{is_some}
+use Rattle.aom_sound.proofs.Maps.{requested_unnamed}
+use Rattle.aom_image.proofs.Given.{some_given}
 use Rattle.aom_shape.specs.declared.kind.Kind.TheVariants.{Null}
 use Rattle.aom_shape.specs.declared.kind.Filling.TheVariants.{Full}
-use Rattle.aom_sound.proofs.Services.{attended_kept, sessions_kept, service_asked, service_opened, service_stored}
+use Rattle.aom_sound.proofs.Altering.{Alters, asking, bereaving, held_kept, named_kept, opening, read_here, read_kept, read_so, read_there, requests, services, storing, tidy_kept}
+use Rattle.aom_sound.proofs.Services.{attended_kept, sessions_kept}
 use Rattle.aom_sound.specs.Servers.{is_among, is_message, message_thing, has_message, has_session, session_thing}
 use Rattle.aom_sound.proofs.Seats.{first_kept}
-use Rattle.std.proofs.Common.{Bool, List, Option, Some, [], ap, cond, false, refl, subst, sym, true, ℕ, ℤ, ◌==◌, ◌∙◌, ◌∷◌, ◌≡◌}
+use Rattle.std.proofs.Common.{arith, Bool, List, Option, Some, [], ap, cond, false, refl, subst, sym, true, ℕ, ℤ, ◌==◌, ◌∙◌, ◌∷◌, ◌≡◌}
 use Rattle.aom_image.specs.Image.{Image}
 use Rattle.aom_shape.specs.Kinds.{is_ready_kind, filled}
 use Rattle.aom_shape.specs.Shape.{Shape}
@@ -13,16 +16,16 @@ use Rattle.aom_rules.specs.Typing.{Typing}
 use Rattle.aom_sound.proofs.Claimed.{claim_rel, fits_age}
 use Rattle.aom_sound.proofs.Straight.{Fitted}
 use Rattle.aom_sound.specs.Claims.{Dispatching, Dying, Layer, Mark, Method, Unwinding, claim, declared, declared_field, Ending}
-use Rattle.aom_sound.specs.Places.{Service, Cell, Entry, Field, Object, Place, Request, Tidy, held, named, requested, same_place, seen, set_request, set_word_field, set_session, Elsewhere, Session, Queued, service_of}
+use Rattle.aom_sound.specs.Places.{Service, Cell, Entry, Field, Object, Place, Request, Tidy, held, named, requested, seen, set_request, set_word_field, Elsewhere, Session, Queued, service_of}
 use Rattle.aom_sound.specs.State.{AtRoot, Frame, Home, Inside, Seat, Static}
 use Rattle.aom_sound.specs.WellTyped.{AllSit, Back, Fits, IsHoused, Stack, seat_of}
 use Rattle.aom_sound.specs.Words.{stored}
 use Rattle.aom_sound.specs.Requests.{Suits, states_claim, thing_kind}
-use Rattle.std.proofs.lemmas.Bool.{eq-eqb, eqb-true, true≢false}
+use Rattle.std.proofs.lemmas.Bool.{eqb-true}
 use Rattle.aom_sound.specs.Enlisted.{cancelled, ended_cells, on_request, own_request, rerequested}
 use Rattle.aom_rules.specs.Requests.{is_cancel}
 use Rattle.aom_image.specs.Views.{method_role}
-use Rattle.aom_sound.specs.Natives.{all_bereaved, bereaved, is_served_by, resessioned, terminated_request}
+use Rattle.aom_sound.specs.Natives.{all_bereaved, is_served_by, resessioned, terminated_request}
 use Rattle.std.specs.List.{list_any}
 
 -- the same cells in the same places
@@ -33,21 +36,21 @@ pub record Alike (cs cs' : List Cell) : Type 0 where
   pub sessions_so : (n : ℕ) → (service_of cs' n).sessions ≡ (service_of cs n).sessions
   pub tidy : Tidy cs → Tidy cs'
 
+-- each is changed by itself, and stays in its place and for its clients
+altered_alike : {change : List Cell → List Cell} (a : Alters change) → ((c : Cell) → (a.each c).owner ≡ c.owner) → ((c : Cell) → (a.each c).service ≡ c.service) → (cs : List Cell) → Alike cs (change cs)
+altered_alike a stays serves cs = record {
+  held_so = held_kept a stays cs;
+  named_so = named_kept a cs;
+  queues_so = λ n. ap (λ (v : Service). v.queue) (read_kept a services serves cs n);
+  sessions_so = λ n. ap (λ (v : Service). v.sessions) (read_kept a services serves cs n);
+  tidy = tidy_kept a stays cs;
+}
+
 pub held_set_word : (cs : List Cell) (n w : ℕ) (v : ℤ) (r : Place) → held (set_word_field n w v cs) r ≡ held cs r
-held_set_word [] n w v r = refl
-held_set_word (c ∷ cs) n w v r = ap (λ x. cond (same_place c.owner r) (Some c.object) x) (held_set_word cs n w v r)
+held_set_word cs n w v = held_kept (storing n w v) (λ c. refl) cs
 
 pub named_set_word : (cs : List Cell) (n w : ℕ) (v : ℤ) (m : ℕ) → named (set_word_field n w v cs) m ≡ named cs m
-named_set_word [] n w v m = refl
-named_set_word (c ∷ cs) n w v m = ap (λ x. cond (c.object.name == m) (Some c.object) x) (named_set_word cs n w v m)
-
-requested_set_word : (cs : List Cell) (n w : ℕ) (v : ℤ) (m : ℕ) → requested (set_word_field n w v cs) m ≡ requested cs m
-requested_set_word [] n w v m = refl
-requested_set_word (c ∷ cs) n w v m = ap (λ x. cond (c.object.name == m) c.request x) (requested_set_word cs n w v m)
-
-tidy_set_word : (cs : List Cell) (n w : ℕ) (v : ℤ) → Tidy cs → Tidy (set_word_field n w v cs)
-tidy_set_word [] n w v t = tt
-tidy_set_word (c ∷ cs) n w v t = (held_set_word cs n w v c.owner ∙ t.0, named_set_word cs n w v c.object.name ∙ t.1, tidy_set_word cs n w v t.2)
+named_set_word cs n w v = named_kept (storing n w v) cs
 
 pub alike_itself : (cs : List Cell) → Alike cs cs
 alike_itself cs = record { held_so = λ r. refl; named_so = λ n. refl; queues_so = λ n. refl; sessions_so = λ n. refl; tidy = λ t. t }
@@ -55,66 +58,32 @@ alike_itself cs = record { held_so = λ r. refl; named_so = λ n. refl; queues_s
 stored_alike : (cs : List Cell) (home : Home) (w : ℕ) (v : ℤ) → Alike cs (stored cs home w v)
 stored_alike cs Static w v = alike_itself cs
 stored_alike cs AtRoot w v = alike_itself cs
-stored_alike cs (Inside o from) w v = record {
-  held_so = held_set_word cs o.name w v;
-  named_so = named_set_word cs o.name w v;
-  queues_so = λ n. ap (λ (v : Service). v.queue) (service_stored cs o.name w v n);
-  sessions_so = λ n. ap (λ (v : Service). v.sessions) (service_stored cs o.name w v n);
-  tidy = tidy_set_word cs o.name w v;
-}
+stored_alike cs (Inside o from) w v = altered_alike (storing o.name w v) (λ c. refl) (λ c. refl) cs
 
 stored_requests : (cs : List Cell) (home : Home) (w : ℕ) (v : ℤ) (n : ℕ) → requested (stored cs home w v) n ≡ requested cs n
 stored_requests cs Static w v n = refl
 stored_requests cs AtRoot w v n = refl
-stored_requests cs (Inside o from) w v n = requested_set_word cs o.name w v n
+stored_requests cs (Inside o from) w v n = read_kept (storing o.name w v) requests (λ c. refl) cs n
 
 -- the cells with another request of one of them
-held_asked : (cs : List Cell) (n : ℕ) (r : Option Request) (q : Place) → held (set_request n r cs) q ≡ held cs q
-held_asked [] n r q = refl
-held_asked (c ∷ cs) n r q = ap (λ x. cond (same_place c.owner q) (Some c.object) x) (held_asked cs n r q)
-
-named_asked : (cs : List Cell) (n : ℕ) (r : Option Request) (m : ℕ) → named (set_request n r cs) m ≡ named cs m
-named_asked [] n r m = refl
-named_asked (c ∷ cs) n r m = ap (λ x. cond (c.object.name == m) (Some c.object) x) (named_asked cs n r m)
-
-tidy_asked : (cs : List Cell) (n : ℕ) (r : Option Request) → Tidy cs → Tidy (set_request n r cs)
-tidy_asked [] n r t = tt
-tidy_asked (c ∷ cs) n r t = (held_asked cs n r c.owner ∙ t.0, named_asked cs n r c.object.name ∙ t.1, tidy_asked cs n r t.2)
-
 pub requested_here : (cs : List Cell) (n : ℕ) (r : Option Request) (o : Object) → named cs n ≡ Some o → requested (set_request n r cs) n ≡ r
-requested_here [] n r o e = cc
-requested_here (c ∷ cs) n r o e = go (c.object.name == n) e (requested_here cs n r o)
-  where
-    go : (b : Bool) → cond b (Some c.object) (named cs n) ≡ Some o → (named cs n ≡ Some o → requested (set_request n r cs) n ≡ r) → cond b (cond b r c.request) (requested (set_request n r cs) n) ≡ r
-    go true e rest = refl
-    go false e rest = rest e
+requested_here cs n r = read_here (asking n r) requests n r (λ c. refl) cs
 
 pub requested_there : (cs : List Cell) (n m : ℕ) (r : Option Request) → (n == m) ≡ false → requested (set_request n r cs) m ≡ requested cs m
-requested_there [] n m r other = refl
-requested_there (c ∷ cs) n m r other = go (c.object.name == m) (c.object.name == n) refl refl (requested_there cs n m r other)
-  where
-    go :
-        (x y : Bool) → (c.object.name == m) ≡ x → (c.object.name == n) ≡ y → requested (set_request n r cs) m ≡ requested cs m →
-        cond x (cond y r c.request) (requested (set_request n r cs) m) ≡ cond x c.request (requested cs m)
-    go false y em en rest = rest
-    go true false em en rest = refl
-    go true true em en rest = absurd (true≢false (sym (eq-eqb n m (sym (eqb-true c.object.name n en) ∙ eqb-true c.object.name m em)) ∙ other))
+requested_there cs n m r = read_there (asking n r) requests n r (λ c. refl) cs m
 
 pub on_some : (f : Request → Request) (r : Option Request) → is_some r ≡ true → is_some (on_request f r) ≡ true
-on_some f (Some r) e = refl
-on_some f _ e = cc
+on_some f r e = grind arith
 
 -- what is enlisted stays so where another request is put in the place of one that there is
 asked_some : (cs : List Cell) (n m : ℕ) (r : Option Request) → ((n == m) ≡ true → is_some r ≡ true) → is_some (requested cs m) ≡ true → is_some (requested (set_request n r cs) m) ≡ true
-asked_some [] n m r h some = cc
-asked_some (c ∷ cs) n m r h some = go (c.object.name == m) (c.object.name == n) refl refl some (asked_some cs n m r h)
+asked_some cs n m r h some = go (n == m) refl
   where
-    go :
-        (x y : Bool) → (c.object.name == m) ≡ x → (c.object.name == n) ≡ y → is_some (cond x c.request (requested cs m)) ≡ true →
-        (is_some (requested cs m) ≡ true → is_some (requested (set_request n r cs) m) ≡ true) → is_some (cond x (cond y r c.request) (requested (set_request n r cs) m)) ≡ true
-    go false y em en some rest = rest some
-    go true false em en some rest = some
-    go true true em en some rest = h (eq-eqb n m (sym (eqb-true c.object.name n en) ∙ eqb-true c.object.name m em))
+    go : (b : Bool) → (n == m) ≡ b → is_some (requested (set_request n r cs) m) ≡ true
+    go false other = ap is_some (requested_there cs n m r other) ∙ some
+    go true same =
+        some_given (λ x. named cs m ≡ x) (named cs m) refl (λ none. (let clash : false ≡ true = sym (ap is_some (requested_unnamed cs m none)) ∙ some in cc))
+        (λ o is lives. ap (λ k. is_some (requested (set_request k r cs) m)) (eqb-true n m same) ∙ ap is_some (requested_here cs m r o lives) ∙ h same)
 
 pub set_listed :
     (cs : List Cell) (n : ℕ) (r : Option Request) → (is_some (requested cs n) ≡ true → is_some r ≡ true) → (m : ℕ) → is_some (requested cs m) ≡ true →
@@ -131,13 +100,7 @@ listed_still cs (Inside o from) r h m some = set_listed cs o.name r h m some
 pub rerequested_alike : (cs : List Cell) (home : Home) (r : Option Request) → Alike cs (rerequested cs home r)
 rerequested_alike cs Static r = alike_itself cs
 rerequested_alike cs AtRoot r = alike_itself cs
-rerequested_alike cs (Inside o from) r = record {
-  held_so = held_asked cs o.name r;
-  named_so = named_asked cs o.name r;
-  queues_so = λ n. ap (λ (v : Service). v.queue) (service_asked cs o.name r n);
-  sessions_so = λ n. ap (λ (v : Service). v.sessions) (service_asked cs o.name r n);
-  tidy = tidy_asked cs o.name r;
-}
+rerequested_alike cs (Inside o from) r = altered_alike (asking o.name r) (λ c. refl) (λ c. refl) cs
 
 -- and the cells once a method is over
 pub ended_alike : (p : Image) (fr : Frame) (cs : List Cell) → Alike cs (ended_cells p fr cs)
@@ -196,37 +159,15 @@ module _ (p : Image) (t : Typing) (cs cs' : List Cell) (alike : Alike cs cs') wh
       (subst (λ o. Fits p (seen cs') o (claim p (declared p cs) ls r)) (sym (alike.held_so r)) (fits_age p (seen cs) (seen cs') (held cs r) _ (λ x e fresh age. (λ f. alike.held_so _ ∙ age.0 f, requests x e fresh ∙ age.1)) f))
 
 -- the cells with a session of one of them open or not
-held_session : (cs : List Cell) (n : ℕ) (b : Bool) (q : Place) → held (set_session n b cs) q ≡ held cs q
-held_session [] n b q = refl
-held_session (c ∷ cs) n b q = ap (λ x. cond (same_place c.owner q) (Some c.object) x) (held_session cs n b q)
-
-named_session : (cs : List Cell) (n : ℕ) (b : Bool) (m : ℕ) → named (set_session n b cs) m ≡ named cs m
-named_session [] n b m = refl
-named_session (c ∷ cs) n b m = ap (λ x. cond (c.object.name == m) (Some c.object) x) (named_session cs n b m)
-
-requested_session : (cs : List Cell) (n : ℕ) (b : Bool) (m : ℕ) → requested (set_session n b cs) m ≡ requested cs m
-requested_session [] n b m = refl
-requested_session (c ∷ cs) n b m = ap (λ x. cond (c.object.name == m) c.request x) (requested_session cs n b m)
-
-tidy_session : (cs : List Cell) (n : ℕ) (b : Bool) → Tidy cs → Tidy (set_session n b cs)
-tidy_session [] n b t = tt
-tidy_session (c ∷ cs) n b t = (held_session cs n b c.owner ∙ t.0, named_session cs n b c.object.name ∙ t.1, tidy_session cs n b t.2)
-
 pub resessioned_alike : (cs : List Cell) (home : Home) (b : Bool) → Alike cs (resessioned cs home b)
 resessioned_alike cs Static b = alike_itself cs
 resessioned_alike cs AtRoot b = alike_itself cs
-resessioned_alike cs (Inside o from) b = record {
-  held_so = held_session cs o.name b;
-  named_so = named_session cs o.name b;
-  queues_so = λ n. ap (λ (v : Service). v.queue) (service_opened cs o.name b n);
-  sessions_so = λ n. ap (λ (v : Service). v.sessions) (service_opened cs o.name b n);
-  tidy = tidy_session cs o.name b;
-}
+resessioned_alike cs (Inside o from) b = altered_alike (opening o.name b) (λ c. refl) (λ c. refl) cs
 
 pub resessioned_requests : (cs : List Cell) (home : Home) (b : Bool) (n : ℕ) → requested (resessioned cs home b) n ≡ requested cs n
 resessioned_requests cs Static b n = refl
 resessioned_requests cs AtRoot b n = refl
-resessioned_requests cs (Inside o from) b n = requested_session cs o.name b n
+resessioned_requests cs (Inside o from) b n = read_kept (opening o.name b) requests (λ c. refl) cs n
 
 -- other cells in the same places, with the same requests
 alike_fitted :
@@ -253,52 +194,16 @@ pub stored_fitted :
     (p : Image) (t : Typing) (cs : List Cell) (home : Home) (w : ℕ) (v : ℤ) (fr : Frame) (sh : Shape) (ls : List Layer) → Fitted p t cs fr sh ls → Fitted p t (stored cs home w v) fr sh ls
 stored_fitted p t cs home w v = alike_fitted p t cs (stored cs home w v) (stored_alike cs home w v) (stored_requests cs home w v)
 
--- ---- each cell may have another request and another session
-
--- a cell with those
+-- a cell with another request and another session perhaps
 abbrev pub reset : (Cell → Option Request) → (Cell → Bool) → Cell → Cell
 reset f g c = record c { request = f c; session = g c }
 
-module _ (f : Cell → Option Request) (g : Cell → Bool) where
-  held_reset : (cs : List Cell) (r : Place) → held (map (reset f g) cs) r ≡ held cs r
-  held_reset [] r = refl
-  held_reset (c ∷ cs) r = ap (λ x. cond (same_place c.owner r) (Some c.object) x) (held_reset cs r)
-
-  named_reset : (cs : List Cell) (n : ℕ) → named (map (reset f g) cs) n ≡ named cs n
-  named_reset [] n = refl
-  named_reset (c ∷ cs) n = ap (λ x. cond (c.object.name == n) (Some c.object) x) (named_reset cs n)
-
-  service_reset : (cs : List Cell) (n : ℕ) → service_of (map (reset f g) cs) n ≡ service_of cs n
-  service_reset [] n = refl
-  service_reset (c ∷ cs) n = ap (λ x. cond (c.object.name == n) c.service x) (service_reset cs n)
-
-  tidy_reset : (cs : List Cell) → Tidy cs → Tidy (map (reset f g) cs)
-  tidy_reset [] t = tt
-  tidy_reset (c ∷ cs) t = (held_reset cs c.owner ∙ t.0, named_reset cs c.object.name ∙ t.1, tidy_reset cs t.2)
-
-  pub reset_alike : (cs : List Cell) → Alike cs (map (reset f g) cs)
-  reset_alike cs = record {
-    held_so = held_reset cs;
-    named_so = named_reset cs;
-    queues_so = λ n. ap (λ (v : Service). v.queue) (service_reset cs n);
-    sessions_so = λ n. ap (λ (v : Service). v.sessions) (service_reset cs n);
-    tidy = tidy_reset cs;
-  }
-
 -- what a native that is killed leaves behind
 pub bereaved_alike : (p : Image) (n : ℕ) (cs : List Cell) → Alike cs (all_bereaved p n cs)
-bereaved_alike p n cs = reset_alike (λ c. (bereaved p n c).request) (λ c. (bereaved p n c).session) cs
+bereaved_alike p n cs = altered_alike (bereaving p n) (λ c. refl) (λ c. refl) cs
 
 pub requested_bereaved :
     (p : Image) (n : ℕ) (cs : List Cell) (o : Object) → named cs o.name ≡ Some o →
     requested (all_bereaved p n cs) o.name ≡ cond (is_served_by p n o.thing) (terminated_request (requested cs o.name)) (requested cs o.name)
-requested_bereaved p n [] o e = cc
-requested_bereaved p n (c ∷ cs) o e = go (c.object.name == o.name) e (requested_bereaved p n cs o)
-  where
-    becomes : Object → Option Request → Option Request
-    becomes x r = cond (is_served_by p n x.thing) (terminated_request r) r
-
-    go : (b : Bool) → cond b (Some c.object) (named cs o.name) ≡ Some o → (named cs o.name ≡ Some o → requested (all_bereaved p n cs) o.name ≡ becomes o (requested cs o.name)) →
-        cond b (becomes c.object c.request) (requested (all_bereaved p n cs) o.name) ≡ becomes o (cond b c.request (requested cs o.name))
-    go true e rest = let same : c.object ≡ o = cc in ap (λ x. becomes x c.request) same
-    go false e rest = rest e
+requested_bereaved p n cs o e = read_so (bereaving p n) requests o.name (λ r. cond (is_served_by p n o.thing) (terminated_request r) r) cs
+    (λ c is here. let same : c.object ≡ o = cc in ap (λ x. cond (is_served_by p n x.thing) (terminated_request c.request) c.request) same) (λ none. cc)

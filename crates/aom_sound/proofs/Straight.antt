@@ -2,6 +2,7 @@
 use Rattle.std.proofs.Common.{Bool, List, None, Option, Some, ap, arith, cond, false, length, refl, subst, suc, sym, true, zero, ℕ, ℤ, ◌&&◌, ◌==◌, ◌∙◌, ◌∷◌, ◌≡◌}
 use Rattle.std.proofs.lemmas.Bool.{eq-eqb, eqb-true, ne_eqb, true≢false}
 use Rattle.std.specs.Prelude.{is_some, ◌||◌}
+use Rattle.aom_image.proofs.Given.{some_given}
 use Rattle.aom_image.specs.Image.{Image}
 use Rattle.aom_instructions.specs.declared.instr.Instr.{Instr}
 use Rattle.aom_image.specs.declared.method.Thing.{Thing}
@@ -12,11 +13,9 @@ use Rattle.aom_shape.specs.Shape.{Shape}
 use Rattle.aom_shape.specs.Tables.{at, put_at}
 use Rattle.aom_shape.specs.Things.{field_thing, holder_of}
 use Rattle.aom_rules.specs.Typing.{AllLead, Leads, Typing}
-use Rattle.aom_shape.specs.declared.kind.Age.TheVariants.{Ready}
 use Rattle.aom_shape.specs.declared.kind.Filling.{Filling}
-use Rattle.aom_shape.specs.declared.kind.Filling.TheVariants.{Empty}
 use Rattle.aom_shape.specs.declared.kind.Kind.{Kind}
-use Rattle.aom_shape.specs.declared.kind.Kind.TheVariants.{Maybe, Null, Own, Unset, Word}
+use Rattle.aom_shape.specs.declared.kind.Kind.TheVariants.{Maybe, Null, Own, Unset}
 use Rattle.aom_sound.proofs.Seats.{NoFieldHere}
 use Rattle.aom_sound.proofs.Claimed.{Outside, claim-set_register, claim_frame, claim_from, claim_ready, claim_weaker, declared_moved, fits_weaker, holds_moved, keep_fits, outside_differs, owns_no_more, stack_moved, word_fits_weaker}
 use Rattle.aom_sound.proofs.Maps.{at-put_at, held_moved, one_place, requested_moved, same_place-true, tidy_moved}
@@ -26,7 +25,7 @@ use Rattle.aom_sound.specs.Moves.{does, needs}
 use Rattle.aom_sound.specs.Objects.{is_declared_thing, is_thing}
 use Rattle.aom_sound.specs.Places.{Cell, Elsewhere, Field, Object, Place, Register, Root, Sight, Tidy, changed, held, moved, requested, same_place, seen}
 use Rattle.aom_sound.specs.State.{AtRoot, Choice, Frame, Home, Inside, Run, State, Static, field_place, home_holder, next, set_word, thing_holder, word}
-use Rattle.aom_sound.specs.WellTyped.{AllUndo, Fits, Frames, Good, Holds, IsAlone, IsApart, IsHoused, IsNoFieldOf, Returns, Stack, WellTyped, WordFits, HasMessage}
+use Rattle.aom_sound.specs.WellTyped.{AllUndo, Fits, Frames, Good, Holds, IsAlone, IsApart, IsHoused, Returns, Stack, WellTyped, WordFits, HasMessage}
 use Rattle.aom_sound.proofs.Suiting.{all_moved, claims_less}
 use Rattle.aom_sound.specs.Requests.{AllSuit, Known, Suits, known_at, states_claim, thing_kind, works_at}
 use Rattle.aom_image.specs.Views.{method_role}
@@ -51,14 +50,10 @@ fits_unowning p h None k u f = refl
 fits_unowning p h _ _ u f = absurd (grind arith)
 
 pub may_be_object : (p : Image) (x : Thing) (k : Kind) → may_be p x k ≡ true → is_object_or_null k ≡ true
-may_be_object p x Unset e = cc
-may_be_object p x Word e = cc
-may_be_object p x _ e = refl
+may_be_object p x k e = grind arith
 
 pub word_of_object : (w : Option ℤ) (k : Kind) → is_object_or_null k ≡ true → WordFits w k → w ≡ None
-word_of_object w Unset e f = cc
-word_of_object w Word e f = cc
-word_of_object w _ e f = f
+word_of_object w k e f = grind arith
 
 -- the cells are as the layers claim, where the top method may be in the middle of its instruction
 pub record Fitted (p : Image) (t : Typing) (cs : List Cell) (fr : Frame) (sh : Shape) (ls : List Layer) : Type 0 where
@@ -203,9 +198,7 @@ words_null words sh a h e i = subst (λ x. WordFits (at None words i) x) (sym (a
     go false f = h i
 
 pub no_word_fits : (k : Kind) → is_object_or_null k ≡ true → WordFits None k
-no_word_fits Unset e = tt
-no_word_fits Word e = cc
-no_word_fits _ e = refl
+no_word_fits k e = grind arith
 
 -- a register of the top method
 abbrev pub top : List Layer → ℕ → Place
@@ -287,16 +280,10 @@ module _ (p : Image) (t : Typing) (c : Choice) (s : State) (fr : Frame) (sh : Sh
       subst (λ k. Fits p (seen s.cells) (held s.cells (field_place fr.home f)) k) (claim_field p (declared p s.cells) fr sh ls fr.home f refl some) (at_hand.good.fits (field_place fr.home f))
 
   pub field_outside : (home : Home) (f : ℕ) → fr.home ≡ home → is_some (field_thing p (home_holder home) f) ≡ true → Outside (field_place home f) ls
-  field_outside Static f e some = cc
-  field_outside AtRoot f e some = let apart : IsApart p AtRoot ls = subst (λ h. IsApart p h ls) e at_hand.good.stack.3 in apart.1
-  field_outside (Inside o from) f e some = let apart : IsApart p (Inside o from) ls = subst (λ h. IsApart p h ls) e at_hand.good.stack.3 in apart.1
+  field_outside home f e some = grind arith
 
   pub field_not_from : (home : Home) (f : ℕ) → fr.home ≡ home → (o : Object) (from : Place) → home ≡ Inside o from → NoFieldHere (field_place home f) from
-  field_not_from (Inside x q) f e o from e' =
-      let apart : IsApart p (Inside x q) ls = subst (λ h. IsApart p h ls) e at_hand.good.stack.3 in
-      let same : q ≡ from = cc in
-      subst (λ r. IsNoFieldOf x.name r) same apart.0
-  field_not_from _ f e o from e' = cc
+  field_not_from home f e o from e' = grind arith
 
   pub kind_fits : (b : ℕ) → Fits p (seen s.cells) (held s.cells (top ls b)) (register sh b)
   kind_fits b = register_fits p s.cells fr sh ls at_hand.good.fits b
@@ -308,27 +295,19 @@ module _ (p : Image) (t : Typing) (c : Choice) (s : State) (fr : Frame) (sh : Sh
   thing_ok x _ _ e f = absurd f
 
   pub declared_ok : (x : Option Thing) (o : Option Object) (k : Kind) → may_be_declared p x k ≡ true → Fits p (seen s.cells) o k → is_declared_thing p x o ≡ true
-  declared_ok None o k e f = cc
-  declared_ok (Some x) o k e f = thing_ok x o k e f
+  declared_ok x o k e f = some_given (λ x. may_be_declared p x k ≡ true) x e (λ none. cc) (λ y is e. subst (λ z. is_declared_thing p z o ≡ true) (sym is) (thing_ok y o k e f))
 
   pub declared_object : (x : Option Thing) (k : Kind) → may_be_declared p x k ≡ true → is_object_or_null k ≡ true
-  declared_object None k e = cc
-  declared_object (Some x) k e = may_be_object p x k e
+  declared_object x k e = grind arith
 
   pub refills : (x : Option Thing) (k : Kind) → may_be_declared p x k ≡ true → is_ready_kind k ≡ true → filled x (filling_of k) ≡ k
-  refills (Some x) Null e r = refl
-  refills (Some x) (Own y Ready) e r = ap (λ z. Own z Ready) (sym (stands_same p y x e))
-  refills (Some x) (Maybe y Ready) e r = ap (λ z. Maybe z Ready) (sym (stands_same p y x e))
-  refills _ _ e r = cc
+  refills x k e r = grind (arith, stands_same p)
 
   pub empties : (x : Option Thing) (y : Filling) → is_empty y ≡ true → is_unowning (filled x y) ≡ true
-  empties None y e = refl
-  empties (Some x) Empty e = refl
-  empties _ _ e = cc
+  empties x y e = grind arith
 
   pub may_be_some : (x : Option Thing) (k : Kind) → may_be_declared p x k ≡ true → is_some x ≡ true
-  may_be_some None k e = cc
-  may_be_some (Some x) k e = refl
+  may_be_some x k e = grind arith
 
   -- what the frame works on is nowhere claimed to be fresh
   pub this_is_ready :

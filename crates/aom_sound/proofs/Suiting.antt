@@ -1,6 +1,6 @@
 -- How what is known of requests changes with the layers, and how it goes on to hold.
-use Rattle.std.proofs.Common.{Bool, IsTrue, List, None, Option, Some, [], ap, cond, false, inl, inr, refl, subst, sym, true, ℕ, ℤ, ◌&&◌, ◌==◌, ◌∙◌, ◌∷◌, ◌≡◌}
-use Rattle.std.proofs.lemmas.Bool.{eqb-true, true≢false}
+use Rattle.std.proofs.Common.{arith, Bool, IsTrue, List, None, Option, Some, [], ap, cond, false, inl, inr, refl, subst, sym, true, ℕ, ◌&&◌, ◌==◌, ◌∙◌, ◌∷◌, ◌≡◌}
+use Rattle.std.proofs.lemmas.Bool.{eqb-true}
 use Rattle.std.specs.Prelude.{is_none, is_some, not, ◌||◌}
 use Rattle.aom_image.specs.Image.{Image}
 use Rattle.aom_image.specs.Views.{has, method_role}
@@ -14,8 +14,8 @@ use Rattle.aom_shape.proofs.Sets.{has_along, has_itself}
 use Rattle.aom_shape.specs.Shape.{Shape}
 use Rattle.aom_sound.proofs.Maps.{named_moved, requested_moved}
 use Rattle.aom_sound.specs.Claims.{Dispatching, Dying, Layer, Mark, Method, Unwinding, Ending}
-use Rattle.aom_sound.specs.Places.{Aborted, Active, Cell, Idle, Issued, Object, Phase, Place, Request, moved, named, requested}
-use Rattle.aom_sound.specs.Enlisted.{cancelled, in_phase, is_aborted, is_cancelling, is_idle, is_unanswered, on_request, pending, status_of}
+use Rattle.aom_sound.specs.Places.{Cell, Idle, Object, Phase, Place, Request, moved, named, requested}
+use Rattle.aom_sound.specs.Enlisted.{cancelled, in_phase, is_cancelling, is_idle, is_unanswered, on_request, pending, status_of}
 use Rattle.std.specs.Ordering.{int_eq}
 use Rattle.aom_sound.specs.Requests.{AllSuit, Joins, Known, Suits, Unworked, is_timed, known_at, phase_state, resting_in, rests_in, state_of, states_claim, thing_kind, works_at}
 use Rattle.aom_sound.specs.State.{AtRoot, Frame, Home, Inside, Static}
@@ -35,10 +35,7 @@ unfolding states_of
 suits_rests (Some (An_active v b)) states r u s = (go r s.0 s.1, s.1, s.2, s.3)
   where
     phase : (q : Phase) → IsTrue (has states (phase_state q)) → is_cancelling q ≡ false → IsTrue (has active_states (phase_state q))
-    phase Idle h g = refl
-    phase Issued h g = absurd (true≢false (sym u ∙ ap not h))
-    phase Active h g = refl
-    phase _ h g = cc
+    phase q h g = grind arith
 
     go : (r : Option Request) → IsTrue (has states (state_of r)) → in_phase is_cancelling r ≡ false → IsTrue (has active_states (state_of r))
     go None h g = refl
@@ -117,20 +114,14 @@ pub known_resting :
 known_resting p o fr states ls e u = known_plain p fr states (states_claim p o ls) e ∙ ap (λ (k : Known). record { states = states; cancelled = k.cancelled }) (unworked_rests p o ls u)
 
 -- a method that cancels ends with its request completed
-done_only : (q : Phase) (status : ℤ) → IsTrue (has cancel_done (phase_state q)) → (is_aborted q && int_eq status pending) ≡ false → int_eq status pending ≡ false
-done_only Aborted status h u = u
-done_only _ status h u = cc
-
 served_only : (q : Phase) → IsTrue (has server_states (phase_state q)) → IsTrue (has cancel_done (phase_state q)) → ⊥
-served_only Idle h g = cc
-served_only _ h g = cc
+served_only q h g = grind arith
 
 pub completed : (k : Option ClassKind) (n : Known) (r : Option Request) → IsTrue (has cancel_done n.states) → Suits k n r → int_eq (status_of r) pending ≡ false
 completed (Some (An_active v b)) n r h s = go r (has_along cancel_done n.states (state_of r) h s.0) s.2
   where
     go : (r : Option Request) → IsTrue (has cancel_done (state_of r)) → is_unanswered r ≡ false → int_eq (status_of r) pending ≡ false
-    go None h u = cc
-    go (Some q) h u = done_only q.phase q.status h u
+    go r h u = grind arith
 completed (Some (A_server m x b)) n r h s = go r s.1 (has_along cancel_done n.states (state_of r) h s.0)
   where
     go : (r : Option Request) → IsTrue (has server_states (state_of r)) → IsTrue (has cancel_done (state_of r)) → int_eq (status_of r) pending ≡ false
@@ -162,13 +153,11 @@ pub cancel_ends : (k : Option ClassKind) (n : Known) (r : Option Request) → Is
 cancel_ends (Some (An_active v b)) n r h s = go r (has_along cancel_done n.states (state_of r) h s.0) s.2 s.3
   where
     go : (r : Option Request) → IsTrue (has cancel_done (state_of r)) → is_unanswered r ≡ false → is_timed v r ≡ true → Suits (Some (An_active v b)) (resting_in idle) (on_request cancelled r)
-    go None h u t = cc
-    go (Some q) h u t = (refl, refl, refl, idle_timed v (cancelled q) refl (untimed v q (done_only q.phase q.status h u) t))
+    go r h u t = grind arith
 cancel_ends (Some (A_server m x b)) n r h s = go r (has_along cancel_done n.states (state_of r) h s.0)
   where
     go : (r : Option Request) → IsTrue (has cancel_done (state_of r)) → Suits (Some (A_server m x b)) (resting_in idle) (on_request cancelled r)
-    go None h = cc
-    go (Some q) h = (refl, refl)
+    go r h = grind arith
 cancel_ends _ n r h s = ap (λ r. on_request cancelled r) s
 
 -- the object that a method worked on, by what stands below it; one that cancelled has left it idle
@@ -177,14 +166,10 @@ pub rejoins_caller :
     (works_at o.name fr.home ≡ true → IsTrue (has sh.states ends)) → IsTrue (has ends states) → unissued states ≡ true →
     Suits (thing_kind p o.thing) (record { states = states; cancelled = (states_claim p o (Method fr sh ∷ ls)).cancelled }) r →
     Suits (thing_kind p o.thing) (states_claim p o (Method fr sh ∷ ls)) r
-rejoins_caller p o fr sh states ls ends r (inl w) well within u s = go (works_at o.name fr.home) w s
-  where
-    below : Known
-    below = states_claim p o ls
-
-    go : (b : Bool) → b ≡ true → Suits (thing_kind p o.thing) (record { states = states; cancelled = (cond b (known_at p fr sh.states below) below).cancelled }) r → Suits (thing_kind p o.thing) (cond b (known_at p fr sh.states below) below) r
-    go true e s = suits_less (thing_kind p o.thing) sh.states states _ r (has_along sh.states ends states (well w) within) s
-    go false e s = cc
+rejoins_caller p o fr sh states ls ends r (inl w) well within u s =
+    let there : Known = known_at p fr sh.states (states_claim p o ls) in
+    subst (λ b. Suits (thing_kind p o.thing) (cond b there (states_claim p o ls)) r) (sym w) (suits_less (thing_kind p o.thing) sh.states states _ r (has_along sh.states ends states (well w) within)
+    (subst (λ b. Suits (thing_kind p o.thing) (record { states = states; cancelled = (cond b there (states_claim p o ls)).cancelled }) r) w s))
 rejoins_caller p o fr sh states ls ends r (inr n) well within u s =
     rests_there p o (Method fr sh ∷ ls) r n (suits_rests (thing_kind p o.thing) states r u (subst (λ (k : Known). Suits (thing_kind p o.thing) (record { states = states; cancelled = k.cancelled }) r) (unworked_rests p o (Method fr sh ∷ ls) n) s))
 
@@ -228,7 +213,3 @@ all_returned p cs cs' fr sh below s housed same others back x lives' = go fr.hom
             let one = same_object cs o x h.lives lives same in
             subst (λ y. Suits (thing_kind p y.thing) (states_claim p y below) (requested cs' y.name)) one (back o from e (subst (λ y. Suits (thing_kind p y.thing) (known_at p fr sh.states (states_claim p y below)) (requested cs y.name)) (sym one) s))
         inner false other s = kept (others other) s
-
--- what works on an object works on its fields, on what it holds and on no other
-pub works_on_it : (n : ℕ) (o : Object) (from : Place) → works_at n (Inside o from) ≡ true → o.name ≡ n
-works_on_it n o from e = eqb-true o.name n e

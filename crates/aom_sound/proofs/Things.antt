@@ -1,14 +1,16 @@
 -- What stands for what: each thing for itself, and what stands for it.
-use Rattle.std.proofs.Common.{ap, false, refl, subst, sym, true, ◌≡◌}
+use Rattle.std.proofs.Common.{Some, ap, arith, false, refl, subst, sym, true, ℕ, ◌∙◌, ◌≡◌}
+use Rattle.std.specs.Prelude.{is_some}
+use Rattle.aom_image.proofs.Given.{some_given}
 use Rattle.std.proofs.lemmas.Bool.{eq-eqb}
 use Rattle.aom_image.specs.Image.{Image}
 use Rattle.aom_image.specs.declared.method.Thing.{Thing}
 use Rattle.aom_image.specs.declared.method.Thing.TheVariants.{Message, Object as An_object_of}
 use Rattle.aom_shape.specs.Things.{same_thing, stands_for}
 use Rattle.aom_shape.proofs.Deciding.{thing_is}
-use Rattle.aom_sound.specs.Servers.{is_server}
+use Rattle.aom_sound.specs.Servers.{is_server, session_class}
 use Rattle.aom_roles.specs.Shapes.{kind_of}
-use Rattle.aom_roles.specs.Classes.{sessions_in}
+use Rattle.aom_roles.specs.Classes.{sessions_at, sessions_in}
 
 pub same_thing-true : (x y : Thing) → same_thing x y ≡ true → x ≡ y
 same_thing-true x y e = thing_is x y e
@@ -27,3 +29,15 @@ stands_along p x y z a b = subst (λ w. stands_for p w z ≡ true) (sym (stands_
 pub message_plain : (p : Image) (x : Thing) → x ≡ Message → is_server p x ≡ false
 unfolding kind_of sessions_in
 message_plain p x e = ap (λ y. is_server p y) e
+
+-- a server is an object of a class with sessions
+server_class : (p : Image) (x : Thing) → is_server p x ≡ true → (c : ℕ) × (x ≡ An_object_of c)
+unfolding kind_of sessions_in
+server_class p x e = grind arith
+
+pub serving_class : (p : Image) (x : Thing) → is_server p x ≡ true → (c k : ℕ) × (x ≡ An_object_of c) × (sessions_at p c ≡ Some k)
+unfolding kind_of sessions_in
+serving_class p x e =
+    let class = server_class p x e in
+    let sessions : (k : ℕ) × (session_class p x ≡ Some k) = some_given (λ o. is_some o ≡ true) (session_class p x) e (λ none. cc) (λ k is _. (k, is)) in
+    (class.0, sessions.0, class.1, ap (λ y. session_class p y) (sym class.1) ∙ sessions.1)

@@ -1,5 +1,5 @@
 -- What lies below the mark of a trap stays: as many marks lie on the cleanup stack as traps are at hand, and a move changes its last item at most.
-use Rattle.std.proofs.Common.{Bool, cond, true, false, List, None, Option, Some, [], ap, arith, inl, inr, length, pos, refl, subst, suc, sym, ℕ, ℤ, ◌+◌, ◌∙◌, ◌∷◌, ◌≡◌}
+use Rattle.std.proofs.Common.{Bool, cond, true, false, List, None, Option, Some, [], ap, arith, inl, inr, length, pos, refl, subst, suc, sym, ℕ, ℤ, ◌+◌, ◌∙◌, ◌∷◌, ◌≡◌, length-append}
 use Rattle.aom_image.proofs.Given.{cons_given}
 use Rattle.std.specs.Prelude.{◌++◌, ◌⊎◌}
 use Rattle.aom_image.specs.Image.{Image}
@@ -41,19 +41,19 @@ use Rattle.aom_sound.specs.Servers.{is_server}
 
 -- ---- as many marks as traps
 
-abbrev mark_forms : List Form → ℕ
+abbrev pub mark_forms : List Form → ℕ
 mark_forms [] = 0
 mark_forms (Object_form ∷ fs) = mark_forms fs
 mark_forms (Operation_form ∷ fs) = mark_forms fs
 mark_forms (Mark_form ∷ fs) = suc (mark_forms fs)
 
-marks_of_forms : (items : List Item) → mark_forms (forms items) ≡ marks items
+pub marks_of_forms : (items : List Item) → mark_forms (forms items) ≡ marks items
 marks_of_forms [] = refl
 marks_of_forms (An_object ∷ items) = marks_of_forms items
 marks_of_forms (An_operation m w ∷ items) = marks_of_forms items
 marks_of_forms (A_mark ∷ items) = ap suc (marks_of_forms items)
 
-marks_under : (es : List Pushed_entry) (fs : List Form) → mark_forms (objects es fs) ≡ mark_forms fs
+pub marks_under : (es : List Pushed_entry) (fs : List Form) → mark_forms (objects es fs) ≡ mark_forms fs
 marks_under [] fs = refl
 marks_under (Pushed_object c a ∷ es) fs = marks_under es fs
 marks_under (Operation_entry ∷ es) fs = marks_under es fs
@@ -67,7 +67,7 @@ marks_of_layers (Ending o left ∷ ls) = marks_of_layers ls
 marks_of_layers (Unwinding code es ∷ ls) = marks_under es (items_of ls) ∙ marks_of_layers ls
 marks_of_layers (Dispatching d seats ∷ ls) = marks_of_layers ls
 
-all_matched : (p : Image) (t : Typing) (s : State) → WellTyped p t s → marks s.items ≡ traps s.tasks
+pub all_matched : (p : Image) (t : Typing) (s : State) → WellTyped p t s → marks s.items ≡ traps s.tasks
 all_matched p t s w = sym (marks_of_forms s.items) ∙ ap mark_forms w.items ∙ marks_of_layers w.layers ∙ ap traps (sym w.tasks)
 
 marks_join : (a b : List Item) → marks (a ++ b) ≡ marks a + marks b
@@ -107,11 +107,7 @@ with_task : (below ts : List Task) (x : Task) → Ends below ts → Ends below (
 with_task below ts x e = (x ∷ e.0, ap (λ l. x ∷ l) e.1)
 
 none_below : (below : List Task) → Ends below [] → ⊥
-none_below below e = go e.0 e.1
-  where
-    go : (over : List Task) → [] ≡ over ++ (Trapped ∷ below) → ⊥
-    go [] e = cc
-    go (x ∷ over) e = cc
+none_below below e = let same = ap length e.1 in omega (arith, same, length-append e.0 (Trapped ∷ below))
 
 -- below a task that is no trap
 under_frame : (below ts : List Task) (fr : Frame) → Ends below (Run fr ∷ ts) → Ends below ts

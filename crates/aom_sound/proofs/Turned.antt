@@ -1,12 +1,13 @@
 -- What a turn changes: nothing but what no place tells, the request of an object that is completed, what a native that is killed leaves behind, or what a client's command comes to, or all that a dispatch begins with.
-use Rattle.std.proofs.Common.{Bool, List, None, Option, Some, cond, false, negsuc, pos, refl, subst, sym, true, ℕ, ℤ, ◌∷◌, ◌≡◌}
+use Rattle.std.proofs.Common.{arith, Bool, List, None, Option, Some, cond, false, negsuc, pos, refl, subst, sym, true, ℕ, ℤ, ◌∷◌, ◌≡◌}
 use Rattle.std.specs.Ordering.{int_eq}
+use Rattle.aom_image.proofs.Given.{some_given}
 use Rattle.aom_image.specs.Image.{Image}
 use Rattle.aom_image.specs.declared.method.Role.TheVariants.{Accept as Accepts_role, Service as Attends, Run as Handles}
 use Rattle.aom_sound.proofs.Guarded.{goes_same, guarded_goes}
 use Rattle.aom_sound.specs.Enlisted.{completed_with, part_of, pending, recorded, taken_up}
 use Rattle.aom_sound.specs.Natives.{all_bereaved, is_outstanding_at}
-use Rattle.aom_sound.specs.Places.{Asked, Connect_of, Message_of, Close_of, Elsewhere, Session, In_service, Queued, Going, held, moved, service_of, Cell, Object}
+use Rattle.aom_sound.specs.Places.{Asked, Connect_of, Message_of, Close_of, Elsewhere, Session, In_service, Queued, Going, held, moved, service_of, Object}
 use Rattle.aom_sound.specs.State.{Dispatched, Of_server, Accepts, Serves, Parts, frame_of, Inside, A_mark, CompletedTwice, Goes, Rest, Seat, State}
 use Rattle.aom_sound.specs.World.{Obeys, heard_one, serving, taken_from, message_words, serves_first, accepting, attending, attended, parting_with, picked as any_picked, Completes, Completion, Heard, Kills, Outside, Picks, Polls, Strays, Turning, answered_by, cell_at, dispatched, past_native, polled, run_tasks, turn, turned, turning, with_request}
 use Rattle.std.specs.Prelude.{[], length}
@@ -57,33 +58,21 @@ pub dispatched_so : (p : Image) (s u : State) (x : Seat) → dispatched (part_of
 dispatched_so p s u x e = go (part_of p Handles x.object.thing) refl e
   where
     go : (m : Option ℕ) → part_of p Handles x.object.thing ≡ m → dispatched m x s ≡ Goes u → (m : ℕ) × (part_of p Handles x.object.thing ≡ Some m) × (u ≡ picked m x s)
-    go None at e = cc
-    go (Some m) at e = (m, at, sym (goes_same (picked m x s) u e))
+    go m at e = grind arith
 
 -- the first of a server's queue is served
 serves_so : (p : Image) (s u : State) (x : Seat) (queue : List Asked) → serves_first p x queue s ≡ Goes u → Picked p s x u
 serves_so p s u x [] e = cc
-serves_so p s u x (Connect_of client ∷ es) e = go (part_of p Accepts_role x.object.thing) refl e
-  where
-    go : (m : Option ℕ) → part_of p Accepts_role x.object.thing ≡ m → accepting m x client (taken_from x.object.name s) ≡ Goes u → Picked p s x u
-    go None at e = cc
-    go (Some m) at e = subst (λ v. Picked p s x v) (goes_same _ u e) (accepts client m at)
-serves_so p s u x (Message_of client message ∷ es) e = go (held s.cells (Elsewhere (Session x.object.name client))) refl e
-  where
-    by_method :
-        (o : Object) → held s.cells (Elsewhere (Session x.object.name client)) ≡ Some o → (m : Option ℕ) → part_of p Attends o.thing ≡ m →
-        attending m x client o message (taken_from x.object.name s) ≡ Goes u → Picked p s x u
-    by_method o there None at e = cc
-    by_method o there (Some m) at e = subst (λ v. Picked p s x v) (goes_same _ u e) (attends client message m o there at)
-
-    go : (o : Option Object) → held s.cells (Elsewhere (Session x.object.name client)) ≡ o → attended p x client o message (taken_from x.object.name s) ≡ Goes u → Picked p s x u
-    go None there e = cc
-    go (Some o) there e = by_method o there (part_of p Attends o.thing) refl e
-serves_so p s u x (Close_of client ∷ es) e = go (held s.cells (Elsewhere (Session x.object.name client))) refl e
-  where
-    go : (o : Option Object) → held s.cells (Elsewhere (Session x.object.name client)) ≡ o → parting_with p x client o (taken_from x.object.name s) ≡ Goes u → Picked p s x u
-    go None there e = cc
-    go (Some o) there e = subst (λ v. Picked p s x v) (goes_same _ u e) (parts client o there)
+serves_so p s u x (Connect_of client ∷ es) e =
+    some_given (λ m. accepting m x client (taken_from x.object.name s) ≡ Goes u) (part_of p Accepts_role x.object.thing) e
+    (λ stuck. cc) (λ m at e. subst (λ v. Picked p s x v) (goes_same _ u e) (accepts client m at))
+serves_so p s u x (Message_of client message ∷ es) e =
+    some_given (λ o. attended p x client o message (taken_from x.object.name s) ≡ Goes u) (held s.cells (Elsewhere (Session x.object.name client))) e (λ stuck. cc) (λ o there e.
+    some_given (λ m. attending m x client o message (taken_from x.object.name s) ≡ Goes u) (part_of p Attends o.thing) e (λ stuck. cc) (λ m at e.
+    subst (λ v. Picked p s x v) (goes_same _ u e) (attends client message m o there at)))
+serves_so p s u x (Close_of client ∷ es) e =
+    some_given (λ o. parting_with p x client o (taken_from x.object.name s) ≡ Goes u) (held s.cells (Elsewhere (Session x.object.name client))) e
+    (λ stuck. cc) (λ o there e. subst (λ v. Picked p s x v) (goes_same _ u e) (parts client o there))
 
 pub picked_so : (p : Image) (s u : State) (x : Seat) → any_picked p x s ≡ Goes u → Picked p s x u
 picked_so p s u x e = go (is_server p x.object.thing) e
@@ -144,11 +133,8 @@ pub data Polled (n : ℕ) (s : State) : State → Type 0 where
 
 pub polled_so : (p : Image) (s u : State) (n : ℕ) (answer : Option Completion) → polled p n answer s ≡ Goes u → Polled n s u
 polled_so p s u n None e = subst (λ v. Polled n s v) (goes_same _ u e) nothing
-polled_so p s u n (Some a) e = go (cell_at s.cells a.cell) e
-  where
-    go : (c : Option Cell) → answered_by p n c a.code s ≡ Goes u → Polled n s u
-    go None e = cc
-    go (Some c) e = subst (λ v. Polled n s v) (guarded_goes ((is_outstanding_at p n c, CompletedTwice) ∷ []) _ u e) (answers c.object a.code)
+polled_so p s u n (Some a) e = some_given (λ c. answered_by p n c a.code s ≡ Goes u) (cell_at s.cells a.cell) e (λ stuck. cc)
+    (λ c there e. subst (λ v. Polled n s v) (guarded_goes ((is_outstanding_at p n c, CompletedTwice) ∷ []) _ u e) (answers c.object a.code))
 
 -- that it is polled is all that no place tells
 pub polled_rest : (p : Image) (s u : State) (n : ℕ) (answer : Option Completion) → polled p n answer s ≡ Goes u → u.rest ≡ (past_native n s).rest

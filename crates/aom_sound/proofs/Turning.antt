@@ -1,21 +1,18 @@
 -- A turn from a well-typed state goes on to one: a timer completes a request, an object is dispatched, or time passes.
-use Rattle.std.proofs.Common.{Bool, IsTrue, List, None, Option, Some, [], ap, arith, cond, false, inl, inr, length, refl, subst, sym, true, ℕ, ℤ, ◌&&◌, ◌<◌, ◌==◌, ◌∙◌, ◌∷◌, ◌≡◌, pos}
-use Rattle.std.proofs.lemmas.Bool.{and_parts, eq-eqb, eqb-true, ne_eqb, true≢false}
-use Rattle.std.specs.Prelude.{is_some, map, nat_le, not, ◌||◌, nat_lt}
+use Rattle.std.proofs.Common.{Bool, List, None, Option, Some, [], ap, arith, cond, false, inl, inr, length, refl, subst, sym, true, ℕ, ℤ, ◌&&◌, ◌<◌, ◌==◌, ◌∙◌, ◌∷◌, ◌≡◌, pos}
+use Rattle.std.proofs.lemmas.Bool.{eq-eqb, eqb-true, ne_eqb, true≢false}
+use Rattle.std.specs.Prelude.{is_some, map, nat_le, ◌||◌, nat_lt}
 use Rattle.std.specs.Ordering.{int_eq}
 use Rattle.aom_image.specs.Image.{Image}
-use Rattle.aom_image.specs.Views.{has, method_class}
+use Rattle.aom_image.specs.Views.{method_class}
 use Rattle.aom_image.specs.declared.class.ClassKind.{ClassKind}
-use Rattle.aom_image.specs.declared.class.ClassKind.TheVariants.{Active as An_active, Server as A_server}
-use Rattle.aom_image.specs.declared.class.Provider.{Provider}
-use Rattle.aom_image.specs.declared.class.Provider.TheVariants.{Timer as A_timer}
 use Rattle.aom_image.specs.declared.method.Gives.TheVariants.{Nothing}
 use Rattle.aom_image.specs.declared.method.Role.TheVariants.{Run as Handles}
 use Rattle.aom_image.specs.declared.method.Thing.{Thing}
-use Rattle.aom_image.specs.declared.method.Thing.TheVariants.{Message, Object as An_object_of}
+use Rattle.aom_image.specs.declared.method.Thing.TheVariants.{Object as An_object_of}
 use Rattle.aom_roles.specs.Classes.{sessions_in, sessions_of}
 use Rattle.aom_roles.specs.Shapes.{kind_of}
-use Rattle.aom_roles.specs.States.{idle, server_states, states_of}
+use Rattle.aom_roles.specs.States.{idle, states_of}
 use Rattle.aom_rules.specs.Requests.{is_active_kind, is_cancel, is_service}
 use Rattle.aom_rules.specs.Typing.{IsTyped, Typing}
 use Rattle.aom_shape.specs.Arguments.{argument_kind, entry_fields}
@@ -32,17 +29,16 @@ use Rattle.aom_sound.proofs.Owners.{later}
 use Rattle.aom_sound.proofs.Owners.{rank}
 use Rattle.aom_sound.proofs.PickedClose.{parts_well}
 use Rattle.aom_sound.proofs.Picking.{accepts_well, attends_well, plain_message}
-use Rattle.aom_sound.proofs.Signals.{at_rest, signals_are_ready}
+use Rattle.aom_sound.proofs.Signals.{at_rest, signals_are_ready, items_at_rest}
 use Rattle.aom_sound.proofs.Storing.{Alike, fits_alike, requested_here, requested_there, rerequested_alike, sits_alike, bereaved_alike, requested_bereaved}
-use Rattle.aom_sound.proofs.Suiting.{idle_timed, untimed}
 use Rattle.aom_sound.proofs.Turned.{picked, recorded_so}
-use Rattle.aom_sound.specs.Claims.{Dispatching, Layer, Mark, claim, declared, forms, items_of}
-use Rattle.aom_sound.specs.Enlisted.{is_aborted, is_active, is_idle, on_request, part_of, pending, taken_up, completed_with, recorded}
+use Rattle.aom_sound.specs.Claims.{Dispatching, Layer, Mark, claim, declared, forms}
+use Rattle.aom_sound.specs.Enlisted.{on_request, part_of, pending, taken_up, completed_with, recorded}
 use Rattle.aom_sound.specs.Kept.{ClientsFit}
 use Rattle.aom_sound.specs.Laws.{IsHandler, IsWired, TurnGoesOn}
-use Rattle.aom_sound.specs.Places.{Active, Asked, Cell, Close_of, Connect_of, Elsewhere, Message_of, Object, Phase, Place, Request, Root, Tidy, held, named, requested, seen, service_of}
+use Rattle.aom_sound.specs.Places.{Asked, Cell, Close_of, Connect_of, Elsewhere, Message_of, Object, Place, Request, Root, Tidy, held, named, requested, seen, service_of}
 use Rattle.aom_sound.specs.Servers.{has_more, is_server}
-use Rattle.aom_sound.specs.Requests.{AllSuit, Known, Suits, is_timed, phase_state, resting_in, rests_in, thing_kind}
+use Rattle.aom_sound.specs.Requests.{AllSuit, Known, Suits, resting_in, rests_in, thing_kind}
 use Rattle.aom_sound.specs.State.{A_mark, Inside, Of_object, Rest, Seat, State, thing_holder, Goes, IsStuck, CompletedTwice}
 use Rattle.aom_sound.specs.WellTyped.{AllSit, Fits, Good, Keeps, WellTyped, WordFits}
 use Rattle.aom_sound.specs.World.{AnswersWell, Candidate, Completes, Completion, Cuts, Outside, Timed, Turning, among_ready, before_others, by_timer, dispatched, first_due, first_ready, goes_before, goes_now, has_signal, is_ready, picks, turned, with_request, Hears, Kills, Polls, answered_by, by_event, delivers, lives, next_event, next_native, next_time, past_native, picked as any_picked, polled, polls, serves_first, Obeys, heard_one}
@@ -107,41 +103,21 @@ pub found : (cs : List Cell) → Tidy cs → (y : Candidate) → first_ready cs 
 found [] tidy y e = cc
 found (c ∷ cs) tidy y e = of_request c cs y tidy (λ e. found cs tidy.2 y e) c.request refl e
 
-is_completed : (r : Request) → is_ready r ≡ true → int_eq r.status pending ≡ false
-is_completed r e = go (int_eq r.status pending) (and_parts (is_active r.phase) (not (int_eq r.status pending)) e).1
-  where
-    go : (b : Bool) → not b ≡ true → b ≡ false
-    go true e = cc
-    go false e = refl
-
 -- it is of a class of active objects
 ready_active : (k : Option ClassKind) (r : Request) → is_ready r ≡ true → Suits k (resting_in (states_of k)) (Some r) → is_active_kind k ≡ true
-ready_active (Some (An_active v b)) r e s = refl
-ready_active (Some (A_server most x b)) r e s = absurd (go r.phase (and_parts (is_active r.phase) (not (int_eq r.status pending)) e).0 s.1)
-  where
-    go : (q : Phase) → is_active q ≡ true → IsTrue (has server_states (phase_state q)) → ⊥
-    go Active e h = cc
-    go _ e h = cc
-ready_active _ r e s = cc
+ready_active k r e s = grind arith
 
 -- a server is idle
 idles : (k : Option ClassKind) (r : Request) → is_some (sessions_in k) ≡ true → Suits k (resting_in (states_of k)) (Some r) → is_ready r ≡ false
 unfolding sessions_in sessions_of states_of
-idles (Some (A_server most y b)) r e s = phase r.phase s.1
-  where
-    phase : (q : Phase) → IsTrue (has server_states (phase_state q)) → (is_active q && not (int_eq r.status pending)) ≡ false
-    phase Active h = cc
-    phase _ h = refl
-idles _ r e s = cc
+idles k r e s = grind arith
 
 or_false : (b : Bool) → (b || false) ≡ b
 or_false true = refl
 or_false false = refl
 
 suits_taken : (k : Option ClassKind) (r : Request) → is_ready r ≡ true → Suits k (resting_in (states_of k)) (Some r) → Suits k (resting_in idle) (Some (taken_up r))
-suits_taken (Some (An_active v b)) r e s = (refl, refl, refl, idle_timed v (taken_up r) refl (untimed v r (is_completed r e) s.3))
-suits_taken (Some (A_server most x b)) r e s = (refl, refl)
-suits_taken _ r e s = cc
+suits_taken k r e s = grind arith
 
 -- a request is completed, with a code that tells it from one that is not
 module _ (code : ℤ) (settled : int_eq code pending ≡ false) where
@@ -153,14 +129,7 @@ module _ (code : ℤ) (settled : int_eq code pending ≡ false) where
       never false = refl
 
   suits_completed : (k : Option ClassKind) (n : Known) (r : Option Request) → Suits k n r → Suits k n (on_request (completed_with code) r)
-  suits_completed k n None s = s
-  suits_completed (Some (An_active v b)) n (Some r) s = (s.0, s.1, answered (is_aborted r.phase), timed v)
-    where
-      timed : (v : Provider) → is_timed v (Some (completed_with code r)) ≡ true
-      timed A_timer = ap (λ b. cond b false true) (answered (not (is_idle r.phase)))
-      timed _ = refl
-  suits_completed (Some (A_server most x b)) n (Some r) s = (s.0, s.1)
-  suits_completed _ n (Some r) s = cc
+  suits_completed k n r s = grind arith
 
 suits_bereaved : (served : Bool) (k : Option ClassKind) (n : Known) (r : Option Request) → Suits k n r → Suits k n (cond served (terminated_request r) r)
 suits_bereaved false k n r s = s
@@ -175,11 +144,7 @@ module _ (p : Image) (t : Typing) (s : State) (w : WellTyped p t s) (idle_now : 
   good = subst (λ ls. Good p t s.cells ls) (at_rest p t s w idle_now) w.good
 
   items : s.items ≡ []
-  items = go s.items (w.items ∙ ap items_of (at_rest p t s w idle_now))
-    where
-      go : (is : List _) → forms is ≡ [] → is ≡ []
-      go [] e = refl
-      go (i ∷ is) e = cc
+  items = items_at_rest p t s w idle_now
 
   -- nothing but what no place tells changes
   same_well : (r : Rest) → WellTyped p t (record s { rest = r })
@@ -258,8 +223,7 @@ module _ (p : Image) (t : Typing) (s : State) (w : WellTyped p t s) (idle_now : 
     -- the method of an object of a class of active objects
     handler_of : (x : Thing) → is_active_kind (thing_kind p x) ≡ true → (m : ℕ) × (part_of p Handles x ≡ Some m) × (c : ℕ) × (x ≡ An_object_of c) × IsHandler p c m
     unfolding kind_of
-    handler_of (An_object_of c) e = let h = wired.handler c e in (h.0, h.1, c, refl, wired.handles c h.0 h.1)
-    handler_of Message e = cc
+    handler_of x e = grind arith
 
     object_well : (y : Candidate) → Found s.cells y → is_ready y.request ≡ true → Keeps p t (dispatched (part_of p Handles y.seat.object.thing) y.seat s)
     object_well y it_is ready = subst (λ h. Keeps p t (dispatched h y.seat s)) (sym it.1) well

@@ -1,5 +1,5 @@
 -- Each move of an unwinding keeps the typing: an object is destroyed, an operation runs, or the code arrives.
-use Rattle.std.proofs.Common.{Bool, List, [], ap, cond, false, length, refl, subst, sym, true, ℤ, ◌&&◌, ◌==◌, ◌∷◌, ◌≡◌}
+use Rattle.std.proofs.Common.{Bool, List, [], ap, cond, false, length, refl, subst, sym, true, ℤ, ◌&&◌, ◌==◌, ◌∷◌, ◌≡◌, arith}
 use Rattle.aom_image.specs.Image.{Image}
 use Rattle.aom_shape.specs.Kinds.{entry_kind}
 use Rattle.aom_rules.specs.Requests.{is_cancel}
@@ -62,8 +62,7 @@ module _ (p : Image) (t : Typing) (wired : IsWired p) (typed : IsTyped p t) (s :
   of_none (Mark gv ∷ ls) same undos good = go s.items same undos
     where
       go : (items : List Item) → forms items ≡ Mark_form ∷ items_of ls → AllUndo p items → Keeps p t (unwound p code (tasks_of (Mark gv ∷ ls)) s items)
-      go (A_mark ∷ items) same undos = let rest : forms items ≡ items_of ls = cc in arrives p t s code items gv ls rest undos good
-      go _ same undos = cc
+      go items same undos = grind (arith, arrives)
   of_none (Dispatching d seats ∷ ls) same undos good = absurd (no_dispatch d good.stack.1.0)
     where
       no_dispatch : (d : Dispatch) → EndsDispatch p d Leaves → ⊥

@@ -111,27 +111,23 @@ pub under_run : (p : Image) (t : Typing) (s : State) (fr : Frame) (ts : List Tas
 under_run p t s fr ts w at = let k = stacked p t s w in go k.0 (sym at ∙ k.1)
   where
     go : (k : Tower) → Run fr ∷ ts ≡ all_listed k → (b : Under A_method) × (ts ≡ listed b)
-    go (Runs fr' b) e = (b, cc)
-    go _ e = cc
+    go k e = grind arith
 
 pub under_destroy : (p : Image) (t : Typing) (s : State) (ts : List Task) → WellTyped p t s → s.tasks ≡ Destroy ∷ ts → (b : Under A_going) × (ts ≡ listed b)
 under_destroy p t s ts w at = let k = stacked p t s w in go k.0 (sym at ∙ k.1)
   where
     go : (k : Tower) → Destroy ∷ ts ≡ all_listed k → (b : Under A_going) × (ts ≡ listed b)
-    go (Goes b) e = (b, cc)
-    go _ e = cc
+    go k e = grind arith
 
 pub under_leave : (p : Image) (t : Typing) (s : State) (code : ℤ) (ts : List Task) → WellTyped p t s → s.tasks ≡ Unwind code ∷ ts → (b : Under A_leave) × (ts ≡ Trapped ∷ listed b)
 under_leave p t s code ts w at = let k = stacked p t s w in go k.0 (sym at ∙ k.1)
   where
     go : (k : Tower) → Unwind code ∷ ts ≡ all_listed k → (b : Under A_leave) × (ts ≡ Trapped ∷ listed b)
-    go (Unwinds code' b) e = (b, cc)
-    go _ e = cc
+    go k e = grind arith
 
 -- and nothing under a dispatch
 pub under_dispatch : (p : Image) (t : Typing) (s : State) (d : Dispatch) (ts : List Task) → WellTyped p t s → s.tasks ≡ Dispatched d ∷ ts → ts ≡ []
 under_dispatch p t s d ts w at = let k = stacked p t s w in go k.0 (sym at ∙ k.1)
   where
     go : (k : Tower) → Dispatched d ∷ ts ≡ all_listed k → ts ≡ []
-    go (Ends d') e = cc
-    go _ e = cc
+    go k e = grind arith

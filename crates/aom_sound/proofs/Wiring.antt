@@ -1,10 +1,10 @@
 -- What a linked image gives the laws: main and the destructors are as they must be, what is called does or constructs, and what is owned is of a class before its owner's.
 use Rattle.std.proofs.lemmas.List.{nil_from_length}
-use Rattle.std.proofs.lemmas.Bool.{cases_Bool, eqb-true, true≢false}
-use Rattle.std.proofs.Common.{Bool, IfSome, IsSome, IsTrue, List, None, Option, Some, [], ap, arith, false, inl, inr, length, refl, slice_get, subst, suc, sym, true, zero, ℕ, ◌<◌, ◌∙◌, ◌∷◌, ◌≡◌}
-use Rattle.aom_image.proofs.Given.{some_given}
+use Rattle.std.proofs.lemmas.Bool.{and_parts, cases_Bool, true≢false}
+use Rattle.std.proofs.Common.{Bool, IfSome, IsSome, IsTrue, List, None, Option, Some, [], ap, arith, false, inl, inr, length, refl, slice_get, subst, sym, true, ℕ, ⊎_elim, ◌<◌, ◌∙◌, ◌∷◌, ◌≡◌}
+use Rattle.aom_image.proofs.Given.{none_given, some_given}
 use Rattle.std.specs.Prelude.{is_none, not, replicate, ◌||◌, ◌⊎◌}
-use Rattle.std.proofs.lemmas.Option.{slice_get_within}
+use Rattle.std.proofs.lemmas.Option.{slice_get_cases, slice_get_within}
 use Rattle.aom_image.specs.Image.{Image}
 use Rattle.aom_image.specs.Views.{arguments_in, arguments_of, class_at, class_in, fields_in, gives_in, gives_of, has, instr_at, is_quiet, leaves, leaves_in, method_at, method_class, method_role, quiet_in, role_in}
 use Rattle.aom_instructions.specs.Fits.{InstrFits, limits}
@@ -15,15 +15,15 @@ use Rattle.aom_instructions.specs.declared.instr.Instr.TheVariants.{Call, PushOp
 use Rattle.aom_instructions.specs.declared.instr.Target.{Target}
 use Rattle.aom_instructions.specs.declared.limits.Limits.{Limits}
 use Rattle.aom_image.specs.declared.method.Gives.{Gives}
-use Rattle.aom_image.specs.declared.method.Gives.TheVariants.{Left, Nothing, Own as An_own, Word as A_word}
+use Rattle.aom_image.specs.declared.method.Gives.TheVariants.{Nothing, Own as An_own, Word as A_word}
 use Rattle.aom_image.specs.declared.method.Method.{Method as Method_declared}
 use Rattle.aom_image.specs.declared.method.Role.{Role}
 use Rattle.aom_image.specs.declared.method.Role.TheVariants.{Accept, Cancel, Construct, Destruct, Do, Error, Main, Run, Service, Undo}
 use Rattle.aom_image.specs.declared.method.Thing.TheVariants.{Object as An_object_of}
 use Rattle.aom_roles.specs.Classes.{ClassOrdered, OwnsBefore, is_session, is_session_in, is_session_kind, kind_in, sessions_at, sessions_in, sessions_of}
-use Rattle.aom_roles.specs.Shapes.{HasShape, IsCancel, IsConstruct, IsDestruct, IsDo, IsMain, IsShaped, IsTrapped as ShapedTrapped, IsUndo as ShapedUndo, NamesRoles, gives_left, gives_nothing, is_role, is_word, kind_of, IsError, IsRun, gives_word, IsAccept, IsService, gives_object, is_object}
+use Rattle.aom_roles.specs.Shapes.{HasShape, IsCancel, IsConstruct, IsDo, IsMain, IsShaped, IsTrapped as ShapedTrapped, IsUndo as ShapedUndo, NamesRoles, gives_left, gives_nothing, is_role, is_word, kind_of, gives_word, gives_object, is_object}
 use Rattle.aom_classes.specs.Linked.{IsLinked}
-use Rattle.aom_classes.specs.Needs.{KindNeeds, NeedsMet}
+use Rattle.aom_classes.specs.Needs.{HasActive, KindNeeds, NeedsMet}
 use Rattle.aom_classes.specs.Roles.{main_of, role_of, same_role}
 use Rattle.aom_classes.proofs.Facts.{all_there, at_place, of_method}
 use Rattle.aom_classes.proofs.Playing.{main_found, role_found, same_roles}
@@ -42,73 +42,65 @@ use Rattle.aom_shape.proofs.Sets.{has_along}
 
 nothing_given : (g : Gives) → gives_nothing g ≡ true → g ≡ Nothing
 unfolding gives_nothing
-nothing_given Nothing e = refl
-nothing_given _ e = cc
+nothing_given g e = grind arith
 
 word_given : (g : Gives) → gives_word g ≡ true → g ≡ A_word
 unfolding gives_word
-word_given A_word e = refl
-word_given _ e = cc
+word_given g e = grind arith
 
 -- so many words
-words_alone : (n : ℕ) (xs : List Argument) → length xs ≡ n → IsTrue (list_all is_word xs) → xs ≡ replicate n Takes_word
+all_words : (xs : List Argument) → IsTrue (list_all is_word xs) → xs ≡ replicate (length xs) Takes_word
 unfolding is_word
-words_alone zero xs e w = nil_from_length xs e
-words_alone (suc n) (Takes_word ∷ xs) e w = let l : length xs ≡ n = cc in ap (λ ys. Takes_word ∷ ys) (words_alone n xs l w)
-words_alone (suc n) _ e w = cc
+all_words [] w = refl
+all_words (x ∷ xs) w = let parts = and_parts (is_word x) (list_all is_word xs) w in ap (λ y. y ∷ xs) (a_word x parts.0) ∙ ap (λ ys. Takes_word ∷ ys) (all_words xs parts.1)
+  where
+    a_word : (x : Argument) → is_word x ≡ true → x ≡ Takes_word
+    a_word x w = grind arith
+
+words_alone : (n : ℕ) (xs : List Argument) → length xs ≡ n → IsTrue (list_all is_word xs) → xs ≡ replicate n Takes_word
+words_alone n xs e w = all_words xs w ∙ ap (λ k. replicate k Takes_word) e
 
 object_given : (c : ℕ) (g : Gives) → gives_object c g ≡ true → g ≡ An_own (An_object_of c)
 unfolding gives_object is_object
-object_given c (An_own (An_object_of d)) e = ap (λ k. An_own (An_object_of k)) (eqb-true d c e)
-object_given c _ e = cc
+object_given c g e = grind arith
 
 some_there : (o : Option ℕ) → IsSome o → (m : ℕ) × (o ≡ Some m)
-some_there None h = cc
-some_there (Some m) h = (m, refl)
+some_there o h = grind arith
 
 leaves_none : (g : Gives) → gives_left g ≡ false → LeavesNone g
 unfolding gives_left
-leaves_none (Left c) e = cc
-leaves_none _ e = tt
+leaves_none g e = grind arith
 
 one_of : (a b : Bool) → IsTrue (a || b) → IsTrue a ⊎ IsTrue b
 one_of true b h = inl refl
 one_of false b h = inr h
 
 or_left : (a b : Bool) → IsTrue a → IsTrue (a || b)
-or_left true b h = refl
-or_left false b h = cc
+or_left a b h = ap (λ x. x || b) h
 
 -- a method of no kind of class is of no class
 of_none : (p : Image) (c : Option ℕ) → IfSome c (λ k. k < length p.classes) → is_none (kind_of p c) ≡ true → c ≡ None
 unfolding kind_of kind_in class_at
-of_none p None within e = refl
-of_none p (Some c) within e = go (slice_get p.classes c) refl e
+of_none p c within e = none_given (λ c. IfSome c (λ k. k < length p.classes) × (is_none (kind_of p c) ≡ true)) c (within, e) there (λ none _. none)
   where
-    go : (o : Option ClassDecl) → slice_get p.classes c ≡ o → is_none (kind_in o) ≡ true → Some c ≡ None
-    go None f e = absurd (past p.classes c within f)
-      where
-        past : (xs : List ClassDecl) (k : ℕ) → k < length xs → slice_get xs k ≡ None → ⊥
-        past [] k h f = omega (arith, h)
-        past (x ∷ xs) zero h f = cc
-        past (x ∷ xs) (suc k) h f = past xs k (omega (arith, h)) f
-    go (Some d) f e = cc
+    there : (k : ℕ) → (k < length p.classes) × (is_none (kind_of p (Some k)) ≡ true) → ⊥
+    there k h = ⊎_elim (λ found. (let clash : is_none (kind_in (Some found.0)) ≡ true = ap (λ o. is_none (kind_in o)) (sym found.2) ∙ h.1 in cc)) (λ past. omega (arith, h.0, past.0)) (slice_get_cases p.classes k).1
+
+-- the method of a role
+role_at : (p : Image) (m : ℕ) (r : Role) → method_role p m ≡ Some r → (d : Method_declared) × (method_at p m ≡ Some d) × (d.role ≡ r)
+unfolding role_in
+role_at p m r e = some_given (λ o. role_in o ≡ Some r) (method_at p m) e (λ none. cc) (λ d is same. (d, is, (cc)))
 
 -- main works on no object
 pub main_of_none : (p : Image) → IsLinked p → (m : ℕ) → method_role p m ≡ Some Main → own_kind p m ≡ None
-unfolding class_in role_in method_at kind_of
-main_of_none p linked m e = go (method_at p m) refl e
+unfolding class_in method_at kind_of
+main_of_none p linked m e =
+    let d = role_at p m Main e in
+    let s : IsMain (kind_of p d.0.class) d.0 = subst (λ x. HasShape x (kind_of p d.0.class) d.0) d.2 (all_there (IsShaped p) p.methods m d.0 linked.shapes d.1).role in
+    ap (λ o. kind_of p (class_in o)) d.1 ∙ none (kind_of p d.0.class) s.of
   where
     none : (k : Option ClassKind) → IsTrue (is_none k) → k ≡ None
-    none None e = refl
-    none (Some k) e = cc
-
-    go : (o : Option Method_declared) → method_at p m ≡ o → role_in o ≡ Some Main → kind_of p (class_in o) ≡ None
-    go None f e = refl
-    go (Some d) f e =
-        let role : d.role ≡ Main = cc in
-        let s : IsMain (kind_of p d.class) d = subst (λ x. HasShape x (kind_of p d.class) d) role (all_there (IsShaped p) p.methods m d linked.shapes f).role in
-        none (kind_of p d.class) s.of
+    none k e = grind arith
 
 module _ (p : Image) (formed : WellFormed p) (linked : IsLinked p) where
   shaped : (m : ℕ) (d : Method_declared) → method_at p m ≡ Some d → IsShaped p d
@@ -117,6 +109,10 @@ module _ (p : Image) (formed : WellFormed p) (linked : IsLinked p) where
 
   of_role : (m : ℕ) (d : Method_declared) (r : Role) → method_at p m ≡ Some d → d.role ≡ r → HasShape r (kind_of p d.class) d
   of_role m d r e same = subst (λ x. HasShape x (kind_of p d.class) d) same (shaped m d e).role
+
+  -- a method that plays a role in a class, and its shape
+  its_role : (c m : ℕ) (r : Role) → role_of p c r ≡ Some m → (d : Method_declared) × (method_at p m ≡ Some d) × (d.class ≡ Some c) × (d.role ≡ r) × HasShape r (kind_of p d.class) d
+  its_role c m r e = let d = role_found p c m r e in (d.0, d.1, d.2, d.3, of_role m d.0 r d.1 d.3)
 
   main_is : (m : ℕ) → main_of p ≡ Some m → (IsSome (method_at p m)) × (method_role p m ≡ Some Main) × (gives_of p m ≡ Nothing) × (arguments_of p m ≡ [])
   unfolding role_in gives_in arguments_in
@@ -131,139 +127,121 @@ module _ (p : Image) (formed : WellFormed p) (linked : IsLinked p) where
 
   -- a main has no class
   static_main : (m : ℕ) → method_role p m ≡ Some Main → method_class p m ≡ None
-  unfolding class_in role_in method_at
-  static_main m e = go (method_at p m) refl e
-    where
-      go : (o : Option Method_declared) → method_at p m ≡ o → role_in o ≡ Some Main → class_in o ≡ None
-      go None f e = refl
-      go (Some d) f e =
-          let role : d.role ≡ Main = cc in
-          let fits = all_there (MethodFits (length p.classes) (length p.methods)) p.methods m d formed.methods.each f in
-          let s : IsMain (kind_of p d.class) d = of_role m d Main f role in
-          of_none p d.class fits.class s.of
+  unfolding class_in method_at
+  static_main m e =
+      let d = role_at p m Main e in
+      let fits = all_there (MethodFits (length p.classes) (length p.methods)) p.methods m d.0 formed.methods.each d.1 in
+      let s : IsMain (kind_of p d.0.class) d.0 = of_role m d.0 Main d.1 d.2 in
+      ap class_in d.1 ∙ of_none p d.0.class fits.class s.of
 
   destructor_is :
       (c m : ℕ) → role_of p c Destruct ≡ Some m →
       (IsSome (method_at p m)) × (method_role p m ≡ Some Destruct) × (method_class p m ≡ Some c) × (leaves p m ≡ false) × (is_quiet p m ≡ true) × (gives_of p m ≡ Nothing) × (arguments_of p m ≡ [])
   unfolding role_in class_in leaves_in quiet_in gives_in arguments_in
   destructor_is c m e =
-      let d = role_found p c m Destruct e in
-      let s : IsDestruct (kind_of p d.0.class) d.0 = of_role m d.0 Destruct d.1 d.3 in (
+      let d = its_role c m Destruct e in (
         rw d.1 refl,
         ap role_in d.1 ∙ ap (λ r. Some r) d.3,
         ap class_in d.1 ∙ d.2,
-        ap leaves_in d.1 ∙ (shaped m d.0 d.1).flags.quiet s.flags,
-        ap quiet_in d.1 ∙ s.flags,
-        ap gives_in d.1 ∙ nothing_given d.0.gives s.gives,
-        ap arguments_in d.1 ∙ nil_from_length d.0.arguments s.takes.count,
+        ap leaves_in d.1 ∙ (shaped m d.0 d.1).flags.quiet d.4.flags,
+        ap quiet_in d.1 ∙ d.4.flags,
+        ap gives_in d.1 ∙ nothing_given d.0.gives d.4.gives,
+        ap arguments_in d.1 ∙ nil_from_length d.0.arguments d.4.takes.count,
       )
 
   cancel_is : (m : ℕ) → method_role p m ≡ Some Cancel → (is_quiet p m ≡ true) × (gives_of p m ≡ Nothing)
-  unfolding role_in quiet_in gives_in
-  cancel_is m e = go (method_at p m) refl e
-    where
-      go : (o : Option Method_declared) → method_at p m ≡ o → role_in o ≡ Some Cancel → (quiet_in (method_at p m) ≡ true) × (gives_in (method_at p m) ≡ Nothing)
-      go None f e = cc
-      go (Some d) f e =
-          let role : d.role ≡ Cancel = cc in
-          let s : IsCancel (kind_of p d.class) d = of_role m d Cancel f role in
-          (ap quiet_in f ∙ s.flags, ap gives_in f ∙ nothing_given d.gives s.gives)
+  unfolding quiet_in gives_in
+  cancel_is m e =
+      let d = role_at p m Cancel e in
+      let s : IsCancel (kind_of p d.0.class) d.0 = of_role m d.0 Cancel d.1 d.2 in
+      (ap quiet_in d.1 ∙ s.flags, ap gives_in d.1 ∙ nothing_given d.0.gives s.gives)
 
   canceller_is :
       (c m : ℕ) → role_of p c Cancel ≡ Some m →
       (IsSome (method_at p m)) × (method_role p m ≡ Some Cancel) × (method_class p m ≡ Some c) × (arguments_of p m ≡ []) × (before_of p m ≡ cancel_open)
   unfolding role_in class_in arguments_in before_in
   canceller_is c m e =
-      let d = role_found p c m Cancel e in
-      let s : IsCancel (kind_of p d.0.class) d.0 = of_role m d.0 Cancel d.1 d.3 in
-      (rw d.1 refl, ap role_in d.1 ∙ ap (λ r. Some r) d.3, ap class_in d.1 ∙ d.2, ap arguments_in d.1 ∙ nil_from_length d.0.arguments s.takes.count, ap before_in d.1 ∙ s.begins)
+      let d = its_role c m Cancel e in
+      (rw d.1 refl, ap role_in d.1 ∙ ap (λ r. Some r) d.3, ap class_in d.1 ∙ d.2, ap arguments_in d.1 ∙ nil_from_length d.0.arguments d.4.takes.count, ap before_in d.1 ∙ d.4.begins)
 
-  -- what a class of that kind needs
-  needs_of_kind : (c : ℕ) (k : ClassKind) → kind_of p (Some c) ≡ Some k → KindNeeds p c k
+  -- what a class needs by its kind
+  abbrev Needs : ℕ → Option ClassKind → Type 0
+  Needs c o = IfSome o (λ k. KindNeeds p c k)
+
+  needs : (c : ℕ) → Needs c (kind_of p (Some c))
   unfolding kind_of kind_in class_at
-  needs_of_kind c k e = go (class_at p c) refl e
+  needs c = go (class_at p c) refl
     where
-      go : (o : Option ClassDecl) → class_at p c ≡ o → kind_in o ≡ Some k → KindNeeds p c k
-      go None f h = cc
-      go (Some d) f h = let same : d.kind ≡ k = cc in subst (λ k. KindNeeds p c k) same (at_place (NeedsMet p) p.classes c d linked.needs f).kind
+      go : (o : Option ClassDecl) → class_at p c ≡ o → Needs c (kind_in o)
+      go None f = tt
+      go (Some d) f = (at_place (NeedsMet p) p.classes c d linked.needs f).kind
 
-  -- a class of active objects has one
+  -- a class of active objects has one that cancels, and one that is dispatched for its objects
+  active_needs : (c : ℕ) (o : Option ClassKind) → Needs c o → is_active_kind o ≡ true → HasActive p c
+  active_needs c o n a = grind arith
+
   has_canceller : (c : ℕ) → is_active_kind (kind_of p (Some c)) ≡ true → (m : ℕ) × (role_of p c Cancel ≡ Some m)
-  has_canceller c active = go (kind_of p (Some c)) refl active
-    where
-      go : (o : Option ClassKind) → kind_of p (Some c) ≡ o → is_active_kind o ≡ true → (m : ℕ) × (role_of p c Cancel ≡ Some m)
-      go (Some (An_active v b)) e h = some_there (role_of p c Cancel) (needs_of_kind c (An_active v b) e).cancel
-      go _ e h = cc
+  has_canceller c active = some_there (role_of p c Cancel) (active_needs c (kind_of p (Some c)) (needs c) active).cancel
 
-  -- and one that is dispatched for its objects
   has_handler : (c : ℕ) → is_active_kind (kind_of p (Some c)) ≡ true → (m : ℕ) × (role_of p c Run ≡ Some m)
-  has_handler c active = go (kind_of p (Some c)) refl active
-    where
-      go : (o : Option ClassKind) → kind_of p (Some c) ≡ o → is_active_kind o ≡ true → (m : ℕ) × (role_of p c Run ≡ Some m)
-      go (Some (An_active v b)) e h = some_there (role_of p c Run) (needs_of_kind c (An_active v b) e).run
-      go _ e h = cc
+  has_handler c active = some_there (role_of p c Run) (active_needs c (kind_of p (Some c)) (needs c) active).run
 
   handler_is : (c m : ℕ) → role_of p c Run ≡ Some m → IsHandler p c m
   unfolding role_in class_in arguments_in gives_in before_in
   handler_is c m e =
-      let d = role_found p c m Run e in
-      let s : IsRun (kind_of p d.0.class) d.0 = of_role m d.0 Run d.1 d.3 in record {
+      let d = its_role c m Run e in record {
         there = rw d.1 refl;
         role = ap role_in d.1 ∙ ap (λ r. Some r) d.3;
         class = ap class_in d.1 ∙ d.2;
-        arguments = ap arguments_in d.1 ∙ nil_from_length d.0.arguments s.takes.count;
-        gives = ap gives_in d.1 ∙ nothing_given d.0.gives s.gives;
-        begins = ap before_in d.1 ∙ s.begins;
+        arguments = ap arguments_in d.1 ∙ nil_from_length d.0.arguments d.4.takes.count;
+        gives = ap gives_in d.1 ∙ nothing_given d.0.gives d.4.gives;
+        begins = ap before_in d.1 ∙ d.4.begins;
       }
 
   answerer_is : (c m : ℕ) → role_of p c Error ≡ Some m → IsAnswerer p c m
   unfolding role_in class_in arguments_in gives_in leaves_in before_in
   answerer_is c m e =
-      let d = role_found p c m Error e in
-      let s : IsError (kind_of p d.0.class) d.0 = of_role m d.0 Error d.1 d.3 in record {
+      let d = its_role c m Error e in record {
         there = rw d.1 refl;
         role = ap role_in d.1 ∙ ap (λ r. Some r) d.3;
         class = ap class_in d.1 ∙ d.2;
-        arguments = ap arguments_in d.1 ∙ words_alone 1 d.0.arguments s.takes.count s.takes.words;
-        gives = ap gives_in d.1 ∙ word_given d.0.gives s.gives;
-        leaves = ap leaves_in d.1 ∙ s.flags;
-        begins = ap before_in d.1 ∙ s.begins;
+        arguments = ap arguments_in d.1 ∙ words_alone 1 d.0.arguments d.4.takes.count d.4.takes.words;
+        gives = ap gives_in d.1 ∙ word_given d.0.gives d.4.gives;
+        leaves = ap leaves_in d.1 ∙ d.4.flags;
+        begins = ap before_in d.1 ∙ d.4.begins;
       }
 
   -- a server has a method that accepts
   has_acceptor : (c session : ℕ) → sessions_at p c ≡ Some session → (m : ℕ) × (role_of p c Accept ≡ Some m)
   unfolding kind_of sessions_in sessions_of
-  has_acceptor c session serves = go (kind_of p (Some c)) refl serves
+  has_acceptor c session serves = some_there (role_of p c Accept) (accepts (kind_of p (Some c)) (needs c) serves)
     where
-      go : (o : Option ClassKind) → kind_of p (Some c) ≡ o → sessions_in o ≡ Some session → (m : ℕ) × (role_of p c Accept ≡ Some m)
-      go (Some (A_server most x b)) e h = some_there (role_of p c Accept) (needs_of_kind c (A_server most x b) e)
-      go _ e h = cc
+      accepts : (o : Option ClassKind) → Needs c o → sessions_in o ≡ Some session → IsSome (role_of p c Accept)
+      accepts o n e = grind arith
 
   acceptor_is : (c session m : ℕ) → sessions_at p c ≡ Some session → role_of p c Accept ≡ Some m → IsAcceptor p c m session
   unfolding role_in class_in arguments_in gives_in before_in kind_of
   acceptor_is c session m serves e =
-      let d = role_found p c m Accept e in
-      let s : IsAccept (kind_of p d.0.class) d.0 = of_role m d.0 Accept d.1 d.3 in
-      let gives : IsTrue (gives_object session d.0.gives) = subst (λ o. IfSome o (λ k. IsTrue (gives_object k d.0.gives))) (ap (λ k. sessions_in (kind_of p k)) d.2 ∙ serves) s.gives in record {
+      let d = its_role c m Accept e in
+      let gives : IsTrue (gives_object session d.0.gives) = subst (λ o. IfSome o (λ k. IsTrue (gives_object k d.0.gives))) (ap (λ k. sessions_in (kind_of p k)) d.2 ∙ serves) d.4.gives in record {
         there = rw d.1 refl;
         role = ap role_in d.1 ∙ ap (λ r. Some r) d.3;
         class = ap class_in d.1 ∙ d.2;
-        arguments = ap arguments_in d.1 ∙ nil_from_length d.0.arguments s.takes.count;
+        arguments = ap arguments_in d.1 ∙ nil_from_length d.0.arguments d.4.takes.count;
         gives = ap gives_in d.1 ∙ object_given session d.0.gives gives;
-        begins = ap before_in d.1 ∙ s.begins;
+        begins = ap before_in d.1 ∙ d.4.begins;
       }
 
   attendant_is : (c m : ℕ) → role_of p c Service ≡ Some m → IsAttendant p c m
   unfolding role_in class_in arguments_in gives_in kind_of
   attendant_is c m e =
-      let d = role_found p c m Service e in
-      let s : IsService (kind_of p d.0.class) d.0 = of_role m d.0 Service d.1 d.3 in record {
-        session = ap (λ k. is_session_in (kind_of p k)) (sym d.2) ∙ s.of;
+      let d = its_role c m Service e in record {
+        session = ap (λ k. is_session_in (kind_of p k)) (sym d.2) ∙ d.4.of;
         there = rw d.1 refl;
         role = ap role_in d.1 ∙ ap (λ r. Some r) d.3;
         class = ap class_in d.1 ∙ d.2;
-        arguments = ap arguments_in d.1 ∙ words_alone 5 d.0.arguments s.takes.count s.takes.words;
-        gives = ap gives_in d.1 ∙ nothing_given d.0.gives s.gives;
+        arguments = ap arguments_in d.1 ∙ words_alone 5 d.0.arguments d.4.takes.count d.4.takes.words;
+        gives = ap gives_in d.1 ∙ nothing_given d.0.gives d.4.gives;
       }
 
   -- its sessions are of a class of sessions before it
@@ -272,17 +250,15 @@ module _ (p : Image) (formed : WellFormed p) (linked : IsLinked p) where
   session_before c session serves = go (class_at p c) refl serves
     where
       go : (o : Option ClassDecl) → class_at p c ≡ o → sessions_in (kind_in o) ≡ Some session → (session < c) × (is_session p session ≡ true)
-      go None e h = cc
-      go (Some d) e h = subst (λ o. IfSome o (λ s. (s < c) × (is_session p s ≡ true))) h (at_place (ClassOrdered p) p.classes c d linked.classes.classes e).sessions
+      go o e h = grind arith
 
   -- which have a method that serves, and no sessions
   of_session : (c : ℕ) → is_session p c ≡ true → ((m : ℕ) × (role_of p c Service ≡ Some m)) × (sessions_at p c ≡ None)
   unfolding kind_of is_session_in is_session_kind sessions_in sessions_of
-  of_session c is = go (kind_of p (Some c)) refl is
+  of_session c is = let served = serves (kind_of p (Some c)) (needs c) is in (some_there (role_of p c Service) served.0, served.1)
     where
-      go : (o : Option ClassKind) → kind_of p (Some c) ≡ o → is_session_in o ≡ true → ((m : ℕ) × (role_of p c Service ≡ Some m)) × (sessions_in o ≡ None)
-      go (Some Session) e h = (some_there (role_of p c Service) (needs_of_kind c Session e), refl)
-      go _ e h = cc
+      serves : (o : Option ClassKind) → Needs c o → is_session_in o ≡ true → IsSome (role_of p c Service) × (sessions_in o ≡ None)
+      serves o n e = grind arith
 
   has_attendant : (c session : ℕ) → sessions_at p c ≡ Some session → (m : ℕ) × (role_of p session Service ≡ Some m)
   has_attendant c session serves = (of_session session (session_before c session serves).1).0
@@ -293,14 +269,10 @@ module _ (p : Image) (formed : WellFormed p) (linked : IsLinked p) where
   -- what may leave is not quiet
   loud : (m : ℕ) → leaves p m ≡ true → is_quiet p m ≡ false
   unfolding leaves_in quiet_in
-  loud m e = go (method_at p m) refl e
-    where
-      go : (o : Option Method_declared) → method_at p m ≡ o → leaves_in o ≡ true → quiet_in (method_at p m) ≡ false
-      go None f e = cc
-      go (Some d) f e = ap quiet_in f ∙ (elim (cases_Bool (quiet_in (Some d))) as (λ x. quiet_in (Some d) ≡ false) [
-        | inl q ↦ absurd (true≢false (sym e ∙ (shaped m d f).flags.quiet q))
-        | inr q ↦ q
-      ])
+  loud m e = some_given (λ o. leaves_in o ≡ true) (method_at p m) e (λ none. cc) (λ d f e. ap quiet_in f ∙ (elim (cases_Bool (quiet_in (Some d))) as (λ x. quiet_in (Some d) ≡ false) [
+    | inl q ↦ absurd (true≢false (sym e ∙ (shaped m d f).flags.quiet q))
+    | inr q ↦ q
+  ]))
 
   operands_fit : (m place : ℕ) (i : Instr) → instr_at p m place ≡ Some i → (l : Limits) × InstrFits l i
   unfolding method_at
@@ -344,9 +316,8 @@ module _ (p : Image) (formed : WellFormed p) (linked : IsLinked p) where
   destruct_states : (c m : ℕ) → role_of p c Destruct ≡ Some m → (before_of p m ≡ states_of (kind_of p (Some c))) × (after_of p m ≡ last_of (kind_of p (Some c)))
   unfolding before_in after_in
   destruct_states c m e =
-      let d = role_found p c m Destruct e in
-      let s : IsDestruct (kind_of p d.0.class) d.0 = of_role m d.0 Destruct d.1 d.3 in
-      (ap before_in d.1 ∙ s.begins ∙ ap (λ k. states_of (kind_of p k)) d.2, ap after_in d.1 ∙ s.ends ∙ ap (λ k. last_of (kind_of p k)) d.2)
+      let d = its_role c m Destruct e in
+      (ap before_in d.1 ∙ d.4.begins ∙ ap (λ k. states_of (kind_of p k)) d.2, ap after_in d.1 ∙ d.4.ends ∙ ap (λ k. last_of (kind_of p k)) d.2)
 
   -- only a class of active objects has to have a destructor for its requests
   none_destructs : (c : ℕ) → role_of p c Destruct ≡ None → last_of (kind_of p (Some c)) ≡ states_of (kind_of p (Some c))
@@ -369,11 +340,7 @@ module _ (p : Image) (formed : WellFormed p) (linked : IsLinked p) where
   called_is m place target m' first c e =
       let w = of_method p m place (Call target m' first c) e in
       let names = all_there (NamesRoles p) w.0.code place (Call target m' first c) (shaped m w.0 w.1).code w.2 in
-      go (method_at p m') refl names
-    where
-      go : (o : Option Method_declared) → method_at p m' ≡ o → IsTrue (is_role Do (role_in o) || is_role Construct (role_in o)) → IsCalled p m'
-      go None f names = cc
-      go (Some d) f names = record {
+      some_given (λ o. IsTrue (is_role Do (role_in o) || is_role Construct (role_in o))) (method_at p m') names (λ names. cc) (λ d f names. record {
         there = rw f refl;
         ends = ends_unissued m' d f names;
         begins = λ e. construct_begins m' d f (let same : Some d.role ≡ Some Construct = sym (ap role_in f) ∙ e in cc);
@@ -381,7 +348,7 @@ module _ (p : Image) (formed : WellFormed p) (linked : IsLinked p) where
           | inl h ↦ inl (ap role_in f ∙ ap (λ r. Some r) (same_roles d.role Do h))
           | inr h ↦ inr (ap role_in f ∙ ap (λ r. Some r) (same_roles d.role Construct h))
         ];
-      }
+      })
 
   trapped_is : (m place : ℕ) (target : Target) (m' first c : ℕ) → instr_at p m place ≡ Some (Trap target m' first c) → IsTrapped p m'
   unfolding role_in is_role
@@ -395,22 +362,18 @@ module _ (p : Image) (formed : WellFormed p) (linked : IsLinked p) where
   pushed_is m place a m' e =
       let w = of_method p m place (PushOperation a m') e in
       let names = all_there (NamesRoles p) w.0.code place (PushOperation a m') (shaped m w.0 w.1).code w.2 in
-      go (method_at p m') refl names
-    where
-      go : (o : Option Method_declared) → method_at p m' ≡ o → IsTrue (is_role Undo (role_in o)) → IsUndo p m'
-      go None f names = cc
-      go (Some d) f names =
-          let role : d.role ≡ Undo = same_roles d.role Undo names in
-          let fits = all_there (MethodFits (length p.classes) (length p.methods)) p.methods m' d formed.methods.each f in
-          let u : ShapedUndo (kind_of p d.class) d = of_role m' d Undo f role in record {
-            there = rw f refl;
-            role = ap role_in f ∙ ap (λ r. Some r) role;
-            class = ap class_in f ∙ of_none p d.class fits.class u.of;
-            leaves = ap leaves_in f ∙ (shaped m' d f).flags.quiet u.flags;
-            quiet = ap quiet_in f ∙ u.flags;
-            gives = ap gives_in f ∙ nothing_given d.gives u.gives;
-            arguments = ap arguments_in f ∙ words_alone 1 d.arguments u.takes.count u.takes.words;
-          }
+      some_given (λ o. IsTrue (is_role Undo (role_in o))) (method_at p m') names (λ names. cc) (λ d f names.
+      let role : d.role ≡ Undo = same_roles d.role Undo names in
+      let fits = all_there (MethodFits (length p.classes) (length p.methods)) p.methods m' d formed.methods.each f in
+      let u : ShapedUndo (kind_of p d.class) d = of_role m' d Undo f role in record {
+        there = rw f refl;
+        role = ap role_in f ∙ ap (λ r. Some r) role;
+        class = ap class_in f ∙ of_none p d.class fits.class u.of;
+        leaves = ap leaves_in f ∙ (shaped m' d f).flags.quiet u.flags;
+        quiet = ap quiet_in f ∙ u.flags;
+        gives = ap gives_in f ∙ nothing_given d.gives u.gives;
+        arguments = ap arguments_in f ∙ words_alone 1 d.arguments u.takes.count u.takes.words;
+      })
 
   -- a class without a destructor owns nothing
   owns_none : (c : ℕ) → role_of p c Destruct ≡ None → (f : ℕ) → field_thing p (Member c) f ≡ None

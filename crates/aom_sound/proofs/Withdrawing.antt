@@ -1,6 +1,6 @@
 -- Between dispatches the cells that a client leaves as it closes or dies are well typed: its messages that wait go with their entries.
-use Rattle.std.proofs.Common.{Bool, List, None, Option, Some, [], ap, cond, false, inl, inr, refl, subst, sym, true, ℕ, ◌&&◌, ◌==◌, ◌∙◌, ◌∷◌, ◌≡◌}
-use Rattle.std.proofs.lemmas.Bool.{eq-eqb, eqb-true, ne_eqb, true≢false}
+use Rattle.std.proofs.Common.{arith, Bool, List, None, Option, Some, [], ap, cond, false, inl, inr, refl, subst, sym, true, ℕ, ◌&&◌, ◌==◌, ◌∙◌, ◌∷◌, ◌≡◌}
+use Rattle.std.proofs.lemmas.Bool.{eq-eqb, true≢false}
 use Rattle.std.specs.List.{list_any}
 use Rattle.std.specs.Prelude.{filter, not, ◌||◌, ◌⊎◌}
 use Rattle.aom_image.specs.Image.{Image}
@@ -80,12 +80,10 @@ stays_there c m (Message_of d k ∷ es) other h =
     go false e false s h rest = rest h
 
 from_same : (c d : ℕ) (x : Option Sender) → is_from c x ≡ true → is_from d x ≡ true → d ≡ c
-from_same c d None h k = cc
-from_same c d (Some m) h k = sym (eqb-true m.client d k) ∙ eqb-true m.client c h
+from_same c d x h k = grind arith
 
 from_apart : (c d : ℕ) (x : Option Sender) → is_from c x ≡ false → is_from d x ≡ true → (d == c) ≡ false
-from_apart c d None h k = cc
-from_apart c d (Some m) h k = ne_eqb d c (λ same. true≢false (sym (eq-eqb m.client c (eqb-true m.client d k ∙ same)) ∙ h))
+from_apart c d x h k = grind arith
 
 -- ---- the cells
 
