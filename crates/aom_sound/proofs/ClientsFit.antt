@@ -76,9 +76,6 @@ module _ (clients : List Client) (c n : ℕ) where
       (k : ℕ) → is_connecting_at k (client_at clients c) ≡ true → (es : List Asked) → QueueFits clients n es → (k ≡ n → list_any (is_connect_of c) es ≡ false) → list_any (is_of c) es ≡ false
   none_of_connecting k at = none_but_own (is_connect_of c) k entry
     where
-      x : Client
-      x = client_at clients c
-
       entry : (e : Asked) → c ≡ client_of e → EntryFits clients n e → (k ≡ n) × (is_connect_of c e ≡ true)
       entry e same f = grind (arith, eq-eqb, connecting_only)
 
@@ -86,9 +83,6 @@ module _ (clients : List Client) (c n : ℕ) where
   pub none_of_leaving : (k : ℕ) → is_leaving k (client_at clients c) ≡ true → (es : List Asked) → QueueFits clients n es → (k ≡ n → list_any (is_close_of c) es ≡ false) → list_any (is_of c) es ≡ false
   none_of_leaving k at = none_but_own (is_close_of c) k entry
     where
-      x : Client
-      x = client_at clients c
-
       entry : (e : Asked) → c ≡ client_of e → EntryFits clients n e → (k ≡ n) × (is_close_of c e ≡ true)
       entry e same f = grind (arith, eq-eqb, leaving_only)
 
