@@ -38,7 +38,7 @@ use Rattle.aom_parts.specs.Agrees.{Agrees, SameCells, SameRequests, Shows, home_
 use Rattle.aom_parts.specs.Fields.{this}
 use Rattle.aom_acts.specs.Next.{IsNext, counting}
 use Rattle.aom_parts.specs.Places.{value}
-use Rattle.aom_acts.specs.Requests.{EndsCancel, IsCancelled}
+use Rattle.aom_acts.specs.Requests.{EndsCancel, IsCancelled, IsOver}
 use Rattle.aom_parts.proofs.CellFields.{cell_of}
 use Rattle.aom_acts.proofs.FieldActs.{housed, inside_object}
 use Rattle.aom_acts.proofs.RequestActs.{requests_set}
@@ -146,13 +146,6 @@ module _ (p : Image) (m : Parts) (a : ℕ) (d : Method_declared) (next : IsNext 
       go _ role = tt
 
 -- ---- the machine once the cancel is over
-
--- the cancel that the method at its end may have to end is over
-pub record IsOver (p : Image) (m : Parts) (act : Active) : Type 0 where
-  pub role : Role
-  pub plays : method_role p (method_here m.stack.tasks) ≡ Some role
-  pub was : IsCancelled role m
-  pub ends : EndsCancel role m.active act (this m)
 
 pub is_over : (p : Image) (m : Parts) (a : ℕ) (act : Active) (d : Method_declared) → IsNext p (Return a) m → method_at p (method_here m.stack.tasks) ≡ Some d
     → EndsCancel d.role m.active act (this m) → IsOver p m act

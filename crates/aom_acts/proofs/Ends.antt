@@ -45,7 +45,7 @@ use Rattle.aom_sound.specs.State.{Object_left}
 use Rattle.aom_parts.specs.Agrees.{subject_of}
 use Rattle.aom_sound.specs.Places.{named}
 use Rattle.aom_parts.proofs.Values.{kept, none_alike, value_written, word_written, writes}
-use Rattle.aom_acts.proofs.Running.{an_open, begun_frame, not_null, reframed}
+use Rattle.aom_acts.proofs.Running.{agrees_with, an_open, aside_counted, aside_of, begun_frame, not_null, reframed}
 use Rattle.aom_acts.proofs.CallActs.{Closing, closing, shows_null}
 use Rattle.aom_acts.proofs.OnTop.{ending_of}
 use Rattle.aom_acts.proofs.GoingActs.{end_value, end_word, fresh_value, fresh_word, uproots}
@@ -88,18 +88,8 @@ which m s e x is = let both : Some e.dispatch ≡ Some x = sym (ap ending_here e
 
 -- nothing is left at hand
 emptied : (p : Image) (m : Parts) (s : State) (r r' : Rest) → Agrees p m s → Closing s → r ≡ r' → Agrees p (record m { stack = record m.stack { tasks = [] }; rest = r }) (record s { tasks = []; rest = r' })
-emptied p m s r r' agrees shut same = record {
-  tasks = tt;
-  values = values;
-  cells = agrees.cells;
-  entries = agrees.entries;
-  requests = agrees.requests;
-  natives = agrees.natives;
-  services = agrees.services;
-  rest = same;
-  room = agrees.room;
-  entry_room = agrees.entry_room;
-}
+emptied p m s r r' agrees shut same =
+    agrees_with p (record m { rest = r }) (record s { rest = r' }) [] [] (aside_counted p m s r r' (aside_of p m s agrees) same) tt values
   where
     values : (q : Place) → Shows (value_in [] m.cells m.entries.items (others m) q) (word_at [] q) (held s.cells q)
     values (Register k i) = shows_null _ _ _ refl refl (shut.registers k i)
@@ -236,21 +226,12 @@ module _ (p : Image) (formed : WellFormed p) (m : Parts) (announced : m.rest.ann
     error_runs fits =
         let n = cast_unsigned w32 code in
         let here = Register 1 0 in
-        record {
-          tasks = (reframed f fr (slice_set f.registers 0 n) (Some code ∷ []) 0 0 (begun_frame k x.number home (length s.items) refl (λ there. object_small p m s formed agrees (subject_of x) sits refl)) (length-set f.registers 0 n ∙ length-replicate 16 null) refl, ((e.place, refl), tt));
-          values = writes _ _ _ _ (held s.cells) _ here n (Some code) None base (to_z-of_z w32 code fits)
-              (value_written f us m.cells m.entries.items (others m) 1 0 n 0 refl (let wide = length-replicate 16 null in omega arith))
-              (word_written fr ts 0 0 (Some code))
-              (λ q. kept (held s.cells) here q ∙ ap (λ o. changed (held s.cells) here o q) (shut.registers 1 0));
-          cells = agrees.cells;
-          entries = agrees.entries;
-          requests = agrees.requests;
-          natives = agrees.natives;
-          services = agrees.services;
-          rest = same_counts (λ r. r);
-          room = agrees.room;
-          entry_room = agrees.entry_room;
-        }
+        agrees_with p m (at_close s) (Runs_frame (with_register 0 n f) ∷ us) (Run (error_frame k asked_seat code (length s.items)) ∷ ts) (aside_counted p m s m.rest (at_close s).rest (aside_of p m s agrees) (same_counts (λ r. r)))
+        (reframed f fr (slice_set f.registers 0 n) (Some code ∷ []) 0 0 (begun_frame k x.number home (length s.items) refl (λ there. object_small p m s formed agrees (subject_of x) sits refl)) (length-set f.registers 0 n ∙ length-replicate 16 null) refl, ((e.place, refl), tt))
+        (writes _ _ _ _ (held s.cells) _ here n (Some code) None base (to_z-of_z w32 code fits)
+        (value_written f us m.cells m.entries.items (others m) 1 0 n 0 refl (let wide = length-replicate 16 null in omega arith))
+        (word_written fr ts 0 0 (Some code))
+        (λ q. kept (held s.cells) here q ∙ ap (λ o. changed (held s.cells) here o q) (shut.registers 1 0)))
 
   asking_alike : (method : Option ℕ) (x : Subject) (code : ℤ) → named s.cells x.number ≡ Some (subject_of x) → FitsSigned w32 code → Agrees p (ends.asking p method x code m) (asking p method (seat_of e.place x) code (at_close s))
   asking_alike None x code sits fits = answered_alike code

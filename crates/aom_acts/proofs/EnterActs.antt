@@ -1,6 +1,6 @@
 -- A method is called: it begins over the one that runs, with its arguments in its first registers.
 use Rattle.std.proofs.Common.{zero, suc, ◌≢◌, ◌≡◌, ◌==◌, ◌&&◌, ℕ, ℤ, ◌<◌, ◌≤◌, ◌+◌, Bool, true, false, cond, length, List, [], ◌∷◌, ◌++◌, Option, Some, None, slice_index_or, slice_set, refl, sym, ap, ◌∙◌, subst, arith, append-nil, append_assoc}
-use Rattle.std.specs.Prelude.{IsSome, is_some, nat_le}
+use Rattle.std.specs.Prelude.{IsSome, is_some}
 use Rattle.std.proofs.lemmas.Bool.{eq-eqb, eqb-true, false≢true, ne_eqb}
 use Rattle.std.proofs.lemmas.Bool.Decides.{leb_tells}
 use Rattle.std.proofs.lemmas.List.{length-set}
@@ -15,9 +15,9 @@ use Rattle.aom_image.specs.declared.method.Method.{Method as Method_decl}
 use Rattle.aom_cells.specs.Heap.{Heap, null}
 use Rattle.aom_shape.specs.Needs.{AllTrue}
 use Rattle.aom_shape.specs.Tables.{put_at}
-use Rattle.aom_sound.specs.Calls.{is_worked_on, own_home, entered, entry_place, home_at, needs_each, needs_target, passed_cells, passed_words, target_home}
+use Rattle.aom_sound.specs.Calls.{is_worked_on, own_home, entered, entry_place, home_at, needs_each, needs_entering, needs_target, passed_cells, passed_words, target_home}
 use Rattle.aom_sound.specs.Places.{Place, Register, Entry, Going, Object, Cell, changed, held, moved, same_place}
-use Rattle.aom_sound.specs.State.{Frame, Task, Run, Trapped, A_mark, State, field_place, frame_of, word}
+use Rattle.aom_sound.specs.State.{Frame, Need, Task, Run, Trapped, A_mark, State, field_place, frame_of, word}
 use Rattle.aom_sound.proofs.Finishing.{all_parts}
 use Rattle.aom_sound.proofs.Maps.{held_moved}
 use Rattle.aom_frames.specs.Tasks.{fresh, given, given_here, on_top, passed_on, passing, register_here, this_here, with_register, method_here, place_here}
@@ -46,7 +46,7 @@ use Rattle.aom_parts.proofs.Services.{services_passed}
 use Rattle.aom_acts.proofs.Owned.{object_for}
 use Rattle.aom_sound.proofs.Maps.{held_lives}
 use Rattle.aom_acts.proofs.FieldActs.{this_is}
-use Rattle.aom_acts.proofs.Running.{Top, by_top, begun_frame, object_small, reframed, no_word}
+use Rattle.aom_acts.proofs.Running.{Aside, Top, agrees_with, aside_with, by_top, begun_frame, object_small, reframed, no_word}
 use Rattle.aom_acts.proofs.Stepping.{at_step}
 use Rattle.aom_parts.proofs.Values.{kept, moves, value_here, value_written, word_written, writes}
 use Rattle.aom_parts.proofs.Sessions.{natives_passed}
@@ -238,6 +238,12 @@ module _ (p : Image) (trapped : Bool) (heap : Heap) (es : List Item) (rest : Oth
 
 -- ---- the call
 
+-- its arguments lie in registers that a method has
+pub entering_fits : (p : Image) (fr : Frame) (ts : List Task) (s : State) (target : Target) (k first : ℕ) (more : List Need) → AllTrue (needs_entering p fr ts s target k first more) → (first + length (arguments_of p k)) ≤ 16
+entering_fits p fr ts s target k first more needs =
+    let parts = all_parts (needs_target p fr ts s target (method_class p k) first (length (arguments_of p k))) _ needs in
+    grind (arith, leb_tells (first + length (arguments_of p k)) 16, parts.1.0)
+
 -- what the method works on
 home_of : (p : Image) (m : Parts) (h : At_hand p m) (target : Target) (class : Option ℕ) (first count : ℕ) → AllTrue (needs_target p h.frame h.below h.state target class first count) → target_here target class m ≡ home_number (target_home p h.frame h.below h.state target class)
 home_of p m h This None first count needs = refl
@@ -298,9 +304,17 @@ module _ (p : Image) (m : Parts) (h : At_hand p m) (trapped : Bool) (target : Ta
   abbrev over : List Task
   over = tasks_over trapped (Run h.frame ∷ h.below)
 
-  pub enters : (f : Held_frame) (ms : List Held_task) (top : Top m h.state h.frame h.below f ms) → this ≡ home_number (target_home p h.frame h.below h.state target (method_class p k)) → (this ≢ null → this < 4096) → (first + length xs) ≤ 16 → AllTrue (needs_each p h.frame h.below h.state xs first)
-      → Passing p trapped m.cells m.entries.items (others m) ms h.below h.frame called h.state top.deep (passed_on xs first f) (given xs first 0 f (fresh k this)) (passed_cells p h.frame h.below h.state (length over) xs first 0 h.state.cells) (passed_words p h.frame h.below h.state xs first) (0 + length xs)
-  enters f ms top home housed fits each =
+  abbrev passed : List Cell
+  passed = passed_cells p h.frame h.below h.state (length over) xs first 0 h.state.cells
+
+  enters : (more : List Need) → AllTrue (needs_entering p h.frame h.below h.state target k first more) → (f : Held_frame) (ms : List Held_task) (top : Top m h.state h.frame h.below f ms)
+      → Passing p trapped m.cells m.entries.items (others m) ms h.below h.frame called h.state top.deep (passed_on xs first f) (given xs first 0 f (fresh k this)) passed (passed_words p h.frame h.below h.state xs first) (0 + length xs)
+  enters more needs f ms top =
+      let parts = all_parts (needs_target p h.frame h.below h.state target (method_class p k) first (length xs)) _ needs in
+      let fits = entering_fits p h.frame h.below h.state target k first more needs in
+      let each = (all_parts (needs_each p h.frame h.below h.state xs first) _ parts.1.1).0 in
+      let home = home_of p m h target (method_class p k) first (length xs) parts.0 in
+      let housed = housed_by p m h target (method_class p k) first (length xs) parts.0 home in
       let s = h.state in
       let fr = h.frame in
       let ts = h.below in
@@ -318,8 +332,13 @@ module _ (p : Image) (m : Parts) (h : At_hand p m) (trapped : Bool) (target : Ta
       } in
       all_go p trapped m.cells m.entries.items (others m) ms ts fr called s top.deep xs first 0 f (fresh k this) s.cells [] fits (omega arith) each begun
 
-pub within : (a n : ℕ) → nat_le (a + n) 16 ≡ true → (a + n) ≤ 16
-within a n e = grind (arith, leb_tells (a + n) 16)
+  -- all but the tasks, once the arguments have gone
+  aside_passed : SameCells p m.cells passed → Aside p m (record h.state { cells = passed })
+  aside_passed cells =
+      let requests = requests_passed p h.frame h.below h.state m.active (length over) xs first 0 h.state.cells h.agrees.requests in
+      let natives = natives_passed p h.frame h.below h.state m.sessions (length over) xs first 0 h.state.cells h.agrees.natives in
+      let services = services_passed p h.frame h.below h.state (length over) xs first 0 h.state.cells h.agrees.services in
+      record { cells = cells; entries = h.agrees.entries; requests = requests; natives = natives; services = services; rest = h.agrees.rest; room = h.agrees.room; entry_room = h.agrees.entry_room }
 
 pub call_does : (p : Image) (m : Parts) (refused : List ℕ) (target : Target) (k first x : ℕ)
     → DoesIn p refused (Call target k first x) m (with_tasks (Runs_frame (given_here (arguments_of p k) first m.stack.tasks (fresh k (target_here target (method_class p k) m))) ∷ on_top (passed_on (arguments_of p k) first) m.stack.tasks) m)
@@ -328,29 +347,13 @@ call_does p m refused target k first x h here =
     let fr = h.frame in
     let ts = h.below in
     let xs = arguments_of p k in
-    let this = target_here target (method_class p k) m in
+    let g = fresh k (target_here target (method_class p k) m) in
+    let cs = passed_cells p fr ts s (suc (length ts)) xs first 0 s.cells in
+    let vs = Run (entered p fr ts s target k first (length s.items)) ∷ Run fr ∷ ts in
     plain_at p m _ refused (Call target k first x) refl h (λ c needs typed.
-    let parts = all_parts (needs_target p fr ts s target (method_class p k) first (length xs)) _ needs in
-    let fits = within first (length xs) parts.1.0 in
-    let each = (all_parts (needs_each p fr ts s xs first) _ parts.1.1).0 in
-    let home = home_of p m h target (method_class p k) first (length xs) parts.0 in
-    let housed = housed_by p m h target (method_class p k) first (length xs) parts.0 home in
-    by_top p m h
-    (λ us. Agrees p (with_tasks (Runs_frame (given_here xs first us (fresh k this)) ∷ on_top (passed_on xs first) us) m) (record s { cells = passed_cells p fr ts s (suc (length ts)) xs first 0 s.cells; tasks = Run (entered p fr ts s target k first (length s.items)) ∷ Run fr ∷ ts }))
-    (λ f ms top.
-    let done = enters p m h false target k first (length s.items) f ms top home housed fits each in
-    record {
-      tasks = (done.called, (done.caller, top.below));
-      values = done.values;
-      cells = done.cells;
-      entries = h.agrees.entries;
-      requests = requests_passed p fr ts s m.active (suc (length ts)) xs first 0 s.cells h.agrees.requests;
-      natives = natives_passed p fr ts s m.sessions (suc (length ts)) xs first 0 s.cells h.agrees.natives;
-      services = services_passed p fr ts s (suc (length ts)) xs first 0 s.cells h.agrees.services;
-      rest = h.agrees.rest;
-      room = h.agrees.room;
-      entry_room = h.agrees.entry_room;
-    }))
+    by_top p m h (λ us. Agrees p (with_tasks (Runs_frame (given_here xs first us g) ∷ on_top (passed_on xs first) us) m) (record s { cells = cs; tasks = vs })) (λ f ms top.
+    let done = enters p m h false target k first (length s.items) _ needs f ms top in
+    agrees_with p m (record s { cells = cs }) (Runs_frame (given xs first 0 f g) ∷ Runs_frame (passed_on xs first f) ∷ ms) vs (aside_passed p m h false target k first (length s.items) done.cells) (done.called, (done.caller, top.below)) done.values))
 
 -- under a trap, whose mark owns nothing
 marked_value : (us : List Held_task) (h : Heap) (es : List Item) (rest : Others) (r : Place) → value_in us h (Is_mark ∷ es) rest r ≡ value_in us h es rest r
@@ -364,29 +367,16 @@ trap_does p m refused target k first x h here =
     let fr = h.frame in
     let ts = h.below in
     let xs = arguments_of p k in
-    let this = target_here target (method_class p k) m in
+    let g = fresh k (target_here target (method_class p k) m) in
+    let mid = with_items (Is_mark ∷ m.entries.items) m in
+    let v : State = record s { cells = passed_cells p fr ts s (suc (suc (length ts))) xs first 0 s.cells; items = A_mark ∷ s.items } in
+    let vs = Run (entered p fr ts s target k first (suc (length s.items))) ∷ Trapped ∷ Run fr ∷ ts in
     plain_at p m _ refused (Trap target k first x) refl h (λ c needs typed.
-    let parts = all_parts (needs_target p fr ts s target (method_class p k) first (length xs)) _ needs in
-    let fits = within first (length xs) parts.1.0 in
-    let each = (all_parts (needs_each p fr ts s xs first) _ parts.1.1).0 in
-    let home = home_of p m h target (method_class p k) first (length xs) parts.0 in
-    let housed = housed_by p m h target (method_class p k) first (length xs) parts.0 home in
-    by_top p m h
-    (λ us. Agrees p (with_items (Is_mark ∷ m.entries.items) (with_tasks (Runs_frame (given_here xs first us (fresh k this)) ∷ Is_trap ∷ on_top (passed_on xs first) us) m)) (record s { cells = passed_cells p fr ts s (suc (suc (length ts))) xs first 0 s.cells; tasks = Run (entered p fr ts s target k first (suc (length s.items))) ∷ Trapped ∷ Run fr ∷ ts; items = A_mark ∷ s.items }))
-    (λ f ms top.
-    let done = enters p m h true target k first (suc (length s.items)) f ms top home housed fits each in
-    record {
-      tasks = (done.called, (tt, (done.caller, top.below)));
-      values = λ r. subst (λ n. Shows n (word_at (Run (entered p fr ts s target k first (suc (length s.items))) ∷ Trapped ∷ Run fr ∷ ts) r) (held (passed_cells p fr ts s (suc (suc (length ts))) xs first 0 s.cells) r)) (sym (marked_value (Runs_frame (given xs first 0 f (fresh k this)) ∷ Is_trap ∷ Runs_frame (passed_on xs first f) ∷ ms) m.cells m.entries.items (others m) r)) (done.values r);
-      cells = done.cells;
-      entries = (tt, h.agrees.entries);
-      requests = requests_passed p fr ts s m.active (suc (suc (length ts))) xs first 0 s.cells h.agrees.requests;
-      natives = natives_passed p fr ts s m.sessions (suc (suc (length ts))) xs first 0 s.cells h.agrees.natives;
-      services = services_passed p fr ts s (suc (suc (length ts))) xs first 0 s.cells h.agrees.services;
-      rest = h.agrees.rest;
-      room = h.agrees.room;
-      entry_room = h.agrees.entry_room;
-    }))
+    by_top p m h (λ us. Agrees p (with_tasks (Runs_frame (given_here xs first us g) ∷ Is_trap ∷ on_top (passed_on xs first) us) mid) (record v { tasks = vs })) (λ f ms top.
+    let done = enters p m h true target k first (suc (length s.items)) _ needs f ms top in
+    let us = Runs_frame (given xs first 0 f g) ∷ Is_trap ∷ Runs_frame (passed_on xs first f) ∷ ms in
+    agrees_with p mid v us vs (aside_with p m (record s { cells = v.cells }) mid.entries v.items (aside_passed p m h true target k first (suc (length s.items)) done.cells) (tt, h.agrees.entries) h.agrees.entry_room) (done.called, (tt, (done.caller, top.below)))
+    (λ r. subst (λ n. Shows n (word_at vs r) (held v.cells r)) (sym (marked_value us m.cells m.entries.items (others m) r)) (done.values r))))
 
 -- ---- what the code needs to know of a call that is next
 
@@ -396,7 +386,5 @@ module _ (p : Image) (m : Parts) (target : Target) (k first x : ℕ) (next : IsN
 
   pub called_fits : (first + length (arguments_of p k)) ≤ 16
   called_fits =
-      let n = needs_met p m (Call target k first x) next in
       let h = at_hand p (counting next.counts m) next.stands next.runs in
-      let parts = all_parts (needs_target p h.frame h.below (requested (Call target k first x) (at_step h.state)) target (method_class p k) first (length (arguments_of p k))) _ n.1 in
-      grind (arith, leb_tells (first + length (arguments_of p k)) 16, parts.1.0)
+      entering_fits p h.frame h.below (requested (Call target k first x) (at_step h.state)) target k first _ (needs_met p m (Call target k first x) next).1

@@ -34,9 +34,9 @@ use Rattle.aom_parts.specs.Stands.{Stands}
 use Rattle.aom_parts.specs.declared.parts.Parts.{Parts}
 use Rattle.aom_acts.proofs.Ends.{at_close}
 use Rattle.aom_acts.proofs.Firsts.{IsSeat, closing_found, its_session, no_session, session_lives, session_object}
-use Rattle.aom_acts.proofs.GoingActs.{aside_moved, begins, closes_value, closes_word, destructor_same, destructs, dying_shows, server_same}
+use Rattle.aom_acts.proofs.GoingActs.{begins, closes_value, closes_word, destructor_same, destructs, dying_shows, server_same}
 use Rattle.aom_acts.proofs.ReturnActs.{lives_within}
-use Rattle.aom_acts.proofs.Running.{Aside, an_open, nothing_held, object_lives_at, object_small, object_there}
+use Rattle.aom_acts.proofs.Running.{Aside, an_open, aside_counted, aside_moved, aside_of, nothing_held, object_lives_at, object_small, object_there}
 use Rattle.aom_acts.proofs.Stepping.{counted_by}
 use Rattle.aom_acts.specs.Going.{destructed, destructor_at, destructor_in, dying, is_server_class}
 use Rattle.aom_acts.specs.Moves.{Moves}
@@ -126,7 +126,7 @@ module _ (p : Image) (formed : WellFormed p) (m : Parts) (announced : m.rest.ann
   counts = agrees.rest ∙ ap (λ b. record s.rest { announced = b }) (sym (ap (λ (r : Rest). r.announced) agrees.rest) ∙ announced)
 
   aside : Aside p m (at_close s)
-  aside = record { cells = agrees.cells; entries = agrees.entries; requests = agrees.requests; natives = agrees.natives; services = agrees.services; rest = counts; room = agrees.room; entry_room = agrees.entry_room }
+  aside = aside_counted p m s m.rest (at_close s).rest (aside_of p m s agrees) counts
 
   -- no session is there: its destructor runs
   pub none_left : kept.first_there m.clients (kept.sessions_at m.clients x) ≡ None

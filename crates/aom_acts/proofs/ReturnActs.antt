@@ -41,7 +41,7 @@ use Rattle.aom_sound.proofs.Storing.{ended_alike}
 use Rattle.aom_acts.specs.Ends.{heard, told_by}
 use Rattle.aom_acts.specs.Going.{ending_here}
 use Rattle.aom_parts.proofs.Asking.{requests_moved}
-use Rattle.aom_acts.proofs.CancelEnds.{IsOver, ended_agrees, method_is}
+use Rattle.aom_acts.proofs.CancelEnds.{ended_agrees, method_is}
 use Rattle.aom_acts.proofs.OnTop.{ending_of}
 use Rattle.aom_parts.specs.declared.parts.Parts.{Parts}
 use Rattle.aom_parts.specs.Places.{others, Others, value_in, register_in, going_in, with_tasks, IsDestroying, IsEnding, IsTrapped, IsUnwinding}
@@ -71,11 +71,12 @@ use Rattle.aom_acts.specs.Ends as ends
 use Rattle.aom_acts.specs.Serving.{CanServe, opened_by, served}
 use Rattle.aom_acts.specs.Acts.{requested as counted}
 use Rattle.aom_acts.specs.Next.{IsNext, counting}
+use Rattle.aom_acts.specs.Requests.{IsOver}
 use Rattle.aom_acts.proofs.Housing.{at_hand, needs_met}
 use Rattle.aom_acts.proofs.Stepping.{at_step}
 use Rattle.aom_parts.proofs.Premises.{connecting_below}
 use Rattle.aom_parts.proofs.Cells.{cell_small, cells_moved}
-use Rattle.aom_acts.proofs.Running.{Top, by_top, free, goes_on, moved_on, no_word, object_lives_at, register_shows}
+use Rattle.aom_acts.proofs.Running.{Aside, Top, agrees_with, aside_moved, aside_of, aside_unmarked, by_top, free, moved_on, no_word, object_lives_at, register_shows, retasked}
 use Rattle.std.specs.Bool.{OnTrue}
 use Rattle.std.specs.Prelude.{IsSome, is_some}
 use Rattle.std.proofs.lemmas.Option.{none-some}
@@ -211,18 +212,9 @@ module _ (p : Image) (m : Parts) (t : Typing) (s : State) (fr : Frame) (agrees :
   -- to the going of a cell, to an unwinding or to a dispatch: nothing goes over
   to_waiting : (ms : List Held_task) (ts : List Task) → Top m s fr ts f ms → ((i : ℕ) → held s.cells (Register (length ts) i) ≡ None)
       → Agrees p (with_tasks ms m) (record s { tasks = ts })
-  to_waiting ms ts top clear = record {
-    tasks = top.below;
-    values = λ r. subst (Shows (value_in ms m.cells m.entries.items (others m) r) (word_at ts r)) (cleared_none _ (held s.cells) clear r) (beneath f ms fr ts m.cells m.entries.items (others m) (held s.cells) top.deep top.values r);
-    cells = agrees.cells;
-    entries = agrees.entries;
-    requests = agrees.requests;
-    natives = agrees.natives;
-    services = agrees.services;
-    rest = agrees.rest;
-    room = agrees.room;
-    entry_room = agrees.entry_room;
-  }
+  to_waiting ms ts top clear =
+      retasked p m s ms ts agrees top.below
+      (λ r. subst (Shows (value_in ms m.cells m.entries.items (others m) r) (word_at ts r)) (cleared_none _ (held s.cells) clear r) (beneath f ms fr ts m.cells m.entries.items (others m) (held s.cells) top.deep top.values r))
 
   -- to a method, or through a trap to one
   module _ (trapped : Bool) (g : Held_frame) (ms : List Held_task) (caller : Frame) (ts : List Task) (top : Top m s fr (tasks_over trapped (Run caller ∷ ts)) f (held_over trapped (Runs_frame g ∷ ms))) (small : result_register (instr_at p caller.method caller.place) < 16) where
@@ -280,10 +272,7 @@ module _ (p : Image) (m : Parts) (t : Typing) (s : State) (fr : Frame) (agrees :
     -- the result has come
     record Landed (rs : List ℕ) (ws : List (Option ℤ)) (cs : List Cell) : Type 0 where
       values : (r : Place) → Shows (value_in (Runs_frame (record g { registers = rs }) ∷ ms) m.cells m.entries.items (others m) r) (word_at (Run (record caller { words = ws }) ∷ ts) r) (held cs r)
-      cells : SameCells p m.cells cs
-      requests : SameRequests p m.active cs
-      natives : SameNatives p m.sessions cs s.killed
-      services : SameServices p m.clients m.messages m.listed cs s.clients
+      aside : Aside p m (record s { cells = cs })
       wide : length rs ≡ 16
 
     abbrev IsClear : List Cell → Type 0
@@ -293,39 +282,33 @@ module _ (p : Image) (m : Parts) (t : Typing) (s : State) (fr : Frame) (agrees :
     lands_bare : IsClear s.cells → Landed g.registers caller.words s.cells
     lands_bare clear = record {
       values = λ r. subst (Shows (value_in (Runs_frame g ∷ ms) m.cells m.entries.items (others m) r) (word_at (Run caller ∷ ts) r)) (cleared_none _ (held s.cells) clear r) (base r);
-      cells = agrees.cells;
-      requests = agrees.requests;
-      natives = agrees.natives;
-      services = agrees.services;
+      aside = aside_of p m s agrees;
       wide = same_frame.wide;
     }
 
     -- with a number
-    lands : (cs : List Cell) (w : Option ℤ) (o : Option Object) → SameCells p m.cells cs → SameRequests p m.active cs → SameNatives p m.sessions cs s.killed → SameServices p m.clients m.messages m.listed cs s.clients → Shows n w o → ((r : Place) → held cs r ≡ changed under to o r) → Landed (slice_set g.registers x n) (set_word caller x w).words cs
-    lands cs w o cells requests natives services shows holds =
+    lands : (cs : List Cell) (w : Option ℤ) (o : Option Object) → Aside p m (record s { cells = cs }) → Shows n w o → ((r : Place) → held cs r ≡ changed under to o r) → Landed (slice_set g.registers x n) (set_word caller x w).words cs
+    lands cs w o aside shows holds =
         let wide = same_frame.wide in
         record {
           values = writes _ _ _ _ _ _ to n w o base shows
               (value_written g ms m.cells m.entries.items (others m) (length ts) x n g.place deep (omega arith))
               (word_written caller ts x caller.place w)
               holds;
-          cells = cells;
-          requests = requests;
-          natives = natives;
-          services = services;
+          aside = aside;
           wide = length-set g.registers x n ∙ wide;
         }
 
     -- with a word
     lands_word : IsClear s.cells → held s.cells to ≡ None → Landed (slice_set g.registers x n) (set_word caller x (word fr a)).words s.cells
     lands_word clear empty =
-        lands s.cells (word fr a) None agrees.cells agrees.requests agrees.natives agrees.services (subst (Shows n (word fr a)) (clear a) number_shows)
+        lands s.cells (word fr a) None (aside_of p m s agrees) (subst (Shows n (word fr a)) (clear a) number_shows)
         (λ r. kept (held s.cells) to r ∙ ap (λ o. changed (held s.cells) to o r) empty ∙ ap (λ o. cond (same_place to r) None o) (sym (cleared_none _ (held s.cells) clear r)))
 
     -- with an object
     lands_object : IsClear (moved from to s.cells) → held s.cells to ≡ None → word fr a ≡ None → Landed (slice_set g.registers x n) (set_word caller x None).words (moved from to s.cells)
     lands_object clear empty wordless =
-        lands (moved from to s.cells) None (held s.cells from) (cells_moved p m.cells s.cells from to agrees.cells) (requests_moved p m.active s.cells from to agrees.requests) (natives_moved p m.sessions s.killed s.cells from to agrees.natives) (services_moved p s.cells from to refl refl agrees.services) (subst (λ w. Shows n w (held s.cells from)) wordless number_shows) holds
+        lands (moved from to s.cells) None (held s.cells from) (aside_moved p m s from to agrees refl refl) (subst (λ w. Shows n w (held s.cells from)) wordless number_shows) holds
       where
         elsewhere : (r : Place) → same_place from r ≡ false → under r ≡ held s.cells r → held (moved from to s.cells) r ≡ changed under to (held s.cells from) r
         elsewhere r e same = held_moved s.cells from to r empty ∙ ap (λ b. cond (same_place to r) (held s.cells from) (cond b None (held s.cells r))) e ∙ ap (λ o. cond (same_place to r) (held s.cells from) o) (sym same)
@@ -349,7 +332,7 @@ module _ (p : Image) (m : Parts) (t : Typing) (s : State) (fr : Frame) (agrees :
     lands_next rs ws cs landed =
         let g' = record g { registers = rs } in
         let caller' = record caller { words = ws } in
-        goes_on p m s m.cells cs m.rest s.rest (record g' { place = suc g.place }) ms (next caller') ts agrees landed.cells landed.requests landed.natives landed.services agrees.rest same_below (moved_on g caller rs ws same_frame landed.wide)
+        agrees_with p m (record s { cells = cs }) (Runs_frame (record g' { place = suc g.place }) ∷ ms) (Run (next caller') ∷ ts) landed.aside (moved_on g caller rs ws same_frame landed.wide, same_below)
         (λ r. subst (λ k. Shows k (word_at (Run (next caller') ∷ ts) r) (held cs r)) (sym (value_kept g' ms m.cells m.entries.items (others m) (suc g.place) r))
         (subst (λ w. Shows (value_in (Runs_frame g' ∷ ms) m.cells m.entries.items (others m) r) w (held cs r)) (sym (word_next caller' ts (suc caller.place) r)) (landed.values r)))
 
@@ -363,21 +346,12 @@ module _ (p : Image) (m : Parts) (t : Typing) (s : State) (fr : Frame) (agrees :
         let wide = landed.wide in
         let was : m.entries.items ≡ Is_mark ∷ es.items = ap (λ (e : Held_items). e.items) marked in
         let old : (r : Place) → Shows (value_in (Runs_frame g' ∷ ms) m.cells es.items (others m) r) (word_at (Run caller' ∷ ts) r) (held cs r) = λ r. subst (λ k. Shows k (word_at (Run caller' ∷ ts) r) (held cs r)) (ap (λ is. value_in (Runs_frame g' ∷ ms) m.cells is (others m) r) was ∙ value_alike (Runs_frame g' ∷ ms) m.cells (Is_mark ∷ es.items) es.items (others m) (λ k. mark_shows_none es.items k) r) (landed.values r) in
-        record {
-          tasks = (moved_on g caller (slice_set rs (suc x) 0) (set_word caller' (suc x) (Some (pos 0))).words same_frame (length-set rs (suc x) 0 ∙ wide), same_below);
-          values = writes _ _ _ _ (held cs) _ q 0 (Some (pos 0)) None old refl
-              (value_written g' ms m.cells es.items (others m) (length ts) (suc x) 0 (suc g.place) deep (omega arith))
-              (word_written caller' ts (suc x) (suc caller.place) (Some (pos 0)))
-              (λ r. kept (held cs) q r ∙ ap (λ o. changed (held cs) q o r) empty);
-          cells = landed.cells;
-          entries = unmarked m.entries.items es.items s.items was agrees.entries;
-          requests = landed.requests;
-          natives = landed.natives;
-          services = landed.services;
-          rest = agrees.rest;
-          room = agrees.room;
-          entry_room = subst (λ k. 1024 ≤ k) (ap (λ (e : Held_items). e.depth) marked) agrees.entry_room;
-        }
+        agrees_with p (record m { entries = es }) (record s { cells = cs; items = below_top s.items }) (Runs_frame (record g { registers = slice_set rs (suc x) 0; place = suc g.place }) ∷ ms) (Run (next (set_word caller' (suc x) (Some (pos 0)))) ∷ ts) (aside_unmarked p m (record s { cells = cs }) es marked landed.aside)
+        (moved_on g caller (slice_set rs (suc x) 0) (set_word caller' (suc x) (Some (pos 0))).words same_frame (length-set rs (suc x) 0 ∙ wide), same_below)
+        (writes _ _ _ _ (held cs) _ q 0 (Some (pos 0)) None old refl
+        (value_written g' ms m.cells es.items (others m) (length ts) (suc x) 0 (suc g.place) deep (omega arith))
+        (word_written caller' ts (suc x) (suc caller.place) (Some (pos 0)))
+        (λ r. kept (held cs) q r ∙ ap (λ o. changed (held cs) q o r) empty))
 
   -- to a method
   module _ (g : Held_frame) (ms : List Held_task) (caller : Frame) (ts : List Task) (top : Top m s fr (Run caller ∷ ts) f (Runs_frame g ∷ ms)) (empty : bears (gives_of p fr.method) ≡ true → held s.cells (Register (length ts) (result_register (instr_at p caller.method caller.place))) ≡ None) (small : result_register (instr_at p caller.method caller.place) < 16) where
@@ -539,18 +513,8 @@ heard_same answer answer' x d e same = (same.0, subst (λ d. dispatch_of same.0 
 -- a dispatch has no place of its own
 redispatched : (p : Image) (m : Parts) (s : State) (x y : Held_dispatch) (ms : List Held_task) (d e : Dispatch) (ts : List Task) → SameDispatch y e
     → Agrees p (with_tasks (Ends x ∷ ms) m) (record s { tasks = Dispatched d ∷ ts }) → Agrees p (with_tasks (Ends y ∷ ms) m) (record s { tasks = Dispatched e ∷ ts })
-redispatched p m s x y ms d e ts same agrees = record {
-  tasks = (same, agrees.tasks.1);
-  values = values;
-  cells = agrees.cells;
-  entries = agrees.entries;
-  requests = agrees.requests;
-  natives = agrees.natives;
-  services = agrees.services;
-  rest = agrees.rest;
-  room = agrees.room;
-  entry_room = agrees.entry_room;
-}
+redispatched p m s x y ms d e ts same agrees =
+    retasked p (with_tasks (Ends x ∷ ms) m) (record s { tasks = Dispatched d ∷ ts }) (Ends y ∷ ms) (Dispatched e ∷ ts) agrees (same, agrees.tasks.1) values
   where
     values : (r : Place) → Shows (value_in (Ends y ∷ ms) m.cells m.entries.items (others m) r) (word_at (Dispatched e ∷ ts) r) (held s.cells r)
     values (Register k i) = agrees.values (Register k i)

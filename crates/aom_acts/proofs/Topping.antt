@@ -37,6 +37,7 @@ use Rattle.std.proofs.lemmas.Bool.{false≢true}
 use Rattle.aom_image.proofs.Given.{some_given}
 use Rattle.aom_parts.proofs.Alike.{A_catcher, A_method, A_trap, Alike, Alike_items, Tops, alike, both_objects, both_trapped, by_item, by_items, catcher_on_top, items_alike, method_on_top, same_below, tops, trap_on_top}
 use Rattle.aom_parts.proofs.Entries.{same_items_length, top_value}
+use Rattle.aom_acts.proofs.EnterActs.{entering_fits}
 use Rattle.aom_acts.proofs.Owned.{entry_object}
 use Rattle.aom_acts.proofs.Finding.{class_fits, object_lives}
 use Rattle.aom_acts.proofs.Housing.{at_hand, needs_met}
@@ -87,10 +88,8 @@ module _ (p : Image) (m : Parts) where
 
     pub trapped_fits : (first + length (arguments_of p k)) ≤ 16
     trapped_fits =
-        let n = needs_met p m (Trap target k first x) next in
         let h = at_hand p (counting next.counts m) next.stands next.runs in
-        let parts = all_parts (needs_target p h.frame h.below (requested (Trap target k first x) (at_step h.state)) target (method_class p k) first (length (arguments_of p k))) _ n.1 in
-        grind (arith, leb_tells (first + length (arguments_of p k)) 16, parts.1.0)
+        entering_fits p h.frame h.below (requested (Trap target k first x) (at_step h.state)) target k first _ (needs_met p m (Trap target k first x) next).1
 
 -- ---- a return through a trap finds its mark
 

@@ -56,7 +56,7 @@ use Rattle.aom_acts.proofs.LeavingActs.{unwinds_value, unwinds_word}
 use Rattle.aom_parts.proofs.Overs.{over_value, over_words}
 use Rattle.aom_parts.proofs.Alike.{A_caught_leave, A_last_leave, Alike, Alike_items, Entries_alike, Tops, alike, both_end, both_marks, both_run, both_trapped, both_unwind, caught_leave_on_top, entries_alike, entries_own, entries_run, items_alike, last_leave_on_top, same_below, tops}
 use Rattle.aom_acts.proofs.ReturnActs.{awaiting, bears, word_alone}
-use Rattle.aom_acts.proofs.Running.{an_open, moved_on}
+use Rattle.aom_acts.proofs.Running.{agrees_with, an_open, aside_of, aside_unmarked, moved_on}
 use Rattle.aom_acts.proofs.Stepping.{at_rest, goes_somewhere, step_of_unwinding, unwinding_of}
 use Rattle.aom_acts.proofs.Topping.{top_lives}
 use Rattle.aom_parts.proofs.Values.{kept, none_alike, same_length, value_written, word_written, writes}
@@ -209,22 +209,12 @@ module _ (p : Image) (m : Parts) (s : State) (agrees : Agrees p m s) (es : Held_
       let q = Register (length ts) (suc x) in
       let n = cast_unsigned w32 code in
       let wide = cleared.wide in
-      let was : m.entries.items ≡ Is_mark ∷ es.items = ap (λ (e : Held_items). e.items) marked in
-      record {
-        tasks = (moved_on g caller (slice_set rs (suc x) n) (set_word caller' (suc x) (Some code)).words same_frame (length-set rs (suc x) n ∙ wide), same_below);
-        values = writes _ _ _ _ (held s.cells) _ q n (Some code) None cleared.values (to_z-of_z w32 code fits)
-            (value_written g' ms m.cells es.items (others m) (length ts) (suc x) n (suc g.place) deep (omega arith))
-            (word_written caller' ts (suc x) (suc caller.place) (Some code))
-            (λ r. kept (held s.cells) q r ∙ ap (λ o. changed (held s.cells) q o r) none);
-        cells = agrees.cells;
-        entries = unmarked m.entries.items es.items s.items was agrees.entries;
-        requests = agrees.requests;
-        natives = agrees.natives;
-        services = agrees.services;
-        rest = agrees.rest;
-        room = agrees.room;
-        entry_room = subst (λ k. 1024 ≤ k) (ap (λ (e : Held_items). e.depth) marked) agrees.entry_room;
-      }
+      agrees_with p (record m { entries = es }) (record s { items = below_top s.items }) (Runs_frame (record g { registers = slice_set rs (suc x) n; place = suc g.place }) ∷ ms) (Run (next (set_word caller' (suc x) (Some code))) ∷ ts) (aside_unmarked p m s es marked (aside_of p m s agrees))
+      (moved_on g caller (slice_set rs (suc x) n) (set_word caller' (suc x) (Some code)).words same_frame (length-set rs (suc x) n ∙ wide), same_below)
+      (writes _ _ _ _ (held s.cells) _ q n (Some code) None cleared.values (to_z-of_z w32 code fits)
+      (value_written g' ms m.cells es.items (others m) (length ts) (suc x) n (suc g.place) deep (omega arith))
+      (word_written caller' ts (suc x) (suc caller.place) (Some code))
+      (λ r. kept (held s.cells) q r ∙ ap (λ o. changed (held s.cells) q o r) none))
 
   -- by what the method gives
   tells : (code : ℤ) (gv : Gives) → FitsSigned w32 code → (bears gv ≡ true → held s.cells (Register (length ts) x) ≡ None) → held s.cells (Register (length ts) (suc x)) ≡ None
