@@ -55,18 +55,22 @@ module _ (p : Image) (m : ℕ) (sh : Shape) (target : Target) (first : ℕ) (d :
 
   -- ---- what comes after them
 
-  module _ (rest : Shape → List Need) (left : Shape → List Flow) where
-    refused_so : (w : Why) → judged given moved ≡ Err w → judged (given ++ rest moved) (left moved) ≡ Err w
-    refused_so w e = failed_first given (rest moved) moved (left moved) w e
+  -- each part decides in turn, and where all are met the flows are those of the last
+  pub record Decides (rest : Shape → List Need) (left : Shape → List Flow) (answer : Result (List Flow) Why) : Type 0 where
+    pub refused : (w : Why) → judged given moved ≡ Err w → answer ≡ Err w
+    pub rest_refused : (z : Shape) (w : Why) → judged given moved ≡ Ok z → tested (rest z) ≡ Err w → answer ≡ Err w
+    pub met : (z : Shape) (u : Unit {0}) → judged given moved ≡ Ok z → tested (rest z) ≡ Ok u → answer ≡ Ok (left z)
 
-    rest_refused : (z : Shape) (w : Why) → judged given moved ≡ Ok z → tested (rest z) ≡ Err w → judged (given ++ rest moved) (left moved) ≡ Err w
-    rest_refused z w e f = passed_first given (rest moved) moved z (left moved) e ∙ all_failed (rest moved) (left moved) w (ap (λ s. tested (rest s)) (passed_is given moved z e) ∙ f)
-
-    all_met : (z : Shape) (u : Unit {0}) → judged given moved ≡ Ok z → tested (rest z) ≡ Ok u → judged (given ++ rest moved) (left moved) ≡ Ok (left z)
-    all_met z u e f =
-        passed_first given (rest moved) moved z (left moved) e
-        ∙ (all_passed (rest moved) (left moved) u (ap (λ s. tested (rest s)) (passed_is given moved z e) ∙ f)
-        ∙ ap (λ s. Ok (left s)) (passed_is given moved z e))
+  decides : (rest : Shape → List Need) (left : Shape → List Flow) (answer : Result (List Flow) Why) → answer ≡ judged (given ++ rest moved) (left moved) → Decides rest left answer
+  decides rest left answer is = record {
+    refused = λ w e. is ∙ failed_first given (rest moved) moved (left moved) w e;
+    rest_refused = λ z w e f. is ∙ passed_first given (rest moved) moved z (left moved) e ∙ all_failed (rest moved) (left moved) w (ap (λ s. tested (rest s)) (passed_is given moved z e) ∙ f);
+    met = λ z u e f.
+        is
+        ∙ passed_first given (rest moved) moved z (left moved) e
+        ∙ all_passed (rest moved) (left moved) u (ap (λ s. tested (rest s)) (passed_is given moved z e) ∙ f)
+        ∙ ap (λ s. Ok (left s)) (passed_is given moved z e);
+  }
 
 module _ (p : Image) (m : ℕ) (pc : ℕ) (sh : Shape) (target : Target) (m' : ℕ) (first : ℕ) (c : ℕ) (d : Method) (there : method_at p m' ≡ Some d) where
   abbrev needs : List Need
@@ -109,14 +113,8 @@ module _ (p : Image) (m : ℕ) (pc : ℕ) (sh : Shape) (target : Target) (m' : �
   call_is : call_answer ≡ judged (needs ++ of_moved after) (left_by_call after)
   call_is = ap (λ ns. judged ns (flow_call p m pc sh target m' first c)) (asked of_moved) ∙ ap (λ fs. judged (needs ++ of_moved after) fs) call_leaves
 
-  pub call_refused : (w : Why) → judged needs after ≡ Err w → call_answer ≡ Err w
-  call_refused w e = call_is ∙ refused_so p m sh target first d of_moved left_by_call w e
-
-  pub call_moved_refused : (z : Shape) (w : Why) → judged needs after ≡ Ok z → tested (of_moved z) ≡ Err w → call_answer ≡ Err w
-  call_moved_refused z w e f = call_is ∙ rest_refused p m sh target first d of_moved left_by_call z w e f
-
-  pub call_met : (z : Shape) (u : Unit {0}) → judged needs after ≡ Ok z → tested (of_moved z) ≡ Ok u → call_answer ≡ Ok (left_by_call z)
-  call_met z u e f = call_is ∙ all_met p m sh target first d of_moved left_by_call z u e f
+  pub call_decides : Decides p m sh target first d of_moved left_by_call call_answer
+  call_decides = decides p m sh target first d of_moved left_by_call call_answer call_is
 
   -- ---- traps
 
@@ -141,11 +139,5 @@ module _ (p : Image) (m : ℕ) (pc : ℕ) (sh : Shape) (target : Target) (m' : �
     trap_is : trap_answer ≡ judged (needs ++ of_trapped after) (left_by_trap after)
     trap_is = ap (λ ns. judged ns (flow_trap p m pc sh target m' first c)) trap_asks ∙ ap (λ fs. judged (needs ++ of_trapped after) fs) trap_leaves
 
-    pub trap_refused : (w : Why) → judged needs after ≡ Err w → trap_answer ≡ Err w
-    trap_refused w e = trap_is ∙ refused_so p m sh target first d of_trapped left_by_trap w e
-
-    pub trap_moved_refused : (z : Shape) (w : Why) → judged needs after ≡ Ok z → tested (of_trapped z) ≡ Err w → trap_answer ≡ Err w
-    trap_moved_refused z w e f = trap_is ∙ rest_refused p m sh target first d of_trapped left_by_trap z w e f
-
-    pub trap_met : (z : Shape) (u : Unit {0}) → judged needs after ≡ Ok z → tested (of_trapped z) ≡ Ok u → trap_answer ≡ Ok (left_by_trap z)
-    trap_met z u e f = trap_is ∙ all_met p m sh target first d of_trapped left_by_trap z u e f
+    pub trap_decides : Decides p m sh target first d of_trapped left_by_trap trap_answer
+    trap_decides = decides p m sh target first d of_trapped left_by_trap trap_answer trap_is

@@ -24,6 +24,7 @@ use Rattle.aom_rules.specs.Laws.{AllFollow, Follows}
 use Rattle.aom_shape.specs.Needs.{Flow, Need, AllTrue, only_if}
 use Rattle.aom_rules.specs.Objects.{flow_jump_null, flow_jump_empty}
 use Rattle.aom_rules.specs.Words.{rule_copy, rule_combine, rule_compare}
+use Rattle.aom_shape.specs.Tables.{at, put_at}
 use Rattle.aom_shape.specs.Order.{Weaker, WeakerFilling, SaysNoMore}
 use Rattle.aom_shape.specs.Order.Weaker.{alike, unset_word, unset_null, maybe_null, maybe_own}
 use Rattle.aom_shape.specs.Order.WeakerFilling.{alike_filling, perhaps_empty, perhaps_full}
@@ -43,60 +44,44 @@ use Rattle.aom_shape.proofs.Lists.{at_put}
 use Rattle.aom_shape.proofs.Sets.{has_along, has_both, has_first, has_itself, has_second, has_shared, larger}
 use Rattle.aom_rules.proofs.Telling.{fresh_more, readied_more, word_more, unowning_more, object_or_null_more, destroyed_more, ready_more, own_more, may_be_more, declared_more, empty_more, filled_more, filling_more, none_owns_more, all_empty_more}
 
--- two states with a register written alike
+-- what holds of two tables, entry by entry
+module _ {A : Type 0} (R : A → A → Type 0) (z : A) (xs ys : List A) (i : ℕ) (h : (j : ℕ) → R (at z xs j) (at z ys j)) where
+  -- holds where both are written alike
+  both_written : (x y : A) → R x y → (j : ℕ) → R (at z (put_at z xs i x) j) (at z (put_at z ys i y) j)
+  both_written x y w j = rw (at_put z xs i j x, at_put z ys i j y) (go (i == j))
+    where
+      go : (c : Bool) → R (cond c x (at z xs j)) (cond c y (at z ys j))
+      go true = w
+      go false = h j
+
+  -- and where the first is written with what the second has there
+  first_written : (x : A) → R x (at z ys i) → (j : ℕ) → R (at z (put_at z xs i x) j) (at z ys j)
+  first_written x w j = rw (at_put z xs i j x) (go (i == j) refl)
+    where
+      go : (c : Bool) → (i == j) ≡ c → R (cond c x (at z xs j)) (at z ys j)
+      go true e = rw (← eqb-true i j e) w
+      go false e = h j
+
+-- two states with other registers, or with other fields
+with_registers : (a b : Shape) (xs ys : List Kind) → SaysNoMore a b → ((j : ℕ) → Weaker (at Unset xs j) (at Unset ys j)) → SaysNoMore (record a { registers = xs }) (record b { registers = ys })
+with_registers a b xs ys h more = record { registers = more; fields = h.fields; entries = h.entries; states = h.states; delivery = h.delivery }
+
+with_fields : (a b : Shape) (xs ys : List Filling) → SaysNoMore a b → ((j : ℕ) → WeakerFilling (at Perhaps xs j) (at Perhaps ys j)) → SaysNoMore (record a { fields = xs }) (record b { fields = ys })
+with_fields a b xs ys h more = record { registers = h.registers; fields = more; entries = h.entries; states = h.states; delivery = h.delivery }
+
+-- written alike
 pub register_more : (a b : Shape) (i : ℕ) (k l : Kind) → SaysNoMore a b → Weaker k l → SaysNoMore (set_register a i k) (set_register b i l)
-register_more a b i k l h w = record {
-  registers = λ j. rw (at_put Unset a.registers i j k, at_put Unset b.registers i j l) (either j (i == j));
-  fields = h.fields;
-  entries = h.entries;
-  states = h.states;
-  delivery = h.delivery;
-}
-  where
-    either : (j : ℕ) (c : Bool) → Weaker (cond c k (register a j)) (cond c l (register b j))
-    either j true = w
-    either j false = h.registers j
+register_more a b i k l h w = with_registers a b _ _ h (both_written Weaker Unset a.registers b.registers i h.registers k l w)
 
 pub field_more : (a b : Shape) (i : ℕ) (x y : Filling) → SaysNoMore a b → WeakerFilling x y → SaysNoMore (set_field a i x) (set_field b i y)
-field_more a b i x y h w = record {
-  registers = h.registers;
-  fields = λ j. rw (at_put Perhaps a.fields i j x, at_put Perhaps b.fields i j y) (either j (i == j));
-  entries = h.entries;
-  states = h.states;
-  delivery = h.delivery;
-}
-  where
-    either : (j : ℕ) (c : Bool) → WeakerFilling (cond c x (field a j)) (cond c y (field b j))
-    either j true = w
-    either j false = h.fields j
+field_more a b i x y h w = with_fields a b _ _ h (both_written WeakerFilling Perhaps a.fields b.fields i h.fields x y w)
 
--- a register written with what a state that says more has there
+-- written with what a state that says more has there
 pub register_told : (a b : Shape) (i : ℕ) (k : Kind) → SaysNoMore a b → Weaker k (register b i) → SaysNoMore (set_register a i k) b
-register_told a b i k h w = record {
-  registers = λ j. rw (at_put Unset a.registers i j k) (go j (i == j) refl);
-  fields = h.fields;
-  entries = h.entries;
-  states = h.states;
-  delivery = h.delivery;
-}
-  where
-    go : (j : ℕ) (c : Bool) → (i == j) ≡ c → Weaker (cond c k (register a j)) (register b j)
-    go j true e = rw (← eqb-true i j e) w
-    go j false e = h.registers j
+register_told a b i k h w = with_registers a b _ _ h (first_written Weaker Unset a.registers b.registers i h.registers k w)
 
--- a field written with what a state that says more has there
 pub field_told : (a b : Shape) (i : ℕ) (x : Filling) → SaysNoMore a b → WeakerFilling x (field b i) → SaysNoMore (set_field a i x) b
-field_told a b i x h w = record {
-  registers = h.registers;
-  fields = λ j. rw (at_put Perhaps a.fields i j x) (go j (i == j) refl);
-  entries = h.entries;
-  states = h.states;
-  delivery = h.delivery;
-}
-  where
-    go : (j : ℕ) (c : Bool) → (i == j) ≡ c → WeakerFilling (cond c x (field a j)) (field b j)
-    go j true e = rw (← eqb-true i j e) w
-    go j false e = h.fields j
+field_told a b i x h w = with_fields a b _ _ h (first_written WeakerFilling Perhaps a.fields b.fields i h.fields x w)
 
 copy_more : (pc : ℕ) (a b : Shape) (r s : ℕ) → SaysNoMore a b → AllTrue (rule_copy pc a r s) → AllTrue (rule_copy pc b r s)
 copy_more pc a b r s h n = (word_more (register a s) (register b s) (h.registers s) n.0, (unowning_more (register a r) (register b r) (h.registers r) n.1.0, tt))
