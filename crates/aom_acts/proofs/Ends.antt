@@ -49,7 +49,7 @@ use Rattle.aom_acts.proofs.Running.{agrees_with, an_open, aside_counted, aside_o
 use Rattle.aom_acts.proofs.CallActs.{Closing, closing, shows_null}
 use Rattle.aom_acts.proofs.OnTop.{ending_of}
 use Rattle.aom_acts.proofs.GoingActs.{end_value, end_word, fresh_value, fresh_word, uproots}
-use Rattle.aom_acts.proofs.Stepping.{counted_by}
+use Rattle.aom_acts.proofs.Stepping.{counted_by, moved_so}
 use Rattle.aom_image.specs.WellFormed.{WellFormed}
 
 -- a dispatch that is at its end, on both sides
@@ -109,25 +109,11 @@ IsPlain x = Unit {0}
 
 -- the end of such a dispatch needs nothing
 needs_none : (q : Place) (x : Held_dispatch) (cs : List Cell) → IsPlain x → needs_end (dispatch_of q x) cs ≡ []
-needs_none q Main cs plain = refl
-needs_none q (MainLeft code) cs plain = refl
-needs_none q End_of_run cs plain = refl
-needs_none q (Of_one x) cs plain = refl
-needs_none q (One_left x code) cs plain = refl
-needs_none q (One_asks x) cs plain = refl
-needs_none q (One_answered x answer) cs plain = refl
-needs_none q (Of_one_served x client stage) cs plain = absurd plain
+needs_none q x cs plain = grind arith
 
 -- and writes nothing
 tells_none : (q : Place) (x : Held_dispatch) (cs : List Cell) → IsPlain x → dispatch_lines cs (dispatch_of q x) ≡ []
-tells_none q Main cs plain = refl
-tells_none q (MainLeft code) cs plain = refl
-tells_none q End_of_run cs plain = refl
-tells_none q (Of_one x) cs plain = refl
-tells_none q (One_left x code) cs plain = refl
-tells_none q (One_asks x) cs plain = refl
-tells_none q (One_answered x answer) cs plain = refl
-tells_none q (Of_one_served x client stage) cs plain = absurd plain
+tells_none q x cs plain = grind arith
 
 pub step_of_end : (p : Image) (c : Choice) (s : State) (d : Dispatch) → s.tasks ≡ Dispatched d ∷ [] → step p c s ≡ guarded (needs_end d s.cells) (dispatch_ends p d (at_close s))
 step_of_end p c s d top = ap (λ us. step_task p c (counted_by s (asked p us) (is_counted us)) us) top
@@ -248,15 +234,7 @@ module _ (p : Image) (m : Parts) (told : Turn) (announced : m.rest.announced ≡
       let c = an_open p told.refused m s agrees in
       let after = dispatch_ends p (dispatch_of e.place e.dispatch) (at_close s) in
       let is = step_of_end p c.0 s (dispatch_of e.place e.dispatch) e.state ∙ ap (λ ns. guarded ns after) (needs_none e.place e.dispatch s.cells (subst IsPlain (sym (which m s e x ending)) plain)) in (
-        record {
-          choice = c.0;
-          state = after;
-          is_open = c.1;
-          hears = c.2;
-          goes = is;
-          typed = subst (Keeps p t) is (sound.keeps c.0 s typed c.1.name);
-          agrees = subst (λ y. Agrees p new (dispatch_ends p (dispatch_of e.place y) (at_close s))) (sym (which m s e x ending)) (ends t s sound.formed typed agrees e);
-        },
+        moved_so p m new told.refused t s after sound typed c is (subst (λ y. Agrees p new (dispatch_ends p (dispatch_of e.place y) (at_close s))) (sym (which m s e x ending)) (ends t s sound.formed typed agrees e)),
         ap (λ ls. record told { lines = ls }) (sym (ap (λ us. told.lines ++ written_task p s us) e.state ∙ ap (λ ls. told.lines ++ ls) (tells_none e.place e.dispatch s.cells (subst IsPlain (sym (which m s e x ending)) plain)) ∙ append-nil told.lines)),
       )
 

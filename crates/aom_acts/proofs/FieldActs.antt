@@ -124,19 +124,24 @@ module _ (p : Image) (m : Parts) (h : At_hand p m) where
   field_no_queue AtRoot f = refl
   field_no_queue (Inside o from) f = refl
 
+  -- a method of which a field is declared works on the root or on an object
+  by_home : (f : ℕ) (P : Home → Type 0) → (h.frame.home ≡ AtRoot → P AtRoot) → ((o : Object) (from : Place) → h.frame.home ≡ Inside o from → P (Inside o from)) → is_some (field_thing p (home_holder h.frame.home) f) ≡ true → P h.frame.home
+  by_home f P root inside has = go h.frame.home refl has
+    where
+      go : (home : Home) → h.frame.home ≡ home → is_some (field_thing p (home_holder home) f) ≡ true → P home
+      go Static e has = cc
+      go AtRoot e has = root e
+      go (Inside o from) e has = inside o from e
+
   -- a field's number is read from its place
   here_at_root : (f : ℕ) → this m ≡ null → m.root ≡ field_here f m
   here_at_root f n = ap (λ b. cond b m.root (field_at m.cells (this m) f)) (sym (eq-eqb (this m) null n))
 
   pub field_read_here : (f : ℕ) (us : List Held_task) → is_some (field_thing p (home_holder h.frame.home) f) ≡ true → value_in us m.cells m.entries.items (others m) (field_place h.frame.home f) ≡ field_here f m
-  field_read_here f us has = go h.frame.home refl has
-    where
-      go : (home : Home) → h.frame.home ≡ home → is_some (field_thing p (home_holder home) f) ≡ true → value_in us m.cells m.entries.items (others m) (field_place home f) ≡ field_here f m
-      go Static e has = cc
-      go AtRoot e has = here_at_root f (this_is ∙ ap home_number e)
-      go (Inside o from) e has =
-          ap (λ n. field_at m.cells n f) (sym (inside_number o from e))
-          ∙ ap (λ b. cond b m.root (field_at m.cells (this m) f)) (sym (ne_eqb (this m) null (inside_there o from e)))
+  field_read_here f us =
+      by_home f (λ home. value_in us m.cells m.entries.items (others m) (field_place home f) ≡ field_here f m) (λ e. here_at_root f (this_is ∙ ap home_number e)) (λ o from e.
+      ap (λ n. field_at m.cells n f) (sym (inside_number o from e))
+      ∙ ap (λ b. cond b m.root (field_at m.cells (this m) f)) (sym (ne_eqb (this m) null (inside_there o from e))))
 
   -- and written in its place
   pub record Written (mid : Parts) (q : Place) (x : ℕ) : Type 0 where
@@ -145,7 +150,11 @@ module _ (p : Image) (m : Parts) (h : At_hand p m) where
     pub rest : mid ≡ record m { cells = mid.cells; root = mid.root }
 
   pub field_written_here : (mid : Parts) (f x : ℕ) → is_some (field_thing p (home_holder h.frame.home) f) ≡ true → WritesField f x m mid → Written mid (field_place h.frame.home f) x
-  field_written_here mid f x has writes = go h.frame.home refl has
+  field_written_here mid f x has writes =
+      by_home f (λ home. Written mid (field_place home f) x)
+      (λ e. elim writes [ inl root ↦ at_root root.1 | inr cell ↦ absurd (cell.0 (this_is ∙ ap home_number e)) ])
+      (λ o from e. elim writes [ inl root ↦ absurd (inside_there o from e root.0) | inr cell ↦ in_cell o from e cell.1 cell.2 ])
+      has
     where
       at_root : mid ≡ record m { root = x } → Written mid (Elsewhere Root) x
       at_root e = subst (λ k. Written k (Elsewhere Root) x) (sym e) (record { values = λ us r. root_written us m.cells m.entries.items (others m) x r; cells = h.agrees.cells; rest = refl })
@@ -158,11 +167,6 @@ module _ (p : Image) (m : Parts) (h : At_hand p m) where
             cells = cells_put p m.cells mid.cells h.state.cells o.name f x o h.agrees.cells (housed o from e) (inside_object o from e) at;
             rest = same ∙ ap (λ n. record m { cells = mid.cells; root = n }) (sym (ap (λ (k : Parts). k.root) same));
           }
-
-      go : (home : Home) → h.frame.home ≡ home → is_some (field_thing p (home_holder home) f) ≡ true → Written mid (field_place home f) x
-      go Static e has = cc
-      go AtRoot e has = elim writes [ inl root ↦ at_root root.1 | inr cell ↦ absurd (cell.0 (this_is ∙ ap home_number e)) ]
-      go (Inside o from) e has = elim writes [ inl root ↦ absurd (inside_there o from e root.0) | inr cell ↦ in_cell o from e cell.1 cell.2 ]
 
   -- the number in a field is that of what the field owns
   pub field_shown : (f : ℕ) → is_some (field_thing p (home_holder h.frame.home) f) ≡ true → field_here f m ≡ number (held h.state.cells (field_place h.frame.home f))

@@ -1,6 +1,6 @@
 -- The first session with a server that is there is that of the client that the machine finds, by the number in the place of each session. What closes its
 -- sessions stands over its own going.
-use Rattle.std.proofs.Common.{Bool, List, None, Option, Some, [], ap, cond, false, length, not, refl, subst, sym, true, ℕ, ◌&&◌, ◌==◌, ◌∙◌, ◌∷◌, ◌≡◌, ◌||◌}
+use Rattle.std.proofs.Common.{Bool, List, None, Option, Some, [], ap, cond, false, length, not, refl, subst, sym, true, ℕ, ◌&&◌, ◌==◌, ◌∙◌, ◌∷◌, ◌≡◌, ◌||◌, arith}
 use Rattle.std.specs.Prelude.{is_some}
 use Rattle.std.proofs.lemmas.Bool.{eq-eqb, true≢false}
 use Rattle.std.proofs.lemmas.Option.{none-some, same_Some}
@@ -39,24 +39,14 @@ use Rattle.aom_acts.proofs.Running.{nothing_held, object_lives_at}
 
 -- which it is with a server is no matter of the session's cell
 server_same : (k : Client) → server_of (sessionless k) ≡ server_of k
-server_same Unconnected = refl
-server_same (Connecting server slots) = refl
-server_same (Open server session slots) = refl
-server_same (Closing server session) = refl
-server_same Gone = refl
-server_same (Dying server session) = refl
-server_same Dead = refl
+server_same k = grind arith
 
 module _ (n : ℕ) where
   numbered : (server session : ℕ) → Some server ≡ Some n → cond (server == n) (session_number session) null ≡ session_number session
   numbered server session e = ap (λ b. cond b (session_number session) null) (eq-eqb server n (same_Some server n e))
 
   no_number : (session : ℕ) → not (session == no_cell) ≡ false → session_number session ≡ null
-  no_number session e = go (session == no_cell) e
-    where
-      go : (b : Bool) → not b ≡ false → cond b null session ≡ null
-      go true e = refl
-      go false e = absurd (true≢false e)
+  no_number session e = grind arith
 
   own_number : (session : ℕ) → not (session == no_cell) ≡ true → session_number session ≡ session
   own_number session e = go (session == no_cell) e
@@ -205,9 +195,7 @@ plain_session p (Some o) = plain_class (session_class p o.thing)
 plain_object : (p : Image) (h : Sight) (o : Object) (k : Kind) → NoMessage k → Fits p h (Some o) k → is_object o.thing ≡ true
 plain_object p h o (Own t a) plain f = ap is_object (stands_same p o.thing t f.0) ∙ plain
 plain_object p h o (Maybe t a) plain f = ap is_object (stands_same p o.thing t f.0) ∙ plain
-plain_object p h o Null plain f = absurd f
-plain_object p h o Word plain f = absurd f
-plain_object p h o Unset plain f = absurd f
+plain_object p h o _ plain f = absurd (assumption tt)
 
 module _ (p : Image) (n c : ℕ) where
   plain_close : (d : Dispatch) (k : Kind) → NoMessage k → NoMessage (by_close d n c k)

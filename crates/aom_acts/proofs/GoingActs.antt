@@ -163,11 +163,7 @@ module _ (p : Image) (m : Parts) (refused : List ℕ) where
 
 -- the end of a dispatch shows nothing
 pub end_value : (x y : Held_dispatch) (h : Heap) (es : List Item) (rest : Others) (q : Place) → value_in (Ends x ∷ []) h es rest q ≡ value_in (Ends y ∷ []) h es rest q
-end_value x y h es rest (Register d i) = refl
-end_value x y h es rest (Entry k) = refl
-end_value x y h es rest (Field n f) = refl
-end_value x y h es rest (Going k) = refl
-end_value x y h es rest (Elsewhere o) = refl
+end_value x y h es rest q = grind arith
 
 -- and has no word
 pub end_word : (d e : Dispatch) (q : Place) → word_at (Dispatched d ∷ []) q ≡ word_at (Dispatched e ∷ []) q

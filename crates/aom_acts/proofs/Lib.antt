@@ -36,3 +36,4 @@ pub mod UnwindActs
 mod Vanishing
 pub mod Owned
 pub mod MessageActs
+pub mod AsRead

@@ -41,8 +41,7 @@ use Rattle.aom_acts.proofs.WordActs.{heard_at, plain_does, word_put}
 
 -- objects that a native serves are active objects
 pub native_active : (k : Option ClassKind) → is_native_kind k ≡ true → is_active_kind k ≡ true
-native_active (Some (An_active (Native n) budget)) e = refl
-native_active _ e = cc
+native_active k e = grind arith
 
 native_listed : (k : Option ClassKind) → is_native_kind k ≡ true → is_listed_kind k ≡ true
 native_listed k e = active_listed k (native_active k e)

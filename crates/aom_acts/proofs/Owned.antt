@@ -55,10 +55,9 @@ module _ (p : Image) (h : Sight) (o : Object) where
   by_filling x = go (p.header.root) x
     where
       go : (r : Option ℕ) (x : Filling) → IsOne (filled (root_thing r 0) x)
-      go None x fits = absurd fits
-      go (Some c) Empty fits = absurd fits
       go (Some c) Full fits = object_for p o.thing c fits.0
       go (Some c) Perhaps fits = object_for p o.thing c fits.0
+      go _ _ fits = absurd (assumption tt)
 
   at_home : (home : Home) (sh : Shape) (below : Kind) → IsOne below → IsOne (root_claim p home sh below)
   at_home Static sh below one = one

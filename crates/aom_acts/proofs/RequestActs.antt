@@ -90,22 +90,19 @@ requests_set p old new cs o r lives limit stands same = record {
 
 -- ---- what a test of a phase tells
 
-in_one : (test : Phase → Bool) (o : Option Request) → in_phase test o ≡ true → (r : Request) × (o ≡ Some r) × (test r.phase ≡ true)
+pub in_one : (test : Phase → Bool) (o : Option Request) → in_phase test o ≡ true → (r : Request) × (o ≡ Some r) × (test r.phase ≡ true)
 in_one test None e = absurd (false≢true e)
 in_one test (Some r) e = (r, refl, e)
 
 idle_only : (x : Phase) → is_idle x ≡ true → x ≡ Idle
-idle_only Idle e = refl
-idle_only _ e = cc
+idle_only x e = grind arith
 
 issued_only : (x : Phase) → is_issued x ≡ true → x ≡ Issued
-issued_only Issued e = refl
-issued_only _ e = cc
+issued_only x e = grind arith
 
 -- an object that waits is active
 pub waits_active : (h : Option Held_request) → is_waited_for h ≡ true → state_of h ≡ Some Held_active
-waits_active (Some (Held_object Held_active status)) e = refl
-waits_active _ e = cc
+waits_active h e = grind arith
 
 -- a change that keeps the order of a request
 order_kept : (f : Request → Request) → ((r : Request) → (f r).order ≡ r.order) → (o : Option Request) → option_map (λ x. x.order) (on_request f o) ≡ option_map (λ x. x.order) o
@@ -390,19 +387,20 @@ module _ (m : Parts) (refused : List ℕ) where
       subst (λ v. Agrees p new (applied p h.frame h.below h.state (writes_word h.frame a v))) (status_told p m h (on_object p m h (active_listed _ met.0)) met.0) (word_put p m new h a _ (free _ met.1.0) x))
 
 module _ (m : Parts) (refused : List ℕ) (a : Active) where
+  -- the request of the object that works becomes another at the same place of the list
+  becomes : (test : Phase → Bool) (f : Request → Request) → ((r : Request) → (f r).order ≡ r.order) → Makes m.active a (this m) f → (p : Image) (h : At_hand p m)
+      → is_active_kind (home_kind p h.frame.home) ≡ true → in_phase test (own_request h.state.cells h.frame.home) ≡ true
+      → Agrees p (places.next (record m { active = a })) (applied p h.frame h.below h.state (updates h.frame (Requested (on_request f (own_request h.state.cells h.frame.home)))))
+  becomes test f same makes p h kind phase =
+      let r = in_one test _ phase in
+      let on = on_object p m h (active_listed _ kind) in
+      asks_on p m h a m.listed _ (requests_become p m h on a f r.0 r.1 makes) (services_become p m h on f same)
+
   pub set_active_does : Makes m.active a (this m) waits → Does refused SetActive m (places.next (record m { active = a }))
-  set_active_does makes =
-      plain_does m _ refused SetActive refl (λ p h c met.
-      let r = in_one is_issued _ met.1.1.1.0 in
-      let on = on_object p m h (active_listed _ met.0) in
-      asks_on p m h a m.listed _ (requests_become p m h on a waits r.0 r.1 makes) (services_become p m h on waits (λ r. refl)))
+  set_active_does makes = plain_does m _ refused SetActive refl (λ p h c met. becomes is_issued waits (λ r. refl) makes p h met.0 met.1.1.1.0)
 
   pub abort_does : Makes m.active a (this m) aborted → Does refused Abort m (places.next (record m { active = a }))
-  abort_does makes =
-      plain_does m _ refused Abort refl (λ p h c met.
-      let r = in_one is_cancelling _ met.1.0 in
-      let on = on_object p m h (active_listed _ met.0) in
-      asks_on p m h a m.listed _ (requests_become p m h on a aborted r.0 r.1 makes) (services_become p m h on aborted (λ r. refl)))
+  abort_does makes = plain_does m _ refused Abort refl (λ p h c met. becomes is_cancelling aborted (λ r. refl) makes p h met.0 met.1.0)
 
 -- what a native has answered is what the checked machine hears
 module _ (p : Image) (m : Parts) (h : At_hand p m) (on : OnObject p m h) (n : ℕ) (serves : native_of (kind_here p m) ≡ Some n) where

@@ -432,34 +432,10 @@ accepting_or (One_answered x answer) = inl tt
 returned_plain :
     (p : Image) (fr : Frame) (s : State) (g : Gives) (a : ℕ) (ts : List Task) (q : Place) (x : Held_dispatch) → AcceptsNot x →
     returned p fr (Trapped ∷ Dispatched (dispatch_of q x) ∷ ts) s g a (Trapped ∷ Dispatched (dispatch_of q x) ∷ ts) ≡ record s { tasks = Dispatched (dispatch_of q (ends.served x)) ∷ ts; items = below_top s.items }
-returned_plain p fr s g a ts q Main plain = refl
-returned_plain p fr s g a ts q (MainLeft code) plain = refl
-returned_plain p fr s g a ts q End_of_run plain = refl
-returned_plain p fr s g a ts q (Of_one x) plain = refl
-returned_plain p fr s g a ts q (One_left x code) plain = refl
-returned_plain p fr s g a ts q (One_asks x) plain = refl
-returned_plain p fr s g a ts q (One_answered x answer) plain = refl
-returned_plain p fr s g a ts q (Of_one_served x c stages.Accepts) plain = absurd plain
-returned_plain p fr s g a ts q (Of_one_served x c stages.Accepted) plain = refl
-returned_plain p fr s g a ts q (Of_one_served x c (stages.AcceptLeft code)) plain = refl
-returned_plain p fr s g a ts q (Of_one_served x c (stages.Serves o)) plain = refl
-returned_plain p fr s g a ts q (Of_one_served x c (stages.ServiceLeft code)) plain = refl
-returned_plain p fr s g a ts q (Of_one_served x c stages.Parts) plain = refl
+returned_plain p fr s g a ts q x plain = grind arith
 
 opened_plain : (n : ℕ) (x : Held_dispatch) (us : List Held_task) (k : kept_clients.State) → AcceptsNot x → opened_by n (Ends x ∷ us) k ≡ k
-opened_plain n Main us k plain = refl
-opened_plain n (MainLeft code) us k plain = refl
-opened_plain n End_of_run us k plain = refl
-opened_plain n (Of_one x) us k plain = refl
-opened_plain n (One_left x code) us k plain = refl
-opened_plain n (One_asks x) us k plain = refl
-opened_plain n (One_answered x answer) us k plain = refl
-opened_plain n (Of_one_served x c stages.Accepts) us k plain = absurd plain
-opened_plain n (Of_one_served x c stages.Accepted) us k plain = refl
-opened_plain n (Of_one_served x c (stages.AcceptLeft code)) us k plain = refl
-opened_plain n (Of_one_served x c (stages.Serves o)) us k plain = refl
-opened_plain n (Of_one_served x c (stages.ServiceLeft code)) us k plain = refl
-opened_plain n (Of_one_served x c stages.Parts) us k plain = refl
+opened_plain n x us k plain = grind arith
 
 -- `accept` gives an object, a session with its server
 record Gives_session (p : Image) (s : State) (fr : Frame) (x : Seat) : Type 0 where
@@ -483,8 +459,7 @@ gives_session p t s fr x c ts typed top =
     })))
   where
     session_is : (o : Option ℕ) (y : Thing) → of_class o ≡ Some y → is_object y ≡ true
-    session_is (Some k) y e = let is : An_object_of k ≡ y = cc in ap is_object (sym is)
-    session_is None y e = cc
+    session_is o y e = grind arith
 
 -- the number of what a register owns then is that of a cell
 owned_number : (p : Image) (m : Parts) (s : State) → p.header.cells ≤ 4096 → Agrees p m s → (r : Place) (n : ℕ) (y : Thing) → is_object y ≡ true → Tidy s.cells → is_some (held s.cells r) ≡ true → is_thing p y (held s.cells r) ≡ true → Shows n None (held s.cells r) → n < 4096
@@ -699,19 +674,7 @@ module _ (p : Image) (m : Parts) (refused : List ℕ) (a : ℕ) (act : Active) (
 -- ---- what `accept` gives is the number of a cell, and its client is one
 
 can_plain : (n : ℕ) (x : Held_dispatch) (us : List Held_task) → AcceptsNot x → CanServe n (Ends x ∷ us)
-can_plain n Main us plain = tt
-can_plain n (MainLeft code) us plain = tt
-can_plain n End_of_run us plain = tt
-can_plain n (Of_one x) us plain = tt
-can_plain n (One_left x code) us plain = tt
-can_plain n (One_asks x) us plain = tt
-can_plain n (One_answered x answer) us plain = tt
-can_plain n (Of_one_served x c stages.Accepts) us plain = absurd plain
-can_plain n (Of_one_served x c stages.Accepted) us plain = tt
-can_plain n (Of_one_served x c (stages.AcceptLeft code)) us plain = tt
-can_plain n (Of_one_served x c (stages.Serves o)) us plain = tt
-can_plain n (Of_one_served x c (stages.ServiceLeft code)) us plain = tt
-can_plain n (Of_one_served x c stages.Parts) us plain = tt
+can_plain n x us plain = grind arith
 
 module _ (p : Image) (m : Parts) (h : At_hand p m) (a : ℕ) where
   abbrev Can : Held_frame → Held_dispatch → List Held_task → Dispatch → List Task → Type 0

@@ -76,9 +76,7 @@ own_destructs p o m e = go o.thing e
 
 -- what comes to no entries calls nothing that may
 pushes_from : (quiet quiet' leave leave' : Bool) → only_if quiet quiet' ≡ true → only_if leave' leave ≡ true → (not quiet' || leave') ≡ true → (not quiet || leave) ≡ true
-pushes_from true true true leave' q l may = refl
-pushes_from false quiet' leave leave' q l may = refl
-pushes_from _ _ _ _ q l may = absurd cc
+pushes_from quiet quiet' leave leave' q l may = grind arith
 
 pushes_where : (quiet leave : Bool) → leave ≡ true → (not quiet || leave) ≡ true
 pushes_where true true e = refl

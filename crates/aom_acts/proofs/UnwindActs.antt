@@ -2,7 +2,7 @@
 use Rattle.std.proofs.Common.{suc, ◌≡◌, ◌<◌, ◌≤◌, ℕ, ℤ, Bool, true, cond, length, List, [], ◌∷◌, ◌++◌, Option, Some, None, slice_set, pos, refl, sym, ap, ◌∙◌, subst, append-nil, arith}
 use Rattle.std.specs.Int.{w32, cast_unsigned}
 use Rattle.std.proofs.lemmas.Bool.{eq-eqb}
-use Rattle.std.proofs.Common.{FitsSigned}
+use Rattle.std.proofs.Common.{FitsSigned, of_z, to_z}
 use Rattle.std.proofs.lemmas.Int.{to_z-of_z}
 use Rattle.std.proofs.lemmas.List.{length-set}
 use Rattle.aom_image.specs.Image.{Image}
@@ -238,6 +238,10 @@ code_alone p t gv x code caller ts s typed top = word_alone p t s (next (code_to
     has (An_own t) = written (set_word caller x None).words
     has (A_maybe t) = written (set_word caller x None).words
     has (Left y) = written caller.words
+
+-- a code as it is told is the one at hand
+pub told_code : (k code : ℤ) → FitsSigned w32 k → k ≡ code → (to_z w32 (of_z w32 k) ≡ code) × FitsSigned w32 code
+told_code k code fits is = (to_z-of_z w32 k fits ∙ is, subst (FitsSigned w32) is fits)
 
 module _ (p : Image) (m : Parts) (es : Held_items) (marked : m.entries ≡ record es { items = Is_mark ∷ es.items }) (t : Turn) (fits : FitsSigned w32 (code_here m.stack.tasks)) where
   abbrev under : List Held_task
