@@ -1,5 +1,5 @@
 -- What an entry or the root owns is an object and no message: by the claims of the layers one after another.
-use Rattle.std.proofs.Common.{Bool, List, None, Option, Some, [], cond, refl, subst, true, false, ℕ, ◌==◌, ◌∷◌, ◌≡◌, length}
+use Rattle.std.proofs.Common.{Bool, List, None, Option, Some, [], cond, refl, subst, true, false, ℕ, ◌==◌, ◌∷◌, ◌≡◌, length, arith}
 use Rattle.std.proofs.lemmas.Bool.{false≢true}
 use Rattle.aom_image.specs.Image.{Image}
 use Rattle.aom_image.specs.declared.method.Thing.{Thing}

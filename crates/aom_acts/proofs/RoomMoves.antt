@@ -105,7 +105,8 @@ session_told p t wired s w ts o at there c so holds = closing_layer (λ ls. Good
   where
     its_thing : (x : Option ℕ) → session_class p o.thing ≡ x → (b : Bool) → Fits_kind p (seen s.cells) (Some so) (cond b (filled (of_class x) Full) Null) → SessionOf p o so
     its_thing (Some class) e true f = session_so p wired o so class e (stands_same p so.thing (An_object_of class) f.0)
-    its_thing _ e _ f = absurd (assumption tt)
+    its_thing None e true f = absurd f
+    its_thing x e false f = absurd f
 
     of_server : (left : List ℕ) (ls : List Layer) → Good p t s.cells (Ending o left ∷ ls) → SessionOf p o so
     of_server left ls good = its_thing (session_class p o.thing) refl (is_among c left)

@@ -211,19 +211,25 @@ moved_needs_more p m a b target m' c h n =
       (n.1.0, (awaits_more (gives_of p m') (register a c) (register b c) (h.registers c) n.1.1.0, (leave.0, (unowned, (still, (untaken, tt)))))),
     )
 
-call_more : (p : Image) (m pc : ℕ) (a b : Shape) (target : Target) (m' first c : ℕ) → SaysNoMore a b → AllTrue (rule_needs p m pc a (Call target m' first c)) → AllTrue (rule_needs p m pc b (Call target m' first c))
-call_more p m pc a b target m' first c h n =
+-- what a call and a trap ask of their target and of their arguments
+entering_more : (p : Image) (m : ℕ) (a b : Shape) (target : Target) (m' first : ℕ) (x y : List Need) → SaysNoMore a b → (AllTrue x → AllTrue y)
+    → AllTrue (rule_target p m a target (method_class p m') (is_construct (method_role p m')) first (length (arguments_of p m')) ++ (rule_arguments p a (arguments_of p m') first ++ x))
+    → AllTrue (rule_target p m b target (method_class p m') (is_construct (method_role p m')) first (length (arguments_of p m')) ++ (rule_arguments p b (arguments_of p m') first ++ y))
+entering_more p m a b target m' first x y h more n =
     let xs = arguments_of p m' in
     let class = method_class p m' in
     let constructs = is_construct (method_role p m') in
     let one = rule_target p m a target class constructs first (length xs) in
     let two = rule_arguments p a xs first in
-    let three = rule_moved p m (arguments_moved xs first a) target m' c in
-    let rest = all_true_rest one (two ++ three) n in
-    let args = all_true_first two three rest in
-    all_true_both (rule_target p m b target class constructs first (length xs)) (rule_arguments p b xs first ++ rule_moved p m (arguments_moved xs first b) target m' c) (called_on_more p m a b target class constructs first (length xs) h (all_true_first one (two ++ three) n))
-    (all_true_both (rule_arguments p b xs first) (rule_moved p m (arguments_moved xs first b) target m' c) (args.0, arguments_more p a b xs first h args.1)
-    (moved_needs_more p m (arguments_moved xs first a) (arguments_moved xs first b) target m' c (arguments_moved_more xs first a b h) (all_true_rest two three rest)))
+    let rest = all_true_rest one (two ++ x) n in
+    let args = all_true_first two x rest in
+    all_true_both (rule_target p m b target class constructs first (length xs)) (rule_arguments p b xs first ++ y) (called_on_more p m a b target class constructs first (length xs) h (all_true_first one (two ++ x) n))
+    (all_true_both (rule_arguments p b xs first) y (args.0, arguments_more p a b xs first h args.1) (more (all_true_rest two x rest)))
+
+call_more : (p : Image) (m pc : ℕ) (a b : Shape) (target : Target) (m' first c : ℕ) → SaysNoMore a b → AllTrue (rule_needs p m pc a (Call target m' first c)) → AllTrue (rule_needs p m pc b (Call target m' first c))
+call_more p m pc a b target m' first c h n =
+    let moved = λ (s : Shape). arguments_moved (arguments_of p m') first s in
+    entering_more p m a b target m' first (rule_moved p m (moved a) target m' c) (rule_moved p m (moved b) target m' c) h (moved_needs_more p m (moved a) (moved b) target m' c (arguments_moved_more (arguments_of p m') first a b h)) n
 
 -- one entry more, or one less
 entry_more : (d e : Entry) (a b : Shape) → SaysNoMore a b → d ≡ e → SaysNoMore (with_entry d a) (with_entry e b)
@@ -268,19 +274,8 @@ trapped_more p m pc x y a b target m' c h n = (
 
 trap_more : (p : Image) (m pc : ℕ) (a b : Shape) (target : Target) (m' first c : ℕ) → SaysNoMore a b → AllTrue (rule_needs p m pc a (Trap target m' first c)) → AllTrue (rule_needs p m pc b (Trap target m' first c))
 trap_more p m pc a b target m' first c h n =
-    let xs = arguments_of p m' in
-    let class = method_class p m' in
-    let constructs = is_construct (method_role p m') in
-    let one = rule_target p m a target class constructs first (length xs) in
-    let two = rule_arguments p a xs first in
-    let three = rule_trapped p m pc a (arguments_moved xs first a) target m' c in
-    let rest = all_true_rest one (two ++ three) n.1 in
-    let args = all_true_first two three rest in (
-      n.0,
-      all_true_both (rule_target p m b target class constructs first (length xs)) (rule_arguments p b xs first ++ rule_trapped p m pc b (arguments_moved xs first b) target m' c) (called_on_more p m a b target class constructs first (length xs) h (all_true_first one (two ++ three) n.1))
-          (all_true_both (rule_arguments p b xs first) (rule_trapped p m pc b (arguments_moved xs first b) target m' c) (args.0, arguments_more p a b xs first h args.1)
-          (trapped_more p m pc a b (arguments_moved xs first a) (arguments_moved xs first b) target m' c (arguments_moved_more xs first a b h) (all_true_rest two three rest))),
-    )
+    let moved = λ (s : Shape). arguments_moved (arguments_of p m') first s in
+    (n.0, entering_more p m a b target m' first (rule_trapped p m pc a (moved a) target m' c) (rule_trapped p m pc b (moved b) target m' c) h (trapped_more p m pc a b (moved a) (moved b) target m' c (arguments_moved_more (arguments_of p m') first a b h)) n.1)
 
 caught_more : (g : Gives) (c : ℕ) (a b : Shape) → SaysNoMore a b → SaysNoMore (caught g c a) (caught g c b)
 caught_more Nothing c a b h = register_more a b (suc c) Word Word h alike

@@ -14,16 +14,22 @@ use Rattle.aom_shape.specs.declared.kind.Kind.TheVariants.{Maybe, Null, Own, Uns
 use Rattle.aom_shape.specs.declared.kind.Filling.{Filling}
 use Rattle.aom_shape.specs.declared.kind.Filling.TheVariants.{Perhaps}
 
+-- what holds of each kind and itself, and of each that says more, holds of all that say more
+by_weaker :
+    (R : Kind → Kind → Type 0) → ((k : Kind) → R k k) → R Unset Word → R Unset Null → ((t : Thing) (x : Age) → R (Maybe t x) Null) → ((t : Thing) (x : Age) → R (Maybe t x) (Own t x)) →
+    (a b : Kind) → Weaker a b → R a b
+by_weaker R same word null none some a b (alike {k = k}) = same k
+by_weaker R same word null none some a b unset_word = word
+by_weaker R same word null none some a b unset_null = null
+by_weaker R same word null none some a b (maybe_null {t = t} {a = x}) = none t x
+by_weaker R same word null none some a b (maybe_own {t = t} {a = x}) = some t x
+
 -- a test that tells no less of one kind than of another
 abbrev Keeps : (Kind → Bool) → Kind → Kind → Type 0
 Keeps test a b = test a ≡ true → test b ≡ true
 
 kept_more : (test : Kind → Bool) → Keeps test Unset Word → Keeps test Unset Null → ((t : Thing) (x : Age) → Keeps test (Maybe t x) Null) → ((t : Thing) (x : Age) → Keeps test (Maybe t x) (Own t x)) → (a b : Kind) → Weaker a b → Keeps test a b
-kept_more test word null none some a b alike h = h
-kept_more test word null none some a b unset_word h = word h
-kept_more test word null none some a b unset_null h = null h
-kept_more test word null none some a b (maybe_null {t = t} {a = x}) h = none t x h
-kept_more test word null none some a b (maybe_own {t = t} {a = x}) h = some t x h
+kept_more test = by_weaker (Keeps test) (λ k h. h)
 
 pub word_more : (a b : Kind) → Weaker a b → is_word a ≡ true → is_word b ≡ true
 word_more = kept_more is_word (λ h. refl) (λ h. absurd (false≢true h)) (λ t x h. absurd (false≢true h)) (λ t x h. absurd (false≢true h))
@@ -63,22 +69,14 @@ filled_more (Some t) x y perhaps_empty = maybe_null
 filled_more (Some t) x y perhaps_full = maybe_own
 
 pub filling_more : (a b : Kind) → Weaker a b → WeakerFilling (filling_of a) (filling_of b)
-filling_more a b (alike {k = k}) = alike_filling
-filling_more a b unset_word = alike_filling
-filling_more a b unset_null = perhaps_empty
-filling_more a b (maybe_null {t = t} {a = age}) = perhaps_empty
-filling_more a b (maybe_own {t = t} {a = age}) = perhaps_full
+filling_more = by_weaker (λ a b. WeakerFilling (filling_of a) (filling_of b)) (λ k. alike_filling) alike_filling perhaps_empty (λ t x. perhaps_empty) (λ t x. perhaps_full)
 
 pub fresh_more : (a b : Kind) → Weaker a b → is_fresh_kind a ≡ true → is_fresh_kind b ≡ true
 fresh_more a b (alike {k = k}) h = h
 fresh_more a b _ h = absurd (false≢true h)
 
 pub readied_more : (a b : Kind) → Weaker a b → Weaker (readied a) (readied b)
-readied_more a b (alike {k = k}) = alike
-readied_more a b unset_word = unset_word
-readied_more a b unset_null = unset_null
-readied_more a b (maybe_null {t = t} {a = age}) = maybe_null
-readied_more a b (maybe_own {t = t} {a = age}) = maybe_own
+readied_more = by_weaker (λ a b. Weaker (readied a) (readied b)) (λ k. alike) unset_word unset_null (λ t x. maybe_null) (λ t x. maybe_own)
 
 -- no register owns, read by their numbers
 none_at : (xs : List Kind) → none_owns xs ≡ true → (i : ℕ) → is_unowning (at Unset xs i) ≡ true
