@@ -16,7 +16,7 @@ use Rattle.aom_cells.specs.Heap.{Heap, null}
 use Rattle.aom_shape.specs.Needs.{AllTrue}
 use Rattle.aom_shape.specs.Tables.{put_at}
 use Rattle.aom_sound.specs.Calls.{is_worked_on, own_home, entered, entry_place, home_at, needs_each, needs_entering, needs_target, passed_cells, passed_words, target_home}
-use Rattle.aom_sound.specs.Places.{Place, Register, Entry, Going, Object, Cell, changed, held, moved, same_place}
+use Rattle.aom_sound.specs.Places.{Place, Register, Elsewhere, Entry, Field, Going, Object, Cell, changed, held, moved, same_place}
 use Rattle.aom_sound.specs.State.{Frame, Need, Task, Run, Trapped, A_mark, State, field_place, frame_of, word}
 use Rattle.aom_sound.proofs.Finishing.{all_parts}
 use Rattle.aom_sound.proofs.Maps.{held_moved}
@@ -28,16 +28,16 @@ use Rattle.aom_cleanup.specs.declared.item.Item.TheVariants.{Mark as Is_mark}
 use Rattle.aom_cleanup.specs.declared.item.Item.{Item}
 use Rattle.aom_parts.proofs.Asking.{requests_passed}
 use Rattle.aom_parts.specs.declared.parts.Parts.{Parts}
-use Rattle.aom_acts.specs.Next.{IsNext, counting}
+use Rattle.aom_acts.specs.Next.{IsNext}
 use Rattle.aom_parts.specs.Places.{others, Others, value_in, register_in, going_in, with_items, with_tasks}
-use Rattle.aom_parts.specs.Agrees.{word_at, word_in, Shows, SameCells, SameFrame, home_number, number, Agrees}
-use Rattle.aom_acts.specs.Acts.{At_hand, DoesIn, requested}
+use Rattle.aom_parts.specs.Agrees.{word_at, word_in, Shows, SameCells, SameFrame, SameTasks, home_number, number, Agrees}
+use Rattle.aom_acts.specs.Acts.{At_hand, DoesIn}
 use Rattle.aom_acts.specs.Calls.{target_here}
 use Rattle.aom_parts.proofs.Cells.{cells_moved}
 use Rattle.aom_parts.proofs.Entries.{entry_number, mark_shows_none}
 use Rattle.aom_acts.proofs.FieldActs.{field_shown}
 use Rattle.aom_acts.proofs.GoingActs.{fresh_value, fresh_word}
-use Rattle.aom_acts.proofs.Housing.{at_hand, needs_met}
+use Rattle.aom_acts.proofs.Housing.{needs_say}
 use Rattle.aom_acts.proofs.ObjectActs.{shown}
 use Rattle.aom_parts.proofs.Overs.{held_over, higher, over_deep, over_register, over_value, over_word, over_words, tasks_over}
 use Rattle.aom_acts.proofs.ReturnActs.{none_above}
@@ -46,8 +46,7 @@ use Rattle.aom_parts.proofs.Services.{services_passed}
 use Rattle.aom_acts.proofs.Owned.{object_for}
 use Rattle.aom_sound.proofs.Maps.{held_lives}
 use Rattle.aom_acts.proofs.FieldActs.{this_is}
-use Rattle.aom_acts.proofs.Running.{Aside, Top, agrees_with, aside_with, by_top, begun_frame, object_small, reframed, no_word}
-use Rattle.aom_acts.proofs.Stepping.{at_step}
+use Rattle.aom_acts.proofs.Running.{Aside, Top, agrees_with, aside_of, aside_with, by_top, begun_frame, object_small, reframed, no_word}
 use Rattle.aom_parts.proofs.Values.{kept, moves, value_here, value_written, word_written, writes}
 use Rattle.aom_parts.proofs.Sessions.{natives_passed}
 
@@ -167,8 +166,7 @@ module _ (p : Image) (trapped : Bool) (heap : Heap) (es : List Item) (rest : Oth
 
   -- a word, which owns nothing
   word_alone : (n : ℕ) (w : Option ℤ) (o : Option Object) → is_some w ≡ true → Shows n w o → Shows n w None
-  word_alone n (Some w) None e shows = shows
-  word_alone n _ _ e shows = absurd (first_of (assumption tt, cc))
+  word_alone n w o e shows = grind arith
 
   word_goes : (f g : Held_frame) (cs : List Cell) (ws : List (Option ℤ)) (first to : ℕ) → to < 16 → is_some (word fr first) ≡ true → Passing f g cs ws to → Passing f (with_register to (slice_index_or f.registers first null) g) cs (ws ++ word fr first ∷ []) (suc to)
   word_goes f g cs ws first to small some passing =
@@ -340,51 +338,56 @@ module _ (p : Image) (m : Parts) (h : At_hand p m) (trapped : Bool) (target : Ta
       let services = services_passed p h.frame h.below h.state (length over) xs first 0 h.state.cells h.agrees.services in
       record { cells = cells; entries = h.agrees.entries; requests = requests; natives = natives; services = services; rest = h.agrees.rest; room = h.agrees.room; entry_room = h.agrees.entry_room }
 
+  -- so it begins there
+  agrees_entered : (more : List Need) → AllTrue (needs_entering p h.frame h.below h.state target k first more) → (f : Held_frame) (ms : List Held_task) → Top m h.state h.frame h.below f ms
+      → Agrees p (with_tasks (Runs_frame (given xs first 0 f (fresh k this)) ∷ held_over trapped (Runs_frame (passed_on xs first f) ∷ ms)) m) (record h.state { cells = passed; tasks = Run (entered p h.frame h.below h.state target k first height) ∷ over })
+  agrees_entered more needs f ms top =
+      let done = enters more needs f ms top in
+      agrees_with p m (record h.state { cells = passed }) (Runs_frame (given xs first 0 f (fresh k this)) ∷ held_over trapped (Runs_frame (passed_on xs first f) ∷ ms)) (Run (entered p h.frame h.below h.state target k first height) ∷ over)
+      (aside_passed done.cells) (done.called, over_same trapped _ _ done.caller top.below) done.values
+    where
+      over_same : (b : Bool) (g : Held_frame) (gs : List Held_task) → SameFrame g h.frame → SameTasks gs h.below → SameTasks (held_over b (Runs_frame g ∷ gs)) (tasks_over b (Run h.frame ∷ h.below))
+      over_same true g gs frame below = (tt, (frame, below))
+      over_same false g gs frame below = (frame, below)
+
 pub call_does : (p : Image) (m : Parts) (refused : List ℕ) (target : Target) (k first x : ℕ)
     → DoesIn p refused (Call target k first x) m (with_tasks (Runs_frame (given_here (arguments_of p k) first m.stack.tasks (fresh k (target_here target (method_class p k) m))) ∷ on_top (passed_on (arguments_of p k) first) m.stack.tasks) m)
 call_does p m refused target k first x h here =
-    let s = h.state in
-    let fr = h.frame in
-    let ts = h.below in
-    let xs = arguments_of p k in
-    let g = fresh k (target_here target (method_class p k) m) in
-    let cs = passed_cells p fr ts s (suc (length ts)) xs first 0 s.cells in
-    let vs = Run (entered p fr ts s target k first (length s.items)) ∷ Run fr ∷ ts in
     plain_at p m _ refused (Call target k first x) refl h (λ c needs typed.
-    by_top p m h (λ us. Agrees p (with_tasks (Runs_frame (given_here xs first us g) ∷ on_top (passed_on xs first) us) m) (record s { cells = cs; tasks = vs })) (λ f ms top.
-    let done = enters p m h false target k first (length s.items) _ needs f ms top in
-    agrees_with p m (record s { cells = cs }) (Runs_frame (given xs first 0 f g) ∷ Runs_frame (passed_on xs first f) ∷ ms) vs (aside_passed p m h false target k first (length s.items) done.cells) (done.called, (done.caller, top.below)) done.values))
+    by_top p m h (λ us. Agrees p (with_tasks (Runs_frame (given_here (arguments_of p k) first us (fresh k (target_here target (method_class p k) m))) ∷ on_top (passed_on (arguments_of p k) first) us) m) (record h.state { cells = passed p m h false target k first (length h.state.items); tasks = Run (entered p h.frame h.below h.state target k first (length h.state.items)) ∷ Run h.frame ∷ h.below }))
+    (agrees_entered p m h false target k first (length h.state.items) _ needs))
 
--- under a trap, whose mark owns nothing
-marked_value : (us : List Held_task) (h : Heap) (es : List Item) (rest : Others) (r : Place) → value_in us h (Is_mark ∷ es) rest r ≡ value_in us h es rest r
-marked_value us h es rest (Entry k) = mark_shows_none es k
-marked_value us h es rest _ = refl
+-- a mark owns nothing
+marked : (p : Image) (m : Parts) (s : State) → Agrees p m s → Agrees p (with_items (Is_mark ∷ m.entries.items) m) (record s { items = A_mark ∷ s.items })
+marked p m s agrees =
+    agrees_with p (with_items (Is_mark ∷ m.entries.items) m) (record s { items = A_mark ∷ s.items }) m.stack.tasks s.tasks (aside_with p m s (with_items (Is_mark ∷ m.entries.items) m).entries (A_mark ∷ s.items) (aside_of p m s agrees) (tt, agrees.entries) agrees.entry_room) agrees.tasks values
+  where
+    values : (r : Place) → Shows (value_in m.stack.tasks m.cells (Is_mark ∷ m.entries.items) (others m) r) (word_at s.tasks r) (held s.cells r)
+    values (Entry k) = subst (λ n. Shows n (word_at s.tasks (Entry k)) (held s.cells (Entry k))) (sym (mark_shows_none m.entries.items k)) (agrees.values (Entry k))
+    values (Register d i) = agrees.values (Register d i)
+    values (Field n f) = agrees.values (Field n f)
+    values (Going k) = agrees.values (Going k)
+    values (Elsewhere o) = agrees.values (Elsewhere o)
 
+-- under a trap
 pub trap_does : (p : Image) (m : Parts) (refused : List ℕ) (target : Target) (k first x : ℕ)
     → DoesIn p refused (Trap target k first x) m (with_items (Is_mark ∷ m.entries.items) (with_tasks (Runs_frame (given_here (arguments_of p k) first m.stack.tasks (fresh k (target_here target (method_class p k) m))) ∷ Is_trap ∷ on_top (passed_on (arguments_of p k) first) m.stack.tasks) m))
 trap_does p m refused target k first x h here =
-    let s = h.state in
-    let fr = h.frame in
-    let ts = h.below in
-    let xs = arguments_of p k in
-    let g = fresh k (target_here target (method_class p k) m) in
-    let mid = with_items (Is_mark ∷ m.entries.items) m in
-    let v : State = record s { cells = passed_cells p fr ts s (suc (suc (length ts))) xs first 0 s.cells; items = A_mark ∷ s.items } in
-    let vs = Run (entered p fr ts s target k first (suc (length s.items))) ∷ Trapped ∷ Run fr ∷ ts in
     plain_at p m _ refused (Trap target k first x) refl h (λ c needs typed.
-    by_top p m h (λ us. Agrees p (with_tasks (Runs_frame (given_here xs first us g) ∷ Is_trap ∷ on_top (passed_on xs first) us) mid) (record v { tasks = vs })) (λ f ms top.
-    let done = enters p m h true target k first (suc (length s.items)) _ needs f ms top in
-    let us = Runs_frame (given xs first 0 f g) ∷ Is_trap ∷ Runs_frame (passed_on xs first f) ∷ ms in
-    agrees_with p mid v us vs (aside_with p m (record s { cells = v.cells }) mid.entries v.items (aside_passed p m h true target k first (suc (length s.items)) done.cells) (tt, h.agrees.entries) h.agrees.entry_room) (done.called, (tt, (done.caller, top.below)))
-    (λ r. subst (λ n. Shows n (word_at vs r) (held v.cells r)) (sym (marked_value us m.cells m.entries.items (others m) r)) (done.values r))))
+    marked p (with_tasks (Runs_frame (given_here (arguments_of p k) first m.stack.tasks (fresh k (target_here target (method_class p k) m))) ∷ Is_trap ∷ on_top (passed_on (arguments_of p k) first) m.stack.tasks) m) (record h.state { cells = passed p m h true target k first (suc (length h.state.items)); tasks = Run (entered p h.frame h.below h.state target k first (suc (length h.state.items))) ∷ Trapped ∷ Run h.frame ∷ h.below })
+    (by_top p m h (λ us. Agrees p (with_tasks (Runs_frame (given_here (arguments_of p k) first us (fresh k (target_here target (method_class p k) m))) ∷ Is_trap ∷ on_top (passed_on (arguments_of p k) first) us) m) (record h.state { cells = passed p m h true target k first (suc (length h.state.items)); tasks = Run (entered p h.frame h.below h.state target k first (suc (length h.state.items))) ∷ Trapped ∷ Run h.frame ∷ h.below }))
+    (agrees_entered p m h true target k first (suc (length h.state.items)) _ needs)))
 
--- ---- what the code needs to know of a call that is next
+-- ---- what the code needs to know of one that is next: its method is there, and its arguments lie in registers that a method has
 
-module _ (p : Image) (m : Parts) (target : Target) (k first x : ℕ) (next : IsNext p (Call target k first x) m) where
-  pub called_there : IsSome (method_at p k)
-  called_there = (next.stands.1.sound.wired.called (method_here m.stack.tasks) (place_here m.stack.tasks) target k first x next.here).there
+pub calls_well : (p : Image) (m : Parts) (target : Target) (k first x : ℕ) → IsNext p (Call target k first x) m → IsSome (method_at p k) × ((first + length (arguments_of p k)) ≤ 16)
+calls_well p m target k first x next = (
+  (next.stands.1.sound.wired.called (method_here m.stack.tasks) (place_here m.stack.tasks) target k first x next.here).there,
+  needs_say p m (Call target k first x) _ (λ c fr ts s n. entering_fits p fr ts s target k first _ n) next,
+)
 
-  pub called_fits : (first + length (arguments_of p k)) ≤ 16
-  called_fits =
-      let h = at_hand p (counting next.counts m) next.stands next.runs in
-      entering_fits p h.frame h.below (requested (Call target k first x) (at_step h.state)) target k first _ (needs_met p m (Call target k first x) next).1
+pub traps_well : (p : Image) (m : Parts) (target : Target) (k first x : ℕ) → IsNext p (Trap target k first x) m → IsSome (method_at p k) × ((first + length (arguments_of p k)) ≤ 16)
+traps_well p m target k first x next = (
+  (next.stands.1.sound.wired.trapped (method_here m.stack.tasks) (place_here m.stack.tasks) target k first x next.here).there,
+  needs_say p m (Trap target k first x) _ (λ c fr ts s n. entering_fits p fr ts s target k first _ n) next,
+)

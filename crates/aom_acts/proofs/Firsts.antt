@@ -49,31 +49,21 @@ module _ (n : ℕ) where
   no_number session e = grind arith
 
   own_number : (session : ℕ) → not (session == no_cell) ≡ true → session_number session ≡ session
-  own_number session e = go (session == no_cell) e
-    where
-      go : (b : Bool) → not b ≡ true → cond b null session ≡ session
-      go true e = absurd (true≢false (sym e))
-      go false e = refl
+  own_number session e = grind arith
 
   -- a session that went shows null
   shows_none : (k : Client) → server_of k ≡ Some n → has_cell k ≡ false → session_with n k ≡ null
   shows_none (Open server session slots) at gone = numbered server session at ∙ no_number session gone
   shows_none (Closing server session) at gone = numbered server session at ∙ no_number session gone
   shows_none (Dying server session) at gone = numbered server session at ∙ no_number session gone
-  shows_none Unconnected at gone = absurd (none-some n at)
-  shows_none (Connecting server slots) at gone = absurd (none-some n at)
-  shows_none Gone at gone = absurd (none-some n at)
-  shows_none Dead at gone = absurd (none-some n at)
+  shows_none _ at gone = absurd (none-some n at)
 
   -- and another its cell
   shows_cell : (k : Client) → server_of k ≡ Some n → has_cell k ≡ true → (r : ℕ) → session_of k ≡ Some r → session_with n k ≡ r
   shows_cell (Open server session slots) at there r is = numbered server session at ∙ own_number session there ∙ same_Some session r is
   shows_cell (Closing server session) at there r is = numbered server session at ∙ own_number session there ∙ same_Some session r is
   shows_cell (Dying server session) at there r is = numbered server session at ∙ own_number session there ∙ same_Some session r is
-  shows_cell Unconnected at there r is = absurd (none-some n at)
-  shows_cell (Connecting server slots) at there r is = absurd (none-some n at)
-  shows_cell Gone at there r is = absurd (none-some n at)
-  shows_cell Dead at there r is = absurd (none-some n at)
+  shows_cell _ at there r is = absurd (none-some n at)
 
 -- who is found has a cell
 pub found_session : (k : Held_clients) (cs : List ℕ) (c : ℕ) → first_there k cs ≡ Some c → session_of (client_at k c) ≡ None → ⊥

@@ -187,10 +187,7 @@ module _ (p : Image) (formed : WellFormed p) (m : Parts) (announced : m.rest.ann
         go (Open server session slots) shows = at server (session_number session) (server == o.name) refl shows
         go (Closes_client server session) shows = at server (session_number session) (server == o.name) refl shows
         go (Dying server session) shows = at server (session_number session) (server == o.name) refl shows
-        go Unconnected shows = absurd (not_none (sym shows))
-        go (Connecting server slots) shows = absurd (not_none (sym shows))
-        go Gone shows = absurd (not_none (sym shows))
-        go Dead shows = absurd (not_none (sym shows))
+        go _ shows = absurd (not_none (sym shows))
 
     abbrev to : Place
     to = Going (suc (suc (length e.below)))

@@ -110,17 +110,14 @@ order_kept f same None = refl
 order_kept f same (Some r) = ap (λ n. Some n) (same r)
 
 issued_order : (q : Provider) (asking : Asking) (w : ℤ) (r : Request) → (issued_by q asking w r).order ≡ r.order
-issued_order Own asking w r = refl
-issued_order A_timer asking w r = refl
-issued_order (Native n) asking w r = refl
+issued_order q asking w r = grind arith
 
 -- ---- what a class of active objects makes its requests of
 
 -- an active object is no server
 unserving : (k k' : Option ClassKind) → k ≡ k' → is_active_kind k' ≡ true → is_some (sessions_in k) ≡ false
 unfolding sessions_in sessions_of
-unserving k (Some (An_active q budget)) e active = ap (λ k. is_some (sessions_in k)) e
-unserving k _ e active = absurd (false≢true active)
+unserving k k' e active = grind arith
 
 -- the provider of a kind, and how a request is made of it
 provided : (k : Option ClassKind) (q : Provider) → provider_of k ≡ Some q → (budget : ℕ) × (k ≡ Some (An_active q budget))
@@ -137,16 +134,14 @@ native_provided k n e = ap native_of (provided k (Native n) e).1
 -- what is of a class of active objects lives, and its class is declared
 cell_there : (p : Image) (c : Option Held_cell) → is_active_kind (kind_of p (class_of c)) ≡ true → IsSome c
 unfolding kind_of
-cell_there p None e = absurd (false≢true e)
-cell_there p (Some c) e = refl
+cell_there p c e = grind arith
 
 pub kind_lives : (p : Image) (m : Parts) → is_active_kind (kind_here p m) ≡ true → Lives m.cells (this m)
 kind_lives p m e = cell_there p (cell_at m.cells (this m)) e
 
 class_there : (o : Option ClassDecl) → is_active_kind (kind_in o) ≡ true → IsSome o
 unfolding kind_in
-class_there None e = absurd (false≢true e)
-class_there (Some d) e = refl
+class_there o e = grind arith
 
 pub kind_declared : (p : Image) (class : Option ℕ) (c : ℕ) → class ≡ Some c → is_active_kind (kind_of p class) ≡ true → IsSome (declared_at p c)
 unfolding kind_of
@@ -179,9 +174,8 @@ module _ (p : Image) (m : Parts) (h : At_hand p m) where
   on_object listed = go h.frame.home refl listed
     where
       go : (home : Home) → h.frame.home ≡ home → is_listed_kind (home_kind p home) ≡ true → OnObject p m h
-      go Static e listed = absurd (false≢true listed)
-      go AtRoot e listed = absurd (false≢true listed)
       go (Inside o from) e listed = record { object = o; from = from; home = e; lives = housed p m h o from e; number = inside_number p m h o from e; cell = inside_object p m h o from e }
+      go _ e listed = absurd (false≢true listed)
 
   module _ (x : OnObject p m h) where
     pub object_lives : Lives m.cells (this m)

@@ -578,25 +578,24 @@ module _ (p : Image) (m : Parts) (refused : List ℕ) (a : ℕ) (act : Active) (
           (through p mid h.typing (past h) h.frame (agree h) f a es marked g ms caller ts top (λ some. still h _ ∙ awaited_trapped p h.typing h.state h.frame caller ts h.typed e some)
           (subst (λ k. suc k < 16) at small) (gives_of p h.frame.method) wordless refl typed))
 
+  -- to what waits: nothing goes over
+  to_waits : (P : List Held_task → Type 0) → ((ms : List Held_task) (ts : List Task) → P ms → Alike ms ts → (h : At_hand p m) → after h ts ≡ record (past h) { tasks = ts }) → P (below_first m.stack.tasks) → DoesIn p refused (Return a) m (with_tasks (below_first m.stack.tasks) mid)
+  to_waits P waits has = by_return (λ us. P (below_first us)) (λ us. with_tasks (below_first us) mid) has (λ h f ms top same met last typed has.
+      let is = waits ms h.below has same h in
+      subst (Agrees p (with_tasks ms mid)) (sym is)
+      (to_waiting p mid h.typing (past h) h.frame (agree h) f a ms h.below top (λ i. none_above p h.typing (record (past h) { tasks = h.below }) _ i (subst (WellTyped p h.typing) is typed) (omega arith))))
+
   pub return_to_going : IsDestroying (below_first m.stack.tasks) → DoesIn p refused (Return a) m (with_tasks (below_first m.stack.tasks) mid)
-  return_to_going destroying =
-      by_return (λ us. IsDestroying (below_first us)) (λ us. with_tasks (below_first us) mid) destroying
-      (λ h f ms top same met last typed has. go h f ms h.below top (tops A_going ms has) same typed)
+  return_to_going = to_waits IsDestroying (λ ms ts has same h. go h (tops A_going ms has) same)
     where
-      go : (h : At_hand p m) (f : Held_frame) (ms : List Held_task) (ts : List Task) → Top mid (past h) h.frame ts f ms → Tops A_going ms → Alike ms ts
-          → WellTyped p h.typing (after h ts) → Agrees p (with_tasks ms mid) (after h ts)
-      go h f _ _ top (going_on_top x ms) (both_go _ _ ts _ _ _) typed = to_waiting p mid h.typing (past h) h.frame (agree h) f a (Destroys x ∷ ms) (Destroy ∷ ts) top
-          (λ i. none_above p h.typing (after h (Destroy ∷ ts)) _ i typed (omega arith))
+      go : (h : At_hand p m) {ms : List Held_task} {ts : List Task} → Tops A_going ms → Alike ms ts → after h ts ≡ record (past h) { tasks = ts }
+      go h (going_on_top x ms) (both_go _ _ ts _ _ _) = refl
 
   pub return_to_unwinding : IsUnwinding (below_first m.stack.tasks) → DoesIn p refused (Return a) m (with_tasks (below_first m.stack.tasks) mid)
-  return_to_unwinding unwinding =
-      by_return (λ us. IsUnwinding (below_first us)) (λ us. with_tasks (below_first us) mid) unwinding
-      (λ h f ms top same met last typed has. go h f ms h.below top (tops A_leave ms has) same typed)
+  return_to_unwinding = to_waits IsUnwinding (λ ms ts has same h. go h (tops A_leave ms has) same)
     where
-      go : (h : At_hand p m) (f : Held_frame) (ms : List Held_task) (ts : List Task) → Top mid (past h) h.frame ts f ms → Tops A_leave ms → Alike ms ts
-          → WellTyped p h.typing (after h ts) → Agrees p (with_tasks ms mid) (after h ts)
-      go h f _ _ top (leave_on_top code ms) (both_unwind _ c _ ts _ _ _) typed = to_waiting p mid h.typing (past h) h.frame (agree h) f a (Unwinds code ∷ ms) (Unwind c ∷ ts) top
-          (λ i. none_above p h.typing (after h (Unwind c ∷ ts)) _ i typed (omega arith))
+      go : (h : At_hand p m) {ms : List Held_task} {ts : List Task} → Tops A_leave ms → Alike ms ts → after h ts ≡ record (past h) { tasks = ts }
+      go h (leave_on_top code ms) (both_unwind _ c _ ts _ _ _) = refl
 
   pub return_to_dispatch : (g : Gives) (d : Held_dispatch) → gives_of p (method_here m.stack.tasks) ≡ g → ending_here (below_first m.stack.tasks) ≡ Some d
       → DoesIn p refused (Return a) m (with_tasks (Ends (heard (told_by g (register_here m.stack.tasks a)) d) ∷ below_first (below_first m.stack.tasks)) mid)

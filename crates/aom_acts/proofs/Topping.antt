@@ -37,7 +37,6 @@ use Rattle.std.proofs.lemmas.Bool.{false≢true}
 use Rattle.aom_image.proofs.Given.{some_given}
 use Rattle.aom_parts.proofs.Alike.{A_catcher, A_method, A_trap, Alike, Alike_items, Tops, alike, both_objects, both_trapped, by_item, by_items, catcher_on_top, items_alike, method_on_top, same_below, tops, trap_on_top}
 use Rattle.aom_parts.proofs.Entries.{same_items_length, top_value}
-use Rattle.aom_acts.proofs.EnterActs.{entering_fits}
 use Rattle.aom_acts.proofs.Owned.{entry_object}
 use Rattle.aom_acts.proofs.Finding.{class_fits, object_lives}
 use Rattle.aom_acts.proofs.Housing.{at_hand, needs_met}
@@ -79,17 +78,6 @@ module _ (p : Image) (m : Parts) where
   pub pops_entry : IsNext p PopOperation m → IsAboveMark m.entries.items
   unfolding at_hand
   pops_entry next = let n = needs_met p m PopOperation next in entry_tops m.entries.items next.stands.0.items next.stands.1.agrees.entries n.1.0
-
-  -- ---- a trap
-
-  module _ (target : Target) (k first x : ℕ) (next : IsNext p (Trap target k first x) m) where
-    pub trapped_there : IsSome (method_at p k)
-    trapped_there = (next.stands.1.sound.wired.trapped (method_here m.stack.tasks) (place_here m.stack.tasks) target k first x next.here).there
-
-    pub trapped_fits : (first + length (arguments_of p k)) ≤ 16
-    trapped_fits =
-        let h = at_hand p (counting next.counts m) next.stands next.runs in
-        entering_fits p h.frame h.below (requested (Trap target k first x) (at_step h.state)) target k first _ (needs_met p m (Trap target k first x) next).1
 
 -- ---- a return through a trap finds its mark
 

@@ -112,7 +112,6 @@ pub fn ask_native(parts: &mut Parts, to: Register, linked: &Linked)
     parts.write_word(to, reply);
 }
 
-#[tactic(auto, using(crate::proofs::NativeActs::close_lives))]
 pub fn close_session(parts: &mut Parts)
     requires { (p : Image) × IsNext p Close parts.old }
     ensures { (refused : List ℕ) → Does refused Close parts.old parts.new }

@@ -42,7 +42,6 @@ fn jump_if(parts: &mut Parts, holds: bool, place: Place)
     }
 }
 
-#[tactic(auto, using(crate::proofs::RequestActs::jump_active_lives))]
 pub fn jump_active(parts: &mut Parts, place: Place)
     requires { (p : Image) × IsNext p (JumpActive place) parts.old }
     ensures { (refused : List ℕ) → Does refused (JumpActive place) parts.old parts.new }
@@ -51,7 +50,6 @@ pub fn jump_active(parts: &mut Parts, place: Place)
     jump_if(parts, busy, place);
 }
 
-#[tactic(auto, using(crate::proofs::RequestActs::jump_added_lives))]
 pub fn jump_added(parts: &mut Parts, place: Place)
     requires { (p : Image) × IsNext p (JumpAdded place) parts.old }
     ensures { (refused : List ℕ) → Does refused (JumpAdded place) parts.old parts.new }
@@ -71,7 +69,6 @@ fn last_status(parts: &Parts, id: CellId) -> i32
     }
 }
 
-#[tactic(auto, using(crate::proofs::RequestActs::status_lives))]
 pub fn status(parts: &mut Parts, to: Register)
     requires { (p : Image) × IsNext p (Status to) parts.old }
     ensures { (refused : List ℕ) → Does refused (Status to) parts.old parts.new }
@@ -137,7 +134,6 @@ pub fn issue(parts: &mut Parts, from: Register, linked: &Linked)
     parts.next();
 }
 
-#[tactic(auto, using(crate::proofs::RequestActs::set_active_lives, crate::proofs::RequestActs::set_active_issued))]
 pub fn set_active(parts: &mut Parts)
     requires { (p : Image) × IsNext p SetActive parts.old }
     ensures { (refused : List ℕ) → Does refused SetActive parts.old parts.new }
@@ -167,7 +163,6 @@ pub fn cancel(parts: &mut Parts, linked: &Linked)
         .push(Task::Run(Frame::begin(method, id.number())));
 }
 
-#[tactic(auto, using(crate::proofs::RequestActs::abort_lives, crate::proofs::RequestActs::abort_cancelling))]
 pub fn abort(parts: &mut Parts)
     requires { (p : Image) × IsNext p Abort parts.old }
     ensures { (refused : List ℕ) → Does refused Abort parts.old parts.new }

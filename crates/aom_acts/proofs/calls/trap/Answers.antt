@@ -1,17 +1,16 @@
-use Rattle.aom_acts.proofs.EnterActs.{trap_does}
+use Rattle.aom_acts.proofs.EnterActs.{trap_does, traps_well}
 use Rattle.aom_acts.proofs.Rooms.{mark_room}
-use Rattle.aom_acts.proofs.Topping.{trapped_fits, trapped_there}
 use Rattle.aom_acts.proofs.calls.trap.Goals as goal
 
 pub callee-frame-requires-clause-there : goal.callee-frame-requires-clause-there
-callee-frame-requires-clause-there c = trapped_there c.args.linked.now c.args.parts.now c.args.target c.args.method c.args.first c.requires.0 c.requires.1
+callee-frame-requires-clause-there c = (traps_well c.args.linked.now c.args.parts.now c.args.target c.args.method c.args.first c.requires.0 c.requires.1).0
 
 pub mark-requires : goal.mark-requires
 mark-requires c = mark_room c.args.linked.now c.args.parts.now c.args.target c.args.method c.args.first c.requires.0 c.requires.1
 
 pub enter_trap-requires-clause-within : goal.enter_trap-requires-clause-within
 enter_trap-requires-clause-within c =
-    rw (c.number.ensures.value, c.callee-frame.ensures.arguments) (trapped_fits c.args.linked.now c.args.parts.now c.args.target c.args.method c.args.first c.requires.0 c.requires.1)
+    rw (c.number.ensures.value, c.callee-frame.ensures.arguments) (traps_well c.args.linked.now c.args.parts.now c.args.target c.args.method c.args.first c.requires.0 c.requires.1).1
 
 pub returns : goal.returns
 returns c = λ refused to.

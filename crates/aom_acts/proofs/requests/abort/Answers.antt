@@ -1,5 +1,11 @@
-use Rattle.aom_acts.proofs.RequestActs.{abort_cancelling, abort_does}
+use Rattle.aom_acts.proofs.RequestActs.{abort_cancelling, abort_does, abort_lives}
 use Rattle.aom_acts.proofs.requests.abort.Goals as goal
+
+pub cell-id-requires-clause-lives : goal.cell-id-requires-clause-lives
+cell-id-requires-clause-lives c = abort_lives c.requires.0 c.args.parts.now c.requires.1
+
+pub abort-requires : goal.abort-requires
+abort-requires c = rw c.cell-id.ensures (abort_cancelling c.requires.0 c.args.parts.now c.requires.1)
 
 pub returns : goal.returns
 returns c = λ refused. rw c.next.ensures (abort_does c.args.parts.now refused c.abort.new.self (rw c.cell-id.ensures at c.abort.ensures))

@@ -1,8 +1,11 @@
 use Rattle.std.proofs.Common.{rules, FitsSigned}
 use Rattle.std.specs.Int.{w32}
 use Rattle.std.proofs.lemmas.Int.{to_z-of_z}
-use Rattle.aom_acts.proofs.RequestActs.{status_does}
+use Rattle.aom_acts.proofs.RequestActs.{status_does, status_lives}
 use Rattle.aom_acts.proofs.requests.status.Goals as goal
+
+pub cell-requires-clause-lives : goal.cell-requires-clause-lives
+cell-requires-clause-lives c = status_lives c.requires.0 c.args.parts.now c.args.to c.requires.1
 
 pub returns : goal.returns
 returns c = λ refused.
