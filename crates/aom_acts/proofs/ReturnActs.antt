@@ -17,7 +17,7 @@ use Rattle.aom_shape.specs.Shape.{Shape}
 use Rattle.aom_rules.specs.Typing.{Typing}
 use Rattle.aom_sound.proofs.View.{under_dispatch}
 use Rattle.aom_sound.specs.Calls.{answered_by, below_top, end_needs, ended_well, result_needs, result_register, returned, told_answer}
-use Rattle.aom_sound.specs.Claims.{Method, Mark, tasks_of, claim, declared}
+use Rattle.aom_sound.specs.Claims.{Layer, Method, Mark, tasks_of, claim, declared}
 use Rattle.aom_sound.specs.Places.{Cell, named, Session, Tidy, Elsewhere, Entry, Field, Going, Object, Place, Register, changed, held, moved, same_place, seen}
 use Rattle.aom_sound.specs.State.{Accepted, Accepts, Of_server, Seat, Answered, Destroy, Dispatch, Dispatched, Frame, Run, State, Task, Trapped, Unwind, next, set_word, word}
 use Rattle.aom_sound.specs.WellTyped.{Awaits, Fits, Good, WellTyped, WordFits}
@@ -149,6 +149,19 @@ awaits _ x sh a = a
 pub awaiting : (g : Gives) (x : ℕ) (sh : Shape) → bears g ≡ true → Awaits g x sh → is_unowning (register sh x) ≡ true
 awaiting g x sh b a = OnTrue_at b (awaits g x sh a)
 
+-- a register that is claimed to own nothing owns nothing
+pub awaits_none : (p : Image) (s : State) (ls : List Layer) (ts : List Task) (sh : Shape) (x : ℕ) (k : Kind) → is_unowning (register sh x) ≡ true → k ≡ register sh x → Fits p (seen s.cells) (held s.cells (Register (length (tasks_of ls)) x)) k
+    → tasks_of ls ≡ ts → held s.cells (Register (length ts) x) ≡ None
+awaits_none p s ls ts sh x k quiet claims fits rest =
+    let q = Register (length (tasks_of ls)) x in
+    let none = fits_unowning p (seen s.cells) (held s.cells q) (register sh x) quiet (subst (Fits p (seen s.cells) (held s.cells q)) claims fits) in
+    subst (λ us. held s.cells (Register (length us) x) ≡ None) rest none
+
+-- under a trap stands the method that set it
+pub caught_layer : (P : List Layer → Type 0) (G : Type 0) (caller : Frame) (ts : List Task) (ls : List Layer) → tasks_of ls ≡ Trapped ∷ Run caller ∷ ts → P ls → ((gv : Gives) (sh : Shape) (below : List Layer) → tasks_of below ≡ ts → P (Mark gv ∷ Method caller sh ∷ below) → G) → G
+caught_layer P G caller ts ls under has gives =
+    mark_layer P (Run caller ∷ ts) ls under has (λ gv ls under has. method_layer (λ ls. P (Mark gv ∷ ls)) caller ts ls under has (λ sh ls rest has. gives gv sh ls rest has))
+
 awaited : (p : Image) (t : Typing) (s : State) (fr caller : Frame) (ts : List Task) → WellTyped p t s → s.tasks ≡ Run fr ∷ Run caller ∷ ts → bears (gives_of p fr.method) ≡ true
     → held s.cells (Register (length ts) (result_register (instr_at p caller.method caller.place))) ≡ None
 awaited p t s fr caller ts typed top some =
@@ -156,28 +169,21 @@ awaited p t s fr caller ts typed top some =
     method_layer (λ ls. Good p t s.cells (Method fr sh ∷ ls)) caller ts ls under good (λ sh' ls rest good.
     let x = result_register (instr_at p caller.method caller.place) in
     let q = Register (length (tasks_of ls)) x in
-    let quiet = awaiting (gives_of p fr.method) x sh' some good.stack.4.0.1 in
-    let claims : claim p (declared p s.cells) (Method fr sh ∷ Method caller sh' ∷ ls) q ≡ register sh' x =
-    ap (λ b. cond b (register sh x) (claim p (declared p s.cells) (Method caller sh' ∷ ls) q)) (ne_eqb (suc (length (tasks_of ls))) (length (tasks_of ls)) (λ e. absurd (omega arith))) ∙ claim_register p (declared p s.cells) caller sh' ls x in
-    let none = fits_unowning p (seen s.cells) (held s.cells q) (register sh' x) quiet (subst (Fits p (seen s.cells) (held s.cells q)) claims (good.fits q)) in
-    subst (λ us. held s.cells (Register (length us) x) ≡ None) rest none))
+    awaits_none p s ls ts sh' x _ (awaiting (gives_of p fr.method) x sh' some good.stack.4.0.1)
+    (ap (λ b. cond b (register sh x) (claim p (declared p s.cells) (Method caller sh' ∷ ls) q)) (ne_eqb (suc (length (tasks_of ls))) (length (tasks_of ls)) (λ e. absurd (omega arith))) ∙ claim_register p (declared p s.cells) caller sh' ls x)
+    (good.fits q) rest))
 
 -- the same through a trap
 awaited_trapped : (p : Image) (t : Typing) (s : State) (fr caller : Frame) (ts : List Task) → WellTyped p t s → s.tasks ≡ Run fr ∷ Trapped ∷ Run caller ∷ ts → bears (gives_of p fr.method) ≡ true
     → held s.cells (Register (length ts) (result_register (instr_at p caller.method caller.place))) ≡ None
 awaited_trapped p t s fr caller ts typed top some =
     method_layer (Good p t s.cells) fr (Trapped ∷ Run caller ∷ ts) typed.layers (sym typed.tasks ∙ top) typed.good (λ sh ls under good.
-    mark_layer (λ ls. Good p t s.cells (Method fr sh ∷ ls)) (Run caller ∷ ts) ls under good (λ gv ls under good.
-    method_layer (λ ls. Good p t s.cells (Method fr sh ∷ Mark gv ∷ ls)) caller ts ls under good (λ sh' ls rest good.
-    let x = result_register (instr_at p caller.method caller.place) in
+    caught_layer (λ ls. Good p t s.cells (Method fr sh ∷ ls)) _ caller ts ls under good (λ gv sh' ls rest good.
     let d = length (tasks_of ls) in
-    let q = Register d x in
     let mark = good.stack.4 in
-    let quiet = awaiting gv x sh' (ap bears (sym mark.0.0) ∙ some) mark.1.0.2 in
-    let claims : claim p (declared p s.cells) (Method fr sh ∷ Mark gv ∷ Method caller sh' ∷ ls) q ≡ register sh' x =
-    ap (λ b. cond b (register sh x) (claim p (declared p s.cells) (Mark gv ∷ Method caller sh' ∷ ls) q)) (ne_eqb (suc (suc d)) d (λ e. absurd (omega arith))) ∙ claim_register p (declared p s.cells) caller sh' ls x in
-    let none = fits_unowning p (seen s.cells) (held s.cells q) (register sh' x) quiet (subst (Fits p (seen s.cells) (held s.cells q)) claims (good.fits q)) in
-    subst (λ us. held s.cells (Register (length us) x) ≡ None) rest none)))
+    awaits_none p s ls ts sh' _ _ (awaiting gv _ sh' (ap bears (sym mark.0.0) ∙ some) mark.1.0.2)
+    (ap (λ b. cond b (register sh (result_register (instr_at p caller.method caller.place))) (claim p (declared p s.cells) (Mark gv ∷ Method caller sh' ∷ ls) (Register d (result_register (instr_at p caller.method caller.place))))) (ne_eqb (suc (suc d)) d (λ e. absurd (omega arith))) ∙ claim_register p (declared p s.cells) caller sh' ls _)
+    (good.fits (Register d (result_register (instr_at p caller.method caller.place)))) rest))
 
 -- a register with a word owns nothing
 pub word_alone : (p : Image) (t : Typing) (s : State) (fr : Frame) (ts : List Task) (i : ℕ) (w : ℤ) → WellTyped p t s → s.tasks ≡ Run fr ∷ ts → word fr i ≡ Some w → held s.cells (Register (length ts) i) ≡ None
@@ -246,19 +252,15 @@ module _ (p : Image) (m : Parts) (t : Typing) (s : State) (fr : Frame) (agrees :
         apart true e = omega arith
         apart false e = omega arith
 
-    same_frame : SameFrame g caller
-    same_frame = apart trapped top.below
+    same_there : SameFrame g caller × SameTasks ms ts
+    same_there = apart trapped top.below
       where
-        apart : (b : Bool) → SameTasks (held_over b (Runs_frame g ∷ ms)) (tasks_over b (Run caller ∷ ts)) → SameFrame g caller
-        apart true e = e.1.0
-        apart false e = e.0
+        apart : (b : Bool) → SameTasks (held_over b (Runs_frame g ∷ ms)) (tasks_over b (Run caller ∷ ts)) → SameFrame g caller × SameTasks ms ts
+        apart true e = e.1
+        apart false e = e
 
-    same_below : SameTasks ms ts
-    same_below = apart trapped top.below
-      where
-        apart : (b : Bool) → SameTasks (held_over b (Runs_frame g ∷ ms)) (tasks_over b (Run caller ∷ ts)) → SameTasks ms ts
-        apart true e = e.1.1
-        apart false e = e.1
+    abbrev same_frame : SameFrame g caller
+    same_frame = same_there.0
 
     base : (r : Place) → Shows (value_in (Runs_frame g ∷ ms) m.cells m.entries.items (others m) r) (word_at (Run caller ∷ ts) r) (under r)
     base r =
@@ -332,7 +334,7 @@ module _ (p : Image) (m : Parts) (t : Typing) (s : State) (fr : Frame) (agrees :
     lands_next rs ws cs landed =
         let g' = record g { registers = rs } in
         let caller' = record caller { words = ws } in
-        agrees_with p m (record s { cells = cs }) (Runs_frame (record g' { place = suc g.place }) ∷ ms) (Run (next caller') ∷ ts) landed.aside (moved_on g caller rs ws same_frame landed.wide, same_below)
+        agrees_with p m (record s { cells = cs }) (Runs_frame (record g' { place = suc g.place }) ∷ ms) (Run (next caller') ∷ ts) landed.aside (moved_on g caller rs ws same_frame landed.wide, same_there.1)
         (λ r. subst (λ k. Shows k (word_at (Run (next caller') ∷ ts) r) (held cs r)) (sym (value_kept g' ms m.cells m.entries.items (others m) (suc g.place) r))
         (subst (λ w. Shows (value_in (Runs_frame g' ∷ ms) m.cells m.entries.items (others m) r) w (held cs r)) (sym (word_next caller' ts (suc caller.place) r)) (landed.values r)))
 
@@ -347,7 +349,7 @@ module _ (p : Image) (m : Parts) (t : Typing) (s : State) (fr : Frame) (agrees :
         let was : m.entries.items ≡ Is_mark ∷ es.items = ap (λ (e : Held_items). e.items) marked in
         let old : (r : Place) → Shows (value_in (Runs_frame g' ∷ ms) m.cells es.items (others m) r) (word_at (Run caller' ∷ ts) r) (held cs r) = λ r. subst (λ k. Shows k (word_at (Run caller' ∷ ts) r) (held cs r)) (ap (λ is. value_in (Runs_frame g' ∷ ms) m.cells is (others m) r) was ∙ value_alike (Runs_frame g' ∷ ms) m.cells (Is_mark ∷ es.items) es.items (others m) (λ k. mark_shows_none es.items k) r) (landed.values r) in
         agrees_with p (record m { entries = es }) (record s { cells = cs; items = below_top s.items }) (Runs_frame (record g { registers = slice_set rs (suc x) 0; place = suc g.place }) ∷ ms) (Run (next (set_word caller' (suc x) (Some (pos 0)))) ∷ ts) (aside_unmarked p m (record s { cells = cs }) es marked landed.aside)
-        (moved_on g caller (slice_set rs (suc x) 0) (set_word caller' (suc x) (Some (pos 0))).words same_frame (length-set rs (suc x) 0 ∙ wide), same_below)
+        (moved_on g caller (slice_set rs (suc x) 0) (set_word caller' (suc x) (Some (pos 0))).words same_frame (length-set rs (suc x) 0 ∙ wide), same_there.1)
         (writes _ _ _ _ (held cs) _ q 0 (Some (pos 0)) None old refl
         (value_written g' ms m.cells es.items (others m) (length ts) (suc x) 0 (suc g.place) deep (omega arith))
         (word_written caller' ts (suc x) (suc caller.place) (Some (pos 0)))

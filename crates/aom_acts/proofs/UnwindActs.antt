@@ -55,7 +55,7 @@ use Rattle.aom_acts.proofs.Finding.{held_beneath, unwinds_over, IsTrapOnTop}
 use Rattle.aom_acts.proofs.LeavingActs.{unwinds_value, unwinds_word}
 use Rattle.aom_parts.proofs.Overs.{over_value, over_words}
 use Rattle.aom_parts.proofs.Alike.{A_caught_leave, A_last_leave, Alike, Alike_items, Entries_alike, Tops, alike, both_end, both_marks, both_run, both_trapped, both_unwind, caught_leave_on_top, entries_alike, entries_own, entries_run, items_alike, last_leave_on_top, same_below, tops}
-use Rattle.aom_acts.proofs.ReturnActs.{awaiting, bears, word_alone}
+use Rattle.aom_acts.proofs.ReturnActs.{awaiting, awaits_none, bears, caught_layer, word_alone}
 use Rattle.aom_acts.proofs.Running.{agrees_with, an_open, aside_of, aside_unmarked, moved_on}
 use Rattle.aom_acts.proofs.Stepping.{at_rest, goes_somewhere, step_of_unwinding, unwinding_of}
 use Rattle.aom_acts.proofs.Topping.{top_lives}
@@ -152,15 +152,10 @@ awaited_caught : (p : Image) (t : Typing) (s : State) (code : ℤ) (caller : Fra
     → held s.cells (Register (length ts) (result_register (instr_at p caller.method caller.place))) ≡ None
 awaited_caught p t s code caller ts typed top some =
     leave_layer (Good p t s.cells) code (Trapped ∷ Run caller ∷ ts) typed.layers (sym typed.tasks ∙ top) typed.good (λ es ls under good.
-    mark_layer (λ ls. Good p t s.cells (Unwinding code es ∷ ls)) (Run caller ∷ ts) ls under good (λ gv ls under good.
-    method_layer (λ ls. Good p t s.cells (Unwinding code es ∷ Mark gv ∷ ls)) caller ts ls under good (λ sh' ls rest good.
-    let x = result_register (instr_at p caller.method caller.place) in
-    let q = Register (length (tasks_of ls)) x in
+    caught_layer (λ ls. Good p t s.cells (Unwinding code es ∷ ls)) _ caller ts ls under good (λ gv sh' ls rest good.
     let caught = good.stack.1.1.0 in
-    let quiet = awaiting gv x sh' (ap bears (sym caught.0) ∙ some) caught.2 in
-    let claims : claim p (declared p s.cells) (Unwinding code es ∷ Mark gv ∷ Method caller sh' ∷ ls) q ≡ register sh' x = claim_register p (declared p s.cells) caller sh' ls x in
-    let none = fits_unowning p (seen s.cells) (held s.cells q) (register sh' x) quiet (subst (Fits p (seen s.cells) (held s.cells q)) claims (good.fits q)) in
-    subst (λ us. held s.cells (Register (length us) x) ≡ None) rest none)))
+    awaits_none p s ls ts sh' _ _ (awaiting gv _ sh' (ap bears (sym caught.0) ∙ some) caught.2) (claim_register p (declared p s.cells) caller sh' ls _)
+    (good.fits (Register (length (tasks_of ls)) (result_register (instr_at p caller.method caller.place)))) rest))
 
 -- a dispatch is left with the code on both sides
 left_alike : (code : ℤ) (q : Place) (x : Held_dispatch) → dispatch_of q (left code x) ≡ ended_by code (dispatch_of q x)
