@@ -2,7 +2,6 @@
 use Rattle.std.proofs.Common.{◌≡◌, Option, arith}
 use Rattle.aom_image.specs.Views.{has}
 use Rattle.aom_image.specs.declared.class.ClassKind.{ClassKind}
-use Rattle.aom_image.specs.declared.class.ClassKind.TheVariants.{Active, Plain, Server, Session}
 use Rattle.aom_roles.specs.States.{active, idle, states_of}
 use Rattle.aom_rules.specs.Requests.{is_active_kind, is_listed_kind}
 
