@@ -1,5 +1,5 @@
 -- A method that cancels is over: its object's request is completed and being cancelled, and both sides take its signal.
-use Rattle.std.proofs.Common.{ap, Bool, cond, false, IsTrue, List, None, Option, refl, Some, subst, sym, true, ℕ, ◌&&◌, ◌||◌, ◌∙◌, ◌∷◌, ◌≡◌, arith}
+use Rattle.std.proofs.Common.{ap, Bool, cond, false, IsTrue, List, Option, refl, Some, subst, sym, true, ℕ, ◌&&◌, ◌||◌, ◌∙◌, ◌∷◌, ◌≡◌, arith}
 use Rattle.std.specs.Prelude.{is_some, not}
 use Rattle.std.specs.Ordering.{int_eq}
 use Rattle.aom_image.specs.Image.{Image}

@@ -17,7 +17,7 @@ use Rattle.aom_transcript.specs.declared.line.Ending.TheVariants.{Stopped, MainL
 use Rattle.aom_sound.specs.State.{Dispatch, guarded, Home, Inside, Frame, frame_of, Seat, Asks, Task, Run, Dispatched, Rest, State, Choice, raised}
 use Rattle.aom_sound.specs.Lines.{dispatch_lines}
 use Rattle.aom_sound.specs.Moves.{needs_end, answered, asked, asking, is_counted, closed, error_frame, failed, main_ends, object_ends, dispatch_ends, step, step_task, written_task}
-use Rattle.aom_sound.specs.WellTyped.{WellTyped, Keeps}
+use Rattle.aom_sound.specs.WellTyped.{WellTyped}
 use Rattle.aom_lines.specs.Turn.{Turn}
 use Rattle.aom_frames.specs.Tasks.{below_first, fresh, with_register}
 use Rattle.aom_frames.specs.declared.frame.Frame.{Frame as Held_frame}

@@ -12,7 +12,7 @@ use Rattle.aom_shape.specs.Things.{field_thing, word_count}
 use Rattle.aom_shape.specs.Tables.{put_at}
 use Rattle.aom_sound.specs.Places.{Place, Register, Field, Elsewhere, Root, Object, held, named, moved, changed}
 use Rattle.aom_sound.specs.Effects.{applied, writes as writes_word}
-use Rattle.aom_sound.specs.State.{Home, Static, AtRoot, Inside, next, set_word, Task, Run, field_place, home_holder}
+use Rattle.aom_sound.specs.State.{Home, Static, AtRoot, Inside, next, Task, Run, field_place, home_holder}
 use Rattle.aom_sound.specs.Objects.{is_declared_thing}
 use Rattle.aom_sound.specs.WellTyped.{IsHoused, Now, Stack}
 use Rattle.aom_sound.specs.Words.{loaded, stored, read}

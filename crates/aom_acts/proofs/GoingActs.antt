@@ -11,7 +11,7 @@ use Rattle.aom_image.specs.declared.method.Thing.TheVariants.{Object as An_objec
 use Rattle.aom_cells.specs.Heap.{Heap, null, cell_at, class_at, class_of, field_of, field_at, Changes}
 use Rattle.aom_cells.specs.declared.cell.Cell.{Cell as Held_cell}
 use Rattle.aom_rules.specs.Typing.{Typing}
-use Rattle.aom_sound.specs.Places.{Place, Register, Entry, Field, Going, Elsewhere, Root, same_place, Object, Cell, held, named, moved, changed}
+use Rattle.aom_sound.specs.Places.{Place, Register, Field, Going, Elsewhere, Root, same_place, Object, Cell, held, named, moved, changed}
 use Rattle.aom_sound.specs.Effects.{applied, deletes}
 use Rattle.aom_sound.specs.State.{Home, Inside, frame_of, word, set_word, Dispatch, Of_root, Task, Run, Closing, Destroy, Dispatched, resumed, Rest, State, raised}
 use Rattle.aom_classes.specs.Roles.{destructor_of}

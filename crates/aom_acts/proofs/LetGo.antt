@@ -6,7 +6,7 @@ use Rattle.aom_cells.specs.Heap.{Lives, class_at, null}
 use Rattle.aom_clients.specs.Clients as kept
 use Rattle.aom_clients.specs.Table.{has_cell, server_of, session_of}
 use Rattle.aom_clients.specs.declared.client.Client.{Client}
-use Rattle.aom_clients.specs.declared.client.Client.TheVariants.{Closing as Closes_client, Connecting, Dead, Dying, Gone, Open, Unconnected}
+use Rattle.aom_clients.specs.declared.client.Client.TheVariants.{Closing as Closes_client, Dying, Open, Unconnected}
 use Rattle.aom_frames.specs.declared.task.Task.{Task as Held_task}
 use Rattle.aom_frames.specs.declared.task.Task.TheVariants.{Closing as Closes, Destroy as Destroys}
 use Rattle.aom_image.specs.Image.{Image}
@@ -22,7 +22,7 @@ use Rattle.aom_sound.specs.Places.{Elsewhere, Going, Object, Place, Session, hel
 use Rattle.aom_sound.specs.State.{Choice, Closing, Destroy, Goes, Rest, State, Task}
 use Rattle.aom_classes.specs.Roles.{destructor_of}
 use Rattle.aom_shape.specs.Kinds.{is_object}
-use Rattle.aom_sound.specs.WellTyped.{Keeps, WellTyped}
+use Rattle.aom_sound.specs.WellTyped.{WellTyped}
 use Rattle.aom_parts.proofs.Alike.{Alike, alike, both_close, both_go}
 use Rattle.aom_parts.proofs.Elsewhere.{session_released}
 use Rattle.aom_parts.proofs.Servicing.{same_released}

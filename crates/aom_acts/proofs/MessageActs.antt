@@ -24,7 +24,7 @@ use Rattle.aom_sound.proofs.Things.{stands_same}
 use Rattle.aom_sound.specs.Lines.{message_line}
 use Rattle.aom_sound.specs.Moves.{needs}
 use Rattle.aom_sound.specs.Objects.{is_thing}
-use Rattle.aom_sound.specs.Places.{Elsewhere, Entry, Field, Going, In_service, Object, Place, Queued, Register, Root, Session, changed, held, moved, without}
+use Rattle.aom_sound.specs.Places.{Elsewhere, In_service, Object, Place, Register, changed, held, moved, without}
 use Rattle.aom_sound.specs.State.{Choice}
 use Rattle.aom_parts.specs.declared.parts.Parts.{Parts}
 use Rattle.aom_parts.specs.Places as places

@@ -1,5 +1,5 @@
 -- What an entry or the root owns is an object and no message: by the claims of the layers one after another.
-use Rattle.std.proofs.Common.{Bool, List, None, Option, Some, [], cond, refl, subst, true, false, ℕ, ◌==◌, ◌∷◌, ◌≡◌, length, arith}
+use Rattle.std.proofs.Common.{Bool, List, None, Option, Some, [], cond, refl, subst, true, false, ℕ, ◌==◌, ◌∷◌, ◌≡◌, length}
 use Rattle.std.proofs.lemmas.Bool.{false≢true}
 use Rattle.aom_image.specs.Image.{Image}
 use Rattle.aom_image.specs.declared.method.Thing.{Thing}
@@ -11,7 +11,7 @@ use Rattle.aom_shape.specs.Shape.{Shape}
 use Rattle.aom_shape.specs.declared.kind.Entry.{Entry as Pushed}
 use Rattle.aom_shape.specs.declared.kind.Entry.TheVariants.{Object as Pushed_object, Operation as Pushed_operation}
 use Rattle.aom_shape.specs.declared.kind.Filling.{Filling}
-use Rattle.aom_shape.specs.declared.kind.Filling.TheVariants.{Empty, Full, Perhaps}
+use Rattle.aom_shape.specs.declared.kind.Filling.TheVariants.{Full, Perhaps}
 use Rattle.aom_shape.specs.declared.kind.Kind.{Kind}
 use Rattle.aom_shape.specs.declared.kind.Kind.TheVariants.{Null}
 use Rattle.aom_sound.specs.Claims.{Dispatching, Dying, Ending, Form, Layer, Mark, Method, Unwinding, claim, declared, entry_claim, is_of_root, items_of, objects, root_claim}

@@ -30,7 +30,6 @@ use Rattle.aom_requests.specs.Requests.{request_at, state_at, state_of, status_a
 use Rattle.aom_requests.specs.Requests as table
 use Rattle.aom_requests.specs.declared.request.State.TheVariants.{Active as Held_active}
 use Rattle.aom_requests.specs.declared.request.Request.{Request as Held_request}
-use Rattle.aom_requests.specs.declared.request.Request.TheVariants.{Object as Held_object}
 use Rattle.aom_active.specs.Agrees.{Active, StandsFor, queue_in, queued}
 use Rattle.aom_active.specs.Meanings.{Enlists, Makes, Times, asked_anew, begun_with, is_being_cancelled, is_busy, is_waited_for}
 use Rattle.aom_active.proofs.Asking.{asked_set, newest, newest_timer, queued_same}

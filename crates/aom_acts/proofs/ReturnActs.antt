@@ -19,7 +19,7 @@ use Rattle.aom_sound.proofs.View.{under_dispatch}
 use Rattle.aom_sound.specs.Calls.{answered_by, below_top, end_needs, ended_well, result_needs, result_register, returned, told_answer}
 use Rattle.aom_sound.specs.Claims.{Layer, Method, Mark, tasks_of, claim, declared}
 use Rattle.aom_sound.specs.Places.{Cell, named, Session, Tidy, Elsewhere, Entry, Field, Going, Object, Place, Register, changed, held, moved, same_place, seen}
-use Rattle.aom_sound.specs.State.{Accepted, Accepts, Of_server, Seat, Answered, Destroy, Dispatch, Dispatched, Frame, Run, State, Task, Trapped, Unwind, next, set_word, word}
+use Rattle.aom_sound.specs.State.{Accepted, Accepts, Of_server, Seat, Answered, Dispatch, Dispatched, Frame, Run, State, Task, Trapped, next, set_word, word}
 use Rattle.aom_sound.specs.WellTyped.{Awaits, Fits, Good, WellTyped, WordFits}
 use Rattle.aom_sound.proofs.Claimed.{claim_register_above}
 use Rattle.aom_sound.proofs.Finishing.{all_parts}
@@ -32,7 +32,7 @@ use Rattle.aom_cleanup.specs.declared.item.Item.{Item}
 use Rattle.aom_frames.specs.Tasks.{Runs, method_here, place_here, register_here, below_first}
 use Rattle.aom_frames.specs.declared.frame.Frame.{Frame as Held_frame}
 use Rattle.aom_frames.specs.declared.task.Task.{Task as Held_task}
-use Rattle.aom_frames.specs.declared.task.Task.TheVariants.{Run as Runs_frame, Trapped as Is_trap, Destroy as Destroys, Dispatched as Ends, Unwind as Unwinds}
+use Rattle.aom_frames.specs.declared.task.Task.TheVariants.{Run as Runs_frame, Trapped as Is_trap, Dispatched as Ends}
 use Rattle.aom_frames.specs.declared.dispatch.Dispatch.{Dispatch as Held_dispatch}
 use Rattle.aom_frames.specs.declared.dispatch.Dispatch.TheVariants.{Answered as One_answered, Asks as One_asks, Main, MainLeft, Object as Of_one, ObjectLeft as One_left, Root as End_of_run, Server as Of_one_served}
 use Rattle.aom_active.specs.Agrees.{Active}
@@ -40,19 +40,17 @@ use Rattle.aom_sound.specs.Enlisted.{ended_cells}
 use Rattle.aom_sound.proofs.Storing.{ended_alike}
 use Rattle.aom_acts.specs.Ends.{heard, told_by}
 use Rattle.aom_acts.specs.Going.{ending_here}
-use Rattle.aom_parts.proofs.Asking.{requests_moved}
 use Rattle.aom_acts.proofs.CancelEnds.{ended_agrees, method_is}
 use Rattle.aom_acts.proofs.OnTop.{ending_of}
 use Rattle.aom_parts.specs.declared.parts.Parts.{Parts}
 use Rattle.aom_parts.specs.Places.{others, Others, value_in, register_in, going_in, with_tasks, IsDestroying, IsEnding, IsTrapped, IsUnwinding}
-use Rattle.aom_parts.specs.Agrees.{subject_of, word_at, word_in, Shows, SameCells, SameDispatch, SameFrame, SameTasks, Agrees, SameRequests, dispatch_of, seat_of, SameNatives}
+use Rattle.aom_parts.specs.Agrees.{subject_of, word_at, word_in, Shows, SameDispatch, SameFrame, SameTasks, Agrees, dispatch_of, seat_of}
 use Rattle.aom_acts.specs.Acts.{At_hand, resulted, DoesIn}
 use Rattle.aom_parts.specs.Places as places
-use Rattle.aom_parts.proofs.Entries.{mark_shows_none, unmarked, value_alike}
+use Rattle.aom_parts.proofs.Entries.{mark_shows_none, value_alike}
 use Rattle.aom_parts.proofs.Overs.{held_over, higher, over_value, over_words, tasks_over}
 use Rattle.aom_acts.proofs.CallActs.{closing, ended, fits_null, shows_null}
 use Rattle.aom_image.specs.declared.method.Thing.{Thing}
-use Rattle.aom_image.specs.declared.method.Thing.TheVariants.{Object as An_object_of}
 use Rattle.aom_cells.specs.Heap.{cell_at}
 use Rattle.aom_clients.specs.Clients as kept_clients
 use Rattle.aom_frames.specs.declared.dispatch.Stage.TheVariants as stages
@@ -75,7 +73,7 @@ use Rattle.aom_acts.specs.Requests.{IsOver}
 use Rattle.aom_acts.proofs.Housing.{at_hand, needs_met}
 use Rattle.aom_acts.proofs.Stepping.{at_step}
 use Rattle.aom_parts.proofs.Premises.{connecting_below}
-use Rattle.aom_parts.proofs.Cells.{cell_small, cells_moved}
+use Rattle.aom_parts.proofs.Cells.{cell_small}
 use Rattle.aom_acts.proofs.Running.{Aside, Top, agrees_with, aside_moved, aside_of, aside_unmarked, by_top, free, moved_on, no_word, object_lives_at, register_shows, retasked}
 use Rattle.std.specs.Bool.{OnTrue}
 use Rattle.std.specs.Prelude.{IsSome, is_some}
@@ -84,9 +82,6 @@ use Rattle.aom_image.proofs.Given.{none_given}
 use Rattle.aom_parts.proofs.Alike.{A_catcher, A_going, A_last_trap, A_leave, A_method, An_end, Alike, Tops, alike, both_end, both_go, both_run, both_trapped, both_unwind, catcher_on_top, end_on_top, going_on_top, last_trap_on_top, leave_on_top, method_on_top, tops}
 use Rattle.aom_parts.proofs.Values.{at_depth, cases, going_past, kept, none_alike, register_past, value_kept, value_written, word_next, word_past, word_written, writes}
 use Rattle.aom_acts.proofs.WordActs.{plain_at, word_read}
-use Rattle.aom_parts.proofs.Services.{services_moved}
-use Rattle.aom_parts.proofs.Sessions.{natives_moved}
-use Rattle.aom_parts.specs.Services.{SameServices}
 
 -- what a method gives back
 pub gives_here : (p : Image) (k : ℕ) (d : Method_decl) → method_at p k ≡ Some d → gives_of p k ≡ d.gives

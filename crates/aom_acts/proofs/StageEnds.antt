@@ -31,11 +31,11 @@ use Rattle.aom_sound.specs.Kept.{IsKept, StageKept, TasksKept}
 use Rattle.aom_sound.specs.Laws.{IsWired}
 use Rattle.aom_sound.specs.Lines.{message_line, stage_lines}
 use Rattle.aom_sound.specs.Moves.{needs_end, stage_ends, written_task}
-use Rattle.aom_sound.specs.Places.{Cell, Elsewhere, Entry, Field, Going, In_service, Object, Place, Queued, Register, Root, Session, changed, held, named, seen, service_of, without}
+use Rattle.aom_sound.specs.Places.{Cell, Elsewhere, In_service, Object, Place, Session, changed, held, named, seen, service_of, without}
 use Rattle.aom_sound.specs.Servers.{parted, reserved}
 use Rattle.aom_sound.specs.State.{Accept_left, Accepted, Accepts, Dispatched, Goes, Of_object, Of_server, Seat, Service_left, State, Rest, guarded, CompletedTwice}
 use Rattle.aom_sound.specs.State as checked
-use Rattle.aom_sound.specs.WellTyped.{Fits, Good, Keeps, WellTyped}
+use Rattle.aom_sound.specs.WellTyped.{Fits, Good, WellTyped}
 use Rattle.aom_sound.specs.Claims.{claim, declared}
 use Rattle.aom_shape.specs.declared.kind.Kind.TheVariants.{Null}
 use Rattle.aom_parts.proofs.Asking.{requests_kept}

@@ -2,11 +2,9 @@
 use Rattle.std.proofs.Common.{suc, ◌≡◌, ◌≤◌, ◌<◌, ◌+◌, ◌^◌, ℕ, Bool, true, length, List, [], ◌∷◌, IsSome, refl, sym, ap, ◌∙◌, subst, arith}
 use Rattle.std.specs.Prelude.{is_some}
 use Rattle.std.proofs.lemmas.Bool.{eqb-true}
-use Rattle.std.proofs.lemmas.Bool.Decides.{leb_tells}
 use Rattle.aom_image.specs.Image.{Image}
-use Rattle.aom_image.specs.Views.{arguments_of, gives_of, instr_at, method_at, method_class}
-use Rattle.aom_instructions.specs.declared.instr.Instr.TheVariants.{Pop, PopOperation, Return, Trap}
-use Rattle.aom_instructions.specs.declared.instr.Target.{Target}
+use Rattle.aom_image.specs.Views.{gives_of, instr_at}
+use Rattle.aom_instructions.specs.declared.instr.Instr.TheVariants.{Pop, PopOperation, Return}
 use Rattle.aom_image.specs.declared.method.Gives.{Gives}
 use Rattle.aom_image.specs.declared.method.Gives.TheVariants.{Left}
 use Rattle.aom_cleanup.specs.Items.{IsAboveMark, IsMarked, IsNotAboveMark}
@@ -14,7 +12,7 @@ use Rattle.aom_cleanup.specs.declared.item.Item.{Item as Held_item}
 use Rattle.aom_cleanup.specs.declared.item.Item.TheVariants.{Object as Holds_object, Operation as Holds_operation, Mark as Is_mark}
 use Rattle.aom_rules.specs.Typing.{Typing}
 use Rattle.aom_shape.specs.declared.kind.Entry.{Entry as Pushed}
-use Rattle.aom_sound.specs.Calls.{is_level, needs_target, result_needs, result_register}
+use Rattle.aom_sound.specs.Calls.{is_level, result_needs, result_register}
 use Rattle.aom_sound.specs.Claims.{Method, Form, Mark_form, forms, items_of, objects}
 use Rattle.aom_sound.specs.Cleanup.{tops_entry, tops_object, top_is_whole}
 use Rattle.aom_sound.specs.Places.{Entry, held}

@@ -1,5 +1,5 @@
 -- The moves of a leave that unwinds: what was pushed is dealt with, and then the code arrives.
-use Rattle.std.proofs.Common.{suc, ◌≡◌, ◌<◌, ◌≤◌, ℕ, ℤ, Bool, true, cond, length, List, [], ◌∷◌, ◌++◌, Option, Some, None, slice_set, pos, refl, sym, ap, ◌∙◌, subst, append-nil, arith}
+use Rattle.std.proofs.Common.{suc, ◌≡◌, ◌<◌, ℕ, ℤ, Bool, true, cond, length, List, [], ◌∷◌, ◌++◌, Option, Some, None, slice_set, pos, refl, sym, ap, ◌∙◌, subst, append-nil, arith}
 use Rattle.std.specs.Int.{w32, cast_unsigned}
 use Rattle.std.proofs.lemmas.Bool.{eq-eqb}
 use Rattle.std.proofs.Common.{FitsSigned, of_z, to_z}
@@ -20,18 +20,18 @@ use Rattle.aom_shape.specs.Tables.{at, put_at}
 use Rattle.aom_rules.specs.Typing.{Typing}
 use Rattle.aom_sound.proofs.View.{under_dispatch}
 use Rattle.aom_sound.specs.Calls.{below_top, called, result_register}
-use Rattle.aom_sound.specs.Claims.{Method, Mark, Unwinding, tasks_of, claim, declared}
+use Rattle.aom_sound.specs.Claims.{Unwinding, tasks_of, declared}
 use Rattle.aom_sound.specs.Cleanup.{arrival, code_told, dealt_with as deals_with, ended_by, top_is_whole, tops_entry, unwound}
 use Rattle.aom_sound.specs.Laws.{IsWired}
-use Rattle.aom_sound.specs.Places.{Place, Register, changed, held, seen}
+use Rattle.aom_sound.specs.Places.{Place, Register, changed, held}
 use Rattle.aom_sound.specs.State.{Frame, Task, Run, Trapped, Unwind, Dispatched, Item, An_object, An_operation, A_mark, State, Goes, IsStuck, NullOrDead, next, set_word, word}
-use Rattle.aom_sound.specs.WellTyped.{Fits, Good, Keeps, WellTyped}
+use Rattle.aom_sound.specs.WellTyped.{Good, Keeps, WellTyped}
 use Rattle.aom_transcript.specs.declared.line.Line.TheVariants.{Leave}
 use Rattle.aom_sound.proofs.Guarded.{goes_same, guarded_goes, guarded_met}
 use Rattle.aom_sound.specs.Traps.{AllAtTraps}
-use Rattle.aom_sound.proofs.Straight.{claim_register, fits_unowning}
+use Rattle.aom_sound.proofs.Straight.{claim_register}
 use Rattle.aom_sound.proofs.Maps.{at-put_at}
-use Rattle.aom_sound.proofs.Layers.{leave_layer, mark_layer, method_layer}
+use Rattle.aom_sound.proofs.Layers.{leave_layer}
 use Rattle.aom_lines.specs.Turn.{Turn}
 use Rattle.aom_frames.specs.Tasks.{Runs, method_here, place_here, below_first}
 use Rattle.aom_frames.specs.declared.frame.Frame.{Frame as Held_frame}
@@ -50,7 +50,7 @@ use Rattle.aom_parts.specs.Room.{CalleeThere, CallsThere, ReturnsTo}
 use Rattle.aom_parts.specs.Stands.{Stands}
 use Rattle.aom_acts.proofs.CallActs.{closing, ended}
 use Rattle.aom_acts.proofs.DealActs.{deals}
-use Rattle.aom_parts.proofs.Entries.{mark_shows_none, unmarked, value_alike}
+use Rattle.aom_parts.proofs.Entries.{mark_shows_none, value_alike}
 use Rattle.aom_acts.proofs.Finding.{held_beneath, unwinds_over, IsTrapOnTop}
 use Rattle.aom_acts.proofs.LeavingActs.{unwinds_value, unwinds_word}
 use Rattle.aom_parts.proofs.Overs.{over_value, over_words}
