@@ -64,8 +64,7 @@ cancels_active p linked m d e role =
 
 -- whose request is being cancelled
 being_cancelled : (k : Option ClassKind) (n : Known) (r : Option Request) → is_active_kind k ≡ true → n.cancelled ≡ true → Suits k n r → in_phase is_cancelling r ≡ true
-being_cancelled (Some (An_active v b)) n r active cancels suits = suits.1 ∙ cancels
-being_cancelled _ n r active cancels suits = cc
+being_cancelled k n r active cancels suits = grind arith
 
 -- the needs of a return have it completed
 completed : (x y : Bool) → x ≡ true → not (x && y) ≡ true → y ≡ false

@@ -83,7 +83,8 @@ module _ (p : Image) (formed : WellFormed p) (m : Parts) (t : Typing) (s : State
       let base : (q : Place) → Shows (value_in (Runs_frame f ∷ us) m.cells is (others m) q) (word_at (Run fr ∷ ts) q) (held s.cells q) = λ q.
       subst (λ x. Shows x (word_at (Run fr ∷ ts) q) (held s.cells q)) (sym (fresh_value k null us m.cells is (others m) q ∙ sym (value_alike us m.cells (Holds_operation k n ∷ is) is (others m) (λ e. owns_none (Holds_operation k n) is e refl) q) ∙ sym (ap (λ es. value_in us m.cells es (others m) q) was)))
       (subst (λ x. Shows (value_in us m.cells m.entries.items (others m) q) x (held s.cells q)) (sym (fresh_word k' Static (length js) ts q)) (agrees.values q)) in
-      agrees_with p (with_items is m) (record s { items = js }) (Runs_frame (with_register 0 n f) ∷ us) (Run (operation_frame k' w (length js)) ∷ ts) (aside_with p m s (with_items is m).entries js (aside_of p m s agrees) same agrees.entry_room)
+      agrees_with p (with_items is m) (record s { items = js }) (Runs_frame (with_register 0 n f) ∷ us) (Run (operation_frame k' w (length js)) ∷ ts)
+      (aside_with p m s (with_items is m).entries js (aside_of p m s agrees) same agrees.entry_room)
       (reframed f fr (slice_set f.registers 0 n) (Some w ∷ []) 0 0 begun (length-set f.registers 0 n ∙ length-replicate 16 null) refl, agrees.tasks)
       (writes _ _ _ _ (held s.cells) _ q0 n (Some w) None base word
       (value_written f us m.cells is (others m) d 0 n 0 long (let wide = length-replicate 16 null in omega arith))

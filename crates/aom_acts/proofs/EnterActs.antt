@@ -343,24 +343,33 @@ module _ (p : Image) (m : Parts) (h : At_hand p m) (trapped : Bool) (target : Ta
       → Agrees p (with_tasks (Runs_frame (given xs first 0 f (fresh k this)) ∷ held_over trapped (Runs_frame (passed_on xs first f) ∷ ms)) m) (record h.state { cells = passed; tasks = Run (entered p h.frame h.below h.state target k first height) ∷ over })
   agrees_entered more needs f ms top =
       let done = enters more needs f ms top in
-      agrees_with p m (record h.state { cells = passed }) (Runs_frame (given xs first 0 f (fresh k this)) ∷ held_over trapped (Runs_frame (passed_on xs first f) ∷ ms)) (Run (entered p h.frame h.below h.state target k first height) ∷ over)
+      let us = Runs_frame (given xs first 0 f (fresh k this)) ∷ held_over trapped (Runs_frame (passed_on xs first f) ∷ ms) in
+      agrees_with p m (record h.state { cells = passed }) us (Run (entered p h.frame h.below h.state target k first height) ∷ over)
       (aside_passed done.cells) (done.called, over_same trapped _ _ done.caller top.below) done.values
     where
       over_same : (b : Bool) (g : Held_frame) (gs : List Held_task) → SameFrame g h.frame → SameTasks gs h.below → SameTasks (held_over b (Runs_frame g ∷ gs)) (tasks_over b (Run h.frame ∷ h.below))
       over_same true g gs frame below = (tt, (frame, below))
       over_same false g gs frame below = (frame, below)
 
-pub call_does : (p : Image) (m : Parts) (refused : List ℕ) (target : Target) (k first x : ℕ)
-    → DoesIn p refused (Call target k first x) m (with_tasks (Runs_frame (given_here (arguments_of p k) first m.stack.tasks (fresh k (target_here target (method_class p k) m))) ∷ on_top (passed_on (arguments_of p k) first) m.stack.tasks) m)
+-- the tasks once a method is called by the one on top, over it or over a trap on it
+abbrev pub calling : Image → Parts → Target → ℕ → ℕ → Bool → List Held_task → List Held_task
+calling p m target k first trapped us =
+    Runs_frame (given_here (arguments_of p k) first us (fresh k (target_here target (method_class p k) m))) ∷ held_over trapped (on_top (passed_on (arguments_of p k) first) us)
+
+pub call_does : (p : Image) (m : Parts) (refused : List ℕ) (target : Target) (k first x : ℕ) → DoesIn p refused (Call target k first x) m (with_tasks (calling p m target k first false m.stack.tasks) m)
 call_does p m refused target k first x h here =
+    let cs = passed p m h false target k first (length h.state.items) in
+    let vs = Run (entered p h.frame h.below h.state target k first (length h.state.items)) ∷ Run h.frame ∷ h.below in
     plain_at p m _ refused (Call target k first x) refl h (λ c needs typed.
-    by_top p m h (λ us. Agrees p (with_tasks (Runs_frame (given_here (arguments_of p k) first us (fresh k (target_here target (method_class p k) m))) ∷ on_top (passed_on (arguments_of p k) first) us) m) (record h.state { cells = passed p m h false target k first (length h.state.items); tasks = Run (entered p h.frame h.below h.state target k first (length h.state.items)) ∷ Run h.frame ∷ h.below }))
+    by_top p m h (λ us. Agrees p (with_tasks (calling p m target k first false us) m) (record h.state { cells = cs; tasks = vs }))
     (agrees_entered p m h false target k first (length h.state.items) _ needs))
 
 -- a mark owns nothing
 marked : (p : Image) (m : Parts) (s : State) → Agrees p m s → Agrees p (with_items (Is_mark ∷ m.entries.items) m) (record s { items = A_mark ∷ s.items })
 marked p m s agrees =
-    agrees_with p (with_items (Is_mark ∷ m.entries.items) m) (record s { items = A_mark ∷ s.items }) m.stack.tasks s.tasks (aside_with p m s (with_items (Is_mark ∷ m.entries.items) m).entries (A_mark ∷ s.items) (aside_of p m s agrees) (tt, agrees.entries) agrees.entry_room) agrees.tasks values
+    let mid = with_items (Is_mark ∷ m.entries.items) m in
+    agrees_with p mid (record s { items = A_mark ∷ s.items }) m.stack.tasks s.tasks
+    (aside_with p m s mid.entries (A_mark ∷ s.items) (aside_of p m s agrees) (tt, agrees.entries) agrees.entry_room) agrees.tasks values
   where
     values : (r : Place) → Shows (value_in m.stack.tasks m.cells (Is_mark ∷ m.entries.items) (others m) r) (word_at s.tasks r) (held s.cells r)
     values (Entry k) = subst (λ n. Shows n (word_at s.tasks (Entry k)) (held s.cells (Entry k))) (sym (mark_shows_none m.entries.items k)) (agrees.values (Entry k))
@@ -371,12 +380,13 @@ marked p m s agrees =
 
 -- under a trap
 pub trap_does : (p : Image) (m : Parts) (refused : List ℕ) (target : Target) (k first x : ℕ)
-    → DoesIn p refused (Trap target k first x) m (with_items (Is_mark ∷ m.entries.items) (with_tasks (Runs_frame (given_here (arguments_of p k) first m.stack.tasks (fresh k (target_here target (method_class p k) m))) ∷ Is_trap ∷ on_top (passed_on (arguments_of p k) first) m.stack.tasks) m))
+    → DoesIn p refused (Trap target k first x) m (with_items (Is_mark ∷ m.entries.items) (with_tasks (calling p m target k first true m.stack.tasks) m))
 trap_does p m refused target k first x h here =
+    let height = suc (length h.state.items) in
+    let v : State = record h.state { cells = passed p m h true target k first height; tasks = Run (entered p h.frame h.below h.state target k first height) ∷ Trapped ∷ Run h.frame ∷ h.below } in
     plain_at p m _ refused (Trap target k first x) refl h (λ c needs typed.
-    marked p (with_tasks (Runs_frame (given_here (arguments_of p k) first m.stack.tasks (fresh k (target_here target (method_class p k) m))) ∷ Is_trap ∷ on_top (passed_on (arguments_of p k) first) m.stack.tasks) m) (record h.state { cells = passed p m h true target k first (suc (length h.state.items)); tasks = Run (entered p h.frame h.below h.state target k first (suc (length h.state.items))) ∷ Trapped ∷ Run h.frame ∷ h.below })
-    (by_top p m h (λ us. Agrees p (with_tasks (Runs_frame (given_here (arguments_of p k) first us (fresh k (target_here target (method_class p k) m))) ∷ Is_trap ∷ on_top (passed_on (arguments_of p k) first) us) m) (record h.state { cells = passed p m h true target k first (suc (length h.state.items)); tasks = Run (entered p h.frame h.below h.state target k first (suc (length h.state.items))) ∷ Trapped ∷ Run h.frame ∷ h.below }))
-    (agrees_entered p m h true target k first (suc (length h.state.items)) _ needs)))
+    marked p (with_tasks (calling p m target k first true m.stack.tasks) m) v
+    (by_top p m h (λ us. Agrees p (with_tasks (calling p m target k first true us) m) v) (agrees_entered p m h true target k first height _ needs)))
 
 -- ---- what the code needs to know of one that is next: its method is there, and its arguments lie in registers that a method has
 

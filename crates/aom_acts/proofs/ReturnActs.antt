@@ -174,11 +174,12 @@ awaited_trapped : (p : Image) (t : Typing) (s : State) (fr caller : Frame) (ts :
 awaited_trapped p t s fr caller ts typed top some =
     method_layer (Good p t s.cells) fr (Trapped ∷ Run caller ∷ ts) typed.layers (sym typed.tasks ∙ top) typed.good (λ sh ls under good.
     caught_layer (λ ls. Good p t s.cells (Method fr sh ∷ ls)) _ caller ts ls under good (λ gv sh' ls rest good.
+    let x = result_register (instr_at p caller.method caller.place) in
     let d = length (tasks_of ls) in
     let mark = good.stack.4 in
-    awaits_none p s ls ts sh' _ _ (awaiting gv _ sh' (ap bears (sym mark.0.0) ∙ some) mark.1.0.2)
-    (ap (λ b. cond b (register sh (result_register (instr_at p caller.method caller.place))) (claim p (declared p s.cells) (Mark gv ∷ Method caller sh' ∷ ls) (Register d (result_register (instr_at p caller.method caller.place))))) (ne_eqb (suc (suc d)) d (λ e. absurd (omega arith))) ∙ claim_register p (declared p s.cells) caller sh' ls _)
-    (good.fits (Register d (result_register (instr_at p caller.method caller.place)))) rest))
+    awaits_none p s ls ts sh' x _ (awaiting gv x sh' (ap bears (sym mark.0.0) ∙ some) mark.1.0.2)
+    (ap (λ b. cond b (register sh x) (claim p (declared p s.cells) (Mark gv ∷ Method caller sh' ∷ ls) (Register d x))) (ne_eqb (suc (suc d)) d (λ e. absurd (omega arith))) ∙ claim_register p (declared p s.cells) caller sh' ls x)
+    (good.fits (Register d x)) rest))
 
 -- a register with a word owns nothing
 pub word_alone : (p : Image) (t : Typing) (s : State) (fr : Frame) (ts : List Task) (i : ℕ) (w : ℤ) → WellTyped p t s → s.tasks ≡ Run fr ∷ ts → word fr i ≡ Some w → held s.cells (Register (length ts) i) ≡ None
@@ -343,7 +344,8 @@ module _ (p : Image) (m : Parts) (t : Typing) (s : State) (fr : Frame) (agrees :
         let wide = landed.wide in
         let was : m.entries.items ≡ Is_mark ∷ es.items = ap (λ (e : Held_items). e.items) marked in
         let old : (r : Place) → Shows (value_in (Runs_frame g' ∷ ms) m.cells es.items (others m) r) (word_at (Run caller' ∷ ts) r) (held cs r) = λ r. subst (λ k. Shows k (word_at (Run caller' ∷ ts) r) (held cs r)) (ap (λ is. value_in (Runs_frame g' ∷ ms) m.cells is (others m) r) was ∙ value_alike (Runs_frame g' ∷ ms) m.cells (Is_mark ∷ es.items) es.items (others m) (λ k. mark_shows_none es.items k) r) (landed.values r) in
-        agrees_with p (record m { entries = es }) (record s { cells = cs; items = below_top s.items }) (Runs_frame (record g { registers = slice_set rs (suc x) 0; place = suc g.place }) ∷ ms) (Run (next (set_word caller' (suc x) (Some (pos 0)))) ∷ ts) (aside_unmarked p m (record s { cells = cs }) es marked landed.aside)
+        agrees_with p (record m { entries = es }) (record s { cells = cs; items = below_top s.items }) (Runs_frame (record g { registers = slice_set rs (suc x) 0; place = suc g.place }) ∷ ms) (Run (next (set_word caller' (suc x) (Some (pos 0)))) ∷ ts)
+        (aside_unmarked p m (record s { cells = cs }) es marked landed.aside)
         (moved_on g caller (slice_set rs (suc x) 0) (set_word caller' (suc x) (Some (pos 0))).words same_frame (length-set rs (suc x) 0 ∙ wide), same_there.1)
         (writes _ _ _ _ (held cs) _ q 0 (Some (pos 0)) None old refl
         (value_written g' ms m.cells es.items (others m) (length ts) (suc x) 0 (suc g.place) deep (omega arith))

@@ -204,7 +204,8 @@ module _ (p : Image) (m : Parts) (s : State) (agrees : Agrees p m s) (es : Held_
       let q = Register (length ts) (suc x) in
       let n = cast_unsigned w32 code in
       let wide = cleared.wide in
-      agrees_with p (record m { entries = es }) (record s { items = below_top s.items }) (Runs_frame (record g { registers = slice_set rs (suc x) n; place = suc g.place }) ∷ ms) (Run (next (set_word caller' (suc x) (Some code))) ∷ ts) (aside_unmarked p m s es marked (aside_of p m s agrees))
+      agrees_with p (record m { entries = es }) (record s { items = below_top s.items }) (Runs_frame (record g { registers = slice_set rs (suc x) n; place = suc g.place }) ∷ ms) (Run (next (set_word caller' (suc x) (Some code))) ∷ ts)
+      (aside_unmarked p m s es marked (aside_of p m s agrees))
       (moved_on g caller (slice_set rs (suc x) n) (set_word caller' (suc x) (Some code)).words same_frame (length-set rs (suc x) n ∙ wide), same_below)
       (writes _ _ _ _ (held s.cells) _ q n (Some code) None cleared.values (to_z-of_z w32 code fits)
       (value_written g' ms m.cells es.items (others m) (length ts) (suc x) n (suc g.place) deep (omega arith))
