@@ -36,4 +36,3 @@ pub mod UnwindActs
 mod Vanishing
 pub mod Owned
 pub mod MessageActs
-pub mod AsRead
