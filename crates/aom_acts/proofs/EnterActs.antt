@@ -23,7 +23,7 @@ use Rattle.aom_sound.proofs.Maps.{held_moved}
 use Rattle.aom_frames.specs.Tasks.{fresh, given, given_here, on_top, passed_on, passing, register_here, this_here, with_register, method_here, place_here}
 use Rattle.aom_frames.specs.declared.frame.Frame.{Frame as Held_frame}
 use Rattle.aom_frames.specs.declared.task.Task.{Task as Held_task}
-use Rattle.aom_frames.specs.declared.task.Task.TheVariants.{Run as Runs_frame, Trapped as Is_trap}
+use Rattle.aom_frames.specs.declared.task.Task.TheVariants.{Run as Runs_frame}
 use Rattle.aom_cleanup.specs.declared.item.Item.TheVariants.{Mark as Is_mark}
 use Rattle.aom_cleanup.specs.declared.item.Item.{Item}
 use Rattle.aom_parts.proofs.Asking.{requests_passed}
