@@ -1,5 +1,5 @@
 -- `stop`, and how a dispatch comes to its end.
-use Rattle.std.proofs.Common.{◌≡◌, ◌==◌, ◌≤◌, ℕ, ℤ, true, List, [], ◌∷◌, Option, None, refl, sym, ap, ◌∙◌, subst}
+use Rattle.std.proofs.Common.{◌≡◌, ◌==◌, ℕ, ℤ, true, List, [], ◌∷◌, Option, None, refl, sym, ap, ◌∙◌, subst}
 use Rattle.aom_image.specs.Image.{Image}
 use Rattle.aom_instructions.specs.declared.instr.Instr.TheVariants.{Stop}
 use Rattle.aom_shape.specs.declared.kind.Kind.TheVariants.{Null}
@@ -20,8 +20,9 @@ use Rattle.aom_parts.specs.Places.{others, value_in}
 use Rattle.aom_parts.specs.Agrees.{word_at, Shows, SameDispatch, number, Agrees}
 use Rattle.aom_acts.specs.Acts.{Does}
 use Rattle.aom_parts.specs.Places as places
-use Rattle.aom_parts.proofs.Entries.{mark_shows_none, unmarked}
+use Rattle.aom_parts.proofs.Entries.{mark_shows_none}
 use Rattle.aom_acts.proofs.GoingOn.{goes_on_as}
+use Rattle.aom_acts.proofs.Running.{agrees_with, aside_of, aside_unmarked}
 use Rattle.aom_acts.proofs.WordActs.{plain_does}
 use Rattle.aom_sound.proofs.Straight.{fits_unowning}
 use Rattle.aom_sound.proofs.Maps.{cond_same}
@@ -58,18 +59,8 @@ shows_null n w o e f g = subst (λ w. Shows n w o) (sym f) (subst (λ o. Shows n
 pub ended : (p : Image) (m : Parts) (es : Held_items) (s : State) (x : Held_dispatch) (d : Dispatch) → Agrees p m s → m.entries ≡ record es { items = Is_mark ∷ es.items } → SameDispatch x d
     → Closing (record s { tasks = Dispatched d ∷ []; items = below_top s.items })
     → Agrees p (record m { stack = record m.stack { tasks = Ends x ∷ [] }; entries = es }) (record s { tasks = Dispatched d ∷ []; items = below_top s.items })
-ended p m es s x d agrees marked same shut = record {
-  tasks = (same, tt);
-  values = values;
-  cells = agrees.cells;
-  entries = unmarked m.entries.items es.items s.items (ap (λ (e : Held_items). e.items) marked) agrees.entries;
-  requests = agrees.requests;
-  natives = agrees.natives;
-  services = agrees.services;
-  rest = agrees.rest;
-  room = agrees.room;
-  entry_room = subst (λ n. 1024 ≤ n) (ap (λ (e : Held_items). e.depth) marked) agrees.entry_room;
-}
+ended p m es s x d agrees marked same shut =
+    agrees_with p (record m { entries = es }) (record s { items = below_top s.items }) (Ends x ∷ []) (Dispatched d ∷ []) (aside_unmarked p m s es marked (aside_of p m s agrees)) (same, tt) values
   where
     values : (r : Place) → Shows (value_in (Ends x ∷ []) m.cells es.items (others m) r) (word_at (Dispatched d ∷ []) r) (held s.cells r)
     values (Register k i) = shows_null _ _ _ (cond_same (0 == k) null) (cond_same (0 == k) None) (shut.registers k i)

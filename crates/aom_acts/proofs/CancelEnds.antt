@@ -1,11 +1,10 @@
 -- A method that cancels is over: its object's request is completed and being cancelled, and both sides take its signal.
-use Rattle.std.proofs.Common.{ap, Bool, cond, false, IsTrue, List, None, Option, refl, Some, subst, sym, true, ℕ, ◌&&◌, ◌||◌, ◌∙◌, ◌∷◌, ◌≡◌}
+use Rattle.std.proofs.Common.{ap, Bool, cond, false, IsTrue, List, Option, refl, Some, subst, sym, true, ℕ, ◌&&◌, ◌||◌, ◌∙◌, ◌∷◌, ◌≡◌, arith}
 use Rattle.std.specs.Prelude.{is_some, not}
 use Rattle.std.specs.Ordering.{int_eq}
 use Rattle.aom_image.specs.Image.{Image}
 use Rattle.aom_image.specs.Views.{class_in, gives_of, method_at, method_role, role_in}
 use Rattle.aom_image.specs.declared.class.ClassKind.{ClassKind}
-use Rattle.aom_image.specs.declared.class.ClassKind.TheVariants.{Active as An_active}
 use Rattle.aom_image.specs.declared.method.Method.{Method as Method_declared}
 use Rattle.aom_image.specs.declared.method.Role.{Role}
 use Rattle.aom_image.specs.declared.method.Role.TheVariants.{Cancel}
@@ -38,10 +37,10 @@ use Rattle.aom_parts.specs.Agrees.{Agrees, SameCells, SameRequests, Shows, home_
 use Rattle.aom_parts.specs.Fields.{this}
 use Rattle.aom_acts.specs.Next.{IsNext, counting}
 use Rattle.aom_parts.specs.Places.{value}
-use Rattle.aom_acts.specs.Requests.{EndsCancel, IsCancelled}
+use Rattle.aom_acts.specs.Requests.{EndsCancel, IsCancelled, IsOver}
 use Rattle.aom_parts.proofs.CellFields.{cell_of}
 use Rattle.aom_acts.proofs.FieldActs.{housed, inside_object}
-use Rattle.aom_acts.proofs.RequestActs.{requests_set}
+use Rattle.aom_acts.proofs.RequestActs.{in_one, requests_set}
 use Rattle.aom_parts.proofs.Services.{services_ended}
 use Rattle.aom_shape.specs.Kinds.{is_object}
 use Rattle.aom_acts.proofs.Housing.{at_hand, needs_met}
@@ -54,8 +53,7 @@ use Rattle.aom_parts.proofs.Sessions.{natives_asked}
 
 active_in : (k : Option ClassKind) → IsTrue (is_active_in k) → is_active_kind k ≡ true
 unfolding is_active_in
-active_in (Some (An_active v b)) active = refl
-active_in _ active = cc
+active_in k active = grind arith
 
 cancels_active : (p : Image) → IsLinked p → (m : ℕ) (d : Method_declared) → method_at p m ≡ Some d → d.role ≡ Cancel → is_active_kind (own_kind p m) ≡ true
 unfolding method_at class_in
@@ -65,17 +63,11 @@ cancels_active p linked m d e role =
 
 -- whose request is being cancelled
 being_cancelled : (k : Option ClassKind) (n : Known) (r : Option Request) → is_active_kind k ≡ true → n.cancelled ≡ true → Suits k n r → in_phase is_cancelling r ≡ true
-being_cancelled (Some (An_active v b)) n r active cancels suits = suits.1 ∙ cancels
-being_cancelled _ n r active cancels suits = cc
-
-made : (r : Option Request) → in_phase is_cancelling r ≡ true → (q : Request) × (r ≡ Some q)
-made None e = cc
-made (Some q) e = (q, refl)
+being_cancelled k n r active cancels suits = grind arith
 
 -- the needs of a return have it completed
 completed : (x y : Bool) → x ≡ true → not (x && y) ≡ true → y ≡ false
-completed true false e h = refl
-completed _ _ e h = cc
+completed x y e h = grind arith
 
 module _ (p : Image) (m : Parts) (h : At_hand p m) where
   pub method_is : method_here m.stack.tasks ≡ h.frame.method
@@ -102,7 +94,7 @@ module _ (p : Image) (m : Parts) (h : At_hand p m) where
       let it = of_object p h.typing (main_of_none p h.wired) c h.state h.frame sh ls at (active_listed (own_kind p h.frame.method) active) in
       let of_it : own_request h.state.cells h.frame.home ≡ requested h.state.cells it.object.name = ap (own_request h.state.cells) it.home in
       let phase = being_cancelled (own_kind p h.frame.method) _ _ active (ap (λ b. b || (states_claim p it.object ls).cancelled) plays) it.suits in
-      let request = made (own_request h.state.cells h.frame.home) phase in
+      let request = in_one is_cancelling (own_request h.state.cells h.frame.home) phase in
       record {
         object = it.object;
         number = number_is ∙ ap home_number it.home;
@@ -146,13 +138,6 @@ module _ (p : Image) (m : Parts) (a : ℕ) (d : Method_declared) (next : IsNext 
       go _ role = tt
 
 -- ---- the machine once the cancel is over
-
--- the cancel that the method at its end may have to end is over
-pub record IsOver (p : Image) (m : Parts) (act : Active) : Type 0 where
-  pub role : Role
-  pub plays : method_role p (method_here m.stack.tasks) ≡ Some role
-  pub was : IsCancelled role m
-  pub ends : EndsCancel role m.active act (this m)
 
 pub is_over : (p : Image) (m : Parts) (a : ℕ) (act : Active) (d : Method_declared) → IsNext p (Return a) m → method_at p (method_here m.stack.tasks) ≡ Some d
     → EndsCancel d.role m.active act (this m) → IsOver p m act
@@ -201,7 +186,7 @@ module _ (p : Image) (m : Parts) (h : At_hand p m) where
           let number : this m ≡ o.name = number_is p m h ∙ ap home_number is in
           let stands = h.agrees.requests.stands in
           let phase = sym (told_cancelling m.active (requested cells) (queued p cells) stands o.name) ∙ ap (λ n. is_being_cancelled (request_at m.active.table n)) (sym number) ∙ was.2 in
-          let request = made (requested cells o.name) phase in
+          let request = in_one is_cancelling (requested cells o.name) phase in
           let after = subst (λ n. StandsFor act (asked_anew n (Some (cancelled request.0)) (requested cells)) (queued p cells)) number
           (ends.stands (requested cells) (queued p cells) request.0 stands (ap (requested cells) number ∙ request.1)) in
           let set = requests_set p m.active act cells o (Some (cancelled request.0)) (housed p m h o from is) ends.limit after h.agrees.requests in

@@ -117,12 +117,10 @@ module _ (p : Image) (t : Typing) (depth : ℕ → ℕ) (cs : List Cell) (items 
   few_tasks back (Dying o ∷ Ending x left ∷ Dying y ∷ Unwinding code es ∷ ls) s r = let few = few_tasks Leaves ls s.2.3.2.1 r.1 in omega (arith, few)
   few_tasks back (Dying o ∷ Ending x left ∷ Dying y ∷ Dispatching d seats ∷ ls) s r =
       subst (λ us. Few (tasks_of (Dying o ∷ Ending x left ∷ Dying y ∷ Dispatching d seats ∷ us))) (sym s.2.3.2.1) (omega arith)
-  few_tasks back (Dying o ∷ Ending x left ∷ Dying y ∷ Ending z more ∷ ls) s r = absurd r.0.1
   few_tasks back (Ending x left ∷ Dying y ∷ []) s r = omega arith
   few_tasks back (Ending x left ∷ Dying y ∷ Method fr sh ∷ ls) s r = let few = few_tasks (Returns fr.method fr.home) ls s.3.2.4 r.1.1 in omega (arith, few)
   few_tasks back (Ending x left ∷ Dying y ∷ Unwinding code es ∷ ls) s r = let few = few_tasks Leaves ls s.3.2.1 r.1 in omega (arith, few)
   few_tasks back (Ending x left ∷ Dying y ∷ Dispatching d seats ∷ ls) s r = subst (λ us. Few (tasks_of (Ending x left ∷ Dying y ∷ Dispatching d seats ∷ us))) (sym s.3.2.1) (omega arith)
-  few_tasks back (Ending x left ∷ Dying y ∷ Ending z more ∷ ls) s r = absurd r.0.1
   few_tasks back (Unwinding code es ∷ ls) s r = let few = few_tasks Leaves ls s.1 r in omega (arith, few)
   few_tasks back (Dispatching d seats ∷ ls) s r = subst (λ us. Few (tasks_of (Dispatching d seats ∷ us))) (sym s.1) (omega arith)
   few_tasks back _ s r = absurd (assumption tt)

@@ -14,7 +14,7 @@ use Rattle.aom_sound.specs.Places.{moved, Place, Register, Entry, Going, Object,
 use Rattle.aom_sound.proofs.Dealing.{dealing as dealing_effect}
 use Rattle.aom_sound.specs.State.{Static, frame_of, Run, Item, An_object, State}
 use Rattle.aom_sound.specs.WellTyped.{WellTyped}
-use Rattle.aom_frames.specs.Tasks.{fresh}
+use Rattle.aom_frames.specs.Tasks.{fresh, with_register}
 use Rattle.aom_frames.specs.declared.task.Task.TheVariants.{Run as Runs_frame}
 use Rattle.aom_cleanup.specs.Items.{IsAboveMark}
 use Rattle.aom_acts.proofs.Housing.{at_hand, needs_met}
@@ -32,9 +32,9 @@ use Rattle.aom_acts.proofs.Owned.{entry_object}
 use Rattle.aom_parts.specs.Places.{others, value_in, with_items}
 use Rattle.aom_parts.proofs.Alike.{Entries_alike, entries_alike, entries_own, entries_run}
 use Rattle.aom_parts.proofs.Entries.{owns_none, same_items_length, top_value, value_alike, value_popped}
-use Rattle.aom_acts.proofs.GoingActs.{aside_moved, begins, destructor_same, server_same, dying_shows, fresh_value, fresh_word}
+use Rattle.aom_acts.proofs.GoingActs.{begins, destructor_same, server_same, dying_shows, fresh_value, fresh_word}
 use Rattle.aom_acts.proofs.ReturnActs.{none_above}
-use Rattle.aom_acts.proofs.Running.{begun_frame, nothing_held, object_small, reframed}
+use Rattle.aom_acts.proofs.Running.{agrees_with, aside_moved, aside_of, aside_with, begun_frame, nothing_held, object_small, reframed}
 use Rattle.aom_parts.proofs.Values.{going_past, kept, same_length, value_written, word_written, writes}
 use Rattle.aom_acts.proofs.WordActs.{plain_at}
 
@@ -65,7 +65,7 @@ module _ (p : Image) (formed : WellFormed p) (m : Parts) (t : Typing) (s : State
       begins p mid v us ts n (class_at m.cells n) o (length js) name (subst (λ i. i < 4096) (sym name) (object_small p m s formed agrees o lives cell))
       (ap (λ i. is_server_class p (class_at m.cells i)) name ∙ server_same p m s agrees o lives cell) (ap (λ i. destructor_at p m.cells i) name ∙ destructor_same p m s agrees o lives cell)
       agrees.tasks
-      (record { cells = aside.cells; entries = same; requests = aside.requests; natives = aside.natives; services = aside.services; rest = aside.rest; room = aside.room; entry_room = aside.entry_room })
+      (aside_with p m (record s { cells = v.cells }) mid.entries js aside same agrees.entry_room)
       (dying_shows p mid v us ts n s.cells from v' (word_at ts) refl old long refl there empty (value_popped us m.cells is (others m) n (length js) even) (λ q. refl))
 
   -- an operation is run
@@ -83,21 +83,13 @@ module _ (p : Image) (formed : WellFormed p) (m : Parts) (t : Typing) (s : State
       let base : (q : Place) → Shows (value_in (Runs_frame f ∷ us) m.cells is (others m) q) (word_at (Run fr ∷ ts) q) (held s.cells q) = λ q.
       subst (λ x. Shows x (word_at (Run fr ∷ ts) q) (held s.cells q)) (sym (fresh_value k null us m.cells is (others m) q ∙ sym (value_alike us m.cells (Holds_operation k n ∷ is) is (others m) (λ e. owns_none (Holds_operation k n) is e refl) q) ∙ sym (ap (λ es. value_in us m.cells es (others m) q) was)))
       (subst (λ x. Shows (value_in us m.cells m.entries.items (others m) q) x (held s.cells q)) (sym (fresh_word k' Static (length js) ts q)) (agrees.values q)) in
-      record {
-        tasks = (reframed f fr (slice_set f.registers 0 n) (Some w ∷ []) 0 0 begun (length-set f.registers 0 n ∙ length-replicate 16 null) refl, agrees.tasks);
-        values = writes _ _ _ _ (held s.cells) _ q0 n (Some w) None base word
-            (value_written f us m.cells is (others m) d 0 n 0 long (let wide = length-replicate 16 null in omega arith))
-            (word_written fr ts 0 0 (Some w))
-            (λ q. kept (held s.cells) q0 q ∙ ap (λ o. changed (held s.cells) q0 o q) (none_above p t s d 0 typed (omega arith)));
-        cells = agrees.cells;
-        entries = same;
-        requests = agrees.requests;
-        natives = agrees.natives;
-        services = agrees.services;
-        rest = agrees.rest;
-        room = agrees.room;
-        entry_room = agrees.entry_room;
-      }
+      agrees_with p (with_items is m) (record s { items = js }) (Runs_frame (with_register 0 n f) ∷ us) (Run (operation_frame k' w (length js)) ∷ ts)
+      (aside_with p m s (with_items is m).entries js (aside_of p m s agrees) same agrees.entry_room)
+      (reframed f fr (slice_set f.registers 0 n) (Some w ∷ []) 0 0 begun (length-set f.registers 0 n ∙ length-replicate 16 null) refl, agrees.tasks)
+      (writes _ _ _ _ (held s.cells) _ q0 n (Some w) None base word
+      (value_written f us m.cells is (others m) d 0 n 0 long (let wide = length-replicate 16 null in omega arith))
+      (word_written fr ts 0 0 (Some w))
+      (λ q. kept (held s.cells) q0 q ∙ ap (λ o. changed (held s.cells) q0 o q) (none_above p t s d 0 typed (omega arith))))
 
   pub deals : tops_entry s.items ≡ true → top_is_whole s.cells s.items ≡ true → Agrees p (dealt_with p m) (deals_with p s.items s.tasks s)
   deals some whole = go refl (entries_alike m.entries.items s.items agrees.entries (entry_tops m.entries.items s.items agrees.entries some)) whole

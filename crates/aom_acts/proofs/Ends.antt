@@ -17,7 +17,7 @@ use Rattle.aom_transcript.specs.declared.line.Ending.TheVariants.{Stopped, MainL
 use Rattle.aom_sound.specs.State.{Dispatch, guarded, Home, Inside, Frame, frame_of, Seat, Asks, Task, Run, Dispatched, Rest, State, Choice, raised}
 use Rattle.aom_sound.specs.Lines.{dispatch_lines}
 use Rattle.aom_sound.specs.Moves.{needs_end, answered, asked, asking, is_counted, closed, error_frame, failed, main_ends, object_ends, dispatch_ends, step, step_task, written_task}
-use Rattle.aom_sound.specs.WellTyped.{WellTyped, Keeps}
+use Rattle.aom_sound.specs.WellTyped.{WellTyped}
 use Rattle.aom_lines.specs.Turn.{Turn}
 use Rattle.aom_frames.specs.Tasks.{below_first, fresh, with_register}
 use Rattle.aom_frames.specs.declared.frame.Frame.{Frame as Held_frame}
@@ -45,11 +45,11 @@ use Rattle.aom_sound.specs.State.{Object_left}
 use Rattle.aom_parts.specs.Agrees.{subject_of}
 use Rattle.aom_sound.specs.Places.{named}
 use Rattle.aom_parts.proofs.Values.{kept, none_alike, value_written, word_written, writes}
-use Rattle.aom_acts.proofs.Running.{an_open, begun_frame, not_null, reframed}
+use Rattle.aom_acts.proofs.Running.{agrees_with, an_open, aside_counted, aside_of, begun_frame, not_null, reframed}
 use Rattle.aom_acts.proofs.CallActs.{Closing, closing, shows_null}
 use Rattle.aom_acts.proofs.OnTop.{ending_of}
 use Rattle.aom_acts.proofs.GoingActs.{end_value, end_word, fresh_value, fresh_word, uproots}
-use Rattle.aom_acts.proofs.Stepping.{counted_by}
+use Rattle.aom_acts.proofs.Stepping.{counted_by, moved_so}
 use Rattle.aom_image.specs.WellFormed.{WellFormed}
 
 -- a dispatch that is at its end, on both sides
@@ -88,18 +88,8 @@ which m s e x is = let both : Some e.dispatch ≡ Some x = sym (ap ending_here e
 
 -- nothing is left at hand
 emptied : (p : Image) (m : Parts) (s : State) (r r' : Rest) → Agrees p m s → Closing s → r ≡ r' → Agrees p (record m { stack = record m.stack { tasks = [] }; rest = r }) (record s { tasks = []; rest = r' })
-emptied p m s r r' agrees shut same = record {
-  tasks = tt;
-  values = values;
-  cells = agrees.cells;
-  entries = agrees.entries;
-  requests = agrees.requests;
-  natives = agrees.natives;
-  services = agrees.services;
-  rest = same;
-  room = agrees.room;
-  entry_room = agrees.entry_room;
-}
+emptied p m s r r' agrees shut same =
+    agrees_with p (record m { rest = r }) (record s { rest = r' }) [] [] (aside_counted p m s r r' (aside_of p m s agrees) same) tt values
   where
     values : (q : Place) → Shows (value_in [] m.cells m.entries.items (others m) q) (word_at [] q) (held s.cells q)
     values (Register k i) = shows_null _ _ _ refl refl (shut.registers k i)
@@ -119,25 +109,11 @@ IsPlain x = Unit {0}
 
 -- the end of such a dispatch needs nothing
 needs_none : (q : Place) (x : Held_dispatch) (cs : List Cell) → IsPlain x → needs_end (dispatch_of q x) cs ≡ []
-needs_none q Main cs plain = refl
-needs_none q (MainLeft code) cs plain = refl
-needs_none q End_of_run cs plain = refl
-needs_none q (Of_one x) cs plain = refl
-needs_none q (One_left x code) cs plain = refl
-needs_none q (One_asks x) cs plain = refl
-needs_none q (One_answered x answer) cs plain = refl
-needs_none q (Of_one_served x client stage) cs plain = absurd plain
+needs_none q x cs plain = grind arith
 
 -- and writes nothing
 tells_none : (q : Place) (x : Held_dispatch) (cs : List Cell) → IsPlain x → dispatch_lines cs (dispatch_of q x) ≡ []
-tells_none q Main cs plain = refl
-tells_none q (MainLeft code) cs plain = refl
-tells_none q End_of_run cs plain = refl
-tells_none q (Of_one x) cs plain = refl
-tells_none q (One_left x code) cs plain = refl
-tells_none q (One_asks x) cs plain = refl
-tells_none q (One_answered x answer) cs plain = refl
-tells_none q (Of_one_served x client stage) cs plain = absurd plain
+tells_none q x cs plain = grind arith
 
 pub step_of_end : (p : Image) (c : Choice) (s : State) (d : Dispatch) → s.tasks ≡ Dispatched d ∷ [] → step p c s ≡ guarded (needs_end d s.cells) (dispatch_ends p d (at_close s))
 step_of_end p c s d top = ap (λ us. step_task p c (counted_by s (asked p us) (is_counted us)) us) top
@@ -236,21 +212,12 @@ module _ (p : Image) (formed : WellFormed p) (m : Parts) (announced : m.rest.ann
     error_runs fits =
         let n = cast_unsigned w32 code in
         let here = Register 1 0 in
-        record {
-          tasks = (reframed f fr (slice_set f.registers 0 n) (Some code ∷ []) 0 0 (begun_frame k x.number home (length s.items) refl (λ there. object_small p m s formed agrees (subject_of x) sits refl)) (length-set f.registers 0 n ∙ length-replicate 16 null) refl, ((e.place, refl), tt));
-          values = writes _ _ _ _ (held s.cells) _ here n (Some code) None base (to_z-of_z w32 code fits)
-              (value_written f us m.cells m.entries.items (others m) 1 0 n 0 refl (let wide = length-replicate 16 null in omega arith))
-              (word_written fr ts 0 0 (Some code))
-              (λ q. kept (held s.cells) here q ∙ ap (λ o. changed (held s.cells) here o q) (shut.registers 1 0));
-          cells = agrees.cells;
-          entries = agrees.entries;
-          requests = agrees.requests;
-          natives = agrees.natives;
-          services = agrees.services;
-          rest = same_counts (λ r. r);
-          room = agrees.room;
-          entry_room = agrees.entry_room;
-        }
+        agrees_with p m (at_close s) (Runs_frame (with_register 0 n f) ∷ us) (Run (error_frame k asked_seat code (length s.items)) ∷ ts) (aside_counted p m s m.rest (at_close s).rest (aside_of p m s agrees) (same_counts (λ r. r)))
+        (reframed f fr (slice_set f.registers 0 n) (Some code ∷ []) 0 0 (begun_frame k x.number home (length s.items) refl (λ there. object_small p m s formed agrees (subject_of x) sits refl)) (length-set f.registers 0 n ∙ length-replicate 16 null) refl, ((e.place, refl), tt))
+        (writes _ _ _ _ (held s.cells) _ here n (Some code) None base (to_z-of_z w32 code fits)
+        (value_written f us m.cells m.entries.items (others m) 1 0 n 0 refl (let wide = length-replicate 16 null in omega arith))
+        (word_written fr ts 0 0 (Some code))
+        (λ q. kept (held s.cells) here q ∙ ap (λ o. changed (held s.cells) here o q) (shut.registers 1 0)))
 
   asking_alike : (method : Option ℕ) (x : Subject) (code : ℤ) → named s.cells x.number ≡ Some (subject_of x) → FitsSigned w32 code → Agrees p (ends.asking p method x code m) (asking p method (seat_of e.place x) code (at_close s))
   asking_alike None x code sits fits = answered_alike code
@@ -267,15 +234,7 @@ module _ (p : Image) (m : Parts) (told : Turn) (announced : m.rest.announced ≡
       let c = an_open p told.refused m s agrees in
       let after = dispatch_ends p (dispatch_of e.place e.dispatch) (at_close s) in
       let is = step_of_end p c.0 s (dispatch_of e.place e.dispatch) e.state ∙ ap (λ ns. guarded ns after) (needs_none e.place e.dispatch s.cells (subst IsPlain (sym (which m s e x ending)) plain)) in (
-        record {
-          choice = c.0;
-          state = after;
-          is_open = c.1;
-          hears = c.2;
-          goes = is;
-          typed = subst (Keeps p t) is (sound.keeps c.0 s typed c.1.name);
-          agrees = subst (λ y. Agrees p new (dispatch_ends p (dispatch_of e.place y) (at_close s))) (sym (which m s e x ending)) (ends t s sound.formed typed agrees e);
-        },
+        moved_so p m new told.refused t s after sound typed c is (subst (λ y. Agrees p new (dispatch_ends p (dispatch_of e.place y) (at_close s))) (sym (which m s e x ending)) (ends t s sound.formed typed agrees e)),
         ap (λ ls. record told { lines = ls }) (sym (ap (λ us. told.lines ++ written_task p s us) e.state ∙ ap (λ ls. told.lines ++ ls) (tells_none e.place e.dispatch s.cells (subst IsPlain (sym (which m s e x ending)) plain)) ∙ append-nil told.lines)),
       )
 

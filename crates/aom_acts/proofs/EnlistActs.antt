@@ -99,9 +99,8 @@ module _ (p : Image) (t : Table) (cs : List Cell) (o : Object) (r : Request) (li
       listed_last p t cs then o.name class small not_listed (λ k. now_listed k ∙ ap (λ b. b && is_of_class k o.thing) serves ∙ ap (is_of_class k) is) listed_there (λ n other. ap order_in (there n other)) last same
     where
       after : (n : ℕ) (x : Option Object) (q : Option Request) → requested cs n ≡ q → lists p class x q ≡ true → order_in q < next_order cs
-      after n None q e listed = absurd (false≢true listed)
-      after n (Some x) None e listed = absurd (false≢true listed)
       after n (Some x) (Some q) e listed = newest cs tidy n q e
+      after n _ _ e listed = absurd (false≢true listed)
 
       last : (n : ℕ) → is_listed p cs class n ≡ true → order_in (requested cs n) < order_in (requested then o.name)
       last n listed = let less = after n (named cs n) (requested cs n) refl listed in omega (arith, less, ap order_in here, order)

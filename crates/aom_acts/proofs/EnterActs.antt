@@ -1,6 +1,6 @@
 -- A method is called: it begins over the one that runs, with its arguments in its first registers.
 use Rattle.std.proofs.Common.{zero, suc, ◌≢◌, ◌≡◌, ◌==◌, ◌&&◌, ℕ, ℤ, ◌<◌, ◌≤◌, ◌+◌, Bool, true, false, cond, length, List, [], ◌∷◌, ◌++◌, Option, Some, None, slice_index_or, slice_set, refl, sym, ap, ◌∙◌, subst, arith, append-nil, append_assoc}
-use Rattle.std.specs.Prelude.{IsSome, is_some, nat_le}
+use Rattle.std.specs.Prelude.{IsSome, is_some}
 use Rattle.std.proofs.lemmas.Bool.{eq-eqb, eqb-true, false≢true, ne_eqb}
 use Rattle.std.proofs.lemmas.Bool.Decides.{leb_tells}
 use Rattle.std.proofs.lemmas.List.{length-set}
@@ -15,29 +15,29 @@ use Rattle.aom_image.specs.declared.method.Method.{Method as Method_decl}
 use Rattle.aom_cells.specs.Heap.{Heap, null}
 use Rattle.aom_shape.specs.Needs.{AllTrue}
 use Rattle.aom_shape.specs.Tables.{put_at}
-use Rattle.aom_sound.specs.Calls.{is_worked_on, own_home, entered, entry_place, home_at, needs_each, needs_target, passed_cells, passed_words, target_home}
-use Rattle.aom_sound.specs.Places.{Place, Register, Entry, Going, Object, Cell, changed, held, moved, same_place}
-use Rattle.aom_sound.specs.State.{Frame, Task, Run, Trapped, A_mark, State, field_place, frame_of, word}
+use Rattle.aom_sound.specs.Calls.{is_worked_on, own_home, entered, entry_place, home_at, needs_each, needs_entering, needs_target, passed_cells, passed_words, target_home}
+use Rattle.aom_sound.specs.Places.{Place, Register, Elsewhere, Entry, Field, Going, Object, Cell, changed, held, moved, same_place}
+use Rattle.aom_sound.specs.State.{Frame, Need, Task, Run, Trapped, A_mark, State, field_place, frame_of, word}
 use Rattle.aom_sound.proofs.Finishing.{all_parts}
 use Rattle.aom_sound.proofs.Maps.{held_moved}
 use Rattle.aom_frames.specs.Tasks.{fresh, given, given_here, on_top, passed_on, passing, register_here, this_here, with_register, method_here, place_here}
 use Rattle.aom_frames.specs.declared.frame.Frame.{Frame as Held_frame}
 use Rattle.aom_frames.specs.declared.task.Task.{Task as Held_task}
-use Rattle.aom_frames.specs.declared.task.Task.TheVariants.{Run as Runs_frame, Trapped as Is_trap}
+use Rattle.aom_frames.specs.declared.task.Task.TheVariants.{Run as Runs_frame}
 use Rattle.aom_cleanup.specs.declared.item.Item.TheVariants.{Mark as Is_mark}
 use Rattle.aom_cleanup.specs.declared.item.Item.{Item}
 use Rattle.aom_parts.proofs.Asking.{requests_passed}
 use Rattle.aom_parts.specs.declared.parts.Parts.{Parts}
-use Rattle.aom_acts.specs.Next.{IsNext, counting}
+use Rattle.aom_acts.specs.Next.{IsNext}
 use Rattle.aom_parts.specs.Places.{others, Others, value_in, register_in, going_in, with_items, with_tasks}
-use Rattle.aom_parts.specs.Agrees.{word_at, word_in, Shows, SameCells, SameFrame, home_number, number, Agrees}
-use Rattle.aom_acts.specs.Acts.{At_hand, DoesIn, requested}
+use Rattle.aom_parts.specs.Agrees.{word_at, word_in, Shows, SameCells, SameFrame, SameTasks, home_number, number, Agrees}
+use Rattle.aom_acts.specs.Acts.{At_hand, DoesIn}
 use Rattle.aom_acts.specs.Calls.{target_here}
 use Rattle.aom_parts.proofs.Cells.{cells_moved}
 use Rattle.aom_parts.proofs.Entries.{entry_number, mark_shows_none}
 use Rattle.aom_acts.proofs.FieldActs.{field_shown}
 use Rattle.aom_acts.proofs.GoingActs.{fresh_value, fresh_word}
-use Rattle.aom_acts.proofs.Housing.{at_hand, needs_met}
+use Rattle.aom_acts.proofs.Housing.{needs_say}
 use Rattle.aom_acts.proofs.ObjectActs.{shown}
 use Rattle.aom_parts.proofs.Overs.{held_over, higher, over_deep, over_register, over_value, over_word, over_words, tasks_over}
 use Rattle.aom_acts.proofs.ReturnActs.{none_above}
@@ -46,8 +46,7 @@ use Rattle.aom_parts.proofs.Services.{services_passed}
 use Rattle.aom_acts.proofs.Owned.{object_for}
 use Rattle.aom_sound.proofs.Maps.{held_lives}
 use Rattle.aom_acts.proofs.FieldActs.{this_is}
-use Rattle.aom_acts.proofs.Running.{Top, by_top, begun_frame, object_small, reframed, no_word}
-use Rattle.aom_acts.proofs.Stepping.{at_step}
+use Rattle.aom_acts.proofs.Running.{Aside, Top, agrees_with, aside_of, aside_with, by_top, begun_frame, object_small, reframed, no_word}
 use Rattle.aom_parts.proofs.Values.{kept, moves, value_here, value_written, word_written, writes}
 use Rattle.aom_parts.proofs.Sessions.{natives_passed}
 
@@ -167,8 +166,7 @@ module _ (p : Image) (trapped : Bool) (heap : Heap) (es : List Item) (rest : Oth
 
   -- a word, which owns nothing
   word_alone : (n : ℕ) (w : Option ℤ) (o : Option Object) → is_some w ≡ true → Shows n w o → Shows n w None
-  word_alone n (Some w) None e shows = shows
-  word_alone n _ _ e shows = absurd (first_of (assumption tt, cc))
+  word_alone n w o e shows = grind arith
 
   word_goes : (f g : Held_frame) (cs : List Cell) (ws : List (Option ℤ)) (first to : ℕ) → to < 16 → is_some (word fr first) ≡ true → Passing f g cs ws to → Passing f (with_register to (slice_index_or f.registers first null) g) cs (ws ++ word fr first ∷ []) (suc to)
   word_goes f g cs ws first to small some passing =
@@ -238,6 +236,12 @@ module _ (p : Image) (trapped : Bool) (heap : Heap) (es : List Item) (rest : Oth
 
 -- ---- the call
 
+-- its arguments lie in registers that a method has
+pub entering_fits : (p : Image) (fr : Frame) (ts : List Task) (s : State) (target : Target) (k first : ℕ) (more : List Need) → AllTrue (needs_entering p fr ts s target k first more) → (first + length (arguments_of p k)) ≤ 16
+entering_fits p fr ts s target k first more needs =
+    let parts = all_parts (needs_target p fr ts s target (method_class p k) first (length (arguments_of p k))) _ needs in
+    grind (arith, leb_tells (first + length (arguments_of p k)) 16, parts.1.0)
+
 -- what the method works on
 home_of : (p : Image) (m : Parts) (h : At_hand p m) (target : Target) (class : Option ℕ) (first count : ℕ) → AllTrue (needs_target p h.frame h.below h.state target class first count) → target_here target class m ≡ home_number (target_home p h.frame h.below h.state target class)
 home_of p m h This None first count needs = refl
@@ -298,9 +302,17 @@ module _ (p : Image) (m : Parts) (h : At_hand p m) (trapped : Bool) (target : Ta
   abbrev over : List Task
   over = tasks_over trapped (Run h.frame ∷ h.below)
 
-  pub enters : (f : Held_frame) (ms : List Held_task) (top : Top m h.state h.frame h.below f ms) → this ≡ home_number (target_home p h.frame h.below h.state target (method_class p k)) → (this ≢ null → this < 4096) → (first + length xs) ≤ 16 → AllTrue (needs_each p h.frame h.below h.state xs first)
-      → Passing p trapped m.cells m.entries.items (others m) ms h.below h.frame called h.state top.deep (passed_on xs first f) (given xs first 0 f (fresh k this)) (passed_cells p h.frame h.below h.state (length over) xs first 0 h.state.cells) (passed_words p h.frame h.below h.state xs first) (0 + length xs)
-  enters f ms top home housed fits each =
+  abbrev passed : List Cell
+  passed = passed_cells p h.frame h.below h.state (length over) xs first 0 h.state.cells
+
+  enters : (more : List Need) → AllTrue (needs_entering p h.frame h.below h.state target k first more) → (f : Held_frame) (ms : List Held_task) (top : Top m h.state h.frame h.below f ms)
+      → Passing p trapped m.cells m.entries.items (others m) ms h.below h.frame called h.state top.deep (passed_on xs first f) (given xs first 0 f (fresh k this)) passed (passed_words p h.frame h.below h.state xs first) (0 + length xs)
+  enters more needs f ms top =
+      let parts = all_parts (needs_target p h.frame h.below h.state target (method_class p k) first (length xs)) _ needs in
+      let fits = entering_fits p h.frame h.below h.state target k first more needs in
+      let each = (all_parts (needs_each p h.frame h.below h.state xs first) _ parts.1.1).0 in
+      let home = home_of p m h target (method_class p k) first (length xs) parts.0 in
+      let housed = housed_by p m h target (method_class p k) first (length xs) parts.0 home in
       let s = h.state in
       let fr = h.frame in
       let ts = h.below in
@@ -318,85 +330,74 @@ module _ (p : Image) (m : Parts) (h : At_hand p m) (trapped : Bool) (target : Ta
       } in
       all_go p trapped m.cells m.entries.items (others m) ms ts fr called s top.deep xs first 0 f (fresh k this) s.cells [] fits (omega arith) each begun
 
-pub within : (a n : ℕ) → nat_le (a + n) 16 ≡ true → (a + n) ≤ 16
-within a n e = grind (arith, leb_tells (a + n) 16)
+  -- all but the tasks, once the arguments have gone
+  aside_passed : SameCells p m.cells passed → Aside p m (record h.state { cells = passed })
+  aside_passed cells =
+      let requests = requests_passed p h.frame h.below h.state m.active (length over) xs first 0 h.state.cells h.agrees.requests in
+      let natives = natives_passed p h.frame h.below h.state m.sessions (length over) xs first 0 h.state.cells h.agrees.natives in
+      let services = services_passed p h.frame h.below h.state (length over) xs first 0 h.state.cells h.agrees.services in
+      record { cells = cells; entries = h.agrees.entries; requests = requests; natives = natives; services = services; rest = h.agrees.rest; room = h.agrees.room; entry_room = h.agrees.entry_room }
 
-pub call_does : (p : Image) (m : Parts) (refused : List ℕ) (target : Target) (k first x : ℕ)
-    → DoesIn p refused (Call target k first x) m (with_tasks (Runs_frame (given_here (arguments_of p k) first m.stack.tasks (fresh k (target_here target (method_class p k) m))) ∷ on_top (passed_on (arguments_of p k) first) m.stack.tasks) m)
+  -- so it begins there
+  agrees_entered : (more : List Need) → AllTrue (needs_entering p h.frame h.below h.state target k first more) → (f : Held_frame) (ms : List Held_task) → Top m h.state h.frame h.below f ms
+      → Agrees p (with_tasks (Runs_frame (given xs first 0 f (fresh k this)) ∷ held_over trapped (Runs_frame (passed_on xs first f) ∷ ms)) m) (record h.state { cells = passed; tasks = Run (entered p h.frame h.below h.state target k first height) ∷ over })
+  agrees_entered more needs f ms top =
+      let done = enters more needs f ms top in
+      let us = Runs_frame (given xs first 0 f (fresh k this)) ∷ held_over trapped (Runs_frame (passed_on xs first f) ∷ ms) in
+      agrees_with p m (record h.state { cells = passed }) us (Run (entered p h.frame h.below h.state target k first height) ∷ over)
+      (aside_passed done.cells) (done.called, over_same trapped _ _ done.caller top.below) done.values
+    where
+      over_same : (b : Bool) (g : Held_frame) (gs : List Held_task) → SameFrame g h.frame → SameTasks gs h.below → SameTasks (held_over b (Runs_frame g ∷ gs)) (tasks_over b (Run h.frame ∷ h.below))
+      over_same true g gs frame below = (tt, (frame, below))
+      over_same false g gs frame below = (frame, below)
+
+-- the tasks once a method is called by the one on top, over it or over a trap on it
+abbrev pub calling : Image → Parts → Target → ℕ → ℕ → Bool → List Held_task → List Held_task
+calling p m target k first trapped us =
+    Runs_frame (given_here (arguments_of p k) first us (fresh k (target_here target (method_class p k) m))) ∷ held_over trapped (on_top (passed_on (arguments_of p k) first) us)
+
+pub call_does : (p : Image) (m : Parts) (refused : List ℕ) (target : Target) (k first x : ℕ) → DoesIn p refused (Call target k first x) m (with_tasks (calling p m target k first false m.stack.tasks) m)
 call_does p m refused target k first x h here =
-    let s = h.state in
-    let fr = h.frame in
-    let ts = h.below in
-    let xs = arguments_of p k in
-    let this = target_here target (method_class p k) m in
+    let cs = passed p m h false target k first (length h.state.items) in
+    let vs = Run (entered p h.frame h.below h.state target k first (length h.state.items)) ∷ Run h.frame ∷ h.below in
     plain_at p m _ refused (Call target k first x) refl h (λ c needs typed.
-    let parts = all_parts (needs_target p fr ts s target (method_class p k) first (length xs)) _ needs in
-    let fits = within first (length xs) parts.1.0 in
-    let each = (all_parts (needs_each p fr ts s xs first) _ parts.1.1).0 in
-    let home = home_of p m h target (method_class p k) first (length xs) parts.0 in
-    let housed = housed_by p m h target (method_class p k) first (length xs) parts.0 home in
-    by_top p m h
-    (λ us. Agrees p (with_tasks (Runs_frame (given_here xs first us (fresh k this)) ∷ on_top (passed_on xs first) us) m) (record s { cells = passed_cells p fr ts s (suc (length ts)) xs first 0 s.cells; tasks = Run (entered p fr ts s target k first (length s.items)) ∷ Run fr ∷ ts }))
-    (λ f ms top.
-    let done = enters p m h false target k first (length s.items) f ms top home housed fits each in
-    record {
-      tasks = (done.called, (done.caller, top.below));
-      values = done.values;
-      cells = done.cells;
-      entries = h.agrees.entries;
-      requests = requests_passed p fr ts s m.active (suc (length ts)) xs first 0 s.cells h.agrees.requests;
-      natives = natives_passed p fr ts s m.sessions (suc (length ts)) xs first 0 s.cells h.agrees.natives;
-      services = services_passed p fr ts s (suc (length ts)) xs first 0 s.cells h.agrees.services;
-      rest = h.agrees.rest;
-      room = h.agrees.room;
-      entry_room = h.agrees.entry_room;
-    }))
+    by_top p m h (λ us. Agrees p (with_tasks (calling p m target k first false us) m) (record h.state { cells = cs; tasks = vs }))
+    (agrees_entered p m h false target k first (length h.state.items) _ needs))
 
--- under a trap, whose mark owns nothing
-marked_value : (us : List Held_task) (h : Heap) (es : List Item) (rest : Others) (r : Place) → value_in us h (Is_mark ∷ es) rest r ≡ value_in us h es rest r
-marked_value us h es rest (Entry k) = mark_shows_none es k
-marked_value us h es rest _ = refl
+-- a mark owns nothing
+marked : (p : Image) (m : Parts) (s : State) → Agrees p m s → Agrees p (with_items (Is_mark ∷ m.entries.items) m) (record s { items = A_mark ∷ s.items })
+marked p m s agrees =
+    let mid = with_items (Is_mark ∷ m.entries.items) m in
+    agrees_with p mid (record s { items = A_mark ∷ s.items }) m.stack.tasks s.tasks
+    (aside_with p m s mid.entries (A_mark ∷ s.items) (aside_of p m s agrees) (tt, agrees.entries) agrees.entry_room) agrees.tasks values
+  where
+    values : (r : Place) → Shows (value_in m.stack.tasks m.cells (Is_mark ∷ m.entries.items) (others m) r) (word_at s.tasks r) (held s.cells r)
+    values (Entry k) = subst (λ n. Shows n (word_at s.tasks (Entry k)) (held s.cells (Entry k))) (sym (mark_shows_none m.entries.items k)) (agrees.values (Entry k))
+    values (Register d i) = agrees.values (Register d i)
+    values (Field n f) = agrees.values (Field n f)
+    values (Going k) = agrees.values (Going k)
+    values (Elsewhere o) = agrees.values (Elsewhere o)
 
+-- under a trap
 pub trap_does : (p : Image) (m : Parts) (refused : List ℕ) (target : Target) (k first x : ℕ)
-    → DoesIn p refused (Trap target k first x) m (with_items (Is_mark ∷ m.entries.items) (with_tasks (Runs_frame (given_here (arguments_of p k) first m.stack.tasks (fresh k (target_here target (method_class p k) m))) ∷ Is_trap ∷ on_top (passed_on (arguments_of p k) first) m.stack.tasks) m))
+    → DoesIn p refused (Trap target k first x) m (with_items (Is_mark ∷ m.entries.items) (with_tasks (calling p m target k first true m.stack.tasks) m))
 trap_does p m refused target k first x h here =
-    let s = h.state in
-    let fr = h.frame in
-    let ts = h.below in
-    let xs = arguments_of p k in
-    let this = target_here target (method_class p k) m in
+    let height = suc (length h.state.items) in
+    let v : State = record h.state { cells = passed p m h true target k first height; tasks = Run (entered p h.frame h.below h.state target k first height) ∷ Trapped ∷ Run h.frame ∷ h.below } in
     plain_at p m _ refused (Trap target k first x) refl h (λ c needs typed.
-    let parts = all_parts (needs_target p fr ts s target (method_class p k) first (length xs)) _ needs in
-    let fits = within first (length xs) parts.1.0 in
-    let each = (all_parts (needs_each p fr ts s xs first) _ parts.1.1).0 in
-    let home = home_of p m h target (method_class p k) first (length xs) parts.0 in
-    let housed = housed_by p m h target (method_class p k) first (length xs) parts.0 home in
-    by_top p m h
-    (λ us. Agrees p (with_items (Is_mark ∷ m.entries.items) (with_tasks (Runs_frame (given_here xs first us (fresh k this)) ∷ Is_trap ∷ on_top (passed_on xs first) us) m)) (record s { cells = passed_cells p fr ts s (suc (suc (length ts))) xs first 0 s.cells; tasks = Run (entered p fr ts s target k first (suc (length s.items))) ∷ Trapped ∷ Run fr ∷ ts; items = A_mark ∷ s.items }))
-    (λ f ms top.
-    let done = enters p m h true target k first (suc (length s.items)) f ms top home housed fits each in
-    record {
-      tasks = (done.called, (tt, (done.caller, top.below)));
-      values = λ r. subst (λ n. Shows n (word_at (Run (entered p fr ts s target k first (suc (length s.items))) ∷ Trapped ∷ Run fr ∷ ts) r) (held (passed_cells p fr ts s (suc (suc (length ts))) xs first 0 s.cells) r)) (sym (marked_value (Runs_frame (given xs first 0 f (fresh k this)) ∷ Is_trap ∷ Runs_frame (passed_on xs first f) ∷ ms) m.cells m.entries.items (others m) r)) (done.values r);
-      cells = done.cells;
-      entries = (tt, h.agrees.entries);
-      requests = requests_passed p fr ts s m.active (suc (suc (length ts))) xs first 0 s.cells h.agrees.requests;
-      natives = natives_passed p fr ts s m.sessions (suc (suc (length ts))) xs first 0 s.cells h.agrees.natives;
-      services = services_passed p fr ts s (suc (suc (length ts))) xs first 0 s.cells h.agrees.services;
-      rest = h.agrees.rest;
-      room = h.agrees.room;
-      entry_room = h.agrees.entry_room;
-    }))
+    marked p (with_tasks (calling p m target k first true m.stack.tasks) m) v
+    (by_top p m h (λ us. Agrees p (with_tasks (calling p m target k first true us) m) v) (agrees_entered p m h true target k first height _ needs)))
 
--- ---- what the code needs to know of a call that is next
+-- ---- what the code needs to know of one that is next: its method is there, and its arguments lie in registers that a method has
 
-module _ (p : Image) (m : Parts) (target : Target) (k first x : ℕ) (next : IsNext p (Call target k first x) m) where
-  pub called_there : IsSome (method_at p k)
-  called_there = (next.stands.1.sound.wired.called (method_here m.stack.tasks) (place_here m.stack.tasks) target k first x next.here).there
+pub calls_well : (p : Image) (m : Parts) (target : Target) (k first x : ℕ) → IsNext p (Call target k first x) m → IsSome (method_at p k) × ((first + length (arguments_of p k)) ≤ 16)
+calls_well p m target k first x next = (
+  (next.stands.1.sound.wired.called (method_here m.stack.tasks) (place_here m.stack.tasks) target k first x next.here).there,
+  needs_say p m (Call target k first x) _ (λ c fr ts s n. entering_fits p fr ts s target k first _ n) next,
+)
 
-  pub called_fits : (first + length (arguments_of p k)) ≤ 16
-  called_fits =
-      let n = needs_met p m (Call target k first x) next in
-      let h = at_hand p (counting next.counts m) next.stands next.runs in
-      let parts = all_parts (needs_target p h.frame h.below (requested (Call target k first x) (at_step h.state)) target (method_class p k) first (length (arguments_of p k))) _ n.1 in
-      grind (arith, leb_tells (first + length (arguments_of p k)) 16, parts.1.0)
+pub traps_well : (p : Image) (m : Parts) (target : Target) (k first x : ℕ) → IsNext p (Trap target k first x) m → IsSome (method_at p k) × ((first + length (arguments_of p k)) ≤ 16)
+traps_well p m target k first x next = (
+  (next.stands.1.sound.wired.trapped (method_here m.stack.tasks) (place_here m.stack.tasks) target k first x next.here).there,
+  needs_say p m (Trap target k first x) _ (λ c fr ts s n. entering_fits p fr ts s target k first _ n) next,
+)

@@ -12,7 +12,7 @@ use Rattle.aom_shape.specs.Things.{field_thing, word_count}
 use Rattle.aom_shape.specs.Tables.{put_at}
 use Rattle.aom_sound.specs.Places.{Place, Register, Field, Elsewhere, Root, Object, held, named, moved, changed}
 use Rattle.aom_sound.specs.Effects.{applied, writes as writes_word}
-use Rattle.aom_sound.specs.State.{Home, Static, AtRoot, Inside, next, set_word, Task, Run, field_place, home_holder}
+use Rattle.aom_sound.specs.State.{Home, Static, AtRoot, Inside, next, Task, Run, field_place, home_holder}
 use Rattle.aom_sound.specs.Objects.{is_declared_thing}
 use Rattle.aom_sound.specs.WellTyped.{IsHoused, Now, Stack}
 use Rattle.aom_sound.specs.Words.{loaded, stored, read}
@@ -20,6 +20,7 @@ use Rattle.aom_sound.proofs.Storing.{held_set_word}
 use Rattle.aom_sound.proofs.Maps.{held_moved}
 use Rattle.aom_sound.proofs.Layers.{method_layer}
 use Rattle.aom_frames.specs.Tasks.{on_top, with_register, register_here, this_here}
+use Rattle.aom_frames.specs.declared.frame.Frame.{Frame as Held_frame}
 use Rattle.aom_frames.specs.declared.task.Task.{Task as Held_task}
 use Rattle.aom_frames.specs.declared.task.Task.TheVariants.{Run as Runs_frame}
 use Rattle.aom_parts.proofs.Asking.{requests_moved, requests_stored}
@@ -33,12 +34,12 @@ use Rattle.aom_parts.proofs.Values.{kept, value_here, value_written, word_writte
 use Rattle.aom_parts.proofs.Services.{services_moved, services_stored}
 use Rattle.aom_shape.specs.Kinds.{is_object}
 use Rattle.aom_sound.specs.Servers.{is_queue}
-use Rattle.aom_acts.proofs.Running.{by_top, word_here, free, no_word, null_unnamed, object_there}
+use Rattle.aom_acts.proofs.Running.{Top, by_top, word_here, free, no_word, null_unnamed, object_there}
 use Rattle.aom_parts.proofs.CellFields.{field_written, root_written, word_put_elsewhere, cell_of, cells_put, cells_stored}
 use Rattle.aom_acts.proofs.WordActs.{word_read, word_put, plain_does}
 use Rattle.aom_acts.proofs.ObjectActs.{jumps_empty, passes_full}
 use Rattle.aom_image.proofs.Given.{some_given}
-use Rattle.aom_acts.proofs.GoingOn.{framed, goes_on_as, goes_on_with}
+use Rattle.aom_acts.proofs.GoingOn.{OnTop, framed, goes_on_as, goes_on_with}
 use Rattle.aom_parts.proofs.Cells.{cells_moved}
 use Rattle.aom_parts.proofs.Sessions.{natives_moved, natives_stored}
 
@@ -124,19 +125,24 @@ module _ (p : Image) (m : Parts) (h : At_hand p m) where
   field_no_queue AtRoot f = refl
   field_no_queue (Inside o from) f = refl
 
+  -- a method of which a field is declared works on the root or on an object
+  by_home : (f : ℕ) (P : Home → Type 0) → (h.frame.home ≡ AtRoot → P AtRoot) → ((o : Object) (from : Place) → h.frame.home ≡ Inside o from → P (Inside o from)) → is_some (field_thing p (home_holder h.frame.home) f) ≡ true → P h.frame.home
+  by_home f P root inside has = go h.frame.home refl has
+    where
+      go : (home : Home) → h.frame.home ≡ home → is_some (field_thing p (home_holder home) f) ≡ true → P home
+      go Static e has = cc
+      go AtRoot e has = root e
+      go (Inside o from) e has = inside o from e
+
   -- a field's number is read from its place
   here_at_root : (f : ℕ) → this m ≡ null → m.root ≡ field_here f m
   here_at_root f n = ap (λ b. cond b m.root (field_at m.cells (this m) f)) (sym (eq-eqb (this m) null n))
 
   pub field_read_here : (f : ℕ) (us : List Held_task) → is_some (field_thing p (home_holder h.frame.home) f) ≡ true → value_in us m.cells m.entries.items (others m) (field_place h.frame.home f) ≡ field_here f m
-  field_read_here f us has = go h.frame.home refl has
-    where
-      go : (home : Home) → h.frame.home ≡ home → is_some (field_thing p (home_holder home) f) ≡ true → value_in us m.cells m.entries.items (others m) (field_place home f) ≡ field_here f m
-      go Static e has = cc
-      go AtRoot e has = here_at_root f (this_is ∙ ap home_number e)
-      go (Inside o from) e has =
-          ap (λ n. field_at m.cells n f) (sym (inside_number o from e))
-          ∙ ap (λ b. cond b m.root (field_at m.cells (this m) f)) (sym (ne_eqb (this m) null (inside_there o from e)))
+  field_read_here f us =
+      by_home f (λ home. value_in us m.cells m.entries.items (others m) (field_place home f) ≡ field_here f m) (λ e. here_at_root f (this_is ∙ ap home_number e)) (λ o from e.
+      ap (λ n. field_at m.cells n f) (sym (inside_number o from e))
+      ∙ ap (λ b. cond b m.root (field_at m.cells (this m) f)) (sym (ne_eqb (this m) null (inside_there o from e))))
 
   -- and written in its place
   pub record Written (mid : Parts) (q : Place) (x : ℕ) : Type 0 where
@@ -145,7 +151,11 @@ module _ (p : Image) (m : Parts) (h : At_hand p m) where
     pub rest : mid ≡ record m { cells = mid.cells; root = mid.root }
 
   pub field_written_here : (mid : Parts) (f x : ℕ) → is_some (field_thing p (home_holder h.frame.home) f) ≡ true → WritesField f x m mid → Written mid (field_place h.frame.home f) x
-  field_written_here mid f x has writes = go h.frame.home refl has
+  field_written_here mid f x has writes =
+      by_home f (λ home. Written mid (field_place home f) x)
+      (λ e. elim writes [ inl root ↦ at_root root.1 | inr cell ↦ absurd (cell.0 (this_is ∙ ap home_number e)) ])
+      (λ o from e. elim writes [ inl root ↦ absurd (inside_there o from e root.0) | inr cell ↦ in_cell o from e cell.1 cell.2 ])
+      has
     where
       at_root : mid ≡ record m { root = x } → Written mid (Elsewhere Root) x
       at_root e = subst (λ k. Written k (Elsewhere Root) x) (sym e) (record { values = λ us r. root_written us m.cells m.entries.items (others m) x r; cells = h.agrees.cells; rest = refl })
@@ -158,11 +168,6 @@ module _ (p : Image) (m : Parts) (h : At_hand p m) where
             cells = cells_put p m.cells mid.cells h.state.cells o.name f x o h.agrees.cells (housed o from e) (inside_object o from e) at;
             rest = same ∙ ap (λ n. record m { cells = mid.cells; root = n }) (sym (ap (λ (k : Parts). k.root) same));
           }
-
-      go : (home : Home) → h.frame.home ≡ home → is_some (field_thing p (home_holder home) f) ≡ true → Written mid (field_place home f) x
-      go Static e has = cc
-      go AtRoot e has = elim writes [ inl root ↦ at_root root.1 | inr cell ↦ absurd (cell.0 (this_is ∙ ap home_number e)) ]
-      go (Inside o from) e has = elim writes [ inl root ↦ absurd (inside_there o from e root.0) | inr cell ↦ in_cell o from e cell.1 cell.2 ]
 
   -- the number in a field is that of what the field owns
   pub field_shown : (f : ℕ) → is_some (field_thing p (home_holder h.frame.home) f) ≡ true → field_here f m ≡ number (held h.state.cells (field_place h.frame.home f))
@@ -192,32 +197,36 @@ store_does m refused w b heap puts =
     subst (λ n. Shows n (word_at (Run fr ∷ ts) q) (held cs q)) (sym (word_put_elsewhere (Runs_frame f ∷ ms) m.cells heap m.entries.items (others m) (this m) w v written q))
     (subst (λ o. Shows (value_in (Runs_frame f ∷ ms) m.cells m.entries.items (others m) q) (word_at (Run fr ∷ ts) q) o) (sym (held_stored p m h fr.home w v q)) (top.values q))))
 
+-- what a field or a register owns goes to the other, and the register is written
+goes_by_field : (p : Image) (m mid : Parts) (h : At_hand p m) (g x a n : ℕ) (ws : List (Option ℤ)) (from to : Place) → Written p m h mid (field_place h.frame.home g) x → is_queue from ≡ false → is_queue to ≡ false
+    → ((f : Held_frame) (ms : List Held_task) → m.stack.tasks ≡ Runs_frame f ∷ ms → Top m h.state h.frame h.below f ms → OnTop p m h (record m { cells = mid.cells; root = mid.root }) (moved from to h.state.cells) ws (with_register a n f) ms)
+    → Agrees p (places.next (set_register a n mid)) (record h.state { cells = moved from to h.state.cells; tasks = Run (next (record h.frame { words = ws })) ∷ h.below })
+goes_by_field p m mid h g x a n ws from to written from_no to_no shows =
+    let s = h.state in
+    subst (λ k. Agrees p (places.next (set_register a n k)) (record s { cells = moved from to s.cells; tasks = Run (next (record h.frame { words = ws })) ∷ h.below })) (sym written.rest)
+    (goes_on_with p m h (record m { cells = mid.cells; root = mid.root }) (moved from to s.cells) s.items s.rest ws (on_top (with_register a n)) (with_register a n) (λ f ms. refl)
+    (record { stack = refl; cells = cells_moved p mid.cells s.cells from to written.cells; entries = h.agrees.entries; requests = requests_moved p m.active s.cells from to h.agrees.requests; natives = natives_moved p m.sessions s.killed s.cells from to h.agrees.natives; services = services_moved p s.cells from to from_no to_no h.agrees.services; rest = h.agrees.rest; room = h.agrees.entry_room })
+    shows)
+
 pub take_does : (m mid : Parts) (refused : List ℕ) (a g n : ℕ) → a < 16 → n ≡ field_here g m → WritesField g null m mid → Does refused (Take a g) m (places.next (set_register a n mid))
 take_does m mid refused a g n small reads writes =
     plain_does m (places.next (set_register a n mid)) refused (Take a g) refl (λ p h c met.
-    let s = h.state in
-    let fr = h.frame in
-    let ts = h.below in
-    let q = field_place fr.home g in
-    let here = Register (length ts) a in
+    let q = field_place h.frame.home g in
+    let here = Register (length h.below) a in
     let written = field_written_here p m h mid g null met.0 writes in
-    let mid' = record m { cells = mid.cells; root = mid.root } in
-    subst (λ k. Agrees p (places.next (set_register a n k)) (record s { cells = moved q here s.cells; tasks = Run (next (set_word fr a None)) ∷ ts })) (sym written.rest)
-    (goes_on_with p m h mid' (moved q here s.cells) s.items s.rest (put_at None fr.words a None) (on_top (with_register a n)) (with_register a n) (λ f ms. refl)
-    (record { stack = refl; cells = cells_moved p mid.cells s.cells q here written.cells; entries = h.agrees.entries; requests = requests_moved p m.active s.cells q here h.agrees.requests; natives = natives_moved p m.sessions s.killed s.cells q here h.agrees.natives; services = services_moved p s.cells q here (field_no_queue p m h fr.home g) refl h.agrees.services; rest = h.agrees.rest; room = h.agrees.entry_room })
-    (λ f ms e top.
+    goes_by_field p m mid h g null a n (put_at None h.frame.words a None) q here written (field_no_queue p m h h.frame.home g) refl (λ f ms e top.
     let wide = top.frame.wide in
     let v = value_in (Runs_frame f ∷ ms) m.cells m.entries.items (others m) in
     record {
       frame = framed p m h f ms _ a n top;
-      values = moves v _ _ _ (held s.cells) _ q here top.values (no_word_there p m h fr.home g (Run fr ∷ ts))
+      values = moves v _ _ _ (held h.state.cells) _ q here top.values (no_word_there p m h h.frame.home g (Run h.frame ∷ h.below))
           (λ r.
-          value_written f ms mid.cells m.entries.items (record (others m) { root = mid.root }) (length ts) a n f.place top.deep (omega arith) r
+          value_written f ms mid.cells m.entries.items (record (others m) { root = mid.root }) (length h.below) a n f.place top.deep (omega arith) r
           ∙ ap (λ y. changed (λ z. y) here n r) (written.values (Runs_frame f ∷ ms) r)
           ∙ ap (λ y. changed (changed v q null) here y r) (reads ∙ sym (field_read_here p m h g (Runs_frame f ∷ ms) met.0)))
-          (word_written fr ts a fr.place None)
-          (λ r. held_moved s.cells q here r (free _ met.1.0));
-    })))
+          (word_written h.frame h.below a h.frame.place None)
+          (λ r. held_moved h.state.cells q here r (free _ met.1.0));
+    }))
 
 -- a field that a thing is declared for is declared
 declared_some : (p : Image) (t : Option Thing) (o : Option Object) → is_declared_thing p t o ≡ true → is_some t ≡ true
@@ -226,29 +235,24 @@ declared_some p t o e = some_given (λ t. is_declared_thing p t o ≡ true) t e 
 pub put_does : (m mid : Parts) (refused : List ℕ) (g b x : ℕ) → b < 16 → x ≡ register_here m.stack.tasks b → WritesField g x m mid → Does refused (Put g b) m (places.next (set_register b null mid))
 put_does m mid refused g b x small reads writes =
     plain_does m (places.next (set_register b null mid)) refused (Put g b) refl (λ p h c met.
-    let s = h.state in
     let fr = h.frame in
     let ts = h.below in
     let q = field_place fr.home g in
     let here = Register (length ts) b in
     let written = field_written_here p m h mid g x (declared_some p _ _ met.1.0) writes in
-    let mid' = record m { cells = mid.cells; root = mid.root } in
-    subst (λ k. Agrees p (places.next (set_register b null k)) (record s { cells = moved here q s.cells; tasks = Run (next fr) ∷ ts })) (sym written.rest)
-    (goes_on_with p m h mid' (moved here q s.cells) s.items s.rest fr.words (on_top (with_register b null)) (with_register b null) (λ f ms. refl)
-    (record { stack = refl; cells = cells_moved p mid.cells s.cells here q written.cells; entries = h.agrees.entries; requests = requests_moved p m.active s.cells here q h.agrees.requests; natives = natives_moved p m.sessions s.killed s.cells here q h.agrees.natives; services = services_moved p s.cells here q refl (field_no_queue p m h fr.home g) h.agrees.services; rest = h.agrees.rest; room = h.agrees.entry_room })
-    (λ f ms e top.
+    goes_by_field p m mid h g x b null fr.words here q written refl (field_no_queue p m h fr.home g) (λ f ms e top.
     let wide = top.frame.wide in
     let v = value_in (Runs_frame f ∷ ms) m.cells m.entries.items (others m) in
     record {
       frame = framed p m h f ms _ b null top;
-      values = moves v _ _ _ (held s.cells) _ here q top.values (word_here fr ts b ∙ no_word _ met.0)
+      values = moves v _ _ _ (held h.state.cells) _ here q top.values (word_here fr ts b ∙ no_word _ met.0)
           (λ r.
           written.values (Runs_frame (with_register b null f) ∷ ms) r
           ∙ ap (λ y. changed (λ z. y) q x r) (value_written f ms m.cells m.entries.items (others m) (length ts) b null f.place top.deep (omega arith) r)
           ∙ ap (λ y. changed (changed v here null) q y r) (reads ∙ ap (λ us. register_here us b) e ∙ sym (value_here f ms m.cells m.entries.items (others m) (length ts) b top.deep)))
           (λ r. kept (word_at (Run fr ∷ ts)) q r ∙ ap (λ y. changed (word_at (Run fr ∷ ts)) q y r) (no_word_there p m h fr.home g (Run fr ∷ ts)))
-          (λ r. held_moved s.cells here q r (free _ met.1.1.0));
-    })))
+          (λ r. held_moved h.state.cells here q r (free _ met.1.1.0));
+    }))
 
 module _ (m : Parts) (refused : List ℕ) where
   pub jump_empty_does : (g to : ℕ) → field_here g m ≡ null → Does refused (JumpEmpty g to) m (places.to_place to m)

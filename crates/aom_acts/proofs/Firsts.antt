@@ -1,22 +1,20 @@
 -- The first session with a server that is there is that of the client that the machine finds, by the number in the place of each session. What closes its
 -- sessions stands over its own going.
-use Rattle.std.proofs.Common.{Bool, List, None, Option, Some, [], ap, cond, false, length, not, refl, subst, sym, true, ℕ, ◌&&◌, ◌==◌, ◌∙◌, ◌∷◌, ◌≡◌, ◌||◌}
-use Rattle.std.specs.Prelude.{is_some}
+use Rattle.std.proofs.Common.{Bool, List, None, Option, Some, [], ap, cond, false, length, not, refl, subst, sym, true, ℕ, ◌&&◌, ◌==◌, ◌∙◌, ◌∷◌, ◌≡◌, ◌||◌, arith}
 use Rattle.std.proofs.lemmas.Bool.{eq-eqb, true≢false}
 use Rattle.std.proofs.lemmas.Option.{none-some, same_Some}
-use Rattle.aom_cells.specs.Heap.{Lives, cell_at, null}
+use Rattle.aom_cells.specs.Heap.{Lives, null}
 use Rattle.aom_clients.specs.Clients.{State as Held_clients, client_at, first_there, sessions_at}
 use Rattle.aom_clients.specs.Table.{has_cell, no_cell, server_of, session_of}
 use Rattle.aom_clients.specs.declared.client.Client.{Client}
 use Rattle.aom_clients.specs.declared.client.Client.TheVariants.{Closing, Connecting, Dead, Dying, Gone, Open, Unconnected}
-use Rattle.aom_image.proofs.Given.{some_given}
 use Rattle.aom_image.specs.Image.{Image}
 use Rattle.aom_rules.specs.Typing.{Typing}
 use Rattle.aom_shape.specs.Kinds.{filled, is_object}
 use Rattle.aom_shape.specs.declared.kind.Age.TheVariants.{Ready}
 use Rattle.aom_shape.specs.declared.kind.Filling.TheVariants.{Full}
 use Rattle.aom_shape.specs.declared.kind.Kind.{Kind}
-use Rattle.aom_shape.specs.declared.kind.Kind.TheVariants.{Maybe, Null, Own, Unset, Word}
+use Rattle.aom_shape.specs.declared.kind.Kind.TheVariants.{Maybe, Null, Own}
 use Rattle.aom_sound.proofs.Layers.{closing_layer}
 use Rattle.aom_sound.proofs.Maps.{held_lives}
 use Rattle.aom_sound.proofs.Picking.{own_held}
@@ -28,8 +26,7 @@ use Rattle.aom_sound.specs.Places.{Elsewhere, Going, Object, Place, Session, Sig
 use Rattle.aom_sound.specs.Servers.{has_session, is_among, of_class, session_class, session_thing}
 use Rattle.aom_sound.specs.State.{Closing as Closing_task, Destroy, Dispatch, Of_server, Parts as Parts_with, Seat, State, Task}
 use Rattle.aom_sound.specs.WellTyped.{Fits, Good, IsOverDying, WellTyped}
-use Rattle.aom_parts.proofs.Cells.{class_told}
-use Rattle.aom_parts.specs.Agrees.{Agrees, number, thing_in}
+use Rattle.aom_parts.specs.Agrees.{Agrees, number}
 use Rattle.aom_parts.specs.Places.{session_number, session_with}
 use Rattle.aom_parts.specs.Serving.{sessionless}
 use Rattle.aom_parts.specs.declared.parts.Parts.{Parts}
@@ -39,51 +36,31 @@ use Rattle.aom_acts.proofs.Running.{nothing_held, object_lives_at}
 
 -- which it is with a server is no matter of the session's cell
 server_same : (k : Client) → server_of (sessionless k) ≡ server_of k
-server_same Unconnected = refl
-server_same (Connecting server slots) = refl
-server_same (Open server session slots) = refl
-server_same (Closing server session) = refl
-server_same Gone = refl
-server_same (Dying server session) = refl
-server_same Dead = refl
+server_same k = grind arith
 
 module _ (n : ℕ) where
   numbered : (server session : ℕ) → Some server ≡ Some n → cond (server == n) (session_number session) null ≡ session_number session
   numbered server session e = ap (λ b. cond b (session_number session) null) (eq-eqb server n (same_Some server n e))
 
   no_number : (session : ℕ) → not (session == no_cell) ≡ false → session_number session ≡ null
-  no_number session e = go (session == no_cell) e
-    where
-      go : (b : Bool) → not b ≡ false → cond b null session ≡ null
-      go true e = refl
-      go false e = absurd (true≢false e)
+  no_number session e = grind arith
 
   own_number : (session : ℕ) → not (session == no_cell) ≡ true → session_number session ≡ session
-  own_number session e = go (session == no_cell) e
-    where
-      go : (b : Bool) → not b ≡ true → cond b null session ≡ session
-      go true e = absurd (true≢false (sym e))
-      go false e = refl
+  own_number session e = grind arith
 
   -- a session that went shows null
   shows_none : (k : Client) → server_of k ≡ Some n → has_cell k ≡ false → session_with n k ≡ null
   shows_none (Open server session slots) at gone = numbered server session at ∙ no_number session gone
   shows_none (Closing server session) at gone = numbered server session at ∙ no_number session gone
   shows_none (Dying server session) at gone = numbered server session at ∙ no_number session gone
-  shows_none Unconnected at gone = absurd (none-some n at)
-  shows_none (Connecting server slots) at gone = absurd (none-some n at)
-  shows_none Gone at gone = absurd (none-some n at)
-  shows_none Dead at gone = absurd (none-some n at)
+  shows_none _ at gone = absurd (none-some n at)
 
   -- and another its cell
   shows_cell : (k : Client) → server_of k ≡ Some n → has_cell k ≡ true → (r : ℕ) → session_of k ≡ Some r → session_with n k ≡ r
   shows_cell (Open server session slots) at there r is = numbered server session at ∙ own_number session there ∙ same_Some session r is
   shows_cell (Closing server session) at there r is = numbered server session at ∙ own_number session there ∙ same_Some session r is
   shows_cell (Dying server session) at there r is = numbered server session at ∙ own_number session there ∙ same_Some session r is
-  shows_cell Unconnected at there r is = absurd (none-some n at)
-  shows_cell (Connecting server slots) at there r is = absurd (none-some n at)
-  shows_cell Gone at there r is = absurd (none-some n at)
-  shows_cell Dead at there r is = absurd (none-some n at)
+  shows_cell _ at there r is = absurd (none-some n at)
 
 -- who is found has a cell
 pub found_session : (k : Held_clients) (cs : List ℕ) (c : ℕ) → first_there k cs ≡ Some c → session_of (client_at k c) ≡ None → ⊥
@@ -205,9 +182,7 @@ plain_session p (Some o) = plain_class (session_class p o.thing)
 plain_object : (p : Image) (h : Sight) (o : Object) (k : Kind) → NoMessage k → Fits p h (Some o) k → is_object o.thing ≡ true
 plain_object p h o (Own t a) plain f = ap is_object (stands_same p o.thing t f.0) ∙ plain
 plain_object p h o (Maybe t a) plain f = ap is_object (stands_same p o.thing t f.0) ∙ plain
-plain_object p h o Null plain f = absurd f
-plain_object p h o Word plain f = absurd f
-plain_object p h o Unset plain f = absurd f
+plain_object p h o _ plain f = absurd (assumption tt)
 
 module _ (p : Image) (n c : ℕ) where
   plain_close : (d : Dispatch) (k : Kind) → NoMessage k → NoMessage (by_close d n c k)

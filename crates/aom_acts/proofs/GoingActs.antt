@@ -11,17 +11,16 @@ use Rattle.aom_image.specs.declared.method.Thing.TheVariants.{Object as An_objec
 use Rattle.aom_cells.specs.Heap.{Heap, null, cell_at, class_at, class_of, field_of, field_at, Changes}
 use Rattle.aom_cells.specs.declared.cell.Cell.{Cell as Held_cell}
 use Rattle.aom_rules.specs.Typing.{Typing}
-use Rattle.aom_sound.specs.Places.{Place, Register, Entry, Field, Going, Elsewhere, Root, same_place, Object, Cell, held, named, moved, changed}
+use Rattle.aom_sound.specs.Places.{Place, Register, Field, Going, Elsewhere, Root, same_place, Object, Cell, held, named, moved, changed}
 use Rattle.aom_sound.specs.Effects.{applied, deletes}
 use Rattle.aom_sound.specs.State.{Home, Inside, frame_of, word, set_word, Dispatch, Of_root, Task, Run, Closing, Destroy, Dispatched, resumed, Rest, State, raised}
 use Rattle.aom_classes.specs.Roles.{destructor_of}
 use Rattle.aom_sound.specs.Destruction as checked
 use Rattle.aom_sound.specs.Destruction.{begun_by, is_field_of, owns_nothing}
 use Rattle.aom_sound.specs.Objects.{is_no_message}
-use Rattle.aom_sound.specs.Servers.{is_queue, is_server}
+use Rattle.aom_sound.specs.Servers.{is_server}
 use Rattle.aom_shape.specs.Kinds.{is_object}
 use Rattle.aom_image.specs.WellFormed.{WellFormed}
-use Rattle.aom_parts.proofs.Services.{services_moved}
 use Rattle.aom_parts.proofs.CellFields.{root_written}
 use Rattle.aom_acts.proofs.Owned.{root_object}
 use Rattle.aom_sound.specs.Moves.{goes_line}
@@ -34,20 +33,18 @@ use Rattle.aom_frames.specs.declared.task.Task.{Task as Held_task}
 use Rattle.aom_frames.specs.declared.task.Task.TheVariants.{Run as Runs_frame, Destroy as Destroys, Closing as Closes, Dispatched as Ends}
 use Rattle.aom_frames.specs.declared.dispatch.Dispatch.{Dispatch as Held_dispatch}
 use Rattle.aom_frames.specs.declared.dispatch.Dispatch.TheVariants.{Root as End_of_run}
-use Rattle.aom_parts.proofs.Asking.{requests_moved}
 use Rattle.aom_parts.specs.declared.parts.Parts.{Parts}
 use Rattle.aom_parts.specs.Places.{others, Others, value_in, register_in, going_in, with_tasks}
 use Rattle.aom_acts.specs.Going.{begun, destructed, destructor_in, destructor_at, dying, is_server_class, uprooted}
 use Rattle.aom_parts.specs.Agrees.{word_in, word_at, Shows, SameTasks, thing_in, number, Agrees}
 use Rattle.aom_acts.specs.Acts.{requested, In_going, DoesIn}
 use Rattle.aom_parts.proofs.Values.{cases, same_length, kept, moves, at_depth, register_past, going_past, word_past, value_here, value_kept, value_written, word_next, word_written, destroys_value, destroys_word}
-use Rattle.aom_acts.proofs.Running.{Aside, agrees_with, object_class, object_small, object_there, Top, by_top, reframed, moved_on, begun_frame, begun_registers, word_here, no_word, nothing_held, some_held}
-use Rattle.aom_parts.proofs.Cells.{cells_moved, unowned}
+use Rattle.aom_acts.proofs.Running.{Aside, agrees_with, aside_moved, object_class, object_small, object_there, Top, by_top, reframed, moved_on, begun_frame, begun_registers, word_here, no_word, nothing_held, some_held}
+use Rattle.aom_parts.proofs.Cells.{unowned}
 use Rattle.aom_acts.proofs.ObjectActs.{shown}
 use Rattle.aom_acts.proofs.WordActs.{plain_at}
 use Rattle.aom_cleanup.specs.declared.item.Item.{Item}
 use Rattle.aom_parts.proofs.Alike.{Alike, both_go, alike, by_task, by_tasks}
-use Rattle.aom_parts.proofs.Sessions.{natives_moved}
 
 -- a method at its first place shows nothing, and has no word
 pub fresh_value : (method this : ℕ) (us : List Held_task) (h : Heap) (es : List Item) (rest : Others) (r : Place) → value_in (Runs_frame (fresh method this) ∷ us) h es rest r ≡ value_in us h es rest r
@@ -122,19 +119,6 @@ module _ (p : Image) (m : Parts) (v : State) (us : List Held_task) (ts : List Ta
       (λ q. destroys_word ts (length ts) q ∙ ap (λ x. cond (same_place there q) None x) (ew q))
       (λ q. ap (λ l. held l q) moves_so ∙ held_moved cs from there q empty)
 
--- what a place owns goes, of a machine that is as that one but for the place
-pub aside_moved : (p : Image) (m : Parts) (s : State) (from to : Place) → Agrees p m s → is_queue from ≡ false → is_queue to ≡ false → Aside p m (record s { cells = moved from to s.cells })
-aside_moved p m s from to agrees from_no to_no = record {
-  cells = cells_moved p m.cells s.cells from to agrees.cells;
-  entries = agrees.entries;
-  requests = requests_moved p m.active s.cells from to agrees.requests;
-  natives = natives_moved p m.sessions s.killed s.cells from to agrees.natives;
-  services = services_moved p s.cells from to from_no to_no agrees.services;
-  rest = agrees.rest;
-  room = agrees.room;
-  entry_room = agrees.entry_room;
-}
-
 module _ (p : Image) (m : Parts) (refused : List ℕ) where
   pub delete_does : (a : ℕ) → a < 16 → (register_here m.stack.tasks a ≡ null → ⊥)
       → DoesIn p refused (Delete a) m (with_tasks (dying p m.cells (register_here m.stack.tasks a) (on_top (with_register a null) m.stack.tasks)) m)
@@ -179,11 +163,7 @@ module _ (p : Image) (m : Parts) (refused : List ℕ) where
 
 -- the end of a dispatch shows nothing
 pub end_value : (x y : Held_dispatch) (h : Heap) (es : List Item) (rest : Others) (q : Place) → value_in (Ends x ∷ []) h es rest q ≡ value_in (Ends y ∷ []) h es rest q
-end_value x y h es rest (Register d i) = refl
-end_value x y h es rest (Entry k) = refl
-end_value x y h es rest (Field n f) = refl
-end_value x y h es rest (Going k) = refl
-end_value x y h es rest (Elsewhere o) = refl
+end_value x y h es rest q = grind arith
 
 -- and has no word
 pub end_word : (d e : Dispatch) (q : Place) → word_at (Dispatched d ∷ []) q ≡ word_at (Dispatched e ∷ []) q

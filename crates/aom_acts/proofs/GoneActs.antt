@@ -153,13 +153,7 @@ none_of_then s s' same [] none = tt
 none_of_then s s' same (c ∷ cs) none = (none_then s s' same c none.0, none_of_then s s' same cs none.1)
 
 gone_none : (x : Client) (i : ℕ) → session_with i x ≡ null → session_with i (at_gone x) ≡ null
-gone_none (Open server session slots) i e = refl
-gone_none (Closing server session) i e = refl
-gone_none (Dying server session) i e = refl
-gone_none Unconnected i e = e
-gone_none (Connecting server slots) i e = e
-gone_none Is_gone i e = e
-gone_none Dead i e = e
+gone_none x i e = grind arith
 
 sessions_same : (n : ℕ) (cs : List ℕ) (s : kept.State) → NoneOf s cs → SessionsSame s (kept.sessions_gone n cs s)
 sessions_same n [] s none = λ i d. refl

@@ -1,12 +1,12 @@
 -- The cell of the method that runs lives, and where an instruction reads or writes its words there is one.
-use Rattle.std.proofs.Common.{◌≡◌, ℕ, [], Some, sym, ap, ◌∙◌, subst}
+use Rattle.std.proofs.Common.{List, ◌≡◌, ℕ, [], Some, sym, ap, ◌∙◌, subst}
 use Rattle.aom_image.specs.Image.{Image}
 use Rattle.aom_image.specs.Views.{instr_at}
 use Rattle.aom_instructions.specs.declared.instr.Instr.{Instr}
 use Rattle.aom_instructions.specs.declared.instr.Instr.TheVariants.{Load, Store}
 use Rattle.aom_cells.specs.Heap.{Lives}
 use Rattle.aom_shape.specs.Needs.{AllTrue}
-use Rattle.aom_sound.specs.State.{Choice}
+use Rattle.aom_sound.specs.State.{Choice, Frame, State, Task}
 use Rattle.aom_sound.specs.Moves.{needs}
 use Rattle.aom_sound.specs.WellTyped.{Keeps}
 use Rattle.aom_frames.specs.Tasks.{Runs, method_here}
@@ -42,6 +42,13 @@ module _ (p : Image) (m : Parts) where
         c.0,
         k.0,
       )
+
+  -- so is what they say
+  pub needs_say : (i : Instr) (Q : Type 0) → ((c : Choice) (fr : Frame) (ts : List Task) (s : State) → AllTrue (needs p c fr ts s i) → Q) → IsNext p i m → Q
+  needs_say i Q says next =
+      let h = at_hand p (counting next.counts m) next.stands next.runs in
+      let n = needs_met i next in
+      says n.0 h.frame h.below (requested i (at_step h.state)) n.1
 
   pub finds_loaded : (a w : ℕ) → IsNext p (Load a w) m → Lives m.cells (this m)
   finds_loaded a w next = let n = needs_met (Load a w) next in next.housed (has_cell p (counting next.counts m) (at_hand p (counting next.counts m) next.stands next.runs) w n.1.0)

@@ -25,6 +25,7 @@ use Rattle.aom_parts.specs.Agrees.{word_in, word_at, Shows, SameTasks, Agrees}
 use Rattle.aom_parts.proofs.Alike.{A_method, Tops, method_on_top, tops}
 use Rattle.aom_parts.proofs.Cells.{unowned}
 use Rattle.aom_acts.proofs.ReturnActs.{beneath, cleared_none}
+use Rattle.aom_acts.proofs.Running.{retasked}
 use Rattle.aom_acts.proofs.WordActs.{plain_does, word_read, passes}
 use Rattle.aom_parts.proofs.Values.{at_depth, going_past, register_past, same_length, word_past}
 
@@ -80,19 +81,9 @@ stays_to_trap cs heap es rest _ _ free stays = absurd (assumption tt)
 pub leaves : (p : Image) (m : Parts) (s : State) (code : ℤ) → Agrees p m s → above_trap_is_free s.cells s.tasks ≡ true → Agrees p (leaving code m) (record s { tasks = Unwind code ∷ to_trap s.tasks })
 leaves p m s code agrees free =
     let stays = stays_to_trap s.cells m.cells m.entries.items (others m) m.stack.tasks s.tasks free (record { tasks = agrees.tasks; values = agrees.values }) in
-    record {
-      tasks = (refl, stays.tasks);
-      values = λ r. subst (λ n. Shows n (word_at (Unwind code ∷ to_trap s.tasks) r) (held s.cells r)) (sym (unwinds_value (held_to_trap m.stack.tasks) m.cells m.entries.items (others m) code r))
-          (subst (λ w. Shows (value_in (held_to_trap m.stack.tasks) m.cells m.entries.items (others m) r) w (held s.cells r)) (sym (unwinds_word (to_trap s.tasks) code r)) (stays.values r));
-      cells = agrees.cells;
-      entries = agrees.entries;
-      requests = agrees.requests;
-      natives = agrees.natives;
-      services = agrees.services;
-      rest = agrees.rest;
-      room = agrees.room;
-      entry_room = agrees.entry_room;
-    }
+    retasked p m s (Unwinds code ∷ held_to_trap m.stack.tasks) (Unwind code ∷ to_trap s.tasks) agrees (refl, stays.tasks)
+    (λ r. subst (λ n. Shows n (word_at (Unwind code ∷ to_trap s.tasks) r) (held s.cells r)) (sym (unwinds_value (held_to_trap m.stack.tasks) m.cells m.entries.items (others m) code r))
+    (subst (λ w. Shows (value_in (held_to_trap m.stack.tasks) m.cells m.entries.items (others m) r) w (held s.cells r)) (sym (unwinds_word (to_trap s.tasks) code r)) (stays.values r)))
 
 pub leaves_at : (p : Image) (m : Parts) (s : State) (fr : Frame) (ts : List Task) (code : ℤ) → s.tasks ≡ Run fr ∷ ts → Agrees p m s → above_trap_is_free s.cells (Run fr ∷ ts) ≡ true → Agrees p (leaving code m) (record s { tasks = Unwind code ∷ to_trap ts })
 leaves_at p m s fr ts code top agrees free =

@@ -6,7 +6,7 @@ use Rattle.aom_cells.specs.Heap.{Lives, class_at, null}
 use Rattle.aom_clients.specs.Clients as kept
 use Rattle.aom_clients.specs.Table.{has_cell, server_of, session_of}
 use Rattle.aom_clients.specs.declared.client.Client.{Client}
-use Rattle.aom_clients.specs.declared.client.Client.TheVariants.{Closing as Closes_client, Connecting, Dead, Dying, Gone, Open, Unconnected}
+use Rattle.aom_clients.specs.declared.client.Client.TheVariants.{Closing as Closes_client, Dying, Open, Unconnected}
 use Rattle.aom_frames.specs.declared.task.Task.{Task as Held_task}
 use Rattle.aom_frames.specs.declared.task.Task.TheVariants.{Closing as Closes, Destroy as Destroys}
 use Rattle.aom_image.specs.Image.{Image}
@@ -22,7 +22,7 @@ use Rattle.aom_sound.specs.Places.{Elsewhere, Going, Object, Place, Session, hel
 use Rattle.aom_sound.specs.State.{Choice, Closing, Destroy, Goes, Rest, State, Task}
 use Rattle.aom_classes.specs.Roles.{destructor_of}
 use Rattle.aom_shape.specs.Kinds.{is_object}
-use Rattle.aom_sound.specs.WellTyped.{Keeps, WellTyped}
+use Rattle.aom_sound.specs.WellTyped.{WellTyped}
 use Rattle.aom_parts.proofs.Alike.{Alike, alike, both_close, both_go}
 use Rattle.aom_parts.proofs.Elsewhere.{session_released}
 use Rattle.aom_parts.proofs.Servicing.{same_released}
@@ -34,10 +34,10 @@ use Rattle.aom_parts.specs.Stands.{Stands}
 use Rattle.aom_parts.specs.declared.parts.Parts.{Parts}
 use Rattle.aom_acts.proofs.Ends.{at_close}
 use Rattle.aom_acts.proofs.Firsts.{IsSeat, closing_found, its_session, no_session, session_lives, session_object}
-use Rattle.aom_acts.proofs.GoingActs.{aside_moved, begins, closes_value, closes_word, destructor_same, destructs, dying_shows, server_same}
+use Rattle.aom_acts.proofs.GoingActs.{begins, closes_value, closes_word, destructor_same, destructs, dying_shows, server_same}
 use Rattle.aom_acts.proofs.ReturnActs.{lives_within}
-use Rattle.aom_acts.proofs.Running.{Aside, an_open, nothing_held, object_lives_at, object_small, object_there}
-use Rattle.aom_acts.proofs.Stepping.{counted_by}
+use Rattle.aom_acts.proofs.Running.{Aside, an_open, aside_counted, aside_moved, aside_of, nothing_held, object_lives_at, object_small, object_there}
+use Rattle.aom_acts.proofs.Stepping.{counted_by, moved_so}
 use Rattle.aom_acts.specs.Going.{destructed, destructor_at, destructor_in, dying, is_server_class}
 use Rattle.aom_acts.specs.Moves.{Moves}
 use Rattle.aom_acts.specs.Serving.{released_by, session_there}
@@ -126,7 +126,7 @@ module _ (p : Image) (formed : WellFormed p) (m : Parts) (announced : m.rest.ann
   counts = agrees.rest ∙ ap (λ b. record s.rest { announced = b }) (sym (ap (λ (r : Rest). r.announced) agrees.rest) ∙ announced)
 
   aside : Aside p m (at_close s)
-  aside = record { cells = agrees.cells; entries = agrees.entries; requests = agrees.requests; natives = agrees.natives; services = agrees.services; rest = counts; room = agrees.room; entry_room = agrees.entry_room }
+  aside = aside_counted p m s m.rest (at_close s).rest (aside_of p m s agrees) counts
 
   -- no session is there: its destructor runs
   pub none_left : kept.first_there m.clients (kept.sessions_at m.clients x) ≡ None
@@ -187,10 +187,7 @@ module _ (p : Image) (formed : WellFormed p) (m : Parts) (announced : m.rest.ann
         go (Open server session slots) shows = at server (session_number session) (server == o.name) refl shows
         go (Closes_client server session) shows = at server (session_number session) (server == o.name) refl shows
         go (Dying server session) shows = at server (session_number session) (server == o.name) refl shows
-        go Unconnected shows = absurd (not_none (sym shows))
-        go (Connecting server slots) shows = absurd (not_none (sym shows))
-        go Gone shows = absurd (not_none (sym shows))
-        go Dead shows = absurd (not_none (sym shows))
+        go _ shows = absurd (not_none (sym shows))
 
     abbrev to : Place
     to = Going (suc (suc (length e.below)))
@@ -244,42 +241,27 @@ module _ (p : Image) (m : Parts) (announced : m.rest.announced ≡ true) where
       let c = an_open p told.refused m s agrees in
       let after = parting p e.object (first_session s.cells e.object.name (service_of s.cells e.object.name).sessions) e.below (at_close s) in
       let is : step p c.0 s ≡ Goes after = step_of_closing p c.0 s e.below e.top ∙ ap (λ o. checked.parting_from p o e.below (at_close s)) e.holds in (
-        record {
-          choice = c.0;
-          state = after;
-          is_open = c.1;
-          hears = c.2;
-          goes = is;
-          typed = subst (Keeps p t) is (sound.keeps c.0 s typed c.1.name);
-          agrees = goes t s sound.formed typed fits agrees e;
-        },
+        moved_so p m new told.refused t s after sound typed c is (goes t s sound.formed typed fits agrees e),
         ap (λ ls. record told { lines = ls }) (sym (ap (λ us. told.lines ++ written_task p s us) e.top ∙ append-nil told.lines)),
       )
 
   pub destructor_moves : (told : Turn) (n : ℕ) (ms : List Held_task) → m.stack.tasks ≡ Closes ∷ Destroys n ∷ ms → kept.first_there m.clients (kept.sessions_at m.clients n) ≡ None
       → Moves p m told told (with_tasks (destructed (destructor_at p m.cells n) n (Destroys n ∷ ms)) m)
   destructor_moves told n ms tasks none = by_closing _ told (subst IsClosing (sym tasks) tt) (λ t s formed typed fits agrees e.
-      let is : n ≡ e.number = same_number e.number e.held_below (sym tasks ∙ e.held_top) in
-      let below : ms ≡ e.held_below = same_below e.number e.held_below (sym tasks ∙ e.held_top) in
+      let same : Closes ∷ Destroys n ∷ ms ≡ Closes ∷ Destroys e.number ∷ e.held_below = sym tasks ∙ e.held_top in
+      let is : n ≡ e.number = cc in
+      let below : ms ≡ e.held_below = cc in
       subst (λ k. Agrees p (with_tasks (destructed (destructor_at p m.cells k) k (Destroys k ∷ ms)) m) (parting p e.object (first_session s.cells e.object.name (service_of s.cells e.object.name).sessions) e.below (at_close s))) (sym is)
       (subst (λ l. Agrees p (with_tasks (destructed (destructor_at p m.cells e.number) e.number (Destroys e.number ∷ l)) m) (parting p e.object (first_session s.cells e.object.name (service_of s.cells e.object.name).sessions) e.below (at_close s))) (sym below)
       (none_left p formed m announced t s typed fits agrees e (ap (λ i. kept.first_there m.clients (kept.sessions_at m.clients i)) (sym is) ∙ none))))
-    where
-      same_number : (k : ℕ) (l : List Held_task) → Closes ∷ Destroys n ∷ ms ≡ Closes ∷ Destroys k ∷ l → n ≡ k
-      same_number k l f = cc
-
-      same_below : (k : ℕ) (l : List Held_task) → Closes ∷ Destroys n ∷ ms ≡ Closes ∷ Destroys k ∷ l → ms ≡ l
-      same_below k l f = cc
 
   pub session_moves : (told : Turn) (n c r : ℕ) (ms : List Held_task) → m.stack.tasks ≡ Closes ∷ Destroys n ∷ ms → kept.first_there m.clients (kept.sessions_at m.clients n) ≡ Some c → session_of (kept.client_at m.clients c) ≡ Some r → r < 65536
       → Moves p m told told (with_tasks (dying p m.cells r (Closes ∷ Destroys n ∷ ms)) (record m { clients = kept.after_release c m.clients }))
   session_moves told n c r ms tasks first its small = by_closing _ told (subst IsClosing (sym tasks) tt) (λ t s formed typed fits agrees e.
-      let is : n ≡ e.number = same_number e.number e.held_below (sym tasks ∙ e.held_top) in
+      let same : Closes ∷ Destroys n ∷ ms ≡ Closes ∷ Destroys e.number ∷ e.held_below = sym tasks ∙ e.held_top in
+      let is : n ≡ e.number = cc in
       subst (λ l. Agrees p (with_tasks (dying p m.cells r l) (record m { clients = kept.after_release c m.clients })) (parting p e.object (first_session s.cells e.object.name (service_of s.cells e.object.name).sessions) e.below (at_close s))) (sym e.held_top ∙ tasks)
       (goes_first p formed m announced t s typed fits agrees e c r (ap (λ i. kept.first_there m.clients (kept.sessions_at m.clients i)) (sym is) ∙ first) its small))
-    where
-      same_number : (k : ℕ) (l : List Held_task) → Closes ∷ Destroys n ∷ ms ≡ Closes ∷ Destroys k ∷ l → n ≡ k
-      same_number k l f = cc
 
 -- what the code finds
 pub record Finds_server (m : Parts) : Type 0 where
@@ -319,13 +301,7 @@ first_has k (d ∷ cs) c e = go (has_cell (kept.client_at k d)) refl e (first_ha
     go false has e rest = rest e
 
 has_session_of : (x : Client) → has_cell x ≡ true → session_of x ≡ None → ⊥
-has_session_of (Open server session slots) has none = cc
-has_session_of (Closes_client server session) has none = cc
-has_session_of (Dying server session) has none = cc
-has_session_of Unconnected has none = cc
-has_session_of (Connecting server slots) has none = cc
-has_session_of Gone has none = cc
-has_session_of Dead has none = cc
+has_session_of x has none = grind arith
 
 -- none was taken
 none_taken : (k : kept.State) (cs : List ℕ) → session_there (kept.first_there k cs) k ≡ None → kept.first_there k cs ≡ None

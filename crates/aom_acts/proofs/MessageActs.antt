@@ -24,7 +24,7 @@ use Rattle.aom_sound.proofs.Things.{stands_same}
 use Rattle.aom_sound.specs.Lines.{message_line}
 use Rattle.aom_sound.specs.Moves.{needs}
 use Rattle.aom_sound.specs.Objects.{is_thing}
-use Rattle.aom_sound.specs.Places.{Elsewhere, Entry, Field, Going, In_service, Object, Place, Queued, Register, Root, Session, changed, held, moved, without}
+use Rattle.aom_sound.specs.Places.{Elsewhere, In_service, Object, Place, Register, changed, held, moved, without}
 use Rattle.aom_sound.specs.State.{Choice}
 use Rattle.aom_parts.specs.declared.parts.Parts.{Parts}
 use Rattle.aom_parts.specs.Places as places
@@ -50,14 +50,7 @@ use Rattle.aom_acts.proofs.WordActs.{plain_does, word_read}
 
 -- what a completion changes of clients shows in no place
 completed_values : (us : List Held_task) (h : Heap) (es : List Item) (o : Others) (place : ℕ) (r : Place) → value_in us h es (record o { clients = after_complete place o.clients }) r ≡ value_in us h es o r
-completed_values us h es o place (Elsewhere Root) = refl
-completed_values us h es o place (Elsewhere (Session n c)) = refl
-completed_values us h es o place (Elsewhere In_service) = refl
-completed_values us h es o place (Elsewhere (Queued n m)) = refl
-completed_values us h es o place (Register d i) = refl
-completed_values us h es o place (Entry k) = refl
-completed_values us h es o place (Field n f) = refl
-completed_values us h es o place (Going k) = refl
+completed_values us h es o place r = grind arith
 
 module _ (m : Parts) (refused : List ℕ) where
   -- the message that is served comes to a register

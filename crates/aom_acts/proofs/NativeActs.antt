@@ -1,10 +1,7 @@
 -- Instructions at a native: the machine's flags stand for the sessions that the checked machine then has.
-use Rattle.std.proofs.Common.{◌≡◌, ℕ, ℤ, Bool, true, false, length, List, ◌∷◌, Option, Some, None, refl, sym, ap, ◌∙◌, subst}
+use Rattle.std.proofs.Common.{◌≡◌, ℕ, ℤ, Bool, true, false, length, List, ◌∷◌, Option, Some, None, refl, sym, ap, ◌∙◌, subst, arith}
 use Rattle.aom_image.specs.Image.{Image}
 use Rattle.aom_image.specs.declared.class.ClassKind.{ClassKind}
-use Rattle.aom_image.specs.declared.class.ClassKind.TheVariants.{Active as An_active}
-use Rattle.aom_image.specs.declared.class.Provider.{Provider}
-use Rattle.aom_image.specs.declared.class.Provider.TheVariants.{Native}
 use Rattle.aom_instructions.specs.declared.instr.Instr.TheVariants.{Ask, Close, Connect}
 use Rattle.aom_cells.specs.Heap.{Lives}
 use Rattle.aom_rules.specs.Natives.{is_native_kind}
@@ -27,7 +24,7 @@ use Rattle.aom_parts.specs.Agrees.{Agrees, SameNatives, Shows, word_at}
 use Rattle.aom_parts.specs.Fields.{this}
 use Rattle.aom_acts.specs.Next.{IsNext, counting}
 use Rattle.aom_parts.specs.Stands.{Stands}
-use Rattle.aom_acts.specs.Requests.{kind_here, provider_of}
+use Rattle.aom_acts.specs.Requests.{kind_here}
 use Rattle.aom_parts.proofs.Asking.{requests_alike}
 use Rattle.aom_parts.proofs.Services.{services_resessioned}
 use Rattle.aom_parts.proofs.Still.{still_opened}
@@ -41,8 +38,7 @@ use Rattle.aom_acts.proofs.WordActs.{heard_at, plain_does, word_put}
 
 -- objects that a native serves are active objects
 pub native_active : (k : Option ClassKind) → is_native_kind k ≡ true → is_active_kind k ≡ true
-native_active (Some (An_active (Native n) budget)) e = refl
-native_active _ e = cc
+native_active k e = grind arith
 
 native_listed : (k : Option ClassKind) → is_native_kind k ≡ true → is_listed_kind k ≡ true
 native_listed k e = active_listed k (native_active k e)

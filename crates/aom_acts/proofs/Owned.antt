@@ -11,7 +11,7 @@ use Rattle.aom_shape.specs.Shape.{Shape}
 use Rattle.aom_shape.specs.declared.kind.Entry.{Entry as Pushed}
 use Rattle.aom_shape.specs.declared.kind.Entry.TheVariants.{Object as Pushed_object, Operation as Pushed_operation}
 use Rattle.aom_shape.specs.declared.kind.Filling.{Filling}
-use Rattle.aom_shape.specs.declared.kind.Filling.TheVariants.{Empty, Full, Perhaps}
+use Rattle.aom_shape.specs.declared.kind.Filling.TheVariants.{Full, Perhaps}
 use Rattle.aom_shape.specs.declared.kind.Kind.{Kind}
 use Rattle.aom_shape.specs.declared.kind.Kind.TheVariants.{Null}
 use Rattle.aom_sound.specs.Claims.{Dispatching, Dying, Ending, Form, Layer, Mark, Method, Unwinding, claim, declared, entry_claim, is_of_root, items_of, objects, root_claim}
@@ -55,10 +55,9 @@ module _ (p : Image) (h : Sight) (o : Object) where
   by_filling x = go (p.header.root) x
     where
       go : (r : Option ℕ) (x : Filling) → IsOne (filled (root_thing r 0) x)
-      go None x fits = absurd fits
-      go (Some c) Empty fits = absurd fits
       go (Some c) Full fits = object_for p o.thing c fits.0
       go (Some c) Perhaps fits = object_for p o.thing c fits.0
+      go _ _ fits = absurd (assumption tt)
 
   at_home : (home : Home) (sh : Shape) (below : Kind) → IsOne below → IsOne (root_claim p home sh below)
   at_home Static sh below one = one

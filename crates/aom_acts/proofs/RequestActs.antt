@@ -1,5 +1,5 @@
 -- Instructions on the request of what a method works on: the machine's table stands for the requests that the checked machine then has.
-use Rattle.std.proofs.Common.{◌≡◌, ◌≢◌, ◌<◌, ◌==◌, ℕ, ℤ, Bool, true, false, cond, length, List, ◌∷◌, Option, Some, None, IsSome, refl, sym, ap, ◌∙◌, subst}
+use Rattle.std.proofs.Common.{◌≡◌, ◌≢◌, ◌<◌, ◌==◌, ℕ, ℤ, Bool, true, false, cond, length, List, ◌∷◌, Option, Some, None, IsSome, refl, sym, ap, ◌∙◌, subst, arith}
 use Rattle.std.specs.Prelude.{is_some, option_map}
 use Rattle.std.specs.Int.{w32, cast_signed}
 use Rattle.std.specs.List.{list_any}
@@ -30,7 +30,6 @@ use Rattle.aom_requests.specs.Requests.{request_at, state_at, state_of, status_a
 use Rattle.aom_requests.specs.Requests as table
 use Rattle.aom_requests.specs.declared.request.State.TheVariants.{Active as Held_active}
 use Rattle.aom_requests.specs.declared.request.Request.{Request as Held_request}
-use Rattle.aom_requests.specs.declared.request.Request.TheVariants.{Object as Held_object}
 use Rattle.aom_active.specs.Agrees.{Active, StandsFor, queue_in, queued}
 use Rattle.aom_active.specs.Meanings.{Enlists, Makes, Times, asked_anew, begun_with, is_being_cancelled, is_busy, is_waited_for}
 use Rattle.aom_active.proofs.Asking.{asked_set, newest, newest_timer, queued_same}
@@ -90,22 +89,19 @@ requests_set p old new cs o r lives limit stands same = record {
 
 -- ---- what a test of a phase tells
 
-in_one : (test : Phase → Bool) (o : Option Request) → in_phase test o ≡ true → (r : Request) × (o ≡ Some r) × (test r.phase ≡ true)
+pub in_one : (test : Phase → Bool) (o : Option Request) → in_phase test o ≡ true → (r : Request) × (o ≡ Some r) × (test r.phase ≡ true)
 in_one test None e = absurd (false≢true e)
 in_one test (Some r) e = (r, refl, e)
 
 idle_only : (x : Phase) → is_idle x ≡ true → x ≡ Idle
-idle_only Idle e = refl
-idle_only _ e = cc
+idle_only x e = grind arith
 
 issued_only : (x : Phase) → is_issued x ≡ true → x ≡ Issued
-issued_only Issued e = refl
-issued_only _ e = cc
+issued_only x e = grind arith
 
 -- an object that waits is active
 pub waits_active : (h : Option Held_request) → is_waited_for h ≡ true → state_of h ≡ Some Held_active
-waits_active (Some (Held_object Held_active status)) e = refl
-waits_active _ e = cc
+waits_active h e = grind arith
 
 -- a change that keeps the order of a request
 order_kept : (f : Request → Request) → ((r : Request) → (f r).order ≡ r.order) → (o : Option Request) → option_map (λ x. x.order) (on_request f o) ≡ option_map (λ x. x.order) o
@@ -113,17 +109,14 @@ order_kept f same None = refl
 order_kept f same (Some r) = ap (λ n. Some n) (same r)
 
 issued_order : (q : Provider) (asking : Asking) (w : ℤ) (r : Request) → (issued_by q asking w r).order ≡ r.order
-issued_order Own asking w r = refl
-issued_order A_timer asking w r = refl
-issued_order (Native n) asking w r = refl
+issued_order q asking w r = grind arith
 
 -- ---- what a class of active objects makes its requests of
 
 -- an active object is no server
 unserving : (k k' : Option ClassKind) → k ≡ k' → is_active_kind k' ≡ true → is_some (sessions_in k) ≡ false
 unfolding sessions_in sessions_of
-unserving k (Some (An_active q budget)) e active = ap (λ k. is_some (sessions_in k)) e
-unserving k _ e active = absurd (false≢true active)
+unserving k k' e active = grind arith
 
 -- the provider of a kind, and how a request is made of it
 provided : (k : Option ClassKind) (q : Provider) → provider_of k ≡ Some q → (budget : ℕ) × (k ≡ Some (An_active q budget))
@@ -140,16 +133,14 @@ native_provided k n e = ap native_of (provided k (Native n) e).1
 -- what is of a class of active objects lives, and its class is declared
 cell_there : (p : Image) (c : Option Held_cell) → is_active_kind (kind_of p (class_of c)) ≡ true → IsSome c
 unfolding kind_of
-cell_there p None e = absurd (false≢true e)
-cell_there p (Some c) e = refl
+cell_there p c e = grind arith
 
 pub kind_lives : (p : Image) (m : Parts) → is_active_kind (kind_here p m) ≡ true → Lives m.cells (this m)
 kind_lives p m e = cell_there p (cell_at m.cells (this m)) e
 
 class_there : (o : Option ClassDecl) → is_active_kind (kind_in o) ≡ true → IsSome o
 unfolding kind_in
-class_there None e = absurd (false≢true e)
-class_there (Some d) e = refl
+class_there o e = grind arith
 
 pub kind_declared : (p : Image) (class : Option ℕ) (c : ℕ) → class ≡ Some c → is_active_kind (kind_of p class) ≡ true → IsSome (declared_at p c)
 unfolding kind_of
@@ -182,9 +173,8 @@ module _ (p : Image) (m : Parts) (h : At_hand p m) where
   on_object listed = go h.frame.home refl listed
     where
       go : (home : Home) → h.frame.home ≡ home → is_listed_kind (home_kind p home) ≡ true → OnObject p m h
-      go Static e listed = absurd (false≢true listed)
-      go AtRoot e listed = absurd (false≢true listed)
       go (Inside o from) e listed = record { object = o; from = from; home = e; lives = housed p m h o from e; number = inside_number p m h o from e; cell = inside_object p m h o from e }
+      go _ e listed = absurd (false≢true listed)
 
   module _ (x : OnObject p m h) where
     pub object_lives : Lives m.cells (this m)
@@ -390,19 +380,20 @@ module _ (m : Parts) (refused : List ℕ) where
       subst (λ v. Agrees p new (applied p h.frame h.below h.state (writes_word h.frame a v))) (status_told p m h (on_object p m h (active_listed _ met.0)) met.0) (word_put p m new h a _ (free _ met.1.0) x))
 
 module _ (m : Parts) (refused : List ℕ) (a : Active) where
+  -- the request of the object that works becomes another at the same place of the list
+  becomes : (test : Phase → Bool) (f : Request → Request) → ((r : Request) → (f r).order ≡ r.order) → Makes m.active a (this m) f → (p : Image) (h : At_hand p m)
+      → is_active_kind (home_kind p h.frame.home) ≡ true → in_phase test (own_request h.state.cells h.frame.home) ≡ true
+      → Agrees p (places.next (record m { active = a })) (applied p h.frame h.below h.state (updates h.frame (Requested (on_request f (own_request h.state.cells h.frame.home)))))
+  becomes test f same makes p h kind phase =
+      let r = in_one test _ phase in
+      let on = on_object p m h (active_listed _ kind) in
+      asks_on p m h a m.listed _ (requests_become p m h on a f r.0 r.1 makes) (services_become p m h on f same)
+
   pub set_active_does : Makes m.active a (this m) waits → Does refused SetActive m (places.next (record m { active = a }))
-  set_active_does makes =
-      plain_does m _ refused SetActive refl (λ p h c met.
-      let r = in_one is_issued _ met.1.1.1.0 in
-      let on = on_object p m h (active_listed _ met.0) in
-      asks_on p m h a m.listed _ (requests_become p m h on a waits r.0 r.1 makes) (services_become p m h on waits (λ r. refl)))
+  set_active_does makes = plain_does m _ refused SetActive refl (λ p h c met. becomes is_issued waits (λ r. refl) makes p h met.0 met.1.1.1.0)
 
   pub abort_does : Makes m.active a (this m) aborted → Does refused Abort m (places.next (record m { active = a }))
-  abort_does makes =
-      plain_does m _ refused Abort refl (λ p h c met.
-      let r = in_one is_cancelling _ met.1.0 in
-      let on = on_object p m h (active_listed _ met.0) in
-      asks_on p m h a m.listed _ (requests_become p m h on a aborted r.0 r.1 makes) (services_become p m h on aborted (λ r. refl)))
+  abort_does makes = plain_does m _ refused Abort refl (λ p h c met. becomes is_cancelling aborted (λ r. refl) makes p h met.0 met.1.0)
 
 -- what a native has answered is what the checked machine hears
 module _ (p : Image) (m : Parts) (h : At_hand p m) (on : OnObject p m h) (n : ℕ) (serves : native_of (kind_here p m) ≡ Some n) where

@@ -17,9 +17,9 @@ use Rattle.aom_shape.specs.Shape.{Shape}
 use Rattle.aom_rules.specs.Typing.{Typing}
 use Rattle.aom_sound.proofs.View.{under_dispatch}
 use Rattle.aom_sound.specs.Calls.{answered_by, below_top, end_needs, ended_well, result_needs, result_register, returned, told_answer}
-use Rattle.aom_sound.specs.Claims.{Method, Mark, tasks_of, claim, declared}
+use Rattle.aom_sound.specs.Claims.{Layer, Method, Mark, tasks_of, claim, declared}
 use Rattle.aom_sound.specs.Places.{Cell, named, Session, Tidy, Elsewhere, Entry, Field, Going, Object, Place, Register, changed, held, moved, same_place, seen}
-use Rattle.aom_sound.specs.State.{Accepted, Accepts, Of_server, Seat, Answered, Destroy, Dispatch, Dispatched, Frame, Run, State, Task, Trapped, Unwind, next, set_word, word}
+use Rattle.aom_sound.specs.State.{Accepted, Accepts, Of_server, Seat, Answered, Dispatch, Dispatched, Frame, Run, State, Task, Trapped, next, set_word, word}
 use Rattle.aom_sound.specs.WellTyped.{Awaits, Fits, Good, WellTyped, WordFits}
 use Rattle.aom_sound.proofs.Claimed.{claim_register_above}
 use Rattle.aom_sound.proofs.Finishing.{all_parts}
@@ -32,7 +32,7 @@ use Rattle.aom_cleanup.specs.declared.item.Item.{Item}
 use Rattle.aom_frames.specs.Tasks.{Runs, method_here, place_here, register_here, below_first}
 use Rattle.aom_frames.specs.declared.frame.Frame.{Frame as Held_frame}
 use Rattle.aom_frames.specs.declared.task.Task.{Task as Held_task}
-use Rattle.aom_frames.specs.declared.task.Task.TheVariants.{Run as Runs_frame, Trapped as Is_trap, Destroy as Destroys, Dispatched as Ends, Unwind as Unwinds}
+use Rattle.aom_frames.specs.declared.task.Task.TheVariants.{Run as Runs_frame, Trapped as Is_trap, Dispatched as Ends}
 use Rattle.aom_frames.specs.declared.dispatch.Dispatch.{Dispatch as Held_dispatch}
 use Rattle.aom_frames.specs.declared.dispatch.Dispatch.TheVariants.{Answered as One_answered, Asks as One_asks, Main, MainLeft, Object as Of_one, ObjectLeft as One_left, Root as End_of_run, Server as Of_one_served}
 use Rattle.aom_active.specs.Agrees.{Active}
@@ -40,19 +40,17 @@ use Rattle.aom_sound.specs.Enlisted.{ended_cells}
 use Rattle.aom_sound.proofs.Storing.{ended_alike}
 use Rattle.aom_acts.specs.Ends.{heard, told_by}
 use Rattle.aom_acts.specs.Going.{ending_here}
-use Rattle.aom_parts.proofs.Asking.{requests_moved}
-use Rattle.aom_acts.proofs.CancelEnds.{IsOver, ended_agrees, method_is}
+use Rattle.aom_acts.proofs.CancelEnds.{ended_agrees, method_is}
 use Rattle.aom_acts.proofs.OnTop.{ending_of}
 use Rattle.aom_parts.specs.declared.parts.Parts.{Parts}
 use Rattle.aom_parts.specs.Places.{others, Others, value_in, register_in, going_in, with_tasks, IsDestroying, IsEnding, IsTrapped, IsUnwinding}
-use Rattle.aom_parts.specs.Agrees.{subject_of, word_at, word_in, Shows, SameCells, SameDispatch, SameFrame, SameTasks, Agrees, SameRequests, dispatch_of, seat_of, SameNatives}
+use Rattle.aom_parts.specs.Agrees.{subject_of, word_at, word_in, Shows, SameDispatch, SameFrame, SameTasks, Agrees, dispatch_of, seat_of}
 use Rattle.aom_acts.specs.Acts.{At_hand, resulted, DoesIn}
 use Rattle.aom_parts.specs.Places as places
-use Rattle.aom_parts.proofs.Entries.{mark_shows_none, unmarked, value_alike}
+use Rattle.aom_parts.proofs.Entries.{mark_shows_none, value_alike}
 use Rattle.aom_parts.proofs.Overs.{held_over, higher, over_value, over_words, tasks_over}
 use Rattle.aom_acts.proofs.CallActs.{closing, ended, fits_null, shows_null}
 use Rattle.aom_image.specs.declared.method.Thing.{Thing}
-use Rattle.aom_image.specs.declared.method.Thing.TheVariants.{Object as An_object_of}
 use Rattle.aom_cells.specs.Heap.{cell_at}
 use Rattle.aom_clients.specs.Clients as kept_clients
 use Rattle.aom_frames.specs.declared.dispatch.Stage.TheVariants as stages
@@ -71,11 +69,12 @@ use Rattle.aom_acts.specs.Ends as ends
 use Rattle.aom_acts.specs.Serving.{CanServe, opened_by, served}
 use Rattle.aom_acts.specs.Acts.{requested as counted}
 use Rattle.aom_acts.specs.Next.{IsNext, counting}
+use Rattle.aom_acts.specs.Requests.{IsOver}
 use Rattle.aom_acts.proofs.Housing.{at_hand, needs_met}
 use Rattle.aom_acts.proofs.Stepping.{at_step}
 use Rattle.aom_parts.proofs.Premises.{connecting_below}
-use Rattle.aom_parts.proofs.Cells.{cell_small, cells_moved}
-use Rattle.aom_acts.proofs.Running.{Top, by_top, free, goes_on, moved_on, no_word, object_lives_at, register_shows}
+use Rattle.aom_parts.proofs.Cells.{cell_small}
+use Rattle.aom_acts.proofs.Running.{Aside, Top, agrees_with, aside_moved, aside_of, aside_unmarked, by_top, free, moved_on, no_word, object_lives_at, register_shows, retasked}
 use Rattle.std.specs.Bool.{OnTrue}
 use Rattle.std.specs.Prelude.{IsSome, is_some}
 use Rattle.std.proofs.lemmas.Option.{none-some}
@@ -83,9 +82,6 @@ use Rattle.aom_image.proofs.Given.{none_given}
 use Rattle.aom_parts.proofs.Alike.{A_catcher, A_going, A_last_trap, A_leave, A_method, An_end, Alike, Tops, alike, both_end, both_go, both_run, both_trapped, both_unwind, catcher_on_top, end_on_top, going_on_top, last_trap_on_top, leave_on_top, method_on_top, tops}
 use Rattle.aom_parts.proofs.Values.{at_depth, cases, going_past, kept, none_alike, register_past, value_kept, value_written, word_next, word_past, word_written, writes}
 use Rattle.aom_acts.proofs.WordActs.{plain_at, word_read}
-use Rattle.aom_parts.proofs.Services.{services_moved}
-use Rattle.aom_parts.proofs.Sessions.{natives_moved}
-use Rattle.aom_parts.specs.Services.{SameServices}
 
 -- what a method gives back
 pub gives_here : (p : Image) (k : ℕ) (d : Method_decl) → method_at p k ≡ Some d → gives_of p k ≡ d.gives
@@ -148,6 +144,19 @@ awaits _ x sh a = a
 pub awaiting : (g : Gives) (x : ℕ) (sh : Shape) → bears g ≡ true → Awaits g x sh → is_unowning (register sh x) ≡ true
 awaiting g x sh b a = OnTrue_at b (awaits g x sh a)
 
+-- a register that is claimed to own nothing owns nothing
+pub awaits_none : (p : Image) (s : State) (ls : List Layer) (ts : List Task) (sh : Shape) (x : ℕ) (k : Kind) → is_unowning (register sh x) ≡ true → k ≡ register sh x → Fits p (seen s.cells) (held s.cells (Register (length (tasks_of ls)) x)) k
+    → tasks_of ls ≡ ts → held s.cells (Register (length ts) x) ≡ None
+awaits_none p s ls ts sh x k quiet claims fits rest =
+    let q = Register (length (tasks_of ls)) x in
+    let none = fits_unowning p (seen s.cells) (held s.cells q) (register sh x) quiet (subst (Fits p (seen s.cells) (held s.cells q)) claims fits) in
+    subst (λ us. held s.cells (Register (length us) x) ≡ None) rest none
+
+-- under a trap stands the method that set it
+pub caught_layer : (P : List Layer → Type 0) (G : Type 0) (caller : Frame) (ts : List Task) (ls : List Layer) → tasks_of ls ≡ Trapped ∷ Run caller ∷ ts → P ls → ((gv : Gives) (sh : Shape) (below : List Layer) → tasks_of below ≡ ts → P (Mark gv ∷ Method caller sh ∷ below) → G) → G
+caught_layer P G caller ts ls under has gives =
+    mark_layer P (Run caller ∷ ts) ls under has (λ gv ls under has. method_layer (λ ls. P (Mark gv ∷ ls)) caller ts ls under has (λ sh ls rest has. gives gv sh ls rest has))
+
 awaited : (p : Image) (t : Typing) (s : State) (fr caller : Frame) (ts : List Task) → WellTyped p t s → s.tasks ≡ Run fr ∷ Run caller ∷ ts → bears (gives_of p fr.method) ≡ true
     → held s.cells (Register (length ts) (result_register (instr_at p caller.method caller.place))) ≡ None
 awaited p t s fr caller ts typed top some =
@@ -155,28 +164,22 @@ awaited p t s fr caller ts typed top some =
     method_layer (λ ls. Good p t s.cells (Method fr sh ∷ ls)) caller ts ls under good (λ sh' ls rest good.
     let x = result_register (instr_at p caller.method caller.place) in
     let q = Register (length (tasks_of ls)) x in
-    let quiet = awaiting (gives_of p fr.method) x sh' some good.stack.4.0.1 in
-    let claims : claim p (declared p s.cells) (Method fr sh ∷ Method caller sh' ∷ ls) q ≡ register sh' x =
-    ap (λ b. cond b (register sh x) (claim p (declared p s.cells) (Method caller sh' ∷ ls) q)) (ne_eqb (suc (length (tasks_of ls))) (length (tasks_of ls)) (λ e. absurd (omega arith))) ∙ claim_register p (declared p s.cells) caller sh' ls x in
-    let none = fits_unowning p (seen s.cells) (held s.cells q) (register sh' x) quiet (subst (Fits p (seen s.cells) (held s.cells q)) claims (good.fits q)) in
-    subst (λ us. held s.cells (Register (length us) x) ≡ None) rest none))
+    awaits_none p s ls ts sh' x _ (awaiting (gives_of p fr.method) x sh' some good.stack.4.0.1)
+    (ap (λ b. cond b (register sh x) (claim p (declared p s.cells) (Method caller sh' ∷ ls) q)) (ne_eqb (suc (length (tasks_of ls))) (length (tasks_of ls)) (λ e. absurd (omega arith))) ∙ claim_register p (declared p s.cells) caller sh' ls x)
+    (good.fits q) rest))
 
 -- the same through a trap
 awaited_trapped : (p : Image) (t : Typing) (s : State) (fr caller : Frame) (ts : List Task) → WellTyped p t s → s.tasks ≡ Run fr ∷ Trapped ∷ Run caller ∷ ts → bears (gives_of p fr.method) ≡ true
     → held s.cells (Register (length ts) (result_register (instr_at p caller.method caller.place))) ≡ None
 awaited_trapped p t s fr caller ts typed top some =
     method_layer (Good p t s.cells) fr (Trapped ∷ Run caller ∷ ts) typed.layers (sym typed.tasks ∙ top) typed.good (λ sh ls under good.
-    mark_layer (λ ls. Good p t s.cells (Method fr sh ∷ ls)) (Run caller ∷ ts) ls under good (λ gv ls under good.
-    method_layer (λ ls. Good p t s.cells (Method fr sh ∷ Mark gv ∷ ls)) caller ts ls under good (λ sh' ls rest good.
+    caught_layer (λ ls. Good p t s.cells (Method fr sh ∷ ls)) _ caller ts ls under good (λ gv sh' ls rest good.
     let x = result_register (instr_at p caller.method caller.place) in
     let d = length (tasks_of ls) in
-    let q = Register d x in
     let mark = good.stack.4 in
-    let quiet = awaiting gv x sh' (ap bears (sym mark.0.0) ∙ some) mark.1.0.2 in
-    let claims : claim p (declared p s.cells) (Method fr sh ∷ Mark gv ∷ Method caller sh' ∷ ls) q ≡ register sh' x =
-    ap (λ b. cond b (register sh x) (claim p (declared p s.cells) (Mark gv ∷ Method caller sh' ∷ ls) q)) (ne_eqb (suc (suc d)) d (λ e. absurd (omega arith))) ∙ claim_register p (declared p s.cells) caller sh' ls x in
-    let none = fits_unowning p (seen s.cells) (held s.cells q) (register sh' x) quiet (subst (Fits p (seen s.cells) (held s.cells q)) claims (good.fits q)) in
-    subst (λ us. held s.cells (Register (length us) x) ≡ None) rest none)))
+    awaits_none p s ls ts sh' x _ (awaiting gv x sh' (ap bears (sym mark.0.0) ∙ some) mark.1.0.2)
+    (ap (λ b. cond b (register sh x) (claim p (declared p s.cells) (Mark gv ∷ Method caller sh' ∷ ls) (Register d x))) (ne_eqb (suc (suc d)) d (λ e. absurd (omega arith))) ∙ claim_register p (declared p s.cells) caller sh' ls x)
+    (good.fits (Register d x)) rest))
 
 -- a register with a word owns nothing
 pub word_alone : (p : Image) (t : Typing) (s : State) (fr : Frame) (ts : List Task) (i : ℕ) (w : ℤ) → WellTyped p t s → s.tasks ≡ Run fr ∷ ts → word fr i ≡ Some w → held s.cells (Register (length ts) i) ≡ None
@@ -211,18 +214,9 @@ module _ (p : Image) (m : Parts) (t : Typing) (s : State) (fr : Frame) (agrees :
   -- to the going of a cell, to an unwinding or to a dispatch: nothing goes over
   to_waiting : (ms : List Held_task) (ts : List Task) → Top m s fr ts f ms → ((i : ℕ) → held s.cells (Register (length ts) i) ≡ None)
       → Agrees p (with_tasks ms m) (record s { tasks = ts })
-  to_waiting ms ts top clear = record {
-    tasks = top.below;
-    values = λ r. subst (Shows (value_in ms m.cells m.entries.items (others m) r) (word_at ts r)) (cleared_none _ (held s.cells) clear r) (beneath f ms fr ts m.cells m.entries.items (others m) (held s.cells) top.deep top.values r);
-    cells = agrees.cells;
-    entries = agrees.entries;
-    requests = agrees.requests;
-    natives = agrees.natives;
-    services = agrees.services;
-    rest = agrees.rest;
-    room = agrees.room;
-    entry_room = agrees.entry_room;
-  }
+  to_waiting ms ts top clear =
+      retasked p m s ms ts agrees top.below
+      (λ r. subst (Shows (value_in ms m.cells m.entries.items (others m) r) (word_at ts r)) (cleared_none _ (held s.cells) clear r) (beneath f ms fr ts m.cells m.entries.items (others m) (held s.cells) top.deep top.values r))
 
   -- to a method, or through a trap to one
   module _ (trapped : Bool) (g : Held_frame) (ms : List Held_task) (caller : Frame) (ts : List Task) (top : Top m s fr (tasks_over trapped (Run caller ∷ ts)) f (held_over trapped (Runs_frame g ∷ ms))) (small : result_register (instr_at p caller.method caller.place) < 16) where
@@ -254,19 +248,15 @@ module _ (p : Image) (m : Parts) (t : Typing) (s : State) (fr : Frame) (agrees :
         apart true e = omega arith
         apart false e = omega arith
 
-    same_frame : SameFrame g caller
-    same_frame = apart trapped top.below
+    same_there : SameFrame g caller × SameTasks ms ts
+    same_there = apart trapped top.below
       where
-        apart : (b : Bool) → SameTasks (held_over b (Runs_frame g ∷ ms)) (tasks_over b (Run caller ∷ ts)) → SameFrame g caller
-        apart true e = e.1.0
-        apart false e = e.0
+        apart : (b : Bool) → SameTasks (held_over b (Runs_frame g ∷ ms)) (tasks_over b (Run caller ∷ ts)) → SameFrame g caller × SameTasks ms ts
+        apart true e = e.1
+        apart false e = e
 
-    same_below : SameTasks ms ts
-    same_below = apart trapped top.below
-      where
-        apart : (b : Bool) → SameTasks (held_over b (Runs_frame g ∷ ms)) (tasks_over b (Run caller ∷ ts)) → SameTasks ms ts
-        apart true e = e.1.1
-        apart false e = e.1
+    abbrev same_frame : SameFrame g caller
+    same_frame = same_there.0
 
     base : (r : Place) → Shows (value_in (Runs_frame g ∷ ms) m.cells m.entries.items (others m) r) (word_at (Run caller ∷ ts) r) (under r)
     base r =
@@ -280,10 +270,7 @@ module _ (p : Image) (m : Parts) (t : Typing) (s : State) (fr : Frame) (agrees :
     -- the result has come
     record Landed (rs : List ℕ) (ws : List (Option ℤ)) (cs : List Cell) : Type 0 where
       values : (r : Place) → Shows (value_in (Runs_frame (record g { registers = rs }) ∷ ms) m.cells m.entries.items (others m) r) (word_at (Run (record caller { words = ws }) ∷ ts) r) (held cs r)
-      cells : SameCells p m.cells cs
-      requests : SameRequests p m.active cs
-      natives : SameNatives p m.sessions cs s.killed
-      services : SameServices p m.clients m.messages m.listed cs s.clients
+      aside : Aside p m (record s { cells = cs })
       wide : length rs ≡ 16
 
     abbrev IsClear : List Cell → Type 0
@@ -293,39 +280,33 @@ module _ (p : Image) (m : Parts) (t : Typing) (s : State) (fr : Frame) (agrees :
     lands_bare : IsClear s.cells → Landed g.registers caller.words s.cells
     lands_bare clear = record {
       values = λ r. subst (Shows (value_in (Runs_frame g ∷ ms) m.cells m.entries.items (others m) r) (word_at (Run caller ∷ ts) r)) (cleared_none _ (held s.cells) clear r) (base r);
-      cells = agrees.cells;
-      requests = agrees.requests;
-      natives = agrees.natives;
-      services = agrees.services;
+      aside = aside_of p m s agrees;
       wide = same_frame.wide;
     }
 
     -- with a number
-    lands : (cs : List Cell) (w : Option ℤ) (o : Option Object) → SameCells p m.cells cs → SameRequests p m.active cs → SameNatives p m.sessions cs s.killed → SameServices p m.clients m.messages m.listed cs s.clients → Shows n w o → ((r : Place) → held cs r ≡ changed under to o r) → Landed (slice_set g.registers x n) (set_word caller x w).words cs
-    lands cs w o cells requests natives services shows holds =
+    lands : (cs : List Cell) (w : Option ℤ) (o : Option Object) → Aside p m (record s { cells = cs }) → Shows n w o → ((r : Place) → held cs r ≡ changed under to o r) → Landed (slice_set g.registers x n) (set_word caller x w).words cs
+    lands cs w o aside shows holds =
         let wide = same_frame.wide in
         record {
           values = writes _ _ _ _ _ _ to n w o base shows
               (value_written g ms m.cells m.entries.items (others m) (length ts) x n g.place deep (omega arith))
               (word_written caller ts x caller.place w)
               holds;
-          cells = cells;
-          requests = requests;
-          natives = natives;
-          services = services;
+          aside = aside;
           wide = length-set g.registers x n ∙ wide;
         }
 
     -- with a word
     lands_word : IsClear s.cells → held s.cells to ≡ None → Landed (slice_set g.registers x n) (set_word caller x (word fr a)).words s.cells
     lands_word clear empty =
-        lands s.cells (word fr a) None agrees.cells agrees.requests agrees.natives agrees.services (subst (Shows n (word fr a)) (clear a) number_shows)
+        lands s.cells (word fr a) None (aside_of p m s agrees) (subst (Shows n (word fr a)) (clear a) number_shows)
         (λ r. kept (held s.cells) to r ∙ ap (λ o. changed (held s.cells) to o r) empty ∙ ap (λ o. cond (same_place to r) None o) (sym (cleared_none _ (held s.cells) clear r)))
 
     -- with an object
     lands_object : IsClear (moved from to s.cells) → held s.cells to ≡ None → word fr a ≡ None → Landed (slice_set g.registers x n) (set_word caller x None).words (moved from to s.cells)
     lands_object clear empty wordless =
-        lands (moved from to s.cells) None (held s.cells from) (cells_moved p m.cells s.cells from to agrees.cells) (requests_moved p m.active s.cells from to agrees.requests) (natives_moved p m.sessions s.killed s.cells from to agrees.natives) (services_moved p s.cells from to refl refl agrees.services) (subst (λ w. Shows n w (held s.cells from)) wordless number_shows) holds
+        lands (moved from to s.cells) None (held s.cells from) (aside_moved p m s from to agrees refl refl) (subst (λ w. Shows n w (held s.cells from)) wordless number_shows) holds
       where
         elsewhere : (r : Place) → same_place from r ≡ false → under r ≡ held s.cells r → held (moved from to s.cells) r ≡ changed under to (held s.cells from) r
         elsewhere r e same = held_moved s.cells from to r empty ∙ ap (λ b. cond (same_place to r) (held s.cells from) (cond b None (held s.cells r))) e ∙ ap (λ o. cond (same_place to r) (held s.cells from) o) (sym same)
@@ -349,7 +330,7 @@ module _ (p : Image) (m : Parts) (t : Typing) (s : State) (fr : Frame) (agrees :
     lands_next rs ws cs landed =
         let g' = record g { registers = rs } in
         let caller' = record caller { words = ws } in
-        goes_on p m s m.cells cs m.rest s.rest (record g' { place = suc g.place }) ms (next caller') ts agrees landed.cells landed.requests landed.natives landed.services agrees.rest same_below (moved_on g caller rs ws same_frame landed.wide)
+        agrees_with p m (record s { cells = cs }) (Runs_frame (record g' { place = suc g.place }) ∷ ms) (Run (next caller') ∷ ts) landed.aside (moved_on g caller rs ws same_frame landed.wide, same_there.1)
         (λ r. subst (λ k. Shows k (word_at (Run (next caller') ∷ ts) r) (held cs r)) (sym (value_kept g' ms m.cells m.entries.items (others m) (suc g.place) r))
         (subst (λ w. Shows (value_in (Runs_frame g' ∷ ms) m.cells m.entries.items (others m) r) w (held cs r)) (sym (word_next caller' ts (suc caller.place) r)) (landed.values r)))
 
@@ -363,21 +344,13 @@ module _ (p : Image) (m : Parts) (t : Typing) (s : State) (fr : Frame) (agrees :
         let wide = landed.wide in
         let was : m.entries.items ≡ Is_mark ∷ es.items = ap (λ (e : Held_items). e.items) marked in
         let old : (r : Place) → Shows (value_in (Runs_frame g' ∷ ms) m.cells es.items (others m) r) (word_at (Run caller' ∷ ts) r) (held cs r) = λ r. subst (λ k. Shows k (word_at (Run caller' ∷ ts) r) (held cs r)) (ap (λ is. value_in (Runs_frame g' ∷ ms) m.cells is (others m) r) was ∙ value_alike (Runs_frame g' ∷ ms) m.cells (Is_mark ∷ es.items) es.items (others m) (λ k. mark_shows_none es.items k) r) (landed.values r) in
-        record {
-          tasks = (moved_on g caller (slice_set rs (suc x) 0) (set_word caller' (suc x) (Some (pos 0))).words same_frame (length-set rs (suc x) 0 ∙ wide), same_below);
-          values = writes _ _ _ _ (held cs) _ q 0 (Some (pos 0)) None old refl
-              (value_written g' ms m.cells es.items (others m) (length ts) (suc x) 0 (suc g.place) deep (omega arith))
-              (word_written caller' ts (suc x) (suc caller.place) (Some (pos 0)))
-              (λ r. kept (held cs) q r ∙ ap (λ o. changed (held cs) q o r) empty);
-          cells = landed.cells;
-          entries = unmarked m.entries.items es.items s.items was agrees.entries;
-          requests = landed.requests;
-          natives = landed.natives;
-          services = landed.services;
-          rest = agrees.rest;
-          room = agrees.room;
-          entry_room = subst (λ k. 1024 ≤ k) (ap (λ (e : Held_items). e.depth) marked) agrees.entry_room;
-        }
+        agrees_with p (record m { entries = es }) (record s { cells = cs; items = below_top s.items }) (Runs_frame (record g { registers = slice_set rs (suc x) 0; place = suc g.place }) ∷ ms) (Run (next (set_word caller' (suc x) (Some (pos 0)))) ∷ ts)
+        (aside_unmarked p m (record s { cells = cs }) es marked landed.aside)
+        (moved_on g caller (slice_set rs (suc x) 0) (set_word caller' (suc x) (Some (pos 0))).words same_frame (length-set rs (suc x) 0 ∙ wide), same_there.1)
+        (writes _ _ _ _ (held cs) _ q 0 (Some (pos 0)) None old refl
+        (value_written g' ms m.cells es.items (others m) (length ts) (suc x) 0 (suc g.place) deep (omega arith))
+        (word_written caller' ts (suc x) (suc caller.place) (Some (pos 0)))
+        (λ r. kept (held cs) q r ∙ ap (λ o. changed (held cs) q o r) empty))
 
   -- to a method
   module _ (g : Held_frame) (ms : List Held_task) (caller : Frame) (ts : List Task) (top : Top m s fr (Run caller ∷ ts) f (Runs_frame g ∷ ms)) (empty : bears (gives_of p fr.method) ≡ true → held s.cells (Register (length ts) (result_register (instr_at p caller.method caller.place))) ≡ None) (small : result_register (instr_at p caller.method caller.place) < 16) where
@@ -458,34 +431,10 @@ accepting_or (One_answered x answer) = inl tt
 returned_plain :
     (p : Image) (fr : Frame) (s : State) (g : Gives) (a : ℕ) (ts : List Task) (q : Place) (x : Held_dispatch) → AcceptsNot x →
     returned p fr (Trapped ∷ Dispatched (dispatch_of q x) ∷ ts) s g a (Trapped ∷ Dispatched (dispatch_of q x) ∷ ts) ≡ record s { tasks = Dispatched (dispatch_of q (ends.served x)) ∷ ts; items = below_top s.items }
-returned_plain p fr s g a ts q Main plain = refl
-returned_plain p fr s g a ts q (MainLeft code) plain = refl
-returned_plain p fr s g a ts q End_of_run plain = refl
-returned_plain p fr s g a ts q (Of_one x) plain = refl
-returned_plain p fr s g a ts q (One_left x code) plain = refl
-returned_plain p fr s g a ts q (One_asks x) plain = refl
-returned_plain p fr s g a ts q (One_answered x answer) plain = refl
-returned_plain p fr s g a ts q (Of_one_served x c stages.Accepts) plain = absurd plain
-returned_plain p fr s g a ts q (Of_one_served x c stages.Accepted) plain = refl
-returned_plain p fr s g a ts q (Of_one_served x c (stages.AcceptLeft code)) plain = refl
-returned_plain p fr s g a ts q (Of_one_served x c (stages.Serves o)) plain = refl
-returned_plain p fr s g a ts q (Of_one_served x c (stages.ServiceLeft code)) plain = refl
-returned_plain p fr s g a ts q (Of_one_served x c stages.Parts) plain = refl
+returned_plain p fr s g a ts q x plain = grind arith
 
 opened_plain : (n : ℕ) (x : Held_dispatch) (us : List Held_task) (k : kept_clients.State) → AcceptsNot x → opened_by n (Ends x ∷ us) k ≡ k
-opened_plain n Main us k plain = refl
-opened_plain n (MainLeft code) us k plain = refl
-opened_plain n End_of_run us k plain = refl
-opened_plain n (Of_one x) us k plain = refl
-opened_plain n (One_left x code) us k plain = refl
-opened_plain n (One_asks x) us k plain = refl
-opened_plain n (One_answered x answer) us k plain = refl
-opened_plain n (Of_one_served x c stages.Accepts) us k plain = absurd plain
-opened_plain n (Of_one_served x c stages.Accepted) us k plain = refl
-opened_plain n (Of_one_served x c (stages.AcceptLeft code)) us k plain = refl
-opened_plain n (Of_one_served x c (stages.Serves o)) us k plain = refl
-opened_plain n (Of_one_served x c (stages.ServiceLeft code)) us k plain = refl
-opened_plain n (Of_one_served x c stages.Parts) us k plain = refl
+opened_plain n x us k plain = grind arith
 
 -- `accept` gives an object, a session with its server
 record Gives_session (p : Image) (s : State) (fr : Frame) (x : Seat) : Type 0 where
@@ -509,8 +458,7 @@ gives_session p t s fr x c ts typed top =
     })))
   where
     session_is : (o : Option ℕ) (y : Thing) → of_class o ≡ Some y → is_object y ≡ true
-    session_is (Some k) y e = let is : An_object_of k ≡ y = cc in ap is_object (sym is)
-    session_is None y e = cc
+    session_is o y e = grind arith
 
 -- the number of what a register owns then is that of a cell
 owned_number : (p : Image) (m : Parts) (s : State) → p.header.cells ≤ 4096 → Agrees p m s → (r : Place) (n : ℕ) (y : Thing) → is_object y ≡ true → Tidy s.cells → is_some (held s.cells r) ≡ true → is_thing p y (held s.cells r) ≡ true → Shows n None (held s.cells r) → n < 4096
@@ -539,18 +487,8 @@ heard_same answer answer' x d e same = (same.0, subst (λ d. dispatch_of same.0 
 -- a dispatch has no place of its own
 redispatched : (p : Image) (m : Parts) (s : State) (x y : Held_dispatch) (ms : List Held_task) (d e : Dispatch) (ts : List Task) → SameDispatch y e
     → Agrees p (with_tasks (Ends x ∷ ms) m) (record s { tasks = Dispatched d ∷ ts }) → Agrees p (with_tasks (Ends y ∷ ms) m) (record s { tasks = Dispatched e ∷ ts })
-redispatched p m s x y ms d e ts same agrees = record {
-  tasks = (same, agrees.tasks.1);
-  values = values;
-  cells = agrees.cells;
-  entries = agrees.entries;
-  requests = agrees.requests;
-  natives = agrees.natives;
-  services = agrees.services;
-  rest = agrees.rest;
-  room = agrees.room;
-  entry_room = agrees.entry_room;
-}
+redispatched p m s x y ms d e ts same agrees =
+    retasked p (with_tasks (Ends x ∷ ms) m) (record s { tasks = Dispatched d ∷ ts }) (Ends y ∷ ms) (Dispatched e ∷ ts) agrees (same, agrees.tasks.1) values
   where
     values : (r : Place) → Shows (value_in (Ends y ∷ ms) m.cells m.entries.items (others m) r) (word_at (Dispatched e ∷ ts) r) (held s.cells r)
     values (Register k i) = agrees.values (Register k i)
@@ -639,25 +577,24 @@ module _ (p : Image) (m : Parts) (refused : List ℕ) (a : ℕ) (act : Active) (
           (through p mid h.typing (past h) h.frame (agree h) f a es marked g ms caller ts top (λ some. still h _ ∙ awaited_trapped p h.typing h.state h.frame caller ts h.typed e some)
           (subst (λ k. suc k < 16) at small) (gives_of p h.frame.method) wordless refl typed))
 
+  -- to what waits: nothing goes over
+  to_waits : (P : List Held_task → Type 0) → ((ms : List Held_task) (ts : List Task) → P ms → Alike ms ts → (h : At_hand p m) → after h ts ≡ record (past h) { tasks = ts }) → P (below_first m.stack.tasks) → DoesIn p refused (Return a) m (with_tasks (below_first m.stack.tasks) mid)
+  to_waits P waits has = by_return (λ us. P (below_first us)) (λ us. with_tasks (below_first us) mid) has (λ h f ms top same met last typed has.
+      let is = waits ms h.below has same h in
+      subst (Agrees p (with_tasks ms mid)) (sym is)
+      (to_waiting p mid h.typing (past h) h.frame (agree h) f a ms h.below top (λ i. none_above p h.typing (record (past h) { tasks = h.below }) _ i (subst (WellTyped p h.typing) is typed) (omega arith))))
+
   pub return_to_going : IsDestroying (below_first m.stack.tasks) → DoesIn p refused (Return a) m (with_tasks (below_first m.stack.tasks) mid)
-  return_to_going destroying =
-      by_return (λ us. IsDestroying (below_first us)) (λ us. with_tasks (below_first us) mid) destroying
-      (λ h f ms top same met last typed has. go h f ms h.below top (tops A_going ms has) same typed)
+  return_to_going = to_waits IsDestroying (λ ms ts has same h. go h (tops A_going ms has) same)
     where
-      go : (h : At_hand p m) (f : Held_frame) (ms : List Held_task) (ts : List Task) → Top mid (past h) h.frame ts f ms → Tops A_going ms → Alike ms ts
-          → WellTyped p h.typing (after h ts) → Agrees p (with_tasks ms mid) (after h ts)
-      go h f _ _ top (going_on_top x ms) (both_go _ _ ts _ _ _) typed = to_waiting p mid h.typing (past h) h.frame (agree h) f a (Destroys x ∷ ms) (Destroy ∷ ts) top
-          (λ i. none_above p h.typing (after h (Destroy ∷ ts)) _ i typed (omega arith))
+      go : (h : At_hand p m) {ms : List Held_task} {ts : List Task} → Tops A_going ms → Alike ms ts → after h ts ≡ record (past h) { tasks = ts }
+      go h (going_on_top x ms) (both_go _ _ ts _ _ _) = refl
 
   pub return_to_unwinding : IsUnwinding (below_first m.stack.tasks) → DoesIn p refused (Return a) m (with_tasks (below_first m.stack.tasks) mid)
-  return_to_unwinding unwinding =
-      by_return (λ us. IsUnwinding (below_first us)) (λ us. with_tasks (below_first us) mid) unwinding
-      (λ h f ms top same met last typed has. go h f ms h.below top (tops A_leave ms has) same typed)
+  return_to_unwinding = to_waits IsUnwinding (λ ms ts has same h. go h (tops A_leave ms has) same)
     where
-      go : (h : At_hand p m) (f : Held_frame) (ms : List Held_task) (ts : List Task) → Top mid (past h) h.frame ts f ms → Tops A_leave ms → Alike ms ts
-          → WellTyped p h.typing (after h ts) → Agrees p (with_tasks ms mid) (after h ts)
-      go h f _ _ top (leave_on_top code ms) (both_unwind _ c _ ts _ _ _) typed = to_waiting p mid h.typing (past h) h.frame (agree h) f a (Unwinds code ∷ ms) (Unwind c ∷ ts) top
-          (λ i. none_above p h.typing (after h (Unwind c ∷ ts)) _ i typed (omega arith))
+      go : (h : At_hand p m) {ms : List Held_task} {ts : List Task} → Tops A_leave ms → Alike ms ts → after h ts ≡ record (past h) { tasks = ts }
+      go h (leave_on_top code ms) (both_unwind _ c _ ts _ _ _) = refl
 
   pub return_to_dispatch : (g : Gives) (d : Held_dispatch) → gives_of p (method_here m.stack.tasks) ≡ g → ending_here (below_first m.stack.tasks) ≡ Some d
       → DoesIn p refused (Return a) m (with_tasks (Ends (heard (told_by g (register_here m.stack.tasks a)) d) ∷ below_first (below_first m.stack.tasks)) mid)
@@ -735,19 +672,7 @@ module _ (p : Image) (m : Parts) (refused : List ℕ) (a : ℕ) (act : Active) (
 -- ---- what `accept` gives is the number of a cell, and its client is one
 
 can_plain : (n : ℕ) (x : Held_dispatch) (us : List Held_task) → AcceptsNot x → CanServe n (Ends x ∷ us)
-can_plain n Main us plain = tt
-can_plain n (MainLeft code) us plain = tt
-can_plain n End_of_run us plain = tt
-can_plain n (Of_one x) us plain = tt
-can_plain n (One_left x code) us plain = tt
-can_plain n (One_asks x) us plain = tt
-can_plain n (One_answered x answer) us plain = tt
-can_plain n (Of_one_served x c stages.Accepts) us plain = absurd plain
-can_plain n (Of_one_served x c stages.Accepted) us plain = tt
-can_plain n (Of_one_served x c (stages.AcceptLeft code)) us plain = tt
-can_plain n (Of_one_served x c (stages.Serves o)) us plain = tt
-can_plain n (Of_one_served x c (stages.ServiceLeft code)) us plain = tt
-can_plain n (Of_one_served x c stages.Parts) us plain = tt
+can_plain n x us plain = grind arith
 
 module _ (p : Image) (m : Parts) (h : At_hand p m) (a : ℕ) where
   abbrev Can : Held_frame → Held_dispatch → List Held_task → Dispatch → List Task → Type 0

@@ -76,18 +76,13 @@ own_destructs p o m e = go o.thing e
 
 -- what comes to no entries calls nothing that may
 pushes_from : (quiet quiet' leave leave' : Bool) → only_if quiet quiet' ≡ true → only_if leave' leave ≡ true → (not quiet' || leave') ≡ true → (not quiet || leave) ≡ true
-pushes_from true true true leave' q l may = refl
-pushes_from false quiet' leave leave' q l may = refl
-pushes_from _ _ _ _ q l may = absurd cc
+pushes_from quiet quiet' leave leave' q l may = grind arith
 
 pushes_where : (quiet leave : Bool) → leave ≡ true → (not quiet || leave) ≡ true
-pushes_where true true e = refl
-pushes_where true false e = absurd (true≢false (sym e))
-pushes_where false leave e = refl
+pushes_where quiet leave e = grind arith
 
 pushes_loud : (quiet leave : Bool) → not quiet ≡ true → (not quiet || leave) ≡ true
-pushes_loud true leave e = absurd (true≢false (sym e))
-pushes_loud false leave e = refl
+pushes_loud quiet leave e = grind arith
 
 pushes_none : (quiet leave : Bool) → quiet ≡ true → leave ≡ false → (not quiet || leave) ≡ true → ⊥
 pushes_none true true q l may = true≢false l
@@ -128,9 +123,7 @@ pub same_all : (cs cs' : List Cell) (n d : ℕ) → ((r : Place) → IsDealt r �
 same_all cs cs' n d same = (λ k lt. same (Entry k) tt, λ k lt. same (Going k) tt)
 
 register_apart : (d a : ℕ) (e : Place) → IsDealt e → same_place (Register d a) e ≡ false
-register_apart d a (Entry k) dealt = refl
-register_apart d a (Going k) dealt = refl
-register_apart d a _ dealt = absurd (assumption tt)
+register_apart d a e dealt = grind arith
 
 -- what is dealt with is as it was
 stored_same : (cs : List Cell) (home : Home) (w : ℕ) (v : ℤ) (e : Place) → held (stored cs home w v) e ≡ held cs e
@@ -152,9 +145,7 @@ result_same p fr ts s _ a x below e dealt = refl
 
 -- a session moves to its place
 pub session_apart : (n c : ℕ) (e : Place) → IsDealt e → same_place (Elsewhere (Session n c)) e ≡ false
-session_apart n c (Entry k) dealt = refl
-session_apart n c (Going k) dealt = refl
-session_apart n c _ dealt = absurd (assumption tt)
+session_apart n c e dealt = grind arith
 
 accepted_same : (d : Dispatch) (from : Place) (cs : List Cell) → ((e : Place) → IsDealt e → same_place from e ≡ false) → (e : Place) → IsDealt e → held (accepted_cells d from cs) e ≡ held cs e
 accepted_same (Of_server x c Accepts) from cs apart e dealt =
@@ -430,10 +421,9 @@ module _ (p : Image) (t : Typing) (depth heights : ℕ → ℕ) (tables : Tables
     spot_apart (In_register a) e dealt = register_apart (length ts) a e dealt
     spot_apart (In_field f) (Entry k) dealt = field_apart fr.home f k
     spot_apart (In_field f) (Going k) dealt = field_stays fr.home f k
-    spot_apart (In_field f) _ dealt = absurd (assumption tt)
     spot_apart The_message (Entry k) dealt = refl
     spot_apart The_message (Going k) dealt = refl
-    spot_apart The_message _ dealt = absurd (assumption tt)
+    spot_apart _ _ dealt = absurd (assumption tt)
 
     made_same : (name x a : ℕ) (e : Place) → IsDealt e → held (cells_after p fr ts s (Made name x a)) e ≡ held s.cells e
     made_same name x a (Entry k) dealt = refl

@@ -31,11 +31,11 @@ use Rattle.aom_sound.specs.Kept.{IsKept, StageKept, TasksKept}
 use Rattle.aom_sound.specs.Laws.{IsWired}
 use Rattle.aom_sound.specs.Lines.{message_line, stage_lines}
 use Rattle.aom_sound.specs.Moves.{needs_end, stage_ends, written_task}
-use Rattle.aom_sound.specs.Places.{Cell, Elsewhere, Entry, Field, Going, In_service, Object, Place, Queued, Register, Root, Session, changed, held, named, seen, service_of, without}
+use Rattle.aom_sound.specs.Places.{Cell, Elsewhere, In_service, Object, Place, Session, changed, held, named, seen, service_of, without}
 use Rattle.aom_sound.specs.Servers.{parted, reserved}
 use Rattle.aom_sound.specs.State.{Accept_left, Accepted, Accepts, Dispatched, Goes, Of_object, Of_server, Seat, Service_left, State, Rest, guarded, CompletedTwice}
 use Rattle.aom_sound.specs.State as checked
-use Rattle.aom_sound.specs.WellTyped.{Fits, Good, Keeps, WellTyped}
+use Rattle.aom_sound.specs.WellTyped.{Fits, Good, WellTyped}
 use Rattle.aom_sound.specs.Claims.{claim, declared}
 use Rattle.aom_shape.specs.declared.kind.Kind.TheVariants.{Null}
 use Rattle.aom_parts.proofs.Asking.{requests_kept}
@@ -61,6 +61,7 @@ use Rattle.aom_acts.proofs.GoingActs.{end_value, end_word}
 use Rattle.aom_acts.proofs.OnTop.{ending_of}
 use Rattle.aom_acts.proofs.ReturnActs.{lives_within}
 use Rattle.aom_acts.proofs.Running.{an_open}
+use Rattle.aom_acts.proofs.Stepping.{moved_so}
 use Rattle.aom_acts.specs.Going.{ending_here}
 use Rattle.aom_acts.specs.Moves.{Moves}
 use Rattle.aom_acts.specs.Serving.{CanEndStage, Completes, EndsStage, IsTaken, completion_lines}
@@ -245,14 +246,7 @@ module _ (p : Image) (formed : WellFormed p) (m : Parts) (announced : m.rest.ann
       }
         where
           same_values : (r : Place) → value_in (Ends (Of_one x) ∷ []) m.cells m.entries.items (record (others m) { clients = k }) r ≡ value_in (Ends (Of_one x) ∷ []) m.cells m.entries.items (others m) r
-          same_values (Register d i) = refl
-          same_values (Entry i) = refl
-          same_values (Field n f) = refl
-          same_values (Going i) = refl
-          same_values (Elsewhere Root) = refl
-          same_values (Elsewhere (Session n d)) = refl
-          same_values (Elsewhere In_service) = refl
-          same_values (Elsewhere (Queued n d)) = refl
+          same_values r = grind arith
 
       told : completion_lines (completion (kept.place_at m.clients does.place)) code ≡ message_line s.cells (held s.cells q) code
       told =
@@ -343,15 +337,7 @@ stage_moves p m before now announced x c stage mid ending does t s sound typed f
     let after = stage_ends seat c (stage_of stage) (at_close s) in
     let is = step_of_end p o.0 s (Of_server seat c (stage_of stage)) e.top ∙ needs_met p sound.formed m announced t s sound.wired typed fits agrees x c stage e after in
     let ends = ends_stage p sound.formed m announced t s sound.wired typed fits agrees x c stage mid before now e does in (
-      record {
-        choice = o.0;
-        state = after;
-        is_open = o.1;
-        hears = o.2;
-        goes = is;
-        typed = subst (Keeps p t) is (sound.keeps o.0 s typed o.1.name);
-        agrees = ends.0;
-      },
+      moved_so p m (with_tasks (Ends (Of_one x) ∷ below_first mid.stack.tasks) mid) before.refused t s after sound typed o is ends.0,
       ends.1 ∙ ap (λ ls. record before { lines = before.lines ++ ls }) (sym (ap (λ us. written_task p s us) e.top)),
     )
 

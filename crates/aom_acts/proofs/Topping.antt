@@ -2,11 +2,9 @@
 use Rattle.std.proofs.Common.{suc, ◌≡◌, ◌≤◌, ◌<◌, ◌+◌, ◌^◌, ℕ, Bool, true, length, List, [], ◌∷◌, IsSome, refl, sym, ap, ◌∙◌, subst, arith}
 use Rattle.std.specs.Prelude.{is_some}
 use Rattle.std.proofs.lemmas.Bool.{eqb-true}
-use Rattle.std.proofs.lemmas.Bool.Decides.{leb_tells}
 use Rattle.aom_image.specs.Image.{Image}
-use Rattle.aom_image.specs.Views.{arguments_of, gives_of, instr_at, method_at, method_class}
-use Rattle.aom_instructions.specs.declared.instr.Instr.TheVariants.{Pop, PopOperation, Return, Trap}
-use Rattle.aom_instructions.specs.declared.instr.Target.{Target}
+use Rattle.aom_image.specs.Views.{gives_of, instr_at}
+use Rattle.aom_instructions.specs.declared.instr.Instr.TheVariants.{Pop, PopOperation, Return}
 use Rattle.aom_image.specs.declared.method.Gives.{Gives}
 use Rattle.aom_image.specs.declared.method.Gives.TheVariants.{Left}
 use Rattle.aom_cleanup.specs.Items.{IsAboveMark, IsMarked, IsNotAboveMark}
@@ -14,7 +12,7 @@ use Rattle.aom_cleanup.specs.declared.item.Item.{Item as Held_item}
 use Rattle.aom_cleanup.specs.declared.item.Item.TheVariants.{Object as Holds_object, Operation as Holds_operation, Mark as Is_mark}
 use Rattle.aom_rules.specs.Typing.{Typing}
 use Rattle.aom_shape.specs.declared.kind.Entry.{Entry as Pushed}
-use Rattle.aom_sound.specs.Calls.{is_level, needs_target, result_needs, result_register}
+use Rattle.aom_sound.specs.Calls.{is_level, result_needs, result_register}
 use Rattle.aom_sound.specs.Claims.{Method, Form, Mark_form, forms, items_of, objects}
 use Rattle.aom_sound.specs.Cleanup.{tops_entry, tops_object, top_is_whole}
 use Rattle.aom_sound.specs.Places.{Entry, held}
@@ -78,19 +76,6 @@ module _ (p : Image) (m : Parts) where
   pub pops_entry : IsNext p PopOperation m → IsAboveMark m.entries.items
   unfolding at_hand
   pops_entry next = let n = needs_met p m PopOperation next in entry_tops m.entries.items next.stands.0.items next.stands.1.agrees.entries n.1.0
-
-  -- ---- a trap
-
-  module _ (target : Target) (k first x : ℕ) (next : IsNext p (Trap target k first x) m) where
-    pub trapped_there : IsSome (method_at p k)
-    trapped_there = (next.stands.1.sound.wired.trapped (method_here m.stack.tasks) (place_here m.stack.tasks) target k first x next.here).there
-
-    pub trapped_fits : (first + length (arguments_of p k)) ≤ 16
-    trapped_fits =
-        let n = needs_met p m (Trap target k first x) next in
-        let h = at_hand p (counting next.counts m) next.stands next.runs in
-        let parts = all_parts (needs_target p h.frame h.below (requested (Trap target k first x) (at_step h.state)) target (method_class p k) first (length (arguments_of p k))) _ n.1 in
-        grind (arith, leb_tells (first + length (arguments_of p k)) 16, parts.1.0)
 
 -- ---- a return through a trap finds its mark
 

@@ -1,8 +1,8 @@
 -- The moves of a leave that unwinds: what was pushed is dealt with, and then the code arrives.
-use Rattle.std.proofs.Common.{suc, ◌≡◌, ◌<◌, ◌≤◌, ℕ, ℤ, Bool, true, cond, length, List, [], ◌∷◌, ◌++◌, Option, Some, None, slice_set, pos, refl, sym, ap, ◌∙◌, subst, append-nil, arith}
+use Rattle.std.proofs.Common.{suc, ◌≡◌, ◌<◌, ℕ, ℤ, Bool, true, cond, length, List, [], ◌∷◌, ◌++◌, Option, Some, None, slice_set, pos, refl, sym, ap, ◌∙◌, subst, append-nil, arith}
 use Rattle.std.specs.Int.{w32, cast_unsigned}
 use Rattle.std.proofs.lemmas.Bool.{eq-eqb}
-use Rattle.std.proofs.Common.{FitsSigned}
+use Rattle.std.proofs.Common.{FitsSigned, of_z, to_z}
 use Rattle.std.proofs.lemmas.Int.{to_z-of_z}
 use Rattle.std.proofs.lemmas.List.{length-set}
 use Rattle.aom_image.specs.Image.{Image}
@@ -20,18 +20,18 @@ use Rattle.aom_shape.specs.Tables.{at, put_at}
 use Rattle.aom_rules.specs.Typing.{Typing}
 use Rattle.aom_sound.proofs.View.{under_dispatch}
 use Rattle.aom_sound.specs.Calls.{below_top, called, result_register}
-use Rattle.aom_sound.specs.Claims.{Method, Mark, Unwinding, tasks_of, claim, declared}
+use Rattle.aom_sound.specs.Claims.{Unwinding, tasks_of, declared}
 use Rattle.aom_sound.specs.Cleanup.{arrival, code_told, dealt_with as deals_with, ended_by, top_is_whole, tops_entry, unwound}
 use Rattle.aom_sound.specs.Laws.{IsWired}
-use Rattle.aom_sound.specs.Places.{Place, Register, changed, held, seen}
+use Rattle.aom_sound.specs.Places.{Place, Register, changed, held}
 use Rattle.aom_sound.specs.State.{Frame, Task, Run, Trapped, Unwind, Dispatched, Item, An_object, An_operation, A_mark, State, Goes, IsStuck, NullOrDead, next, set_word, word}
-use Rattle.aom_sound.specs.WellTyped.{Fits, Good, Keeps, WellTyped}
+use Rattle.aom_sound.specs.WellTyped.{Good, Keeps, WellTyped}
 use Rattle.aom_transcript.specs.declared.line.Line.TheVariants.{Leave}
 use Rattle.aom_sound.proofs.Guarded.{goes_same, guarded_goes, guarded_met}
 use Rattle.aom_sound.specs.Traps.{AllAtTraps}
-use Rattle.aom_sound.proofs.Straight.{claim_register, fits_unowning}
+use Rattle.aom_sound.proofs.Straight.{claim_register}
 use Rattle.aom_sound.proofs.Maps.{at-put_at}
-use Rattle.aom_sound.proofs.Layers.{leave_layer, mark_layer, method_layer}
+use Rattle.aom_sound.proofs.Layers.{leave_layer}
 use Rattle.aom_lines.specs.Turn.{Turn}
 use Rattle.aom_frames.specs.Tasks.{Runs, method_here, place_here, below_first}
 use Rattle.aom_frames.specs.declared.frame.Frame.{Frame as Held_frame}
@@ -50,13 +50,13 @@ use Rattle.aom_parts.specs.Room.{CalleeThere, CallsThere, ReturnsTo}
 use Rattle.aom_parts.specs.Stands.{Stands}
 use Rattle.aom_acts.proofs.CallActs.{closing, ended}
 use Rattle.aom_acts.proofs.DealActs.{deals}
-use Rattle.aom_parts.proofs.Entries.{mark_shows_none, unmarked, value_alike}
+use Rattle.aom_parts.proofs.Entries.{mark_shows_none, value_alike}
 use Rattle.aom_acts.proofs.Finding.{held_beneath, unwinds_over, IsTrapOnTop}
 use Rattle.aom_acts.proofs.LeavingActs.{unwinds_value, unwinds_word}
 use Rattle.aom_parts.proofs.Overs.{over_value, over_words}
 use Rattle.aom_parts.proofs.Alike.{A_caught_leave, A_last_leave, Alike, Alike_items, Entries_alike, Tops, alike, both_end, both_marks, both_run, both_trapped, both_unwind, caught_leave_on_top, entries_alike, entries_own, entries_run, items_alike, last_leave_on_top, same_below, tops}
-use Rattle.aom_acts.proofs.ReturnActs.{awaiting, bears, word_alone}
-use Rattle.aom_acts.proofs.Running.{an_open, moved_on}
+use Rattle.aom_acts.proofs.ReturnActs.{awaiting, awaits_none, bears, caught_layer, word_alone}
+use Rattle.aom_acts.proofs.Running.{agrees_with, an_open, aside_of, aside_unmarked, moved_on}
 use Rattle.aom_acts.proofs.Stepping.{at_rest, goes_somewhere, step_of_unwinding, unwinding_of}
 use Rattle.aom_acts.proofs.Topping.{top_lives}
 use Rattle.aom_parts.proofs.Values.{kept, none_alike, same_length, value_written, word_written, writes}
@@ -152,15 +152,10 @@ awaited_caught : (p : Image) (t : Typing) (s : State) (code : ℤ) (caller : Fra
     → held s.cells (Register (length ts) (result_register (instr_at p caller.method caller.place))) ≡ None
 awaited_caught p t s code caller ts typed top some =
     leave_layer (Good p t s.cells) code (Trapped ∷ Run caller ∷ ts) typed.layers (sym typed.tasks ∙ top) typed.good (λ es ls under good.
-    mark_layer (λ ls. Good p t s.cells (Unwinding code es ∷ ls)) (Run caller ∷ ts) ls under good (λ gv ls under good.
-    method_layer (λ ls. Good p t s.cells (Unwinding code es ∷ Mark gv ∷ ls)) caller ts ls under good (λ sh' ls rest good.
-    let x = result_register (instr_at p caller.method caller.place) in
-    let q = Register (length (tasks_of ls)) x in
+    caught_layer (λ ls. Good p t s.cells (Unwinding code es ∷ ls)) _ caller ts ls under good (λ gv sh' ls rest good.
     let caught = good.stack.1.1.0 in
-    let quiet = awaiting gv x sh' (ap bears (sym caught.0) ∙ some) caught.2 in
-    let claims : claim p (declared p s.cells) (Unwinding code es ∷ Mark gv ∷ Method caller sh' ∷ ls) q ≡ register sh' x = claim_register p (declared p s.cells) caller sh' ls x in
-    let none = fits_unowning p (seen s.cells) (held s.cells q) (register sh' x) quiet (subst (Fits p (seen s.cells) (held s.cells q)) claims (good.fits q)) in
-    subst (λ us. held s.cells (Register (length us) x) ≡ None) rest none)))
+    awaits_none p s ls ts sh' _ _ (awaiting gv _ sh' (ap bears (sym caught.0) ∙ some) caught.2) (claim_register p (declared p s.cells) caller sh' ls _)
+    (good.fits (Register (length (tasks_of ls)) (result_register (instr_at p caller.method caller.place)))) rest))
 
 -- a dispatch is left with the code on both sides
 left_alike : (code : ℤ) (q : Place) (x : Held_dispatch) → dispatch_of q (left code x) ≡ ended_by code (dispatch_of q x)
@@ -209,22 +204,13 @@ module _ (p : Image) (m : Parts) (s : State) (agrees : Agrees p m s) (es : Held_
       let q = Register (length ts) (suc x) in
       let n = cast_unsigned w32 code in
       let wide = cleared.wide in
-      let was : m.entries.items ≡ Is_mark ∷ es.items = ap (λ (e : Held_items). e.items) marked in
-      record {
-        tasks = (moved_on g caller (slice_set rs (suc x) n) (set_word caller' (suc x) (Some code)).words same_frame (length-set rs (suc x) n ∙ wide), same_below);
-        values = writes _ _ _ _ (held s.cells) _ q n (Some code) None cleared.values (to_z-of_z w32 code fits)
-            (value_written g' ms m.cells es.items (others m) (length ts) (suc x) n (suc g.place) deep (omega arith))
-            (word_written caller' ts (suc x) (suc caller.place) (Some code))
-            (λ r. kept (held s.cells) q r ∙ ap (λ o. changed (held s.cells) q o r) none);
-        cells = agrees.cells;
-        entries = unmarked m.entries.items es.items s.items was agrees.entries;
-        requests = agrees.requests;
-        natives = agrees.natives;
-        services = agrees.services;
-        rest = agrees.rest;
-        room = agrees.room;
-        entry_room = subst (λ k. 1024 ≤ k) (ap (λ (e : Held_items). e.depth) marked) agrees.entry_room;
-      }
+      agrees_with p (record m { entries = es }) (record s { items = below_top s.items }) (Runs_frame (record g { registers = slice_set rs (suc x) n; place = suc g.place }) ∷ ms) (Run (next (set_word caller' (suc x) (Some code))) ∷ ts)
+      (aside_unmarked p m s es marked (aside_of p m s agrees))
+      (moved_on g caller (slice_set rs (suc x) n) (set_word caller' (suc x) (Some code)).words same_frame (length-set rs (suc x) n ∙ wide), same_below)
+      (writes _ _ _ _ (held s.cells) _ q n (Some code) None cleared.values (to_z-of_z w32 code fits)
+      (value_written g' ms m.cells es.items (others m) (length ts) (suc x) n (suc g.place) deep (omega arith))
+      (word_written caller' ts (suc x) (suc caller.place) (Some code))
+      (λ r. kept (held s.cells) q r ∙ ap (λ o. changed (held s.cells) q o r) none))
 
   -- by what the method gives
   tells : (code : ℤ) (gv : Gives) → FitsSigned w32 code → (bears gv ≡ true → held s.cells (Register (length ts) x) ≡ None) → held s.cells (Register (length ts) (suc x)) ≡ None
@@ -248,6 +234,10 @@ code_alone p t gv x code caller ts s typed top = word_alone p t s (next (code_to
     has (An_own t) = written (set_word caller x None).words
     has (A_maybe t) = written (set_word caller x None).words
     has (Left y) = written caller.words
+
+-- a code as it is told is the one at hand
+pub told_code : (k code : ℤ) → FitsSigned w32 k → k ≡ code → (to_z w32 (of_z w32 k) ≡ code) × FitsSigned w32 code
+told_code k code fits is = (to_z-of_z w32 k fits ∙ is, subst (FitsSigned w32) is fits)
 
 module _ (p : Image) (m : Parts) (es : Held_items) (marked : m.entries ≡ record es { items = Is_mark ∷ es.items }) (t : Turn) (fits : FitsSigned w32 (code_here m.stack.tasks)) where
   abbrev under : List Held_task

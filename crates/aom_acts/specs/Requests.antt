@@ -1,6 +1,7 @@
 -- What becomes of the requests of objects.
 use Rattle.std.specs.Prelude.{◌≡◌, ℕ, ℤ, Option, None, Some, IsFalse, IsTrue}
 use Rattle.aom_image.specs.Image.{Image}
+use Rattle.aom_image.specs.Views.{method_role}
 use Rattle.aom_image.specs.declared.class.ClassKind.{ClassKind}
 use Rattle.aom_image.specs.declared.class.ClassKind.TheVariants.{Active as An_active}
 use Rattle.aom_image.specs.declared.class.Provider.{Provider}
@@ -15,7 +16,7 @@ use Rattle.aom_active.specs.Meanings.{Makes, Times, begun_with, is_being_cancell
 use Rattle.aom_sound.specs.Enlisted.{cancelled, due_after, completed_at_once}
 use Rattle.aom_sound.specs.Natives.{started}
 use Rattle.aom_sessions.specs.Sessions.{Standing, is_killed, is_open}
-use Rattle.aom_frames.specs.Tasks.{Runs}
+use Rattle.aom_frames.specs.Tasks.{Runs, method_here}
 use Rattle.aom_parts.specs.declared.parts.Parts.{Parts}
 use Rattle.aom_parts.specs.Fields.{this}
 
@@ -29,6 +30,13 @@ IsCancelled role m = Unit {0}
 abbrev pub EndsCancel : Role → Active → Active → ℕ → Type 0
 EndsCancel Cancel old new id = Makes old new id cancelled
 EndsCancel role old new id = new ≡ old
+
+-- the cancel that the method at its end may have to end is over
+pub record IsOver (p : Image) (m : Parts) (active : Active) : Type 0 where
+  pub role : Role
+  pub plays : method_role p (method_here m.stack.tasks) ≡ Some role
+  pub was : IsCancelled role m
+  pub ends : EndsCancel role m.active active (this m)
 
 -- the kind of class of what a method works on
 abbrev pub kind_here : Image → Parts → Option ClassKind

@@ -1,14 +1,16 @@
 //! Calls, returns, and `stop`.
 ghost use Rattle.aom_acts.specs.Ends.{heard, told_by};
 ghost use Rattle.aom_acts.specs.Going.{ending_here};
-ghost use Rattle.aom_parts.specs.Places.{with_tasks, next, set_register};
-ghost use Rattle.aom_acts.specs.Requests.{EndsCancel, IsCancelled};
+ghost use Rattle.aom_cleanup.specs.Items.{IsMarked};
+ghost use Rattle.aom_parts.specs.Places.{IsTrapped, with_tasks, next, set_register};
+ghost use Rattle.aom_parts.specs.Room.{ReturnsTo};
+ghost use Rattle.aom_acts.specs.Requests.{EndsCancel, IsCancelled, IsOver};
 ghost use Rattle.aom_parts.specs.Fields.{this, ThisLives};
 ghost use Rattle.aom_frames.specs.declared.task.Task.TheVariants.{Dispatched};
-ghost use Rattle.aom_frames.specs.Tasks.{below_first, Runs, method_here, place_here};
+ghost use Rattle.aom_frames.specs.Tasks.{below_first, Runs, fresh, method_here, place_here};
 ghost use Rattle.std.specs.Prelude.{ℕ, suc, List, ◌<◌, ◌≤◌, ◌+◌, ◌^◌, ◌∷◌, ◌≡◌, IsSome, Some, length};
 ghost use Rattle.aom_image.specs.Image.{Image};
-ghost use Rattle.aom_image.specs.Views.{instr_at};
+ghost use Rattle.aom_image.specs.Views.{arguments_of, gives_of, instr_at, method_at, method_class};
 ghost use Rattle.aom_instructions.specs.declared.instr.Instr.TheVariants.{Call, Return, Stop, Trap};
 ghost use Rattle.aom_sound.specs.Calls.{result_register};
 ghost use Rattle.aom_acts.specs.Acts.{Does, DoesIn, resulted};
@@ -20,7 +22,7 @@ use aom_cells::NULL;
 use aom_classes::Linked;
 use aom_cleanup::Item;
 use aom_frames::{Dispatch, Frame, Task, TaskKind};
-use aom_image::{ClassNumber, Gives, Instr, MethodNumber, Register, Role, Target};
+use aom_image::{Argument, ClassNumber, Gives, Instr, MethodNumber, Register, Role, Target};
 use aom_parts::Parts;
 
 /// The register to which the result of a call comes.
@@ -64,6 +66,24 @@ fn target_of(parts: &Parts, target: Target, class: Option<ClassNumber>) -> u32
     }
 }
 
+/// The frame in which a method that is called begins, and what it takes.
+fn callee<'a>(
+    parts: &Parts,
+    target: Target,
+    method: MethodNumber,
+    linked: &'a Linked,
+) -> (Frame, &'a [Argument])
+    requires there { IsSome (method_at linked.now method) }
+    requires runs { Runs parts.now.stack.tasks }
+    requires housed { ThisLives parts.now }
+    ensures frame { result.0 ≡ fresh method (target_here target (method_class linked.now method) parts.now) }
+    ensures arguments { result.1.now ≡ arguments_of linked.now method }
+{
+    let called = linked.method(method);
+    let this = target_of(parts, target, called.class);
+    (Frame::begin(method, this), called.arguments.as_slice())
+}
+
 /// Calls a method, with its arguments from a register on.
 pub fn call(
     parts: &mut Parts,
@@ -75,12 +95,8 @@ pub fn call(
     requires { (to : ℕ) × IsNext linked.now (Call target method first to) parts.old }
     ensures { (refused : List ℕ) (to : ℕ) → DoesIn linked.now refused (Call target method first to) parts.old parts.new }
 {
-    let called = linked.method(method);
-    let this = target_of(parts, target, called.class);
-    let frame = Frame::begin(method, this);
-    parts
-        .stack
-        .enter(frame, first.number(), called.arguments.as_slice());
+    let (frame, arguments) = callee(parts, target, method, linked);
+    parts.stack.enter(frame, first.number(), arguments);
 }
 
 /// The same under a trap, whose mark lies on the cleanup stack.
@@ -94,12 +110,8 @@ pub fn trap(
     requires { (to : ℕ) × IsNext linked.now (Trap target method first to) parts.old }
     ensures { (refused : List ℕ) (to : ℕ) → DoesIn linked.now refused (Trap target method first to) parts.old parts.new }
 {
-    let called = linked.method(method);
-    let this = target_of(parts, target, called.class);
-    let frame = Frame::begin(method, this);
-    parts
-        .stack
-        .enter_trap(frame, first.number(), called.arguments.as_slice());
+    let (frame, arguments) = callee(parts, target, method, linked);
+    parts.stack.enter_trap(frame, first.number(), arguments);
     parts.entries.mark();
 }
 
@@ -172,17 +184,30 @@ fn hear(parts: &mut Parts, dispatch: Dispatch, gives: Gives, number: u32)
         .push(Task::Dispatched(Dispatch::Answered(subject, answer)));
 }
 
+/// The method that runs is over, and a cancel that it may end. What it gives.
+fn end_method(parts: &mut Parts, linked: &Linked) -> Gives
+    requires { (from : ℕ) × IsNext linked.now (Return from) parts.old }
+    ensures gives { result ≡ gives_of linked.now (method_here parts.old.stack.tasks) }
+    ensures over { IsOver linked.now parts.old parts.new.active }
+    ensures rest { parts.new ≡ with_tasks (below_first parts.old.stack.tasks) (record parts.old { active = parts.new.active }) }
+    ensures returns { ReturnsTo linked.now parts.new.stack.tasks }
+    ensures marked { IsTrapped parts.new.stack.tasks → IsMarked parts.new.entries.items }
+{
+    let method = linked.method(parts.stack.method());
+    let gives = method.gives;
+    end_cancel(parts, method.role);
+    parts.drop_task();
+    gives
+}
+
 /// A method returns: to the one that called it, through a trap to it or to the dispatch, to the going of its cell, to an unwinding, or to
 /// the dispatch that has asked it.
 pub fn give_back(parts: &mut Parts, from: Register, linked: &Linked)
     requires { IsNext linked.now (Return from) parts.old }
     ensures { (refused : List ℕ) → DoesIn linked.now refused (Return from) parts.old parts.new }
 {
-    let method = linked.method(parts.stack.method());
-    let gives = method.gives;
     let number = parts.register(from);
-    end_cancel(parts, method.role);
-    parts.drop_task();
+    let gives = end_method(parts, linked);
     match parts.stack.top() {
         Some(TaskKind::Run) => receive(parts, gives, number, linked),
         Some(TaskKind::Trapped) => {

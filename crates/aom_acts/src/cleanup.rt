@@ -7,8 +7,8 @@ ghost use Rattle.aom_acts.specs.Acts.{Does, DoesIn};
 ghost use Rattle.aom_acts.specs.Cleanup.{TopLives, dealt_with, operating};
 ghost use Rattle.aom_acts.specs.Next.{IsNext};
 
-use crate::going;
 use crate::leaving::{self, NO_MEMORY};
+use crate::{going, objects};
 use aom_cells::NULL;
 use aom_classes::Linked;
 use aom_cleanup::Item;
@@ -111,6 +111,5 @@ pub fn create_or_leave(parts: &mut Parts, to: Register, class: ClassNumber, turn
         return;
     }
     let number = parts.new_cell(class, false);
-    parts.set_register(to, number);
-    parts.next();
+    objects::bring(parts, to, number);
 }

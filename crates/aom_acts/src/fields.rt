@@ -5,6 +5,7 @@ ghost use Rattle.aom_instructions.specs.declared.instr.Instr.TheVariants.{JumpEm
 ghost use Rattle.aom_acts.specs.Acts.{Does};
 ghost use Rattle.aom_acts.specs.Next.{IsNext};
 
+use crate::objects;
 use aom_cells::NULL;
 use aom_image::{FieldIndex, Place, Register};
 use aom_parts::Parts;
@@ -25,8 +26,7 @@ pub fn take(parts: &mut Parts, to: Register, field: FieldIndex)
     ensures { (refused : List ℕ) → Does refused (Take to field) parts.old parts.new }
 {
     let number = parts.take_field(field);
-    parts.set_register(to, number);
-    parts.next();
+    objects::bring(parts, to, number);
 }
 
 pub fn put(parts: &mut Parts, field: FieldIndex, from: Register)

@@ -6,6 +6,7 @@ ghost use Rattle.aom_acts.specs.Acts.{Does, Tells};
 ghost use Rattle.aom_acts.specs.Next.{IsNext};
 ghost use Rattle.aom_acts.specs.Serving.{Completes, IsTaken, completion_line};
 
+use crate::objects;
 use aom_cells::NULL;
 use aom_clients::Completion;
 use aom_image::Register;
@@ -21,8 +22,7 @@ pub fn take_message(parts: &mut Parts, to: Register)
     ensures { (refused : List ℕ) → Does refused (TakeMessage to) parts.old parts.new }
 {
     let message = mem::replace(&mut parts.served, NULL);
-    parts.set_register(to, message);
-    parts.next();
+    objects::bring(parts, to, message);
 }
 
 /// A register's message is completed with the word of another register.

@@ -1,5 +1,7 @@
 //! Instructions on objects.
-ghost use Rattle.std.specs.Prelude.{ℕ, List};
+ghost use Rattle.std.specs.Prelude.{ℕ, List, ◌≡◌, ◌<◌, ◌+◌, ◌^◌};
+ghost use Rattle.aom_frames.specs.Tasks.{Runs, place_here};
+ghost use Rattle.aom_parts.specs.Places.{next, set_register};
 ghost use Rattle.aom_image.specs.Image.{Image};
 ghost use Rattle.aom_instructions.specs.declared.instr.Instr.TheVariants.{JumpNull, Move, New};
 ghost use Rattle.aom_acts.specs.Acts.{Does};
@@ -9,6 +11,17 @@ use aom_cells::NULL;
 use aom_image::{ClassNumber, Place, Register};
 use aom_lines::Turn;
 use aom_parts::Parts;
+
+/// A number comes to a register, and the method goes on.
+pub fn bring(parts: &mut Parts, to: Register, number: u32)
+    requires runs { Runs parts.old.stack.tasks }
+    requires within { place_here parts.old.stack.tasks + 1 < 2 ^ 64 }
+    ensures in_range { to < 16 }
+    ensures brought { parts.new ≡ next (set_register to number parts.old) }
+{
+    parts.set_register(to, number);
+    parts.next();
+}
 
 pub fn jump_null(parts: &mut Parts, from: Register, place: Place)
     requires { (p : Image) × IsNext p (JumpNull from place) parts.old }
@@ -27,8 +40,7 @@ pub fn move_to(parts: &mut Parts, to: Register, from: Register)
     ensures { (refused : List ℕ) → Does refused (Move to from) parts.old parts.new }
 {
     let object = parts.take_register(from);
-    parts.set_register(to, object);
-    parts.next();
+    bring(parts, to, object);
 }
 
 pub fn create(parts: &mut Parts, to: Register, class: ClassNumber, turn: &Turn)
@@ -37,6 +49,5 @@ pub fn create(parts: &mut Parts, to: Register, class: ClassNumber, turn: &Turn)
 {
     let refused = parts.request_cell(turn);
     let number = parts.new_cell(class, refused);
-    parts.set_register(to, number);
-    parts.next();
+    bring(parts, to, number);
 }

@@ -16,20 +16,15 @@ length_of_items (Mark ∷ is) = let below = length_of_items is in omega (arith, 
 
 -- an entry counts as one, and as no mark
 pub entries_with : (i : Item) (is : List Item) → IsEntry i → entries_in (i ∷ is) ≡ suc (entries_in is)
-entries_with (Object n) is entry = refl
-entries_with (Operation m w) is entry = refl
-entries_with Mark is entry = absurd entry
+entries_with i is entry = grind arith
 
 pub marks_with : (i : Item) (is : List Item) → IsEntry i → marks_in (i ∷ is) ≡ marks_in is
-marks_with (Object n) is entry = refl
-marks_with (Operation m w) is entry = refl
-marks_with Mark is entry = absurd entry
+marks_with i is entry = grind arith
 
 -- what is last is counted
 pub some_entry : (is : List Item) → IsAboveMark is → 0 < entries_in is
-some_entry (Object n ∷ is) above = omega arith
-some_entry (Operation m w ∷ is) above = omega arith
-some_entry _ above = absurd above
+some_entry (i ∷ is) above = omega (arith, entries_with i is above)
+some_entry [] above = absurd above
 
 pub some_mark : (is : List Item) → IsMarked is → 0 < marks_in is
 some_mark (Mark ∷ is) marked = omega arith

@@ -9,6 +9,8 @@ use Rattle.aom_image.specs.declared.method.Method.{Method}
 use Rattle.aom_image.specs.declared.method.Role.{Role}
 use Rattle.aom_rules.specs.Calls.{brought, caught, while_called, rule_given, rule_target, rule_arguments, rule_moved, rule_call, flow_call, rule_trapped, rule_trap, flow_trap}
 use Rattle.aom_rules.specs.Requests.{is_construct, resting}
+use Rattle.aom_rules.specs.Site.{Site}
+use Rattle.aom_rules.specs.declared.calls.Call.{Call}
 use Rattle.aom_rules.proofs.Growing.{arguments_leave}
 use Rattle.aom_shape.specs.Arguments.{arguments_moved}
 use Rattle.aom_shape.specs.Needs.{Need, Flow, judged, tested, to_next}
@@ -55,97 +57,91 @@ module _ (p : Image) (m : ℕ) (sh : Shape) (target : Target) (first : ℕ) (d :
 
   -- ---- what comes after them
 
-  module _ (rest : Shape → List Need) (left : Shape → List Flow) where
-    refused_so : (w : Why) → judged given moved ≡ Err w → judged (given ++ rest moved) (left moved) ≡ Err w
-    refused_so w e = failed_first given (rest moved) moved (left moved) w e
+  -- each part decides in turn, and where all are met the flows are those of the last
+  pub record Decides (rest : Shape → List Need) (left : Shape → List Flow) (answer : Result (List Flow) Why) : Type 0 where
+    pub refused : (w : Why) → judged given moved ≡ Err w → answer ≡ Err w
+    pub rest_refused : (z : Shape) (w : Why) → judged given moved ≡ Ok z → tested (rest z) ≡ Err w → answer ≡ Err w
+    pub met : (z : Shape) (u : Unit {0}) → judged given moved ≡ Ok z → tested (rest z) ≡ Ok u → answer ≡ Ok (left z)
 
-    rest_refused : (z : Shape) (w : Why) → judged given moved ≡ Ok z → tested (rest z) ≡ Err w → judged (given ++ rest moved) (left moved) ≡ Err w
-    rest_refused z w e f = passed_first given (rest moved) moved z (left moved) e ∙ all_failed (rest moved) (left moved) w (ap (λ s. tested (rest s)) (passed_is given moved z e) ∙ f)
+  decides : (rest : Shape → List Need) (left : Shape → List Flow) (answer : Result (List Flow) Why) → answer ≡ judged (given ++ rest moved) (left moved) → Decides rest left answer
+  decides rest left answer is = record {
+    refused = λ w e. is ∙ failed_first given (rest moved) moved (left moved) w e;
+    rest_refused = λ z w e f. is ∙ passed_first given (rest moved) moved z (left moved) e ∙ all_failed (rest moved) (left moved) w (ap (λ s. tested (rest s)) (passed_is given moved z e) ∙ f);
+    met = λ z u e f.
+        is
+        ∙ passed_first given (rest moved) moved z (left moved) e
+        ∙ all_passed (rest moved) (left moved) u (ap (λ s. tested (rest s)) (passed_is given moved z e) ∙ f)
+        ∙ ap (λ s. Ok (left s)) (passed_is given moved z e);
+  }
 
-    all_met : (z : Shape) (u : Unit {0}) → judged given moved ≡ Ok z → tested (rest z) ≡ Ok u → judged (given ++ rest moved) (left moved) ≡ Ok (left z)
-    all_met z u e f =
-        passed_first given (rest moved) moved z (left moved) e
-        ∙ (all_passed (rest moved) (left moved) u (ap (λ s. tested (rest s)) (passed_is given moved z e) ∙ f)
-        ∙ ap (λ s. Ok (left s)) (passed_is given moved z e))
+-- ---- at a site
 
-module _ (p : Image) (m : ℕ) (pc : ℕ) (sh : Shape) (target : Target) (m' : ℕ) (first : ℕ) (c : ℕ) (d : Method) (there : method_at p m' ≡ Some d) where
+module _ (site : Site) (call : Call) (d : Method) (there : method_at site.image call.method ≡ Some d) where
   abbrev needs : List Need
-  needs = rule_given p m sh target d first
+  needs = rule_given site.image site.method site.shape call.target d call.first
 
   abbrev after : Shape
-  after = arguments_moved d.arguments first sh
+  after = arguments_moved d.arguments call.first site.shape
 
   abbrev lasting : ℕ → Shape → Shape
-  lasting ended s = while_called target d.class ended s
+  lasting ended s = while_called call.target d.class ended s
 
   -- what is asked, by what is declared of the called method
   abbrev asks : (Shape → List Need) → Option ℕ → Option Role → List Argument → List Need
   asks rest class role xs =
-      rule_target p m sh target class (is_construct role) first (length xs)
-      ++ (rule_arguments p sh xs first
-      ++ rest (arguments_moved xs first sh))
+      rule_target site.image site.method site.shape call.target class (is_construct role) call.first (length xs)
+      ++ (rule_arguments site.image site.shape xs call.first
+      ++ rest (arguments_moved xs call.first site.shape))
 
-  asked : (rest : Shape → List Need) → asks rest (method_class p m') (method_role p m') (arguments_of p m') ≡ needs ++ rest after
+  asked : (rest : Shape → List Need) → asks rest (method_class site.image call.method) (method_role site.image call.method) (arguments_of site.image call.method) ≡ needs ++ rest after
   asked rest =
-      ap (λ class. asks rest class (method_role p m') (arguments_of p m')) (class_there p m' d there)
-      ∙ ap (λ role. asks rest d.class role (arguments_of p m')) (role_there p m' d there)
-      ∙ ap (λ xs. asks rest d.class (Some d.role) xs) (arguments_there p m' d there)
-      ∙ sym (append_assoc (of_target p m sh target first d) (of_arguments p m sh target first d) (rest after))
+      ap (λ class. asks rest class (method_role site.image call.method) (arguments_of site.image call.method)) (class_there site.image call.method d there)
+      ∙ ap (λ role. asks rest d.class role (arguments_of site.image call.method)) (role_there site.image call.method d there)
+      ∙ ap (λ xs. asks rest d.class (Some d.role) xs) (arguments_there site.image call.method d there)
+      ∙ sym (append_assoc (of_target site.image site.method site.shape call.target call.first d) (of_arguments site.image site.method site.shape call.target call.first d) (rest after))
 
   -- ---- calls
 
   abbrev of_moved : Shape → List Need
-  of_moved s = rule_moved p m s target m' c
+  of_moved s = rule_moved site.image site.method s call.target call.method call.result
 
   abbrev left_by_call : Shape → List Flow
-  left_by_call s = to_next pc (brought d.gives c (lasting d.after.0 s))
+  left_by_call s = to_next site.place (brought d.gives call.result (lasting d.after.0 s))
 
   abbrev call_answer : Result (List Flow) Why
-  call_answer = judged (rule_call p m pc sh target m' first c) (flow_call p m pc sh target m' first c)
+  call_answer = judged (rule_call site.image site.method site.place site.shape call.target call.method call.first call.result) (flow_call site.image site.method site.place site.shape call.target call.method call.first call.result)
 
-  call_leaves : flow_call p m pc sh target m' first c ≡ left_by_call after
-  call_leaves = rw (gives_there p m' d there, class_there p m' d there, arguments_there p m' d there, after_there p m' d there) refl
+  call_leaves : flow_call site.image site.method site.place site.shape call.target call.method call.first call.result ≡ left_by_call after
+  call_leaves = rw (gives_there site.image call.method d there, class_there site.image call.method d there, arguments_there site.image call.method d there, after_there site.image call.method d there) refl
 
   call_is : call_answer ≡ judged (needs ++ of_moved after) (left_by_call after)
-  call_is = ap (λ ns. judged ns (flow_call p m pc sh target m' first c)) (asked of_moved) ∙ ap (λ fs. judged (needs ++ of_moved after) fs) call_leaves
+  call_is = ap (λ ns. judged ns (flow_call site.image site.method site.place site.shape call.target call.method call.first call.result)) (asked of_moved) ∙ ap (λ fs. judged (needs ++ of_moved after) fs) call_leaves
 
-  pub call_refused : (w : Why) → judged needs after ≡ Err w → call_answer ≡ Err w
-  call_refused w e = call_is ∙ refused_so p m sh target first d of_moved left_by_call w e
-
-  pub call_moved_refused : (z : Shape) (w : Why) → judged needs after ≡ Ok z → tested (of_moved z) ≡ Err w → call_answer ≡ Err w
-  call_moved_refused z w e f = call_is ∙ rest_refused p m sh target first d of_moved left_by_call z w e f
-
-  pub call_met : (z : Shape) (u : Unit {0}) → judged needs after ≡ Ok z → tested (of_moved z) ≡ Ok u → call_answer ≡ Ok (left_by_call z)
-  call_met z u e f = call_is ∙ all_met p m sh target first d of_moved left_by_call z u e f
+  pub call_decides : Decides site.image site.method site.shape call.target call.first d of_moved left_by_call call_answer
+  call_decides = decides site.image site.method site.shape call.target call.first d of_moved left_by_call call_answer call_is
 
   -- ---- traps
 
   abbrev of_trapped : Shape → List Need
-  of_trapped s = rule_trapped p m pc sh s target m' c
+  of_trapped s = rule_trapped site.image site.method site.place site.shape s call.target call.method call.result
 
   abbrev left_by_trap : Shape → List Flow
-  left_by_trap s = to_next pc (caught d.gives c (lasting (resting p d.class) s))
+  left_by_trap s = to_next site.place (caught d.gives call.result (lasting (resting site.image d.class) s))
 
   abbrev trap_answer : Result (List Flow) Why
-  trap_answer = judged (rule_trap p m pc sh target m' first c) (flow_trap p m pc sh target m' first c)
+  trap_answer = judged (rule_trap site.image site.method site.place site.shape call.target call.method call.first call.result) (flow_trap site.image site.method site.place site.shape call.target call.method call.first call.result)
 
-  module _ (loud : is_quiet p m ≡ false) where
-    trap_asks : rule_trap p m pc sh target m' first c ≡ (true, QuietBroken) ∷ (needs ++ of_trapped after)
+  module _ (loud : is_quiet site.image site.method ≡ false) where
+    trap_asks : rule_trap site.image site.method site.place site.shape call.target call.method call.first call.result ≡ (true, QuietBroken) ∷ (needs ++ of_trapped after)
     trap_asks =
-        ap (λ quiet. (not quiet, QuietBroken) ∷ asks of_trapped (method_class p m') (method_role p m') (arguments_of p m')) loud
+        ap (λ quiet. (not quiet, QuietBroken) ∷ asks of_trapped (method_class site.image call.method) (method_role site.image call.method) (arguments_of site.image call.method)) loud
         ∙ ap (λ (ns : List Need). (true, QuietBroken) ∷ ns) (asked of_trapped)
 
-    trap_leaves : flow_trap p m pc sh target m' first c ≡ left_by_trap after
-    trap_leaves = rw (gives_there p m' d there, class_there p m' d there, arguments_there p m' d there) refl
+    trap_leaves : flow_trap site.image site.method site.place site.shape call.target call.method call.first call.result ≡ left_by_trap after
+    trap_leaves = rw (gives_there site.image call.method d there, class_there site.image call.method d there, arguments_there site.image call.method d there) refl
 
     trap_is : trap_answer ≡ judged (needs ++ of_trapped after) (left_by_trap after)
-    trap_is = ap (λ ns. judged ns (flow_trap p m pc sh target m' first c)) trap_asks ∙ ap (λ fs. judged (needs ++ of_trapped after) fs) trap_leaves
+    trap_is = ap (λ ns. judged ns (flow_trap site.image site.method site.place site.shape call.target call.method call.first call.result)) trap_asks ∙ ap (λ fs. judged (needs ++ of_trapped after) fs) trap_leaves
 
-    pub trap_refused : (w : Why) → judged needs after ≡ Err w → trap_answer ≡ Err w
-    trap_refused w e = trap_is ∙ refused_so p m sh target first d of_trapped left_by_trap w e
-
-    pub trap_moved_refused : (z : Shape) (w : Why) → judged needs after ≡ Ok z → tested (of_trapped z) ≡ Err w → trap_answer ≡ Err w
-    trap_moved_refused z w e f = trap_is ∙ rest_refused p m sh target first d of_trapped left_by_trap z w e f
-
-    pub trap_met : (z : Shape) (u : Unit {0}) → judged needs after ≡ Ok z → tested (of_trapped z) ≡ Ok u → trap_answer ≡ Ok (left_by_trap z)
-    trap_met z u e f = trap_is ∙ all_met p m sh target first d of_trapped left_by_trap z u e f
+    pub trap_decides : Decides site.image site.method site.shape call.target call.first d of_trapped left_by_trap trap_answer
+    trap_decides = decides site.image site.method site.shape call.target call.first d of_trapped left_by_trap trap_answer trap_is

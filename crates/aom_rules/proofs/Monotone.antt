@@ -24,6 +24,7 @@ use Rattle.aom_rules.specs.Laws.{AllFollow, Follows}
 use Rattle.aom_shape.specs.Needs.{Flow, Need, AllTrue, only_if}
 use Rattle.aom_rules.specs.Objects.{flow_jump_null, flow_jump_empty}
 use Rattle.aom_rules.specs.Words.{rule_copy, rule_combine, rule_compare}
+use Rattle.aom_shape.specs.Tables.{at, put_at}
 use Rattle.aom_shape.specs.Order.{Weaker, WeakerFilling, SaysNoMore}
 use Rattle.aom_shape.specs.Order.Weaker.{alike, unset_word, unset_null, maybe_null, maybe_own}
 use Rattle.aom_shape.specs.Order.WeakerFilling.{alike_filling, perhaps_empty, perhaps_full}
@@ -43,60 +44,44 @@ use Rattle.aom_shape.proofs.Lists.{at_put}
 use Rattle.aom_shape.proofs.Sets.{has_along, has_both, has_first, has_itself, has_second, has_shared, larger}
 use Rattle.aom_rules.proofs.Telling.{fresh_more, readied_more, word_more, unowning_more, object_or_null_more, destroyed_more, ready_more, own_more, may_be_more, declared_more, empty_more, filled_more, filling_more, none_owns_more, all_empty_more}
 
--- two states with a register written alike
+-- what holds of two tables, entry by entry
+module _ {A : Type 0} (R : A → A → Type 0) (z : A) (xs ys : List A) (i : ℕ) (h : (j : ℕ) → R (at z xs j) (at z ys j)) where
+  -- holds where both are written alike
+  both_written : (x y : A) → R x y → (j : ℕ) → R (at z (put_at z xs i x) j) (at z (put_at z ys i y) j)
+  both_written x y w j = rw (at_put z xs i j x, at_put z ys i j y) (go (i == j))
+    where
+      go : (c : Bool) → R (cond c x (at z xs j)) (cond c y (at z ys j))
+      go true = w
+      go false = h j
+
+  -- and where the first is written with what the second has there
+  first_written : (x : A) → R x (at z ys i) → (j : ℕ) → R (at z (put_at z xs i x) j) (at z ys j)
+  first_written x w j = rw (at_put z xs i j x) (go (i == j) refl)
+    where
+      go : (c : Bool) → (i == j) ≡ c → R (cond c x (at z xs j)) (at z ys j)
+      go true e = rw (← eqb-true i j e) w
+      go false e = h j
+
+-- two states with other registers, or with other fields
+with_registers : (a b : Shape) (xs ys : List Kind) → SaysNoMore a b → ((j : ℕ) → Weaker (at Unset xs j) (at Unset ys j)) → SaysNoMore (record a { registers = xs }) (record b { registers = ys })
+with_registers a b xs ys h more = record { registers = more; fields = h.fields; entries = h.entries; states = h.states; delivery = h.delivery }
+
+with_fields : (a b : Shape) (xs ys : List Filling) → SaysNoMore a b → ((j : ℕ) → WeakerFilling (at Perhaps xs j) (at Perhaps ys j)) → SaysNoMore (record a { fields = xs }) (record b { fields = ys })
+with_fields a b xs ys h more = record { registers = h.registers; fields = more; entries = h.entries; states = h.states; delivery = h.delivery }
+
+-- written alike
 pub register_more : (a b : Shape) (i : ℕ) (k l : Kind) → SaysNoMore a b → Weaker k l → SaysNoMore (set_register a i k) (set_register b i l)
-register_more a b i k l h w = record {
-  registers = λ j. rw (at_put Unset a.registers i j k, at_put Unset b.registers i j l) (either j (i == j));
-  fields = h.fields;
-  entries = h.entries;
-  states = h.states;
-  delivery = h.delivery;
-}
-  where
-    either : (j : ℕ) (c : Bool) → Weaker (cond c k (register a j)) (cond c l (register b j))
-    either j true = w
-    either j false = h.registers j
+register_more a b i k l h w = with_registers a b _ _ h (both_written Weaker Unset a.registers b.registers i h.registers k l w)
 
 pub field_more : (a b : Shape) (i : ℕ) (x y : Filling) → SaysNoMore a b → WeakerFilling x y → SaysNoMore (set_field a i x) (set_field b i y)
-field_more a b i x y h w = record {
-  registers = h.registers;
-  fields = λ j. rw (at_put Perhaps a.fields i j x, at_put Perhaps b.fields i j y) (either j (i == j));
-  entries = h.entries;
-  states = h.states;
-  delivery = h.delivery;
-}
-  where
-    either : (j : ℕ) (c : Bool) → WeakerFilling (cond c x (field a j)) (cond c y (field b j))
-    either j true = w
-    either j false = h.fields j
+field_more a b i x y h w = with_fields a b _ _ h (both_written WeakerFilling Perhaps a.fields b.fields i h.fields x y w)
 
--- a register written with what a state that says more has there
+-- written with what a state that says more has there
 pub register_told : (a b : Shape) (i : ℕ) (k : Kind) → SaysNoMore a b → Weaker k (register b i) → SaysNoMore (set_register a i k) b
-register_told a b i k h w = record {
-  registers = λ j. rw (at_put Unset a.registers i j k) (go j (i == j) refl);
-  fields = h.fields;
-  entries = h.entries;
-  states = h.states;
-  delivery = h.delivery;
-}
-  where
-    go : (j : ℕ) (c : Bool) → (i == j) ≡ c → Weaker (cond c k (register a j)) (register b j)
-    go j true e = rw (← eqb-true i j e) w
-    go j false e = h.registers j
+register_told a b i k h w = with_registers a b _ _ h (first_written Weaker Unset a.registers b.registers i h.registers k w)
 
--- a field written with what a state that says more has there
 pub field_told : (a b : Shape) (i : ℕ) (x : Filling) → SaysNoMore a b → WeakerFilling x (field b i) → SaysNoMore (set_field a i x) b
-field_told a b i x h w = record {
-  registers = h.registers;
-  fields = λ j. rw (at_put Perhaps a.fields i j x) (go j (i == j) refl);
-  entries = h.entries;
-  states = h.states;
-  delivery = h.delivery;
-}
-  where
-    go : (j : ℕ) (c : Bool) → (i == j) ≡ c → WeakerFilling (cond c x (field a j)) (field b j)
-    go j true e = rw (← eqb-true i j e) w
-    go j false e = h.fields j
+field_told a b i x h w = with_fields a b _ _ h (first_written WeakerFilling Perhaps a.fields b.fields i h.fields x w)
 
 copy_more : (pc : ℕ) (a b : Shape) (r s : ℕ) → SaysNoMore a b → AllTrue (rule_copy pc a r s) → AllTrue (rule_copy pc b r s)
 copy_more pc a b r s h n = (word_more (register a s) (register b s) (h.registers s) n.0, (unowning_more (register a r) (register b r) (h.registers r) n.1.0, tt))
@@ -226,19 +211,25 @@ moved_needs_more p m a b target m' c h n =
       (n.1.0, (awaits_more (gives_of p m') (register a c) (register b c) (h.registers c) n.1.1.0, (leave.0, (unowned, (still, (untaken, tt)))))),
     )
 
-call_more : (p : Image) (m pc : ℕ) (a b : Shape) (target : Target) (m' first c : ℕ) → SaysNoMore a b → AllTrue (rule_needs p m pc a (Call target m' first c)) → AllTrue (rule_needs p m pc b (Call target m' first c))
-call_more p m pc a b target m' first c h n =
+-- what a call and a trap ask of their target and of their arguments
+entering_more : (p : Image) (m : ℕ) (a b : Shape) (target : Target) (m' first : ℕ) (x y : List Need) → SaysNoMore a b → (AllTrue x → AllTrue y)
+    → AllTrue (rule_target p m a target (method_class p m') (is_construct (method_role p m')) first (length (arguments_of p m')) ++ (rule_arguments p a (arguments_of p m') first ++ x))
+    → AllTrue (rule_target p m b target (method_class p m') (is_construct (method_role p m')) first (length (arguments_of p m')) ++ (rule_arguments p b (arguments_of p m') first ++ y))
+entering_more p m a b target m' first x y h more n =
     let xs = arguments_of p m' in
     let class = method_class p m' in
     let constructs = is_construct (method_role p m') in
     let one = rule_target p m a target class constructs first (length xs) in
     let two = rule_arguments p a xs first in
-    let three = rule_moved p m (arguments_moved xs first a) target m' c in
-    let rest = all_true_rest one (two ++ three) n in
-    let args = all_true_first two three rest in
-    all_true_both (rule_target p m b target class constructs first (length xs)) (rule_arguments p b xs first ++ rule_moved p m (arguments_moved xs first b) target m' c) (called_on_more p m a b target class constructs first (length xs) h (all_true_first one (two ++ three) n))
-    (all_true_both (rule_arguments p b xs first) (rule_moved p m (arguments_moved xs first b) target m' c) (args.0, arguments_more p a b xs first h args.1)
-    (moved_needs_more p m (arguments_moved xs first a) (arguments_moved xs first b) target m' c (arguments_moved_more xs first a b h) (all_true_rest two three rest)))
+    let rest = all_true_rest one (two ++ x) n in
+    let args = all_true_first two x rest in
+    all_true_both (rule_target p m b target class constructs first (length xs)) (rule_arguments p b xs first ++ y) (called_on_more p m a b target class constructs first (length xs) h (all_true_first one (two ++ x) n))
+    (all_true_both (rule_arguments p b xs first) y (args.0, arguments_more p a b xs first h args.1) (more (all_true_rest two x rest)))
+
+call_more : (p : Image) (m pc : ℕ) (a b : Shape) (target : Target) (m' first c : ℕ) → SaysNoMore a b → AllTrue (rule_needs p m pc a (Call target m' first c)) → AllTrue (rule_needs p m pc b (Call target m' first c))
+call_more p m pc a b target m' first c h n =
+    let moved = λ (s : Shape). arguments_moved (arguments_of p m') first s in
+    entering_more p m a b target m' first (rule_moved p m (moved a) target m' c) (rule_moved p m (moved b) target m' c) h (moved_needs_more p m (moved a) (moved b) target m' c (arguments_moved_more (arguments_of p m') first a b h)) n
 
 -- one entry more, or one less
 entry_more : (d e : Entry) (a b : Shape) → SaysNoMore a b → d ≡ e → SaysNoMore (with_entry d a) (with_entry e b)
@@ -283,19 +274,8 @@ trapped_more p m pc x y a b target m' c h n = (
 
 trap_more : (p : Image) (m pc : ℕ) (a b : Shape) (target : Target) (m' first c : ℕ) → SaysNoMore a b → AllTrue (rule_needs p m pc a (Trap target m' first c)) → AllTrue (rule_needs p m pc b (Trap target m' first c))
 trap_more p m pc a b target m' first c h n =
-    let xs = arguments_of p m' in
-    let class = method_class p m' in
-    let constructs = is_construct (method_role p m') in
-    let one = rule_target p m a target class constructs first (length xs) in
-    let two = rule_arguments p a xs first in
-    let three = rule_trapped p m pc a (arguments_moved xs first a) target m' c in
-    let rest = all_true_rest one (two ++ three) n.1 in
-    let args = all_true_first two three rest in (
-      n.0,
-      all_true_both (rule_target p m b target class constructs first (length xs)) (rule_arguments p b xs first ++ rule_trapped p m pc b (arguments_moved xs first b) target m' c) (called_on_more p m a b target class constructs first (length xs) h (all_true_first one (two ++ three) n.1))
-          (all_true_both (rule_arguments p b xs first) (rule_trapped p m pc b (arguments_moved xs first b) target m' c) (args.0, arguments_more p a b xs first h args.1)
-          (trapped_more p m pc a b (arguments_moved xs first a) (arguments_moved xs first b) target m' c (arguments_moved_more xs first a b h) (all_true_rest two three rest))),
-    )
+    let moved = λ (s : Shape). arguments_moved (arguments_of p m') first s in
+    (n.0, entering_more p m a b target m' first (rule_trapped p m pc a (moved a) target m' c) (rule_trapped p m pc b (moved b) target m' c) h (trapped_more p m pc a b (moved a) (moved b) target m' c (arguments_moved_more (arguments_of p m') first a b h)) n.1)
 
 caught_more : (g : Gives) (c : ℕ) (a b : Shape) → SaysNoMore a b → SaysNoMore (caught g c a) (caught g c b)
 caught_more Nothing c a b h = register_more a b (suc c) Word Word h alike

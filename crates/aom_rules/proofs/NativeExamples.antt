@@ -1,5 +1,5 @@
 -- One refused instruction for each need at a native, and some that pass.
-use Rattle.std.proofs.Common.{◌≡◌, ℕ, List, [], ◌∷◌, Some, None, Ok, Err, refl}
+use Rattle.std.proofs.Common.{◌≡◌, ℕ, List, [], ◌∷◌, Some, None, Result, Ok, Err, refl}
 use Rattle.aom_image.specs.Image.{Image}
 use Rattle.aom_image.specs.Views.{class_at, class_in, method_at}
 use Rattle.aom_image.specs.declared.class.ClassDecl.{ClassDecl}
@@ -9,15 +9,18 @@ use Rattle.aom_image.specs.declared.method.Gives.TheVariants.{Nothing}
 use Rattle.aom_image.specs.declared.method.Method.{Method}
 use Rattle.aom_image.specs.declared.method.Role.TheVariants.{Do}
 use Rattle.aom_image.specs.declared.method.Thing.TheVariants.{Object}
+use Rattle.aom_instructions.specs.declared.instr.Instr.{Instr}
 use Rattle.aom_instructions.specs.declared.instr.Instr.TheVariants.{Ask, Close, Connect}
 use Rattle.aom_roles.specs.Classes.{kind_in}
 use Rattle.aom_roles.specs.Shapes.{kind_of}
 use Rattle.aom_rules.specs.Rules.{rule}
+use Rattle.aom_shape.specs.Needs.{Flow}
 use Rattle.aom_shape.specs.Shape.{Shape}
 use Rattle.aom_shape.specs.declared.kind.Age.TheVariants.{Ready}
 use Rattle.aom_shape.specs.declared.kind.Delivery.TheVariants.{Here}
 use Rattle.aom_shape.specs.declared.kind.Kind.{Kind}
 use Rattle.aom_shape.specs.declared.kind.Kind.TheVariants.{Own, Unset, Word}
+use Rattle.aom_shape.specs.declared.why.Why.{Why}
 use Rattle.aom_shape.specs.declared.why.Why.TheVariants.{NotIdle, RegisterKind}
 
 -- a native serves class 0, a timer class 1, nothing class 2, and class 3 is plain
@@ -46,77 +49,38 @@ of_class class before after = record {
 state : (a b : Kind) → ℕ → Shape
 state a b states = record { registers = a ∷ b ∷ []; fields = []; entries = []; states = states; delivery = Here }
 
--- ---- connect
+-- what the rule says of an instruction of a method of that class, which begins and ends in those states
+abbrev Says : Image → Shape → Instr → Result (List Flow) Why → Type 0
+Says p s i answer = rule p 0 0 s i ≡ answer
 
-connect_at_a_timer : rule (of_class 1 11 11) 0 0 (state Unset Unset 1) (Connect 0) ≡ Err RegisterKind
+-- `connect`: at a timer, at no provider, of a plain object, and over an owner; it passes in any state of the object, and the answer is a word
+connect_bites :
+    Says (of_class 1 11 11) (state Unset Unset 1) (Connect 0) (Err RegisterKind)
+    × Says (of_class 2 11 11) (state Unset Unset 1) (Connect 0) (Err RegisterKind)
+    × Says (of_class 3 0 0) (state Unset Unset 0) (Connect 0) (Err RegisterKind)
+    × Says (of_class 0 11 11) (state (Own (Object 3) Ready) Unset 1) (Connect 0) (Err RegisterKind)
+    × Says (of_class 0 11 11) (state Unset Unset 11) (Connect 0) (Ok ((1, state Word Unset 11) ∷ []))
 unfolding of_class method state classes method_at class_at class_in kind_of kind_in
-connect_at_a_timer = refl
+connect_bites = (refl, refl, refl, refl, refl)
 
-connect_at_none : rule (of_class 2 11 11) 0 0 (state Unset Unset 1) (Connect 0) ≡ Err RegisterKind
+-- `ask`: at a timer, of a plain object, of no function, with no word, and over an owner; it passes in any state of the object
+ask_bites :
+    Says (of_class 1 11 11) (state Word Word 1) (Ask 0 0 1) (Err RegisterKind)
+    × Says (of_class 3 0 0) (state Word Word 0) (Ask 0 0 1) (Err RegisterKind)
+    × Says (of_class 0 11 11) (state Unset Word 1) (Ask 0 0 1) (Err RegisterKind)
+    × Says (of_class 0 11 11) (state Word Unset 1) (Ask 0 0 1) (Err RegisterKind)
+    × Says (of_class 0 11 11) (state (Own (Object 3) Ready) Word 1) (Ask 0 1 1) (Err RegisterKind)
+    × Says (of_class 0 11 11) (state Unset Word 11) (Ask 0 1 1) (Ok ((1, state Word Word 11) ∷ []))
 unfolding of_class method state classes method_at class_at class_in kind_of kind_in
-connect_at_none = refl
+ask_bites = (refl, refl, refl, refl, refl, refl)
 
-connect_of_a_plain_object : rule (of_class 3 0 0) 0 0 (state Unset Unset 0) (Connect 0) ≡ Err RegisterKind
+-- `close`: at a timer, of a plain object, while it has issued, while it is active, and in a cancel; it passes once the object is idle
+close_bites :
+    Says (of_class 1 11 11) (state Unset Unset 1) Close (Err RegisterKind)
+    × Says (of_class 3 0 0) (state Unset Unset 0) Close (Err RegisterKind)
+    × Says (of_class 0 11 11) (state Unset Unset 6) Close (Err NotIdle)
+    × Says (of_class 0 11 11) (state Unset Unset 11) Close (Err NotIdle)
+    × Says (of_class 0 11 11) (state Unset Unset 32) Close (Err NotIdle)
+    × Says (of_class 0 11 11) (state Unset Unset 3) Close (Ok ((1, state Unset Unset 3) ∷ []))
 unfolding of_class method state classes method_at class_at class_in kind_of kind_in
-connect_of_a_plain_object = refl
-
-connect_over_an_owner : rule (of_class 0 11 11) 0 0 (state (Own (Object 3) Ready) Unset 1) (Connect 0) ≡ Err RegisterKind
-unfolding of_class method state classes method_at class_at class_in kind_of kind_in
-connect_over_an_owner = refl
-
--- the answer is a word
-connect_in_any_state : rule (of_class 0 11 11) 0 0 (state Unset Unset 11) (Connect 0) ≡ Ok ((1, state Word Unset 11) ∷ [])
-unfolding of_class method state classes method_at class_at class_in kind_of kind_in
-connect_in_any_state = refl
-
--- ---- ask
-
-ask_at_a_timer : rule (of_class 1 11 11) 0 0 (state Word Word 1) (Ask 0 0 1) ≡ Err RegisterKind
-unfolding of_class method state classes method_at class_at class_in kind_of kind_in
-ask_at_a_timer = refl
-
-ask_of_a_plain_object : rule (of_class 3 0 0) 0 0 (state Word Word 0) (Ask 0 0 1) ≡ Err RegisterKind
-unfolding of_class method state classes method_at class_at class_in kind_of kind_in
-ask_of_a_plain_object = refl
-
-ask_of_no_function : rule (of_class 0 11 11) 0 0 (state Unset Word 1) (Ask 0 0 1) ≡ Err RegisterKind
-unfolding of_class method state classes method_at class_at class_in kind_of kind_in
-ask_of_no_function = refl
-
-ask_with_no_word : rule (of_class 0 11 11) 0 0 (state Word Unset 1) (Ask 0 0 1) ≡ Err RegisterKind
-unfolding of_class method state classes method_at class_at class_in kind_of kind_in
-ask_with_no_word = refl
-
-ask_over_an_owner : rule (of_class 0 11 11) 0 0 (state (Own (Object 3) Ready) Word 1) (Ask 0 1 1) ≡ Err RegisterKind
-unfolding of_class method state classes method_at class_at class_in kind_of kind_in
-ask_over_an_owner = refl
-
-ask_in_any_state : rule (of_class 0 11 11) 0 0 (state Unset Word 11) (Ask 0 1 1) ≡ Ok ((1, state Word Word 11) ∷ [])
-unfolding of_class method state classes method_at class_at class_in kind_of kind_in
-ask_in_any_state = refl
-
--- ---- close
-
-close_at_a_timer : rule (of_class 1 11 11) 0 0 (state Unset Unset 1) Close ≡ Err RegisterKind
-unfolding of_class method state classes method_at class_at class_in kind_of kind_in
-close_at_a_timer = refl
-
-close_of_a_plain_object : rule (of_class 3 0 0) 0 0 (state Unset Unset 0) Close ≡ Err RegisterKind
-unfolding of_class method state classes method_at class_at class_in kind_of kind_in
-close_of_a_plain_object = refl
-
-close_while_issued : rule (of_class 0 11 11) 0 0 (state Unset Unset 6) Close ≡ Err NotIdle
-unfolding of_class method state classes method_at class_at class_in kind_of kind_in
-close_while_issued = refl
-
-close_while_active : rule (of_class 0 11 11) 0 0 (state Unset Unset 11) Close ≡ Err NotIdle
-unfolding of_class method state classes method_at class_at class_in kind_of kind_in
-close_while_active = refl
-
-close_in_a_cancel : rule (of_class 0 11 11) 0 0 (state Unset Unset 32) Close ≡ Err NotIdle
-unfolding of_class method state classes method_at class_at class_in kind_of kind_in
-close_in_a_cancel = refl
-
-close_once_idle : rule (of_class 0 11 11) 0 0 (state Unset Unset 3) Close ≡ Ok ((1, state Unset Unset 3) ∷ [])
-unfolding of_class method state classes method_at class_at class_in kind_of kind_in
-close_once_idle = refl
+close_bites = (refl, refl, refl, refl, refl, refl)

@@ -1,5 +1,5 @@
 -- What a test tells of a kind or filling it tells of one that says more.
-use Rattle.std.proofs.Common.{◌≡◌, ℕ, zero, suc, ◌<◌, true, List, [], ◌∷◌, length, Option, Some, None, refl, arith}
+use Rattle.std.proofs.Common.{Bool, ◌≡◌, ℕ, zero, suc, ◌<◌, true, List, [], ◌∷◌, length, Option, Some, None, refl, arith}
 use Rattle.std.proofs.lemmas.Bool.{false≢true, and_parts}
 use Rattle.aom_image.specs.Image.{Image}
 use Rattle.aom_image.specs.declared.method.Thing.{Thing}
@@ -9,53 +9,49 @@ use Rattle.aom_shape.specs.Order.Weaker.{alike, unset_word, unset_null, maybe_nu
 use Rattle.aom_shape.specs.Order.WeakerFilling.{alike_filling, perhaps_empty, perhaps_full}
 use Rattle.aom_shape.specs.Tables.{at}
 use Rattle.aom_shape.specs.declared.kind.Kind.{Kind}
-use Rattle.aom_shape.specs.declared.kind.Kind.TheVariants.{Unset}
+use Rattle.aom_shape.specs.declared.kind.Age.{Age}
+use Rattle.aom_shape.specs.declared.kind.Kind.TheVariants.{Maybe, Null, Own, Unset, Word}
 use Rattle.aom_shape.specs.declared.kind.Filling.{Filling}
 use Rattle.aom_shape.specs.declared.kind.Filling.TheVariants.{Perhaps}
 
+-- what holds of each kind and itself, and of each that says more, holds of all that say more
+by_weaker :
+    (R : Kind → Kind → Type 0) → ((k : Kind) → R k k) → R Unset Word → R Unset Null → ((t : Thing) (x : Age) → R (Maybe t x) Null) → ((t : Thing) (x : Age) → R (Maybe t x) (Own t x)) →
+    (a b : Kind) → Weaker a b → R a b
+by_weaker R same word null none some a b (alike {k = k}) = same k
+by_weaker R same word null none some a b unset_word = word
+by_weaker R same word null none some a b unset_null = null
+by_weaker R same word null none some a b (maybe_null {t = t} {a = x}) = none t x
+by_weaker R same word null none some a b (maybe_own {t = t} {a = x}) = some t x
+
+-- a test that tells no less of one kind than of another
+abbrev Keeps : (Kind → Bool) → Kind → Kind → Type 0
+Keeps test a b = test a ≡ true → test b ≡ true
+
+kept_more : (test : Kind → Bool) → Keeps test Unset Word → Keeps test Unset Null → ((t : Thing) (x : Age) → Keeps test (Maybe t x) Null) → ((t : Thing) (x : Age) → Keeps test (Maybe t x) (Own t x)) → (a b : Kind) → Weaker a b → Keeps test a b
+kept_more test = by_weaker (Keeps test) (λ k h. h)
+
 pub word_more : (a b : Kind) → Weaker a b → is_word a ≡ true → is_word b ≡ true
-word_more a b (alike {k = k}) h = h
-word_more a b unset_word h = refl
-word_more a b _ h = absurd (false≢true h)
+word_more = kept_more is_word (λ h. refl) (λ h. absurd (false≢true h)) (λ t x h. absurd (false≢true h)) (λ t x h. absurd (false≢true h))
 
 pub unowning_more : (a b : Kind) → Weaker a b → is_unowning a ≡ true → is_unowning b ≡ true
-unowning_more a b (alike {k = k}) h = h
-unowning_more a b unset_word h = refl
-unowning_more a b unset_null h = refl
-unowning_more a b (maybe_null {t = t} {a = age}) h = refl
-unowning_more a b (maybe_own {t = t} {a = age}) h = absurd (false≢true h)
+unowning_more = kept_more is_unowning (λ h. refl) (λ h. refl) (λ t x h. refl) (λ t x h. absurd (false≢true h))
 
 pub object_or_null_more : (a b : Kind) → Weaker a b → is_object_or_null a ≡ true → is_object_or_null b ≡ true
-object_or_null_more a b (alike {k = k}) h = h
-object_or_null_more a b unset_word h = absurd (false≢true h)
-object_or_null_more a b unset_null h = refl
-object_or_null_more a b (maybe_null {t = t} {a = age}) h = refl
-object_or_null_more a b (maybe_own {t = t} {a = age}) h = refl
+object_or_null_more = kept_more is_object_or_null (λ h. absurd (false≢true h)) (λ h. refl) (λ t x h. refl) (λ t x h. refl)
 
 pub destroyed_more : (a b : Kind) → Weaker a b → may_be_destroyed a ≡ true → may_be_destroyed b ≡ true
-destroyed_more a b (alike {k = k}) h = h
-destroyed_more a b unset_word h = absurd (false≢true h)
-destroyed_more a b unset_null h = refl
-destroyed_more a b (maybe_null {t = t} {a = age}) h = refl
-destroyed_more a b (maybe_own {t = t} {a = age}) h = h
+destroyed_more = kept_more may_be_destroyed (λ h. absurd (false≢true h)) (λ h. refl) (λ t x h. refl) (λ t x h. h)
 
 pub ready_more : (a b : Kind) → Weaker a b → is_ready_kind a ≡ true → is_ready_kind b ≡ true
-ready_more a b (alike {k = k}) h = h
-ready_more a b unset_word h = refl
-ready_more a b unset_null h = refl
-ready_more a b (maybe_null {t = t} {a = age}) h = refl
-ready_more a b (maybe_own {t = t} {a = age}) h = h
+ready_more = kept_more is_ready_kind (λ h. refl) (λ h. refl) (λ t x h. refl) (λ t x h. h)
 
 pub own_more : (p : Image) (x : Thing) (a b : Kind) → Weaker a b → is_own_for p x a ≡ true → is_own_for p x b ≡ true
 own_more p x a b (alike {k = k}) h = h
 own_more p x a b _ h = absurd (false≢true h)
 
 pub may_be_more : (p : Image) (x : Thing) (a b : Kind) → Weaker a b → may_be p x a ≡ true → may_be p x b ≡ true
-may_be_more p x a b (alike {k = k}) h = h
-may_be_more p x a b unset_word h = absurd (false≢true h)
-may_be_more p x a b unset_null h = refl
-may_be_more p x a b (maybe_null {t = t} {a = age}) h = refl
-may_be_more p x a b (maybe_own {t = t} {a = age}) h = h
+may_be_more p x = kept_more (may_be p x) (λ h. absurd (false≢true h)) (λ h. refl) (λ t x h. refl) (λ t x h. h)
 
 pub declared_more : (p : Image) (o : Option Thing) (a b : Kind) → Weaker a b → may_be_declared p o a ≡ true → may_be_declared p o b ≡ true
 declared_more p None a b w h = h
@@ -73,22 +69,14 @@ filled_more (Some t) x y perhaps_empty = maybe_null
 filled_more (Some t) x y perhaps_full = maybe_own
 
 pub filling_more : (a b : Kind) → Weaker a b → WeakerFilling (filling_of a) (filling_of b)
-filling_more a b (alike {k = k}) = alike_filling
-filling_more a b unset_word = alike_filling
-filling_more a b unset_null = perhaps_empty
-filling_more a b (maybe_null {t = t} {a = age}) = perhaps_empty
-filling_more a b (maybe_own {t = t} {a = age}) = perhaps_full
+filling_more = by_weaker (λ a b. WeakerFilling (filling_of a) (filling_of b)) (λ k. alike_filling) alike_filling perhaps_empty (λ t x. perhaps_empty) (λ t x. perhaps_full)
 
 pub fresh_more : (a b : Kind) → Weaker a b → is_fresh_kind a ≡ true → is_fresh_kind b ≡ true
 fresh_more a b (alike {k = k}) h = h
 fresh_more a b _ h = absurd (false≢true h)
 
 pub readied_more : (a b : Kind) → Weaker a b → Weaker (readied a) (readied b)
-readied_more a b (alike {k = k}) = alike
-readied_more a b unset_word = unset_word
-readied_more a b unset_null = unset_null
-readied_more a b (maybe_null {t = t} {a = age}) = maybe_null
-readied_more a b (maybe_own {t = t} {a = age}) = maybe_own
+readied_more = by_weaker (λ a b. Weaker (readied a) (readied b)) (λ k. alike) unset_word unset_null (λ t x. maybe_null) (λ t x. maybe_own)
 
 -- no register owns, read by their numbers
 none_at : (xs : List Kind) → none_owns xs ≡ true → (i : ℕ) → is_unowning (at Unset xs i) ≡ true

@@ -8,4 +8,4 @@ returns-then-request_cell c = rw (c.leave.ensures, c.request_cell.ensures.counte
 pub returns : goal.returns
 returns c =
     let made = rw c.request_cell.ensures.counted at c.new_cell-number.ensures.made in
-    rw (c.next.ensures, c.set_register.ensures.written, c.new_cell-number.ensures.rest, c.request_cell.ensures.counted) (newl_made c.args.parts.now c.args.turn.now c.args.to c.args.class c.new_cell-number.result c.new_cell-number.new.self.cells c.set_register.ensures.in_range (sym c.if-request_cell.false ∙ c.request_cell.ensures.refused) made)
+    rw (c.bring.ensures.brought, c.new_cell-number.ensures.rest, c.request_cell.ensures.counted) (newl_made c.args.parts.now c.args.turn.now c.args.to c.args.class c.new_cell-number.result c.new_cell-number.new.self.cells c.bring.ensures.in_range (sym c.if-request_cell.false ∙ c.request_cell.ensures.refused) made)
