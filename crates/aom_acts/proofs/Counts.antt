@@ -12,20 +12,21 @@ use Rattle.aom_shape.specs.Needs.{AllTrue}
 use Rattle.aom_rules.specs.Rules.{flows, rule_needs}
 use Rattle.aom_shape.specs.Tables.{at}
 use Rattle.aom_rules.specs.Typing.{AllLead, IsTyped, Typing}
-use Rattle.aom_shape.specs.declared.kind.Entry.{Entry as Pushed}
-use Rattle.aom_shape.specs.declared.kind.Entry.TheVariants.{Object as Pushed_object, Operation as Pushed_operation}
+use Rattle.aom_shape.specs.declared.kind.Entry.TheVariants.{Operation as Pushed_operation}
 use Rattle.aom_shape.specs.declared.kind.Kind.TheVariants.{Null}
 use Rattle.aom_bounds.specs.Strongest.{IsStrongest}
 use Rattle.aom_bounds.specs.Depths.{HasDepths, alone}
 use Rattle.aom_bounds.specs.Heights.{HasHeights}
-use Rattle.aom_sound.specs.Claims.{Ending, Dispatching, Dying, Form, Layer, Mark, Mark_form, Method, Object_form, Operation_form, Unwinding, forms, items_of, objects, tasks_of}
+use Rattle.aom_sound.specs.Claims.{Ending, Dispatching, Dying, Layer, Mark, Method, Unwinding, tasks_of}
 use Rattle.aom_sound.specs.Laws.{IsWired}
 use Rattle.aom_sound.specs.Places.{Cell}
 use Rattle.aom_sound.specs.Tasks.{Below}
 use Rattle.aom_sound.specs.Quiet.{IsCalm, calm, is_clearing}
-use Rattle.aom_sound.specs.State.{A_mark, An_object, An_operation, Closing, Destroy, Dispatched, Frame, Item, Run, State, Task, Trapped, Unwind}
+use Rattle.aom_sound.specs.State.{Closing, Destroy, Dispatched, Frame, Item, Run, State, Task, Trapped, Unwind}
+use Rattle.aom_sound.specs.Traps.{marks, traps}
 use Rattle.aom_sound.specs.WellTyped.{Back, Gone, Leaves, Now, Returns, Stack, WellTyped}
 use Rattle.aom_sound.proofs.Layers.{method_layer}
+use Rattle.aom_sound.proofs.Trapping.{all_matched}
 use Rattle.aom_parts.specs.Room.{AllRunUnder, AllUnder, HasRoom, IsUnder, entries_in}
 use Rattle.aom_parts.proofs.Depths.{Roomy}
 use Rattle.aom_parts.proofs.Heights.{stands_here}
@@ -135,50 +136,27 @@ tasks_at_hand p t depths heights s w is_calm room =
 
 -- ---- marks
 
-abbrev pub marks_in : List Item → ℕ
-marks_in [] = 0
-marks_in (An_object ∷ items) = marks_in items
-marks_in (An_operation m w ∷ items) = marks_in items
-marks_in (A_mark ∷ items) = suc (marks_in items)
+-- each trap lies over a method or over the dispatch
+few_traps : (p : Image) (t : Typing) (cs : List Cell) (back : Back) (ls : List Layer) → Stack p t cs back ls → traps (tasks_of ls) ≤ suc (methods_in (tasks_of ls))
+few_traps p t cs back [] s = omega arith
+few_traps p t cs back (Method fr sh ∷ ls) s = let few = few_traps p t cs (Returns fr.method fr.home) ls s.4 in omega (arith, few)
+few_traps p t cs back (Mark g ∷ []) s = omega arith
+few_traps p t cs back (Mark g ∷ Method fr sh ∷ ls) s = let few = few_traps p t cs (Returns fr.method fr.home) ls s.1.4 in omega (arith, few)
+few_traps p t cs back (Mark g ∷ Dispatching d seats ∷ ls) s = subst (λ us. traps (tasks_of (Mark g ∷ Dispatching d seats ∷ us)) ≤ suc (methods_in (tasks_of (Mark g ∷ Dispatching d seats ∷ us)))) (sym s.1.1) (omega arith)
+few_traps p t cs back (Dying o ∷ ls) s = few_traps p t cs Gone ls s.2
+few_traps p t cs back (Ending o left ∷ ls) s = few_traps p t cs Now ls s.3
+few_traps p t cs back (Unwinding code es ∷ ls) s = few_traps p t cs Leaves ls s.1
+few_traps p t cs back (Dispatching d seats ∷ ls) s = subst (λ us. traps (tasks_of (Dispatching d seats ∷ us)) ≤ suc (methods_in (tasks_of (Dispatching d seats ∷ us)))) (sym s.1) (omega arith)
+few_traps p t cs back _ s = absurd (assumption tt)
 
-abbrev form_marks : List Form → ℕ
-form_marks [] = 0
-form_marks (Object_form ∷ fs) = form_marks fs
-form_marks (Operation_form ∷ fs) = form_marks fs
-form_marks (Mark_form ∷ fs) = suc (form_marks fs)
-
-marks_told : (items : List Item) → form_marks (forms items) ≡ marks_in items
-marks_told [] = refl
-marks_told (An_object ∷ items) = marks_told items
-marks_told (An_operation m w ∷ items) = marks_told items
-marks_told (A_mark ∷ items) = ap suc (marks_told items)
-
-no_marks : (es : List Pushed) (below : List Form) → form_marks (objects es below) ≡ form_marks below
-no_marks [] below = refl
-no_marks (Pushed_object c a ∷ es) below = no_marks es below
-no_marks (Pushed_operation ∷ es) below = no_marks es below
-
--- each mark lies over a method or over the dispatch
-few_marks : (p : Image) (t : Typing) (cs : List Cell) (back : Back) (ls : List Layer) → Stack p t cs back ls → form_marks (items_of ls) ≤ suc (methods_in (tasks_of ls))
-few_marks p t cs back [] s = omega arith
-few_marks p t cs back (Method fr sh ∷ ls) s = let few = few_marks p t cs (Returns fr.method fr.home) ls s.4 in omega (arith, few, no_marks sh.entries (items_of ls))
-few_marks p t cs back (Mark g ∷ []) s = omega arith
-few_marks p t cs back (Mark g ∷ Method fr sh ∷ ls) s = let few = few_marks p t cs (Returns fr.method fr.home) ls s.1.4 in omega (arith, few, no_marks sh.entries (items_of ls))
-few_marks p t cs back (Mark g ∷ Dispatching d seats ∷ ls) s = subst (λ us. form_marks (items_of (Mark g ∷ Dispatching d seats ∷ us)) ≤ suc (methods_in (tasks_of (Mark g ∷ Dispatching d seats ∷ us)))) (sym s.1.1) (omega arith)
-few_marks p t cs back (Dying o ∷ ls) s = few_marks p t cs Gone ls s.2
-few_marks p t cs back (Ending o left ∷ ls) s = few_marks p t cs Now ls s.3
-few_marks p t cs back (Unwinding code es ∷ ls) s = let few = few_marks p t cs Leaves ls s.1 in omega (arith, few, no_marks es (items_of ls))
-few_marks p t cs back (Dispatching d seats ∷ ls) s = subst (λ us. form_marks (items_of (Dispatching d seats ∷ us)) ≤ suc (methods_in (tasks_of (Dispatching d seats ∷ us)))) (sym s.1) (omega arith)
-few_marks p t cs back _ s = absurd (assumption tt)
-
--- the marks under the method that runs
-marks_under : (p : Image) (t : Typing) (s : State) (fr : Frame) (ts : List Task) → WellTyped p t s → s.tasks ≡ Run fr ∷ ts → marks_in s.items ≤ suc (methods_in ts)
-marks_under p t s fr ts w same = method_layer (λ ls. (forms s.items ≡ items_of ls) × (Stack p t s.cells Now ls)) fr ts w.layers (sym w.tasks ∙ same) (w.items, w.good.stack) (λ sh ls under h.
-    let few = few_marks p t s.cells (Returns fr.method fr.home) ls h.1.4 in
-    omega (arith, few, no_marks sh.entries (items_of ls), ap form_marks h.0, marks_told s.items, ap methods_in under))
+-- the marks under the method that runs, of which there are as many as traps
+marks_under : (p : Image) (t : Typing) (s : State) (fr : Frame) (ts : List Task) → WellTyped p t s → s.tasks ≡ Run fr ∷ ts → marks s.items ≤ suc (methods_in ts)
+marks_under p t s fr ts w same = method_layer (Stack p t s.cells Now) fr ts w.layers (sym w.tasks ∙ same) w.good.stack (λ sh ls under h.
+    let few = few_traps p t s.cells (Returns fr.method fr.home) ls h.4 in
+    omega (arith, few, all_matched p t s w, ap traps same, ap traps under, ap methods_in under))
 
 pub marks_at_hand : (p : Image) (t : Typing) → IsWired p → IsTyped p t → IsStrongest p t → (depths : HasDepths p) (heights : HasHeights p) (s : State) (fr : Frame) (ts : List Task) → WellTyped p t s → s.tasks ≡ Run fr ∷ ts → HasRoom p (at 0 depths.depths) (at 0 heights.heights) s
-    → (target : Target) (m first x : ℕ) → instr_at p fr.method fr.place ≡ Some (Trap target m first x) → marks_in s.items < 256
+    → (target : Target) (m first x : ℕ) → instr_at p fr.method fr.place ≡ Some (Trap target m first x) → marks s.items < 256
 marks_at_hand p t wired typed strongest depths heights s fr ts w same room target m first x here =
     let h = stands_here p t s fr ts w same in
     let all = subst (AllUnder (at 0 depths.depths)) same room.under in

@@ -21,7 +21,7 @@ use Rattle.aom_acts.specs.Next.{IsNext, counting}
 use Rattle.aom_parts.specs.Room as room
 use Rattle.aom_parts.specs.Room.{HasRoom}
 use Rattle.aom_parts.specs.Stands.{Sound, Stands}
-use Rattle.aom_acts.proofs.Counts as counts
+use Rattle.aom_sound.specs.Traps.{marks}
 use Rattle.aom_acts.proofs.Counts.{marks_at_hand, push_at_hand, push_operation_at_hand, tasks_at_hand}
 use Rattle.aom_acts.proofs.RoomMoves.{boots_with_room, keeps_room}
 use Rattle.aom_acts.proofs.Stepping.{frame_of}
@@ -41,9 +41,9 @@ same_entries : (is : List Held_item) (js : List Item) → SameItems is js → en
 same_entries = by_items (λ is js. entries_in is ≡ room.entries_in js) (omega arith) (λ i j is js same _ rest.
     by_item (λ i j. entries_in (i ∷ is) ≡ room.entries_in (j ∷ js)) (λ n. omega (arith, rest)) (λ m n k w _ _. omega (arith, rest)) rest i j same)
 
-same_marks : (is : List Held_item) (js : List Item) → SameItems is js → marks_in is ≡ counts.marks_in js
-same_marks = by_items (λ is js. marks_in is ≡ counts.marks_in js) (omega arith) (λ i j is js same _ rest.
-    by_item (λ i j. marks_in (i ∷ is) ≡ counts.marks_in (j ∷ js)) (λ n. rest) (λ m n k w _ _. rest) (ap suc rest) i j same)
+same_marks : (is : List Held_item) (js : List Item) → SameItems is js → marks_in is ≡ marks js
+same_marks = by_items (λ is js. marks_in is ≡ marks js) (omega arith) (λ i j is js same _ rest.
+    by_item (λ i j. marks_in (i ∷ is) ≡ marks (j ∷ js)) (λ n. rest) (λ m n k w _ _. rest) (ap suc rest) i j same)
 
 module _ (p : Image) (m : Parts) (st : Stands (record { image = p; parts = m })) where
   -- there is room for a thousand tasks more
