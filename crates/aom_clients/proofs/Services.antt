@@ -30,10 +30,7 @@ shape [] n e = absurd (nothing n e)
 shape (x ∷ xs) n e = ap (λ y. y ∷ xs) (same_Some x n e)
 
 never-held : (p : Place) (c : ℕ) → held_place p ≡ Queued c → ⊥
-never-held Free c e = cc
-never-held (Queued d) c e = cc
-never-held (Held d) c e = cc
-never-held (Discarded d) c e = cc
+never-held x c e = grind arith
 
 module _ (cl : List Client) (pl : List Place) (q cn ss st : Table) (r : IsKept cl pl q cn ss st) (s : State) (is : state_of cl pl q ss st ≡ s) where
   -- the first entry of a queue leaves -----------------------------------------------------------------------------------------------------
