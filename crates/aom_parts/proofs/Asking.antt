@@ -1,6 +1,6 @@
 -- The requests of the enlisted objects, where cells move, change, come and go.
 use Rattle.std.specs.Prelude.{is_some}
-use Rattle.std.proofs.Common.{ap, Bool, false, inl, inr, List, None, Option, refl, Some, subst, suc, sym, true, ℕ, ℤ, ◌==◌, ◌∙◌, ◌∷◌, ◌≡◌, [], cond, pos}
+use Rattle.std.proofs.Common.{ap, Bool, false, inl, inr, List, None, Option, refl, Some, subst, suc, sym, true, ℕ, ℤ, ◌==◌, ◌∙◌, ◌∷◌, ◌≡◌, [], cond, pos, arith}
 use Rattle.std.proofs.lemmas.Bool.{eqb-true, false≢true}
 use Rattle.aom_image.specs.Image.{Image}
 use Rattle.aom_image.specs.declared.method.Argument.{Argument}
@@ -84,8 +84,7 @@ module _ (p : Image) (fr : Frame) (ts : List Task) (s : State) (a : Active) wher
 
 -- a cell that goes is enlisted no more
 no_request : (r : Option Request) (waits : Option Bool) → Tells None r waits → r ≡ None
-no_request None waits tells = refl
-no_request (Some r) waits tells = absurd tells
+no_request x waits tells = grind arith
 
 pub requests_gone : (p : Image) (old new : Active) (cs : List Cell) (g : Place) (o : Object) → Tidy cs → held cs g ≡ Some o → Delists old new o.name → SameRequests p old cs → SameRequests p new (without g cs)
 requests_gone p old new cs g o tidy holds off h = elim off [ inl none ↦ unlisted none.0 none.1 | inr removes ↦ delisted removes ]

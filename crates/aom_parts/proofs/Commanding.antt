@@ -1,5 +1,5 @@
 -- What a client does is refused on both sides alike, and what stands for clients goes on through it: command by command.
-use Rattle.std.proofs.Common.{Bool, List, None, Option, Some, [], ap, cond, false, length, map, refl, subst, suc, sym, true, ℕ, ℤ, ◌&&◌, ◌+◌, ◌<◌, ◌∙◌, ◌∷◌, ◌≡◌}
+use Rattle.std.proofs.Common.{Bool, List, None, Option, Some, [], ap, cond, false, length, map, refl, subst, suc, sym, true, ℕ, ℤ, ◌&&◌, ◌+◌, ◌<◌, ◌∙◌, ◌∷◌, ◌≡◌, arith}
 use Rattle.std.specs.Prelude.{filter, is_some, nat_lt, option_map}
 use Rattle.std.proofs.lemmas.Bool.{eqb-true, false≢true}
 use Rattle.std.proofs.lemmas.List.{length-map}
@@ -136,8 +136,7 @@ module _
       go false f e = cc
 
   serves_class : (class : ℕ) (y : Thing) → is_of_class class y ≡ true → is_server p (An_object_of class) ≡ true → is_server p y ≡ true
-  serves_class class (An_object_of d) of serves = ap (λ i. is_server p (An_object_of i)) (eqb-true d class of) ∙ serves
-  serves_class class Message of serves = cc
+  serves_class class x of serves = grind arith
 
   pub same_connect : (class slots name : ℕ) → After (kept.after_connect c (found_server (most_of (kind_of p (Some class))) (asked_server p class s.cells)) slots k) (commanded p c s (Connect class slots) name)
   same_connect class slots name =
@@ -175,8 +174,7 @@ module _
           by : (r : Option Refusal) →
               cond (nat_lt (slots_taken c s.cells) (slots_of (client_at s.clients c)) && nat_lt (count_messages s.cells) p.header.messages) None (Some ServerBusy) ≡ cond (nat_lt (slots_taken c s.cells) (slots_of (client_at s.clients c)) && false) None (Some ServerBusy) →
               room p c s r ≡ None → ⊥
-          by None told e = never (nat_lt (slots_taken c s.cells) (slots_of (client_at s.clients c))) (sym told ∙ e)
-          by (Some r) told e = cc
+          by x told e = grind arith
 
       go : (r : Option Refusal) → refusal p c s (Send words) ≡ r → (x : Client) → kept.client_at k c ≡ x → (y : Option ℕ) → place ≡ y → After (kept.sending r x c y k) (sending p c s r (sessionless x) name words)
       go None e (Open n session slots) at (Some m) here =
@@ -188,8 +186,7 @@ module _
           (same_sent k s.cells s.clients same w.good.tidy o.0 o.2 c client m words (subst (λ i. o.0.name < i) (sym sized.queues) (below o.0 o.2 o.3)) (subst (λ i. m < i) (sym sized.places) f.0) unused (free_nowhere p t wired s w s.clients fit (message_name m) unused)))
         where
           nothing : (x : Option Object) → false ≡ is_some x → x ≡ None
-          nothing None e = refl
-          nothing (Some x) e = cc
+          nothing x e = grind arith
       go None e (Open n session slots) at None here = absurd (refused e here)
       go None e Unconnected at y here = same
       go None e (Connecting n slots) at y here = same

@@ -177,13 +177,7 @@ module _ (others : Others) (us : List Held_task) (h : Heap) (es : List Item) (c 
       at server session n e = let same : server ≡ k = cc in none (server == n) (session_number session) ∙ ap (λ i. cond (i == n) null (cond (server == n) (session_number session) null)) same
 
       here : (x : Client) → server_of x ≡ Some k → (n : ℕ) → session_with n (released x) ≡ cond (k == n) null (session_with n x)
-      here (Open server session slots) e n = at server session n e
-      here (Closing server session) e n = at server session n e
-      here (Dying server session) e n = at server session n e
-      here Unconnected e n = cc
-      here (Connecting server slots) e n = cc
-      here Gone e n = cc
-      here Dead e n = cc
+      here x e n = grind arith
 
   -- the same places have the same numbers
   unmoved : (s' : kept.State) → ((n d : ℕ) → session_with n (client_at s' d) ≡ session_with n (client_at s d)) → ShowSame s s' → (r : Place) → after s' r ≡ before r

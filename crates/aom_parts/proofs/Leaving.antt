@@ -139,8 +139,7 @@ module _ (p : Image) (t : Typing) (wired : IsWired p) (s : State) (w : WellTyped
     freed_once = once_filtered (λ m. is_queued (kept.place_at k m)) (kept.sent_at k c) (same.once c)
 
     from_slot : (x : Option Sender) → holds_slot c x ≡ true → is_from c x ≡ true
-    from_slot None h = cc
-    from_slot (Some x) h = (and_parts (x.client == c) x.holds_slot h).0
+    from_slot x h = grind arith
 
     forgets : (before : Store) → SameMessages p before s.cells → Forgets drops (λ x. left_by c x.service) freed s.cells
     forgets before kept_so = record { goes = goes; gone = gone }
@@ -194,8 +193,7 @@ module _ (p : Image) (t : Typing) (wired : IsWired p) (s : State) (w : WellTyped
     unqueues before kept_so = record { goes = goes; gone = gone }
       where
         queued : (q : Owner) → is_queue_of n q ≡ true → is_queue q ≡ true
-        queued (Elsewhere (Waits_at i m)) h = refl
-        queued _ h = cc
+        queued x h = grind arith
 
         goes : (m : ℕ) → is_among m waiting ≡ true → (x : Cell) × (cell_of s.cells (message_name m) ≡ Some x) × (is_queue_of n x.owner ≡ true) × (is_object x.object.thing ≡ false)
         goes m h =
@@ -255,8 +253,7 @@ module _ (p : Image) (t : Typing) (wired : IsWired p) (s : State) (w : WellTyped
   beside_unqueued before kept_so n = subst (Beside s.cells) (sym (unqueued_so n s.cells)) (beside_sifted (λ x. is_queue_of n x.owner) (λ x. x.service) s.cells w.good.tidy (λ i x e h. gone_message before kept_so i x e (queued x.owner h)))
     where
       queued : (q : Owner) → is_queue_of n q ≡ true → is_queue q ≡ true
-      queued (Elsewhere (Waits_at i m)) h = refl
-      queued _ h = cc
+      queued x h = grind arith
 
   -- and what no queue owns
   pub holds_withdrawn : (c : ℕ) (r : Owner) → is_queue r ≡ false → held (withdrawn c s.cells) r ≡ held s.cells r
@@ -267,5 +264,4 @@ module _ (p : Image) (t : Typing) (wired : IsWired p) (s : State) (w : WellTyped
   holds_unqueued n r apart = ap (λ l. held l r) (unqueued_so n s.cells) ∙ holds_sifted (λ x. is_queue_of n x.owner) (λ x. x.service) s.cells w.good.tidy (λ i x e h. queued x.owner h) r apart
     where
       queued : (q : Owner) → is_queue_of n q ≡ true → is_queue q ≡ true
-      queued (Elsewhere (Waits_at i m)) h = refl
-      queued _ h = cc
+      queued x h = grind arith

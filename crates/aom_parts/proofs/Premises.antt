@@ -101,10 +101,7 @@ module _ (p : Image) (clients : List Client) (cs : List Cell) (fit : ClientsFit 
   connects_nowhere at none n = go (k == n) refl
     where
       never : (k == n) ≡ false → (e : Asked) → is_connect_of c e ≡ true → EntryFits clients n e → ⊥
-      never other (Connect_of d) same fits =
-          false≢true (sym other ∙ eq-eqb k n ((connecting_only k n (client_at clients c) at).3 (ap (λ i. is_connecting_at n (client_at clients i)) (sym (eqb-true d c same)) ∙ fits)))
-      never other (Message_of d m) same fits = cc
-      never other (Close_of d) same fits = cc
+      never other x same fits = grind arith
 
       go : (b : Bool) → (k == n) ≡ b → list_any (is_connect_of c) (service_of cs n).queue ≡ false
       go true e = ap (λ i. list_any (is_connect_of c) (service_of cs i).queue) (sym (eqb-true k n e)) ∙ none
@@ -115,9 +112,7 @@ module _ (p : Image) (clients : List Client) (cs : List Cell) (fit : ClientsFit 
   closes_nowhere at none n = go (k == n) refl
     where
       never : (k == n) ≡ false → (e : Asked) → is_close_of c e ≡ true → EntryFits clients n e → ⊥
-      never other (Close_of d) same fits = false≢true (sym other ∙ eq-eqb k n ((leaving_only k n (client_at clients c) at).3 (ap (λ i. is_leaving n (client_at clients i)) (sym (eqb-true d c same)) ∙ fits)))
-      never other (Message_of d m) same fits = cc
-      never other (Connect_of d) same fits = cc
+      never other x same fits = grind arith
 
       go : (b : Bool) → (k == n) ≡ b → list_any (is_close_of c) (service_of cs n).queue ≡ false
       go true e = ap (λ i. list_any (is_close_of c) (service_of cs i).queue) (sym (eqb-true k n e)) ∙ none
@@ -171,12 +166,7 @@ module _ (p : Image) (t : Typing) (wired : IsWired p) (s : State) (w : WellTyped
       ap (λ i. is_among i (service_of s.cells n).sessions) (sym client) ∙ fit.listed n c.0 (open_server n (client_at clients c.0) (opens clients n c.0 m (service_of s.cells n).queue (fit.queues n) c.1))
     where
       of_client : (x : Option Sender) (c : ℕ) → is_from c x ≡ true → holds_slot d x ≡ true → c ≡ d
-      of_client None c f g = cc
-      of_client (Some x) c f g = go (x.client == d) refl g
-        where
-          go : (b : Bool) → (x.client == d) ≡ b → (b && x.holds_slot) ≡ true → c ≡ d
-          go true e g = sym (eqb-true x.client c f) ∙ eqb-true x.client d e
-          go false e g = cc
+      of_client x c f g = grind arith
 
   -- of a number that is free nothing is asked for
   pub free_nowhere : (m : ℕ) → named s.cells m ≡ None → (n : ℕ) → has_message (service_of s.cells n) m ≡ false
@@ -228,8 +218,7 @@ module _ (p : Image) (t : Typing) (wired : IsWired p) (s : State) (w : WellTyped
         sent = ap (is_from d) (sym (same.senders j) ∙ ap (sent_by (holds k j)) at) ∙ eq-eqb d d refl
 
         from_one : (x : Option Sender) (c : ℕ) → is_from c x ≡ true → is_from d x ≡ true → c ≡ d
-        from_one None c f g = cc
-        from_one (Some x) c f g = sym (eqb-true x.client c f) ∙ eqb-true x.client d g
+        from_one x c f g = grind arith
 
         queue : (q : Owner) → owner_of s.cells (message_name j) ≡ Some q → is_queue q ≡ true → has_message (service_of s.cells n) (message_name j) ≡ true
         queue (Elsewhere (Waits_at i m)) e h =
@@ -253,10 +242,7 @@ module _ (p : Image) (t : Typing) (wired : IsWired p) (s : State) (w : WellTyped
     completes_at g o m there apart name = go (kept.place_at k m) refl (same.taken m ∙ ap is_some (ap (named s.cells) (sym name) ∙ held_lives s.cells g o w.good.tidy there)) (same.waits m ∙ ap waits_in (ap (owner_of s.cells) (sym name) ∙ owner_held s.cells w.good.tidy g o there) ∙ apart)
       where
         go : (x : Place) → kept.place_at k m ≡ x → is_taken x ≡ true → is_queued x ≡ false → IsSome (completion x)
-        go Free at taken waits = cc
-        go (Queued d) at taken waits = cc
-        go (Held d) at taken waits = refl
-        go (Discarded d) at taken waits = refl
+        go x at taken waits = grind arith
 
 -- a client that is at something is one of those that there are
 module _ (cs : List Cell) (clients : List Client) (k : kept.State) (same : SameClients k cs clients) (c : ℕ) where

@@ -40,13 +40,7 @@ pub connecting_here : (k : kept.State) (cs : List Cell) (clients : List Client) 
 connecting_here k cs clients same n c at = go (kept.client_at k c) refl (ap (is_connecting_at n) (same.at c) ∙ at)
   where
     go : (x : Client) → kept.client_at k c ≡ x → is_connecting_at n (sessionless x) ≡ true → (slots : ℕ) × (kept.client_at k c ≡ Connecting n slots)
-    go (Connecting m slots) e h = (slots, e ∙ ap (λ i. Connecting i slots) (eqb-true m n h))
-    go Unconnected e h = cc
-    go (Open m session slots) e h = cc
-    go (Closing m session) e h = cc
-    go (Dying m session) e h = cc
-    go Gone e h = cc
-    go Dead e h = cc
+    go x e h = grind arith
 
 released_sessionless : (x : Client) → sessionless (released x) ≡ sessionless x
 released_sessionless Unconnected = refl
@@ -191,7 +185,4 @@ module _ (p : Image) (t : Typing) (wired : IsWired p) (s : State) (w : WellTyped
         who = go (kept.place_at k m) refl waiting
           where
             go : (x : Place) → kept.place_at k m ≡ x → is_queued x ≡ true → (by : ℕ) × (kept.place_at k m ≡ Queued by)
-            go (Queued d) e h = (d, e)
-            go Free e h = cc
-            go (Held d) e h = cc
-            go (Discarded d) e h = cc
+            go x e h = grind arith

@@ -1,5 +1,5 @@
 -- The sessions of cells, where cells move, change, come and go.
-use Rattle.std.proofs.Common.{ap, Bool, cond, false, List, None, Option, refl, Some, suc, sym, true, ℕ, ℤ, ◌==◌, ◌∙◌, ◌∷◌, ◌≡◌, [], pos}
+use Rattle.std.proofs.Common.{ap, Bool, cond, false, List, None, Option, refl, Some, suc, sym, true, ℕ, ℤ, ◌==◌, ◌∙◌, ◌∷◌, ◌≡◌, [], pos, arith}
 use Rattle.std.proofs.lemmas.Bool.{eqb-true, eqb-false, false≢true}
 use Rattle.aom_image.specs.Image.{Image}
 use Rattle.aom_image.specs.declared.method.Argument.{Argument}

@@ -367,8 +367,7 @@ module _
           or_true false b h = h
 
       queues_own : (q : Owner) → is_queue_of k q ≡ true → is_queue q ≡ true
-      queues_own (Elsewhere (Waits_at i m)) h = refl
-      queues_own _ h = cc
+      queues_own x h = grind arith
 
       at : (x : Cell) → cell_of cs n ≡ Some x → (b : Bool) → (k == n) ≡ b → (d : Bool) → drops x ≡ d →
           ((service_in (cond d None (Some x))).queue ≡ cond b [] (service_of cs n).queue) × ((service_in (cond d None (Some x))).sessions ≡ cond b [] (service_of cs n).sessions)

@@ -1,5 +1,5 @@
 -- A client closes or dies: its messages that wait go, its others hold no slot and are told to nobody, and all else goes on standing for what it stood for.
-use Rattle.std.proofs.Common.{Bool, List, None, Option, Some, [], ap, cond, false, length, refl, slice_index_or, subst, suc, sym, true, zero, ℕ, ◌&&◌, ◌<◌, ◌==◌, ◌∙◌, ◌∷◌, ◌≡◌}
+use Rattle.std.proofs.Common.{Bool, List, None, Option, Some, [], ap, cond, false, length, refl, slice_index_or, subst, suc, sym, true, zero, ℕ, ◌&&◌, ◌<◌, ◌==◌, ◌∙◌, ◌∷◌, ◌≡◌, arith}
 use Rattle.std.specs.Prelude.{filter, is_some, map, not}
 use Rattle.std.proofs.lemmas.Bool.{eq-eqb, eqb-true, false≢true, ne_eqb}
 use Rattle.std.proofs.lemmas.List.{length-set}
@@ -175,20 +175,10 @@ module _ (c : ℕ) where
   left_other (Discarded d) e = refl
 
   left_own : (p : Place) → is_queued p ≡ false → sender (kept.left_place c p) ≡ sender p
-  left_own Free e = refl
-  left_own (Queued d) e = cc
-  left_own (Held d) e = go (d == c)
-    where
-      go : (b : Bool) → sender (cond b (closed_place (Held d)) (Held d)) ≡ d
-      go true = refl
-      go false = refl
-  left_own (Discarded d) e = refl
+  left_own x e = grind arith
 
   waits_of : (p : Place) → is_queued p ≡ true → is_waiting_of c p ≡ (sender p == c)
-  waits_of (Queued d) e = refl
-  waits_of Free e = cc
-  waits_of (Held d) e = cc
-  waits_of (Discarded d) e = cc
+  waits_of x e = grind arith
 
 -- ---- what waits in a queue
 
@@ -287,10 +277,7 @@ module _ (s : kept.State) (cs : List Cell) (clients : List Client) (same : SameC
   goes_so j x at = ap (λ b. b && is_from c (sent_by (holds s j) (kept.place_at s j))) (waits_told j (Some x) at) ∙ ap (λ m. is_queue x.owner && is_from c m) (sender_told j (Some x) at)
 
   none_goes : (p : Place) (slot : Bool) → sent_by slot p ≡ None → (is_queued p && is_from c (sent_by slot p)) ≡ false
-  none_goes Free slot e = refl
-  none_goes (Queued d) slot e = cc
-  none_goes (Held d) slot e = cc
-  none_goes (Discarded d) slot e = cc
+  none_goes x slot e = grind arith
 
   left_sender : (j : ℕ) (x : Option Cell) → cell_of cs (message_name j) ≡ x →
       remains c (is_queued (kept.place_at s j) && is_from c (sent_by (holds s j) (kept.place_at s j))) (sent_by (holds s j) (kept.place_at s j)) ≡ (service_in (left_of c x)).sender
