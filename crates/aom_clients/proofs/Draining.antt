@@ -24,10 +24,10 @@ drained t u k m small first is =
       emptied = ap (with_list k []) is ∙ ap (λ ls. record t { lists = ls }) (set-set t.lists k (rest_of (list_at t k)) []);
     }
 
-module _ (t u : Table) (k m : ℕ) (d : Drained t u k m) where
-  pub head-is-in : IsIn m (list_at t k)
-  head-is-in = subst (IsIn m) (sym d.shaped) (inl refl)
+pub first-below : (t : Table) (k m n : ℕ) → Some m ≡ first_of (list_at t k) → ((y : ℕ) → IsIn y (list_at t k) → y < n) → m < n
+first-below t k m n first within = within m (subst (IsIn m) (sym (shape (list_at t k) m (sym first))) (inl refl))
 
+module _ (t u : Table) (k m : ℕ) (d : Drained t u k m) where
   pub tail-in : (n : ℕ) → IsIn n (list_at u k) → IsIn n (list_at t k)
   tail-in n i = subst (IsIn n) (sym d.shaped) (inr i)
 

@@ -132,7 +132,21 @@ module _ (cl : List Client) (pl : List Place) (q cn ss st : Table) (r : IsKept c
     connect-listed c less e =
         listed-rest-connect q cn k c ns here r.sized.connects_long less (shaped ∙ ap (λ y. y ∷ ns) e) r.listed
 
-    pub client-told : (e : Entry) → client_in pl e ≡ (taken_entry s e).client
+    -- a close leaves no trace but in its queue
+    close-kept : (c : ℕ) → n ≡ 1088 + c → IsKept cl pl q1 cn ss st
+    close-kept c e = record {
+      sized = sized-same;
+      entries = entries-less (omega (arith, e));
+      listed = listed-rest-other q cn k n ns here (ap is_connect_node e ∙ close-no c) shaped r.listed;
+      connected = r.connected;
+      out = r.out;
+      named = named-same;
+    }
+
+    seen-rest : state_of cl pl q1 ss st ≡ with_queue k (map entry_of ns) old
+    seen-rest = ap (λ qs. record { clients = cl; places = pl; queues = qs; sessions = ss.lists; sent = take 64 st.lists }) shown-rest
+
+    client-told : (e : Entry) → client_in pl e ≡ (taken_entry s e).client
     client-told (Connect c) = refl
     client-told (Message m) = ap sender (place-is cl pl q cn ss st r s is m)
     client-told (Close c) = refl
@@ -189,19 +203,9 @@ module _ (cl : List Client) (pl : List Place) (q cn ss st : Table) (r : IsKept c
         out = r.out;
         named = named-same;
       };
-      seen = ap (λ qs. record { clients = cl; places = pl; queues = qs; sessions = ss.lists; sent = take 64 st.lists }) shown-rest;
+      seen = seen-rest;
     })
-    taken-entry _ (close c) e = subst IsTaken (sym (close-is c)) (record {
-      kept = record {
-        sized = sized-same;
-        entries = entries-less (omega (arith, e));
-        listed = listed-rest-other q cn k n ns here (ap is_connect_node e ∙ close-no c) shaped r.listed;
-        connected = r.connected;
-        out = r.out;
-        named = named-same;
-      };
-      seen = ap (λ qs. record { clients = cl; places = pl; queues = qs; sessions = ss.lists; sent = take 64 st.lists }) shown-rest;
-    })
+    taken-entry _ (close c) e = subst IsTaken (sym (close-is c)) (record { kept = close-kept c e; seen = seen-rest })
 
     taken-kept : IsKept cl (held_by (entry_of n) pl) q1 (unlisted k (entry_of n) cn) ss st
     taken-kept = (taken-entry n (kind n) refl).kept
@@ -246,17 +250,7 @@ module _ (cl : List Client) (pl : List Place) (q cn ss st : Table) (r : IsKept c
       where
         mine : IsAsking (client cl c)
         mine = asking (client cl c) (asks k (client cl c) (r.entries.connects k c less (subst (λ x. IsIn x (list_at q k)) e head-in)))
-    gone-entry _ (close c) e = subst IsGone (sym (close-is c)) (record {
-      kept = record {
-        sized = sized-same;
-        entries = entries-less (omega (arith, e));
-        listed = listed-rest-other q cn k n ns here (ap is_connect_node e ∙ close-no c) shaped r.listed;
-        connected = r.connected;
-        out = r.out;
-        named = named-same;
-      };
-      seen = ap (λ qs. record { clients = cl; places = pl; queues = qs; sessions = ss.lists; sent = take 64 st.lists }) shown-rest;
-    })
+    gone-entry _ (close c) e = subst IsGone (sym (close-is c)) (record { kept = close-kept c e; seen = seen-rest })
 
     gone-kept : IsKept (given_up (entry_of n) cl) (place_freed (entry_of n) pl) q1 (unlisted k (entry_of n) cn) ss (slot_freed (entry_of n) st)
     gone-kept = (gone-entry n (kind n) refl).kept

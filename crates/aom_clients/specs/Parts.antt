@@ -32,6 +32,15 @@ abbrev pub if_taken : {X : Type 0} → (Entry → X → X) → Option Taken → 
 if_taken f None x = x
 if_taken f (Some t) x = f t.entry x
 
+-- the place of the message that was taken
+abbrev message_at : Entry → Option ℕ
+message_at (Message m) = Some m
+message_at other = None
+
+abbrev pub message_in : Option Taken → Option ℕ
+message_in None = None
+message_in (Some t) = message_at t.entry
+
 -- a connect that left its queue is listed no more
 abbrev pub unlisted : ℕ → Entry → Table → Table
 unlisted k (Connect c) connects = with_list k (rest_of (list_at connects k)) connects

@@ -2,7 +2,7 @@
 ghost use Rattle.std.specs.Prelude.{◌≡◌, ◌<◌, IfSome, length};
 ghost use Rattle.aom_queues.specs.Lists.{IsFree, list_at, with_list, first_of, rest_of};
 ghost use Rattle.aom_clients.specs.Clients.{MessageBelow};
-ghost use Rattle.aom_clients.specs.Parts.{ConnectBelow, CanClose, client_in, taken_of, if_taken, unlisted, held_by, given_up, slot_freed, place_freed, close_queued};
+ghost use Rattle.aom_clients.specs.Parts.{ConnectBelow, CanClose, client_in, taken_of, if_taken, message_in, unlisted, held_by, given_up, slot_freed, place_freed, close_queued};
 
 use crate::entry::close_node;
 use crate::{Client, Entry, Place, Taken};
@@ -53,16 +53,22 @@ fn unlist(connects: &mut Lists, server: u16, entry: Entry)
     }
 }
 
+/// The place of the message that was taken, if one was.
+fn message_in(taken: Option<Taken>) -> Option<u16>
+    ensures { result ≡ message_in taken }
+{
+    match taken?.entry {
+        Entry::Message { place } => Some(place),
+        _ => None,
+    }
+}
+
 /// A message that is taken is held.
 pub fn hold(places: &mut [Place], taken: Option<Taken>)
     requires { IfSome taken (λ t. MessageBelow (length places.old) t.entry) }
     ensures { places.new ≡ if_taken held_by taken places.old }
 {
-    if let Some(Taken {
-        entry: Entry::Message { place },
-        ..
-    }) = taken
-    {
+    if let Some(place) = message_in(taken) {
         places[place as usize] = places[place as usize].held();
     }
 }
@@ -72,12 +78,10 @@ pub fn give_up(clients: &mut [Client], taken: Option<Taken>)
     requires { IfSome taken (λ t. ConnectBelow (length clients.old) t.entry) }
     ensures { clients.new ≡ if_taken given_up taken clients.old }
 {
-    if let Some(Taken {
-        entry: Entry::Connect { client },
-        ..
-    }) = taken
-    {
-        clients[client as usize] = Client::Unconnected;
+    if let Some(taken) = taken {
+        if let Entry::Connect { client } = taken.entry {
+            clients[client as usize] = Client::Unconnected;
+        }
     }
 }
 
@@ -85,11 +89,7 @@ pub fn give_up(clients: &mut [Client], taken: Option<Taken>)
 pub fn free_slot(sent: &mut Lists, taken: Option<Taken>)
     ensures { sent.new ≡ if_taken slot_freed taken sent.old }
 {
-    if let Some(Taken {
-        entry: Entry::Message { place },
-        ..
-    }) = taken
-    {
+    if let Some(place) = message_in(taken) {
         sent.remove(place);
     }
 }
@@ -99,11 +99,7 @@ pub fn free_place(places: &mut [Place], taken: Option<Taken>)
     requires { IfSome taken (λ t. MessageBelow (length places.old) t.entry) }
     ensures { places.new ≡ if_taken place_freed taken places.old }
 {
-    if let Some(Taken {
-        entry: Entry::Message { place },
-        ..
-    }) = taken
-    {
+    if let Some(place) = message_in(taken) {
         places[place as usize] = Place::Free;
     }
 }

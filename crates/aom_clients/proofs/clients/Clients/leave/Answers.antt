@@ -30,9 +30,8 @@ pub invariant_of-self : goal.invariant_of-self
 invariant_of-self c =
     let v = c.self.inside.places in
     let st = c.self.inside.sent in
-    let long : v.len ≡ length c.withdraw_all-freed.new.places = omega (arith, v.ok.0, c.withdraw_all-freed.auto.places, ap length c.deref_mut.ensures.value) in
-    let places = written v.len v.items c.withdraw_all-freed.new.places long ∙ c.withdraw_all-freed.ensures.places
-        ∙ ap (λ ps. left_each (list_at (with_list c.args.client [] st) (64 + c.args.client)) (left_each (list_at st c.args.client) ps)) c.deref_mut.ensures.value in
+    let places = written v.len v.items _ c.withdraw_all-freed.new.places v.ok.0 c.withdraw_all-freed.auto.places c.deref_mut.ensures.value ∙ c.withdraw_all-freed.ensures.places
+    ∙ ap (λ ps. left_each (list_at (with_list c.args.client [] st) (64 + c.args.client)) (left_each (list_at st c.args.client) ps)) c.deref_mut.ensures.value in
     let queues = c.queue_close.ensures ∙ ap (close_queued c.client-was.result c.args.client) c.withdraw_all-freed.ensures.queues in
     kept-as _ _ _ _ _ _ _ _ _ _ _ _ refl places queues c.remove.ensures.removed refl c.withdraw_all-freed.ensures.sent
     (left-kept _ _ _ _ _ _ c.self.invariant _ c.self.view_is c.args.client c.args.next c.requires.client c.requires.next c.client-was.result c.client-was.ensures.value)
@@ -46,9 +45,8 @@ pub returns-clause-after : goal.returns-clause-after
 returns-clause-after c =
     let v = c.self.inside.places in
     let st = c.self.inside.sent in
-    let long : v.len ≡ length c.withdraw_all-freed.new.places = omega (arith, v.ok.0, c.withdraw_all-freed.auto.places, ap length c.deref_mut.ensures.value) in
-    let places = written v.len v.items c.withdraw_all-freed.new.places long ∙ c.withdraw_all-freed.ensures.places
-        ∙ ap (λ ps. left_each (list_at (with_list c.args.client [] st) (64 + c.args.client)) (left_each (list_at st c.args.client) ps)) c.deref_mut.ensures.value in
+    let places = written v.len v.items _ c.withdraw_all-freed.new.places v.ok.0 c.withdraw_all-freed.auto.places c.deref_mut.ensures.value ∙ c.withdraw_all-freed.ensures.places
+    ∙ ap (λ ps. left_each (list_at (with_list c.args.client [] st) (64 + c.args.client)) (left_each (list_at st c.args.client) ps)) c.deref_mut.ensures.value in
     let queues = c.queue_close.ensures ∙ ap (close_queued c.client-was.result c.args.client) c.withdraw_all-freed.ensures.queues in
     state-as _ _ _ _ _ c.queue_close.new.queues _ c.self.inside.sessions _ c.withdraw_all-freed.new.sent refl places queues refl c.withdraw_all-freed.ensures.sent
     ∙ left-seen _ _ _ _ _ _ c.self.invariant _ c.self.view_is c.args.client c.args.next c.requires.client c.requires.next c.client-was.result c.client-was.ensures.value
@@ -57,5 +55,5 @@ pub returns-clause-below : goal.returns-clause-below
 returns-clause-below c =
     let xs = list_at c.self.inside.sent c.args.client in
     let below : All (λ m. m < 1024) xs =
-        all-in (λ m. m < 1024) xs (λ m i. omega (arith, sent-below _ _ _ _ _ _ c.self.invariant _ c.self.view_is c.args.client c.args.next c.requires.client c.requires.next m i, c.self.invariant.sized.places_long)) in
+    all-in (λ m. m < 1024) xs (λ m i. omega (arith, sent-below _ _ _ _ _ _ c.self.invariant _ c.self.view_is c.args.client c.args.next c.requires.client c.requires.next m i, c.self.invariant.sized.places_long)) in
     subst (All (λ m. m < 1024)) (sym c.withdraw_all-freed.ensures.freed) (All-filter (λ m. is_queued (slice_index_or c.deref_mut.result.now m Free)) (λ m. m < 1024) xs below)

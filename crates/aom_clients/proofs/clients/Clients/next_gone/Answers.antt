@@ -9,10 +9,8 @@ pub invariant_of-self : goal.invariant_of-self
 invariant_of-self c =
     let v = c.self.inside.places in
     let w = c.self.inside.clients in
-    let long : v.len ≡ length c.free_place.new.places = omega (arith, v.ok.0, c.free_place.auto.places, ap length c.deref_mut-2.ensures.value) in
-    let many : w.len ≡ length c.give_up.new.clients = omega (arith, w.ok.0, c.give_up.auto.clients, ap length c.deref_mut.ensures.value) in
-    let places = written v.len v.items c.free_place.new.places long ∙ c.free_place.ensures ∙ ap (if_taken place_freed c.take-taken.result) c.deref_mut-2.ensures.value in
-    let clients = written w.len w.items c.give_up.new.clients many ∙ c.give_up.ensures ∙ ap (if_taken given_up c.take-taken.result) c.deref_mut.ensures.value in
+    let places = written v.len v.items _ c.free_place.new.places v.ok.0 c.free_place.auto.places c.deref_mut-2.ensures.value ∙ c.free_place.ensures ∙ ap (if_taken place_freed c.take-taken.result) c.deref_mut-2.ensures.value in
+    let clients = written w.len w.items _ c.give_up.new.clients w.ok.0 c.give_up.auto.clients c.deref_mut.ensures.value ∙ c.give_up.ensures ∙ ap (if_taken given_up c.take-taken.result) c.deref_mut.ensures.value in
     kept-as _ _ _ _ _ _ _ _ _ _ _ _ clients places refl c.take-taken.ensures.listed refl c.free_slot.ensures
     (served _ _ _ _ _ _ c.self.invariant _ c.self.view_is c.args.server c.requires _ c.take-taken.ensures.rest c.take-taken.result (c.take-taken.ensures.taken ∙ ap (λ ps. taken_of ps (first_of (list_at c.self.inside.queues c.args.server))) c.deref.ensures.value) c.take-taken.ensures.below c.take-taken.ensures.free).gone_kept
 
@@ -23,10 +21,8 @@ pub returns-clause-after : goal.returns-clause-after
 returns-clause-after c =
     let v = c.self.inside.places in
     let w = c.self.inside.clients in
-    let long : v.len ≡ length c.free_place.new.places = omega (arith, v.ok.0, c.free_place.auto.places, ap length c.deref_mut-2.ensures.value) in
-    let many : w.len ≡ length c.give_up.new.clients = omega (arith, w.ok.0, c.give_up.auto.clients, ap length c.deref_mut.ensures.value) in
-    let places = written v.len v.items c.free_place.new.places long ∙ c.free_place.ensures ∙ ap (if_taken place_freed c.take-taken.result) c.deref_mut-2.ensures.value in
-    let clients = written w.len w.items c.give_up.new.clients many ∙ c.give_up.ensures ∙ ap (if_taken given_up c.take-taken.result) c.deref_mut.ensures.value in
+    let places = written v.len v.items _ c.free_place.new.places v.ok.0 c.free_place.auto.places c.deref_mut-2.ensures.value ∙ c.free_place.ensures ∙ ap (if_taken place_freed c.take-taken.result) c.deref_mut-2.ensures.value in
+    let clients = written w.len w.items _ c.give_up.new.clients w.ok.0 c.give_up.auto.clients c.deref_mut.ensures.value ∙ c.give_up.ensures ∙ ap (if_taken given_up c.take-taken.result) c.deref_mut.ensures.value in
     state-as _ _ _ _ _ c.take-taken.new.queues _ c.self.inside.sessions _ c.free_slot.new.sent clients places refl refl c.free_slot.ensures
     ∙ (served _ _ _ _ _ _ c.self.invariant _ c.self.view_is c.args.server c.requires _ c.take-taken.ensures.rest c.take-taken.result (c.take-taken.ensures.taken ∙ ap (λ ps. taken_of ps (first_of (list_at c.self.inside.queues c.args.server))) c.deref.ensures.value) c.take-taken.ensures.below c.take-taken.ensures.free).gone_seen
 
