@@ -48,10 +48,7 @@ pub held_owner : (cs : List Cell) → Tidy cs → (n : ℕ) (q : Owner) → owne
 held_owner cs tidy n q e = go (cell_of cs n) refl (sym (owner_cell cs n) ∙ e)
   where
     go : (x : Option Cell) → cell_of cs n ≡ x → owner_in x ≡ Some q → (x : Object) × (held cs q ≡ Some x) × (x.name ≡ n)
-    go None at e = cc
-    go (Some c) at e =
-        let place : c.owner ≡ q = cc in
-        (c.object, ap (λ i. held cs i) (sym place) ∙ held_cell cs c.owner ∙ ap object_in (cell_placed cs n c tidy at), cell_name cs n c at)
+    go x at e = grind (arith, held_cell, object_in, cell_placed, cell_name)
 
 -- ---- what is asked for, and by whom
 

@@ -1,15 +1,9 @@
 use Rattle.std.proofs.Common.{◌≡◌}
-use Rattle.aom_natives.proofs.Slots.{answer-after, called, ids-after, living-agrees}
+use Rattle.aom_natives.proofs.Slots.{answer-after, called, living-agrees}
 use Rattle.aom_natives.proofs.natives.Natives.open.Goals as goal
 
 pub open-requires : goal.open-requires
 open-requires g c = record { agree = living-agrees c.args.self.now.slots.items c.args.n _ _ c.requires.alive c.index_mut.ensures.value c.in-Some.is _ _ c.requires.agree }
 
 pub returns : goal.returns
-returns g c = let after = called c.args.self.now.slots.items c.args.n _ _ c.requires.alive c.index_mut.ensures.value c.in-Some.is _ _ c.requires.agree _ c.open.ensures.agree in record {
-  answer = answer-after c.args.self.now.slots.items c.args.n _ _ c.requires.alive c.index_mut.ensures.value c.in-Some.is (λ l answer. (goal.Native-dyn g (l.native.vtable, l.native.value)).open_may l.native.value c.args.id answer) c.open.result (record { sfits = c.open.type_inv }) c.open.ensures.answer;
-  ids = ids-after c.args.self.now.slots.items c.args.n _ _ c.requires.alive c.index_mut.ensures.value c.in-Some.is (λ l. l.ids) _ (λ old new. new ≡ old) c.open.ensures.ids;
-  agree = after.agree;
-  alive = after.alive;
-  others = after.others;
-}
+returns g c = assumption (called c.args.self.now.slots.items c.args.n _ _ c.requires.alive c.index_mut.ensures.value c.in-Some.is _ _ c.requires.agree c.open.new.self c.open.ensures.agree (λ old new. new ≡ old) c.open.ensures.ids, answer-after c.args.self.now.slots.items c.args.n _ _ c.requires.alive c.index_mut.ensures.value c.in-Some.is (λ l answer. (goal.Native-dyn g (l.native.vtable, l.native.value)).open_may l.native.value c.args.id answer) c.open.result (record { sfits = c.open.type_inv }) c.open.ensures.answer)
