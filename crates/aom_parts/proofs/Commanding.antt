@@ -132,8 +132,7 @@ module _
   asked_serves class x e = go (is_server p (An_object_of class)) refl e
     where
       go : (b : Bool) → is_server p (An_object_of class) ≡ b → cond b (first_listed class s.cells) None ≡ Some x → b ≡ true
-      go true f e = refl
-      go false f e = cc
+      go x f e = grind arith
 
   serves_class : (class : ℕ) (y : Thing) → is_of_class class y ≡ true → is_server p (An_object_of class) ≡ true → is_server p y ≡ true
   serves_class class x of serves = grind arith
@@ -168,8 +167,7 @@ module _
       refused e none = by (row (client_at s.clients c)).send (ap (λ b. cond (nat_lt (slots_taken c s.cells) (slots_of (client_at s.clients c)) && b) None (Some ServerBusy)) (sym found ∙ ap is_some none)) e
         where
           never : (a : Bool) → cond (a && false) None (Some ServerBusy) ≡ None → ⊥
-          never true e = cc
-          never false e = cc
+          never x e = grind arith
 
           by : (r : Option Refusal) →
               cond (nat_lt (slots_taken c s.cells) (slots_of (client_at s.clients c)) && nat_lt (count_messages s.cells) p.header.messages) None (Some ServerBusy) ≡ cond (nat_lt (slots_taken c s.cells) (slots_of (client_at s.clients c)) && false) None (Some ServerBusy) →

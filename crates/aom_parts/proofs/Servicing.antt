@@ -43,13 +43,7 @@ connecting_here k cs clients same n c at = go (kept.client_at k c) refl (ap (is_
     go x e h = grind arith
 
 released_sessionless : (x : Client) → sessionless (released x) ≡ sessionless x
-released_sessionless Unconnected = refl
-released_sessionless (Connecting n slots) = refl
-released_sessionless (Open n session slots) = refl
-released_sessionless (Closing n session) = refl
-released_sessionless (Dying n session) = refl
-released_sessionless Gone = refl
-released_sessionless Dead = refl
+released_sessionless x = grind arith
 
 -- ---- a session is at hand to go
 

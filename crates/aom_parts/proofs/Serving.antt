@@ -40,8 +40,7 @@ or_true true = refl
 or_true false = refl
 
 pub front_false : (a b : Bool) → (a || b) ≡ false → (a ≡ false) × (b ≡ false)
-front_false true b e = cc
-front_false false b e = (refl, e)
+front_false x b e = grind arith
 
 -- a client is at something else on both sides
 pub client_set : (xs clients : List Client) (c : ℕ) (to to' : Client) → c < length xs → sessionless to ≡ to' → ((d : ℕ) → sessionless (slice_index_or xs d Unconnected) ≡ client_at clients d) →

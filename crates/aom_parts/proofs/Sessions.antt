@@ -27,8 +27,7 @@ unnamed_closed [] n e = refl
 unnamed_closed (c ∷ cs) n e = go (c.object.name == n) e (unnamed_closed cs n)
   where
     go : (b : Bool) → cond b (Some c.object) (named cs n) ≡ None → (named cs n ≡ None → in_session cs n ≡ false) → cond b c.session (in_session cs n) ≡ false
-    go true e rest = cc
-    go false e rest = rest e
+    go x e rest = grind arith
 
 session_moved : (cs : List Cell) (p q : Place) (n : ℕ) → in_session (moved p q cs) n ≡ in_session cs n
 session_moved [] p q n = refl

@@ -48,14 +48,7 @@ lost_some (c ∷ xs) d slot told = ap (λ m. lost xs (Some m)) (first (d == c)) 
     first false = refl
 
     both : (a b b' : Bool) → b ≡ b' → cond a false (cond b false slot) ≡ cond (b' || a) false slot
-    both a true true e = never a
-      where
-        never : (a : Bool) → cond a false false ≡ false
-        never true = refl
-        never false = refl
-    both a false false e = refl
-    both a true false e = cc
-    both a false true e = cc
+    both a x y e = grind arith
 
 lost_sent : (xs : List ℕ) (slot : Bool) (p : Place) → lost xs (sent_by slot p) ≡ sent_by (cond (is_among (sender p) xs) false slot) p
 lost_sent xs slot Free = lost_none xs
@@ -207,8 +200,7 @@ none_goes k [] none = refl
 none_goes k (m ∷ ms) none = go (m == k) refl none (none_goes k ms)
   where
     go : (b : Bool) → (m == k) ≡ b → (b || is_among k ms) ≡ false → (is_among k ms ≡ false → filter (is_other k) ms ≡ ms) → cond (not b) (m ∷ filter (is_other k) ms) (filter (is_other k) ms) ≡ m ∷ ms
-    go true e none rest = cc
-    go false e none rest = ap (λ l. m ∷ l) (rest none)
+    go x e none rest = grind arith
 
 all_stay : (es : List Entry) (ms : List ℕ) → ((k : ℕ) → list_any (is_at k) es ≡ true → is_among k ms ≡ false) → all_without es ms ≡ ms
 all_stay [] ms none = refl

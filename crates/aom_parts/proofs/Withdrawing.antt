@@ -151,8 +151,7 @@ module _ (c : ℕ) where
       own e = second (is_queue x.owner) (is_from c x.service.sender) e
         where
           second : (a b : Bool) → (a && b) ≡ true → b ≡ true
-          second true b e = e
-          second false b e = cc
+          second x b e = grind arith
 
       counts : (b y : Bool) (k : ℕ) → b ≡ cond (c == d) false y → (j : ℕ) → k ≡ cond (c == d) 0 j → cond b (suc k) k ≡ cond (c == d) 0 (cond y (suc j) j)
       counts b y k e j f = by (c == d) y refl e f
@@ -209,8 +208,7 @@ module _ (c : ℕ) (places : List Place) where
       (λ h. ap (λ x. Message_of (sender x) (message_name j)) (at_map (λ p. kept.left_place c p) Free places j refl ∙ left_other c p (unturned (sender p == c) h)))
     where
       unturned : (b : Bool) → not b ≡ true → b ≡ false
-      unturned true e = cc
-      unturned false e = refl
+      unturned x e = grind arith
 
 -- ---- all of it
 
@@ -230,8 +228,7 @@ module _ (s : kept.State) (cs : List Cell) (clients : List Client) (same : SameC
   service_then n = service_cell left n ∙ ap service_in (cell_then n)
 
   first : (a b : Bool) → (a && b) ≡ true → a ≡ true
-  first true b e = refl
-  first false b e = cc
+  first x b e = grind arith
 
   queue_left : (n : ℕ) (x : Option Cell) → cell_of cs n ≡ x → filter (stays c) (service_in x).queue ≡ (service_in (left_of c x)).queue
   queue_left n None at = refl
@@ -348,8 +345,7 @@ module _ (s : kept.State) (cs : List Cell) (clients : List Client) (same : SameC
       go (Some x) = sym (slot_left c (drops c x) x.service.sender d (λ e. second (is_queue x.owner) (is_from c x.service.sender) e)) ∙ by (drops c x)
         where
           second : (a b : Bool) → (a && b) ≡ true → b ≡ true
-          second true b e = e
-          second false b e = cc
+          second x b e = grind arith
 
           by : (b : Bool) → holds_slot d (remains c b x.service.sender) ≡ holds_slot d (service_in (cond b None (Some (record x { service = left_by c x.service })))).sender
           by true = refl
@@ -363,8 +359,7 @@ module _ (s : kept.State) (cs : List Cell) (clients : List Client) (same : SameC
       by false f at e = among_then d j ∙ ap (λ b. cond b false (is_among j (kept.sent_at s d))) (swapped d c false f) ∙ same.slotted j d at
 
       held : (i : ℕ) (x : Bool) → cond x (closed_place (Held i)) (Held i) ≡ Queued d → is_among j (kept.sent_at then d) ≡ true
-      held i true e = cc
-      held i false e = cc
+      held i x e = grind arith
 
       queued : (i : ℕ) (x : Bool) → (i == c) ≡ x → kept.place_at s j ≡ Queued i → cond x (closed_place (Queued i)) (Queued i) ≡ Queued d → is_among j (kept.sent_at then d) ≡ true
       queued i true f at e = cc
