@@ -211,10 +211,7 @@ module _
       stays x e is true f = absurd (at x.owner refl f)
         where
           at : (q : Owner) → x.owner ≡ q → is_queue q ≡ true → ⊥
-          at (Elsewhere (Waits_at i m)) g h =
-              let there : held s.cells (Elsewhere (Waits_at i m)) ≡ Some x.object = ap (held s.cells) (sym g) ∙ held_cell s.cells x.owner ∙ ap object_in (cell_placed s.cells o.name x w.good.tidy e) in
-              false≢true (sym (waiting_well p t wired s w i m x.object there) ∙ ap (λ (y : Object). is_server p y.thing) is ∙ serves)
-          at _ g h = cc
+          at x g h = grind arith
 
   left_by_row : (to : Option Client) → After (kept.leaving to c k) (leaving p c s (option_map sessionless to))
   left_by_row None = same
