@@ -10,7 +10,6 @@ use Rattle.aom_sound.proofs.Counts.{count_asked}
 use Rattle.aom_sound.specs.Calls.{passed_cells}
 use Rattle.aom_sound.specs.Places.{Cell, Object, Place, Register, Request, Service, Tidy, held, moved, named, requested, service_of, set_service, set_word_field, unserved, with_new, without, Elsewhere, Root, set_request, word_field}
 use Rattle.aom_sound.specs.Clients.{each_unslotted}
-use Rattle.aom_sound.specs.Servers.{has_more, is_server}
 use Rattle.aom_sound.specs.State.{AtRoot, Frame, Home, Inside, State, Static, Task}
 use Rattle.aom_sound.specs.Words.{here, stored}
 use Rattle.aom_requests.specs.Requests.{request_at}
@@ -18,8 +17,8 @@ use Rattle.aom_sound.proofs.Maps.{named_moved, requested_moved, requested_withou
 use Rattle.aom_sound.proofs.Services.{named_served, requested_served, service_here, service_moved, service_stored, service_there}
 use Rattle.aom_sound.proofs.Unslotting.{each_unslotted_alike, each_unslotted_requests}
 use Rattle.aom_active.specs.Agrees.{Active, Tells, queue_in, queued}
-use Rattle.aom_active.specs.Meanings.{Asks, Removes, asked_anew, queued_anew}
-use Rattle.aom_active.proofs.Asking.{asked_gone, asked_new, asked_written, queued_gone, queued_same, queued_served}
+use Rattle.aom_active.specs.Meanings.{Removes, asked_anew}
+use Rattle.aom_active.proofs.Asking.{asked_gone, asked_new, asked_written, queued_gone, queued_same}
 use Rattle.aom_active.proofs.Telling.{standing_follows}
 use Rattle.aom_parts.specs.Agrees.{SameRequests, SameCells, thing_of}
 use Rattle.aom_parts.specs.Cells.{Delists}

@@ -1,7 +1,7 @@
 -- What a client does is refused on both sides alike, and what stands for clients goes on through it: command by command.
 use Rattle.std.proofs.Common.{Bool, List, None, Option, Some, [], ap, cond, false, length, map, refl, subst, suc, sym, true, ℕ, ℤ, ◌&&◌, ◌+◌, ◌<◌, ◌∙◌, ◌∷◌, ◌≡◌, arith}
 use Rattle.std.specs.Prelude.{filter, is_some, nat_lt, option_map}
-use Rattle.std.proofs.lemmas.Bool.{eqb-true, false≢true}
+use Rattle.std.proofs.lemmas.Bool.{false≢true}
 use Rattle.std.proofs.lemmas.List.{length-map}
 use Rattle.aom_clients.specs.Clients as kept
 use Rattle.aom_clients.specs.Table.{row, server_of}
@@ -16,7 +16,7 @@ use Rattle.aom_clients.specs.declared.refusal.Refusal.TheVariants.{ServerBusy}
 use Rattle.aom_clients.specs.declared.server.Server.{Server}
 use Rattle.aom_image.specs.Image.{Image}
 use Rattle.aom_image.specs.declared.method.Thing.{Thing}
-use Rattle.aom_image.specs.declared.method.Thing.TheVariants.{Message, Object as An_object_of}
+use Rattle.aom_image.specs.declared.method.Thing.TheVariants.{Object as An_object_of}
 use Rattle.aom_roles.specs.Shapes.{kind_of}
 use Rattle.aom_rules.specs.Typing.{Typing}
 use Rattle.aom_sound.proofs.ClientsAsk.{asked_there}
@@ -211,7 +211,10 @@ module _
       stays x e is true f = absurd (at x.owner refl f)
         where
           at : (q : Owner) → x.owner ≡ q → is_queue q ≡ true → ⊥
-          at x g h = grind arith
+          at (Elsewhere (Waits_at i m)) g h =
+              let there : held s.cells (Elsewhere (Waits_at i m)) ≡ Some x.object = ap (held s.cells) (sym g) ∙ held_cell s.cells x.owner ∙ ap object_in (cell_placed s.cells o.name x w.good.tidy e) in
+              false≢true (sym (waiting_well p t wired s w i m x.object there) ∙ ap (λ (y : Object). is_server p y.thing) is ∙ serves)
+          at _ g h = cc
 
   left_by_row : (to : Option Client) → After (kept.leaving to c k) (leaving p c s (option_map sessionless to))
   left_by_row None = same

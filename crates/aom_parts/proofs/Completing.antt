@@ -225,7 +225,8 @@ module _ (s : kept.State) (cs : List Cell) (clients : List Client) (same : SameC
   slotted_then j d e = go (m == j) refl (sym (places_at j) ∙ e)
     where
       go : (b : Bool) → (m == j) ≡ b → cond b Free (kept.place_at s j) ≡ Queued d → is_among j (kept.sent_at then d) ≡ true
-      go x f e = grind arith
+      go true f e = cc
+      go false f e = among_then d j f ∙ same.slotted j d e
 
   slots_then : (d : ℕ) → length (kept.sent_at then d) ≡ slots_taken d left
   slots_then d =

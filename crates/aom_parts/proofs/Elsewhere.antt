@@ -223,7 +223,14 @@ module _ (others : Others) (us : List Held_task) (h : Heap) (es : List Item) (c 
       gone server session it e n = sym (ap (λ x. cond (server == n) x null) (sym (ap (λ b. cond b (session_number session) null) it) ∙ e) ∙ both_null (server == n))
 
       go : (x : Client) → client_at s c ≡ x → is_leaving k x ≡ true → session_with k x ≡ null → after (kept.ended x c s) r ≡ before r
-      go x e it null_there = grind arith
+      go (Closing server session) e it null_there =
+          unmoved (kept.parted c Unconnected s) (sessions_same (kept.parted c Unconnected s) Unconnected (client_now s c Unconnected client) (λ n. gone server session it null_there n ∙ sym (ap (session_with n) e))) (queues Unconnected) r
+      go (Dying server session) e it null_there = unmoved (kept.parted c Dead s) (sessions_same (kept.parted c Dead s) Dead (client_now s c Dead client) (λ n. gone server session it null_there n ∙ sym (ap (session_with n) e))) (queues Dead) r
+      go Unconnected e it null_there = cc
+      go (Connecting server slots) e it null_there = cc
+      go (Open server session slots) e it null_there = cc
+      go Gone e it null_there = cc
+      go Dead e it null_there = cc
 
 -- ---- a queue
 

@@ -97,7 +97,12 @@ module _ (p : Image) (t : Typing) (wired : IsWired p) (s : State) (w : WellTyped
   waiting_message n x e h = go x.owner refl h
     where
       go : (q : Owner) → x.owner ≡ q → is_queue q ≡ true → is_object x.object.thing ≡ false
-      go x at h = grind arith
+      go (Elsewhere (Waits_at i m)) at h =
+          let there : held s.cells (Elsewhere (Waits_at i m)) ≡ Some x.object = ap (held s.cells) (sym at) ∙ held_cell s.cells x.owner ∙ ap object_in (cell_placed s.cells n x w.good.tidy e) in
+          let y : IsQueuedAt p s.cells i m x.object.thing = queued_thing_of p s.cells w.layers i m x.object.thing
+          (fits_thing p (seen s.cells) x.object _ (subst (λ y. Fits p (seen s.cells) y (claim p (declared p s.cells) w.layers (Elsewhere (Waits_at i m)))) there (w.good.fits (Elsewhere (Waits_at i m))))) in
+          ap is_object (queued_lower p wired y.0 x.object.thing y.3).0
+      go _ at h = cc
 
   -- and its number is past those of cells
   message_place : (before : Store) → SameMessages p before s.cells → (n : ℕ) (x : Cell) → cell_of s.cells n ≡ Some x → is_queue x.owner ≡ true → (m : ℕ) × (n ≡ message_name m)
@@ -205,7 +210,11 @@ module _ (p : Image) (t : Typing) (wired : IsWired p) (s : State) (w : WellTyped
             (m.0, m.1, asked_so m.0 ∙ ap (has_message (service_of s.cells n)) (sym m.1) ∙ by x.owner refl h)
           where
             by : (q : Owner) → x.owner ≡ q → is_queue_of n q ≡ true → has_message (service_of s.cells n) i ≡ true
-            by x at h = grind arith
+            by (Elsewhere (Waits_at j m)) at h =
+                let there : held s.cells (Elsewhere (Waits_at n m)) ≡ Some x.object = ap (λ a. held s.cells (Elsewhere (Waits_at a m))) (sym (eqb-true j n h)) ∙ ap (held s.cells) (sym at) ∙ held_cell s.cells x.owner ∙ ap object_in (cell_placed s.cells i x w.good.tidy e) in
+                let a = asked_there p t wired s w s.clients fit n m x.object there in
+                ap (has_message (service_of s.cells n)) (sym (cell_name s.cells i x e) ∙ a.0) ∙ a.1
+            by _ at h = cc
 
     -- the messages in its queue are kept
     pub waiting_kept : (before : Store) → SameMessages p before s.cells → (m : ℕ) → is_among m waiting ≡ true → is_some (message_at before m) ≡ true

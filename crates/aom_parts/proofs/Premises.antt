@@ -12,12 +12,12 @@ use Rattle.aom_clients.specs.declared.client.Client.TheVariants.{Unconnected}
 use Rattle.aom_clients.specs.declared.entry.Entry.{Entry}
 use Rattle.aom_clients.specs.declared.entry.Entry.TheVariants.{Close, Connect, Message}
 use Rattle.aom_clients.specs.declared.place.Place.{Place}
-use Rattle.aom_clients.specs.declared.place.Place.TheVariants.{Discarded, Free, Held, Queued}
+use Rattle.aom_clients.specs.declared.place.Place.TheVariants.{Free, Queued}
 use Rattle.aom_image.specs.Image.{Image}
 use Rattle.aom_rules.specs.Typing.{Typing}
 use Rattle.aom_sound.proofs.ClientsCommand.{nobody, none_named}
 use Rattle.aom_sound.proofs.ClientsFacts.{queued_well, waiting_well}
-use Rattle.aom_sound.proofs.ClientsFit.{connecting_only, leaving_only}
+use Rattle.aom_sound.proofs.ClientsFit.{leaving_only}
 use Rattle.aom_sound.proofs.ClientsGone.{open_server}
 use Rattle.aom_sound.proofs.Maps.{held_lives, one_place, same_place-true}
 use Rattle.aom_sound.proofs.Owners.{IsQueuedAt, fits_thing, queued_thing_of}
@@ -148,7 +148,12 @@ module _ (p : Image) (t : Typing) (wired : IsWired p) (s : State) (w : WellTyped
       lives = cell_lives s.cells x.owner x w.good.tidy (cell_placed s.cells n x w.good.tidy e)
 
       go : (q : Owner) → x.owner ≡ q → is_queue q ≡ true → (x.service.queue ≡ []) × (x.service.sessions ≡ [])
-      go x at h = grind arith
+      go (Elsewhere (Waits_at i m)) at h =
+          let there : held s.cells (Elsewhere (Waits_at i m)) ≡ Some x.object = ap (λ q. held s.cells q) (sym at) ∙ held_cell s.cells x.owner ∙ ap object_in (cell_placed s.cells n x w.good.tidy e) in
+          let none = fit.servers x.object (named_cell s.cells x.object.name ∙ ap object_in lives) (waiting_well p t wired s w i m x.object there) in
+          let same : service_of s.cells x.object.name ≡ x.service = service_cell s.cells x.object.name ∙ ap service_in lives in
+          (ap (λ (v : Service). v.queue) (sym same) ∙ none.0, ap (λ (v : Service). v.sessions) (sym same) ∙ none.1)
+      go _ at h = cc
 
   -- a message that waits holds no slot but of a client that has a session there
   pub owed_there : (n m d : ℕ) → has_message (service_of s.cells n) m ≡ true → holds_slot d (service_of s.cells m).sender ≡ true → is_among d (service_of s.cells n).sessions ≡ true
@@ -213,7 +218,17 @@ module _ (p : Image) (t : Typing) (wired : IsWired p) (s : State) (w : WellTyped
         from_one x c f g = grind arith
 
         queue : (q : Owner) → owner_of s.cells (message_name j) ≡ Some q → is_queue q ≡ true → has_message (service_of s.cells n) (message_name j) ≡ true
-        queue x e h = grind arith
+        queue (Elsewhere (Waits_at i m)) e h =
+            let x = held_owner s.cells w.good.tidy (message_name j) (Elsewhere (Waits_at i m)) e in
+            let a = asked_there i m x.0 x.1 in
+            let here : has_message (service_of s.cells i) (message_name j) ≡ true = ap (has_message (service_of s.cells i)) (sym x.2 ∙ a.0) ∙ a.1 in
+            let c = asking (message_name j) (service_of s.cells i).queue here in
+            let client : c.0 ≡ d = from_one (service_of s.cells (message_name j)).sender c.0 (fit.senders i c.0 (message_name j) c.1) sent in
+            let open_there = open_server i (client_at clients c.0) (opens clients i c.0 (message_name j) (service_of s.cells i).queue (fit.queues i) c.1) in
+            let same_server : Some i ≡ Some n = sym open_there ∙ ap (λ y. server_of (client_at clients y)) client ∙ fit.sessions n d has in
+            let one : i ≡ n = cc in
+            ap (λ y. has_message (service_of s.cells y) (message_name j)) (sym one) ∙ here
+        queue _ e h = cc
 
         go : (x : Option Owner) → owner_of s.cells (message_name j) ≡ x → waits_in (owner_of s.cells (message_name j)) ≡ true → has_message (service_of s.cells n) (message_name j) ≡ true
         go None e h = absurd (false≢true (ap waits_in (sym e) ∙ h))

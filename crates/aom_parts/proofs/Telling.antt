@@ -8,7 +8,7 @@ use Rattle.aom_clients.specs.declared.entry.Entry.{Entry}
 use Rattle.aom_clients.specs.declared.entry.Entry.TheVariants.{Close, Connect, Message}
 use Rattle.aom_clients.specs.declared.place.Completion.{Completion}
 use Rattle.aom_clients.specs.declared.place.Place.{Place}
-use Rattle.aom_clients.specs.declared.place.Place.TheVariants.{Discarded, Free, Held, Queued}
+use Rattle.aom_clients.specs.declared.place.Place.TheVariants.{Free}
 use Rattle.aom_clients.specs.declared.refusal.Refusal.TheVariants.{ServerTerminated}
 use Rattle.aom_sound.specs.Lines.{ended_line, message_line, queue_lines, told_line}
 use Rattle.aom_sound.specs.Places.{Cell, Object, service_of}

@@ -2,7 +2,7 @@
 use Rattle.std.proofs.Common.{Bool, List, None, Option, Some, [], ap, arith, cond, false, length, refl, slice_index_or, subst, suc, sym, true, ℕ, ◌&&◌, ◌<◌, ◌==◌, ◌∙◌, ◌∷◌, ◌≡◌}
 use Rattle.std.specs.List.{list_any}
 use Rattle.std.specs.Prelude.{filter, is_some, map, not, ◌||◌}
-use Rattle.std.proofs.lemmas.Bool.{eq-eqb, eqb-true, false≢true, ne_eqb}
+use Rattle.std.proofs.lemmas.Bool.{eq-eqb, eqb-true, false≢true}
 use Rattle.aom_clients.specs.Clients as kept
 use Rattle.aom_clients.specs.Table.{at_gone, is_queued, sender}
 use Rattle.aom_clients.specs.declared.client.Client.{Client}
@@ -290,7 +290,10 @@ module _
   drops_queue n x e h = go x.owner refl h
     where
       go : (q : Owner) → x.owner ≡ q → is_queue_of k q ≡ true → has_message (service_of cs k) n ≡ true
-      go x at h = grind arith
+      go (Elsewhere (Waits_at i m)) at h =
+          let f = asked m x.object (ap (λ i. held cs (Elsewhere (Waits_at i m))) (sym (eqb-true i k h)) ∙ ap (λ q. held cs q) (sym at) ∙ owner_there n x e) in
+          ap (λ i. has_message (service_of cs k) i) (sym (cell_name cs n x e) ∙ f.0) ∙ f.1
+      go _ at h = cc
 
   drops_own : (n : ℕ) (x : Cell) → cell_of cs n ≡ Some x → same_place x.owner g ≡ true → n ≡ k
   drops_own n x e h =
@@ -368,7 +371,9 @@ module _
           (sym (ap (λ (v : Service). v.queue) (was (Some x) e) ∙ none.0), sym (ap (λ (v : Service). v.sessions) (was (Some x) e) ∙ none.1))
         where
           by : (a b : Bool) → is_queue_of k x.owner ≡ a → same_place x.owner g ≡ b → (a || b) ≡ true → (x.service.queue ≡ []) × (x.service.sessions ≡ [])
-          by x b ea eb h = grind arith
+          by true b ea eb h = empty n x e (queues_own x.owner ea)
+          by false true ea eb h = absurd (false≢true (sym f ∙ eq-eqb k n (sym (drops_own n x e eb))))
+          by false false ea eb h = cc
 
       nothing : {A : Type 0} (b : Bool) (l : List A) → l ≡ [] → [] ≡ cond b [] l
       nothing true l e = refl
@@ -451,7 +456,9 @@ module _
   slotted_then j d e = go (goes j) refl (is_among d xs) refl (sym (place_then j) ∙ e)
     where
       go : (b : Bool) → goes j ≡ b → (x : Bool) → is_among d xs ≡ x → cond b Free (kept.place_at s j) ≡ Queued d → is_among j (kept.sent_at then d) ≡ true
-      go y f x g e = grind arith
+      go true f x g e = cc
+      go false f true g e = absurd (false≢true (sym f ∙ going j d e g))
+      go false f false g e = among_then d j ∙ ap (λ b. cond b false (cond (goes j) false (is_among j (kept.sent_at s d)))) g ∙ ap (λ b. cond b false (is_among j (kept.sent_at s d))) f ∙ same.slotted j d e
 
   once_then : (d : ℕ) → Once (kept.sent_at then d)
   once_then d = subst Once (sym (sent_then d)) (go (is_among d xs))
@@ -478,7 +485,9 @@ module _
           told = service_cell cs n ∙ ap service_in e
 
           by : (a b : Bool) → is_queue_of k x.owner ≡ a → same_place x.owner g ≡ b → (a || b) ≡ true → holds_slot d x.service.sender ≡ false
-          by x b ea eb h = grind arith
+          by true b ea eb h = ap (λ (v : Service). holds_slot d v.sender) (sym told) ∙ unowed none n (drops_queue n x e ea)
+          by false true ea eb h = ap (λ (v : Service). holds_slot d v.sender) (sym told ∙ ap (λ i. service_of cs i) (drops_own n x e eb)) ∙ silent d
+          by false false ea eb h = cc
 
       go : (b : Bool) → is_among d xs ≡ b → length (cond b [] (all_without es (kept.sent_at s d))) ≡ cond b 0 (slots_taken d stay)
       go true e = refl

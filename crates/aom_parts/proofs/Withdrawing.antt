@@ -355,16 +355,23 @@ module _ (s : kept.State) (cs : List Cell) (clients : List Client) (same : SameC
   slotted_then j d e = go (kept.place_at s j) refl (sym (place_then j) ∙ e)
     where
       by : (x : Bool) → (d == c) ≡ x → kept.place_at s j ≡ Queued d → cond x (closed_place (Queued d)) (Queued d) ≡ Queued d → is_among j (kept.sent_at then d) ≡ true
-      by x f at e = grind arith
+      by true f at e = cc
+      by false f at e = among_then d j ∙ ap (λ b. cond b false (is_among j (kept.sent_at s d))) (swapped d c false f) ∙ same.slotted j d at
 
       held : (i : ℕ) (x : Bool) → cond x (closed_place (Held i)) (Held i) ≡ Queued d → is_among j (kept.sent_at then d) ≡ true
       held i x e = grind arith
 
       queued : (i : ℕ) (x : Bool) → (i == c) ≡ x → kept.place_at s j ≡ Queued i → cond x (closed_place (Queued i)) (Queued i) ≡ Queued d → is_among j (kept.sent_at then d) ≡ true
-      queued i x f at e = grind arith
+      queued i true f at e = cc
+      queued i false f at e =
+          let client : i ≡ d = cc in
+          by false (ap (λ k. k == c) (sym client) ∙ f) (at ∙ e) refl
 
       go : (x : Place) → kept.place_at s j ≡ x → kept.left_place c x ≡ Queued d → is_among j (kept.sent_at then d) ≡ true
-      go x at e = grind arith
+      go Free at e = cc
+      go (Queued i) at e = queued i (i == c) refl at e
+      go (Held i) at e = held i (i == c) e
+      go (Discarded i) at e = cc
 
   pub same_withdrawn : SameClients then left clients
   same_withdrawn = record {
