@@ -22,6 +22,7 @@ use Rattle.aom_active.proofs.Asking.{asked_gone, asked_new, asked_written, queue
 use Rattle.aom_active.proofs.Telling.{standing_follows}
 use Rattle.aom_parts.specs.Agrees.{SameRequests, SameCells, thing_of}
 use Rattle.aom_parts.specs.Cells.{Delists}
+use Rattle.aom_parts.proofs.Cells.{cells_as}
 use Rattle.aom_parts.proofs.Serving.{absent_served}
 use Rattle.aom_shape.specs.Tables.{at}
 use Rattle.aom_cells.specs.Heap.{Heap}
@@ -118,13 +119,5 @@ words_asked (c ∷ cs) n r k w = ap (λ x. cond (c.object.name == k) (at (pos 0)
 
 -- so the same cells live
 pub cells_asked : (p : Image) (h : Heap) (cs : List Cell) (n : ℕ) (r : Option Request) → SameCells p h cs → SameCells p h (set_request n r cs)
-cells_asked p h cs n r same = record {
-  things = λ k. same.things k ∙ ap thing_of (sym ((rerequested_alike cs (Inside (record { name = n; thing = Message }) (Elsewhere Root)) r).named_so k));
-  words = λ k w small. same.words k w small ∙ sym (words_asked cs n r k w);
-  count = same.count ∙ sym (count_asked cs n r);
-  limit = same.limit;
-  wide = same.wide;
-  classes = same.classes;
-  null_is_none = same.null_is_none;
-  below = same.below;
-}
+cells_asked p h cs n r =
+    cells_as p h cs (set_request n r cs) (λ k. ap thing_of ((rerequested_alike cs (Inside (record { name = n; thing = Message }) (Elsewhere Root)) r).named_so k)) (λ k w small. words_asked cs n r k w) (count_asked cs n r)

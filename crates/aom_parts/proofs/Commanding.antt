@@ -39,31 +39,13 @@ use Rattle.aom_parts.specs.Serving.{AreSized, SameClients, asked_by, is_taken, m
 -- ---- what a client may do does not depend on the cell of its session
 
 row_connect : (x : Client) → (row (sessionless x)).connect ≡ (row x).connect
-row_connect Unconnected = refl
-row_connect (Connecting n slots) = refl
-row_connect (Open n session slots) = refl
-row_connect (Closing n session) = refl
-row_connect Gone = refl
-row_connect Dead = refl
-row_connect (Dying n session) = refl
+row_connect x = grind arith
 
 pub row_close : (x : Client) → (row (sessionless x)).close ≡ option_map sessionless (row x).close
-row_close Unconnected = refl
-row_close (Connecting n slots) = refl
-row_close (Open n session slots) = refl
-row_close (Closing n session) = refl
-row_close Gone = refl
-row_close Dead = refl
-row_close (Dying n session) = refl
+row_close x = grind arith
 
 pub row_die : (x : Client) → (row (sessionless x)).die ≡ option_map sessionless (row x).die
-row_die Unconnected = refl
-row_die (Connecting n slots) = refl
-row_die (Open n session slots) = refl
-row_die (Closing n session) = refl
-row_die Gone = refl
-row_die Dead = refl
-row_die (Dying n session) = refl
+row_die x = grind arith
 
 -- ---- the seats of a server
 

@@ -125,6 +125,12 @@ module _ (p : Image) (t : Typing) (wired : IsWired p) (s : State) (w : WellTyped
 
   -- ---- a client leaves
 
+  -- a message that is forgotten was kept
+  forgotten_kept : {drops : Cell → Bool} {f : Cell → Service} {ms : List ℕ} {before : Store} → Forgets drops f ms s.cells → SameMessages p before s.cells → (m : ℕ) → is_among m ms ≡ true → is_some (message_at before m) ≡ true
+  forgotten_kept goes kept_so m h =
+      let x = goes.goes m h in
+      kept_so.there m ∙ ap is_a_message (named_cell s.cells (message_name m) ∙ ap object_in x.1) ∙ ap not x.3
+
   module _ (c : ℕ) where
     abbrev drops : Cell → Bool
     drops x = is_queue x.owner && is_from c x.service.sender
@@ -168,9 +174,7 @@ module _ (p : Image) (t : Typing) (wired : IsWired p) (s : State) (w : WellTyped
 
     -- the messages that it leaves are kept
     pub freed_kept : (before : Store) → SameMessages p before s.cells → (m : ℕ) → is_among m freed ≡ true → is_some (message_at before m) ≡ true
-    freed_kept before kept_so m h =
-        let x = (forgets before kept_so).goes m h in
-        kept_so.there m ∙ ap is_a_message (named_cell s.cells (message_name m) ∙ ap object_in x.1) ∙ ap not x.3
+    freed_kept before kept_so = forgotten_kept (forgets before kept_so) kept_so
 
     pub messages_withdrawn : (before after : Store) → ((m : ℕ) → is_among m freed ≡ true → message_at after m ≡ None) → ((m : ℕ) → is_among m freed ≡ false → message_at after m ≡ message_at before m) → after.limit ≡ before.limit →
         count after + length freed ≡ count before → SameMessages p before s.cells → SameMessages p after (withdrawn c s.cells)
@@ -218,9 +222,7 @@ module _ (p : Image) (t : Typing) (wired : IsWired p) (s : State) (w : WellTyped
 
     -- the messages in its queue are kept
     pub waiting_kept : (before : Store) → SameMessages p before s.cells → (m : ℕ) → is_among m waiting ≡ true → is_some (message_at before m) ≡ true
-    waiting_kept before kept_so m h =
-        let x = (unqueues before kept_so).goes m h in
-        kept_so.there m ∙ ap is_a_message (named_cell s.cells (message_name m) ∙ ap object_in x.1) ∙ ap not x.3
+    waiting_kept before kept_so = forgotten_kept (unqueues before kept_so) kept_so
 
     pub messages_unqueued : (before after : Store) → ((m : ℕ) → is_among m waiting ≡ true → message_at after m ≡ None) → ((m : ℕ) → is_among m waiting ≡ false → message_at after m ≡ message_at before m) → after.limit ≡ before.limit →
         count after + length waiting ≡ count before → SameMessages p before s.cells → SameMessages p after (without_queue n s.cells)

@@ -93,27 +93,26 @@ waits_each places (Message k ∷ es) h = (h k (ap (λ b. b || list_any (is_at k)
 -- ---- clients of stages
 
 module _ (p : Image) (clients : List Client) (cs : List Cell) (fit : ClientsFit p clients cs) (k c : ℕ) where
-  -- a client that connects to a server, and asks for it there no more, asks for it nowhere
+  -- what is asked at one server alone, and there no more, is asked nowhere
+  asks_nowhere : (asks : Asked → Bool) → ((n : ℕ) → (k == n) ≡ false → (e : Asked) → asks e ≡ true → EntryFits clients n e → ⊥) → list_any asks (service_of cs k).queue ≡ false → (n : ℕ) → list_any asks (service_of cs n).queue ≡ false
+  asks_nowhere asks never none n = go (k == n) refl
+    where
+      go : (b : Bool) → (k == n) ≡ b → list_any asks (service_of cs n).queue ≡ false
+      go true e = ap (λ i. list_any asks (service_of cs i).queue) (sym (eqb-true k n e)) ∙ none
+      go false e = none_passes asks clients n (never n e) (service_of cs n).queue (fit.queues n)
+
+  -- so with a client that connects to it, and with one that closes
   pub connects_nowhere : is_connecting_at k (client_at clients c) ≡ true → list_any (is_connect_of c) (service_of cs k).queue ≡ false → (n : ℕ) → list_any (is_connect_of c) (service_of cs n).queue ≡ false
-  connects_nowhere at none n = go (k == n) refl
+  connects_nowhere at = asks_nowhere (is_connect_of c) never
     where
-      never : (k == n) ≡ false → (e : Asked) → is_connect_of c e ≡ true → EntryFits clients n e → ⊥
-      never other x same fits = grind arith
+      never : (n : ℕ) → (k == n) ≡ false → (e : Asked) → is_connect_of c e ≡ true → EntryFits clients n e → ⊥
+      never n other x same fits = grind arith
 
-      go : (b : Bool) → (k == n) ≡ b → list_any (is_connect_of c) (service_of cs n).queue ≡ false
-      go true e = ap (λ i. list_any (is_connect_of c) (service_of cs i).queue) (sym (eqb-true k n e)) ∙ none
-      go false e = none_passes (is_connect_of c) clients n (never e) (service_of cs n).queue (fit.queues n)
-
-  -- so is it with one that closes
   pub closes_nowhere : is_leaving k (client_at clients c) ≡ true → list_any (is_close_of c) (service_of cs k).queue ≡ false → (n : ℕ) → list_any (is_close_of c) (service_of cs n).queue ≡ false
-  closes_nowhere at none n = go (k == n) refl
+  closes_nowhere at = asks_nowhere (is_close_of c) never
     where
-      never : (k == n) ≡ false → (e : Asked) → is_close_of c e ≡ true → EntryFits clients n e → ⊥
-      never other x same fits = grind arith
-
-      go : (b : Bool) → (k == n) ≡ b → list_any (is_close_of c) (service_of cs n).queue ≡ false
-      go true e = ap (λ i. list_any (is_close_of c) (service_of cs i).queue) (sym (eqb-true k n e)) ∙ none
-      go false e = none_passes (is_close_of c) clients n (never e) (service_of cs n).queue (fit.queues n)
+      never : (n : ℕ) → (k == n) ≡ false → (e : Asked) → is_close_of c e ≡ true → EntryFits clients n e → ⊥
+      never n other x same fits = grind arith
 
   -- whose session is with that server alone
   pub session_alone : is_leaving k (client_at clients c) ≡ true → (n : ℕ) → (k == n) ≡ false → is_among c (service_of cs n).sessions ≡ false

@@ -6,7 +6,7 @@ use Rattle.std.proofs.lemmas.Bool.{eq-eqb, eqb-true, false≢true}
 use Rattle.aom_clients.specs.Clients as kept
 use Rattle.aom_clients.specs.Table.{at_gone, is_queued, sender}
 use Rattle.aom_clients.specs.declared.client.Client.{Client}
-use Rattle.aom_clients.specs.declared.client.Client.TheVariants.{Closing, Connecting, Dead, Dying, Gone, Open, Unconnected}
+use Rattle.aom_clients.specs.declared.client.Client.TheVariants.{Unconnected}
 use Rattle.aom_clients.specs.declared.entry.Entry.{Entry}
 use Rattle.aom_clients.specs.declared.entry.Entry.TheVariants.{Close, Connect, Message}
 use Rattle.aom_clients.specs.declared.place.Place.{Place}
@@ -216,13 +216,7 @@ all_stay (Message k ∷ es) ms none =
 -- ---- the whole
 
 gone_sessionless : (x : Client) → sessionless (at_gone x) ≡ at_gone (sessionless x)
-gone_sessionless Unconnected = refl
-gone_sessionless (Connecting n slots) = refl
-gone_sessionless (Open n session slots) = refl
-gone_sessionless (Closing n session) = refl
-gone_sessionless (Dying n session) = refl
-gone_sessionless Gone = refl
-gone_sessionless Dead = refl
+gone_sessionless x = grind arith
 
 -- what clients are at, told twice
 client_alike : (a b : Bool) (x : Client) → sessionless (cond b (at_gone (cond a Unconnected x)) (cond a Unconnected x)) ≡ cond b (at_gone (cond a Unconnected (sessionless x))) (cond a Unconnected (sessionless x))
@@ -431,19 +425,19 @@ module _
           ap (λ b. sent_by b (kept.place_at s j)) (among_then (sender (kept.place_at s j)) j ∙ ap (λ b. cond (is_among (sender (kept.place_at s j)) xs) false (cond b false (holds s j))) e)
           ∙ sym (lost_sent xs (holds s j) (kept.place_at s j)) ∙ ap (lost xs) (same.senders j)
 
-  taken_then : (j : ℕ) → is_taken (kept.place_at then j) ≡ is_some (named left (message_name j))
-  taken_then j = ap is_taken (place_then j) ∙ go (goes j) ∙ sym (named_left j)
+  -- what is told of a place is told no more where its message goes
+  place_told : (f : Place → Bool) → f Free ≡ false → (j : ℕ) → f (kept.place_at then j) ≡ cond (goes j) false (f (kept.place_at s j))
+  place_told f free j = ap f (place_then j) ∙ go (goes j)
     where
-      go : (b : Bool) → is_taken (cond b Free (kept.place_at s j)) ≡ cond b false (is_some (named cs (message_name j)))
-      go true = refl
-      go false = same.taken j
+      go : (b : Bool) → f (cond b Free (kept.place_at s j)) ≡ cond b false (f (kept.place_at s j))
+      go true = free
+      go false = refl
+
+  taken_then : (j : ℕ) → is_taken (kept.place_at then j) ≡ is_some (named left (message_name j))
+  taken_then j = place_told is_taken refl j ∙ ap (λ b. cond (goes j) false b) (same.taken j) ∙ sym (named_left j)
 
   waits_then : (j : ℕ) → is_queued (kept.place_at then j) ≡ waits_in (owner_of left (message_name j))
-  waits_then j = ap is_queued (place_then j) ∙ go (goes j) ∙ sym (owner_left j)
-    where
-      go : (b : Bool) → is_queued (cond b Free (kept.place_at s j)) ≡ cond b false (waits_in (owner_of cs (message_name j)))
-      go true = refl
-      go false = same.waits j
+  waits_then j = place_told is_queued refl j ∙ ap (λ b. cond (goes j) false b) (same.waits j) ∙ sym (owner_left j)
 
   slots_of_then : (d j : ℕ) → is_among j (kept.sent_at then d) ≡ holds_slot d (service_of left (message_name j)).sender
   slots_of_then d j = among_then d j ∙ ap (λ b. cond (is_among d xs) false b) (go (goes j)) ∙ sym (lost_slot xs d (cond (goes j) None (service_of cs (message_name j)).sender)) ∙ ap (holds_slot d) (sym (sender_left j))

@@ -2,10 +2,11 @@
 use Rattle.std.proofs.Common.{Bool, List, None, Option, Some, [], ap, cond, false, length, refl, slice_index_or, subst, suc, sym, true, zero, ℕ, ◌&&◌, ◌<◌, ◌==◌, ◌∙◌, ◌∷◌, ◌≡◌, arith}
 use Rattle.std.specs.Prelude.{filter, is_some, map, not}
 use Rattle.std.proofs.lemmas.Bool.{eq-eqb, eqb-true, false≢true, ne_eqb}
+use Rattle.std.proofs.lemmas.Bool.Decides.{nat_tests}
 use Rattle.std.proofs.lemmas.List.{length-set}
 use Rattle.aom_clients.specs.Clients as kept
 use Rattle.aom_clients.specs.declared.client.Client.{Client}
-use Rattle.aom_clients.specs.declared.client.Client.TheVariants.{Closing, Connecting, Dead, Dying, Gone, Open, Unconnected}
+use Rattle.aom_clients.specs.declared.client.Client.TheVariants.{Open}
 use Rattle.aom_image.specs.Image.{Image}
 use Rattle.aom_clients.specs.declared.entry.Entry.{Entry}
 use Rattle.aom_clients.specs.declared.entry.Entry.TheVariants.{Connect, Message, Close}
@@ -79,32 +80,10 @@ module _ (c : ℕ) where
       go false e = ap (λ x. Some (record { client = d; holds_slot = x; is_told = false })) (other d refl e)
 
   queued_left : (slot : Bool) (p : Place) → is_queued (kept.left_place c p) ≡ cond (is_queued p && is_from c (sent_by slot p)) false (is_queued p)
-  queued_left slot Free = refl
-  queued_left slot (Queued d) = go (d == c)
-    where
-      go : (b : Bool) → is_queued (cond b (closed_place (Queued d)) (Queued d)) ≡ cond b false true
-      go true = refl
-      go false = refl
-  queued_left slot (Held d) = go (d == c)
-    where
-      go : (b : Bool) → is_queued (cond b (closed_place (Held d)) (Held d)) ≡ false
-      go true = refl
-      go false = refl
-  queued_left slot (Discarded d) = refl
+  queued_left slot p = grind (arith, nat_tests)
 
   taken_left : (slot : Bool) (p : Place) → is_taken (kept.left_place c p) ≡ cond (is_queued p && is_from c (sent_by slot p)) false (is_taken p)
-  taken_left slot Free = refl
-  taken_left slot (Queued d) = go (d == c)
-    where
-      go : (b : Bool) → is_taken (cond b (closed_place (Queued d)) (Queued d)) ≡ cond b false true
-      go true = refl
-      go false = refl
-  taken_left slot (Held d) = go (d == c)
-    where
-      go : (b : Bool) → is_taken (cond b (closed_place (Held d)) (Held d)) ≡ true
-      go true = refl
-      go false = refl
-  taken_left slot (Discarded d) = refl
+  taken_left slot p = grind (arith, nat_tests)
 
   -- what slots it held of a client: none of this one's any more
   slot_left : (goes : Bool) (x : Option Sender) (d : ℕ) → (goes ≡ true → is_from c x ≡ true) → holds_slot d (remains goes x) ≡ cond (c == d) false (holds_slot d x)
@@ -168,10 +147,7 @@ module _ (c : ℕ) where
 
   -- what is at a place that another client's message has, and whose it is
   left_other : (p : Place) → (sender p == c) ≡ false → kept.left_place c p ≡ p
-  left_other Free e = refl
-  left_other (Queued d) e = ap (λ b. cond b (closed_place (Queued d)) (Queued d)) e
-  left_other (Held d) e = ap (λ b. cond b (closed_place (Held d)) (Held d)) e
-  left_other (Discarded d) e = refl
+  left_other p e = grind (arith, nat_tests)
 
   left_own : (p : Place) → is_queued p ≡ false → sender (kept.left_place c p) ≡ sender p
   left_own x e = grind arith
@@ -412,12 +388,7 @@ module _ (s : kept.State) (cs : List Cell) (clients : List Client) (same : SameC
         let o = server n session slots at in
         subst (λ k. SameClients (kept.queued k (Close c) moved) (reserved (asked_last (Close_of c)) k left) (with_client c (sessionless to) clients)) o.1
         (same_closing moved left (with_client c (sessionless to) clients) now tidy_left o.0 o.2 c client o.3)
-    told_so Unconnected at = now
-    told_so (Connecting n slots) at = now
-    told_so (Closing n session) at = now
-    told_so Gone at = now
-    told_so Dead at = now
-    told_so (Dying n session) at = now
+    told_so _ at = now
 
     pub same_left : SameClients (kept.leaving (Some to) c s) (told p c st (client_at clients c) left) (with_client c (sessionless to) clients)
     same_left = subst (λ x. SameClients (kept.leaving (Some to) c s) (told p c st x left) (with_client c (sessionless to) clients)) (same.at c) (told_so (kept.client_at s c) refl)
