@@ -25,10 +25,7 @@ is_an_object p h cs n o same lives there = go (cell_at h n) there (same.things n
     go : (c : Option Held_cell) → IsSome c → thing_in c ≡ cond (is_object o.thing) (Some o.thing) None → (b : Bool) → is_object o.thing ≡ b → b ≡ true
     go c some e true object = refl
     go None some e false object = absurd (false≢true some)
-    go (Some c) some e false object = absurd (some≢none (e ∙ ap (λ b. cond b (Some o.thing) None) object))
-      where
-        some≢none : {A : Type 0} {x : A} → Some x ≡ None → ⊥
-        some≢none clash = cc
+    go (Some c) some e false object = let other = e ∙ ap (λ b. cond b (Some o.thing) None) object in cc
 
 -- a cell's number is below all messages'
 pub cell_small : (p : Image) (h : Heap) (cs : List Cell) → SameCells p h cs → p.header.cells ≤ 4096 → (n : ℕ) (c : Held_cell) → cell_at h n ≡ Some c → n < 4096

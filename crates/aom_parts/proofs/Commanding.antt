@@ -33,7 +33,7 @@ use Rattle.aom_sound.specs.WellTyped.{WellTyped}
 use Rattle.aom_transcript.specs.declared.event.Command.TheVariants.{Close, Connect, Die, Send}
 use Rattle.aom_parts.proofs.Premises.{free_nowhere, messages_wait, queue_empty}
 use Rattle.aom_parts.proofs.Serving.{same_connecting, same_sent}
-use Rattle.aom_parts.proofs.Withdrawing.{same_left}
+use Rattle.aom_parts.proofs.Withdrawing.{queue_owner, same_left}
 use Rattle.aom_parts.specs.Serving.{AreSized, SameClients, asked_by, is_taken, message_name, sessionless}
 
 -- ---- what a client may do does not depend on the cell of its session
@@ -190,13 +190,10 @@ module _
     where
       stays : (x : Cell) → cell_of s.cells o.name ≡ Some x → x.object ≡ o → (b : Bool) → is_queue x.owner ≡ b → (is_queue x.owner && is_from c x.service.sender) ≡ false
       stays x e is false f = ap (λ b. b && is_from c x.service.sender) f
-      stays x e is true f = absurd (at x.owner refl f)
-        where
-          at : (q : Owner) → x.owner ≡ q → is_queue q ≡ true → ⊥
-          at (Elsewhere (Waits_at i m)) g h =
-              let there : held s.cells (Elsewhere (Waits_at i m)) ≡ Some x.object = ap (held s.cells) (sym g) ∙ held_cell s.cells x.owner ∙ ap object_in (cell_placed s.cells o.name x w.good.tidy e) in
-              false≢true (sym (waiting_well p t wired s w i m x.object there) ∙ ap (λ (y : Object). is_server p y.thing) is ∙ serves)
-          at _ g h = cc
+      stays x e is true f =
+          let q = queue_owner x.owner f in
+          let there : held s.cells (Elsewhere (Waits_at q.0 q.1)) ≡ Some x.object = ap (held s.cells) (sym q.2) ∙ held_cell s.cells x.owner ∙ ap object_in (cell_placed s.cells o.name x w.good.tidy e) in
+          absurd (false≢true (sym (waiting_well p t wired s w q.0 q.1 x.object there) ∙ ap (λ (y : Object). is_server p y.thing) is ∙ serves))
 
   left_by_row : (to : Option Client) → After (kept.leaving to c k) (leaving p c s (option_map sessionless to))
   left_by_row None = same

@@ -221,11 +221,7 @@ module _ (others : Others) (us : List Held_task) (h : Heap) (es : List Item) (c 
       go (Closing server session) e it null_there =
           unmoved (kept.parted c Unconnected s) (sessions_same (kept.parted c Unconnected s) Unconnected (client_now s c Unconnected client) (λ n. gone server session it null_there n ∙ sym (ap (session_with n) e))) (queues Unconnected) r
       go (Dying server session) e it null_there = unmoved (kept.parted c Dead s) (sessions_same (kept.parted c Dead s) Dead (client_now s c Dead client) (λ n. gone server session it null_there n ∙ sym (ap (session_with n) e))) (queues Dead) r
-      go Unconnected e it null_there = cc
-      go (Connecting server slots) e it null_there = cc
-      go (Open server session slots) e it null_there = cc
-      go Gone e it null_there = cc
-      go Dead e it null_there = cc
+      go _ e it null_there = cc
 
 -- ---- a queue
 

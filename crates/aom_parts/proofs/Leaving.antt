@@ -33,7 +33,7 @@ use Rattle.aom_parts.proofs.Departing.{is_at}
 use Rattle.aom_parts.proofs.Forgetting.{Forgets, messages_sifted}
 use Rattle.aom_parts.proofs.Premises.{asked_there, waiting_there}
 use Rattle.aom_parts.proofs.Vanishing.{asks_message}
-use Rattle.aom_parts.proofs.Withdrawing.{owner_cell, owner_in}
+use Rattle.aom_parts.proofs.Withdrawing.{owner_cell, owner_in, queue_owner, queue_of_owner, queue_of_queue}
 use Rattle.aom_parts.specs.Messages.{SameMessages, is_a_message}
 use Rattle.aom_parts.specs.Serving.{Once, SameClients, asked_by, holds, message_name, owner_of, sent_by, waits_in}
 
@@ -94,15 +94,12 @@ once_asked clients n places (Message m ∷ es) fits = (among_places es m ∙ sym
 module _ (p : Image) (t : Typing) (wired : IsWired p) (s : State) (w : WellTyped p t s) (fit : ClientsFit p s.clients s.cells) (k : kept.State) (same : SameClients k s.cells s.clients) where
   -- what a queue owns is a message
   waiting_message : (n : ℕ) (x : Cell) → cell_of s.cells n ≡ Some x → is_queue x.owner ≡ true → is_object x.object.thing ≡ false
-  waiting_message n x e h = go x.owner refl h
-    where
-      go : (q : Owner) → x.owner ≡ q → is_queue q ≡ true → is_object x.object.thing ≡ false
-      go (Elsewhere (Waits_at i m)) at h =
-          let there : held s.cells (Elsewhere (Waits_at i m)) ≡ Some x.object = ap (held s.cells) (sym at) ∙ held_cell s.cells x.owner ∙ ap object_in (cell_placed s.cells n x w.good.tidy e) in
-          let y : IsQueuedAt p s.cells i m x.object.thing = queued_thing_of p s.cells w.layers i m x.object.thing
-          (fits_thing p (seen s.cells) x.object _ (subst (λ y. Fits p (seen s.cells) y (claim p (declared p s.cells) w.layers (Elsewhere (Waits_at i m)))) there (w.good.fits (Elsewhere (Waits_at i m))))) in
-          ap is_object (queued_lower p wired y.0 x.object.thing y.3).0
-      go _ at h = cc
+  waiting_message n x e h =
+      let q = queue_owner x.owner h in
+      let there : held s.cells (Elsewhere (Waits_at q.0 q.1)) ≡ Some x.object = ap (held s.cells) (sym q.2) ∙ held_cell s.cells x.owner ∙ ap object_in (cell_placed s.cells n x w.good.tidy e) in
+      let y : IsQueuedAt p s.cells q.0 q.1 x.object.thing = queued_thing_of p s.cells w.layers q.0 q.1 x.object.thing
+      (fits_thing p (seen s.cells) x.object _ (subst (λ y. Fits p (seen s.cells) y (claim p (declared p s.cells) w.layers (Elsewhere (Waits_at q.0 q.1)))) there (w.good.fits (Elsewhere (Waits_at q.0 q.1))))) in
+      ap is_object (queued_lower p wired y.0 x.object.thing y.3).0
 
   -- and its number is past those of cells
   message_place : (before : Store) → SameMessages p before s.cells → (n : ℕ) (x : Cell) → cell_of s.cells n ≡ Some x → is_queue x.owner ≡ true → (m : ℕ) × (n ≡ message_name m)
@@ -196,9 +193,6 @@ module _ (p : Image) (t : Typing) (wired : IsWired p) (s : State) (w : WellTyped
     unqueues : (before : Store) → SameMessages p before s.cells → Forgets (λ x. is_queue_of n x.owner) (λ x. x.service) waiting s.cells
     unqueues before kept_so = record { goes = goes; gone = gone }
       where
-        queued : (q : Owner) → is_queue_of n q ≡ true → is_queue q ≡ true
-        queued x h = grind arith
-
         goes : (m : ℕ) → is_among m waiting ≡ true → (x : Cell) × (cell_of s.cells (message_name m) ≡ Some x) × (is_queue_of n x.owner ≡ true) × (is_object x.object.thing ≡ false)
         goes m h =
             let y = waiting_there p t wired s w s.clients fit n (message_name m) (sym (asked_so m) ∙ h) in
@@ -206,19 +200,15 @@ module _ (p : Image) (t : Typing) (wired : IsWired p) (s : State) (w : WellTyped
             let place = cell_owner s.cells (Elsewhere (Waits_at n (message_name m))) z.0 z.1 in
             let here : is_queue_of n z.0.owner ≡ true = ap (is_queue_of n) place ∙ eq-eqb n n refl in
             let cell : cell_of s.cells (message_name m) ≡ Some z.0 = ap (cell_of s.cells) (sym (ap (λ (o : Object). o.name) z.2 ∙ y.2)) ∙ cell_lives s.cells (Elsewhere (Waits_at n (message_name m))) z.0 w.good.tidy z.1 in
-            (z.0, cell, here, waiting_message (message_name m) z.0 cell (queued z.0.owner here))
+            (z.0, cell, here, waiting_message (message_name m) z.0 cell (queue_of_queue n z.0.owner here))
 
         gone : (i : ℕ) (x : Cell) → cell_of s.cells i ≡ Some x → is_queue_of n x.owner ≡ true → (m : ℕ) × (i ≡ message_name m) × (is_among m waiting ≡ true)
         gone i x e h =
-            let m = message_place before kept_so i x e (queued x.owner h) in
-            (m.0, m.1, asked_so m.0 ∙ ap (has_message (service_of s.cells n)) (sym m.1) ∙ by x.owner refl h)
-          where
-            by : (q : Owner) → x.owner ≡ q → is_queue_of n q ≡ true → has_message (service_of s.cells n) i ≡ true
-            by (Elsewhere (Waits_at j m)) at h =
-                let there : held s.cells (Elsewhere (Waits_at n m)) ≡ Some x.object = ap (λ a. held s.cells (Elsewhere (Waits_at a m))) (sym (eqb-true j n h)) ∙ ap (held s.cells) (sym at) ∙ held_cell s.cells x.owner ∙ ap object_in (cell_placed s.cells i x w.good.tidy e) in
-                let a = asked_there p t wired s w s.clients fit n m x.object there in
-                ap (has_message (service_of s.cells n)) (sym (cell_name s.cells i x e) ∙ a.0) ∙ a.1
-            by _ at h = cc
+            let m = message_place before kept_so i x e (queue_of_queue n x.owner h) in
+            let q = queue_of_owner n x.owner h in
+            let there : held s.cells (Elsewhere (Waits_at n q.0)) ≡ Some x.object = ap (held s.cells) (sym q.1) ∙ held_cell s.cells x.owner ∙ ap object_in (cell_placed s.cells i x w.good.tidy e) in
+            let a = asked_there p t wired s w s.clients fit n q.0 x.object there in
+            (m.0, m.1, asked_so m.0 ∙ ap (has_message (service_of s.cells n)) (sym m.1 ∙ sym (cell_name s.cells i x e) ∙ a.0) ∙ a.1)
 
     -- the messages in its queue are kept
     pub waiting_kept : (before : Store) → SameMessages p before s.cells → (m : ℕ) → is_among m waiting ≡ true → is_some (message_at before m) ≡ true

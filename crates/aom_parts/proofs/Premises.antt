@@ -33,7 +33,7 @@ use Rattle.aom_sound.specs.State.{State}
 use Rattle.aom_sound.specs.WellTyped.{Fits, WellTyped}
 use Rattle.aom_parts.proofs.Departing.{is_at}
 use Rattle.aom_parts.proofs.Vanishing.{asks_message}
-use Rattle.aom_parts.proofs.Withdrawing.{AllWait, owner_cell, owner_in}
+use Rattle.aom_parts.proofs.Withdrawing.{AllWait, owner_cell, owner_in, queue_owner}
 use Rattle.aom_parts.specs.Serving.{SameClients, holds, is_taken, message_name, owner_of, sent_by, sessionless, waits_in}
 
 -- ---- cells by their owners
@@ -141,18 +141,13 @@ module _ (p : Image) (t : Typing) (wired : IsWired p) (s : State) (w : WellTyped
 
   -- what waits has no queue and no sessions
   pub queue_empty : (n : ℕ) (x : Cell) → cell_of s.cells n ≡ Some x → is_queue x.owner ≡ true → (x.service.queue ≡ []) × (x.service.sessions ≡ [])
-  queue_empty n x e h = go x.owner refl h
-    where
-      lives : cell_of s.cells x.object.name ≡ Some x
-      lives = cell_lives s.cells x.owner x w.good.tidy (cell_placed s.cells n x w.good.tidy e)
-
-      go : (q : Owner) → x.owner ≡ q → is_queue q ≡ true → (x.service.queue ≡ []) × (x.service.sessions ≡ [])
-      go (Elsewhere (Waits_at i m)) at h =
-          let there : held s.cells (Elsewhere (Waits_at i m)) ≡ Some x.object = ap (λ q. held s.cells q) (sym at) ∙ held_cell s.cells x.owner ∙ ap object_in (cell_placed s.cells n x w.good.tidy e) in
-          let none = fit.servers x.object (named_cell s.cells x.object.name ∙ ap object_in lives) (waiting_well p t wired s w i m x.object there) in
-          let same : service_of s.cells x.object.name ≡ x.service = service_cell s.cells x.object.name ∙ ap service_in lives in
-          (ap (λ (v : Service). v.queue) (sym same) ∙ none.0, ap (λ (v : Service). v.sessions) (sym same) ∙ none.1)
-      go _ at h = cc
+  queue_empty n x e h =
+      let lives : cell_of s.cells x.object.name ≡ Some x = cell_lives s.cells x.owner x w.good.tidy (cell_placed s.cells n x w.good.tidy e) in
+      let q = queue_owner x.owner h in
+      let there : held s.cells (Elsewhere (Waits_at q.0 q.1)) ≡ Some x.object = ap (held s.cells) (sym q.2) ∙ held_cell s.cells x.owner ∙ ap object_in (cell_placed s.cells n x w.good.tidy e) in
+      let none = fit.servers x.object (named_cell s.cells x.object.name ∙ ap object_in lives) (waiting_well p t wired s w q.0 q.1 x.object there) in
+      let same : service_of s.cells x.object.name ≡ x.service = service_cell s.cells x.object.name ∙ ap service_in lives in
+      (ap (λ (v : Service). v.queue) (sym same) ∙ none.0, ap (λ (v : Service). v.sessions) (sym same) ∙ none.1)
 
   -- a message that waits holds no slot but of a client that has a session there
   pub owed_there : (n m d : ℕ) → has_message (service_of s.cells n) m ≡ true → holds_slot d (service_of s.cells m).sender ≡ true → is_among d (service_of s.cells n).sessions ≡ true
@@ -217,8 +212,11 @@ module _ (p : Image) (t : Typing) (wired : IsWired p) (s : State) (w : WellTyped
         from_one x c f g = grind arith
 
         queue : (q : Owner) → owner_of s.cells (message_name j) ≡ Some q → is_queue q ≡ true → has_message (service_of s.cells n) (message_name j) ≡ true
-        queue (Elsewhere (Waits_at i m)) e h =
-            let x = held_owner s.cells w.good.tidy (message_name j) (Elsewhere (Waits_at i m)) e in
+        queue q e h =
+            let o = queue_owner q h in
+            let i = o.0 in
+            let m = o.1 in
+            let x = held_owner s.cells w.good.tidy (message_name j) (Elsewhere (Waits_at i m)) (e ∙ ap (λ a. Some a) o.2) in
             let a = asked_there i m x.0 x.1 in
             let here : has_message (service_of s.cells i) (message_name j) ≡ true = ap (has_message (service_of s.cells i)) (sym x.2 ∙ a.0) ∙ a.1 in
             let c = asking (message_name j) (service_of s.cells i).queue here in
@@ -227,7 +225,6 @@ module _ (p : Image) (t : Typing) (wired : IsWired p) (s : State) (w : WellTyped
             let same_server : Some i ≡ Some n = sym open_there ∙ ap (λ y. server_of (client_at clients y)) client ∙ fit.sessions n d has in
             let one : i ≡ n = cc in
             ap (λ y. has_message (service_of s.cells y) (message_name j)) (sym one) ∙ here
-        queue _ e h = cc
 
         go : (x : Option Owner) → owner_of s.cells (message_name j) ≡ x → waits_in (owner_of s.cells (message_name j)) ≡ true → has_message (service_of s.cells n) (message_name j) ≡ true
         go None e h = absurd (false≢true (ap waits_in (sym e) ∙ h))

@@ -1,5 +1,5 @@
 -- A cell goes, a server with its queue and its sessions, and what stands for clients goes on standing for them.
-use Rattle.std.proofs.Common.{Bool, List, None, Option, Some, [], ap, arith, cond, false, length, refl, slice_index_or, subst, suc, sym, true, ℕ, ◌&&◌, ◌<◌, ◌==◌, ◌∙◌, ◌∷◌, ◌≡◌}
+use Rattle.std.proofs.Common.{Bool, List, None, Option, Some, [], ap, arith, cond, false, length, refl, slice_index_or, subst, suc, sym, true, ℕ, ◌&&◌, ◌<◌, ◌==◌, ◌∙◌, ◌∷◌, ◌≡◌, inl, inr, ◌⊎◌}
 use Rattle.std.specs.List.{list_any}
 use Rattle.std.specs.Prelude.{filter, is_some, map, not, ◌||◌}
 use Rattle.std.proofs.lemmas.Bool.{eq-eqb, eqb-true, false≢true}
@@ -20,12 +20,16 @@ use Rattle.aom_sound.specs.Clients.{client_at, each_unslotted, queue_ended, sess
 use Rattle.aom_sound.specs.Kept.{is_connect_of}
 use Rattle.aom_sound.specs.Places.{Cell, Close_of, Connect_of, Elsewhere, Message_of, Object, Place as Owner, Queued as Waits_at, Sender, Service, Tidy, held, named, place_outer, same_place, service_of, without}
 use Rattle.aom_sound.specs.Servers.{all_unslotted, has_message, holds_slot, is_among, is_message, is_other, is_queue, is_queue_of, slots_taken, unslotted, without_queue}
-use Rattle.aom_parts.proofs.Completing.{once_without}
+use Rattle.aom_parts.proofs.Completing.{once_without, queued_still}
 use Rattle.aom_parts.proofs.Departing.{all_without, client_after_queue, client_after_sessions, connects, is_at, lengths_after_queue, lengths_after_sessions, place_after_queue, places_after_sessions, queue_after_queue, queues_after_sessions, sent_after_queue, sent_after_sessions, sessions_after_queue, sessions_after_sessions}
 use Rattle.aom_parts.proofs.Serving.{names_apart}
-use Rattle.aom_parts.proofs.Withdrawing.{owner_cell, owner_in}
+use Rattle.aom_parts.proofs.Withdrawing.{owner_cell, owner_in, queue_of_owner, queue_of_queue}
 use Rattle.aom_parts.specs.Serving.{Once, SameClients, asked_by, holds, is_taken, message_name, owner_of, sent_by, sessionless, waits_in}
 use Rattle.aom_sound.proofs.Destroying.{eqb_comm}
+
+either_true : (a b : Bool) → (a || b) ≡ true → (a ≡ true) ⊎ (b ≡ true)
+either_true true b h = inl refl
+either_true false b h = inr h
 
 -- ---- messages without slots
 
@@ -281,13 +285,10 @@ module _
 
   -- a cell that is owned by its queue is asked for there
   drops_queue : (n : ℕ) (x : Cell) → cell_of cs n ≡ Some x → is_queue_of k x.owner ≡ true → has_message (service_of cs k) n ≡ true
-  drops_queue n x e h = go x.owner refl h
-    where
-      go : (q : Owner) → x.owner ≡ q → is_queue_of k q ≡ true → has_message (service_of cs k) n ≡ true
-      go (Elsewhere (Waits_at i m)) at h =
-          let f = asked m x.object (ap (λ i. held cs (Elsewhere (Waits_at i m))) (sym (eqb-true i k h)) ∙ ap (λ q. held cs q) (sym at) ∙ owner_there n x e) in
-          ap (λ i. has_message (service_of cs k) i) (sym (cell_name cs n x e) ∙ f.0) ∙ f.1
-      go _ at h = cc
+  drops_queue n x e h =
+      let q = queue_of_owner k x.owner h in
+      let f = asked q.0 x.object (ap (λ i. held cs i) (sym q.1) ∙ owner_there n x e) in
+      ap (λ i. has_message (service_of cs k) i) (sym (cell_name cs n x e) ∙ f.0) ∙ f.1
 
   drops_own : (n : ℕ) (x : Cell) → cell_of cs n ≡ Some x → same_place x.owner g ≡ true → n ≡ k
   drops_own n x e h =
@@ -352,22 +353,17 @@ module _
           or_true true b h = refl
           or_true false b h = h
 
-      queues_own : (q : Owner) → is_queue_of k q ≡ true → is_queue q ≡ true
-      queues_own x h = grind arith
-
       at : (x : Cell) → cell_of cs n ≡ Some x → (b : Bool) → (k == n) ≡ b → (d : Bool) → drops x ≡ d →
           ((service_in (cond d None (Some x))).queue ≡ cond b [] (service_of cs n).queue) × ((service_in (cond d None (Some x))).sessions ≡ cond b [] (service_of cs n).sessions)
       at x e true f true g' = (refl, refl)
       at x e true f false g' = absurd (false≢true (sym g' ∙ own x e f))
       at x e false f false g' = (sym (ap (λ (v : Service). v.queue) (was (Some x) e)), sym (ap (λ (v : Service). v.sessions) (was (Some x) e)))
       at x e false f true g' =
-          let none = by (is_queue_of k x.owner) (same_place x.owner g) refl refl g' in
+          let none : (x.service.queue ≡ []) × (x.service.sessions ≡ []) = elim (either_true (is_queue_of k x.owner) (same_place x.owner g) g') [
+            | inl queue ↦ empty n x e (queue_of_queue k x.owner queue)
+            | inr own ↦ absurd (false≢true (sym f ∙ eq-eqb k n (sym (drops_own n x e own))))
+          ] in
           (sym (ap (λ (v : Service). v.queue) (was (Some x) e) ∙ none.0), sym (ap (λ (v : Service). v.sessions) (was (Some x) e) ∙ none.1))
-        where
-          by : (a b : Bool) → is_queue_of k x.owner ≡ a → same_place x.owner g ≡ b → (a || b) ≡ true → (x.service.queue ≡ []) × (x.service.sessions ≡ [])
-          by true b ea eb h = empty n x e (queues_own x.owner ea)
-          by false true ea eb h = absurd (false≢true (sym f ∙ eq-eqb k n (sym (drops_own n x e eb))))
-          by false false ea eb h = cc
 
       nothing : {A : Type 0} (b : Bool) (l : List A) → l ≡ [] → [] ≡ cond b [] l
       nothing true l e = refl
@@ -447,12 +443,15 @@ module _
       go false = same.slots_of d j
 
   slotted_then : (j d : ℕ) → kept.place_at then j ≡ Queued d → is_among j (kept.sent_at then d) ≡ true
-  slotted_then j d e = go (goes j) refl (is_among d xs) refl (sym (place_then j) ∙ e)
+  slotted_then j d e = go (is_among d xs) refl
     where
-      go : (b : Bool) → goes j ≡ b → (x : Bool) → is_among d xs ≡ x → cond b Free (kept.place_at s j) ≡ Queued d → is_among j (kept.sent_at then d) ≡ true
-      go true f x g e = cc
-      go false f true g e = absurd (false≢true (sym f ∙ going j d e g))
-      go false f false g e = among_then d j ∙ ap (λ b. cond b false (cond (goes j) false (is_among j (kept.sent_at s d)))) g ∙ ap (λ b. cond b false (is_among j (kept.sent_at s d))) f ∙ same.slotted j d e
+      was : (goes j ≡ false) × (kept.place_at s j ≡ Queued d)
+      was = queued_still (goes j) (kept.place_at s j) d (sym (place_then j) ∙ e)
+
+      go : (x : Bool) → is_among d xs ≡ x → is_among j (kept.sent_at then d) ≡ true
+      go true g = absurd (false≢true (sym was.0 ∙ going j d was.1 g))
+      go false g =
+          among_then d j ∙ ap (λ b. cond b false (cond (goes j) false (is_among j (kept.sent_at s d)))) g ∙ ap (λ b. cond b false (is_among j (kept.sent_at s d))) was.0 ∙ same.slotted j d was.1
 
   once_then : (d : ℕ) → Once (kept.sent_at then d)
   once_then d = subst Once (sym (sent_then d)) (go (is_among d xs))
@@ -473,15 +472,13 @@ module _
           by false e = refl
 
       unheld : is_among d xs ≡ false → (n : ℕ) (x : Cell) → cell_of cs n ≡ Some x → drops x ≡ true → holds_slot d x.service.sender ≡ false
-      unheld none n x e h = by (is_queue_of k x.owner) (same_place x.owner g) refl refl h
+      unheld none n x e h = elim (either_true (is_queue_of k x.owner) (same_place x.owner g) h) [
+        | inl queue ↦ ap (λ (v : Service). holds_slot d v.sender) (sym told) ∙ unowed none n (drops_queue n x e queue)
+        | inr own ↦ ap (λ (v : Service). holds_slot d v.sender) (sym told ∙ ap (λ i. service_of cs i) (drops_own n x e own)) ∙ silent d
+      ]
         where
           told : service_of cs n ≡ x.service
           told = service_cell cs n ∙ ap service_in e
-
-          by : (a b : Bool) → is_queue_of k x.owner ≡ a → same_place x.owner g ≡ b → (a || b) ≡ true → holds_slot d x.service.sender ≡ false
-          by true b ea eb h = ap (λ (v : Service). holds_slot d v.sender) (sym told) ∙ unowed none n (drops_queue n x e ea)
-          by false true ea eb h = ap (λ (v : Service). holds_slot d v.sender) (sym told ∙ ap (λ i. service_of cs i) (drops_own n x e eb)) ∙ silent d
-          by false false ea eb h = cc
 
       go : (b : Bool) → is_among d xs ≡ b → length (cond b [] (all_without es (kept.sent_at s d))) ≡ cond b 0 (slots_taken d stay)
       go true e = refl

@@ -14,8 +14,8 @@ use Rattle.aom_clients.specs.declared.place.Place.{Place}
 use Rattle.aom_clients.specs.declared.place.Place.TheVariants.{Discarded, Free, Held, Queued}
 use Rattle.aom_clients.specs.Table.{closed_place, is_queued, is_waiting_of, sender}
 use Rattle.aom_sound.proofs.Sifted.{cell_of, cell_of_sifted, named_cell, object_in, kept as left_cell, service_cell, service_in, withdrawn_so}
-use Rattle.aom_sound.specs.Places.{Asked, Cell, Close_of, Connect_of, Message_of, Object, Place as Owner, named, Sender, Service, Tidy, service_of}
-use Rattle.aom_sound.specs.Servers.{asked_last, discarded, holds_slot, is_among, is_from, is_queue, left_by, reserved, slots_taken, stays, withdrawn}
+use Rattle.aom_sound.specs.Places.{Asked, Cell, Close_of, Connect_of, Elsewhere, Message_of, Object, Place as Owner, Queued as Waits_at, named, Sender, Service, Tidy, service_of}
+use Rattle.aom_sound.specs.Servers.{asked_last, discarded, holds_slot, is_among, is_from, is_queue, is_queue_of, left_by, reserved, slots_taken, stays, withdrawn}
 use Rattle.aom_sound.specs.Clients.{client_at, told, with_client}
 use Rattle.aom_sound.specs.State.{State}
 use Rattle.aom_parts.proofs.Serving.{at_set, same_client, same_closing}
@@ -25,6 +25,20 @@ at_map : {A : Type 0} (f : A → A) (none : A) (xs : List A) (n : ℕ) → f non
 at_map f none [] n e = sym e
 at_map f none (x ∷ xs) zero e = refl
 at_map f none (x ∷ xs) (suc n) e = at_map f none xs n e
+
+-- ---- owners that are queues
+
+pub queue_owner : (q : Owner) → is_queue q ≡ true → (n : ℕ) × (m : ℕ) × (q ≡ Elsewhere (Waits_at n m))
+queue_owner (Elsewhere (Waits_at n m)) h = (n, m, refl)
+queue_owner _ h = cc
+
+pub queue_of_queue : (n : ℕ) (q : Owner) → is_queue_of n q ≡ true → is_queue q ≡ true
+queue_of_queue n q h = grind arith
+
+pub queue_of_owner : (n : ℕ) (q : Owner) → is_queue_of n q ≡ true → (m : ℕ) × (q ≡ Elsewhere (Waits_at n m))
+queue_of_owner n q h =
+    let o = queue_owner q (queue_of_queue n q h) in
+    (o.1, o.2 ∙ ap (λ i. Elsewhere (Waits_at i o.1)) (eqb-true o.0 n (ap (is_queue_of n) (sym o.2) ∙ h)))
 
 -- ---- one cell
 
@@ -148,6 +162,9 @@ module _ (c : ℕ) where
   -- what is at a place that another client's message has, and whose it is
   left_other : (p : Place) → (sender p == c) ≡ false → kept.left_place c p ≡ p
   left_other p e = grind (arith, nat_tests)
+
+  left_queued : (p : Place) (d : ℕ) → kept.left_place c p ≡ Queued d → (p ≡ Queued d) × ((d == c) ≡ false)
+  left_queued p d e = grind (arith, nat_tests)
 
   left_own : (p : Place) → is_queued p ≡ false → sender (kept.left_place c p) ≡ sender p
   left_own x e = grind arith
@@ -283,29 +300,25 @@ module _ (s : kept.State) (cs : List Cell) (clients : List Client) (same : SameC
   taken_told : (j : ℕ) (x : Option Cell) → cell_of cs (message_name j) ≡ x → is_taken (kept.place_at s j) ≡ is_some (object_in x)
   taken_told j x at = same.taken j ∙ ap is_some (named_cell cs (message_name j) ∙ ap object_in at)
 
-  taken_then : (j : ℕ) → is_taken (kept.place_at then j) ≡ is_some (named left (message_name j))
-  taken_then j =
-      ap is_taken (place_then j) ∙ taken_left c (holds s j) (kept.place_at s j) ∙ go (cell_of cs (message_name j)) refl
-      ∙ sym (ap is_some (named_cell left (message_name j) ∙ ap object_in (cell_then (message_name j))))
+  -- what is told of places alone, and of cells but for what clients have there
+  told_then : (f : Place → Bool) (g : Option Cell → Bool) → ((j : ℕ) → f (kept.left_place c (kept.place_at s j)) ≡ cond (is_queued (kept.place_at s j) && is_from c (sent_by (holds s j) (kept.place_at s j))) false (f (kept.place_at s j))) →
+      ((x : Cell) (v : Service) → g (Some (record x { service = v })) ≡ g (Some x)) → g None ≡ false → ((j : ℕ) (x : Option Cell) → cell_of cs (message_name j) ≡ x → f (kept.place_at s j) ≡ g x) → (j : ℕ) →
+      f (kept.place_at then j) ≡ g (cell_of left (message_name j))
+  told_then f g leaves plain none told j = ap f (place_then j) ∙ leaves j ∙ go (cell_of cs (message_name j)) refl ∙ sym (ap g (cell_then (message_name j)))
     where
-      go : (x : Option Cell) → cell_of cs (message_name j) ≡ x → cond (is_queued (kept.place_at s j) && is_from c (sent_by (holds s j) (kept.place_at s j))) false (is_taken (kept.place_at s j)) ≡ is_some (object_in (left_of c x))
-      go None at = ap (λ b. cond b false (is_taken (kept.place_at s j))) (none_goes (kept.place_at s j) (holds s j) (sender_told j None at)) ∙ taken_told j None at
-      go (Some x) at = ap (λ b. cond b false (is_taken (kept.place_at s j))) (goes_so j x at) ∙ by (drops c x)
+      go : (x : Option Cell) → cell_of cs (message_name j) ≡ x → cond (is_queued (kept.place_at s j) && is_from c (sent_by (holds s j) (kept.place_at s j))) false (f (kept.place_at s j)) ≡ g (left_of c x)
+      go None at = ap (λ b. cond b false (f (kept.place_at s j))) (none_goes (kept.place_at s j) (holds s j) (sender_told j None at)) ∙ told j None at
+      go (Some x) at = ap (λ b. cond b false (f (kept.place_at s j))) (goes_so j x at) ∙ by (drops c x)
         where
-          by : (b : Bool) → cond b false (is_taken (kept.place_at s j)) ≡ is_some (object_in (cond b None (Some (record x { service = left_by c x.service }))))
-          by true = refl
-          by false = taken_told j (Some x) at
+          by : (b : Bool) → cond b false (f (kept.place_at s j)) ≡ g (cond b None (Some (record x { service = left_by c x.service })))
+          by true = sym none
+          by false = told j (Some x) at ∙ sym (plain x (left_by c x.service))
+
+  taken_then : (j : ℕ) → is_taken (kept.place_at then j) ≡ is_some (named left (message_name j))
+  taken_then j = told_then is_taken (λ x. is_some (object_in x)) (λ j. taken_left c (holds s j) (kept.place_at s j)) (λ x v. refl) refl taken_told j ∙ sym (ap is_some (named_cell left (message_name j)))
 
   waits_then : (j : ℕ) → is_queued (kept.place_at then j) ≡ waits_in (owner_of left (message_name j))
-  waits_then j = ap is_queued (place_then j) ∙ queued_left c (holds s j) (kept.place_at s j) ∙ go (cell_of cs (message_name j)) refl ∙ sym (ap waits_in (owner_cell left (message_name j) ∙ ap owner_in (cell_then (message_name j))))
-    where
-      go : (x : Option Cell) → cell_of cs (message_name j) ≡ x → cond (is_queued (kept.place_at s j) && is_from c (sent_by (holds s j) (kept.place_at s j))) false (is_queued (kept.place_at s j)) ≡ waits_in (owner_in (left_of c x))
-      go None at = ap (λ b. cond b false (is_queued (kept.place_at s j))) (none_goes (kept.place_at s j) (holds s j) (sender_told j None at)) ∙ waits_told j None at
-      go (Some x) at = ap (λ b. cond b false (is_queued (kept.place_at s j))) (goes_so j x at) ∙ by (drops c x)
-        where
-          by : (b : Bool) → cond b false (is_queued (kept.place_at s j)) ≡ waits_in (owner_in (cond b None (Some (record x { service = left_by c x.service }))))
-          by true = refl
-          by false = waits_told j (Some x) at
+  waits_then j = told_then is_queued (λ x. waits_in (owner_in x)) (λ j. queued_left c (holds s j) (kept.place_at s j)) (λ x v. refl) refl waits_told j ∙ sym (ap waits_in (owner_cell left (message_name j)))
 
   slots_of_then : (d j : ℕ) → is_among j (kept.sent_at then d) ≡ holds_slot d (service_of left (message_name j)).sender
   slots_of_then d j =
@@ -328,26 +341,9 @@ module _ (s : kept.State) (cs : List Cell) (clients : List Client) (same : SameC
           by false = refl
 
   slotted_then : (j d : ℕ) → kept.place_at then j ≡ Queued d → is_among j (kept.sent_at then d) ≡ true
-  slotted_then j d e = go (kept.place_at s j) refl (sym (place_then j) ∙ e)
-    where
-      by : (x : Bool) → (d == c) ≡ x → kept.place_at s j ≡ Queued d → cond x (closed_place (Queued d)) (Queued d) ≡ Queued d → is_among j (kept.sent_at then d) ≡ true
-      by true f at e = cc
-      by false f at e = among_then d j ∙ ap (λ b. cond b false (is_among j (kept.sent_at s d))) (swapped d c false f) ∙ same.slotted j d at
-
-      held : (i : ℕ) (x : Bool) → cond x (closed_place (Held i)) (Held i) ≡ Queued d → is_among j (kept.sent_at then d) ≡ true
-      held i x e = grind arith
-
-      queued : (i : ℕ) (x : Bool) → (i == c) ≡ x → kept.place_at s j ≡ Queued i → cond x (closed_place (Queued i)) (Queued i) ≡ Queued d → is_among j (kept.sent_at then d) ≡ true
-      queued i true f at e = cc
-      queued i false f at e =
-          let client : i ≡ d = cc in
-          by false (ap (λ k. k == c) (sym client) ∙ f) (at ∙ e) refl
-
-      go : (x : Place) → kept.place_at s j ≡ x → kept.left_place c x ≡ Queued d → is_among j (kept.sent_at then d) ≡ true
-      go Free at e = cc
-      go (Queued i) at e = queued i (i == c) refl at e
-      go (Held i) at e = held i (i == c) e
-      go (Discarded i) at e = cc
+  slotted_then j d e =
+      let was = left_queued c (kept.place_at s j) d (sym (place_then j) ∙ e) in
+      among_then d j ∙ ap (λ b. cond b false (is_among j (kept.sent_at s d))) (swapped d c false was.1) ∙ same.slotted j d was.0
 
   pub same_withdrawn : SameClients then left clients
   same_withdrawn = record {
