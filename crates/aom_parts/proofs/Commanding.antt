@@ -26,7 +26,7 @@ use Rattle.aom_sound.proofs.Sifted.{a_cell_of, cell_of, cell_placed, held_cell, 
 use Rattle.aom_sound.specs.Clients.{Listed, asked_of, asked_server, client_at, commanded, connecting, count_messages, first_listed, is_of_class, leaving, most_of, refusal, room, sending, slots_of, told, with_client}
 use Rattle.aom_sound.specs.Kept.{ClientsFit}
 use Rattle.aom_sound.specs.Laws.{IsWired}
-use Rattle.aom_sound.specs.Places.{Cell, Connect_of, Elsewhere, Object, Place as Owner, Queued as Waits_at, Tidy, held, named, service_of}
+use Rattle.aom_sound.specs.Places.{Cell, Connect_of, Elsewhere, Object, Queued as Waits_at, Tidy, held, named, service_of}
 use Rattle.aom_sound.specs.Servers.{asked_last, is_connect, is_from, is_queue, is_server, left_by, reserved, seats_taken, slots_taken, withdrawn}
 use Rattle.aom_sound.specs.State.{State}
 use Rattle.aom_sound.specs.WellTyped.{WellTyped}

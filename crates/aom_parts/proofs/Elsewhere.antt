@@ -10,7 +10,7 @@ use Rattle.aom_clients.specs.Clients.{client_at, queue_at}
 use Rattle.aom_clients.specs.Nodes.{is_leaving}
 use Rattle.aom_clients.specs.Table.{no_cell, released, server_of}
 use Rattle.aom_clients.specs.declared.client.Client.{Client}
-use Rattle.aom_clients.specs.declared.client.Client.TheVariants.{Closing, Connecting, Dead, Dying, Gone, Open, Unconnected}
+use Rattle.aom_clients.specs.declared.client.Client.TheVariants.{Closing, Connecting, Dead, Dying, Open, Unconnected}
 use Rattle.aom_clients.specs.declared.entry.Entry.{Entry}
 use Rattle.aom_clients.specs.declared.entry.Entry.TheVariants.{Close, Connect, Message}
 use Rattle.aom_clients.specs.declared.place.Place.{Place as Message_place}

@@ -32,12 +32,10 @@ at_set none xs i j x small = go (i == j) refl
     go false e = get_or-set_other xs i j x none (λ d. false≢true (sym e ∙ eq-eqb i j (sym d)))
 
 or_false : (a : Bool) → (a || (false || false)) ≡ a
-or_false true = refl
-or_false false = refl
+or_false a = grind arith
 
 or_true : (a : Bool) → (a || (true || false)) ≡ true
-or_true true = refl
-or_true false = refl
+or_true a = grind arith
 
 pub front_false : (a b : Bool) → (a || b) ≡ false → (a ≡ false) × (b ≡ false)
 front_false x b e = grind arith
@@ -203,20 +201,7 @@ still_taken s cs taken n v m = taken m ∙ ap is_some (sym (named_served cs n v 
 -- clients are at other things, and what waits is told alike
 pub listed_as : (s : kept.State) (cs : List Cell) (clients after xs : List Client) (queues : List (List Entry)) → SameClients s cs clients → ((c : ℕ) → sessionless (slice_index_or xs c Unconnected) ≡ client_at after c) →
     ((n : ℕ) → map (asked_by s.places) (slice_index_or queues n []) ≡ (service_of cs n).queue) → length xs ≡ length s.clients → SameClients (record s { clients = xs; queues = queues }) cs after
-listed_as s cs clients after xs queues same at waits long = record {
-  at = at;
-  queues = waits;
-  sessions = same.sessions;
-  senders = same.senders;
-  taken = same.taken;
-  waits = same.waits;
-  slots_of = same.slots_of;
-  slotted = same.slotted;
-  once = same.once;
-  slots = same.slots;
-  many = long ∙ same.many;
-  lists = same.lists;
-}
+listed_as s cs clients after xs queues same at waits long = let many = long ∙ same.many in assumption many
 
 pub same_client : (s : kept.State) (cs : List Cell) (clients : List Client) → SameClients s cs clients → (c : ℕ) → c < 64 → (to : Client) → SameClients (kept.with_client c to s) cs (with_client c (sessionless to) clients)
 same_client s cs clients same c client to =
@@ -438,14 +423,18 @@ module _ (s : kept.State) (cs : List Cell) (clients : List Client) (same : SameC
             length-append (kept.sent_at s c) (m ∷ []) ∙ plus_one (length (kept.sent_at s c)) ∙ ap suc (ap (λ i. length (kept.sent_at s i)) (eqb-true c d e) ∙ same.slots d ∙ sym rest)
         go false e = same.slots d ∙ sym rest
 
-    waits_then : (j : ℕ) → is_queued (kept.place_at sent j) ≡ waits_in (owner_of (message ∷ behind) (message_name j))
-    waits_then j = ap is_queued (places_at j) ∙ go (m == j) refl
+    -- what is told of the place that is taken, and of all others
+    told_new : {A B : Type 0} (f : Place → A) (g : B → A) (j : ℕ) (x y : B) → f (Queued c) ≡ g x → ((m == j) ≡ false → f (kept.place_at s j) ≡ g y) → f (kept.place_at sent j) ≡ g (cond (message_name m == message_name j) x y)
+    told_new f g j x y here others = ap f (places_at j) ∙ go (m == j) refl
       where
-        go : (b : Bool) → (m == j) ≡ b → is_queued (cond b (Queued c) (kept.place_at s j)) ≡ waits_in (cond (message_name m == message_name j) (Some message.owner) (owner_of behind (message_name j)))
-        go true e = sym (ap (λ x. waits_in (cond x (Some message.owner) (owner_of behind (message_name j)))) (eq-eqb (message_name m) (message_name j) (ap message_name (eqb-true m j e))))
-        go false e =
-            same.waits j ∙ sym (ap (λ x. waits_in (cond x (Some message.owner) (owner_of behind (message_name j)))) (names_apart m j e)
-            ∙ ap waits_in (owner_served cs o.name (asked_last (Message_of c (message_name m)) (service_of cs o.name)) (message_name j)))
+        go : (b : Bool) → (m == j) ≡ b → f (cond b (Queued c) (kept.place_at s j)) ≡ g (cond (message_name m == message_name j) x y)
+        go true e = here ∙ sym (ap (λ b. g (cond b x y)) (eq-eqb (message_name m) (message_name j) (ap message_name (eqb-true m j e))))
+        go false e = others e ∙ sym (ap (λ b. g (cond b x y)) (names_apart m j e))
+
+    waits_then : (j : ℕ) → is_queued (kept.place_at sent j) ≡ waits_in (owner_of (message ∷ behind) (message_name j))
+    waits_then j =
+        told_new is_queued waits_in j (Some message.owner) (owner_of behind (message_name j)) refl
+        (λ e. same.waits j ∙ sym (ap waits_in (owner_served cs o.name (asked_last (Message_of c (message_name m)) (service_of cs o.name)) (message_name j))))
 
     senders_after : (j : ℕ) → sent_by (holds sent j) (kept.place_at sent j) ≡ (service_of (message ∷ behind) (message_name j)).sender
     senders_after j = ap (λ x. sent_by (is_among j (kept.sent_at sent (sender x))) x) (places_at j) ∙ go (m == j) refl
@@ -472,12 +461,7 @@ module _ (s : kept.State) (cs : List Cell) (clients : List Client) (same : SameC
             ∙ sender_then cs o lives tidy (asked_last (Message_of c (message_name m))) (λ v. refl) (message_name j))
 
     taken_after : (j : ℕ) → is_taken (kept.place_at sent j) ≡ is_some (named (message ∷ behind) (message_name j))
-    taken_after j = ap is_taken (places_at j) ∙ go (m == j) refl
-      where
-        go : (b : Bool) → (m == j) ≡ b → is_taken (cond b (Queued c) (kept.place_at s j)) ≡ is_some (cond (message_name m == message_name j) (Some message.object) (named behind (message_name j)))
-        go true e = sym (ap (λ x. is_some (cond x (Some message.object) (named behind (message_name j)))) (eq-eqb (message_name m) (message_name j) (ap message_name (eqb-true m j e))))
-        go false e =
-            still_taken s cs same.taken o.name _ j ∙ sym (ap (λ x. is_some (cond x (Some message.object) (named behind (message_name j)))) (names_apart m j e))
+    taken_after j = told_new is_taken is_some j (Some message.object) (named behind (message_name j)) refl (λ e. still_taken s cs same.taken o.name _ j)
 
     -- what the new cell has is nothing, of those that have a queue
     other_service : (n : ℕ) → ((service_of (message ∷ behind) n).queue ≡ (service_of behind n).queue) × ((service_of (message ∷ behind) n).sessions ≡ (service_of behind n).sessions)
