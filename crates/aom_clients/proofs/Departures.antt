@@ -20,7 +20,7 @@ use Rattle.aom_clients.proofs.Kept.{sized-as, named-set, named-as, entries-clien
 use Rattle.aom_clients.proofs.Leaving.{place-there, place}
 use Rattle.std.proofs.Math.ListN.{get_or-map}
 use Rattle.aom_clients.specs.Withdrawals.{without_each, left_each}
-use Rattle.aom_clients.proofs.Leaving.{Leaves, leaves, length-each, places-left, drop_each, drop-nil, each-dropped, Tells, queue-left}
+use Rattle.aom_clients.proofs.Leaving.{Leaves, leaves, places-left, drop_each, drop-nil, each-dropped, Tells, queue-left}
 use Rattle.aom_clients.proofs.Plain.{false-true}
 use Rattle.aom_clients.proofs.Steps.{client, take-set-lt, queued-of, client-is, among, waiting-below}
 use Rattle.aom_clients.proofs.Slots.{left-queued, left-at, sent-left}

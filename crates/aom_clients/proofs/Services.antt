@@ -270,9 +270,9 @@ module _ (cl : List Client) (pl : List Place) (q cn ss st : Table) (r : IsKept c
       pub gone_kept : IsKept (if_taken given_up x cl) (if_taken place_freed x pl) t (if_taken (unlisted k) x cn) ss (if_taken slot_freed x st)
       pub gone_seen : state_of (if_taken given_up x cl) (if_taken place_freed x pl) t ss (if_taken slot_freed x st) ≡ after_next_gone k s
 
-    pub served : (x : Option Taken) → x ≡ taken_of pl (first_of (list_at q k)) → IfSome (first_of (list_at q k)) (λ n. n < 1152)
+    pub served : (x : Option Taken) (ps : List Place) → x ≡ taken_of ps (first_of (list_at q k)) → ps ≡ pl → IfSome (first_of (list_at q k)) (λ n. n < 1152)
         → IfSome (first_of (list_at q k)) (λ n. IsFree t n) → IsServed x
-    served x e below free = subst IsServed (sym e) (go (first_of (list_at q k)) refl below free)
+    served x ps e same below free = subst IsServed (sym (e ∙ ap (λ l. taken_of l (first_of (list_at q k))) same)) (go (first_of (list_at q k)) refl below free)
       where
         go : (o : Option ℕ) → first_of (list_at q k) ≡ o → IfSome o (λ n. n < 1152) → IfSome o (λ n. IsFree t n) → IsServed (taken_of pl o)
         go None first below free =

@@ -1,5 +1,5 @@
 use Rattle.std.specs.Prelude.{All, filter, slice_index_or}
-use Rattle.std.proofs.Common.{◌≡◌, ◌<◌, ◌+◌, [], List, length, refl, sym, ap, ◌∙◌, subst, arith}
+use Rattle.std.proofs.Common.{◌<◌, ◌+◌, [], List, length, refl, sym, ap, ◌∙◌, subst, arith}
 use Rattle.std.proofs.lemmas.List.Elements.{All-filter}
 use Rattle.aom_queues.specs.Lists.{list_at, with_list}
 use Rattle.aom_clients.specs.declared.place.Place.{Place}

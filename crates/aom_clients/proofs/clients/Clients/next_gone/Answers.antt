@@ -1,6 +1,5 @@
-use Rattle.std.proofs.Common.{◌≡◌, length, refl, ap, ◌∙◌, arith}
-use Rattle.aom_queues.specs.Lists.{list_at, first_of}
-use Rattle.aom_clients.specs.Parts.{taken_of, if_taken, place_freed, given_up}
+use Rattle.std.proofs.Common.{refl, ap, ◌∙◌}
+use Rattle.aom_clients.specs.Parts.{if_taken, place_freed, given_up}
 use Rattle.aom_clients.proofs.Same.{kept-as, state-as, written}
 use Rattle.aom_clients.proofs.Services.{served}
 use Rattle.aom_clients.proofs.clients.Clients.next_gone.Goals as goal
@@ -12,10 +11,10 @@ invariant_of-self c =
     let places = written v.len v.items _ c.free_place.new.places v.ok.0 c.free_place.auto.places c.deref_mut-2.ensures.value ∙ c.free_place.ensures ∙ ap (if_taken place_freed c.take-taken.result) c.deref_mut-2.ensures.value in
     let clients = written w.len w.items _ c.give_up.new.clients w.ok.0 c.give_up.auto.clients c.deref_mut.ensures.value ∙ c.give_up.ensures ∙ ap (if_taken given_up c.take-taken.result) c.deref_mut.ensures.value in
     kept-as _ _ _ _ _ _ _ _ _ _ _ _ clients places refl c.take-taken.ensures.listed refl c.free_slot.ensures
-    (served _ _ _ _ _ _ c.self.invariant _ c.self.view_is c.args.server c.requires _ c.take-taken.ensures.rest c.take-taken.result (c.take-taken.ensures.taken ∙ ap (λ ps. taken_of ps (first_of (list_at c.self.inside.queues c.args.server))) c.deref.ensures.value) c.take-taken.ensures.below c.take-taken.ensures.free).gone_kept
+    (served _ _ _ _ _ _ c.self.invariant _ c.self.view_is c.args.server c.requires _ c.take-taken.ensures.rest _ _ c.take-taken.ensures.taken c.deref.ensures.value c.take-taken.ensures.below c.take-taken.ensures.free).gone_kept
 
 pub returns-clause-taken : goal.returns-clause-taken
-returns-clause-taken c = (served _ _ _ _ _ _ c.self.invariant _ c.self.view_is c.args.server c.requires _ c.take-taken.ensures.rest c.take-taken.result (c.take-taken.ensures.taken ∙ ap (λ ps. taken_of ps (first_of (list_at c.self.inside.queues c.args.server))) c.deref.ensures.value) c.take-taken.ensures.below c.take-taken.ensures.free).told
+returns-clause-taken c = (served _ _ _ _ _ _ c.self.invariant _ c.self.view_is c.args.server c.requires _ c.take-taken.ensures.rest _ _ c.take-taken.ensures.taken c.deref.ensures.value c.take-taken.ensures.below c.take-taken.ensures.free).told
 
 pub returns-clause-after : goal.returns-clause-after
 returns-clause-after c =
@@ -24,10 +23,10 @@ returns-clause-after c =
     let places = written v.len v.items _ c.free_place.new.places v.ok.0 c.free_place.auto.places c.deref_mut-2.ensures.value ∙ c.free_place.ensures ∙ ap (if_taken place_freed c.take-taken.result) c.deref_mut-2.ensures.value in
     let clients = written w.len w.items _ c.give_up.new.clients w.ok.0 c.give_up.auto.clients c.deref_mut.ensures.value ∙ c.give_up.ensures ∙ ap (if_taken given_up c.take-taken.result) c.deref_mut.ensures.value in
     state-as _ _ _ _ _ c.take-taken.new.queues _ c.self.inside.sessions _ c.free_slot.new.sent clients places refl refl c.free_slot.ensures
-    ∙ (served _ _ _ _ _ _ c.self.invariant _ c.self.view_is c.args.server c.requires _ c.take-taken.ensures.rest c.take-taken.result (c.take-taken.ensures.taken ∙ ap (λ ps. taken_of ps (first_of (list_at c.self.inside.queues c.args.server))) c.deref.ensures.value) c.take-taken.ensures.below c.take-taken.ensures.free).gone_seen
+    ∙ (served _ _ _ _ _ _ c.self.invariant _ c.self.view_is c.args.server c.requires _ c.take-taken.ensures.rest _ _ c.take-taken.ensures.taken c.deref.ensures.value c.take-taken.ensures.below c.take-taken.ensures.free).gone_seen
 
 pub returns-clause-below : goal.returns-clause-below
-returns-clause-below c = (served _ _ _ _ _ _ c.self.invariant _ c.self.view_is c.args.server c.requires _ c.take-taken.ensures.rest c.take-taken.result (c.take-taken.ensures.taken ∙ ap (λ ps. taken_of ps (first_of (list_at c.self.inside.queues c.args.server))) c.deref.ensures.value) c.take-taken.ensures.below c.take-taken.ensures.free).numbered
+returns-clause-below c = (served _ _ _ _ _ _ c.self.invariant _ c.self.view_is c.args.server c.requires _ c.take-taken.ensures.rest _ _ c.take-taken.ensures.taken c.deref.ensures.value c.take-taken.ensures.below c.take-taken.ensures.free).numbered
 
 pub returns-clause-empty : goal.returns-clause-empty
-returns-clause-empty c = (served _ _ _ _ _ _ c.self.invariant _ c.self.view_is c.args.server c.requires _ c.take-taken.ensures.rest c.take-taken.result (c.take-taken.ensures.taken ∙ ap (λ ps. taken_of ps (first_of (list_at c.self.inside.queues c.args.server))) c.deref.ensures.value) c.take-taken.ensures.below c.take-taken.ensures.free).drained
+returns-clause-empty c = (served _ _ _ _ _ _ c.self.invariant _ c.self.view_is c.args.server c.requires _ c.take-taken.ensures.rest _ _ c.take-taken.ensures.taken c.deref.ensures.value c.take-taken.ensures.below c.take-taken.ensures.free).drained
