@@ -3,13 +3,14 @@ use Rattle.std.proofs.Common.{Bool, List, None, Option, Some, [], ap, arith, con
 use Rattle.std.specs.List.{list_any}
 use Rattle.std.specs.Prelude.{filter, is_some, not, ◌-◌, ◌||◌}
 use Rattle.std.proofs.lemmas.Bool.{and_parts, cases_lt, eq-eqb, eqb-true, false≢true}
+use Rattle.aom_clients.proofs.Steps.{queued-of}
 use Rattle.aom_clients.specs.Clients as kept
 use Rattle.aom_clients.specs.Table.{is_queued}
 use Rattle.aom_clients.specs.declared.client.Client.{Client}
 use Rattle.aom_clients.specs.declared.entry.Entry.{Entry}
 use Rattle.aom_clients.specs.declared.entry.Entry.TheVariants.{Close, Connect, Message}
 use Rattle.aom_clients.specs.declared.place.Place.{Place}
-use Rattle.aom_clients.specs.declared.place.Place.TheVariants.{Discarded, Free, Held, Queued}
+use Rattle.aom_clients.specs.declared.place.Place.TheVariants.{Queued}
 use Rattle.aom_image.specs.Image.{Image}
 use Rattle.aom_image.specs.declared.method.Thing.TheVariants.{Message as A_message, Object as An_object_of}
 use Rattle.aom_image.specs.declared.method.Thing.{Thing}
@@ -161,13 +162,12 @@ module _ (p : Image) (t : Typing) (wired : IsWired p) (s : State) (w : WellTyped
             let cell : cell_of s.cells (message_name m.0) ≡ Some x = ap (cell_of s.cells) (sym m.1) ∙ e in
             let waits : is_queued (kept.place_at k m.0) ≡ true = same.waits m.0 ∙ ap waits_in (owner_there (message_name m.0) x cell) ∙ b.0 in
             let from : is_from c (sent_by (holds k m.0) (kept.place_at k m.0)) ≡ true = ap (is_from c) (same.senders m.0) ∙ ap (λ (v : Service). is_from c v.sender) (service_cell s.cells (message_name m.0) ∙ ap service_in cell) ∙ b.1 in
-            (m.0, m.1, among_freed m.0 ∙ ap (λ y. y && is_among m.0 (kept.sent_at k c)) waits ∙ held_slot m.0 (kept.place_at k m.0) refl waits from)
+            (m.0, m.1, among_freed m.0 ∙ ap (λ y. y && is_among m.0 (kept.sent_at k c)) waits ∙ held_slot m.0 waits from)
           where
-            held_slot : (m : ℕ) (x : Place) → kept.place_at k m ≡ x → is_queued (kept.place_at k m) ≡ true → is_from c (sent_by (holds k m) (kept.place_at k m)) ≡ true → is_among m (kept.sent_at k c) ≡ true
-            held_slot m (Queued d) at h from = same.slotted m c (at ∙ ap Queued (eqb-true d c (ap (λ y. is_from c (sent_by (holds k m) y)) (sym at) ∙ from)))
-            held_slot m Free at h from = absurd (false≢true (ap is_queued (sym at) ∙ h))
-            held_slot m (Held d) at h from = absurd (false≢true (ap is_queued (sym at) ∙ h))
-            held_slot m (Discarded d) at h from = absurd (false≢true (ap is_queued (sym at) ∙ h))
+            held_slot : (m : ℕ) → is_queued (kept.place_at k m) ≡ true → is_from c (sent_by (holds k m) (kept.place_at k m)) ≡ true → is_among m (kept.sent_at k c) ≡ true
+            held_slot m h from =
+                let x = queued-of (kept.place_at k m) h in
+                same.slotted m c (x.1 ∙ ap Queued (eqb-true x.0 c (ap (λ y. is_from c (sent_by (holds k m) y)) (sym x.1) ∙ from)))
 
     -- the messages that it leaves are kept
     pub freed_kept : (before : Store) → SameMessages p before s.cells → (m : ℕ) → is_among m freed ≡ true → is_some (message_at before m) ≡ true
