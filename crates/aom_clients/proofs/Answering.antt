@@ -132,7 +132,7 @@ at-first cells few = record {
     messages = λ k m small i. absurd (no-node 1152 cells k m i);
     connects = λ k c small i. absurd (no-node 1152 cells k (1024 + c) i);
     closes = λ k c small i. absurd (no-node 1152 cells k (1088 + c) i);
-    waits = λ c m e. absurd (not-queued c (sym (unused m) ∙ e));
+    waits = λ c m e. let free = unused m in absurd (cc);
   };
   listed = record { same = λ k. no-list 64 cells k ∙ sym (ap connecting_in (no-list 1152 cells k)) };
   connected = record {
@@ -142,9 +142,9 @@ at-first cells few = record {
   out = record {
     out = λ c m small i. absurd (no-node 1024 128 c m i);
     past = λ c m small i. absurd (no-node 1024 128 (64 + c) m i);
-    waiting = λ c m e. absurd (not-queued c (sym (unused m) ∙ e));
-    held = λ c m e. absurd (not-held c (sym (unused m) ∙ e));
-    senders = λ c m e. absurd (not-discarded c (sym (unused m) ∙ e));
+    waiting = λ c m e. let free = unused m in absurd (cc);
+    held = λ c m e. let free = unused m in absurd (cc);
+    senders = λ c m e. let free = unused m in absurd (cc);
     few = λ c small. omega (arith, ap length (no-list 1024 128 c));
   };
   named = record {
@@ -155,15 +155,6 @@ at-first cells few = record {
   where
     nil : List ℕ
     nil = []
-
-    not-queued : (c : ℕ) → Free ≡ Queued c → ⊥
-    not-queued c e = cc
-
-    not-held : (c : ℕ) → Free ≡ Held c → ⊥
-    not-held c e = cc
-
-    not-discarded : (c : ℕ) → Free ≡ Discarded c → ⊥
-    not-discarded c e = cc
 
 -- so many lists of nodes with none, and of entries
 abbrev list_of : ℕ → List (List ℕ)

@@ -20,7 +20,7 @@ use Rattle.aom_clients.proofs.Kept.{sized-as, named-set, named-as, entries-clien
 use Rattle.aom_clients.proofs.Leaving.{place-there, place}
 use Rattle.std.proofs.Math.ListN.{get_or-map}
 use Rattle.aom_clients.specs.Withdrawals.{without_each, left_each}
-use Rattle.aom_clients.proofs.Leaving.{Leaves, leaves, length-each, places-left, drop_each, drop-nil, each-dropped, Tells, queue-left}
+use Rattle.aom_clients.proofs.Leaving.{Leaves, leaves, places-left, drop_each, drop-nil, each-dropped, Tells, queue-left}
 use Rattle.aom_clients.proofs.Plain.{false-true}
 use Rattle.aom_clients.proofs.Steps.{client, take-set-lt, queued-of, client-is, among, waiting-below}
 use Rattle.aom_clients.proofs.Slots.{left-queued, left-at, sent-left}
@@ -110,10 +110,8 @@ module _ (cl : List Client) (pl : List Place) (q cn ss st : Table) (r : IsKept c
     past-is : list_at st1 (64 + c) ≡ list_at st (64 + c)
     past-is = get_or-set_other st.lists c (64 + c) [] [] (λ e. absurd (omega (arith, e)))
 
-    pub past-below : (m : ℕ) → IsIn m (list_at st1 (64 + c)) → m < length pl1
-    past-below m i =
-        let less = place-there pl m (place pl m) refl (some-held c (place pl m) (r.out.past c m small (subst (IsIn m) past-is i))) in
-        omega (arith, less, length-each xs pl)
+    pub past-below : (m : ℕ) → IsIn m (list_at st (64 + c)) → m < length pl
+    past-below m i = place-there pl m (place pl m) refl (some-held c (place pl m) (r.out.past c m small i))
 
     places-are : pl2 ≡ pl3
     places-are = ap (λ ys. left_each ys pl1) past-is ∙ places-left pl st c small r.out

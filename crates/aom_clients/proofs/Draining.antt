@@ -6,8 +6,8 @@ use Rattle.aom_queues.specs.Lists.{Table, IsIn, list_at, with_list, without, fir
 use Rattle.aom_clients.specs.declared.place.Place.{Place}
 use Rattle.aom_clients.specs.Table.{is_queued, closed_place}
 use Rattle.aom_clients.specs.Withdrawals.{without_each, left_at, left_each, waiting_each, noted}
-use Rattle.aom_clients.proofs.Leaving.{place}
-use Rattle.aom_clients.proofs.Services.{shape}
+use Rattle.aom_clients.proofs.Leaving.{place, length-each}
+use Rattle.aom_clients.proofs.Services.{shape, empty}
 
 -- the list and all others
 pub record Drained (t u : Table) (k m : ℕ) : Type 0 where
@@ -24,10 +24,10 @@ drained t u k m small first is =
       emptied = ap (with_list k []) is ∙ ap (λ ls. record t { lists = ls }) (set-set t.lists k (rest_of (list_at t k)) []);
     }
 
-module _ (t u : Table) (k m : ℕ) (d : Drained t u k m) where
-  pub head-is-in : IsIn m (list_at t k)
-  head-is-in = subst (IsIn m) (sym d.shaped) (inl refl)
+pub first-below : (t : Table) (k m n : ℕ) → Some m ≡ first_of (list_at t k) → ((y : ℕ) → IsIn y (list_at t k) → y < n) → m < n
+first-below t k m n first within = within m (subst (IsIn m) (sym (shape (list_at t k) m (sym first))) (inl refl))
 
+module _ (t u : Table) (k m : ℕ) (d : Drained t u k m) where
   pub tail-in : (n : ℕ) → IsIn n (list_at u k) → IsIn n (list_at t k)
   tail-in n i = subst (IsIn n) (sym d.shaped) (inr i)
 
@@ -59,11 +59,7 @@ module _ (t u : Table) (k m : ℕ) (d : Drained t u k m) where
 
 -- in the end the list is empty
 pub drained-all : (t : Table) (k : ℕ) → first_of (list_at t k) ≡ None → list_at t k ≡ []
-drained-all t k e = go (list_at t k) e
-  where
-    go : (xs : List ℕ) → first_of xs ≡ None → xs ≡ []
-    go [] e = refl
-    go (x ∷ xs) e = absurd (cc)
+drained-all t k e = empty (list_at t k) (sym e)
 
 -- a message more was listed as one of an earlier session
 pub record Released (t v : Table) (c : ℕ) : Type 0 where
@@ -132,3 +128,10 @@ released-all t c e small =
 -- the same of the other loops
 pub emptied-all : (t : Table) (k : ℕ) → None ≡ first_of (list_at t k) → with_list k [] t ≡ t
 emptied-all t k e = ap (λ xs. with_list k xs t) (sym (drained-all t k (sym e))) ∙ ap (λ ls. record t { lists = ls }) (set-get_or t.lists k [])
+
+-- the messages of earlier sessions stay in their places, as those of this one are taken off
+pub past-stays : (st u : Table) (c : ℕ) (pl ps : List Place) → u ≡ with_list c [] st → ps ≡ left_each (list_at st c) pl
+    → ((m : ℕ) → IsIn m (list_at st (64 + c)) → m < length pl) → (m : ℕ) → IsIn m (list_at u (64 + c)) → m < length ps
+past-stays st u c pl ps u_is ps_is within m i =
+    let same : list_at u (64 + c) ≡ list_at st (64 + c) = ap (λ t. list_at t (64 + c)) u_is ∙ get_or-set_other st.lists c (64 + c) [] [] (λ e. absurd (omega (arith, e))) in
+    omega (arith, within m (subst (IsIn m) same i), ap length ps_is, length-each (list_at st c) pl)

@@ -21,8 +21,8 @@ use Rattle.aom_clients.proofs.Slots.{sent-release}
 
 module _ (cl : List Client) (pl : List Place) (q cn ss st : Table) (r : IsKept cl pl q cn ss st) (s : State) (is : state_of cl pl q ss st ≡ s) where
   -- the first session of a server goes with it --------------------------------------------------------------------------------------------
-  module _ (k c : ℕ) (inside : k < length s.queues) (empty : queue_at s k ≡ []) (first : first_of (list_at ss k) ≡ Some c)
-      (free : IsFree (with_list k (rest_of (list_at ss k)) ss) c) where
+  module _ (k c : ℕ) (inside : k < length s.queues) (empty : queue_at s k ≡ []) (first : Some c ≡ first_of (list_at ss k))
+      (t : Table) (rest : t ≡ with_list k (rest_of (list_at ss k)) ss) (free : IsFree t c) where
     abbrev cs : List ℕ
     cs = rest_of (list_at ss k)
 
@@ -33,7 +33,7 @@ module _ (cl : List Client) (pl : List Place) (q cn ss st : Table) (r : IsKept c
     to = at_gone (client cl c)
 
     shaped : list_at ss k ≡ c ∷ cs
-    shaped = shape (list_at ss k) c first
+    shaped = shape (list_at ss k) c (sym first)
 
     named-here : server_of (client cl c) ≡ Some k
     named-here = r.connected.has k c (subst (IsIn c) (sym shaped) (inl refl))
@@ -89,7 +89,7 @@ module _ (cl : List Client) (pl : List Place) (q cn ss st : Table) (r : IsKept c
           (λ j less i. absurd (no-entry (1088 + c) (subst (λ x. IsIn (1088 + c) (list_at q x)) (mine.leaving j (r.entries.closes j c less i)) i)))
           (λ m e. absurd (no-wait m e)) r.entries;
       listed = r.listed;
-      connected = sessions-first cl ss k c cs to few there mine.gone shaped free r.connected;
+      connected = sessions-first cl ss k c cs to few there mine.gone shaped (subst (λ u. IsFree u c) rest free) r.connected;
       out = sent-release pl st c session-below r.sized.sent_long r.out all-held;
       named = named-set cl (length q.lists) c to few (λ j h. absurd (mine.unnamed j h)) mine.slots r.named;
     }

@@ -377,10 +377,7 @@ sent-taken pl st m place s =
     held_as d (Discarded c) e = e
 
     never : (d : ℕ) (p : Place) → held_place p ≡ Queued d → ⊥
-    never d Free e = cc
-    never d (Queued c) e = cc
-    never d (Held c) e = cc
-    never d (Discarded c) e = cc
+    never d x e = grind arith
 
     from : (d : ℕ) (p : Place) → slice_index_or pl m Free ≡ p → held_place p ≡ Held d → (d < 64) × (IsIn m (list_at st d) ⊎ IsIn m (list_at st (64 + d)))
     from d Free is e = absurd (cc)

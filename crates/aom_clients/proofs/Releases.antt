@@ -1,11 +1,11 @@
 -- What the going of a session's cell makes of the lists: nothing, since none asks for that cell.
-use Rattle.std.proofs.Common.{◌≡◌, ◌<◌, ◌≤◌, ◌∙◌, ℕ, List, length, inl, inr, sym, ap, refl, subst}
+use Rattle.std.proofs.Common.{◌≡◌, ◌<◌, ◌≤◌, ◌∙◌, ℕ, List, length, inl, inr, sym, ap, refl, subst, arith}
 use Rattle.std.specs.Prelude.{slice_set}
 use Rattle.std.proofs.lemmas.Bool.{cases_eq}
 use Rattle.std.proofs.lemmas.List.{length-set, get_or-set_other, get_or-set_same}
 use Rattle.aom_queues.specs.Lists.{Table}
 use Rattle.aom_clients.specs.declared.client.Client.{Client}
-use Rattle.aom_clients.specs.declared.client.Client.TheVariants.{Unconnected, Connecting, Open, Closing, Gone, Dead, Dying}
+use Rattle.aom_clients.specs.declared.client.Client.TheVariants.{Unconnected}
 use Rattle.aom_clients.specs.declared.place.Place.{Place}
 use Rattle.aom_clients.specs.Table.{server_of, released}
 use Rattle.aom_clients.specs.Clients.{State, after_release}
@@ -17,58 +17,22 @@ use Rattle.aom_clients.proofs.Tables.{alike-same}
 -- ---- a client without its cell
 
 server-still : (x : Client) → server_of (released x) ≡ server_of x
-server-still (Open server session slots) = refl
-server-still (Closing server session) = refl
-server-still (Dying server session) = refl
-server-still (Connecting server slots) = refl
-server-still Unconnected = refl
-server-still Gone = refl
-server-still Dead = refl
+server-still x = grind arith
 
 named-still : (x : Client) → named_by (released x) ≡ named_by x
-named-still (Open server session slots) = refl
-named-still (Closing server session) = refl
-named-still (Dying server session) = refl
-named-still (Connecting server slots) = refl
-named-still Unconnected = refl
-named-still Gone = refl
-named-still Dead = refl
+named-still x = grind arith
 
 connecting-still : (k : ℕ) (x : Client) → is_connecting_at k (released x) ≡ is_connecting_at k x
-connecting-still k (Open server session slots) = refl
-connecting-still k (Closing server session) = refl
-connecting-still k (Dying server session) = refl
-connecting-still k (Connecting server slots) = refl
-connecting-still k Unconnected = refl
-connecting-still k Gone = refl
-connecting-still k Dead = refl
+connecting-still k x = grind arith
 
 leaving-still : (k : ℕ) (x : Client) → is_leaving k (released x) ≡ is_leaving k x
-leaving-still k (Open server session slots) = refl
-leaving-still k (Closing server session) = refl
-leaving-still k (Dying server session) = refl
-leaving-still k (Connecting server slots) = refl
-leaving-still k Unconnected = refl
-leaving-still k Gone = refl
-leaving-still k Dead = refl
+leaving-still k x = grind arith
 
 open-still : (k : ℕ) (x : Client) → is_open_at k (released x) ≡ is_open_at k x
-open-still k (Open server session slots) = refl
-open-still k (Closing server session) = refl
-open-still k (Dying server session) = refl
-open-still k (Connecting server slots) = refl
-open-still k Unconnected = refl
-open-still k Gone = refl
-open-still k Dead = refl
+open-still k x = grind arith
 
 slots-still : (x : Client) → slots_of (released x) ≡ slots_of x
-slots-still (Open server session slots) = refl
-slots-still (Closing server session) = refl
-slots-still (Dying server session) = refl
-slots-still (Connecting server slots) = refl
-slots-still Unconnected = refl
-slots-still Gone = refl
-slots-still Dead = refl
+slots-still x = grind arith
 
 -- ---- all clients
 

@@ -18,6 +18,7 @@ state-as cl cl' pl pl' q q' ss ss' st st' a b c e f =
     ap (λ x. state_of x pl' q' ss' st') a ∙ ap (λ x. state_of cl x q' ss' st') b ∙ ap (λ x. state_of cl pl x ss' st') c ∙ ap (λ x. state_of cl pl q x st') e
     ∙ ap (λ x. state_of cl pl q ss x) f
 
--- a list that a call wrote over
-pub written : {X : Type 0} (n : ℕ) (old new : List X) → n ≡ length new → take n (new ++ drop (length new) old) ≡ new
-written n old new is = ap (λ k. take k (new ++ drop (length new) old)) is ∙ take-append_seam new (drop (length new) old)
+-- a list that a call wrote over, which was lent to it
+pub written : {X : Type 0} (n : ℕ) (old was new : List X) → n ≡ length old → length new ≡ length was → was ≡ old → take n (new ++ drop (length new) old) ≡ new
+written n old was new whole long lent =
+    ap (λ k. take k (new ++ drop (length new) old)) (whole ∙ ap length (sym lent) ∙ sym long) ∙ take-append_seam new (drop (length new) old)

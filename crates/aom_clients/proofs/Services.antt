@@ -1,6 +1,6 @@
 -- What the parts of a service, and the going of a server, make of the lists: they are kept, and tell the state that their definitions tell.
-use Rattle.std.proofs.Common.{◌≡◌, ◌≢◌, ◌<◌, ◌≤◌, ◌+◌, ◌⊎◌, ◌++◌, ℕ, true, List, [], ◌∷◌, Some, None, length, take, refl, sym, ap, ◌∙◌, subst, inl, inr, arith}
-use Rattle.std.specs.Prelude.{map, filter, slice_set, IsSome}
+use Rattle.std.proofs.Common.{◌≡◌, ◌≢◌, ◌<◌, ◌≤◌, ◌+◌, ◌⊎◌, ◌++◌, ℕ, true, List, [], ◌∷◌, Option, Some, None, length, take, refl, sym, ap, ◌∙◌, subst, inl, inr, arith}
+use Rattle.std.specs.Prelude.{map, filter, slice_set, IfSome, IsNone, IsSome}
 use Rattle.std.proofs.lemmas.Bool.{cases_eq}
 use Rattle.std.proofs.lemmas.Option.{same_Some}
 use Rattle.std.proofs.lemmas.List.{length-set, get_or-set_same, get_or-set_other, take-map, map-set, set-get_or}
@@ -12,10 +12,11 @@ use Rattle.aom_clients.specs.declared.place.Place.{Place}
 use Rattle.aom_clients.specs.declared.place.Place.TheVariants.{Free, Queued, Held, Discarded}
 use Rattle.aom_clients.specs.declared.entry.Entry.{Entry}
 use Rattle.aom_clients.specs.declared.entry.Entry.TheVariants.{Connect, Message, Close}
+use Rattle.aom_clients.specs.declared.entry.Taken.{Taken}
 use Rattle.aom_clients.specs.Table.{is_queued, held_place, completion, sender}
-use Rattle.aom_clients.specs.Clients.{MessageBelow, State, client_at, place_at, queue_at, sessions_at, with_client, with_queue, taken_entry, first_entry, taking, taken, after_next, opened, going, gone, parted, after_complete, after_next_gone, is_no_connect_of, is_no_close_of}
+use Rattle.aom_clients.specs.Clients.{MessageBelow, IsNumbered, State, client_at, place_at, queue_at, sessions_at, with_client, with_queue, taken_entry, first_entry, taking, taken, after_next, opened, going, gone, parted, after_complete, after_next_gone, is_no_connect_of, is_no_close_of}
 use Rattle.aom_clients.specs.Nodes.{entry_of, is_connect_node, slots_of, named_by, state_of, Waits, AreSized, AreEntries, AreConnects, AreNamed, IsKept}
-use Rattle.aom_clients.specs.Parts.{ConnectBelow, client_in, unlisted, held_by, given_up, slot_freed, place_freed, is_connecting, is_ending, is_apart}
+use Rattle.aom_clients.specs.Parts.{client_in, taken_of, if_taken, unlisted, held_by, given_up, slot_freed, place_freed, is_connecting, is_ending, is_apart}
 use Rattle.aom_clients.proofs.Entries.{Kind, kind, message-is, connect-is, close-is, message-no, close-no, no-connect, no-close}
 use Rattle.aom_clients.proofs.Entries.Kind.{message, connect, close}
 use Rattle.aom_clients.proofs.Tables.{alike-same, alike-with, alike-without, Fewer, fewer-with, fewer-without, at-without, shown, shown-without}
@@ -29,11 +30,26 @@ pub shape : (xs : List ℕ) (n : ℕ) → first_of xs ≡ Some n → xs ≡ n �
 shape [] n e = absurd (nothing n e)
 shape (x ∷ xs) n e = ap (λ y. y ∷ xs) (same_Some x n e)
 
+-- nothing was there to be taken
+pub empty : (xs : List ℕ) → None ≡ first_of xs → xs ≡ []
+empty [] e = refl
+empty (x ∷ xs) e = absurd (nothing x e)
+
+pub none-taken : (t : Table) (k : ℕ) → None ≡ first_of (list_at t k) → with_list k (rest_of (list_at t k)) t ≡ t
+none-taken t k e =
+    let none : list_at t k ≡ [] = empty (list_at t k) e in
+    ap (λ xs. with_list k xs t) (ap rest_of none ∙ sym none) ∙ ap (λ ls. record t { lists = ls }) (set-get_or t.lists k [])
+
+queue-none : (cl : List Client) (pl : List Place) (q cn ss st : Table) (r : IsKept cl pl q cn ss st) (s : State) (is : state_of cl pl q ss st ≡ s) (k : ℕ)
+    → None ≡ first_of (list_at q k) → queue_at s k ≡ []
+queue-none cl pl q cn ss st r s is k e = sym (queue-is cl pl q cn ss st r s is k) ∙ ap (map entry_of) (empty (list_at q k) e)
+
+pub sessions-none : (cl : List Client) (pl : List Place) (q cn ss st : Table) (s : State) (is : state_of cl pl q ss st ≡ s) (k : ℕ)
+    → None ≡ first_of (list_at ss k) → sessions_at s k ≡ []
+sessions-none cl pl q cn ss st s is k e = sym (ap (λ t. sessions_at t k) is) ∙ empty (list_at ss k) e
+
 never-held : (p : Place) (c : ℕ) → held_place p ≡ Queued c → ⊥
-never-held Free c e = cc
-never-held (Queued d) c e = cc
-never-held (Held d) c e = cc
-never-held (Discarded d) c e = cc
+never-held x c e = grind arith
 
 module _ (cl : List Client) (pl : List Place) (q cn ss st : Table) (r : IsKept cl pl q cn ss st) (s : State) (is : state_of cl pl q ss st ≡ s) where
   -- the first entry of a queue leaves -----------------------------------------------------------------------------------------------------
@@ -116,7 +132,21 @@ module _ (cl : List Client) (pl : List Place) (q cn ss st : Table) (r : IsKept c
     connect-listed c less e =
         listed-rest-connect q cn k c ns here r.sized.connects_long less (shaped ∙ ap (λ y. y ∷ ns) e) r.listed
 
-    pub client-told : (e : Entry) → client_in pl e ≡ (taken_entry s e).client
+    -- a close leaves no trace but in its queue
+    close-kept : (c : ℕ) → n ≡ 1088 + c → IsKept cl pl q1 cn ss st
+    close-kept c e = record {
+      sized = sized-same;
+      entries = entries-less (omega (arith, e));
+      listed = listed-rest-other q cn k n ns here (ap is_connect_node e ∙ close-no c) shaped r.listed;
+      connected = r.connected;
+      out = r.out;
+      named = named-same;
+    }
+
+    seen-rest : state_of cl pl q1 ss st ≡ with_queue k (map entry_of ns) old
+    seen-rest = ap (λ qs. record { clients = cl; places = pl; queues = qs; sessions = ss.lists; sent = take 64 st.lists }) shown-rest
+
+    client-told : (e : Entry) → client_in pl e ≡ (taken_entry s e).client
     client-told (Connect c) = refl
     client-told (Message m) = ap sender (place-is cl pl q cn ss st r s is m)
     client-told (Close c) = refl
@@ -127,14 +157,14 @@ module _ (cl : List Client) (pl : List Place) (q cn ss st : Table) (r : IsKept c
     entry-told (Close c) = refl
 
     -- what the call answers
-    pub taken-is : (e : Entry) (c : ℕ) → e ≡ entry_of n → c ≡ client_in pl e → Some (record { entry = e; client = c }) ≡ first_entry s (queue_at s k)
-    taken-is e c e_is c_is =
-        ap (λ x. Some (record { entry = e; client = x })) (c_is ∙ client-told e) ∙ ap (λ x. Some (record { entry = x; client = (taken_entry s e).client })) (entry-told e)
-        ∙ ap (λ x. Some (taken_entry s x)) e_is ∙ sym (ap (first_entry s) queue-shape)
+    taken-is : Some (record { entry = entry_of n; client = client_in pl (entry_of n) }) ≡ first_entry s (queue_at s k)
+    taken-is = let e = entry_of n in
+        ap (λ x. Some (record { entry = e; client = x })) (client-told e) ∙ ap (λ x. Some (record { entry = x; client = (taken_entry s e).client })) (entry-told e)
+        ∙ sym (ap (first_entry s) queue-shape)
 
     -- its client and its message's place are among those that there are
-    pub numbered : (e : Entry) (x : ℕ) → e ≡ entry_of n → x ≡ client_in pl e → (x < 64) × MessageBelow 1024 e
-    numbered e x e_is x_is = subst (λ y. (y < 64) × MessageBelow 1024 e) (sym x_is) (subst (λ y. (client_in pl y < 64) × MessageBelow 1024 y) (sym e_is) (go n (kind n) refl))
+    numbered : (client_in pl (entry_of n) < 64) × MessageBelow 1024 (entry_of n)
+    numbered = go n (kind n) refl
       where
         sent_by : (m : ℕ) → (c : ℕ) × (place pl m ≡ Queued c) → sender (place pl m) < 64
         sent_by m w = subst (λ p. sender p < 64) (sym w.1) (r.out.waiting w.0 m w.1).0
@@ -145,22 +175,6 @@ module _ (cl : List Client) (pl : List Place) (q cn ss st : Table) (r : IsKept c
             (sent_by m (queued-of (place pl m) (r.entries.messages k m less (subst (λ y. IsIn y (list_at q k)) e head-in))), less)
         go _ (connect c less) e = subst (λ y. (client_in pl y < 64) × MessageBelow 1024 y) (sym (connect-is c less)) (less, tt)
         go _ (close c) e = subst (λ y. (client_in pl y < 64) × MessageBelow 1024 y) (sym (close-is c)) (omega (arith, e, small), tt)
-
-    pub message-below : MessageBelow (length pl) (entry_of n)
-    message-below = go n (kind n)
-      where
-        go : (y : ℕ) → Kind y → MessageBelow (length pl) (entry_of y)
-        go _ (message m less) = subst (MessageBelow (length pl)) (sym (message-is m less)) (omega (arith, less, r.sized.places_long))
-        go _ (connect c less) = subst (MessageBelow (length pl)) (sym (connect-is c less)) tt
-        go _ (close c) = subst (MessageBelow (length pl)) (sym (close-is c)) tt
-
-    pub connect-below : ConnectBelow (length cl) (entry_of n)
-    connect-below = go n (kind n)
-      where
-        go : (y : ℕ) → Kind y → ConnectBelow (length cl) (entry_of y)
-        go _ (message m less) = subst (ConnectBelow (length cl)) (sym (message-is m less)) tt
-        go _ (connect c less) = subst (ConnectBelow (length cl)) (sym (connect-is c less)) (omega (arith, less, r.sized.clients_long))
-        go _ (close c) = subst (ConnectBelow (length cl)) (sym (close-is c)) tt
 
     -- it is taken
     pub record IsTaken (e : Entry) : Type 0 where
@@ -189,27 +203,16 @@ module _ (cl : List Client) (pl : List Place) (q cn ss st : Table) (r : IsKept c
         out = r.out;
         named = named-same;
       };
-      seen = ap (λ qs. record { clients = cl; places = pl; queues = qs; sessions = ss.lists; sent = take 64 st.lists }) shown-rest;
+      seen = seen-rest;
     })
-    taken-entry _ (close c) e = subst IsTaken (sym (close-is c)) (record {
-      kept = record {
-        sized = sized-same;
-        entries = entries-less (omega (arith, e));
-        listed = listed-rest-other q cn k n ns here (ap is_connect_node e ∙ close-no c) shaped r.listed;
-        connected = r.connected;
-        out = r.out;
-        named = named-same;
-      };
-      seen = ap (λ qs. record { clients = cl; places = pl; queues = qs; sessions = ss.lists; sent = take 64 st.lists }) shown-rest;
-    })
+    taken-entry _ (close c) e = subst IsTaken (sym (close-is c)) (record { kept = close-kept c e; seen = seen-rest })
 
-    pub taken-kept : (e : Entry) → e ≡ entry_of n → IsKept cl (held_by e pl) q1 (unlisted k e cn) ss st
-    taken-kept e e_is = subst (λ x. IsKept cl (held_by x pl) q1 (unlisted k x cn) ss st) (sym e_is) ((taken-entry n (kind n) refl).kept)
+    taken-kept : IsKept cl (held_by (entry_of n) pl) q1 (unlisted k (entry_of n) cn) ss st
+    taken-kept = (taken-entry n (kind n) refl).kept
 
-    pub taken-seen : (e : Entry) → e ≡ entry_of n → state_of cl (held_by e pl) q1 ss st ≡ after_next k s
-    taken-seen e e_is =
-        ap (λ x. state_of cl (held_by x pl) q1 ss st) e_is ∙ (taken-entry n (kind n) refl).seen ∙ ap (λ t. taking (entry_of n) (with_queue k (map entry_of ns) t)) is
-        ∙ sym (ap (λ es. taken k es s) queue-shape)
+    taken-seen : state_of cl (held_by (entry_of n) pl) q1 ss st ≡ after_next k s
+    taken-seen =
+        (taken-entry n (kind n) refl).seen ∙ ap (λ t. taking (entry_of n) (with_queue k (map entry_of ns) t)) is ∙ sym (ap (λ es. taken k es s) queue-shape)
 
     -- it goes with its server
     pub record IsGone (e : Entry) : Type 0 where
@@ -247,25 +250,57 @@ module _ (cl : List Client) (pl : List Place) (q cn ss st : Table) (r : IsKept c
       where
         mine : IsAsking (client cl c)
         mine = asking (client cl c) (asks k (client cl c) (r.entries.connects k c less (subst (λ x. IsIn x (list_at q k)) e head-in)))
-    gone-entry _ (close c) e = subst IsGone (sym (close-is c)) (record {
-      kept = record {
-        sized = sized-same;
-        entries = entries-less (omega (arith, e));
-        listed = listed-rest-other q cn k n ns here (ap is_connect_node e ∙ close-no c) shaped r.listed;
-        connected = r.connected;
-        out = r.out;
-        named = named-same;
-      };
-      seen = ap (λ qs. record { clients = cl; places = pl; queues = qs; sessions = ss.lists; sent = take 64 st.lists }) shown-rest;
-    })
+    gone-entry _ (close c) e = subst IsGone (sym (close-is c)) (record { kept = close-kept c e; seen = seen-rest })
 
-    pub gone-kept : (e : Entry) → e ≡ entry_of n → IsKept (given_up e cl) (place_freed e pl) q1 (unlisted k e cn) ss (slot_freed e st)
-    gone-kept e e_is = subst (λ x. IsKept (given_up x cl) (place_freed x pl) q1 (unlisted k x cn) ss (slot_freed x st)) (sym e_is) ((gone-entry n (kind n) refl).kept)
+    gone-kept : IsKept (given_up (entry_of n) cl) (place_freed (entry_of n) pl) q1 (unlisted k (entry_of n) cn) ss (slot_freed (entry_of n) st)
+    gone-kept = (gone-entry n (kind n) refl).kept
 
-    pub gone-seen : (e : Entry) → e ≡ entry_of n → state_of (given_up e cl) (place_freed e pl) q1 ss (slot_freed e st) ≡ after_next_gone k s
-    gone-seen e e_is =
-        ap (λ x. state_of (given_up x cl) (place_freed x pl) q1 ss (slot_freed x st)) e_is ∙ (gone-entry n (kind n) refl).seen
-        ∙ ap (λ t. going (entry_of n) (with_queue k (map entry_of ns) t)) is ∙ sym (ap (λ es. gone k es s) queue-shape)
+    gone-seen : state_of (given_up (entry_of n) cl) (place_freed (entry_of n) pl) q1 ss (slot_freed (entry_of n) st) ≡ after_next_gone k s
+    gone-seen =
+        (gone-entry n (kind n) refl).seen ∙ ap (λ t. going (entry_of n) (with_queue k (map entry_of ns) t)) is ∙ sym (ap (λ es. gone k es s) queue-shape)
+
+  -- the first entry of a queue was taken, if there is one; t is what is left of the queues -----------------------------------------------
+  module _ (k : ℕ) (inside : k < length s.queues) (t : Table) (rest : t ≡ with_list k (rest_of (list_at q k)) q) where
+    pub record IsServed (x : Option Taken) : Type 0 where
+      pub told : x ≡ first_entry s (queue_at s k)
+      pub numbered : IfSome x IsNumbered
+      pub drained : IsNone x → queue_at (state_of cl pl t ss st) k ≡ []
+      pub kept : IsKept cl (if_taken held_by x pl) t (if_taken (unlisted k) x cn) ss st
+      pub seen : state_of cl (if_taken held_by x pl) t ss st ≡ after_next k s
+      pub gone_kept : IsKept (if_taken given_up x cl) (if_taken place_freed x pl) t (if_taken (unlisted k) x cn) ss (if_taken slot_freed x st)
+      pub gone_seen : state_of (if_taken given_up x cl) (if_taken place_freed x pl) t ss (if_taken slot_freed x st) ≡ after_next_gone k s
+
+    pub served : (x : Option Taken) (ps : List Place) → x ≡ taken_of ps (first_of (list_at q k)) → ps ≡ pl → IfSome (first_of (list_at q k)) (λ n. n < 1152)
+        → IfSome (first_of (list_at q k)) (λ n. IsFree t n) → IsServed x
+    served x ps e same below free = subst IsServed (sym (e ∙ ap (λ l. taken_of l (first_of (list_at q k))) same)) (go (first_of (list_at q k)) refl below free)
+      where
+        go : (o : Option ℕ) → first_of (list_at q k) ≡ o → IfSome o (λ n. n < 1152) → IfSome o (λ n. IsFree t n) → IsServed (taken_of pl o)
+        go None first below free =
+            let none = queue-none cl pl q cn ss st r s is k (sym first) in
+            let same = rest ∙ none-taken q k (sym first) in
+            let kept : IsKept cl pl t cn ss st = subst (λ u. IsKept cl pl u cn ss st) (sym same) r in
+            let seen : state_of cl pl t ss st ≡ s = ap (λ u. state_of cl pl u ss st) same ∙ is in
+            record {
+              told = sym (ap (first_entry s) none);
+              numbered = tt;
+              drained = λ _. ap (λ u. queue_at u k) seen ∙ none;
+              kept = kept;
+              seen = seen ∙ sym (ap (λ es. taken k es s) none);
+              gone_kept = kept;
+              gone_seen = seen ∙ sym (ap (λ es. gone k es s) none);
+            }
+        go (Some n) first below free =
+            let apart : IsFree (with_list k (rest_of (list_at q k)) q) n = subst (λ u. IsFree u n) rest free in
+            record {
+              told = taken-is k n inside first below apart;
+              numbered = numbered k n inside first below apart;
+              drained = λ e. absurd (cc);
+              kept = subst (λ u. IsKept cl (held_by (entry_of n) pl) u (unlisted k (entry_of n) cn) ss st) (sym rest) (taken-kept k n inside first below apart);
+              seen = ap (λ u. state_of cl (held_by (entry_of n) pl) u ss st) rest ∙ taken-seen k n inside first below apart;
+              gone_kept = subst (λ u. IsKept (given_up (entry_of n) cl) (place_freed (entry_of n) pl) u (unlisted k (entry_of n) cn) ss (slot_freed (entry_of n) st)) (sym rest)
+                  (gone-kept k n inside first below apart);
+              gone_seen = ap (λ u. state_of (given_up (entry_of n) cl) (place_freed (entry_of n) pl) u ss (slot_freed (entry_of n) st)) rest ∙ gone-seen k n inside first below apart;
+            }
 
   -- a connect was served --------------------------------------------------------------------------------------------------------------------
   module _ (c : ℕ) (small : c < 64) (mine : is_connecting (client cl c) ≡ true) where
@@ -410,27 +445,3 @@ module _ (cl : List Client) (pl : List Place) (q cn ss st : Table) (r : IsKept c
     complete-seen =
         ap (λ ls. record { clients = cl; places = slice_set pl m Free; queues = shown entry_of q.lists; sessions = ss.lists; sent = ls }) (take-map (without m) 64 st.lists)
         ∙ ap (after_complete m) is
-
--- nothing was there to be taken
-pub none-taken : (t : Table) (k : ℕ) → None ≡ first_of (list_at t k) → with_list k (rest_of (list_at t k)) t ≡ t
-none-taken t k e = ap (λ xs. with_list k xs t) (same (list_at t k) e) ∙ ap (λ ls. record t { lists = ls }) (set-get_or t.lists k [])
-  where
-    same : (xs : List ℕ) → None ≡ first_of xs → rest_of xs ≡ xs
-    same [] e = refl
-    same (x ∷ xs) e = absurd (nothing x e)
-
-pub queue-none : (cl : List Client) (pl : List Place) (q cn ss st : Table) (r : IsKept cl pl q cn ss st) (s : State) (is : state_of cl pl q ss st ≡ s) (k : ℕ)
-    → None ≡ first_of (list_at q k) → queue_at s k ≡ []
-queue-none cl pl q cn ss st r s is k e = sym (queue-is cl pl q cn ss st r s is k) ∙ ap (map entry_of) (go (list_at q k) e)
-  where
-    go : (xs : List ℕ) → None ≡ first_of xs → xs ≡ []
-    go [] e = refl
-    go (x ∷ xs) e = absurd (nothing x e)
-
-pub sessions-none : (cl : List Client) (pl : List Place) (q cn ss st : Table) (s : State) (is : state_of cl pl q ss st ≡ s) (k : ℕ)
-    → None ≡ first_of (list_at ss k) → sessions_at s k ≡ []
-sessions-none cl pl q cn ss st s is k e = sym (ap (λ t. sessions_at t k) is) ∙ go (list_at ss k) e
-  where
-    go : (xs : List ℕ) → None ≡ first_of xs → xs ≡ []
-    go [] e = refl
-    go (x ∷ xs) e = absurd (nothing x e)

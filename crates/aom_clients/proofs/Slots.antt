@@ -1,7 +1,8 @@
 -- The lists of messages once a client left its server, or its server went.
-use Rattle.std.proofs.Common.{◌≡◌, ◌≢◌, ◌<◌, ◌≤◌, ◌+◌, ◌⊎◌, ◌==◌, ◌++◌, ℕ, true, List, [], length, refl, sym, ap, ◌∙◌, subst, inl, inr, arith}
+use Rattle.std.proofs.Common.{◌≡◌, ◌≢◌, ◌<◌, ◌≤◌, ◌+◌, ◌⊎◌, ◌++◌, ℕ, true, List, [], length, sym, ap, ◌∙◌, subst, inl, inr, arith}
 use Rattle.std.specs.Prelude.{map}
-use Rattle.std.proofs.lemmas.Bool.{cases_eq, eq-eqb, ne_eqb, eqb-true, cond-true, cond-false}
+use Rattle.std.proofs.lemmas.Bool.{cases_eq}
+use Rattle.std.proofs.lemmas.Bool.Decides.{nat_tests}
 use Rattle.std.proofs.lemmas.List.{length-set, get_or-set_same, get_or-set_other}
 use Rattle.std.proofs.Math.ListN.{get_or-map}
 use Rattle.aom_queues.specs.Lists.{Table, IsIn, list_at, with_list}
@@ -17,100 +18,19 @@ use Rattle.aom_clients.proofs.Plain.{false-true}
 
 -- what another client's message is, it stays
 left-other : (c d : ℕ) (p : Place) → d ≢ c → is_out_of d p ≡ true → left_place c p ≡ p
-left-other c d Free other e = refl
-left-other c d (Queued f) other e = cond-false (f == c) Free (Queued f) (ne_eqb f c (λ same. other (sym (eqb-true f d e) ∙ same)))
-left-other c d (Held f) other e = cond-false (f == c) (Discarded f) (Held f) (ne_eqb f c (λ same. other (sym (eqb-true f d e) ∙ same)))
-left-other c d (Discarded f) other e = refl
+left-other c d p other e = grind (arith, nat_tests)
 
 held-out : (d : ℕ) (p : Place) → is_held_of d p ≡ true → is_out_of d p ≡ true
-held-out d Free e = e
-held-out d (Queued f) e = absurd (false-true e)
-held-out d (Held f) e = e
-held-out d (Discarded f) e = e
+held-out d p e = grind (arith, nat_tests)
 
 pub left-queued : (c d : ℕ) (p : Place) → left_place c p ≡ Queued d → (p ≡ Queued d) × (d ≢ c)
-left-queued c d Free e = absurd (cc)
-left-queued c d (Queued f) e = go (cases_eq f c)
-  where
-    go : (f ≡ c) ⊎ (f ≢ c) → (Queued f ≡ Queued d) × (d ≢ c)
-    go (inl same) = absurd (gone (sym (cond-true (f == c) Free (Queued f) (eq-eqb f c same)) ∙ e))
-      where
-        gone : Free ≡ Queued d → ⊥
-        gone e = cc
-    go (inr other) = (is, λ h. other (mine is ∙ h))
-      where
-        is : Queued f ≡ Queued d
-        is = sym (cond-false (f == c) Free (Queued f) (ne_eqb f c other)) ∙ e
-
-        mine : Queued f ≡ Queued d → f ≡ d
-        mine e = cc
-left-queued c d (Held f) e = absurd (go (cases_eq f c))
-  where
-    no_held : Held f ≡ Queued d → ⊥
-    no_held e = cc
-
-    no_discarded : Discarded f ≡ Queued d → ⊥
-    no_discarded e = cc
-
-    go : (f ≡ c) ⊎ (f ≢ c) → ⊥
-    go (inl same) = no_discarded (sym (cond-true (f == c) (Discarded f) (Held f) (eq-eqb f c same)) ∙ e)
-    go (inr other) = no_held (sym (cond-false (f == c) (Discarded f) (Held f) (ne_eqb f c other)) ∙ e)
-left-queued c d (Discarded f) e = absurd (cc)
+left-queued c d p e = grind (arith, nat_tests)
 
 pub left-held : (c d : ℕ) (p : Place) → left_place c p ≡ Held d → (p ≡ Held d) × (d ≢ c)
-left-held c d Free e = absurd (cc)
-left-held c d (Queued f) e = absurd (go (cases_eq f c))
-  where
-    no_free : Free ≡ Held d → ⊥
-    no_free e = cc
-
-    no_queued : Queued f ≡ Held d → ⊥
-    no_queued e = cc
-
-    go : (f ≡ c) ⊎ (f ≢ c) → ⊥
-    go (inl same) = no_free (sym (cond-true (f == c) Free (Queued f) (eq-eqb f c same)) ∙ e)
-    go (inr other) = no_queued (sym (cond-false (f == c) Free (Queued f) (ne_eqb f c other)) ∙ e)
-left-held c d (Held f) e = go (cases_eq f c)
-  where
-    go : (f ≡ c) ⊎ (f ≢ c) → (Held f ≡ Held d) × (d ≢ c)
-    go (inl same) = absurd (gone (sym (cond-true (f == c) (Discarded f) (Held f) (eq-eqb f c same)) ∙ e))
-      where
-        gone : Discarded f ≡ Held d → ⊥
-        gone e = cc
-    go (inr other) = (is, λ h. other (mine is ∙ h))
-      where
-        is : Held f ≡ Held d
-        is = sym (cond-false (f == c) (Discarded f) (Held f) (ne_eqb f c other)) ∙ e
-
-        mine : Held f ≡ Held d → f ≡ d
-        mine e = cc
-left-held c d (Discarded f) e = absurd (cc)
+left-held c d p e = grind (arith, nat_tests)
 
 left-discarded : (c d : ℕ) (p : Place) → left_place c p ≡ Discarded d → (p ≡ Discarded d) ⊎ (d ≡ c)
-left-discarded c d Free e = absurd (cc)
-left-discarded c d (Queued f) e = absurd (go (cases_eq f c))
-  where
-    no_free : Free ≡ Discarded d → ⊥
-    no_free e = cc
-
-    no_queued : Queued f ≡ Discarded d → ⊥
-    no_queued e = cc
-
-    go : (f ≡ c) ⊎ (f ≢ c) → ⊥
-    go (inl same) = no_free (sym (cond-true (f == c) Free (Queued f) (eq-eqb f c same)) ∙ e)
-    go (inr other) = no_queued (sym (cond-false (f == c) Free (Queued f) (ne_eqb f c other)) ∙ e)
-left-discarded c d (Held f) e = go (cases_eq f c)
-  where
-    no_held : Held f ≡ Discarded d → ⊥
-    no_held e = cc
-
-    mine : Discarded f ≡ Discarded d → f ≡ d
-    mine e = cc
-
-    go : (f ≡ c) ⊎ (f ≢ c) → (Held f ≡ Discarded d) ⊎ (d ≡ c)
-    go (inl same) = inr (sym (mine (sym (cond-true (f == c) (Discarded f) (Held f) (eq-eqb f c same)) ∙ e)) ∙ same)
-    go (inr other) = absurd (no_held (sym (cond-false (f == c) (Discarded f) (Held f) (ne_eqb f c other)) ∙ e))
-left-discarded c d (Discarded f) e = inl e
+left-discarded c d p e = grind (arith, nat_tests)
 
 pub left-at : (c : ℕ) (pl : List Place) (m : ℕ) → place (map (left_place c) pl) m ≡ left_place c (place pl m)
 left-at c pl m = get_or-map (left_place c) pl m Free

@@ -1,5 +1,5 @@
 -- What an entry that is taken, and a client that leaves, make of each part of the state.
-use Rattle.std.specs.Prelude.{◌≡◌, ◌<◌, ◌+◌, ◌⊎◌, ◌++◌, ℕ, Bool, true, false, List, [], ◌∷◌, Some, length, map, slice_index_or, slice_set}
+use Rattle.std.specs.Prelude.{◌≡◌, ◌<◌, ◌+◌, ◌⊎◌, ◌++◌, ℕ, Bool, true, false, List, [], ◌∷◌, Option, None, Some, length, map, slice_index_or, slice_set}
 use Rattle.aom_queues.specs.Lists.{Table, IsFree, list_at, with_list, without, rest_of}
 use Rattle.aom_clients.specs.declared.client.Client.{Client}
 use Rattle.aom_clients.specs.declared.client.Client.TheVariants.{Unconnected, Connecting, Open, Closing, Gone, Dead, Dying}
@@ -7,7 +7,9 @@ use Rattle.aom_clients.specs.declared.place.Place.{Place}
 use Rattle.aom_clients.specs.declared.place.Place.TheVariants.{Free}
 use Rattle.aom_clients.specs.declared.entry.Entry.{Entry}
 use Rattle.aom_clients.specs.declared.entry.Entry.TheVariants.{Connect, Message, Close}
+use Rattle.aom_clients.specs.declared.entry.Taken.{Taken}
 use Rattle.aom_clients.specs.Table.{row, sender, held_place}
+use Rattle.aom_clients.specs.Nodes.{entry_of}
 
 -- the client of a connect is below that number
 abbrev pub ConnectBelow : ℕ → Entry → Type 0
@@ -19,6 +21,25 @@ abbrev pub client_in : List Place → Entry → ℕ
 client_in places (Connect c) = c
 client_in places (Message m) = sender (slice_index_or places m Free)
 client_in places (Close c) = c
+
+-- what is taken with a node that stood first in a queue
+abbrev pub taken_of : List Place → Option ℕ → Option Taken
+taken_of places None = None
+taken_of places (Some n) = Some (record { entry = entry_of n; client = client_in places (entry_of n) })
+
+-- what the entry that was taken makes of a part; nothing is made of it where none was
+abbrev pub if_taken : {X : Type 0} → (Entry → X → X) → Option Taken → X → X
+if_taken f None x = x
+if_taken f (Some t) x = f t.entry x
+
+-- the place of the message that was taken
+abbrev message_at : Entry → Option ℕ
+message_at (Message m) = Some m
+message_at other = None
+
+abbrev pub message_in : Option Taken → Option ℕ
+message_in None = None
+message_in (Some t) = message_at t.entry
 
 -- a connect that left its queue is listed no more
 abbrev pub unlisted : ℕ → Entry → Table → Table

@@ -2,14 +2,15 @@
 ghost use Rattle.aom_queues.specs.Lists.{IsIn, IsOnce};
 ghost use Rattle.std.specs.Prelude.{ℕ, ◌≡◌, ◌<◌, ◌≤◌, ◌++◌, ◌∷◌, [], true, false, Some, None, IfOk, IfSome, IsSome, IsNone, All, length, replicate, is_some};
 ghost use Rattle.aom_clients.specs.Table.{row, completion, session_of, server_of};
+ghost use Rattle.aom_clients.specs.declared.entry.Entry.{Entry};
 ghost use Rattle.aom_clients.specs.Clients.{at_first, IsNumbered, client_at, place_at, queue_at, sessions_at, sent_at, with_client, with_place, with_sent, queued, answer, has_room, connect_refusal, after_connect, has_slot, send_refusal, after_send, leaving, after_close, after_die, freed, first_entry, after_next, opened, after_connected, after_release, parted, after_closed, after_complete, after_next_gone, after_session_gone, first_client, client_after, first_there};
 ghost use Rattle.aom_clients.specs.Nodes.{is_open_at, named_by};
 ghost use Rattle.aom_clients.specs.Parts.{IsLeft, is_connecting, is_ending, is_apart};
 
 use crate::entry::{CLIENTS, PLACES, close_node, connect_node};
-use crate::parts::{client_of, free_place, free_slot, give_up, hold, queue_close, unlist};
-use crate::withdrawal::{SLOTS, discard, release, withdraw};
-use crate::{Client, Completion, Entry, Place, Refusal, Server, Taken};
+use crate::parts::{free_place, free_slot, give_up, hold, queue_close, take};
+use crate::withdrawal::{SLOTS, release, withdraw_all};
+use crate::{Client, Completion, Place, Refusal, Server, Taken};
 use aom_queues::Lists;
 use arrayvec::ArrayVec;
 use std::alloc::{AllocError, Global};
@@ -310,11 +311,8 @@ impl Clients {
         ensures below { All (λ m. m < 1024) result.items }
     {
         let was = self.client(client);
-        let list = client as u16;
-        let freed = withdraw(&mut self.sent, &mut self.queues, &mut self.places, list);
-        discard(&mut self.sent, &mut self.places, CLIENTS + list);
-        self.queues.remove(connect_node(client));
-        self.connects.remove(list);
+        let freed = withdraw_all(&mut self.sent, &mut self.queues, &mut self.places, client);
+        self.connects.remove(client as u16);
         queue_close(&mut self.queues, was, client);
         self.clients[client as usize] = next;
         freed
@@ -327,12 +325,9 @@ impl Clients {
         ensures after { self.new ≡ after_next server self.old }
         ensures below { IfSome result (λ t. IsNumbered t) }
     {
-        let node = self.queues.take_first(server)?;
-        let entry = Entry::of_node(node);
-        let client = client_of(&self.places, entry);
-        unlist(&mut self.connects, server, entry);
-        hold(&mut self.places, entry);
-        Some(Taken { entry, client })
+        let taken = take(&mut self.queues, &mut self.connects, &self.places, server);
+        hold(&mut self.places, taken);
+        taken
     }
 
     /// A client's connect was served: it has a session, told by its cell, or none. Nothing comes of it where the client gave up its connect.
@@ -430,14 +425,11 @@ impl Clients {
         ensures below { IfSome result (λ t. IsNumbered t) }
         ensures empty { IsNone result → queue_at self.new server ≡ [] }
     {
-        let node = self.queues.take_first(server)?;
-        let entry = Entry::of_node(node);
-        let client = client_of(&self.places, entry);
-        unlist(&mut self.connects, server, entry);
-        give_up(&mut self.clients, entry);
-        free_slot(&mut self.sent, entry);
-        free_place(&mut self.places, entry);
-        Some(Taken { entry, client })
+        let taken = take(&mut self.queues, &mut self.connects, &self.places, server);
+        give_up(&mut self.clients, taken);
+        free_slot(&mut self.sent, taken);
+        free_place(&mut self.places, taken);
+        taken
     }
 
     /// Takes the first session of a server that goes, whose queue is empty by then, and answers its client. The caller asks until there is

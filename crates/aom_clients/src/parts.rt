@@ -1,14 +1,39 @@
 //! What an entry that is taken, and a client that leaves, make of each part of the state.
-ghost use Rattle.std.specs.Prelude.{◌≡◌, ◌<◌, length};
+ghost use Rattle.std.specs.Prelude.{◌≡◌, ◌<◌, IfSome, length};
+ghost use Rattle.aom_queues.specs.Lists.{IsFree, list_at, with_list, first_of, rest_of};
 ghost use Rattle.aom_clients.specs.Clients.{MessageBelow};
-ghost use Rattle.aom_clients.specs.Parts.{ConnectBelow, CanClose, client_in, unlisted, held_by, given_up, slot_freed, place_freed, close_queued};
+ghost use Rattle.aom_clients.specs.Parts.{ConnectBelow, CanClose, client_in, taken_of, if_taken, message_in, unlisted, held_by, given_up, slot_freed, place_freed, close_queued};
 
 use crate::entry::close_node;
-use crate::{Client, Entry, Place};
+use crate::{Client, Entry, Place, Taken};
 use aom_queues::Lists;
 
+/// Takes the first entry off a server's queue, with the client that it is of; a connect is listed no more.
+pub fn take(
+    queues: &mut Lists,
+    connects: &mut Lists,
+    places: &[Place],
+    server: u16,
+) -> Option<Taken>
+    requires queue { server < length queues.old.lists }
+    requires list { server < length connects.old.lists }
+    requires nodes { queues.old.nodes ≡ 1152 }
+    requires places { length places.now ≡ 1024 }
+    ensures taken { result ≡ taken_of places.now (first_of (list_at queues.old server)) }
+    ensures rest { queues.new ≡ with_list server (rest_of (list_at queues.old server)) queues.old }
+    ensures listed { connects.new ≡ if_taken (unlisted server) result connects.old }
+    ensures below { IfSome (first_of (list_at queues.old server)) (λ n. n < 1152) }
+    ensures free { IfSome (first_of (list_at queues.old server)) (λ n. IsFree queues.new n) }
+{
+    let node = queues.take_first(server)?;
+    let entry = Entry::of_node(node);
+    let client = client_of(places, entry);
+    unlist(connects, server, entry);
+    Some(Taken { entry, client })
+}
+
 /// The client that an entry is of.
-pub fn client_of(places: &[Place], entry: Entry) -> u8
+fn client_of(places: &[Place], entry: Entry) -> u8
     requires { MessageBelow (length places.now) entry }
     ensures { result ≡ client_in places.now entry }
 {
@@ -19,7 +44,7 @@ pub fn client_of(places: &[Place], entry: Entry) -> u8
 }
 
 /// A connect that left its server's queue is listed no more.
-pub fn unlist(connects: &mut Lists, server: u16, entry: Entry)
+fn unlist(connects: &mut Lists, server: u16, entry: Entry)
     requires { server < length connects.old.lists }
     ensures { connects.new ≡ unlisted server entry connects.old }
 {
@@ -28,41 +53,53 @@ pub fn unlist(connects: &mut Lists, server: u16, entry: Entry)
     }
 }
 
-/// A message that is taken is held.
-pub fn hold(places: &mut [Place], entry: Entry)
-    requires { MessageBelow (length places.old) entry }
-    ensures { places.new ≡ held_by entry places.old }
+/// The place of the message that was taken, if one was.
+fn message_in(taken: Option<Taken>) -> Option<u16>
+    ensures { result ≡ message_in taken }
 {
-    if let Entry::Message { place } = entry {
+    match taken?.entry {
+        Entry::Message { place } => Some(place),
+        _ => None,
+    }
+}
+
+/// A message that is taken is held.
+pub fn hold(places: &mut [Place], taken: Option<Taken>)
+    requires { IfSome taken (λ t. MessageBelow (length places.old) t.entry) }
+    ensures { places.new ≡ if_taken held_by taken places.old }
+{
+    if let Some(place) = message_in(taken) {
         places[place as usize] = places[place as usize].held();
     }
 }
 
 /// A client whose connect went is unconnected.
-pub fn give_up(clients: &mut [Client], entry: Entry)
-    requires { ConnectBelow (length clients.old) entry }
-    ensures { clients.new ≡ given_up entry clients.old }
+pub fn give_up(clients: &mut [Client], taken: Option<Taken>)
+    requires { IfSome taken (λ t. ConnectBelow (length clients.old) t.entry) }
+    ensures { clients.new ≡ if_taken given_up taken clients.old }
 {
-    if let Entry::Connect { client } = entry {
-        clients[client as usize] = Client::Unconnected;
+    if let Some(taken) = taken {
+        if let Entry::Connect { client } = taken.entry {
+            clients[client as usize] = Client::Unconnected;
+        }
     }
 }
 
 /// A message that went holds no slot.
-pub fn free_slot(sent: &mut Lists, entry: Entry)
-    ensures { sent.new ≡ slot_freed entry sent.old }
+pub fn free_slot(sent: &mut Lists, taken: Option<Taken>)
+    ensures { sent.new ≡ if_taken slot_freed taken sent.old }
 {
-    if let Entry::Message { place } = entry {
+    if let Some(place) = message_in(taken) {
         sent.remove(place);
     }
 }
 
 /// A message that went has no place.
-pub fn free_place(places: &mut [Place], entry: Entry)
-    requires { MessageBelow (length places.old) entry }
-    ensures { places.new ≡ place_freed entry places.old }
+pub fn free_place(places: &mut [Place], taken: Option<Taken>)
+    requires { IfSome taken (λ t. MessageBelow (length places.old) t.entry) }
+    ensures { places.new ≡ if_taken place_freed taken places.old }
 {
-    if let Entry::Message { place } = entry {
+    if let Some(place) = message_in(taken) {
         places[place as usize] = Place::Free;
     }
 }

@@ -1,19 +1,43 @@
 //! The messages of a client that closes or dies, or whose server goes: taken off their lists one after another.
-ghost use Rattle.std.specs.Prelude.{◌≡◌, ◌<◌, ◌≤◌, ◌+◌, ◌++◌, [], ℕ, length, filter, slice_index_or};
-ghost use Rattle.aom_queues.specs.Lists.{IsIn, IsSound, list_at, with_list};
+ghost use Rattle.std.specs.Prelude.{◌≡◌, ◌<◌, ◌≤◌, ◌+◌, ◌++◌, [], ℕ, length, map, filter, slice_index_or};
+ghost use Rattle.aom_queues.specs.Lists.{IsIn, IsSound, list_at, with_list, without};
 ghost use Rattle.aom_clients.specs.Table.{is_queued};
 ghost use Rattle.aom_clients.specs.Withdrawals.{without_each, left_each, noted};
 
 use crate::Place;
-use crate::entry::CLIENTS;
+use crate::entry::{CLIENTS, connect_node};
 use aom_queues::Lists;
 use arrayvec::ArrayVec;
 
 /// The most slots of a client.
 pub const SLOTS: usize = 64;
 
+/// Withdraws what a client sent: its messages, of this session and of earlier ones, and its connect.
+pub fn withdraw_all(
+    sent: &mut Lists,
+    queues: &mut Lists,
+    places: &mut [Place],
+    client: u8,
+) -> ArrayVec<u16, SLOTS>
+    requires client { client < 64 }
+    requires lists { length sent.old.lists ≡ 128 }
+    requires within { (m : ℕ) → IsIn m (list_at sent.old client) → m < length places.old }
+    requires past { (m : ℕ) → IsIn m (list_at sent.old (64 + client)) → m < length places.old }
+    requires few { length (list_at sent.old client) ≤ 64 }
+    ensures sent { sent.new ≡ with_list (64 + client) [] (with_list client [] sent.old) }
+    ensures queues { queues.new ≡ record queues.old { lists = map (without (1024 + client)) (without_each (list_at sent.old client) queues.old.lists) } }
+    ensures places { places.new ≡ left_each (list_at (with_list client [] sent.old) (64 + client)) (left_each (list_at sent.old client) places.old) }
+    ensures freed { result.items ≡ filter (λ m. is_queued (slice_index_or places.old m Place.Free)) (list_at sent.old client) }
+{
+    let list = client as u16;
+    let freed = withdraw(sent, queues, places, list);
+    discard(sent, places, CLIENTS + list);
+    queues.remove(connect_node(client));
+    freed
+}
+
 /// Withdraws the messages of a list: those that wait leave their queue and are answered, those that are held are discarded.
-pub fn withdraw(
+fn withdraw(
     sent: &mut Lists,
     queues: &mut Lists,
     places: &mut [Place],
@@ -49,7 +73,7 @@ fn note(freed: &mut ArrayVec<u16, SLOTS>, place: u16, was: Place)
 }
 
 /// Discards the messages of a list, of which none waits in a queue.
-pub fn discard(sent: &mut Lists, places: &mut [Place], list: u16)
+fn discard(sent: &mut Lists, places: &mut [Place], list: u16)
     requires list { list < length sent.old.lists }
     requires within { (m : ℕ) → IsIn m (list_at sent.old list) → m < length places.old }
     ensures sent { sent.new ≡ with_list list [] sent.old }

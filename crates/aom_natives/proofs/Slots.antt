@@ -49,6 +49,13 @@ module _ {L : Type 0} (slots : List (Option L)) (n : ℕ) where
   pub living-is : (s : Option L) (l : L) → IsSome (living_at slots n) → s ≡ slice_index_or slots n s → s ≡ Some l → living_at slots n ≡ Some l
   living-is s l alive at is = get_or_default slots n None s (within alive) ∙ sym at ∙ is
 
+-- the slots after a call at the living native of the slot n; R is what became of its ids
+pub record IsCalled {L : Type 0} (kept owed : L → List ℕ) (old new : List (Option L)) (n : ℕ) (R : List ℕ → List ℕ → Type 0) : Type 0 where
+  pub agree : AllAgree kept owed new
+  pub alive : IsSome (living_at new n)
+  pub others : KeepsOthers old new n
+  pub ids : R (ids_at kept old n) (ids_at kept new n)
+
 -- a call at the living native l of the slot n, which an index gives as s; m is the native after the call
 module _ {L : Type 0} (slots : List (Option L)) (n : ℕ) (s : Option L) (l : L) (alive : IsSome (living_at slots n)) (at : s ≡ slice_index_or slots n s) (is : s ≡ Some l) where
   -- what is known of the slot is known of the native, and the other way round
@@ -69,10 +76,19 @@ module _ {L : Type 0} (slots : List (Option L)) (n : ℕ) (s : Option L) (l : L)
       (subst (λ f. P l f word answer) (to_z-of_z w32 function fits_function)
       (subst (λ w. P l (to_z w32 (of_z w32 function)) w answer) (to_z-of_z w32 word fits_word) may))
 
-  pub alive-after : (m : L) → IsSome (living_at (slice_set slots n (Some m)) n)
-  alive-after m = subst (λ o. IsSome o) (sym (written slots n (Some m) (within slots n alive))) refl
+  -- what is kept of the native agrees as the call begins, and, where it does once more, all is as it should be after the call
+  pub living-agrees : (kept owed : L → List ℕ) → AllAgree kept owed slots → Agrees (kept l) (owed l)
+  living-agrees kept owed agree = agree-at kept owed slots agree n l (living-is slots n s l alive at is)
 
-  -- what a call makes of the native's ids, it makes of the slot's
-  pub ids-after : (kept : L → List ℕ) (m : L) (R : List ℕ → List ℕ → Type 0) → R (kept l) (kept m) → R (ids_at kept slots n) (ids_at kept (slice_set slots n (Some m)) n)
-  ids-after kept m R made = subst (λ ids. R (ids_at kept slots n) ids) (sym (ap (ids_of kept) (written slots n (Some m) (within slots n alive))))
-      (subst (λ ids. R ids (kept m)) (sym (ap (ids_of kept) (living-is slots n s l alive at is))) made)
+  -- what the call makes of the native's ids, R, it makes of the slot's
+  pub called : (kept owed : L → List ℕ) → AllAgree kept owed slots → (m : L) → Agrees (kept m) (owed m) → (R : List ℕ → List ℕ → Type 0) → R (kept l) (kept m)
+      → IsCalled kept owed slots (slice_set slots n (Some m)) n R
+  called kept owed agree m here R made = record {
+    agree = agree-set kept owed slots agree n (Some m) (within slots n alive) here;
+    alive = subst (λ o. IsSome o) (sym now) refl;
+    others = keeps-set slots n (Some m);
+    ids = subst (λ ids. R (ids_at kept slots n) ids) (sym (ap (ids_of kept) now)) (subst (λ ids. R ids (kept m)) (sym (ap (ids_of kept) (living-is slots n s l alive at is))) made);
+  }
+    where
+      now : living_at (slice_set slots n (Some m)) n ≡ Some m
+      now = written slots n (Some m) (within slots n alive)

@@ -24,13 +24,7 @@ pub record EachTask (P : Held_task → Task → Type 0) : Type 0 where
   pub ends : (x : Held_dispatch) (d : Dispatch) → SameDispatch x d → P (Ends x) (Dispatched d)
 
 pub by_task : (P : Held_task → Task → Type 0) → EachTask P → (m : Held_task) (u : Task) → SameTask m u → P m u
-by_task P each (Runs_frame f) (Run fr) same = each.runs f fr same
-by_task P each Is_trap Trapped same = each.trapped
-by_task P each (Destroys x) Destroy same = each.destroys x same
-by_task P each Closes Closing same = each.closes
-by_task P each (Unwinds code) (Unwind c) same = each.unwinds code c same
-by_task P each (Ends x) (Dispatched d) same = each.ends x d same
-by_task P each _ _ same = absurd same
+by_task x each y z same = grind arith
 
 pub by_tasks : (P : List Held_task → List Task → Type 0) → P [] [] → ((m : Held_task) (u : Task) (ms : List Held_task) (us : List Task) → SameTask m u → SameTasks ms us → P ms us → P (m ∷ ms) (u ∷ us)) → (ms : List Held_task) (us : List Task) → SameTasks ms us → P ms us
 by_tasks P none more [] [] same = none
@@ -39,10 +33,7 @@ by_tasks P none more _ _ same = absurd same
 
 -- an item of the cleanup stack and the one that it stands for
 pub by_item : (P : Held_item → Item → Type 0) → ((n : ℕ) → P (Holds_object n) An_object) → ((m n k : ℕ) (w : ℤ) → m ≡ k → cast_signed w32 n ≡ w → P (Holds_operation m n) (An_operation k w)) → P Is_mark A_mark → (i : Held_item) (j : Item) → SameItem i j → P i j
-by_item P object operation mark (Holds_object n) An_object same = object n
-by_item P object operation mark (Holds_operation m n) (An_operation k w) same = operation m n k w same.0 same.1
-by_item P object operation mark Is_mark A_mark same = mark
-by_item P object operation mark _ _ same = absurd same
+by_item x object operation mark y z same = grind arith
 
 pub by_items : (P : List Held_item → List Item → Type 0) → P [] [] → ((i : Held_item) (j : Item) (is : List Held_item) (js : List Item) → SameItem i j → SameItems is js → P is js → P (i ∷ is) (j ∷ js)) → (is : List Held_item) (js : List Item) → SameItems is js → P is js
 by_items P none more [] [] same = none

@@ -1,6 +1,6 @@
 -- The requests of the enlisted objects, where cells move, change, come and go.
 use Rattle.std.specs.Prelude.{is_some}
-use Rattle.std.proofs.Common.{ap, Bool, false, inl, inr, List, None, Option, refl, Some, subst, suc, sym, true, ℕ, ℤ, ◌==◌, ◌∙◌, ◌∷◌, ◌≡◌, [], cond, pos}
+use Rattle.std.proofs.Common.{ap, Bool, false, inl, inr, List, None, Option, refl, Some, subst, suc, sym, true, ℕ, ℤ, ◌==◌, ◌∙◌, ◌∷◌, ◌≡◌, [], cond, pos, arith}
 use Rattle.std.proofs.lemmas.Bool.{eqb-true, false≢true}
 use Rattle.aom_image.specs.Image.{Image}
 use Rattle.aom_image.specs.declared.method.Argument.{Argument}
@@ -10,7 +10,6 @@ use Rattle.aom_sound.proofs.Counts.{count_asked}
 use Rattle.aom_sound.specs.Calls.{passed_cells}
 use Rattle.aom_sound.specs.Places.{Cell, Object, Place, Register, Request, Service, Tidy, held, moved, named, requested, service_of, set_service, set_word_field, unserved, with_new, without, Elsewhere, Root, set_request, word_field}
 use Rattle.aom_sound.specs.Clients.{each_unslotted}
-use Rattle.aom_sound.specs.Servers.{has_more, is_server}
 use Rattle.aom_sound.specs.State.{AtRoot, Frame, Home, Inside, State, Static, Task}
 use Rattle.aom_sound.specs.Words.{here, stored}
 use Rattle.aom_requests.specs.Requests.{request_at}
@@ -18,11 +17,12 @@ use Rattle.aom_sound.proofs.Maps.{named_moved, requested_moved, requested_withou
 use Rattle.aom_sound.proofs.Services.{named_served, requested_served, service_here, service_moved, service_stored, service_there}
 use Rattle.aom_sound.proofs.Unslotting.{each_unslotted_alike, each_unslotted_requests}
 use Rattle.aom_active.specs.Agrees.{Active, Tells, queue_in, queued}
-use Rattle.aom_active.specs.Meanings.{Asks, Removes, asked_anew, queued_anew}
-use Rattle.aom_active.proofs.Asking.{asked_gone, asked_new, asked_written, queued_gone, queued_same, queued_served}
+use Rattle.aom_active.specs.Meanings.{Removes, asked_anew}
+use Rattle.aom_active.proofs.Asking.{asked_gone, asked_new, asked_written, queued_gone, queued_same}
 use Rattle.aom_active.proofs.Telling.{standing_follows}
 use Rattle.aom_parts.specs.Agrees.{SameRequests, SameCells, thing_of}
 use Rattle.aom_parts.specs.Cells.{Delists}
+use Rattle.aom_parts.proofs.Cells.{cells_as}
 use Rattle.aom_parts.proofs.Serving.{absent_served}
 use Rattle.aom_shape.specs.Tables.{at}
 use Rattle.aom_cells.specs.Heap.{Heap}
@@ -84,8 +84,7 @@ module _ (p : Image) (fr : Frame) (ts : List Task) (s : State) (a : Active) wher
 
 -- a cell that goes is enlisted no more
 no_request : (r : Option Request) (waits : Option Bool) → Tells None r waits → r ≡ None
-no_request None waits tells = refl
-no_request (Some r) waits tells = absurd tells
+no_request x waits tells = grind arith
 
 pub requests_gone : (p : Image) (old new : Active) (cs : List Cell) (g : Place) (o : Object) → Tidy cs → held cs g ≡ Some o → Delists old new o.name → SameRequests p old cs → SameRequests p new (without g cs)
 requests_gone p old new cs g o tidy holds off h = elim off [ inl none ↦ unlisted none.0 none.1 | inr removes ↦ delisted removes ]
@@ -120,13 +119,5 @@ words_asked (c ∷ cs) n r k w = ap (λ x. cond (c.object.name == k) (at (pos 0)
 
 -- so the same cells live
 pub cells_asked : (p : Image) (h : Heap) (cs : List Cell) (n : ℕ) (r : Option Request) → SameCells p h cs → SameCells p h (set_request n r cs)
-cells_asked p h cs n r same = record {
-  things = λ k. same.things k ∙ ap thing_of (sym ((rerequested_alike cs (Inside (record { name = n; thing = Message }) (Elsewhere Root)) r).named_so k));
-  words = λ k w small. same.words k w small ∙ sym (words_asked cs n r k w);
-  count = same.count ∙ sym (count_asked cs n r);
-  limit = same.limit;
-  wide = same.wide;
-  classes = same.classes;
-  null_is_none = same.null_is_none;
-  below = same.below;
-}
+cells_asked p h cs n r =
+    cells_as p h cs (set_request n r cs) (λ k. ap thing_of ((rerequested_alike cs (Inside (record { name = n; thing = Message }) (Elsewhere Root)) r).named_so k)) (λ k w small. words_asked cs n r k w) (count_asked cs n r)

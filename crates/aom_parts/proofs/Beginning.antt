@@ -1,7 +1,7 @@
 -- What the machine keeps of clients and servers as it begins: nobody asked for anything, and there is no message.
-use Rattle.std.proofs.Common.{List, None, [], ap, arith, length, refl, subst, sym, ℕ, ◌∙◌, ◌≡◌}
+use Rattle.std.proofs.Common.{List, [], ap, arith, length, refl, subst, sym, ℕ, ◌∙◌, ◌≡◌}
 use Rattle.std.proofs.lemmas.List.{length-replicate}
-use Rattle.std.specs.Prelude.{AllPairs, map, replicate, ◌<◌}
+use Rattle.std.specs.Prelude.{AllPairs, map, ◌<◌}
 use Rattle.aom_clients.specs.Clients as kept
 use Rattle.aom_clients.specs.Clients.{State, at_first, client_at, queue_at}
 use Rattle.aom_clients.specs.Table.{is_queued}

@@ -17,6 +17,7 @@ use Rattle.aom_sound.proofs.Sifted.{cell_in, cell_in_sifted, cell_lives, cell_of
 use Rattle.aom_sound.specs.Places.{Cell, Object, Place, Service, Tidy, count_cells, held, in_session, named, requested, service_of, set_service, word_field}
 use Rattle.aom_sound.specs.Servers.{is_queue}
 use Rattle.aom_parts.proofs.Asking.{requests_as}
+use Rattle.aom_parts.proofs.Cells.{cells_as}
 use Rattle.aom_parts.proofs.Forgetting.{words_cell, words_in}
 use Rattle.aom_parts.proofs.Listing.{listed_same}
 use Rattle.aom_parts.proofs.Vanishing.{AllCells, each_cell}
@@ -62,20 +63,11 @@ beside_then cs ds es a b = record {
 -- ---- what stands beside it
 
 pub cells_beside : (p : Image) (h : Heap) (cs ds : List Cell) → Beside cs ds → SameCells p h cs → SameCells p h ds
-cells_beside p h cs ds b same = record {
-  things = λ n. same.things n ∙ things n (b.names n);
-  words = λ n w small. same.words n w small ∙ sym (b.words n w small);
-  count = same.count ∙ sym b.count;
-  limit = same.limit;
-  wide = same.wide;
-  classes = same.classes;
-  null_is_none = same.null_is_none;
-  below = same.below;
-}
+cells_beside p h cs ds b = cells_as p h cs ds (λ n. things n (b.names n)) b.words b.count
   where
-    things : (n : ℕ) → NamedBeside cs ds n → thing_of (named cs n) ≡ thing_of (named ds n)
-    things n (inl e) = ap thing_of (sym e)
-    things n (inr e) = e.1 ∙ sym e.0
+    things : (n : ℕ) → NamedBeside cs ds n → thing_of (named ds n) ≡ thing_of (named cs n)
+    things n (inl e) = ap thing_of e
+    things n (inr e) = e.0 ∙ sym e.1
 
 pub natives_beside : (p : Image) (w : Standing) (killed : List ℕ) (cs ds : List Cell) → p.header.cells ≤ 4096 → Beside cs ds → SameNatives p w cs killed → SameNatives p w ds killed
 natives_beside p w killed cs ds few b same = record { sessions = λ n. sessions n (b.sessions n); dead = same.dead; limit = same.limit }

@@ -1,6 +1,6 @@
 -- What a write of one field or of one word of a cell does to the places and to the cells.
 use Rattle.std.proofs.lemmas.Option.{none-some}
-use Rattle.std.proofs.Common.{◌≡◌, ℕ, ℤ, ◌<◌, true, false, cond, ◌==◌, ◌&&◌, length, List, Option, Some, None, slice_set, refl, sym, ap, ◌∙◌, subst}
+use Rattle.std.proofs.Common.{◌≡◌, ℕ, ℤ, ◌<◌, true, false, cond, ◌==◌, ◌&&◌, length, List, Option, Some, None, slice_set, refl, sym, ap, ◌∙◌, subst, arith}
 use Rattle.aom_image.proofs.Given.{some_given}
 use Rattle.std.proofs.lemmas.Bool.{eq-eqb, eqb-true, false≢true}
 use Rattle.std.proofs.lemmas.List.{get_or-set_other, length-set}
@@ -45,16 +45,6 @@ pub field_written : (us : List Held_task) (h h' : Heap) (es : List Item) (others
 field_written us h h' es others n f x puts (Field k g) = field_read h h' n f x puts k g
 field_written us h h' es others n f x puts _ = refl
 
-pub root_written : (us : List Held_task) (h : Heap) (es : List Item) (others : Others) (x : ℕ) (r : Place) → value_in us h es (record others { root = x }) r ≡ changed (value_in us h es others) (Elsewhere Root) x r
-root_written us h es others x (Elsewhere Root) = refl
-root_written us h es others x (Elsewhere (Session s c)) = refl
-root_written us h es others x (Elsewhere In_service) = refl
-root_written us h es others x (Elsewhere (Queued s m)) = refl
-root_written us h es others x (Register d i) = refl
-root_written us h es others x (Entry k) = refl
-root_written us h es others x (Field n g) = refl
-root_written us h es others x (Going k) = refl
-
 -- so is it of any place that no task, no entry and no cell has
 pub elsewhere_written : (us : List Held_task) (h : Heap) (es : List Item) (others then : Others) (q : Other) (x : ℕ) → ((o : Other) → other_in then o ≡ changed (value_in us h es others) (Elsewhere q) x (Elsewhere o))
     → (r : Place) → value_in us h es then r ≡ changed (value_in us h es others) (Elsewhere q) x r
@@ -63,6 +53,12 @@ elsewhere_written us h es others then q x same (Register d i) = refl
 elsewhere_written us h es others then q x same (Entry k) = refl
 elsewhere_written us h es others then q x same (Field n g) = refl
 elsewhere_written us h es others then q x same (Going k) = refl
+
+pub root_written : (us : List Held_task) (h : Heap) (es : List Item) (others : Others) (x : ℕ) (r : Place) → value_in us h es (record others { root = x }) r ≡ changed (value_in us h es others) (Elsewhere Root) x r
+root_written us h es others x r = elsewhere_written us h es others (record others { root = x }) Root x other r
+  where
+    other : (o : Other) → other_in (record others { root = x }) o ≡ changed (value_in us h es others) (Elsewhere Root) x (Elsewhere o)
+    other o = grind arith
 
 pub served_written : (us : List Held_task) (h : Heap) (es : List Item) (others : Others) (x : ℕ) (r : Place) → value_in us h es (record others { served = x }) r ≡ changed (value_in us h es others) (Elsewhere In_service) x r
 served_written us h es others x r = elsewhere_written us h es others (record others { served = x }) In_service x other r

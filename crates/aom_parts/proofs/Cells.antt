@@ -25,26 +25,27 @@ is_an_object p h cs n o same lives there = go (cell_at h n) there (same.things n
     go : (c : Option Held_cell) → IsSome c → thing_in c ≡ cond (is_object o.thing) (Some o.thing) None → (b : Bool) → is_object o.thing ≡ b → b ≡ true
     go c some e true object = refl
     go None some e false object = absurd (false≢true some)
-    go (Some c) some e false object = absurd (some≢none (e ∙ ap (λ b. cond b (Some o.thing) None) object))
-      where
-        some≢none : {A : Type 0} {x : A} → Some x ≡ None → ⊥
-        some≢none clash = cc
+    go (Some c) some e false object = let other = e ∙ ap (λ b. cond b (Some o.thing) None) object in cc
 
 -- a cell's number is below all messages'
 pub cell_small : (p : Image) (h : Heap) (cs : List Cell) → SameCells p h cs → p.header.cells ≤ 4096 → (n : ℕ) (c : Held_cell) → cell_at h n ≡ Some c → n < 4096
 cell_small p h cs same few n c there = let low = same.below n c there in let limit = same.limit in omega (arith, low, limit, few)
 
-pub cells_moved : (p : Image) (h : Heap) (cs : List Cell) (from to : Place) → SameCells p h cs → SameCells p h (moved from to cs)
-cells_moved p h cs from to same = record {
-  things = λ n. same.things n ∙ ap thing_of (sym (named_moved cs from to n));
-  words = λ n w small. same.words n w small ∙ sym (words_moved cs from to n w);
-  count = same.count ∙ sym (count_moved cs from to);
+-- what stands for cells stands for others with the same things and words
+pub cells_as : (p : Image) (h : Heap) (cs ds : List Cell) → ((n : ℕ) → thing_of (named ds n) ≡ thing_of (named cs n)) → ((n w : ℕ) → n < 4096 → word_field ds n w ≡ word_field cs n w) → count_cells ds ≡ count_cells cs → SameCells p h cs → SameCells p h ds
+cells_as p h cs ds things words count same = record {
+  things = λ n. same.things n ∙ sym (things n);
+  words = λ n w small. same.words n w small ∙ sym (words n w small);
+  count = same.count ∙ sym count;
   limit = same.limit;
   wide = same.wide;
   classes = same.classes;
   null_is_none = same.null_is_none;
   below = same.below;
 }
+
+pub cells_moved : (p : Image) (h : Heap) (cs : List Cell) (from to : Place) → SameCells p h cs → SameCells p h (moved from to cs)
+cells_moved p h cs from to = cells_as p h cs (moved from to cs) (λ n. ap thing_of (named_moved cs from to n)) (λ n w small. words_moved cs from to n w) (count_moved cs from to)
 
 -- the place of a cell that is not owned so is another
 pub unowned : (c : Cell) (cs : List Cell) (r : Place) (is : Place → Bool) → is r ≡ true → not (is c.owner) ≡ true → held cs r ≡ None → held (c ∷ cs) r ≡ None

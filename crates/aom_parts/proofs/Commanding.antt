@@ -1,7 +1,7 @@
 -- What a client does is refused on both sides alike, and what stands for clients goes on through it: command by command.
-use Rattle.std.proofs.Common.{Bool, List, None, Option, Some, [], ap, cond, false, length, map, refl, subst, suc, sym, true, ℕ, ℤ, ◌&&◌, ◌+◌, ◌<◌, ◌∙◌, ◌∷◌, ◌≡◌}
+use Rattle.std.proofs.Common.{Bool, List, None, Option, Some, [], ap, cond, false, length, map, refl, subst, suc, sym, true, ℕ, ℤ, ◌&&◌, ◌+◌, ◌<◌, ◌∙◌, ◌∷◌, ◌≡◌, arith}
 use Rattle.std.specs.Prelude.{filter, is_some, nat_lt, option_map}
-use Rattle.std.proofs.lemmas.Bool.{eqb-true, false≢true}
+use Rattle.std.proofs.lemmas.Bool.{false≢true}
 use Rattle.std.proofs.lemmas.List.{length-map}
 use Rattle.aom_clients.specs.Clients as kept
 use Rattle.aom_clients.specs.Table.{row, server_of}
@@ -16,7 +16,7 @@ use Rattle.aom_clients.specs.declared.refusal.Refusal.TheVariants.{ServerBusy}
 use Rattle.aom_clients.specs.declared.server.Server.{Server}
 use Rattle.aom_image.specs.Image.{Image}
 use Rattle.aom_image.specs.declared.method.Thing.{Thing}
-use Rattle.aom_image.specs.declared.method.Thing.TheVariants.{Message, Object as An_object_of}
+use Rattle.aom_image.specs.declared.method.Thing.TheVariants.{Object as An_object_of}
 use Rattle.aom_roles.specs.Shapes.{kind_of}
 use Rattle.aom_rules.specs.Typing.{Typing}
 use Rattle.aom_sound.proofs.ClientsAsk.{asked_there}
@@ -26,44 +26,26 @@ use Rattle.aom_sound.proofs.Sifted.{a_cell_of, cell_of, cell_placed, held_cell, 
 use Rattle.aom_sound.specs.Clients.{Listed, asked_of, asked_server, client_at, commanded, connecting, count_messages, first_listed, is_of_class, leaving, most_of, refusal, room, sending, slots_of, told, with_client}
 use Rattle.aom_sound.specs.Kept.{ClientsFit}
 use Rattle.aom_sound.specs.Laws.{IsWired}
-use Rattle.aom_sound.specs.Places.{Cell, Connect_of, Elsewhere, Object, Place as Owner, Queued as Waits_at, Tidy, held, named, service_of}
+use Rattle.aom_sound.specs.Places.{Cell, Connect_of, Elsewhere, Object, Queued as Waits_at, Tidy, held, named, service_of}
 use Rattle.aom_sound.specs.Servers.{asked_last, is_connect, is_from, is_queue, is_server, left_by, reserved, seats_taken, slots_taken, withdrawn}
 use Rattle.aom_sound.specs.State.{State}
 use Rattle.aom_sound.specs.WellTyped.{WellTyped}
 use Rattle.aom_transcript.specs.declared.event.Command.TheVariants.{Close, Connect, Die, Send}
 use Rattle.aom_parts.proofs.Premises.{free_nowhere, messages_wait, queue_empty}
 use Rattle.aom_parts.proofs.Serving.{same_connecting, same_sent}
-use Rattle.aom_parts.proofs.Withdrawing.{same_left}
+use Rattle.aom_parts.proofs.Withdrawing.{queue_owner, same_left}
 use Rattle.aom_parts.specs.Serving.{AreSized, SameClients, asked_by, is_taken, message_name, sessionless}
 
 -- ---- what a client may do does not depend on the cell of its session
 
 row_connect : (x : Client) → (row (sessionless x)).connect ≡ (row x).connect
-row_connect Unconnected = refl
-row_connect (Connecting n slots) = refl
-row_connect (Open n session slots) = refl
-row_connect (Closing n session) = refl
-row_connect Gone = refl
-row_connect Dead = refl
-row_connect (Dying n session) = refl
+row_connect x = grind arith
 
 pub row_close : (x : Client) → (row (sessionless x)).close ≡ option_map sessionless (row x).close
-row_close Unconnected = refl
-row_close (Connecting n slots) = refl
-row_close (Open n session slots) = refl
-row_close (Closing n session) = refl
-row_close Gone = refl
-row_close Dead = refl
-row_close (Dying n session) = refl
+row_close x = grind arith
 
 pub row_die : (x : Client) → (row (sessionless x)).die ≡ option_map sessionless (row x).die
-row_die Unconnected = refl
-row_die (Connecting n slots) = refl
-row_die (Open n session slots) = refl
-row_die (Closing n session) = refl
-row_die Gone = refl
-row_die Dead = refl
-row_die (Dying n session) = refl
+row_die x = grind arith
 
 -- ---- the seats of a server
 
@@ -132,12 +114,10 @@ module _
   asked_serves class x e = go (is_server p (An_object_of class)) refl e
     where
       go : (b : Bool) → is_server p (An_object_of class) ≡ b → cond b (first_listed class s.cells) None ≡ Some x → b ≡ true
-      go true f e = refl
-      go false f e = cc
+      go x f e = grind arith
 
   serves_class : (class : ℕ) (y : Thing) → is_of_class class y ≡ true → is_server p (An_object_of class) ≡ true → is_server p y ≡ true
-  serves_class class (An_object_of d) of serves = ap (λ i. is_server p (An_object_of i)) (eqb-true d class of) ∙ serves
-  serves_class class Message of serves = cc
+  serves_class class x of serves = grind arith
 
   pub same_connect : (class slots name : ℕ) → After (kept.after_connect c (found_server (most_of (kind_of p (Some class))) (asked_server p class s.cells)) slots k) (commanded p c s (Connect class slots) name)
   same_connect class slots name =
@@ -169,14 +149,12 @@ module _
       refused e none = by (row (client_at s.clients c)).send (ap (λ b. cond (nat_lt (slots_taken c s.cells) (slots_of (client_at s.clients c)) && b) None (Some ServerBusy)) (sym found ∙ ap is_some none)) e
         where
           never : (a : Bool) → cond (a && false) None (Some ServerBusy) ≡ None → ⊥
-          never true e = cc
-          never false e = cc
+          never x e = grind arith
 
           by : (r : Option Refusal) →
               cond (nat_lt (slots_taken c s.cells) (slots_of (client_at s.clients c)) && nat_lt (count_messages s.cells) p.header.messages) None (Some ServerBusy) ≡ cond (nat_lt (slots_taken c s.cells) (slots_of (client_at s.clients c)) && false) None (Some ServerBusy) →
               room p c s r ≡ None → ⊥
-          by None told e = never (nat_lt (slots_taken c s.cells) (slots_of (client_at s.clients c))) (sym told ∙ e)
-          by (Some r) told e = cc
+          by x told e = grind arith
 
       go : (r : Option Refusal) → refusal p c s (Send words) ≡ r → (x : Client) → kept.client_at k c ≡ x → (y : Option ℕ) → place ≡ y → After (kept.sending r x c y k) (sending p c s r (sessionless x) name words)
       go None e (Open n session slots) at (Some m) here =
@@ -188,8 +166,7 @@ module _
           (same_sent k s.cells s.clients same w.good.tidy o.0 o.2 c client m words (subst (λ i. o.0.name < i) (sym sized.queues) (below o.0 o.2 o.3)) (subst (λ i. m < i) (sym sized.places) f.0) unused (free_nowhere p t wired s w s.clients fit (message_name m) unused)))
         where
           nothing : (x : Option Object) → false ≡ is_some x → x ≡ None
-          nothing None e = refl
-          nothing (Some x) e = cc
+          nothing x e = grind arith
       go None e (Open n session slots) at None here = absurd (refused e here)
       go None e Unconnected at y here = same
       go None e (Connecting n slots) at y here = same
@@ -213,13 +190,10 @@ module _
     where
       stays : (x : Cell) → cell_of s.cells o.name ≡ Some x → x.object ≡ o → (b : Bool) → is_queue x.owner ≡ b → (is_queue x.owner && is_from c x.service.sender) ≡ false
       stays x e is false f = ap (λ b. b && is_from c x.service.sender) f
-      stays x e is true f = absurd (at x.owner refl f)
-        where
-          at : (q : Owner) → x.owner ≡ q → is_queue q ≡ true → ⊥
-          at (Elsewhere (Waits_at i m)) g h =
-              let there : held s.cells (Elsewhere (Waits_at i m)) ≡ Some x.object = ap (held s.cells) (sym g) ∙ held_cell s.cells x.owner ∙ ap object_in (cell_placed s.cells o.name x w.good.tidy e) in
-              false≢true (sym (waiting_well p t wired s w i m x.object there) ∙ ap (λ (y : Object). is_server p y.thing) is ∙ serves)
-          at _ g h = cc
+      stays x e is true f =
+          let q = queue_owner x.owner f in
+          let there : held s.cells (Elsewhere (Waits_at q.0 q.1)) ≡ Some x.object = ap (held s.cells) (sym q.2) ∙ held_cell s.cells x.owner ∙ ap object_in (cell_placed s.cells o.name x w.good.tidy e) in
+          absurd (false≢true (sym (waiting_well p t wired s w q.0 q.1 x.object there) ∙ ap (λ (y : Object). is_server p y.thing) is ∙ serves))
 
   left_by_row : (to : Option Client) → After (kept.leaving to c k) (leaving p c s (option_map sessionless to))
   left_by_row None = same

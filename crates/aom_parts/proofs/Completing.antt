@@ -6,6 +6,7 @@ use Rattle.std.proofs.lemmas.Bool.{eq-eqb, eqb-true, false≢true, ne_eqb}
 use Rattle.std.proofs.lemmas.List.{length-map}
 use Rattle.aom_clients.specs.Clients as kept
 use Rattle.aom_clients.specs.declared.client.Client.{Client}
+use Rattle.aom_clients.specs.declared.place.Place.{Place as Message_place}
 use Rattle.aom_clients.specs.declared.place.Place.TheVariants.{Free, Queued}
 use Rattle.aom_clients.specs.Table.{is_queued, sender}
 use Rattle.aom_sound.proofs.Maps.{front_free, held_lives, named_without, same_place-true, tidy_without, unnamed}
@@ -16,6 +17,10 @@ use Rattle.aom_sound.specs.Places.{Cell, Object, Place as Owner, Service, Tidy, 
 use Rattle.aom_sound.specs.Servers.{holds_slot, is_among, is_message, is_other, slots_taken}
 use Rattle.aom_parts.proofs.Serving.{asked_apart, at_set, map_at, names_apart}
 use Rattle.aom_parts.specs.Serving.{Once, SameClients, asked_by, holds, is_taken, message_name, owner_of, sent_by, waits_in}
+
+-- a message that waits still, where one place was freed
+pub queued_still : (b : Bool) (p : Message_place) (d : ℕ) → cond b Free p ≡ Queued d → (b ≡ false) × (p ≡ Queued d)
+queued_still b p d e = grind arith
 
 -- ---- lists without a message
 
@@ -222,11 +227,9 @@ module _ (s : kept.State) (cs : List Cell) (clients : List Client) (same : SameC
       go false e = among_then d j e ∙ same.slots_of d j ∙ sym (ap (λ (v : Service). holds_slot d v.sender) (apart j e))
 
   slotted_then : (j d : ℕ) → kept.place_at then j ≡ Queued d → is_among j (kept.sent_at then d) ≡ true
-  slotted_then j d e = go (m == j) refl (sym (places_at j) ∙ e)
-    where
-      go : (b : Bool) → (m == j) ≡ b → cond b Free (kept.place_at s j) ≡ Queued d → is_among j (kept.sent_at then d) ≡ true
-      go true f e = cc
-      go false f e = among_then d j f ∙ same.slotted j d e
+  slotted_then j d e =
+      let was = queued_still (m == j) (kept.place_at s j) d (sym (places_at j) ∙ e) in
+      among_then d j was.0 ∙ same.slotted j d was.1
 
   slots_then : (d : ℕ) → length (kept.sent_at then d) ≡ slots_taken d left
   slots_then d =

@@ -1,13 +1,13 @@
 -- What is left of clients, queues, places and slots once a server went: by the entries of its queue and then its sessions, one after another.
-use Rattle.std.proofs.Common.{Bool, List, [], ap, arith, cond, false, inl, inr, length, refl, slice_index_or, slice_set, subst, suc, sym, true, zero, ℕ, ◌<◌, ◌==◌, ◌≤◌, ◌∙◌, ◌∷◌, ◌≡◌, ◌⊎◌}
+use Rattle.std.proofs.Common.{Bool, List, [], ap, arith, cond, false, inl, inr, length, refl, slice_index_or, slice_set, subst, sym, true, ℕ, ◌<◌, ◌==◌, ◌≤◌, ◌∙◌, ◌∷◌, ◌≡◌, ◌⊎◌}
 use Rattle.std.specs.List.{list_any}
-use Rattle.std.specs.Prelude.{filter, map, not, ◌||◌}
+use Rattle.std.specs.Prelude.{filter, not, ◌||◌}
 use Rattle.std.proofs.lemmas.Bool.{cases_lt, eq-eqb, eqb-true, false≢true}
 use Rattle.std.proofs.lemmas.List.{get_or-set_other, get_or-set_same, get_or_past, length-map, length-set, set_past}
 use Rattle.aom_clients.specs.Clients as kept
 use Rattle.aom_clients.specs.Table.{at_gone}
 use Rattle.aom_clients.specs.declared.client.Client.{Client}
-use Rattle.aom_clients.specs.declared.client.Client.TheVariants.{Closing, Connecting, Dead, Dying, Gone, Open, Unconnected}
+use Rattle.aom_clients.specs.declared.client.Client.TheVariants.{Unconnected}
 use Rattle.aom_clients.specs.declared.entry.Entry.{Entry}
 use Rattle.aom_clients.specs.declared.entry.Entry.TheVariants.{Close, Connect, Message}
 use Rattle.aom_clients.specs.declared.place.Place.TheVariants.{Free}
@@ -39,6 +39,19 @@ either false b x y = ap (λ c. cond c x y) (same b)
     same : (b : Bool) → b ≡ (b || false)
     same true = refl
     same false = refl
+
+-- what is told of one number is told of it by a test
+told_there : {A : Type 0} (k n : ℕ) (at : ℕ → A) (x : A) → at k ≡ x → at n ≡ cond (k == n) x (at n)
+told_there k n at x e = go (k == n) refl
+  where
+    go : (b : Bool) → (k == n) ≡ b → at n ≡ cond b x (at n)
+    go true same = ap at (sym (eqb-true k n same)) ∙ e
+    go false same = refl
+
+-- the same test twice
+once_more : {A : Type 0} (b : Bool) (x y z : A) → cond b x (cond b y z) ≡ cond b x z
+once_more true x y z = refl
+once_more false x y z = refl
 
 -- ---- the entries of its queue
 
@@ -88,14 +101,10 @@ module _ (k : ℕ) where
 
   -- the queue is empty, and all others are as they were
   pub queue_after_queue : (es : List Entry) (s : kept.State) (n : ℕ) → k < length s.queues → kept.queue_at s k ≡ es → kept.queue_at (kept.queue_gone k es s) n ≡ cond (k == n) [] (kept.queue_at s n)
-  queue_after_queue [] s n small at = go (k == n) refl
-    where
-      go : (b : Bool) → (k == n) ≡ b → kept.queue_at s n ≡ cond b [] (kept.queue_at s n)
-      go true e = ap (λ i. kept.queue_at s i) (sym (eqb-true k n e)) ∙ at
-      go false e = refl
+  queue_after_queue [] s n small at = told_there k n (kept.queue_at s) [] at
   queue_after_queue (e ∷ es) s n small at =
       queue_after_queue es (kept.gone k (e ∷ es) s) n (subst (λ i. k < i) (sym (long e)) small) (now e k ∙ set_at_queue k ∙ ap (λ b. cond b es (kept.queue_at s k)) (eq-eqb k k refl))
-      ∙ ap (λ x. cond (k == n) [] x) (now e n ∙ set_at_queue n) ∙ go (k == n)
+      ∙ ap (λ x. cond (k == n) [] x) (now e n ∙ set_at_queue n) ∙ once_more (k == n) [] es (kept.queue_at s n)
     where
       long : (e : Entry) → length (kept.gone k (e ∷ es) s).queues ≡ length s.queues
       long (Connect d) = length-set s.queues k es
@@ -110,10 +119,6 @@ module _ (k : ℕ) where
       set_at_queue : (i : ℕ) → kept.queue_at (kept.with_queue k es s) i ≡ cond (k == i) es (kept.queue_at s i)
       set_at_queue i = at_set_or [] s.queues k i es (λ large. absurd (omega (arith, small, large)))
 
-      go : (b : Bool) → cond b [] (cond b es (kept.queue_at s n)) ≡ cond b [] (kept.queue_at s n)
-      go true = refl
-      go false = refl
-
   pub sessions_after_queue : (es : List Entry) (s : kept.State) → (kept.queue_gone k es s).sessions ≡ s.sessions
   sessions_after_queue [] s = refl
   sessions_after_queue (Connect d ∷ es) s = sessions_after_queue es (kept.gone k (Connect d ∷ es) s)
@@ -123,13 +128,7 @@ module _ (k : ℕ) where
   -- ---- its sessions
 
   gone_again : (x : Client) → at_gone (at_gone x) ≡ at_gone x
-  gone_again Unconnected = refl
-  gone_again (Connecting n slots) = refl
-  gone_again (Open n session slots) = refl
-  gone_again (Closing n session) = refl
-  gone_again (Dying n session) = refl
-  gone_again Gone = refl
-  gone_again Dead = refl
+  gone_again x = grind arith
 
   pub client_after_sessions : (cs : List ℕ) (s : kept.State) (c : ℕ) → kept.client_at (kept.sessions_gone k cs s) c ≡ cond (list_any (λ d. d == c) cs) (at_gone (kept.client_at s c)) (kept.client_at s c)
   client_after_sessions [] s c = refl
@@ -162,21 +161,13 @@ module _ (k : ℕ) where
   queues_after_sessions (c ∷ cs) s = queues_after_sessions cs (kept.session_gone k (c ∷ cs) s)
 
   pub sessions_after_sessions : (cs : List ℕ) (s : kept.State) (n : ℕ) → k < length s.sessions → kept.sessions_at s k ≡ cs → kept.sessions_at (kept.sessions_gone k cs s) n ≡ cond (k == n) [] (kept.sessions_at s n)
-  sessions_after_sessions [] s n small at = go (k == n) refl
-    where
-      go : (b : Bool) → (k == n) ≡ b → kept.sessions_at s n ≡ cond b [] (kept.sessions_at s n)
-      go true e = ap (λ i. kept.sessions_at s i) (sym (eqb-true k n e)) ∙ at
-      go false e = refl
+  sessions_after_sessions [] s n small at = told_there k n (kept.sessions_at s) [] at
   sessions_after_sessions (c ∷ cs) s n small at =
       sessions_after_sessions cs (kept.session_gone k (c ∷ cs) s) n (subst (λ i. k < i) (sym (length-set s.sessions k cs)) small) (now k ∙ ap (λ b. cond b cs (kept.sessions_at s k)) (eq-eqb k k refl))
-      ∙ ap (λ x. cond (k == n) [] x) (now n) ∙ go (k == n)
+      ∙ ap (λ x. cond (k == n) [] x) (now n) ∙ once_more (k == n) [] cs (kept.sessions_at s n)
     where
       now : (i : ℕ) → kept.sessions_at (kept.session_gone k (c ∷ cs) s) i ≡ cond (k == i) cs (kept.sessions_at s i)
       now i = at_set_or [] s.sessions k i cs (λ large. absurd (omega (arith, small, large)))
-
-      go : (b : Bool) → cond b [] (cond b cs (kept.sessions_at s n)) ≡ cond b [] (kept.sessions_at s n)
-      go true = refl
-      go false = refl
 
   -- ---- how many of each there are
 

@@ -1,5 +1,5 @@
 -- What the calls of clients make of the numbers in the places of servers: their sessions, and the messages in their queues.
-use Rattle.std.proofs.Common.{Bool, List, None, Option, Some, [], ap, arith, cond, false, length, not, refl, subst, sym, true, ℕ, ◌&&◌, ◌<◌, ◌==◌, ◌∙◌, ◌∷◌, ◌≡◌}
+use Rattle.std.proofs.Common.{Bool, List, None, Option, Some, [], ap, arith, cond, false, length, refl, subst, sym, true, ℕ, ◌&&◌, ◌<◌, ◌==◌, ◌∙◌, ◌∷◌, ◌≡◌}
 use Rattle.std.specs.List.{list_any}
 use Rattle.std.specs.Prelude.{filter, map, ◌||◌}
 use Rattle.std.proofs.lemmas.Bool.{eq-eqb, eqb-true, false≢true, ne_eqb, true≢false}
@@ -10,7 +10,7 @@ use Rattle.aom_clients.specs.Clients.{client_at, queue_at}
 use Rattle.aom_clients.specs.Nodes.{is_leaving}
 use Rattle.aom_clients.specs.Table.{no_cell, released, server_of}
 use Rattle.aom_clients.specs.declared.client.Client.{Client}
-use Rattle.aom_clients.specs.declared.client.Client.TheVariants.{Closing, Connecting, Dead, Dying, Gone, Open, Unconnected}
+use Rattle.aom_clients.specs.declared.client.Client.TheVariants.{Closing, Connecting, Dead, Dying, Open, Unconnected}
 use Rattle.aom_clients.specs.declared.entry.Entry.{Entry}
 use Rattle.aom_clients.specs.declared.entry.Entry.TheVariants.{Close, Connect, Message}
 use Rattle.aom_clients.specs.declared.place.Place.{Place as Message_place}
@@ -114,26 +114,21 @@ session_written others s' c k x sessions queues us h es r = elsewhere_written us
     other In_service = refl
     other (Queued n m) = ap (λ b. cond b m null) (queues n m)
 
--- no connect and no close is a message
-connects_show : (c m : ℕ) (es : List Entry) → list_any (is_numbered m) (filter (kept.is_no_connect_of c) es) ≡ list_any (is_numbered m) es
-connects_show c m [] = refl
-connects_show c m (Connect d ∷ es) = go (d == c) ∙ connects_show c m es
+-- the same is shown where no message goes
+shows_filtered : (stays : Entry → Bool) (m : ℕ) → ((e : Entry) → stays e ≡ false → is_numbered m e ≡ false) → (es : List Entry) → list_any (is_numbered m) (filter stays es) ≡ list_any (is_numbered m) es
+shows_filtered stays m apart [] = refl
+shows_filtered stays m apart (e ∷ es) = go (stays e) refl ∙ ap (λ b. is_numbered m e || b) (shows_filtered stays m apart es)
   where
-    go : (b : Bool) → list_any (is_numbered m) (cond (not b) (Connect d ∷ filter (kept.is_no_connect_of c) es) (filter (kept.is_no_connect_of c) es)) ≡ list_any (is_numbered m) (filter (kept.is_no_connect_of c) es)
-    go true = refl
-    go false = refl
-connects_show c m (Message k ∷ es) = ap (λ b. (message_name k == m) || b) (connects_show c m es)
-connects_show c m (Close d ∷ es) = connects_show c m es
+    go : (b : Bool) → stays e ≡ b → list_any (is_numbered m) (cond b (e ∷ filter stays es) (filter stays es)) ≡ (is_numbered m e || list_any (is_numbered m) (filter stays es))
+    go true stay = refl
+    go false gone = sym (ap (λ b. b || list_any (is_numbered m) (filter stays es)) (apart e gone))
 
-closes_show : (c m : ℕ) (es : List Entry) → list_any (is_numbered m) (filter (kept.is_no_close_of c) es) ≡ list_any (is_numbered m) es
-closes_show c m [] = refl
-closes_show c m (Close d ∷ es) = go (d == c) ∙ closes_show c m es
-  where
-    go : (b : Bool) → list_any (is_numbered m) (cond (not b) (Close d ∷ filter (kept.is_no_close_of c) es) (filter (kept.is_no_close_of c) es)) ≡ list_any (is_numbered m) (filter (kept.is_no_close_of c) es)
-    go true = refl
-    go false = refl
-closes_show c m (Message k ∷ es) = ap (λ b. (message_name k == m) || b) (closes_show c m es)
-closes_show c m (Connect d ∷ es) = closes_show c m es
+-- no connect and no close is a message
+no_connect_shows : (c m : ℕ) (e : Entry) → kept.is_no_connect_of c e ≡ false → is_numbered m e ≡ false
+no_connect_shows c m e gone = grind arith
+
+no_close_shows : (c m : ℕ) (e : Entry) → kept.is_no_close_of c e ≡ false → is_numbered m e ≡ false
+no_close_shows c m e gone = grind arith
 
 -- a client is at something else
 client_now : (s : kept.State) (c : ℕ) (to : Client) → c < length s.clients → (d : ℕ) → client_at (kept.with_client c to s) d ≡ cond (c == d) to (client_at s d)
@@ -163,7 +158,7 @@ module _ (others : Others) (us : List Held_task) (h : Heap) (es : List Item) (c 
       here n = ap (λ x. cond (k == n) x null) told ∙ ap (λ x. cond (k == n) session (session_with n x)) (sym was)
 
       queues : ShowSame s then
-      queues n m = ap (list_any (is_numbered m)) (map_at (filter (kept.is_no_connect_of c)) s.queues n refl) ∙ connects_show c m (queue_at s n)
+      queues n m = ap (list_any (is_numbered m)) (map_at (filter (kept.is_no_connect_of c)) s.queues n refl) ∙ shows_filtered (kept.is_no_connect_of c) m (no_connect_shows c m) (queue_at s n)
 
   -- the cell of a session is at hand to go
   pub session_released : server_of (client_at s c) ≡ Some k → (r : Place) → after (kept.after_release c s) r ≡ changed before (Elsewhere (Session k c)) null r
@@ -177,13 +172,7 @@ module _ (others : Others) (us : List Held_task) (h : Heap) (es : List Item) (c 
       at server session n e = let same : server ≡ k = cc in none (server == n) (session_number session) ∙ ap (λ i. cond (i == n) null (cond (server == n) (session_number session) null)) same
 
       here : (x : Client) → server_of x ≡ Some k → (n : ℕ) → session_with n (released x) ≡ cond (k == n) null (session_with n x)
-      here (Open server session slots) e n = at server session n e
-      here (Closing server session) e n = at server session n e
-      here (Dying server session) e n = at server session n e
-      here Unconnected e n = cc
-      here (Connecting server slots) e n = cc
-      here Gone e n = cc
-      here Dead e n = cc
+      here x e n = grind arith
 
   -- the same places have the same numbers
   unmoved : (s' : kept.State) → ((n d : ℕ) → session_with n (client_at s' d) ≡ session_with n (client_at s d)) → ShowSame s s' → (r : Place) → after s' r ≡ before r
@@ -212,14 +201,14 @@ module _ (others : Others) (us : List Held_task) (h : Heap) (es : List Item) (c 
       then = kept.opened (Connecting k slots) None c s
 
       queues : ShowSame s then
-      queues n m = ap (list_any (is_numbered m)) (map_at (filter (kept.is_no_connect_of c)) s.queues n refl) ∙ connects_show c m (queue_at s n)
+      queues n m = ap (list_any (is_numbered m)) (map_at (filter (kept.is_no_connect_of c)) s.queues n refl) ∙ shows_filtered (kept.is_no_connect_of c) m (no_connect_shows c m) (queue_at s n)
 
   -- a close is served, once the cell of the session is at hand to go
   pub session_closed : is_leaving k (client_at s c) ≡ true → session_with k (client_at s c) ≡ null → (r : Place) → after (kept.after_closed c s) r ≡ before r
   session_closed leaves none r = go (client_at s c) refl leaves none
     where
       queues : (to : Client) → ShowSame s (kept.parted c to s)
-      queues to n m = ap (list_any (is_numbered m)) (map_at (filter (kept.is_no_close_of c)) s.queues n refl) ∙ closes_show c m (queue_at s n)
+      queues to n m = ap (list_any (is_numbered m)) (map_at (filter (kept.is_no_close_of c)) s.queues n refl) ∙ shows_filtered (kept.is_no_close_of c) m (no_close_shows c m) (queue_at s n)
 
       both_null : (b : Bool) → cond b null null ≡ null
       both_null true = refl
@@ -232,11 +221,7 @@ module _ (others : Others) (us : List Held_task) (h : Heap) (es : List Item) (c 
       go (Closing server session) e it null_there =
           unmoved (kept.parted c Unconnected s) (sessions_same (kept.parted c Unconnected s) Unconnected (client_now s c Unconnected client) (λ n. gone server session it null_there n ∙ sym (ap (session_with n) e))) (queues Unconnected) r
       go (Dying server session) e it null_there = unmoved (kept.parted c Dead s) (sessions_same (kept.parted c Dead s) Dead (client_now s c Dead client) (λ n. gone server session it null_there n ∙ sym (ap (session_with n) e))) (queues Dead) r
-      go Unconnected e it null_there = cc
-      go (Connecting server slots) e it null_there = cc
-      go (Open server session slots) e it null_there = cc
-      go Gone e it null_there = cc
-      go Dead e it null_there = cc
+      go _ e it null_there = cc
 
 -- ---- a queue
 

@@ -42,12 +42,10 @@ before_without : (cs : List Cell) (q : Owner) (n : ℕ) (y : Cell) → Tidy cs �
 before_without cs q n y tidy e = go (cell_of cs n) refl (sym (cell_without cs q n tidy) ∙ e)
   where
     at : (z : Cell) → cell_of cs n ≡ Some z → (b : Bool) → same_place z.owner q ≡ b → cond b None (Some z) ≡ Some y → (cell_of cs n ≡ Some y) × (same_place y.owner q ≡ false)
-    at z f true g h = cc
-    at z f false g h = let one : z ≡ y = cc in (f ∙ ap (λ c. Some c) one, ap (λ (c : Cell). same_place c.owner q) (sym one) ∙ g)
+    at z f x g h = grind arith
 
     go : (x : Option Cell) → cell_of cs n ≡ x → left_cell (λ c. same_place c.owner q) (λ c. c.service) x ≡ Some y → (cell_of cs n ≡ Some y) × (same_place y.owner q ≡ false)
-    go None f h = cc
-    go (Some z) f h = at z f (same_place z.owner q) refl h
+    go x f h = grind arith
 
 -- ---- some go that are messages
 

@@ -3,13 +3,14 @@ use Rattle.std.proofs.Common.{Bool, List, None, Option, Some, [], ap, arith, con
 use Rattle.std.specs.List.{list_any}
 use Rattle.std.specs.Prelude.{filter, is_some, not, ◌-◌, ◌||◌}
 use Rattle.std.proofs.lemmas.Bool.{and_parts, cases_lt, eq-eqb, eqb-true, false≢true}
+use Rattle.aom_clients.proofs.Steps.{queued-of}
 use Rattle.aom_clients.specs.Clients as kept
 use Rattle.aom_clients.specs.Table.{is_queued}
 use Rattle.aom_clients.specs.declared.client.Client.{Client}
 use Rattle.aom_clients.specs.declared.entry.Entry.{Entry}
 use Rattle.aom_clients.specs.declared.entry.Entry.TheVariants.{Close, Connect, Message}
 use Rattle.aom_clients.specs.declared.place.Place.{Place}
-use Rattle.aom_clients.specs.declared.place.Place.TheVariants.{Discarded, Free, Held, Queued}
+use Rattle.aom_clients.specs.declared.place.Place.TheVariants.{Queued}
 use Rattle.aom_image.specs.Image.{Image}
 use Rattle.aom_image.specs.declared.method.Thing.TheVariants.{Message as A_message, Object as An_object_of}
 use Rattle.aom_image.specs.declared.method.Thing.{Thing}
@@ -33,7 +34,7 @@ use Rattle.aom_parts.proofs.Departing.{is_at}
 use Rattle.aom_parts.proofs.Forgetting.{Forgets, messages_sifted}
 use Rattle.aom_parts.proofs.Premises.{asked_there, waiting_there}
 use Rattle.aom_parts.proofs.Vanishing.{asks_message}
-use Rattle.aom_parts.proofs.Withdrawing.{owner_cell, owner_in}
+use Rattle.aom_parts.proofs.Withdrawing.{owner_cell, owner_in, queue_owner, queue_of_owner, queue_of_queue}
 use Rattle.aom_parts.specs.Messages.{SameMessages, is_a_message}
 use Rattle.aom_parts.specs.Serving.{Once, SameClients, asked_by, holds, message_name, owner_of, sent_by, waits_in}
 
@@ -94,15 +95,12 @@ once_asked clients n places (Message m ∷ es) fits = (among_places es m ∙ sym
 module _ (p : Image) (t : Typing) (wired : IsWired p) (s : State) (w : WellTyped p t s) (fit : ClientsFit p s.clients s.cells) (k : kept.State) (same : SameClients k s.cells s.clients) where
   -- what a queue owns is a message
   waiting_message : (n : ℕ) (x : Cell) → cell_of s.cells n ≡ Some x → is_queue x.owner ≡ true → is_object x.object.thing ≡ false
-  waiting_message n x e h = go x.owner refl h
-    where
-      go : (q : Owner) → x.owner ≡ q → is_queue q ≡ true → is_object x.object.thing ≡ false
-      go (Elsewhere (Waits_at i m)) at h =
-          let there : held s.cells (Elsewhere (Waits_at i m)) ≡ Some x.object = ap (held s.cells) (sym at) ∙ held_cell s.cells x.owner ∙ ap object_in (cell_placed s.cells n x w.good.tidy e) in
-          let y : IsQueuedAt p s.cells i m x.object.thing = queued_thing_of p s.cells w.layers i m x.object.thing
-          (fits_thing p (seen s.cells) x.object _ (subst (λ y. Fits p (seen s.cells) y (claim p (declared p s.cells) w.layers (Elsewhere (Waits_at i m)))) there (w.good.fits (Elsewhere (Waits_at i m))))) in
-          ap is_object (queued_lower p wired y.0 x.object.thing y.3).0
-      go _ at h = cc
+  waiting_message n x e h =
+      let q = queue_owner x.owner h in
+      let there : held s.cells (Elsewhere (Waits_at q.0 q.1)) ≡ Some x.object = ap (held s.cells) (sym q.2) ∙ held_cell s.cells x.owner ∙ ap object_in (cell_placed s.cells n x w.good.tidy e) in
+      let y : IsQueuedAt p s.cells q.0 q.1 x.object.thing = queued_thing_of p s.cells w.layers q.0 q.1 x.object.thing
+      (fits_thing p (seen s.cells) x.object _ (subst (λ y. Fits p (seen s.cells) y (claim p (declared p s.cells) w.layers (Elsewhere (Waits_at q.0 q.1)))) there (w.good.fits (Elsewhere (Waits_at q.0 q.1))))) in
+      ap is_object (queued_lower p wired y.0 x.object.thing y.3).0
 
   -- and its number is past those of cells
   message_place : (before : Store) → SameMessages p before s.cells → (n : ℕ) (x : Cell) → cell_of s.cells n ≡ Some x → is_queue x.owner ≡ true → (m : ℕ) × (n ≡ message_name m)
@@ -125,6 +123,12 @@ module _ (p : Image) (t : Typing) (wired : IsWired p) (s : State) (w : WellTyped
 
   -- ---- a client leaves
 
+  -- a message that is forgotten was kept
+  forgotten_kept : {drops : Cell → Bool} {f : Cell → Service} {ms : List ℕ} {before : Store} → Forgets drops f ms s.cells → SameMessages p before s.cells → (m : ℕ) → is_among m ms ≡ true → is_some (message_at before m) ≡ true
+  forgotten_kept goes kept_so m h =
+      let x = goes.goes m h in
+      kept_so.there m ∙ ap is_a_message (named_cell s.cells (message_name m) ∙ ap object_in x.1) ∙ ap not x.3
+
   module _ (c : ℕ) where
     abbrev drops : Cell → Bool
     drops x = is_queue x.owner && is_from c x.service.sender
@@ -139,8 +143,7 @@ module _ (p : Image) (t : Typing) (wired : IsWired p) (s : State) (w : WellTyped
     freed_once = once_filtered (λ m. is_queued (kept.place_at k m)) (kept.sent_at k c) (same.once c)
 
     from_slot : (x : Option Sender) → holds_slot c x ≡ true → is_from c x ≡ true
-    from_slot None h = cc
-    from_slot (Some x) h = (and_parts (x.client == c) x.holds_slot h).0
+    from_slot x h = grind arith
 
     forgets : (before : Store) → SameMessages p before s.cells → Forgets drops (λ x. left_by c x.service) freed s.cells
     forgets before kept_so = record { goes = goes; gone = gone }
@@ -159,19 +162,16 @@ module _ (p : Image) (t : Typing) (wired : IsWired p) (s : State) (w : WellTyped
             let cell : cell_of s.cells (message_name m.0) ≡ Some x = ap (cell_of s.cells) (sym m.1) ∙ e in
             let waits : is_queued (kept.place_at k m.0) ≡ true = same.waits m.0 ∙ ap waits_in (owner_there (message_name m.0) x cell) ∙ b.0 in
             let from : is_from c (sent_by (holds k m.0) (kept.place_at k m.0)) ≡ true = ap (is_from c) (same.senders m.0) ∙ ap (λ (v : Service). is_from c v.sender) (service_cell s.cells (message_name m.0) ∙ ap service_in cell) ∙ b.1 in
-            (m.0, m.1, among_freed m.0 ∙ ap (λ y. y && is_among m.0 (kept.sent_at k c)) waits ∙ held_slot m.0 (kept.place_at k m.0) refl waits from)
+            (m.0, m.1, among_freed m.0 ∙ ap (λ y. y && is_among m.0 (kept.sent_at k c)) waits ∙ held_slot m.0 waits from)
           where
-            held_slot : (m : ℕ) (x : Place) → kept.place_at k m ≡ x → is_queued (kept.place_at k m) ≡ true → is_from c (sent_by (holds k m) (kept.place_at k m)) ≡ true → is_among m (kept.sent_at k c) ≡ true
-            held_slot m (Queued d) at h from = same.slotted m c (at ∙ ap Queued (eqb-true d c (ap (λ y. is_from c (sent_by (holds k m) y)) (sym at) ∙ from)))
-            held_slot m Free at h from = absurd (false≢true (ap is_queued (sym at) ∙ h))
-            held_slot m (Held d) at h from = absurd (false≢true (ap is_queued (sym at) ∙ h))
-            held_slot m (Discarded d) at h from = absurd (false≢true (ap is_queued (sym at) ∙ h))
+            held_slot : (m : ℕ) → is_queued (kept.place_at k m) ≡ true → is_from c (sent_by (holds k m) (kept.place_at k m)) ≡ true → is_among m (kept.sent_at k c) ≡ true
+            held_slot m h from =
+                let x = queued-of (kept.place_at k m) h in
+                same.slotted m c (x.1 ∙ ap Queued (eqb-true x.0 c (ap (λ y. is_from c (sent_by (holds k m) y)) (sym x.1) ∙ from)))
 
     -- the messages that it leaves are kept
     pub freed_kept : (before : Store) → SameMessages p before s.cells → (m : ℕ) → is_among m freed ≡ true → is_some (message_at before m) ≡ true
-    freed_kept before kept_so m h =
-        let x = (forgets before kept_so).goes m h in
-        kept_so.there m ∙ ap is_a_message (named_cell s.cells (message_name m) ∙ ap object_in x.1) ∙ ap not x.3
+    freed_kept before kept_so = forgotten_kept (forgets before kept_so) kept_so
 
     pub messages_withdrawn : (before after : Store) → ((m : ℕ) → is_among m freed ≡ true → message_at after m ≡ None) → ((m : ℕ) → is_among m freed ≡ false → message_at after m ≡ message_at before m) → after.limit ≡ before.limit →
         count after + length freed ≡ count before → SameMessages p before s.cells → SameMessages p after (withdrawn c s.cells)
@@ -193,10 +193,6 @@ module _ (p : Image) (t : Typing) (wired : IsWired p) (s : State) (w : WellTyped
     unqueues : (before : Store) → SameMessages p before s.cells → Forgets (λ x. is_queue_of n x.owner) (λ x. x.service) waiting s.cells
     unqueues before kept_so = record { goes = goes; gone = gone }
       where
-        queued : (q : Owner) → is_queue_of n q ≡ true → is_queue q ≡ true
-        queued (Elsewhere (Waits_at i m)) h = refl
-        queued _ h = cc
-
         goes : (m : ℕ) → is_among m waiting ≡ true → (x : Cell) × (cell_of s.cells (message_name m) ≡ Some x) × (is_queue_of n x.owner ≡ true) × (is_object x.object.thing ≡ false)
         goes m h =
             let y = waiting_there p t wired s w s.clients fit n (message_name m) (sym (asked_so m) ∙ h) in
@@ -204,25 +200,19 @@ module _ (p : Image) (t : Typing) (wired : IsWired p) (s : State) (w : WellTyped
             let place = cell_owner s.cells (Elsewhere (Waits_at n (message_name m))) z.0 z.1 in
             let here : is_queue_of n z.0.owner ≡ true = ap (is_queue_of n) place ∙ eq-eqb n n refl in
             let cell : cell_of s.cells (message_name m) ≡ Some z.0 = ap (cell_of s.cells) (sym (ap (λ (o : Object). o.name) z.2 ∙ y.2)) ∙ cell_lives s.cells (Elsewhere (Waits_at n (message_name m))) z.0 w.good.tidy z.1 in
-            (z.0, cell, here, waiting_message (message_name m) z.0 cell (queued z.0.owner here))
+            (z.0, cell, here, waiting_message (message_name m) z.0 cell (queue_of_queue n z.0.owner here))
 
         gone : (i : ℕ) (x : Cell) → cell_of s.cells i ≡ Some x → is_queue_of n x.owner ≡ true → (m : ℕ) × (i ≡ message_name m) × (is_among m waiting ≡ true)
         gone i x e h =
-            let m = message_place before kept_so i x e (queued x.owner h) in
-            (m.0, m.1, asked_so m.0 ∙ ap (has_message (service_of s.cells n)) (sym m.1) ∙ by x.owner refl h)
-          where
-            by : (q : Owner) → x.owner ≡ q → is_queue_of n q ≡ true → has_message (service_of s.cells n) i ≡ true
-            by (Elsewhere (Waits_at j m)) at h =
-                let there : held s.cells (Elsewhere (Waits_at n m)) ≡ Some x.object = ap (λ a. held s.cells (Elsewhere (Waits_at a m))) (sym (eqb-true j n h)) ∙ ap (held s.cells) (sym at) ∙ held_cell s.cells x.owner ∙ ap object_in (cell_placed s.cells i x w.good.tidy e) in
-                let a = asked_there p t wired s w s.clients fit n m x.object there in
-                ap (has_message (service_of s.cells n)) (sym (cell_name s.cells i x e) ∙ a.0) ∙ a.1
-            by _ at h = cc
+            let m = message_place before kept_so i x e (queue_of_queue n x.owner h) in
+            let q = queue_of_owner n x.owner h in
+            let there : held s.cells (Elsewhere (Waits_at n q.0)) ≡ Some x.object = ap (held s.cells) (sym q.1) ∙ held_cell s.cells x.owner ∙ ap object_in (cell_placed s.cells i x w.good.tidy e) in
+            let a = asked_there p t wired s w s.clients fit n q.0 x.object there in
+            (m.0, m.1, asked_so m.0 ∙ ap (has_message (service_of s.cells n)) (sym m.1 ∙ sym (cell_name s.cells i x e) ∙ a.0) ∙ a.1)
 
     -- the messages in its queue are kept
     pub waiting_kept : (before : Store) → SameMessages p before s.cells → (m : ℕ) → is_among m waiting ≡ true → is_some (message_at before m) ≡ true
-    waiting_kept before kept_so m h =
-        let x = (unqueues before kept_so).goes m h in
-        kept_so.there m ∙ ap is_a_message (named_cell s.cells (message_name m) ∙ ap object_in x.1) ∙ ap not x.3
+    waiting_kept before kept_so = forgotten_kept (unqueues before kept_so) kept_so
 
     pub messages_unqueued : (before after : Store) → ((m : ℕ) → is_among m waiting ≡ true → message_at after m ≡ None) → ((m : ℕ) → is_among m waiting ≡ false → message_at after m ≡ message_at before m) → after.limit ≡ before.limit →
         count after + length waiting ≡ count before → SameMessages p before s.cells → SameMessages p after (without_queue n s.cells)
@@ -255,8 +245,7 @@ module _ (p : Image) (t : Typing) (wired : IsWired p) (s : State) (w : WellTyped
   beside_unqueued before kept_so n = subst (Beside s.cells) (sym (unqueued_so n s.cells)) (beside_sifted (λ x. is_queue_of n x.owner) (λ x. x.service) s.cells w.good.tidy (λ i x e h. gone_message before kept_so i x e (queued x.owner h)))
     where
       queued : (q : Owner) → is_queue_of n q ≡ true → is_queue q ≡ true
-      queued (Elsewhere (Waits_at i m)) h = refl
-      queued _ h = cc
+      queued x h = grind arith
 
   -- and what no queue owns
   pub holds_withdrawn : (c : ℕ) (r : Owner) → is_queue r ≡ false → held (withdrawn c s.cells) r ≡ held s.cells r
@@ -267,5 +256,4 @@ module _ (p : Image) (t : Typing) (wired : IsWired p) (s : State) (w : WellTyped
   holds_unqueued n r apart = ap (λ l. held l r) (unqueued_so n s.cells) ∙ holds_sifted (λ x. is_queue_of n x.owner) (λ x. x.service) s.cells w.good.tidy (λ i x e h. queued x.owner h) r apart
     where
       queued : (q : Owner) → is_queue_of n q ≡ true → is_queue q ≡ true
-      queued (Elsewhere (Waits_at i m)) h = refl
-      queued _ h = cc
+      queued x h = grind arith

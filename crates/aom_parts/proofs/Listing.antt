@@ -207,12 +207,10 @@ listed_alike p t cs ds names orders same = listed_same p t cs ds (λ n class. ap
     alike (Some o) class (Some q) (Some r) e = refl
 
 or_true : (b : Bool) → (b || true) ≡ true
-or_true true = refl
-or_true false = refl
+or_true b = grind arith
 
 or_false : (b : Bool) → (b || false) ≡ b
-or_false true = refl
-or_false false = refl
+or_false b = grind arith
 
 -- one that is in no list is the last of its class from then on
 module _ (p : Image) (t : Table) (cs ds : List Cell) (id class : ℕ) where

@@ -13,11 +13,9 @@ use Rattle.aom_sound.proofs.Services.{named_served}
 use Rattle.aom_sound.proofs.Storing.{named_set_word, rerequested_alike, resessioned_alike}
 use Rattle.aom_sound.proofs.Unslotting.{each_unslotted_alike}
 use Rattle.aom_sound.specs.Clients.{count_messages, each_unslotted}
-use Rattle.aom_sound.specs.Enlisted.{rerequested}
-use Rattle.aom_sound.specs.Natives.{resessioned}
 use Rattle.aom_sound.specs.Places.{Cell, Object, Place, Request, Service, Tidy, count_cells, held, moved, named, Register, same_place, set_request, set_service, set_session, set_word_field, with_new, without, word_field}
 use Rattle.aom_sound.specs.Servers.{all_unslotted}
-use Rattle.aom_sound.specs.State.{AtRoot, Home, Inside, Static}
+use Rattle.aom_sound.specs.State.{Inside}
 use Rattle.aom_parts.specs.Messages.{SameMessages, is_a_message}
 use Rattle.aom_parts.specs.Serving.{message_name}
 use Rattle.aom_parts.proofs.Asking.{words_asked}

@@ -12,12 +12,12 @@ use Rattle.aom_clients.specs.declared.client.Client.TheVariants.{Unconnected}
 use Rattle.aom_clients.specs.declared.entry.Entry.{Entry}
 use Rattle.aom_clients.specs.declared.entry.Entry.TheVariants.{Close, Connect, Message}
 use Rattle.aom_clients.specs.declared.place.Place.{Place}
-use Rattle.aom_clients.specs.declared.place.Place.TheVariants.{Discarded, Free, Held, Queued}
+use Rattle.aom_clients.specs.declared.place.Place.TheVariants.{Free, Queued}
 use Rattle.aom_image.specs.Image.{Image}
 use Rattle.aom_rules.specs.Typing.{Typing}
 use Rattle.aom_sound.proofs.ClientsCommand.{nobody, none_named}
 use Rattle.aom_sound.proofs.ClientsFacts.{queued_well, waiting_well}
-use Rattle.aom_sound.proofs.ClientsFit.{connecting_only, leaving_only}
+use Rattle.aom_sound.proofs.ClientsFit.{leaving_only}
 use Rattle.aom_sound.proofs.ClientsGone.{open_server}
 use Rattle.aom_sound.proofs.Maps.{held_lives, one_place, same_place-true}
 use Rattle.aom_sound.proofs.Owners.{IsQueuedAt, fits_thing, queued_thing_of}
@@ -33,7 +33,7 @@ use Rattle.aom_sound.specs.State.{State}
 use Rattle.aom_sound.specs.WellTyped.{Fits, WellTyped}
 use Rattle.aom_parts.proofs.Departing.{is_at}
 use Rattle.aom_parts.proofs.Vanishing.{asks_message}
-use Rattle.aom_parts.proofs.Withdrawing.{AllWait, owner_cell, owner_in}
+use Rattle.aom_parts.proofs.Withdrawing.{AllWait, owner_cell, owner_in, queue_owner}
 use Rattle.aom_parts.specs.Serving.{SameClients, holds, is_taken, message_name, owner_of, sent_by, sessionless, waits_in}
 
 -- ---- cells by their owners
@@ -48,10 +48,7 @@ pub held_owner : (cs : List Cell) → Tidy cs → (n : ℕ) (q : Owner) → owne
 held_owner cs tidy n q e = go (cell_of cs n) refl (sym (owner_cell cs n) ∙ e)
   where
     go : (x : Option Cell) → cell_of cs n ≡ x → owner_in x ≡ Some q → (x : Object) × (held cs q ≡ Some x) × (x.name ≡ n)
-    go None at e = cc
-    go (Some c) at e =
-        let place : c.owner ≡ q = cc in
-        (c.object, ap (λ i. held cs i) (sym place) ∙ held_cell cs c.owner ∙ ap object_in (cell_placed cs n c tidy at), cell_name cs n c at)
+    go x at e = grind (arith, held_cell, object_in, cell_placed, cell_name)
 
 -- ---- what is asked for, and by whom
 
@@ -96,32 +93,26 @@ waits_each places (Message k ∷ es) h = (h k (ap (λ b. b || list_any (is_at k)
 -- ---- clients of stages
 
 module _ (p : Image) (clients : List Client) (cs : List Cell) (fit : ClientsFit p clients cs) (k c : ℕ) where
-  -- a client that connects to a server, and asks for it there no more, asks for it nowhere
+  -- what is asked at one server alone, and there no more, is asked nowhere
+  asks_nowhere : (asks : Asked → Bool) → ((n : ℕ) → (k == n) ≡ false → (e : Asked) → asks e ≡ true → EntryFits clients n e → ⊥) → list_any asks (service_of cs k).queue ≡ false → (n : ℕ) → list_any asks (service_of cs n).queue ≡ false
+  asks_nowhere asks never none n = go (k == n) refl
+    where
+      go : (b : Bool) → (k == n) ≡ b → list_any asks (service_of cs n).queue ≡ false
+      go true e = ap (λ i. list_any asks (service_of cs i).queue) (sym (eqb-true k n e)) ∙ none
+      go false e = none_passes asks clients n (never n e) (service_of cs n).queue (fit.queues n)
+
+  -- so with a client that connects to it, and with one that closes
   pub connects_nowhere : is_connecting_at k (client_at clients c) ≡ true → list_any (is_connect_of c) (service_of cs k).queue ≡ false → (n : ℕ) → list_any (is_connect_of c) (service_of cs n).queue ≡ false
-  connects_nowhere at none n = go (k == n) refl
+  connects_nowhere at = asks_nowhere (is_connect_of c) never
     where
-      never : (k == n) ≡ false → (e : Asked) → is_connect_of c e ≡ true → EntryFits clients n e → ⊥
-      never other (Connect_of d) same fits =
-          false≢true (sym other ∙ eq-eqb k n ((connecting_only k n (client_at clients c) at).3 (ap (λ i. is_connecting_at n (client_at clients i)) (sym (eqb-true d c same)) ∙ fits)))
-      never other (Message_of d m) same fits = cc
-      never other (Close_of d) same fits = cc
+      never : (n : ℕ) → (k == n) ≡ false → (e : Asked) → is_connect_of c e ≡ true → EntryFits clients n e → ⊥
+      never n other x same fits = grind arith
 
-      go : (b : Bool) → (k == n) ≡ b → list_any (is_connect_of c) (service_of cs n).queue ≡ false
-      go true e = ap (λ i. list_any (is_connect_of c) (service_of cs i).queue) (sym (eqb-true k n e)) ∙ none
-      go false e = none_passes (is_connect_of c) clients n (never e) (service_of cs n).queue (fit.queues n)
-
-  -- so is it with one that closes
   pub closes_nowhere : is_leaving k (client_at clients c) ≡ true → list_any (is_close_of c) (service_of cs k).queue ≡ false → (n : ℕ) → list_any (is_close_of c) (service_of cs n).queue ≡ false
-  closes_nowhere at none n = go (k == n) refl
+  closes_nowhere at = asks_nowhere (is_close_of c) never
     where
-      never : (k == n) ≡ false → (e : Asked) → is_close_of c e ≡ true → EntryFits clients n e → ⊥
-      never other (Close_of d) same fits = false≢true (sym other ∙ eq-eqb k n ((leaving_only k n (client_at clients c) at).3 (ap (λ i. is_leaving n (client_at clients i)) (sym (eqb-true d c same)) ∙ fits)))
-      never other (Message_of d m) same fits = cc
-      never other (Connect_of d) same fits = cc
-
-      go : (b : Bool) → (k == n) ≡ b → list_any (is_close_of c) (service_of cs n).queue ≡ false
-      go true e = ap (λ i. list_any (is_close_of c) (service_of cs i).queue) (sym (eqb-true k n e)) ∙ none
-      go false e = none_passes (is_close_of c) clients n (never e) (service_of cs n).queue (fit.queues n)
+      never : (n : ℕ) → (k == n) ≡ false → (e : Asked) → is_close_of c e ≡ true → EntryFits clients n e → ⊥
+      never n other x same fits = grind arith
 
   -- whose session is with that server alone
   pub session_alone : is_leaving k (client_at clients c) ≡ true → (n : ℕ) → (k == n) ≡ false → is_among c (service_of cs n).sessions ≡ false
@@ -150,18 +141,13 @@ module _ (p : Image) (t : Typing) (wired : IsWired p) (s : State) (w : WellTyped
 
   -- what waits has no queue and no sessions
   pub queue_empty : (n : ℕ) (x : Cell) → cell_of s.cells n ≡ Some x → is_queue x.owner ≡ true → (x.service.queue ≡ []) × (x.service.sessions ≡ [])
-  queue_empty n x e h = go x.owner refl h
-    where
-      lives : cell_of s.cells x.object.name ≡ Some x
-      lives = cell_lives s.cells x.owner x w.good.tidy (cell_placed s.cells n x w.good.tidy e)
-
-      go : (q : Owner) → x.owner ≡ q → is_queue q ≡ true → (x.service.queue ≡ []) × (x.service.sessions ≡ [])
-      go (Elsewhere (Waits_at i m)) at h =
-          let there : held s.cells (Elsewhere (Waits_at i m)) ≡ Some x.object = ap (λ q. held s.cells q) (sym at) ∙ held_cell s.cells x.owner ∙ ap object_in (cell_placed s.cells n x w.good.tidy e) in
-          let none = fit.servers x.object (named_cell s.cells x.object.name ∙ ap object_in lives) (waiting_well p t wired s w i m x.object there) in
-          let same : service_of s.cells x.object.name ≡ x.service = service_cell s.cells x.object.name ∙ ap service_in lives in
-          (ap (λ (v : Service). v.queue) (sym same) ∙ none.0, ap (λ (v : Service). v.sessions) (sym same) ∙ none.1)
-      go _ at h = cc
+  queue_empty n x e h =
+      let lives : cell_of s.cells x.object.name ≡ Some x = cell_lives s.cells x.owner x w.good.tidy (cell_placed s.cells n x w.good.tidy e) in
+      let q = queue_owner x.owner h in
+      let there : held s.cells (Elsewhere (Waits_at q.0 q.1)) ≡ Some x.object = ap (held s.cells) (sym q.2) ∙ held_cell s.cells x.owner ∙ ap object_in (cell_placed s.cells n x w.good.tidy e) in
+      let none = fit.servers x.object (named_cell s.cells x.object.name ∙ ap object_in lives) (waiting_well p t wired s w q.0 q.1 x.object there) in
+      let same : service_of s.cells x.object.name ≡ x.service = service_cell s.cells x.object.name ∙ ap service_in lives in
+      (ap (λ (v : Service). v.queue) (sym same) ∙ none.0, ap (λ (v : Service). v.sessions) (sym same) ∙ none.1)
 
   -- a message that waits holds no slot but of a client that has a session there
   pub owed_there : (n m d : ℕ) → has_message (service_of s.cells n) m ≡ true → holds_slot d (service_of s.cells m).sender ≡ true → is_among d (service_of s.cells n).sessions ≡ true
@@ -171,12 +157,7 @@ module _ (p : Image) (t : Typing) (wired : IsWired p) (s : State) (w : WellTyped
       ap (λ i. is_among i (service_of s.cells n).sessions) (sym client) ∙ fit.listed n c.0 (open_server n (client_at clients c.0) (opens clients n c.0 m (service_of s.cells n).queue (fit.queues n) c.1))
     where
       of_client : (x : Option Sender) (c : ℕ) → is_from c x ≡ true → holds_slot d x ≡ true → c ≡ d
-      of_client None c f g = cc
-      of_client (Some x) c f g = go (x.client == d) refl g
-        where
-          go : (b : Bool) → (x.client == d) ≡ b → (b && x.holds_slot) ≡ true → c ≡ d
-          go true e g = sym (eqb-true x.client c f) ∙ eqb-true x.client d e
-          go false e g = cc
+      of_client x c f g = grind arith
 
   -- of a number that is free nothing is asked for
   pub free_nowhere : (m : ℕ) → named s.cells m ≡ None → (n : ℕ) → has_message (service_of s.cells n) m ≡ false
@@ -228,12 +209,14 @@ module _ (p : Image) (t : Typing) (wired : IsWired p) (s : State) (w : WellTyped
         sent = ap (is_from d) (sym (same.senders j) ∙ ap (sent_by (holds k j)) at) ∙ eq-eqb d d refl
 
         from_one : (x : Option Sender) (c : ℕ) → is_from c x ≡ true → is_from d x ≡ true → c ≡ d
-        from_one None c f g = cc
-        from_one (Some x) c f g = sym (eqb-true x.client c f) ∙ eqb-true x.client d g
+        from_one x c f g = grind arith
 
         queue : (q : Owner) → owner_of s.cells (message_name j) ≡ Some q → is_queue q ≡ true → has_message (service_of s.cells n) (message_name j) ≡ true
-        queue (Elsewhere (Waits_at i m)) e h =
-            let x = held_owner s.cells w.good.tidy (message_name j) (Elsewhere (Waits_at i m)) e in
+        queue q e h =
+            let o = queue_owner q h in
+            let i = o.0 in
+            let m = o.1 in
+            let x = held_owner s.cells w.good.tidy (message_name j) (Elsewhere (Waits_at i m)) (e ∙ ap (λ a. Some a) o.2) in
             let a = asked_there i m x.0 x.1 in
             let here : has_message (service_of s.cells i) (message_name j) ≡ true = ap (has_message (service_of s.cells i)) (sym x.2 ∙ a.0) ∙ a.1 in
             let c = asking (message_name j) (service_of s.cells i).queue here in
@@ -242,7 +225,6 @@ module _ (p : Image) (t : Typing) (wired : IsWired p) (s : State) (w : WellTyped
             let same_server : Some i ≡ Some n = sym open_there ∙ ap (λ y. server_of (client_at clients y)) client ∙ fit.sessions n d has in
             let one : i ≡ n = cc in
             ap (λ y. has_message (service_of s.cells y) (message_name j)) (sym one) ∙ here
-        queue _ e h = cc
 
         go : (x : Option Owner) → owner_of s.cells (message_name j) ≡ x → waits_in (owner_of s.cells (message_name j)) ≡ true → has_message (service_of s.cells n) (message_name j) ≡ true
         go None e h = absurd (false≢true (ap waits_in (sym e) ∙ h))
@@ -253,10 +235,7 @@ module _ (p : Image) (t : Typing) (wired : IsWired p) (s : State) (w : WellTyped
     completes_at g o m there apart name = go (kept.place_at k m) refl (same.taken m ∙ ap is_some (ap (named s.cells) (sym name) ∙ held_lives s.cells g o w.good.tidy there)) (same.waits m ∙ ap waits_in (ap (owner_of s.cells) (sym name) ∙ owner_held s.cells w.good.tidy g o there) ∙ apart)
       where
         go : (x : Place) → kept.place_at k m ≡ x → is_taken x ≡ true → is_queued x ≡ false → IsSome (completion x)
-        go Free at taken waits = cc
-        go (Queued d) at taken waits = cc
-        go (Held d) at taken waits = refl
-        go (Discarded d) at taken waits = refl
+        go x at taken waits = grind arith
 
 -- a client that is at something is one of those that there are
 module _ (cs : List Cell) (clients : List Client) (k : kept.State) (same : SameClients k cs clients) (c : ℕ) where

@@ -1,5 +1,5 @@
 -- What stands for clients goes on through each part of a service, and through the going of a cell: with the premises that a well-typed state whose clients are kept gives.
-use Rattle.std.proofs.Common.{Bool, List, None, Some, [], ap, arith, cond, false, length, refl, subst, sym, true, ℕ, ◌<◌, ◌==◌, ◌∙◌, ◌∷◌, ◌≡◌}
+use Rattle.std.proofs.Common.{Bool, List, None, Some, [], ap, arith, cond, false, length, refl, subst, sym, true, ℕ, ◌<◌, ◌==◌, ◌∙◌, ◌∷◌, ◌≡◌, slice_set}
 use Rattle.std.specs.List.{list_any}
 use Rattle.std.specs.Prelude.{◌||◌}
 use Rattle.std.proofs.lemmas.Bool.{eq-eqb, eqb-true, false≢true}
@@ -12,7 +12,7 @@ use Rattle.aom_clients.specs.declared.client.Client.TheVariants.{Closing, Connec
 use Rattle.aom_clients.specs.declared.entry.Entry.{Entry}
 use Rattle.aom_clients.specs.declared.entry.Entry.TheVariants.{Close, Connect, Message}
 use Rattle.aom_clients.specs.declared.place.Place.{Place}
-use Rattle.aom_clients.specs.declared.place.Place.TheVariants.{Discarded, Free, Held, Queued}
+use Rattle.aom_clients.specs.declared.place.Place.TheVariants.{Queued}
 use Rattle.aom_image.specs.Image.{Image}
 use Rattle.aom_rules.specs.Typing.{Typing}
 use Rattle.aom_sound.proofs.Maps.{held_lives}
@@ -28,7 +28,7 @@ use Rattle.aom_sound.specs.WellTyped.{WellTyped}
 use Rattle.aom_parts.proofs.Completing.{no_slot, same_completed}
 use Rattle.aom_parts.proofs.Departing.{at_set_or, is_at}
 use Rattle.aom_parts.proofs.Premises.{asked_there, closes_nowhere, connecting_below, connects_nowhere, goes_there, leaving_below, messages_wait, owed_there, owned_nowhere, owner_waiting, queue_empty, session_alone, waiting_there, waits_apart}
-use Rattle.aom_parts.proofs.Serving.{same_opened, same_parted, same_served, same_taken, same_unopened}
+use Rattle.aom_parts.proofs.Serving.{listed_as, same_opened, same_parted, same_served, same_taken, same_unopened}
 use Rattle.aom_parts.proofs.Still.{same_still, still_moved}
 use Rattle.aom_parts.proofs.Vanishing.{same_vanished}
 use Rattle.aom_parts.proofs.Withdrawing.{AllWait}
@@ -40,40 +40,15 @@ pub connecting_here : (k : kept.State) (cs : List Cell) (clients : List Client) 
 connecting_here k cs clients same n c at = go (kept.client_at k c) refl (ap (is_connecting_at n) (same.at c) ∙ at)
   where
     go : (x : Client) → kept.client_at k c ≡ x → is_connecting_at n (sessionless x) ≡ true → (slots : ℕ) × (kept.client_at k c ≡ Connecting n slots)
-    go (Connecting m slots) e h = (slots, e ∙ ap (λ i. Connecting i slots) (eqb-true m n h))
-    go Unconnected e h = cc
-    go (Open m session slots) e h = cc
-    go (Closing m session) e h = cc
-    go (Dying m session) e h = cc
-    go Gone e h = cc
-    go Dead e h = cc
+    go x e h = grind arith
 
 released_sessionless : (x : Client) → sessionless (released x) ≡ sessionless x
-released_sessionless Unconnected = refl
-released_sessionless (Connecting n slots) = refl
-released_sessionless (Open n session slots) = refl
-released_sessionless (Closing n session) = refl
-released_sessionless (Dying n session) = refl
-released_sessionless Gone = refl
-released_sessionless Dead = refl
+released_sessionless x = grind arith
 
 -- ---- a session is at hand to go
 
 pub same_released : (k : kept.State) (cs : List Cell) (clients : List Client) → SameClients k cs clients → (c : ℕ) → SameClients (kept.after_release c k) cs clients
-same_released k cs clients same c = record {
-  at = λ d. at d;
-  queues = same.queues;
-  sessions = same.sessions;
-  senders = same.senders;
-  taken = same.taken;
-  waits = same.waits;
-  slots_of = same.slots_of;
-  slotted = same.slotted;
-  once = same.once;
-  slots = same.slots;
-  many = length-set k.clients c (released (kept.client_at k c)) ∙ same.many;
-  lists = same.lists;
-}
+same_released k cs clients same c = listed_as k cs clients clients (slice_set k.clients c (released (kept.client_at k c))) k.queues same at same.queues (length-set k.clients c (released (kept.client_at k c)))
   where
     at : (d : ℕ) → sessionless (kept.client_at (kept.after_release c k) d) ≡ client_at clients d
     at d = ap sessionless (at_set_or Unconnected k.clients c d (released (kept.client_at k c)) (λ large. ap released (get_or_past k.clients c Unconnected large))) ∙ go (c == d) refl ∙ same.at d
@@ -191,7 +166,4 @@ module _ (p : Image) (t : Typing) (wired : IsWired p) (s : State) (w : WellTyped
         who = go (kept.place_at k m) refl waiting
           where
             go : (x : Place) → kept.place_at k m ≡ x → is_queued x ≡ true → (by : ℕ) × (kept.place_at k m ≡ Queued by)
-            go (Queued d) e h = (d, e)
-            go Free e h = cc
-            go (Held d) e h = cc
-            go (Discarded d) e h = cc
+            go x e h = grind arith

@@ -32,16 +32,13 @@ at_set none xs i j x small = go (i == j) refl
     go false e = get_or-set_other xs i j x none (λ d. false≢true (sym e ∙ eq-eqb i j (sym d)))
 
 or_false : (a : Bool) → (a || (false || false)) ≡ a
-or_false true = refl
-or_false false = refl
+or_false a = grind arith
 
 or_true : (a : Bool) → (a || (true || false)) ≡ true
-or_true true = refl
-or_true false = refl
+or_true a = grind arith
 
 pub front_false : (a b : Bool) → (a || b) ≡ false → (a ≡ false) × (b ≡ false)
-front_false true b e = cc
-front_false false b e = (refl, e)
+front_false x b e = grind arith
 
 -- a client is at something else on both sides
 pub client_set : (xs clients : List Client) (c : ℕ) (to to' : Client) → c < length xs → sessionless to ≡ to' → ((d : ℕ) → sessionless (slice_index_or xs d Unconnected) ≡ client_at clients d) →
@@ -201,21 +198,15 @@ still_taken s cs taken n v m = taken m ∙ ap is_some (sym (named_served cs n v 
 
 -- ---- a client is at something else, and nothing is asked
 
+-- clients are at other things, and what waits is told alike
+pub listed_as : (s : kept.State) (cs : List Cell) (clients after xs : List Client) (queues : List (List Entry)) → SameClients s cs clients → ((c : ℕ) → sessionless (slice_index_or xs c Unconnected) ≡ client_at after c) →
+    ((n : ℕ) → map (asked_by s.places) (slice_index_or queues n []) ≡ (service_of cs n).queue) → length xs ≡ length s.clients → SameClients (record s { clients = xs; queues = queues }) cs after
+listed_as s cs clients after xs queues same at waits long = let many = long ∙ same.many in assumption many
+
 pub same_client : (s : kept.State) (cs : List Cell) (clients : List Client) → SameClients s cs clients → (c : ℕ) → c < 64 → (to : Client) → SameClients (kept.with_client c to s) cs (with_client c (sessionless to) clients)
-same_client s cs clients same c client to = record {
-  at = client_set s.clients clients c to (sessionless to) (subst (λ n. c < n) (sym same.many) client) refl same.at;
-  queues = same.queues;
-  sessions = same.sessions;
-  senders = same.senders;
-  taken = same.taken;
-  waits = same.waits;
-  slots_of = same.slots_of;
-  slotted = same.slotted;
-  once = same.once;
-  slots = same.slots;
-  many = length-set s.clients c to ∙ same.many;
-  lists = same.lists;
-}
+same_client s cs clients same c client to =
+    listed_as s cs clients (with_client c (sessionless to) clients) (slice_set s.clients c to) s.queues same (client_set s.clients clients c to (sessionless to) (subst (λ n. c < n) (sym same.many) client) refl same.at) same.queues
+    (length-set s.clients c to)
 
 -- ---- a connect
 
@@ -223,43 +214,42 @@ module _ (s : kept.State) (cs : List Cell) (clients : List Client) (same : SameC
   numbered : c < length s.clients
   numbered = subst (λ n. c < n) (sym same.many) client
 
+  -- what the server has changes, but not whose message it is
+  served_as : (f : Service → Service) → ((v : Service) → (f v).sender ≡ v.sender) → (after xs : List Client) (queues : List (List Entry)) (sessions : List (List ℕ)) → ((d : ℕ) → sessionless (slice_index_or xs d Unconnected) ≡ client_at after d) →
+      ((n : ℕ) → map (asked_by s.places) (slice_index_or queues n []) ≡ (service_of (reserved f o.name cs) n).queue) → ((n : ℕ) → slice_index_or sessions n [] ≡ (service_of (reserved f o.name cs) n).sessions) → length xs ≡ length s.clients →
+      SameClients (record s { clients = xs; queues = queues; sessions = sessions }) (reserved f o.name cs) after
+  served_as f sender after xs queues sessions at waits listed long = record {
+    at = at;
+    queues = waits;
+    sessions = listed;
+    senders = λ m. same.senders m ∙ sym (sender_then cs o lives tidy f sender (message_name m));
+    taken = still_taken s cs same.taken o.name _;
+    waits = λ m. same.waits m ∙ ap waits_in (sym (owner_served cs o.name _ (message_name m)));
+    slots_of = λ d m. same.slots_of d m ∙ ap (holds_slot d) (sym (sender_then cs o lives tidy f sender (message_name m)));
+    slotted = same.slotted;
+    once = same.once;
+    slots = λ d. same.slots d ∙ sym (slots_then cs o lives tidy f sender d);
+    many = long ∙ same.many;
+    lists = same.lists;
+  }
+
   module _ (slots : ℕ) (queue : o.name < length s.queues) where
     pub same_connecting :
         SameClients (kept.queued o.name (Connect c) (kept.with_client c (Connecting o.name slots) s)) (reserved (asked_last (Connect_of c)) o.name cs) (with_client c (Connecting o.name slots) clients)
-    same_connecting = record {
-      at = client_set s.clients clients c (Connecting o.name slots) (Connecting o.name slots) numbered refl same.at;
-      queues = listed_then cs o lives tidy (asked_last (Connect_of c)) s.queues (kept.queue_at s o.name ++ Connect c ∷ []) (λ es. map (asked_by s.places) es) (λ v. v.queue) queue
-          (map-append (asked_by s.places) (kept.queue_at s o.name) (Connect c ∷ []) ∙ ap (λ es. es ++ Connect_of c ∷ []) (same.queues o.name)) same.queues;
-      sessions = λ n. by_service cs o lives tidy (asked_last (Connect_of c)) (λ n v. kept.sessions_at s n ≡ v.sessions) (same.sessions o.name) (λ n other. same.sessions n) n;
-      senders = λ m. same.senders m ∙ sym (sender_then cs o lives tidy (asked_last (Connect_of c)) (λ v. refl) (message_name m));
-      taken = still_taken s cs same.taken o.name _;
-      waits = λ m. same.waits m ∙ ap waits_in (sym (owner_served cs o.name _ (message_name m)));
-      slots_of = λ d m. same.slots_of d m ∙ ap (holds_slot d) (sym (sender_then cs o lives tidy (asked_last (Connect_of c)) (λ v. refl) (message_name m)));
-      slotted = same.slotted;
-      once = same.once;
-      slots = λ d. same.slots d ∙ sym (slots_then cs o lives tidy (asked_last (Connect_of c)) (λ v. refl) d);
-      many = length-set s.clients c (Connecting o.name slots) ∙ same.many;
-      lists = same.lists;
-    }
+    same_connecting =
+        served_as (asked_last (Connect_of c)) (λ v. refl) _ _ _ _ (client_set s.clients clients c (Connecting o.name slots) (Connecting o.name slots) numbered refl same.at)
+        (listed_then cs o lives tidy (asked_last (Connect_of c)) s.queues (kept.queue_at s o.name ++ Connect c ∷ []) (λ es. map (asked_by s.places) es) (λ v. v.queue) queue
+        (map-append (asked_by s.places) (kept.queue_at s o.name) (Connect c ∷ []) ∙ ap (λ es. es ++ Connect_of c ∷ []) (same.queues o.name)) same.queues)
+        (λ n. by_service cs o lives tidy (asked_last (Connect_of c)) (λ n v. kept.sessions_at s n ≡ v.sessions) (same.sessions o.name) (λ n other. same.sessions n) n) (length-set s.clients c (Connecting o.name slots))
 
   -- a close is asked for, and no client is at anything else
   module _ (queue : o.name < length s.queues) where
     pub same_closing : SameClients (kept.queued o.name (Close c) s) (reserved (asked_last (Close_of c)) o.name cs) clients
-    same_closing = record {
-      at = same.at;
-      queues = listed_then cs o lives tidy (asked_last (Close_of c)) s.queues (kept.queue_at s o.name ++ Close c ∷ []) (λ es. map (asked_by s.places) es) (λ v. v.queue) queue
-          (map-append (asked_by s.places) (kept.queue_at s o.name) (Close c ∷ []) ∙ ap (λ es. es ++ Close_of c ∷ []) (same.queues o.name)) same.queues;
-      sessions = λ n. by_service cs o lives tidy (asked_last (Close_of c)) (λ n v. kept.sessions_at s n ≡ v.sessions) (same.sessions o.name) (λ n other. same.sessions n) n;
-      senders = λ m. same.senders m ∙ sym (sender_then cs o lives tidy (asked_last (Close_of c)) (λ v. refl) (message_name m));
-      taken = still_taken s cs same.taken o.name _;
-      waits = λ m. same.waits m ∙ ap waits_in (sym (owner_served cs o.name _ (message_name m)));
-      slots_of = λ d m. same.slots_of d m ∙ ap (holds_slot d) (sym (sender_then cs o lives tidy (asked_last (Close_of c)) (λ v. refl) (message_name m)));
-      slotted = same.slotted;
-      once = same.once;
-      slots = λ d. same.slots d ∙ sym (slots_then cs o lives tidy (asked_last (Close_of c)) (λ v. refl) d);
-      many = same.many;
-      lists = same.lists;
-    }
+    same_closing =
+        served_as (asked_last (Close_of c)) (λ v. refl) _ _ _ _ same.at
+        (listed_then cs o lives tidy (asked_last (Close_of c)) s.queues (kept.queue_at s o.name ++ Close c ∷ []) (λ es. map (asked_by s.places) es) (λ v. v.queue) queue
+        (map-append (asked_by s.places) (kept.queue_at s o.name) (Close c ∷ []) ∙ ap (λ es. es ++ Close_of c ∷ []) (same.queues o.name)) same.queues)
+        (λ n. by_service cs o lives tidy (asked_last (Close_of c)) (λ n v. kept.sessions_at s n ≡ v.sessions) (same.sessions o.name) (λ n other. same.sessions n) n) refl
 
   -- ---- the first of a queue is taken
 
@@ -269,20 +259,10 @@ module _ (s : kept.State) (cs : List Cell) (clients : List Client) (same : SameC
     first_asked = sym (same.queues o.name) ∙ ap (λ l. map (asked_by s.places) l) at
 
     pub same_taken : SameClients (kept.with_queue o.name es s) (reserved taken_first o.name cs) clients
-    same_taken = record {
-      at = same.at;
-      queues = listed_then cs o lives tidy taken_first s.queues es (λ l. map (asked_by s.places) l) (λ v. v.queue) queue (sym (ap rest_of first_asked)) same.queues;
-      sessions = λ n. by_service cs o lives tidy taken_first (λ n v. kept.sessions_at s n ≡ v.sessions) (same.sessions o.name) (λ n other. same.sessions n) n;
-      senders = λ m. same.senders m ∙ sym (sender_then cs o lives tidy taken_first (λ v. refl) (message_name m));
-      taken = still_taken s cs same.taken o.name _;
-      waits = λ m. same.waits m ∙ ap waits_in (sym (owner_served cs o.name _ (message_name m)));
-      slots_of = λ d m. same.slots_of d m ∙ ap (holds_slot d) (sym (sender_then cs o lives tidy taken_first (λ v. refl) (message_name m)));
-      slotted = same.slotted;
-      once = same.once;
-      slots = λ d. same.slots d ∙ sym (slots_then cs o lives tidy taken_first (λ v. refl) d);
-      many = same.many;
-      lists = same.lists;
-    }
+    same_taken =
+        served_as taken_first (λ v. refl) _ _ _ _ same.at
+        (listed_then cs o lives tidy taken_first s.queues es (λ l. map (asked_by s.places) l) (λ v. v.queue) queue (sym (ap rest_of first_asked)) same.queues)
+        (λ n. by_service cs o lives tidy taken_first (λ n v. kept.sessions_at s n ≡ v.sessions) (same.sessions o.name) (λ n other. same.sessions n) n) refl
 
   -- ---- a session opens
 
@@ -296,38 +276,17 @@ module _ (s : kept.State) (cs : List Cell) (clients : List Client) (same : SameC
 
     pub same_opened :
         SameClients (kept.opened (Connecting o.name slots) (Some session) c s) (reserved (opened c) o.name cs) (with_client c (at_opening 0 (client_at clients c)) clients)
-    same_opened = record {
-      at = subst (λ x. (d : ℕ) → sessionless (kept.client_at (kept.with_client c (Open o.name session slots) s) d) ≡ client_at (with_client c (at_opening 0 x) clients) d) (sym own)
-          (client_set s.clients clients c (Open o.name session slots) (Open o.name 0 slots) numbered refl same.at);
-      queues = λ n. ap (λ l. map (asked_by s.places) l) (unqueued n) ∙ by_service cs o lives tidy (opened c) (λ n v. map (asked_by s.places) (kept.queue_at s n) ≡ v.queue) (same.queues o.name) (λ n other. same.queues n) n;
-      sessions = listed_then cs o lives tidy (opened c) s.sessions (kept.sessions_at s o.name ++ c ∷ []) (λ l. l) (λ v. v.sessions) server (ap (λ l. l ++ c ∷ []) (same.sessions o.name)) same.sessions;
-      senders = λ m. same.senders m ∙ sym (sender_then cs o lives tidy (opened c) (λ v. refl) (message_name m));
-      taken = still_taken s cs same.taken o.name _;
-      waits = λ m. same.waits m ∙ ap waits_in (sym (owner_served cs o.name _ (message_name m)));
-      slots_of = λ d m. same.slots_of d m ∙ ap (holds_slot d) (sym (sender_then cs o lives tidy (opened c) (λ v. refl) (message_name m)));
-      slotted = same.slotted;
-      once = same.once;
-      slots = λ d. same.slots d ∙ sym (slots_then cs o lives tidy (opened c) (λ v. refl) d);
-      many = length-set s.clients c (Open o.name session slots) ∙ same.many;
-      lists = same.lists;
-    }
+    same_opened =
+        served_as (opened c) (λ v. refl) _ _ _ _ (subst (λ x. (d : ℕ) → sessionless (kept.client_at (kept.with_client c (Open o.name session slots) s) d) ≡ client_at (with_client c (at_opening 0 x) clients) d) (sym own)
+        (client_set s.clients clients c (Open o.name session slots) (Open o.name 0 slots) numbered refl same.at))
+        (λ n. ap (λ l. map (asked_by s.places) l) (unqueued n) ∙ by_service cs o lives tidy (opened c) (λ n v. map (asked_by s.places) (kept.queue_at s n) ≡ v.queue) (same.queues o.name) (λ n other. same.queues n) n)
+        (listed_then cs o lives tidy (opened c) s.sessions (kept.sessions_at s o.name ++ c ∷ []) (λ l. l) (λ v. v.sessions) server (ap (λ l. l ++ c ∷ []) (same.sessions o.name)) same.sessions) (length-set s.clients c (Open o.name session slots))
 
     -- or none does
     pub same_unopened : SameClients (kept.opened (Connecting o.name slots) None c s) cs (with_client c Unconnected clients)
-    same_unopened = record {
-      at = client_set s.clients clients c Unconnected Unconnected numbered refl same.at;
-      queues = λ n. ap (λ l. map (asked_by s.places) l) (unqueued n) ∙ same.queues n;
-      sessions = same.sessions;
-      senders = same.senders;
-      taken = same.taken;
-      waits = same.waits;
-      slots_of = same.slots_of;
-      slotted = same.slotted;
-      once = same.once;
-      slots = same.slots;
-      many = length-set s.clients c Unconnected ∙ same.many;
-      lists = same.lists;
-    }
+    same_unopened =
+        listed_as s cs clients (with_client c Unconnected clients) (slice_set s.clients c Unconnected) (map (λ es. filter (kept.is_no_connect_of c) es) s.queues) same (client_set s.clients clients c Unconnected Unconnected numbered refl same.at)
+        (λ n. ap (λ l. map (asked_by s.places) l) (unqueued n) ∙ same.queues n) (length-set s.clients c Unconnected)
 
   -- ---- a session is closed
 
@@ -337,22 +296,12 @@ module _ (s : kept.State) (cs : List Cell) (clients : List Client) (same : SameC
     unclosed n = map_at (λ es. filter (kept.is_no_close_of c) es) s.queues n refl ∙ no_closes s.places c (kept.queue_at s n) (ap (λ l. list_any (is_close_of c) l) (same.queues n) ∙ none n)
 
     pub same_parted : SameClients (kept.parted c next s) (reserved (parted c) o.name cs) (with_client c next clients)
-    same_parted = record {
-      at = client_set s.clients clients c next next numbered plain same.at;
-      queues = λ n. ap (λ l. map (asked_by s.places) l) (unclosed n) ∙ by_service cs o lives tidy (parted c) (λ n v. map (asked_by s.places) (kept.queue_at s n) ≡ v.queue) (same.queues o.name) (λ n other. same.queues n) n;
-      sessions = λ n. map_at (λ l. filter (λ d. not (d == c)) l) s.sessions n refl
-          ∙ by_service cs o lives tidy (parted c) (λ n v. filter (λ d. not (d == c)) (kept.sessions_at s n) ≡ v.sessions) (ap (λ l. filter (λ d. not (d == c)) l) (same.sessions o.name))
-          (λ n other. ap (λ l. filter (λ d. not (d == c)) l) (same.sessions n) ∙ none_parted c (service_of cs n).sessions (only n other)) n;
-      senders = λ m. same.senders m ∙ sym (sender_then cs o lives tidy (parted c) (λ v. refl) (message_name m));
-      taken = still_taken s cs same.taken o.name _;
-      waits = λ m. same.waits m ∙ ap waits_in (sym (owner_served cs o.name _ (message_name m)));
-      slots_of = λ d m. same.slots_of d m ∙ ap (holds_slot d) (sym (sender_then cs o lives tidy (parted c) (λ v. refl) (message_name m)));
-      slotted = same.slotted;
-      once = same.once;
-      slots = λ d. same.slots d ∙ sym (slots_then cs o lives tidy (parted c) (λ v. refl) d);
-      many = length-set s.clients c next ∙ same.many;
-      lists = same.lists;
-    }
+    same_parted =
+        served_as (parted c) (λ v. refl) _ _ _ _ (client_set s.clients clients c next next numbered plain same.at)
+        (λ n. ap (λ l. map (asked_by s.places) l) (unclosed n) ∙ by_service cs o lives tidy (parted c) (λ n v. map (asked_by s.places) (kept.queue_at s n) ≡ v.queue) (same.queues o.name) (λ n other. same.queues n) n)
+        (λ n. map_at (λ l. filter (λ d. not (d == c)) l) s.sessions n refl
+        ∙ by_service cs o lives tidy (parted c) (λ n v. filter (λ d. not (d == c)) (kept.sessions_at s n) ≡ v.sessions) (ap (λ l. filter (λ d. not (d == c)) l) (same.sessions o.name))
+        (λ n other. ap (λ l. filter (λ d. not (d == c)) l) (same.sessions n) ∙ none_parted c (service_of cs n).sessions (only n other)) n) (length-set s.clients c next)
 
   -- ---- the first of a queue is a message, which is served
 
@@ -474,14 +423,18 @@ module _ (s : kept.State) (cs : List Cell) (clients : List Client) (same : SameC
             length-append (kept.sent_at s c) (m ∷ []) ∙ plus_one (length (kept.sent_at s c)) ∙ ap suc (ap (λ i. length (kept.sent_at s i)) (eqb-true c d e) ∙ same.slots d ∙ sym rest)
         go false e = same.slots d ∙ sym rest
 
-    waits_then : (j : ℕ) → is_queued (kept.place_at sent j) ≡ waits_in (owner_of (message ∷ behind) (message_name j))
-    waits_then j = ap is_queued (places_at j) ∙ go (m == j) refl
+    -- what is told of the place that is taken, and of all others
+    told_new : {A B : Type 0} (f : Place → A) (g : B → A) (j : ℕ) (x y : B) → f (Queued c) ≡ g x → ((m == j) ≡ false → f (kept.place_at s j) ≡ g y) → f (kept.place_at sent j) ≡ g (cond (message_name m == message_name j) x y)
+    told_new f g j x y here others = ap f (places_at j) ∙ go (m == j) refl
       where
-        go : (b : Bool) → (m == j) ≡ b → is_queued (cond b (Queued c) (kept.place_at s j)) ≡ waits_in (cond (message_name m == message_name j) (Some message.owner) (owner_of behind (message_name j)))
-        go true e = sym (ap (λ x. waits_in (cond x (Some message.owner) (owner_of behind (message_name j)))) (eq-eqb (message_name m) (message_name j) (ap message_name (eqb-true m j e))))
-        go false e =
-            same.waits j ∙ sym (ap (λ x. waits_in (cond x (Some message.owner) (owner_of behind (message_name j)))) (names_apart m j e)
-            ∙ ap waits_in (owner_served cs o.name (asked_last (Message_of c (message_name m)) (service_of cs o.name)) (message_name j)))
+        go : (b : Bool) → (m == j) ≡ b → f (cond b (Queued c) (kept.place_at s j)) ≡ g (cond (message_name m == message_name j) x y)
+        go true e = here ∙ sym (ap (λ b. g (cond b x y)) (eq-eqb (message_name m) (message_name j) (ap message_name (eqb-true m j e))))
+        go false e = others e ∙ sym (ap (λ b. g (cond b x y)) (names_apart m j e))
+
+    waits_then : (j : ℕ) → is_queued (kept.place_at sent j) ≡ waits_in (owner_of (message ∷ behind) (message_name j))
+    waits_then j =
+        told_new is_queued waits_in j (Some message.owner) (owner_of behind (message_name j)) refl
+        (λ e. same.waits j ∙ sym (ap waits_in (owner_served cs o.name (asked_last (Message_of c (message_name m)) (service_of cs o.name)) (message_name j))))
 
     senders_after : (j : ℕ) → sent_by (holds sent j) (kept.place_at sent j) ≡ (service_of (message ∷ behind) (message_name j)).sender
     senders_after j = ap (λ x. sent_by (is_among j (kept.sent_at sent (sender x))) x) (places_at j) ∙ go (m == j) refl
@@ -508,12 +461,7 @@ module _ (s : kept.State) (cs : List Cell) (clients : List Client) (same : SameC
             ∙ sender_then cs o lives tidy (asked_last (Message_of c (message_name m))) (λ v. refl) (message_name j))
 
     taken_after : (j : ℕ) → is_taken (kept.place_at sent j) ≡ is_some (named (message ∷ behind) (message_name j))
-    taken_after j = ap is_taken (places_at j) ∙ go (m == j) refl
-      where
-        go : (b : Bool) → (m == j) ≡ b → is_taken (cond b (Queued c) (kept.place_at s j)) ≡ is_some (cond (message_name m == message_name j) (Some message.object) (named behind (message_name j)))
-        go true e = sym (ap (λ x. is_some (cond x (Some message.object) (named behind (message_name j)))) (eq-eqb (message_name m) (message_name j) (ap message_name (eqb-true m j e))))
-        go false e =
-            still_taken s cs same.taken o.name _ j ∙ sym (ap (λ x. is_some (cond x (Some message.object) (named behind (message_name j)))) (names_apart m j e))
+    taken_after j = told_new is_taken is_some j (Some message.object) (named behind (message_name j)) refl (λ e. still_taken s cs same.taken o.name _ j)
 
     -- what the new cell has is nothing, of those that have a queue
     other_service : (n : ℕ) → ((service_of (message ∷ behind) n).queue ≡ (service_of behind n).queue) × ((service_of (message ∷ behind) n).sessions ≡ (service_of behind n).sessions)

@@ -1,5 +1,5 @@
 -- The sessions of cells, where cells move, change, come and go.
-use Rattle.std.proofs.Common.{ap, Bool, cond, false, List, None, Option, refl, Some, suc, sym, true, ℕ, ℤ, ◌==◌, ◌∙◌, ◌∷◌, ◌≡◌, [], pos}
+use Rattle.std.proofs.Common.{ap, Bool, cond, false, List, None, Option, refl, Some, suc, sym, true, ℕ, ℤ, ◌==◌, ◌∙◌, ◌∷◌, ◌≡◌, [], pos, arith}
 use Rattle.std.proofs.lemmas.Bool.{eqb-true, eqb-false, false≢true}
 use Rattle.aom_image.specs.Image.{Image}
 use Rattle.aom_image.specs.declared.method.Argument.{Argument}
@@ -27,8 +27,7 @@ unnamed_closed [] n e = refl
 unnamed_closed (c ∷ cs) n e = go (c.object.name == n) e (unnamed_closed cs n)
   where
     go : (b : Bool) → cond b (Some c.object) (named cs n) ≡ None → (named cs n ≡ None → in_session cs n ≡ false) → cond b c.session (in_session cs n) ≡ false
-    go true e rest = cc
-    go false e rest = rest e
+    go x e rest = grind arith
 
 session_moved : (cs : List Cell) (p q : Place) (n : ℕ) → in_session (moved p q cs) n ≡ in_session cs n
 session_moved [] p q n = refl

@@ -5,7 +5,7 @@ use Rattle.std.proofs.lemmas.List.{length-map, length-set}
 use Rattle.aom_clients.specs.Clients as kept
 use Rattle.aom_clients.specs.Table.{held_place, row}
 use Rattle.aom_clients.specs.declared.client.Client.{Client}
-use Rattle.aom_clients.specs.declared.client.Client.TheVariants.{Closing, Connecting, Dead, Dying, Gone, Open, Unconnected}
+use Rattle.aom_clients.specs.declared.client.Client.TheVariants.{Closing, Connecting, Dead, Dying, Open, Unconnected}
 use Rattle.aom_clients.specs.declared.entry.Entry.{Entry}
 use Rattle.aom_clients.specs.declared.entry.Entry.TheVariants.{Close, Connect, Message}
 use Rattle.aom_clients.specs.declared.place.Place.TheVariants.{Free, Queued}
@@ -30,12 +30,7 @@ module _ (cells : ℕ) (k : kept.State) (sized : AreSized cells k) where
       go (Connecting n slots) (Some session) =
           sized_so (kept.opened (Connecting n slots) (Some session) c k) refl (length-map k.queues (λ es. filter (kept.is_no_connect_of c) es)) (length-set k.sessions n (kept.sessions_at k n ++ c ∷ []))
       go (Connecting n slots) None = sized_so (kept.opened (Connecting n slots) None c k) refl (length-map k.queues (λ es. filter (kept.is_no_connect_of c) es)) refl
-      go Unconnected session = sized
-      go (Open n session' slots) session = sized
-      go (Closing n session') session = sized
-      go Gone session = sized
-      go Dead session = sized
-      go (Dying n session') session = sized
+      go _ session = sized
 
   pub sized_closed : (c : ℕ) → AreSized cells (kept.after_closed c k)
   sized_closed c = go (kept.client_at k c)
@@ -46,11 +41,7 @@ module _ (cells : ℕ) (k : kept.State) (sized : AreSized cells k) where
       go : (x : Client) → AreSized cells (kept.ended x c k)
       go (Closing n session) = parted Unconnected
       go (Dying n session) = parted Dead
-      go Unconnected = sized
-      go (Connecting n slots) = sized
-      go (Open n session slots) = sized
-      go Gone = sized
-      go Dead = sized
+      go _ = sized
 
   pub sized_released : (c : ℕ) → AreSized cells (kept.after_release c k)
   sized_released c = sized_so (kept.after_release c k) refl refl refl
@@ -78,22 +69,14 @@ module _ (cells : ℕ) (k : kept.State) (sized : AreSized cells k) where
     where
       go : (refusal : Option Refusal) (server : Option Server) → AreSized cells (kept.connecting refusal c server slots k)
       go None (Some x) = sized_so (kept.connecting None c (Some x) slots k) refl (length-set k.queues x.cell (kept.queue_at k x.cell ++ Connect c ∷ [])) refl
-      go None None = sized
-      go (Some r) server = sized
+      go _ server = sized
 
   pub sized_send : (c : ℕ) (place : Option ℕ) → AreSized cells (kept.after_send c place k)
   sized_send c place = go (kept.send_refusal c place k) (kept.client_at k c) place
     where
       go : (refusal : Option Refusal) (x : Client) (place : Option ℕ) → AreSized cells (kept.sending refusal x c place k)
       go None (Open n session slots) (Some m) = sized_so (kept.sending None (Open n session slots) c (Some m) k) (length-set k.places m (Queued c)) (length-set k.queues n (kept.queue_at k n ++ Message m ∷ [])) refl
-      go None (Open n session slots) None = sized
-      go None Unconnected place = sized
-      go None (Connecting n slots) place = sized
-      go None (Closing n session) place = sized
-      go None Gone place = sized
-      go None Dead place = sized
-      go None (Dying n session) place = sized
-      go (Some r) x place = sized
+      go _ x place = sized
 
   leaving_sized : (c : ℕ) (to : Option Client) → AreSized cells (kept.leaving to c k)
   leaving_sized c None = sized
@@ -111,12 +94,7 @@ module _ (cells : ℕ) (k : kept.State) (sized : AreSized cells k) where
       go : (x : Client) → AreSized cells (kept.told x c (kept.with_client c to (kept.withdrawn c k)))
       go (Open n session slots) =
           sized_so (kept.queued n (Close c) (kept.with_client c to (kept.withdrawn c k))) places (length-set (kept.withdrawn c k).queues n (kept.queue_at (kept.withdrawn c k) n ++ Close c ∷ []) ∙ queues) refl
-      go Unconnected = plain
-      go (Connecting n slots) = plain
-      go (Closing n session) = plain
-      go Gone = plain
-      go Dead = plain
-      go (Dying n session) = plain
+      go _ = plain
 
   pub sized_close : (c : ℕ) → AreSized cells (kept.after_close c k)
   sized_close c = leaving_sized c (row (kept.client_at k c)).close

@@ -1,29 +1,18 @@
 -- Where cells change of which clients have nothing, what stands for clients goes on: by the cells one after another.
-use Rattle.std.proofs.Common.{Bool, List, None, Option, Some, [], ap, arith, cond, false, length, refl, suc, sym, true, ℕ, ℤ, ◌<◌, ◌==◌, ◌∙◌, ◌∷◌, ◌≡◌}
+use Rattle.std.proofs.Common.{Bool, List, None, Option, Some, [], ap, arith, cond, false, refl, suc, sym, true, ℕ, ℤ, ◌<◌, ◌==◌, ◌∙◌, ◌∷◌, ◌≡◌}
 use Rattle.std.specs.Prelude.{is_some, pos}
 use Rattle.std.proofs.lemmas.Bool.{eqb-true, ne_eqb}
 use Rattle.aom_clients.specs.Clients as kept
 use Rattle.aom_clients.specs.declared.client.Client.{Client}
 use Rattle.aom_image.specs.Image.{Image}
-use Rattle.aom_image.specs.declared.method.Argument.{Argument}
-use Rattle.aom_image.specs.declared.method.Argument.TheVariants.{Own as Takes_own, Word as Takes_word}
-use Rattle.aom_image.specs.declared.method.Gives.{Gives}
-use Rattle.aom_image.specs.declared.method.Gives.TheVariants.{Left, Maybe as A_maybe, Nothing, Own as An_own, Word as A_word}
 use Rattle.aom_image.specs.declared.method.Thing.{Thing}
-use Rattle.aom_image.specs.Views.{method_role}
 use Rattle.aom_shape.specs.Tables.{put_at}
 use Rattle.aom_sound.proofs.Maps.{named_moved, same_place-true}
 use Rattle.aom_sound.proofs.Services.{service_moved, service_unnamed}
-use Rattle.aom_sound.specs.Calls.{passed_cells, result_cells}
-use Rattle.aom_sound.specs.Cleanup.{top_place}
-use Rattle.aom_sound.specs.Effects.{Carried, In_field, In_register, Made, Popped, Pushed, Replied, Requested, Sessioned, Spot, The_message, Update, Written, cells_after, spot_place, Same, Pushed_operation, Popped_operation}
-use Rattle.aom_sound.specs.Enlisted.{cancelled, ended_cells, on_request, own_request, rerequested}
-use Rattle.aom_rules.specs.Requests.{is_cancel}
 use Rattle.aom_sound.specs.Natives.{all_bereaved, bereaved, resessioned}
-use Rattle.aom_sound.specs.Places.{Cell, Entry, Object, Place as Owner, Register, Request, Service, moved, named, same_place, service_of, set_request, set_session, set_word_field, unserved, with_new}
+use Rattle.aom_sound.specs.Places.{Cell, Object, Place as Owner, Request, Service, moved, named, same_place, service_of, set_request, set_session, set_word_field, unserved, with_new}
 use Rattle.aom_sound.specs.Servers.{holds_slot, is_queue, slots_taken}
-use Rattle.aom_sound.specs.State.{AtRoot, Frame, Home, Inside, State, Static, Task, field_place}
-use Rattle.aom_sound.specs.Words.{here, stored}
+use Rattle.aom_sound.specs.State.{AtRoot, Home, Inside, Static}
 use Rattle.aom_parts.proofs.Serving.{moved_from, owner_moved, slots_moved}
 use Rattle.aom_parts.specs.Serving.{SameClients, message_name, owner_of, waits_in}
 

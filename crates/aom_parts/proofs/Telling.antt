@@ -1,5 +1,5 @@
 -- What clients are told of messages is told on both sides alike: by the places of these messages.
-use Rattle.std.proofs.Common.{Bool, List, None, Option, Some, [], ap, cond, false, refl, slice_index_or, sym, true, ℕ, ℤ, ◌∙◌, ◌∷◌, ◌≡◌, ◌++◌}
+use Rattle.std.proofs.Common.{Bool, List, None, Option, Some, [], ap, cond, false, refl, slice_index_or, sym, true, ℕ, ℤ, ◌∙◌, ◌∷◌, ◌≡◌, ◌++◌, arith}
 use Rattle.std.specs.Prelude.{flat_map, map}
 use Rattle.aom_clients.specs.Clients as kept
 use Rattle.aom_clients.specs.Table.{code_of, completion, is_queued, sender}
@@ -8,7 +8,7 @@ use Rattle.aom_clients.specs.declared.entry.Entry.{Entry}
 use Rattle.aom_clients.specs.declared.entry.Entry.TheVariants.{Close, Connect, Message}
 use Rattle.aom_clients.specs.declared.place.Completion.{Completion}
 use Rattle.aom_clients.specs.declared.place.Place.{Place}
-use Rattle.aom_clients.specs.declared.place.Place.TheVariants.{Discarded, Free, Held, Queued}
+use Rattle.aom_clients.specs.declared.place.Place.TheVariants.{Free}
 use Rattle.aom_clients.specs.declared.refusal.Refusal.TheVariants.{ServerTerminated}
 use Rattle.aom_sound.specs.Lines.{ended_line, message_line, queue_lines, told_line}
 use Rattle.aom_sound.specs.Places.{Cell, Object, service_of}
@@ -29,10 +29,7 @@ gone_lines places (Message m) = Reply (sender (slice_index_or places m Free)) (c
 gone_lines places (Close c) = []
 
 told_place : (code : ℤ) (slot : Bool) (x : Place) → is_queued x ≡ false → told_line code (sent_by slot x) ≡ completed_lines code (completion x)
-told_place code slot Free e = refl
-told_place code slot (Queued d) e = cc
-told_place code slot (Held d) e = refl
-told_place code slot (Discarded d) e = refl
+told_place code slot x e = grind arith
 
 module _ (k : kept.State) (cs : List Cell) (clients : List Client) (same : SameClients k cs clients) where
   -- a message that was taken
@@ -44,10 +41,7 @@ module _ (k : kept.State) (cs : List Cell) (clients : List Client) (same : SameC
   waiting_told m waits = ap (told_line (code_of ServerTerminated)) (sym (same.senders m)) ∙ go (kept.place_at k m) waits
     where
       go : (x : Place) → is_queued x ≡ true → told_line (code_of ServerTerminated) (sent_by (holds k m) x) ≡ Reply (sender x) (code_of ServerTerminated) ∷ []
-      go (Queued d) e = refl
-      go Free e = cc
-      go (Held d) e = cc
-      go (Discarded d) e = cc
+      go x e = grind arith
 
   entries_told : (es : List Entry) → AllWait k.places es → flat_map (ended_line cs) (map (asked_by k.places) es) ≡ flat_map (gone_lines k.places) es
   entries_told [] waits = refl

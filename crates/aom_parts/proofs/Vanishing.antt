@@ -1,12 +1,12 @@
 -- A cell goes, a server with its queue and its sessions, and what stands for clients goes on standing for them.
-use Rattle.std.proofs.Common.{Bool, List, None, Option, Some, [], ap, arith, cond, false, length, refl, slice_index_or, subst, suc, sym, true, ℕ, ◌&&◌, ◌<◌, ◌==◌, ◌∙◌, ◌∷◌, ◌≡◌}
+use Rattle.std.proofs.Common.{Bool, List, None, Option, Some, [], ap, arith, cond, false, length, refl, slice_index_or, subst, suc, sym, true, ℕ, ◌&&◌, ◌<◌, ◌==◌, ◌∙◌, ◌∷◌, ◌≡◌, inl, inr, ◌⊎◌}
 use Rattle.std.specs.List.{list_any}
 use Rattle.std.specs.Prelude.{filter, is_some, map, not, ◌||◌}
-use Rattle.std.proofs.lemmas.Bool.{eq-eqb, eqb-true, false≢true, ne_eqb}
+use Rattle.std.proofs.lemmas.Bool.{eq-eqb, eqb-true, false≢true}
 use Rattle.aom_clients.specs.Clients as kept
 use Rattle.aom_clients.specs.Table.{at_gone, is_queued, sender}
 use Rattle.aom_clients.specs.declared.client.Client.{Client}
-use Rattle.aom_clients.specs.declared.client.Client.TheVariants.{Closing, Connecting, Dead, Dying, Gone, Open, Unconnected}
+use Rattle.aom_clients.specs.declared.client.Client.TheVariants.{Unconnected}
 use Rattle.aom_clients.specs.declared.entry.Entry.{Entry}
 use Rattle.aom_clients.specs.declared.entry.Entry.TheVariants.{Close, Connect, Message}
 use Rattle.aom_clients.specs.declared.place.Place.{Place}
@@ -20,12 +20,16 @@ use Rattle.aom_sound.specs.Clients.{client_at, each_unslotted, queue_ended, sess
 use Rattle.aom_sound.specs.Kept.{is_connect_of}
 use Rattle.aom_sound.specs.Places.{Cell, Close_of, Connect_of, Elsewhere, Message_of, Object, Place as Owner, Queued as Waits_at, Sender, Service, Tidy, held, named, place_outer, same_place, service_of, without}
 use Rattle.aom_sound.specs.Servers.{all_unslotted, has_message, holds_slot, is_among, is_message, is_other, is_queue, is_queue_of, slots_taken, unslotted, without_queue}
-use Rattle.aom_parts.proofs.Completing.{once_without}
+use Rattle.aom_parts.proofs.Completing.{once_without, queued_still}
 use Rattle.aom_parts.proofs.Departing.{all_without, client_after_queue, client_after_sessions, connects, is_at, lengths_after_queue, lengths_after_sessions, place_after_queue, places_after_sessions, queue_after_queue, queues_after_sessions, sent_after_queue, sent_after_sessions, sessions_after_queue, sessions_after_sessions}
 use Rattle.aom_parts.proofs.Serving.{names_apart}
-use Rattle.aom_parts.proofs.Withdrawing.{owner_cell, owner_in}
+use Rattle.aom_parts.proofs.Withdrawing.{owner_cell, owner_in, queue_of_owner, queue_of_queue}
 use Rattle.aom_parts.specs.Serving.{Once, SameClients, asked_by, holds, is_taken, message_name, owner_of, sent_by, sessionless, waits_in}
 use Rattle.aom_sound.proofs.Destroying.{eqb_comm}
+
+either_true : (a b : Bool) → (a || b) ≡ true → (a ≡ true) ⊎ (b ≡ true)
+either_true true b h = inl refl
+either_true false b h = inr h
 
 -- ---- messages without slots
 
@@ -48,14 +52,7 @@ lost_some (c ∷ xs) d slot told = ap (λ m. lost xs (Some m)) (first (d == c)) 
     first false = refl
 
     both : (a b b' : Bool) → b ≡ b' → cond a false (cond b false slot) ≡ cond (b' || a) false slot
-    both a true true e = never a
-      where
-        never : (a : Bool) → cond a false false ≡ false
-        never true = refl
-        never false = refl
-    both a false false e = refl
-    both a true false e = cc
-    both a false true e = cc
+    both a x y e = grind arith
 
 lost_sent : (xs : List ℕ) (slot : Bool) (p : Place) → lost xs (sent_by slot p) ≡ sent_by (cond (is_among (sender p) xs) false slot) p
 lost_sent xs slot Free = lost_none xs
@@ -207,8 +204,7 @@ none_goes k [] none = refl
 none_goes k (m ∷ ms) none = go (m == k) refl none (none_goes k ms)
   where
     go : (b : Bool) → (m == k) ≡ b → (b || is_among k ms) ≡ false → (is_among k ms ≡ false → filter (is_other k) ms ≡ ms) → cond (not b) (m ∷ filter (is_other k) ms) (filter (is_other k) ms) ≡ m ∷ ms
-    go true e none rest = cc
-    go false e none rest = ap (λ l. m ∷ l) (rest none)
+    go x e none rest = grind arith
 
 all_stay : (es : List Entry) (ms : List ℕ) → ((k : ℕ) → list_any (is_at k) es ≡ true → is_among k ms ≡ false) → all_without es ms ≡ ms
 all_stay [] ms none = refl
@@ -224,13 +220,7 @@ all_stay (Message k ∷ es) ms none =
 -- ---- the whole
 
 gone_sessionless : (x : Client) → sessionless (at_gone x) ≡ at_gone (sessionless x)
-gone_sessionless Unconnected = refl
-gone_sessionless (Connecting n slots) = refl
-gone_sessionless (Open n session slots) = refl
-gone_sessionless (Closing n session) = refl
-gone_sessionless (Dying n session) = refl
-gone_sessionless Gone = refl
-gone_sessionless Dead = refl
+gone_sessionless x = grind arith
 
 -- what clients are at, told twice
 client_alike : (a b : Bool) (x : Client) → sessionless (cond b (at_gone (cond a Unconnected x)) (cond a Unconnected x)) ≡ cond b (at_gone (cond a Unconnected (sessionless x))) (cond a Unconnected (sessionless x))
@@ -295,13 +285,10 @@ module _
 
   -- a cell that is owned by its queue is asked for there
   drops_queue : (n : ℕ) (x : Cell) → cell_of cs n ≡ Some x → is_queue_of k x.owner ≡ true → has_message (service_of cs k) n ≡ true
-  drops_queue n x e h = go x.owner refl h
-    where
-      go : (q : Owner) → x.owner ≡ q → is_queue_of k q ≡ true → has_message (service_of cs k) n ≡ true
-      go (Elsewhere (Waits_at i m)) at h =
-          let f = asked m x.object (ap (λ i. held cs (Elsewhere (Waits_at i m))) (sym (eqb-true i k h)) ∙ ap (λ q. held cs q) (sym at) ∙ owner_there n x e) in
-          ap (λ i. has_message (service_of cs k) i) (sym (cell_name cs n x e) ∙ f.0) ∙ f.1
-      go _ at h = cc
+  drops_queue n x e h =
+      let q = queue_of_owner k x.owner h in
+      let f = asked q.0 x.object (ap (λ i. held cs i) (sym q.1) ∙ owner_there n x e) in
+      ap (λ i. has_message (service_of cs k) i) (sym (cell_name cs n x e) ∙ f.0) ∙ f.1
 
   drops_own : (n : ℕ) (x : Cell) → cell_of cs n ≡ Some x → same_place x.owner g ≡ true → n ≡ k
   drops_own n x e h =
@@ -366,23 +353,17 @@ module _
           or_true true b h = refl
           or_true false b h = h
 
-      queues_own : (q : Owner) → is_queue_of k q ≡ true → is_queue q ≡ true
-      queues_own (Elsewhere (Waits_at i m)) h = refl
-      queues_own _ h = cc
-
       at : (x : Cell) → cell_of cs n ≡ Some x → (b : Bool) → (k == n) ≡ b → (d : Bool) → drops x ≡ d →
           ((service_in (cond d None (Some x))).queue ≡ cond b [] (service_of cs n).queue) × ((service_in (cond d None (Some x))).sessions ≡ cond b [] (service_of cs n).sessions)
       at x e true f true g' = (refl, refl)
       at x e true f false g' = absurd (false≢true (sym g' ∙ own x e f))
       at x e false f false g' = (sym (ap (λ (v : Service). v.queue) (was (Some x) e)), sym (ap (λ (v : Service). v.sessions) (was (Some x) e)))
       at x e false f true g' =
-          let none = by (is_queue_of k x.owner) (same_place x.owner g) refl refl g' in
+          let none : (x.service.queue ≡ []) × (x.service.sessions ≡ []) = elim (either_true (is_queue_of k x.owner) (same_place x.owner g) g') [
+            | inl queue ↦ empty n x e (queue_of_queue k x.owner queue)
+            | inr own ↦ absurd (false≢true (sym f ∙ eq-eqb k n (sym (drops_own n x e own))))
+          ] in
           (sym (ap (λ (v : Service). v.queue) (was (Some x) e) ∙ none.0), sym (ap (λ (v : Service). v.sessions) (was (Some x) e) ∙ none.1))
-        where
-          by : (a b : Bool) → is_queue_of k x.owner ≡ a → same_place x.owner g ≡ b → (a || b) ≡ true → (x.service.queue ≡ []) × (x.service.sessions ≡ [])
-          by true b ea eb h = empty n x e (queues_own x.owner ea)
-          by false true ea eb h = absurd (false≢true (sym f ∙ eq-eqb k n (sym (drops_own n x e eb))))
-          by false false ea eb h = cc
 
       nothing : {A : Type 0} (b : Bool) (l : List A) → l ≡ [] → [] ≡ cond b [] l
       nothing true l e = refl
@@ -440,19 +421,19 @@ module _
           ap (λ b. sent_by b (kept.place_at s j)) (among_then (sender (kept.place_at s j)) j ∙ ap (λ b. cond (is_among (sender (kept.place_at s j)) xs) false (cond b false (holds s j))) e)
           ∙ sym (lost_sent xs (holds s j) (kept.place_at s j)) ∙ ap (lost xs) (same.senders j)
 
-  taken_then : (j : ℕ) → is_taken (kept.place_at then j) ≡ is_some (named left (message_name j))
-  taken_then j = ap is_taken (place_then j) ∙ go (goes j) ∙ sym (named_left j)
+  -- what is told of a place is told no more where its message goes
+  place_told : (f : Place → Bool) → f Free ≡ false → (j : ℕ) → f (kept.place_at then j) ≡ cond (goes j) false (f (kept.place_at s j))
+  place_told f free j = ap f (place_then j) ∙ go (goes j)
     where
-      go : (b : Bool) → is_taken (cond b Free (kept.place_at s j)) ≡ cond b false (is_some (named cs (message_name j)))
-      go true = refl
-      go false = same.taken j
+      go : (b : Bool) → f (cond b Free (kept.place_at s j)) ≡ cond b false (f (kept.place_at s j))
+      go true = free
+      go false = refl
+
+  taken_then : (j : ℕ) → is_taken (kept.place_at then j) ≡ is_some (named left (message_name j))
+  taken_then j = place_told is_taken refl j ∙ ap (λ b. cond (goes j) false b) (same.taken j) ∙ sym (named_left j)
 
   waits_then : (j : ℕ) → is_queued (kept.place_at then j) ≡ waits_in (owner_of left (message_name j))
-  waits_then j = ap is_queued (place_then j) ∙ go (goes j) ∙ sym (owner_left j)
-    where
-      go : (b : Bool) → is_queued (cond b Free (kept.place_at s j)) ≡ cond b false (waits_in (owner_of cs (message_name j)))
-      go true = refl
-      go false = same.waits j
+  waits_then j = place_told is_queued refl j ∙ ap (λ b. cond (goes j) false b) (same.waits j) ∙ sym (owner_left j)
 
   slots_of_then : (d j : ℕ) → is_among j (kept.sent_at then d) ≡ holds_slot d (service_of left (message_name j)).sender
   slots_of_then d j = among_then d j ∙ ap (λ b. cond (is_among d xs) false b) (go (goes j)) ∙ sym (lost_slot xs d (cond (goes j) None (service_of cs (message_name j)).sender)) ∙ ap (holds_slot d) (sym (sender_left j))
@@ -462,12 +443,15 @@ module _
       go false = same.slots_of d j
 
   slotted_then : (j d : ℕ) → kept.place_at then j ≡ Queued d → is_among j (kept.sent_at then d) ≡ true
-  slotted_then j d e = go (goes j) refl (is_among d xs) refl (sym (place_then j) ∙ e)
+  slotted_then j d e = go (is_among d xs) refl
     where
-      go : (b : Bool) → goes j ≡ b → (x : Bool) → is_among d xs ≡ x → cond b Free (kept.place_at s j) ≡ Queued d → is_among j (kept.sent_at then d) ≡ true
-      go true f x g e = cc
-      go false f true g e = absurd (false≢true (sym f ∙ going j d e g))
-      go false f false g e = among_then d j ∙ ap (λ b. cond b false (cond (goes j) false (is_among j (kept.sent_at s d)))) g ∙ ap (λ b. cond b false (is_among j (kept.sent_at s d))) f ∙ same.slotted j d e
+      was : (goes j ≡ false) × (kept.place_at s j ≡ Queued d)
+      was = queued_still (goes j) (kept.place_at s j) d (sym (place_then j) ∙ e)
+
+      go : (x : Bool) → is_among d xs ≡ x → is_among j (kept.sent_at then d) ≡ true
+      go true g = absurd (false≢true (sym was.0 ∙ going j d was.1 g))
+      go false g =
+          among_then d j ∙ ap (λ b. cond b false (cond (goes j) false (is_among j (kept.sent_at s d)))) g ∙ ap (λ b. cond b false (is_among j (kept.sent_at s d))) was.0 ∙ same.slotted j d was.1
 
   once_then : (d : ℕ) → Once (kept.sent_at then d)
   once_then d = subst Once (sym (sent_then d)) (go (is_among d xs))
@@ -488,15 +472,13 @@ module _
           by false e = refl
 
       unheld : is_among d xs ≡ false → (n : ℕ) (x : Cell) → cell_of cs n ≡ Some x → drops x ≡ true → holds_slot d x.service.sender ≡ false
-      unheld none n x e h = by (is_queue_of k x.owner) (same_place x.owner g) refl refl h
+      unheld none n x e h = elim (either_true (is_queue_of k x.owner) (same_place x.owner g) h) [
+        | inl queue ↦ ap (λ (v : Service). holds_slot d v.sender) (sym told) ∙ unowed none n (drops_queue n x e queue)
+        | inr own ↦ ap (λ (v : Service). holds_slot d v.sender) (sym told ∙ ap (λ i. service_of cs i) (drops_own n x e own)) ∙ silent d
+      ]
         where
           told : service_of cs n ≡ x.service
           told = service_cell cs n ∙ ap service_in e
-
-          by : (a b : Bool) → is_queue_of k x.owner ≡ a → same_place x.owner g ≡ b → (a || b) ≡ true → holds_slot d x.service.sender ≡ false
-          by true b ea eb h = ap (λ (v : Service). holds_slot d v.sender) (sym told) ∙ unowed none n (drops_queue n x e ea)
-          by false true ea eb h = ap (λ (v : Service). holds_slot d v.sender) (sym told ∙ ap (λ i. service_of cs i) (drops_own n x e eb)) ∙ silent d
-          by false false ea eb h = cc
 
       go : (b : Bool) → is_among d xs ≡ b → length (cond b [] (all_without es (kept.sent_at s d))) ≡ cond b 0 (slots_taken d stay)
       go true e = refl

@@ -1,11 +1,12 @@
 -- A client closes or dies: its messages that wait go, its others hold no slot and are told to nobody, and all else goes on standing for what it stood for.
-use Rattle.std.proofs.Common.{Bool, List, None, Option, Some, [], ap, cond, false, length, refl, slice_index_or, subst, suc, sym, true, zero, ℕ, ◌&&◌, ◌<◌, ◌==◌, ◌∙◌, ◌∷◌, ◌≡◌}
+use Rattle.std.proofs.Common.{Bool, List, None, Option, Some, [], ap, cond, false, length, refl, slice_index_or, subst, suc, sym, true, zero, ℕ, ◌&&◌, ◌<◌, ◌==◌, ◌∙◌, ◌∷◌, ◌≡◌, arith}
 use Rattle.std.specs.Prelude.{filter, is_some, map, not}
 use Rattle.std.proofs.lemmas.Bool.{eq-eqb, eqb-true, false≢true, ne_eqb}
+use Rattle.std.proofs.lemmas.Bool.Decides.{nat_tests}
 use Rattle.std.proofs.lemmas.List.{length-set}
 use Rattle.aom_clients.specs.Clients as kept
 use Rattle.aom_clients.specs.declared.client.Client.{Client}
-use Rattle.aom_clients.specs.declared.client.Client.TheVariants.{Closing, Connecting, Dead, Dying, Gone, Open, Unconnected}
+use Rattle.aom_clients.specs.declared.client.Client.TheVariants.{Open}
 use Rattle.aom_image.specs.Image.{Image}
 use Rattle.aom_clients.specs.declared.entry.Entry.{Entry}
 use Rattle.aom_clients.specs.declared.entry.Entry.TheVariants.{Connect, Message, Close}
@@ -13,8 +14,8 @@ use Rattle.aom_clients.specs.declared.place.Place.{Place}
 use Rattle.aom_clients.specs.declared.place.Place.TheVariants.{Discarded, Free, Held, Queued}
 use Rattle.aom_clients.specs.Table.{closed_place, is_queued, is_waiting_of, sender}
 use Rattle.aom_sound.proofs.Sifted.{cell_of, cell_of_sifted, named_cell, object_in, kept as left_cell, service_cell, service_in, withdrawn_so}
-use Rattle.aom_sound.specs.Places.{Asked, Cell, Close_of, Connect_of, Message_of, Object, Place as Owner, named, Sender, Service, Tidy, service_of}
-use Rattle.aom_sound.specs.Servers.{asked_last, discarded, holds_slot, is_among, is_from, is_queue, left_by, reserved, slots_taken, stays, withdrawn}
+use Rattle.aom_sound.specs.Places.{Asked, Cell, Close_of, Connect_of, Elsewhere, Message_of, Object, Place as Owner, Queued as Waits_at, named, Sender, Service, Tidy, service_of}
+use Rattle.aom_sound.specs.Servers.{asked_last, discarded, holds_slot, is_among, is_from, is_queue, is_queue_of, left_by, reserved, slots_taken, stays, withdrawn}
 use Rattle.aom_sound.specs.Clients.{client_at, told, with_client}
 use Rattle.aom_sound.specs.State.{State}
 use Rattle.aom_parts.proofs.Serving.{at_set, same_client, same_closing}
@@ -24,6 +25,20 @@ at_map : {A : Type 0} (f : A → A) (none : A) (xs : List A) (n : ℕ) → f non
 at_map f none [] n e = sym e
 at_map f none (x ∷ xs) zero e = refl
 at_map f none (x ∷ xs) (suc n) e = at_map f none xs n e
+
+-- ---- owners that are queues
+
+pub queue_owner : (q : Owner) → is_queue q ≡ true → (n : ℕ) × (m : ℕ) × (q ≡ Elsewhere (Waits_at n m))
+queue_owner (Elsewhere (Waits_at n m)) h = (n, m, refl)
+queue_owner _ h = cc
+
+pub queue_of_queue : (n : ℕ) (q : Owner) → is_queue_of n q ≡ true → is_queue q ≡ true
+queue_of_queue n q h = grind arith
+
+pub queue_of_owner : (n : ℕ) (q : Owner) → is_queue_of n q ≡ true → (m : ℕ) × (q ≡ Elsewhere (Waits_at n m))
+queue_of_owner n q h =
+    let o = queue_owner q (queue_of_queue n q h) in
+    (o.1, o.2 ∙ ap (λ i. Elsewhere (Waits_at i o.1)) (eqb-true o.0 n (ap (is_queue_of n) (sym o.2) ∙ h)))
 
 -- ---- one cell
 
@@ -79,32 +94,10 @@ module _ (c : ℕ) where
       go false e = ap (λ x. Some (record { client = d; holds_slot = x; is_told = false })) (other d refl e)
 
   queued_left : (slot : Bool) (p : Place) → is_queued (kept.left_place c p) ≡ cond (is_queued p && is_from c (sent_by slot p)) false (is_queued p)
-  queued_left slot Free = refl
-  queued_left slot (Queued d) = go (d == c)
-    where
-      go : (b : Bool) → is_queued (cond b (closed_place (Queued d)) (Queued d)) ≡ cond b false true
-      go true = refl
-      go false = refl
-  queued_left slot (Held d) = go (d == c)
-    where
-      go : (b : Bool) → is_queued (cond b (closed_place (Held d)) (Held d)) ≡ false
-      go true = refl
-      go false = refl
-  queued_left slot (Discarded d) = refl
+  queued_left slot p = grind (arith, nat_tests)
 
   taken_left : (slot : Bool) (p : Place) → is_taken (kept.left_place c p) ≡ cond (is_queued p && is_from c (sent_by slot p)) false (is_taken p)
-  taken_left slot Free = refl
-  taken_left slot (Queued d) = go (d == c)
-    where
-      go : (b : Bool) → is_taken (cond b (closed_place (Queued d)) (Queued d)) ≡ cond b false true
-      go true = refl
-      go false = refl
-  taken_left slot (Held d) = go (d == c)
-    where
-      go : (b : Bool) → is_taken (cond b (closed_place (Held d)) (Held d)) ≡ true
-      go true = refl
-      go false = refl
-  taken_left slot (Discarded d) = refl
+  taken_left slot p = grind (arith, nat_tests)
 
   -- what slots it held of a client: none of this one's any more
   slot_left : (goes : Bool) (x : Option Sender) (d : ℕ) → (goes ≡ true → is_from c x ≡ true) → holds_slot d (remains goes x) ≡ cond (c == d) false (holds_slot d x)
@@ -151,8 +144,7 @@ module _ (c : ℕ) where
       own e = second (is_queue x.owner) (is_from c x.service.sender) e
         where
           second : (a b : Bool) → (a && b) ≡ true → b ≡ true
-          second true b e = e
-          second false b e = cc
+          second x b e = grind arith
 
       counts : (b y : Bool) (k : ℕ) → b ≡ cond (c == d) false y → (j : ℕ) → k ≡ cond (c == d) 0 j → cond b (suc k) k ≡ cond (c == d) 0 (cond y (suc j) j)
       counts b y k e j f = by (c == d) y refl e f
@@ -169,26 +161,16 @@ module _ (c : ℕ) where
 
   -- what is at a place that another client's message has, and whose it is
   left_other : (p : Place) → (sender p == c) ≡ false → kept.left_place c p ≡ p
-  left_other Free e = refl
-  left_other (Queued d) e = ap (λ b. cond b (closed_place (Queued d)) (Queued d)) e
-  left_other (Held d) e = ap (λ b. cond b (closed_place (Held d)) (Held d)) e
-  left_other (Discarded d) e = refl
+  left_other p e = grind (arith, nat_tests)
+
+  left_queued : (p : Place) (d : ℕ) → kept.left_place c p ≡ Queued d → (p ≡ Queued d) × ((d == c) ≡ false)
+  left_queued p d e = grind (arith, nat_tests)
 
   left_own : (p : Place) → is_queued p ≡ false → sender (kept.left_place c p) ≡ sender p
-  left_own Free e = refl
-  left_own (Queued d) e = cc
-  left_own (Held d) e = go (d == c)
-    where
-      go : (b : Bool) → sender (cond b (closed_place (Held d)) (Held d)) ≡ d
-      go true = refl
-      go false = refl
-  left_own (Discarded d) e = refl
+  left_own x e = grind arith
 
   waits_of : (p : Place) → is_queued p ≡ true → is_waiting_of c p ≡ (sender p == c)
-  waits_of (Queued d) e = refl
-  waits_of Free e = cc
-  waits_of (Held d) e = cc
-  waits_of (Discarded d) e = cc
+  waits_of x e = grind arith
 
 -- ---- what waits in a queue
 
@@ -219,8 +201,7 @@ module _ (c : ℕ) (places : List Place) where
       (λ h. ap (λ x. Message_of (sender x) (message_name j)) (at_map (λ p. kept.left_place c p) Free places j refl ∙ left_other c p (unturned (sender p == c) h)))
     where
       unturned : (b : Bool) → not b ≡ true → b ≡ false
-      unturned true e = cc
-      unturned false e = refl
+      unturned x e = grind arith
 
 -- ---- all of it
 
@@ -240,8 +221,7 @@ module _ (s : kept.State) (cs : List Cell) (clients : List Client) (same : SameC
   service_then n = service_cell left n ∙ ap service_in (cell_then n)
 
   first : (a b : Bool) → (a && b) ≡ true → a ≡ true
-  first true b e = refl
-  first false b e = cc
+  first x b e = grind arith
 
   queue_left : (n : ℕ) (x : Option Cell) → cell_of cs n ≡ x → filter (stays c) (service_in x).queue ≡ (service_in (left_of c x)).queue
   queue_left n None at = refl
@@ -287,10 +267,7 @@ module _ (s : kept.State) (cs : List Cell) (clients : List Client) (same : SameC
   goes_so j x at = ap (λ b. b && is_from c (sent_by (holds s j) (kept.place_at s j))) (waits_told j (Some x) at) ∙ ap (λ m. is_queue x.owner && is_from c m) (sender_told j (Some x) at)
 
   none_goes : (p : Place) (slot : Bool) → sent_by slot p ≡ None → (is_queued p && is_from c (sent_by slot p)) ≡ false
-  none_goes Free slot e = refl
-  none_goes (Queued d) slot e = cc
-  none_goes (Held d) slot e = cc
-  none_goes (Discarded d) slot e = cc
+  none_goes x slot e = grind arith
 
   left_sender : (j : ℕ) (x : Option Cell) → cell_of cs (message_name j) ≡ x →
       remains c (is_queued (kept.place_at s j) && is_from c (sent_by (holds s j) (kept.place_at s j))) (sent_by (holds s j) (kept.place_at s j)) ≡ (service_in (left_of c x)).sender
@@ -323,29 +300,25 @@ module _ (s : kept.State) (cs : List Cell) (clients : List Client) (same : SameC
   taken_told : (j : ℕ) (x : Option Cell) → cell_of cs (message_name j) ≡ x → is_taken (kept.place_at s j) ≡ is_some (object_in x)
   taken_told j x at = same.taken j ∙ ap is_some (named_cell cs (message_name j) ∙ ap object_in at)
 
-  taken_then : (j : ℕ) → is_taken (kept.place_at then j) ≡ is_some (named left (message_name j))
-  taken_then j =
-      ap is_taken (place_then j) ∙ taken_left c (holds s j) (kept.place_at s j) ∙ go (cell_of cs (message_name j)) refl
-      ∙ sym (ap is_some (named_cell left (message_name j) ∙ ap object_in (cell_then (message_name j))))
+  -- what is told of places alone, and of cells but for what clients have there
+  told_then : (f : Place → Bool) (g : Option Cell → Bool) → ((j : ℕ) → f (kept.left_place c (kept.place_at s j)) ≡ cond (is_queued (kept.place_at s j) && is_from c (sent_by (holds s j) (kept.place_at s j))) false (f (kept.place_at s j))) →
+      ((x : Cell) (v : Service) → g (Some (record x { service = v })) ≡ g (Some x)) → g None ≡ false → ((j : ℕ) (x : Option Cell) → cell_of cs (message_name j) ≡ x → f (kept.place_at s j) ≡ g x) → (j : ℕ) →
+      f (kept.place_at then j) ≡ g (cell_of left (message_name j))
+  told_then f g leaves plain none told j = ap f (place_then j) ∙ leaves j ∙ go (cell_of cs (message_name j)) refl ∙ sym (ap g (cell_then (message_name j)))
     where
-      go : (x : Option Cell) → cell_of cs (message_name j) ≡ x → cond (is_queued (kept.place_at s j) && is_from c (sent_by (holds s j) (kept.place_at s j))) false (is_taken (kept.place_at s j)) ≡ is_some (object_in (left_of c x))
-      go None at = ap (λ b. cond b false (is_taken (kept.place_at s j))) (none_goes (kept.place_at s j) (holds s j) (sender_told j None at)) ∙ taken_told j None at
-      go (Some x) at = ap (λ b. cond b false (is_taken (kept.place_at s j))) (goes_so j x at) ∙ by (drops c x)
+      go : (x : Option Cell) → cell_of cs (message_name j) ≡ x → cond (is_queued (kept.place_at s j) && is_from c (sent_by (holds s j) (kept.place_at s j))) false (f (kept.place_at s j)) ≡ g (left_of c x)
+      go None at = ap (λ b. cond b false (f (kept.place_at s j))) (none_goes (kept.place_at s j) (holds s j) (sender_told j None at)) ∙ told j None at
+      go (Some x) at = ap (λ b. cond b false (f (kept.place_at s j))) (goes_so j x at) ∙ by (drops c x)
         where
-          by : (b : Bool) → cond b false (is_taken (kept.place_at s j)) ≡ is_some (object_in (cond b None (Some (record x { service = left_by c x.service }))))
-          by true = refl
-          by false = taken_told j (Some x) at
+          by : (b : Bool) → cond b false (f (kept.place_at s j)) ≡ g (cond b None (Some (record x { service = left_by c x.service })))
+          by true = sym none
+          by false = told j (Some x) at ∙ sym (plain x (left_by c x.service))
+
+  taken_then : (j : ℕ) → is_taken (kept.place_at then j) ≡ is_some (named left (message_name j))
+  taken_then j = told_then is_taken (λ x. is_some (object_in x)) (λ j. taken_left c (holds s j) (kept.place_at s j)) (λ x v. refl) refl taken_told j ∙ sym (ap is_some (named_cell left (message_name j)))
 
   waits_then : (j : ℕ) → is_queued (kept.place_at then j) ≡ waits_in (owner_of left (message_name j))
-  waits_then j = ap is_queued (place_then j) ∙ queued_left c (holds s j) (kept.place_at s j) ∙ go (cell_of cs (message_name j)) refl ∙ sym (ap waits_in (owner_cell left (message_name j) ∙ ap owner_in (cell_then (message_name j))))
-    where
-      go : (x : Option Cell) → cell_of cs (message_name j) ≡ x → cond (is_queued (kept.place_at s j) && is_from c (sent_by (holds s j) (kept.place_at s j))) false (is_queued (kept.place_at s j)) ≡ waits_in (owner_in (left_of c x))
-      go None at = ap (λ b. cond b false (is_queued (kept.place_at s j))) (none_goes (kept.place_at s j) (holds s j) (sender_told j None at)) ∙ waits_told j None at
-      go (Some x) at = ap (λ b. cond b false (is_queued (kept.place_at s j))) (goes_so j x at) ∙ by (drops c x)
-        where
-          by : (b : Bool) → cond b false (is_queued (kept.place_at s j)) ≡ waits_in (owner_in (cond b None (Some (record x { service = left_by c x.service }))))
-          by true = refl
-          by false = waits_told j (Some x) at
+  waits_then j = told_then is_queued (λ x. waits_in (owner_in x)) (λ j. queued_left c (holds s j) (kept.place_at s j)) (λ x v. refl) refl waits_told j ∙ sym (ap waits_in (owner_cell left (message_name j)))
 
   slots_of_then : (d j : ℕ) → is_among j (kept.sent_at then d) ≡ holds_slot d (service_of left (message_name j)).sender
   slots_of_then d j =
@@ -361,35 +334,16 @@ module _ (s : kept.State) (cs : List Cell) (clients : List Client) (same : SameC
       go (Some x) = sym (slot_left c (drops c x) x.service.sender d (λ e. second (is_queue x.owner) (is_from c x.service.sender) e)) ∙ by (drops c x)
         where
           second : (a b : Bool) → (a && b) ≡ true → b ≡ true
-          second true b e = e
-          second false b e = cc
+          second x b e = grind arith
 
           by : (b : Bool) → holds_slot d (remains c b x.service.sender) ≡ holds_slot d (service_in (cond b None (Some (record x { service = left_by c x.service })))).sender
           by true = refl
           by false = refl
 
   slotted_then : (j d : ℕ) → kept.place_at then j ≡ Queued d → is_among j (kept.sent_at then d) ≡ true
-  slotted_then j d e = go (kept.place_at s j) refl (sym (place_then j) ∙ e)
-    where
-      by : (x : Bool) → (d == c) ≡ x → kept.place_at s j ≡ Queued d → cond x (closed_place (Queued d)) (Queued d) ≡ Queued d → is_among j (kept.sent_at then d) ≡ true
-      by true f at e = cc
-      by false f at e = among_then d j ∙ ap (λ b. cond b false (is_among j (kept.sent_at s d))) (swapped d c false f) ∙ same.slotted j d at
-
-      held : (i : ℕ) (x : Bool) → cond x (closed_place (Held i)) (Held i) ≡ Queued d → is_among j (kept.sent_at then d) ≡ true
-      held i true e = cc
-      held i false e = cc
-
-      queued : (i : ℕ) (x : Bool) → (i == c) ≡ x → kept.place_at s j ≡ Queued i → cond x (closed_place (Queued i)) (Queued i) ≡ Queued d → is_among j (kept.sent_at then d) ≡ true
-      queued i true f at e = cc
-      queued i false f at e =
-          let client : i ≡ d = cc in
-          by false (ap (λ k. k == c) (sym client) ∙ f) (at ∙ e) refl
-
-      go : (x : Place) → kept.place_at s j ≡ x → kept.left_place c x ≡ Queued d → is_among j (kept.sent_at then d) ≡ true
-      go Free at e = cc
-      go (Queued i) at e = queued i (i == c) refl at e
-      go (Held i) at e = held i (i == c) e
-      go (Discarded i) at e = cc
+  slotted_then j d e =
+      let was = left_queued c (kept.place_at s j) d (sym (place_then j) ∙ e) in
+      among_then d j ∙ ap (λ b. cond b false (is_among j (kept.sent_at s d))) (swapped d c false was.1) ∙ same.slotted j d was.0
 
   pub same_withdrawn : SameClients then left clients
   same_withdrawn = record {
@@ -430,12 +384,7 @@ module _ (s : kept.State) (cs : List Cell) (clients : List Client) (same : SameC
         let o = server n session slots at in
         subst (λ k. SameClients (kept.queued k (Close c) moved) (reserved (asked_last (Close_of c)) k left) (with_client c (sessionless to) clients)) o.1
         (same_closing moved left (with_client c (sessionless to) clients) now tidy_left o.0 o.2 c client o.3)
-    told_so Unconnected at = now
-    told_so (Connecting n slots) at = now
-    told_so (Closing n session) at = now
-    told_so Gone at = now
-    told_so Dead at = now
-    told_so (Dying n session) at = now
+    told_so _ at = now
 
     pub same_left : SameClients (kept.leaving (Some to) c s) (told p c st (client_at clients c) left) (with_client c (sessionless to) clients)
     same_left = subst (λ x. SameClients (kept.leaving (Some to) c s) (told p c st x left) (with_client c (sessionless to) clients)) (same.at c) (told_so (kept.client_at s c) refl)

@@ -1,19 +1,13 @@
 use Rattle.std.proofs.Common.{◌∙◌, arith}
 use Rattle.std.proofs.lemmas.List.{length-set}
-use Rattle.aom_clients.proofs.Draining.{drained, head-is-in, tail-in, places-drained}
+use Rattle.aom_clients.proofs.Draining.{drained, first-below, tail-in, places-drained}
 use Rattle.aom_clients.proofs.withdrawal.discard.Goals as goal
 
 pub slice_copy_out-closed : goal.slice_copy_out-closed
-slice_copy_out-closed c =
-    let t = c.loop-place.sent in
-    let d = drained t c.take_first.new.self c.args.list c.in-Some.place c.loop-place.invariant.list c.in-Some.ensures.first c.take_first.ensures.rest in
-    c.loop-place.invariant.within c.in-Some.place (head-is-in t c.take_first.new.self c.args.list c.in-Some.place d)
+slice_copy_out-closed c = first-below c.loop-place.sent c.args.list _ _ c.in-Some.ensures.first c.loop-place.invariant.within
 
 pub bounds-places-place : goal.bounds-places-place
-bounds-places-place c =
-    let t = c.loop-place.sent in
-    let d = drained t c.take_first.new.self c.args.list c.in-Some.place c.loop-place.invariant.list c.in-Some.ensures.first c.take_first.ensures.rest in
-    c.loop-place.invariant.within c.in-Some.place (head-is-in t c.take_first.new.self c.args.list c.in-Some.place d)
+bounds-places-place c = first-below c.loop-place.sent c.args.list _ _ c.in-Some.ensures.first c.loop-place.invariant.within
 
 pub loop-place-preserved : goal.loop-place-preserved
 loop-place-preserved c =

@@ -1,6 +1,6 @@
-use Rattle.std.proofs.Common.{◌≡◌, ◌<◌, ◌∙◌, IfSome, ◌∷◌, Some, ap, arith, false, length, subst, sym, true}
-use Rattle.aom_queues.specs.Lists.{IsIn, IsOnce}
-use Rattle.aom_clients.specs.Clients.{State, client_after, client_at, first_there, sessions_at}
+use Rattle.std.proofs.Common.{◌≡◌, ◌<◌, ◌∙◌, IfSome, ap, arith, false, length, subst, sym, true}
+use Rattle.aom_queues.specs.Lists.{IsOnce}
+use Rattle.aom_clients.specs.Clients.{State, client_at, first_there, sessions_at}
 use Rattle.aom_clients.specs.Table.{has_cell}
 use Rattle.aom_clients.proofs.Looking.{after-in, first-in, found, from, from-first, from-next, looked}
 use Rattle.aom_clients.proofs.clients.Clients.first_there.Goals as goal

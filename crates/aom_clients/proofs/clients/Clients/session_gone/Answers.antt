@@ -1,7 +1,6 @@
-use Rattle.std.proofs.Common.{◌≡◌, ◌<◌, Some, length, refl, sym, ap, ◌∙◌, subst, arith}
+use Rattle.std.proofs.Common.{◌≡◌, ◌<◌, length, refl, sym, ap, ◌∙◌, arith}
 use Rattle.std.specs.Prelude.{slice_set, slice_index_or}
 use Rattle.std.proofs.lemmas.List.{get_or_read}
-use Rattle.aom_queues.specs.Lists.{Table, IsFree, list_at, with_list, rest_of, first_of}
 use Rattle.aom_clients.specs.declared.client.Client.TheVariants.{Unconnected}
 use Rattle.aom_clients.specs.Table.{at_gone}
 use Rattle.aom_clients.proofs.Same.{kept-as, state-as}
@@ -24,66 +23,40 @@ returns-in_err-client-clause-after c =
 
 pub overflow_cast-client : goal.overflow_cast-client
 overflow_cast-client c =
-    let ss = c.self.inside.sessions in
-    let d = c.in_ok-client.field-0 in
-    let first : first_of (list_at ss c.args.server) ≡ Some d = sym c.in_ok-client.ensures.first in
-    let free : IsFree (with_list c.args.server (rest_of (list_at ss c.args.server)) ss) d = subst (λ (t : Table). IsFree t d) c.take_first.ensures.rest c.in_ok-client.ensures.free in
-    omega (arith, session-below _ _ _ _ _ _ c.self.invariant _ c.self.view_is c.args.server d c.requires.server c.requires.empty first free)
+    omega (arith, session-below _ _ _ _ _ _ c.self.invariant _ c.self.view_is c.args.server _ c.requires.server c.requires.empty c.in_ok-client.ensures.first _ c.take_first.ensures.rest c.in_ok-client.ensures.free)
 
 pub release-requires-clause-client : goal.release-requires-clause-client
 release-requires-clause-client c =
-    let ss = c.self.inside.sessions in
-    let d = c.in_ok-client.field-0 in
-    let first : first_of (list_at ss c.args.server) ≡ Some d = sym c.in_ok-client.ensures.first in
-    let free : IsFree (with_list c.args.server (rest_of (list_at ss c.args.server)) ss) d = subst (λ (t : Table). IsFree t d) c.take_first.ensures.rest c.in_ok-client.ensures.free in
-    session-below _ _ _ _ _ _ c.self.invariant _ c.self.view_is c.args.server d c.requires.server c.requires.empty first free
+    session-below _ _ _ _ _ _ c.self.invariant _ c.self.view_is c.args.server _ c.requires.server c.requires.empty c.in_ok-client.ensures.first _ c.take_first.ensures.rest c.in_ok-client.ensures.free
 
 pub index-requires : goal.index-requires
 index-requires c =
-    let ss = c.self.inside.sessions in
-    let d = c.in_ok-client.field-0 in
-    let first : first_of (list_at ss c.args.server) ≡ Some d = sym c.in_ok-client.ensures.first in
-    let free : IsFree (with_list c.args.server (rest_of (list_at ss c.args.server)) ss) d = subst (λ (t : Table). IsFree t d) c.take_first.ensures.rest c.in_ok-client.ensures.free in
-    omega (arith, session-below _ _ _ _ _ _ c.self.invariant _ c.self.view_is c.args.server d c.requires.server c.requires.empty first free, c.self.invariant.sized.clients_long, c.self.inside.clients.ok.0)
+    omega (arith, session-below _ _ _ _ _ _ c.self.invariant _ c.self.view_is c.args.server _ c.requires.server c.requires.empty c.in_ok-client.ensures.first _ c.take_first.ensures.rest c.in_ok-client.ensures.free, c.self.invariant.sized.clients_long, c.self.inside.clients.ok.0)
 
 pub index_mut-requires : goal.index_mut-requires
 index_mut-requires c =
-    let ss = c.self.inside.sessions in
-    let d = c.in_ok-client.field-0 in
-    let first : first_of (list_at ss c.args.server) ≡ Some d = sym c.in_ok-client.ensures.first in
-    let free : IsFree (with_list c.args.server (rest_of (list_at ss c.args.server)) ss) d = subst (λ (t : Table). IsFree t d) c.take_first.ensures.rest c.in_ok-client.ensures.free in
-    omega (arith, session-below _ _ _ _ _ _ c.self.invariant _ c.self.view_is c.args.server d c.requires.server c.requires.empty first free, c.self.invariant.sized.clients_long, c.self.inside.clients.ok.0)
+    omega (arith, session-below _ _ _ _ _ _ c.self.invariant _ c.self.view_is c.args.server _ c.requires.server c.requires.empty c.in_ok-client.ensures.first _ c.take_first.ensures.rest c.in_ok-client.ensures.free, c.self.invariant.sized.clients_long, c.self.inside.clients.ok.0)
 
 pub invariant_of-self-2 : goal.invariant_of-self-2
 invariant_of-self-2 c =
-    let ss = c.self.inside.sessions in
-    let d = c.in_ok-client.field-0 in
     let cl = c.self.inside.clients.items in
-    let first : first_of (list_at ss c.args.server) ≡ Some d = sym c.in_ok-client.ensures.first in
-    let free : IsFree (with_list c.args.server (rest_of (list_at ss c.args.server)) ss) d = subst (λ (t : Table). IsFree t d) c.take_first.ensures.rest c.in_ok-client.ensures.free in
-    let small : d < length cl = omega (arith, session-below _ _ _ _ _ _ c.self.invariant _ c.self.view_is c.args.server d c.requires.server c.requires.empty first free, c.self.invariant.sized.clients_long) in
+    let d = c.in_ok-client.field-0 in
+    let small : d < length cl = omega (arith, session-below _ _ _ _ _ _ c.self.invariant _ c.self.view_is c.args.server _ c.requires.server c.requires.empty c.in_ok-client.ensures.first _ c.take_first.ensures.rest c.in_ok-client.ensures.free, c.self.invariant.sized.clients_long) in
     let clients : slice_set cl d c.at_gone.result ≡ slice_set cl d (at_gone (slice_index_or cl d Unconnected)) =
     ap (slice_set cl d) (c.at_gone.ensures ∙ ap at_gone (get_or_read cl d c.index.result.now small c.index.ensures Unconnected)) in
     kept-as _ _ _ _ _ _ _ _ _ _ _ _ clients refl refl refl c.take_first.ensures.rest c.release.ensures
-    (session-gone-kept _ _ _ _ _ _ c.self.invariant _ c.self.view_is c.args.server d c.requires.server c.requires.empty first free)
+    (session-gone-kept _ _ _ _ _ _ c.self.invariant _ c.self.view_is c.args.server _ c.requires.server c.requires.empty c.in_ok-client.ensures.first _ c.take_first.ensures.rest c.in_ok-client.ensures.free)
 
 pub returns-clause-after : goal.returns-clause-after
 returns-clause-after c =
-    let ss = c.self.inside.sessions in
-    let d = c.in_ok-client.field-0 in
     let cl = c.self.inside.clients.items in
-    let first : first_of (list_at ss c.args.server) ≡ Some d = sym c.in_ok-client.ensures.first in
-    let free : IsFree (with_list c.args.server (rest_of (list_at ss c.args.server)) ss) d = subst (λ (t : Table). IsFree t d) c.take_first.ensures.rest c.in_ok-client.ensures.free in
-    let small : d < length cl = omega (arith, session-below _ _ _ _ _ _ c.self.invariant _ c.self.view_is c.args.server d c.requires.server c.requires.empty first free, c.self.invariant.sized.clients_long) in
+    let d = c.in_ok-client.field-0 in
+    let small : d < length cl = omega (arith, session-below _ _ _ _ _ _ c.self.invariant _ c.self.view_is c.args.server _ c.requires.server c.requires.empty c.in_ok-client.ensures.first _ c.take_first.ensures.rest c.in_ok-client.ensures.free, c.self.invariant.sized.clients_long) in
     let clients : slice_set cl d c.at_gone.result ≡ slice_set cl d (at_gone (slice_index_or cl d Unconnected)) =
     ap (slice_set cl d) (c.at_gone.ensures ∙ ap at_gone (get_or_read cl d c.index.result.now small c.index.ensures Unconnected)) in
     state-as _ _ _ _ _ c.self.inside.queues _ c.take_first.new.self _ c.release.new.sent clients refl refl c.take_first.ensures.rest c.release.ensures
-    ∙ session-gone-seen _ _ _ _ _ _ c.self.invariant _ c.self.view_is c.args.server d c.requires.server c.requires.empty first free
+    ∙ session-gone-seen _ _ _ _ _ _ c.self.invariant _ c.self.view_is c.args.server _ c.requires.server c.requires.empty c.in_ok-client.ensures.first _ c.take_first.ensures.rest c.in_ok-client.ensures.free
 
 pub returns-clause-below : goal.returns-clause-below
 returns-clause-below c =
-    let ss = c.self.inside.sessions in
-    let d = c.in_ok-client.field-0 in
-    let first : first_of (list_at ss c.args.server) ≡ Some d = sym c.in_ok-client.ensures.first in
-    let free : IsFree (with_list c.args.server (rest_of (list_at ss c.args.server)) ss) d = subst (λ (t : Table). IsFree t d) c.take_first.ensures.rest c.in_ok-client.ensures.free in
-    session-below _ _ _ _ _ _ c.self.invariant _ c.self.view_is c.args.server d c.requires.server c.requires.empty first free
+    session-below _ _ _ _ _ _ c.self.invariant _ c.self.view_is c.args.server _ c.requires.server c.requires.empty c.in_ok-client.ensures.first _ c.take_first.ensures.rest c.in_ok-client.ensures.free
