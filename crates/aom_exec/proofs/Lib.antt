@@ -23,6 +23,7 @@ pub mod Beginning
 pub mod Dispatching
 pub mod Taking
 pub mod Answering
+pub mod ByCommand
 pub mod Commanded
 pub mod Commands
 pub mod Forgotten

@@ -121,56 +121,46 @@ stands_rest p m s r r' same steps st = record {
   agrees = agrees_rest p m s r r' same st.agrees;
 }
 
--- a machine that takes a part of a turn from each state stands for one again
-pub takes_again : (old new : Machine) (part : Turning) → TakesAll old part new → Stands old → Stands new
-takes_again old new part takes st = let t = takes (record { lines = []; refused = []; room = 0 }) st.0 st.1 in (t.state, t.stands)
+-- a part that changes nothing but what no place tells, and writes nothing
+pub rest_turns : (p : Image) (m : Parts) → progress_by m.rest.ended m.stack.tasks ≡ Turned → (part : Turning) (f : Rest → Rest) → ((s : State) → (turned p s part ≡ Goes (record s { rest = f s.rest })) × (written_by p s part ≡ [])) →
+    ((r : Rest) → (f r).steps ≡ r.steps) → TakesAll (record { image = p; parts = m }) part (record { image = p; parts = record m { rest = f m.rest } })
+rest_turns p m over part f goes steps told s st = record {
+  between = machine_between (record { image = p; parts = m }) s st over;
+  state = record s { rest = f s.rest };
+  goes = (goes s).0;
+  lines = silent told ∙ ap (λ ls. record told { lines = told.lines ++ ls }) (sym (goes s).1);
+  stands = stands_rest p m s (f m.rest) (f s.rest) (ap f st.agrees.rest) (steps s.rest) st;
+}
 
-module _ (p : Image) (m : Parts) (turned : progress_by m.rest.ended m.stack.tasks ≡ Turned) where
-  abbrev old : Machine
-  old = record { image = p; parts = m }
+-- so it is of the machine as it is seen, which stands for a state again
+module _ (p : Image) (m : Parts) (view : Machine) (is : record { image = p; parts = m } ≡ view) (over : progress view ≡ Turned) (stands : Stands (record { image = p; parts = m })) where
+  seen_turns : (part : Turning) (f : Rest → Rest) → ((s : State) → (turned p s part ≡ Goes (record s { rest = f s.rest })) × (written_by p s part ≡ [])) → ((r : Rest) → (f r).steps ≡ r.steps) →
+      TakesAll view part (record { image = p; parts = record m { rest = f m.rest } }) × Stands (record { image = p; parts = record m { rest = f m.rest } })
+  seen_turns part f goes steps =
+      let takes = rest_turns p m (subst (λ (x : Machine). progress x ≡ Turned) (sym is) over) part f goes steps in
+      let t = takes (record { lines = []; refused = []; room = 0 }) stands.0 stands.1 in
+      (subst (λ (x : Machine). TakesAll x part (record { image = p; parts = record m { rest = f m.rest } })) is takes, (t.state, t.stands))
 
   -- time passes
-  pub passes_time : (time : ℕ) → TakesAll old (Passes time) (record { image = p; parts = record m { rest = record m.rest { clock = time; polled = 0 } } })
-  passes_time time told s st = record {
-    between = machine_between old s st turned;
-    state = record s { rest = record s.rest { clock = time; polled = 0 } };
-    goes = refl;
-    lines = silent told;
-    stands = stands_rest p m s (record m.rest { clock = time; polled = 0 }) (record s.rest { clock = time; polled = 0 }) (ap (λ (r : Rest). record r { clock = time; polled = 0 }) st.agrees.rest) refl st;
-  }
+  pub passes_time : (time : ℕ) → TakesAll view (Passes time) (record { image = p; parts = record m { rest = record m.rest { clock = time; polled = 0 } } }) × Stands (record { image = p; parts = record m { rest = record m.rest { clock = time; polled = 0 } } })
+  passes_time time = seen_turns (Passes time) (λ r. record r { clock = time; polled = 0 }) (λ s. (refl, refl)) (λ r. refl)
 
   -- an event comes
-  pub hears_one : TakesAll old Hears (record { image = p; parts = record m { rest = record m.rest { delivered = suc m.rest.delivered } } })
-  hears_one told s st = record {
-    between = machine_between old s st turned;
-    state = heard_one s;
-    goes = refl;
-    lines = silent told;
-    stands = stands_rest p m s (record m.rest { delivered = suc m.rest.delivered }) (record s.rest { delivered = suc s.rest.delivered }) (ap (λ (r : Rest). record r { delivered = suc r.delivered }) st.agrees.rest) refl st;
-  }
+  pub hears_one : TakesAll view Hears (record { image = p; parts = record m { rest = record m.rest { delivered = suc m.rest.delivered } } }) × Stands (record { image = p; parts = record m { rest = record m.rest { delivered = suc m.rest.delivered } } })
+  hears_one = seen_turns Hears (λ r. record r { delivered = suc r.delivered }) (λ s. (refl, refl)) (λ r. refl)
 
   -- and what the machine stands for then it stood for before it
-  pub stands_back : (s : State) → StandsFor (record { image = p; parts = record m { rest = record m.rest { delivered = suc m.rest.delivered } } }) s → StandsFor old (record s { rest = m.rest })
-  stands_back s st = stands_rest p (record m { rest = record m.rest { delivered = suc m.rest.delivered } }) s m.rest m.rest refl (ap (λ (r : Rest). r.steps) st.agrees.rest) st
+  pub stands_back : (s : State) → StandsFor (record { image = p; parts = record m { rest = record m.rest { delivered = suc m.rest.delivered } } }) s → StandsFor view (record s { rest = view.parts.rest })
+  stands_back s st =
+      subst (λ (x : Machine). StandsFor x (record s { rest = x.parts.rest })) is
+      (stands_rest p (record m { rest = record m.rest { delivered = suc m.rest.delivered } }) s m.rest m.rest refl (ap (λ (r : Rest). r.steps) st.agrees.rest) st)
 
   -- the run is over
-  pub waits_ends : TakesAll old Waits (record { image = p; parts = record m { rest = record m.rest { ended = Some Waiting } } })
-  waits_ends told s st = record {
-    between = machine_between old s st turned;
-    state = ends_as Waiting s;
-    goes = refl;
-    lines = silent told;
-    stands = stands_rest p m s (record m.rest { ended = Some Waiting }) (record s.rest { ended = Some Waiting }) (ap (λ (r : Rest). record r { ended = Some Waiting }) st.agrees.rest) refl st;
-  }
+  pub waits_ends : TakesAll view Waits (record { image = p; parts = record m { rest = record m.rest { ended = Some Waiting } } }) × Stands (record { image = p; parts = record m { rest = record m.rest { ended = Some Waiting } } })
+  waits_ends = seen_turns Waits (λ r. record r { ended = Some Waiting }) (λ s. (refl, refl)) (λ r. refl)
 
-  pub cut_ends : TakesAll old Cuts (record { image = p; parts = record m { rest = record m.rest { ended = Some Limit } } })
-  cut_ends told s st = record {
-    between = machine_between old s st turned;
-    state = ends_as Limit s;
-    goes = refl;
-    lines = silent told;
-    stands = stands_rest p m s (record m.rest { ended = Some Limit }) (record s.rest { ended = Some Limit }) (ap (λ (r : Rest). record r { ended = Some Limit }) st.agrees.rest) refl st;
-  }
+  pub cut_ends : TakesAll view Cuts (record { image = p; parts = record m { rest = record m.rest { ended = Some Limit } } }) × Stands (record { image = p; parts = record m { rest = record m.rest { ended = Some Limit } } })
+  cut_ends = seen_turns Cuts (λ r. record r { ended = Some Limit }) (λ s. (refl, refl)) (λ r. refl)
 
 -- when the timer that is due first is due
 due_same : (o : Option Timed) → option_map (λ x. x.timer.due) o ≡ due_of o

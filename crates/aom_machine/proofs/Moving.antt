@@ -27,13 +27,7 @@ pub record Went (p : Image) (t : Typing) (s : State) (asked : Option Wanted) (an
   pub sessions : SessionsHold p u
 
 uncounted_asks_none : (p : Image) (s : State) (ts : List Task) → IsUncounted ts → wanted_task s p ts ≡ None
-uncounted_asks_none p s [] uncounted = absurd uncounted
-uncounted_asks_none p s (Run fr ∷ ts) uncounted = absurd uncounted
-uncounted_asks_none p s (Trapped ∷ ts) uncounted = absurd uncounted
-uncounted_asks_none p s (Destroy ∷ ts) uncounted = absurd uncounted
-uncounted_asks_none p s (Closing ∷ ts) uncounted = refl
-uncounted_asks_none p s (Unwind code ∷ ts) uncounted = refl
-uncounted_asks_none p s (Dispatched d ∷ ts) uncounted = refl
+uncounted_asks_none p s ts uncounted = grind arith
 
 -- what is at hand is asked
 at_hand : (p : Image) (s : State) → IsAtHand s → asked_of p s ≡ wanted p s

@@ -63,8 +63,7 @@ rounds_by spare None = suc spare
 rounds_by spare (Some ending) = 0
 
 still_open : (ended : Option Ending) (tasks : List Held_task) → progress_by ended tasks ≡ progresses.Turned → ended ≡ None
-still_open None tasks is = refl
-still_open (Some ending) tasks is = cc
+still_open ended tasks is = grind arith
 
 nothing_left : (tasks : List Task) → progress_by None tasks ≢ progresses.Running → tasks ≡ []
 nothing_left [] rests = refl
@@ -83,12 +82,7 @@ given_up None x = x
 given_up (Some a) x = tt
 
 same_outcome : (d e : Ending) → outcome_of d ≡ outcome_of e → d ≡ e
-same_outcome endings.Stopped endings.Stopped is = refl
-same_outcome endings.Waiting endings.Waiting is = refl
-same_outcome (endings.MainLeft n) (endings.MainLeft k) is = cc
-same_outcome endings.Limit endings.Limit is = refl
-same_outcome (endings.Error n) (endings.Error k) is = cc
-same_outcome _ _ is = absurd cc
+same_outcome d e is = grind arith
 
 module _ {X : Type 0} {B : X → Type 0} where
   -- the machine stands for a state that a run comes to; all its lines are out but the last, which are told and not out yet

@@ -14,12 +14,8 @@ moving_spares p limit most refused s _ _ (goes_on {lines} {s = v} {u = u} c befo
     let last = moved_spares p limit most c v u goes in
     omega (arith, first, last)
 
--- no list is both
-none_and_one : (task : Task) (tasks : List Task) → [] ≡ task ∷ tasks → ⊥
-none_and_one task tasks e = cc
-
 pub idle_stays : (p : Image) (refused : List ℕ) (s : State) (lines : List Line) (u : State) → s.tasks ≡ [] → Moving p refused s lines u → u ≡ s
 idle_stays p refused s _ _ idle begins = refl
 idle_stays p refused s _ _ idle (goes_on {lines} {s = v} {u = u} c before busy free goes) =
-    let none = sym idle ∙ ap (λ (x : State). x.tasks) (sym (idle_stays p refused s lines v idle before)) ∙ busy.2 in
-    absurd (none_and_one busy.0 busy.1 none)
+    let none : [] ≡ busy.0 ∷ busy.1 = sym idle ∙ ap (λ (x : State). x.tasks) (sym (idle_stays p refused s lines v idle before)) ∙ busy.2 in
+    cc
