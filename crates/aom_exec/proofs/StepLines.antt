@@ -151,10 +151,6 @@ module _ (p : Image) (code : ℤ) (ts : List Task) (s u : State) where
   arrives_few : (items : List Item) → arrived p code ts items s ≡ Goes u → lines_left u.tasks ≤ 1
   arrives_few items e = of_tasks ts e
     where
-      left_one : (d : Dispatch) → lines_left (Dispatched d ∷ []) ≤ 1
-      left_one (Of_server x c stage) = omega arith
-      left_one _ = omega arith
-
       left_any : (d : Dispatch) (us : List Task) → lines_left (Dispatched d ∷ us) ≤ 1
       left_any (Of_server x c stage) us = omega arith
       left_any _ us = omega arith
@@ -238,13 +234,10 @@ passes_few p c s u (Closing ∷ ts) is uncounted e =
 passes_few p c s u (Unwind code ∷ ts) is uncounted e = unwinds_few p code ts (counted p s) u s.items (sym (ap (step_task p c (counted p s)) is) ∙ e)
 passes_few p c s u (Dispatched d ∷ ts) is uncounted e = by d (ended p s (needs_end d s.cells) (dispatch_ends p d (counted p s)) u (sym (ap (step_task p c (counted p s)) is) ∙ e))
   where
+    few : (d : Dispatch) → length (dispatch_lines s.cells d) ≤ lines_left (Dispatched d ∷ ts)
+    few (Of_server x c stage) = let one = stage_one s.cells c stage in omega (arith, one)
+    few _ = omega arith
+
     by : (d : Dispatch) → dispatch_ends p d (counted p s) ≡ u → length (dispatch_lines s.cells d) + lines_left u.tasks ≤ lines_left (Dispatched d ∷ ts)
-    by (Of_server x c stage) e = let none = ap (λ (v : State). lines_left v.tasks) (sym e) ∙ ends_none p (counted p s) (Of_server x c stage) in let one = stage_one s.cells c stage in omega (arith, none, one)
-    by Of_main e = let none = ap (λ (v : State). lines_left v.tasks) (sym e) ∙ ends_none p (counted p s) Of_main in omega (arith, none)
-    by (Main_left code) e = let none = ap (λ (v : State). lines_left v.tasks) (sym e) ∙ ends_none p (counted p s) (Main_left code) in omega (arith, none)
-    by Of_root e = let none = ap (λ (v : State). lines_left v.tasks) (sym e) ∙ ends_none p (counted p s) Of_root in omega (arith, none)
-    by (Of_object x) e = let none = ap (λ (v : State). lines_left v.tasks) (sym e) ∙ ends_none p (counted p s) (Of_object x) in omega (arith, none)
-    by (Object_left x code) e = let none = ap (λ (v : State). lines_left v.tasks) (sym e) ∙ ends_none p (counted p s) (Object_left x code) in omega (arith, none)
-    by (Asks x) e = let none = ap (λ (v : State). lines_left v.tasks) (sym e) ∙ ends_none p (counted p s) (Asks x) in omega (arith, none)
-    by (Answered x answer) e = let none = ap (λ (v : State). lines_left v.tasks) (sym e) ∙ ends_none p (counted p s) (Answered x answer) in omega (arith, none)
+    by d e = let none = ap (λ (v : State). lines_left v.tasks) (sym e) ∙ ends_none p (counted p s) d in let most = few d in omega (arith, none, most)
 passes_few p c s u _ is uncounted e = absurd uncounted

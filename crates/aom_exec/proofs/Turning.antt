@@ -252,8 +252,7 @@ completed_again first last false c st = subst (λ m. Stands m) (sym c.0) st
 
 -- the class of a cell, by what it is
 pub class_in : (c : Option Held_cell) (class : ℕ) → thing_in c ≡ Some (An_object_of class) → class_of c ≡ Some class
-class_in None class e = cc
-class_in (Some c) class e = ap payers.class_of (same_Some _ _ e)
+class_in o class e = grind arith
 
 -- its method that handles the signal is there, since the checked machine goes on with it
 has_method : (p : Image) (t : Typing) (x : Seat) (s : State) (o : Option ℕ) → Keeps p t (dispatched o x s) → IsSome o
@@ -442,8 +441,7 @@ module _ (p : Image) (m : Parts) (s : State) (st : StandsFor (record { image = p
       small there = lives_below p m s st.sound.formed st.agrees id (cell_there (cell_at m.cells id) d.is)
         where
           cell_there : (o : Option Held_cell) → class_of o ≡ Some d.class → IsSome o
-          cell_there None e = cc
-          cell_there (Some c) e = refl
+          cell_there o e = grind arith
 
       made : Makes m.active a object.name taken_up
       made = subst (λ n. Makes m.active a n taken_up) name makes
