@@ -99,8 +99,7 @@ module _ (p : Image) (m : Parts) (s : State) (st : StandsFor (record { image = p
       no_cell o things object = go (cell_at m.cells (message_name k)) refl (things ∙ ap (λ b. cond b (Some o.thing) None) object)
         where
           go : (x : Option Held_cell) → cell_at m.cells (message_name k) ≡ x → thing_in x ≡ Some o.thing → ⊥
-          go None e t = cc
-          go (Some x) e t = let low = st.agrees.cells.below (message_name k) x e in omega (arith, low, st.agrees.cells.limit, st.sound.formed.header.cells)
+          go x e t = grind arith
 
       unnamed : (o : Option Object) → named s.cells (message_name k) ≡ o → is_some (named s.cells (message_name k)) ≡ false
       unnamed None e = ap is_some e

@@ -69,8 +69,7 @@ forgets_none before after f = record { all = λ m. f.others m refl; count = let 
 
 -- only an open client sends
 only_open : (x : Client) → (row x).send ≡ None → (server : ℕ) × (session : ℕ) × (slots : ℕ) × (x ≡ Open server session slots)
-only_open (Open server session slots) e = (server, session, slots, refl)
-only_open _ e = cc
+only_open x e = grind arith
 
 unrefused : (p : Image) (c : ℕ) (v : State) (r : Option Refusal) → room p c v r ≡ None → r ≡ None
 unrefused p c v r e = grind arith

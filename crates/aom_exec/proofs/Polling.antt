@@ -47,8 +47,7 @@ PollsAll native completion old new =
     (answer : Option Completion) × Answers s.cells completion answer × AnswersWell old.image s (Polls native answer) × ((told : Turn) → Takes old s (Polls native answer) told told new)
 
 some_request : (q : Option Request) → is_owed q ≡ true → (r : Request) × (q ≡ Some r)
-some_request None e = cc
-some_request (Some r) e = (r, refl)
+some_request x e = grind arith
 
 module _ (p : Image) (m : Parts) (native : ℕ) where
   abbrev was : Machine

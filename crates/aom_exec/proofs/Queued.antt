@@ -128,8 +128,7 @@ module _ (p : Image) (m : Machine_parts) (s : State) (st : StandsFor (record { i
     accept_there c es at class thing = go (part_of p Accepts_role x.object.thing) refl (first_keeps (Connect c ∷ es) at)
       where
         go : (r : Option ℕ) → part_of p Accepts_role x.object.thing ≡ r → Keeps p st.typing (accepting r x c (taken_from n s)) → IsSome (role_of p class Accepts_role)
-        go None e k = absurd k
-        go (Some r) e k = ap is_some (sym (ap (part_of p Accepts_role) thing) ∙ e)
+        go x e k = grind arith
 
     -- the session of the client, and its method
     pub attend_there :

@@ -114,8 +114,7 @@ module _ (p : Image) (m : Parts) (s : State) (st : StandsFor (record { image = p
   lives_served served = go (named s.cells id) served
     where
       go : (o : Option Object) → serves_object p native o ≡ true → is_some o ≡ true
-      go None e = cc
-      go (Some o) e = refl
+      go x e = grind arith
 
   pub its_place : serves p s.cells native id ≡ true → Placed s.cells id
   its_place served = placed s.cells id (lives_served served)
@@ -144,8 +143,7 @@ module _ (p : Image) (m : Parts) (s : State) (st : StandsFor (record { image = p
       by_none false t e = refl
 
       by_class : (k : ℕ) (t : Thing) → Some (An_object_of k) ≡ cond (is_object t) (Some t) None → is_served_by p native (An_object_of k) ≡ is_served_by p native t
-      by_class k (An_object_of j) e = ap (is_served_by p native) (same_Some _ _ e)
-      by_class k Message e = cc
+      by_class k x e = grind arith
 
       go : (c : Option Held_cell) (o : Option Object) → thing_in c ≡ thing_of o → serves_class p native (class_of c) ≡ serves_object p native o
       go None None e = refl
@@ -189,11 +187,7 @@ held_unanswered _ = false
 -- the same is in each state that the machine stands for
 told_alike : (h : Option Held_request) (q : Option Request) (waits : Option Bool) → Tells h q waits → (is_owed q ≡ held_owed h) × (is_unanswered q ≡ held_unanswered h)
 unfolding held_owed held_unanswered
-told_alike None None waits tells = (refl, refl)
-told_alike (Some (Held_server b)) (Some r) (Some waits) tells = (ap (λ q. not (is_idle q) && int_eq r.status pending) tells.0, ap (λ q. is_aborted q && int_eq r.status pending) tells.0)
-told_alike (Some (Held_object x status)) (Some r) None tells =
-    (sym (ap (λ q. not (is_idle q) && int_eq status pending) tells.0 ∙ ap (λ v. not (is_idle r.phase) && int_eq v pending) tells.1), sym (ap (λ q. is_aborted q && int_eq status pending) tells.0 ∙ ap (λ v. is_aborted r.phase && int_eq v pending) tells.1))
-told_alike _ _ _ tells = absurd tells
+told_alike x y waits tells = grind arith
 
 -- a request that is outstanding is pending
 pending_held : (h : Option Held_request) → held_unanswered h ≡ false → held_owed h ≡ true → is_pending h ≡ true

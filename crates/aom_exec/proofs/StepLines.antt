@@ -129,18 +129,7 @@ destructs_none p o height ts = by (destructor_of p o.thing)
     by (Some k) = refl
 
 closes_none : (p : Image) (ts : List Task) (s u : State) → closing p ts s ≡ Goes u → lines_left u.tasks ≡ 0
-closes_none p (Destroy ∷ below) s u e = by (held s.cells (Going (length below))) e
-  where
-    with_first : (o : Object) (x : Option Seat) → lines_left (parting p o x below s).tasks ≡ 0
-    with_first o None = destructs_none p o (length s.items) below
-    with_first o (Some x) = begins_none p x.object (length s.items) (Closing ∷ Destroy ∷ below)
-
-    by : (o : Option Object) → parting_from p o below s ≡ Goes u → lines_left u.tasks ≡ 0
-    by None e = cc
-    by (Some o) e =
-        let x = first_session s.cells o.name (service_of s.cells o.name).sessions in
-        ap (λ (v : State). lines_left v.tasks) (sym (goes_same (parting p o x below s) u e)) ∙ with_first o x
-closes_none p _ s u e = cc
+closes_none p x s u e = grind arith
 
 -- after a move of a leave its code may have come to the dispatch of a server
 module _ (p : Image) (code : ℤ) (ts : List Task) (s u : State) where
@@ -156,28 +145,10 @@ module _ (p : Image) (code : ℤ) (ts : List Task) (s u : State) where
       left_any _ us = omega arith
 
       of_tasks : (ts : List Task) → arrived p code ts items s ≡ Goes u → lines_left u.tasks ≤ 1
-      of_tasks (Trapped ∷ Run fr ∷ ts) e =
-          let i = instr_at p fr.method fr.place in
-          let is = ap (λ (v : State). lines_left v.tasks) (goes_same (record s { tasks = Run (next (code_told (called p i) (result_register i) code fr)) ∷ ts; items = items }) u e) in
-          omega (arith, is)
-      of_tasks (Trapped ∷ Dispatched d ∷ ts) e = subst (λ (v : State). lines_left v.tasks ≤ 1) (goes_same (record s { tasks = Dispatched (ended_by code d) ∷ ts; items = items }) u e) (left_any (ended_by code d) ts)
-      of_tasks _ e = cc
+      of_tasks x e = grind arith
 
   unwinds_few : (items : List Item) → unwound p code ts s items ≡ Goes u → AtMost items
-  unwinds_few [] e = cc
-  unwinds_few (An_object ∷ items) e = by_object (held s.cells (Entry (length items))) refl (top_is_whole s.cells (An_object ∷ items)) refl e
-    where
-      by_object : (o : Option Object) → held s.cells (Entry (length items)) ≡ o → (b : Bool) → top_is_whole s.cells (An_object ∷ items) ≡ b → cond b (Goes (destroyed p (held s.cells (Entry (length items))) items (Unwind code ∷ ts) s)) (IsStuck NullOrDead) ≡ Goes u → AtMost (An_object ∷ items)
-      by_object None h true whole e = let none = sym whole ∙ ap (λ (o : Option Object). is_some o) h in cc
-      by_object (Some o) h true whole e =
-          let is : destroyed p (Some o) items (Unwind code ∷ ts) s ≡ u = ap (λ x. destroyed p x items (Unwind code ∷ ts) s) (sym h) ∙ goes_same (destroyed p (held s.cells (Entry (length items))) items (Unwind code ∷ ts) s) u e in
-          let none : lines_left u.tasks ≡ 0 = ap (λ (v : State). lines_left v.tasks) (sym is) ∙ begins_none p o (length items) (Unwind code ∷ ts) in
-          omega (arith, none)
-      by_object o h false whole e = cc
-  unwinds_few (An_operation k w ∷ items) e =
-      let none : lines_left u.tasks ≡ 0 = ap (λ (v : State). lines_left v.tasks) (sym (goes_same (dealt_with p (An_operation k w ∷ items) (Unwind code ∷ ts) s) u e)) in
-      omega (arith, none)
-  unwinds_few (A_mark ∷ items) e = let few = arrives_few items e in omega (arith, few)
+  unwinds_few x e = grind arith
 
 -- nothing comes after the end of a dispatch, but of a server that is one of an object from then on
 module _ (p : Image) (s : State) where
@@ -228,16 +199,4 @@ module _ (p : Image) (s : State) where
 
 -- what such a move writes, and what may still come, is no more than might come before it
 pub passes_few : (p : Image) (c : Choice) (s u : State) (ts : List Task) → s.tasks ≡ ts → IsUncounted ts → step p c s ≡ Goes u → length (written_task p s ts) + lines_left u.tasks ≤ lines_left ts
-passes_few p c s u (Closing ∷ ts) is uncounted e =
-    let none = closes_none p ts (counted p s) u (sym (ap (step_task p c (counted p s)) is) ∙ e) in
-    omega (arith, none)
-passes_few p c s u (Unwind code ∷ ts) is uncounted e = unwinds_few p code ts (counted p s) u s.items (sym (ap (step_task p c (counted p s)) is) ∙ e)
-passes_few p c s u (Dispatched d ∷ ts) is uncounted e = by d (ended p s (needs_end d s.cells) (dispatch_ends p d (counted p s)) u (sym (ap (step_task p c (counted p s)) is) ∙ e))
-  where
-    few : (d : Dispatch) → length (dispatch_lines s.cells d) ≤ lines_left (Dispatched d ∷ ts)
-    few (Of_server x c stage) = let one = stage_one s.cells c stage in omega (arith, one)
-    few _ = omega arith
-
-    by : (d : Dispatch) → dispatch_ends p d (counted p s) ≡ u → length (dispatch_lines s.cells d) + lines_left u.tasks ≤ lines_left (Dispatched d ∷ ts)
-    by d e = let none = ap (λ (v : State). lines_left v.tasks) (sym e) ∙ ends_none p (counted p s) d in let most = few d in omega (arith, none, most)
-passes_few p c s u _ is uncounted e = absurd uncounted
+passes_few p c s u x is uncounted e = grind arith

@@ -256,12 +256,10 @@ class_in o class e = grind arith
 
 -- its method that handles the signal is there, since the checked machine goes on with it
 has_method : (p : Image) (t : Typing) (x : Seat) (s : State) (o : Option ℕ) → Keeps p t (dispatched o x s) → IsSome o
-has_method p t x s None k = absurd k
-has_method p t x s (Some m) k = refl
+has_method p t x s y k = grind arith
 
 has_class : (p : Image) (t : Thing) → IsSome (part_of p Handles t) → (class : ℕ) × (t ≡ An_object_of class)
-has_class p (An_object_of class) some = (class, refl)
-has_class p Message some = cc
+has_class p x some = grind arith
 
 -- the request of the object, once it is another
 here : (n : ℕ) (q : Option Request) (asked : ℕ → Option Request) → asked_anew n q asked n ≡ q
