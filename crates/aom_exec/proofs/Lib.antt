@@ -18,6 +18,7 @@ pub mod Unwanted
 pub mod Wanting
 pub mod Many
 pub mod Agreeing
+pub mod Seen
 pub mod FirstServer
 pub mod Beginning
 pub mod Dispatching

@@ -350,16 +350,11 @@ module _ (p : Image) (m : Parts) (s : State) (st : StandsFor (record { image = p
 
   -- an object that is no server
   record Pick (id : ℕ) : Type 0 where
-    candidate : Candidate
-    first : first_ready s.cells ≡ Some candidate
-    name : candidate.seat.object.name ≡ id
-    lives : named s.cells id ≡ Some candidate.seat.object
-    holds : held s.cells candidate.seat.place ≡ Some candidate.seat.object
-    asked : requested s.cells id ≡ Some candidate.request
-    ready : is_ready candidate.request ≡ true
-    plain : is_server p candidate.seat.object.thing ≡ false
+    found : Found id
+    ready : is_ready found.candidate.request ≡ true
+    plain : is_server p found.candidate.seat.object.thing ≡ false
     unqueued : queued p s.cells id ≡ None
-    keeps : Keeps p st.typing (dispatched (part_of p Handles candidate.seat.object.thing) candidate.seat s)
+    keeps : Keeps p st.typing (dispatched (part_of p Handles found.candidate.seat.object.thing) found.candidate.seat s)
 
   or_false : (b : Bool) → (b || false) ≡ b
   or_false true = refl
@@ -369,12 +364,7 @@ module _ (p : Image) (m : Parts) (s : State) (st : StandsFor (record { image = p
   pick_of id k plain =
       let none = queue_told id k false plain in
       record {
-        candidate = k.candidate;
-        first = k.first;
-        name = k.name;
-        lives = k.lives;
-        holds = k.holds;
-        asked = k.asked;
+        found = k;
         ready = sym (or_false (is_ready k.candidate.request)) ∙ ap (λ q. meanings.goes k.candidate.request q) (sym none) ∙ k.goes;
         plain = plain;
         unqueued = none;
@@ -383,16 +373,16 @@ module _ (p : Image) (m : Parts) (s : State) (st : StandsFor (record { image = p
 
   module _ (id : ℕ) (k : Pick id) where
     abbrev object : Object
-    object = k.candidate.seat.object
+    object = k.found.candidate.seat.object
 
     its_method : IsSome (part_of p Handles object.thing)
-    its_method = has_method p st.typing k.candidate.seat s (part_of p Handles object.thing) k.keeps
+    its_method = has_method p st.typing k.found.candidate.seat s (part_of p Handles object.thing) k.keeps
 
     its_class : (c : ℕ) × (object.thing ≡ An_object_of c)
     its_class = has_class p object.thing its_method
 
     its_thing : thing_in (cell_at m.cells id) ≡ Some object.thing
-    its_thing = st.agrees.cells.things id ∙ ap thing_of k.lives ∙ ap (λ b. cond b (Some object.thing) None) (ap is_object its_class.1)
+    its_thing = st.agrees.cells.things id ∙ ap thing_of k.found.lives ∙ ap (λ b. cond b (Some object.thing) None) (ap is_object its_class.1)
 
     -- what the machine needs to know of it
     can_dispatch : (a : Active) → Makes m.active a id taken_up → CanDispatch p (record m { active = a }) id
@@ -402,7 +392,7 @@ module _ (p : Image) (m : Parts) (s : State) (st : StandsFor (record { image = p
       small = subst (λ o. IfSome o (λ c. c < 256)) is (class_fits p m s st.agrees id);
       handled = subst (λ t. IsSome (part_of p Handles t)) its_class.1 its_method;
       enlisted =
-          ap is_some (told_state a _ _ (makes.stands (requested s.cells) (queued p s.cells) k.candidate.request st.agrees.requests.stands k.asked) id (taken_up k.candidate.request) (here id (Some (taken_up k.candidate.request)) (requested s.cells)) k.unqueued);
+          ap is_some (told_state a _ _ (makes.stands (requested s.cells) (queued p s.cells) k.found.candidate.request st.agrees.requests.stands k.found.asked) id (taken_up k.found.candidate.request) (here id (Some (taken_up k.found.candidate.request)) (requested s.cells)) k.unqueued);
       idle = none_running;
       bare = none_marked;
       room = (let deep = st.agrees.room in omega (arith, deep));
@@ -414,10 +404,10 @@ module _ (p : Image) (m : Parts) (s : State) (st : StandsFor (record { image = p
     -- the dispatch that the machine begins is that of the checked machine
     module _ (a : Active) (told now : Turn) (new : Parts) (makes : Makes m.active a id taken_up) (d : Dispatches p id (record m { active = a }) told now new) where
       abbrev then : State
-      then = picked d.method k.candidate.seat s
+      then = picked d.method k.found.candidate.seat s
 
       name : id ≡ object.name
-      name = sym k.name
+      name = sym k.found.name
 
       thing : object.thing ≡ An_object_of d.class
       thing = thing_is object.thing d.class (cell_at m.cells id) d.is its_thing
@@ -425,14 +415,14 @@ module _ (p : Image) (m : Parts) (s : State) (st : StandsFor (record { image = p
       method : part_of p Handles object.thing ≡ Some d.method
       method = ap (part_of p Handles) thing ∙ d.handles
 
-      goes : turned p s (Picks k.candidate.seat) ≡ Goes then
-      goes = ap (λ b. cond b (serves_first p k.candidate.seat (service_of s.cells object.name).queue s) (dispatched (part_of p Handles object.thing) k.candidate.seat s)) k.plain ∙ ap (λ h. dispatched h k.candidate.seat s) method
+      goes : turned p s (Picks k.found.candidate.seat) ≡ Goes then
+      goes = ap (λ b. cond b (serves_first p k.found.candidate.seat (service_of s.cells object.name).queue s) (dispatched (part_of p Handles object.thing) k.found.candidate.seat s)) k.plain ∙ ap (λ h. dispatched h k.found.candidate.seat s) method
 
       lives : named s.cells object.name ≡ Some object
-      lives = ap (named s.cells) k.name ∙ k.lives
+      lives = ap (named s.cells) k.found.name ∙ k.found.lives
 
-      asked : requested s.cells object.name ≡ Some k.candidate.request
-      asked = ap (requested s.cells) k.name ∙ k.asked
+      asked : requested s.cells object.name ≡ Some k.found.candidate.request
+      asked = ap (requested s.cells) k.found.name ∙ k.found.asked
 
       -- its cell lives, below all messages
       small : id ≢ null → id < 4096
@@ -446,11 +436,11 @@ module _ (p : Image) (m : Parts) (s : State) (st : StandsFor (record { image = p
 
       dispatch_agrees : Agrees p (running d.method d.class id (record m { active = a })) then
       dispatch_agrees = record {
-        tasks = (begun_frame d.method id (Inside object k.candidate.seat.place) (length then.items) name small, (tt, ((k.candidate.seat.place, seat), subst (λ us. SameTasks us []) (sym none_running) tt)));
+        tasks = (begun_frame d.method id (Inside object k.found.candidate.seat.place) (length then.items) name small, (tt, ((k.found.candidate.seat.place, seat), subst (λ us. SameTasks us []) (sym none_running) tt)));
         values = values;
         cells = cells_then s.cells object taken_up p m.cells st.agrees.cells;
         entries = (tt, st.agrees.entries);
-        requests = requests_asked s.cells object taken_up p m.active a k.candidate.request lives asked made st.agrees.requests;
+        requests = requests_asked s.cells object taken_up p m.active a k.found.candidate.request lives asked made st.agrees.requests;
         natives = natives_asked p m.sessions s.killed s.cells object.name _ st.agrees.natives;
         services = services_asked p s.cells object (on_request taken_up (requested s.cells object.name)) lives (order_same taken_up (λ r. refl) (requested s.cells object.name)) st.agrees.services;
         rest = ap (λ (r : Rest). record r { steps = 0; polled = 0 }) st.agrees.rest;
@@ -461,10 +451,10 @@ module _ (p : Image) (m : Parts) (s : State) (st : StandsFor (record { image = p
           subject : Subject
           subject = record { number = id; class = d.class }
 
-          seat : Of_object (seat_of k.candidate.seat.place subject) ≡ Of_object k.candidate.seat
+          seat : Of_object (seat_of k.found.candidate.seat.place subject) ≡ Of_object k.found.candidate.seat
           seat =
-              ap (λ n. Of_object (record { object = record { name = n; thing = An_object_of d.class }; place = k.candidate.seat.place })) name
-              ∙ ap (λ t. Of_object (record { object = record { name = object.name; thing = t }; place = k.candidate.seat.place })) (sym thing)
+              ap (λ n. Of_object (record { object = record { name = n; thing = An_object_of d.class }; place = k.found.candidate.seat.place })) name
+              ∙ ap (λ t. Of_object (record { object = record { name = object.name; thing = t }; place = k.found.candidate.seat.place })) (sym thing)
 
           dispatch : List Held_task
           dispatch = Ends (Of_one subject) ∷ m.stack.tasks
@@ -476,8 +466,8 @@ module _ (p : Image) (m : Parts) (s : State) (st : StandsFor (record { image = p
 
           worded : (q : Place) → word_at then.tasks q ≡ word_at s.tasks q
           worded q =
-              fresh_word d.method (Inside object k.candidate.seat.place) (length then.items) (Trapped ∷ Dispatched (Of_object k.candidate.seat) ∷ []) q
-              ∙ over_words true (Dispatched (Of_object k.candidate.seat) ∷ []) q ∙ no_word (Of_object k.candidate.seat) q ∙ ap (λ ts. word_at ts q) (sym idle)
+              fresh_word d.method (Inside object k.found.candidate.seat.place) (length then.items) (Trapped ∷ Dispatched (Of_object k.found.candidate.seat) ∷ []) q
+              ∙ over_words true (Dispatched (Of_object k.found.candidate.seat) ∷ []) q ∙ no_word (Of_object k.found.candidate.seat) q ∙ ap (λ ts. word_at ts q) (sym idle)
 
           values : (q : Place) → Shows (value_in (Runs_frame (fresh d.method id) ∷ Is_trap ∷ dispatch) m.cells (Is_mark ∷ m.entries.items) (others m) q) (word_at then.tasks q) (held then.cells q)
           values q =
@@ -487,7 +477,7 @@ module _ (p : Image) (m : Parts) (s : State) (st : StandsFor (record { image = p
 
       -- it costs no more than its class declares
       dispatch_within : KeepsWithin p st.sound.prices then
-      dispatch_within = record { within = omega (arith, picking p st.typing st.sound.prices st.sound.linked st.sound.affordable.priced s st.typed idle (Picks k.candidate.seat) lives refl then goes, affords) }
+      dispatch_within = record { within = omega (arith, picking p st.typing st.sound.prices st.sound.linked st.sound.affordable.priced s st.typed idle (Picks k.found.candidate.seat) lives refl then goes, affords) }
         where
           affords : price_of p st.sound.prices (payers.class_of object.thing) ≤ declared_of p (payers.class_of object.thing)
           affords = subst (λ t. price_of p st.sound.prices (payers.class_of t) ≤ declared_of p (payers.class_of t)) (sym thing) (st.sound.objects.each d.class)
@@ -496,10 +486,10 @@ module _ (p : Image) (m : Parts) (s : State) (st : StandsFor (record { image = p
       dispatch_stands = record {
         typing = st.typing;
         sound = st.sound;
-        typed = subst (λ h. Keeps p st.typing (dispatched h k.candidate.seat s)) method k.keeps;
+        typed = subst (λ h. Keeps p st.typing (dispatched h k.found.candidate.seat s)) method k.keeps;
         calm = (λ clearing. absurd (true≢false (sym clearing)), (refl, tt));
         traps = (tt, (tt, tt));
-        room = dispatches_with_room p (at 0 st.sound.depths.depths) st.sound.heights then.cells d.method (Inside object k.candidate.seat.place) (Of_object k.candidate.seat) s.items then.rest s.killed s.clients none_pushed;
+        room = dispatches_with_room p (at 0 st.sound.depths.depths) st.sound.heights then.cells d.method (Inside object k.found.candidate.seat.place) (Of_object k.found.candidate.seat) s.items then.rest s.killed s.clients none_pushed;
         waits = tt;
         kept = record { fit = fit_same p s.clients s.cells then.cells (same_requested s.cells object (on_request taken_up (requested s.cells object.name)) (λ e. on_none taken_up (requested s.cells object.name) e)) st.kept.fit; stage = tt };
         within = dispatch_within;
@@ -508,7 +498,7 @@ module _ (p : Image) (m : Parts) (s : State) (st : StandsFor (record { image = p
 
       same_status : d.status ≡ status_of (requested s.cells object.name)
       same_status =
-          same_Some _ _ (sym d.completed ∙ told_status a _ _ (makes.stands (requested s.cells) (queued p s.cells) k.candidate.request st.agrees.requests.stands k.asked) id (taken_up k.candidate.request) (here id (Some (taken_up k.candidate.request)) (requested s.cells)) k.unqueued)
+          same_Some _ _ (sym d.completed ∙ told_status a _ _ (makes.stands (requested s.cells) (queued p s.cells) k.found.candidate.request st.agrees.requests.stands k.found.asked) id (taken_up k.found.candidate.request) (here id (Some (taken_up k.found.candidate.request)) (requested s.cells)) k.unqueued)
           ∙ sym (ap status_of asked)
 
       same_line : Run_line m.rest.clock d.class d.status ∷ [] ≡ run_line s object
@@ -544,14 +534,14 @@ module _ (p : Image) (m : Parts) (turned : progress_by m.rest.ended m.stack.task
       let idle = (machine_between was s st turned).idle in
       let k = pick_of p m s st idle id (found_in a id c s st) (plain_in a id c plain s st) in
       let makes = makes_in a id c plain s st in (
-        k.candidate,
-        k.first,
-        (signals_are_ready p st.typing s st.typed idle).1 ∙ ap is_some k.first,
+        k.found.candidate,
+        k.found.first,
+        (signals_are_ready p st.typing s st.typed idle).1 ∙ ap is_some k.found.first,
         record {
           between = machine_between was s st turned;
           state = then p m s st idle id k a told now new makes d;
           goes = goes p m s st idle id k a told now new makes d;
-          lines = d.lines ∙ ap (λ ls. record told { lines = told.lines ++ ls }) (same_line p m s st idle id k a told now new makes d ∙ written_plain s k.candidate.seat k.plain);
+          lines = d.lines ∙ ap (λ ls. record told { lines = told.lines ++ ls }) (same_line p m s st idle id k a told now new makes d ∙ written_plain s k.found.candidate.seat k.plain);
           stands = subst (λ x. StandsFor (record { image = p; parts = x }) (then p m s st idle id k a told now new makes d)) (sym d.runs) (dispatch_stands p m s st idle id k a told now new makes d);
         },
       )
