@@ -104,26 +104,26 @@ module _ (p : Image) (c : ℕ) (s : State) where
   module _ (withdraws : Beside s.cells (withdrawn c s.cells)) where
     pub commanded_beside : (command : Command) (name : ℕ) → named s.cells name ≡ None → 4096 ≤ name → Beside s.cells (commanded p c s command name).cells
     commanded_beside command name free high = by_command p c s (λ t. Beside s.cells t.cells) name (record {
-        same = beside_itself s.cells;
-        connects = λ x slots. beside_served s.cells x.name _;
-        sends = λ words server.
-        let v = asked_last (Message_of c name) (service_of s.cells server) in
-        beside_then s.cells (reserved (asked_last (Message_of c name)) server s.cells) _ (beside_served s.cells server v) (beside_message (reserved (asked_last (Message_of c name)) server s.cells) _ (named_served s.cells server v name ∙ free) refl high refl refl);
-        leaves = λ to. withdraws;
-        closes = λ to server. beside_then s.cells (withdrawn c s.cells) _ withdraws (beside_served (withdrawn c s.cells) server _);
-      }) command
+      same = beside_itself s.cells;
+      connects = λ x slots. beside_served s.cells x.name _;
+      sends = λ words server.
+          let v = asked_last (Message_of c name) (service_of s.cells server) in
+          beside_then s.cells (reserved (asked_last (Message_of c name)) server s.cells) _ (beside_served s.cells server v) (beside_message (reserved (asked_last (Message_of c name)) server s.cells) _ (named_served s.cells server v name ∙ free) refl high refl refl);
+      leaves = λ to. withdraws;
+      closes = λ to server. beside_then s.cells (withdrawn c s.cells) _ withdraws (beside_served (withdrawn c s.cells) server _);
+    }) command
 
   -- what is in no queue stays where it is
   module _ (stay : (r : Place) → is_queue r ≡ false → held (withdrawn c s.cells) r ≡ held s.cells r) (r : Place) (apart : is_queue r ≡ false) where
     pub commanded_holds : (command : Command) (name : ℕ) → held (commanded p c s command name).cells r ≡ held s.cells r
     commanded_holds command name = by_command p c s (λ t. held t.cells r ≡ held s.cells r) name (record {
-        same = refl;
-        connects = λ x slots. held_served s.cells x.name _ r;
-        sends = λ words server.
-        ap (λ b. cond b (Some (record { name = name; thing = Message })) (held (reserved (asked_last (Message_of c name)) server s.cells) r)) (apart_queue server name r apart) ∙ held_served s.cells server _ r;
-        leaves = λ to. stay r apart;
-        closes = λ to server. held_served (withdrawn c s.cells) server _ r ∙ stay r apart;
-      }) command
+      same = refl;
+      connects = λ x slots. held_served s.cells x.name _ r;
+      sends = λ words server.
+          ap (λ b. cond b (Some (record { name = name; thing = Message })) (held (reserved (asked_last (Message_of c name)) server s.cells) r)) (apart_queue server name r apart) ∙ held_served s.cells server _ r;
+      leaves = λ to. stay r apart;
+      closes = λ to server. held_served (withdrawn c s.cells) server _ r ∙ stay r apart;
+    }) command
 
 -- ---- the queues of all servers but one
 

@@ -55,12 +55,12 @@ module _ (q : Prices) (p : Image) (c : ℕ) (s : State) where
   -- a command changes nothing of it
   pub commanded_left : (command : Command) (name : ℕ) → objects_left q (commanded p c s command name).cells ≡ objects_left q s.cells
   commanded_left command name = by_command p c s (λ t. objects_left q t.cells ≡ objects_left q s.cells) name (record {
-      same = refl;
-      connects = λ x slots. served_same q is_entry x.name _ s.cells;
-      sends = λ words server. let same = served_same q is_entry server (asked_last (Message_of c name) (service_of s.cells server)) s.cells in omega (arith, same);
-      leaves = λ to. withdrawn_same q is_entry unqueued c s.cells;
-      closes = λ to server. served_same q is_entry server _ (withdrawn c s.cells) ∙ withdrawn_same q is_entry unqueued c s.cells;
-    }) command
+    same = refl;
+    connects = λ x slots. served_same q is_entry x.name _ s.cells;
+    sends = λ words server. let same = served_same q is_entry server (asked_last (Message_of c name) (service_of s.cells server)) s.cells in omega (arith, same);
+    leaves = λ to. withdrawn_same q is_entry unqueued c s.cells;
+    closes = λ to server. served_same q is_entry server _ (withdrawn c s.cells) ∙ withdrawn_same q is_entry unqueued c s.cells;
+  }) command
 
 -- ---- all of it
 
