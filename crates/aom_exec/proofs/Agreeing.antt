@@ -11,9 +11,8 @@ use Rattle.aom_shape.specs.Shape.{Shape}
 use Rattle.aom_shape.specs.Things.{Program, field_thing}
 use Rattle.aom_rules.specs.Typing.{Typing, shape_at}
 use Rattle.aom_shape.specs.declared.kind.Entry.{Entry as Pushed}
-use Rattle.aom_shape.specs.declared.kind.Entry.TheVariants.{Object as Pushed_object, Operation as Pushed_operation}
 use Rattle.aom_shape.specs.declared.kind.Filling.{Filling}
-use Rattle.aom_shape.specs.declared.kind.Filling.TheVariants.{Empty, Full, Perhaps}
+use Rattle.aom_shape.specs.declared.kind.Filling.TheVariants.{Empty, Perhaps}
 use Rattle.aom_shape.specs.declared.kind.Kind.{Kind}
 use Rattle.aom_shape.specs.declared.kind.Kind.TheVariants.{Maybe, Null, Own, Unset, Word}
 use Rattle.aom_sound.proofs.Items.{length_forms}

@@ -6,7 +6,7 @@ use Rattle.aom_clients.specs.Clients as kept
 use Rattle.aom_clients.specs.Nodes.{is_connecting_at, is_open_at, named_by}
 use Rattle.aom_clients.specs.Table.{row}
 use Rattle.aom_clients.specs.declared.client.Client.{Client}
-use Rattle.aom_clients.specs.declared.client.Client.TheVariants.{Closing, Connecting, Dead, Dying, Gone, Open, Unconnected}
+use Rattle.aom_clients.specs.declared.client.Client.TheVariants.{Connecting, Open, Unconnected}
 use Rattle.aom_clients.specs.declared.refusal.Refusal.{Refusal}
 use Rattle.aom_clients.specs.declared.server.Server.{Server}
 use Rattle.aom_image.specs.Image.{Image}
@@ -14,8 +14,8 @@ use Rattle.aom_image.specs.declared.method.Thing.TheVariants.{Message}
 use Rattle.aom_sound.proofs.Services.{held_served, named_served, service_there, service_unnamed}
 use Rattle.aom_sound.proofs.Sifted.{cell_of, cell_of_sifted, kept as kept_cell, service_cell, service_in, sifted, withdrawn_so}
 use Rattle.aom_sound.specs.Kept.{ClientsFit, QueueFits}
-use Rattle.aom_sound.specs.Clients.{Listed, asked_server, client_at, commanded, connecting, leaving, refusal, sending, told, with_message}
-use Rattle.aom_sound.specs.Places.{Asked, Cell, Close_of, Connect_of, Elsewhere, Entry, Field, Going, In_service, Message_of, Place, Queued, Register, Root, Service, Session, Tidy, held, named, same_place, service_of}
+use Rattle.aom_sound.specs.Clients.{Listed, asked_server, client_at, commanded, leaving, refusal, with_message}
+use Rattle.aom_sound.specs.Places.{Asked, Cell, Close_of, Connect_of, Elsewhere, Message_of, Place, Queued, Service, Tidy, held, named, same_place, service_of}
 use Rattle.aom_sound.specs.Servers.{asked_last, is_from, is_queue, left_by, reserved, stays, withdrawn}
 use Rattle.aom_sound.specs.State.{State}
 use Rattle.aom_transcript.specs.declared.event.Command.{Command}

@@ -10,9 +10,9 @@ use Rattle.aom_clients.specs.Clients as kept
 use Rattle.aom_clients.specs.Nodes.{named_by}
 use Rattle.aom_clients.specs.Table.{code_of, row}
 use Rattle.aom_clients.specs.declared.client.Client.{Client}
-use Rattle.aom_clients.specs.declared.client.Client.TheVariants.{Closing, Connecting, Dead, Dying, Gone, Open, Unconnected}
+use Rattle.aom_clients.specs.declared.client.Client.TheVariants.{Unconnected}
 use Rattle.aom_clients.specs.declared.place.Place.{Place as Message_place}
-use Rattle.aom_clients.specs.declared.place.Place.TheVariants.{Discarded, Free, Held, Queued}
+use Rattle.aom_clients.specs.declared.place.Place.TheVariants.{Free}
 use Rattle.aom_clients.specs.declared.refusal.Refusal.{Refusal}
 use Rattle.aom_image.specs.Image.{Image}
 use Rattle.aom_messages.specs.Store.{Store, message_at}

@@ -6,9 +6,6 @@ use Rattle.aom_active.specs.Agrees.{Active}
 use Rattle.aom_cells.specs.Heap.{cell_at}
 use Rattle.aom_cells.specs.declared.cell.Cell.{Cell as Held_cell}
 use Rattle.aom_clients.specs.Clients as kept
-use Rattle.aom_clients.specs.declared.client.Client.{Client}
-use Rattle.aom_clients.specs.declared.client.Client.TheVariants.{Closing, Connecting, Dead, Dying, Gone, Open, Unconnected}
-use Rattle.aom_clients.specs.declared.refusal.Refusal.{Refusal}
 use Rattle.aom_image.specs.Image.{Image}
 use Rattle.aom_image.specs.declared.method.Thing.{Thing}
 use Rattle.aom_image.specs.declared.method.Thing.TheVariants.{Message, Object as An_object_of}
@@ -18,9 +15,9 @@ use Rattle.aom_sound.proofs.ClientsCommand.{fit_commanded}
 use Rattle.aom_sound.proofs.ClientsFacts.{waiting_well}
 use Rattle.aom_sound.proofs.Obeying.{commanded_well}
 use Rattle.aom_sound.proofs.Things.{message_plain}
-use Rattle.aom_sound.specs.Clients.{Listed, asked_server, client_at, commanded, connecting, leaving, refusal, sending, told}
+use Rattle.aom_sound.specs.Clients.{commanded}
 use Rattle.aom_sound.specs.Kept.{ClientsFit}
-use Rattle.aom_sound.specs.Places.{Elsewhere, Entry, Field, Going, In_service, Message_of, Object, Place, Queued, Register, Root, Session, held, named, service_of}
+use Rattle.aom_sound.specs.Places.{Elsewhere, Message_of, Object, Place, Queued, held, named, service_of}
 use Rattle.aom_sound.specs.Servers.{asked_last, is_queue, is_server, withdrawn}
 use Rattle.aom_sound.specs.State.{Rest, State}
 use Rattle.aom_sound.specs.WellTyped.{WellTyped}
@@ -29,7 +26,6 @@ use Rattle.aom_steps.proofs.Pushed.{served_same, withdrawn_same}
 use Rattle.aom_steps.specs.Left.{is_entry, objects_left}
 use Rattle.aom_prices.specs.Prices.{Prices}
 use Rattle.aom_transcript.specs.declared.event.Command.{Command}
-use Rattle.aom_transcript.specs.declared.event.Command.TheVariants.{Close, Connect, Die, Send}
 use Rattle.aom_parts.proofs.Beside.{Beside, cells_beside, listed_beside, natives_beside, requests_beside}
 use Rattle.aom_parts.proofs.Elsewhere.{SessionsSame, shows_again}
 use Rattle.aom_parts.proofs.Leaving.{beside_withdrawn, holds_withdrawn}

@@ -1,19 +1,18 @@
 -- A command of a client: what clients are at, the messages that are kept and the schedule stand for what the checked machine comes to.
-use Rattle.std.proofs.Common.{ap, arith, Bool, false, length, List, None, Option, pos, refl, Some, subst, suc, sym, true, zero, ℕ, ℤ, ◌∙◌, ◌∷◌, ◌≡◌, slice_index_or, []}
+use Rattle.std.proofs.Common.{ap, arith, Bool, false, length, List, None, Option, pos, refl, Some, subst, suc, sym, zero, ℕ, ℤ, ◌∙◌, ◌∷◌, ◌≡◌, slice_index_or, []}
 use Rattle.std.specs.Prelude.{IfSome, is_some, option_map}
 use Rattle.std.proofs.Math.ListN.{get_or-eq_default}
 use Rattle.std.proofs.lemmas.Bool.{false≢true}
-use Rattle.std.proofs.lemmas.Option.{none-some}
 use Rattle.aom_clients.specs.Clients as kept
 use Rattle.aom_clients.specs.Table.{row}
 use Rattle.aom_clients.specs.declared.client.Client.{Client}
-use Rattle.aom_clients.specs.declared.client.Client.TheVariants.{Closing, Connecting, Dead, Dying, Gone, Open, Unconnected}
+use Rattle.aom_clients.specs.declared.client.Client.TheVariants.{Open, Unconnected}
 use Rattle.aom_clients.specs.declared.place.Place.TheVariants.{Free}
 use Rattle.aom_clients.specs.declared.refusal.Refusal.{Refusal}
 use Rattle.aom_image.specs.Image.{Image}
 use Rattle.aom_messages.specs.Store.{Store, word_of}
 use Rattle.aom_shape.specs.Tables.{at}
-use Rattle.aom_sound.specs.Clients.{Listed, asked_server, client_at, commanded, connecting, leaving, refusal, room, sending, told}
+use Rattle.aom_sound.specs.Clients.{asked_server, client_at, commanded, leaving, refusal, room, sending}
 use Rattle.aom_sound.specs.Places.{Cell, Message_of, Object, named}
 use Rattle.aom_sound.specs.Servers.{asked_last, reserved, withdrawn}
 use Rattle.aom_sound.specs.State.{State}

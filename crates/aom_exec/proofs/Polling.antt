@@ -34,7 +34,7 @@ use Rattle.aom_parts.proofs.Services.{services_asked}
 use Rattle.aom_parts.proofs.Sessions.{natives_asked}
 use Rattle.aom_exec.proofs.Idle.{stands_idle}
 use Rattle.aom_exec.proofs.Timers.{timers_same}
-use Rattle.aom_exec.proofs.Turning.{alike, cells_then, machine_between, order_same, requests_asked, rest_turns, silent, stands_rest}
+use Rattle.aom_exec.proofs.Turning.{alike, cells_then, machine_between, order_same, requests_asked, rest_turns, silent}
 
 -- what a native completes is outstanding there, in some state that the machine stands for
 abbrev pub IsOwed : Machine → (native : ℕ) → Option (ℕ × ℤ) → Type 0

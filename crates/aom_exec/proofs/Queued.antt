@@ -30,7 +30,7 @@ use Rattle.aom_sound.specs.Places.{Elsewhere, Object, Session, held, named, serv
 use Rattle.aom_sound.specs.Servers.{is_server}
 use Rattle.aom_sound.specs.State.{Seat, State}
 use Rattle.aom_sound.specs.WellTyped.{Keeps}
-use Rattle.aom_sound.specs.World.{accepting, attended, attending, dispatched, parting_with, picked, serves_first, taken_from}
+use Rattle.aom_sound.specs.World.{accepting, attended, dispatched, parting_with, picked, serves_first, taken_from}
 use Rattle.aom_parts.specs.declared.parts.Parts.{Parts as Machine_parts}
 use Rattle.aom_parts.specs.Agrees.{number, thing_in}
 use Rattle.aom_parts.specs.Serving.{SameClients, asked_by, message_name}

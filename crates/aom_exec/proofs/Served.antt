@@ -2,25 +2,21 @@
 use Rattle.std.proofs.Common.{ap, arith, Bool, cond, false, List, None, Option, refl, Some, subst, suc, sym, true, zero, ℕ, ◌==◌, ◌∙◌, ◌∷◌, ◌≡◌, []}
 use Rattle.std.specs.Prelude.{◌&&◌, ◌||◌, ◌≤◌, is_none, is_some, nat_lt, not}
 use Rattle.std.specs.Ordering.{int_eq}
-use Rattle.std.proofs.lemmas.Bool.{eqb-true, false≢true, ltb-false, ltb-true, true≢false}
+use Rattle.std.proofs.lemmas.Bool.{eqb-true, false≢true, ltb-false, ltb-true}
 use Rattle.std.proofs.lemmas.List.{get_or_past}
-use Rattle.std.proofs.lemmas.Option.{none-some, same_Some}
+use Rattle.std.proofs.lemmas.Option.{none-some}
 use Rattle.aom_image.specs.Image.{Image}
 use Rattle.aom_image.specs.declared.class.ClassKind.{ClassKind}
-use Rattle.aom_image.specs.declared.class.ClassKind.TheVariants.{Active as An_active}
-use Rattle.aom_image.specs.declared.class.Provider.TheVariants.{Native, Own, Timer as A_timer}
 use Rattle.aom_image.specs.declared.method.Thing.{Thing}
-use Rattle.aom_image.specs.declared.method.Thing.TheVariants.{Message, Object as An_object_of}
+use Rattle.aom_image.specs.declared.method.Thing.TheVariants.{Object as An_object_of}
 use Rattle.aom_roles.specs.Shapes.{kind_of}
 use Rattle.aom_shape.specs.Kinds.{is_object}
 use Rattle.aom_sound.proofs.Maps.{named_name}
 use Rattle.aom_cells.specs.Heap.{cell_at, class_at, class_of}
 use Rattle.aom_cells.specs.declared.cell.Cell.{Cell as Held_cell}
 use Rattle.aom_requests.specs.Requests.{is_pending, request_at}
-use Rattle.aom_requests.specs.declared.request.State.{State as Held_state}
-use Rattle.aom_requests.specs.declared.request.State.TheVariants.{Aborted as Held_aborted, Active as Held_active, Cancelling as Held_cancelling, Idle as Held_idle, Issued as Held_issued}
 use Rattle.aom_requests.specs.declared.request.Request.{Request as Held_request}
-use Rattle.aom_requests.specs.declared.request.Request.TheVariants.{Object as Held_object, Server as Held_server}
+use Rattle.aom_requests.specs.declared.request.Request.TheVariants.{Object as Held_object}
 use Rattle.aom_active.specs.Agrees.{Tells, phase_of, queued, timer_in}
 use Rattle.aom_owed.proofs.Cells.{native_served}
 use Rattle.aom_owed.specs.Owed.{owes, serves, serves_object}

@@ -1,24 +1,15 @@
 -- The lines of a step: what its move writes, and the moves after it that count as none.
-use Rattle.std.proofs.Common.{◌≡◌, ◌≤◌, ◌+◌, ℕ, ℤ, Bool, true, false, cond, length, List, [], ◌∷◌, Option, Some, None, ap, pos, refl, sym, subst, arith, ◌∙◌}
+use Rattle.std.proofs.Common.{◌≡◌, ◌≤◌, ◌+◌, ℕ, ℤ, Bool, true, false, cond, length, List, [], ◌∷◌, Option, Some, None, refl, sym, subst, arith}
 use Rattle.std.proofs.lemmas.List.{length-append}
-use Rattle.std.specs.Prelude.{is_some}
-use Rattle.std.specs.Ordering.{int_eq}
 use Rattle.aom_image.specs.Image.{Image}
 use Rattle.aom_image.specs.Views.{instr_at}
-use Rattle.aom_image.specs.declared.method.Role.TheVariants.{Error as Answers}
 use Rattle.aom_instructions.specs.declared.instr.Instr.{Instr}
 use Rattle.aom_instructions.specs.declared.instr.Instr.TheVariants.{Print, Reply}
-use Rattle.aom_classes.specs.Roles.{destructor_of}
-use Rattle.aom_sound.proofs.Guarded.{goes_same}
-use Rattle.aom_sound.specs.Calls.{called, result_register}
-use Rattle.aom_sound.specs.Cleanup.{arrival, arrived, code_told, dealt_with, destroyed, ended_by, top_is_whole, unwound}
-use Rattle.aom_sound.specs.Destruction.{begun, begun_by, closing, destructed, first_session, parting, parting_from}
-use Rattle.aom_sound.specs.Enlisted.{part_of}
-use Rattle.aom_sound.specs.Lines.{dispatch_lines, message_line, queue_lines, stage_lines, told_line}
-use Rattle.aom_sound.specs.Moves.{announcement, answered, asking, counted, dispatch_ends, failed, goes_line, handled, main_ends, needs_end, object_ends, stage_ends, step, step_task, written, written_instr, written_task}
-use Rattle.aom_sound.specs.Places.{Cell, Elsewhere, Entry, Going, In_service, Object, Root, Sender, held, service_of}
-use Rattle.aom_sound.specs.Servers.{is_server}
-use Rattle.aom_sound.specs.State.{A_mark, Accept_left, Accepted, Accepts, An_object, An_operation, Answered, Asks, Choice, Closing, Destroy, Dispatch, Dispatched, Goes, IsStuck, Item, Main_left, Need, NullOrDead, Object_left, Of_main, Of_object, Of_root, Of_server, Parts, Rest, Run, Seat, Serves, Service_left, Stage, State, Task, Trapped, Unwind, guarded, next}
+use Rattle.aom_sound.specs.Cleanup.{arrival}
+use Rattle.aom_sound.specs.Lines.{message_line, queue_lines, stage_lines, told_line}
+use Rattle.aom_sound.specs.Moves.{announcement, goes_line, step, written, written_instr, written_task}
+use Rattle.aom_sound.specs.Places.{Cell, Elsewhere, Going, In_service, Object, Sender, held, service_of}
+use Rattle.aom_sound.specs.State.{A_mark, Accept_left, Accepted, Accepts, An_object, An_operation, Choice, Closing, Destroy, Dispatched, Goes, Item, Of_server, Parts, Rest, Run, Serves, Service_left, Stage, State, Task, Trapped, Unwind}
 use Rattle.aom_transcript.specs.declared.line.Line.TheVariants.{Main}
 use Rattle.aom_image.specs.declared.method.Thing.{Thing}
 use Rattle.aom_image.specs.declared.method.Thing.TheVariants.{Object as An_object_of, Message}

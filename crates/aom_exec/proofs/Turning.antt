@@ -7,7 +7,7 @@ use Rattle.std.proofs.lemmas.Option.{none-some, same_Some}
 use Rattle.aom_image.specs.Image.{Image}
 use Rattle.aom_image.specs.declared.method.Role.TheVariants.{Run as Handles}
 use Rattle.aom_image.specs.declared.method.Thing.{Thing}
-use Rattle.aom_image.specs.declared.method.Thing.TheVariants.{Message, Object as An_object_of}
+use Rattle.aom_image.specs.declared.method.Thing.TheVariants.{Object as An_object_of}
 use Rattle.aom_rules.specs.Typing.{Typing}
 use Rattle.aom_shape.specs.Tables.{at}
 use Rattle.aom_cells.specs.Heap.{Heap, cell_at, class_at, class_of, null}
@@ -44,7 +44,7 @@ use Rattle.aom_sound.specs.Servers.{has_more, is_server}
 use Rattle.aom_sound.specs.Places.{Cell, Elsewhere, Entry, Object, Going, Place, Register, Request, Root, Timer, held, named, requested, service_of}
 use Rattle.aom_sound.specs.State.{Dispatch, Dispatched, Goes, Inside, Of_object, Rest, Seat, State, Trapped}
 use Rattle.aom_sound.specs.WellTyped.{Keeps}
-use Rattle.aom_sound.specs.World.{Candidate, Cuts, Hears, IsBetween, Passes, Picks, Timed, Turning, Waits, dispatched, serves_first, due_of, ends_as, first_due, heard_one, first_ready, is_ready, picked as any_picked, run_line, turned, with_request, written_by}
+use Rattle.aom_sound.specs.World.{Candidate, Cuts, Hears, IsBetween, Passes, Picks, Timed, Turning, Waits, dispatched, serves_first, due_of, first_due, first_ready, is_ready, picked as any_picked, run_line, turned, with_request, written_by}
 use Rattle.aom_steps.proofs.Pushed.{asked_same}
 use Rattle.aom_steps.proofs.Turns.{picking}
 use Rattle.aom_steps.specs.Left.{is_entry}

@@ -43,8 +43,7 @@ at_rest p s (inl idle) = go s.rest.ended
 at_rest p s (inr over) = go s.rest.ended over
   where
     go : (e : Option Ending) → IsSome e → asked_by (progress_by e s.tasks) (wanted p s) ≡ None
-    go (Some ending) over = refl
-    go None over = cc
+    go x over = grind arith
 
 module _ (p : Image) (t : Typing) (sound : Sound p t) where
   -- a move is never stuck

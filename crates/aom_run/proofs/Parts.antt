@@ -82,11 +82,7 @@ polled_same p s u n None goes = let same = sym (goes_same _ u goes) in (ap (λ (
 polled_same p s u n (Some a) goes = go (cell_at s.cells a.cell) goes
   where
     go : (c : Option Cell) → answered_by p n c a.code s ≡ Goes u → (u.tasks ≡ s.tasks) × (u.rest ≡ record s.rest { polled = suc n })
-    go None goes = absurd cc
-    go (Some c) goes =
-        let same : u ≡ past_native n (record s { cells = with_request (completed_with (recorded a.code)) c.object s.cells }) =
-        sym (guarded_goes ((is_outstanding_at p n c, CompletedTwice) ∷ []) (past_native n (record s { cells = with_request (completed_with (recorded a.code)) c.object s.cells })) u goes) in
-        (ap (λ (v : State). v.tasks) same, ap (λ (v : State). v.rest) same)
+    go x goes = grind arith
 
 -- ---- a run goes on
 

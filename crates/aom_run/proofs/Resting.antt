@@ -36,8 +36,7 @@ nearer_is (Some a) (Some b) time e = let same : min a b ≡ time = cc in go (cas
 
 -- what has that time is there
 timed_is : {A : Type 0} (of : Option A → Option ℕ) (time : A → ℕ) → of None ≡ None → ((a : A) → of (Some a) ≡ Some (time a)) → (o : Option A) (x : ℕ) → of o ≡ Some x → (a : A) × (o ≡ Some a) × (time a ≡ x)
-timed_is of time none some None x e = cc
-timed_is of time none some (Some a) x e = (a, refl, (let at = some a in cc))
+timed_is of time none some y x e = grind arith
 
 due_is : (o : Option Timed) (x : ℕ) → due_of o ≡ Some x → (t : Timed) × (o ≡ Some t) × (t.timer.due ≡ x)
 due_is = timed_is due_of (λ t. t.timer.due) refl (λ t. refl)

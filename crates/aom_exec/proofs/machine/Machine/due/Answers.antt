@@ -1,8 +1,6 @@
 -- The timer that is due first completes the request of its object.
-use Rattle.std.proofs.Common.{subst, sym, ◌≡◌}
-use Rattle.aom_parts.specs.declared.progress.Progress.TheVariants.{Turned}
+use Rattle.std.proofs.Common.{subst}
 use Rattle.aom_parts.specs.Stands.{Machine}
-use Rattle.aom_exec.specs.Steps.{progress}
 use Rattle.aom_exec.specs.Turns.{Completed}
 use Rattle.aom_exec.proofs.Turning.{completed_again}
 use Rattle.aom_exec.proofs.machine.Machine.due.Goals as goal

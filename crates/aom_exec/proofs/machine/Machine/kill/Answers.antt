@@ -1,10 +1,9 @@
 -- A native is killed.
-use Rattle.std.proofs.Common.{refl, ap, length, subst, sym, ◌≡◌}
+use Rattle.std.proofs.Common.{refl, ap, length, subst, ◌≡◌}
 use Rattle.aom_sound.specs.State.{State}
 use Rattle.aom_sound.specs.World.{Kills}
-use Rattle.aom_parts.specs.declared.progress.Progress.TheVariants.{Turned}
-use Rattle.aom_parts.specs.Stands.{Machine, Stands, StandsFor}
-use Rattle.aom_exec.specs.Steps.{progress, timers}
+use Rattle.aom_parts.specs.Stands.{Machine, StandsFor}
+use Rattle.aom_exec.specs.Steps.{timers}
 use Rattle.aom_exec.specs.Turns.{Takes}
 use Rattle.aom_exec.proofs.Seen.{seen_as}
 use Rattle.aom_image.specs.Image.{Image}

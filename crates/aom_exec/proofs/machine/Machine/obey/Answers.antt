@@ -1,15 +1,14 @@
 -- A client does what it is told.
-use Rattle.std.proofs.Common.{refl, None, Option, Some, ap, arith, length, subst, sym, ℕ, ◌++◌, ◌≡◌, ◌≤◌}
+use Rattle.std.proofs.Common.{refl, None, Option, Some, ap, arith, length, subst, ℕ, ◌++◌, ◌≡◌, ◌≤◌}
 use Rattle.std.proofs.lemmas.List.{length-append}
 use Rattle.aom_clients.specs.declared.refusal.Refusal.{Refusal}
 use Rattle.aom_sound.specs.Clients.{refusal}
 use Rattle.aom_sound.specs.Lines.{refusal_line}
 use Rattle.aom_sound.specs.State.{Rest, State}
 use Rattle.aom_lines.specs.Turn.{Turn}
-use Rattle.aom_parts.specs.declared.progress.Progress.TheVariants.{Turned}
-use Rattle.aom_parts.specs.Stands.{Machine, Stands, StandsFor}
+use Rattle.aom_parts.specs.Stands.{Machine, StandsFor}
 use Rattle.aom_exec.specs.Clients.{Obeyed}
-use Rattle.aom_exec.specs.Steps.{progress, timers}
+use Rattle.aom_exec.specs.Steps.{timers}
 use Rattle.aom_exec.specs.Turns.{NoneDue}
 use Rattle.aom_exec.proofs.Timers.{none_due_still}
 use Rattle.aom_exec.proofs.Seen.{seen_as}

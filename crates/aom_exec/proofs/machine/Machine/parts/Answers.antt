@@ -1,1 +1,0 @@
-use Rattle.aom_exec.proofs.machine.Machine.parts.Goals as goal

@@ -1,8 +1,6 @@
 -- The ready object that goes before all others is dispatched.
-use Rattle.std.proofs.Common.{refl, subst, sym, ◌≡◌}
-use Rattle.aom_parts.specs.declared.progress.Progress.TheVariants.{Turned}
-use Rattle.aom_parts.specs.Stands.{Machine, Stands}
-use Rattle.aom_exec.specs.Steps.{progress}
+use Rattle.std.proofs.Common.{refl}
+use Rattle.aom_parts.specs.Stands.{Machine}
 use Rattle.aom_exec.specs.Turns.{Picked}
 use Rattle.aom_exec.proofs.Turning.{picked_again}
 use Rattle.aom_exec.proofs.Seen.{seen_as}

@@ -1,4 +1,4 @@
-use Rattle.std.proofs.Common.{refl, subst, ◌<◌}
+use Rattle.std.proofs.Common.{refl, ◌<◌}
 use Rattle.aom_parts.specs.Stands.{Machine}
 use Rattle.aom_exec.specs.Steps.{Stepped, rank}
 use Rattle.aom_exec.proofs.Progressing.{stands_again}
