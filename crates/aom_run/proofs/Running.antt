@@ -260,6 +260,19 @@ module _ {X : Type 0} {B : X → Type 0} where
   turns_as m new limit events result told now {refused} {natives} same count takes =
       subst (λ n. TakesTurns m (hearing refused limit n events) result told now new) count (subst (λ r. TakesTurns m (hearing r limit (natives_of m) events) result told now new) same takes)
 
+  -- once turns have dispatched: how far the run has come, with what turn, and that the machine stands for a state
+  pub after_turns : (p : Image) (events : List TimedEvent) (limit : ℕ) (before mid : Option (List ℕ)) (old m : Machine X B) (told turn first : Turn) {natives : ℕ} → (far : SoFar p (hearing first.refused limit natives events) before mid told.lines old) → old.core.image ≡ p →
+      told ≡ record first { lines = [] } → natives_of old ≡ natives → TakesTurns old (hearing told.refused limit (natives_of old) events) None told turn m →
+      SoFar p (hearing first.refused limit natives events) before mid turn.lines m × (turn ≡ record first { lines = turn.lines }) × Stands m
+  after_turns p events limit before mid old m told turn first {natives} far image is count takes =
+      let outside = hearing first.refused limit natives events in
+      let stands : Stands old = (far.state, far.stands) in
+      let turns = turns_as old m limit events None told turn (ap (λ (t : Turn). t.refused) is) count takes in (
+        turned_on p outside before mid mid old m told turn far image (ap (λ (t : Turn). t.lines) is) turns,
+        turned_same old m outside told turn stands turns ∙ ap (λ (t : Turn). record t { lines = turn.lines }) is,
+        turned_stands old m outside told turn stands turns,
+      )
+
   -- the last line after the others
   module _ (m new : Machine X B) (outside : Outside) (ending : Ending) (before mid now : Option (List ℕ)) (failed : Bool) (run : Ended m.core.image outside ending before mid new) where
     last : List ℕ
