@@ -1,5 +1,5 @@
 -- What comes between dispatches, until an object or a server is dispatched, an event is told by a line, or the run ends.
-use Rattle.std.specs.Prelude.{◌≡◌, ◌⊎◌, ◌<◌, ◌≤◌, ◌+◌, ◌-◌, ◌++◌, is_some, ℕ, true, List, [], Option, Some, None, length}
+use Rattle.std.specs.Prelude.{◌≡◌, ◌⊎◌, ◌<◌, ◌≤◌, ◌+◌, ◌-◌, ◌++◌, is_some, ℕ, Bool, true, false, List, [], Option, Some, None, length}
 use Rattle.aom_sound.specs.State.{State}
 use Rattle.aom_sound.specs.World.{IsBetween, Outside, Reaches, Timed, event_at, first_due, first_living}
 use Rattle.aom_steps.specs.Payers.{payer}
@@ -8,7 +8,7 @@ use Rattle.aom_transcript.specs.declared.line.Line.{Line}
 use Rattle.aom_transcript.specs.declared.line.Ending.{Ending}
 use Rattle.aom_lines.specs.Turn.{Turn}
 use Rattle.aom_exec.specs.Steps.{timers}
-use Rattle.aom_machine.specs.Calls.{StandsFor, natives_of}
+use Rattle.aom_machine.specs.Calls.{NoneIsDue, StandsFor, natives_of}
 use Rattle.aom_machine.specs.declared.machine.Machine.{Machine}
 
 -- what comes from outside of the image, where there are so many natives
@@ -82,6 +82,11 @@ module _ {X : Type 0} {B : X → Type 0} where
   IsLate events m = IsDue m ⊎ HasCome events m
 
   -- ---- natives
+
+  -- an event is told by a line, or all that have come are heard and no timer is due
+  abbrev pub HearsAll : (told : Bool) → List TimedEvent → Machine X B → Turn → Turn → Machine X B → Type 0
+  HearsAll true events old before now new = TellsEnd events old before now new
+  HearsAll false events old before now new = (now ≡ before) × Settles events old new × NoneIsDue new × NoneHasCome events new
 
   -- each living native is polled in the turn at hand
   abbrev pub AllPolled : Machine X B → Type 0

@@ -7,7 +7,7 @@ ghost use Rattle.aom_parts.specs.declared.progress.Progress.TheVariants.{Turned}
 ghost use Rattle.aom_machine.specs.Calls.{EventInRange, NoneIsDue, Stands, StandsFor, natives_of};
 ghost use Rattle.aom_natives.specs.Slots.{AllAgree};
 ghost use Rattle.aom_transcript.specs.declared.event.TimedEvent.{TimedEvent};
-ghost use Rattle.aom_run.specs.Turns.{AllPolled, CompletesDue, HasCome, IsDue, IsLate, NoneHasCome, Settles, TakesTurns, TellsEnd, hearing, to_come, waiting};
+ghost use Rattle.aom_run.specs.Turns.{AllPolled, CompletesDue, HasCome, HearsAll, IsDue, IsLate, NoneHasCome, Settles, TakesTurns, hearing, to_come, waiting};
 
 use aom_lines::Turn;
 use aom_machine::Machine;
@@ -77,12 +77,8 @@ fn settle(machine: &mut Machine, events: &[TimedEvent], turn: &mut Turn) -> bool
     ensures agree { AllAgree (λ l. l.ids) (λ l. (⟦<dyn Native as Native>⟧ l.native.vtable).owed l.native.value) machine.new.natives.slots.items }
     ensures image { machine.new.core.image ≡ machine.old.core.image }
     ensures natives { natives_of machine.new ≡ natives_of machine.old }
-    ensures told { result ≡ true → TellsEnd events.now machine.old turn.old turn.new machine.new }
-    ensures quiet { result ≡ false → turn.new ≡ turn.old }
-    ensures settled { result ≡ false → Settles events.now machine.old machine.new }
+    ensures heard { HearsAll result events.now machine.old turn.old turn.new machine.new }
     ensures between { progress machine.new.core ≡ Turned }
-    ensures none_due { result ≡ false → NoneIsDue machine.new }
-    ensures none_come { result ≡ false → NoneHasCome events.now machine.new }
     ensures polled { result ≡ false → AllPolled machine.new }
     ensures falls { result ≡ false → IsLate events.now machine.old → waiting events.now machine.new < waiting events.now machine.old }
 {
@@ -143,12 +139,8 @@ fn hear_due(machine: &mut Machine, events: &[TimedEvent], turn: &mut Turn) -> bo
     ensures agree { AllAgree (λ l. l.ids) (λ l. (⟦<dyn Native as Native>⟧ l.native.vtable).owed l.native.value) machine.new.natives.slots.items }
     ensures image { machine.new.core.image ≡ machine.old.core.image }
     ensures natives { natives_of machine.new ≡ natives_of machine.old }
-    ensures told { result ≡ true → TellsEnd events.now machine.old turn.old turn.new machine.new }
-    ensures quiet { result ≡ false → turn.new ≡ turn.old }
-    ensures settled { result ≡ false → Settles events.now machine.old machine.new }
+    ensures heard { HearsAll result events.now machine.old turn.old turn.new machine.new }
     ensures between { progress machine.new.core ≡ Turned }
-    ensures none_due { result ≡ false → NoneIsDue machine.new }
-    ensures none_come { result ≡ false → NoneHasCome events.now machine.new }
     ensures timers { timers machine.new.core ≡ timers machine.old.core }
     ensures no_more { to_come events.now machine.new ≤ to_come events.now machine.old }
     ensures falls { result ≡ false → HasCome events.now machine.old → to_come events.now machine.new < to_come events.now machine.old }

@@ -27,8 +27,8 @@ deliver-requires-clause-ranged g c =
     let come = c.in-Some.ensures.some in
     subst EventInRange come.1 (all_got (λ e. EventInRange e.event) c.args.events.now c.loop-event.machine.core.parts.rest.delivered come.0.0 c.requires.ranged come.0.1)
 
-pub returns-then-deliver-clause-told : goal.returns-then-deliver-clause-told
-returns-then-deliver-clause-told g c = λ told.
+pub returns-then-deliver-clause-heard : goal.returns-then-deliver-clause-heard
+returns-then-deliver-clause-heard g c =
     let i = c.loop-event.invariant in
     let m = c.loop-event.machine in
     let new = c.deliver.new.self in
