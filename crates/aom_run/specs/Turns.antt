@@ -7,8 +7,9 @@ use Rattle.aom_transcript.specs.declared.event.TimedEvent.{TimedEvent}
 use Rattle.aom_transcript.specs.declared.line.Line.{Line}
 use Rattle.aom_transcript.specs.declared.line.Ending.{Ending}
 use Rattle.aom_lines.specs.Turn.{Turn}
-use Rattle.aom_exec.specs.Steps.{timers}
-use Rattle.aom_machine.specs.Calls.{NoneIsDue, StandsFor, natives_of}
+use Rattle.aom_exec.specs.Steps.{progress, timers}
+use Rattle.aom_parts.specs.declared.progress.Progress.TheVariants.{Turned}
+use Rattle.aom_machine.specs.Calls.{NoneIsDue, Stands, StandsFor, natives_of}
 use Rattle.aom_machine.specs.declared.machine.Machine.{Machine}
 
 -- what comes from outside of the image, where there are so many natives
@@ -40,6 +41,17 @@ module _ {X : Type 0} {B : X → Type 0} where
       × StandsFor new u
 
   -- ---- events
+
+  -- it stands for a state between dispatches
+  abbrev pub StandsBetween : Machine X B → Type 0
+  StandsBetween m = Stands m × (progress m.core ≡ Turned)
+
+  -- and so it does again, with the same image, beside as many natives
+  pub record Keeps (old new : Machine X B) : Type 0 where
+    pub stands : Stands new
+    pub between : progress new.core ≡ Turned
+    pub image : new.core.image ≡ old.core.image
+    pub natives : natives_of new ≡ natives_of old
 
   -- the next event comes later than the machine's clock says, if there is one
   abbrev pub NoneHasCome : List TimedEvent → Machine X B → Type 0

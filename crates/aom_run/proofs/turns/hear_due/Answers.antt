@@ -11,7 +11,7 @@ pub loop-event-init : goal.loop-event-init
 loop-event-init g c =
     record {
       settled = none_settles c.args.events.now c.args.machine.now;
-      kept = times_all c.args.machine.now c.requires.stands c.requires.between c.requires.none_due;
+      kept = times_all c.args.machine.now c.requires.rests.0 c.requires.rests.1 c.requires.none_due;
       agree = c.requires.agree;
       turn = refl;
       fewer = inl refl;
@@ -39,14 +39,16 @@ returns-then-deliver-clause-heard g c =
     subst (λ t. TellsEnd c.args.events.now c.args.machine.now t now new) i.turn
     (tells_after c.args.events.now c.args.machine.now m i.kept.keeps.image i.kept.keeps.natives i.settled c.loop-event.turn now new (heard_tells c.args.events.now m new c.loop-event.turn now i.kept.none_due come.0 takes e.rest))
 
-pub returns-then-deliver-clause-between : goal.returns-then-deliver-clause-between
-returns-then-deliver-clause-between g c =
+pub returns-then-deliver-clause-kept : goal.returns-then-deliver-clause-kept
+returns-then-deliver-clause-kept g c =
     let i = c.loop-event.invariant in
     let m = c.loop-event.machine in
     let e = c.deliver.ensures in
     let come = c.in-Some.ensures.some in
     let takes = subst (λ event. Delivered m event c.loop-event.turn c.deliver.new.turn c.deliver.new.self) (sym come.1) e.delivered in
-    heard_far c.args.events.now m c.deliver.new.self c.loop-event.turn c.deliver.new.turn i.kept.none_due come.0 takes e.rest i.kept.keeps.stands
+    let none = i.kept.none_due in
+    let k = i.kept.keeps in
+    keeps_on k (heard_stands c.args.events.now m c.deliver.new.self c.loop-event.turn c.deliver.new.turn none come.0 takes e.rest k.stands) (heard_far c.args.events.now m c.deliver.new.self c.loop-event.turn c.deliver.new.turn none come.0 takes e.rest k.stands) e.image e.natives
 
 pub loop-event-smaller : goal.loop-event-smaller
 loop-event-smaller g c =

@@ -2,7 +2,7 @@
 use Rattle.std.proofs.Common.{◌≡◌, refl, subst, sym, ◌∙◌}
 use Rattle.aom_exec.specs.Steps.{progress}
 use Rattle.aom_parts.specs.declared.progress.Progress.TheVariants.{Turned}
-use Rattle.aom_run.specs.Turns.{Settles}
+use Rattle.aom_run.specs.Turns.{Keeps, Settles}
 use Rattle.aom_run.proofs.Between.{all_polled, kept_come, none_settles, polled_far, polled_settles, polled_so, polled_stands, settles_both, still_rest}
 use Rattle.aom_run.proofs.Keeping.{keeps_on, times_all, times_on}
 use Rattle.aom_run.proofs.turns.poll_all.Goals as goal
@@ -11,7 +11,7 @@ pub loop-init : goal.loop-init
 loop-init g c =
     record {
       settled = λ events come. none_settles events c.args.machine.now;
-      kept = times_all c.args.machine.now c.requires.stands c.requires.between c.requires.none_due;
+      kept = times_all c.args.machine.now c.requires.rests.0 c.requires.rests.1 c.requires.none_due;
       agree = c.requires.agree;
       rest = refl;
     }
@@ -45,10 +45,8 @@ returns g c =
     let last = all_polled c.loop.machine c.poll.new.self _ c.poll.result c.loop-test.false e.polled in
     record {
       agree = e.agree;
-      image = e.image ∙ i.kept.keeps.image;
-      natives = e.natives ∙ i.kept.keeps.natives;
+      kept = subst (λ x. Keeps c.args.machine.now x) (sym last.0) i.kept.keeps;
       settled = λ events come. subst (λ x. Settles events c.args.machine.now x) (sym last.0) (i.settled events come);
-      between = subst (λ x. progress x.core ≡ Turned) (sym last.0) i.kept.keeps.between;
       none_due = e.none_due i.kept.none_due;
       rest = still_rest c.args.machine.now c.loop.machine c.poll.new.self i.rest e.rest;
       polled = last.1;
