@@ -8,7 +8,6 @@ use Rattle.aom_natives.specs.Owed.{TakesOut}
 use Rattle.aom_natives.specs.Slots.{KeepsOthers, ids_at, living_at}
 use Rattle.aom_natives.proofs.Ids.{same-out}
 use Rattle.aom_owed.specs.Owed.{has_name, owes}
-use Rattle.aom_sessions.specs.Sessions.{is_killed}
 use Rattle.aom_sound.specs.Natives.{is_dead}
 use Rattle.aom_sound.specs.State.{Rest, State}
 use Rattle.aom_sound.specs.World.{AnswersWell, Completion, Hears, Kills, Outside, Polls, cell_at, delivers, first_living, lives}

@@ -1,14 +1,14 @@
 -- What is outstanding after a step is told by what the step asks of a native, and by the answer.
 use Rattle.std.specs.Prelude.{IsSome}
 use Rattle.aom_transcript.specs.declared.line.Ending.{Ending}
-use Rattle.std.proofs.Common.{◌≡◌, ◌⊎◌, ℤ, ℕ, arith, false, pos, List, [], ◌∷◌, Option, Some, None, refl, sym, ap, subst, ◌∙◌, inl, inr}
+use Rattle.std.proofs.Common.{◌≡◌, ◌⊎◌, ℤ, ℕ, arith, false, pos, List, [], Option, Some, None, refl, sym, ap, subst, ◌∙◌, inl, inr}
 use Rattle.aom_image.specs.Image.{Image}
 use Rattle.aom_rules.specs.Typing.{Typing}
 use Rattle.aom_owed.specs.Owed.{FindsWell, SessionsHold, owes, owes_after}
 use Rattle.aom_owed.proofs.Moves.{moves_follow_calls}
 use Rattle.aom_sound.specs.Places.{named}
 use Rattle.aom_sound.specs.Moves.{IsOpen, step}
-use Rattle.aom_sound.specs.State.{Choice, Goes, IsStuck, Outcome, State, Task, Dispatched, Unwind, Run, Trapped, Closing, Destroy}
+use Rattle.aom_sound.specs.State.{Choice, Goes, IsStuck, Outcome, State, Task}
 use Rattle.aom_sound.specs.Wanted.{Wanted, wanted, wanted_task}
 use Rattle.aom_sound.specs.WellTyped.{Keeps, WellTyped}
 use Rattle.aom_endings.proofs.Ending.{above, top}

@@ -1,7 +1,7 @@
 -- Moves one after another: they make no more dispatches of objects, and there are none where nothing is at hand.
 use Rattle.std.proofs.Common.{◌≡◌, ℕ, ◌≤◌, ◌^◌, ◌-◌, List, [], ◌∷◌, ◌∙◌, ap, arith, refl, sym}
 use Rattle.aom_image.specs.Image.{Image}
-use Rattle.aom_sound.specs.State.{State, Task}
+use Rattle.aom_sound.specs.State.{State}
 use Rattle.aom_transcript.specs.declared.line.Line.{Line}
 use Rattle.aom_endings.proofs.Spending.{moved_spares}
 use Rattle.aom_endings.specs.Endings.{spare}

@@ -1,7 +1,5 @@
 -- Each living native is polled.
-use Rattle.std.proofs.Common.{◌≡◌, refl, subst, sym, ◌∙◌}
-use Rattle.aom_exec.specs.Steps.{progress}
-use Rattle.aom_parts.specs.declared.progress.Progress.TheVariants.{Turned}
+use Rattle.std.proofs.Common.{refl, subst, sym, ◌∙◌}
 use Rattle.aom_run.specs.Turns.{Keeps, Settles}
 use Rattle.aom_run.proofs.Between.{all_polled, kept_come, none_settles, polled_far, polled_settles, polled_so, polled_stands, settles_both, still_rest}
 use Rattle.aom_run.proofs.Keeping.{keeps_on, times_all, times_on}

@@ -1,5 +1,5 @@
 -- All that is due by now is settled, or an event is told by a line.
-use Rattle.std.proofs.Common.{ap, arith, subst, ◌∙◌}
+use Rattle.std.proofs.Common.{ap, arith, subst}
 use Rattle.aom_run.specs.Turns.{HearsAll}
 use Rattle.aom_run.proofs.Between.{completed_settles, kept_come, late_falls, rest_after, settles_both, tells_after}
 use Rattle.aom_run.proofs.Keeping.{keeps_both}
