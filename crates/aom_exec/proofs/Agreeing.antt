@@ -11,9 +11,8 @@ use Rattle.aom_shape.specs.Shape.{Shape}
 use Rattle.aom_shape.specs.Things.{Program, field_thing}
 use Rattle.aom_rules.specs.Typing.{Typing, shape_at}
 use Rattle.aom_shape.specs.declared.kind.Entry.{Entry as Pushed}
-use Rattle.aom_shape.specs.declared.kind.Entry.TheVariants.{Object as Pushed_object, Operation as Pushed_operation}
 use Rattle.aom_shape.specs.declared.kind.Filling.{Filling}
-use Rattle.aom_shape.specs.declared.kind.Filling.TheVariants.{Empty, Full, Perhaps}
+use Rattle.aom_shape.specs.declared.kind.Filling.TheVariants.{Empty, Perhaps}
 use Rattle.aom_shape.specs.declared.kind.Kind.{Kind}
 use Rattle.aom_shape.specs.declared.kind.Kind.TheVariants.{Maybe, Null, Own, Unset, Word}
 use Rattle.aom_sound.proofs.Items.{length_forms}
@@ -70,19 +69,11 @@ word_under (task ∷ above) fr below i =
 -- what a field is declared to be says no more than what is known of it
 declared_says : (p : Image) (h : Sight) (thing : Option Thing) (x : Filling) (n : ℕ) (o : Option Object) → n ≡ number o → Fits p h o (filled thing x)
     → NumberSays p (filled thing Perhaps) n o
-declared_says p h None x n None same fits = record { number = same; none = refl }
-declared_says p h (Some t) x n None same fits = inl (record { number = same; none = refl })
-declared_says p h (Some t) Full n (Some y) same fits = inr (record { object = y; owned = refl; number = same; thing = fits.0 })
-declared_says p h (Some t) Perhaps n (Some y) same fits = inr (record { object = y; owned = refl; number = same; thing = fits.0 })
-declared_says p h _ _ n _ same fits = absurd fits
+declared_says p h y x n z same fits = grind arith
 
 -- and what is known of it says so
 filled_says : (p : Image) (h : Sight) (t : Thing) (x : Filling) (n : ℕ) (o : Option Object) → n ≡ number o → Fits p h o (filled (Some t) x) → NumberSays p (filled (Some t) x) n o
-filled_says p h t Empty n None same fits = record { number = same; none = refl }
-filled_says p h t Perhaps n None same fits = inl (record { number = same; none = refl })
-filled_says p h t Full n (Some y) same fits = record { object = y; owned = refl; number = same; thing = fits.0 }
-filled_says p h t Perhaps n (Some y) same fits = inr (record { object = y; owned = refl; number = same; thing = fits.0 })
-filled_says p h t _ n _ same fits = absurd fits
+filled_says p h t x n y same fits = grind arith
 
 empty_fits : (p : Image) (h : Sight) (thing : Option Thing) (o : Option Object) → Fits p h o Null → Fits p h o (filled thing Empty)
 empty_fits p h None o fits = fits
@@ -168,8 +159,7 @@ over_forms [] k e = cc
 over_forms (i ∷ items) k e = go (length items == k) refl (over_forms items k) e
   where
     shown : (i : Item) → Some i ≡ Some An_object → Some (form i) ≡ Some Object_form
-    shown An_object e = refl
-    shown _ e = cc
+    shown x e = grind arith
 
     go : (b : Bool) → (length items == k) ≡ b → (over items k ≡ Some An_object → over (forms items) k ≡ Some Object_form) → cond b (Some i) (over items k) ≡ Some An_object
         → cond (length (forms items) == k) (Some (form i)) (over (forms items) k) ≡ Some Object_form
@@ -185,8 +175,7 @@ module _ (p : Image) (d : Place → Kind) (k : ℕ) where
   pushed_own (x ∷ es) ls below e = go (length (objects es (items_of ls)) == k) (pushed_own es ls below) e
     where
       own : (x : Pushed) → Some (entry_form x) ≡ Some Object_form → IsOwn (entry_kind x)
-      own (Pushed_object c a) e = tt
-      own Pushed_operation e = cc
+      own x e = grind arith
 
       go : (b : Bool) → (over (objects es (items_of ls)) k ≡ Some Object_form → IsOwn (entry_claim es (items_of ls) k (claim p d ls (Entry k))))
           → cond b (Some (entry_form x)) (over (objects es (items_of ls)) k) ≡ Some Object_form → IsOwn (cond b (entry_kind x) (entry_claim es (items_of ls) k (claim p d ls (Entry k))))

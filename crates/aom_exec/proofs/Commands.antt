@@ -10,9 +10,9 @@ use Rattle.aom_clients.specs.Clients as kept
 use Rattle.aom_clients.specs.Nodes.{named_by}
 use Rattle.aom_clients.specs.Table.{code_of, row}
 use Rattle.aom_clients.specs.declared.client.Client.{Client}
-use Rattle.aom_clients.specs.declared.client.Client.TheVariants.{Closing, Connecting, Dead, Dying, Gone, Open, Unconnected}
+use Rattle.aom_clients.specs.declared.client.Client.TheVariants.{Unconnected}
 use Rattle.aom_clients.specs.declared.place.Place.{Place as Message_place}
-use Rattle.aom_clients.specs.declared.place.Place.TheVariants.{Discarded, Free, Held, Queued}
+use Rattle.aom_clients.specs.declared.place.Place.TheVariants.{Free}
 use Rattle.aom_clients.specs.declared.refusal.Refusal.{Refusal}
 use Rattle.aom_image.specs.Image.{Image}
 use Rattle.aom_messages.specs.Store.{Store, message_at}
@@ -40,8 +40,9 @@ use Rattle.aom_parts.specs.Serving.{AreSized, Once, SameClients, is_taken, messa
 use Rattle.aom_parts.specs.Stands.{Machine, StandsFor}
 use Rattle.aom_parts.specs.declared.parts.Parts.{Parts}
 use Rattle.aom_exec.proofs.Commanded.{Untouched, sessions_close, sessions_connect, sessions_die, sessions_send}
-use Rattle.aom_exec.proofs.Obeyed.{Hears, obeyed_stands, servers_below, typed_now, v}
+use Rattle.aom_exec.proofs.Obeyed.{obeyed_stands, servers_below, typed_now, v}
 use Rattle.aom_exec.proofs.Obeying.{messages_close, messages_connect, messages_die, messages_send, sent_free, sent_name}
+use Rattle.aom_exec.specs.Servers.{NotesIf}
 use Rattle.aom_exec.specs.Clients.{Acts, AreKept, CanAct, Forgets, IsInRange, Obeyed, asked_by, first_server, queue_changed}
 
 -- the line of an answer
@@ -55,13 +56,7 @@ same_refusal c (Some r) = refl
 
 -- where a client is does not hang on the cell of its session
 named_alike : (x : Client) → named_by (sessionless x) ≡ named_by x
-named_alike Unconnected = refl
-named_alike (Connecting n slots) = refl
-named_alike (Open n session slots) = refl
-named_alike (Closing n session) = refl
-named_alike Gone = refl
-named_alike Dead = refl
-named_alike (Dying n session) = refl
+named_alike x = grind arith
 
 -- each of these is kept, and there once
 all_kept : (store : Store) (ms : List ℕ) → Once ms → ((m : ℕ) → is_among m ms ≡ true → is_some (message_at store m) ≡ true) → AreKept store ms
@@ -75,6 +70,10 @@ all_kept store (m ∷ ms) once each = (each m (ap (λ b. b || is_among m ms) (eq
 module _ (p : Image) (m : Parts) (s : State) (st : StandsFor (record { image = p; parts = m }) s) (idle : s.tasks ≡ []) (c : ℕ) (one : c < 64) where
   abbrev same : SameClients m.clients s.cells s.clients
   same = st.agrees.services.clients
+
+  -- where the event is heard
+  abbrev w : State
+  w = v p m s st idle c
 
   few : c < length m.clients.clients
   few = omega (arith, one, same.many)
@@ -93,18 +92,14 @@ module _ (p : Image) (m : Parts) (s : State) (st : StandsFor (record { image = p
   no_message k none = free (kept.place_at m.clients k) (same.taken k ∙ unnamed (named s.cells (message_name k)) refl)
     where
       free : (x : Message_place) → is_taken x ≡ false → x ≡ Free
-      free Free e = refl
-      free (Queued d) e = cc
-      free (Held d) e = cc
-      free (Discarded d) e = cc
+      free x e = grind arith
 
       -- no cell has such a number
       no_cell : (o : Object) → thing_in (cell_at m.cells (message_name k)) ≡ thing_of (Some o) → is_object o.thing ≡ true → ⊥
       no_cell o things object = go (cell_at m.cells (message_name k)) refl (things ∙ ap (λ b. cond b (Some o.thing) None) object)
         where
           go : (x : Option Held_cell) → cell_at m.cells (message_name k) ≡ x → thing_in x ≡ Some o.thing → ⊥
-          go None e t = cc
-          go (Some x) e t = let low = st.agrees.cells.below (message_name k) x e in omega (arith, low, st.agrees.cells.limit, st.sound.formed.header.cells)
+          go x e t = grind arith
 
       unnamed : (o : Option Object) → named s.cells (message_name k) ≡ o → is_some (named s.cells (message_name k)) ≡ false
       unnamed None e = ap is_some e
@@ -120,8 +115,8 @@ module _ (p : Image) (m : Parts) (s : State) (st : StandsFor (record { image = p
   freed_all : (to : Option Client) → AreKept m.messages (kept.freed to c m.clients)
   freed_all None = tt
   freed_all (Some to) =
-      all_kept m.messages (kept.freed (Some to) c m.clients) (freed_once p st.typing st.sound.wired (v p m s st idle c) (typed_now p m s st idle c) st.kept.fit m.clients same c)
-      (λ k e. freed_kept p st.typing st.sound.wired (v p m s st idle c) (typed_now p m s st idle c) st.kept.fit m.clients same c m.messages st.agrees.services.messages k e)
+      all_kept m.messages (kept.freed (Some to) c m.clients) (freed_once p st.typing st.sound.wired w (typed_now p m s st idle c) st.kept.fit m.clients same c)
+      (λ k e. freed_kept p st.typing st.sound.wired w (typed_now p m s st idle c) st.kept.fit m.clients same c m.messages st.agrees.services.messages k e)
 
   pub can_act : (command : Command) → IsInRange command → CanAct c command m.clients m.messages
   can_act (Connect class slots) ranged = ranged
@@ -140,19 +135,22 @@ module _ (p : Image) (m : Parts) (s : State) (st : StandsFor (record { image = p
 
     -- by what is made of clients and messages
     by_parts :
-        (command : Command) (place : Option ℕ) → IfSome place (λ n. kept.place_at m.clients n ≡ Free) → result ≡ kept.answer (refusal p c s command) →
-        SameClients k (commanded p c (v p m s st idle c) command (sent_name place)).cells (commanded p c (v p m s st idle c) command (sent_name place)).clients → AreSized p.header.cells k → SessionsSame m.clients k →
-        SameMessages p store (commanded p c (v p m s st idle c) command (sent_name place)).cells → (server : Option ℕ) → ((n : ℕ) → (server ≡ Some n → ⊥) → Untouched p c (v p m s st idle c) command n) → Hears server k m.active a → Obeyed old s c command told now new
-    by_parts command place free answer clients sized sessions messages server touched hears =
-        let unused = sent_free m.clients s.cells s.clients same st.agrees.services.sized.places place free in (
+        (command : Command) (place : Option ℕ) → IfSome place (λ n. kept.place_at m.clients n ≡ Free) → result ≡ kept.answer (refusal p c s command) → (then : kept.State) → k ≡ then →
+        SameClients then (commanded p c w command (sent_name place)).cells (commanded p c w command (sent_name place)).clients → AreSized p.header.cells then → SessionsSame m.clients then →
+        SameMessages p store (commanded p c w command (sent_name place)).cells → (server : Option ℕ) → ((n : ℕ) → (server ≡ Some n → ⊥) → Untouched p c w command n) → NotesIf server k m.active a → Obeyed old s c command told now new
+    by_parts command place free answer then is clients sized sessions messages server touched hears =
+        let unused = sent_free m.clients s.cells s.clients same st.agrees.services.sized.places place free in
+        let clients_now = subst (λ x. SameClients x (commanded p c w command (sent_name place)).cells (commanded p c w command (sent_name place)).clients) (sym is) clients in
+        let sized_now = subst (AreSized p.header.cells) (sym is) sized in
+        let sessions_now = subst (SessionsSame m.clients) (sym is) sessions in (
           sent_name place,
           unused,
           record {
             between = between;
-            state = commanded p c (v p m s st idle c) command (sent_name place);
+            state = commanded p c w command (sent_name place);
             goes = refl;
             lines = lines ∙ ap (λ ls. record told { lines = told.lines ++ ls }) (ap (told_refusal c) answer ∙ same_refusal c (refusal p c s command));
-            stands = obeyed_stands p m s st idle c command (sent_name place) unused (high place) k store a clients sized sessions messages server touched hears;
+            stands = obeyed_stands p m s st idle c command (sent_name place) unused (high place) k store a clients_now sized_now sessions_now messages server touched hears;
           },
         )
       where
@@ -164,29 +162,25 @@ module _ (p : Image) (m : Parts) (s : State) (st : StandsFor (record { image = p
     away_named : (n : ℕ) → (queue_changed None (kept.client_at m.clients c) ≡ Some n → ⊥) → named_by (client_at s.clients c) ≡ Some n → ⊥
     away_named n away e = away (sym (named_alike (kept.client_at m.clients c)) ∙ ap named_by (same.at c) ∙ e)
 
-    pub obeys : (command : Command) → Acts c command (asked_by p m.listed command) m.clients k m.messages store result → Hears (queue_changed (asked_by p m.listed command) (kept.client_at m.clients c)) k m.active a → Obeyed old s c command told now new
+    -- what a client leaves is kept no more
+    withdraws : Forgets (kept.freed (Some Unconnected) c m.clients) m.messages store → SameMessages p store (withdrawn c w.cells)
+    withdraws f = messages_withdrawn p st.typing st.sound.wired w (typed_now p m s st idle c) st.kept.fit m.clients same c m.messages store f.gone f.others f.limit f.count st.agrees.services.messages
+
+    pub obeys : (command : Command) → Acts c command (asked_by p m.listed command) m.clients k m.messages store result → NotesIf (queue_changed (asked_by p m.listed command) (kept.client_at m.clients c)) k m.active a → Obeyed old s c command told now new
     obeys (Connect class slots) acts hears =
         by_parts (Connect class slots) None tt
         (acts.0 ∙ ap (λ x. kept.answer (kept.connect_refusal c x m.clients)) (first_found class) ∙ ap kept.answer (connect_refused p c s m.clients same class slots))
-        (subst (λ x. SameClients x (commanded p c w (Connect class slots) (sent_name None)).cells (commanded p c w (Connect class slots) (sent_name None)).clients) (sym (acts.1 ∙ ap (λ x. kept.after_connect c x slots m.clients) (first_found class)))
-        (same_connect p st.typing st.sound.wired w (typed_now p m s st idle c) st.kept.fit m.clients same p.header.cells st.agrees.services.sized (servers_below p m s st idle c) c one class slots (sent_name None)))
-        (subst (AreSized p.header.cells) (sym acts.1) (sized_connect p.header.cells m.clients st.agrees.services.sized c (first_server p m.listed class) slots))
-        (subst (SessionsSame m.clients) (sym acts.1) (sessions_connect m.clients c (first_server p m.listed class) slots few))
+        (kept.after_connect c (found_server (most_of (kind_of p (Some class))) (asked_server p class s.cells)) slots m.clients) (acts.1 ∙ ap (λ x. kept.after_connect c x slots m.clients) (first_found class))
+        (same_connect p st.typing st.sound.wired w (typed_now p m s st idle c) st.kept.fit m.clients same p.header.cells st.agrees.services.sized (servers_below p m s st idle c) c one class slots (sent_name None))
+        (sized_connect p.header.cells m.clients st.agrees.services.sized c _ slots) (sessions_connect m.clients c _ slots few)
         (messages_connect p c w m.clients same m.messages store st.agrees.services.messages class slots (sent_name None) acts.2) (queue_changed (first_server p m.listed class) (kept.client_at m.clients c))
         (λ n away x asked name. away (ap (λ y. queue_changed y (kept.client_at m.clients c)) (first_found class) ∙ ap (λ y. queue_changed (found_server (most_of (kind_of p (Some class))) y) (kept.client_at m.clients c)) asked ∙ ap Some name)) hears
-      where
-        w : State
-        w = v p m s st idle c
     obeys (Send words) acts hears =
-        by_parts (Send words) acts.place (there acts.place acts.free) (acts.told ∙ ap kept.answer alike)
-        (subst (λ x. SameClients x (commanded p c w (Send words) (sent_name acts.place)).cells (commanded p c w (Send words) (sent_name acts.place)).clients) (sym acts.after_it)
-        (same_send p st.typing st.sound.wired w (typed_now p m s st idle c) st.kept.fit m.clients same p.header.cells st.agrees.services.sized (servers_below p m s st idle c) c one words acts.place found (by_place acts.place acts.free) (sent_name acts.place) (called acts.place)))
-        (subst (AreSized p.header.cells) (sym acts.after_it) (sized_send p.header.cells m.clients st.agrees.services.sized c acts.place)) (subst (SessionsSame m.clients) (sym acts.after_it) (sessions_send m.clients c acts.place))
+        by_parts (Send words) acts.place (there acts.place acts.free) (acts.told ∙ ap kept.answer alike) (kept.after_send c acts.place m.clients) acts.after_it
+        (same_send p st.typing st.sound.wired w (typed_now p m s st idle c) st.kept.fit m.clients same p.header.cells st.agrees.services.sized (servers_below p m s st idle c) c one words acts.place found (by_place acts.place acts.free) (sent_name acts.place) (called acts.place))
+        (sized_send p.header.cells m.clients st.agrees.services.sized c acts.place) (sessions_send m.clients c acts.place)
         (messages_send p c w m.clients same m.messages store st.agrees.services.messages words acts.place alike acts.kept) (queue_changed None (kept.client_at m.clients c)) away_named hears
       where
-        w : State
-        w = v p m s st idle c
-
         found : is_some acts.place ≡ nat_lt (count_messages s.cells) p.header.messages
         found = acts.found ∙ ap (λ n. nat_lt n m.messages.limit) st.agrees.services.messages.count ∙ ap (λ n. nat_lt (count_messages s.cells) n) st.agrees.services.messages.limit
 
@@ -205,26 +199,12 @@ module _ (p : Image) (m : Parts) (s : State) (st : StandsFor (record { image = p
         called None n e = absurd (none-some n e)
         called (Some k) n e = ap message_name (same_Some k n e)
     obeys Close acts hears =
-        by_parts Close None tt acts.0
-        (subst (λ x. SameClients x (commanded p c w Close (sent_name None)).cells (commanded p c w Close (sent_name None)).clients) (sym acts.1)
-        (same_close p st.typing st.sound.wired w (typed_now p m s st idle c) st.kept.fit m.clients same p.header.cells st.agrees.services.sized (servers_below p m s st idle c) c one (sent_name None)))
-        (subst (AreSized p.header.cells) (sym acts.1) (sized_close p.header.cells m.clients st.agrees.services.sized c)) (subst (SessionsSame m.clients) (sym acts.1) (sessions_close m.clients c few))
+        by_parts Close None tt acts.0 (kept.after_close c m.clients) acts.1
+        (same_close p st.typing st.sound.wired w (typed_now p m s st idle c) st.kept.fit m.clients same p.header.cells st.agrees.services.sized (servers_below p m s st idle c) c one (sent_name None))
+        (sized_close p.header.cells m.clients st.agrees.services.sized c) (sessions_close m.clients c few)
         (messages_close p c w m.clients same m.messages store st.agrees.services.messages withdraws acts.2 (sent_name None)) (queue_changed None (kept.client_at m.clients c)) away_named hears
-      where
-        w : State
-        w = v p m s st idle c
-
-        withdraws : Forgets (kept.freed (Some Unconnected) c m.clients) m.messages store → SameMessages p store (withdrawn c w.cells)
-        withdraws f = messages_withdrawn p st.typing st.sound.wired w (typed_now p m s st idle c) st.kept.fit m.clients same c m.messages store f.gone f.others f.limit f.count st.agrees.services.messages
     obeys Die acts hears =
-        by_parts Die None tt acts.0
-        (subst (λ x. SameClients x (commanded p c w Die (sent_name None)).cells (commanded p c w Die (sent_name None)).clients) (sym acts.1)
-        (same_die p st.typing st.sound.wired w (typed_now p m s st idle c) st.kept.fit m.clients same p.header.cells st.agrees.services.sized (servers_below p m s st idle c) c one (sent_name None)))
-        (subst (AreSized p.header.cells) (sym acts.1) (sized_die p.header.cells m.clients st.agrees.services.sized c)) (subst (SessionsSame m.clients) (sym acts.1) (sessions_die m.clients c few))
+        by_parts Die None tt acts.0 (kept.after_die c m.clients) acts.1
+        (same_die p st.typing st.sound.wired w (typed_now p m s st idle c) st.kept.fit m.clients same p.header.cells st.agrees.services.sized (servers_below p m s st idle c) c one (sent_name None))
+        (sized_die p.header.cells m.clients st.agrees.services.sized c) (sessions_die m.clients c few)
         (messages_die p c w m.clients same m.messages store st.agrees.services.messages withdraws acts.2 (sent_name None)) (queue_changed None (kept.client_at m.clients c)) away_named hears
-      where
-        w : State
-        w = v p m s st idle c
-
-        withdraws : Forgets (kept.freed (Some Unconnected) c m.clients) m.messages store → SameMessages p store (withdrawn c w.cells)
-        withdraws f = messages_withdrawn p st.typing st.sound.wired w (typed_now p m s st idle c) st.kept.fit m.clients same c m.messages store f.gone f.others f.limit f.count st.agrees.services.messages

@@ -1,6 +1,6 @@
 -- A command of a client as the machine hears it: from the parts that it leaves, with the line of a refusal.
-use Rattle.std.proofs.Common.{Bool, None, Option, Some, append-nil, ap, false, refl, subst, suc, sym, true, ℕ, ℤ, ◌++◌, ◌<◌, ◌∙◌, ◌∷◌, ◌≡◌, []}
-use Rattle.std.specs.Prelude.{Err, Ok, Result, length}
+use Rattle.std.proofs.Common.{Bool, None, Option, Some, append-nil, ap, false, refl, subst, suc, sym, true, ℕ, ℤ, ◌++◌, ◌<◌, ◌≤◌, ◌∙◌, ◌∷◌, ◌≡◌, [], arith}
+use Rattle.std.specs.Prelude.{Err, IfSome, Ok, Result, length}
 use Rattle.aom_active.specs.Agrees.{Active, queued}
 use Rattle.aom_clients.specs.Clients as kept
 use Rattle.aom_clients.specs.Table.{code_of}
@@ -22,9 +22,8 @@ use Rattle.aom_parts.specs.Stands.{Stands, StandsFor}
 use Rattle.aom_parts.specs.declared.parts.Parts.{Parts}
 use Rattle.aom_parts.specs.declared.progress.Progress.TheVariants.{Turned}
 use Rattle.aom_exec.specs.Clients.{Acts, Obeyed, asked_by, queue_changed}
-use Rattle.aom_exec.specs.Servers.{Notes, NotesBy, is_queued}
+use Rattle.aom_exec.specs.Servers.{NotesBy, NotesIf, is_queued}
 use Rattle.aom_exec.proofs.Commands.{obeys, told_refusal}
-use Rattle.aom_exec.proofs.Obeyed.{Hears}
 use Rattle.aom_exec.proofs.Progressing.{between, is_as_far}
 use Rattle.aom_exec.proofs.Timers.{timers_same}
 
@@ -39,29 +38,23 @@ told_one c told now result r code is coded wrote =
 
 -- ---- the queue that is told of
 
-pub hears_none : (queue : Option ℕ) (k : kept.State) (a : Active) → queue ≡ None → Hears queue k a a
-hears_none queue k a is = subst (λ x. Hears x k a a) (sym is) refl
-
-pub hears_some : (queue : Option ℕ) (n : ℕ) (k : kept.State) (old new : Active) → queue ≡ Some n → Notes n k old new → Hears queue k old new
-hears_some queue n k old new is notes = subst (λ x. Hears x k old new) (sym is) notes
-
 -- there are as many queues as before
+sized_alike : {cells : ℕ} (k new then : kept.State) → new ≡ then → AreSized cells k → AreSized cells then → length new.queues ≡ length k.queues
+sized_alike k new then is sized now = ap (λ (x : kept.State). length x.queues) is ∙ now.queues ∙ sym sized.queues
+
 pub sized_acts : (cells : ℕ) (k new : kept.State) → AreSized cells k → (c : ℕ) (command : Command) (asked : Option Server) (before after : Store) (result : Result (Unit {0}) Refusal) → Acts c command asked k new before after result → length new.queues ≡ length k.queues
-sized_acts cells k new sized c (Connect class slots) asked before after result acts =
-    let then = subst (AreSized cells) (sym acts.1) (sized_connect cells k sized c asked slots) in
-    then.queues ∙ sym sized.queues
-sized_acts cells k new sized c (Send words) asked before after result acts =
-    let then = subst (AreSized cells) (sym acts.after_it) (sized_send cells k sized c acts.place) in
-    then.queues ∙ sym sized.queues
-sized_acts cells k new sized c Close asked before after result acts =
-    let then = subst (AreSized cells) (sym acts.1) (sized_close cells k sized c) in
-    then.queues ∙ sym sized.queues
-sized_acts cells k new sized c Die asked before after result acts =
-    let then = subst (AreSized cells) (sym acts.1) (sized_die cells k sized c) in
-    then.queues ∙ sym sized.queues
+sized_acts cells k new sized c (Connect class slots) asked before after result acts = sized_alike k new _ acts.1 sized (sized_connect cells k sized c asked slots)
+sized_acts cells k new sized c (Send words) asked before after result acts = sized_alike k new _ acts.after_it sized (sized_send cells k sized c acts.place)
+sized_acts cells k new sized c Close asked before after result acts = sized_alike k new _ acts.1 sized (sized_close cells k sized c)
+sized_acts cells k new sized c Die asked before after result acts = sized_alike k new _ acts.1 sized (sized_die cells k sized c)
+
+-- the queue that is told of is one of them
+pub small_queue : (queue : Option ℕ) (many now : ℕ) → IfSome queue (λ n. n < many) → many ≤ 4096 → now ≡ many → IfSome queue (λ n. (n < 4096) × (n < now))
+small_queue None many now below few same = tt
+small_queue (Some n) many now below few same = (omega arith, omega arith)
 
 -- no timer is another
-pub hears_timers : (p : Image) (m : Parts) → Stands (record { image = p; parts = m }) → (queue : Option ℕ) (k : kept.State) (new : Active) → Hears queue k m.active new → new.pending.timers ≡ m.active.pending.timers
+pub hears_timers : (p : Image) (m : Parts) → Stands (record { image = p; parts = m }) → (queue : Option ℕ) (k : kept.State) (new : Active) → NotesIf queue k m.active new → new.pending.timers ≡ m.active.pending.timers
 hears_timers p m stands None k new same = ap (λ (a : Active). a.pending.timers) same
 hears_timers p m stands (Some n) k new notes = go (is_server (request_at m.active.table n)) notes
   where
@@ -75,10 +68,10 @@ hears_timers p m stands (Some n) k new notes = go (is_server (request_at m.activ
 -- ---- all of it
 
 module _ (p : Image) (m : Parts) (turned : progress_by m.rest.ended m.stack.tasks ≡ Turned) (c : ℕ) (one : c < 64) (command : Command) (asked : Option Server) (asks : asked ≡ asked_by p m.listed command) (queue : Option ℕ) (changed : queue ≡ queue_changed asked (kept.client_at m.clients c)) where
-  pub heard : (k : kept.State) (store : Store) (a : Active) (told now : Turn) (result : Result (Unit {0}) Refusal) → now ≡ record told { lines = told.lines ++ told_refusal c result } → Acts c command asked m.clients k m.messages store result → Hears queue k m.active a →
+  pub heard : (k : kept.State) (store : Store) (a : Active) (told now : Turn) (result : Result (Unit {0}) Refusal) → now ≡ record told { lines = told.lines ++ told_refusal c result } → Acts c command asked m.clients k m.messages store result → NotesIf queue k m.active a →
       (s : State) → StandsFor (record { image = p; parts = m }) s → Obeyed (record { image = p; parts = m }) s c command told now (record { image = p; parts = record m { clients = k; messages = store; active = a; rest = record m.rest { delivered = suc m.rest.delivered } } })
   heard k store a told now result lines acts hears s st =
       let b = between s (sym (is_as_far (record { image = p; parts = m }) s st) ∙ turned) in
       obeys p m s st b.idle c one b k store a told now result lines command
       (subst (λ x. Acts c command x m.clients k m.messages store result) asks acts)
-      (subst (λ x. Hears x k m.active a) (changed ∙ ap (λ x. queue_changed x (kept.client_at m.clients c)) asks) hears)
+      (subst (λ x. NotesIf x k m.active a) (changed ∙ ap (λ x. queue_changed x (kept.client_at m.clients c)) asks) hears)

@@ -18,11 +18,13 @@ pub mod Unwanted
 pub mod Wanting
 pub mod Many
 pub mod Agreeing
+pub mod Seen
 pub mod FirstServer
 pub mod Beginning
 pub mod Dispatching
 pub mod Taking
 pub mod Answering
+pub mod ByCommand
 pub mod Commanded
 pub mod Commands
 pub mod Forgotten

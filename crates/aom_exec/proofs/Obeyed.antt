@@ -6,9 +6,6 @@ use Rattle.aom_active.specs.Agrees.{Active}
 use Rattle.aom_cells.specs.Heap.{cell_at}
 use Rattle.aom_cells.specs.declared.cell.Cell.{Cell as Held_cell}
 use Rattle.aom_clients.specs.Clients as kept
-use Rattle.aom_clients.specs.declared.client.Client.{Client}
-use Rattle.aom_clients.specs.declared.client.Client.TheVariants.{Closing, Connecting, Dead, Dying, Gone, Open, Unconnected}
-use Rattle.aom_clients.specs.declared.refusal.Refusal.{Refusal}
 use Rattle.aom_image.specs.Image.{Image}
 use Rattle.aom_image.specs.declared.method.Thing.{Thing}
 use Rattle.aom_image.specs.declared.method.Thing.TheVariants.{Message, Object as An_object_of}
@@ -18,9 +15,9 @@ use Rattle.aom_sound.proofs.ClientsCommand.{fit_commanded}
 use Rattle.aom_sound.proofs.ClientsFacts.{waiting_well}
 use Rattle.aom_sound.proofs.Obeying.{commanded_well}
 use Rattle.aom_sound.proofs.Things.{message_plain}
-use Rattle.aom_sound.specs.Clients.{Listed, asked_server, client_at, commanded, connecting, leaving, refusal, sending, told}
+use Rattle.aom_sound.specs.Clients.{commanded}
 use Rattle.aom_sound.specs.Kept.{ClientsFit}
-use Rattle.aom_sound.specs.Places.{Elsewhere, Entry, Field, Going, In_service, Message_of, Object, Place, Queued, Register, Root, Session, held, named, service_of}
+use Rattle.aom_sound.specs.Places.{Elsewhere, Message_of, Object, Place, Queued, held, named, service_of}
 use Rattle.aom_sound.specs.Servers.{asked_last, is_queue, is_server, withdrawn}
 use Rattle.aom_sound.specs.State.{Rest, State}
 use Rattle.aom_sound.specs.WellTyped.{WellTyped}
@@ -29,7 +26,6 @@ use Rattle.aom_steps.proofs.Pushed.{served_same, withdrawn_same}
 use Rattle.aom_steps.specs.Left.{is_entry, objects_left}
 use Rattle.aom_prices.specs.Prices.{Prices}
 use Rattle.aom_transcript.specs.declared.event.Command.{Command}
-use Rattle.aom_transcript.specs.declared.event.Command.TheVariants.{Close, Connect, Die, Send}
 use Rattle.aom_parts.proofs.Beside.{Beside, cells_beside, listed_beside, natives_beside, requests_beside}
 use Rattle.aom_parts.proofs.Elsewhere.{SessionsSame, shows_again}
 use Rattle.aom_parts.proofs.Leaving.{beside_withdrawn, holds_withdrawn}
@@ -40,62 +36,29 @@ use Rattle.aom_parts.specs.Places.{others, value}
 use Rattle.aom_parts.specs.Serving.{AreSized, SameClients}
 use Rattle.aom_parts.specs.Stands.{StandsFor}
 use Rattle.aom_parts.specs.declared.parts.Parts.{Parts}
+use Rattle.aom_exec.proofs.ByCommand.{by_command}
 use Rattle.aom_exec.proofs.Commanded.{Untouched, commanded_beside, commanded_form, commanded_holds, commanded_queue}
 use Rattle.aom_exec.proofs.Idle.{stands_idle}
 use Rattle.aom_exec.proofs.Noting.{noted_requests, waits_alike}
-use Rattle.aom_exec.specs.Servers.{Notes, is_queued}
+use Rattle.aom_exec.specs.Servers.{NotesIf, is_queued}
 
 -- ---- what is outstanding on the cleanup stack
 
 module _ (q : Prices) (p : Image) (c : ℕ) (s : State) where
   unqueued : (r : Place) → is_queue r ≡ true → is_entry r ≡ false
-  unqueued (Entry k) e = cc
-  unqueued _ e = refl
-
-  leaving_left : (to : Option Client) → objects_left q (leaving p c s to).cells ≡ objects_left q s.cells
-  leaving_left None = refl
-  leaving_left (Some to) = by (client_at s.clients c)
-    where
-      left : objects_left q (withdrawn c s.cells) ≡ objects_left q s.cells
-      left = withdrawn_same q is_entry unqueued c s.cells
-
-      by : (x : Client) → objects_left q (told p c s x (withdrawn c s.cells)) ≡ objects_left q s.cells
-      by (Open server session slots) = served_same q is_entry server _ (withdrawn c s.cells) ∙ left
-      by Unconnected = left
-      by (Connecting k slots) = left
-      by (Closing k session) = left
-      by Gone = left
-      by Dead = left
-      by (Dying k session) = left
+  unqueued r e = grind arith
 
   -- a command changes nothing of it
   pub commanded_left : (command : Command) (name : ℕ) → objects_left q (commanded p c s command name).cells ≡ objects_left q s.cells
-  commanded_left (Connect class slots) name = go (refusal p c s (Connect class slots)) (asked_server p class s.cells)
-    where
-      go : (r : Option Refusal) (x : Option Listed) → objects_left q (connecting p c s r x slots).cells ≡ objects_left q s.cells
-      go None (Some x) = served_same q is_entry x.name _ s.cells
-      go None None = refl
-      go (Some r) x = refl
-  commanded_left (Send words) name = go (refusal p c s (Send words)) (client_at s.clients c)
-    where
-      go : (r : Option Refusal) (x : Client) → objects_left q (sending p c s r x name words).cells ≡ objects_left q s.cells
-      go None (Open server session slots) = let same = served_same q is_entry server (asked_last (Message_of c name) (service_of s.cells server)) s.cells in omega (arith, same)
-      go None Unconnected = refl
-      go None (Connecting k slots) = refl
-      go None (Closing k session) = refl
-      go None Gone = refl
-      go None Dead = refl
-      go None (Dying k session) = refl
-      go (Some r) x = refl
-  commanded_left Close name = leaving_left _
-  commanded_left Die name = leaving_left _
+  commanded_left command name = by_command p c s (λ t. objects_left q t.cells ≡ objects_left q s.cells) name (record {
+    same = refl;
+    connects = λ x slots. served_same q is_entry x.name _ s.cells;
+    sends = λ words server. let same = served_same q is_entry server (asked_last (Message_of c name) (service_of s.cells server)) s.cells in omega (arith, same);
+    leaves = λ to. withdrawn_same q is_entry unqueued c s.cells;
+    closes = λ to server. served_same q is_entry server _ (withdrawn c s.cells) ∙ withdrawn_same q is_entry unqueued c s.cells;
+  }) command
 
 -- ---- all of it
-
--- the queue of that server is told, or none is
-abbrev pub Hears : Option ℕ → kept.State → Active → Active → Type 0
-Hears None k old new = new ≡ old
-Hears (Some n) k old new = Notes n k old new
 
 module _ (p : Image) (m : Parts) (s : State) (st : StandsFor (record { image = p; parts = m }) s) (idle : s.tasks ≡ []) (c : ℕ) where
   -- one event more is delivered
@@ -123,7 +86,7 @@ module _ (p : Image) (m : Parts) (s : State) (st : StandsFor (record { image = p
   module _
       (command : Command) (name : ℕ) (free : named s.cells name ≡ None) (high : 4096 ≤ name) (k : kept.State) (store : Store) (a : Active) (clients : SameClients k (commanded p c v command name).cells (commanded p c v command name).clients)
       (sized : AreSized p.header.cells k) (sessions : SessionsSame m.clients k) (messages : SameMessages p store (commanded p c v command name).cells) (server : Option ℕ)
-      (touched : (n : ℕ) → (server ≡ Some n → ⊥) → Untouched p c v command n) (hears : Hears server k m.active a) where
+      (touched : (n : ℕ) → (server ≡ Some n → ⊥) → Untouched p c v command n) (hears : NotesIf server k m.active a) where
     abbrev then : State
     then = commanded p c v command name
 
@@ -164,13 +127,7 @@ module _ (p : Image) (m : Parts) (s : State) (st : StandsFor (record { image = p
       where
         apart : (r : Place) → ((i j : ℕ) → r ≡ Elsewhere (Queued i j) → ⊥) → is_queue r ≡ false
         apart (Elsewhere (Queued i j)) out = absurd (out i j refl)
-        apart (Elsewhere Root) out = refl
-        apart (Elsewhere (Session i d)) out = refl
-        apart (Elsewhere In_service) out = refl
-        apart (Register d i) out = refl
-        apart (Entry i) out = refl
-        apart (Field i f) out = refl
-        apart (Going i) out = refl
+        apart _ out = refl
 
         values : (r : Place) → Shows (value new r) (word_at s.tasks r) (held then.cells r)
         values r = shows_again p st.typing there (others m) k m.stack.tasks m.cells m.entries.items s.cells s.tasks typed fit clients sessions (λ q out. commanded_holds p c v (λ i e. holds_withdrawn p st.typing st.sound.wired v typed_now st.kept.fit m.clients st.agrees.services.clients c i e) q (apart q out) command name) st.agrees.values r
@@ -181,7 +138,7 @@ module _ (p : Image) (m : Parts) (s : State) (st : StandsFor (record { image = p
             touched_queues : (n : ℕ) → (server ≡ Some n → ⊥) → (service_of then.cells n).queue ≡ (service_of s.cells n).queue
             touched_queues = queues
 
-            by : (x : Option ℕ) → ((n : ℕ) → (x ≡ Some n → ⊥) → (service_of then.cells n).queue ≡ (service_of s.cells n).queue) → Hears x k m.active a → SameRequests p a then.cells
+            by : (x : Option ℕ) → ((n : ℕ) → (x ≡ Some n → ⊥) → (service_of then.cells n).queue ≡ (service_of s.cells n).queue) → NotesIf x k m.active a → SameRequests p a then.cells
             by None same still = subst (λ b. SameRequests p b then.cells) (sym still) (requests_beside p m.active s.cells then.cells beside (λ n asked. same n (λ e. none-some n e)) st.agrees.requests)
             by (Some j) same notes =
                 noted_requests p m.active a s.cells then.cells beside st.agrees.requests j (λ n other. same n (λ e. false≢true (sym other ∙ eq-eqb j n (same_Some j n e)))) (is_queued k j) (waits_alike k then.cells then.clients clients j) notes

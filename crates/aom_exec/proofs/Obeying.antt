@@ -1,19 +1,18 @@
 -- A command of a client: what clients are at, the messages that are kept and the schedule stand for what the checked machine comes to.
-use Rattle.std.proofs.Common.{ap, arith, Bool, false, length, List, None, Option, pos, refl, Some, subst, suc, sym, true, zero, ℕ, ℤ, ◌∙◌, ◌∷◌, ◌≡◌, slice_index_or, []}
+use Rattle.std.proofs.Common.{ap, arith, Bool, false, length, List, None, Option, pos, refl, Some, subst, suc, sym, zero, ℕ, ℤ, ◌∙◌, ◌∷◌, ◌≡◌, slice_index_or, []}
 use Rattle.std.specs.Prelude.{IfSome, is_some, option_map}
 use Rattle.std.proofs.Math.ListN.{get_or-eq_default}
 use Rattle.std.proofs.lemmas.Bool.{false≢true}
-use Rattle.std.proofs.lemmas.Option.{none-some}
 use Rattle.aom_clients.specs.Clients as kept
 use Rattle.aom_clients.specs.Table.{row}
 use Rattle.aom_clients.specs.declared.client.Client.{Client}
-use Rattle.aom_clients.specs.declared.client.Client.TheVariants.{Closing, Connecting, Dead, Dying, Gone, Open, Unconnected}
+use Rattle.aom_clients.specs.declared.client.Client.TheVariants.{Open, Unconnected}
 use Rattle.aom_clients.specs.declared.place.Place.TheVariants.{Free}
 use Rattle.aom_clients.specs.declared.refusal.Refusal.{Refusal}
 use Rattle.aom_image.specs.Image.{Image}
 use Rattle.aom_messages.specs.Store.{Store, word_of}
 use Rattle.aom_shape.specs.Tables.{at}
-use Rattle.aom_sound.specs.Clients.{Listed, asked_server, client_at, commanded, connecting, leaving, refusal, room, sending, told}
+use Rattle.aom_sound.specs.Clients.{asked_server, client_at, commanded, leaving, refusal, room, sending}
 use Rattle.aom_sound.specs.Places.{Cell, Message_of, Object, named}
 use Rattle.aom_sound.specs.Servers.{asked_last, reserved, withdrawn}
 use Rattle.aom_sound.specs.State.{State}
@@ -22,6 +21,7 @@ use Rattle.aom_parts.proofs.Commanding.{row_close, row_die}
 use Rattle.aom_parts.proofs.Messages.{message_made, messages_served}
 use Rattle.aom_parts.specs.Messages.{SameMessages}
 use Rattle.aom_parts.specs.Serving.{SameClients, is_taken, message_name, sessionless}
+use Rattle.aom_exec.proofs.ByCommand.{by_connecting, by_told}
 use Rattle.aom_exec.specs.Clients.{Forgets, Keeps_sent, SameKept}
 
 -- ---- the name of what is sent
@@ -66,46 +66,37 @@ still_kept p before after cs k same = record {
 forgets_none : (before after : Store) → Forgets [] before after → SameKept before after
 forgets_none before after f = record { all = λ m. f.others m refl; count = let c = f.count in omega (arith, c); limit = f.limit }
 
+-- only an open client sends
+only_open : (x : Client) → (row x).send ≡ None → (server : ℕ) × (session : ℕ) × (slots : ℕ) × (x ≡ Open server session slots)
+only_open x e = grind arith
+
+unrefused : (p : Image) (c : ℕ) (v : State) (r : Option Refusal) → room p c v r ≡ None → r ≡ None
+unrefused p c v r e = grind arith
+
 module _ (p : Image) (c : ℕ) (v : State) (k : kept.State) (same : SameClients k v.cells v.clients) (before after : Store) (messages : SameMessages p before v.cells) where
   pub messages_connect : (class slots name : ℕ) → after ≡ before → SameMessages p after (commanded p c v (Connect class slots) name).cells
-  messages_connect class slots name still = subst (λ s. SameMessages p s (commanded p c v (Connect class slots) name).cells) (sym still) (go (refusal p c v (Connect class slots)) (asked_server p class v.cells))
-    where
-      go : (r : Option Refusal) (x : Option Listed) → SameMessages p before (connecting p c v r x slots).cells
-      go None (Some x) = messages_served p before v.cells x.name _ messages
-      go None None = messages
-      go (Some r) x = messages
+  messages_connect class slots name still = subst (λ s. SameMessages p s (commanded p c v (Connect class slots) name).cells) (sym still)
+      (by_connecting p c v (λ t. SameMessages p before t.cells) messages (refusal p c v (Connect class slots)) (asked_server p class v.cells) slots (λ x is. messages_served p before v.cells x.name _ messages))
 
   -- what is sent is kept, where it is not refused
   pub messages_send : (words : List ℤ) (place : Option ℕ) → kept.send_refusal c place k ≡ refusal p c v (Send words) → Keeps_sent (kept.send_refusal c place k) place words before after → SameMessages p after (commanded p c v (Send words) (sent_name place)).cells
-  messages_send words place alike is_kept = go (refusal p c v (Send words)) refl (client_at v.clients c) refl place refl (subst (λ r. Keeps_sent r place words before after) alike is_kept)
+  messages_send words place alike is_kept = go (refusal p c v (Send words)) refl place refl (subst (λ r. Keeps_sent r place words before after) alike is_kept)
     where
-      went : SameKept before after → SameMessages p after v.cells
-      went same = still_kept p before after v.cells same messages
-
-      -- only an open client sends
-      shut : (x : Client) → client_at v.clients c ≡ x → (r : Refusal) → (row x).send ≡ Some r → refusal p c v (Send words) ≡ None → ⊥
-      shut x here r closed e = none-some _ (sym e ∙ ap (λ y. room p c v (row y).send) here ∙ ap (room p c v) closed)
-
-      -- and it needs a place
+      -- it needs a place
       no_place : (r : Option Refusal) (b : Bool) → kept.sending_to r b None ≡ None → ⊥
-      no_place None true e = cc
-      no_place None false e = cc
-      no_place (Some r) b e = cc
+      no_place r b e = grind arith
 
-      go : (r : Option Refusal) → refusal p c v (Send words) ≡ r → (x : Client) → client_at v.clients c ≡ x → (y : Option ℕ) → place ≡ y → Keeps_sent r y words before after → SameMessages p after (sending p c v r x (sent_name y) words).cells
-      go (Some r) e x here y f is_kept = went is_kept
-      go None e (Open server session slots) here (Some m) f is_kept =
-          message_made p before after (reserved (asked_last (Message_of c (message_name m))) server v.cells) _ m (messages_served p before v.cells server _ messages) refl (λ w. at_read words w) is_kept.0 is_kept.1
-      go None e (Open server session slots) here None f is_kept = absurd (no_place (row (kept_at)).send (kept.has_slot (length (kept.sent_at k c)) kept_at) (sym (ap (λ y. kept.send_refusal c y k) f) ∙ alike ∙ e))
-        where
-          kept_at : Client
-          kept_at = kept.client_at k c
-      go None e Unconnected here y f is_kept = absurd (shut Unconnected here _ refl e)
-      go None e (Connecting server slots) here y f is_kept = absurd (shut (Connecting server slots) here _ refl e)
-      go None e (Closing server session) here y f is_kept = absurd (shut (Closing server session) here _ refl e)
-      go None e Gone here y f is_kept = absurd (shut Gone here _ refl e)
-      go None e Dead here y f is_kept = absurd (shut Dead here _ refl e)
-      go None e (Dying server session) here y f is_kept = absurd (shut (Dying server session) here _ refl e)
+      went_in : (m : ℕ) → Keeps_sent None (Some m) words before after → refusal p c v (Send words) ≡ None → SameMessages p after (sending p c v None (client_at v.clients c) (message_name m) words).cells
+      went_in m is_kept e =
+          let o = only_open (client_at v.clients c) (unrefused p c v (row (client_at v.clients c)).send e) in
+          let from = messages_served p before v.cells o.0 _ messages in
+          subst (λ x. SameMessages p after (sending p c v None x (message_name m) words).cells) (sym o.3)
+          (message_made p before after (reserved (asked_last (Message_of c (message_name m))) o.0 v.cells) _ m from refl (λ w. at_read words w) is_kept.0 is_kept.1)
+
+      go : (r : Option Refusal) → refusal p c v (Send words) ≡ r → (y : Option ℕ) → place ≡ y → Keeps_sent r y words before after → SameMessages p after (sending p c v r (client_at v.clients c) (sent_name y) words).cells
+      go (Some r) e y f is_kept = still_kept p before after v.cells is_kept messages
+      go None e (Some m) f is_kept = went_in m is_kept e
+      go None e None f is_kept = absurd (no_place (row (kept.client_at k c)).send (kept.has_slot (length (kept.sent_at k c)) (kept.client_at k c)) (sym (ap (λ y. kept.send_refusal c y k) f) ∙ alike ∙ e))
 
   -- what a client leaves is kept no more
   module _ (withdraws : Forgets (kept.freed (Some Unconnected) c k) before after → SameMessages p after (withdrawn c v.cells)) where
@@ -113,19 +104,8 @@ module _ (p : Image) (c : ℕ) (v : State) (k : kept.State) (same : SameClients 
     messages_left None None e f = still_kept p before after v.cells (forgets_none before after f) messages
     messages_left None (Some x) e f = absurd (false≢true e)
     messages_left (Some x) None e f = absurd (false≢true (sym e))
-    messages_left (Some x) (Some y) e f = by (client_at v.clients c)
-      where
-        gone : SameMessages p after (withdrawn c v.cells)
-        gone = withdraws f
-
-        by : (z : Client) → SameMessages p after (told p c v z (withdrawn c v.cells))
-        by (Open server session slots) = messages_served p after (withdrawn c v.cells) server _ gone
-        by Unconnected = gone
-        by (Connecting server slots) = gone
-        by (Closing server session) = gone
-        by Gone = gone
-        by Dead = gone
-        by (Dying server session) = gone
+    messages_left (Some x) (Some y) e f =
+        by_told p c v (λ cs. SameMessages p after cs) (withdrawn c v.cells) (withdraws f) (client_at v.clients c) (λ server session slots at. messages_served p after (withdrawn c v.cells) server _ (withdraws f))
 
     some_alike : (x y : Option Client) → y ≡ option_map sessionless x → is_some x ≡ is_some y
     some_alike None y e = ap is_some (sym e)

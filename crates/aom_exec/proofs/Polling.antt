@@ -1,5 +1,5 @@
 -- A native is polled: what it completes is outstanding there, and the machine then stands for the state that the checked machine goes to.
-use Rattle.std.proofs.Common.{ap, cond, None, Option, refl, Some, subst, suc, sym, true, ℕ, ℤ, ◌∙◌, ◌≡◌, []}
+use Rattle.std.proofs.Common.{ap, cond, None, Option, refl, Some, subst, suc, sym, true, ℕ, ℤ, ◌∙◌, ◌≡◌, [], arith}
 use Rattle.std.specs.Prelude.{◌&&◌, IfSome, IsTrue, is_some}
 use Rattle.std.proofs.lemmas.Bool.{and_parts}
 use Rattle.aom_image.specs.Image.{Image}
@@ -34,7 +34,7 @@ use Rattle.aom_parts.proofs.Services.{services_asked}
 use Rattle.aom_parts.proofs.Sessions.{natives_asked}
 use Rattle.aom_exec.proofs.Idle.{stands_idle}
 use Rattle.aom_exec.proofs.Timers.{timers_same}
-use Rattle.aom_exec.proofs.Turning.{alike, cells_then, machine_between, order_same, requests_asked, silent, stands_rest}
+use Rattle.aom_exec.proofs.Turning.{alike, cells_then, machine_between, order_same, requests_asked, rest_turns, silent}
 
 -- what a native completes is outstanding there, in some state that the machine stands for
 abbrev pub IsOwed : Machine → (native : ℕ) → Option (ℕ × ℤ) → Type 0
@@ -47,8 +47,7 @@ PollsAll native completion old new =
     (answer : Option Completion) × Answers s.cells completion answer × AnswersWell old.image s (Polls native answer) × ((told : Turn) → Takes old s (Polls native answer) told told new)
 
 some_request : (q : Option Request) → is_owed q ≡ true → (r : Request) × (q ≡ Some r)
-some_request None e = cc
-some_request (Some r) e = (r, refl)
+some_request x e = grind arith
 
 module _ (p : Image) (m : Parts) (native : ℕ) where
   abbrev was : Machine
@@ -144,18 +143,7 @@ module _ (p : Image) (m : Parts) (native : ℕ) where
 
   module _ (turned_now : progress_by m.rest.ended m.stack.tasks ≡ Turned) where
     nothing : PollsAll native None was (now m.active)
-    nothing s st = (
-      None,
-      tt,
-      tt,
-      λ told. record {
-        between = machine_between was s st turned_now;
-        state = past_native native s;
-        goes = refl;
-        lines = silent told;
-        stands = stands_rest p m s (record m.rest { polled = suc native }) (record s.rest { polled = suc native }) (ap (λ (r : Rest). record r { polled = suc native }) st.agrees.rest) refl st;
-      },
-    )
+    nothing s st = (None, tt, tt, λ told. rest_turns p m turned_now (Polls native None) (λ r. record r { polled = suc native }) (λ s. (refl, refl)) (λ r. refl) told s st)
 
     pub polls_well : (completion : Option (ℕ × ℤ)) (a : Active) → IsOwed was native completion → Finishes completion m.active a → PollsAll native completion was (now a)
     polls_well None a owed same s st = subst (λ x. PollsAll native None was (now x)) (sym same) nothing s st

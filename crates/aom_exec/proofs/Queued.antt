@@ -30,7 +30,7 @@ use Rattle.aom_sound.specs.Places.{Elsewhere, Object, Session, held, named, serv
 use Rattle.aom_sound.specs.Servers.{is_server}
 use Rattle.aom_sound.specs.State.{Seat, State}
 use Rattle.aom_sound.specs.WellTyped.{Keeps}
-use Rattle.aom_sound.specs.World.{accepting, attended, attending, dispatched, parting_with, picked, serves_first, taken_from}
+use Rattle.aom_sound.specs.World.{accepting, attended, dispatched, parting_with, picked, serves_first, taken_from}
 use Rattle.aom_parts.specs.declared.parts.Parts.{Parts as Machine_parts}
 use Rattle.aom_parts.specs.Agrees.{number, thing_in}
 use Rattle.aom_parts.specs.Serving.{SameClients, asked_by, message_name}
@@ -128,38 +128,32 @@ module _ (p : Image) (m : Machine_parts) (s : State) (st : StandsFor (record { i
     accept_there c es at class thing = go (part_of p Accepts_role x.object.thing) refl (first_keeps (Connect c ∷ es) at)
       where
         go : (r : Option ℕ) → part_of p Accepts_role x.object.thing ≡ r → Keeps p st.typing (accepting r x c (taken_from n s)) → IsSome (role_of p class Accepts_role)
-        go None e k = absurd k
-        go (Some r) e k = ap is_some (sym (ap (part_of p Accepts_role) thing) ∙ e)
+        go x e k = grind arith
 
     -- the session of the client, and its method
     pub attend_there :
         (j : ℕ) (es : List Entry) → queue ≡ Message j ∷ es →
         (o : Object) × (held s.cells (Elsewhere (Session n (sender (kept.place_at m.clients j)))) ≡ Some o)
         × ((kind : ℕ) × HasSession m (sender (kept.place_at m.clients j)) o.name kind × (o.thing ≡ An_object_of kind) × IsSome (role_of p kind Attends_role))
-    attend_there j es at = by_session (held s.cells (Elsewhere (Session n c))) refl (first_keeps (Message j ∷ es) at)
+    attend_there j es at =
+        let o = served (held s.cells (Elsewhere (Session n c))) (first_keeps (Message j ∷ es) at) in
+        let y = its_session n c o.0 (sender_there j es at) o.1 in
+        (o.0, o.1, (y.0, y.1, y.2, subst (λ t. IsSome (part_of p Attends_role t)) y.2 o.2))
       where
         c : ℕ
         c = sender (kept.place_at m.clients j)
 
-        Attended : Type 0
-        Attended = (o : Object) × (held s.cells (Elsewhere (Session n c)) ≡ Some o) × ((kind : ℕ) × HasSession m c o.name kind × (o.thing ≡ An_object_of kind) × IsSome (role_of p kind Attends_role))
-
-        by_method : (o : Object) → held s.cells (Elsewhere (Session n c)) ≡ Some o → (r : Option ℕ) → part_of p Attends_role o.thing ≡ r → Keeps p st.typing (attending r x c o (message_name j) (taken_from n s)) → Attended
-        by_method o there None e k = absurd k
-        by_method o there (Some r) e k =
-            let y = its_session n c o (sender_there j es at) there in
-            (o, there, (y.0, y.1, y.2, ap is_some (sym (ap (part_of p Attends_role) y.2) ∙ e)))
-
-        by_session : (h : Option Object) → held s.cells (Elsewhere (Session n c)) ≡ h → Keeps p st.typing (attended p x c h (message_name j) (taken_from n s)) → Attended
-        by_session None there k = absurd k
-        by_session (Some o) there k = by_method o there (part_of p Attends_role o.thing) refl k
+        served : (h : Option Object) → Keeps p st.typing (attended p x c h (message_name j) (taken_from n s)) → (o : Object) × (h ≡ Some o) × IsSome (part_of p Attends_role o.thing)
+        served h k = grind arith
 
     pub part_there : (c : ℕ) (es : List Entry) → queue ≡ Close c ∷ es → (o : Object) × (held s.cells (Elsewhere (Session n c)) ≡ Some o) × ((kind : ℕ) × HasSession m c o.name kind)
-    part_there c es at = go (held s.cells (Elsewhere (Session n c))) refl (first_keeps (Close c ∷ es) at)
+    part_there c es at =
+        let o = served (held s.cells (Elsewhere (Session n c))) (first_keeps (Close c ∷ es) at) in
+        let y = its_session n c o.0 (closer_there c es at) o.1 in
+        (o.0, o.1, (y.0, y.1))
       where
-        go : (h : Option Object) → held s.cells (Elsewhere (Session n c)) ≡ h → Keeps p st.typing (parting_with p x c h (taken_from n s)) → (o : Object) × (held s.cells (Elsewhere (Session n c)) ≡ Some o) × ((kind : ℕ) × HasSession m c o.name kind)
-        go None there k = absurd k
-        go (Some o) there k = let y = its_session n c o (closer_there c es at) there in (o, there, (y.0, y.1))
+        served : (h : Option Object) → Keeps p st.typing (parting_with p x c h (taken_from n s)) → (o : Object) × (h ≡ Some o)
+        served h k = grind arith
 
     -- ---- so the machine can serve it
 

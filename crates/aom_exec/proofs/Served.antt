@@ -2,25 +2,21 @@
 use Rattle.std.proofs.Common.{ap, arith, Bool, cond, false, List, None, Option, refl, Some, subst, suc, sym, true, zero, ℕ, ◌==◌, ◌∙◌, ◌∷◌, ◌≡◌, []}
 use Rattle.std.specs.Prelude.{◌&&◌, ◌||◌, ◌≤◌, is_none, is_some, nat_lt, not}
 use Rattle.std.specs.Ordering.{int_eq}
-use Rattle.std.proofs.lemmas.Bool.{eqb-true, false≢true, ltb-false, ltb-true, true≢false}
+use Rattle.std.proofs.lemmas.Bool.{eqb-true, false≢true, ltb-false, ltb-true}
 use Rattle.std.proofs.lemmas.List.{get_or_past}
-use Rattle.std.proofs.lemmas.Option.{none-some, same_Some}
+use Rattle.std.proofs.lemmas.Option.{none-some}
 use Rattle.aom_image.specs.Image.{Image}
 use Rattle.aom_image.specs.declared.class.ClassKind.{ClassKind}
-use Rattle.aom_image.specs.declared.class.ClassKind.TheVariants.{Active as An_active}
-use Rattle.aom_image.specs.declared.class.Provider.TheVariants.{Native, Own, Timer as A_timer}
 use Rattle.aom_image.specs.declared.method.Thing.{Thing}
-use Rattle.aom_image.specs.declared.method.Thing.TheVariants.{Message, Object as An_object_of}
+use Rattle.aom_image.specs.declared.method.Thing.TheVariants.{Object as An_object_of}
 use Rattle.aom_roles.specs.Shapes.{kind_of}
 use Rattle.aom_shape.specs.Kinds.{is_object}
 use Rattle.aom_sound.proofs.Maps.{named_name}
 use Rattle.aom_cells.specs.Heap.{cell_at, class_at, class_of}
 use Rattle.aom_cells.specs.declared.cell.Cell.{Cell as Held_cell}
 use Rattle.aom_requests.specs.Requests.{is_pending, request_at}
-use Rattle.aom_requests.specs.declared.request.State.{State as Held_state}
-use Rattle.aom_requests.specs.declared.request.State.TheVariants.{Aborted as Held_aborted, Active as Held_active, Cancelling as Held_cancelling, Idle as Held_idle, Issued as Held_issued}
 use Rattle.aom_requests.specs.declared.request.Request.{Request as Held_request}
-use Rattle.aom_requests.specs.declared.request.Request.TheVariants.{Object as Held_object, Server as Held_server}
+use Rattle.aom_requests.specs.declared.request.Request.TheVariants.{Object as Held_object}
 use Rattle.aom_active.specs.Agrees.{Tells, phase_of, queued, timer_in}
 use Rattle.aom_owed.proofs.Cells.{native_served}
 use Rattle.aom_owed.specs.Owed.{owes, serves, serves_object}
@@ -79,15 +75,10 @@ record Answered (q : Option Request) : Type 0 where
   timer : timer_in q ≡ None
 
 no_timer : (t : Option Timer) → is_none t ≡ true → t ≡ None
-no_timer None e = refl
-no_timer (Some t) e = cc
+no_timer t e = grind arith
 
 answered_by : (k : Option ClassKind) (n : ℕ) (known : Known) (q : Option Request) → native_of k ≡ Some n → Suits k known q → Answered q
-answered_by k n known None native suits = record { code = refl; timer = refl }
-answered_by (Some (An_active (Native x) budget)) n known (Some r) native suits = record { code = suits.2; timer = no_timer r.timer suits.3 }
-answered_by (Some (An_active Own budget)) n known (Some r) native suits = cc
-answered_by (Some (An_active A_timer budget)) n known (Some r) native suits = cc
-answered_by _ n known (Some r) native suits = cc
+answered_by k n known q native suits = record { code = grind arith; timer = grind (arith, no_timer) }
 
 -- the objects of a class are served by the one native that does
 pub served_class : (p : Image) (native n : ℕ) (class : Option ℕ) → native_of (kind_of p class) ≡ Some n → (n == native) ≡ serves_class p native class
@@ -103,26 +94,23 @@ unserved_class p native (Some class) e = rw e refl
 -- a message is served by no native, and has no request
 pub unserved_message : (p : Image) (native : ℕ) (t : Thing) → is_object t ≡ false → is_served_by p native t ≡ false
 unfolding kind_of
-unserved_message p native (An_object_of c) e = cc
-unserved_message p native Message e = refl
+unserved_message p native t e = grind arith
 
 unrequested : (p : Image) (t : Thing) → is_object t ≡ false → (known : Known) (q : Option Request) → Suits (thing_kind p t) known q → q ≡ None
 unfolding kind_of
-unrequested p (An_object_of c) e known q suits = cc
-unrequested p Message e known q suits = suits
+unrequested p t e known q suits = grind arith
 
 -- so what is served is an object
 pub served_object : (p : Image) (native : ℕ) (t : Thing) → is_served_by p native t ≡ true → is_object t ≡ true
-served_object p native (An_object_of c) served = refl
-served_object p native Message served = absurd (true≢false (sym served ∙ unserved_message p native Message refl))
+unfolding kind_of
+served_object p native t served = grind arith
 
 module _ (p : Image) (m : Parts) (s : State) (st : StandsFor (record { image = p; parts = m }) s) (native id : ℕ) where
   lives_served : serves p s.cells native id ≡ true → is_some (named s.cells id) ≡ true
   lives_served served = go (named s.cells id) served
     where
       go : (o : Option Object) → serves_object p native o ≡ true → is_some o ≡ true
-      go None e = cc
-      go (Some o) e = refl
+      go x e = grind arith
 
   pub its_place : serves p s.cells native id ≡ true → Placed s.cells id
   its_place served = placed s.cells id (lives_served served)
@@ -151,8 +139,7 @@ module _ (p : Image) (m : Parts) (s : State) (st : StandsFor (record { image = p
       by_none false t e = refl
 
       by_class : (k : ℕ) (t : Thing) → Some (An_object_of k) ≡ cond (is_object t) (Some t) None → is_served_by p native (An_object_of k) ≡ is_served_by p native t
-      by_class k (An_object_of j) e = ap (is_served_by p native) (same_Some _ _ e)
-      by_class k Message e = cc
+      by_class k x e = grind arith
 
       go : (c : Option Held_cell) (o : Option Object) → thing_in c ≡ thing_of o → serves_class p native (class_of c) ≡ serves_object p native o
       go None None e = refl
@@ -184,46 +171,33 @@ module _ (p : Image) (m : Parts) (s : State) (st : StandsFor (record { image = p
 
 -- ---- what the table tells of it
 
--- a request that is outstanding is pending
-pub pending_told : (h : Option Held_request) (q : Option Request) (waits : Option Bool) → Tells h q waits → is_unanswered q ≡ false → is_owed q ≡ true → is_pending h ≡ true
-pending_told None None waits tells coded owed = cc
-pending_told None (Some r) waits tells coded owed = absurd tells
-pending_told (Some h) None waits tells coded owed = absurd tells
-pending_told (Some (Held_server b)) (Some r) None tells coded owed = absurd tells
-pending_told (Some (Held_server b)) (Some r) (Some waits) tells coded owed = absurd (true≢false (sym owed ∙ ap (λ q. not (is_idle q) && int_eq r.status pending) tells.0))
-pending_told (Some (Held_object x status)) (Some r) (Some waits) tells coded owed = absurd tells
-pending_told (Some (Held_object x status)) (Some r) None tells coded owed =
-    go x (ap (λ q. is_aborted q && int_eq status pending) tells.0 ∙ ap (λ v. is_aborted r.phase && int_eq v pending) tells.1 ∙ coded)
-    (ap (λ q. not (is_idle q) && int_eq status pending) tells.0 ∙ ap (λ v. not (is_idle r.phase) && int_eq v pending) tells.1 ∙ owed)
-  where
-    go : (x : Held_state) → (is_aborted (phase_of x) && int_eq status pending) ≡ false → (not (is_idle (phase_of x)) && int_eq status pending) ≡ true → is_pending (Some (Held_object x status)) ≡ true
-    go Held_idle c o = cc
-    go Held_issued c o = o
-    go Held_active c o = o
-    go Held_cancelling c o = o
-    go Held_aborted c o = absurd (true≢false (sym o ∙ c))
-
--- and the same is outstanding in each state that the machine stands for
+-- what is outstanding, and what is aborted and has no code
 held_owed : Option Held_request → Bool
-held_owed None = false
 held_owed (Some (Held_object x status)) = not (is_idle (phase_of x)) && int_eq status pending
-held_owed (Some (Held_server b)) = false
+held_owed _ = false
 
-told_owed : (h : Option Held_request) (q : Option Request) (waits : Option Bool) → Tells h q waits → is_owed q ≡ held_owed h
-unfolding held_owed
-told_owed None None waits tells = refl
-told_owed None (Some r) waits tells = absurd tells
-told_owed (Some h) None waits tells = absurd tells
-told_owed (Some (Held_server b)) (Some r) None tells = absurd tells
-told_owed (Some (Held_server b)) (Some r) (Some waits) tells = ap (λ q. not (is_idle q) && int_eq r.status pending) tells.0
-told_owed (Some (Held_object x status)) (Some r) (Some waits) tells = absurd tells
-told_owed (Some (Held_object x status)) (Some r) None tells = sym (ap (λ q. not (is_idle q) && int_eq status pending) tells.0 ∙ ap (λ v. not (is_idle r.phase) && int_eq v pending) tells.1)
+held_unanswered : Option Held_request → Bool
+held_unanswered (Some (Held_object x status)) = is_aborted (phase_of x) && int_eq status pending
+held_unanswered _ = false
+
+-- the same is in each state that the machine stands for
+told_alike : (h : Option Held_request) (q : Option Request) (waits : Option Bool) → Tells h q waits → (is_owed q ≡ held_owed h) × (is_unanswered q ≡ held_unanswered h)
+unfolding held_owed held_unanswered
+told_alike x y waits tells = grind arith
+
+-- a request that is outstanding is pending
+pending_held : (h : Option Held_request) → held_unanswered h ≡ false → held_owed h ≡ true → is_pending h ≡ true
+unfolding held_owed held_unanswered
+pending_held h coded owed = grind arith
+
+pub pending_told : (h : Option Held_request) (q : Option Request) (waits : Option Bool) → Tells h q waits → is_unanswered q ≡ false → is_owed q ≡ true → is_pending h ≡ true
+pending_told h q waits tells coded owed = let same = told_alike h q waits tells in pending_held h (sym same.1 ∙ coded) (sym same.0 ∙ owed)
 
 module _ (p : Image) (m : Parts) (native id : ℕ) where
   owes_told : (s : State) → StandsFor (record { image = p; parts = m }) s → owes p s.cells native id ≡ (serves_class p native (class_at m.cells id) && held_owed (request_at m.active.table id))
   owes_told s st =
       ap (λ b. b && is_owed (requested s.cells id)) (sym (class_told p m s st native id))
-      ∙ ap (λ b. serves_class p native (class_at m.cells id) && b) (told_owed _ (requested s.cells id) (queued p s.cells id) (st.agrees.requests.stands.tells id))
+      ∙ ap (λ b. serves_class p native (class_at m.cells id) && b) (told_alike _ (requested s.cells id) (queued p s.cells id) (st.agrees.requests.stands.tells id)).0
 
   pub owes_in_all : (s u : State) → StandsFor (record { image = p; parts = m }) s → StandsFor (record { image = p; parts = m }) u → owes p s.cells native id ≡ true → owes p u.cells native id ≡ true
   owes_in_all s u st su owed = owes_told u su ∙ sym (owes_told s st) ∙ owed

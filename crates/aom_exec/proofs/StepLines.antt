@@ -1,24 +1,15 @@
 -- The lines of a step: what its move writes, and the moves after it that count as none.
-use Rattle.std.proofs.Common.{◌≡◌, ◌≤◌, ◌+◌, ℕ, ℤ, Bool, true, false, cond, length, List, [], ◌∷◌, Option, Some, None, ap, pos, refl, sym, subst, arith, ◌∙◌}
+use Rattle.std.proofs.Common.{◌≡◌, ◌≤◌, ◌+◌, ℕ, ℤ, Bool, true, false, cond, length, List, [], ◌∷◌, Option, Some, None, refl, sym, subst, arith}
 use Rattle.std.proofs.lemmas.List.{length-append}
-use Rattle.std.specs.Prelude.{is_some}
-use Rattle.std.specs.Ordering.{int_eq}
 use Rattle.aom_image.specs.Image.{Image}
 use Rattle.aom_image.specs.Views.{instr_at}
-use Rattle.aom_image.specs.declared.method.Role.TheVariants.{Error as Answers}
 use Rattle.aom_instructions.specs.declared.instr.Instr.{Instr}
 use Rattle.aom_instructions.specs.declared.instr.Instr.TheVariants.{Print, Reply}
-use Rattle.aom_classes.specs.Roles.{destructor_of}
-use Rattle.aom_sound.proofs.Guarded.{goes_same}
-use Rattle.aom_sound.specs.Calls.{called, result_register}
-use Rattle.aom_sound.specs.Cleanup.{arrival, arrived, code_told, dealt_with, destroyed, ended_by, top_is_whole, unwound}
-use Rattle.aom_sound.specs.Destruction.{begun, begun_by, closing, destructed, first_session, parting, parting_from}
-use Rattle.aom_sound.specs.Enlisted.{part_of}
-use Rattle.aom_sound.specs.Lines.{dispatch_lines, message_line, queue_lines, stage_lines, told_line}
-use Rattle.aom_sound.specs.Moves.{announcement, answered, asking, counted, dispatch_ends, failed, goes_line, handled, main_ends, needs_end, object_ends, stage_ends, step, step_task, written, written_instr, written_task}
-use Rattle.aom_sound.specs.Places.{Cell, Elsewhere, Entry, Going, In_service, Object, Root, Sender, held, service_of}
-use Rattle.aom_sound.specs.Servers.{is_server}
-use Rattle.aom_sound.specs.State.{A_mark, Accept_left, Accepted, Accepts, An_object, An_operation, Answered, Asks, Choice, Closing, Destroy, Dispatch, Dispatched, Goes, IsStuck, Item, Main_left, Need, NullOrDead, Object_left, Of_main, Of_object, Of_root, Of_server, Parts, Rest, Run, Seat, Serves, Service_left, Stage, State, Task, Trapped, Unwind, guarded, next}
+use Rattle.aom_sound.specs.Cleanup.{arrival}
+use Rattle.aom_sound.specs.Lines.{message_line, queue_lines, stage_lines, told_line}
+use Rattle.aom_sound.specs.Moves.{announcement, goes_line, step, written, written_instr, written_task}
+use Rattle.aom_sound.specs.Places.{Cell, Elsewhere, Going, In_service, Object, Sender, held, service_of}
+use Rattle.aom_sound.specs.State.{A_mark, Accept_left, Accepted, Accepts, An_object, An_operation, Choice, Closing, Destroy, Dispatched, Goes, Item, Of_server, Parts, Rest, Run, Serves, Service_left, Stage, State, Task, Trapped, Unwind}
 use Rattle.aom_transcript.specs.declared.line.Line.TheVariants.{Main}
 use Rattle.aom_image.specs.declared.method.Thing.{Thing}
 use Rattle.aom_image.specs.declared.method.Thing.TheVariants.{Object as An_object_of, Message}
@@ -109,142 +100,6 @@ lines_left (Unwind code ∷ ts) = 2
 lines_left (Dispatched (Of_server x c stage) ∷ ts) = 1
 lines_left _ = 0
 
--- none where something begins to go
-begins_none : (p : Image) (o : Object) (height : ℕ) (ts : List Task) → lines_left (begun p o height ts) ≡ 0
-begins_none p o height ts = go (is_server p o.thing)
-  where
-    by : (d : Option ℕ) → lines_left (begun_by d o height ts) ≡ 0
-    by None = refl
-    by (Some k) = refl
-
-    go : (b : Bool) → lines_left (cond b (Closing ∷ Destroy ∷ ts) (destructed p o height ts)) ≡ 0
-    go true = refl
-    go false = by (destructor_of p o.thing)
-
-destructs_none : (p : Image) (o : Object) (height : ℕ) (ts : List Task) → lines_left (destructed p o height ts) ≡ 0
-destructs_none p o height ts = by (destructor_of p o.thing)
-  where
-    by : (d : Option ℕ) → lines_left (begun_by d o height ts) ≡ 0
-    by None = refl
-    by (Some k) = refl
-
-closes_none : (p : Image) (ts : List Task) (s u : State) → closing p ts s ≡ Goes u → lines_left u.tasks ≡ 0
-closes_none p (Destroy ∷ below) s u e = by (held s.cells (Going (length below))) e
-  where
-    with_first : (o : Object) (x : Option Seat) → lines_left (parting p o x below s).tasks ≡ 0
-    with_first o None = destructs_none p o (length s.items) below
-    with_first o (Some x) = begins_none p x.object (length s.items) (Closing ∷ Destroy ∷ below)
-
-    by : (o : Option Object) → parting_from p o below s ≡ Goes u → lines_left u.tasks ≡ 0
-    by None e = cc
-    by (Some o) e =
-        let x = first_session s.cells o.name (service_of s.cells o.name).sessions in
-        ap (λ (v : State). lines_left v.tasks) (sym (goes_same (parting p o x below s) u e)) ∙ with_first o x
-closes_none p _ s u e = cc
-
--- after a move of a leave its code may have come to the dispatch of a server
-module _ (p : Image) (code : ℤ) (ts : List Task) (s u : State) where
-  -- so many lines it writes, and so many may still come
-  abbrev AtMost : List Item → Type 0
-  AtMost items = length (arrival code items) + lines_left u.tasks ≤ 2
-
-  arrives_few : (items : List Item) → arrived p code ts items s ≡ Goes u → lines_left u.tasks ≤ 1
-  arrives_few items e = of_tasks ts e
-    where
-      left_one : (d : Dispatch) → lines_left (Dispatched d ∷ []) ≤ 1
-      left_one (Of_server x c stage) = omega arith
-      left_one _ = omega arith
-
-      left_any : (d : Dispatch) (us : List Task) → lines_left (Dispatched d ∷ us) ≤ 1
-      left_any (Of_server x c stage) us = omega arith
-      left_any _ us = omega arith
-
-      of_tasks : (ts : List Task) → arrived p code ts items s ≡ Goes u → lines_left u.tasks ≤ 1
-      of_tasks (Trapped ∷ Run fr ∷ ts) e =
-          let i = instr_at p fr.method fr.place in
-          let is = ap (λ (v : State). lines_left v.tasks) (goes_same (record s { tasks = Run (next (code_told (called p i) (result_register i) code fr)) ∷ ts; items = items }) u e) in
-          omega (arith, is)
-      of_tasks (Trapped ∷ Dispatched d ∷ ts) e = subst (λ (v : State). lines_left v.tasks ≤ 1) (goes_same (record s { tasks = Dispatched (ended_by code d) ∷ ts; items = items }) u e) (left_any (ended_by code d) ts)
-      of_tasks _ e = cc
-
-  unwinds_few : (items : List Item) → unwound p code ts s items ≡ Goes u → AtMost items
-  unwinds_few [] e = cc
-  unwinds_few (An_object ∷ items) e = by_object (held s.cells (Entry (length items))) refl (top_is_whole s.cells (An_object ∷ items)) refl e
-    where
-      by_object : (o : Option Object) → held s.cells (Entry (length items)) ≡ o → (b : Bool) → top_is_whole s.cells (An_object ∷ items) ≡ b → cond b (Goes (destroyed p (held s.cells (Entry (length items))) items (Unwind code ∷ ts) s)) (IsStuck NullOrDead) ≡ Goes u → AtMost (An_object ∷ items)
-      by_object None h true whole e = let none = sym whole ∙ ap (λ (o : Option Object). is_some o) h in cc
-      by_object (Some o) h true whole e =
-          let is : destroyed p (Some o) items (Unwind code ∷ ts) s ≡ u = ap (λ x. destroyed p x items (Unwind code ∷ ts) s) (sym h) ∙ goes_same (destroyed p (held s.cells (Entry (length items))) items (Unwind code ∷ ts) s) u e in
-          let none : lines_left u.tasks ≡ 0 = ap (λ (v : State). lines_left v.tasks) (sym is) ∙ begins_none p o (length items) (Unwind code ∷ ts) in
-          omega (arith, none)
-      by_object o h false whole e = cc
-  unwinds_few (An_operation k w ∷ items) e =
-      let none : lines_left u.tasks ≡ 0 = ap (λ (v : State). lines_left v.tasks) (sym (goes_same (dealt_with p (An_operation k w ∷ items) (Unwind code ∷ ts) s) u e)) in
-      omega (arith, none)
-  unwinds_few (A_mark ∷ items) e = let few = arrives_few items e in omega (arith, few)
-
--- nothing comes after the end of a dispatch, but of a server that is one of an object from then on
-module _ (p : Image) (s : State) where
-  mains_none : (b : Bool) (o : Option Object) (v : State) → lines_left (main_ends p b o v).tasks ≡ 0
-  mains_none true (Some o) v = begins_none p o (length v.items) (Dispatched Of_root ∷ [])
-  mains_none true None v = refl
-  mains_none false o v = refl
-
-  objects_none : (v : State) → lines_left (object_ends p v).tasks ≡ 0
-  objects_none v = mains_none v.rest.stopped (held v.cells (Elsewhere Root)) (handled v)
-
-  answers_none : (answer : ℤ) → lines_left (answered p answer s).tasks ≡ 0
-  answers_none answer = go (int_eq answer (pos 0))
-    where
-      go : (b : Bool) → lines_left (cond b (object_ends p s) (failed answer s)).tasks ≡ 0
-      go true = objects_none s
-      go false = refl
-
-  asks_none : (m : Option ℕ) (x : Seat) (code : ℤ) → lines_left (asking p m x code s).tasks ≡ 0
-  asks_none None x code = answers_none code
-  asks_none (Some m) x code = refl
-
-  stages_none : (x : Seat) (c : ℕ) (stage : Stage) → lines_left (stage_ends x c stage s).tasks ≡ 0
-  stages_none x c Accepts = refl
-  stages_none x c Accepted = refl
-  stages_none x c (Accept_left code) = refl
-  stages_none x c (Serves o) = refl
-  stages_none x c (Service_left code) = refl
-  stages_none x c Parts = refl
-
-  ends_none : (d : Dispatch) → lines_left (dispatch_ends p d s).tasks ≡ 0
-  ends_none Of_main = mains_none s.rest.stopped (held s.cells (Elsewhere Root)) s
-  ends_none (Main_left code) = refl
-  ends_none Of_root = refl
-  ends_none (Of_object x) = objects_none s
-  ends_none (Object_left x code) = asks_none (part_of p Answers x.object.thing) x code
-  ends_none (Asks x) = objects_none s
-  ends_none (Answered x answer) = answers_none answer
-  ends_none (Of_server x c stage) = stages_none x c stage
-
-  ended : (needs : List Need) (v u : State) → guarded needs v ≡ Goes u → v ≡ u
-  ended [] v u e = goes_same v u e
-  ended (need ∷ needs) v u e = go need.0 (λ e. ended needs v u e) e
-    where
-      go : (b : Bool) → (guarded needs v ≡ Goes u → v ≡ u) → cond b (guarded needs v) (IsStuck need.1) ≡ Goes u → v ≡ u
-      go true rest e = rest e
-      go false rest e = cc
-
 -- what such a move writes, and what may still come, is no more than might come before it
 pub passes_few : (p : Image) (c : Choice) (s u : State) (ts : List Task) → s.tasks ≡ ts → IsUncounted ts → step p c s ≡ Goes u → length (written_task p s ts) + lines_left u.tasks ≤ lines_left ts
-passes_few p c s u (Closing ∷ ts) is uncounted e =
-    let none = closes_none p ts (counted p s) u (sym (ap (step_task p c (counted p s)) is) ∙ e) in
-    omega (arith, none)
-passes_few p c s u (Unwind code ∷ ts) is uncounted e = unwinds_few p code ts (counted p s) u s.items (sym (ap (step_task p c (counted p s)) is) ∙ e)
-passes_few p c s u (Dispatched d ∷ ts) is uncounted e = by d (ended p s (needs_end d s.cells) (dispatch_ends p d (counted p s)) u (sym (ap (step_task p c (counted p s)) is) ∙ e))
-  where
-    by : (d : Dispatch) → dispatch_ends p d (counted p s) ≡ u → length (dispatch_lines s.cells d) + lines_left u.tasks ≤ lines_left (Dispatched d ∷ ts)
-    by (Of_server x c stage) e = let none = ap (λ (v : State). lines_left v.tasks) (sym e) ∙ ends_none p (counted p s) (Of_server x c stage) in let one = stage_one s.cells c stage in omega (arith, none, one)
-    by Of_main e = let none = ap (λ (v : State). lines_left v.tasks) (sym e) ∙ ends_none p (counted p s) Of_main in omega (arith, none)
-    by (Main_left code) e = let none = ap (λ (v : State). lines_left v.tasks) (sym e) ∙ ends_none p (counted p s) (Main_left code) in omega (arith, none)
-    by Of_root e = let none = ap (λ (v : State). lines_left v.tasks) (sym e) ∙ ends_none p (counted p s) Of_root in omega (arith, none)
-    by (Of_object x) e = let none = ap (λ (v : State). lines_left v.tasks) (sym e) ∙ ends_none p (counted p s) (Of_object x) in omega (arith, none)
-    by (Object_left x code) e = let none = ap (λ (v : State). lines_left v.tasks) (sym e) ∙ ends_none p (counted p s) (Object_left x code) in omega (arith, none)
-    by (Asks x) e = let none = ap (λ (v : State). lines_left v.tasks) (sym e) ∙ ends_none p (counted p s) (Asks x) in omega (arith, none)
-    by (Answered x answer) e = let none = ap (λ (v : State). lines_left v.tasks) (sym e) ∙ ends_none p (counted p s) (Answered x answer) in omega (arith, none)
-passes_few p c s u _ is uncounted e = absurd uncounted
+passes_few p c s u x is uncounted e = grind arith

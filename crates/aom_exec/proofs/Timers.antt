@@ -1,6 +1,6 @@
 -- Timers stand in one order: what stands for requests with the same timers has the same list of them.
 use Rattle.std.proofs.Common.{ap, Bool, List, None, Option, Some, [], false, refl, subst, sym, true, ℕ, ◌==◌, ◌≡◌, ◌∙◌, ◌∷◌, ◌<◌, arith}
-use Rattle.std.specs.Prelude.{◌&&◌, ◌||◌, get_or, nat_lt, option_map}
+use Rattle.std.specs.Prelude.{get_or, option_map}
 use Rattle.std.proofs.lemmas.Bool.{eqb-false, eqb-true, true≢false}
 use Rattle.std.proofs.lemmas.Option.{none-some, same_Some}
 use Rattle.aom_active.proofs.Dues.{next_due_is, not_both}
@@ -14,7 +14,7 @@ use Rattle.aom_scheduler.specs.Pending as Held
 use Rattle.aom_scheduler.specs.declared.timer.Timer.{Timer as Held_timer}
 use Rattle.aom_sound.specs.Places.{Request, Timer}
 use Rattle.aom_sound.specs.State.{State}
-use Rattle.aom_sound.specs.World.{Timed, first_due, is_sooner}
+use Rattle.aom_sound.specs.World.{Timed, first_due}
 use Rattle.aom_parts.specs.Stands.{Machine, Stands, StandsFor}
 use Rattle.aom_exec.specs.Turns.{NoneDue}
 

@@ -7,7 +7,7 @@ use Rattle.std.proofs.lemmas.Option.{none-some, same_Some}
 use Rattle.aom_image.specs.Image.{Image}
 use Rattle.aom_image.specs.declared.method.Role.TheVariants.{Run as Handles}
 use Rattle.aom_image.specs.declared.method.Thing.{Thing}
-use Rattle.aom_image.specs.declared.method.Thing.TheVariants.{Message, Object as An_object_of}
+use Rattle.aom_image.specs.declared.method.Thing.TheVariants.{Object as An_object_of}
 use Rattle.aom_rules.specs.Typing.{Typing}
 use Rattle.aom_shape.specs.Tables.{at}
 use Rattle.aom_cells.specs.Heap.{Heap, cell_at, class_at, class_of, null}
@@ -44,7 +44,7 @@ use Rattle.aom_sound.specs.Servers.{has_more, is_server}
 use Rattle.aom_sound.specs.Places.{Cell, Elsewhere, Entry, Object, Going, Place, Register, Request, Root, Timer, held, named, requested, service_of}
 use Rattle.aom_sound.specs.State.{Dispatch, Dispatched, Goes, Inside, Of_object, Rest, Seat, State, Trapped}
 use Rattle.aom_sound.specs.WellTyped.{Keeps}
-use Rattle.aom_sound.specs.World.{Candidate, Cuts, Hears, IsBetween, Passes, Picks, Timed, Turning, Waits, dispatched, serves_first, due_of, ends_as, first_due, heard_one, first_ready, is_ready, picked as any_picked, run_line, turned, with_request, written_by}
+use Rattle.aom_sound.specs.World.{Candidate, Cuts, Hears, IsBetween, Passes, Picks, Timed, Turning, Waits, dispatched, serves_first, due_of, first_due, first_ready, is_ready, picked as any_picked, run_line, turned, with_request, written_by}
 use Rattle.aom_steps.proofs.Pushed.{asked_same}
 use Rattle.aom_steps.proofs.Turns.{picking}
 use Rattle.aom_steps.specs.Left.{is_entry}
@@ -121,56 +121,46 @@ stands_rest p m s r r' same steps st = record {
   agrees = agrees_rest p m s r r' same st.agrees;
 }
 
--- a machine that takes a part of a turn from each state stands for one again
-pub takes_again : (old new : Machine) (part : Turning) → TakesAll old part new → Stands old → Stands new
-takes_again old new part takes st = let t = takes (record { lines = []; refused = []; room = 0 }) st.0 st.1 in (t.state, t.stands)
+-- a part that changes nothing but what no place tells, and writes nothing
+pub rest_turns : (p : Image) (m : Parts) → progress_by m.rest.ended m.stack.tasks ≡ Turned → (part : Turning) (f : Rest → Rest) → ((s : State) → (turned p s part ≡ Goes (record s { rest = f s.rest })) × (written_by p s part ≡ [])) →
+    ((r : Rest) → (f r).steps ≡ r.steps) → TakesAll (record { image = p; parts = m }) part (record { image = p; parts = record m { rest = f m.rest } })
+rest_turns p m over part f goes steps told s st = record {
+  between = machine_between (record { image = p; parts = m }) s st over;
+  state = record s { rest = f s.rest };
+  goes = (goes s).0;
+  lines = silent told ∙ ap (λ ls. record told { lines = told.lines ++ ls }) (sym (goes s).1);
+  stands = stands_rest p m s (f m.rest) (f s.rest) (ap f st.agrees.rest) (steps s.rest) st;
+}
 
-module _ (p : Image) (m : Parts) (turned : progress_by m.rest.ended m.stack.tasks ≡ Turned) where
-  abbrev old : Machine
-  old = record { image = p; parts = m }
+-- so it is of the machine as it is seen, which stands for a state again
+module _ (p : Image) (m : Parts) (view : Machine) (is : record { image = p; parts = m } ≡ view) (over : progress view ≡ Turned) (stands : Stands (record { image = p; parts = m })) where
+  seen_turns : (part : Turning) (f : Rest → Rest) → ((s : State) → (turned p s part ≡ Goes (record s { rest = f s.rest })) × (written_by p s part ≡ [])) → ((r : Rest) → (f r).steps ≡ r.steps) →
+      TakesAll view part (record { image = p; parts = record m { rest = f m.rest } }) × Stands (record { image = p; parts = record m { rest = f m.rest } })
+  seen_turns part f goes steps =
+      let takes = rest_turns p m (subst (λ (x : Machine). progress x ≡ Turned) (sym is) over) part f goes steps in
+      let t = takes (record { lines = []; refused = []; room = 0 }) stands.0 stands.1 in
+      (subst (λ (x : Machine). TakesAll x part (record { image = p; parts = record m { rest = f m.rest } })) is takes, (t.state, t.stands))
 
   -- time passes
-  pub passes_time : (time : ℕ) → TakesAll old (Passes time) (record { image = p; parts = record m { rest = record m.rest { clock = time; polled = 0 } } })
-  passes_time time told s st = record {
-    between = machine_between old s st turned;
-    state = record s { rest = record s.rest { clock = time; polled = 0 } };
-    goes = refl;
-    lines = silent told;
-    stands = stands_rest p m s (record m.rest { clock = time; polled = 0 }) (record s.rest { clock = time; polled = 0 }) (ap (λ (r : Rest). record r { clock = time; polled = 0 }) st.agrees.rest) refl st;
-  }
+  pub passes_time : (time : ℕ) → TakesAll view (Passes time) (record { image = p; parts = record m { rest = record m.rest { clock = time; polled = 0 } } }) × Stands (record { image = p; parts = record m { rest = record m.rest { clock = time; polled = 0 } } })
+  passes_time time = seen_turns (Passes time) (λ r. record r { clock = time; polled = 0 }) (λ s. (refl, refl)) (λ r. refl)
 
   -- an event comes
-  pub hears_one : TakesAll old Hears (record { image = p; parts = record m { rest = record m.rest { delivered = suc m.rest.delivered } } })
-  hears_one told s st = record {
-    between = machine_between old s st turned;
-    state = heard_one s;
-    goes = refl;
-    lines = silent told;
-    stands = stands_rest p m s (record m.rest { delivered = suc m.rest.delivered }) (record s.rest { delivered = suc s.rest.delivered }) (ap (λ (r : Rest). record r { delivered = suc r.delivered }) st.agrees.rest) refl st;
-  }
+  pub hears_one : TakesAll view Hears (record { image = p; parts = record m { rest = record m.rest { delivered = suc m.rest.delivered } } }) × Stands (record { image = p; parts = record m { rest = record m.rest { delivered = suc m.rest.delivered } } })
+  hears_one = seen_turns Hears (λ r. record r { delivered = suc r.delivered }) (λ s. (refl, refl)) (λ r. refl)
 
   -- and what the machine stands for then it stood for before it
-  pub stands_back : (s : State) → StandsFor (record { image = p; parts = record m { rest = record m.rest { delivered = suc m.rest.delivered } } }) s → StandsFor old (record s { rest = m.rest })
-  stands_back s st = stands_rest p (record m { rest = record m.rest { delivered = suc m.rest.delivered } }) s m.rest m.rest refl (ap (λ (r : Rest). r.steps) st.agrees.rest) st
+  pub stands_back : (s : State) → StandsFor (record { image = p; parts = record m { rest = record m.rest { delivered = suc m.rest.delivered } } }) s → StandsFor view (record s { rest = view.parts.rest })
+  stands_back s st =
+      subst (λ (x : Machine). StandsFor x (record s { rest = x.parts.rest })) is
+      (stands_rest p (record m { rest = record m.rest { delivered = suc m.rest.delivered } }) s m.rest m.rest refl (ap (λ (r : Rest). r.steps) st.agrees.rest) st)
 
   -- the run is over
-  pub waits_ends : TakesAll old Waits (record { image = p; parts = record m { rest = record m.rest { ended = Some Waiting } } })
-  waits_ends told s st = record {
-    between = machine_between old s st turned;
-    state = ends_as Waiting s;
-    goes = refl;
-    lines = silent told;
-    stands = stands_rest p m s (record m.rest { ended = Some Waiting }) (record s.rest { ended = Some Waiting }) (ap (λ (r : Rest). record r { ended = Some Waiting }) st.agrees.rest) refl st;
-  }
+  pub waits_ends : TakesAll view Waits (record { image = p; parts = record m { rest = record m.rest { ended = Some Waiting } } }) × Stands (record { image = p; parts = record m { rest = record m.rest { ended = Some Waiting } } })
+  waits_ends = seen_turns Waits (λ r. record r { ended = Some Waiting }) (λ s. (refl, refl)) (λ r. refl)
 
-  pub cut_ends : TakesAll old Cuts (record { image = p; parts = record m { rest = record m.rest { ended = Some Limit } } })
-  cut_ends told s st = record {
-    between = machine_between old s st turned;
-    state = ends_as Limit s;
-    goes = refl;
-    lines = silent told;
-    stands = stands_rest p m s (record m.rest { ended = Some Limit }) (record s.rest { ended = Some Limit }) (ap (λ (r : Rest). record r { ended = Some Limit }) st.agrees.rest) refl st;
-  }
+  pub cut_ends : TakesAll view Cuts (record { image = p; parts = record m { rest = record m.rest { ended = Some Limit } } }) × Stands (record { image = p; parts = record m { rest = record m.rest { ended = Some Limit } } })
+  cut_ends = seen_turns Cuts (λ r. record r { ended = Some Limit }) (λ s. (refl, refl)) (λ r. refl)
 
 -- when the timer that is due first is due
 due_same : (o : Option Timed) → option_map (λ x. x.timer.due) o ≡ due_of o
@@ -262,17 +252,14 @@ completed_again first last false c st = subst (λ m. Stands m) (sym c.0) st
 
 -- the class of a cell, by what it is
 pub class_in : (c : Option Held_cell) (class : ℕ) → thing_in c ≡ Some (An_object_of class) → class_of c ≡ Some class
-class_in None class e = cc
-class_in (Some c) class e = ap payers.class_of (same_Some _ _ e)
+class_in o class e = grind arith
 
 -- its method that handles the signal is there, since the checked machine goes on with it
 has_method : (p : Image) (t : Typing) (x : Seat) (s : State) (o : Option ℕ) → Keeps p t (dispatched o x s) → IsSome o
-has_method p t x s None k = absurd k
-has_method p t x s (Some m) k = refl
+has_method p t x s y k = grind arith
 
 has_class : (p : Image) (t : Thing) → IsSome (part_of p Handles t) → (class : ℕ) × (t ≡ An_object_of class)
-has_class p (An_object_of class) some = (class, refl)
-has_class p Message some = cc
+has_class p x some = grind arith
 
 -- the request of the object, once it is another
 here : (n : ℕ) (q : Option Request) (asked : ℕ → Option Request) → asked_anew n q asked n ≡ q
@@ -363,16 +350,11 @@ module _ (p : Image) (m : Parts) (s : State) (st : StandsFor (record { image = p
 
   -- an object that is no server
   record Pick (id : ℕ) : Type 0 where
-    candidate : Candidate
-    first : first_ready s.cells ≡ Some candidate
-    name : candidate.seat.object.name ≡ id
-    lives : named s.cells id ≡ Some candidate.seat.object
-    holds : held s.cells candidate.seat.place ≡ Some candidate.seat.object
-    asked : requested s.cells id ≡ Some candidate.request
-    ready : is_ready candidate.request ≡ true
-    plain : is_server p candidate.seat.object.thing ≡ false
+    found : Found id
+    ready : is_ready found.candidate.request ≡ true
+    plain : is_server p found.candidate.seat.object.thing ≡ false
     unqueued : queued p s.cells id ≡ None
-    keeps : Keeps p st.typing (dispatched (part_of p Handles candidate.seat.object.thing) candidate.seat s)
+    keeps : Keeps p st.typing (dispatched (part_of p Handles found.candidate.seat.object.thing) found.candidate.seat s)
 
   or_false : (b : Bool) → (b || false) ≡ b
   or_false true = refl
@@ -382,12 +364,7 @@ module _ (p : Image) (m : Parts) (s : State) (st : StandsFor (record { image = p
   pick_of id k plain =
       let none = queue_told id k false plain in
       record {
-        candidate = k.candidate;
-        first = k.first;
-        name = k.name;
-        lives = k.lives;
-        holds = k.holds;
-        asked = k.asked;
+        found = k;
         ready = sym (or_false (is_ready k.candidate.request)) ∙ ap (λ q. meanings.goes k.candidate.request q) (sym none) ∙ k.goes;
         plain = plain;
         unqueued = none;
@@ -396,16 +373,16 @@ module _ (p : Image) (m : Parts) (s : State) (st : StandsFor (record { image = p
 
   module _ (id : ℕ) (k : Pick id) where
     abbrev object : Object
-    object = k.candidate.seat.object
+    object = k.found.candidate.seat.object
 
     its_method : IsSome (part_of p Handles object.thing)
-    its_method = has_method p st.typing k.candidate.seat s (part_of p Handles object.thing) k.keeps
+    its_method = has_method p st.typing k.found.candidate.seat s (part_of p Handles object.thing) k.keeps
 
     its_class : (c : ℕ) × (object.thing ≡ An_object_of c)
     its_class = has_class p object.thing its_method
 
     its_thing : thing_in (cell_at m.cells id) ≡ Some object.thing
-    its_thing = st.agrees.cells.things id ∙ ap thing_of k.lives ∙ ap (λ b. cond b (Some object.thing) None) (ap is_object its_class.1)
+    its_thing = st.agrees.cells.things id ∙ ap thing_of k.found.lives ∙ ap (λ b. cond b (Some object.thing) None) (ap is_object its_class.1)
 
     -- what the machine needs to know of it
     can_dispatch : (a : Active) → Makes m.active a id taken_up → CanDispatch p (record m { active = a }) id
@@ -415,7 +392,7 @@ module _ (p : Image) (m : Parts) (s : State) (st : StandsFor (record { image = p
       small = subst (λ o. IfSome o (λ c. c < 256)) is (class_fits p m s st.agrees id);
       handled = subst (λ t. IsSome (part_of p Handles t)) its_class.1 its_method;
       enlisted =
-          ap is_some (told_state a _ _ (makes.stands (requested s.cells) (queued p s.cells) k.candidate.request st.agrees.requests.stands k.asked) id (taken_up k.candidate.request) (here id (Some (taken_up k.candidate.request)) (requested s.cells)) k.unqueued);
+          ap is_some (told_state a _ _ (makes.stands (requested s.cells) (queued p s.cells) k.found.candidate.request st.agrees.requests.stands k.found.asked) id (taken_up k.found.candidate.request) (here id (Some (taken_up k.found.candidate.request)) (requested s.cells)) k.unqueued);
       idle = none_running;
       bare = none_marked;
       room = (let deep = st.agrees.room in omega (arith, deep));
@@ -427,10 +404,10 @@ module _ (p : Image) (m : Parts) (s : State) (st : StandsFor (record { image = p
     -- the dispatch that the machine begins is that of the checked machine
     module _ (a : Active) (told now : Turn) (new : Parts) (makes : Makes m.active a id taken_up) (d : Dispatches p id (record m { active = a }) told now new) where
       abbrev then : State
-      then = picked d.method k.candidate.seat s
+      then = picked d.method k.found.candidate.seat s
 
       name : id ≡ object.name
-      name = sym k.name
+      name = sym k.found.name
 
       thing : object.thing ≡ An_object_of d.class
       thing = thing_is object.thing d.class (cell_at m.cells id) d.is its_thing
@@ -438,33 +415,32 @@ module _ (p : Image) (m : Parts) (s : State) (st : StandsFor (record { image = p
       method : part_of p Handles object.thing ≡ Some d.method
       method = ap (part_of p Handles) thing ∙ d.handles
 
-      goes : turned p s (Picks k.candidate.seat) ≡ Goes then
-      goes = ap (λ b. cond b (serves_first p k.candidate.seat (service_of s.cells object.name).queue s) (dispatched (part_of p Handles object.thing) k.candidate.seat s)) k.plain ∙ ap (λ h. dispatched h k.candidate.seat s) method
+      goes : turned p s (Picks k.found.candidate.seat) ≡ Goes then
+      goes = ap (λ b. cond b (serves_first p k.found.candidate.seat (service_of s.cells object.name).queue s) (dispatched (part_of p Handles object.thing) k.found.candidate.seat s)) k.plain ∙ ap (λ h. dispatched h k.found.candidate.seat s) method
 
       lives : named s.cells object.name ≡ Some object
-      lives = ap (named s.cells) k.name ∙ k.lives
+      lives = ap (named s.cells) k.found.name ∙ k.found.lives
 
-      asked : requested s.cells object.name ≡ Some k.candidate.request
-      asked = ap (requested s.cells) k.name ∙ k.asked
+      asked : requested s.cells object.name ≡ Some k.found.candidate.request
+      asked = ap (requested s.cells) k.found.name ∙ k.found.asked
 
       -- its cell lives, below all messages
       small : id ≢ null → id < 4096
       small there = lives_below p m s st.sound.formed st.agrees id (cell_there (cell_at m.cells id) d.is)
         where
           cell_there : (o : Option Held_cell) → class_of o ≡ Some d.class → IsSome o
-          cell_there None e = cc
-          cell_there (Some c) e = refl
+          cell_there o e = grind arith
 
       made : Makes m.active a object.name taken_up
       made = subst (λ n. Makes m.active a n taken_up) name makes
 
       dispatch_agrees : Agrees p (running d.method d.class id (record m { active = a })) then
       dispatch_agrees = record {
-        tasks = (begun_frame d.method id (Inside object k.candidate.seat.place) (length then.items) name small, (tt, ((k.candidate.seat.place, seat), subst (λ us. SameTasks us []) (sym none_running) tt)));
+        tasks = (begun_frame d.method id (Inside object k.found.candidate.seat.place) (length then.items) name small, (tt, ((k.found.candidate.seat.place, seat), subst (λ us. SameTasks us []) (sym none_running) tt)));
         values = values;
         cells = cells_then s.cells object taken_up p m.cells st.agrees.cells;
         entries = (tt, st.agrees.entries);
-        requests = requests_asked s.cells object taken_up p m.active a k.candidate.request lives asked made st.agrees.requests;
+        requests = requests_asked s.cells object taken_up p m.active a k.found.candidate.request lives asked made st.agrees.requests;
         natives = natives_asked p m.sessions s.killed s.cells object.name _ st.agrees.natives;
         services = services_asked p s.cells object (on_request taken_up (requested s.cells object.name)) lives (order_same taken_up (λ r. refl) (requested s.cells object.name)) st.agrees.services;
         rest = ap (λ (r : Rest). record r { steps = 0; polled = 0 }) st.agrees.rest;
@@ -475,10 +451,10 @@ module _ (p : Image) (m : Parts) (s : State) (st : StandsFor (record { image = p
           subject : Subject
           subject = record { number = id; class = d.class }
 
-          seat : Of_object (seat_of k.candidate.seat.place subject) ≡ Of_object k.candidate.seat
+          seat : Of_object (seat_of k.found.candidate.seat.place subject) ≡ Of_object k.found.candidate.seat
           seat =
-              ap (λ n. Of_object (record { object = record { name = n; thing = An_object_of d.class }; place = k.candidate.seat.place })) name
-              ∙ ap (λ t. Of_object (record { object = record { name = object.name; thing = t }; place = k.candidate.seat.place })) (sym thing)
+              ap (λ n. Of_object (record { object = record { name = n; thing = An_object_of d.class }; place = k.found.candidate.seat.place })) name
+              ∙ ap (λ t. Of_object (record { object = record { name = object.name; thing = t }; place = k.found.candidate.seat.place })) (sym thing)
 
           dispatch : List Held_task
           dispatch = Ends (Of_one subject) ∷ m.stack.tasks
@@ -490,8 +466,8 @@ module _ (p : Image) (m : Parts) (s : State) (st : StandsFor (record { image = p
 
           worded : (q : Place) → word_at then.tasks q ≡ word_at s.tasks q
           worded q =
-              fresh_word d.method (Inside object k.candidate.seat.place) (length then.items) (Trapped ∷ Dispatched (Of_object k.candidate.seat) ∷ []) q
-              ∙ over_words true (Dispatched (Of_object k.candidate.seat) ∷ []) q ∙ no_word (Of_object k.candidate.seat) q ∙ ap (λ ts. word_at ts q) (sym idle)
+              fresh_word d.method (Inside object k.found.candidate.seat.place) (length then.items) (Trapped ∷ Dispatched (Of_object k.found.candidate.seat) ∷ []) q
+              ∙ over_words true (Dispatched (Of_object k.found.candidate.seat) ∷ []) q ∙ no_word (Of_object k.found.candidate.seat) q ∙ ap (λ ts. word_at ts q) (sym idle)
 
           values : (q : Place) → Shows (value_in (Runs_frame (fresh d.method id) ∷ Is_trap ∷ dispatch) m.cells (Is_mark ∷ m.entries.items) (others m) q) (word_at then.tasks q) (held then.cells q)
           values q =
@@ -501,7 +477,7 @@ module _ (p : Image) (m : Parts) (s : State) (st : StandsFor (record { image = p
 
       -- it costs no more than its class declares
       dispatch_within : KeepsWithin p st.sound.prices then
-      dispatch_within = record { within = omega (arith, picking p st.typing st.sound.prices st.sound.linked st.sound.affordable.priced s st.typed idle (Picks k.candidate.seat) lives refl then goes, affords) }
+      dispatch_within = record { within = omega (arith, picking p st.typing st.sound.prices st.sound.linked st.sound.affordable.priced s st.typed idle (Picks k.found.candidate.seat) lives refl then goes, affords) }
         where
           affords : price_of p st.sound.prices (payers.class_of object.thing) ≤ declared_of p (payers.class_of object.thing)
           affords = subst (λ t. price_of p st.sound.prices (payers.class_of t) ≤ declared_of p (payers.class_of t)) (sym thing) (st.sound.objects.each d.class)
@@ -510,10 +486,10 @@ module _ (p : Image) (m : Parts) (s : State) (st : StandsFor (record { image = p
       dispatch_stands = record {
         typing = st.typing;
         sound = st.sound;
-        typed = subst (λ h. Keeps p st.typing (dispatched h k.candidate.seat s)) method k.keeps;
+        typed = subst (λ h. Keeps p st.typing (dispatched h k.found.candidate.seat s)) method k.keeps;
         calm = (λ clearing. absurd (true≢false (sym clearing)), (refl, tt));
         traps = (tt, (tt, tt));
-        room = dispatches_with_room p (at 0 st.sound.depths.depths) st.sound.heights then.cells d.method (Inside object k.candidate.seat.place) (Of_object k.candidate.seat) s.items then.rest s.killed s.clients none_pushed;
+        room = dispatches_with_room p (at 0 st.sound.depths.depths) st.sound.heights then.cells d.method (Inside object k.found.candidate.seat.place) (Of_object k.found.candidate.seat) s.items then.rest s.killed s.clients none_pushed;
         waits = tt;
         kept = record { fit = fit_same p s.clients s.cells then.cells (same_requested s.cells object (on_request taken_up (requested s.cells object.name)) (λ e. on_none taken_up (requested s.cells object.name) e)) st.kept.fit; stage = tt };
         within = dispatch_within;
@@ -522,7 +498,7 @@ module _ (p : Image) (m : Parts) (s : State) (st : StandsFor (record { image = p
 
       same_status : d.status ≡ status_of (requested s.cells object.name)
       same_status =
-          same_Some _ _ (sym d.completed ∙ told_status a _ _ (makes.stands (requested s.cells) (queued p s.cells) k.candidate.request st.agrees.requests.stands k.asked) id (taken_up k.candidate.request) (here id (Some (taken_up k.candidate.request)) (requested s.cells)) k.unqueued)
+          same_Some _ _ (sym d.completed ∙ told_status a _ _ (makes.stands (requested s.cells) (queued p s.cells) k.found.candidate.request st.agrees.requests.stands k.found.asked) id (taken_up k.found.candidate.request) (here id (Some (taken_up k.found.candidate.request)) (requested s.cells)) k.unqueued)
           ∙ sym (ap status_of asked)
 
       same_line : Run_line m.rest.clock d.class d.status ∷ [] ≡ run_line s object
@@ -558,14 +534,14 @@ module _ (p : Image) (m : Parts) (turned : progress_by m.rest.ended m.stack.task
       let idle = (machine_between was s st turned).idle in
       let k = pick_of p m s st idle id (found_in a id c s st) (plain_in a id c plain s st) in
       let makes = makes_in a id c plain s st in (
-        k.candidate,
-        k.first,
-        (signals_are_ready p st.typing s st.typed idle).1 ∙ ap is_some k.first,
+        k.found.candidate,
+        k.found.first,
+        (signals_are_ready p st.typing s st.typed idle).1 ∙ ap is_some k.found.first,
         record {
           between = machine_between was s st turned;
           state = then p m s st idle id k a told now new makes d;
           goes = goes p m s st idle id k a told now new makes d;
-          lines = d.lines ∙ ap (λ ls. record told { lines = told.lines ++ ls }) (same_line p m s st idle id k a told now new makes d ∙ written_plain s k.candidate.seat k.plain);
+          lines = d.lines ∙ ap (λ ls. record told { lines = told.lines ++ ls }) (same_line p m s st idle id k a told now new makes d ∙ written_plain s k.found.candidate.seat k.plain);
           stands = subst (λ x. StandsFor (record { image = p; parts = x }) (then p m s st idle id k a told now new makes d)) (sym d.runs) (dispatch_stands p m s st idle id k a told now new makes d);
         },
       )

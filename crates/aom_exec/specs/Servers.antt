@@ -1,5 +1,5 @@
 -- The dispatch of a server begins: the first of its queue is taken.
-use Rattle.std.specs.Prelude.{◌≡◌, ◌<◌, ◌++◌, ℕ, ℤ, zero, suc, Bool, true, false, IsSome, is_some, [], ◌∷◌, Some, length}
+use Rattle.std.specs.Prelude.{◌≡◌, ◌<◌, ◌++◌, ℕ, ℤ, zero, suc, Bool, true, false, IsSome, is_some, [], ◌∷◌, Option, None, Some, length}
 use Rattle.std.specs.Int.{w32, cast_signed, cast_unsigned}
 use Rattle.aom_image.specs.Image.{Image}
 use Rattle.aom_image.specs.declared.method.Role.TheVariants.{Accept as Accepts_role, Service as Attends}
@@ -44,6 +44,11 @@ NotesBy false old new n waits = new ≡ old
 -- it hears whether something does, if a server of that number is enlisted
 abbrev pub Notes : ℕ → State → Active → Active → Type 0
 Notes n s old new = NotesBy (is_server (request_at old.table n)) old new n (is_queued s n)
+
+-- it hears of that queue, or of none
+abbrev pub NotesIf : Option ℕ → State → Active → Active → Type 0
+NotesIf None s old new = new ≡ old
+NotesIf (Some n) s old new = Notes n s old new
 
 -- ---- how each entry begins to be served
 

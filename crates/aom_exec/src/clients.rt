@@ -3,6 +3,7 @@ ghost use Rattle.aom_clients.specs.Clients.{client_at, place_at};
 ghost use Rattle.aom_clients.specs.Nodes.{named_by};
 ghost use Rattle.aom_clients.specs.declared.place.Place.TheVariants.{Free};
 ghost use Rattle.aom_exec.specs.Clients.{AreKept, Acts, CanAct, Forgets, IsInRange, Obeyed, Sends, asked_by, first_server, queue_changed};
+ghost use Rattle.aom_exec.specs.Servers.{NotesIf};
 ghost use Rattle.aom_messages.specs.Store.{message_at};
 ghost use Rattle.aom_parts.specs.Progress.{progress_by};
 ghost use Rattle.aom_parts.specs.Stands.{Stands, StandsFor};
@@ -137,6 +138,17 @@ fn queue_of(parts: &Parts, client: u8, asked: Option<Server>) -> Option<u16>
     }
 }
 
+/// The schedule hears of that queue, if there is one.
+fn note_changed(parts: &mut Parts, queue: Option<u16>)
+    requires { IfSome queue (λ server. (server < 4096) × (server < length parts.old.clients.queues)) }
+    ensures noted { NotesIf queue parts.old.clients parts.old.active parts.new.active }
+    ensures rest { parts.new ≡ record parts.old { active = parts.new.active } }
+{
+    if let Some(server) = queue {
+        note_queue(parts, server);
+    }
+}
+
 /// The client of that number does what it is told, with a line where that is refused. Answers whether it was.
 pub fn obey(
     parts: &mut Parts,
@@ -166,9 +178,7 @@ pub fn obey(
         command,
         asked,
     );
-    if let Some(server) = queue {
-        note_queue(parts, server);
-    }
+    note_changed(parts, queue);
     parts.rest.deliver();
     match answer {
         Ok(()) => false,

@@ -1,4 +1,6 @@
 //! A machine over the image that it runs.
+#![tactic(auto, using(crate::proofs::Agreeing::agrees_in_all, crate::proofs::Seen::turned_seen, crate::proofs::Seen::stands_under))]
+
 ghost use Rattle.std.specs.Prelude.{◌≡◌, ◌<◌, ◌≤◌, ◌+◌, ◌++◌, ◌∷◌, ◌^◌, ◌↔◌, ◌⊎◌, [], IfOk, IfSome, IsTrue, Option, false, length, option_map, suc, true};
 ghost use Rattle.aom_cells.specs.Heap.{count};
 ghost use Rattle.aom_sound.specs.World.{AnswersWell, Completion, Cuts, Hears, Kills, Passes, Polls, Waits, boot_state, due_of, first_due};

@@ -18,8 +18,6 @@ memory_is_not_few fault given named is enough = (λ few. absurd (let clash : Out
 -- each slot has its box
 all_there : {L B : Type 0} (box : L → B) (slots : List (Option L)) (boxes : List B) → map (option_map box) slots ≡ map (λ b. Some b) boxes → (n : ℕ) → n < length slots → IsSome (living_at slots n)
 all_there box [] boxes e n within = absurd (omega (arith, within))
-all_there box (None ∷ slots) [] e n within = cc
-all_there box (Some l ∷ slots) [] e n within = cc
 all_there box (None ∷ slots) (b ∷ boxes) e n within = cc
 all_there box (Some l ∷ slots) (b ∷ boxes) e zero within = refl
 all_there box (Some l ∷ slots) (b ∷ boxes) e (suc n) within = all_there box slots boxes (ap tail e) n (omega (arith, within))
@@ -27,6 +25,7 @@ all_there box (Some l ∷ slots) (b ∷ boxes) e (suc n) within = all_there box 
     tail : {Y : Type 0} → List Y → List Y
     tail [] = []
     tail (y ∷ ys) = ys
+all_there box (l ∷ slots) [] e n within = cc
 
 same_length : {L B : Type 0} (box : L → B) (slots : List (Option L)) (boxes : List B) → map (option_map box) slots ≡ map (λ b. Some b) boxes → length slots ≡ length boxes
 same_length box slots boxes e = sym (long (option_map box) slots) ∙ ap length e ∙ long (λ b. Some b) boxes

@@ -8,7 +8,6 @@ use Rattle.aom_natives.specs.Owed.{TakesOut}
 use Rattle.aom_natives.specs.Slots.{KeepsOthers, ids_at, living_at}
 use Rattle.aom_natives.proofs.Ids.{same-out}
 use Rattle.aom_owed.specs.Owed.{has_name, owes}
-use Rattle.aom_sessions.specs.Sessions.{is_killed}
 use Rattle.aom_sound.specs.Natives.{is_dead}
 use Rattle.aom_sound.specs.State.{Rest, State}
 use Rattle.aom_sound.specs.World.{AnswersWell, Completion, Hears, Kills, Outside, Polls, cell_at, delivers, first_living, lives}
@@ -140,6 +139,5 @@ pub polled_so : {X : Type 0} {B : X → Type 0} (old new : Machine X B) (image :
     IsSome (living_at old.natives.slots.items n) → IsSome (living_at new.natives.slots.items n) → KeepsOthers old.natives.slots.items new.natives.slots.items n →
     (s : State) → StandsFor old s → (answer : Option Completion) → Answers s.cells completion answer → AnswersWell old.core.image s (Polls n answer) → (now : Turn) → Core_takes old.core s (Polls n answer) now now new.core → Takes old s (Polls n answer) now now new
 polled_so old new image n None same before after others s st None is well now core = polled_none old s st new image n (kept_but (λ l. l.ids) old.natives.slots.items new.natives.slots.items n before after same others) now core
-polled_so old new image n None same before after others s st (Some a) is well now core = absurd is
-polled_so old new image n (Some x) out before after others s st None is well now core = absurd is
 polled_so old new image n (Some x) out before after others s st (Some a) is well now core = polled_some old s st new image n x.0 x.1 a out before after others is well now core
+polled_so old new image n _ out before after others s st _ is well now core = absurd is

@@ -1,14 +1,14 @@
 -- What is outstanding after a step is told by what the step asks of a native, and by the answer.
 use Rattle.std.specs.Prelude.{IsSome}
 use Rattle.aom_transcript.specs.declared.line.Ending.{Ending}
-use Rattle.std.proofs.Common.{◌≡◌, ◌⊎◌, ℤ, ℕ, arith, false, pos, List, [], ◌∷◌, Option, Some, None, refl, sym, ap, subst, ◌∙◌, inl, inr}
+use Rattle.std.proofs.Common.{◌≡◌, ◌⊎◌, ℤ, ℕ, arith, false, pos, List, [], Option, Some, None, refl, sym, ap, subst, ◌∙◌, inl, inr}
 use Rattle.aom_image.specs.Image.{Image}
 use Rattle.aom_rules.specs.Typing.{Typing}
 use Rattle.aom_owed.specs.Owed.{FindsWell, SessionsHold, owes, owes_after}
 use Rattle.aom_owed.proofs.Moves.{moves_follow_calls}
 use Rattle.aom_sound.specs.Places.{named}
 use Rattle.aom_sound.specs.Moves.{IsOpen, step}
-use Rattle.aom_sound.specs.State.{Choice, Goes, IsStuck, Outcome, State, Task, Dispatched, Unwind, Run, Trapped, Closing, Destroy}
+use Rattle.aom_sound.specs.State.{Choice, Goes, IsStuck, Outcome, State, Task}
 use Rattle.aom_sound.specs.Wanted.{Wanted, wanted, wanted_task}
 use Rattle.aom_sound.specs.WellTyped.{Keeps, WellTyped}
 use Rattle.aom_endings.proofs.Ending.{above, top}
@@ -27,13 +27,7 @@ pub record Went (p : Image) (t : Typing) (s : State) (asked : Option Wanted) (an
   pub sessions : SessionsHold p u
 
 uncounted_asks_none : (p : Image) (s : State) (ts : List Task) → IsUncounted ts → wanted_task s p ts ≡ None
-uncounted_asks_none p s [] uncounted = absurd uncounted
-uncounted_asks_none p s (Run fr ∷ ts) uncounted = absurd uncounted
-uncounted_asks_none p s (Trapped ∷ ts) uncounted = absurd uncounted
-uncounted_asks_none p s (Destroy ∷ ts) uncounted = absurd uncounted
-uncounted_asks_none p s (Closing ∷ ts) uncounted = refl
-uncounted_asks_none p s (Unwind code ∷ ts) uncounted = refl
-uncounted_asks_none p s (Dispatched d ∷ ts) uncounted = refl
+uncounted_asks_none p s ts uncounted = grind arith
 
 -- what is at hand is asked
 at_hand : (p : Image) (s : State) → IsAtHand s → asked_of p s ≡ wanted p s
@@ -49,8 +43,7 @@ at_rest p s (inl idle) = go s.rest.ended
 at_rest p s (inr over) = go s.rest.ended over
   where
     go : (e : Option Ending) → IsSome e → asked_by (progress_by e s.tasks) (wanted p s) ≡ None
-    go (Some ending) over = refl
-    go None over = cc
+    go x over = grind arith
 
 module _ (p : Image) (t : Typing) (sound : Sound p t) where
   -- a move is never stuck

@@ -10,8 +10,6 @@ use Rattle.aom_image.specs.Views.{class_at}
 use Rattle.aom_image.specs.WellFormed.{ClassFits, KindFits, WellFormed}
 use Rattle.aom_image.specs.declared.class.ClassDecl.{ClassDecl}
 use Rattle.aom_image.specs.declared.class.ClassKind.{ClassKind}
-use Rattle.aom_image.specs.declared.class.ClassKind.TheVariants.{Active as An_active}
-use Rattle.aom_image.specs.declared.class.Provider.TheVariants.{Native, Own, Timer}
 use Rattle.aom_image.specs.declared.method.Thing.{Thing}
 use Rattle.aom_image.specs.declared.method.Thing.TheVariants.{Object as An_object_of, Message}
 use Rattle.aom_classes.proofs.Facts.{all_there}
@@ -27,10 +25,7 @@ use Rattle.aom_natives.specs.Owed.{IsNew, times}
 
 module _ (p : Image) (formed : WellFormed p) where
   kind_names : (k : ClassKind) (n : ℕ) → KindFits (length p.classes) p.header.natives k → native_of (Some k) ≡ Some n → n < p.header.natives
-  kind_names (An_active (Native k) budget) n fits e = let same : k ≡ n = cc in subst (λ x. x < p.header.natives) same fits.0
-  kind_names (An_active Own budget) n fits e = cc
-  kind_names (An_active Timer budget) n fits e = cc
-  kind_names _ n fits e = cc
+  kind_names x n fits e = grind arith
 
   class_names : (class : Option ℕ) (n : ℕ) → native_of (kind_of p class) ≡ Some n → n < p.header.natives
   unfolding kind_of kind_in class_at

@@ -73,9 +73,6 @@ module _ {X : Type 0} {B : X → Type 0} where
       absurd (omega (arith, late, at))
   was_due old m (inr fewer) none due = fewer
 
-  pub stands_after : (old new : Machine X B) → CompletesDue old new → Stands old → Stands new
-  stands_after old new completed stands = let x = completed stands.0 stands.1 in (x.0, x.3)
-
   -- what no place tells is as it was
   pub rest_after : (old new : Machine X B) → CompletesDue old new → Stands old → new.core.parts.rest ≡ old.core.parts.rest
   rest_after old new completed stands = let x = completed stands.0 stands.1 in x.3.stands.agrees.rest ∙ x.2 ∙ sym stands.1.stands.agrees.rest

@@ -4,6 +4,7 @@ pub mod Reaching
 pub mod Gets
 pub mod Turnings
 pub mod Parts
+pub mod Keeping
 pub mod Between
 pub mod Resting
 pub mod Running

@@ -1,19 +1,18 @@
 -- What a part of a turn leaves as it was, and how a run goes on by it.
-use Rattle.std.proofs.Common.{◌≡◌, ◌≤◌, ℕ, suc, Bool, true, false, List, [], ◌∷◌, ◌++◌, Option, Some, None, length, ap, arith, cond, subst, sym, refl, ◌∙◌}
+use Rattle.std.proofs.Common.{◌≡◌, ◌≤◌, ℕ, suc, Bool, true, false, List, [], ◌++◌, Option, Some, None, length, ap, arith, cond, subst, sym, refl, ◌∙◌}
 use Rattle.std.specs.Prelude.{nat_lt, not, ◌&&◌}
 use Rattle.aom_endings.proofs.Ending.{above, top}
 use Rattle.aom_clients.specs.declared.refusal.Refusal.{Refusal}
 use Rattle.aom_image.specs.Image.{Image}
 use Rattle.aom_lines.specs.Turn.{Turn}
-use Rattle.aom_sound.proofs.Guarded.{goes_same, guarded_goes}
+use Rattle.aom_sound.proofs.Guarded.{goes_same}
 use Rattle.aom_sound.proofs.Turned.{commanded_kept}
 use Rattle.aom_sound.specs.Clients.{client_count, refusal}
-use Rattle.aom_sound.specs.Enlisted.{completed_with, recorded}
 use Rattle.aom_sound.specs.Lines.{refusal_line}
-use Rattle.aom_sound.specs.Natives.{is_dead, is_outstanding_at}
+use Rattle.aom_sound.specs.Natives.{is_dead}
 use Rattle.aom_sound.specs.Places.{Cell, Object, named}
-use Rattle.aom_sound.specs.State.{CompletedTwice, Goes, State}
-use Rattle.aom_sound.specs.World.{AnswersWell, Completes, Completion, Heard, Hears, IsBetween, Kills, Obeys, Outside, Polls, Reaches, Turning, answered_by, cell_at, delivers, heard_one, lives, nothing_heard, past_native, turned, turning, turns, with_request, written_by}
+use Rattle.aom_sound.specs.State.{Goes, State}
+use Rattle.aom_sound.specs.World.{AnswersWell, Completes, Completion, Heard, Hears, IsBetween, Kills, Obeys, Outside, Polls, Reaches, Turning, answered_by, cell_at, delivers, heard_one, lives, nothing_heard, turned, turning, turns, written_by}
 use Rattle.aom_transcript.specs.declared.event.Event.{Event}
 use Rattle.aom_transcript.specs.declared.event.Event.TheVariants.{Client, Kill, Tell}
 use Rattle.aom_transcript.specs.declared.line.Line.{Line}
@@ -82,11 +81,7 @@ polled_same p s u n None goes = let same = sym (goes_same _ u goes) in (ap (λ (
 polled_same p s u n (Some a) goes = go (cell_at s.cells a.cell) goes
   where
     go : (c : Option Cell) → answered_by p n c a.code s ≡ Goes u → (u.tasks ≡ s.tasks) × (u.rest ≡ record s.rest { polled = suc n })
-    go None goes = absurd cc
-    go (Some c) goes =
-        let same : u ≡ past_native n (record s { cells = with_request (completed_with (recorded a.code)) c.object s.cells }) =
-        sym (guarded_goes ((is_outstanding_at p n c, CompletedTwice) ∷ []) (past_native n (record s { cells = with_request (completed_with (recorded a.code)) c.object s.cells })) u goes) in
-        (ap (λ (v : State). v.tasks) same, ap (λ (v : State). v.rest) same)
+    go x goes = grind arith
 
 -- ---- a run goes on
 

@@ -34,13 +34,15 @@ nearer_is (Some a) (Some b) time e = let same : min a b ≡ time = cc in go (cas
     go (inl less) same = inl (a, refl, omega (arith, less, same))
     go (inr most) same = inr (b, refl, omega (arith, most, same))
 
+-- what has that time is there
+timed_is : {A : Type 0} (of : Option A → Option ℕ) (time : A → ℕ) → of None ≡ None → ((a : A) → of (Some a) ≡ Some (time a)) → (o : Option A) (x : ℕ) → of o ≡ Some x → (a : A) × (o ≡ Some a) × (time a ≡ x)
+timed_is of time none some y x e = grind arith
+
 due_is : (o : Option Timed) (x : ℕ) → due_of o ≡ Some x → (t : Timed) × (o ≡ Some t) × (t.timer.due ≡ x)
-due_is None x e = cc
-due_is (Some t) x e = (t, refl, cc)
+due_is = timed_is due_of (λ t. t.timer.due) refl (λ t. refl)
 
 time_is : (o : Option TimedEvent) (x : ℕ) → time_of o ≡ Some x → (e : TimedEvent) × (o ≡ Some e) × (e.time ≡ x)
-time_is None x e = cc
-time_is (Some t) x e = (t, refl, cc)
+time_is = timed_is time_of (λ e. e.time) refl (λ e. refl)
 
 module _ {X : Type 0} {B : X → Type 0} where
   -- ---- turns that dispatch nothing

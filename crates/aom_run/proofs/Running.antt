@@ -63,8 +63,7 @@ rounds_by spare None = suc spare
 rounds_by spare (Some ending) = 0
 
 still_open : (ended : Option Ending) (tasks : List Held_task) → progress_by ended tasks ≡ progresses.Turned → ended ≡ None
-still_open None tasks is = refl
-still_open (Some ending) tasks is = cc
+still_open ended tasks is = grind arith
 
 nothing_left : (tasks : List Task) → progress_by None tasks ≢ progresses.Running → tasks ≡ []
 nothing_left [] rests = refl
@@ -83,12 +82,7 @@ given_up None x = x
 given_up (Some a) x = tt
 
 same_outcome : (d e : Ending) → outcome_of d ≡ outcome_of e → d ≡ e
-same_outcome endings.Stopped endings.Stopped is = refl
-same_outcome endings.Waiting endings.Waiting is = refl
-same_outcome (endings.MainLeft n) (endings.MainLeft k) is = cc
-same_outcome endings.Limit endings.Limit is = refl
-same_outcome (endings.Error n) (endings.Error k) is = cc
-same_outcome _ _ is = absurd cc
+same_outcome d e is = grind arith
 
 module _ {X : Type 0} {B : X → Type 0} where
   -- the machine stands for a state that a run comes to; all its lines are out but the last, which are told and not out yet
@@ -265,6 +259,19 @@ module _ {X : Type 0} {B : X → Type 0} where
       → TakesTurns m (hearing told.refused limit (natives_of m) events) result told now new → TakesTurns m (hearing refused limit natives events) result told now new
   turns_as m new limit events result told now {refused} {natives} same count takes =
       subst (λ n. TakesTurns m (hearing refused limit n events) result told now new) count (subst (λ r. TakesTurns m (hearing r limit (natives_of m) events) result told now new) same takes)
+
+  -- once turns have dispatched: how far the run has come, with what turn, and that the machine stands for a state
+  pub after_turns : (p : Image) (events : List TimedEvent) (limit : ℕ) (before mid : Option (List ℕ)) (old m : Machine X B) (told turn first : Turn) {natives : ℕ} → (far : SoFar p (hearing first.refused limit natives events) before mid told.lines old) → old.core.image ≡ p →
+      told ≡ record first { lines = [] } → natives_of old ≡ natives → TakesTurns old (hearing told.refused limit (natives_of old) events) None told turn m →
+      SoFar p (hearing first.refused limit natives events) before mid turn.lines m × (turn ≡ record first { lines = turn.lines }) × Stands m
+  after_turns p events limit before mid old m told turn first {natives} far image is count takes =
+      let outside = hearing first.refused limit natives events in
+      let stands : Stands old = (far.state, far.stands) in
+      let turns = turns_as old m limit events None told turn (ap (λ (t : Turn). t.refused) is) count takes in (
+        turned_on p outside before mid mid old m told turn far image (ap (λ (t : Turn). t.lines) is) turns,
+        turned_same old m outside told turn stands turns ∙ ap (λ (t : Turn). record t { lines = turn.lines }) is,
+        turned_stands old m outside told turn stands turns,
+      )
 
   -- the last line after the others
   module _ (m new : Machine X B) (outside : Outside) (ending : Ending) (before mid now : Option (List ℕ)) (failed : Bool) (run : Ended m.core.image outside ending before mid new) where

@@ -1,7 +1,7 @@
 -- What is out after several texts, the last of which may be cut.
-use Rattle.std.proofs.Common.{◌≡◌, ℕ, suc, min, arith, ◌+◌, ◌<◌, ◌≤◌, List, [], ◌∷◌, ◌++◌, Option, Some, None, length, take, drop, get_or, refl, sym, ap, ◌∙◌, append-nil, append_assoc}
+use Rattle.std.proofs.Common.{◌≡◌, ℕ, suc, min, arith, ◌+◌, ◌<◌, List, [], ◌∷◌, ◌++◌, Option, Some, None, length, take, drop, get_or, refl, sym, ap, ◌∙◌, append-nil, append_assoc}
 use Rattle.std.proofs.Math.Seq.{take-append-add, take-suc}
-use Rattle.std.proofs.lemmas.List.{take-append-le, take-append-drop, take_all, take_min}
+use Rattle.std.proofs.lemmas.List.{take-append-le, take-append-drop, take_min}
 use Rattle.std.proofs.lemmas.Grind.{flat_map-append}
 use Rattle.aom_transcript.specs.declared.line.Line.{Line}
 use Rattle.aom_transcript.specs.Text.{line_text, ended, text_of}

@@ -1,7 +1,7 @@
 -- Moves one after another: they make no more dispatches of objects, and there are none where nothing is at hand.
 use Rattle.std.proofs.Common.{◌≡◌, ℕ, ◌≤◌, ◌^◌, ◌-◌, List, [], ◌∷◌, ◌∙◌, ap, arith, refl, sym}
 use Rattle.aom_image.specs.Image.{Image}
-use Rattle.aom_sound.specs.State.{State, Task}
+use Rattle.aom_sound.specs.State.{State}
 use Rattle.aom_transcript.specs.declared.line.Line.{Line}
 use Rattle.aom_endings.proofs.Spending.{moved_spares}
 use Rattle.aom_endings.specs.Endings.{spare}
@@ -14,12 +14,8 @@ moving_spares p limit most refused s _ _ (goes_on {lines} {s = v} {u = u} c befo
     let last = moved_spares p limit most c v u goes in
     omega (arith, first, last)
 
--- no list is both
-none_and_one : (task : Task) (tasks : List Task) → [] ≡ task ∷ tasks → ⊥
-none_and_one task tasks e = cc
-
 pub idle_stays : (p : Image) (refused : List ℕ) (s : State) (lines : List Line) (u : State) → s.tasks ≡ [] → Moving p refused s lines u → u ≡ s
 idle_stays p refused s _ _ idle begins = refl
 idle_stays p refused s _ _ idle (goes_on {lines} {s = v} {u = u} c before busy free goes) =
-    let none = sym idle ∙ ap (λ (x : State). x.tasks) (sym (idle_stays p refused s lines v idle before)) ∙ busy.2 in
-    absurd (none_and_one busy.0 busy.1 none)
+    let none : [] ≡ busy.0 ∷ busy.1 = sym idle ∙ ap (λ (x : State). x.tasks) (sym (idle_stays p refused s lines v idle before)) ∙ busy.2 in
+    cc

@@ -1,5 +1,5 @@
 -- What comes between dispatches, until an object or a server is dispatched, an event is told by a line, or the run ends.
-use Rattle.std.specs.Prelude.{◌≡◌, ◌⊎◌, ◌<◌, ◌≤◌, ◌+◌, ◌-◌, ◌++◌, is_some, ℕ, true, List, [], Option, Some, None, length}
+use Rattle.std.specs.Prelude.{◌≡◌, ◌⊎◌, ◌<◌, ◌≤◌, ◌+◌, ◌-◌, ◌++◌, is_some, ℕ, Bool, true, false, List, [], Option, Some, None, length}
 use Rattle.aom_sound.specs.State.{State}
 use Rattle.aom_sound.specs.World.{IsBetween, Outside, Reaches, Timed, event_at, first_due, first_living}
 use Rattle.aom_steps.specs.Payers.{payer}
@@ -7,8 +7,9 @@ use Rattle.aom_transcript.specs.declared.event.TimedEvent.{TimedEvent}
 use Rattle.aom_transcript.specs.declared.line.Line.{Line}
 use Rattle.aom_transcript.specs.declared.line.Ending.{Ending}
 use Rattle.aom_lines.specs.Turn.{Turn}
-use Rattle.aom_exec.specs.Steps.{timers}
-use Rattle.aom_machine.specs.Calls.{StandsFor, natives_of}
+use Rattle.aom_exec.specs.Steps.{progress, timers}
+use Rattle.aom_parts.specs.declared.progress.Progress.TheVariants.{Turned}
+use Rattle.aom_machine.specs.Calls.{NoneIsDue, Stands, StandsFor, natives_of}
 use Rattle.aom_machine.specs.declared.machine.Machine.{Machine}
 
 -- what comes from outside of the image, where there are so many natives
@@ -40,6 +41,17 @@ module _ {X : Type 0} {B : X → Type 0} where
       × StandsFor new u
 
   -- ---- events
+
+  -- it stands for a state between dispatches
+  abbrev pub StandsBetween : Machine X B → Type 0
+  StandsBetween m = Stands m × (progress m.core ≡ Turned)
+
+  -- and so it does again, with the same image, beside as many natives
+  pub record Keeps (old new : Machine X B) : Type 0 where
+    pub stands : Stands new
+    pub between : progress new.core ≡ Turned
+    pub image : new.core.image ≡ old.core.image
+    pub natives : natives_of new ≡ natives_of old
 
   -- the next event comes later than the machine's clock says, if there is one
   abbrev pub NoneHasCome : List TimedEvent → Machine X B → Type 0
@@ -82,6 +94,11 @@ module _ {X : Type 0} {B : X → Type 0} where
   IsLate events m = IsDue m ⊎ HasCome events m
 
   -- ---- natives
+
+  -- an event is told by a line, or all that have come are heard and no timer is due
+  abbrev pub HearsAll : (told : Bool) → List TimedEvent → Machine X B → Turn → Turn → Machine X B → Type 0
+  HearsAll true events old before now new = TellsEnd events old before now new
+  HearsAll false events old before now new = (now ≡ before) × Settles events old new × NoneIsDue new × NoneHasCome events new
 
   -- each living native is polled in the turn at hand
   abbrev pub AllPolled : Machine X B → Type 0

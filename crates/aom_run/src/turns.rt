@@ -7,7 +7,7 @@ ghost use Rattle.aom_parts.specs.declared.progress.Progress.TheVariants.{Turned}
 ghost use Rattle.aom_machine.specs.Calls.{EventInRange, NoneIsDue, Stands, StandsFor, natives_of};
 ghost use Rattle.aom_natives.specs.Slots.{AllAgree};
 ghost use Rattle.aom_transcript.specs.declared.event.TimedEvent.{TimedEvent};
-ghost use Rattle.aom_run.specs.Turns.{AllPolled, CompletesDue, HasCome, IsDue, IsLate, NoneHasCome, Settles, TakesTurns, TellsEnd, hearing, to_come, waiting};
+ghost use Rattle.aom_run.specs.Turns.{AllPolled, CompletesDue, HasCome, HearsAll, IsDue, IsLate, Keeps, NoneHasCome, StandsBetween, Settles, TakesTurns, hearing, to_come, waiting};
 
 use aom_lines::Turn;
 use aom_machine::Machine;
@@ -70,19 +70,12 @@ fn next_time(machine: &Machine, events: &[TimedEvent]) -> Option<u64>
 /// whether an event was told by a line; then the rest waits until that is out.
 fn settle(machine: &mut Machine, events: &[TimedEvent], turn: &mut Turn) -> bool
     requires agree { AllAgree (λ l. l.ids) (λ l. (⟦<dyn Native as Native>⟧ l.native.vtable).owed l.native.value) machine.old.natives.slots.items }
-    requires stands { Stands machine.old }
-    requires between { progress machine.old.core ≡ Turned }
+    requires rests { StandsBetween machine.old }
     requires ranged { All (λ e. EventInRange e.event) events.now }
     requires room { length turn.old.lines < turn.old.room }
     ensures agree { AllAgree (λ l. l.ids) (λ l. (⟦<dyn Native as Native>⟧ l.native.vtable).owed l.native.value) machine.new.natives.slots.items }
-    ensures image { machine.new.core.image ≡ machine.old.core.image }
-    ensures natives { natives_of machine.new ≡ natives_of machine.old }
-    ensures told { result ≡ true → TellsEnd events.now machine.old turn.old turn.new machine.new }
-    ensures quiet { result ≡ false → turn.new ≡ turn.old }
-    ensures settled { result ≡ false → Settles events.now machine.old machine.new }
-    ensures between { progress machine.new.core ≡ Turned }
-    ensures none_due { result ≡ false → NoneIsDue machine.new }
-    ensures none_come { result ≡ false → NoneHasCome events.now machine.new }
+    ensures kept { Keeps machine.old machine.new }
+    ensures heard { HearsAll result events.now machine.old turn.old turn.new machine.new }
     ensures polled { result ≡ false → AllPolled machine.new }
     ensures falls { result ≡ false → IsLate events.now machine.old → waiting events.now machine.new < waiting events.now machine.old }
 {
@@ -97,13 +90,10 @@ fn settle(machine: &mut Machine, events: &[TimedEvent], turn: &mut Turn) -> bool
 /// Each timer that is due completes the request of its object.
 fn complete_due(machine: &mut Machine)
     requires agree { AllAgree (λ l. l.ids) (λ l. (⟦<dyn Native as Native>⟧ l.native.vtable).owed l.native.value) machine.old.natives.slots.items }
-    requires stands { Stands machine.old }
-    requires between { progress machine.old.core ≡ Turned }
+    requires rests { StandsBetween machine.old }
     ensures agree { AllAgree (λ l. l.ids) (λ l. (⟦<dyn Native as Native>⟧ l.native.vtable).owed l.native.value) machine.new.natives.slots.items }
-    ensures image { machine.new.core.image ≡ machine.old.core.image }
-    ensures natives { natives_of machine.new ≡ natives_of machine.old }
+    ensures kept { Keeps machine.old machine.new }
     ensures completed { CompletesDue machine.old machine.new }
-    ensures between { progress machine.new.core ≡ Turned }
     ensures none { NoneIsDue machine.new }
     ensures no_more { timers machine.new.core ≤ timers machine.old.core }
     ensures falls { IsDue machine.old → timers machine.new.core < timers machine.old.core }
@@ -135,20 +125,13 @@ fn come_event(machine: &Machine, events: &[TimedEvent]) -> Option<Event>
 /// Each event that has come is heard, where no timer is due, up to one that is told by a line. Answers whether one was.
 fn hear_due(machine: &mut Machine, events: &[TimedEvent], turn: &mut Turn) -> bool
     requires agree { AllAgree (λ l. l.ids) (λ l. (⟦<dyn Native as Native>⟧ l.native.vtable).owed l.native.value) machine.old.natives.slots.items }
-    requires stands { Stands machine.old }
-    requires between { progress machine.old.core ≡ Turned }
+    requires rests { StandsBetween machine.old }
     requires none_due { NoneIsDue machine.old }
     requires ranged { All (λ e. EventInRange e.event) events.now }
     requires room { length turn.old.lines < turn.old.room }
     ensures agree { AllAgree (λ l. l.ids) (λ l. (⟦<dyn Native as Native>⟧ l.native.vtable).owed l.native.value) machine.new.natives.slots.items }
-    ensures image { machine.new.core.image ≡ machine.old.core.image }
-    ensures natives { natives_of machine.new ≡ natives_of machine.old }
-    ensures told { result ≡ true → TellsEnd events.now machine.old turn.old turn.new machine.new }
-    ensures quiet { result ≡ false → turn.new ≡ turn.old }
-    ensures settled { result ≡ false → Settles events.now machine.old machine.new }
-    ensures between { progress machine.new.core ≡ Turned }
-    ensures none_due { result ≡ false → NoneIsDue machine.new }
-    ensures none_come { result ≡ false → NoneHasCome events.now machine.new }
+    ensures kept { Keeps machine.old machine.new }
+    ensures heard { HearsAll result events.now machine.old turn.old turn.new machine.new }
     ensures timers { timers machine.new.core ≡ timers machine.old.core }
     ensures no_more { to_come events.now machine.new ≤ to_come events.now machine.old }
     ensures falls { result ≡ false → HasCome events.now machine.old → to_come events.now machine.new < to_come events.now machine.old }
@@ -164,14 +147,11 @@ fn hear_due(machine: &mut Machine, events: &[TimedEvent], turn: &mut Turn) -> bo
 /// Each living native is polled once in the turn at hand, where no timer is due.
 fn poll_all(machine: &mut Machine)
     requires agree { AllAgree (λ l. l.ids) (λ l. (⟦<dyn Native as Native>⟧ l.native.vtable).owed l.native.value) machine.old.natives.slots.items }
-    requires stands { Stands machine.old }
-    requires between { progress machine.old.core ≡ Turned }
+    requires rests { StandsBetween machine.old }
     requires none_due { NoneIsDue machine.old }
     ensures agree { AllAgree (λ l. l.ids) (λ l. (⟦<dyn Native as Native>⟧ l.native.vtable).owed l.native.value) machine.new.natives.slots.items }
-    ensures image { machine.new.core.image ≡ machine.old.core.image }
-    ensures natives { natives_of machine.new ≡ natives_of machine.old }
+    ensures kept { Keeps machine.old machine.new }
     ensures settled { (events : List TimedEvent) → NoneHasCome events machine.old → Settles events machine.old machine.new }
-    ensures between { progress machine.new.core ≡ Turned }
     ensures none_due { NoneIsDue machine.new }
     ensures rest { machine.new.core.parts.rest ≡ record machine.old.core.parts.rest { polled = machine.new.core.parts.rest.polled } }
     ensures polled { AllPolled machine.new }

@@ -1,10 +1,10 @@
-use Rattle.std.proofs.Common.{None, Some, ap, arith, length, refl, sym, [], ◌∙◌}
+use Rattle.std.proofs.Common.{Some, ap, arith, length, refl, sym, [], ◌∙◌}
 use Rattle.aom_image.specs.Image.{Image}
 use Rattle.aom_lines.specs.Turn.{Turn}
 use Rattle.aom_sound.specs.World.{boot_state}
 use Rattle.aom_machine.specs.Calls.{Stands, natives_of}
 use Rattle.aom_run.specs.Turns.{hearing}
-use Rattle.aom_run.proofs.Running.{cut, ends, fewer_left, given_up, sent_far, sent_on, sent_rests, sent_turn, starts, turned_end, turned_few, turned_now, turned_on, turned_same, turned_stands, turns_as}
+use Rattle.aom_run.proofs.Running.{after_turns, cut, ends, fewer_left, given_up, sent_far, sent_on, sent_rests, sent_turn, starts, turned_end, turned_few, turned_now, turned_same, turned_stands, turns_as}
 use Rattle.aom_run.proofs.runs.run_lines.Goals as goal
 
 pub run_dispatch-requires : goal.run_dispatch-requires
@@ -90,20 +90,12 @@ returns-in_err-progress-2-clause-image g c = c.run_dispatch-in-loop-progress.ens
 pub returns-in_err-progress-2-clause-none : goal.returns-in_err-progress-2-clause-none
 returns-in_err-progress-2-clause-none g c =
     let i = c.loop-progress.invariant in
-    let outside = hearing c.args.turn.now.refused c.args.limit (natives_of c.args.machine.now) c.args.events.now in
-    let before = g.W.Sink.out c.args.out.now in
-    let mid = g.W.Sink.out c.loop-progress.out in
-    let same = ap (λ (t : Turn). t.refused) i.turn in
-    let m = c.take_turns.new.machine in
-    let turn = c.take_turns.new.turn in
     let image = c.take_turns.ensures.image ∙ i.image in
-    let turns = turns_as c.loop-progress.machine m c.args.limit c.args.events.now None c.loop-progress.turn turn same i.natives c.in_default-take_turns.ensures.turns in
-    let far = turned_on _ outside before mid mid c.loop-progress.machine m c.loop-progress.turn turn i.so_far i.image (ap (λ (t : Turn). t.lines) i.turn) turns in
-    let refused = ap (λ (t : Turn). t.refused) (turned_same c.loop-progress.machine m outside c.loop-progress.turn turn (i.so_far.state, i.so_far.stands) turns) ∙ same in
+    let turned = after_turns _ c.args.events.now c.args.limit (g.W.Sink.out c.args.out.now) (g.W.Sink.out c.loop-progress.out) c.loop-progress.machine c.take_turns.new.machine c.loop-progress.turn c.take_turns.new.turn c.args.turn.now i.so_far i.image i.turn i.natives c.in_default-take_turns.ensures.turns in
     let off = c.in_err-progress-2.ensures.none in
     let fits = c.ranges.limit.fits in
     given_up c.from_residual-in_err-progress-2.result
-    (off.0, cut _ outside before mid _ m c.run_dispatch-in-loop-progress.new.machine turn c.run_dispatch-in-loop-progress.new.turn far image refused (omega (arith, fits)) (c.run_dispatch-in-loop-progress.ensures.image ∙ image) off.1)
+    (off.0, cut _ _ _ _ _ c.take_turns.new.machine c.run_dispatch-in-loop-progress.new.machine c.take_turns.new.turn c.run_dispatch-in-loop-progress.new.turn turned.0 image (ap (λ (t : Turn). t.refused) turned.1) (omega (arith, fits)) (c.run_dispatch-in-loop-progress.ensures.image ∙ image) off.1)
 
 pub loop-progress-smaller : goal.loop-progress-smaller
 loop-progress-smaller g c =
@@ -115,25 +107,17 @@ loop-progress-smaller g c =
 pub loop-progress-preserved : goal.loop-progress-preserved
 loop-progress-preserved g c =
     let i = c.loop-progress.invariant in
-    let outside = hearing c.args.turn.now.refused c.args.limit (natives_of c.args.machine.now) c.args.events.now in
-    let before = g.W.Sink.out c.args.out.now in
-    let mid = g.W.Sink.out c.loop-progress.out in
-    let same = ap (λ (t : Turn). t.refused) i.turn in
     let m = c.take_turns.new.machine in
-    let turn = c.take_turns.new.turn in
+    let new = c.run_dispatch-in-loop-progress.new.machine in
     let image = c.take_turns.ensures.image ∙ i.image in
-    let was : Stands c.loop-progress.machine = (i.so_far.state, i.so_far.stands) in
-    let turns = turns_as c.loop-progress.machine m c.args.limit c.args.events.now None c.loop-progress.turn turn same i.natives c.in_default-take_turns.ensures.turns in
-    let far = turned_on _ outside before mid mid c.loop-progress.machine m c.loop-progress.turn turn i.so_far i.image (ap (λ (t : Turn). t.lines) i.turn) turns in
-    let frame = turned_same c.loop-progress.machine m outside c.loop-progress.turn turn was turns in
-    let stands = turned_stands c.loop-progress.machine m outside c.loop-progress.turn turn was turns in
+    let turned = after_turns _ c.args.events.now c.args.limit (g.W.Sink.out c.args.out.now) (g.W.Sink.out c.loop-progress.out) c.loop-progress.machine c.take_turns.new.machine c.loop-progress.turn c.take_turns.new.turn c.args.turn.now i.so_far i.image i.turn i.natives c.in_default-take_turns.ensures.turns in
     let sent = c.in_ok-progress-2.ensures.some in
     record {
-      so_far = sent_on _ outside before mid _ m c.run_dispatch-in-loop-progress.new.machine turn c.run_dispatch-in-loop-progress.new.turn far image (ap (λ (t : Turn). t.refused) frame ∙ same) _ sent;
+      so_far = sent_on _ _ _ _ _ m new c.take_turns.new.turn c.run_dispatch-in-loop-progress.new.turn turned.0 image (ap (λ (t : Turn). t.refused) turned.1) _ sent;
       agree = c.run_dispatch-in-loop-progress.ensures.agree;
       image = c.run_dispatch-in-loop-progress.ensures.image ∙ image;
       natives = c.run_dispatch-in-loop-progress.ensures.natives ∙ c.take_turns.ensures.natives ∙ i.natives;
-      turn = sent_turn m c.run_dispatch-in-loop-progress.new.machine _ _ _ _ _ stands sent ∙ ap (λ (t : Turn). record t { lines = [] }) frame ∙ ap (λ (t : Turn). record t { lines = [] }) i.turn;
-      as_far = sent_far m c.run_dispatch-in-loop-progress.new.machine _ _ _ _ _ stands sent;
-      rests = sent_rests m c.run_dispatch-in-loop-progress.new.machine _ _ _ _ _ stands sent;
+      turn = sent_turn m new _ _ _ _ _ turned.2 sent ∙ ap (λ (t : Turn). record t { lines = [] }) turned.1;
+      as_far = sent_far m new _ _ _ _ _ turned.2 sent;
+      rests = sent_rests m new _ _ _ _ _ turned.2 sent;
     }

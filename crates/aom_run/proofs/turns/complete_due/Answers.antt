@@ -1,16 +1,16 @@
-use Rattle.std.proofs.Common.{refl, inl, inr, subst, sym, ◌∙◌, ◌<◌, ◌≡◌}
-use Rattle.aom_exec.specs.Steps.{progress, timers}
-use Rattle.aom_parts.specs.declared.progress.Progress.TheVariants.{Turned}
+use Rattle.std.proofs.Common.{inl, inr, refl, subst, sym, ◌<◌}
+use Rattle.aom_exec.specs.Steps.{timers}
 use Rattle.aom_machine.specs.Calls.{Completed as Completes_one}
-use Rattle.aom_run.specs.Turns.{CompletesDue, IsDue}
+use Rattle.aom_run.specs.Turns.{CompletesDue, IsDue, Keeps}
 use Rattle.aom_run.proofs.Between.{completed_far, completed_stands, fewer_then, no_more_then, none_completed, none_still, one_completed, was_due}
+use Rattle.aom_run.proofs.Keeping.{keeps_all, keeps_on}
 use Rattle.aom_run.proofs.turns.complete_due.Goals as goal
 
 pub loop-init : goal.loop-init
-loop-init g c = record { completed = none_completed c.args.machine.now; stands = c.requires.stands; between = c.requires.between; agree = c.requires.agree; image = refl; natives = refl; fewer = inl refl }
+loop-init g c = record { completed = none_completed c.args.machine.now; keeps = keeps_all c.args.machine.now c.requires.rests.0 c.requires.rests.1; agree = c.requires.agree; fewer = inl refl }
 
 pub due-requires : goal.due-requires
-due-requires g c = record { agree = c.loop.invariant.agree; between = c.loop.invariant.between }
+due-requires g c = record { agree = c.loop.invariant.agree; between = c.loop.invariant.keeps.between }
 
 pub loop-smaller : goal.loop-smaller
 loop-smaller g c = c.due.ensures.fewer c.loop-test.true
@@ -20,14 +20,12 @@ loop-preserved g c =
     let i = c.loop.invariant in
     let m = c.loop.machine in
     let new = c.due.new.self in
+    let k = i.keeps in
     let one = subst (λ b. Completes_one m b new) c.loop-test.true c.due.ensures.completed in
     record {
-      completed = one_completed c.args.machine.now m new i.completed i.image one;
-      stands = completed_stands c.args.machine.now m new i.completed i.image one i.stands;
-      between = completed_far c.args.machine.now m new i.completed i.image one i.stands;
+      completed = one_completed c.args.machine.now m new i.completed k.image one;
+      keeps = keeps_on k (completed_stands c.args.machine.now m new i.completed k.image one k.stands) (completed_far c.args.machine.now m new i.completed k.image one k.stands) c.due.ensures.image c.due.ensures.natives;
       agree = c.due.ensures.agree;
-      image = c.due.ensures.image ∙ i.image;
-      natives = c.due.ensures.natives ∙ i.natives;
       fewer = inr (fewer_then c.args.machine.now m new i.fewer (c.due.ensures.fewer c.loop-test.true));
     }
 
@@ -40,10 +38,8 @@ returns g c =
     let same = sym none.0 in
     record {
       agree = c.due.ensures.agree;
-      image = c.due.ensures.image ∙ i.image;
-      natives = c.due.ensures.natives ∙ i.natives;
+      kept = subst (λ x. Keeps c.args.machine.now x) same i.keeps;
       completed = subst (λ x. CompletesDue c.args.machine.now x) same i.completed;
-      between = subst (λ x. progress x.core ≡ Turned) same i.between;
       none = none_still m new none.0 none.1;
       no_more = no_more_then c.args.machine.now m new i.fewer none.0;
       falls = subst (λ x. IsDue c.args.machine.now → timers x.core < timers c.args.machine.now.core) same (was_due c.args.machine.now m i.fewer none.1);

@@ -4,19 +4,15 @@ use Rattle.aom_machine.specs.Calls.{Delivered, EventInRange}
 use Rattle.aom_run.specs.Turns.{TellsEnd}
 use Rattle.aom_run.proofs.Between.{come_within, heard_far, heard_fewer, heard_settles, heard_stands, heard_tells, less_to_come, none_settles, settles_both, tells_after}
 use Rattle.aom_run.proofs.Gets.{all_got}
+use Rattle.aom_run.proofs.Keeping.{keeps_on, times_all, times_on}
 use Rattle.aom_run.proofs.turns.hear_due.Goals as goal
 
 pub loop-event-init : goal.loop-event-init
 loop-event-init g c =
     record {
       settled = none_settles c.args.events.now c.args.machine.now;
-      stands = c.requires.stands;
-      between = c.requires.between;
-      none_due = c.requires.none_due;
+      kept = times_all c.args.machine.now c.requires.rests.0 c.requires.rests.1 c.requires.none_due;
       agree = c.requires.agree;
-      image = refl;
-      natives = refl;
-      timers = refl;
       turn = refl;
       fewer = inl refl;
     }
@@ -31,8 +27,8 @@ deliver-requires-clause-ranged g c =
     let come = c.in-Some.ensures.some in
     subst EventInRange come.1 (all_got (λ e. EventInRange e.event) c.args.events.now c.loop-event.machine.core.parts.rest.delivered come.0.0 c.requires.ranged come.0.1)
 
-pub returns-then-deliver-clause-told : goal.returns-then-deliver-clause-told
-returns-then-deliver-clause-told g c = λ told.
+pub returns-then-deliver-clause-heard : goal.returns-then-deliver-clause-heard
+returns-then-deliver-clause-heard g c =
     let i = c.loop-event.invariant in
     let m = c.loop-event.machine in
     let new = c.deliver.new.self in
@@ -41,16 +37,18 @@ returns-then-deliver-clause-told g c = λ told.
     let come = c.in-Some.ensures.some in
     let takes = subst (λ event. Delivered m event c.loop-event.turn now new) (sym come.1) e.delivered in
     subst (λ t. TellsEnd c.args.events.now c.args.machine.now t now new) i.turn
-    (tells_after c.args.events.now c.args.machine.now m i.image i.natives i.settled c.loop-event.turn now new (heard_tells c.args.events.now m new c.loop-event.turn now i.none_due come.0 takes e.rest))
+    (tells_after c.args.events.now c.args.machine.now m i.kept.keeps.image i.kept.keeps.natives i.settled c.loop-event.turn now new (heard_tells c.args.events.now m new c.loop-event.turn now i.kept.none_due come.0 takes e.rest))
 
-pub returns-then-deliver-clause-between : goal.returns-then-deliver-clause-between
-returns-then-deliver-clause-between g c =
+pub returns-then-deliver-clause-kept : goal.returns-then-deliver-clause-kept
+returns-then-deliver-clause-kept g c =
     let i = c.loop-event.invariant in
     let m = c.loop-event.machine in
     let e = c.deliver.ensures in
     let come = c.in-Some.ensures.some in
     let takes = subst (λ event. Delivered m event c.loop-event.turn c.deliver.new.turn c.deliver.new.self) (sym come.1) e.delivered in
-    heard_far c.args.events.now m c.deliver.new.self c.loop-event.turn c.deliver.new.turn i.none_due come.0 takes e.rest i.stands
+    let none = i.kept.none_due in
+    let k = i.kept.keeps in
+    keeps_on k (heard_stands c.args.events.now m c.deliver.new.self c.loop-event.turn c.deliver.new.turn none come.0 takes e.rest k.stands) (heard_far c.args.events.now m c.deliver.new.self c.loop-event.turn c.deliver.new.turn none come.0 takes e.rest k.stands) e.image e.natives
 
 pub loop-event-smaller : goal.loop-event-smaller
 loop-event-smaller g c =
@@ -59,11 +57,13 @@ loop-event-smaller g c =
     let e = c.deliver.ensures in
     let come = c.in-Some.ensures.some in
     let takes = subst (λ event. Delivered m event c.loop-event.turn c.deliver.new.turn c.deliver.new.self) (sym come.1) e.delivered in
-    heard_fewer c.args.events.now m c.deliver.new.self c.loop-event.turn c.deliver.new.turn i.none_due come.0 takes e.rest
+    heard_fewer c.args.events.now m c.deliver.new.self c.loop-event.turn c.deliver.new.turn i.kept.none_due come.0 takes e.rest
 
 pub loop-event-preserved : goal.loop-event-preserved
 loop-event-preserved g c =
     let i = c.loop-event.invariant in
+    let k = i.kept.keeps in
+    let none = i.kept.none_due in
     let old = c.args.machine.now in
     let m = c.loop-event.machine in
     let new = c.deliver.new.self in
@@ -75,14 +75,9 @@ loop-event-preserved g c =
     let takes = subst (λ event. Delivered m event told now new) (sym come.1) e.delivered in
     let quiet = e.quiet c.if-deliver.false in
     record {
-      settled = settles_both events old m i.image i.natives i.settled new (heard_settles events m new told now i.none_due come.0 takes e.rest quiet);
-      stands = heard_stands events m new told now i.none_due come.0 takes e.rest i.stands;
-      between = heard_far events m new told now i.none_due come.0 takes e.rest i.stands;
-      none_due = e.none_due c.if-deliver.false i.none_due;
+      settled = settles_both events old m k.image k.natives i.settled new (heard_settles events m new told now none come.0 takes e.rest quiet);
+      kept = times_on i.kept (keeps_on k (heard_stands events m new told now none come.0 takes e.rest k.stands) (heard_far events m new told now none come.0 takes e.rest k.stands) e.image e.natives) (e.none_due c.if-deliver.false none) e.timers;
       agree = e.agree;
-      image = e.image ∙ i.image;
-      natives = e.natives ∙ i.natives;
-      timers = e.timers ∙ i.timers;
       turn = quiet ∙ i.turn;
-      fewer = inr (less_to_come events old m new i.fewer (heard_fewer events m new told now i.none_due come.0 takes e.rest));
+      fewer = inr (less_to_come events old m new i.fewer (heard_fewer events m new told now none come.0 takes e.rest));
     }

@@ -2,8 +2,7 @@ use Rattle.std.proofs.Common.{ap, arith, length, subst, sym, true, Some, ◌∙�
 use Rattle.aom_transcript.specs.declared.line.Ending.TheVariants.{Waiting}
 use Rattle.aom_lines.specs.Turn.{Turn}
 use Rattle.aom_machine.specs.Calls.{Picked, natives_of}
-use Rattle.aom_run.specs.Turns.{TakesTurns, TellsEnd, hearing, waiting}
-use Rattle.aom_run.proofs.Between.{stands_settled}
+use Rattle.aom_run.specs.Turns.{HearsAll, TakesTurns, hearing, waiting}
 use Rattle.aom_run.proofs.Resting.{dispatches_one, ends_told, limit_cuts, no_earlier, none_picked, passed_far, passed_late, passed_stands, passed_to_come, rests_on, tells_on, waits_on}
 use Rattle.aom_run.proofs.turns.take_turns.Goals as goal
 
@@ -19,7 +18,7 @@ returns-then-settle-clause-turns g c =
     let under = c.if-dispatches-from.false in
     let limit = c.from.ensures in
     let dispatches = c.dispatches.ensures in
-    ends_told c.args.machine.now c.settle.new.machine c.args.events.now c.args.turn.now.refused c.args.limit c.args.turn.now c.settle.new.turn (omega (arith, under, limit, dispatches)) (c.settle.ensures.told c.if-settle.true)
+    ends_told c.args.machine.now c.settle.new.machine c.args.events.now c.args.turn.now.refused c.args.limit c.args.turn.now c.settle.new.turn (omega (arith, under, limit, dispatches)) (subst (λ b. HearsAll b c.args.events.now c.args.machine.now c.args.turn.now c.settle.new.turn c.settle.new.machine) c.if-settle.true c.settle.ensures.heard)
 
 pub loop-limit-init : goal.loop-limit-init
 loop-limit-init g c =
@@ -28,20 +27,21 @@ loop-limit-init g c =
     let dispatches = c.dispatches.ensures in
     let done = c.settle.ensures in
     let quiet = c.if-settle.false in
+    let all = subst (λ b. HearsAll b c.args.events.now c.args.machine.now c.args.turn.now c.settle.new.turn c.settle.new.machine) quiet done.heard in
     record {
       rests = record {
         below = omega (arith, under, limit, dispatches);
-        far = done.settled quiet;
-        stands = stands_settled c.args.events.now c.args.machine.now c.settle.new.machine (done.settled quiet) c.requires.stands;
-        between = done.between;
-        none_due = done.none_due quiet;
-        none_come = done.none_come quiet;
+        far = all.1;
+        stands = done.kept.stands;
+        between = done.kept.between;
+        none_due = all.2;
+        none_come = all.3;
         polled = done.polled quiet;
-        image = done.image;
-        natives = done.natives;
+        image = done.kept.image;
+        natives = done.kept.natives;
       };
       agree = done.agree;
-      turn = done.quiet quiet;
+      turn = all.0;
     }
 
 pub pick-requires : goal.pick-requires
@@ -91,8 +91,10 @@ settle-requires-in-loop-limit g c =
     let e = c.set_clock.ensures in
     record {
       agree = e.agree;
-      stands = passed_stands c.args.machine.now c.pick.new.self c.args.events.now c.args.turn.now.refused c.args.limit k.0 k.2 c.next_time.result c.next_time.ensures c.in-Some.time c.in-Some.is c.set_clock.new.self e.image e.passed;
-      between = passed_far c.args.machine.now c.pick.new.self c.args.events.now c.args.turn.now.refused c.args.limit k.0 k.2 c.next_time.result c.next_time.ensures c.in-Some.time c.in-Some.is c.set_clock.new.self e.image e.passed;
+      rests = (
+        passed_stands c.args.machine.now c.pick.new.self c.args.events.now c.args.turn.now.refused c.args.limit k.0 k.2 c.next_time.result c.next_time.ensures c.in-Some.time c.in-Some.is c.set_clock.new.self e.image e.passed,
+        passed_far c.args.machine.now c.pick.new.self c.args.events.now c.args.turn.now.refused c.args.limit k.0 k.2 c.next_time.result c.next_time.ensures c.in-Some.time c.in-Some.is c.set_clock.new.self e.image e.passed,
+      );
       ranged = c.requires.ranged;
       room = subst (λ (t : Turn). length t.lines < t.room) (sym (k.1 ∙ c.loop-limit.invariant.turn)) c.requires.room;
     }
@@ -105,11 +107,11 @@ returns-then-settle-2 g c =
     let done = c.settle-in-loop-limit.ensures in
     let new = c.settle-in-loop-limit.new.machine in
     let now = c.settle-in-loop-limit.new.turn in
-    let tells = subst (λ t. TellsEnd c.args.events.now c.set_clock.new.self t now new) (k.1 ∙ i.turn) (done.told c.if-settle-2.true) in
+    let tells = subst (λ t. HearsAll true c.args.events.now c.set_clock.new.self t now new) (k.1 ∙ i.turn) (subst (λ b. HearsAll b c.args.events.now c.set_clock.new.self c.pick.new.turn now new) c.if-settle-2.true done.heard) in
     record {
       agree = done.agree;
-      image = done.image ∙ e.image ∙ k.0.image;
-      natives = done.natives ∙ e.natives ∙ k.0.natives;
+      image = done.kept.image ∙ e.image ∙ k.0.image;
+      natives = done.kept.natives ∙ e.natives ∙ k.0.natives;
       turns = tells_on c.args.machine.now c.pick.new.self c.args.events.now c.args.turn.now.refused c.args.limit k.0 k.2 c.next_time.result c.next_time.ensures c.in-Some.time c.in-Some.is c.set_clock.new.self e.image e.passed e.natives new c.args.turn.now now tells;
     }
 
@@ -131,9 +133,10 @@ loop-limit-preserved g c =
     let e = c.set_clock.ensures in
     let done = c.settle-in-loop-limit.ensures in
     let quiet = c.if-settle-2.false in
+    let all = subst (λ b. HearsAll b c.args.events.now c.set_clock.new.self c.pick.new.turn c.settle-in-loop-limit.new.turn c.settle-in-loop-limit.new.machine) quiet done.heard in
     record {
       rests = rests_on c.args.machine.now c.pick.new.self c.args.events.now c.args.turn.now.refused c.args.limit k.0 k.2 c.next_time.result c.next_time.ensures c.in-Some.time c.in-Some.is c.set_clock.new.self e.image e.passed
-          e.natives c.settle-in-loop-limit.new.machine (done.settled quiet) done.between (done.none_due quiet) (done.none_come quiet) (done.polled quiet) done.image done.natives;
+          e.natives c.settle-in-loop-limit.new.machine all.1 done.kept.between all.2 all.3 (done.polled quiet) done.kept.image done.kept.natives;
       agree = done.agree;
-      turn = done.quiet quiet ∙ k.1 ∙ i.turn;
+      turn = all.0 ∙ k.1 ∙ i.turn;
     }

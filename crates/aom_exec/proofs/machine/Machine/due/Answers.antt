@@ -1,18 +1,12 @@
 -- The timer that is due first completes the request of its object.
-use Rattle.std.proofs.Common.{subst, sym, ◌≡◌}
-use Rattle.aom_parts.specs.declared.progress.Progress.TheVariants.{Turned}
+use Rattle.std.proofs.Common.{subst}
 use Rattle.aom_parts.specs.Stands.{Machine}
-use Rattle.aom_exec.specs.Steps.{progress}
 use Rattle.aom_exec.specs.Turns.{Completed}
-use Rattle.aom_exec.proofs.Agreeing.{agrees_in_all}
 use Rattle.aom_exec.proofs.Turning.{completed_again}
 use Rattle.aom_exec.proofs.machine.Machine.due.Goals as goal
 
 pub due-requires-clause-stands : goal.due-requires-clause-stands
 due-requires-clause-stands c = (c.self.inside.accepted.now, c.self.invariant)
-
-pub due-requires-clause-between : goal.due-requires-clause-between
-due-requires-clause-between c = subst (λ (m : Machine). progress m ≡ Turned) (sym c.self.view_is) c.requires
 
 pub invariant_of-self : goal.invariant_of-self
 invariant_of-self c =
@@ -23,6 +17,3 @@ pub returns-clause-completed : goal.returns-clause-completed
 returns-clause-completed c =
     let p = c.self.inside.accepted.now in
     subst (λ (m : Machine). Completed m c.due.result (record { image = p; parts = c.due.new.parts })) c.self.view_is (c.due.ensures.completed p)
-
-pub returns-clause-agrees : goal.returns-clause-agrees
-returns-clause-agrees c = agrees_in_all _

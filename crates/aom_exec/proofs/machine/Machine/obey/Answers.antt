@@ -1,40 +1,28 @@
 -- A client does what it is told.
-use Rattle.std.proofs.Common.{None, Option, Some, ap, arith, length, subst, sym, ℕ, ◌++◌, ◌≡◌, ◌≤◌}
+use Rattle.std.proofs.Common.{refl, None, Option, Some, ap, arith, length, subst, ℕ, ◌++◌, ◌≡◌, ◌≤◌}
 use Rattle.std.proofs.lemmas.List.{length-append}
 use Rattle.aom_clients.specs.declared.refusal.Refusal.{Refusal}
 use Rattle.aom_sound.specs.Clients.{refusal}
 use Rattle.aom_sound.specs.Lines.{refusal_line}
 use Rattle.aom_sound.specs.State.{Rest, State}
 use Rattle.aom_lines.specs.Turn.{Turn}
-use Rattle.aom_parts.specs.declared.progress.Progress.TheVariants.{Turned}
-use Rattle.aom_parts.specs.Stands.{Machine, Stands, StandsFor}
+use Rattle.aom_parts.specs.Stands.{Machine, StandsFor}
 use Rattle.aom_exec.specs.Clients.{Obeyed}
-use Rattle.aom_exec.specs.Steps.{progress, timers}
+use Rattle.aom_exec.specs.Steps.{timers}
 use Rattle.aom_exec.specs.Turns.{NoneDue}
-use Rattle.aom_exec.proofs.Agreeing.{agrees_in_all}
 use Rattle.aom_exec.proofs.Timers.{none_due_still}
+use Rattle.aom_exec.proofs.Seen.{seen_as}
+use Rattle.aom_image.specs.Image.{Image}
 use Rattle.aom_exec.proofs.machine.Machine.obey.Goals as goal
-
-pub obey-requires-clause-stands : goal.obey-requires-clause-stands
-obey-requires-clause-stands c = subst (λ p. Stands (record { image = p; parts = c.self.inside.parts })) (sym c.linked.ensures) c.self.invariant
-
-pub obey-requires-clause-between : goal.obey-requires-clause-between
-obey-requires-clause-between c = subst (λ (m : Machine). progress m ≡ Turned) (sym c.self.view_is) c.requires.between
 
 pub invariant_of-self : goal.invariant_of-self
 invariant_of-self c =
-    let p = c.self.inside.accepted.now in
-    let m = c.self.inside.parts in
-    let obeyed = subst (λ p. (s : State) → StandsFor (record { image = p; parts = m }) s → Obeyed (record { image = p; parts = m }) s c.args.client c.args.command c.args.turn.now c.obey.new.turn (record { image = p; parts = c.obey.new.parts })) c.linked.ensures c.obey.ensures.obeyed in
+    let obeyed = seen_as (λ (old : Machine) (p : Image). (s : State) → StandsFor old s → Obeyed old s c.args.client c.args.command c.args.turn.now c.obey.new.turn (record { image = p; parts = c.obey.new.parts })) c.linked.ensures refl c.obey.ensures.obeyed in
     let t = obeyed c.self.invariant.0 c.self.invariant.1 in
     (t.2.state, t.2.stands)
 
 pub returns-clause-obeyed : goal.returns-clause-obeyed
-returns-clause-obeyed c =
-    let p = c.self.inside.accepted.now in
-    let m = c.self.inside.parts in
-    let obeyed = subst (λ p. (s : State) → StandsFor (record { image = p; parts = m }) s → Obeyed (record { image = p; parts = m }) s c.args.client c.args.command c.args.turn.now c.obey.new.turn (record { image = p; parts = c.obey.new.parts })) c.linked.ensures c.obey.ensures.obeyed in
-    subst (λ (old : Machine). (s : State) → StandsFor old s → Obeyed old s c.args.client c.args.command c.args.turn.now c.obey.new.turn (record { image = p; parts = c.obey.new.parts })) c.self.view_is obeyed
+returns-clause-obeyed c = seen_as (λ (old : Machine) (p : Image). (s : State) → StandsFor old s → Obeyed old s c.args.client c.args.command c.args.turn.now c.obey.new.turn (record { image = p; parts = c.obey.new.parts })) c.linked.ensures c.self.view_is c.obey.ensures.obeyed
 
 -- a refusal is told by one line
 few_refused : (client : ℕ) (r : Option Refusal) → length (refusal_line client r) ≤ 1
@@ -44,8 +32,7 @@ few_refused client (Some r) = omega arith
 pub returns-clause-told : goal.returns-clause-told
 returns-clause-told c =
     let p = c.self.inside.accepted.now in
-    let m = c.self.inside.parts in
-    let obeyed = subst (λ p. (s : State) → StandsFor (record { image = p; parts = m }) s → Obeyed (record { image = p; parts = m }) s c.args.client c.args.command c.args.turn.now c.obey.new.turn (record { image = p; parts = c.obey.new.parts })) c.linked.ensures c.obey.ensures.obeyed in
+    let obeyed = seen_as (λ (old : Machine) (p : Image). (s : State) → StandsFor old s → Obeyed old s c.args.client c.args.command c.args.turn.now c.obey.new.turn (record { image = p; parts = c.obey.new.parts })) c.linked.ensures refl c.obey.ensures.obeyed in
     let t = obeyed c.self.invariant.0 c.self.invariant.1 in
     let r = refusal p c.args.client c.self.invariant.0 c.args.command in
     let lines : length c.obey.new.turn.lines ≡ length (c.args.turn.now.lines ++ refusal_line c.args.client r) = ap (λ (x : Turn). length x.lines) t.2.lines in
@@ -62,6 +49,3 @@ returns-clause-none_due c =
 
 pub returns-clause-timers : goal.returns-clause-timers
 returns-clause-timers c = subst (λ (old : Machine). timers (record { image = c.self.inside.accepted.now; parts = c.obey.new.parts }) ≡ timers old) c.self.view_is (ap length c.obey.ensures.timers)
-
-pub returns-clause-agrees : goal.returns-clause-agrees
-returns-clause-agrees c = agrees_in_all _

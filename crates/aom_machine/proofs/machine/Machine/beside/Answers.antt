@@ -1,6 +1,5 @@
 -- The natives stand beside the core, each with its box, and owe nothing.
 use Rattle.std.proofs.Common.{rules, ◌<◌, length, arith}
-use Rattle.aom_sound.specs.World.{boot_state}
 use Rattle.aom_machine.proofs.Booted.{count, serves_at_boot}
 use Rattle.aom_machine.proofs.machine.Machine.beside.Goals as goal
 

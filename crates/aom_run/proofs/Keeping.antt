@@ -1,0 +1,29 @@
+-- What a machine between dispatches keeps while parts of a turn go on, one after another.
+use Rattle.std.proofs.Common.{refl, ◌∙◌, ◌≡◌}
+use Rattle.aom_parts.specs.declared.progress.Progress.TheVariants.{Turned}
+use Rattle.aom_exec.specs.Steps.{progress, timers}
+use Rattle.aom_machine.specs.Calls.{NoneIsDue, Stands, natives_of}
+use Rattle.aom_machine.specs.declared.machine.Machine.{Machine}
+use Rattle.aom_run.specs.Turns.{Keeps}
+
+module _ {X : Type 0} {B : X → Type 0} where
+  -- no timer is due either, and as many run
+  pub record KeepsTimers (old new : Machine X B) : Type 0 where
+    pub keeps : Keeps old new
+    pub none_due : NoneIsDue new
+    pub timers : timers new.core ≡ timers old.core
+
+  pub keeps_all : (m : Machine X B) → Stands m → progress m.core ≡ Turned → Keeps m m
+  keeps_all m stands between = record { stands = stands; between = between; image = refl; natives = refl }
+
+  pub keeps_on : {old m new : Machine X B} → Keeps old m → Stands new → progress new.core ≡ Turned → new.core.image ≡ m.core.image → natives_of new ≡ natives_of m → Keeps old new
+  keeps_on was stands between image natives = record { stands = stands; between = between; image = image ∙ was.image; natives = natives ∙ was.natives }
+
+  pub keeps_both : {old m new : Machine X B} → Keeps old m → Keeps m new → Keeps old new
+  keeps_both was then = keeps_on was then.stands then.between then.image then.natives
+
+  pub times_all : (m : Machine X B) → Stands m → progress m.core ≡ Turned → NoneIsDue m → KeepsTimers m m
+  times_all m stands between none = record { keeps = keeps_all m stands between; none_due = none; timers = refl }
+
+  pub times_on : {old m new : Machine X B} → KeepsTimers old m → Keeps old new → NoneIsDue new → timers new.core ≡ timers m.core → KeepsTimers old new
+  times_on was keeps none same = record { keeps = keeps; none_due = none; timers = same ∙ was.timers }
