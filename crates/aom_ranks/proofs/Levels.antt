@@ -7,6 +7,8 @@ use Rattle.aom_image.specs.Views.{is_quiet, leaves, leaves_in, method_at, quiet_
 use Rattle.aom_instructions.specs.declared.instr.Instr.TheVariants.{Call, Cancel, Trap}
 use Rattle.aom_instructions.specs.declared.instr.Target.{Target}
 use Rattle.aom_image.specs.declared.method.Method.{Method}
+use Rattle.aom_image.specs.declared.class.ClassKind.{ClassKind}
+use Rattle.aom_image.specs.declared.method.Role.{Role}
 use Rattle.aom_image.specs.declared.method.Role.TheVariants.{Cancel as Cancel_role, Destruct}
 use Rattle.aom_image.specs.declared.method.Thing.{Thing}
 use Rattle.aom_classes.specs.Calls.{AllBelow, CallsOrdered, RunsBelow}
@@ -95,15 +97,19 @@ record IsQuietThere (p : Image) (m : ℕ) : Type 0 where
   within : m < length p.methods
   quiet : is_quiet p m ≡ true
 
--- a destructor is a quiet method of the image
-quiet_destructor : (p : Image) → IsLinked p → (c m : ℕ) → role_of p c Destruct ≡ Some m → IsQuietThere p m
-unfolding method_at quiet_in
-quiet_destructor p linked c m e =
-    let w = role_found p c m Destruct e in
+-- what plays a role whose shape asks for it is a quiet method of the image
+role_quiet : (p : Image) → IsLinked p → (c m : ℕ) (role : Role) → ((kind : Option ClassKind) (d : Method) → HasShape role kind d → quiet_in (Some d) ≡ true) → role_of p c role ≡ Some m → IsQuietThere p m
+unfolding method_at
+role_quiet p linked c m role quiet e =
+    let w = role_found p c m role e in
     let d = w.0 in
     let shaped : IsShaped p d = all_there (IsShaped p) p.methods m d linked.shapes w.1 in
-    let shape : HasShape Destruct (kind_of p d.class) d = subst (λ r. HasShape r (kind_of p d.class) d) w.3 shaped.role in
-    record { within = slice_get_within p.methods m d w.1; quiet = ap quiet_in w.1 ∙ shape.flags }
+    let shape : HasShape role (kind_of p d.class) d = subst (λ r. HasShape r (kind_of p d.class) d) w.3 shaped.role in
+    record { within = slice_get_within p.methods m d w.1; quiet = ap quiet_in w.1 ∙ quiet (kind_of p d.class) d shape }
+
+quiet_destructor : (p : Image) → IsLinked p → (c m : ℕ) → role_of p c Destruct ≡ Some m → IsQuietThere p m
+unfolding quiet_in
+quiet_destructor p linked c m e = role_quiet p linked c m Destruct (λ kind d shape. shape.flags) e
 
 -- a destructor and the going after it are paid by what goes before a server, with one left
 pub destructed_paid : (p : Image) → IsLinked p → (o : Object) (height : ℕ) (below : List Task) → tasks_rank p (destructed p o height below) + 1 ≤ closing_rank p + waiting_rank p below
@@ -158,13 +164,8 @@ undo_paid p m undo =
 
 -- one is a quiet method of the image
 pub quiet_canceller : (p : Image) → IsLinked p → (c m : ℕ) → role_of p c Cancel_role ≡ Some m → is_quiet p m ≡ true
-unfolding method_at quiet_in
-quiet_canceller p linked c m e =
-    let w = role_found p c m Cancel_role e in
-    let d = w.0 in
-    let shaped : IsShaped p d = all_there (IsShaped p) p.methods m d linked.shapes w.1 in
-    let shape : HasShape Cancel_role (kind_of p d.class) d = subst (λ r. HasShape r (kind_of p d.class) d) w.3 shaped.role in
-    ap quiet_in w.1 ∙ shape.flags
+unfolding quiet_in
+quiet_canceller p linked c m e = (role_quiet p linked c m Cancel_role (λ kind d shape. shape.flags) e).quiet
 
 -- and comes before what cancels by it
 pub canceller_before :
