@@ -1,6 +1,6 @@
 -- A server pays for the sessions with it that are there: they are no more than it may have, and each is of their class.
-use Rattle.std.proofs.Common.{◌≡◌, ◌≤◌, ◌+◌, ◌*◌, ◌∙◌, ℕ, suc, Bool, true, false, cond, List, [], ◌∷◌, length, Option, Some, None, refl, sym, ap, arith, subst}
-use Rattle.std.specs.Prelude.{filter, is_some, not, ◌==◌, ◌&&◌, ◌||◌}
+use Rattle.std.proofs.Common.{◌≡◌, ◌≤◌, ◌+◌, ◌*◌, ◌∙◌, ℕ, Bool, true, false, cond, List, [], ◌∷◌, length, Option, Some, None, refl, sym, ap, arith, subst}
+use Rattle.std.specs.Prelude.{filter, is_some, not, ◌==◌, ◌&&◌}
 use Rattle.std.proofs.lemmas.Bool.{eqb-true, ne_eqb}
 use Rattle.std.proofs.Math.Nat.{mul-le-mul_right}
 use Rattle.aom_image.specs.Image.{Image}
@@ -40,16 +40,15 @@ module _ (p : Image) (t : Typing) (cs : List Cell) (n client : ℕ) (o x : Objec
   abbrev Has : Kind → Type 0
   Has k = Fits p (seen cs) (Some x) k → HasIt
 
+  -- where something is owned, nothing is not what is claimed
+  owns : (b : Bool) (k : Kind) → Fits p (seen cs) (Some x) (cond b k Null) → (b ≡ true) × Fits p (seen cs) (Some x) k
+  owns true k f = grind arith
+
   of_declared : Has (declared p cs (Elsewhere (Session n client)))
-  of_declared f = go (has_session (service_of cs n) client) refl (subst (λ y. Fits p (seen cs) (Some x) (cond (has_session (service_of cs n) client) (filled (session_thing p y) Full) Null)) lives f)
-    where
-      go : (b : Bool) → has_session (service_of cs n) client ≡ b → Fits p (seen cs) (Some x) (cond b (filled (session_thing p (Some o)) Full) Null) → HasIt
-      go true e f = (e, f)
-      go false e f = absurd f
+  of_declared f = owns (has_session (service_of cs n) client) (filled (session_thing p (Some o)) Full) (subst (λ y. Fits p (seen cs) (Some x) (cond (has_session (service_of cs n) client) (filled (session_thing p y) Full) Null)) lives f)
 
   of_cond : (b : Bool) (k : Kind) → Has k → Has (cond b Null k)
-  of_cond true k h f = absurd f
-  of_cond false k h f = h f
+  of_cond true k h f = grind arith
 
   -- a server that goes has those sessions alone that are left
   of_ending :
@@ -57,15 +56,15 @@ module _ (p : Image) (t : Typing) (cs : List Cell) (n client : ℕ) (o x : Objec
       Has (cond (y.name == n) (cond (is_among client left) (filled (session_thing p (Some y)) Full) Null) below)
   of_ending y left ends below has f = go (y.name == n) refl f
     where
-      ours : y.name ≡ n → (b : Bool) → is_among client left ≡ b → Fits p (seen cs) (Some x) (cond b (filled (session_thing p (Some y)) Full) Null) → HasIt
-      ours e true among f =
+      ours : y.name ≡ n → Fits p (seen cs) (Some x) (cond (is_among client left) (filled (session_thing p (Some y)) Full) Null) → HasIt
+      ours e f =
+          let owned = owns (is_among client left) (filled (session_thing p (Some y)) Full) f in
           let one : Some y ≡ Some o = sym ends.lives ∙ ap (λ k. named cs k) e ∙ lives in
           let same : y ≡ o = cc in
-          (ap (λ k. has_session (service_of cs k) client) (sym e) ∙ ends.listed client among, subst (λ z. Fits p (seen cs) (Some x) (filled (session_thing p (Some z)) Full)) same f)
-      ours e false among f = absurd f
+          (ap (λ k. has_session (service_of cs k) client) (sym e) ∙ ends.listed client owned.0, subst (λ z. Fits p (seen cs) (Some x) (filled (session_thing p (Some z)) Full)) same owned.1)
 
       go : (b : Bool) → (y.name == n) ≡ b → Has (cond b (cond (is_among client left) (filled (session_thing p (Some y)) Full) Null) below)
-      go true e f = ours (eqb-true y.name n e) (is_among client left) refl f
+      go true e f = ours (eqb-true y.name n e) f
       go false e f = has f
 
   of_dispatch : (d : Dispatch) (below : Kind) → Has below → Has (by_close d n client below)
@@ -83,23 +82,13 @@ module _ (p : Image) (t : Typing) (cs : List Cell) (n client : ℕ) (o x : Objec
 
 -- ---- how many are there
 
+no_more_parted : (client : ℕ) (xs : List ℕ) → length (filter (is_other client) xs) ≤ length xs
+no_more_parted client [] = omega arith
+no_more_parted client (y ∷ xs) = grind (arith, no_more_parted client xs)
+
 fewer_parted : (client : ℕ) (xs : List ℕ) → is_among client xs ≡ true → 1 + length (filter (is_other client) xs) ≤ length xs
 fewer_parted client [] e = cc
-fewer_parted client (y ∷ xs) e = go (y == client) refl e (λ h. fewer_parted client xs h)
-  where
-    no_more : (ys : List ℕ) → length (filter (is_other client) ys) ≤ length ys
-    no_more [] = omega arith
-    no_more (z ∷ ys) = go (z == client) (no_more ys)
-      where
-        go : (b : Bool) → length (filter (is_other client) ys) ≤ length ys → length (cond (not b) (z ∷ filter (is_other client) ys) (filter (is_other client) ys)) ≤ suc (length ys)
-        go true less = omega (arith, less)
-        go false less = omega (arith, less)
-
-    go :
-        (b : Bool) → (y == client) ≡ b → (b || is_among client xs) ≡ true → (is_among client xs ≡ true → 1 + length (filter (is_other client) xs) ≤ length xs) →
-        1 + length (cond (not b) (y ∷ filter (is_other client) xs) (filter (is_other client) xs)) ≤ suc (length xs)
-    go true is e less = omega (arith, no_more xs)
-    go false is e less = omega (arith, less e)
+fewer_parted client (y ∷ xs) e = grind (arith, no_more_parted client xs, fewer_parted client xs)
 
 -- each of them is among those clients' and costs no more than that
 module _ (c : Prices) (n most : ℕ) where
@@ -161,33 +150,14 @@ FewSeats p cs = (o : Object) → named cs o.name ≡ Some o → seats_taken (ser
 
 sessions_paid : (p : Image) (cost : ℕ → ℕ) (x : Thing) (session : ℕ) → session_class p x ≡ Some session → sessions_cost p cost x ≡ most_of (thing_kind p x) * cost session
 unfolding kind_of sessions_in sessions_of
-sessions_paid p cost Message session e = cc
-sessions_paid p cost (An_object_of k) session e = go (kind_at p k) refl e
-  where
-    go : (d : Option ClassKind) → kind_at p k ≡ d → sessions_in d ≡ Some session → perhaps_sessions cost (kind_at p k) ≡ most_of (kind_at p k) * cost session
-    go (Some (Server most y budget)) at e = let same : y ≡ session = cc in ap (λ d. perhaps_sessions cost d) at ∙ ap (λ i. most * cost i) same ∙ sym (ap (λ d. most_of d * cost session) at)
-    go _ at e = cc
+sessions_paid p cost x session e = grind arith
 
 module _ (p : Image) (t : Typing) (c : Prices) (priced : IsPriced p t c) (cs : List Cell) (ls : List Layer) (good : Good p t cs ls) (few : FewSeats p cs) where
   few_sessions : (o : Object) → named cs o.name ≡ Some o → is_server p o.thing ≡ true → sessions_left c o.name cs ≤ sessions_cost p (λ k. c.destruction (An_object_of k)) o.thing
   few_sessions o lives server = go (session_class p o.thing) refl server
     where
       go : (k : Option ℕ) → session_class p o.thing ≡ k → is_some k ≡ true → sessions_left c o.name cs ≤ sessions_cost p (λ k. c.destruction (An_object_of k)) o.thing
-      go None at e = cc
-      go (Some k) at e =
-          let most = c.destruction (An_object_of k) in
-          let those = counted c o.name most cs (service_of cs o.name).sessions good.tidy all in
-          let seats = few o lives in
-          let enough : length (service_of cs o.name).sessions * most ≤ most_of (thing_kind p o.thing) * most = mul-le-mul_right most (omega (arith, seats)) in
-          omega (arith, those, enough, sessions_paid p (λ k. c.destruction (An_object_of k)) o.thing k at)
-        where
-          all : Sessions c o.name (c.destruction (An_object_of k)) cs (service_of cs o.name).sessions
-          all client x there =
-              let has =
-              of_claim p t cs o.name client o x lives Now ls good.stack
-              (subst (λ y. Fits p (seen cs) y (claim p (declared p cs) ls (Elsewhere (Session o.name client)))) there (good.fits (Elsewhere (Session o.name client)))) in
-              let fits = subst (λ y. Fits p (seen cs) (Some x) (filled (of_class y) Full)) at has.1 in
-              (has.0, priced.stands_in x.thing (An_object_of k) fits.0)
+      go x at e = grind arith
 
   -- where it comes to the place of its going, it stands there with them
   pub stands_at_going :
