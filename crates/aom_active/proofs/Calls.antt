@@ -1,5 +1,5 @@
 -- Each call: what the three parts are after it.
-use Rattle.std.proofs.Common.{◌≡◌, ◌<◌, ◌==◌, ◌&&◌, ℕ, ℤ, pos, negsuc, Bool, true, false, not, cond, List, [], ◌∷◌, Option, Some, None, refl, sym, ap, ◌∙◌, subst}
+use Rattle.std.proofs.Common.{◌≡◌, ◌<◌, ◌==◌, ℕ, ℤ, pos, negsuc, Bool, true, false, not, cond, List, [], ◌∷◌, Option, Some, None, refl, sym, ap, ◌∙◌, subst, arith}
 use Rattle.std.specs.Prelude.{All, AllPairs, IsNone, is_some}
 use Rattle.std.specs.Ordering.{int_eq}
 use Rattle.std.proofs.lemmas.Bool.{eqb-true, false≢true}
@@ -17,7 +17,6 @@ use Rattle.aom_scheduler.specs.Pending.{AreInOrder, Pending, due_by, due_of, lef
 use Rattle.aom_scheduler.specs.declared.timer.Timer.{Timer as Held_timer}
 use Rattle.aom_scheduler.proofs.Items.{AreDistinct, IsAbsent, place-absent}
 use Rattle.aom_sound.specs.Enlisted.{aborted, cancelled, cancelling, completed_at_once, completed_with, recorded, taken_up, timed_out, waits}
-use Rattle.aom_sound.specs.Enlisted.{is_idle}
 use Rattle.aom_sound.specs.Natives.{is_owed}
 use Rattle.aom_sound.specs.Places.{Request}
 use Rattle.aom_active.specs.Aborts.{aborted_request}
@@ -36,9 +35,7 @@ record IsIn (h : Option Held_request) (s : State) : Type 0 where
   is : h ≡ Some (Held_object s status)
 
 in_state : (h : Option Held_request) (s : State) → state_of h ≡ Some s → IsIn h s
-in_state None s e = cc
-in_state (Some (Held_object x status)) s e = record { status = status; is = ap (λ y. Some (Held_object y status)) (same_Some x s e) }
-in_state (Some (Held_server b)) s e = cc
+in_state x s e = grind arith
 
 -- an object's request in any state
 record IsObject (h : Option Held_request) : Type 0 where
@@ -50,23 +47,17 @@ an_object x status = record { state = x; in_it = record { status = status; is = 
 
 -- what is no server's is an object's, so is what is pending and what is being cancelled
 some_object : (h : Option Held_request) → is_server h ≡ false → is_some h ≡ true → IsObject h
-some_object None plain some = cc
-some_object (Some (Held_object x status)) plain some = an_object x status
-some_object (Some (Held_server b)) plain some = cc
+some_object x plain some = grind arith
 
 pending_object : (h : Option Held_request) → is_pending h ≡ true → IsObject h
-pending_object (Some (Held_object x status)) e = an_object x status
-pending_object _ e = cc
+pending_object x e = grind arith
 
 cancelled_object : (h : Option Held_request) → is_being_cancelled h ≡ true → IsObject h
-cancelled_object (Some (Held_object x status)) e = an_object x status
-cancelled_object _ e = cc
+cancelled_object x e = grind arith
 
 -- a server has a signal as it is ready
 server_is : (h : Option Held_request) → is_server h ≡ true → h ≡ Some (Held_server (is_ready h))
-server_is (Some (Held_server b)) e = refl
-server_is (Some (Held_object x status)) e = cc
-server_is None e = cc
+server_is x e = grind arith
 
 -- what an object's request becomes is told where its phase and its status are
 object_tells :
@@ -77,9 +68,7 @@ object_tells x y u v r q (Some waits) becomes tells = absurd tells
 
 -- what is being cancelled is not ready
 cancelled_waits : (h : Option Held_request) → is_being_cancelled h ≡ true → is_ready h ≡ false
-cancelled_waits (Some (Held_object Held_cancelling status)) e = refl
-cancelled_waits (Some (Held_object Held_aborted status)) e = refl
-cancelled_waits _ e = cc
+cancelled_waits x e = grind arith
 
 -- a request that is completed may stand in any state
 completed_stands : (x : State) (status : ℤ) → int_eq status pending ≡ false → may_stand (Some (Held_object x status)) ≡ true
@@ -97,30 +86,11 @@ kept_is_over code = go (int_eq code pending) refl
     go false e = e
 
 none_of : {A : Type 0} (o : Option A) → is_some o ≡ false → o ≡ None
-none_of None e = refl
-none_of (Some x) e = cc
+none_of x e = grind arith
 
 -- a request that is pending is outstanding
 owed : (h : Option Held_request) (r : Option Request) (waits : Option Bool) → may_stand h ≡ true → Tells h r waits → is_pending h ≡ is_owed r
-owed None None waits stand tells = refl
-owed None (Some r) waits stand tells = absurd tells
-owed (Some h) None waits stand tells = absurd tells
-owed (Some (Held_server b)) (Some r) None stand tells = absurd tells
-owed (Some (Held_server b)) (Some r) (Some waits) stand tells = sym (ap (λ q. not (is_idle q) && int_eq r.status pending) tells.0)
-owed (Some (Held_object x status)) (Some r) (Some waits) stand tells = absurd tells
-owed (Some (Held_object x status)) (Some r) None stand tells =
-    by x stand ∙ ap (λ q. not (is_idle q) && int_eq status pending) tells.0 ∙ ap (λ v. not (is_idle r.phase) && int_eq v pending) tells.1
-  where
-    over : (b : Bool) → not b ≡ true → false ≡ b
-    over true e = cc
-    over false e = refl
-
-    by : (x : State) → may_stand (Some (Held_object x status)) ≡ true → is_pending (Some (Held_object x status)) ≡ (not (is_idle (phase_of x)) && int_eq status pending)
-    by Held_idle stand = refl
-    by Held_issued stand = refl
-    by Held_active stand = refl
-    by Held_cancelling stand = refl
-    by Held_aborted stand = over (int_eq status pending) stand
+owed x y waits stand tells = grind arith
 
 pub is_outstanding : {old : Active} (a : Active) → a ≡ old → IsWhole a → (id : ℕ) (asked : ℕ → Option Request) (queues : ℕ → Option Bool) → StandsFor old asked queues → is_pending (request_at a.table id) ≡ is_owed (asked id)
 is_outstanding a same w id asked queues s = owed (request_at a.table id) (asked id) (queues id) (w.requests id) ((subst (λ x. StandsFor x asked queues) (sym same) s).tells id)
@@ -345,13 +315,7 @@ module _ {old : Active} (a : Active) (same : a ≡ old) (w : IsWhole a) (id : �
       (λ x v e. object_tells o.state Held_idle o.in_it.status o.in_it.status x (taken_up x) v (λ phase status. (refl, status)) (subst (λ h. Tells h (Some x) v) o.in_it.is e)) (λ x. (refl, refl)))
     where
       ready_is_over : (h : Option Held_request) → is_ready h ≡ true → is_pending h ≡ false
-      ready_is_over (Some (Held_object Held_active status)) e = go (int_eq status pending) e
-        where
-          go : (b : Bool) → not b ≡ true → b ≡ false
-          go true e = cc
-          go false e = refl
-      ready_is_over (Some (Held_server b)) e = refl
-      ready_is_over _ e = cc
+      ready_is_over x e = grind arith
 
 module _ {old : Active} (a : Active) (same : a ≡ old) (w : IsWhole a) where
   -- the timer that is due first, and the pick
@@ -427,8 +391,7 @@ module _ {old : Active} (a : Active) (same : a ≡ old) (w : IsWhole a) (id : �
       absent = place-absent (λ e. e.id) id a.roster.entries (none_of (place id a.roster) (w.enlisted id ∙ ap is_some free))
 
       unasked : (o : Option Request) (v : Option Bool) → Tells None o v → timer_in o ≡ None
-      unasked None v tells = refl
-      unasked (Some x) v tells = absurd tells
+      unasked x v tells = grind arith
 
       stands : (asked : ℕ → Option Request) (queues : ℕ → Option Bool) (order : ℕ) → StandsFor a asked queues → IsNewest order asked → queues id ≡ waits → StandsFor (parts t grown a.pending) (asked_anew id (Some (enlisted_with order priority)) asked) queues
       stands asked queues order s newest here =
@@ -468,9 +431,7 @@ module _ {old : Active} (a : Active) (same : a ≡ old) (w : IsWhole a) (id : �
       runs = runs_same a w t id q ch (λ e. absurd (false≢true (sym (ap is_pending was) ∙ e)))
 
       signals : (o : Option Request) (v : Option Bool) (x : Bool) → Tells (Some (Held_server x)) o v → Tells (Some (Held_server b)) o (Some b)
-      signals None v x tells = absurd tells
-      signals (Some y) None x tells = absurd tells
-      signals (Some y) (Some v) x tells = (tells.0, refl)
+      signals y v x tells = grind arith
 
       stands : (asked : ℕ → Option Request) (queues : ℕ → Option Bool) → StandsFor a asked queues → StandsFor (parts t r a.pending) asked (queued_anew id (Some b) queues)
       stands asked queues s =

@@ -15,8 +15,7 @@ use Rattle.aom_active.specs.Meanings.{IsFirstDue, IsNextDue, NoneDue}
 
 -- a request with a timer is among those that have one, and one with none is not
 among_some : (o : Object) (q : Option Request) (t : Timer) (others : Option Timed) → timer_in q ≡ Some t → among_timers o q others ≡ Some (sooner (record { object = o; timer = t }) others)
-among_some o None t others e = cc
-among_some o (Some r) t others e = ap (λ u. among_timers o (Some (record r { timer = u })) others) e
+among_some o x t others e = grind arith
 
 among_none : (o : Object) (q : Option Request) (others : Option Timed) → timer_in q ≡ None → among_timers o q others ≡ others
 among_none o None others e = refl

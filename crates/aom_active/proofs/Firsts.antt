@@ -1,5 +1,5 @@
 -- The first of the timers and the first entry that is ready, as they tell of the requests that they stand for.
-use Rattle.std.proofs.Common.{◌≡◌, ◌≢◌, ◌<◌, ◌≤◌, ◌==◌, ℕ, ℤ, Bool, true, false, cond, List, [], ◌∷◌, length, suc, Option, Some, None, refl, sym, ap, ◌∙◌, subst, arith}
+use Rattle.std.proofs.Common.{◌≡◌, ◌≢◌, ◌<◌, ◌≤◌, ◌==◌, ℕ, ℤ, Bool, true, false, cond, List, [], ◌∷◌, length, Option, Some, None, refl, sym, ap, ◌∙◌, subst, arith}
 use Rattle.std.specs.Prelude.{All, AllPairs, IsSome, is_some, not, ◌&&◌, ◌||◌, nat_le, nat_lt, option_map}
 use Rattle.std.specs.Ordering.{int_eq}
 use Rattle.std.proofs.lemmas.Bool.{eq-eqb, eqb-true, eqb-false, false≢true, true≢false, leb-true, leb-false}
@@ -10,7 +10,7 @@ use Rattle.aom_requests.specs.Requests.{holds_signal, pending, request_at}
 use Rattle.aom_requests.specs.declared.request.State.{State}
 use Rattle.aom_requests.specs.declared.request.State.TheVariants.{Idle as Held_idle, Issued as Held_issued, Active as Held_active, Cancelling as Held_cancelling, Aborted as Held_aborted}
 use Rattle.aom_requests.specs.declared.request.Request.{Request as Held_request}
-use Rattle.aom_requests.specs.declared.request.Request.TheVariants.{Object as Held_object, Server as Held_server}
+use Rattle.aom_requests.specs.declared.request.Request.TheVariants.{Object as Held_object}
 use Rattle.aom_scheduler.specs.Order.{without}
 use Rattle.aom_scheduler.specs.Roster.{first_ready}
 use Rattle.aom_scheduler.specs.Pending.{due_by, due_of, left_by}
@@ -118,21 +118,11 @@ left_some now id (t ∷ ts) distinct e = go (nat_le t.due now) e
 
 -- the first is set no more then
 pub fewer_left : (now id : ℕ) (ts : List Held_timer) → due_by now ts ≡ Some id → length (left_by now ts) < length ts
-fewer_left now id [] e = cc
-fewer_left now id (t ∷ ts) e = go (nat_le t.due now) e
-  where
-    go : (b : Bool) → cond b (Some t.id) None ≡ Some id → length (cond b ts (t ∷ ts)) < suc (length ts)
-    go true e = omega arith
-    go false e = cc
+fewer_left now id x e = grind arith
 
 -- the object of the first that is due has a timer
 pub set_by : (now id : ℕ) (ts : List Held_timer) → due_by now ts ≡ Some id → is_some (due_of id ts) ≡ true
-set_by now id [] e = cc
-set_by now id (t ∷ ts) e = go (nat_le t.due now) e
-  where
-    go : (b : Bool) → cond b (Some t.id) None ≡ Some id → is_some (due_of id (t ∷ ts)) ≡ true
-    go true e = ap (λ b. is_some (cond b (Some t.due) (due_of id ts))) (eq-eqb t.id id (same_Some t.id id e))
-    go false e = cc
+set_by now id x e = grind arith
 
 -- ---- entries
 
@@ -181,21 +171,14 @@ object_ready Held_cancelling v r phase status = ap (λ p. is_active p && not (in
 object_ready Held_aborted v r phase status = ap (λ p. is_active p && not (int_eq r.status pending)) phase
 
 same_ready : (h : Option Held_request) (r : Request) (waits : Option Bool) → Tells h (Some r) waits → Held.is_ready h ≡ goes r waits
-same_ready None r waits tells = absurd tells
-same_ready (Some (Held_object s v)) r None tells = object_ready s v r tells.0 tells.1 ∙ or_nothing (is_ready r)
-same_ready (Some (Held_object s v)) r (Some waits) tells = absurd tells
-same_ready (Some (Held_server b)) r None tells = absurd tells
-same_ready (Some (Held_server b)) r (Some waits) tells = tells.1 ∙ sym (ap (λ p. (is_active p && not (int_eq r.status pending)) || waits) tells.0)
+same_ready x r waits tells = grind arith
 
 -- what is ready is enlisted, and holds a signal
 pub ready_is_some : (h : Option Held_request) → Held.is_ready h ≡ true → is_some h ≡ true
-ready_is_some None e = cc
-ready_is_some (Some h) e = refl
+ready_is_some x e = grind arith
 
 pub ready_signals : (h : Option Held_request) → Held.is_ready h ≡ true → holds_signal h ≡ true
-ready_signals (Some (Held_object Held_active s)) e = e
-ready_signals (Some (Held_server b)) e = e
-ready_signals _ e = cc
+ready_signals x e = grind arith
 
 -- a request that the table tells
 record Told (o : Option Request) (waits : Option Bool) (b : Bool) : Type 0 where
@@ -204,9 +187,7 @@ record Told (o : Option Request) (waits : Option Bool) (b : Bool) : Type 0 where
   ready : goes request waits ≡ b
 
 told : (h : Option Held_request) (o : Option Request) (waits : Option Bool) → Tells h o waits → is_some h ≡ true → Told o waits (Held.is_ready h)
-told h (Some r) waits tells some = record { request = r; is = refl; ready = sym (same_ready h r waits tells) }
-told None None waits tells some = cc
-told (Some h) None waits tells some = absurd tells
+told h x waits tells some = grind arith
 
 module _ (a : Active) (w : IsWhole a) (asked : ℕ → Option Request) (queues : ℕ → Option Bool) (s : StandsFor a asked queues) where
   -- the entry of a request that is ready

@@ -191,5 +191,4 @@ pub nothing_stops : (p : Pending) (id : ℕ) → is_some (due_of id p.timers) �
 nothing_stops p id unset = ap (λ ts. record p { timers = ts }) (sym (without-absent id_of id p.timers (absent-due id p.timers (none_of (due_of id p.timers) unset))))
   where
     none_of : (o : Option ℕ) → is_some o ≡ false → IsNone o
-    none_of None e = refl
-    none_of (Some d) e = cc
+    none_of x e = grind arith

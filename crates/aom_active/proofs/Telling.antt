@@ -1,5 +1,5 @@
 -- What the requests that the active objects stand for tell of the table: what each call requires of it.
-use Rattle.std.proofs.Common.{◌≡◌, ℕ, ℤ, Bool, false, true, Option, Some, None, refl, sym, ap, ◌∙◌, subst}
+use Rattle.std.proofs.Common.{◌≡◌, ℕ, ℤ, Bool, false, true, Option, Some, None, refl, sym, ap, ◌∙◌, subst, arith}
 use Rattle.std.specs.Prelude.{IsSome, is_some}
 use mathlib.Core.Path.{fun_ext}
 use Rattle.std.specs.Ordering.{int_eq}
@@ -45,22 +45,14 @@ same_test held test none some server (Some (Held_server b)) (Some r) None tells 
 same_test held test none some server (Some (Held_server b)) (Some r) (Some waits) tells = server b ∙ ap test (sym tells.0)
 
 tells_some : (h : Option Held_request) (o : Option Request) (waits : Option Bool) → Tells h o waits → is_some h ≡ is_some o
-tells_some None None waits tells = refl
-tells_some None (Some r) waits tells = absurd tells
-tells_some (Some h) None waits tells = absurd tells
-tells_some (Some h) (Some r) waits tells = refl
+tells_some x y waits tells = grind arith
 
 tells_none : (h : Option Held_request) (waits : Option Bool) → Tells h None waits → h ≡ None
-tells_none None waits tells = refl
-tells_none (Some h) waits tells = absurd tells
+tells_none x waits tells = grind arith
 
 -- whether it is a server's
 tells_server : (h : Option Held_request) (r : Request) (waits : Option Bool) → Tells h (Some r) waits → is_server h ≡ is_some waits
-tells_server None r waits tells = absurd tells
-tells_server (Some (Held_object s v)) r None tells = refl
-tells_server (Some (Held_object s v)) r (Some waits) tells = absurd tells
-tells_server (Some (Held_server b)) r None tells = absurd tells
-tells_server (Some (Held_server b)) r (Some waits) tells = refl
+tells_server x r waits tells = grind arith
 
 -- what has a state has a status
 pub has_status : (h : Option Held_request) → IsSome (state_of h) → IsSome (status_of h)
@@ -70,27 +62,13 @@ has_status None some = some
 
 -- an object's, which no server is
 tells_state : (h : Option Held_request) (r : Request) → Tells h (Some r) None → state_of h ≡ Some (held_state r.phase)
-tells_state None r tells = absurd tells
-tells_state (Some (Held_object s v)) r tells = ap Some (same_state s ∙ ap held_state tells.0)
-tells_state (Some (Held_server b)) r tells = absurd tells
+tells_state x r tells = grind arith
 
 tells_status : (h : Option Held_request) (r : Request) → Tells h (Some r) None → status_of h ≡ Some r.status
-tells_status None r tells = absurd tells
-tells_status (Some (Held_object s v)) r tells = ap Some tells.1
-tells_status (Some (Held_server b)) r tells = absurd tells
+tells_status x r tells = grind arith
 
 tells_over : (h : Option Held_request) (r : Request) (waits : Option Bool) → Tells h (Some r) waits → int_eq r.status pending ≡ false → is_pending h ≡ false
-tells_over None r waits tells over = refl
-tells_over (Some (Held_object s v)) r None tells over = go s (ap (λ x. int_eq x pending) tells.1 ∙ over)
-  where
-    go : (s : State) → int_eq v pending ≡ false → is_pending (Some (Held_object s v)) ≡ false
-    go Held_idle e = refl
-    go Held_issued e = e
-    go Held_active e = e
-    go Held_cancelling e = e
-    go Held_aborted e = refl
-tells_over (Some (Held_object s v)) r (Some waits) tells over = absurd tells
-tells_over (Some (Held_server b)) r waits tells over = refl
+tells_over x r waits tells over = grind arith
 
 -- ---- all of them
 
@@ -148,9 +126,7 @@ module _ (a : Active) (asked : ℕ → Option Request) (queues : ℕ → Option 
 
 -- the functions by which they are told do not matter, nor the queue of what is not enlisted
 queue_follows : (h : Option Held_request) (o : Option Request) (v waits : Option Bool) → (is_some o ≡ true → v ≡ waits) → Tells h o v → Tells h o waits
-queue_follows h (Some r) v waits same tells = subst (λ w. Tells h (Some r) w) (same refl) tells
-queue_follows None None v waits same tells = tt
-queue_follows (Some h) None v waits same tells = absurd tells
+queue_follows h x v waits same tells = grind arith
 
 pub standing_follows : StandingFollows
 standing_follows a asked other queues then same waits s =

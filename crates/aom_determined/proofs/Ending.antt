@@ -9,7 +9,7 @@ use Rattle.aom_image.specs.declared.method.Role.TheVariants.{Error as Answers}
 use Rattle.aom_classes.specs.Roles.{destructor_of}
 use Rattle.aom_clients.specs.Nodes.{is_connecting_at}
 use Rattle.aom_clients.specs.declared.client.Client.{Client}
-use Rattle.aom_clients.specs.declared.client.Client.TheVariants.{Closing as Closing_client, Dying as Dying_client, Unconnected}
+use Rattle.aom_clients.specs.declared.client.Client.TheVariants.{Unconnected}
 use Rattle.aom_rules.specs.Typing.{Typing}
 use Rattle.aom_shape.specs.declared.kind.Kind.TheVariants.{Null}
 use Rattle.aom_sound.proofs.ClientsFacts.{IsAt, ServerLives, dying_layers, server_lives}
@@ -154,8 +154,7 @@ pub plain_there : (clients : List Client) (cs : List Cell) (d : Option Dispatch)
 plain_there clients cs d plain all = record { asked = λ n c e. ap (λ b. b || accepts n c d) (all n c e); serves = go d plain }
   where
     go : (d : Option Dispatch) → IsPlain d → IsAtPlace cs d
-    go (Some (Of_server x c stage)) h = absurd h
-    go _ h = tt
+    go x h = grind arith
 
 or_true : (a b : Bool) → b ≡ false → (a || b) ≡ true → a ≡ true
 or_true true b e h = refl
@@ -204,9 +203,7 @@ module _ (p : Image) (s : State) (fit : ClientsFit p s.clients s.cells) (tidy : 
       go false other = others n d other (ap (is_connecting_at n) (sym (client_there c d to s.clients other)) ∙ e)
 
   parting_connecting : (n : ℕ) (x : Client) → is_connecting_at n (at_parting x) ≡ true → is_connecting_at n x ≡ true
-  parting_connecting n (Closing_client server session) e = cc
-  parting_connecting n (Dying_client server session) e = cc
-  parting_connecting n _ e = e
+  parting_connecting n x e = grind arith
 
   stage_there : (x : Seat) (c : ℕ) (stage : Stage) → EndsDispatch p (Of_server x c stage) Now → AreThere s.clients s.cells (Some (Of_server x c stage)) → AllThere (stage_ends x c stage s)
   stage_there x c Accepts ends there = absurd ends

@@ -1,5 +1,5 @@
 -- What is there stays there as a method moves, returns, or is left: connects wait as before, and the same dispatch stands below all.
-use Rattle.std.proofs.Common.{Bool, List, None, Option, Some, [], ap, cond, false, length, refl, subst, suc, sym, true, ℕ, ℤ, ◌&&◌, ◌==◌, ◌∙◌, ◌∷◌, ◌≡◌}
+use Rattle.std.proofs.Common.{Bool, List, None, Option, Some, [], ap, cond, false, length, refl, subst, suc, sym, true, ℕ, ℤ, ◌&&◌, ◌==◌, ◌∙◌, ◌∷◌, ◌≡◌, arith}
 use Rattle.std.proofs.lemmas.Bool.{eqb-true, true≢false}
 use Rattle.std.specs.List.{list_any}
 use Rattle.std.specs.Prelude.{◌||◌}
@@ -143,9 +143,7 @@ module _ (p : Image) (s : State) where
   left_there code _ there = there
 
   arrived_there : (code : ℤ) (ts : List Task) (items : List Item) (u : State) → AreThere s.clients s.cells (dispatch_of ts) → arrived p code ts items s ≡ Goes u → AllThere u
-  arrived_there code (Trapped ∷ Run fr ∷ ts) items u there e = subst AllThere (goes_same _ u e) there
-  arrived_there code (Trapped ∷ Dispatched d ∷ ts) items u there e = subst AllThere (goes_same _ u e) (left_there code d there)
-  arrived_there code _ items u there e = cc
+  arrived_there code x items u there e = grind arith
 
   pub unwound_there : (code : ℤ) (ts : List Task) (items : List Item) (u : State) → AreThere s.clients s.cells (dispatch_of ts) → unwound p code ts s items ≡ Goes u → AllThere u
   unwound_there code ts [] u there e = cc

@@ -1,12 +1,12 @@
 -- As a cell goes: no connect at another server is lost, and a client that connected to this one asks nobody any more.
-use Rattle.std.proofs.Common.{Bool, List, None, Option, Some, [], ap, cond, false, refl, sym, true, ℕ, ◌==◌, ◌∙◌, ◌≡◌}
+use Rattle.std.proofs.Common.{Bool, List, None, Option, Some, [], ap, cond, false, refl, sym, true, ℕ, ◌==◌, ◌∙◌, ◌≡◌, arith}
 use Rattle.std.proofs.lemmas.Bool.{eq-eqb, eqb-true, true≢false}
 use Rattle.std.specs.Prelude.{◌||◌}
 use Rattle.aom_image.specs.Image.{Image}
 use Rattle.aom_clients.specs.Nodes.{is_connecting_at}
 use Rattle.aom_clients.specs.Table.{at_gone}
 use Rattle.aom_clients.specs.declared.client.Client.{Client}
-use Rattle.aom_clients.specs.declared.client.Client.TheVariants.{Closing as Closing_client, Dying, Open, Unconnected}
+use Rattle.aom_clients.specs.declared.client.Client.TheVariants.{Unconnected}
 use Rattle.aom_sound.proofs.ClientsGone.{queue_ended_at, sessions_ended_at}
 use Rattle.aom_sound.proofs.Dropping.{dropped, held_dropped, place_dropped, queue_dropped, tidy_dropped}
 use Rattle.aom_sound.proofs.Maps.{held_lives, same_place-true, same_place_comm}
@@ -70,10 +70,7 @@ module _ (p : Image) (clients : List Client) (cs : List Cell) (tidy : Tidy cs) (
     -- ---- its clients
 
     gone_connecting : (n : ℕ) (x : Client) → is_connecting_at n (at_gone x) ≡ true → is_connecting_at n x ≡ true
-    gone_connecting n (Open server session slots) e = cc
-    gone_connecting n (Closing_client server session) e = cc
-    gone_connecting n (Dying server session) e = cc
-    gone_connecting n _ e = e
+    gone_connecting n x e = grind arith
 
     abbrev then : List Client
     then = sessions_ended (service_of cs o.name).sessions (queue_ended (service_of cs o.name).queue clients)
