@@ -1,20 +1,20 @@
 -- What a class costs by the methods that it has: one that runs is of active objects, and one that accepts of servers.
-use Rattle.std.proofs.Common.{◌≡◌, ◌<◌, ◌≤◌, ◌+◌, ◌∙◌, ℕ, true, false, Option, Some, None, refl, ap, arith, subst, IfSome}
+use Rattle.std.proofs.Common.{◌≡◌, ◌≤◌, ◌+◌, ◌∙◌, ℕ, true, false, Option, Some, None, refl, ap, arith, subst}
 use Rattle.std.specs.Prelude.{is_some, max}
 use Rattle.std.proofs.Math.Nat.{le-max_left, le-max_right}
 use Rattle.aom_image.specs.Image.{Image}
 use Rattle.aom_image.specs.Views.{method_at, class_at}
 use Rattle.aom_image.specs.declared.class.ClassKind.{ClassKind}
-use Rattle.aom_image.specs.declared.class.ClassKind.TheVariants.{Active, Server}
+use Rattle.aom_image.specs.declared.class.ClassKind.TheVariants.{Server}
 use Rattle.aom_image.specs.declared.method.Method.{Method as Method_declared}
 use Rattle.aom_image.specs.declared.method.Role.{Role}
 use Rattle.aom_image.specs.declared.method.Role.TheVariants.{Accept, Error, Run as Handles, Service}
 use Rattle.aom_image.specs.declared.method.Thing.TheVariants.{Object as An_object_of}
-use Rattle.aom_classes.proofs.Facts.{all_there, at_place}
+use Rattle.aom_classes.proofs.Facts.{all_there}
 use Rattle.aom_classes.proofs.Playing.{role_found}
 use Rattle.aom_classes.specs.Linked.{IsLinked}
 use Rattle.aom_classes.specs.Roles.{role_of}
-use Rattle.aom_roles.specs.Classes.{sessions_in, sessions_of, ClassOrdered, is_session, is_session_in, is_session_kind, kind_at, kind_in}
+use Rattle.aom_roles.specs.Classes.{sessions_in, sessions_of, is_session_in, is_session_kind, kind_in}
 use Rattle.aom_roles.specs.Shapes.{HasShape, IsShaped, is_active_in, kind_of}
 use Rattle.aom_prices.specs.Prices.{Prices, perhaps_price, price}
 use Rattle.aom_steps.specs.Payers.{dispatch_price, object_price}
@@ -72,7 +72,19 @@ module _ (p : Image) (linked : IsLinked p) (x : ℕ) where
     server_price session e = go (kind_of p (Some x)) refl e
       where
         go : (k : Option ClassKind) → kind_of p (Some x) ≡ k → sessions_in k ≡ Some session → ServerPrice session
-        go x at e = grind arith
+        go (Some (Server most y budget)) at e =
+            let same : y ≡ session = cc in
+            let a = perhaps_price c (role_of p x Accept) in
+            let b = perhaps_price c (role_of p session Service) in
+            let d = c.destruction (An_object_of session) in
+            let none = no_answer (Some (Server most y budget)) at refl in
+            let is : object_price p c x ≡ max a (max b d) = ap (λ k. dispatch_price p c x k) at ∙ ap (λ i. max a (max (perhaps_price c (role_of p i Service)) (c.destruction (An_object_of i)))) same in
+            record {
+              accepts = omega (arith, none, is, le-max_left a (max b d));
+              attends = omega (arith, none, is, le-max_left b d, le-max_right a (max b d));
+              parts = omega (arith, none, is, le-max_right b d, le-max_right a (max b d));
+            }
+        go _ at e = cc
 
     -- one that accepts is of servers
     pub acceptor_serves : (m : ℕ) → role_of p x Accept ≡ Some m → is_some (sessions_in (kind_of p (Some x))) ≡ true

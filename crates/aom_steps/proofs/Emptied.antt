@@ -22,7 +22,8 @@ module _ (c : Prices) where
       here _ e ih = omega (arith, ih)
 
   no_operations : (items : List Item) → forms items ≡ [] → operations_left c items ≡ 0
-  no_operations x e = grind arith
+  no_operations [] e = refl
+  no_operations (i ∷ items) e = cc
 
   bare : (cs : List Cell) (items : List Item) → ((k : ℕ) → held cs (Entry k) ≡ None) → forms items ≡ [] → objects_left c cs + operations_left c items ≡ 0
   bare cs items none e = omega (arith, no_objects cs none, no_operations items e)

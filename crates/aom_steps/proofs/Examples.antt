@@ -222,7 +222,9 @@ passing m place sh e = (there Passing
 
 enters_method : (m : ℕ) → IsSome (method_at image m) → Leads typing m 0 (entry_shape image m)
 unfolding method_at arguments_in role_in before_in
-enters_method zero some = grind arith
+enters_method zero some = (_, refl, entered Perhaps alike_filling)
+enters_method (suc zero) some = (_, refl, entered Empty perhaps_empty)
+enters_method (suc (suc m)) some = cc
 
 typed : IsTyped image typing
 typed = record { each = passing; entry = enters_method }

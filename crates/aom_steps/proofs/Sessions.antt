@@ -4,11 +4,9 @@ use Rattle.std.specs.Prelude.{filter, is_some, not, ◌==◌, ◌&&◌}
 use Rattle.std.proofs.lemmas.Bool.{eqb-true, ne_eqb}
 use Rattle.std.proofs.Math.Nat.{mul-le-mul_right}
 use Rattle.aom_image.specs.Image.{Image}
-use Rattle.aom_image.specs.declared.class.ClassKind.{ClassKind}
-use Rattle.aom_image.specs.declared.class.ClassKind.TheVariants.{Server}
 use Rattle.aom_image.specs.declared.method.Thing.{Thing}
-use Rattle.aom_image.specs.declared.method.Thing.TheVariants.{Message, Object as An_object_of}
-use Rattle.aom_roles.specs.Classes.{kind_at, sessions_in, sessions_of}
+use Rattle.aom_image.specs.declared.method.Thing.TheVariants.{Object as An_object_of}
+use Rattle.aom_roles.specs.Classes.{sessions_in, sessions_of}
 use Rattle.aom_roles.specs.Shapes.{kind_of}
 use Rattle.aom_rules.specs.Typing.{Typing}
 use Rattle.aom_shape.specs.Kinds.{filled}
@@ -26,7 +24,7 @@ use Rattle.aom_sound.specs.Places.{Cell, Elsewhere, Going, Object, Place, Sessio
 use Rattle.aom_sound.specs.Servers.{has_session, is_among, is_other, is_server, of_class, seats_taken, session_class, session_thing}
 use Rattle.aom_sound.specs.State.{Seat, Dispatch, Of_server, Parts}
 use Rattle.aom_sound.specs.WellTyped.{EndsSessions, Back, Caught, Fits, Gone, Good, Leaves, Now, Returns, Stack}
-use Rattle.aom_prices.specs.Prices.{IsPriced, Prices, perhaps_sessions, sessions_cost}
+use Rattle.aom_prices.specs.Prices.{IsPriced, Prices, sessions_cost}
 use Rattle.aom_steps.specs.Left.{due, is_session_with, sessions_left}
 use Rattle.aom_steps.proofs.Pushed.{moved_less}
 use Rattle.aom_sound.specs.Destruction.{first_session, seat_or}
@@ -42,13 +40,15 @@ module _ (p : Image) (t : Typing) (cs : List Cell) (n client : ℕ) (o x : Objec
 
   -- where something is owned, nothing is not what is claimed
   owns : (b : Bool) (k : Kind) → Fits p (seen cs) (Some x) (cond b k Null) → (b ≡ true) × Fits p (seen cs) (Some x) k
-  owns true k f = grind arith
+  owns true k f = (refl, f)
+  owns false k f = absurd f
 
   of_declared : Has (declared p cs (Elsewhere (Session n client)))
   of_declared f = owns (has_session (service_of cs n) client) (filled (session_thing p (Some o)) Full) (subst (λ y. Fits p (seen cs) (Some x) (cond (has_session (service_of cs n) client) (filled (session_thing p y) Full) Null)) lives f)
 
   of_cond : (b : Bool) (k : Kind) → Has k → Has (cond b Null k)
-  of_cond true k h f = grind arith
+  of_cond true k h f = absurd f
+  of_cond false k h f = h f
 
   -- a server that goes has those sessions alone that are left
   of_ending :
@@ -157,7 +157,21 @@ module _ (p : Image) (t : Typing) (c : Prices) (priced : IsPriced p t c) (cs : L
   few_sessions o lives server = go (session_class p o.thing) refl server
     where
       go : (k : Option ℕ) → session_class p o.thing ≡ k → is_some k ≡ true → sessions_left c o.name cs ≤ sessions_cost p (λ k. c.destruction (An_object_of k)) o.thing
-      go x at e = grind arith
+      go None at e = cc
+      go (Some k) at e =
+          let most = c.destruction (An_object_of k) in
+          let those = counted c o.name most cs (service_of cs o.name).sessions good.tidy all in
+          let seats = few o lives in
+          let enough : length (service_of cs o.name).sessions * most ≤ most_of (thing_kind p o.thing) * most = mul-le-mul_right most (omega (arith, seats)) in
+          omega (arith, those, enough, sessions_paid p (λ k. c.destruction (An_object_of k)) o.thing k at)
+        where
+          all : Sessions c o.name (c.destruction (An_object_of k)) cs (service_of cs o.name).sessions
+          all client x there =
+              let has =
+              of_claim p t cs o.name client o x lives Now ls good.stack
+              (subst (λ y. Fits p (seen cs) y (claim p (declared p cs) ls (Elsewhere (Session o.name client)))) there (good.fits (Elsewhere (Session o.name client)))) in
+              let fits = subst (λ y. Fits p (seen cs) (Some x) (filled (of_class y) Full)) at has.1 in
+              (has.0, priced.stands_in x.thing (An_object_of k) fits.0)
 
   -- where it comes to the place of its going, it stands there with them
   pub stands_at_going :

@@ -24,7 +24,6 @@ use Rattle.aom_steps.specs.Payers.{class_of, payer, price_of}
 use Rattle.aom_steps.proofs.Emptied.{none_at_hand}
 use Rattle.aom_steps.proofs.Paying.{fresh_rounds, begun_left}
 use Rattle.aom_steps.proofs.Pushed.{asked_same, reset_same, moved_less, served_same, withdrawn_same}
-use Rattle.aom_sound.proofs.Things.{stands_same}
 use Rattle.aom_roles.specs.Classes.{sessions_in}
 use Rattle.aom_classes.specs.Roles.{role_of}
 use Rattle.aom_steps.proofs.Classes.{acceptor_serves, plain_session, run_price, server_price}
@@ -113,7 +112,15 @@ module _ (p : Image) (c : Prices) (s : State) (idle : s.tasks ≡ []) where
       by Die = leaves _
 
   passing : (x : Turning) → starts x ≡ false → (u : State) → turned p s x ≡ Goes u → Passed u
-  passing x f u e = grind arith
+  passing Cuts f u e = passed u _ e (idle, refl)
+  passing (Completes o) f u e = passed u _ e (completed timed_out o s.rest)
+  passing Hears f u e = passed u _ e (idle, refl)
+  passing (Kills n) f u e = passed u _ e (killing n)
+  passing (Polls n answer) f u e = polling u n (polled_so p s u n answer e)
+  passing (Obeys client command name) f u e = passed u _ e (obeying client command name)
+  passing (Passes time) f u e = passed u _ e (idle, refl)
+  passing Waits f u e = passed u _ e (idle, refl)
+  passing _ f u e = cc
 
 -- ---- and one that dispatches an object or a server
 
@@ -186,10 +193,16 @@ module _ (p : Image) (t : Typing) (c : Prices) (linked : IsLinked p) (priced : I
   Affords y n = n + perhaps_price c (part_of p Error y) ≤ price_of p c (class_of y)
 
   runs : (y : Thing) (m : ℕ) → part_of p Handles y ≡ Some m → Affords y (price c m)
-  runs x m e = grind arith
+  runs (An_object_of k) m e = run_price p linked k c m e
+  runs Message m e = cc
 
   accepts_within : (y : Thing) (m : ℕ) → part_of p Accepts_role y ≡ Some m → Affords y (price c m)
-  accepts_within x m e = grind arith
+  accepts_within (An_object_of k) m e = go (sessions_in (kind_of p (Some k))) refl (acceptor_serves p linked k c m e)
+    where
+      go : (session : Option ℕ) → sessions_in (kind_of p (Some k)) ≡ session → is_some session ≡ true → Affords (An_object_of k) (price c m)
+      go (Some session) at some = omega (arith, (server_price p linked k c session at).accepts, ap (λ o. perhaps_price c o) e)
+      go None at some = cc
+  accepts_within Message m e = cc
 
   no_message : (session : ℕ) → session_class p Message ≡ Some session → ⊥
   unfolding kind_of sessions_in

@@ -215,7 +215,14 @@ module _ (p : Image) (t : Typing) (c : Prices) (linked : IsLinked p) (typed : Is
   asked_left ts x code m none = grind (arith, fresh_rounds c)
 
   of_dispatch : (d : Dispatch) (ts : List Task) → s.tasks ≡ Dispatched d ∷ ts → ends_object p d ≡ false → left p c (dispatch_ends p d (counted p s)) ≤ all_left (Dispatched d ∷ ts)
-  of_dispatch x ts at goes_on = grind arith
+  of_dispatch (Main_left code) ts at goes_on = omega arith
+  of_dispatch Of_root ts at goes_on = omega arith
+  of_dispatch Of_main ts at goes_on =
+      let last = alone Of_main ts at in
+      omega (arith, main_left_over Of_main last.0 last.1 s.rest.stopped (held s.cells (Elsewhere Root)) (counted p s) refl refl refl (last.1.fits (Elsewhere Root)))
+  of_dispatch (Object_left x code) ts at goes_on = omega (arith, asked_left ts x code (part_of p Error x.object.thing) goes_on)
+  of_dispatch (Of_server x client stage) ts at goes_on = stage_left x client stage ts
+  of_dispatch _ ts at goes_on = cc
 
   -- ---- the dispatch of an object ends
 
@@ -241,7 +248,12 @@ module _ (p : Image) (t : Typing) (c : Prices) (linked : IsLinked p) (typed : Is
     unasked_left_over x code m none = grind (arith, answer_left_over code)
 
   over_by : (d : Dispatch) (ts : List Task) → s.tasks ≡ Dispatched d ∷ ts → ends_object p d ≡ true → left p c (dispatch_ends p d (counted p s)) ≤ main_price p c
-  over_by x ts at ends = grind arith
+  over_by (Of_object x) ts at ends = let last = alone (Of_object x) ts at in object_left_over (Of_object x) last.0 last.1 last.2 (last.1.fits (Elsewhere Root))
+  over_by (Object_left x code) ts at ends =
+      let last = alone (Object_left x code) ts at in unasked_left_over (Object_left x code) last.0 last.1 last.2 (last.1.fits (Elsewhere Root)) x code (part_of p Error x.object.thing) ends
+  over_by (Asks x) ts at ends = let last = alone (Asks x) ts at in object_left_over (Asks x) last.0 last.1 last.2 (last.1.fits (Elsewhere Root))
+  over_by (Answered x answer) ts at ends = let last = alone (Answered x answer) ts at in answer_left_over (Answered x answer) last.0 last.1 last.2 (last.1.fits (Elsewhere Root)) answer
+  over_by _ ts at ends = cc
 
   -- no other move counts steps anew
   not_over : (ts : List Task) (u : State) → s.tasks ≡ ts → restarts p s.tasks ≡ true → restarts p ts ≡ false → left p c u ≤ main_price p c
