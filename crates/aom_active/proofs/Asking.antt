@@ -21,8 +21,7 @@ pub asked_set : (cs : List Cell) (n : ℕ) (r : Option Request) → is_some (nam
 asked_set cs n r there m = go (n == m) refl
   where
     here : (o : Option Object) → named cs n ≡ o → is_some o ≡ true → requested (set_request n r cs) n ≡ r
-    here None e some = cc
-    here (Some o) e some = requested_here cs n r o e
+    here o e some = grind (arith, requested_here cs n r)
 
     go : (b : Bool) → (n == m) ≡ b → cond b r (requested cs m) ≡ requested (set_request n r cs) m
     go true same = sym (here (named cs n) refl there) ∙ ap (λ k. requested (set_request n r cs) k) (eqb-true n m same)
@@ -63,7 +62,7 @@ newest_timer [] tidy n t e = cc
 newest_timer (c ∷ cs) tidy n t e = go (c.object.name == n) e (newest_timer cs tidy.2 n t)
   where
     after : (r : Option Request) → timer_in r ≡ Some t → t.order < request_after r
-    after x e = grind arith
+    after r e = grind arith
 
     go : (b : Bool) → timer_in (cond b c.request (requested cs n)) ≡ Some t → (timer_in (requested cs n) ≡ Some t → t.order < next_timer cs) → t.order < max (request_after c.request) (next_timer cs)
     go true e rest = omega (arith, after c.request e, le-max_left (request_after c.request) (next_timer cs))

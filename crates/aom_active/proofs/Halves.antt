@@ -67,14 +67,14 @@ kept_anew id r q asked here kept n = go (id == n) refl
     go false other = kept_itself (asked n)
 
 priority_kept : (p : ℤ) (r q : Option Request) → IsKept r q → HasPriority p r → HasPriority p q
-priority_kept p x q kept has = grind arith
+priority_kept p r q kept has = grind arith
 
 -- whether one goes before the other, by their priorities and orders
 abbrev in_front : ℤ → ℤ → ℕ → ℕ → Bool
 in_front p q m n = int_lt q p || (int_eq p q && nat_lt m n)
 
 goes_kept : (r q s t : Option Request) → IsKept r s → IsKept q t → GoesBefore r q → GoesBefore s t
-goes_kept x q s t first second goes = grind arith
+goes_kept r q s t first second goes = grind arith
 
 -- ---- the entries
 
@@ -159,10 +159,10 @@ listed_placed asked id order priority es l absent sorted newest = record {
     all = both (λ e. e.id ≢ id) (λ e. HasPriority e.priority (asked e.id)) es absent l.priorities
 
     goes_after : (e : Entry) (r : Option Request) → asked e.id ≡ r → HasPriority e.priority r → before e new ≡ true → GoesBefore r (Some mine)
-    goes_after e x is has first = grind arith
+    goes_after e r is has first = grind arith
 
     goes_ahead : (e : Entry) (r : Option Request) → HasPriority e.priority r → before e new ≡ false → GoesBefore (Some mine) r
-    goes_ahead e x has later = grind arith
+    goes_ahead e r has later = grind arith
 
 -- ---- the timers
 
