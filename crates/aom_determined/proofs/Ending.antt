@@ -154,7 +154,7 @@ pub plain_there : (clients : List Client) (cs : List Cell) (d : Option Dispatch)
 plain_there clients cs d plain all = record { asked = λ n c e. ap (λ b. b || accepts n c d) (all n c e); serves = go d plain }
   where
     go : (d : Option Dispatch) → IsPlain d → IsAtPlace cs d
-    go x h = grind arith
+    go d h = grind arith
 
 or_true : (a b : Bool) → b ≡ false → (a || b) ≡ true → a ≡ true
 or_true true b e h = refl

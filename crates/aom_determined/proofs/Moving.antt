@@ -143,7 +143,7 @@ module _ (p : Image) (s : State) where
   left_there code _ there = there
 
   arrived_there : (code : ℤ) (ts : List Task) (items : List Item) (u : State) → AreThere s.clients s.cells (dispatch_of ts) → arrived p code ts items s ≡ Goes u → AllThere u
-  arrived_there code x items u there e = grind arith
+  arrived_there code ts items u there e = grind arith
 
   pub unwound_there : (code : ℤ) (ts : List Task) (items : List Item) (u : State) → AreThere s.clients s.cells (dispatch_of ts) → unwound p code ts s items ≡ Goes u → AllThere u
   unwound_there code ts [] u there e = cc

@@ -69,7 +69,7 @@ module _ (heard : Heard) where
       ∙ cond_applied (told heard.completion) cut Cuts (by_timer s (first_due s.cells) delivered)
 
   untold : (t : Turning) → is_polling t ≡ false → told heard.completion t ≡ t
-  untold x e = grind arith
+  untold t e = grind arith
 
   pub turn_unpolled :
       (p : Image) (outside : Outside) (s : State) → is_polling (turning outside nothing_heard s) ≡ false →
@@ -123,14 +123,14 @@ none_polled outside s none =
 
 -- objects that no native serves
 unserved_kind : (k : Option ClassKind) → is_native_kind k ≡ false → native_of k ≡ None
-unserved_kind x e = grind arith
+unserved_kind k e = grind arith
 
 module _ (p : Image) (natives : HasNoNative p) where
   none_outstanding : (n : ℕ) (c : Cell) → is_outstanding_at p n c ≡ false
   none_outstanding n c = rw (unserved_kind (thing_kind p c.object.thing) (thing_unserved p natives c.object.thing))
 
   nothing_completed : (s : State) (answer : Option Completion) (t : Turning) → is_polling t ≡ true → AnswersWell p s (told answer t) → answer ≡ None
-  nothing_completed s x t polled well = grind arith
+  nothing_completed s answer t polled well = grind arith
 
   module _ (outside : Outside) (oracle : Oracle) where
     unheard_moves : (c : Choice) (s : State) (n : ℕ) → is_heard p s.tasks ≡ true → c.answer ≡ oracle.answers n

@@ -7,7 +7,7 @@ use Rattle.std.proofs.lemmas.List.Elements.{All-nil, All-cons}
 use Rattle.aom_text.specs.Numbers.{number_below, number_within, number_signed}
 use Rattle.aom_text.specs.declared.number.Number.{Number}
 use Rattle.aom_transcript.specs.declared.event.Command.{Command}
-use Rattle.aom_transcript.specs.declared.event.Command.TheVariants.{Connect, Send, Close, Die}
+use Rattle.aom_transcript.specs.declared.event.Command.TheVariants.{Connect, Close, Die}
 use Rattle.aom_transcript.specs.declared.event.Event.{Event}
 use Rattle.aom_transcript.specs.declared.event.Event.TheVariants.{Tell, Kill, Client}
 use Rattle.aom_transcript.specs.declared.event.TimedEvent.{TimedEvent}
@@ -37,30 +37,16 @@ not_below last n c = search (rules, tests, c)
 
 -- what both make, of two numbers in their ranges
 made : {A B C : Type 0} (P : C → Type 0) (make : A → B → C) (a : Option A) (b : Option B) (e : C) → ((x : A) (y : B) → a ≡ Some x → b ≡ Some y → P (make x y)) → both make a b ≡ Some e → P e
-made P make (Some x) (Some y) e holds is = subst P (same is) (holds x y refl refl) where
-  same : Some (make x y) ≡ Some e → make x y ≡ e
-  same is = cc
-made P make (Some x) None e holds is = absurd cc
-made P make None b e holds is = absurd cc
+made x make y b e holds is = grind arith
 
 mapped : {A C : Type 0} (P : C → Type 0) (make : A → C) (a : Option A) (e : C) → ((x : A) → a ≡ Some x → P (make x)) → option_map make a ≡ Some e → P e
-mapped P make (Some x) e holds is = subst P (same is) (holds x refl) where
-  same : Some (make x) ≡ Some e → make x ≡ e
-  same is = cc
-mapped P make None e holds is = absurd cc
+mapped x make y e holds is = grind arith
 
 below : (low high : ℕ) (n : Number) (k : ℕ) → number_within low high n ≡ Some k → k < high + 1
 below low high n k is = let small = (in_range low high n k is).1 in omega (arith, small)
 
 send_fits : (a b c d e : Option ℤ) (command : Command) → send_of a b c d e ≡ Some command → SlotsFit command
-send_fits (Some a) (Some b) (Some c) (Some d) (Some e) command is = subst SlotsFit (same is) tt where
-  same : Some (Send (a ∷ b ∷ c ∷ d ∷ e ∷ [])) ≡ Some command → Send (a ∷ b ∷ c ∷ d ∷ e ∷ []) ≡ command
-  same is = cc
-send_fits None b c d e command is = absurd cc
-send_fits (Some a) None c d e command is = absurd cc
-send_fits (Some a) (Some b) None d e command is = absurd cc
-send_fits (Some a) (Some b) (Some c) None e command is = absurd cc
-send_fits (Some a) (Some b) (Some c) (Some d) None command is = absurd cc
+send_fits a b c d e command is = grind arith
 
 slots_fit : (numbers : CommandNumbers) (command : Command) → command_within numbers ≡ Some command → SlotsFit command
 slots_fit (ToConnect class slots) command is = made SlotsFit Connect (number_within 0 255 class) (number_within 0 64 slots) command (λ k n at few. (in_range 0 64 slots n few).1) is
@@ -102,8 +88,7 @@ timed_fits last time event said on_time is = go (number_within 0 (10 ^ 15) time)
   go None e at comes is = absurd cc
 
 refusal_fits : (last : ℕ) (o : Option ℕ) (said : ScriptLine) → option_map Refuse o ≡ Some said → Fits last said
-refusal_fits last (Some request) said is = let line : Refuse request ≡ said = cc in nothing last said (ap (λ s. timed_by (Some s)) (sym line))
-refusal_fits last None said is = absurd cc
+refusal_fits last o said is = grind arith
 
 fits : (last : ℕ) (reading : Reading) (said : ScriptLine) → is_back last reading ≡ false → said_by reading ≡ Some said → Fits last said
 fits last Blank said on_time is = let line : Empty ≡ said = cc in nothing last said (ap (λ s. timed_by (Some s)) (sym line))

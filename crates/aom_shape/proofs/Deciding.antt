@@ -1,6 +1,6 @@
 -- The tests on kinds and fillings decide the order, and the meet of two kinds is the strongest below both.
-use Rattle.std.proofs.Common.{◌≡◌, true, ◌&&◌, refl, ap}
-use Rattle.std.proofs.lemmas.Bool.{eqb-true, eq-eqb, and_parts}
+use Rattle.std.proofs.Common.{◌≡◌, true, ◌&&◌, refl, arith}
+use Rattle.std.proofs.lemmas.Bool.{eq-eqb, and_parts}
 use Rattle.aom_image.specs.declared.method.Thing.{Thing}
 use Rattle.aom_image.specs.declared.method.Thing.TheVariants.{Object, Message}
 use Rattle.aom_shape.specs.Things.{same_thing}
@@ -18,27 +18,21 @@ use Rattle.aom_shape.specs.declared.kind.Filling.{Filling}
 use Rattle.aom_shape.specs.declared.kind.Filling.TheVariants.{Empty, Full, Perhaps}
 
 pub thing_is : (t u : Thing) → same_thing t u ≡ true → t ≡ u
-thing_is (Object c) (Object d) h = ap Object (eqb-true c d h)
-thing_is Message Message h = refl
-thing_is _ _ h = cc
+thing_is t u h = grind arith
 
 pub thing_self : (t : Thing) → same_thing t t ≡ true
 thing_self (Object c) = eq-eqb c c refl
 thing_self Message = refl
 
 pub age_is : (a b : Age) → same_age a b ≡ true → a ≡ b
-age_is Fresh Fresh h = refl
-age_is Ready Ready h = refl
-age_is _ _ h = cc
+age_is a b h = grind arith
 
 pub age_self : (a : Age) → same_age a a ≡ true
 age_self Fresh = refl
 age_self Ready = refl
 
 pub delivery_is : (a b : Delivery) → same_delivery a b ≡ true → a ≡ b
-delivery_is Here Here h = refl
-delivery_is Gone Gone h = refl
-delivery_is _ _ h = cc
+delivery_is a b h = grind arith
 
 pub delivery_self : (a : Delivery) → same_delivery a a ≡ true
 delivery_self Here = refl

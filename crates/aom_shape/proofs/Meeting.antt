@@ -21,7 +21,7 @@ use Rattle.aom_shape.specs.declared.kind.Filling.{Filling}
 use Rattle.aom_shape.specs.declared.kind.Filling.TheVariants.{Empty, Full, Perhaps}
 use Rattle.aom_shape.specs.declared.why.Why.TheVariants.{RegisterKind, CleanupAtReturn, MessageAtReturn}
 use Rattle.aom_shape.proofs.Sets.{has_both, has_first, has_second}
-use Rattle.aom_shape.proofs.Deciding.{delivery_self, weaker_tests, weaker_tested, same_own, object_self, fillings_test}
+use Rattle.aom_shape.proofs.Deciding.{delivery_self, weaker_tests, weaker_tested, fillings_test}
 use Rattle.aom_shape.proofs.Lists.{at_within, at_set_here, at_set_other, at_past}
 
 -- the meet of two kinds says no more than either, and what says no more than both says no more than it
@@ -31,12 +31,10 @@ pub record IsMeetKind (m a b : Kind) : Type 0 where
   pub strongest : (n : Kind) → Weaker n a → Weaker n b → Weaker n m
 
 below_word_and_null : (n : Kind) → no_more n Word ≡ true → no_more n Null ≡ true → no_more n Unset ≡ true
-below_word_and_null Unset h k = refl
-below_word_and_null _ h k = absurd cc
+below_word_and_null n h k = grind arith
 
 below_null_and_own : (t : Thing) (a : Age) (n : Kind) → no_more n Null ≡ true → no_more n (Own t a) ≡ true → no_more n (Maybe t a) ≡ true
-below_null_and_own t a (Maybe u b) h k = k
-below_null_and_own t a _ h k = absurd cc
+below_null_and_own t a n h k = grind arith
 
 word_and_null : IsMeetKind Unset Word Null
 word_and_null = record { first = unset_word; second = unset_null; strongest = λ n h k. weaker_tested n Unset (below_word_and_null n (weaker_tests n Word h) (weaker_tests n Null k)) }
@@ -69,32 +67,20 @@ record Strangers (a b : Kind) : Type 0 where
   second : no_more b a ≡ false
   nothing : apart a b ≡ None
 
+strangers : (a b : Kind) → meet_kind a b ≡ None → Strangers a b
+strangers a b e = grind arith
+
 unset_under_word : (b : Kind) → Strangers Word b → no_more Unset b ≡ true → ⊥
-unset_under_word Unset s h = let f = s.second in cc
-unset_under_word Word s h = let f = s.first in cc
-unset_under_word Null s h = let f = s.nothing in cc
-unset_under_word _ s h = cc
+unset_under_word b s h = grind arith
 
 unset_under_null : (b : Kind) → Strangers Null b → no_more Unset b ≡ true → ⊥
-unset_under_null Unset s h = let f = s.second in cc
-unset_under_null Word s h = let f = s.nothing in cc
-unset_under_null Null s h = let f = s.first in cc
-unset_under_null _ s h = cc
+unset_under_null b s h = grind arith
 
 maybe_under_null : (t : Thing) (x : Age) (b : Kind) → Strangers Null b → no_more (Maybe t x) b ≡ true → ⊥
-maybe_under_null t x Null s h = let f = s.first in cc
-maybe_under_null t x (Own u y) s h = let f = s.nothing in cc
-maybe_under_null t x (Maybe u y) s h = let f = s.second in cc
-maybe_under_null t x _ s h = cc
+maybe_under_null t x b s h = grind arith
 
 maybe_under_own : (t : Thing) (x : Age) (b : Kind) → Strangers (Own t x) b → no_more (Maybe t x) b ≡ true → ⊥
-maybe_under_own t x Null s h = let f = s.nothing in cc
-maybe_under_own t x (Own u y) s h = let f = s.first in cc
-maybe_under_own t x (Maybe u y) s h =
-    let same = same_own t u x y h in
-    let f : no_more (Maybe u y) (Own t x) ≡ true = rw (same.0, same.1) (object_self u y) in
-    let g = s.second in cc
-maybe_under_own t x _ s h = cc
+maybe_under_own t x b s h = grind arith
 
 strangers_apart : (a b n : Kind) → Strangers a b → Weaker n a → Weaker n b → ⊥
 strangers_apart a b n s (alike {k = k}) h = let f = weaker_tests a b h in let g = s.first in cc
@@ -104,11 +90,7 @@ strangers_apart a b n s (maybe_null {t = t} {a = age}) h = maybe_under_null t ag
 strangers_apart a b n s (maybe_own {t = t} {a = age}) h = maybe_under_own t age b s (weaker_tests (Maybe t age) b h)
 
 pub meet_missing : (a b n : Kind) → meet_kind a b ≡ None → Weaker n a → Weaker n b → ⊥
-meet_missing a b n e = go (no_more a b) refl (no_more b a) refl e
-  where
-    go : (p : Bool) → no_more a b ≡ p → (q : Bool) → no_more b a ≡ q → cond p (Some a) (cond q (Some b) (apart a b)) ≡ None → Weaker n a → Weaker n b → ⊥
-    go false hp false hq e = strangers_apart a b n (record { first = hp; second = hq; nothing = e })
-    go _ hp _ hq e = cc
+meet_missing a b n e = strangers_apart a b n (strangers a b e)
 
 -- one more meet is written
 pub met_more : (a b m : List Kind) (i : ℕ) (x y r : Kind) → Met a b m i → i < 16 → length a ≡ 16 → length b ≡ 16 → meet_kind (slice_index_or a i x) (slice_index_or b i y) ≡ Some r → Met a b (slice_set m i r) (i + 1)
@@ -157,8 +139,7 @@ filling_second Perhaps Full = perhaps_full
 filling_second Perhaps Perhaps = alike_filling
 
 below_empty_and_full : (n : Filling) → no_more_filling n Empty ≡ true → no_more_filling n Full ≡ true → n ≡ Perhaps
-below_empty_and_full Perhaps h k = refl
-below_empty_and_full _ h k = absurd cc
+below_empty_and_full n h k = grind arith
 
 filling_strongest : (x y n : Filling) → WeakerFilling n x → WeakerFilling n y → WeakerFilling n (meet_filling x y)
 filling_strongest Empty Empty n h k = h

@@ -1,7 +1,7 @@
 -- The tests on lists decide the order between states.
-use Rattle.std.proofs.Common.{◌≡◌, ◌≢◌, ℕ, zero, suc, Bool, true, false, ◌&&◌, ◌==◌, List, [], ◌∷◌, length, ◌↔◌, ◌⊎◌, IsTrue, refl, sym, ap, ◌∙◌, arith}
+use Rattle.std.proofs.Common.{◌≡◌, ◌≢◌, ℕ, zero, suc, Bool, true, false, ◌&&◌, List, [], ◌∷◌, length, ◌↔◌, ◌⊎◌, IsTrue, refl, sym, ap, ◌∙◌, arith}
 use Rattle.std.proofs.Math.Bool.{and-false}
-use Rattle.std.proofs.lemmas.Bool.{eqb-true, eq-eqb, false≢true, and_parts}
+use Rattle.std.proofs.lemmas.Bool.{eq-eqb, false≢true, and_parts}
 use Rattle.aom_image.specs.Views.{has}
 use Rattle.aom_shape.specs.Kinds.{register, field}
 use Rattle.aom_shape.specs.Order.{Weaker, WeakerFilling, SaysNoMore}
@@ -9,7 +9,7 @@ use Rattle.aom_shape.specs.Order.Weaker.{alike}
 use Rattle.aom_shape.specs.Order.WeakerFilling.{alike_filling}
 use Rattle.aom_shape.specs.Shape.{Shape}
 use Rattle.aom_shape.specs.Tables.{at}
-use Rattle.aom_shape.specs.Tests.{no_more, all_no_more, no_more_filling, all_no_more_fillings, same_age, same_delivery, same_entry, same_entries}
+use Rattle.aom_shape.specs.Tests.{no_more, all_no_more, no_more_filling, all_no_more_fillings, same_delivery, same_entry, same_entries}
 use Rattle.aom_shape.specs.declared.kind.Entry.{Entry}
 use Rattle.aom_shape.specs.declared.kind.Entry.TheVariants.{Object as An_object, Operation}
 use Rattle.aom_shape.specs.declared.kind.Kind.{Kind}
@@ -17,7 +17,7 @@ use Rattle.aom_shape.specs.declared.kind.Kind.TheVariants.{Unset}
 use Rattle.aom_shape.specs.declared.kind.Filling.{Filling}
 use Rattle.aom_shape.specs.declared.kind.Filling.TheVariants.{Perhaps}
 use Rattle.aom_shape.proofs.Sets.{has_along, has_itself}
-use Rattle.aom_shape.proofs.Deciding.{age_is, age_self, delivery_is, delivery_self, weaker_tests, weaker_tested, weaker_along, fillings_test, fillings_tested, fillings_along}
+use Rattle.aom_shape.proofs.Deciding.{age_self, delivery_is, delivery_self, weaker_tests, weaker_tested, weaker_along, fillings_test, fillings_tested, fillings_along}
 
 pub reflexive : (a : Shape) → SaysNoMore a a
 reflexive a = record { registers = λ i. alike; fields = λ i. alike_filling; entries = refl; states = has_itself a.states; delivery = refl }
@@ -103,9 +103,7 @@ fillings_ended (x ∷ xs) (y ∷ ys) h = absurd (omega arith)
 
 -- the test on entries passes exactly where they are the same
 entry_is : (x y : Entry) → same_entry x y ≡ true → x ≡ y
-entry_is (An_object c a) (An_object d b) h = let same = and_parts (c == d) (same_age a b) h in rw (eqb-true c d same.0, age_is a b same.1) refl
-entry_is Operation Operation h = refl
-entry_is _ _ h = cc
+entry_is x y h = grind arith
 
 entry_self : (x : Entry) → same_entry x x ≡ true
 entry_self (An_object c a) = rw (eq-eqb c c refl, age_self a)

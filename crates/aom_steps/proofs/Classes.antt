@@ -38,7 +38,7 @@ module _ (p : Image) (linked : IsLinked p) (x : ℕ) where
       no_server k e = grind arith
 
       of_class : (o : Option ClassDecl) → class_at p x ≡ o → sessions_in (kind_in o) ≡ Some session → is_server p (An_object_of session) ≡ false
-      of_class x at e = grind arith
+      of_class o at e = grind arith
 
   module _ (c : Prices) where
     -- an object that runs is paid for with its `error` method
@@ -47,7 +47,7 @@ module _ (p : Image) (linked : IsLinked p) (x : ℕ) where
     run_price m e = go (kind_of p (Some x)) refl (shaped Handles m e).1.of
       where
         go : (k : Option ClassKind) → kind_of p (Some x) ≡ k → is_active_in k ≡ true → price c m + perhaps_price c (role_of p x Error) ≤ object_price p c x
-        go x at active = grind arith
+        go k at active = grind arith
 
     -- no server has one
     no_answer : (k : Option ClassKind) → kind_of p (Some x) ≡ k → is_some (sessions_in k) ≡ true → perhaps_price c (role_of p x Error) ≡ 0
