@@ -44,8 +44,6 @@ module _ (p : Image) (clients : List Client) (cs : List Cell) (tidy : Tidy cs) (
       where
         go : (q : Place) (x : Object) → is_queue_of o.name q ≡ true → held cs q ≡ Some x → x.name ≡ n → (service_of cs n).queue ≡ []
         go (Elsewhere (Queued s m)) x goes there same = empty (Elsewhere (Queued s m)) x n there (waiting s m x there) same
-        go (Elsewhere (Session s m)) x goes there same = cc
-        go (Elsewhere _) x goes there same = cc
         go _ x goes there same = cc
 
     -- and then the server
@@ -88,10 +86,7 @@ module _ (p : Image) (clients : List Client) (cs : List Cell) (tidy : Tidy cs) (
         go :
             (b x : Bool) → has_session (service_of cs o.name) c ≡ b → waits cs o.name c ≡ x →
             is_connecting_at n (cond b (at_gone (cond x Unconnected (client_at clients c))) (cond x Unconnected (client_at clients c))) ≡ true → (is_connecting_at n (client_at clients c) ≡ true) × (waits cs o.name c ≡ false)
-        go true true f g h = cc
-        go true false f g h = (gone_connecting n (client_at clients c) h, g)
-        go false true f g h = cc
-        go false false f g h = (h, g)
+        go b x f g h = grind (arith, gone_connecting n (client_at clients c))
 
     -- where it is not the server that is dispatched
     pub there_vanished :
@@ -106,8 +101,7 @@ module _ (p : Image) (clients : List Client) (cs : List Cell) (tidy : Tidy cs) (
         calm = calm_unslotted (service_of cs o.name).sessions cells
 
         or_second : (a b : Bool) → (a || b) ≡ true → a ≡ false → b ≡ true
-        or_second true b h e = cc
-        or_second false b h e = h
+        or_second a b h e = grind arith
 
         asked : (n c : ℕ) → is_connecting_at n (client_at then c) ≡ true → (waits (each_unslotted (service_of cs o.name).sessions cells) n c || accepts n c d) ≡ true
         asked n c e = go (o.name == n) refl
