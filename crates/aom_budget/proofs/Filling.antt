@@ -26,7 +26,6 @@ use Rattle.aom_bounds.specs.Heights.Heights.{own, under}
 use Rattle.aom_budget.specs.Extents.{IsMost, entered, OfSome, Joined, ComesTo, FramesAt, EntriesAt, Before, IsFilled, most_at}
 use Rattle.aom_budget.proofs.Mentioned.{called_lower}
 use Rattle.aom_budget.proofs.Most.{of_none, alike, joined, of_methods}
-use Rattle.std.proofs.Common.{⊎_elim}
 use Rattle.aom_instructions.specs.declared.instr.Instr.{Instr}
 use Rattle.aom_instructions.specs.declared.instr.Target.{Target}
 
@@ -53,9 +52,7 @@ module _ (p : Image) (cap : ℕ) (its_own : Shape → ℕ) (calls : Shape → In
 -- what holds of a call and of a trap of a method holds of each instruction that enters it
 pub by_entering : (k : ℕ) (P : Instr → Type 0) → ((target : Target) (first c : ℕ) → P (Call target k first c)) → ((target : Target) (first c : ℕ) → P (Trap target k first c)) →
     (i : Instr) → Enters i k → P i
-by_entering k P call trap (Call target called first c) e = subst (λ x. P (Call target x first c)) (sym e) (call target first c)
-by_entering k P call trap (Trap target called first c) e = subst (λ x. P (Trap target x first c)) (sym e) (trap target first c)
-by_entering k P call trap _ e = absurd e
+by_entering k P call trap i e = grind arith
 
 entered_called : (p : Image) (m : ℕ) (sh : Shape) (i : Instr) (k : ℕ) → Enters i k → Among k (callees p m sh i)
 entered_called p m sh i k e = by_entering k (λ j. Among k (callees p m sh j)) (λ target first c. inl refl) (λ target first c. inl refl) i e
@@ -64,9 +61,7 @@ is_entered : (i : Instr) (k : ℕ) → Enters i k → Among k (listed (entered i
 is_entered i k e = by_entering k (λ j. Among k (listed (entered j))) (λ target first c. inl refl) (λ target first c. inl refl) i e
 
 enters : (i : Instr) (k : ℕ) → Among k (listed (entered i)) → Enters i k
-enters (Call target called first c) k h = ⊎_elim (λ e. sym e) (λ none. absurd none) h
-enters (Trap target called first c) k h = ⊎_elim (λ e. sym e) (λ none. absurd none) h
-enters _ k h = absurd h
+enters i k h = grind arith
 
 module _ (p : Image) (m : ℕ) (s : Shapes) (place : ℕ) (sh : Shape) (i : Instr) (linked : IsLinked p) (strongest : IsMethodStrongest p m s) where
   module _ (there : at None s place ≡ Some sh) (stands : instr_at p m place ≡ Some i) where
