@@ -4,6 +4,7 @@ use Rattle.std.specs.Prelude.{IsSome, position}
 use Rattle.std.proofs.lemmas.Option.{slice_get_within}
 use Rattle.aom_image.specs.Image.{Image}
 use Rattle.aom_image.specs.Views.{is_quiet, leaves, leaves_in, method_at, quiet_in}
+use Rattle.aom_instructions.specs.declared.instr.Instr.{Instr}
 use Rattle.aom_instructions.specs.declared.instr.Instr.TheVariants.{Call, Cancel, Trap}
 use Rattle.aom_instructions.specs.declared.instr.Target.{Target}
 use Rattle.aom_image.specs.declared.method.Method.{Method}
@@ -137,20 +138,17 @@ begun_paid p linked o height below = go (is_server p o.thing)
     go true = omega (arith, twice, closing_two p linked)
     go false = omega (arith, twice, destructed_paid p linked o height below)
 
--- a called method comes before
-pub called_before : (p : Image) → IsLinked p → (m place : ℕ) (d : Method) (target : Target) (m' first c : ℕ) → method_at p m ≡ Some d → slice_get d.code place ≡ Some (Call target m' first c) → m' < m
+-- what an instruction of a method runs comes before the method
+runs_below : (p : Image) → IsLinked p → (m place : ℕ) (d : Method) (i : Instr) → method_at p m ≡ Some d → slice_get d.code place ≡ Some i → RunsBelow p m d.class i
 unfolding method_at
-called_before p linked m place d target m' first c is stands =
-    let ordered : CallsOrdered p m d = at_place (CallsOrdered p) p.methods m d linked.calls is in
-    let runs : RunsBelow p m d.class (Call target m' first c) = all_there (RunsBelow p m d.class) d.code place (Call target m' first c) ordered.code stands in
-    runs.below
+runs_below p linked m place d i is stands = all_there (RunsBelow p m d.class) d.code place i (at_place (CallsOrdered p) p.methods m d linked.calls is).code stands
+
+-- so a called method does
+pub called_before : (p : Image) → IsLinked p → (m place : ℕ) (d : Method) (target : Target) (m' first c : ℕ) → method_at p m ≡ Some d → slice_get d.code place ≡ Some (Call target m' first c) → m' < m
+called_before p linked m place d target m' first c is stands = (runs_below p linked m place d (Call target m' first c) is stands).below
 
 pub trapped_before : (p : Image) → IsLinked p → (m place : ℕ) (d : Method) (target : Target) (m' first c : ℕ) → method_at p m ≡ Some d → slice_get d.code place ≡ Some (Trap target m' first c) → m' < m
-unfolding method_at
-trapped_before p linked m place d target m' first c is stands =
-    let ordered : CallsOrdered p m d = at_place (CallsOrdered p) p.methods m d linked.calls is in
-    let runs : RunsBelow p m d.class (Trap target m' first c) = all_there (RunsBelow p m d.class) d.code place (Trap target m' first c) ordered.code stands in
-    runs.below
+trapped_before p linked m place d target m' first c is stands = (runs_below p linked m place d (Trap target m' first c) is stands).below
 
 -- an operation is paid by its item, with two left
 pub undo_paid : (p : Image) (m : ℕ) → IsUndo p m → left_in (method_at p m) [] 0 * price p m + 2 ≤ cell_rank p
@@ -173,8 +171,7 @@ pub canceller_before :
     m' < m
 unfolding method_at role_of
 canceller_before p linked m place d c m' is stands class e =
-    let ordered : CallsOrdered p m d = at_place (CallsOrdered p) p.methods m d linked.calls is in
-    let runs : RunsBelow p m d.class Cancel = all_there (RunsBelow p m d.class) d.code place Cancel ordered.code stands in
+    let runs = runs_below p linked m place d Cancel is stands in
     let below : AllBelow p.methods m c Cancel_role = subst (λ o. IfSome o (λ c. AllBelow p.methods m c Cancel_role)) class runs in
     let w = found (plays c Cancel_role) p.methods m' e in
     let here : IfSome (Some w.0) (λ d. IsTrue (plays c Cancel_role d) → m' < m) = subst (λ o. IfSome o (λ d. IsTrue (plays c Cancel_role d) → m' < m)) w.1 (below m') in
