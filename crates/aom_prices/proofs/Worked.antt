@@ -29,9 +29,21 @@ There place i = Stands worked worked_typing 0 place a_word i
 
 -- what stands at each place
 at_each :
-    There 0 (Loop 0 3) × There 1 (Loop 1 5) × There 2 (JumpEqual 0 0 7) × There 3 (Print 0) × There 4 (Next 1 2) × There 5 (Next 0 1) × There 6 (Jump 9) × There 7 (Print 0) × There 8 (Print 0) × There 9 (Return 0)
+    There 0 (Loop 0 3) × There 1 (Loop 1 5) × There 2 (JumpEqual 0 0 7) × There 3 (Print 0) × There 4 (Next 1 2)
+    × There 5 (Next 0 1) × There 6 (Jump 9) × There 7 (Print 0) × There 8 (Print 0) × There 9 (Return 0)
 unfolding method_at instr_in
-at_each = (record { shape = refl; instr = refl }, record { shape = refl; instr = refl }, record { shape = refl; instr = refl }, record { shape = refl; instr = refl }, record { shape = refl; instr = refl }, record { shape = refl; instr = refl }, record { shape = refl; instr = refl }, record { shape = refl; instr = refl }, record { shape = refl; instr = refl }, record { shape = refl; instr = refl })
+at_each = (
+  record { shape = refl; instr = refl },
+  record { shape = refl; instr = refl },
+  record { shape = refl; instr = refl },
+  record { shape = refl; instr = refl },
+  record { shape = refl; instr = refl },
+  record { shape = refl; instr = refl },
+  record { shape = refl; instr = refl },
+  record { shape = refl; instr = refl },
+  record { shape = refl; instr = refl },
+  record { shape = refl; instr = refl },
+)
 
 outer : Body worked 0 0 5 0 3
 outer = record { begins = at_each.0.instr; later = omega arith; ends = at_each.5.instr }

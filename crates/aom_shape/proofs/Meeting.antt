@@ -87,6 +87,12 @@ second_filling_passes x y = grind arith
 both_fillings_pass : (x y n : Filling) → no_more_filling n x ≡ true → no_more_filling n y ≡ true → no_more_filling n (meet_filling x y) ≡ true
 both_fillings_pass x y n h k = grind arith
 
+filling_first : (x y : Filling) → WeakerFilling (meet_filling x y) x
+filling_first x y = fillings_tested (meet_filling x y) x (first_filling_passes x y)
+
+filling_second : (x y : Filling) → WeakerFilling (meet_filling x y) y
+filling_second x y = fillings_tested (meet_filling x y) y (second_filling_passes x y)
+
 filling_strongest : (x y n : Filling) → WeakerFilling n x → WeakerFilling n y → WeakerFilling n (meet_filling x y)
 filling_strongest x y n h k = fillings_tested n (meet_filling x y) (both_fillings_pass x y n (fillings_test n x h) (fillings_test n y k))
 
@@ -110,8 +116,8 @@ met a b m la lb fa fb registers fields first second states delivered other =
     let kinds = met_everywhere a.registers b.registers m.registers la lb registers in
     let fillings = fillings_everywhere a.fields b.fields m.fields fa fb fields in
     record {
-      first = record { registers = λ i. (kinds i).first; fields = λ i. rw (fillings i) (fillings_tested _ _ (first_filling_passes (field a i) (field b i))); entries = first; states = rw states (has_first a.states b.states); delivery = delivered };
-      second = record { registers = λ i. (kinds i).second; fields = λ i. rw (fillings i) (fillings_tested _ _ (second_filling_passes (field a i) (field b i))); entries = second; states = rw states (has_second a.states b.states); delivery = other };
+      first = record { registers = λ i. (kinds i).first; fields = λ i. rw (fillings i) (filling_first (field a i) (field b i)); entries = first; states = rw states (has_first a.states b.states); delivery = delivered };
+      second = record { registers = λ i. (kinds i).second; fields = λ i. rw (fillings i) (filling_second (field a i) (field b i)); entries = second; states = rw states (has_second a.states b.states); delivery = other };
       strongest = λ n h k. record {
         registers = λ i. (kinds i).strongest (register n i) (h.registers i) (k.registers i);
         fields = λ i. rw (fillings i) (filling_strongest (field a i) (field b i) (field n i) (h.fields i) (k.fields i));
