@@ -71,7 +71,9 @@ record IsDueFirst (now id : ℕ) (ts : List Held_timer) : Type 0 where
 
 due_first : (now id : ℕ) (ts : List Held_timer) → due_by now ts ≡ Some id → IsDueFirst now id ts
 due_first now id [] e = cc
-due_first now id (t ∷ ts) e = true_given (λ b. cond b (Some t.id) None ≡ Some id) (nat_le t.due now) e (λ none. cc) (λ le is. record { timer = t; rest = ts; is = refl; name = same_Some t.id id is; le = le })
+due_first now id (t ∷ ts) e =
+    true_given (λ b. cond b (Some t.id) None ≡ Some id) (nat_le t.due now) e (λ none. cc)
+    (λ le is. record { timer = t; rest = ts; is = refl; name = same_Some t.id id is; le = le })
 
 -- it is the first that is due, or none is
 pub first_by : (asked : ℕ → Option Request) (now id : ℕ) (ts : List Held_timer) → Timely asked ts → due_by now ts ≡ Some id → IsFirstDue now id asked

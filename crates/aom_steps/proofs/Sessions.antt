@@ -44,7 +44,9 @@ module _ (p : Image) (t : Typing) (cs : List Cell) (n client : ℕ) (o x : Objec
   owns false k f = absurd f
 
   of_declared : Has (declared p cs (Elsewhere (Session n client)))
-  of_declared f = owns (has_session (service_of cs n) client) (filled (session_thing p (Some o)) Full) (subst (λ y. Fits p (seen cs) (Some x) (cond (has_session (service_of cs n) client) (filled (session_thing p y) Full) Null)) lives f)
+  of_declared f =
+      owns (has_session (service_of cs n) client) (filled (session_thing p (Some o)) Full)
+      (subst (λ y. Fits p (seen cs) (Some x) (cond (has_session (service_of cs n) client) (filled (session_thing p y) Full) Null)) lives f)
 
   of_cond : (b : Bool) (k : Kind) → Has k → Has (cond b Null k)
   of_cond true k h f = absurd f
