@@ -162,11 +162,7 @@ declared_below p (Class k) most formed e = go (slice_get p.classes k) refl e
 -- what is past the classes declares nothing
 declares_within : (p : Image) (k most : ℕ) → declared_by p (Class k) ≡ Some most → k < length p.classes
 unfolding class_at
-declares_within p k most e = go (slice_get p.classes k) refl e
-  where
-    go : (o : Option ClassDecl) → slice_get p.classes k ≡ o → class_declares o ≡ Some most → k < length p.classes
-    go None is e = absurd cc
-    go (Some d) is e = slice_get_within p.classes k d is
+declares_within p k most e = grind (arith, slice_get_within p.classes k)
 
 -- ---- what was found against what is declared
 

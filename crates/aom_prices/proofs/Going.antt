@@ -80,8 +80,7 @@ sessions_ordered p linked c s class e is = grind arith
 
 -- the sessions of a thing of a linked image have none
 no_sessions : (p : Image) → IsLinked p → (x : Thing) (s : ℕ) → thing_sessions p x ≡ Some s → (cost : ℕ → ℕ) → sessions_cost p cost (Object s) ≡ 0
-no_sessions p linked (Object c) s is cost = of_session cost (kind_at p s) (sessions_ordered p linked c s (class_at p c) refl is)
-no_sessions p linked Message s is cost = absurd cc
+no_sessions p linked x s is cost = grind (arith, of_session, sessions_ordered p linked)
 
 -- ---- the rule, and what one pass finds
 

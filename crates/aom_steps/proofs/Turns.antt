@@ -193,8 +193,7 @@ module _ (p : Image) (t : Typing) (c : Prices) (linked : IsLinked p) (priced : I
   Affords y n = n + perhaps_price c (part_of p Error y) ≤ price_of p c (class_of y)
 
   runs : (y : Thing) (m : ℕ) → part_of p Handles y ≡ Some m → Affords y (price c m)
-  runs (An_object_of k) m e = run_price p linked k c m e
-  runs Message m e = cc
+  runs y m e = grind (arith, run_price p linked)
 
   accepts_within : (y : Thing) (m : ℕ) → part_of p Accepts_role y ≡ Some m → Affords y (price c m)
   accepts_within (An_object_of k) m e = go (sessions_in (kind_of p (Some k))) refl (acceptor_serves p linked k c m e)
