@@ -1,16 +1,15 @@
 -- What the requests are by name after each change of the cells.
-use Rattle.std.proofs.Common.{◌≡◌, ◌<◌, ◌==◌, ℕ, suc, ℤ, Bool, true, false, cond, List, [], ◌∷◌, Option, Some, None, refl, sym, ap, ◌∙◌, arith}
+use Rattle.std.proofs.Common.{◌≡◌, ◌<◌, ◌==◌, ℕ, ℤ, Bool, true, false, cond, List, [], ◌∷◌, Option, Some, None, refl, sym, ap, ◌∙◌, arith}
 use Rattle.std.specs.Prelude.{is_some, max}
-use Rattle.std.proofs.lemmas.Bool.{eqb-true, false≢true}
+use Rattle.std.proofs.lemmas.Bool.{eqb-true}
 use Rattle.std.proofs.Math.Nat.{le-max_left, le-max_right}
 use Rattle.aom_image.specs.declared.method.Thing.{Thing}
-use Rattle.aom_sound.proofs.Maps.{requested_moved, requested_without, unnamed, named_name, named_without}
+use Rattle.aom_sound.proofs.Maps.{requested_without, unnamed, named_name, named_without}
 use Rattle.aom_sound.proofs.Storing.{requested_here, requested_there}
-use Rattle.aom_sound.specs.Enlisted.{next_order, next_timer, order_after, request_after, timer_after}
-use Rattle.aom_sound.specs.Places.{Cell, Object, Place, Request, Tidy, held, moved, named, requested, set_request, set_word_field, with_new, without, Service, service_of, set_service}
+use Rattle.aom_sound.specs.Enlisted.{next_order, next_timer, order_after, request_after}
+use Rattle.aom_sound.specs.Places.{Cell, Object, Place, Request, Tidy, held, named, requested, set_request, set_word_field, with_new, without, Service, service_of, set_service}
 use Rattle.aom_active.specs.Agrees.{timer_in, queue_in, queued}
 use Rattle.aom_active.specs.Meanings.{IsNewest, IsNewestTimer, asked_anew, is_wanted, queued_anew}
-use Rattle.aom_active.proofs.Cells.{asked_lives}
 use Rattle.aom_image.specs.Image.{Image}
 use Rattle.aom_sound.specs.Servers.{has_more, is_server}
 use Rattle.aom_sound.proofs.Services.{named_served, service_here, service_there, service_unnamed, service_without}
@@ -22,8 +21,7 @@ pub asked_set : (cs : List Cell) (n : ℕ) (r : Option Request) → is_some (nam
 asked_set cs n r there m = go (n == m) refl
   where
     here : (o : Option Object) → named cs n ≡ o → is_some o ≡ true → requested (set_request n r cs) n ≡ r
-    here None e some = cc
-    here (Some o) e some = requested_here cs n r o e
+    here o e some = grind (arith, requested_here cs n r)
 
     go : (b : Bool) → (n == m) ≡ b → cond b r (requested cs m) ≡ requested (set_request n r cs) m
     go true same = sym (here (named cs n) refl there) ∙ ap (λ k. requested (set_request n r cs) k) (eqb-true n m same)
@@ -64,8 +62,7 @@ newest_timer [] tidy n t e = cc
 newest_timer (c ∷ cs) tidy n t e = go (c.object.name == n) e (newest_timer cs tidy.2 n t)
   where
     after : (r : Option Request) → timer_in r ≡ Some t → t.order < request_after r
-    after None e = cc
-    after (Some r) e = let is : timer_after r.timer ≡ suc t.order = ap timer_after e in omega (arith, is)
+    after r e = grind arith
 
     go : (b : Bool) → timer_in (cond b c.request (requested cs n)) ≡ Some t → (timer_in (requested cs n) ≡ Some t → t.order < next_timer cs) → t.order < max (request_after c.request) (next_timer cs)
     go true e rest = omega (arith, after c.request e, le-max_left (request_after c.request) (next_timer cs))

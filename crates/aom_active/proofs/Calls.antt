@@ -1,11 +1,8 @@
 -- Each call: what the three parts are after it.
-use Rattle.std.proofs.Common.{◌≡◌, ◌<◌, ◌==◌, ◌&&◌, ℕ, ℤ, pos, negsuc, Bool, true, false, not, cond, List, [], ◌∷◌, Option, Some, None, refl, sym, ap, ◌∙◌, subst}
+use Rattle.std.proofs.Common.{◌≡◌, ◌<◌, ◌==◌, ℕ, ℤ, pos, negsuc, Bool, true, false, not, cond, List, Option, Some, None, refl, sym, ap, ◌∙◌, subst, arith}
 use Rattle.std.specs.Prelude.{All, AllPairs, IsNone, is_some}
 use Rattle.std.specs.Ordering.{int_eq}
 use Rattle.std.proofs.lemmas.Bool.{eqb-true, false≢true}
-use Rattle.std.proofs.lemmas.Option.{same_Some}
-use Rattle.std.proofs.lemmas.List.Elements.{All-head, All-tail}
-use Rattle.aom_scheduler.specs.declared.entry.Entry.{Entry}
 use Rattle.aom_requests.specs.Requests.{Table, Changes, holds_signal, is_pending, is_ready, is_server, kept_code, pending, request_at, state_at, state_of, taken, with_state, with_status}
 use Rattle.aom_requests.specs.declared.request.State.{State}
 use Rattle.aom_requests.specs.declared.request.State.TheVariants.{Idle as Held_idle, Issued as Held_issued, Active as Held_active, Cancelling as Held_cancelling, Aborted as Held_aborted}
@@ -17,13 +14,12 @@ use Rattle.aom_scheduler.specs.Pending.{AreInOrder, Pending, due_by, due_of, lef
 use Rattle.aom_scheduler.specs.declared.timer.Timer.{Timer as Held_timer}
 use Rattle.aom_scheduler.proofs.Items.{AreDistinct, IsAbsent, place-absent}
 use Rattle.aom_sound.specs.Enlisted.{aborted, cancelled, cancelling, completed_at_once, completed_with, recorded, taken_up, timed_out, waits}
-use Rattle.aom_sound.specs.Enlisted.{is_idle}
 use Rattle.aom_sound.specs.Natives.{is_owed}
 use Rattle.aom_sound.specs.Places.{Request}
 use Rattle.aom_active.specs.Aborts.{aborted_request}
 use Rattle.aom_active.specs.Agrees.{Active, IsWhole, StandsFor, Tells, due_in, may_stand, phase_of, timer_in}
 use Rattle.aom_active.specs.Meanings.{Asks, Completes, Enlists, IsFirstDue, IsFirstReady, IsNewest, IsNewestTimer, Makes, Picks, Removes, TakesUp, Times, asked_anew, queued_anew, begun_with, enlisted_with, is_being_cancelled, timed_for}
-use Rattle.aom_active.proofs.Firsts.{first_by, left_none, left_some, none_by, picks_first, picks_none, ready_is_some, ready_signals, set_by}
+use Rattle.aom_active.proofs.Firsts.{first_by, first_is_ready, left_none, left_some, none_by, picks_first, picks_none, ready_is_some, ready_signals, set_by}
 use Rattle.aom_active.proofs.Halves.{IsKept, Timely, changes_twice, kept_anew, kept_itself, request_anew, listed_placed, listed_without, timely_kept, timely_placed, timely_without, timer_anew}
 use Rattle.aom_active.proofs.Lists.{id_of, standing}
 use Rattle.aom_active.proofs.Turns.{Enters, Follows, Runs, enters_placed, enters_without, follows_marked, follows_same, no_due_no_timer, no_timer, runs_placed, runs_same, runs_without, stand_anew, tells_anew}
@@ -36,9 +32,7 @@ record IsIn (h : Option Held_request) (s : State) : Type 0 where
   is : h ≡ Some (Held_object s status)
 
 in_state : (h : Option Held_request) (s : State) → state_of h ≡ Some s → IsIn h s
-in_state None s e = cc
-in_state (Some (Held_object x status)) s e = record { status = status; is = ap (λ y. Some (Held_object y status)) (same_Some x s e) }
-in_state (Some (Held_server b)) s e = cc
+in_state h s e = grind arith
 
 -- an object's request in any state
 record IsObject (h : Option Held_request) : Type 0 where
@@ -50,36 +44,27 @@ an_object x status = record { state = x; in_it = record { status = status; is = 
 
 -- what is no server's is an object's, so is what is pending and what is being cancelled
 some_object : (h : Option Held_request) → is_server h ≡ false → is_some h ≡ true → IsObject h
-some_object None plain some = cc
-some_object (Some (Held_object x status)) plain some = an_object x status
-some_object (Some (Held_server b)) plain some = cc
+some_object h plain some = grind arith
 
 pending_object : (h : Option Held_request) → is_pending h ≡ true → IsObject h
-pending_object (Some (Held_object x status)) e = an_object x status
-pending_object _ e = cc
+pending_object h e = grind arith
 
 cancelled_object : (h : Option Held_request) → is_being_cancelled h ≡ true → IsObject h
-cancelled_object (Some (Held_object x status)) e = an_object x status
-cancelled_object _ e = cc
+cancelled_object h e = grind arith
 
 -- a server has a signal as it is ready
 server_is : (h : Option Held_request) → is_server h ≡ true → h ≡ Some (Held_server (is_ready h))
-server_is (Some (Held_server b)) e = refl
-server_is (Some (Held_object x status)) e = cc
-server_is None e = cc
+server_is h e = grind arith
 
 -- what an object's request becomes is told where its phase and its status are
 object_tells :
     (x y : State) (u v : ℤ) (r q : Request) (waits : Option Bool) → (phase_of x ≡ r.phase → u ≡ r.status → (phase_of y ≡ q.phase) × (v ≡ q.status)) →
     Tells (Some (Held_object x u)) (Some r) waits → Tells (Some (Held_object y v)) (Some q) waits
-object_tells x y u v r q None becomes tells = becomes tells.0 tells.1
-object_tells x y u v r q (Some waits) becomes tells = absurd tells
+object_tells x y u v r q waits becomes tells = grind (arith, becomes)
 
 -- what is being cancelled is not ready
 cancelled_waits : (h : Option Held_request) → is_being_cancelled h ≡ true → is_ready h ≡ false
-cancelled_waits (Some (Held_object Held_cancelling status)) e = refl
-cancelled_waits (Some (Held_object Held_aborted status)) e = refl
-cancelled_waits _ e = cc
+cancelled_waits h e = grind arith
 
 -- a request that is completed may stand in any state
 completed_stands : (x : State) (status : ℤ) → int_eq status pending ≡ false → may_stand (Some (Held_object x status)) ≡ true
@@ -97,30 +82,11 @@ kept_is_over code = go (int_eq code pending) refl
     go false e = e
 
 none_of : {A : Type 0} (o : Option A) → is_some o ≡ false → o ≡ None
-none_of None e = refl
-none_of (Some x) e = cc
+none_of x e = grind arith
 
 -- a request that is pending is outstanding
 owed : (h : Option Held_request) (r : Option Request) (waits : Option Bool) → may_stand h ≡ true → Tells h r waits → is_pending h ≡ is_owed r
-owed None None waits stand tells = refl
-owed None (Some r) waits stand tells = absurd tells
-owed (Some h) None waits stand tells = absurd tells
-owed (Some (Held_server b)) (Some r) None stand tells = absurd tells
-owed (Some (Held_server b)) (Some r) (Some waits) stand tells = sym (ap (λ q. not (is_idle q) && int_eq r.status pending) tells.0)
-owed (Some (Held_object x status)) (Some r) (Some waits) stand tells = absurd tells
-owed (Some (Held_object x status)) (Some r) None stand tells =
-    by x stand ∙ ap (λ q. not (is_idle q) && int_eq status pending) tells.0 ∙ ap (λ v. not (is_idle r.phase) && int_eq v pending) tells.1
-  where
-    over : (b : Bool) → not b ≡ true → false ≡ b
-    over true e = cc
-    over false e = refl
-
-    by : (x : State) → may_stand (Some (Held_object x status)) ≡ true → is_pending (Some (Held_object x status)) ≡ (not (is_idle (phase_of x)) && int_eq status pending)
-    by Held_idle stand = refl
-    by Held_issued stand = refl
-    by Held_active stand = refl
-    by Held_cancelling stand = refl
-    by Held_aborted stand = over (int_eq status pending) stand
+owed h r waits stand tells = grind arith
 
 pub is_outstanding : {old : Active} (a : Active) → a ≡ old → IsWhole a → (id : ℕ) (asked : ℕ → Option Request) (queues : ℕ → Option Bool) → StandsFor old asked queues → is_pending (request_at a.table id) ≡ is_owed (asked id)
 is_outstanding a same w id asked queues s = owed (request_at a.table id) (asked id) (queues id) (w.requests id) ((subst (λ x. StandsFor x asked queues) (sym same) s).tells id)
@@ -314,15 +280,7 @@ module _ {old : Active} (a : Active) (same : a ≡ old) (w : IsWhole a) (id : �
 
   -- the first that is ready holds a signal, and is enlisted
   pub pick_is_ready : first_ready a.roster.entries ≡ Some id → is_ready (request_at a.table id) ≡ true
-  pick_is_ready e = entry_ready a.roster.entries w.marks e
-    where
-      entry_ready : (es : List Entry) → All (λ e. e.is_ready ≡ is_ready (request_at a.table e.id)) es → first_ready es ≡ Some id → is_ready (request_at a.table id) ≡ true
-      entry_ready [] marks e = cc
-      entry_ready (x ∷ xs) marks e = go x.is_ready refl e (λ f. entry_ready xs (All-tail (λ e. e.is_ready ≡ is_ready (request_at a.table e.id)) x xs marks) f)
-        where
-          go : (b : Bool) → x.is_ready ≡ b → cond b (Some x.id) (first_ready xs) ≡ Some id → (first_ready xs ≡ Some id → is_ready (request_at a.table id) ≡ true) → is_ready (request_at a.table id) ≡ true
-          go true ready e rest = ap (λ k. is_ready (request_at a.table k)) (sym (same_Some x.id id e)) ∙ sym (All-head (λ e. e.is_ready ≡ is_ready (request_at a.table e.id)) x xs marks) ∙ ready
-          go false waits e rest = rest e
+  pick_is_ready e = first_is_ready a w id e
 
   pub pick_signals : first_ready a.roster.entries ≡ Some id → holds_signal (request_at a.table id) ≡ true
   pick_signals e = ready_signals (request_at a.table id) (pick_is_ready e)
@@ -345,13 +303,7 @@ module _ {old : Active} (a : Active) (same : a ≡ old) (w : IsWhole a) (id : �
       (λ x v e. object_tells o.state Held_idle o.in_it.status o.in_it.status x (taken_up x) v (λ phase status. (refl, status)) (subst (λ h. Tells h (Some x) v) o.in_it.is e)) (λ x. (refl, refl)))
     where
       ready_is_over : (h : Option Held_request) → is_ready h ≡ true → is_pending h ≡ false
-      ready_is_over (Some (Held_object Held_active status)) e = go (int_eq status pending) e
-        where
-          go : (b : Bool) → not b ≡ true → b ≡ false
-          go true e = cc
-          go false e = refl
-      ready_is_over (Some (Held_server b)) e = refl
-      ready_is_over _ e = cc
+      ready_is_over h e = grind arith
 
 module _ {old : Active} (a : Active) (same : a ≡ old) (w : IsWhole a) where
   -- the timer that is due first, and the pick
@@ -427,8 +379,7 @@ module _ {old : Active} (a : Active) (same : a ≡ old) (w : IsWhole a) (id : �
       absent = place-absent (λ e. e.id) id a.roster.entries (none_of (place id a.roster) (w.enlisted id ∙ ap is_some free))
 
       unasked : (o : Option Request) (v : Option Bool) → Tells None o v → timer_in o ≡ None
-      unasked None v tells = refl
-      unasked (Some x) v tells = absurd tells
+      unasked o v tells = grind arith
 
       stands : (asked : ℕ → Option Request) (queues : ℕ → Option Bool) (order : ℕ) → StandsFor a asked queues → IsNewest order asked → queues id ≡ waits → StandsFor (parts t grown a.pending) (asked_anew id (Some (enlisted_with order priority)) asked) queues
       stands asked queues order s newest here =
@@ -468,9 +419,7 @@ module _ {old : Active} (a : Active) (same : a ≡ old) (w : IsWhole a) (id : �
       runs = runs_same a w t id q ch (λ e. absurd (false≢true (sym (ap is_pending was) ∙ e)))
 
       signals : (o : Option Request) (v : Option Bool) (x : Bool) → Tells (Some (Held_server x)) o v → Tells (Some (Held_server b)) o (Some b)
-      signals None v x tells = absurd tells
-      signals (Some y) None x tells = absurd tells
-      signals (Some y) (Some v) x tells = (tells.0, refl)
+      signals o v x tells = grind arith
 
       stands : (asked : ℕ → Option Request) (queues : ℕ → Option Bool) → StandsFor a asked queues → StandsFor (parts t r a.pending) asked (queued_anew id (Some b) queues)
       stands asked queues s =

@@ -1,17 +1,13 @@
 -- Names and requests of cells that stand once.
-use Rattle.std.proofs.Common.{◌≡◌, ◌==◌, ℕ, Bool, true, false, cond, List, [], ◌∷◌, Some, refl, sym, ap, ◌∙◌}
+use Rattle.std.proofs.Common.{◌≡◌, ◌==◌, ℕ, true, false, cond, List, ◌∷◌, Some, refl, sym, ap, ◌∙◌, arith}
 use Rattle.std.specs.Prelude.{is_some}
 use Rattle.std.proofs.lemmas.Bool.{eq-eqb, ne_eqb, false≢true}
+use Rattle.aom_sound.proofs.Dropping.{requested_unnamed}
 use Rattle.aom_sound.specs.Places.{Cell, Object, Request, Tidy, named, requested}
 
 -- what has a request is there
 pub asked_lives : (cs : List Cell) (n : ℕ) (r : Request) → requested cs n ≡ Some r → is_some (named cs n) ≡ true
-asked_lives [] n r e = cc
-asked_lives (c ∷ cs) n r e = go (c.object.name == n) e (asked_lives cs n r)
-  where
-    go : (b : Bool) → cond b c.request (requested cs n) ≡ Some r → (requested cs n ≡ Some r → is_some (named cs n) ≡ true) → is_some (cond b (Some c.object) (named cs n)) ≡ true
-    go true e rest = refl
-    go false e rest = rest e
+asked_lives cs n r e = grind (arith, requested_unnamed cs n)
 
 -- what is there behind a cell has another name, and another place
 pub other_name : (c : Cell) (cs : List Cell) (n : ℕ) → Tidy (c ∷ cs) → is_some (named cs n) ≡ true → (c.object.name == n) ≡ false

@@ -15,8 +15,7 @@ use Rattle.aom_active.specs.Meanings.{IsFirstDue, IsNextDue, NoneDue}
 
 -- a request with a timer is among those that have one, and one with none is not
 among_some : (o : Object) (q : Option Request) (t : Timer) (others : Option Timed) → timer_in q ≡ Some t → among_timers o q others ≡ Some (sooner (record { object = o; timer = t }) others)
-among_some o None t others e = cc
-among_some o (Some r) t others e = ap (λ u. among_timers o (Some (record r { timer = u })) others) e
+among_some o q t others e = grind arith
 
 among_none : (o : Object) (q : Option Request) (others : Option Timed) → timer_in q ≡ None → among_timers o q others ≡ others
 among_none o None others e = refl
@@ -27,11 +26,7 @@ timer_first : (c : Cell) (cs : List Cell) → timer_in (requested (c ∷ cs) c.o
 timer_first c cs = ap timer_in (asked_first c cs)
 
 timer_lives : (cs : List Cell) (n : ℕ) (t : Timer) → timer_in (requested cs n) ≡ Some t → is_some (named cs n) ≡ true
-timer_lives cs n t e = go (requested cs n) refl e
-  where
-    go : (q : Option Request) → requested cs n ≡ q → timer_in q ≡ Some t → is_some (named cs n) ≡ true
-    go None here e = cc
-    go (Some r) here e = asked_lives cs n r here
+timer_lives cs n t e = grind (arith, asked_lives cs n)
 
 timer_later : (c : Cell) (cs : List Cell) (n : ℕ) (t : Timer) → Tidy (c ∷ cs) → timer_in (requested cs n) ≡ Some t → timer_in (requested (c ∷ cs) n) ≡ Some t
 timer_later c cs n t tidy e = ap (λ b. timer_in (cond b c.request (requested cs n))) (other_name c cs n tidy (timer_lives cs n t e)) ∙ e

@@ -1,16 +1,14 @@
 -- The first of the timers and the first entry that is ready, as they tell of the requests that they stand for.
-use Rattle.std.proofs.Common.{◌≡◌, ◌≢◌, ◌<◌, ◌≤◌, ◌==◌, ℕ, ℤ, Bool, true, false, cond, List, [], ◌∷◌, length, suc, Option, Some, None, refl, sym, ap, ◌∙◌, subst, arith}
-use Rattle.std.specs.Prelude.{All, AllPairs, IsSome, is_some, not, ◌&&◌, ◌||◌, nat_le, nat_lt, option_map}
-use Rattle.std.specs.Ordering.{int_eq}
-use Rattle.std.proofs.lemmas.Bool.{eq-eqb, eqb-true, eqb-false, false≢true, true≢false, leb-true, leb-false}
+use Rattle.std.proofs.Common.{◌≡◌, ◌≢◌, ◌<◌, ◌≤◌, ◌==◌, ℕ, Bool, true, false, cond, List, [], ◌∷◌, length, Option, Some, None, refl, sym, ap, ◌∙◌, subst, arith}
+use Rattle.std.specs.Prelude.{All, AllPairs, IsSome, is_some, ◌&&◌, ◌||◌, nat_le, nat_lt, option_map}
+use Rattle.std.proofs.lemmas.Bool.{eq-eqb, eqb-true, eqb-false, false≢true, true≢false, leb-true}
+use Rattle.std.proofs.lemmas.Bool.Decides.{nat_tests}
+use Rattle.aom_image.proofs.Given.{true_given}
 use Rattle.std.proofs.lemmas.Option.{none-some, same_Some}
 use Rattle.std.proofs.lemmas.List.Elements.{All-cons, All-head, All-tail, All-weaker}
 use Rattle.aom_requests.specs.Requests as Held
-use Rattle.aom_requests.specs.Requests.{holds_signal, pending, request_at}
-use Rattle.aom_requests.specs.declared.request.State.{State}
-use Rattle.aom_requests.specs.declared.request.State.TheVariants.{Idle as Held_idle, Issued as Held_issued, Active as Held_active, Cancelling as Held_cancelling, Aborted as Held_aborted}
+use Rattle.aom_requests.specs.Requests.{holds_signal, request_at}
 use Rattle.aom_requests.specs.declared.request.Request.{Request as Held_request}
-use Rattle.aom_requests.specs.declared.request.Request.TheVariants.{Object as Held_object, Server as Held_server}
 use Rattle.aom_scheduler.specs.Order.{without}
 use Rattle.aom_scheduler.specs.Roster.{first_ready}
 use Rattle.aom_scheduler.specs.Pending.{due_by, due_of, left_by}
@@ -18,10 +16,9 @@ use Rattle.aom_scheduler.specs.declared.entry.Entry.{Entry}
 use Rattle.aom_scheduler.specs.declared.timer.Timer.{Timer as Held_timer}
 use Rattle.aom_scheduler.proofs.Items.{AreDistinct, at_head, pairs-head, pairs-tail, without-at}
 use Rattle.aom_scheduler.proofs.Timing.{stands-if_set}
-use Rattle.aom_sound.specs.Enlisted.{is_active}
 use Rattle.aom_sound.specs.Places.{Request, Timer}
-use Rattle.aom_sound.specs.World.{goes_before, is_ready, is_sooner}
-use Rattle.aom_active.specs.Agrees.{Active, ComesSooner, GoesBefore, IsSooner, IsWhole, StandsFor, Tells, phase_of, timer_in}
+use Rattle.aom_sound.specs.World.{goes_before, is_sooner}
+use Rattle.aom_active.specs.Agrees.{Active, ComesSooner, GoesBefore, IsSooner, IsWhole, StandsFor, Tells, timer_in}
 use Rattle.aom_active.specs.Meanings.{IsFirstDue, IsFirstReady, NoneDue, NoneReady, goes}
 use Rattle.aom_active.proofs.Halves.{Timely}
 use Rattle.aom_active.proofs.Lists.{Numbered, both, id_of, standing}
@@ -64,17 +61,26 @@ first_timer asked t ts s = record { timer = own.timer; runs = own.is; due_is = o
         by_place : Numbered id_of n (λ v. IsSooner (asked t.id) (asked v.id)) → is_sooner own.timer u ≡ true
         by_place w = subst (λ o. ComesSooner (Some own.timer) o) (ap (λ k. timer_in (asked k)) w.number_is ∙ e) (subst (λ o. ComesSooner o (timer_in (asked w.item.id))) own.is w.holds)
 
+-- what is due is the first
+record IsDueFirst (now id : ℕ) (ts : List Held_timer) : Type 0 where
+  timer : Held_timer
+  rest : List Held_timer
+  is : ts ≡ timer ∷ rest
+  name : timer.id ≡ id
+  le : nat_le timer.due now ≡ true
+
+due_first : (now id : ℕ) (ts : List Held_timer) → due_by now ts ≡ Some id → IsDueFirst now id ts
+due_first now id [] e = cc
+due_first now id (t ∷ ts) e =
+    true_given (λ b. cond b (Some t.id) None ≡ Some id) (nat_le t.due now) e (λ none. cc)
+    (λ le is. record { timer = t; rest = ts; is = refl; name = same_Some t.id id is; le = le })
+
 -- it is the first that is due, or none is
 pub first_by : (asked : ℕ → Option Request) (now id : ℕ) (ts : List Held_timer) → Timely asked ts → due_by now ts ≡ Some id → IsFirstDue now id asked
-first_by asked now id [] s e = cc
-first_by asked now id (t ∷ ts) s e = go (nat_le t.due now) refl e
-  where
-    go : (b : Bool) → nat_le t.due now ≡ b → cond b (Some t.id) None ≡ Some id → IsFirstDue now id asked
-    go true le is =
-        let f = first_timer asked t ts s in
-        subst (λ n. IsFirstDue now n asked) (same_Some t.id id is)
-        (record { timer = f.timer; runs = f.runs; due = omega (arith, f.due_is, leb-true t.due now le); first = f.first })
-    go false le is = cc
+first_by asked now id ts s e =
+    let d = due_first now id ts e in
+    let f = first_timer asked d.timer d.rest (subst (Timely asked) d.is s) in
+    subst (λ n. IsFirstDue now n asked) d.name (record { timer = f.timer; runs = f.runs; due = omega (arith, f.due_is, leb-true d.timer.due now d.le); first = f.first })
 
 no_earlier : (t u : Timer) → is_sooner t u ≡ true → t.due ≤ u.due
 no_earlier t u e = at t.due u.due t.order u.order e
@@ -84,55 +90,37 @@ no_earlier t u e = at t.due u.due t.order u.order e
 
 pub none_by : (asked : ℕ → Option Request) (now : ℕ) (ts : List Held_timer) → Timely asked ts → due_by now ts ≡ None → NoneDue now asked
 none_by asked now [] s e = λ n u runs. absurd (none-some _ (s.dues n ∙ ap (option_map (λ v. v.due)) runs))
-none_by asked now (t ∷ ts) s e = λ n u runs. go (nat_le t.due now) refl e n u runs
+none_by asked now (t ∷ ts) s e = λ n u runs. by_name n u runs (n == t.id) refl
   where
-    by_name : now < t.due → (n : ℕ) (u : Timer) → timer_in (asked n) ≡ Some u → (b : Bool) → (n == t.id) ≡ b → now < u.due
-    by_name late n u runs true same =
+    late : now < t.due
+    late = grind (arith, nat_tests)
+
+    by_name : (n : ℕ) (u : Timer) → timer_in (asked n) ≡ Some u → (b : Bool) → (n == t.id) ≡ b → now < u.due
+    by_name n u runs true same =
         let f = first_timer asked t ts s in
         let equal : f.timer ≡ u = same_Some f.timer u (sym f.runs ∙ sym (ap (λ k. timer_in (asked k)) (eqb-true n t.id same)) ∙ runs) in
         omega (arith, late, f.due_is, ap (λ v. v.due) equal)
-    by_name late n u runs false other =
+    by_name n u runs false other =
         let f = first_timer asked t ts s in
         omega (arith, late, f.due_is, no_earlier f.timer u (f.first n u (eqb-false n t.id other) runs))
 
-    go : (b : Bool) → nat_le t.due now ≡ b → cond b (Some t.id) None ≡ None → (n : ℕ) (u : Timer) → timer_in (asked n) ≡ Some u → now < u.due
-    go true le is = cc
-    go false le is = λ n u runs. by_name (leb-false t.due now le) n u runs (n == t.id) refl
-
 -- what is left of the timers
 pub left_none : (now : ℕ) (ts : List Held_timer) → due_by now ts ≡ None → left_by now ts ≡ ts
-left_none now [] e = refl
-left_none now (t ∷ ts) e = go (nat_le t.due now) e
-  where
-    go : (b : Bool) → cond b (Some t.id) None ≡ None → cond b ts (t ∷ ts) ≡ t ∷ ts
-    go true e = cc
-    go false e = refl
+left_none now ts e = grind arith
 
 pub left_some : (now id : ℕ) (ts : List Held_timer) → AreDistinct id_of ts → due_by now ts ≡ Some id → left_by now ts ≡ without id_of id ts
-left_some now id [] distinct e = cc
-left_some now id (t ∷ ts) distinct e = go (nat_le t.due now) e
-  where
-    go : (b : Bool) → cond b (Some t.id) None ≡ Some id → cond b ts (t ∷ ts) ≡ without id_of id (t ∷ ts)
-    go true e = without-at id_of id (t ∷ ts) 0 distinct (at_head t ts (same_Some t.id id e))
-    go false e = cc
+left_some now id ts distinct e =
+    let d = due_first now id ts e in
+    subst (λ l. left_by now l ≡ without id_of id l) (sym d.is)
+    (ap (λ b. cond b d.rest (d.timer ∷ d.rest)) d.le ∙ without-at id_of id (d.timer ∷ d.rest) 0 (subst (AreDistinct id_of) d.is distinct) (at_head d.timer d.rest d.name))
 
 -- the first is set no more then
 pub fewer_left : (now id : ℕ) (ts : List Held_timer) → due_by now ts ≡ Some id → length (left_by now ts) < length ts
-fewer_left now id [] e = cc
-fewer_left now id (t ∷ ts) e = go (nat_le t.due now) e
-  where
-    go : (b : Bool) → cond b (Some t.id) None ≡ Some id → length (cond b ts (t ∷ ts)) < suc (length ts)
-    go true e = omega arith
-    go false e = cc
+fewer_left now id ts e = grind arith
 
 -- the object of the first that is due has a timer
 pub set_by : (now id : ℕ) (ts : List Held_timer) → due_by now ts ≡ Some id → is_some (due_of id ts) ≡ true
-set_by now id [] e = cc
-set_by now id (t ∷ ts) e = go (nat_le t.due now) e
-  where
-    go : (b : Bool) → cond b (Some t.id) None ≡ Some id → is_some (due_of id (t ∷ ts)) ≡ true
-    go true e = ap (λ b. is_some (cond b (Some t.due) (due_of id ts))) (eq-eqb t.id id (same_Some t.id id e))
-    go false e = cc
+set_by now id ts e = grind arith
 
 -- ---- entries
 
@@ -169,33 +157,15 @@ first_entry R P id (x ∷ xs) e pairs all = go x.is_ready refl e (λ later. firs
         }
 
 -- a request is ready as the table tells
-or_nothing : (b : Bool) → b ≡ (b || false)
-or_nothing true = refl
-or_nothing false = refl
-
-object_ready : (s : State) (v : ℤ) (r : Request) → phase_of s ≡ r.phase → v ≡ r.status → Held.is_ready (Some (Held_object s v)) ≡ is_ready r
-object_ready Held_active v r phase status = ap (λ x. not (int_eq x pending)) status ∙ ap (λ p. is_active p && not (int_eq r.status pending)) phase
-object_ready Held_idle v r phase status = ap (λ p. is_active p && not (int_eq r.status pending)) phase
-object_ready Held_issued v r phase status = ap (λ p. is_active p && not (int_eq r.status pending)) phase
-object_ready Held_cancelling v r phase status = ap (λ p. is_active p && not (int_eq r.status pending)) phase
-object_ready Held_aborted v r phase status = ap (λ p. is_active p && not (int_eq r.status pending)) phase
-
 same_ready : (h : Option Held_request) (r : Request) (waits : Option Bool) → Tells h (Some r) waits → Held.is_ready h ≡ goes r waits
-same_ready None r waits tells = absurd tells
-same_ready (Some (Held_object s v)) r None tells = object_ready s v r tells.0 tells.1 ∙ or_nothing (is_ready r)
-same_ready (Some (Held_object s v)) r (Some waits) tells = absurd tells
-same_ready (Some (Held_server b)) r None tells = absurd tells
-same_ready (Some (Held_server b)) r (Some waits) tells = tells.1 ∙ sym (ap (λ p. (is_active p && not (int_eq r.status pending)) || waits) tells.0)
+same_ready h r waits tells = grind arith
 
 -- what is ready is enlisted, and holds a signal
 pub ready_is_some : (h : Option Held_request) → Held.is_ready h ≡ true → is_some h ≡ true
-ready_is_some None e = cc
-ready_is_some (Some h) e = refl
+ready_is_some h e = grind arith
 
 pub ready_signals : (h : Option Held_request) → Held.is_ready h ≡ true → holds_signal h ≡ true
-ready_signals (Some (Held_object Held_active s)) e = e
-ready_signals (Some (Held_server b)) e = e
-ready_signals _ e = cc
+ready_signals h e = grind arith
 
 -- a request that the table tells
 record Told (o : Option Request) (waits : Option Bool) (b : Bool) : Type 0 where
@@ -204,9 +174,13 @@ record Told (o : Option Request) (waits : Option Bool) (b : Bool) : Type 0 where
   ready : goes request waits ≡ b
 
 told : (h : Option Held_request) (o : Option Request) (waits : Option Bool) → Tells h o waits → is_some h ≡ true → Told o waits (Held.is_ready h)
-told h (Some r) waits tells some = record { request = r; is = refl; ready = sym (same_ready h r waits tells) }
-told None None waits tells some = cc
-told (Some h) None waits tells some = absurd tells
+told h o waits tells some = grind arith
+
+-- the first entry that is ready is that of a request that is
+pub first_is_ready : (a : Active) → IsWhole a → (id : ℕ) → first_ready a.roster.entries ≡ Some id → Held.is_ready (request_at a.table id) ≡ true
+first_is_ready a w id e =
+    let f = first_entry (λ e f. Unit {0}) (λ e. e.is_ready ≡ Held.is_ready (request_at a.table e.id)) id a.roster.entries e (λ i j d less within. tt) w.marks in
+    sym (ap (λ k. Held.is_ready (request_at a.table k)) f.name) ∙ sym f.holds ∙ f.ready
 
 module _ (a : Active) (w : IsWhole a) (asked : ℕ → Option Request) (queues : ℕ → Option Bool) (s : StandsFor a asked queues) where
   -- the entry of a request that is ready
@@ -228,7 +202,7 @@ module _ (a : Active) (w : IsWhole a) (asked : ℕ → Option Request) (queues :
       f = first_entry (λ e f. GoesBefore (asked e.id) (asked f.id)) (λ e. e.is_ready ≡ Held.is_ready (request_at a.table e.id)) id a.roster.entries e s.order w.marks
 
       held_ready : Held.is_ready (request_at a.table id) ≡ true
-      held_ready = sym (ap (λ k. Held.is_ready (request_at a.table k)) f.name) ∙ sym f.holds ∙ f.ready
+      held_ready = first_is_ready a w id e
 
       own : Told (asked id) (queues id) (Held.is_ready (request_at a.table id))
       own = told (request_at a.table id) (asked id) (queues id) (s.tells id) (ready_is_some (request_at a.table id) held_ready)

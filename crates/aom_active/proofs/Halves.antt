@@ -67,23 +67,14 @@ kept_anew id r q asked here kept n = go (id == n) refl
     go false other = kept_itself (asked n)
 
 priority_kept : (p : ℤ) (r q : Option Request) → IsKept r q → HasPriority p r → HasPriority p q
-priority_kept p None q kept has = absurd has
-priority_kept p (Some r) None kept has = absurd kept
-priority_kept p (Some r) (Some q) kept has = sym kept.0 ∙ has
+priority_kept p r q kept has = grind arith
 
 -- whether one goes before the other, by their priorities and orders
 abbrev in_front : ℤ → ℤ → ℕ → ℕ → Bool
 in_front p q m n = int_lt q p || (int_eq p q && nat_lt m n)
 
 goes_kept : (r q s t : Option Request) → IsKept r s → IsKept q t → GoesBefore r q → GoesBefore s t
-goes_kept None q s t first second goes = absurd goes
-goes_kept (Some r) None s t first second goes = absurd goes
-goes_kept (Some r) (Some q) None t first second goes = absurd first
-goes_kept (Some r) (Some q) (Some s) None first second goes = absurd second
-goes_kept (Some r) (Some q) (Some s) (Some t) first second goes =
-    sym (ap (λ p. in_front p q.priority r.order q.order) first.0 ∙ ap (λ p. in_front s.priority p r.order q.order) second.0
-    ∙ ap (λ m. in_front s.priority t.priority m q.order) first.1 ∙ ap (λ n. in_front s.priority t.priority s.order n) second.1)
-    ∙ goes
+goes_kept r q s t first second goes = grind arith
 
 -- ---- the entries
 
@@ -168,12 +159,10 @@ listed_placed asked id order priority es l absent sorted newest = record {
     all = both (λ e. e.id ≢ id) (λ e. HasPriority e.priority (asked e.id)) es absent l.priorities
 
     goes_after : (e : Entry) (r : Option Request) → asked e.id ≡ r → HasPriority e.priority r → before e new ≡ true → GoesBefore r (Some mine)
-    goes_after e None is has first = absurd has
-    goes_after e (Some r) is has first = after_these r mine (ap (λ p. int_le priority p) has ∙ first) (newest e.id r is)
+    goes_after e r is has first = grind arith
 
     goes_ahead : (e : Entry) (r : Option Request) → HasPriority e.priority r → before e new ≡ false → GoesBefore (Some mine) r
-    goes_ahead e None has later = absurd has
-    goes_ahead e (Some r) has later = before_these r mine (ap (λ p. int_le priority p) has ∙ later)
+    goes_ahead e r has later = grind arith
 
 -- ---- the timers
 

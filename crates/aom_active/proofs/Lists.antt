@@ -4,6 +4,7 @@ use Rattle.std.specs.Prelude.{All, AllPairs, IsNone, is_some, option_map, map}
 use Rattle.std.proofs.lemmas.Bool.{cond_both, eq-eqb, eqb-true, eqb-false, not-true, true≢false, false≢true}
 use Rattle.std.proofs.lemmas.List.Elements.{All-nil, All-cons, All-head, All-tail, All-map, All-weaker, filter_passes}
 use Rattle.std.proofs.lemmas.List.Kept.{AllPairs-cons}
+use Rattle.std.proofs.lemmas.Bool.Decides.{nat_tests}
 use Rattle.aom_scheduler.specs.Order.{placed, without, place_of}
 use Rattle.aom_scheduler.specs.Roster.{marked, marked_entry}
 use Rattle.aom_scheduler.specs.Pending.{Pending, due_of, no_later}
@@ -145,42 +146,12 @@ id_of t = t.id
 
 -- when a timer is due once one is gone, and once one is placed that the object had not
 pub due_without : (id n : ℕ) (ts : List Timer) → due_of n (without id_of id ts) ≡ cond (id == n) None (due_of n ts)
-due_without id n [] = go (id == n)
-  where
-    go : (b : Bool) → ◌≡◌ {A = Option ℕ} None (cond b None None)
-    go true = refl
-    go false = refl
-due_without id n (t ∷ ts) = go (t.id == id) (t.id == n) (id == n) refl refl refl (due_without id n ts)
-  where
-    go :
-        (a b c : Bool) → (t.id == id) ≡ a → (t.id == n) ≡ b → (id == n) ≡ c → due_of n (without id_of id ts) ≡ cond c None (due_of n ts) →
-        due_of n (cond (not a) (t ∷ (without id_of id ts)) (without id_of id ts)) ≡ cond c None (cond b (Some t.due) (due_of n ts))
-    go true b true ea eb ec ih = ih
-    go true true false ea eb ec ih = absurd (true≢false (sym (eq-eqb id n (sym (eqb-true t.id id ea) ∙ eqb-true t.id n eb)) ∙ ec))
-    go true false false ea eb ec ih = ih
-    go false true true ea eb ec ih = absurd (true≢false (sym (eq-eqb t.id id (eqb-true t.id n eb ∙ sym (eqb-true id n ec))) ∙ ea))
-    go false false true ea eb ec ih = ap (λ b. cond b (Some t.due) (due_of n (without id_of id ts))) eb ∙ ih
-    go false b false ea eb ec ih = ap (λ b. cond b (Some t.due) (due_of n (without id_of id ts))) eb ∙ ap (λ s. cond b (Some t.due) s) ih
+due_without id n [] = grind arith
+due_without id n (t ∷ ts) = grind (arith, nat_tests, due_without id n ts)
 
 pub due_placed : (t : Timer) (n : ℕ) (ts : List Timer) → due_of t.id ts ≡ None → due_of n (placed no_later t ts) ≡ cond (t.id == n) (Some t.due) (due_of n ts)
 due_placed t n [] unset = refl
-due_placed t n (u ∷ us) unset = go (no_later u t) (parts (u.id == t.id) unset) (λ e. due_placed t n us e)
-  where
-    parts : (b : Bool) → cond b (Some u.due) (due_of t.id us) ≡ None → (b ≡ false) × (due_of t.id us ≡ None)
-    parts true e = cc
-    parts false e = (refl, e)
-
-    swap : (a b : Bool) → (u.id == n) ≡ a → (t.id == n) ≡ b → (u.id == t.id) ≡ false → cond a (Some u.due) (cond b (Some t.due) (due_of n us)) ≡ cond b (Some t.due) (cond a (Some u.due) (due_of n us))
-    swap true true ea eb other = absurd (true≢false (sym (eq-eqb u.id t.id (eqb-true u.id n ea ∙ sym (eqb-true t.id n eb))) ∙ other))
-    swap true false ea eb other = refl
-    swap false b ea eb other = refl
-
-    go :
-        (b : Bool) → ((u.id == t.id) ≡ false) × (due_of t.id us ≡ None) →
-        (due_of t.id us ≡ None → due_of n (placed no_later t us) ≡ cond (t.id == n) (Some t.due) (due_of n us)) →
-        due_of n (cond b (u ∷ placed no_later t us) (t ∷ u ∷ us)) ≡ cond (t.id == n) (Some t.due) (due_of n (u ∷ us))
-    go true e rest = ap (λ o. cond (u.id == n) (Some u.due) o) (rest e.1) ∙ swap (u.id == n) (t.id == n) refl refl e.0
-    go false e rest = refl
+due_placed t n (u ∷ us) unset = grind (arith, nat_tests, due_placed t n us)
 
 -- where numbers are distinct, each timer is the one of its object
 pub own_due : (ts : List Timer) → AreDistinct id_of ts → All (λ t. due_of t.id ts ≡ Some t.due) ts
@@ -191,5 +162,4 @@ pub nothing_stops : (p : Pending) (id : ℕ) → is_some (due_of id p.timers) �
 nothing_stops p id unset = ap (λ ts. record p { timers = ts }) (sym (without-absent id_of id p.timers (absent-due id p.timers (none_of (due_of id p.timers) unset))))
   where
     none_of : (o : Option ℕ) → is_some o ≡ false → IsNone o
-    none_of None e = refl
-    none_of (Some d) e = cc
+    none_of o e = grind arith

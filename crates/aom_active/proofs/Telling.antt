@@ -1,5 +1,5 @@
 -- What the requests that the active objects stand for tell of the table: what each call requires of it.
-use Rattle.std.proofs.Common.{◌≡◌, ℕ, ℤ, Bool, false, true, Option, Some, None, refl, sym, ap, ◌∙◌, subst}
+use Rattle.std.proofs.Common.{◌≡◌, ℕ, Bool, false, true, Option, Some, None, subst, arith}
 use Rattle.std.specs.Prelude.{IsSome, is_some}
 use mathlib.Core.Path.{fun_ext}
 use Rattle.std.specs.Ordering.{int_eq}
@@ -7,11 +7,10 @@ use Rattle.aom_requests.specs.Requests.{is_pending, is_server, pending, request_
 use Rattle.aom_requests.specs.declared.request.State.{State}
 use Rattle.aom_requests.specs.declared.request.State.TheVariants.{Idle as Held_idle, Issued as Held_issued, Active as Held_active, Cancelling as Held_cancelling, Aborted as Held_aborted}
 use Rattle.aom_requests.specs.declared.request.Request.{Request as Held_request}
-use Rattle.aom_requests.specs.declared.request.Request.TheVariants.{Object as Held_object, Server as Held_server}
 use Rattle.aom_sound.specs.Enlisted as Enlisted
 use Rattle.aom_sound.specs.Enlisted.{in_phase, is_active, is_cancelling}
 use Rattle.aom_sound.specs.Places.{Aborted, Active as Waiting, Cancelling, Idle, Issued, Phase, Request}
-use Rattle.aom_active.specs.Agrees.{Active, StandsFor, Tells, phase_of}
+use Rattle.aom_active.specs.Agrees.{Active, StandsFor, Tells}
 use Rattle.aom_active.specs.Meanings.{is_being_cancelled, is_busy, is_waited_for}
 use Rattle.aom_active.specs.Turns.{StandingFollows}
 
@@ -25,72 +24,39 @@ held_state Waiting = Held_active
 held_state Cancelling = Held_cancelling
 held_state Aborted = Held_aborted
 
-same_state : (s : State) → s ≡ held_state (phase_of s)
-same_state Held_idle = refl
-same_state Held_issued = refl
-same_state Held_active = refl
-same_state Held_cancelling = refl
-same_state Held_aborted = refl
-
--- a test that agrees on each state, and passes nothing idle and no server, tells the same of a request
-same_test :
-    (held : Option Held_request → Bool) (test : Phase → Bool) → held None ≡ false → ((s : State) (v : ℤ) → held (Some (Held_object s v)) ≡ test (phase_of s)) → ((b : Bool) → held (Some (Held_server b)) ≡ test Idle) →
-    (h : Option Held_request) (o : Option Request) (waits : Option Bool) → Tells h o waits → held h ≡ in_phase test o
-same_test held test none some server None None waits tells = none
-same_test held test none some server None (Some r) waits tells = absurd tells
-same_test held test none some server (Some h) None waits tells = absurd tells
-same_test held test none some server (Some (Held_object s v)) (Some r) None tells = some s v ∙ ap test tells.0
-same_test held test none some server (Some (Held_object s v)) (Some r) (Some waits) tells = absurd tells
-same_test held test none some server (Some (Held_server b)) (Some r) None tells = absurd tells
-same_test held test none some server (Some (Held_server b)) (Some r) (Some waits) tells = server b ∙ ap test (sym tells.0)
-
 tells_some : (h : Option Held_request) (o : Option Request) (waits : Option Bool) → Tells h o waits → is_some h ≡ is_some o
-tells_some None None waits tells = refl
-tells_some None (Some r) waits tells = absurd tells
-tells_some (Some h) None waits tells = absurd tells
-tells_some (Some h) (Some r) waits tells = refl
+tells_some h o waits tells = grind arith
 
 tells_none : (h : Option Held_request) (waits : Option Bool) → Tells h None waits → h ≡ None
-tells_none None waits tells = refl
-tells_none (Some h) waits tells = absurd tells
+tells_none h waits tells = grind arith
 
 -- whether it is a server's
 tells_server : (h : Option Held_request) (r : Request) (waits : Option Bool) → Tells h (Some r) waits → is_server h ≡ is_some waits
-tells_server None r waits tells = absurd tells
-tells_server (Some (Held_object s v)) r None tells = refl
-tells_server (Some (Held_object s v)) r (Some waits) tells = absurd tells
-tells_server (Some (Held_server b)) r None tells = absurd tells
-tells_server (Some (Held_server b)) r (Some waits) tells = refl
+tells_server h r waits tells = grind arith
 
 -- what has a state has a status
 pub has_status : (h : Option Held_request) → IsSome (state_of h) → IsSome (status_of h)
-has_status (Some (Held_object s v)) some = refl
-has_status (Some (Held_server b)) some = some
-has_status None some = some
+has_status h some = grind arith
 
 -- an object's, which no server is
 tells_state : (h : Option Held_request) (r : Request) → Tells h (Some r) None → state_of h ≡ Some (held_state r.phase)
-tells_state None r tells = absurd tells
-tells_state (Some (Held_object s v)) r tells = ap Some (same_state s ∙ ap held_state tells.0)
-tells_state (Some (Held_server b)) r tells = absurd tells
+tells_state h r tells = grind arith
 
 tells_status : (h : Option Held_request) (r : Request) → Tells h (Some r) None → status_of h ≡ Some r.status
-tells_status None r tells = absurd tells
-tells_status (Some (Held_object s v)) r tells = ap Some tells.1
-tells_status (Some (Held_server b)) r tells = absurd tells
+tells_status h r tells = grind arith
 
 tells_over : (h : Option Held_request) (r : Request) (waits : Option Bool) → Tells h (Some r) waits → int_eq r.status pending ≡ false → is_pending h ≡ false
-tells_over None r waits tells over = refl
-tells_over (Some (Held_object s v)) r None tells over = go s (ap (λ x. int_eq x pending) tells.1 ∙ over)
-  where
-    go : (s : State) → int_eq v pending ≡ false → is_pending (Some (Held_object s v)) ≡ false
-    go Held_idle e = refl
-    go Held_issued e = e
-    go Held_active e = e
-    go Held_cancelling e = e
-    go Held_aborted e = refl
-tells_over (Some (Held_object s v)) r (Some waits) tells over = absurd tells
-tells_over (Some (Held_server b)) r waits tells over = refl
+tells_over h r waits tells over = grind arith
+
+-- the tests on a phase
+tells_active : (h : Option Held_request) (o : Option Request) (waits : Option Bool) → Tells h o waits → is_waited_for h ≡ in_phase is_active o
+tells_active h o waits tells = grind arith
+
+tells_cancelling : (h : Option Held_request) (o : Option Request) (waits : Option Bool) → Tells h o waits → is_being_cancelled h ≡ in_phase is_cancelling o
+tells_cancelling h o waits tells = grind arith
+
+tells_busy : (h : Option Held_request) (o : Option Request) (waits : Option Bool) → Tells h o waits → is_busy h ≡ in_phase Enlisted.is_busy o
+tells_busy h o waits tells = grind arith
 
 -- ---- all of them
 
@@ -117,40 +83,17 @@ module _ (a : Active) (asked : ℕ → Option Request) (queues : ℕ → Option 
   told_over r is over = tells_over (request_at a.table id) r (queues id) (subst (λ o. Tells (request_at a.table id) o (queues id)) is (s.tells id)) over
 
   pub told_active : is_waited_for (request_at a.table id) ≡ in_phase is_active (asked id)
-  told_active = same_test is_waited_for is_active refl each (λ b. refl) (request_at a.table id) (asked id) (queues id) (s.tells id)
-    where
-      each : (s : State) (v : ℤ) → is_waited_for (Some (Held_object s v)) ≡ is_active (phase_of s)
-      each Held_idle v = refl
-      each Held_issued v = refl
-      each Held_active v = refl
-      each Held_cancelling v = refl
-      each Held_aborted v = refl
+  told_active = tells_active (request_at a.table id) (asked id) (queues id) (s.tells id)
 
   pub told_cancelling : is_being_cancelled (request_at a.table id) ≡ in_phase is_cancelling (asked id)
-  told_cancelling = same_test is_being_cancelled is_cancelling refl each (λ b. refl) (request_at a.table id) (asked id) (queues id) (s.tells id)
-    where
-      each : (s : State) (v : ℤ) → is_being_cancelled (Some (Held_object s v)) ≡ is_cancelling (phase_of s)
-      each Held_idle v = refl
-      each Held_issued v = refl
-      each Held_active v = refl
-      each Held_cancelling v = refl
-      each Held_aborted v = refl
+  told_cancelling = tells_cancelling (request_at a.table id) (asked id) (queues id) (s.tells id)
 
   pub told_busy : is_busy (request_at a.table id) ≡ in_phase Enlisted.is_busy (asked id)
-  told_busy = same_test is_busy Enlisted.is_busy refl each (λ b. refl) (request_at a.table id) (asked id) (queues id) (s.tells id)
-    where
-      each : (s : State) (v : ℤ) → is_busy (Some (Held_object s v)) ≡ Enlisted.is_busy (phase_of s)
-      each Held_idle v = refl
-      each Held_issued v = refl
-      each Held_active v = refl
-      each Held_cancelling v = refl
-      each Held_aborted v = refl
+  told_busy = tells_busy (request_at a.table id) (asked id) (queues id) (s.tells id)
 
 -- the functions by which they are told do not matter, nor the queue of what is not enlisted
 queue_follows : (h : Option Held_request) (o : Option Request) (v waits : Option Bool) → (is_some o ≡ true → v ≡ waits) → Tells h o v → Tells h o waits
-queue_follows h (Some r) v waits same tells = subst (λ w. Tells h (Some r) w) (same refl) tells
-queue_follows None None v waits same tells = tt
-queue_follows (Some h) None v waits same tells = absurd tells
+queue_follows h o v waits same tells = grind arith
 
 pub standing_follows : StandingFollows
 standing_follows a asked other queues then same waits s =

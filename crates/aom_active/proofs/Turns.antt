@@ -1,5 +1,5 @@
 -- What each call leaves: the three parts hang together still, and stand for the requests that it makes.
-use Rattle.std.proofs.Common.{◌≡◌, ◌≢◌, ◌==◌, ℕ, ℤ, Bool, true, false, not, cond, List, Option, Some, None, refl, sym, ap, ◌∙◌, subst}
+use Rattle.std.proofs.Common.{arith, ◌≡◌, ◌≢◌, ◌==◌, ℕ, ℤ, Bool, true, false, not, cond, List, Option, Some, None, refl, sym, ap, ◌∙◌, subst}
 use Rattle.std.specs.Prelude.{All, is_some, option_map}
 use Rattle.std.proofs.lemmas.Bool.{eqb-true, eqb-false, false≢true}
 use Rattle.std.proofs.lemmas.Option.{none-some}
@@ -164,8 +164,7 @@ module _ (a : Active) (w : IsWhole a) (t : Table) (id : ℕ) (q : Option Held_re
   }
     where
       go : (n : ℕ) (b : Bool) → is_some (cond b None (due_of n a.pending.timers)) ≡ true → is_pending (cond b q (request_at a.table n)) ≡ true
-      go n true set = cc
-      go n false set = w.waits n set
+      go n b set = grind (arith, w.waits n)
 
   pub runs_placed : (due : ℕ) → due_of id a.pending.timers ≡ None → is_pending q ≡ true → Runs t (record a.pending { timers = placed no_later (timer_of id due) a.pending.timers })
   runs_placed due unset waiting = record {

@@ -148,9 +148,7 @@ module _ (p : Image) (prices : List ℕ) (h : ArePriced p prices) where
 
 -- a budget is below 2^32, so what counts for 2^32 is more
 kind_below : (classes natives : ℕ) (kind : ClassKind) (most : ℕ) → KindFits classes natives kind → kind_declares kind ≡ Some most → most < 4294967296
-kind_below classes natives (Active provider budget) most fits e = let is : budget ≡ most = same_Some budget most e in omega (arith, fits.1, is)
-kind_below classes natives (Server sessions session budget) most fits e = let is : budget ≡ most = same_Some budget most e in omega (arith, fits.3, is)
-kind_below classes natives _ most fits e = absurd cc
+kind_below classes natives kind most fits e = grind arith
 
 declared_below : (p : Image) (payer : Payer) (most : ℕ) → WellFormed p → declared_by p payer ≡ Some most → most < 4294967296
 unfolding class_at
@@ -164,11 +162,7 @@ declared_below p (Class k) most formed e = go (slice_get p.classes k) refl e
 -- what is past the classes declares nothing
 declares_within : (p : Image) (k most : ℕ) → declared_by p (Class k) ≡ Some most → k < length p.classes
 unfolding class_at
-declares_within p k most e = go (slice_get p.classes k) refl e
-  where
-    go : (o : Option ClassDecl) → slice_get p.classes k ≡ o → class_declares o ≡ Some most → k < length p.classes
-    go None is e = absurd cc
-    go (Some d) is e = slice_get_within p.classes k d is
+declares_within p k most e = grind (arith, slice_get_within p.classes k)
 
 -- ---- what was found against what is declared
 
@@ -245,8 +239,7 @@ module _ (p : Image) (prices : List ℕ) (formed : WellFormed p) (linked : IsLin
   refuses_main fault tells = refuses_over Main fault tells earlier
     where
       earlier : (before : Payer) → IsBefore before Main → IsWithin p prices before
-      earlier Main is_before = absurd is_before
-      earlier (Class j) is_before = absurd is_before
+      earlier before is_before = grind arith
 
   pub refuses_class : (fault : BudgetFault) → IsWithin p prices Main → TellsFirst p prices fault → Refuses p fault
   refuses_class fault main first = refuses_over (Class first.class) fault first.tells earlier

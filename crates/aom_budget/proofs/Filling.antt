@@ -26,7 +26,6 @@ use Rattle.aom_bounds.specs.Heights.Heights.{own, under}
 use Rattle.aom_budget.specs.Extents.{IsMost, entered, OfSome, Joined, ComesTo, FramesAt, EntriesAt, Before, IsFilled, most_at}
 use Rattle.aom_budget.proofs.Mentioned.{called_lower}
 use Rattle.aom_budget.proofs.Most.{of_none, alike, joined, of_methods}
-use Rattle.std.proofs.Common.{⊎_elim}
 use Rattle.aom_instructions.specs.declared.instr.Instr.{Instr}
 use Rattle.aom_instructions.specs.declared.instr.Target.{Target}
 
@@ -53,9 +52,7 @@ module _ (p : Image) (cap : ℕ) (its_own : Shape → ℕ) (calls : Shape → In
 -- what holds of a call and of a trap of a method holds of each instruction that enters it
 pub by_entering : (k : ℕ) (P : Instr → Type 0) → ((target : Target) (first c : ℕ) → P (Call target k first c)) → ((target : Target) (first c : ℕ) → P (Trap target k first c)) →
     (i : Instr) → Enters i k → P i
-by_entering k P call trap (Call target called first c) e = subst (λ x. P (Call target x first c)) (sym e) (call target first c)
-by_entering k P call trap (Trap target called first c) e = subst (λ x. P (Trap target x first c)) (sym e) (trap target first c)
-by_entering k P call trap _ e = absurd e
+by_entering k P call trap i e = grind arith
 
 entered_called : (p : Image) (m : ℕ) (sh : Shape) (i : Instr) (k : ℕ) → Enters i k → Among k (callees p m sh i)
 entered_called p m sh i k e = by_entering k (λ j. Among k (callees p m sh j)) (λ target first c. inl refl) (λ target first c. inl refl) i e
@@ -64,9 +61,7 @@ is_entered : (i : Instr) (k : ℕ) → Enters i k → Among k (listed (entered i
 is_entered i k e = by_entering k (λ j. Among k (listed (entered j))) (λ target first c. inl refl) (λ target first c. inl refl) i e
 
 enters : (i : Instr) (k : ℕ) → Among k (listed (entered i)) → Enters i k
-enters (Call target called first c) k h = ⊎_elim (λ e. sym e) (λ none. absurd none) h
-enters (Trap target called first c) k h = ⊎_elim (λ e. sym e) (λ none. absurd none) h
-enters _ k h = absurd h
+enters i k h = grind arith
 
 module _ (p : Image) (m : ℕ) (s : Shapes) (place : ℕ) (sh : Shape) (i : Instr) (linked : IsLinked p) (strongest : IsMethodStrongest p m s) where
   module _ (there : at None s place ≡ Some sh) (stands : instr_at p m place ≡ Some i) where
@@ -104,6 +99,10 @@ reached_within s place sh e = elim (leb_tells (length s) place) [
 ]
 
 module _ (p : Image) (m : ℕ) (s : Shapes) (strongest : IsMethodStrongest p m s) where
+  -- what comes to a place that is reached comes before the end
+  before_at : (its : Shape → ℕ) (calls : Shape → Instr → List ℕ) (of : ℕ → ℕ → Type 0) (n place : ℕ) → ComesTo p its calls of m s place n → Before (ComesTo p its calls of m s) (length s) n
+  before_at its calls of n place comes = record { place = place; below = reached_within s place comes.shape comes.there; comes = comes }
+
   framed : (n : ℕ) → Before (FramesAt p m s) (length s) n → Frames p m n
   framed n h = elim h.comes.is [
     | inl e ↦ let w = of_method p m h.place h.comes.instr h.comes.stands in subst (Frames p m) (sym e) (alone (rw w.1 refl))
@@ -118,25 +117,17 @@ module _ (p : Image) (m : ℕ) (s : Shapes) (strongest : IsMethodStrongest p m s
   frames_before n (alone some) =
       let entry = strongest.typed.entry in
       let applies = strongest.typed.each 0 entry.next entry.there in
-      record {
-        place = 0;
-        below = reached_within s 0 entry.next entry.there;
-        comes = record { shape = entry.next; there = entry.there; instr = applies.instr; stands = applies.stands; is = inl refl };
-      }
+      before_at (λ x. 1) (callees p m) (Frames p) n 0 (record { shape = entry.next; there = entry.there; instr = applies.instr; stands = applies.stands; is = inl refl })
   frames_before n (calling {k = k} {n = above} call frames) =
       let meets = (call.strongest.least s strongest.typed).each call.place call.calls.shape call.calls.there in
       let among = calls_more p m meets.next call.calls.shape call.calls.instr k meets.no_more call.calls.calls in
-      record {
-        place = call.place;
-        below = reached_within s call.place meets.next meets.there;
-        comes = record {
-          shape = meets.next;
-          there = meets.there;
-          instr = call.calls.instr;
-          stands = call.calls.stands;
-          is = inr (above, record { method = k; among = among; has = frames }, omega arith);
-        };
-      }
+      before_at (λ x. 1) (callees p m) (Frames p) n call.place (record {
+        shape = meets.next;
+        there = meets.there;
+        instr = call.calls.instr;
+        stands = call.calls.stands;
+        is = inr (above, record { method = k; among = among; has = frames }, omega arith);
+      })
 
   pub most_frames : (n : ℕ) → IsMost 257 (Before (FramesAt p m s) (length s)) n → IsMost 257 (Frames p m) n
   most_frames n h = alike 257 (Before (FramesAt p m s) (length s)) (Frames p m) n framed frames_before h
@@ -165,31 +156,23 @@ module _ (p : Image) (m : ℕ) (s : Shapes) (strongest : IsMethodStrongest p m s
   heights_before n (own h) =
       let meets = (h.stands.strongest.least s strongest.typed).each h.place h.shape h.stands.there in
       let applies = strongest.typed.each h.place meets.next meets.there in
-      record {
-        place = h.place;
-        below = reached_within s h.place meets.next meets.there;
-        comes = record {
-          shape = meets.next;
-          there = meets.there;
-          instr = applies.instr;
-          stands = applies.stands;
-          is = inl (sym h.count ∙ sym (ap (λ es. length es) meets.no_more.entries));
-        };
-      }
+      before_at (λ x. length x.entries) (λ x j. listed (entered j)) (Heights p) n h.place (record {
+        shape = meets.next;
+        there = meets.there;
+        instr = applies.instr;
+        stands = applies.stands;
+        is = inl (sym h.count ∙ sym (ap (λ es. length es) meets.no_more.entries));
+      })
   heights_before n (under {k = k} {h = count} {n = above} call heights) =
       let meets = (call.stands.strongest.least s strongest.typed).each call.place call.shape call.stands.there in
       let same = ap (λ es. length es) meets.no_more.entries in
-      record {
-        place = call.place;
-        below = reached_within s call.place meets.next meets.there;
-        comes = record {
-          shape = meets.next;
-          there = meets.there;
-          instr = call.instr;
-          stands = call.here;
-          is = inr (above, record { method = k; among = is_entered call.instr k call.enters; has = heights }, omega (arith, same, call.count));
-        };
-      }
+      before_at (λ x. length x.entries) (λ x j. listed (entered j)) (Heights p) n call.place (record {
+        shape = meets.next;
+        there = meets.there;
+        instr = call.instr;
+        stands = call.here;
+        is = inr (above, record { method = k; among = is_entered call.instr k call.enters; has = heights }, omega (arith, same, call.count));
+      })
 
   pub most_entries : (n : ℕ) → IsMost 1025 (Before (EntriesAt p m s) (length s)) n → IsMost 1025 (Heights p m) n
   most_entries n h = alike 1025 (Before (EntriesAt p m s) (length s)) (Heights p m) n heightened heights_before h

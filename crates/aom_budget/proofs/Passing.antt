@@ -6,11 +6,8 @@ use Rattle.aom_image.specs.Image.{Image}
 use Rattle.aom_image.specs.Views.{method_class}
 use Rattle.aom_instructions.specs.declared.instr.Instr.{Instr}
 use Rattle.aom_instructions.specs.declared.instr.Instr.TheVariants.{JumpNull, JumpEmpty, JumpActive, JumpAdded, Call, Cancel, Trap, PushOperation, Push, Delete}
-use Rattle.aom_image.specs.declared.method.Role.TheVariants.{Destruct}
 use Rattle.aom_image.specs.declared.method.Thing.{Thing}
-use Rattle.aom_image.specs.declared.method.Thing.TheVariants.{Object, Message}
 use Rattle.aom_classes.specs.Bodies.{Body, IsLooped}
-use Rattle.aom_classes.specs.Roles.{role_of}
 use Rattle.aom_shape.specs.Kinds.{register, field}
 use Rattle.aom_shape.specs.Needs.{Flow, AllTrue}
 use Rattle.aom_roles.specs.States.{unlisted}
@@ -26,7 +23,6 @@ use Rattle.aom_shape.specs.declared.kind.Kind.{Kind}
 use Rattle.aom_shape.specs.declared.kind.Kind.TheVariants.{Unset, Word, Null, Own, Maybe}
 use Rattle.aom_bounds.specs.Shapes.{Shapes}
 use Rattle.aom_bounds.specs.Calls.{Among, cancel_of, listed, thing_class, object_class, destructors, callees}
-use Rattle.aom_bounds.specs.Calls.{destructor_of as class_destructor}
 use Rattle.aom_prices.specs.Prices.{Prices, price, kind_price, own, perhaps_price}
 use Rattle.aom_prices.specs.Costs.{AmongFlows, Region, Whole, Round, destructor_price}
 use Rattle.aom_prices.specs.Layers.{Destructs}
@@ -94,10 +90,7 @@ below_second (Some k) j rest h = inr h
 
 -- the destructors that run as a thing is destroyed are those that may be called
 pub runs_among : (p : Image) (x : Thing) (j : ℕ) → Destructs p x j → Among j (destructors p (thing_class x))
-runs_among p (Object c) j (inl e) = below_first (role_of p c Destruct) j _ e
-runs_among p (Object c) j (inr w) = below_second (role_of p c Destruct) j _ (subst (λ o. Among j (listed o)) (sym (ap (λ s. class_destructor p s) w.1 ∙ w.2)) (inl refl))
-runs_among p Message j (inl e) = absurd cc
-runs_among p Message j (inr w) = let none : None ≡ Some w.0 = w.1 in absurd cc
+runs_among p x j y = grind arith
 
 module _ (p : Image) (prices : List ℕ) (m : ℕ) (c : Prices) (lower : (k : ℕ) → k < m → price c k ≡ at 0 prices k) where
   module _ (classes : (x : Thing) → c.destruction x ≡ kept (all_going p (destructor_price c) x)) where

@@ -4,23 +4,20 @@ use Rattle.std.proofs.lemmas.Bool.{cases_lt}
 use Rattle.std.proofs.lemmas.Bool.Decides.{eqb_tells}
 use Rattle.std.proofs.lemmas.List.{length-set, length-replicate}
 use Rattle.aom_image.specs.Image.{Image}
-use Rattle.aom_image.specs.Views.{instr_at, method_at, method_class}
+use Rattle.aom_image.specs.Views.{instr_at, method_at}
 use Rattle.aom_image.specs.WellFormed.{WellFormed}
 use Rattle.aom_instructions.specs.declared.instr.Instr.{Instr}
-use Rattle.aom_instructions.specs.declared.instr.Instr.TheVariants.{Call, Cancel, Trap, Push, PushOperation, Delete}
 use Rattle.aom_image.specs.declared.method.Thing.{Thing}
 use Rattle.aom_classes.specs.Linked.{IsLinked}
 use Rattle.aom_classes.proofs.Facts.{of_method}
-use Rattle.aom_shape.specs.Kinds.{register}
 use Rattle.aom_shape.specs.Shape.{Shape}
 use Rattle.aom_shape.specs.Tables.{at}
 use Rattle.aom_rules.specs.Typing.{Typing}
 use Rattle.aom_shape.specs.declared.kind.Kind.{Kind}
-use Rattle.aom_shape.specs.declared.kind.Kind.TheVariants.{Own, Maybe}
 use Rattle.aom_shape.proofs.Lists.{at_set_here, at_set_other}
 use Rattle.aom_bounds.specs.Shapes.{Shapes}
 use Rattle.aom_bounds.specs.Strongest.{IsMethodStrongest, IsStrongest}
-use Rattle.aom_bounds.specs.Calls.{Among, cancel_of, listed, object_class, destructors, callees, CallsAt}
+use Rattle.aom_bounds.specs.Calls.{Among, listed, object_class, destructors, callees, CallsAt}
 use Rattle.aom_bounds.proofs.Typings.{image_strongest, method_within}
 use Rattle.aom_prices.specs.Prices.{Prices}
 use Rattle.aom_prices.specs.Costs.{destructor_price}
@@ -32,28 +29,18 @@ use Rattle.aom_prices.proofs.Capping.{law_up_to}
 use Rattle.aom_prices.proofs.Places.{nothing_there}
 use Rattle.aom_budget.specs.Pricing.{kept, Found, Agrees, IsMethodPriced, ArePricedBelow, ArePriced, IsPriceUpTo}
 use Rattle.aom_budget.proofs.Mentioned.{called_lower}
-use Rattle.aom_budget.proofs.Passing.{runs_among}
 use Rattle.aom_image.proofs.Given.{none_given}
 
 -- ---- a method pays for lower ones
 
 kind_called : (p : Image) (k : Kind) (m : ℕ) → KindDestructs p k m → Among m (destructors p (object_class k))
-kind_called p (Own x a) m runs = runs_among p x m runs
-kind_called p (Maybe x a) m runs = runs_among p x m runs
-kind_called p _ m runs = absurd runs
+kind_called p k m runs = grind arith
 
 cancel_called : (o : Option ℕ) (k : ℕ) → o ≡ Some k → Among k (listed o)
-cancel_called None k e = absurd cc
-cancel_called (Some j) k e = let same : k ≡ j = cc in inl same
+cancel_called o k e = grind arith
 
 paid_called : (p : Image) (m : ℕ) (sh : Shape) (i : Instr) (k : ℕ) → Pays p m sh i k → Among k (callees p m sh i)
-paid_called p m sh (Call target called first c) k e = inl (sym e)
-paid_called p m sh (Trap target called first c) k e = inl (sym e)
-paid_called p m sh (PushOperation a called) k e = inl (sym e)
-paid_called p m sh (Push a) k e = kind_called p (register sh a) k e
-paid_called p m sh (Delete a) k e = kind_called p (register sh a) k e
-paid_called p m sh Cancel k e = cancel_called (cancel_of p (method_class p m)) k e
-paid_called p m sh _ k e = absurd e
+paid_called p m sh i k e = grind arith
 
 pub method_there : (p : Image) (m place : ℕ) (i : Instr) → instr_at p m place ≡ Some i → IsSome (method_at p m)
 method_there p m place i stands = let w = of_method p m place i stands in rw w.1 refl

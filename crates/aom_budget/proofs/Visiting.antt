@@ -6,6 +6,8 @@ use Rattle.aom_image.specs.Image.{Image}
 use Rattle.aom_image.specs.Views.{instr_at}
 use Rattle.aom_instructions.specs.declared.instr.Instr.{Instr}
 use Rattle.aom_instructions.specs.declared.instr.Instr.TheVariants.{Loop, Next}
+use Rattle.aom_image.specs.WellFormed.{WellFormed}
+use Rattle.aom_classes.proofs.Bodies.{linked_is_looped}
 use Rattle.aom_classes.specs.Bodies.{Body, IsLooped}
 use Rattle.aom_classes.specs.Linked.{IsLinked}
 use Rattle.aom_classes.specs.Loops.{loop_in, next_in}
@@ -28,6 +30,12 @@ pub instr_there : (p : Image) (m n place : ℕ) → HasPlaces p m n → place < 
 instr_there p m n place h within =
     let size = length-replicate {A = Option Shape} n None in
     has_instr p m (replicate n None) place (record { method = h.method; is = h.is; size = size ∙ h.size }) (omega (arith, within, size))
+
+-- a next closes a loop that begins before it
+pub next_closes :
+    (p q : Image) → q ≡ p → WellFormed q → IsLinked p → (m place d to : ℕ) (i : Instr) → instr_at p m place ≡ Some i → i ≡ Next d to →
+    (from : ℕ) × (n : ℕ) × Body p m from place d n × (to ≡ suc from)
+next_closes p q same formed linked m place d to i stands is = (linked_is_looped p (subst WellFormed same formed) linked).closes m place d to (stands ∙ ap (λ j. Some j) is)
 
 pub no_loop : (i : Instr) → ((d n : ℕ) → i ≢ Loop d n) → loop_in (Some i) ≡ None
 no_loop i h = by_kind (loop_in (Some i) ≡ None) i (λ loop next. loop) (λ d n e. absurd (h d n e)) (next_is_no_loop i)

@@ -246,19 +246,11 @@ scanned_none code = record {
 
 pub loop_within : (code : List Instr) (p d : ℕ) → loop_at code p ≡ Some d → p < length code
 unfolding loop_in
-loop_within code p d e =
-    elim (slice_get code p) as (λ o. slice_get code p ≡ o → loop_in o ≡ Some d → p < length code) [
-      | None ↦ λ f g. absurd (cc)
-      | Some x ↦ λ f g. slice_get_within code p x f
-    ] refl e
+loop_within code p d e = grind (arith, slice_get_within code p)
 
 pub next_within : (code : List Instr) (q : ℕ) (e : Ending) → next_at code q ≡ Some e → q < length code
 unfolding next_in
-next_within code q e h =
-    elim (slice_get code q) as (λ o. slice_get code q ≡ o → next_in o ≡ Some e → q < length code) [
-      | None ↦ λ f g. absurd (cc)
-      | Some x ↦ λ f g. slice_get_within code q x f
-    ] refl h
+next_within code q e h = grind (arith, slice_get_within code q)
 
 -- where loops nest, the innermost open loop is the one that a next closes
 closes_top : (code : List Instr) (i d t : ℕ) (s : List ℕ) → next_at code i ≡ Some (record { number = d; back = t }) → Scanned code i s → LoopsNest code → (r : List ℕ) × Leaves d t s r

@@ -1,5 +1,5 @@
 -- What is known of the methods that the searches by role answer.
-use Rattle.std.proofs.Common.{◌≡◌, ◌∙◌, ℕ, List, [], ◌∷◌, Bool, true, Option, Some, slice_get, get_or, position, refl, sym, ap}
+use Rattle.std.proofs.Common.{◌≡◌, ◌∙◌, ℕ, List, [], ◌∷◌, Bool, true, Option, Some, slice_get, get_or, position, refl, sym, ap, arith}
 use Rattle.std.proofs.lemmas.Bool.{eqb-true}
 use Rattle.std.proofs.lemmas.Option.{slice_get-get_or}
 use Rattle.std.proofs.lemmas.List.Quantifiers.{position-Some}
@@ -12,7 +12,7 @@ use Rattle.aom_classes.specs.Roles.{destructor_of, is_class, is_main, main_of, p
 use Rattle.aom_classes.proofs.Each.{both}
 use Rattle.aom_image.proofs.Given.{cons_given, some_given}
 use Rattle.aom_image.specs.declared.method.Thing.{Thing}
-use Rattle.aom_image.specs.declared.method.Thing.TheVariants.{Message, Object}
+use Rattle.aom_image.specs.declared.method.Thing.TheVariants.{Object}
 
 -- the roles by their numbers
 roles : List Role
@@ -61,5 +61,4 @@ role_found p c m r e =
 
 -- what is destroyed by a method is an object, and the method its class's destructor
 pub destroyed : (p : Image) (x : Thing) (m : ℕ) → destructor_of p x ≡ Some m → (c : ℕ) × (x ≡ Object c) × (role_of p c Destruct ≡ Some m)
-destroyed p (Object c) m e = (c, refl, e)
-destroyed p Message m e = cc
+destroyed p x m e = grind arith

@@ -1,5 +1,5 @@
 -- What is there stays there as a server takes the first of its queue, and as a client does something: by the connects that stay in queues.
-use Rattle.std.proofs.Common.{Bool, List, None, Option, Some, [], ap, cond, false, length, refl, subst, sym, true, ℕ, ℤ, ◌&&◌, ◌==◌, ◌∙◌, ◌∷◌, ◌≡◌}
+use Rattle.std.proofs.Common.{Bool, List, None, Option, Some, [], ap, cond, false, length, refl, subst, sym, true, ℕ, ℤ, ◌&&◌, ◌==◌, ◌∙◌, ◌∷◌, ◌≡◌, arith}
 use Rattle.std.proofs.lemmas.Bool.{eq-eqb, eqb-true, ne_eqb, true≢false}
 use Rattle.std.proofs.lemmas.List.Folds.{list_any-append}
 use Rattle.std.specs.List.{list_any}
@@ -9,7 +9,7 @@ use Rattle.aom_image.specs.declared.method.Role.TheVariants.{Accept as Accepts_r
 use Rattle.aom_clients.specs.Nodes.{is_connecting_at}
 use Rattle.aom_clients.specs.Table.{row}
 use Rattle.aom_clients.specs.declared.client.Client.{Client}
-use Rattle.aom_clients.specs.declared.client.Client.TheVariants.{Closing as Closing_client, Connecting, Dead, Dying as Dying_client, Gone, Open, Unconnected}
+use Rattle.aom_clients.specs.declared.client.Client.TheVariants.{Connecting, Open}
 use Rattle.aom_clients.specs.declared.refusal.Refusal.{Refusal}
 use Rattle.aom_sound.proofs.ClientsLeave.{service_left}
 use Rattle.aom_sound.proofs.ClientsAsk.{asked_there}
@@ -67,8 +67,7 @@ module _ (cs : List Cell) (o : Object) (lives : named cs o.name ≡ Some o) (e :
           or_true false = refl
 
           both : (a b : Bool) → (a && b) ≡ false → a ≡ true → b ≡ false
-          both true b f h = f
-          both false b f h = cc
+          both a b f h = grind arith
 
           go : (b : Bool) → ((x.object.name == n) && (k == c)) ≡ b → (waits then n c || ((x.object.name == n) && (k == c))) ≡ true
           go true f = ap (λ b. waits then n c || b) f ∙ or_true (waits then n c)
@@ -148,18 +147,10 @@ module _ (p : Image) (s u : State) (all : AllWait s.clients s.cells) (x : Seat) 
 
 -- a client that closes or dies does not connect
 closes_done : (n : ℕ) (x to : Client) → (row x).close ≡ Some to → is_connecting_at n to ≡ false
-closes_done n (Connecting server slots) to e = let same : Unconnected ≡ to = cc in ap (is_connecting_at n) (sym same)
-closes_done n (Open server session slots) to e = let same : Closing_client server session ≡ to = cc in ap (is_connecting_at n) (sym same)
-closes_done n Gone to e = let same : Unconnected ≡ to = cc in ap (is_connecting_at n) (sym same)
-closes_done n _ to e = cc
+closes_done n x to e = grind arith
 
 dies_done : (n : ℕ) (x to : Client) → (row x).die ≡ Some to → is_connecting_at n to ≡ false
-dies_done n Unconnected to e = let same : Dead ≡ to = cc in ap (is_connecting_at n) (sym same)
-dies_done n (Connecting server slots) to e = let same : Dead ≡ to = cc in ap (is_connecting_at n) (sym same)
-dies_done n (Open server session slots) to e = let same : Dying_client server session ≡ to = cc in ap (is_connecting_at n) (sym same)
-dies_done n (Closing_client server session) to e = let same : Dying_client server session ≡ to = cc in ap (is_connecting_at n) (sym same)
-dies_done n Gone to e = let same : Dead ≡ to = cc in ap (is_connecting_at n) (sym same)
-dies_done n _ to e = cc
+dies_done n x to e = grind arith
 
 -- what is asked last loses no connect
 last_keeps : (e : Asked) (v : Service) (c : ℕ) → list_any (is_connect_of c) v.queue ≡ true → list_any (is_connect_of c) (asked_last e v).queue ≡ true

@@ -1,5 +1,5 @@
 -- What a client does means the same under other names: it is refused alike, and comes to the same state, renamed.
-use Rattle.std.proofs.Common.{Bool, List, None, Option, Some, [], ap, cond, false, length, refl, suc, true, ℕ, ℤ, ◌&&◌, ◌∙◌, ◌∷◌, ◌≡◌}
+use Rattle.std.proofs.Common.{arith, Bool, List, None, Option, Some, [], ap, cond, false, length, refl, suc, true, ℕ, ℤ, ◌&&◌, ◌∙◌, ◌∷◌, ◌≡◌}
 use Rattle.std.proofs.lemmas.List.{length-map}
 use Rattle.std.specs.Prelude.{filter, nat_lt, option_map, ◌+◌}
 use Rattle.aom_image.specs.Image.{Image}
@@ -106,39 +106,19 @@ module _ (names : ℕ → ℕ) where
   -- ---- what it may do
 
   connects_kept : (x : Client) → (row (renamed_client names x)).connect ≡ (row x).connect
-  connects_kept (Connecting server slots) = refl
-  connects_kept (Open server session slots) = refl
-  connects_kept (Closing_client server session) = refl
-  connects_kept (Dying server session) = refl
-  connects_kept _ = refl
+  connects_kept x = grind arith
 
   sends_kept : (x : Client) → (row (renamed_client names x)).send ≡ (row x).send
-  sends_kept (Connecting server slots) = refl
-  sends_kept (Open server session slots) = refl
-  sends_kept (Closing_client server session) = refl
-  sends_kept (Dying server session) = refl
-  sends_kept _ = refl
+  sends_kept x = grind arith
 
   closes_renamed : (x : Client) → (row (renamed_client names x)).close ≡ option_map (renamed_client names) (row x).close
-  closes_renamed (Connecting server slots) = refl
-  closes_renamed (Open server session slots) = refl
-  closes_renamed (Closing_client server session) = refl
-  closes_renamed (Dying server session) = refl
-  closes_renamed _ = refl
+  closes_renamed x = grind arith
 
   dies_renamed : (x : Client) → (row (renamed_client names x)).die ≡ option_map (renamed_client names) (row x).die
-  dies_renamed (Connecting server slots) = refl
-  dies_renamed (Open server session slots) = refl
-  dies_renamed (Closing_client server session) = refl
-  dies_renamed (Dying server session) = refl
-  dies_renamed _ = refl
+  dies_renamed x = grind arith
 
   slots_of_kept : (x : Client) → slots_of (renamed_client names x) ≡ slots_of x
-  slots_of_kept (Connecting server slots) = refl
-  slots_of_kept (Open server session slots) = refl
-  slots_of_kept (Closing_client server session) = refl
-  slots_of_kept (Dying server session) = refl
-  slots_of_kept _ = refl
+  slots_of_kept x = grind arith
 
 module _ (names : ℕ → ℕ) (one_to_one : IsOneToOne names) where
   asked_kept : (r : Option Refusal) (most : ℕ) (l : Option Listed) (cs : List Cell) → asked_of r most (option_map (renamed_listed names) l) (renamed_cells names cs) ≡ asked_of r most l cs

@@ -9,16 +9,17 @@ use Rattle.aom_image.specs.declared.method.Role.TheVariants.{Error as Answers}
 use Rattle.aom_classes.specs.Roles.{destructor_of}
 use Rattle.aom_clients.specs.Nodes.{is_connecting_at}
 use Rattle.aom_clients.specs.declared.client.Client.{Client}
-use Rattle.aom_clients.specs.declared.client.Client.TheVariants.{Closing as Closing_client, Dying as Dying_client, Unconnected}
+use Rattle.aom_clients.specs.declared.client.Client.TheVariants.{Unconnected}
 use Rattle.aom_rules.specs.Typing.{Typing}
 use Rattle.aom_shape.specs.declared.kind.Kind.TheVariants.{Null}
+use Rattle.aom_sound.proofs.Layers.{closing_layer, dispatch_layer}
 use Rattle.aom_sound.proofs.ClientsFacts.{IsAt, ServerLives, dying_layers, server_lives}
 use Rattle.aom_sound.proofs.ClientsMoves.{held_elsewhere}
 use Rattle.aom_sound.proofs.Destroying.{Untouched, untouched}
 use Rattle.aom_sound.proofs.Guarded.{goes_same}
 use Rattle.aom_sound.proofs.Queues.{client_here, client_there}
 use Rattle.aom_sound.proofs.Services.{service_moved}
-use Rattle.aom_sound.specs.Claims.{Dispatching, Dying, Ending, Layer, tasks_of}
+use Rattle.aom_sound.specs.Claims.{Dying, Layer, tasks_of}
 use Rattle.aom_sound.specs.Clients.{at_parting, client_at, with_client}
 use Rattle.aom_sound.specs.Destruction.{closing, first_session, parting, parting_from, seat_or}
 use Rattle.aom_sound.specs.Enlisted.{part_of}
@@ -28,7 +29,7 @@ use Rattle.aom_sound.specs.Places.{Cell, Elsewhere, Going, In_service, Object, R
 use Rattle.aom_sound.specs.Servers.{is_server, parted}
 use Rattle.aom_sound.specs.State.{Accept_left, Accepted, Accepts, Answered, Asks, Closing, Destroy, Dispatch, Dispatched, Goes, Main_left, Object_left, Of_main, Of_object, Of_root, Of_server, Parts, Seat, Service_left, Serves, Stage, State, Task}
 use Rattle.aom_sound.specs.WellTyped.{EndsDispatch, Gone, Now, SomeIn, Stack, WellTyped}
-use Rattle.aom_determined.proofs.Fresh.{dispatch_at}
+use Rattle.aom_determined.proofs.Fresh.{accepting, dispatch_at}
 use Rattle.aom_determined.proofs.Keeping.{Calm, calm_itself, calm_moved, calm_reserved, still_either, there_by}
 use Rattle.aom_determined.proofs.Moving.{dispatch_begun, dispatch_begun_by, or_none}
 use Rattle.aom_determined.proofs.Vanishing.{calm_without}
@@ -57,17 +58,7 @@ dying_apart p t cs tidy ls ts stack tasks o there x c stage at = ne_eqb o.name x
 accepted_apart :
     (o : Object) (d : Option Dispatch) → ((x : Seat) (c : ℕ) (stage : Stage) → d ≡ Some (Of_server x c stage) → (o.name == x.object.name) ≡ false) → (n c : ℕ) → accepts n c d ≡ true →
     (o.name == n) ≡ false
-accepted_apart o (Some (Of_server x k Accepts)) apart n c h = go (x.object.name == n) refl h
-  where
-    go : (b : Bool) → (x.object.name == n) ≡ b → (b && (k == c)) ≡ true → (o.name == n) ≡ false
-    go true e h = ap (λ m. o.name == m) (sym (eqb-true x.object.name n e)) ∙ apart x k Accepts refl
-    go false e h = cc
-accepted_apart o (Some (Of_server x k (Accept_left code))) apart n c h = go (x.object.name == n) refl h
-  where
-    go : (b : Bool) → (x.object.name == n) ≡ b → (b && (k == c)) ≡ true → (o.name == n) ≡ false
-    go true e h = ap (λ m. o.name == m) (sym (eqb-true x.object.name n e)) ∙ apart x k (Accept_left code) refl
-    go false e h = cc
-accepted_apart o _ apart n c h = cc
+accepted_apart o d apart n c h = let a = accepting n c d h in ap (λ m. o.name == m) (sym a.name) ∙ apart a.seat a.client a.stage a.is
 
 pub gone_apart :
     (p : Image) (t : Typing) (s : State) (w : WellTyped p t s) (ts : List Task) → s.tasks ≡ Destroy ∷ ts → (o : Object) → held s.cells (Going (length ts)) ≡ Some o →
@@ -90,8 +81,7 @@ first_session_at cs n (c ∷ clients) x e = go (held cs (Elsewhere (Session n c)
 
 module _ (p : Image) (t : Typing) (s : State) (w : WellTyped p t s) (there : AllThere s) where
   closing_layers : (ls : List Layer) (ts : List Task) → Stack p t s.cells Now ls → Closing ∷ ts ≡ tasks_of ls → (below : List Layer) × (Stack p t s.cells Now below) × (ts ≡ tasks_of below)
-  closing_layers (Ending o left ∷ ls) ts k e = (ls, k.3, cc)
-  closing_layers _ ts k e = cc
+  closing_layers ls ts k e = closing_layer (λ ls. Stack p t s.cells Now ls) ts ls (sym e) k (λ o left below is k. (below, k.3, sym is))
 
   -- a session of a server that is not dispatched is at hand to go
   session_goes :
@@ -154,8 +144,7 @@ pub plain_there : (clients : List Client) (cs : List Cell) (d : Option Dispatch)
 plain_there clients cs d plain all = record { asked = λ n c e. ap (λ b. b || accepts n c d) (all n c e); serves = go d plain }
   where
     go : (d : Option Dispatch) → IsPlain d → IsAtPlace cs d
-    go (Some (Of_server x c stage)) h = absurd h
-    go _ h = tt
+    go d h = grind arith
 
 or_true : (a b : Bool) → b ≡ false → (a || b) ≡ true → a ≡ true
 or_true true b e h = refl
@@ -204,9 +193,7 @@ module _ (p : Image) (s : State) (fit : ClientsFit p s.clients s.cells) (tidy : 
       go false other = others n d other (ap (is_connecting_at n) (sym (client_there c d to s.clients other)) ∙ e)
 
   parting_connecting : (n : ℕ) (x : Client) → is_connecting_at n (at_parting x) ≡ true → is_connecting_at n x ≡ true
-  parting_connecting n (Closing_client server session) e = cc
-  parting_connecting n (Dying_client server session) e = cc
-  parting_connecting n _ e = e
+  parting_connecting n x e = grind arith
 
   stage_there : (x : Seat) (c : ℕ) (stage : Stage) → EndsDispatch p (Of_server x c stage) Now → AreThere s.clients s.cells (Some (Of_server x c stage)) → AllThere (stage_ends x c stage s)
   stage_there x c Accepts ends there = absurd ends
@@ -235,8 +222,7 @@ module _ (p : Image) (s : State) (fit : ClientsFit p s.clients s.cells) (tidy : 
 
 -- of a well-typed state
 top_dispatch : (p : Image) (t : Typing) (cs : List Cell) (ls : List Layer) (d : Dispatch) (ts : List Task) → Stack p t cs Now ls → Dispatched d ∷ ts ≡ tasks_of ls → EndsDispatch p d Now
-top_dispatch p t cs (Dispatching x seats ∷ ls) d ts k e = let same : x ≡ d = cc in subst (λ y. EndsDispatch p y Now) same k.0
-top_dispatch p t cs _ d ts k e = cc
+top_dispatch p t cs ls d ts k e = dispatch_layer (λ ls. Stack p t cs Now ls) d ts ls (sym e) k (λ seats below is k. k.0)
 
 pub dispatch_there :
     (p : Image) (t : Typing) (s : State) (w : WellTyped p t s) → ClientsFit p s.clients s.cells → ((o : Object) → held s.cells (Elsewhere In_service) ≡ Some o → is_server p o.thing ≡ false) →

@@ -1,5 +1,7 @@
 -- Renamings that change no name in use change nothing: so any free name may be put for any other, by changing the two.
-use Rattle.std.proofs.Common.{Bool, List, None, Option, Some, [], ap, cond, false, refl, subst, suc, sym, true, zero, ℕ, ⊎_elim, ◌&&◌, ◌==◌, ◌∙◌, ◌∷◌, ◌≡◌, ◌≢◌}
+use Rattle.std.proofs.Common.{Bool, List, None, Option, Some, [], ap, cond, false, refl, subst, suc, sym, true, zero, ℕ, ⊎_elim, ◌&&◌, ◌==◌, ◌∙◌, ◌∷◌, ◌≡◌, ◌≢◌, arith}
+use Rattle.std.proofs.lemmas.Bool.Decides.{nat_tests}
+use Rattle.std.proofs.lemmas.Option.{same_Some}
 use Rattle.std.proofs.lemmas.Bool.{cases_eq, eq-eqb, eqb-true, ne_eqb, true≢false}
 use Rattle.std.specs.List.{list_any}
 use Rattle.std.specs.Prelude.{◌||◌}
@@ -23,7 +25,7 @@ use Rattle.aom_sound.specs.Clients.{client_at}
 use Rattle.aom_sound.specs.Kept.{ClientsFit, is_connect_of, is_message_of}
 use Rattle.aom_sound.specs.Places.{Asked, Cell, Close_of, Connect_of, Elsewhere, Entry, Field, Going, Message_of, Object, Place, Register, Tidy, held, named, same_place, seen, service_of, unserved, Other, Root, Session, In_service, Queued}
 use Rattle.aom_sound.specs.Servers.{has_message, has_session, is_among, message_thing, session_thing}
-use Rattle.aom_sound.specs.State.{Accept_left, Accepts, Answered, Asks, AtRoot, Closing, Destroy, Dispatch, Dispatched, Home, Inside, Object_left, Of_object, Of_server, Parts, Run, Seat, Serves, Stage, State, Static, Task, Trapped, Unwind}
+use Rattle.aom_sound.specs.State.{Answered, Asks, AtRoot, Closing, Destroy, Dispatch, Dispatched, Home, Inside, Object_left, Of_object, Of_server, Parts, Run, Seat, Serves, Stage, State, Static, Task, Trapped, Unwind}
 use Rattle.aom_sound.specs.WellTyped.{AllSit, Back, Caught, Fits, Gone, Good, IsHoused, Leaves, Now, Returns, SitsFirst, Stack, WellTyped, seat_of}
 use Rattle.aom_determined.proofs.Waiting.{queued_well}
 use Rattle.aom_determined.specs.Names.{IsOneToOne, renamed, renamed_asked, renamed_cells, renamed_client, renamed_clients, renamed_dispatch, renamed_home, renamed_place, renamed_queue, renamed_seat, renamed_stage, renamed_task, renamed_tasks, renamed_other}
@@ -153,15 +155,13 @@ module _ (names : ℕ → ℕ) where
   named_on c cs n some = go (c.object.name == n)
     where
       go : (b : Bool) → cond b (Some c.object) (named cs n) ≢ None
-      go true e = cc
-      go false e = some e
+      go b e = grind (arith, some)
 
   held_on : (c : Cell) (cs : List Cell) (q : Place) → held cs q ≢ None → held (c ∷ cs) q ≢ None
   held_on c cs q some = go (same_place c.owner q)
     where
       go : (b : Bool) → cond b (Some c.object) (held cs q) ≢ None
-      go true e = cc
-      go false e = some e
+      go b e = grind (arith, some)
 
   named_first : (c : Cell) (cs : List Cell) → named (c ∷ cs) c.object.name ≢ None
   named_first c cs e = let clash : Some c.object ≡ None = rw (eq-eqb c.object.name c.object.name refl) at e in cc
@@ -259,7 +259,18 @@ dispatch_at (Trapped ∷ ts) d e = dispatch_at ts d e
 dispatch_at (Destroy ∷ ts) d e = dispatch_at ts d e
 dispatch_at (Closing ∷ ts) d e = dispatch_at ts d e
 dispatch_at (Unwind code ∷ ts) d e = dispatch_at ts d e
-dispatch_at (Dispatched x ∷ ts) d e = cc
+dispatch_at (Dispatched x ∷ ts) d e = same_Some x d e
+
+-- what accepts a client is the server of that name, with that client
+pub record IsAccepting (n c : ℕ) (d : Option Dispatch) : Type 0 where
+  pub seat : Seat
+  pub client : ℕ
+  pub stage : Stage
+  pub is : d ≡ Some (Of_server seat client stage)
+  pub name : seat.object.name ≡ n
+
+pub accepting : (n c : ℕ) (d : Option Dispatch) → accepts n c d ≡ true → IsAccepting n c d
+accepting n c d h = grind (arith, nat_tests)
 
 -- of a cell that is not there no field owns
 unnamed_owns_nothing : (p : Image) (t : Typing) (cs : List Cell) (ls : List Layer) → Good p t cs ls → (n f : ℕ) → named cs n ≡ None → held cs (Field n f) ≡ None
@@ -336,19 +347,12 @@ module _ (p : Image) (t : Typing) (s : State) (names : ℕ → ℕ) (well : Well
   session_so n c e = served_so n (λ none. true≢false (sym (fit.listed n c e) ∙ ap (λ v. has_session v c) none))
 
   accepted_so : (n c : ℕ) (ts : List Task) → s.tasks ≡ ts → accepts n c (dispatch_of ts) ≡ true → names n ≡ n
-  accepted_so n c ts tasks h = by_dispatch (dispatch_of ts) refl h
-    where
-      by_seat : (x : Seat) (client : ℕ) (stage : Stage) → dispatch_of ts ≡ Some (Of_server x client stage) → ((x.object.name == n) && (client == c)) ≡ true → names n ≡ n
-      by_seat x client stage d e =
-          let l =
-          server_lives p t s.cells well.layers Now x client stage well.good.stack
-          (subst (λ l. IsAt (Of_server x client stage) l) (sym tasks ∙ well.tasks) (dispatch_at ts (Of_server x client stage) d)) in
-          subst (λ k. names k ≡ k) (eqb-true x.object.name n (and_first (x.object.name == n) (client == c) e)) (named_so x.object.name (λ none. let clash : Some x.object ≡ None = sym l.0 ∙ none in cc))
-
-      by_dispatch : (d : Option Dispatch) → dispatch_of ts ≡ d → accepts n c d ≡ true → names n ≡ n
-      by_dispatch (Some (Of_server x client Accepts)) d e = by_seat x client Accepts d e
-      by_dispatch (Some (Of_server x client (Accept_left code))) d e = by_seat x client (Accept_left code) d e
-      by_dispatch _ d e = cc
+  accepted_so n c ts tasks h =
+      let a = accepting n c (dispatch_of ts) h in
+      let l =
+      server_lives p t s.cells well.layers Now a.seat a.client a.stage well.good.stack
+      (subst (λ l. IsAt (Of_server a.seat a.client a.stage) l) (sym tasks ∙ well.tasks) (dispatch_at ts (Of_server a.seat a.client a.stage) a.is)) in
+      subst (λ k. names k ≡ k) a.name (named_so a.seat.object.name (λ none. let clash : Some a.seat.object ≡ None = sym l.0 ∙ none in cc))
 
   connect_so : (n c : ℕ) → is_connecting_at n (client_at s.clients c) ≡ true → names n ≡ n
   connect_so n c e = go (list_any (is_connect_of c) (service_of s.cells n).queue) refl (there.asked n c e)

@@ -1,5 +1,5 @@
 -- As cells change no connect is lost, and no session's place changes: by the queues that stay, and by what moves and goes.
-use Rattle.std.proofs.Common.{Bool, List, None, Option, Some, [], ap, cond, false, length, refl, subst, suc, sym, true, ℕ, ℤ, ⊎_elim, ◌==◌, ◌∙◌, ◌∷◌, ◌≡◌}
+use Rattle.std.proofs.Common.{arith, Bool, List, None, Option, Some, [], ap, cond, false, length, refl, subst, suc, sym, true, ℕ, ℤ, ⊎_elim, ◌==◌, ◌∙◌, ◌∷◌, ◌≡◌}
 use Rattle.std.proofs.lemmas.Bool.{eqb-true, true≢false}
 use Rattle.std.specs.List.{list_any}
 use Rattle.std.specs.Prelude.{◌||◌}
@@ -24,7 +24,7 @@ use Rattle.aom_sound.specs.Enlisted.{ended_cells}
 use Rattle.aom_sound.specs.Kept.{is_connect_of}
 use Rattle.aom_sound.specs.Places.{Cell, Elsewhere, Entry, Object, Place, Queued, Register, Service, Session, Tidy, held, moved, named, same_place, service_of}
 use Rattle.aom_sound.specs.Servers.{reserved}
-use Rattle.aom_sound.specs.State.{AtRoot, Dispatch, Frame, Home, Inside, Of_server, Serves, State, Static, Task, field_place}
+use Rattle.aom_sound.specs.State.{Dispatch, Frame, Home, Of_server, Serves, State, Task, field_place}
 use Rattle.aom_sound.specs.Words.{here, stored}
 use Rattle.aom_determined.specs.There.{AreThere, IsAtPlace, accepts, waits}
 
@@ -78,9 +78,7 @@ calm_moved cs a b from to apart = calm_steady cs (moved a b cs) (steady_moved cs
 
 module _ (p : Image) (fr : Frame) (ts : List Task) (s : State) where
   field_alone : (home : Home) (f : ℕ) → NoSession (field_place home f)
-  field_alone Static f n c = refl
-  field_alone AtRoot f n c = refl
-  field_alone (Inside o from) f n c = refl
+  field_alone home f n c = grind arith
 
   spot_alone : (spot : Spot) → NoSession (spot_place p fr ts s spot)
   spot_alone (In_register a) n c = refl
@@ -88,9 +86,7 @@ module _ (p : Image) (fr : Frame) (ts : List Task) (s : State) where
   spot_alone The_message n c = refl
 
   place_stored : (home : Home) (w : ℕ) (v : ℤ) (q : Place) → held (stored s.cells home w v) q ≡ held s.cells q
-  place_stored Static w v q = refl
-  place_stored AtRoot w v q = refl
-  place_stored (Inside o from) w v q = held_set_word s.cells o.name w v q
+  place_stored home w v q = grind (arith, held_set_word)
 
   pub calm_update : (u : Update) → IsFine fr s u → Calm s.cells (cells_after p fr ts s u)
   calm_update (Carried from to) f =

@@ -1,5 +1,5 @@
 -- What is there stays there as a method moves, returns, or is left: connects wait as before, and the same dispatch stands below all.
-use Rattle.std.proofs.Common.{Bool, List, None, Option, Some, [], ap, cond, false, length, refl, subst, suc, sym, true, ℕ, ℤ, ◌&&◌, ◌==◌, ◌∙◌, ◌∷◌, ◌≡◌}
+use Rattle.std.proofs.Common.{Bool, List, None, Option, Some, [], ap, cond, false, length, refl, subst, suc, sym, true, ℕ, ℤ, ◌&&◌, ◌==◌, ◌∙◌, ◌∷◌, ◌≡◌, arith}
 use Rattle.std.proofs.lemmas.Bool.{eqb-true, true≢false}
 use Rattle.std.specs.List.{list_any}
 use Rattle.std.specs.Prelude.{◌||◌}
@@ -16,7 +16,7 @@ use Rattle.aom_sound.proofs.Queues.{client_here, client_there}
 use Rattle.aom_sound.proofs.Services.{service_moved}
 use Rattle.aom_sound.proofs.Storing.{rerequested_alike}
 use Rattle.aom_sound.specs.Calls.{accepted_cells, accepted_clients, answered_by, ended_well, returned}
-use Rattle.aom_sound.specs.Cleanup.{arrived, dealt_with, destroyed, ended_by, to_trap, top_is_whole, top_place, unwound}
+use Rattle.aom_sound.specs.Cleanup.{arrived, destroyed, ended_by, to_trap, top_is_whole, top_place, unwound}
 use Rattle.aom_sound.specs.Clients.{at_opening, client_at, with_client}
 use Rattle.aom_sound.specs.Destruction.{begun, begun_by, destructed}
 use Rattle.aom_sound.specs.Effects.{Calls, Cancels, Destroys, Destroys_last, Effect, Goes_on, Leaves, Returns, Sets_trap, applied}
@@ -112,8 +112,7 @@ module _ (p : Image) (fr : Frame) (ts : List Task) (s : State) where
               ap (λ b. b || false) then_waits
             where
               or_true : (a : Bool) → (a || false) ≡ true → a ≡ true
-              or_true true h = refl
-              or_true false h = cc
+              or_true a h = grind arith
   accepted_there (Of_server x c (Serves o)) from there = record { asked = there.asked; serves = tt }
   accepted_there _ from there = there
 
@@ -143,22 +142,19 @@ module _ (p : Image) (s : State) where
   left_there code _ there = there
 
   arrived_there : (code : ℤ) (ts : List Task) (items : List Item) (u : State) → AreThere s.clients s.cells (dispatch_of ts) → arrived p code ts items s ≡ Goes u → AllThere u
-  arrived_there code (Trapped ∷ Run fr ∷ ts) items u there e = subst AllThere (goes_same _ u e) there
-  arrived_there code (Trapped ∷ Dispatched d ∷ ts) items u there e = subst AllThere (goes_same _ u e) (left_there code d there)
-  arrived_there code _ items u there e = cc
+  arrived_there code ts items u there e = grind arith
 
   pub unwound_there : (code : ℤ) (ts : List Task) (items : List Item) (u : State) → AreThere s.clients s.cells (dispatch_of ts) → unwound p code ts s items ≡ Goes u → AllThere u
   unwound_there code ts [] u there e = cc
-  unwound_there code ts (An_object ∷ items) u there e = go (top_is_whole s.cells (An_object ∷ items)) e
+  unwound_there code ts (An_object ∷ items) u there e = subst AllThere (goes_where (top_is_whole s.cells (An_object ∷ items)) _ e) (by_object (held s.cells (Entry (length items))))
     where
+      goes_where : (b : Bool) (v : State) → cond b (Goes v) (IsStuck NullOrDead) ≡ Goes u → v ≡ u
+      goes_where b v e = grind arith
+
       by_object : (o : Option Object) → AllThere (destroyed p o items (Unwind code ∷ ts) s)
       by_object None = there
       by_object (Some o) =
           there_by s.clients s.cells (dispatch_of ts) s.clients _ _ refl (calm_moved s.cells (Entry (length items)) (Going _) (λ n c. refl) (λ n c. refl) (λ n m. refl))
           (dispatch_begun p o (length items) (Unwind code ∷ ts)) there
-
-      go : (b : Bool) → cond b (Goes (dealt_with p (An_object ∷ items) (Unwind code ∷ ts) s)) (IsStuck NullOrDead) ≡ Goes u → AllThere u
-      go true e = subst AllThere (goes_same _ u e) (by_object (held s.cells (Entry (length items))))
-      go false e = cc
   unwound_there code ts (An_operation m w ∷ items) u there e = subst AllThere (goes_same _ u e) there
   unwound_there code ts (A_mark ∷ items) u there e = arrived_there code ts items u there e

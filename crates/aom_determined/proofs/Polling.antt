@@ -5,8 +5,6 @@ use Rattle.std.specs.Prelude.{nat_le, nat_lt}
 use Rattle.aom_sound.specs.Clients.{client_count}
 use Rattle.aom_image.specs.Image.{Image}
 use Rattle.aom_image.specs.declared.class.ClassKind.{ClassKind}
-use Rattle.aom_image.specs.declared.class.ClassKind.TheVariants.{Active as An_active}
-use Rattle.aom_image.specs.declared.class.Provider.TheVariants.{Native}
 use Rattle.aom_rules.specs.Natives.{is_native_kind}
 use Rattle.aom_sound.specs.Enlisted.{thing_kind}
 use Rattle.aom_sound.specs.Natives.{is_outstanding_at, native_of}
@@ -71,8 +69,7 @@ module _ (heard : Heard) where
       ∙ cond_applied (told heard.completion) cut Cuts (by_timer s (first_due s.cells) delivered)
 
   untold : (t : Turning) → is_polling t ≡ false → told heard.completion t ≡ t
-  untold (Polls n other) e = cc
-  untold _ e = refl
+  untold t e = grind arith
 
   pub turn_unpolled :
       (p : Image) (outside : Outside) (s : State) → is_polling (turning outside nothing_heard s) ≡ false →
@@ -126,17 +123,14 @@ none_polled outside s none =
 
 -- objects that no native serves
 unserved_kind : (k : Option ClassKind) → is_native_kind k ≡ false → native_of k ≡ None
-unserved_kind (Some (An_active (Native n) budget)) e = cc
-unserved_kind _ e = refl
+unserved_kind k e = grind arith
 
 module _ (p : Image) (natives : HasNoNative p) where
   none_outstanding : (n : ℕ) (c : Cell) → is_outstanding_at p n c ≡ false
   none_outstanding n c = rw (unserved_kind (thing_kind p c.object.thing) (thing_unserved p natives c.object.thing))
 
   nothing_completed : (s : State) (answer : Option Completion) (t : Turning) → is_polling t ≡ true → AnswersWell p s (told answer t) → answer ≡ None
-  nothing_completed s None t polled well = refl
-  nothing_completed s (Some a) (Polls n other) polled well = absurd (true≢false (sym well.2 ∙ none_outstanding n well.0))
-  nothing_completed s (Some a) _ polled well = cc
+  nothing_completed s answer t polled well = grind arith
 
   module _ (outside : Outside) (oracle : Oracle) where
     unheard_moves : (c : Choice) (s : State) (n : ℕ) → is_heard p s.tasks ≡ true → c.answer ≡ oracle.answers n

@@ -1,5 +1,5 @@
 -- A turn under other names: orders, priorities, times and numbers decide, so the same timer is due first, the same native is polled or killed, the same object is picked, and the lines are the same.
-use Rattle.std.proofs.Common.{Bool, List, None, Option, Some, [], ap, cond, false, refl, true, ℕ, ℤ, ◌∙◌, ◌∷◌, ◌≡◌, ◌||◌, length, subst, sym}
+use Rattle.std.proofs.Common.{arith, Bool, List, None, Option, Some, [], ap, cond, false, refl, true, ℕ, ℤ, ◌∙◌, ◌∷◌, ◌≡◌, ◌||◌, length, subst, sym}
 use Rattle.std.specs.Prelude.{nat_le, nat_lt, option_map}
 use Rattle.aom_image.specs.Image.{Image}
 use Rattle.aom_image.specs.declared.method.Role.TheVariants.{Accept as Accepts_role, Run as Handles, Service as Attends}
@@ -9,10 +9,10 @@ use Rattle.aom_sound.specs.Clients.{client_count}
 use Rattle.aom_sound.specs.Lines.{refusal_line, serve_line}
 use Rattle.aom_sound.specs.Enlisted.{completed_with, on_request, part_of, recorded, taken_up, timed_out}
 use Rattle.aom_sound.specs.Natives.{all_bereaved, bereaved, is_outstanding_at}
-use Rattle.aom_sound.specs.Places.{Asked, Cell, Close_of, Connect_of, Elsewhere, Going, In_service, Message_of, Object, Queued, Request, Session, Timer, held, requested, service_of, set_request}
+use Rattle.aom_sound.specs.Places.{Asked, Cell, Close_of, Connect_of, Elsewhere, Going, In_service, Message_of, Object, Queued, Request, Session, held, requested, service_of, set_request}
 use Rattle.aom_sound.specs.Servers.{is_server}
 use Rattle.aom_sound.specs.State.{CompletedTwice, Dispatched, Goes, Of_server, Parts, Seat, State, guarded}
-use Rattle.aom_sound.specs.World.{Candidate, Completes, Completion, Cuts, Heard, Hears, Kills, Obeys, Outside, Picks, Polls, Timed, Turning, accepting, among_ready, among_timers, answered_by, attended, attending, before_others, by_event, by_timer, cell_at, delivers, dispatched, due_of, first_due, first_ready, goes_before, goes_now, has_signal, heard_one, is_ready, is_signalled, is_sooner, lives, message_words, nearer, next_event, next_native, next_time, nothing_heard, parting_with, passes, past_native, picked, picks, polled, polls, pick_line, run_line, serves_first, signals, sooner, taken_from, time_of, turn, turned, turning, with_request, written_by, written_turn, AnswersWell}
+use Rattle.aom_sound.specs.World.{Candidate, Completes, Completion, Cuts, Heard, Hears, Kills, Obeys, Outside, Picks, Polls, Timed, Turning, accepting, among_ready, among_timers, answered_by, attended, attending, before_others, by_event, by_timer, cell_at, delivers, dispatched, due_of, first_due, first_ready, goes_now, has_signal, heard_one, is_ready, lives, message_words, nearer, next_event, next_native, next_time, nothing_heard, parting_with, passes, past_native, picked, picks, polled, polls, pick_line, run_line, serves_first, signals, sooner, taken_from, time_of, turn, turned, turning, with_request, written_by, written_turn, AnswersWell}
 use Rattle.aom_transcript.specs.declared.event.Event.{Event}
 use Rattle.aom_transcript.specs.declared.event.Event.TheVariants.{Client as Of_client, Kill, Tell}
 use Rattle.aom_transcript.specs.declared.event.TimedEvent.{TimedEvent}
@@ -43,20 +43,12 @@ module _ (names : ℕ → ℕ) where
   -- ---- timers
 
   sooner_renamed : (a : Timed) (b : Option Timed) → sooner (renamed_timed a) (option_map renamed_timed b) ≡ renamed_timed (sooner a b)
-  sooner_renamed a None = refl
-  sooner_renamed a (Some b) = cond_applied renamed_timed (is_sooner b.timer a.timer) b a
+  sooner_renamed a b = grind arith
 
   timers_renamed :
       (o : Object) (r : Option Request) (others : Option Timed) →
       among_timers (renamed_object names o) r (option_map renamed_timed others) ≡ option_map renamed_timed (among_timers o r others)
-  timers_renamed o None others = refl
-  timers_renamed o (Some r) others = go r.timer
-    where
-      go :
-          (t : Option Timer) →
-          among_timers (renamed_object names o) (Some (record r { timer = t })) (option_map renamed_timed others) ≡ option_map renamed_timed (among_timers o (Some (record r { timer = t })) others)
-      go None = refl
-      go (Some t) = ap Some (sooner_renamed (record { object = o; timer = t }) others)
+  timers_renamed o r others = grind (arith, sooner_renamed)
 
   due_renamed : (cs : List Cell) → first_due (renamed_cells names cs) ≡ option_map renamed_timed (first_due cs)
   due_renamed [] = refl
@@ -65,16 +57,14 @@ module _ (names : ℕ → ℕ) where
   -- ---- signals
 
   signals_kept : (c : Cell) (r : Option Request) → signals (renamed_cell names c) r ≡ signals c r
-  signals_kept c None = refl
-  signals_kept c (Some r) = ap (λ b. is_signalled r || b) (more_kept names c.service.queue)
+  signals_kept c r = grind (arith, more_kept names c.service.queue)
 
   signal_kept : (cs : List Cell) → has_signal (renamed_cells names cs) ≡ has_signal cs
   signal_kept [] = refl
   signal_kept (c ∷ cs) = ap (λ b. b || has_signal (renamed_cells names cs)) (signals_kept c c.request) ∙ ap (λ b. signals c c.request || b) (signal_kept cs)
 
   before_renamed : (a : Candidate) (b : Option Candidate) → before_others (renamed_candidate a) (option_map renamed_candidate b) ≡ renamed_candidate (before_others a b)
-  before_renamed a None = refl
-  before_renamed a (Some b) = cond_applied renamed_candidate (goes_before b.request a.request) b a
+  before_renamed a b = grind arith
 
   among_renamed :
       (c : Cell) (r : Option Request) (others : Option Candidate) →

@@ -1,12 +1,12 @@
 -- As a cell goes: no connect at another server is lost, and a client that connected to this one asks nobody any more.
-use Rattle.std.proofs.Common.{Bool, List, None, Option, Some, [], ap, cond, false, refl, sym, true, ℕ, ◌==◌, ◌∙◌, ◌≡◌}
+use Rattle.std.proofs.Common.{Bool, List, None, Option, Some, [], ap, cond, false, refl, sym, true, ℕ, ◌==◌, ◌∙◌, ◌≡◌, arith}
 use Rattle.std.proofs.lemmas.Bool.{eq-eqb, eqb-true, true≢false}
 use Rattle.std.specs.Prelude.{◌||◌}
 use Rattle.aom_image.specs.Image.{Image}
 use Rattle.aom_clients.specs.Nodes.{is_connecting_at}
 use Rattle.aom_clients.specs.Table.{at_gone}
 use Rattle.aom_clients.specs.declared.client.Client.{Client}
-use Rattle.aom_clients.specs.declared.client.Client.TheVariants.{Closing as Closing_client, Dying, Open, Unconnected}
+use Rattle.aom_clients.specs.declared.client.Client.TheVariants.{Unconnected}
 use Rattle.aom_sound.proofs.ClientsGone.{queue_ended_at, sessions_ended_at}
 use Rattle.aom_sound.proofs.Dropping.{dropped, held_dropped, place_dropped, queue_dropped, tidy_dropped}
 use Rattle.aom_sound.proofs.Maps.{held_lives, same_place-true, same_place_comm}
@@ -44,8 +44,6 @@ module _ (p : Image) (clients : List Client) (cs : List Cell) (tidy : Tidy cs) (
       where
         go : (q : Place) (x : Object) → is_queue_of o.name q ≡ true → held cs q ≡ Some x → x.name ≡ n → (service_of cs n).queue ≡ []
         go (Elsewhere (Queued s m)) x goes there same = empty (Elsewhere (Queued s m)) x n there (waiting s m x there) same
-        go (Elsewhere (Session s m)) x goes there same = cc
-        go (Elsewhere _) x goes there same = cc
         go _ x goes there same = cc
 
     -- and then the server
@@ -70,10 +68,7 @@ module _ (p : Image) (clients : List Client) (cs : List Cell) (tidy : Tidy cs) (
     -- ---- its clients
 
     gone_connecting : (n : ℕ) (x : Client) → is_connecting_at n (at_gone x) ≡ true → is_connecting_at n x ≡ true
-    gone_connecting n (Open server session slots) e = cc
-    gone_connecting n (Closing_client server session) e = cc
-    gone_connecting n (Dying server session) e = cc
-    gone_connecting n _ e = e
+    gone_connecting n x e = grind arith
 
     abbrev then : List Client
     then = sessions_ended (service_of cs o.name).sessions (queue_ended (service_of cs o.name).queue clients)
@@ -91,10 +86,7 @@ module _ (p : Image) (clients : List Client) (cs : List Cell) (tidy : Tidy cs) (
         go :
             (b x : Bool) → has_session (service_of cs o.name) c ≡ b → waits cs o.name c ≡ x →
             is_connecting_at n (cond b (at_gone (cond x Unconnected (client_at clients c))) (cond x Unconnected (client_at clients c))) ≡ true → (is_connecting_at n (client_at clients c) ≡ true) × (waits cs o.name c ≡ false)
-        go true true f g h = cc
-        go true false f g h = (gone_connecting n (client_at clients c) h, g)
-        go false true f g h = cc
-        go false false f g h = (h, g)
+        go b x f g h = grind (arith, gone_connecting n (client_at clients c))
 
     -- where it is not the server that is dispatched
     pub there_vanished :
@@ -109,8 +101,7 @@ module _ (p : Image) (clients : List Client) (cs : List Cell) (tidy : Tidy cs) (
         calm = calm_unslotted (service_of cs o.name).sessions cells
 
         or_second : (a b : Bool) → (a || b) ≡ true → a ≡ false → b ≡ true
-        or_second true b h e = cc
-        or_second false b h e = h
+        or_second a b h e = grind arith
 
         asked : (n c : ℕ) → is_connecting_at n (client_at then c) ≡ true → (waits (each_unslotted (service_of cs o.name).sessions cells) n c || accepts n c d) ≡ true
         asked n c e = go (o.name == n) refl

@@ -1,7 +1,6 @@
 -- What is left between dispatches: timers that run, events to come, natives to poll. Each turn that dispatches nothing takes of it.
 use Rattle.std.proofs.Common.{◌≡◌, ◌&&◌, ◌<◌, ◌≤◌, ◌+◌, ◌-◌, ◌*◌, ◌==◌, ℕ, zero, suc, ℤ, Bool, true, false, List, [], ◌∷◌, Option, Some, None, ap, arith, cond, length, refl, ◌∙◌}
-use Rattle.std.specs.Prelude.{is_some, min, nat_le, not, ◌||◌}
-use Rattle.std.proofs.lemmas.Bool.{le-leb, leb-false, leb-true}
+use Rattle.std.specs.Prelude.{is_some, nat_le, not, ◌||◌}
 use Rattle.aom_active.proofs.Dues.{running}
 use Rattle.aom_active.specs.Agrees.{timer_in}
 use Rattle.aom_image.specs.Image.{Image}
@@ -127,18 +126,7 @@ early_both outside s timer event = ap (λ b. b || reached (time_of (next_event o
 
 -- the nearer of two times has come by then
 nearer_reached : (a b : Option ℕ) (time : ℕ) → nearer a b ≡ Some time → (reached a time || reached b time) ≡ true
-nearer_reached None None time e = cc
-nearer_reached None (Some b) time e = let same : b ≡ time = cc in le-leb b time (omega (arith, same))
-nearer_reached (Some a) None time e = let same : a ≡ time = cc in ap (λ x. x || false) (le-leb a time (omega (arith, same)))
-nearer_reached (Some a) (Some b) time e = let same : min a b ≡ time = cc in go (nat_le a b) refl same
-  where
-    or_true : (x : Bool) → (x || true) ≡ true
-    or_true true = refl
-    or_true false = refl
-
-    go : (x : Bool) → nat_le a b ≡ x → min a b ≡ time → (nat_le a time || nat_le b time) ≡ true
-    go true is same = ap (λ y. y || nat_le b time) (le-leb a time (omega (arith, leb-true a b is, same)))
-    go false is same = ap (λ y. nat_le a time || y) (le-leb b time (omega (arith, leb-false a b is, same))) ∙ or_true (nat_le a time)
+nearer_reached a b time e = grind arith
 
 pub passed_late :
     (outside : Outside) (s u : State) (time : ℕ) → next_time outside s ≡ Some time → u.cells ≡ s.cells → u.rest.clock ≡ time → u.rest.delivered ≡ s.rest.delivered → is_late outside u ≡ true

@@ -4,7 +4,6 @@ use Rattle.std.specs.Prelude.{is_some}
 use Rattle.aom_image.specs.Image.{Image}
 use Rattle.aom_image.specs.declared.method.Role.TheVariants.{Run as Handles}
 use Rattle.aom_image.specs.declared.method.Thing.{Thing}
-use Rattle.aom_image.specs.declared.method.Thing.TheVariants.{Message, Object as An_object_of}
 use Rattle.aom_roles.specs.Classes.{sessions_in}
 use Rattle.aom_roles.specs.Shapes.{kind_of}
 use Rattle.aom_sound.proofs.Counting.{dispatches_are_counted}
@@ -40,13 +39,11 @@ moved_spares p limit most c s u goes = go (restarts p s.tasks) refl
 
 -- the dispatch of an object, or of a server, takes one of them
 class_there : (p : Image) (t : Thing) (m : ℕ) → part_of p Handles t ≡ Some m → is_some (class_of t) ≡ true
-class_there p (An_object_of c) m e = refl
-class_there p Message m e = cc
+class_there p t m e = grind arith
 
 server_there : (p : Image) (t : Thing) → is_server p t ≡ true → is_some (class_of t) ≡ true
 unfolding sessions_in kind_of
-server_there p (An_object_of c) e = refl
-server_there p Message e = cc
+server_there p t e = grind arith
 
 picked_class : (p : Image) (s u : State) (x : Seat) → turned p s (Picks x) ≡ Goes u → is_some (class_of x.object.thing) ≡ true
 picked_class p s u x goes = go (is_server p x.object.thing) refl goes

@@ -1,7 +1,8 @@
 -- What changes of cells mean for what is outstanding: what each cell owes and meets is told by its name, its request and its session.
-use Rattle.std.proofs.Common.{Bool, List, None, Option, Some, [], ap, cond, false, refl, subst, sym, true, ℕ, ℤ, ◌&&◌, ◌==◌, ◌∙◌, ◌∷◌, ◌≡◌}
-use Rattle.std.proofs.lemmas.Bool.{and_parts, and_right, eq-eqb, eqb-true, true≢false}
-use Rattle.std.specs.Prelude.{not}
+use Rattle.std.proofs.Common.{Bool, List, None, Option, Some, [], ap, cond, false, refl, subst, sym, true, ℕ, ℤ, ◌&&◌, ◌==◌, ◌∙◌, ◌∷◌, ◌≡◌, arith}
+use Rattle.std.proofs.lemmas.Bool.{and_parts, and_right, eqb-true, true≢false}
+use Rattle.std.specs.Prelude.{is_some, not}
+use Rattle.std.proofs.lemmas.Bool.Decides.{nat_tests}
 use Rattle.aom_image.specs.Image.{Image}
 use Rattle.aom_image.specs.declared.method.Thing.{Thing}
 use Rattle.aom_owed.specs.Laws.{BootOwesNothing}
@@ -59,23 +60,10 @@ session_asked : (cs : List Cell) (n : ℕ) (r : Option Request) (m : ℕ) → in
 session_asked [] n r m = refl
 session_asked (c ∷ cs) n r m = ap (λ x. cond (c.object.name == m) c.session x) (session_asked cs n r m)
 
-session_here : (cs : List Cell) (n : ℕ) (b : Bool) (o : Object) → named cs n ≡ Some o → in_session (set_session n b cs) n ≡ b
-session_here [] n b o e = cc
-session_here (c ∷ cs) n b o e = go (c.object.name == n) e (session_here cs n b o)
-  where
-    go : (x : Bool) → cond x (Some c.object) (named cs n) ≡ Some o → (named cs n ≡ Some o → in_session (set_session n b cs) n ≡ b) → cond x (cond x b c.session) (in_session (set_session n b cs) n) ≡ b
-    go true e rest = refl
-    go false e rest = rest e
-
-session_there : (cs : List Cell) (n m : ℕ) (b : Bool) → (n == m) ≡ false → in_session (set_session n b cs) m ≡ in_session cs m
-session_there [] n m b other = refl
-session_there (c ∷ cs) n m b other = go (c.object.name == m) (c.object.name == n) refl refl (session_there cs n m b other)
-  where
-    go : (x y : Bool) → (c.object.name == m) ≡ x → (c.object.name == n) ≡ y → in_session (set_session n b cs) m ≡ in_session cs m →
-        cond x (cond y b c.session) (in_session (set_session n b cs) m) ≡ cond x c.session (in_session cs m)
-    go false y em en rest = rest
-    go true false em en rest = refl
-    go true true em en rest = absurd (true≢false (sym (eq-eqb n m (sym (eqb-true c.object.name n en) ∙ eqb-true c.object.name m em)) ∙ other))
+-- a session that is opened or closed is that of the cell of its name, if there is one
+session_set : (cs : List Cell) (n m : ℕ) (b : Bool) → in_session (set_session n b cs) m ≡ cond (n == m) (is_some (named cs m) && b) (in_session cs m)
+session_set [] n m b = grind arith
+session_set (c ∷ cs) n m b = grind (arith, nat_tests, session_set cs n m b)
 
 -- nothing goes where nothing is held
 session_unheld : (cs : List Cell) (g : Place) (n : ℕ) → held cs g ≡ None → in_session (without g cs) n ≡ in_session cs n
@@ -166,20 +154,16 @@ module _ (p : Image) (cs : List Cell) (o : Object) where
       ∙ ap (λ b. serves p cs k m && b) (session_asked cs o.name r m)
 
   pub meets_opened : (b : Bool) (k m : ℕ) → meets p (set_session o.name b cs) k m ≡ cond (o.name == m) (serves p cs k o.name && b) (meets p cs k m)
-  meets_opened session k m = go (o.name == m) refl
+  meets_opened session k m =
+      ap (λ y. serves_object p k y && in_session (set_session o.name session cs) m) ((resessioned_alike cs (Inside o (Elsewhere Root)) session).named_so m)
+      ∙ ap (λ b. serves p cs k m && b) (session_set cs o.name m session) ∙ go (o.name == m) refl
     where
-      objects : (x : ℕ) → named (set_session o.name session cs) x ≡ named cs x
-      objects x = (resessioned_alike cs (Inside o (Elsewhere Root)) session).named_so x
+      here : (x : Option Object) → (serves_object p k x && (is_some x && session)) ≡ (serves_object p k x && session)
+      here x = grind arith
 
-      here : (x : Option Object) → named cs o.name ≡ x → (serves_object p k x && in_session (set_session o.name session cs) o.name) ≡ (serves_object p k x && session)
-      here None e = refl
-      here (Some y) e = ap (λ b. is_served_by p k y.thing && b) (session_here cs o.name session y e)
-
-      go : (b : Bool) → (o.name == m) ≡ b → meets p (set_session o.name session cs) k m ≡ cond b (serves p cs k o.name && session) (meets p cs k m)
-      go true e =
-          subst (λ x. meets p (set_session o.name session cs) k x ≡ (serves p cs k o.name && session)) (eqb-true o.name m e)
-          (ap (λ y. serves_object p k y && in_session (set_session o.name session cs) o.name) (objects o.name) ∙ here (named cs o.name) refl)
-      go false e = ap (λ y. serves_object p k y && in_session (set_session o.name session cs) m) (objects m) ∙ ap (λ b. serves p cs k m && b) (session_there cs o.name m session e)
+      go : (b : Bool) → (o.name == m) ≡ b → (serves p cs k m && cond b (is_some (named cs m) && session) (in_session cs m)) ≡ cond b (serves p cs k o.name && session) (meets p cs k m)
+      go true e = here (named cs m) ∙ ap (λ x. serves p cs k x && session) (sym (eqb-true o.name m e))
+      go false e = refl
 
   pub owes_opened : (b : Bool) (k m : ℕ) → owes p (set_session o.name b cs) k m ≡ owes p cs k m
   owes_opened b k m =

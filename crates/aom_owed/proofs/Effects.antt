@@ -11,7 +11,7 @@ use Rattle.aom_owed.proofs.Cells.{Unchanged, unchanged_along, unchanged_itself, 
 use Rattle.aom_owed.proofs.Services.{unchanged_served}
 use Rattle.aom_sound.specs.Calls.{accepted_cells, passed_cells, result_cells, result_register, returned}
 use Rattle.aom_sound.specs.Cleanup.{top_place}
-use Rattle.aom_sound.specs.Effects.{Calls, Cancels, Carried, Destroys, Destroys_last, Effect, Goes_on, Leaves, Made, Popped, Pushed, Replied, Requested, Returns, Sessioned, Sets_trap, Update, Written, applied, cells_after, spot_place}
+use Rattle.aom_sound.specs.Effects.{Calls, Cancels, Carried, Destroys, Destroys_last, Effect, Goes_on, Leaves, Made, Popped, Popped_operation, Pushed, Pushed_operation, Replied, Requested, Returns, Same, Sessioned, Sets_trap, Update, Written, applied, cells_after, spot_place}
 use Rattle.aom_sound.specs.Enlisted.{ended_cells}
 use Rattle.aom_sound.specs.Objects.{no_words}
 use Rattle.aom_sound.specs.Places.{Cell, Elsewhere, Entry, Going, Place, Register, Session, moved, named}
@@ -76,12 +76,12 @@ module _ (p : Image) (fr : Frame) (ts : List Task) (s : State) where
     update_unchanged (Carried from to) h = unchanged_moved p s.cells (spot_place p fr ts s from) (spot_place p fr ts s to)
     update_unchanged (Made n class a) h = unchanged_new p n (An_object_of class) (no_words p class) (here fr ts s a) s.cells (ap (λ x. named s.cells x) h ∙ unused)
     update_unchanged (Written w v) h = unchanged_stored p s.cells fr.home w v
-    update_unchanged (Requested r) h = absurd h
-    update_unchanged (Sessioned session) h = absurd h
-    update_unchanged (Replied a) h = absurd h
     update_unchanged (Pushed a) h = unchanged_moved p s.cells (here fr ts s a) (Entry (length s.items))
     update_unchanged (Popped a) h = unchanged_moved p s.cells (top_place s.items) (here fr ts s a)
-    update_unchanged _ h = unchanged_itself p s.cells
+    update_unchanged Same h = unchanged_itself p s.cells
+    update_unchanged (Pushed_operation m w) h = unchanged_itself p s.cells
+    update_unchanged Popped_operation h = unchanged_itself p s.cells
+    update_unchanged _ h = absurd h
 
     pub applied_unchanged : (e : Effect) → IsAside name e → Unchanged p s.cells (applied p fr ts s e).cells
     applied_unchanged (Goes_on ch) h = update_unchanged ch.update h

@@ -1,5 +1,5 @@
 -- Each move tells what the call does that it makes: instructions on requests and sessions, the going of a cell, and all others, which make none.
-use Rattle.std.proofs.Common.{Bool, List, None, Option, Some, [], ap, cond, false, length, refl, subst, suc, sym, true, zero, ℕ, ℤ, ◌&&◌, ◌==◌, ◌∙◌, ◌∷◌, ◌≡◌, pos}
+use Rattle.std.proofs.Common.{Bool, List, None, Option, Some, [], ap, cond, false, length, refl, subst, suc, sym, true, zero, ℕ, ℤ, ◌&&◌, ◌==◌, ◌∙◌, ◌∷◌, ◌≡◌, pos, arith}
 use Rattle.std.proofs.lemmas.Bool.{not-true, and_right, eqb-true}
 use Rattle.std.specs.Ordering.{int_eq}
 use Rattle.std.specs.Prelude.{not}
@@ -238,8 +238,7 @@ alive_home p cs ls AtRoot housed = tt
 alive_home p cs ls (Inside o from) housed = housed.lives
 
 still_asks_none : (p : Image) (s : State) (ts : List Task) → IsStill ts → wanted_task s p ts ≡ None
-still_asks_none p s [] still = refl
-still_asks_none p s (t ∷ ts) still = absurd still
+still_asks_none p s ts still = grind arith
 
 module _ (p : Image) (t : Typing) (c : Choice) (s u : State) (w : WellTyped p t s) (unused : named s.cells c.name ≡ None) (holds : SessionsHold p s) (e : step p c s ≡ Goes u) where
   abbrev Tale : Type 0

@@ -1,5 +1,5 @@
 -- Servers, sessions and messages change nothing that is outstanding, and no session with a native: no native serves a message, and the rest of each cell is as it was.
-use Rattle.std.proofs.Common.{Bool, List, None, Option, Some, [], ap, cond, false, refl, subst, sym, true, ℕ, ℤ, ◌&&◌, ◌==◌, ◌∙◌, ◌∷◌, ◌≡◌}
+use Rattle.std.proofs.Common.{Bool, List, None, Option, Some, [], ap, cond, false, refl, subst, sym, true, ℕ, ℤ, ◌&&◌, ◌==◌, ◌∙◌, ◌∷◌, ◌≡◌, arith}
 use Rattle.std.proofs.lemmas.Bool.{and_parts}
 use Rattle.aom_clients.specs.declared.client.Client.{Client}
 use Rattle.aom_clients.specs.declared.client.Client.TheVariants.{Open}
@@ -43,11 +43,7 @@ session_in (Some c) = c.session
 
 session_cell : (cs : List Cell) (n : ℕ) → in_session cs n ≡ session_in (cell_of cs n)
 session_cell [] n = refl
-session_cell (c ∷ cs) n = go (c.object.name == n) (session_cell cs n)
-  where
-    go : (b : Bool) → in_session cs n ≡ session_in (cell_of cs n) → cond b c.session (in_session cs n) ≡ session_in (cond b (Some c) (cell_of cs n))
-    go true e = refl
-    go false e = e
+session_cell (c ∷ cs) n = grind (arith, session_cell cs n)
 
 unserved_message : (p : Image) (k : ℕ) (x : Thing) → x ≡ Message → is_served_by p k x ≡ false
 unfolding kind_of
@@ -107,12 +103,10 @@ queued_message p t cs ls good n m x there =
 
 module _ (p : Image) (t : Typing) (cs : List Cell) (ls : List Layer) (good : Good p t cs ls) where
   queue_message : (r : Place) (x : Object) → is_queue r ≡ true → held cs r ≡ Some x → x.thing ≡ Message
-  queue_message (Elsewhere (Queued n m)) x e there = queued_message p t cs ls good n m x there
-  queue_message _ x e there = cc
+  queue_message r x e there = grind (arith, queued_message p t cs ls good)
 
   any_queue : (n : ℕ) (r : Place) → is_queue_of n r ≡ true → is_queue r ≡ true
-  any_queue n (Elsewhere (Queued s m)) e = refl
-  any_queue n _ e = cc
+  any_queue n r e = grind arith
 
   in_place : (c : Cell) → cell_in cs c.owner ≡ Some c → held cs c.owner ≡ Some c.object
   in_place c at = held_cell cs c.owner ∙ ap object_in at

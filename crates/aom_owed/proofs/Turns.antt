@@ -1,13 +1,11 @@
 -- Each turn tells what its kill or its completion does: what a timer completes no native serves, and what is dispatched is completed before.
-use Rattle.std.proofs.Common.{is_some, Bool, List, None, Option, Some, [], ap, cond, false, refl, subst, sym, true, ℕ, ℤ, ◌&&◌, ◌==◌, ◌∙◌, ◌∷◌, ◌≡◌, pos}
-use Rattle.std.proofs.lemmas.Bool.{not-true, and_from, and_parts, and_right, eqb-true, or_from, true≢false}
+use Rattle.std.proofs.Common.{is_some, Bool, List, None, Option, Some, [], ap, cond, false, refl, subst, sym, true, ℕ, ℤ, ◌&&◌, ◌==◌, ◌∙◌, ◌∷◌, ◌≡◌, pos, arith}
+use Rattle.std.proofs.lemmas.Bool.{not-true, and_from, and_parts, and_right, eqb-true, or_from}
 use Rattle.std.proofs.lemmas.List.Folds.{list_any-append}
 use Rattle.std.specs.Ordering.{int_eq}
-use Rattle.std.specs.Prelude.{is_none, not, ◌||◌}
+use Rattle.std.specs.Prelude.{not, ◌||◌}
 use Rattle.aom_image.specs.Image.{Image}
 use Rattle.aom_image.specs.declared.class.ClassKind.{ClassKind}
-use Rattle.aom_image.specs.declared.class.ClassKind.TheVariants.{Active as An_active}
-use Rattle.aom_image.specs.declared.class.Provider.TheVariants.{Native, Own, Timer as A_timer}
 use Rattle.aom_image.specs.declared.method.Thing.{Thing}
 use Rattle.aom_owed.proofs.Calls.{asked_same, still, taken_off}
 use Rattle.aom_owed.proofs.Cells.{unchanged_moved, unchanged_along, Unchanged, meets_asked, native_served, owes_asked, served_so, unchanged_asked}
@@ -22,7 +20,7 @@ use Rattle.aom_sound.specs.Enlisted.{completed_with, is_active, on_request, pend
 use Rattle.aom_roles.specs.Classes.{sessions_in, sessions_of}
 use Rattle.aom_sound.specs.Kept.{ClientsFit}
 use Rattle.aom_sound.specs.Natives.{all_bereaved, is_dead, is_outstanding_at, is_owed, is_served_by, native_of, terminated, terminated_request}
-use Rattle.aom_sound.specs.Places.{Cell, Elsewhere, Going, In_service, Queued, Request, Session as Session_at, Timer, in_session, named, requested}
+use Rattle.aom_sound.specs.Places.{Cell, Elsewhere, Going, In_service, Queued, Request, Session as Session_at, Timer, requested}
 use Rattle.aom_sound.specs.Requests.{Known, Suits, states_claim}
 use Rattle.aom_sound.specs.State.{CompletedTwice, Goes, Inside, State}
 use Rattle.aom_sound.specs.WellTyped.{WellTyped}
@@ -41,60 +39,27 @@ unserved_there p n k t e same = ap (λ j. is_served_by p j t) (sym (eqb-true n k
 
 -- what no one has there is as it was elsewhere
 bereft : (p : Image) (n k : ℕ) (t : Thing) (v : Bool) → (is_served_by p k t && cond (is_served_by p n t) false v) ≡ (not (n == k) && (is_served_by p k t && v))
-bereft p n k t v = go (is_served_by p n t) refl
-  where
-    off : (b : Bool) → (b && false) ≡ (not b && (b && v))
-    off true = refl
-    off false = refl
-
-    on : (b : Bool) → (n == k) ≡ b → is_served_by p n t ≡ false → (is_served_by p k t && v) ≡ (not b && (is_served_by p k t && v))
-    on true same e = ap (λ x. x && v) (unserved_there p n k t e same)
-    on false other e = refl
-
-    go : (b : Bool) → is_served_by p n t ≡ b → (is_served_by p k t && cond b false v) ≡ (not (n == k) && (is_served_by p k t && v))
-    go true e = ap (λ x. x && false) (served_there p n k t e) ∙ off (n == k) ∙ ap (λ x. not (n == k) && (x && v)) (sym (served_there p n k t e))
-    go false e = on (n == k) refl e
+bereft p n k t v = grind (arith, served_there p n k t, unserved_there p n k t)
 
 bereaved_owed : (b : Bool) (r : Option Request) → is_owed (cond b (terminated_request r) r) ≡ cond b false (is_owed r)
-bereaved_owed false r = refl
-bereaved_owed true r = go (is_owed r) refl
-  where
-    go : (b : Bool) → is_owed r ≡ b → is_owed (cond b (on_request (completed_with terminated) r) r) ≡ false
-    go true e = completed_with_owed terminated refl r
-    go false e = e
+bereaved_owed b r = grind (arith, completed_with_owed terminated refl r)
 
 bereaved_session : (b session : Bool) → (not b && session) ≡ cond b false session
-bereaved_session true session = refl
-bereaved_session false session = refl
+bereaved_session b session = grind arith
 
 owes_bereaved : (p : Image) (n : ℕ) (cs : List Cell) (k m : ℕ) → owes p (all_bereaved p n cs) k m ≡ (not (n == k) && owes p cs k m)
 owes_bereaved p n [] k m = sym (and_right (not (n == k)) false refl)
-owes_bereaved p n (c ∷ cs) k m = go (c.object.name == m) (owes_bereaved p n cs k m)
-  where
-    go : (b : Bool) → owes p (all_bereaved p n cs) k m ≡ (not (n == k) && owes p cs k m) →
-        (serves_object p k (cond b (Some c.object) (named (all_bereaved p n cs) m)) && is_owed (cond b (cond (is_served_by p n c.object.thing) (terminated_request c.request) c.request) (requested (all_bereaved p n cs) m)))
-        ≡ (not (n == k) && (serves_object p k (cond b (Some c.object) (named cs m)) && is_owed (cond b c.request (requested cs m))))
-    go true rest = ap (λ x. is_served_by p k c.object.thing && x) (bereaved_owed (is_served_by p n c.object.thing) c.request) ∙ bereft p n k c.object.thing (is_owed c.request)
-    go false rest = rest
+owes_bereaved p n (c ∷ cs) k m = grind (arith, owes_bereaved p n cs k m, bereaved_owed (is_served_by p n c.object.thing) c.request, bereft p n k c.object.thing (is_owed c.request))
 
 meets_bereaved : (p : Image) (n : ℕ) (cs : List Cell) (k m : ℕ) → meets p (all_bereaved p n cs) k m ≡ (not (n == k) && meets p cs k m)
 meets_bereaved p n [] k m = sym (and_right (not (n == k)) false refl)
-meets_bereaved p n (c ∷ cs) k m = go (c.object.name == m) (meets_bereaved p n cs k m)
-  where
-    go : (b : Bool) → meets p (all_bereaved p n cs) k m ≡ (not (n == k) && meets p cs k m) →
-        (serves_object p k (cond b (Some c.object) (named (all_bereaved p n cs) m)) && cond b (not (is_served_by p n c.object.thing) && c.session) (in_session (all_bereaved p n cs) m))
-        ≡ (not (n == k) && (serves_object p k (cond b (Some c.object) (named cs m)) && cond b c.session (in_session cs m)))
-    go true rest = ap (λ x. is_served_by p k c.object.thing && x) (bereaved_session (is_served_by p n c.object.thing) c.session) ∙ bereft p n k c.object.thing c.session
-    go false rest = rest
+meets_bereaved p n (c ∷ cs) k m = grind (arith, meets_bereaved p n cs k m, bereaved_session (is_served_by p n c.object.thing) c.session, bereft p n k c.object.thing c.session)
 
 -- ---- a timer is due
 
 -- a request at a native has no timer
 untimed_there : (k : Option ClassKind) (n : ℕ) (known : Known) (r : Request) (t : Timer) → native_of k ≡ Some n → r.timer ≡ Some t → Suits k known (Some r) → ⊥
-untimed_there (Some (An_active (Native x) budget)) n known r t native timed suits = true≢false (sym suits.3 ∙ ap (λ y. is_none y) timed)
-untimed_there (Some (An_active Own budget)) n known r t native timed suits = cc
-untimed_there (Some (An_active A_timer budget)) n known r t native timed suits = cc
-untimed_there _ n known r t native timed suits = cc
+untimed_there k n known r t native timed suits = grind arith
 
 module _ (p : Image) (t : Typing) (s : State) (w : WellTyped p t s) where
   due_unserved : (x : Timed) → IsDue s.cells x → native_of (thing_kind p x.object.thing) ≡ None
@@ -124,8 +89,7 @@ module _ (p : Image) (t : Typing) (s : State) (w : WellTyped p t s) where
   server_unserved x server = go (thing_kind p x) server
     where
       go : (k : Option ClassKind) → is_some (sessions_in k) ≡ true → native_of k ≡ None
-      go (Some (An_active provider budget)) e = cc
-      go _ e = refl
+      go k e = grind arith
 
   -- what is no server is ready, since nothing waits in its queue
   picked_same : (y : Candidate) → ClientsFit p s.clients s.cells → IsCell s.cells y.seat.object (Some y.request) → GoesNow s.cells y → Unchanged p s.cells (with_request taken_up y.seat.object s.cells)

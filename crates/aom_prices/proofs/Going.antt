@@ -1,5 +1,5 @@
 -- What destructions cost: by the rule a server's takes in those of its sessions, and since these have no sessions, one pass over the destructors finds all.
-use Rattle.std.proofs.Common.{◌≡◌, ◌+◌, ◌*◌, ◌<◌, ℕ, true, Option, Some, None, IfSome, inl, inr, refl, ap, arith, subst}
+use Rattle.std.proofs.Common.{◌≡◌, ◌+◌, ◌*◌, ℕ, true, Option, Some, None, inl, inr, refl, ap, arith}
 use Rattle.std.specs.Prelude.{min}
 use Rattle.aom_image.specs.Image.{Image}
 use Rattle.aom_image.specs.Views.{class_at}
@@ -8,7 +8,7 @@ use Rattle.aom_image.specs.declared.class.ClassKind.{ClassKind}
 use Rattle.aom_image.specs.declared.class.ClassKind.TheVariants.{Plain, Active, Server, Session}
 use Rattle.aom_image.specs.declared.method.Thing.{Thing}
 use Rattle.aom_image.specs.declared.method.Thing.TheVariants.{Object, Message}
-use Rattle.aom_roles.specs.Classes.{ClassOrdered, is_session, is_session_in, is_session_kind, kind_at, kind_in, sessions_in, sessions_of}
+use Rattle.aom_roles.specs.Classes.{is_session, is_session_in, is_session_kind, kind_at, kind_in, sessions_in, sessions_of}
 use Rattle.aom_classes.specs.Linked.{IsLinked}
 use Rattle.aom_classes.specs.Roles.{destructor_of}
 use Rattle.aom_prices.specs.Prices.{Prices, kind_sessions, perhaps_price, perhaps_sessions, sessions_cost}
@@ -72,23 +72,15 @@ going_alike limit p f g nobody = whole_related (λ x y. Alike limit x y) refl (a
 
 of_session : (cost : ℕ → ℕ) (o : Option ClassKind) → is_session_in o ≡ true → perhaps_sessions cost o ≡ 0
 unfolding is_session_in is_session_kind
-of_session cost None e = refl
-of_session cost (Some Plain) e = refl
-of_session cost (Some (Active provider budget)) e = refl
-of_session cost (Some (Server most session budget)) e = absurd cc
-of_session cost (Some Session) e = refl
+of_session cost o e = grind arith
 
 sessions_ordered : (p : Image) → IsLinked p → (c s : ℕ) (class : Option ClassDecl) → class_at p c ≡ class → sessions_in (kind_in class) ≡ Some s → is_session p s ≡ true
 unfolding class_at sessions_in kind_in
-sessions_ordered p linked c s None e is = absurd cc
-sessions_ordered p linked c s (Some d) e is =
-    let ordered = subst (λ o. IfSome o (ClassOrdered p c)) e (linked.classes.classes c) in
-    (subst (λ o. IfSome o (λ k. (k < c) × (is_session p k ≡ true))) is ordered.sessions).1
+sessions_ordered p linked c s class e is = grind arith
 
 -- the sessions of a thing of a linked image have none
 no_sessions : (p : Image) → IsLinked p → (x : Thing) (s : ℕ) → thing_sessions p x ≡ Some s → (cost : ℕ → ℕ) → sessions_cost p cost (Object s) ≡ 0
-no_sessions p linked (Object c) s is cost = of_session cost (kind_at p s) (sessions_ordered p linked c s (class_at p c) refl is)
-no_sessions p linked Message s is cost = absurd cc
+no_sessions p linked x s is cost = grind (arith, of_session, sessions_ordered p linked)
 
 -- ---- the rule, and what one pass finds
 

@@ -1,6 +1,6 @@
 -- What the paths from a place cost, by the instruction that stands there.
 use Rattle.std.proofs.lemmas.Option.{same_Some}
-use Rattle.std.proofs.Common.{⊎_elim, ◌≡◌, ◌+◌, ◌*◌, ◌∙◌, ℕ, suc, Some, None, inl, inr, refl, sym, subst}
+use Rattle.std.proofs.Common.{⊎_elim, ◌≡◌, ◌+◌, ◌*◌, ◌∙◌, ℕ, suc, Some, None, inl, inr, refl, sym, subst, arith}
 use Rattle.std.specs.Prelude.{◌⊎◌}
 use Rattle.aom_image.specs.Image.{Image}
 use Rattle.aom_instructions.specs.declared.instr.Instr.{Instr}
@@ -45,8 +45,7 @@ module _ (p : Image) (t : Typing) (c : Prices) (m : ℕ) where
   plain_steps : (r : Region) (place k : ℕ) (sh : Shape) (i : Instr) → loop_in (Some i) ≡ None →
       (((k ≡ own p m c sh i) ⊎ GoesOn r place k sh i) → Steps r place k sh i) × (Steps r place k sh i → (k ≡ own p m c sh i) ⊎ GoesOn r place k sh i)
   unfolding loop_in
-  plain_steps r place k sh (Loop d n) none = cc
-  plain_steps r place k sh i none = (λ s. s, λ s. s)
+  plain_steps r place k sh i none = grind arith
 
   -- one thing alone stands there
   stepped : (r : Region) (place k : ℕ) (sh sh' : Shape) (i i' : Instr) → Stands p t m place sh i → Stands p t m place sh' i' → Steps r place k sh i → Steps r place k sh' i'

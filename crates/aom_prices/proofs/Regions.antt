@@ -27,15 +27,12 @@ by_kind P i plain loop next = plain refl refl
 
 goes_back : (i : Instr) (to : ℕ) → back_of i ≡ Some to → (d : ℕ) × (i ≡ Next d to)
 unfolding back_of
-goes_back (Next d t) to e = let same : t ≡ to = cc in (d, ap (λ x. Next d x) same)
-goes_back i to e = cc
+goes_back i to e = grind arith
 
 -- a loop goes on at its body
 loop_way : (place d n to : ℕ) → Way place (Loop d n) to → to ≡ suc place
 unfolding jump_of back_of
-loop_way place d n to on = refl
-loop_way place d n to (jump e) = cc
-loop_way place d n to (back e) = cc
+loop_way place d n to x = grind arith
 
 pub no_loop_here : (i : Instr) (d n : ℕ) → loop_in (Some i) ≡ None → i ≡ Loop d n → ⊥
 unfolding loop_in

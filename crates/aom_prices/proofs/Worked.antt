@@ -27,51 +27,29 @@ There place i = Stands worked worked_typing 0 place a_word i
 
 -- ---- the code
 
-at_0 : There 0 (Loop 0 3)
+-- what stands at each place
+at_each :
+    There 0 (Loop 0 3) × There 1 (Loop 1 5) × There 2 (JumpEqual 0 0 7) × There 3 (Print 0) × There 4 (Next 1 2)
+    × There 5 (Next 0 1) × There 6 (Jump 9) × There 7 (Print 0) × There 8 (Print 0) × There 9 (Return 0)
 unfolding method_at instr_in
-at_0 = record { shape = refl; instr = refl }
-
-at_1 : There 1 (Loop 1 5)
-unfolding method_at instr_in
-at_1 = record { shape = refl; instr = refl }
-
-at_2 : There 2 (JumpEqual 0 0 7)
-unfolding method_at instr_in
-at_2 = record { shape = refl; instr = refl }
-
-at_3 : There 3 (Print 0)
-unfolding method_at instr_in
-at_3 = record { shape = refl; instr = refl }
-
-at_4 : There 4 (Next 1 2)
-unfolding method_at instr_in
-at_4 = record { shape = refl; instr = refl }
-
-at_5 : There 5 (Next 0 1)
-unfolding method_at instr_in
-at_5 = record { shape = refl; instr = refl }
-
-at_6 : There 6 (Jump 9)
-unfolding method_at instr_in
-at_6 = record { shape = refl; instr = refl }
-
-at_7 : There 7 (Print 0)
-unfolding method_at instr_in
-at_7 = record { shape = refl; instr = refl }
-
-at_8 : There 8 (Print 0)
-unfolding method_at instr_in
-at_8 = record { shape = refl; instr = refl }
-
-at_9 : There 9 (Return 0)
-unfolding method_at instr_in
-at_9 = record { shape = refl; instr = refl }
+at_each = (
+  record { shape = refl; instr = refl },
+  record { shape = refl; instr = refl },
+  record { shape = refl; instr = refl },
+  record { shape = refl; instr = refl },
+  record { shape = refl; instr = refl },
+  record { shape = refl; instr = refl },
+  record { shape = refl; instr = refl },
+  record { shape = refl; instr = refl },
+  record { shape = refl; instr = refl },
+  record { shape = refl; instr = refl },
+)
 
 outer : Body worked 0 0 5 0 3
-outer = record { begins = at_0.instr; later = omega arith; ends = at_5.instr }
+outer = record { begins = at_each.0.instr; later = omega arith; ends = at_each.5.instr }
 
 inner : Body worked 0 1 4 1 5
-inner = record { begins = at_1.instr; later = omega arith; ends = at_4.instr }
+inner = record { begins = at_each.1.instr; later = omega arith; ends = at_each.4.instr }
 
 same_depth : (d t e u : ℕ) → Some (Next d t) ≡ Some (Next e u) → d ≡ e
 same_depth d t e u same = cc
@@ -138,41 +116,41 @@ module _ (c : Prices) where
 
   from_9 : Most Whole 9 1
   unfolding loop_in
-  from_9 = line Whole 9 0 (Return 0) at_9 refl tt refl (λ to among. absurd among)
+  from_9 = line Whole 9 0 (Return 0) at_each.9 refl tt refl (λ to among. absurd among)
 
   from_8 : Most Whole 8 2
   unfolding loop_in
-  from_8 = line Whole 8 1 (Print 0) at_8 refl tt refl (λ to among. to_one Whole 9 1 to from_9 among)
+  from_8 = line Whole 8 1 (Print 0) at_each.8 refl tt refl (λ to among. to_one Whole 9 1 to from_9 among)
 
   from_7 : Most Whole 7 3
   unfolding loop_in
-  from_7 = line Whole 7 2 (Print 0) at_7 refl tt refl (λ to among. to_one Whole 8 2 to from_8 among)
+  from_7 = line Whole 7 2 (Print 0) at_each.7 refl tt refl (λ to among. to_one Whole 8 2 to from_8 among)
 
   from_6 : Most Whole 6 2
   unfolding loop_in
-  from_6 = line Whole 6 1 (Jump 9) at_6 refl tt refl (λ to among. to_one Whole 9 1 to from_9 among)
+  from_6 = line Whole 6 1 (Jump 9) at_each.6 refl tt refl (λ to among. to_one Whole 9 1 to from_9 among)
 
   -- within the inner body
   in_4 : Most (Round 1 4) 4 1
   unfolding loop_in
-  in_4 = round_end (Round 1 4) 4 1 2 at_4 refl (omega arith, omega arith)
+  in_4 = round_end (Round 1 4) 4 1 2 at_each.4 refl (omega arith, omega arith)
 
   in_3 : Most (Round 1 4) 3 2
   unfolding loop_in
-  in_3 = line (Round 1 4) 3 1 (Print 0) at_3 refl (omega arith, omega arith) refl (λ to among. to_one (Round 1 4) 4 1 to in_4 among)
+  in_3 = line (Round 1 4) 3 1 (Print 0) at_each.3 refl (omega arith, omega arith) refl (λ to among. to_one (Round 1 4) 4 1 to in_4 among)
 
   past_inner : Most (Round 1 4) 7 2
   past_inner k path = let nothing = outside_cost worked worked_typing c 0 (Round 1 4) 7 k path (λ inside. omega (arith, inside.1)) in omega (arith, nothing)
 
   in_2 : Most (Round 1 4) 2 3
   unfolding loop_in
-  in_2 = line (Round 1 4) 2 2 (JumpEqual 0 0 7) at_2 refl (omega arith, omega arith) refl
+  in_2 = line (Round 1 4) 2 2 (JumpEqual 0 0 7) at_each.2 refl (omega arith, omega arith) refl
       (λ to among. ⊎_elim (λ e. subst (λ x. Most (Round 1 4) x 2) e in_3) (λ rest. to_one (Round 1 4) 7 2 to past_inner rest) among)
 
   -- within the outer body
   in_5 : Most (Round 0 5) 5 1
   unfolding loop_in
-  in_5 = round_end (Round 0 5) 5 0 1 at_5 refl (omega arith, omega arith)
+  in_5 = round_end (Round 0 5) 5 0 1 at_each.5 refl (omega arith, omega arith)
 
   past_outer : Most (Round 0 5) 7 1
   past_outer k path = let nothing = outside_cost worked worked_typing c 0 (Round 0 5) 7 k path (λ inside. omega (arith, inside.1)) in omega (arith, nothing)
@@ -196,7 +174,7 @@ module _ (c : Prices) where
 
   in_1 : Most (Round 0 5) 1 17
   in_1 k path =
-      let w = loop_line (Round 0 5) 1 4 1 5 3 1 at_1 (omega arith, omega arith) (λ to body. inner_end to body.ends) in_2 exits k path in
+      let w = loop_line (Round 0 5) 1 4 1 5 3 1 at_each.1 (omega arith, omega arith) (λ to body. inner_end to body.ends) in_2 exits k path in
       omega (arith, w.1, w.2)
     where
       exits : (out : ℕ) → GoesOut worked worked_typing 0 1 4 out → Most (Round 0 5) out 1
@@ -207,7 +185,7 @@ module _ (c : Prices) where
 
   from_0 : Most Whole 0 55
   from_0 k path =
-      let w = loop_line Whole 0 5 0 3 17 3 at_0 tt (λ to body. outer_end to body.ends) in_1 exits k path in
+      let w = loop_line Whole 0 5 0 3 17 3 at_each.0 tt (λ to body. outer_end to body.ends) in_1 exits k path in
       omega (arith, w.1, w.2)
     where
       exits : (out : ℕ) → GoesOut worked worked_typing 0 0 5 out → Most Whole out 3
@@ -220,24 +198,24 @@ module _ (c : Prices) where
 
   exit_path : Path Whole 7 3
   unfolding loop_in next_in
-  exit_path = goes tt at_7 refl refl (inl refl) (goes tt at_8 refl refl (inl refl) (ends tt at_9 refl))
+  exit_path = goes tt at_each.7 refl refl (inl refl) (goes tt at_each.8 refl refl (inl refl) (ends tt at_each.9 refl))
 
   inner_round : Path (Round 1 4) 2 3
   unfolding loop_in next_in
-  inner_round = goes (omega arith, omega arith) at_2 refl refl (inl refl) (goes (omega arith, omega arith) at_3 refl refl (inl refl) (ends (omega arith, omega arith) at_4 refl))
+  inner_round = goes (omega arith, omega arith) at_each.2 refl refl (inl refl) (goes (omega arith, omega arith) at_each.3 refl refl (inl refl) (ends (omega arith, omega arith) at_each.4 refl))
 
   inner_exit : GoesOut worked worked_typing 0 1 4 5
-  inner_exit = record { place = 4; inside = (omega arith, omega arith); shape = a_word; instr = Next 1 2; stands = at_4; flow = inr (inl refl); outside = omega arith }
+  inner_exit = record { place = 4; inside = (omega arith, omega arith); shape = a_word; instr = Next 1 2; stands = at_each.4; flow = inr (inl refl); outside = omega arith }
 
   outer_exit : GoesOut worked worked_typing 0 0 5 7
-  outer_exit = record { place = 2; inside = (omega arith, omega arith); shape = a_word; instr = JumpEqual 0 0 7; stands = at_2; flow = inr (inl refl); outside = omega arith }
+  outer_exit = record { place = 2; inside = (omega arith, omega arith); shape = a_word; instr = JumpEqual 0 0 7; stands = at_each.2; flow = inr (inl refl); outside = omega arith }
 
   outer_round : Path (Round 0 5) 1 17
   unfolding loop_in
-  outer_round = loops (omega arith, omega arith) at_1 inner inner_round inner_exit (ends (omega arith, omega arith) at_5 refl)
+  outer_round = loops (omega arith, omega arith) at_each.1 inner inner_round inner_exit (ends (omega arith, omega arith) at_each.5 refl)
 
   worked_path : Path Whole 0 55
-  worked_path = loops tt at_0 outer outer_round outer_exit exit_path
+  worked_path = loops tt at_each.0 outer outer_round outer_exit exit_path
 
 pub law_bites : PricesBite
 unfolding class_at kind_in method_at class_in role_of plays role_number

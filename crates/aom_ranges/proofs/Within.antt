@@ -1,11 +1,8 @@
 -- What holds of whatever a reading gives.
-use Rattle.std.proofs.Common.{◌≡◌, refl, ap, subst, ℕ, Bool, true, false, List, Result, Ok, Err, [], ◌∷◌}
+use Rattle.std.proofs.Common.{◌≡◌, refl, ap, subst, ℕ, Bool, true, false, List, Result, Ok, Err, ◌∷◌, arith}
 use Rattle.std.specs.Prelude.{if◌then◌else◌}
 use Rattle.aom_text.specs.declared.fault.AsmFaultKind.{AsmFaultKind}
 use Rattle.aom_syntax.specs.Reading.{◌>>=◌, Reading, next, seen, giving, failing, word}
-use Rattle.std.specs.List.{list_all}
-use Rattle.aom_text.specs.Words.{is_plain}
-use Rattle.aom_text.specs.declared.fault.AsmFaultKind.TheVariants.{NotAscii}
 
 pub ok_is : {X E : Type 0} (x y : X) → ◌≡◌ {A = Result X E} (Ok x) (Ok y) → x ≡ y
 ok_is x y is = cc
@@ -17,8 +14,7 @@ pub record Steps {A B : Type 0} (r : Result A AsmFaultKind) (f : A → Result B 
   pub second : f first ≡ Ok y
 
 pub steps : {A B : Type 0} (r : Result A AsmFaultKind) (f : A → Result B AsmFaultKind) (y : B) → (r >>= f) ≡ Ok y → Steps r f y
-steps (Ok x) f y is = record { first = x; read = refl; second = is }
-steps (Err e) f y is = absurd cc
+steps r f y is = grind arith
 
 -- what holds of all that is made of what is read holds of what was made
 pub made_of : {A B : Type 0} (P : B → Type 0) (r : Result A AsmFaultKind) (make : A → B) (y : B) → ((x : A) → r ≡ Ok x → P (make x))
@@ -33,17 +29,14 @@ marked_or P false mark r make y own holds is = made_of P r make y holds is
 
 -- what was read passed a test, or failed one
 pub passed : {X E : Type 0} (b : Bool) (r : Result X E) (e : E) (x : X) → (if b then r else Err e) ≡ Ok x → (b ≡ true) × (r ≡ Ok x)
-passed true r e x is = (refl, is)
-passed false r e x is = absurd cc
+passed b r e x is = grind arith
 
 pub kept : {X E : Type 0} (b : Bool) (r : Result X E) (e : E) (x : X) → (if b then Err e else r) ≡ Ok x → (b ≡ false) × (r ≡ Ok x)
-kept true r e x is = absurd cc
-kept false r e x is = (refl, is)
+kept b r e x is = grind arith
 
 -- the word that was read
 pub saw_word : (ws : List (List ℕ)) (w : List ℕ) (rest : List (List ℕ)) → word ws ≡ Ok (w, rest) → ws ≡ w ∷ rest
-saw_word [] w rest is = absurd cc
-saw_word (v ∷ vs) w rest is = ap (λ p. p.0 ∷ p.1) (ok_is (v, vs) (w, rest) (passed (list_all is_plain v) (Ok (v, vs)) NotAscii (w, rest) is).1)
+saw_word ws w rest is = grind arith
 
 -- whatever is read has that property
 pub record Within {X : Type 0} (P : X → Type 0) (r : Reading X) : Type 0 where

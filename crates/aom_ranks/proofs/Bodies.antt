@@ -1,8 +1,10 @@
 -- The bodies of loops round a place.
-use Rattle.std.proofs.Common.{◌≡◌, ◌<◌, ◌≤◌, ◌∙◌, ℕ, zero, suc, Bool, true, false, List, [], ◌∷◌, drop, Some, None, slice_get, ⊎_elim, refl, ap, arith}
+use Rattle.std.proofs.Common.{◌≡◌, ◌<◌, ◌≤◌, ◌∙◌, ℕ, zero, suc, Bool, true, false, List, [], ◌∷◌, drop, Some, None, slice_get, ⊎_elim, refl, sym, ap, arith}
 use Rattle.std.specs.Prelude.{◌≢◌, ◌&&◌, ◌||◌, ◌==◌, nat_lt}
 use Rattle.std.specs.List.{list_any}
-use Rattle.std.proofs.lemmas.Bool.{eqb-true, eq-eqb, ltb-true, lt-ltb}
+use Rattle.std.proofs.Math.Seq.{drop-nil}
+use Rattle.std.proofs.lemmas.Bool.{eq-eqb, ltb-true, lt-ltb, true≢false}
+use Rattle.std.proofs.lemmas.Bool.Decides.{nat_tests}
 use Rattle.std.proofs.lemmas.Option.{slice_get_within, same_Some}
 use Rattle.aom_instructions.specs.declared.instr.Instr.{Instr}
 use Rattle.aom_instructions.specs.declared.instr.Instr.TheVariants.{Loop, Next}
@@ -35,8 +37,7 @@ found test (x ∷ xs) zero e = here (test x) refl (λ h. found test xs zero h) e
 found test (x ∷ xs) (suc k) e =
     let w = found test xs k e in
     record { at = suc w.at; from = omega (arith, w.from); instr = w.instr; stands = w.stands; passes = w.passes }
-found test [] zero e = cc
-found test [] (suc k) e = cc
+found test [] place e = absurd (true≢false (sym e ∙ ap (list_any test) (drop-nil place)))
 
 or_right : (a : Bool) → (a || true) ≡ true
 or_right true = refl
@@ -52,12 +53,7 @@ finds test _ _ q x le s e = absurd (first_of (cc, omega arith))
 
 ends_so : (number back : ℕ) (i : Instr) → is_end_of number back i ≡ true → next_in (Some i) ≡ Some (record { number = number; back = back })
 unfolding next_in
-ends_so number back (Next d t) e =
-    let parts = both_true (d == number) (t == back) e in
-    let same : d ≡ number = eqb-true d number parts.0 in
-    let alike : t ≡ back = eqb-true t back parts.1 in
-    rw (same, alike) refl
-ends_so number back i e = cc
+ends_so number back i e = grind (arith, nat_tests)
 
 so_ends : (number back : ℕ) (i : Instr) → next_in (Some i) ≡ Some (record { number = number; back = back }) → is_end_of number back i ≡ true
 so_ends number back i e =

@@ -37,62 +37,35 @@ standing_passes d i e j cs = standing_moved (Register d i) (Register e j) cs ref
 -- what is there begins to go
 pub standing_goes : (from : Place) (k : ℕ) (o : Object) (cs : List Cell) → is_going from ≡ false → held cs from ≡ Some o → suc (standing (moved from (Going k) cs)) ≤ standing cs
 standing_goes from k o [] e there = cc
-standing_goes from k o (c ∷ cs) e there = here (same_place c.owner from) refl (standing_moved from (Going k) cs e) (standing_goes from k o cs e) there
-  where
-    same : (b : Bool) (x y : ℕ) → suc x ≤ y → suc (cond b x (suc x)) ≤ cond b y (suc y)
-    same true x y le = le
-    same false x y le = omega (arith, le)
-
-    here :
-        (b : Bool) → same_place c.owner from ≡ b → standing (moved from (Going k) cs) ≤ standing cs → (held cs from ≡ Some o → suc (standing (moved from (Going k) cs)) ≤ standing cs) →
-        cond b (Some c.object) (held cs from) ≡ Some o →
-        suc (cond (is_going (cond b (Going k) c.owner)) (standing (moved from (Going k) cs)) (suc (standing (moved from (Going k) cs)))) ≤ cond (is_going c.owner) (standing cs) (suc (standing cs))
-    here true s le more there = rw (ap is_going (same_place-true c.owner from s) ∙ e) (omega (arith, le))
-    here false s le more there = same (is_going c.owner) (standing (moved from (Going k) cs)) (standing cs) (more there)
+standing_goes from k o (c ∷ cs) e there = grind (arith, standing_moved from (Going k) cs e, standing_goes from k o cs e, same_place-true c.owner from)
 
 pub standing_without : (from : Place) (cs : List Cell) → standing (without from cs) ≤ standing cs
 standing_without from [] = omega arith
-standing_without from (c ∷ cs) = here (same_place c.owner from) (is_going c.owner) refl (standing_without from cs)
-  where
-    here : (b g : Bool) → is_going c.owner ≡ g → standing (without from cs) ≤ standing cs → standing (cond b (without from cs) (c ∷ without from cs)) ≤ cond g (standing cs) (suc (standing cs))
-    here true true e le = le
-    here true false e le = omega (arith, le)
-    here false true e le = rw e le
-    here false false e le = rw e (omega (arith, le))
+standing_without from (c ∷ cs) = grind (arith, standing_without from cs)
 
 pub standing_new : (name : ℕ) (t : Thing) (words : List ℤ) (owner : Place) (cs : List Cell) → standing (with_new name t words owner cs) ≤ suc (standing cs)
-standing_new name t words owner cs = here (is_going owner)
-  where
-    here : (b : Bool) → cond b (standing cs) (suc (standing cs)) ≤ suc (standing cs)
-    here true = omega arith
-    here false = omega arith
+standing_new name t words owner cs = grind arith
 
 written_same : (n w : ℕ) (v : ℤ) (cs : List Cell) → standing (set_word_field n w v cs) ≡ standing cs
 written_same n w v [] = refl
 written_same n w v (c ∷ cs) = ap (λ x. cond (is_going c.owner) x (suc x)) (written_same n w v cs)
 
 pub standing_stored : (cs : List Cell) (h : Home) (w : ℕ) (v : ℤ) → standing (stored cs h w v) ≡ standing cs
-standing_stored cs Static w v = refl
-standing_stored cs AtRoot w v = refl
-standing_stored cs (Inside o from) w v = written_same o.name w v cs
+standing_stored cs h w v = grind (arith, written_same)
 
 asked_same : (n : ℕ) (r : Option Request) (cs : List Cell) → standing (set_request n r cs) ≡ standing cs
 asked_same n r [] = refl
 asked_same n r (c ∷ cs) = ap (λ x. cond (is_going c.owner) x (suc x)) (asked_same n r cs)
 
 pub standing_asked : (cs : List Cell) (h : Home) (r : Option Request) → standing (rerequested cs h r) ≡ standing cs
-standing_asked cs Static r = refl
-standing_asked cs AtRoot r = refl
-standing_asked cs (Inside o from) r = asked_same o.name r cs
+standing_asked cs h r = grind (arith, asked_same)
 
 opened_same : (n : ℕ) (b : Bool) (cs : List Cell) → standing (set_session n b cs) ≡ standing cs
 opened_same n b [] = refl
 opened_same n b (c ∷ cs) = ap (λ x. cond (is_going c.owner) x (suc x)) (opened_same n b cs)
 
 pub standing_opened : (cs : List Cell) (h : Home) (b : Bool) → standing (resessioned cs h b) ≡ standing cs
-standing_opened cs Static b = refl
-standing_opened cs AtRoot b = refl
-standing_opened cs (Inside o from) b = opened_same o.name b cs
+standing_opened cs h b = grind (arith, opened_same)
 
 served_same : (n : ℕ) (v : Service) (cs : List Cell) → standing (set_service n v cs) ≡ standing cs
 served_same n v [] = refl

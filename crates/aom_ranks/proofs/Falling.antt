@@ -4,7 +4,7 @@ use Rattle.std.specs.Prelude.{not}
 use Rattle.aom_image.specs.Image.{Image}
 use Rattle.aom_image.specs.Views.{arguments_of, is_quiet, method_at, method_class, method_role}
 use Rattle.aom_instructions.specs.declared.instr.Instr.{Instr}
-use Rattle.aom_instructions.specs.declared.instr.Instr.TheVariants.{Call, Cancel, New, NewOrLeave, Next, Return, Trap}
+use Rattle.aom_instructions.specs.declared.instr.Instr.TheVariants.{Call, Cancel, NewOrLeave, Next, Return, Trap}
 use Rattle.aom_instructions.specs.declared.instr.Target.{Target}
 use Rattle.aom_image.specs.declared.method.Gives.{Gives}
 use Rattle.aom_image.specs.declared.method.Method.{Method as Method_declared}
@@ -170,9 +170,7 @@ module _ (p : Image) (linked : IsLinked p) (c : Choice) (s : State) (fr : Frame)
 
     -- what makes, or leaves, is not quiet
     loud_maker : (i : Instr) → makes (Some i) ≡ true → Ruled i → is_quiet p fr.method ≡ false
-    loud_maker (New a x) e r = loud_by (is_quiet p fr.method) r.1.0
-    loud_maker (NewOrLeave a x) e r = loud_by (is_quiet p fr.method) r.1.0
-    loud_maker _ e r = cc
+    loud_maker i e r = grind (arith, loud_by (is_quiet p fr.method))
 
     loud_leaving : (i : Instr) (code : ℤ) → LeavesWith c fr i code → Ruled i → is_quiet p fr.method ≡ false
     loud_leaving (NewOrLeave a x) code e r = loud_by (is_quiet p fr.method) r.1.0

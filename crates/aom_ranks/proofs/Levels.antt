@@ -4,9 +4,12 @@ use Rattle.std.specs.Prelude.{IsSome, position}
 use Rattle.std.proofs.lemmas.Option.{slice_get_within}
 use Rattle.aom_image.specs.Image.{Image}
 use Rattle.aom_image.specs.Views.{is_quiet, leaves, leaves_in, method_at, quiet_in}
+use Rattle.aom_instructions.specs.declared.instr.Instr.{Instr}
 use Rattle.aom_instructions.specs.declared.instr.Instr.TheVariants.{Call, Cancel, Trap}
 use Rattle.aom_instructions.specs.declared.instr.Target.{Target}
 use Rattle.aom_image.specs.declared.method.Method.{Method}
+use Rattle.aom_image.specs.declared.class.ClassKind.{ClassKind}
+use Rattle.aom_image.specs.declared.method.Role.{Role}
 use Rattle.aom_image.specs.declared.method.Role.TheVariants.{Cancel as Cancel_role, Destruct}
 use Rattle.aom_image.specs.declared.method.Thing.{Thing}
 use Rattle.aom_classes.specs.Calls.{AllBelow, CallsOrdered, RunsBelow}
@@ -95,15 +98,19 @@ record IsQuietThere (p : Image) (m : ℕ) : Type 0 where
   within : m < length p.methods
   quiet : is_quiet p m ≡ true
 
--- a destructor is a quiet method of the image
-quiet_destructor : (p : Image) → IsLinked p → (c m : ℕ) → role_of p c Destruct ≡ Some m → IsQuietThere p m
-unfolding method_at quiet_in
-quiet_destructor p linked c m e =
-    let w = role_found p c m Destruct e in
+-- what plays a role whose shape asks for it is a quiet method of the image
+role_quiet : (p : Image) → IsLinked p → (c m : ℕ) (role : Role) → ((kind : Option ClassKind) (d : Method) → HasShape role kind d → quiet_in (Some d) ≡ true) → role_of p c role ≡ Some m → IsQuietThere p m
+unfolding method_at
+role_quiet p linked c m role quiet e =
+    let w = role_found p c m role e in
     let d = w.0 in
     let shaped : IsShaped p d = all_there (IsShaped p) p.methods m d linked.shapes w.1 in
-    let shape : HasShape Destruct (kind_of p d.class) d = subst (λ r. HasShape r (kind_of p d.class) d) w.3 shaped.role in
-    record { within = slice_get_within p.methods m d w.1; quiet = ap quiet_in w.1 ∙ shape.flags }
+    let shape : HasShape role (kind_of p d.class) d = subst (λ r. HasShape r (kind_of p d.class) d) w.3 shaped.role in
+    record { within = slice_get_within p.methods m d w.1; quiet = ap quiet_in w.1 ∙ quiet (kind_of p d.class) d shape }
+
+quiet_destructor : (p : Image) → IsLinked p → (c m : ℕ) → role_of p c Destruct ≡ Some m → IsQuietThere p m
+unfolding quiet_in
+quiet_destructor p linked c m e = role_quiet p linked c m Destruct (λ kind d shape. shape.flags) e
 
 -- a destructor and the going after it are paid by what goes before a server, with one left
 pub destructed_paid : (p : Image) → IsLinked p → (o : Object) (height : ℕ) (below : List Task) → tasks_rank p (destructed p o height below) + 1 ≤ closing_rank p + waiting_rank p below
@@ -131,20 +138,17 @@ begun_paid p linked o height below = go (is_server p o.thing)
     go true = omega (arith, twice, closing_two p linked)
     go false = omega (arith, twice, destructed_paid p linked o height below)
 
--- a called method comes before
-pub called_before : (p : Image) → IsLinked p → (m place : ℕ) (d : Method) (target : Target) (m' first c : ℕ) → method_at p m ≡ Some d → slice_get d.code place ≡ Some (Call target m' first c) → m' < m
+-- what an instruction of a method runs comes before the method
+runs_below : (p : Image) → IsLinked p → (m place : ℕ) (d : Method) (i : Instr) → method_at p m ≡ Some d → slice_get d.code place ≡ Some i → RunsBelow p m d.class i
 unfolding method_at
-called_before p linked m place d target m' first c is stands =
-    let ordered : CallsOrdered p m d = at_place (CallsOrdered p) p.methods m d linked.calls is in
-    let runs : RunsBelow p m d.class (Call target m' first c) = all_there (RunsBelow p m d.class) d.code place (Call target m' first c) ordered.code stands in
-    runs.below
+runs_below p linked m place d i is stands = all_there (RunsBelow p m d.class) d.code place i (at_place (CallsOrdered p) p.methods m d linked.calls is).code stands
+
+-- so a called method does
+pub called_before : (p : Image) → IsLinked p → (m place : ℕ) (d : Method) (target : Target) (m' first c : ℕ) → method_at p m ≡ Some d → slice_get d.code place ≡ Some (Call target m' first c) → m' < m
+called_before p linked m place d target m' first c is stands = (runs_below p linked m place d (Call target m' first c) is stands).below
 
 pub trapped_before : (p : Image) → IsLinked p → (m place : ℕ) (d : Method) (target : Target) (m' first c : ℕ) → method_at p m ≡ Some d → slice_get d.code place ≡ Some (Trap target m' first c) → m' < m
-unfolding method_at
-trapped_before p linked m place d target m' first c is stands =
-    let ordered : CallsOrdered p m d = at_place (CallsOrdered p) p.methods m d linked.calls is in
-    let runs : RunsBelow p m d.class (Trap target m' first c) = all_there (RunsBelow p m d.class) d.code place (Trap target m' first c) ordered.code stands in
-    runs.below
+trapped_before p linked m place d target m' first c is stands = (runs_below p linked m place d (Trap target m' first c) is stands).below
 
 -- an operation is paid by its item, with two left
 pub undo_paid : (p : Image) (m : ℕ) → IsUndo p m → left_in (method_at p m) [] 0 * price p m + 2 ≤ cell_rank p
@@ -158,13 +162,8 @@ undo_paid p m undo =
 
 -- one is a quiet method of the image
 pub quiet_canceller : (p : Image) → IsLinked p → (c m : ℕ) → role_of p c Cancel_role ≡ Some m → is_quiet p m ≡ true
-unfolding method_at quiet_in
-quiet_canceller p linked c m e =
-    let w = role_found p c m Cancel_role e in
-    let d = w.0 in
-    let shaped : IsShaped p d = all_there (IsShaped p) p.methods m d linked.shapes w.1 in
-    let shape : HasShape Cancel_role (kind_of p d.class) d = subst (λ r. HasShape r (kind_of p d.class) d) w.3 shaped.role in
-    ap quiet_in w.1 ∙ shape.flags
+unfolding quiet_in
+quiet_canceller p linked c m e = (role_quiet p linked c m Cancel_role (λ kind d shape. shape.flags) e).quiet
 
 -- and comes before what cancels by it
 pub canceller_before :
@@ -172,8 +171,7 @@ pub canceller_before :
     m' < m
 unfolding method_at role_of
 canceller_before p linked m place d c m' is stands class e =
-    let ordered : CallsOrdered p m d = at_place (CallsOrdered p) p.methods m d linked.calls is in
-    let runs : RunsBelow p m d.class Cancel = all_there (RunsBelow p m d.class) d.code place Cancel ordered.code stands in
+    let runs = runs_below p linked m place d Cancel is stands in
     let below : AllBelow p.methods m c Cancel_role = subst (λ o. IfSome o (λ c. AllBelow p.methods m c Cancel_role)) class runs in
     let w = found (plays c Cancel_role) p.methods m' e in
     let here : IfSome (Some w.0) (λ d. IsTrue (plays c Cancel_role d) → m' < m) = subst (λ o. IfSome o (λ d. IsTrue (plays c Cancel_role d) → m' < m)) w.1 (below m') in

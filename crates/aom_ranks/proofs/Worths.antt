@@ -9,11 +9,11 @@ use Rattle.aom_image.specs.declared.method.Gives.TheVariants.{Own as An_own, May
 use Rattle.aom_shape.specs.Shape.{Shape}
 use Rattle.aom_rules.specs.Typing.{Typing}
 use Rattle.aom_sound.specs.Calls.{accepted_cells, answered_by, below_top, ended_well, passed_cells, received, result_cells, result_register, returned, told_answer}
-use Rattle.aom_sound.specs.Claims.{Dispatching, Dying, Ending, Layer, Mark, Method, Unwinding, tasks_of}
+use Rattle.aom_sound.specs.Claims.{Dispatching, Dying, Layer, Mark, Method, Unwinding, tasks_of}
 use Rattle.aom_sound.specs.Cleanup.{code_told, to_trap}
 use Rattle.aom_sound.specs.Places.{Cell, Register, Request, moved}
 use Rattle.aom_sound.specs.State.{Answered, Asks, Dispatch, Dispatched, Frame, Home, Item, Run, Seat, State, Task, Trapped, next, resumed}
-use Rattle.aom_sound.specs.WellTyped.{Caught, Now, Returns, Stack}
+use Rattle.aom_sound.specs.WellTyped.{Now, Stack}
 use Rattle.aom_ranks.specs.Worths.{Worths, tasks_worth, waiting_worth}
 use Rattle.aom_sound.specs.Enlisted.{cancelled, ended_cells, on_request, own_request, rerequested}
 use Rattle.aom_rules.specs.Requests.{is_cancel}
@@ -94,16 +94,12 @@ module _ (w : Worths) where
     Less ls = (tasks_worth w (after ls).tasks ≤ waiting_worth w (tasks_of ls)) × (f (after ls).cells + g (after ls).items ≤ f s.cells + g s.items)
 
     pub returned_less : (ls : List Layer) → Stack p t s.cells Now (Method fr sh ∷ ls) → Less ls
-    returned_less [] h = let e : Returns fr.method fr.home ≡ Now = h.4 in absurd (cc)
     returned_less (Method caller sh2 ∷ ls) h =
         let x = result_register (instr_at p caller.method caller.place) in
         let below = Run caller ∷ tasks_of ls in
         (omega (arith, received_alike p fr below ended gives a x caller (tasks_of ls)), omega (arith, result_less f passes p fr below ended gives a x (tasks_of ls), ended_less))
     returned_less (Dying o ∷ ls) h = (omega arith, omega (arith, ended_less))
-    returned_less (Ending o left ∷ ls) h = absurd h.4.1
     returned_less (Unwinding code es ∷ ls) h = (omega arith, omega (arith, ended_less))
-    returned_less (Mark gv ∷ []) h = let e : Caught gv ≡ Now = h.4.1 in absurd (cc)
-    returned_less (Mark gv ∷ Ending o left ∷ ls) h = absurd h.4.1.1
     returned_less (Mark gv ∷ Method caller sh2 ∷ ls) h =
         let x = result_register (instr_at p caller.method caller.place) in
         let over = Trapped ∷ Run caller ∷ tasks_of ls in

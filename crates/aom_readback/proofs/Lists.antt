@@ -62,10 +62,7 @@ parts_again p (q ∷ qs) form forms =
 
 -- a list that begins with a letter is not the empty one
 not_minus : (p : List ℕ) (more : List ℕ) → has_name_form p ≡ true → bytes_eq (p ++ more) (codes "-") ≡ false
-not_minus [] more form = absurd cc
-not_minus (b ∷ bs) more form =
-    let other : (b == 45) ≡ false = grind (arith, common_steps) in
-    rw other
+not_minus p more form = grind arith
 
 -- ---- elements
 

@@ -66,8 +66,7 @@ is_set set (Err fault) = false
 
 set_from : (r : Result States AsmFaultKind) (set : ℕ) → is_set set r ≡ true → r ≡ Ok (record { 0 = set })
 unfolding is_set
-set_from (Ok states) set same = ap (λ n. Ok (record { 0 = n })) (eqb-true states.0 set same)
-set_from (Err fault) set same = absurd cc
+set_from r set same = grind arith
 
 states_again : (set : ℕ) → set < 64 → states_of (states_word set) ≡ Ok (record { 0 = set })
 unfolding is_set

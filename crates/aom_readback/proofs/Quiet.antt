@@ -1,5 +1,5 @@
 -- A method of the shape that its role asks says that it is quiet, where its role is.
-use Rattle.std.proofs.Common.{◌≡◌, true, Option}
+use Rattle.std.proofs.Common.{◌≡◌, true, Option, arith}
 use Rattle.aom_image.specs.Image.{Image}
 use Rattle.aom_image.specs.Views.{has}
 use Rattle.aom_image.specs.declared.class.ClassKind.{ClassKind}
@@ -11,10 +11,7 @@ use Rattle.aom_roles.specs.Shapes.{AllShaped, HasShape}
 use Rattle.aom_readback.specs.Texts.{AllSayQuiet}
 
 quiet_by_shape : (role : Role) (kind : Option ClassKind) (m : Method) → HasShape role kind m → is_quiet_role role ≡ true → has m.flags.0 2 ≡ true
-quiet_by_shape roles.Destruct kind m shape quiet = shape.flags
-quiet_by_shape roles.Cancel kind m shape quiet = shape.flags
-quiet_by_shape roles.Undo kind m shape quiet = shape.flags
-quiet_by_shape _ kind m shape quiet = absurd cc
+quiet_by_shape role kind m shape quiet = grind arith
 
 pub shaped_say_quiet : (i : Image) → AllShaped i → AllSayQuiet i
 shaped_say_quiet i shaped k d within = quiet_by_shape _ _ _ (shaped k d within).role

@@ -1,9 +1,8 @@
 -- What lines denote, by the lines that are read and the next one.
-use Rattle.std.proofs.Common.{◌≡◌, ◌⊎◌, ◌∙◌, ℕ, ◌+◌, ◌≤◌, Bool, true, false, nat_le, List, [], ◌∷◌, ◌++◌, length, length-append, append-nil, append_assoc, Option, None, Result, Ok, Err, inl, inr, refl, sym, ap, rules, tests}
+use Rattle.std.proofs.Common.{◌≡◌, ◌⊎◌, ◌∙◌, ℕ, ◌+◌, ◌≤◌, false, List, [], ◌∷◌, ◌++◌, length, length-append, append-nil, append_assoc, Option, None, Result, Ok, Err, inl, inr, refl, sym, ap, arith}
 use Rattle.std.proofs.lemmas.Grind.{flat_map-append}
-use Rattle.std.specs.Prelude.{cond, Some}
+use Rattle.std.specs.Prelude.{Some}
 use Rattle.aom_script.specs.declared.fault.ScriptFaultKind.{ScriptFaultKind}
-use Rattle.aom_script.specs.declared.fault.ScriptFaultKind.TheVariants.{LimitPassed, TimeBack}
 use Rattle.aom_script.specs.declared.line.ScriptLine.{ScriptLine}
 use Rattle.aom_script.specs.declared.reading.Reading.{Reading}
 use Rattle.aom_script.specs.Script.{Script, reading_of, said_by, said_in, is_back, counted, in_place, line_says, last_time, fault_in, fault_of, refused_by, timed_by, refused_in, timed_in, in_line, faults_after, unless, denoted_by, Keeps, Adds, LinesWantMemory}
@@ -19,18 +18,10 @@ pub record Said (number last : ℕ) (reading : Result Reading ScriptFaultKind) (
   pub few : number ≤ 65536
 
 is_counted : (number : ℕ) (o : Option ScriptLine) (said : ScriptLine) → counted number o ≡ Ok said → (o ≡ Some said) × (number ≤ 65536)
-is_counted number None said e = absurd cc
-is_counted number (Some s) said e = go (nat_le number 65536) refl e where
-  go : (b : Bool) → nat_le number 65536 ≡ b → cond b (Ok s) (Err LimitPassed) ≡ Ok said → (Some s ≡ Some said) × (number ≤ 65536)
-  go true few e = (cc, search (rules, tests, few))
-  go false few e = absurd cc
+is_counted number o said e = grind arith
 
 pub is_said : (number last : ℕ) (reading : Result Reading ScriptFaultKind) (said : ScriptLine) → in_place number last reading ≡ Ok said → Said number last reading said
-is_said number last (Err kind) said e = absurd cc
-is_said number last (Ok reading) said e = go (is_back last reading) refl e where
-  go : (b : Bool) → is_back last reading ≡ b → cond b (Err TimeBack) (counted number (said_by reading)) ≡ Ok said → Said number last (Ok reading) said
-  go true back e = absurd cc
-  go false back e = let c = is_counted number (said_by reading) said e in record { ok = reading; reads = refl; on_time = back; says = c.0; few = c.1 }
+is_said number last reading said e = grind arith
 
 pub in_said : (number last : ℕ) (line : List ℕ) (said : ScriptLine) → line_says number last line ≡ Ok said → said_in (reading_of line) ≡ Some said
 in_said number last line said e = let s = is_said number last (reading_of line) said e in ap said_in s.reads ∙ s.says

@@ -1,13 +1,14 @@
 -- The times of a denoted script never fall and its numbers are in their ranges: line by line, by the lines before.
-use Rattle.std.proofs.Common.{◌≡◌, ◌∙◌, ◌≤◌, ◌<◌, ℕ, ◌+◌, ◌^◌, ◌==◌, ◌&&◌, ◌||◌, Bool, true, false, not, nat_le, List, [], ◌∷◌, ◌++◌, length, append-nil, Option, None, Some, Result, Ok, Err, refl, sym, ap, subst, arith, rules, tests}
+use Rattle.std.proofs.Common.{◌≡◌, ◌∙◌, ◌≤◌, ◌<◌, ℕ, ◌+◌, ◌^◌, false, List, [], ◌∷◌, ◌++◌, length, append-nil, Option, Some, Result, Ok, Err, refl, sym, ap, subst, arith, rules, tests}
+use Rattle.std.proofs.lemmas.Bool.Decides.{nat_tests}
 use Rattle.std.proofs.lemmas.Grind.{flat_map-append, fold-append}
-use Rattle.std.specs.Prelude.{cond, option_map, ℤ}
+use Rattle.std.specs.Prelude.{option_map, ℤ}
 use Rattle.std.specs.List.{All}
 use Rattle.std.proofs.lemmas.List.Elements.{All-nil, All-cons}
 use Rattle.aom_text.specs.Numbers.{number_below, number_within, number_signed}
 use Rattle.aom_text.specs.declared.number.Number.{Number}
 use Rattle.aom_transcript.specs.declared.event.Command.{Command}
-use Rattle.aom_transcript.specs.declared.event.Command.TheVariants.{Connect, Send, Close, Die}
+use Rattle.aom_transcript.specs.declared.event.Command.TheVariants.{Connect, Close, Die}
 use Rattle.aom_transcript.specs.declared.event.Event.{Event}
 use Rattle.aom_transcript.specs.declared.event.Event.TheVariants.{Tell, Kill, Client}
 use Rattle.aom_transcript.specs.declared.event.TimedEvent.{TimedEvent}
@@ -27,40 +28,23 @@ use Rattle.aom_script.proofs.Lines.{Said, is_said}
 -- ---- numbers
 
 pub in_range : (low high : ℕ) (n : Number) (k : ℕ) → number_within low high n ≡ Some k → (k ≡ n.size) × (k ≤ high)
-in_range low high n k e = go ((not n.is_negative || n.size == 0) && nat_le low n.size && nat_le n.size high) refl e where
-  go : (b : Bool) → ((not n.is_negative || n.size == 0) && nat_le low n.size && nat_le n.size high) ≡ b → cond b (Some n.size) None ≡ Some k → (k ≡ n.size) × (k ≤ high)
-  go true c e = let same : k ≡ n.size = cc in (same, subst (λ m. m ≤ high) (sym same) (search (rules, tests, c)))
-  go false c e = absurd cc
+in_range low high n k e = grind (arith, nat_tests)
 
 not_below : (last : ℕ) (n : Number) → number_below last n ≡ false → last ≤ n.size
 not_below last n c = search (rules, tests, c)
 
 -- what both make, of two numbers in their ranges
 made : {A B C : Type 0} (P : C → Type 0) (make : A → B → C) (a : Option A) (b : Option B) (e : C) → ((x : A) (y : B) → a ≡ Some x → b ≡ Some y → P (make x y)) → both make a b ≡ Some e → P e
-made P make (Some x) (Some y) e holds is = subst P (same is) (holds x y refl refl) where
-  same : Some (make x y) ≡ Some e → make x y ≡ e
-  same is = cc
-made P make (Some x) None e holds is = absurd cc
-made P make None b e holds is = absurd cc
+made x make y b e holds is = grind arith
 
 mapped : {A C : Type 0} (P : C → Type 0) (make : A → C) (a : Option A) (e : C) → ((x : A) → a ≡ Some x → P (make x)) → option_map make a ≡ Some e → P e
-mapped P make (Some x) e holds is = subst P (same is) (holds x refl) where
-  same : Some (make x) ≡ Some e → make x ≡ e
-  same is = cc
-mapped P make None e holds is = absurd cc
+mapped x make y e holds is = grind arith
 
 below : (low high : ℕ) (n : Number) (k : ℕ) → number_within low high n ≡ Some k → k < high + 1
 below low high n k is = let small = (in_range low high n k is).1 in omega (arith, small)
 
 send_fits : (a b c d e : Option ℤ) (command : Command) → send_of a b c d e ≡ Some command → SlotsFit command
-send_fits (Some a) (Some b) (Some c) (Some d) (Some e) command is = subst SlotsFit (same is) tt where
-  same : Some (Send (a ∷ b ∷ c ∷ d ∷ e ∷ [])) ≡ Some command → Send (a ∷ b ∷ c ∷ d ∷ e ∷ []) ≡ command
-  same is = cc
-send_fits None b c d e command is = absurd cc
-send_fits (Some a) None c d e command is = absurd cc
-send_fits (Some a) (Some b) None d e command is = absurd cc
-send_fits (Some a) (Some b) (Some c) None e command is = absurd cc
-send_fits (Some a) (Some b) (Some c) (Some d) None command is = absurd cc
+send_fits a b c d e command is = grind arith
 
 slots_fit : (numbers : CommandNumbers) (command : Command) → command_within numbers ≡ Some command → SlotsFit command
 slots_fit (ToConnect class slots) command is = made SlotsFit Connect (number_within 0 255 class) (number_within 0 64 slots) command (λ k n at few. (in_range 0 64 slots n few).1) is
@@ -90,20 +74,16 @@ one : (last : ℕ) (event : TimedEvent) → last ≤ event.time → InRange even
 one last event later within = record { rises = λ events r. (later, r); in_range = λ events a. All-cons InRange event events within a }
 
 timed_fits : (last : ℕ) (time : Number) (event : EventNumbers) (said : ScriptLine) → number_below last time ≡ false → both at_time (number_within 0 (10 ^ 15) time) (event_within event) ≡ Some said → Fits last said
-timed_fits last time event said on_time is = go (number_within 0 (10 ^ 15) time) (event_within event) refl refl is where
-  go : (t : Option ℕ) (e : Option Event) → number_within 0 (10 ^ 15) time ≡ t → event_within event ≡ e → both at_time t e ≡ Some said → Fits last said
-  go (Some t) (Some e) at comes is =
-      let within = in_range 0 (10 ^ 15) time t at in
-      let later = subst (λ k. last ≤ k) (sym within.0) (not_below last time on_time) in
-      subst (Fits last) (the_line is) (one last (record { time = t; event = e }) later (record { time = within.1; numbers = numbers_fit event e comes })) where
-        the_line : Some (at_time t e) ≡ Some said → at_time t e ≡ said
-        the_line is = cc
-  go (Some t) None at comes is = absurd cc
-  go None e at comes is = absurd cc
+timed_fits last time event said on_time is = made (Fits last) at_time (number_within 0 (10 ^ 15) time) (event_within event) said fits_at is
+  where
+    fits_at : (t : ℕ) (e : Event) → number_within 0 (10 ^ 15) time ≡ Some t → event_within event ≡ Some e → Fits last (at_time t e)
+    fits_at t e at comes =
+        let within = in_range 0 (10 ^ 15) time t at in
+        let later = subst (λ k. last ≤ k) (sym within.0) (not_below last time on_time) in
+        one last (record { time = t; event = e }) later (record { time = within.1; numbers = numbers_fit event e comes })
 
 refusal_fits : (last : ℕ) (o : Option ℕ) (said : ScriptLine) → option_map Refuse o ≡ Some said → Fits last said
-refusal_fits last (Some request) said is = let line : Refuse request ≡ said = cc in nothing last said (ap (λ s. timed_by (Some s)) (sym line))
-refusal_fits last None said is = absurd cc
+refusal_fits last o said is = grind arith
 
 fits : (last : ℕ) (reading : Reading) (said : ScriptLine) → is_back last reading ≡ false → said_by reading ≡ Some said → Fits last said
 fits last Blank said on_time is = let line : Empty ≡ said = cc in nothing last said (ap (λ s. timed_by (Some s)) (sym line))
@@ -138,11 +118,12 @@ timely_after before (line ∷ lines) e = go (line_says (length before + 1) (last
       added (last_time (timed_in before)) (reading_of line) said (length before + 1) (timed_in lines) (is_said (length before + 1) (last_time (timed_in before)) (reading_of line) said says) later
   go (Err kind) rest says e = absurd cc
 
-the_timed : (lines : List (List ℕ)) (script : Script) → unless [] (record { refused = refused_in lines; timed = timed_in lines }) ≡ Ok script → timed_in lines ≡ script.timed
-the_timed lines script e = let same : record { refused = refused_in lines; timed = timed_in lines } ≡ script = cc in ap (λ (s : Script). s.timed) same
+-- where a script is denoted no line is faulty
+no_fault : (faults : List ScriptFault) (read script : Script) → unless faults read ≡ Ok script → (faults ≡ []) × (read ≡ script)
+no_fault faults read script e = grind arith
 
 pub timely : (lines : List (List ℕ)) (script : Script) → denoted_by lines ≡ Ok script → IsTimely script.timed
-timely lines script e = go (faults_after [] lines) refl e where
-  go : (faults : List ScriptFault) → faults_after [] lines ≡ faults → unless faults (record { refused = refused_in lines; timed = timed_in lines }) ≡ Ok script → IsTimely script.timed
-  go [] none e = let are = timely_after [] lines none in subst IsTimely (the_timed lines script e) (record { rises = are.rises; in_range = are.in_range })
-  go (fault ∷ faults) some e = absurd cc
+timely lines script e =
+    let both = no_fault (faults_after [] lines) (record { refused = refused_in lines; timed = timed_in lines }) script e in
+    let are = timely_after [] lines both.0 in
+    subst IsTimely (ap (λ (s : Script). s.timed) both.1) (record { rises = are.rises; in_range = are.in_range })

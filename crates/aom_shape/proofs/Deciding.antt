@@ -1,58 +1,32 @@
 -- The tests on kinds and fillings decide the order, and the meet of two kinds is the strongest below both.
-use Rattle.std.proofs.Common.{◌≡◌, true, ◌&&◌, refl, ap}
-use Rattle.std.proofs.lemmas.Bool.{eqb-true, eq-eqb, and_parts}
+use Rattle.std.proofs.Common.{◌≡◌, true, ◌&&◌, refl, arith}
 use Rattle.aom_image.specs.declared.method.Thing.{Thing}
-use Rattle.aom_image.specs.declared.method.Thing.TheVariants.{Object, Message}
 use Rattle.aom_shape.specs.Things.{same_thing}
 use Rattle.aom_shape.specs.Order.{Weaker, WeakerFilling}
 use Rattle.aom_shape.specs.Order.Weaker.{alike, unset_word, unset_null, maybe_null, maybe_own}
 use Rattle.aom_shape.specs.Order.WeakerFilling.{alike_filling, perhaps_empty, perhaps_full}
 use Rattle.aom_shape.specs.Tests.{same_age, same_delivery, no_more, no_more_filling}
 use Rattle.aom_shape.specs.declared.kind.Age.{Age}
-use Rattle.aom_shape.specs.declared.kind.Age.TheVariants.{Fresh, Ready}
 use Rattle.aom_shape.specs.declared.kind.Delivery.{Delivery}
-use Rattle.aom_shape.specs.declared.kind.Delivery.TheVariants.{Here, Gone}
 use Rattle.aom_shape.specs.declared.kind.Kind.{Kind}
 use Rattle.aom_shape.specs.declared.kind.Kind.TheVariants.{Unset, Word, Null, Own, Maybe}
 use Rattle.aom_shape.specs.declared.kind.Filling.{Filling}
 use Rattle.aom_shape.specs.declared.kind.Filling.TheVariants.{Empty, Full, Perhaps}
 
 pub thing_is : (t u : Thing) → same_thing t u ≡ true → t ≡ u
-thing_is (Object c) (Object d) h = ap Object (eqb-true c d h)
-thing_is Message Message h = refl
-thing_is _ _ h = cc
-
-pub thing_self : (t : Thing) → same_thing t t ≡ true
-thing_self (Object c) = eq-eqb c c refl
-thing_self Message = refl
-
-pub age_is : (a b : Age) → same_age a b ≡ true → a ≡ b
-age_is Fresh Fresh h = refl
-age_is Ready Ready h = refl
-age_is _ _ h = cc
-
-pub age_self : (a : Age) → same_age a a ≡ true
-age_self Fresh = refl
-age_self Ready = refl
+thing_is t u h = grind arith
 
 pub delivery_is : (a b : Delivery) → same_delivery a b ≡ true → a ≡ b
-delivery_is Here Here h = refl
-delivery_is Gone Gone h = refl
-delivery_is _ _ h = cc
+delivery_is a b h = grind arith
 
 pub delivery_self : (a : Delivery) → same_delivery a a ≡ true
-delivery_self Here = refl
-delivery_self Gone = refl
+delivery_self a = grind arith
 
-pub object_self : (t : Thing) (a : Age) → (same_thing t t && same_age a a) ≡ true
-object_self t a = rw (thing_self t, age_self a)
+object_self : (t : Thing) (a : Age) → (same_thing t t && same_age a a) ≡ true
+object_self t a = grind arith
 
 pub no_more_self : (k : Kind) → no_more k k ≡ true
-no_more_self Unset = refl
-no_more_self Word = refl
-no_more_self Null = refl
-no_more_self (Own t a) = object_self t a
-no_more_self (Maybe t a) = object_self t a
+no_more_self k = grind arith
 
 -- the test is true where the first kind says no more
 pub weaker_tests : (a b : Kind) → Weaker a b → no_more a b ≡ true
@@ -64,7 +38,7 @@ weaker_tests a b (maybe_own {t = t} {a = age}) = object_self t age
 
 -- and only there
 pub same_own : (t u : Thing) (a b : Age) → (same_thing t u && same_age a b) ≡ true → (t ≡ u) × (a ≡ b)
-same_own t u a b h = let both_are = and_parts (same_thing t u) (same_age a b) h in (thing_is t u both_are.0, age_is a b both_are.1)
+same_own t u a b h = grind arith
 
 pub weaker_tested : (a b : Kind) → no_more a b ≡ true → Weaker a b
 weaker_tested Unset Unset h = alike

@@ -1,27 +1,23 @@
 -- The meet of two states, kind by kind and filling by filling.
-use Rattle.std.proofs.Common.{◌≡◌, ◌≢◌, ℕ, ◌+◌, ◌<◌, Bool, true, false, cond, List, length, slice_index_or, slice_set, Some, None, inl, inr, refl, sym, ◌∙◌, arith}
+use Rattle.std.proofs.Common.{◌≡◌, ◌≢◌, ℕ, ◌+◌, ◌<◌, true, false, List, length, slice_index_or, slice_set, Some, None, inl, inr, refl, sym, ◌∙◌, arith}
 use Rattle.std.proofs.lemmas.List.{length-set}
 use Rattle.std.proofs.lemmas.Bool.{false≢true}
 use Rattle.std.proofs.lemmas.Bool.Decides.{eqb_tells, leb_tells}
 use Rattle.std.specs.Prelude.{bit_or}
-use Rattle.aom_image.specs.declared.method.Thing.{Thing}
-use Rattle.aom_shape.specs.declared.kind.Age.{Age}
 use Rattle.aom_shape.specs.Kinds.{register, field}
 use Rattle.aom_shape.specs.Meet.{Met, Unmet, MetFillings, IsMeet, NoMeet, WhyNoMeet}
 use Rattle.aom_shape.specs.Meet.WhyNoMeet.{by_delivery, by_entries, by_registers}
 use Rattle.aom_shape.specs.Order.{Weaker, WeakerFilling}
-use Rattle.aom_shape.specs.Order.Weaker.{alike, unset_word, unset_null, maybe_null, maybe_own}
-use Rattle.aom_shape.specs.Order.WeakerFilling.{alike_filling, perhaps_empty, perhaps_full}
 use Rattle.aom_shape.specs.Shape.{Shape}
 use Rattle.aom_shape.specs.Tables.{at}
 use Rattle.aom_shape.specs.Tests.{no_more, apart, meet_kind, no_more_filling, meet_filling, same_delivery}
 use Rattle.aom_shape.specs.declared.kind.Kind.{Kind}
-use Rattle.aom_shape.specs.declared.kind.Kind.TheVariants.{Unset, Word, Null, Own, Maybe}
+use Rattle.aom_shape.specs.declared.kind.Kind.TheVariants.{Unset}
 use Rattle.aom_shape.specs.declared.kind.Filling.{Filling}
-use Rattle.aom_shape.specs.declared.kind.Filling.TheVariants.{Empty, Full, Perhaps}
+use Rattle.aom_shape.specs.declared.kind.Filling.TheVariants.{Perhaps}
 use Rattle.aom_shape.specs.declared.why.Why.TheVariants.{RegisterKind, CleanupAtReturn, MessageAtReturn}
 use Rattle.aom_shape.proofs.Sets.{has_both, has_first, has_second}
-use Rattle.aom_shape.proofs.Deciding.{delivery_self, weaker_tests, weaker_tested, same_own, object_self, fillings_test}
+use Rattle.aom_shape.proofs.Deciding.{delivery_self, weaker_tests, weaker_tested, fillings_test, fillings_tested}
 use Rattle.aom_shape.proofs.Lists.{at_within, at_set_here, at_set_other, at_past}
 
 -- the meet of two kinds says no more than either, and what says no more than both says no more than it
@@ -30,85 +26,31 @@ pub record IsMeetKind (m a b : Kind) : Type 0 where
   pub second : Weaker m b
   pub strongest : (n : Kind) → Weaker n a → Weaker n b → Weaker n m
 
-below_word_and_null : (n : Kind) → no_more n Word ≡ true → no_more n Null ≡ true → no_more n Unset ≡ true
-below_word_and_null Unset h k = refl
-below_word_and_null _ h k = absurd cc
+-- by the test: it says no more than either, what says no more than both says no more than it, and where it is missing nothing says no more than both
+first_passes : (a b m : Kind) → meet_kind a b ≡ Some m → no_more m a ≡ true
+first_passes a b m e = grind arith
 
-below_null_and_own : (t : Thing) (a : Age) (n : Kind) → no_more n Null ≡ true → no_more n (Own t a) ≡ true → no_more n (Maybe t a) ≡ true
-below_null_and_own t a (Maybe u b) h k = k
-below_null_and_own t a _ h k = absurd cc
+second_passes : (a b m : Kind) → meet_kind a b ≡ Some m → no_more m b ≡ true
+second_passes a b m e = grind arith
 
-word_and_null : IsMeetKind Unset Word Null
-word_and_null = record { first = unset_word; second = unset_null; strongest = λ n h k. weaker_tested n Unset (below_word_and_null n (weaker_tests n Word h) (weaker_tests n Null k)) }
+both_pass : (a b m n : Kind) → meet_kind a b ≡ Some m → no_more n a ≡ true → no_more n b ≡ true → no_more n m ≡ true
+both_pass a b m n e h k = grind arith
 
-null_and_own : (t : Thing) (a : Age) → IsMeetKind (Maybe t a) Null (Own t a)
-null_and_own t a = record { first = maybe_null; second = maybe_own; strongest = λ n h k. weaker_tested n (Maybe t a) (below_null_and_own t a n (weaker_tests n Null h) (weaker_tests n (Own t a) k)) }
+missing_differ : (a b : Kind) → meet_kind a b ≡ None → (no_more a b ≡ false) × (no_more b a ≡ false) × (apart a b ≡ None)
+missing_differ a b e = grind arith
 
-turned : (m a b : Kind) → IsMeetKind m a b → IsMeetKind m b a
-turned m a b h = record { first = h.second; second = h.first; strongest = λ n k l. h.strongest n l k }
-
--- what two kinds that differ have in common
-apart_meets : (a b m : Kind) → apart a b ≡ Some m → IsMeetKind m a b
-apart_meets Word Null m e = let same : Unset ≡ m = cc in rw (← same) word_and_null
-apart_meets Null Word m e = let same : Unset ≡ m = cc in rw (← same) (turned Unset Word Null word_and_null)
-apart_meets Null (Own u b) m e = let same : Maybe u b ≡ m = cc in rw (← same) (null_and_own u b)
-apart_meets (Own t a) Null m e = let same : Maybe t a ≡ m = cc in rw (← same) (turned (Maybe t a) Null (Own t a) (null_and_own t a))
-apart_meets _ _ m e = absurd cc
+none_passes : (a b n : Kind) → no_more a b ≡ false → no_more b a ≡ false → apart a b ≡ None → no_more n a ≡ true → no_more n b ≡ true → ⊥
+none_passes a b n first second apart h k = grind arith
 
 pub meet_found : (a b m : Kind) → meet_kind a b ≡ Some m → IsMeetKind m a b
-meet_found a b m e = go (no_more a b) refl (no_more b a) refl e
-  where
-    go : (p : Bool) → no_more a b ≡ p → (q : Bool) → no_more b a ≡ q → cond p (Some a) (cond q (Some b) (apart a b)) ≡ Some m → IsMeetKind m a b
-    go true hp q hq e = let same : a ≡ m = cc in rw (← same) (record { first = alike; second = weaker_tested a b hp; strongest = λ n h k. h })
-    go false hp true hq e = let same : b ≡ m = cc in rw (← same) (record { first = weaker_tested b a hq; second = alike; strongest = λ n h k. k })
-    go false hp false hq e = apart_meets a b m e
-
--- two kinds, neither of which says no more than the other, and which have nothing in common
-record Strangers (a b : Kind) : Type 0 where
-  first : no_more a b ≡ false
-  second : no_more b a ≡ false
-  nothing : apart a b ≡ None
-
-unset_under_word : (b : Kind) → Strangers Word b → no_more Unset b ≡ true → ⊥
-unset_under_word Unset s h = let f = s.second in cc
-unset_under_word Word s h = let f = s.first in cc
-unset_under_word Null s h = let f = s.nothing in cc
-unset_under_word _ s h = cc
-
-unset_under_null : (b : Kind) → Strangers Null b → no_more Unset b ≡ true → ⊥
-unset_under_null Unset s h = let f = s.second in cc
-unset_under_null Word s h = let f = s.nothing in cc
-unset_under_null Null s h = let f = s.first in cc
-unset_under_null _ s h = cc
-
-maybe_under_null : (t : Thing) (x : Age) (b : Kind) → Strangers Null b → no_more (Maybe t x) b ≡ true → ⊥
-maybe_under_null t x Null s h = let f = s.first in cc
-maybe_under_null t x (Own u y) s h = let f = s.nothing in cc
-maybe_under_null t x (Maybe u y) s h = let f = s.second in cc
-maybe_under_null t x _ s h = cc
-
-maybe_under_own : (t : Thing) (x : Age) (b : Kind) → Strangers (Own t x) b → no_more (Maybe t x) b ≡ true → ⊥
-maybe_under_own t x Null s h = let f = s.nothing in cc
-maybe_under_own t x (Own u y) s h = let f = s.first in cc
-maybe_under_own t x (Maybe u y) s h =
-    let same = same_own t u x y h in
-    let f : no_more (Maybe u y) (Own t x) ≡ true = rw (same.0, same.1) (object_self u y) in
-    let g = s.second in cc
-maybe_under_own t x _ s h = cc
-
-strangers_apart : (a b n : Kind) → Strangers a b → Weaker n a → Weaker n b → ⊥
-strangers_apart a b n s (alike {k = k}) h = let f = weaker_tests a b h in let g = s.first in cc
-strangers_apart a b n s unset_word h = unset_under_word b s (weaker_tests Unset b h)
-strangers_apart a b n s unset_null h = unset_under_null b s (weaker_tests Unset b h)
-strangers_apart a b n s (maybe_null {t = t} {a = age}) h = maybe_under_null t age b s (weaker_tests (Maybe t age) b h)
-strangers_apart a b n s (maybe_own {t = t} {a = age}) h = maybe_under_own t age b s (weaker_tests (Maybe t age) b h)
+meet_found a b m e = record {
+  first = weaker_tested m a (first_passes a b m e);
+  second = weaker_tested m b (second_passes a b m e);
+  strongest = λ n h k. weaker_tested n m (both_pass a b m n e (weaker_tests n a h) (weaker_tests n b k));
+}
 
 pub meet_missing : (a b n : Kind) → meet_kind a b ≡ None → Weaker n a → Weaker n b → ⊥
-meet_missing a b n e = go (no_more a b) refl (no_more b a) refl e
-  where
-    go : (p : Bool) → no_more a b ≡ p → (q : Bool) → no_more b a ≡ q → cond p (Some a) (cond q (Some b) (apart a b)) ≡ None → Weaker n a → Weaker n b → ⊥
-    go false hp false hq e = strangers_apart a b n (record { first = hp; second = hq; nothing = e })
-    go _ hp _ hq e = cc
+meet_missing a b n e h k = let differ = missing_differ a b e in none_passes a b n differ.0 differ.1 differ.2 (weaker_tests n a h) (weaker_tests n b k)
 
 -- one more meet is written
 pub met_more : (a b m : List Kind) (i : ℕ) (x y r : Kind) → Met a b m i → i < 16 → length a ≡ 16 → length b ≡ 16 → meet_kind (slice_index_or a i x) (slice_index_or b i y) ≡ Some r → Met a b (slice_set m i r) (i + 1)
@@ -135,39 +77,24 @@ met_more_fillings a b m i e h within la lb = record {
   ];
 }
 
--- the meet of two fillings is the strongest below both
+-- the meet of two fillings is the strongest below both, by the test
+first_filling_passes : (x y : Filling) → no_more_filling (meet_filling x y) x ≡ true
+first_filling_passes x y = grind arith
+
+second_filling_passes : (x y : Filling) → no_more_filling (meet_filling x y) y ≡ true
+second_filling_passes x y = grind arith
+
+both_fillings_pass : (x y n : Filling) → no_more_filling n x ≡ true → no_more_filling n y ≡ true → no_more_filling n (meet_filling x y) ≡ true
+both_fillings_pass x y n h k = grind arith
+
 filling_first : (x y : Filling) → WeakerFilling (meet_filling x y) x
-filling_first Empty Empty = alike_filling
-filling_first Empty Full = perhaps_empty
-filling_first Empty Perhaps = perhaps_empty
-filling_first Full Empty = perhaps_full
-filling_first Full Full = alike_filling
-filling_first Full Perhaps = perhaps_full
-filling_first Perhaps y = alike_filling
+filling_first x y = fillings_tested (meet_filling x y) x (first_filling_passes x y)
 
 filling_second : (x y : Filling) → WeakerFilling (meet_filling x y) y
-filling_second Empty Empty = alike_filling
-filling_second Empty Full = perhaps_full
-filling_second Empty Perhaps = alike_filling
-filling_second Full Empty = perhaps_empty
-filling_second Full Full = alike_filling
-filling_second Full Perhaps = alike_filling
-filling_second Perhaps Empty = perhaps_empty
-filling_second Perhaps Full = perhaps_full
-filling_second Perhaps Perhaps = alike_filling
-
-below_empty_and_full : (n : Filling) → no_more_filling n Empty ≡ true → no_more_filling n Full ≡ true → n ≡ Perhaps
-below_empty_and_full Perhaps h k = refl
-below_empty_and_full _ h k = absurd cc
+filling_second x y = fillings_tested (meet_filling x y) y (second_filling_passes x y)
 
 filling_strongest : (x y n : Filling) → WeakerFilling n x → WeakerFilling n y → WeakerFilling n (meet_filling x y)
-filling_strongest Empty Empty n h k = h
-filling_strongest Empty Full n h k = rw (below_empty_and_full n (fillings_test n Empty h) (fillings_test n Full k)) alike_filling
-filling_strongest Empty Perhaps n h k = k
-filling_strongest Full Empty n h k = rw (below_empty_and_full n (fillings_test n Empty k) (fillings_test n Full h)) alike_filling
-filling_strongest Full Full n h k = h
-filling_strongest Full Perhaps n h k = k
-filling_strongest Perhaps y n h k = h
+filling_strongest x y n h k = fillings_tested n (meet_filling x y) (both_fillings_pass x y n (fillings_test n x h) (fillings_test n y k))
 
 met_everywhere : (a b m : List Kind) → length a ≡ 16 → length b ≡ 16 → Met a b m 16 → (i : ℕ) → IsMeetKind (at Unset m i) (at Unset a i) (at Unset b i)
 met_everywhere a b m la lb h i =

@@ -1,7 +1,7 @@
 -- The tests on lists decide the order between states.
-use Rattle.std.proofs.Common.{◌≡◌, ◌≢◌, ℕ, zero, suc, Bool, true, false, ◌&&◌, ◌==◌, List, [], ◌∷◌, length, ◌↔◌, ◌⊎◌, IsTrue, refl, sym, ap, ◌∙◌, arith}
+use Rattle.std.proofs.Common.{◌≡◌, ◌≢◌, ℕ, zero, suc, Bool, true, false, ◌&&◌, List, [], ◌∷◌, length, ◌↔◌, ◌⊎◌, inl, inr, IsTrue, refl, sym, ap, ◌∙◌, arith}
 use Rattle.std.proofs.Math.Bool.{and-false}
-use Rattle.std.proofs.lemmas.Bool.{eqb-true, eq-eqb, false≢true, and_parts}
+use Rattle.std.proofs.lemmas.Bool.{false≢true, and_parts}
 use Rattle.aom_image.specs.Views.{has}
 use Rattle.aom_shape.specs.Kinds.{register, field}
 use Rattle.aom_shape.specs.Order.{Weaker, WeakerFilling, SaysNoMore}
@@ -9,15 +9,14 @@ use Rattle.aom_shape.specs.Order.Weaker.{alike}
 use Rattle.aom_shape.specs.Order.WeakerFilling.{alike_filling}
 use Rattle.aom_shape.specs.Shape.{Shape}
 use Rattle.aom_shape.specs.Tables.{at}
-use Rattle.aom_shape.specs.Tests.{no_more, all_no_more, no_more_filling, all_no_more_fillings, same_age, same_delivery, same_entry, same_entries}
+use Rattle.aom_shape.specs.Tests.{no_more, all_no_more, no_more_filling, all_no_more_fillings, same_delivery, same_entry, same_entries}
 use Rattle.aom_shape.specs.declared.kind.Entry.{Entry}
-use Rattle.aom_shape.specs.declared.kind.Entry.TheVariants.{Object as An_object, Operation}
 use Rattle.aom_shape.specs.declared.kind.Kind.{Kind}
 use Rattle.aom_shape.specs.declared.kind.Kind.TheVariants.{Unset}
 use Rattle.aom_shape.specs.declared.kind.Filling.{Filling}
 use Rattle.aom_shape.specs.declared.kind.Filling.TheVariants.{Perhaps}
 use Rattle.aom_shape.proofs.Sets.{has_along, has_itself}
-use Rattle.aom_shape.proofs.Deciding.{age_is, age_self, delivery_is, delivery_self, weaker_tests, weaker_tested, weaker_along, fillings_test, fillings_tested, fillings_along}
+use Rattle.aom_shape.proofs.Deciding.{delivery_is, delivery_self, weaker_tests, weaker_tested, weaker_along, fillings_test, fillings_tested, fillings_along}
 
 pub reflexive : (a : Shape) → SaysNoMore a a
 reflexive a = record { registers = λ i. alike; fields = λ i. alike_filling; entries = refl; states = has_itself a.states; delivery = refl }
@@ -31,27 +30,41 @@ transitive a b c h k = record {
   delivery = h.delivery ∙ k.delivery;
 }
 
+-- what a test on each two elements says of two lists, where both last
+module _ {X : Type 0} (test : X → X → Bool) (all : List X → List X → Bool) (none : X) (R : X → X → Type 0) (steps : (x y : X) (xs ys : List X) → all (x ∷ xs) (y ∷ ys) ≡ (test x y && all xs ys)) where
+  all_hold : ((x : X) → R x x) → ((x y : X) → test x y ≡ true → R x y) → (xs ys : List X) → length xs ≡ length ys → all xs ys ≡ true → (i : ℕ) → R (at none xs i) (at none ys i)
+  all_hold itself each [] [] e h i = itself (at none [] i)
+  all_hold itself each (x ∷ xs) (y ∷ ys) e h zero = each x y (and_parts (test x y) (all xs ys) (sym (steps x y xs ys) ∙ h)).0
+  all_hold itself each (x ∷ xs) (y ∷ ys) e h (suc i) = all_hold itself each xs ys (omega arith) (and_parts (test x y) (all xs ys) (sym (steps x y xs ys) ∙ h)).1 i
+  all_hold itself each _ _ e h i = absurd (omega arith)
+
+  all_pass : ((xs ys : List X) → (length xs ≡ 0) ⊎ (length ys ≡ 0) → all xs ys ≡ true) → ((x y : X) → R x y → test x y ≡ true) → (xs ys : List X) → ((i : ℕ) → R (at none xs i) (at none ys i)) → all xs ys ≡ true
+  all_pass ended each [] ys h = ended [] ys (inl refl)
+  all_pass ended each (x ∷ xs) [] h = ended (x ∷ xs) [] (inr refl)
+  all_pass ended each (x ∷ xs) (y ∷ ys) h = rw (steps x y xs ys, each x y (h 0), all_pass ended each xs ys (λ i. h (suc i)))
+
+-- one of the lists has ended
+pub kinds_ended : (xs ys : List Kind) → (length xs ≡ 0) ⊎ (length ys ≡ 0) → all_no_more xs ys ≡ true
+kinds_ended [] ys h = refl
+kinds_ended (x ∷ xs) [] h = refl
+kinds_ended (x ∷ xs) (y ∷ ys) h = absurd (omega arith)
+
+pub fillings_ended : (xs ys : List Filling) → (length xs ≡ 0) ⊎ (length ys ≡ 0) → all_no_more_fillings xs ys ≡ true
+fillings_ended [] ys h = refl
+fillings_ended (x ∷ xs) [] h = refl
+fillings_ended (x ∷ xs) (y ∷ ys) h = absurd (omega arith)
+
 kinds_hold : (xs ys : List Kind) → length xs ≡ length ys → all_no_more xs ys ≡ true → (i : ℕ) → Weaker (at Unset xs i) (at Unset ys i)
-kinds_hold [] [] e h i = alike
-kinds_hold (x ∷ xs) (y ∷ ys) e h zero = weaker_tested x y (and_parts (no_more x y) (all_no_more xs ys) h).0
-kinds_hold (x ∷ xs) (y ∷ ys) e h (suc i) = kinds_hold xs ys (omega arith) (and_parts (no_more x y) (all_no_more xs ys) h).1 i
-kinds_hold _ _ e h i = absurd (omega arith)
+kinds_hold = all_hold no_more all_no_more Unset Weaker (λ x y xs ys. refl) (λ x. alike) weaker_tested
 
 kinds_test : (xs ys : List Kind) → ((i : ℕ) → Weaker (at Unset xs i) (at Unset ys i)) → all_no_more xs ys ≡ true
-kinds_test [] ys h = refl
-kinds_test (x ∷ xs) [] h = refl
-kinds_test (x ∷ xs) (y ∷ ys) h = rw (weaker_tests x y (h 0), kinds_test xs ys (λ i. h (suc i)))
+kinds_test = all_pass no_more all_no_more Unset Weaker (λ x y xs ys. refl) kinds_ended weaker_tests
 
 fillings_hold : (xs ys : List Filling) → length xs ≡ length ys → all_no_more_fillings xs ys ≡ true → (i : ℕ) → WeakerFilling (at Perhaps xs i) (at Perhaps ys i)
-fillings_hold [] [] e h i = alike_filling
-fillings_hold (x ∷ xs) (y ∷ ys) e h zero = fillings_tested x y (and_parts (no_more_filling x y) (all_no_more_fillings xs ys) h).0
-fillings_hold (x ∷ xs) (y ∷ ys) e h (suc i) = fillings_hold xs ys (omega arith) (and_parts (no_more_filling x y) (all_no_more_fillings xs ys) h).1 i
-fillings_hold _ _ e h i = absurd (omega arith)
+fillings_hold = all_hold no_more_filling all_no_more_fillings Perhaps WeakerFilling (λ x y xs ys. refl) (λ x. alike_filling) fillings_tested
 
 fillings_all_test : (xs ys : List Filling) → ((i : ℕ) → WeakerFilling (at Perhaps xs i) (at Perhaps ys i)) → all_no_more_fillings xs ys ≡ true
-fillings_all_test [] ys h = refl
-fillings_all_test (x ∷ xs) [] h = refl
-fillings_all_test (x ∷ xs) (y ∷ ys) h = rw (fillings_test x y (h 0), fillings_all_test xs ys (λ i. h (suc i)))
+fillings_all_test = all_pass no_more_filling all_no_more_fillings Perhaps WeakerFilling (λ x y xs ys. refl) fillings_ended fillings_test
 
 -- the test on request states and the message
 abbrev requests_test : Shape → Shape → Bool
@@ -90,26 +103,12 @@ undecided a b r f differ = (λ t. absurd (false≢true (sym f ∙ t)), λ h. abs
 pub passes_not : {A : Type 0} (r : Bool) → IsTrue r ↔ A → r ≡ false → ¬ A
 passes_not r h f a = false≢true (sym f ∙ h.1 a)
 
--- one of the lists has ended
-pub kinds_ended : (xs ys : List Kind) → (length xs ≡ 0) ⊎ (length ys ≡ 0) → all_no_more xs ys ≡ true
-kinds_ended [] ys h = refl
-kinds_ended (x ∷ xs) [] h = refl
-kinds_ended (x ∷ xs) (y ∷ ys) h = absurd (omega arith)
-
-pub fillings_ended : (xs ys : List Filling) → (length xs ≡ 0) ⊎ (length ys ≡ 0) → all_no_more_fillings xs ys ≡ true
-fillings_ended [] ys h = refl
-fillings_ended (x ∷ xs) [] h = refl
-fillings_ended (x ∷ xs) (y ∷ ys) h = absurd (omega arith)
-
 -- the test on entries passes exactly where they are the same
 entry_is : (x y : Entry) → same_entry x y ≡ true → x ≡ y
-entry_is (An_object c a) (An_object d b) h = let same = and_parts (c == d) (same_age a b) h in rw (eqb-true c d same.0, age_is a b same.1) refl
-entry_is Operation Operation h = refl
-entry_is _ _ h = cc
+entry_is x y h = grind arith
 
 entry_self : (x : Entry) → same_entry x x ≡ true
-entry_self (An_object c a) = rw (eq-eqb c c refl, age_self a)
-entry_self Operation = refl
+entry_self x = grind arith
 
 pub entries_are : (xs ys : List Entry) → same_entries xs ys ≡ true → xs ≡ ys
 entries_are [] [] h = refl

@@ -1,20 +1,20 @@
 -- What a class costs by the methods that it has: one that runs is of active objects, and one that accepts of servers.
-use Rattle.std.proofs.Common.{◌≡◌, ◌<◌, ◌≤◌, ◌+◌, ◌∙◌, ℕ, true, false, Option, Some, None, refl, ap, arith, subst, IfSome}
+use Rattle.std.proofs.Common.{◌≡◌, ◌≤◌, ◌+◌, ◌∙◌, ℕ, true, false, Option, Some, None, refl, ap, arith, subst}
 use Rattle.std.specs.Prelude.{is_some, max}
 use Rattle.std.proofs.Math.Nat.{le-max_left, le-max_right}
 use Rattle.aom_image.specs.Image.{Image}
 use Rattle.aom_image.specs.Views.{method_at, class_at}
 use Rattle.aom_image.specs.declared.class.ClassKind.{ClassKind}
-use Rattle.aom_image.specs.declared.class.ClassKind.TheVariants.{Active, Server, Session}
+use Rattle.aom_image.specs.declared.class.ClassKind.TheVariants.{Server}
 use Rattle.aom_image.specs.declared.method.Method.{Method as Method_declared}
 use Rattle.aom_image.specs.declared.method.Role.{Role}
 use Rattle.aom_image.specs.declared.method.Role.TheVariants.{Accept, Error, Run as Handles, Service}
 use Rattle.aom_image.specs.declared.method.Thing.TheVariants.{Object as An_object_of}
-use Rattle.aom_classes.proofs.Facts.{all_there, at_place}
+use Rattle.aom_classes.proofs.Facts.{all_there}
 use Rattle.aom_classes.proofs.Playing.{role_found}
 use Rattle.aom_classes.specs.Linked.{IsLinked}
 use Rattle.aom_classes.specs.Roles.{role_of}
-use Rattle.aom_roles.specs.Classes.{sessions_in, sessions_of, ClassOrdered, is_session, is_session_in, is_session_kind, kind_at, kind_in}
+use Rattle.aom_roles.specs.Classes.{sessions_in, sessions_of, is_session_in, is_session_kind, kind_in}
 use Rattle.aom_roles.specs.Shapes.{HasShape, IsShaped, is_active_in, kind_of}
 use Rattle.aom_prices.specs.Prices.{Prices, perhaps_price, price}
 use Rattle.aom_steps.specs.Payers.{dispatch_price, object_price}
@@ -35,13 +35,10 @@ module _ (p : Image) (linked : IsLinked p) (x : ℕ) where
   plain_session session e = of_class (class_at p x) refl e
     where
       no_server : (k : Option ClassKind) → is_session_in k ≡ true → is_some (sessions_in k) ≡ false
-      no_server (Some Session) e = refl
-      no_server _ e = cc
+      no_server k e = grind arith
 
       of_class : (o : Option ClassDecl) → class_at p x ≡ o → sessions_in (kind_in o) ≡ Some session → is_server p (An_object_of session) ≡ false
-      of_class None at e = cc
-      of_class (Some d) at e =
-          no_server (kind_at p session) (subst (λ o. IfSome o (λ s. (s < x) × (is_session p s ≡ true))) e (at_place (ClassOrdered p) p.classes x d linked.classes.classes at).sessions).1
+      of_class o at e = grind arith
 
   module _ (c : Prices) where
     -- an object that runs is paid for with its `error` method
@@ -50,8 +47,7 @@ module _ (p : Image) (linked : IsLinked p) (x : ℕ) where
     run_price m e = go (kind_of p (Some x)) refl (shaped Handles m e).1.of
       where
         go : (k : Option ClassKind) → kind_of p (Some x) ≡ k → is_active_in k ≡ true → price c m + perhaps_price c (role_of p x Error) ≤ object_price p c x
-        go (Some (Active provider budget)) at active = omega (arith, ap (λ k. dispatch_price p c x k) at, ap (λ o. perhaps_price c o) e)
-        go _ at active = cc
+        go k at active = grind arith
 
     -- no server has one
     no_answer : (k : Option ClassKind) → kind_of p (Some x) ≡ k → is_some (sessions_in k) ≡ true → perhaps_price c (role_of p x Error) ≡ 0
@@ -59,8 +55,7 @@ module _ (p : Image) (linked : IsLinked p) (x : ℕ) where
     no_answer k at server = go (role_of p x Error) refl
       where
         clash : (k : Option ClassKind) → is_some (sessions_in k) ≡ true → is_active_in k ≡ true → ⊥
-        clash (Some (Active provider budget)) server active = cc
-        clash _ server active = cc
+        clash k server active = grind arith
 
         go : (m : Option ℕ) → role_of p x Error ≡ m → perhaps_price c m ≡ 0
         go None e = refl

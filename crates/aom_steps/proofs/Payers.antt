@@ -1,5 +1,5 @@
 -- Who pays stays the same while a dispatch goes on, and main pays once the dispatch of an object has ended.
-use Rattle.std.proofs.Common.{◌≡◌, ◌∙◌, ℕ, ℤ, pos, Bool, true, false, cond, List, [], ◌∷◌, length, Option, Some, None, refl, sym, ap}
+use Rattle.std.proofs.Common.{arith, ◌≡◌, ◌∙◌, ℕ, ℤ, pos, Bool, true, false, cond, List, [], ◌∷◌, length, Option, Some, None, refl, sym, ap, arith}
 use Rattle.std.specs.Ordering.{int_eq}
 use Rattle.std.specs.Prelude.{is_none}
 use Rattle.aom_image.specs.Image.{Image}
@@ -122,8 +122,7 @@ module _ (p : Image) (ch : Choice) (s : State) where
   by ts u v at same pays = ap (λ (x : State). payer x.tasks) same ∙ pays ∙ ap (λ l. cond (restarts p l) None (payer l)) (sym at)
 
   still_payer : (ts : List Task) → IsStill ts → payer ts ≡ cond (restarts p ts) None (payer ts)
-  still_payer [] still = refl
-  still_payer _ still = absurd still
+  still_payer ts still = grind arith
 
   moved : (u : State) → Move p ch s u → payer u.tasks ≡ cond (restarts p s.tasks) None (payer s.tasks)
   moved u (Rests still same) = by s.tasks u _ refl same (still_payer s.tasks still)

@@ -18,18 +18,17 @@ use Rattle.aom_shape.specs.Shape.{Shape}
 use Rattle.aom_shape.specs.Tables.{at, put_at}
 use Rattle.aom_rules.specs.Typing.{Typing}
 use Rattle.aom_shape.specs.declared.kind.Kind.{Kind}
-use Rattle.aom_shape.specs.declared.kind.Kind.TheVariants.{Own, Maybe}
 use Rattle.aom_sound.proofs.Straight.{At, kind_fits}
 use Rattle.aom_sound.proofs.Fitting.{straight_by}
 use Rattle.aom_sound.specs.Calls.{below_top, accepted_cells, ended_well, passed_cells, result_cells, result_register, returned}
-use Rattle.aom_sound.specs.Claims.{Layer, tasks_of, Dispatching, Dying, Ending, Mark, Method, Unwinding}
+use Rattle.aom_sound.specs.Claims.{Layer, tasks_of, Dispatching, Dying, Mark, Method, Unwinding}
 use Rattle.aom_sound.specs.Cleanup.{top_place}
 use Rattle.aom_sound.specs.Destruction.{begun, begun_by, destructed}
 use Rattle.aom_sound.specs.Effects.{Calls, Cancels, Carried, Counts, Destroys, Destroys_last, Effect, Goes_on, In_field, In_register, Jumps, Leaves, Made, Operates, Popped, Popped_operation, Pushed, Pushed_operation, Repeats, Requested, Returns, Same, Sets_trap, Spot, Update, Written, applied, cells_after, items_after, spot_place, with_words, Sessioned, Replied, The_message}
 use Rattle.aom_sound.specs.Places.{service_of, Entry, Going, Object, Sight, held, seen, Cell, Elsewhere, Place, Register, Session, moved}
 use Rattle.aom_sound.specs.State.{An_object, An_operation, Choice, Frame, Run, State, Task, Trapped, counter, Accepts, Closing, Destroy, Dispatch, Of_server, Serves}
 use Rattle.aom_sound.specs.Steps.{Fits, Sets}
-use Rattle.aom_sound.specs.WellTyped.{Caught, Fits as Holds_of, Now, Returns as Comes_back, Stack}
+use Rattle.aom_sound.specs.WellTyped.{Fits as Holds_of, Now, Stack}
 use Rattle.aom_sound.specs.Words.{here}
 use Rattle.aom_ranks.specs.Within.{loops_worth, total, worth_at}
 use Rattle.aom_ranks.proofs.Rounds.{back, closed_loop, enters, jumps, leaves, straight_on}
@@ -88,9 +87,7 @@ begun_left p t c priced o height below us few = go (is_server p o.thing) refl
 
 -- a register's kind pays for what it owns
 kind_pays : (p : Image) (t : Typing) (c : Prices) → IsPriced p t c → (h : Sight) (o : Object) (k : Kind) → Holds_of p h (Some o) k → c.destruction o.thing ≤ kind_price c k
-kind_pays p t c priced h o (Own x a) f = priced.stands_in o.thing x f.0
-kind_pays p t c priced h o (Maybe x a) f = priced.stands_in o.thing x f.0
-kind_pays p t c priced h o _ f = absurd f
+kind_pays p t c priced h o k f = grind (arith, priced.stands_in)
 
 -- ---- a method at its place
 
@@ -298,13 +295,9 @@ module _ (p : Image) (t : Typing) (c : Prices) (linked : IsLinked p) (priced : I
     over_result over below x = omega (arith, over_ended below, lasting p c ended.cells _ below (lasts_result (length below) p fr over ended g a x below))
 
     returned_closings : (l : List Layer) → Stack p t s.cells Now (Method fr sh ∷ l) → Fewer l
-    returned_closings [] h = let e : Comes_back fr.method fr.home ≡ Now = h.4 in absurd (cc)
     returned_closings (Method caller sh2 ∷ l) h = over_result (Run caller ∷ tasks_of l) (tasks_of l) (result_register (instr_at p caller.method caller.place))
     returned_closings (Dying o ∷ l) h = over_ended (tasks_of l)
-    returned_closings (Ending o left ∷ l) h = absurd h.4.1
     returned_closings (Unwinding code es ∷ l) h = over_ended (tasks_of l)
-    returned_closings (Mark gv ∷ []) h = let e : Caught gv ≡ Now = h.4.1 in absurd (cc)
-    returned_closings (Mark gv ∷ Ending o left ∷ l) h = absurd h.4.1.1
     returned_closings (Mark gv ∷ Method caller sh2 ∷ l) h = over_result (Trapped ∷ Run caller ∷ tasks_of l) (tasks_of l) (result_register (instr_at p caller.method caller.place))
     returned_closings (Mark gv ∷ Dispatching d seats ∷ l) h = subst (λ k. Fewer (Mark gv ∷ Dispatching d seats ∷ k)) (sym h.4.1.1) (omega arith)
     returned_closings (Dispatching d seats ∷ l) h = over_ended (tasks_of l)

@@ -1,19 +1,18 @@
 -- What the objects at some kinds of places, and the operations on the cleanup stack, may still cost, after each change of the cells and of the items.
-use Rattle.std.proofs.Common.{◌≡◌, ◌≤◌, ◌+◌, ◌∙◌, ℕ, ℤ, Bool, true, false, cond, List, [], ◌∷◌, Option, Some, None, refl, ap, arith, subst}
+use Rattle.std.proofs.Common.{◌≡◌, ◌≤◌, ◌+◌, ◌∙◌, ℕ, ℤ, Bool, true, false, cond, List, [], ◌∷◌, Option, Some, None, refl, ap, arith}
 use Rattle.aom_sound.specs.Enlisted.{rerequested}
 use Rattle.aom_sound.specs.Clients.{each_unslotted}
-use Rattle.aom_sound.specs.Places.{Cell, Object, Place, Request, Service, Tidy, held, moved, same_place, set_request, set_service, set_session, set_word_field, without}
-use Rattle.aom_sound.specs.Servers.{all_unslotted, is_from, is_queue, is_queue_of, left_by, withdrawn, without_queue}
+use Rattle.aom_sound.specs.Places.{Cell, Object, Place, Request, Service, Tidy, held, moved, set_request, set_service, set_session, set_word_field, without}
+use Rattle.aom_sound.specs.Servers.{all_unslotted, is_queue, withdrawn, without_queue}
 use Rattle.aom_sound.specs.State.{AtRoot, Home, Inside, Item, An_object, Static, field_place}
 use Rattle.aom_sound.specs.Calls.{below_top}
 use Rattle.aom_sound.specs.Words.{stored}
 use Rattle.aom_sound.proofs.Maps.{same_place-true}
 use Rattle.aom_prices.specs.Prices.{Prices}
 use Rattle.aom_steps.specs.Left.{due, is_entry, is_session_with, operations_left, owned_left}
-use Rattle.aom_image.proofs.Given.{false_given}
 use Rattle.aom_sound.specs.Natives.{resessioned}
 use Rattle.aom_sound.proofs.Storing.{reset}
-use Rattle.std.specs.Prelude.{map, ◌&&◌}
+use Rattle.std.specs.Prelude.{map}
 
 pub field_no_entry : (h : Home) (f : ℕ) → is_entry (field_place h f) ≡ false
 field_no_entry Static f = refl
@@ -33,99 +32,56 @@ module _ (c : Prices) (counts : Place → Bool) where
 
   -- its destruction at most
   due_at_most : (r : Place) (o : Object) → due c counts r o ≤ c.destruction o.thing
-  due_at_most r o = go (counts r)
-    where
-      go : (b : Bool) → cond b (c.destruction o.thing) 0 ≤ c.destruction o.thing
-      go true = omega arith
-      go false = omega arith
+  due_at_most r o = grind arith
 
   -- ---- all cells
 
   -- what moves to a place that does not count
   pub moved_less : (from to : Place) (cs : List Cell) → counts to ≡ false → owned_left c counts (moved from to cs) ≤ owned_left c counts cs
   moved_less from to [] e = omega arith
-  moved_less from to (x ∷ cs) e = omega (arith, one (same_place x.owner from), moved_less from to cs e)
-    where
-      one : (b : Bool) → due c counts (cond b to x.owner) x.object ≤ due c counts x.owner x.object
-      one true = omega (arith, not_due to x.object e)
-      one false = omega arith
+  moved_less from to (x ∷ cs) e = grind (arith, moved_less from to cs e)
 
   -- what is there leaves such a place
   pub leaves_place :
       (from to : Place) (o : Object) (cs : List Cell) → counts from ≡ true → counts to ≡ false → held cs from ≡ Some o →
       owned_left c counts (moved from to cs) + c.destruction o.thing ≤ owned_left c counts cs
   leaves_place from to o [] f e there = cc
-  leaves_place from to o (x ∷ cs) f e there = go (same_place x.owner from) refl (leaves_place from to o cs f e) there
-    where
-      go :
-          (b : Bool) → same_place x.owner from ≡ b → (held cs from ≡ Some o → owned_left c counts (moved from to cs) + c.destruction o.thing ≤ owned_left c counts cs) →
-          cond b (Some x.object) (held cs from) ≡ Some o →
-          due c counts (cond b to x.owner) x.object + owned_left c counts (moved from to cs) + c.destruction o.thing ≤ due c counts x.owner x.object + owned_left c counts cs
-      go true s more there =
-          let same : x.object ≡ o = cc in
-          let counted : counts x.owner ≡ true = ap counts (same_place-true x.owner from s) ∙ f in
-          let paid : due c counts x.owner x.object ≡ c.destruction o.thing = ap (λ b. cond b (c.destruction x.object.thing) 0) counted ∙ ap (λ (y : Object). c.destruction y.thing) same in
-          omega (arith, paid, not_due to x.object e, moved_less from to cs e)
-      go false s more there = omega (arith, more there)
+  leaves_place from to o (x ∷ cs) f e there = grind (arith, leaves_place from to o cs f e, moved_less from to cs e, same_place-true x.owner from)
 
   -- nothing moves where nothing is held
   pub none_moves : (from to : Place) (cs : List Cell) → held cs from ≡ None → owned_left c counts (moved from to cs) ≤ owned_left c counts cs
   none_moves from to [] e = omega arith
-  none_moves from to (x ∷ cs) e = false_given (λ b. cond b (Some x.object) (held cs from) ≡ None) (same_place x.owner from) e (λ moves. cc) (λ stays rest.
-      omega (arith, ap (λ b. due c counts (cond b to x.owner) x.object) stays, none_moves from to cs rest))
+  none_moves from to (x ∷ cs) e = grind (arith, none_moves from to cs)
 
   -- what is there comes to any place
   pub enters_place : (from to : Place) (o : Object) (cs : List Cell) → Tidy cs → held cs from ≡ Some o → owned_left c counts (moved from to cs) ≤ owned_left c counts cs + c.destruction o.thing
   enters_place from to o [] tidy there = omega arith
-  enters_place from to o (x ∷ cs) tidy there = go (same_place x.owner from) refl (enters_place from to o cs tidy.2) there
-    where
-      go :
-          (b : Bool) → same_place x.owner from ≡ b → (held cs from ≡ Some o → owned_left c counts (moved from to cs) ≤ owned_left c counts cs + c.destruction o.thing) →
-          cond b (Some x.object) (held cs from) ≡ Some o →
-          due c counts (cond b to x.owner) x.object + owned_left c counts (moved from to cs) ≤ due c counts x.owner x.object + owned_left c counts cs + c.destruction o.thing
-      go true s more there =
-          let same : x.object ≡ o = cc in
-          let is : c.destruction x.object.thing ≡ c.destruction o.thing = ap (λ (y : Object). c.destruction y.thing) same in
-          let free : held cs from ≡ None = subst (λ q. held cs q ≡ None) (same_place-true x.owner from s) tidy.0 in
-          omega (arith, is, due_at_most to x.object, none_moves from to cs free)
-      go false s more there = omega (arith, more there)
+  enters_place from to o (x ∷ cs) tidy there = grind (arith, enters_place from to o cs tidy.2, none_moves from to cs, same_place-true x.owner from, tidy.0)
 
   pub without_less : (from : Place) (cs : List Cell) → owned_left c counts (without from cs) ≤ owned_left c counts cs
   without_less from [] = omega arith
-  without_less from (x ∷ cs) = go (same_place x.owner from) (without_less from cs)
-    where
-      go :
-          (b : Bool) → owned_left c counts (without from cs) ≤ owned_left c counts cs →
-          owned_left c counts (cond b (without from cs) (x ∷ without from cs)) ≤ due c counts x.owner x.object + owned_left c counts cs
-      go true less = omega (arith, less)
-      go false less = omega (arith, less)
+  without_less from (x ∷ cs) = grind (arith, without_less from cs)
 
   written_same : (n w : ℕ) (v : ℤ) (cs : List Cell) → owned_left c counts (set_word_field n w v cs) ≡ owned_left c counts cs
   written_same n w v [] = refl
   written_same n w v (x ∷ cs) = ap (λ y. due c counts x.owner x.object + y) (written_same n w v cs)
 
   pub stored_same : (cs : List Cell) (h : Home) (w : ℕ) (v : ℤ) → owned_left c counts (stored cs h w v) ≡ owned_left c counts cs
-  stored_same cs Static w v = refl
-  stored_same cs AtRoot w v = refl
-  stored_same cs (Inside o from) w v = written_same o.name w v cs
+  stored_same cs h w v = grind (arith, written_same)
 
   pub asked_same : (n : ℕ) (r : Option Request) (cs : List Cell) → owned_left c counts (set_request n r cs) ≡ owned_left c counts cs
   asked_same n r [] = refl
   asked_same n r (x ∷ cs) = ap (λ y. due c counts x.owner x.object + y) (asked_same n r cs)
 
   pub rerequested_same : (cs : List Cell) (h : Home) (r : Option Request) → owned_left c counts (rerequested cs h r) ≡ owned_left c counts cs
-  rerequested_same cs Static r = refl
-  rerequested_same cs AtRoot r = refl
-  rerequested_same cs (Inside o from) r = asked_same o.name r cs
+  rerequested_same cs h r = grind (arith, asked_same)
 
   opened_same : (n : ℕ) (b : Bool) (cs : List Cell) → owned_left c counts (set_session n b cs) ≡ owned_left c counts cs
   opened_same n b [] = refl
   opened_same n b (x ∷ cs) = ap (λ y. due c counts x.owner x.object + y) (opened_same n b cs)
 
   pub resessioned_same : (cs : List Cell) (h : Home) (b : Bool) → owned_left c counts (resessioned cs h b) ≡ owned_left c counts cs
-  resessioned_same cs Static b = refl
-  resessioned_same cs AtRoot b = refl
-  resessioned_same cs (Inside o from) b = opened_same o.name b cs
+  resessioned_same cs h b = grind (arith, opened_same)
 
   -- each cell has another request and another session
   pub reset_same : (f : Cell → Option Request) (g : Cell → Bool) (cs : List Cell) → owned_left c counts (map (reset f g) cs) ≡ owned_left c counts cs
@@ -148,25 +104,12 @@ module _ (c : Prices) (counts : Place → Bool) where
 
   pub queue_less : (n : ℕ) (cs : List Cell) → owned_left c counts (without_queue n cs) ≤ owned_left c counts cs
   queue_less n [] = omega arith
-  queue_less n (x ∷ cs) = go (is_queue_of n x.owner) (queue_less n cs)
-    where
-      go :
-          (b : Bool) → owned_left c counts (without_queue n cs) ≤ owned_left c counts cs →
-          owned_left c counts (cond b (without_queue n cs) (x ∷ without_queue n cs)) ≤ due c counts x.owner x.object + owned_left c counts cs
-      go true less = omega (arith, less)
-      go false less = omega (arith, less)
+  queue_less n (x ∷ cs) = grind (arith, queue_less n cs)
 
   -- of messages in queues nothing counts
   pub withdrawn_same : ((r : Place) → is_queue r ≡ true → counts r ≡ false) → (client : ℕ) (cs : List Cell) → owned_left c counts (withdrawn client cs) ≡ owned_left c counts cs
   withdrawn_same none client [] = refl
-  withdrawn_same none client (x ∷ cs) = go (is_queue x.owner) (is_from client x.service.sender) refl (withdrawn_same none client cs)
-    where
-      go :
-          (b d : Bool) → is_queue x.owner ≡ b → owned_left c counts (withdrawn client cs) ≡ owned_left c counts cs →
-          owned_left c counts (cond (b && d) (withdrawn client cs) (record x { service = left_by client x.service } ∷ withdrawn client cs)) ≡ due c counts x.owner x.object + owned_left c counts cs
-      go true true e ih = omega (arith, ih, not_due x.owner x.object (none x.owner e))
-      go true false e ih = ap (λ y. due c counts x.owner x.object + y) ih
-      go false d e ih = ap (λ y. due c counts x.owner x.object + y) ih
+  withdrawn_same none client (x ∷ cs) = grind (arith, withdrawn_same none client cs, none x.owner)
 
 module _ (c : Prices) where
   -- ---- items

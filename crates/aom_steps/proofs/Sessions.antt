@@ -1,14 +1,12 @@
 -- A server pays for the sessions with it that are there: they are no more than it may have, and each is of their class.
-use Rattle.std.proofs.Common.{◌≡◌, ◌≤◌, ◌+◌, ◌*◌, ◌∙◌, ℕ, suc, Bool, true, false, cond, List, [], ◌∷◌, length, Option, Some, None, refl, sym, ap, arith, subst}
-use Rattle.std.specs.Prelude.{filter, is_some, not, ◌==◌, ◌&&◌, ◌||◌}
+use Rattle.std.proofs.Common.{◌≡◌, ◌≤◌, ◌+◌, ◌*◌, ◌∙◌, ℕ, Bool, true, false, cond, List, [], ◌∷◌, length, Option, Some, None, refl, sym, ap, arith, subst}
+use Rattle.std.specs.Prelude.{filter, is_some, not, ◌==◌, ◌&&◌}
 use Rattle.std.proofs.lemmas.Bool.{eqb-true, ne_eqb}
 use Rattle.std.proofs.Math.Nat.{mul-le-mul_right}
 use Rattle.aom_image.specs.Image.{Image}
-use Rattle.aom_image.specs.declared.class.ClassKind.{ClassKind}
-use Rattle.aom_image.specs.declared.class.ClassKind.TheVariants.{Server}
 use Rattle.aom_image.specs.declared.method.Thing.{Thing}
-use Rattle.aom_image.specs.declared.method.Thing.TheVariants.{Message, Object as An_object_of}
-use Rattle.aom_roles.specs.Classes.{kind_at, sessions_in, sessions_of}
+use Rattle.aom_image.specs.declared.method.Thing.TheVariants.{Object as An_object_of}
+use Rattle.aom_roles.specs.Classes.{sessions_in, sessions_of}
 use Rattle.aom_roles.specs.Shapes.{kind_of}
 use Rattle.aom_rules.specs.Typing.{Typing}
 use Rattle.aom_shape.specs.Kinds.{filled}
@@ -26,7 +24,7 @@ use Rattle.aom_sound.specs.Places.{Cell, Elsewhere, Going, Object, Place, Sessio
 use Rattle.aom_sound.specs.Servers.{has_session, is_among, is_other, is_server, of_class, seats_taken, session_class, session_thing}
 use Rattle.aom_sound.specs.State.{Seat, Dispatch, Of_server, Parts}
 use Rattle.aom_sound.specs.WellTyped.{EndsSessions, Back, Caught, Fits, Gone, Good, Leaves, Now, Returns, Stack}
-use Rattle.aom_prices.specs.Prices.{IsPriced, Prices, perhaps_sessions, sessions_cost}
+use Rattle.aom_prices.specs.Prices.{IsPriced, Prices, sessions_cost}
 use Rattle.aom_steps.specs.Left.{due, is_session_with, sessions_left}
 use Rattle.aom_steps.proofs.Pushed.{moved_less}
 use Rattle.aom_sound.specs.Destruction.{first_session, seat_or}
@@ -40,12 +38,15 @@ module _ (p : Image) (t : Typing) (cs : List Cell) (n client : ℕ) (o x : Objec
   abbrev Has : Kind → Type 0
   Has k = Fits p (seen cs) (Some x) k → HasIt
 
+  -- where something is owned, nothing is not what is claimed
+  owns : (b : Bool) (k : Kind) → Fits p (seen cs) (Some x) (cond b k Null) → (b ≡ true) × Fits p (seen cs) (Some x) k
+  owns true k f = (refl, f)
+  owns false k f = absurd f
+
   of_declared : Has (declared p cs (Elsewhere (Session n client)))
-  of_declared f = go (has_session (service_of cs n) client) refl (subst (λ y. Fits p (seen cs) (Some x) (cond (has_session (service_of cs n) client) (filled (session_thing p y) Full) Null)) lives f)
-    where
-      go : (b : Bool) → has_session (service_of cs n) client ≡ b → Fits p (seen cs) (Some x) (cond b (filled (session_thing p (Some o)) Full) Null) → HasIt
-      go true e f = (e, f)
-      go false e f = absurd f
+  of_declared f =
+      owns (has_session (service_of cs n) client) (filled (session_thing p (Some o)) Full)
+      (subst (λ y. Fits p (seen cs) (Some x) (cond (has_session (service_of cs n) client) (filled (session_thing p y) Full) Null)) lives f)
 
   of_cond : (b : Bool) (k : Kind) → Has k → Has (cond b Null k)
   of_cond true k h f = absurd f
@@ -57,15 +58,15 @@ module _ (p : Image) (t : Typing) (cs : List Cell) (n client : ℕ) (o x : Objec
       Has (cond (y.name == n) (cond (is_among client left) (filled (session_thing p (Some y)) Full) Null) below)
   of_ending y left ends below has f = go (y.name == n) refl f
     where
-      ours : y.name ≡ n → (b : Bool) → is_among client left ≡ b → Fits p (seen cs) (Some x) (cond b (filled (session_thing p (Some y)) Full) Null) → HasIt
-      ours e true among f =
+      ours : y.name ≡ n → Fits p (seen cs) (Some x) (cond (is_among client left) (filled (session_thing p (Some y)) Full) Null) → HasIt
+      ours e f =
+          let owned = owns (is_among client left) (filled (session_thing p (Some y)) Full) f in
           let one : Some y ≡ Some o = sym ends.lives ∙ ap (λ k. named cs k) e ∙ lives in
           let same : y ≡ o = cc in
-          (ap (λ k. has_session (service_of cs k) client) (sym e) ∙ ends.listed client among, subst (λ z. Fits p (seen cs) (Some x) (filled (session_thing p (Some z)) Full)) same f)
-      ours e false among f = absurd f
+          (ap (λ k. has_session (service_of cs k) client) (sym e) ∙ ends.listed client owned.0, subst (λ z. Fits p (seen cs) (Some x) (filled (session_thing p (Some z)) Full)) same owned.1)
 
       go : (b : Bool) → (y.name == n) ≡ b → Has (cond b (cond (is_among client left) (filled (session_thing p (Some y)) Full) Null) below)
-      go true e f = ours (eqb-true y.name n e) (is_among client left) refl f
+      go true e f = ours (eqb-true y.name n e) f
       go false e f = has f
 
   of_dispatch : (d : Dispatch) (below : Kind) → Has below → Has (by_close d n client below)
@@ -83,23 +84,13 @@ module _ (p : Image) (t : Typing) (cs : List Cell) (n client : ℕ) (o x : Objec
 
 -- ---- how many are there
 
+no_more_parted : (client : ℕ) (xs : List ℕ) → length (filter (is_other client) xs) ≤ length xs
+no_more_parted client [] = omega arith
+no_more_parted client (y ∷ xs) = grind (arith, no_more_parted client xs)
+
 fewer_parted : (client : ℕ) (xs : List ℕ) → is_among client xs ≡ true → 1 + length (filter (is_other client) xs) ≤ length xs
 fewer_parted client [] e = cc
-fewer_parted client (y ∷ xs) e = go (y == client) refl e (λ h. fewer_parted client xs h)
-  where
-    no_more : (ys : List ℕ) → length (filter (is_other client) ys) ≤ length ys
-    no_more [] = omega arith
-    no_more (z ∷ ys) = go (z == client) (no_more ys)
-      where
-        go : (b : Bool) → length (filter (is_other client) ys) ≤ length ys → length (cond (not b) (z ∷ filter (is_other client) ys) (filter (is_other client) ys)) ≤ suc (length ys)
-        go true less = omega (arith, less)
-        go false less = omega (arith, less)
-
-    go :
-        (b : Bool) → (y == client) ≡ b → (b || is_among client xs) ≡ true → (is_among client xs ≡ true → 1 + length (filter (is_other client) xs) ≤ length xs) →
-        1 + length (cond (not b) (y ∷ filter (is_other client) xs) (filter (is_other client) xs)) ≤ suc (length xs)
-    go true is e less = omega (arith, no_more xs)
-    go false is e less = omega (arith, less e)
+fewer_parted client (y ∷ xs) e = grind (arith, no_more_parted client xs, fewer_parted client xs)
 
 -- each of them is among those clients' and costs no more than that
 module _ (c : Prices) (n most : ℕ) where
@@ -161,12 +152,7 @@ FewSeats p cs = (o : Object) → named cs o.name ≡ Some o → seats_taken (ser
 
 sessions_paid : (p : Image) (cost : ℕ → ℕ) (x : Thing) (session : ℕ) → session_class p x ≡ Some session → sessions_cost p cost x ≡ most_of (thing_kind p x) * cost session
 unfolding kind_of sessions_in sessions_of
-sessions_paid p cost Message session e = cc
-sessions_paid p cost (An_object_of k) session e = go (kind_at p k) refl e
-  where
-    go : (d : Option ClassKind) → kind_at p k ≡ d → sessions_in d ≡ Some session → perhaps_sessions cost (kind_at p k) ≡ most_of (kind_at p k) * cost session
-    go (Some (Server most y budget)) at e = let same : y ≡ session = cc in ap (λ d. perhaps_sessions cost d) at ∙ ap (λ i. most * cost i) same ∙ sym (ap (λ d. most_of d * cost session) at)
-    go _ at e = cc
+sessions_paid p cost x session e = grind arith
 
 module _ (p : Image) (t : Typing) (c : Prices) (priced : IsPriced p t c) (cs : List Cell) (ls : List Layer) (good : Good p t cs ls) (few : FewSeats p cs) where
   few_sessions : (o : Object) → named cs o.name ≡ Some o → is_server p o.thing ≡ true → sessions_left c o.name cs ≤ sessions_cost p (λ k. c.destruction (An_object_of k)) o.thing

@@ -13,7 +13,7 @@ use Rattle.aom_sound.specs.Claims.{forms, items_of, declared}
 use Rattle.aom_sound.specs.Counting.{starts}
 use Rattle.aom_sound.specs.Enlisted.{completed_with, on_request, part_of, recorded, taken_up, timed_out}
 use Rattle.aom_sound.specs.Natives.{bereaved}
-use Rattle.aom_sound.specs.Places.{Message_of, service_of, Cell, Object, Request, requested, Elsewhere, Entry, Going, In_service, Place, Queued, Session, Tidy, held, moved, named, seen}
+use Rattle.aom_sound.specs.Places.{Message_of, service_of, Cell, Object, Request, requested, Elsewhere, Going, In_service, Place, Queued, Session, Tidy, held, moved, named, seen}
 use Rattle.aom_sound.specs.State.{Goes, Rest, Seat, State, Dispatched, Of_server, Parts}
 use Rattle.aom_sound.specs.WellTyped.{Good, WellTyped, Fits, Now}
 use Rattle.aom_sound.specs.World.{lives, Completes, Cuts, Hears, Kills, Passes, Picks, Polls, Turning, Waits, heard_one, past_native, turned, turning, with_request, without_native, Candidate, Completion, Heard, Obeys, Outside, Timed, by_event, by_timer, delivers, first_due, first_ready, has_signal, next_event, next_native, next_time, picks, polls, taken_from}
@@ -24,7 +24,6 @@ use Rattle.aom_steps.specs.Payers.{class_of, payer, price_of}
 use Rattle.aom_steps.proofs.Emptied.{none_at_hand}
 use Rattle.aom_steps.proofs.Paying.{fresh_rounds, begun_left}
 use Rattle.aom_steps.proofs.Pushed.{asked_same, reset_same, moved_less, served_same, withdrawn_same}
-use Rattle.aom_sound.proofs.Things.{stands_same}
 use Rattle.aom_roles.specs.Classes.{sessions_in}
 use Rattle.aom_classes.specs.Roles.{role_of}
 use Rattle.aom_steps.proofs.Classes.{acceptor_serves, plain_session, run_price, server_price}
@@ -85,8 +84,7 @@ module _ (p : Image) (c : Prices) (s : State) (idle : s.tasks ≡ []) where
       v = heard_one s
 
       unqueued : (r : Place) → is_queue r ≡ true → is_entry r ≡ false
-      unqueued (Entry k) e = cc
-      unqueued _ e = refl
+      unqueued r e = grind arith
 
       connects : (refused : Option Refusal) (server : Option Listed) (slots : ℕ) → Passed (connecting p client v refused server slots)
       connects None (Some y) slots = with_cells (connecting p client v None (Some y) slots) refl refl (served_same c is_entry y.name _ s.cells)
@@ -195,8 +193,7 @@ module _ (p : Image) (t : Typing) (c : Prices) (linked : IsLinked p) (priced : I
   Affords y n = n + perhaps_price c (part_of p Error y) ≤ price_of p c (class_of y)
 
   runs : (y : Thing) (m : ℕ) → part_of p Handles y ≡ Some m → Affords y (price c m)
-  runs (An_object_of k) m e = run_price p linked k c m e
-  runs Message m e = cc
+  runs y m e = grind (arith, run_price p linked)
 
   accepts_within : (y : Thing) (m : ℕ) → part_of p Accepts_role y ≡ Some m → Affords y (price c m)
   accepts_within (An_object_of k) m e = go (sessions_in (kind_of p (Some k))) refl (acceptor_serves p linked k c m e)
@@ -222,8 +219,7 @@ module _ (p : Image) (t : Typing) (c : Prices) (linked : IsLinked p) (priced : I
       go (session_class p x.object.thing) refl has.1
     where
       go : (k : Option ℕ) → session_class p x.object.thing ≡ k → Fits p (seen s.cells) (Some o) (filled (of_class k) Full) → IsSessionOf x.object.thing o
-      go None at f = absurd f
-      go (Some k) at f = (k, at, stands_same p o.thing (An_object_of k) f.0)
+      go k at f = grind arith
 
   attends_within : (y : Thing) (o : Object) (m : ℕ) → IsSessionOf y o → part_of p Attends o.thing ≡ Some m → Affords y (price c m)
   attends_within (An_object_of k) o m is e =

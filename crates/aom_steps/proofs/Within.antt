@@ -111,8 +111,7 @@ module _ (p : Image) (t : Typing) (c : Prices) (linked : IsLinked p) (typed : Is
   -- ---- the others
 
   still_none : (ts : List Task) → IsStill ts → steps_of ts ≡ 0
-  still_none [] still = refl
-  still_none _ still = absurd still
+  still_none ts still = grind arith
 
   -- a destruction begins over these tasks, and no more goes before servers
   destruction :
@@ -213,8 +212,7 @@ module _ (p : Image) (t : Typing) (c : Prices) (linked : IsLinked p) (typed : Is
   asked_left :
       (ts : List Task) (x : Seat) (code : ℤ) (m : Option ℕ) → is_none m ≡ false →
       left p c (asking p m x code (counted p s)) ≤ perhaps_price c m + waiting_left p c ts + (objects_left c s.cells + operations_left c s.items)
-  asked_left ts x code None none = cc
-  asked_left ts x code (Some m) none = omega (arith, fresh_rounds c m (method_at p m))
+  asked_left ts x code m none = grind (arith, fresh_rounds c)
 
   of_dispatch : (d : Dispatch) (ts : List Task) → s.tasks ≡ Dispatched d ∷ ts → ends_object p d ≡ false → left p c (dispatch_ends p d (counted p s)) ≤ all_left (Dispatched d ∷ ts)
   of_dispatch (Main_left code) ts at goes_on = omega arith
@@ -247,8 +245,7 @@ module _ (p : Image) (t : Typing) (c : Prices) (linked : IsLinked p) (typed : Is
         go false = omega (arith, none_at_end c p t s.cells s.items d seats last items)
 
     unasked_left_over : (x : Seat) (code : ℤ) (m : Option ℕ) → is_none m ≡ true → left p c (asking p m x code (counted p s)) ≤ main_price p c
-    unasked_left_over x code None none = answer_left_over code
-    unasked_left_over x code (Some m) none = cc
+    unasked_left_over x code m none = grind (arith, answer_left_over code)
 
   over_by : (d : Dispatch) (ts : List Task) → s.tasks ≡ Dispatched d ∷ ts → ends_object p d ≡ true → left p c (dispatch_ends p d (counted p s)) ≤ main_price p c
   over_by (Of_object x) ts at ends = let last = alone (Of_object x) ts at in object_left_over (Of_object x) last.0 last.1 last.2 (last.1.fits (Elsewhere Root))
@@ -263,8 +260,7 @@ module _ (p : Image) (t : Typing) (c : Prices) (linked : IsLinked p) (typed : Is
   not_over ts u at ends goes_on = let clash : true ≡ false = sym ends ∙ ap (λ l. restarts p l) at ∙ goes_on in cc
 
   still_on : (ts : List Task) → IsStill ts → restarts p ts ≡ false
-  still_on [] still = refl
-  still_on _ still = absurd still
+  still_on ts still = grind arith
 
   restart_pays : (u : State) → Move p ch s u → restarts p s.tasks ≡ true → left p c u ≤ main_price p c
   restart_pays u (Rests still same) ends = not_over s.tasks u refl ends (still_on s.tasks still)

@@ -6,7 +6,7 @@ use Rattle.aom_classes.specs.Bodies.{Body}
 use Rattle.aom_classes.proofs.Bodies.{linked_is_looped}
 use Rattle.aom_shape.specs.Tables.{at}
 use Rattle.aom_shape.proofs.Lists.{at_within}
-use Rattle.aom_budget.proofs.Visiting.{instr_there, no_loop, no_next, visit_plain, visit_loop, visit_next}
+use Rattle.aom_budget.proofs.Visiting.{instr_there, next_closes, no_loop, no_next, visit_plain, visit_loop, visit_next}
 use Rattle.aom_budget.proofs.pass.Pass.visit.Goals as goal
 
 pub instr-instr-requires : goal.instr-instr-requires
@@ -14,37 +14,38 @@ instr-instr-requires c = instr_there _ _ _ _ c.requires.passing.places c.require
 
 pub overflow_sub-round : goal.overflow_sub-round
 overflow_sub-round c =
-    let looped = linked_is_looped c.args.linked.now (rw c.image.ensures at c.methods-formed.ensures.well_formed) c.facts.ensures.linked in
-    let stands : instr_at c.args.linked.now c.args.method c.args.place ≡ Some (Next c.in-Next.field-0 c.in-Next.to) = c.instr-instr.ensures ∙ ap (λ i. Some i) c.in-Next.is in
-    let closes = looped.closes c.args.method c.args.place c.in-Next.field-0 c.in-Next.to stands in
+    let closes =
+    next_closes c.args.linked.now _ c.image.ensures c.methods-formed.ensures.well_formed c.facts.ensures.linked
+    c.args.method c.args.place c.in-Next.field-0 c.in-Next.to _ c.instr-instr.ensures c.in-Next.is in
     omega (arith, closes.3, c.number.ensures.value)
 
 pub follows-follows-requires-clause-order : goal.follows-follows-requires-clause-order
 follows-follows-requires-clause-order c =
-    let looped = linked_is_looped c.args.linked.now (rw c.image.ensures at c.methods-formed.ensures.well_formed) c.facts.ensures.linked in
-    let stands : instr_at c.args.linked.now c.args.method c.args.place ≡ Some (Next c.in-Next.field-0 c.in-Next.to) = c.instr-instr.ensures ∙ ap (λ i. Some i) c.in-Next.is in
-    let closes = looped.closes c.args.method c.args.place c.in-Next.field-0 c.in-Next.to stands in
+    let closes =
+    next_closes c.args.linked.now _ c.image.ensures c.methods-formed.ensures.well_formed c.facts.ensures.linked
+    c.args.method c.args.place c.in-Next.field-0 c.in-Next.to _ c.instr-instr.ensures c.in-Next.is in
     omega (arith, closes.3, c.number.ensures.value, closes.2.later)
 
 pub close-requires-clause-room : goal.close-requires-clause-room
 close-requires-clause-room c =
-    let looped = linked_is_looped c.args.linked.now (rw c.image.ensures at c.methods-formed.ensures.well_formed) c.facts.ensures.linked in
-    let stands : instr_at c.args.linked.now c.args.method c.args.place ≡ Some (Next c.in-Next.field-0 c.in-Next.to) = c.instr-instr.ensures ∙ ap (λ i. Some i) c.in-Next.is in
-    let closes = looped.closes c.args.method c.args.place c.in-Next.field-0 c.in-Next.to stands in
+    let closes =
+    next_closes c.args.linked.now _ c.image.ensures c.methods-formed.ensures.well_formed c.facts.ensures.linked
+    c.args.method c.args.place c.in-Next.field-0 c.in-Next.to _ c.instr-instr.ensures c.in-Next.is in
     omega (arith, closes.3, c.number.ensures.value, closes.2.later, c.requires.place, c.requires.passing.after_size)
 
 pub close-requires-clause-around : goal.close-requires-clause-around
 close-requires-clause-around c =
-    let looped = linked_is_looped c.args.linked.now (rw c.image.ensures at c.methods-formed.ensures.well_formed) c.facts.ensures.linked in
-    let stands : instr_at c.args.linked.now c.args.method c.args.place ≡ Some (Next c.in-Next.field-0 c.in-Next.to) = c.instr-instr.ensures ∙ ap (λ i. Some i) c.in-Next.is in
-    let closes = looped.closes c.args.method c.args.place c.in-Next.field-0 c.in-Next.to stands in
+    let closes =
+    next_closes c.args.linked.now _ c.image.ensures c.methods-formed.ensures.well_formed c.facts.ensures.linked
+    c.args.method c.args.place c.in-Next.field-0 c.in-Next.to _ c.instr-instr.ensures c.in-Next.is in
     omega (arith, closes.3, c.number.ensures.value, closes.2.later, c.requires.place, c.requires.passing.around_size)
 
 pub returns-in-Next-clause-passing : goal.returns-in-Next-clause-passing
 returns-in-Next-clause-passing c =
     let looped = linked_is_looped c.args.linked.now (rw c.image.ensures at c.methods-formed.ensures.well_formed) c.facts.ensures.linked in
-    let stands : instr_at c.args.linked.now c.args.method c.args.place ≡ Some (Next c.in-Next.field-0 c.in-Next.to) = c.instr-instr.ensures ∙ ap (λ i. Some i) c.in-Next.is in
-    let closes = looped.closes c.args.method c.args.place c.in-Next.field-0 c.in-Next.to stands in
+    let closes =
+    next_closes c.args.linked.now _ c.image.ensures c.methods-formed.ensures.well_formed c.facts.ensures.linked
+    c.args.method c.args.place c.in-Next.field-0 c.in-Next.to _ c.instr-instr.ensures c.in-Next.is in
     let first : closes.0 ≡ c.number.result - 1 = omega (arith, closes.3, c.number.ensures.value) in
     let body = subst (λ f. Body c.args.linked.now c.args.method f c.args.place c.in-Next.field-0 closes.1) first closes.2 in
     let within : c.number.result - 1 < length c.args.self.now.from = omega (arith, body.later, c.requires.place) in
