@@ -11,7 +11,7 @@ mod courses;
 mod laws;
 mod walking;
 
-pub use aom_debug_moves::{Machine, Progress, Sink};
+pub use aom_debug_moves::{Machine, Mover, Progress, Sink};
 pub use courses::{go_on, go_steps, go_turn};
 pub use laws::courses_are_a_run;
 pub use walking::{Until, walk};

@@ -37,13 +37,6 @@ pub if_none : {A : Type 0} {P Q : Type 0} (r : Option A) → (P → Q) → IfNon
 if_none None by x = by x
 if_none (Some a) by x = tt
 
--- what is said by what a later call found is said by what the first one did
-pub as_begun : (F : Image → List ℕ → Type 0) {p q : Image} {refused there : List ℕ} → q ≡ p → there ≡ refused → F q there → F p refused
-as_begun F {p} {q} {refused} {there} image same x = subst (λ r. F p r) same (subst (λ i. F i there) image x)
-
-pub as_heard : (F : Image → List ℕ → ℕ → Type 0) {p q : Image} {refused there : List ℕ} {natives many : ℕ} → q ≡ p → there ≡ refused → many ≡ natives → F q there many → F p refused natives
-as_heard F {p} {q} {refused} {there} {natives} {many} image same natives_same x = subst (λ n. F p refused n) natives_same (as_begun (λ i r. F i r many) image same x)
-
 -- something is at hand
 running_of : (s : State) → IsAtHand s → progress_of s ≡ Running
 running_of s hand = ap (λ e. progress_by e s.tasks) hand.going ∙ ap (λ ts. progress_by None ts) hand.busy.2
@@ -201,22 +194,22 @@ module _ {X : Type 0} {B : X → Type 0} where
 
   -- ---- turns one after another
 
-  pub arrives_nowhere : (outside : Outside) (m : Machine X B) (out : Option (List ℕ)) → Sends (Arrives m.core.image outside) m out out m
-  arrives_nowhere outside m out s stands = ([], s, stays, after_none out, stands)
+  module _ (p : Image) (outside : Outside) where
+    pub arrives_nowhere : (m : Machine X B) (out : Option (List ℕ)) → Sends (Arrives p outside) m out out m
+    arrives_nowhere m out s stands = ([], s, stays, after_none out, stands)
 
-  -- one turn more, from a machine that is between dispatches
-  module _ (a m c : Machine X B) (outside : Outside) (before mid out : Option (List ℕ)) (image : m.core.image ≡ a.core.image) (x : Sends (Arrives a.core.image outside) a before mid m) (resting : progress m.core ≡ Turned) where
-    pub arrives_on : Sends (TurnsOnce m.core.image outside) m mid out c → Sends (Arrives a.core.image outside) a before out c
-    arrives_on y s stands =
-        let f = x s stands in
-        let g = y f.1 f.4 in
-        let is : IsBetween f.1 = turned_state f.1 (sym (is_as_far m.core f.1 f.4.stands) ∙ resting) in
-        (f.0 ++ g.0, g.1, turns f.2 is (subst (λ q. TurnsOnce q outside f.1 g.0 g.1) image g.2), sent_both before mid out f.0 g.0 f.3 g.3, g.4)
+    module _ (a m c : Machine X B) (before mid out : Option (List ℕ)) (x : Sends (Arrives p outside) a before mid m) where
+      -- one turn more, from a machine that is between dispatches
+      pub arrives_on : progress m.core ≡ Turned → Sends (TurnsOnce p outside) m mid out c → Sends (Arrives p outside) a before out c
+      arrives_on resting y s stands =
+          let f = x s stands in
+          let g = y f.1 f.4 in
+          let is : IsBetween f.1 = turned_state f.1 (sym (is_as_far m.core f.1 f.4.stands) ∙ resting) in
+          (f.0 ++ g.0, g.1, turns f.2 is g.2, sent_both before mid out f.0 g.0 f.3 g.3, g.4)
 
-    pub arrives_cut : Breaks (Reaches m.core.image outside) m mid out c → Breaks (Reaches a.core.image outside) a before out c
-    arrives_cut y =
-        breaks_then a m c before mid out (Arrives a.core.image outside) (Reaches a.core.image outside) x (Reaches a.core.image outside) (λ s ls v ks u f g. reaches_both a.core.image outside s ls v ks u (reaches_arrived a.core.image outside s ls v f) g)
-        (subst (λ q. Breaks (Reaches q outside) m mid out c) image y)
+      pub arrives_cut : Breaks (Reaches p outside) m mid out c → Breaks (Reaches p outside) a before out c
+      arrives_cut =
+          breaks_then a m c before mid out (Arrives p outside) (Reaches p outside) x (Reaches p outside) (λ s ls v ks u f g. reaches_both p outside s ls v ks u (reaches_arrived p outside s ls v f) g)
 
   -- fewer dispatches or events are to come
   pub fewer : (outside : Outside) → outside.limit ≤ 2 ^ 64 - 1 → (m mid : Machine X B) (told turn : Turn) (ending : Option Ending) → Stands m → progress m.core ≡ Turned → TakesTurns m outside ending told turn mid → progress mid.core ≡ Turned → left outside.events outside.limit mid < left outside.events outside.limit m

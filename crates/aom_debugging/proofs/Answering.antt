@@ -9,7 +9,7 @@ use Rattle.aom_script.specs.Script.{RefusesOrWants, Script, denoted}
 use Rattle.aom_script.specs.declared.fault.ScriptFault.{ScriptFault}
 use Rattle.aom_script.specs.declared.fault.ScriptFaultKind.{ScriptFaultKind}
 use Rattle.aom_script.specs.declared.fault.ScriptFaultKind.TheVariants as kinds
-use Rattle.aom_debug.specs.Debugging.{outside_of}
+use Rattle.aom_debug.specs.Movers.{outside_of}
 use Rattle.aom_debug.specs.declared.debugger.Debugger.{Debugger}
 use Rattle.aom_main.specs.Acceptable.{IsAcceptable, IsSpelled, RefusesOrWants as RefusesImage}
 use Rattle.aom_main.specs.Headline.{Accepts, HasNatives, IsSilent, RefusesBoot, Sent, Told, outside_of as outside_by}
@@ -40,11 +40,11 @@ module _ (bytes text : List ℕ) (limit natives reads : ℕ) (p : Image) (script
     debugs = record { image = p; spelled = spelled; acceptable = acceptable; script = script; denotes = denotes; enough = begun.enough }
 
     -- what a session comes to from where the debugger begins
-    begun_so : (Q : Image → Outside → SessionState → Type 0) → Q d.machine.core.image (outside_of d) (standing d (boot_state p)) → Q p (outside_by script limit natives) (start_of p)
+    begun_so : (Q : Image → Outside → SessionState → Type 0) → Q d.mover.machine.core.image (outside_of d.mover) (standing d (boot_state p)) → Q p (outside_by script limit natives) (start_of p)
     begun_so Q x =
         subst (λ q. Q q (outside_by script limit natives) (start_of p)) begun.image
-        (subst (λ o. Q d.machine.core.image o (start_of p)) begun.outside (subst (λ ss. Q d.machine.core.image (outside_of d) (record { state = boot_state p; spots = ss; recent = [] })) begun.spots
-        (subst (λ rs. Q d.machine.core.image (outside_of d) (record { state = boot_state p; spots = d.breakpoints; recent = rs })) begun.recent x)))
+        (subst (λ o. Q d.mover.machine.core.image o (start_of p)) begun.outside (subst (λ ss. Q d.mover.machine.core.image (outside_of d.mover) (record { state = boot_state p; spots = ss; recent = [] })) begun.spots
+        (subst (λ rs. Q d.mover.machine.core.image (outside_of d.mover) (record { state = boot_state p; spots = d.breakpoints; recent = rs })) begun.recent x)))
 
     -- it was held whole
     pub held_of : HoldsAll d given out.before out.now → IsSilent errors → Answered statuses.Done

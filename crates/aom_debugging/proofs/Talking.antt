@@ -7,19 +7,18 @@ use Rattle.aom_text.specs.Text.{lines_of, true_lines}
 use Rattle.aom_image.specs.Image.{Image}
 use Rattle.aom_sound.specs.State.{State}
 use Rattle.aom_sound.specs.World.{Outside}
-use Rattle.aom_machine.specs.Calls.{StandsFor, natives_of}
+use Rattle.aom_machine.specs.Calls.{StandsFor}
 use Rattle.aom_debug.specs.Runs.{after}
+use Rattle.aom_debug.proofs.Keeping.{hears_as}
 use Rattle.aom_debug.proofs.Sending.{after_both, after_none}
 use Rattle.aom_debug_words.specs.Commands.{command_said}
 use Rattle.aom_debug_words.specs.Lines.{Kept, pending_of}
-use Rattle.aom_debug.specs.Debugging.{Keeps, Outgoing, outside_of}
+use Rattle.aom_debug.specs.Movers.{Keeps, outside_of}
+use Rattle.aom_debug.specs.Debugging.{Outgoing}
 use Rattle.aom_debug.specs.declared.debugger.Debugger.{Debugger}
 use Rattle.aom_debugging.specs.Conversing.{BreaksOff, Broken, Ends, GoesOn, Held, Stopped, Talks}
 use Rattle.aom_debug_words.specs.declared.command.Command.{Command}
 use Rattle.aom_debug_words.specs.declared.fault.DebugFault.{DebugFault}
-use Rattle.aom_lines.specs.Turn.{Turn}
-use Rattle.aom_debug.specs.Turns.{hearing}
-use Rattle.aom_script.specs.Script.{Script}
 use Rattle.aom_debugging.specs.Hearing.{Heard, HeardPart, standing}
 use Rattle.aom_debugging.specs.Sessions.{Begins, Comes, Heeds, Session, SessionState}
 use Rattle.aom_debugging.specs.Sessions.Session.{begins, heeds}
@@ -27,7 +26,7 @@ use Rattle.aom_debugging.proofs.Lines.{last_line, lines_before, some_parts, spli
 
 module _ {X : Type 0} {B : X → Type 0} (p : Image) (outside : Outside) (start : SessionState) (text : List ℕ) (before : Option (List ℕ)) where
   -- nothing has come
-  pub talks_first : (d : Debugger X B) (s : State) → StandsFor d.machine s → d.has_failed ≡ false → Talks d.machine.core.image (outside_of d) (standing d s) [] d (pending_of []) before before
+  pub talks_first : (d : Debugger X B) (s : State) → StandsFor d.mover.machine s → d.has_failed ≡ false → Talks d.mover.machine.core.image (outside_of d.mover) (standing d s) [] d (pending_of []) before before
   talks_first d s stands well =
       record { lines = []; rest = []; comes = record { parts = refl }; pending = refl; told = []; state = s; session = begins; stands = stands; out = after_none before; image = refl; same = refl; well = well }
 
@@ -105,7 +104,7 @@ module _ {X : Type 0} {B : X → Type 0} (p : Image) (outside : Outside) (start 
             last = standing d talks.state;
             session = talks.session;
             next = f.0;
-            begins = subst (λ o. Begins p o (command_said talks.rest) (standing d talks.state) f.0) talks.same (subst (λ q. Begins q (outside_of d) (command_said talks.rest) (standing d talks.state) f.0) talks.image f.1);
+            begins = subst (λ o. Begins p o (command_said talks.rest) (standing d talks.state) f.0) talks.same (subst (λ q. Begins q (outside_of d.mover) (command_said talks.rest) (standing d talks.state) f.0) talks.image f.1);
             fails = part.failed;
             sent = f.2.0;
             out = joined (take f.2.0 f.0) now f.2.1;
@@ -117,7 +116,7 @@ module _ {X : Type 0} {B : X → Type 0} (p : Image) (outside : Outside) (start 
       heeded heard =
           let f = heard.goes talks.state talks.stands in
           heeds talks.rest f.0 talks.session
-          (subst (λ o. Heeds p o (command_said talks.rest) (standing d talks.state) f.0 (standing new f.1)) talks.same (subst (λ q. Heeds q (outside_of d) (command_said talks.rest) (standing d talks.state) f.0 (standing new f.1)) talks.image f.2))
+          (subst (λ o. Heeds p o (command_said talks.rest) (standing d talks.state) f.0 (standing new f.1)) talks.same (subst (λ q. Heeds q (outside_of d.mover) (command_said talks.rest) (standing d talks.state) f.0 (standing new f.1)) talks.image f.2))
 
       -- the last, which lacks its line feed
       pub talks_last : has_bytes talks.rest ≡ true → Heard (command_said talks.rest) d new (record { before = here; now = now; failed = failed }) → Held p outside start text before now
@@ -131,9 +130,9 @@ module _ {X : Type 0} {B : X → Type 0} (p : Image) (outside : Outside) (start 
           }
 
       -- a line that is whole
-      pub talks_line : (byte : ℕ) (then : Kept) → (byte == 10) ≡ true → then ≡ pending_of [] → Keeps d new → outside_of new ≡ outside_of d → Heard (command_said talks.rest) d new (record { before = here; now = now; failed = failed })
+      pub talks_line : (byte : ℕ) (then : Kept) → (byte == 10) ≡ true → then ≡ pending_of [] → Keeps d.mover new.mover → Heard (command_said talks.rest) d new (record { before = here; now = now; failed = failed })
           → Talks p outside start (text ++ byte ∷ []) new then before now
-      talks_line byte then feeds anew keeps out heard =
+      talks_line byte then feeds anew keeps heard =
           let f = heard.goes talks.state talks.stands in
           record {
             lines = talks.lines ++ talks.rest ∷ [];
@@ -146,7 +145,7 @@ module _ {X : Type 0} {B : X → Type 0} (p : Image) (outside : Outside) (start 
             stands = f.4;
             out = joined f.0 now f.3;
             image = keeps.image ∙ talks.image;
-            same = out ∙ talks.same;
+            same = hears_as keeps ∙ talks.same;
             well = heard.well;
           }
 
@@ -163,12 +162,6 @@ some_bytes (b ∷ bs) is = refl
 -- ---- bytes one after another
 
 module _ {X : Type 0} {B : X → Type 0} where
-  -- nothing that comes from outside is another
-  pub keeps_outside : (d new : Debugger X B) → Keeps d new → outside_of new ≡ outside_of d
-  keeps_outside d new keeps =
-      ap (λ (t : Turn). hearing t.refused new.limit (natives_of new.machine) new.script.timed) keeps.turn ∙ ap (λ l. hearing d.turn.refused l (natives_of new.machine) new.script.timed) keeps.limit
-      ∙ ap (λ n. hearing d.turn.refused d.limit n new.script.timed) keeps.natives ∙ ap (λ (s : Script). hearing d.turn.refused d.limit (natives_of d.machine) s.timed) keeps.script
-
   pub goes_nowhere : (d : Debugger X B) (kept : Kept) (here : Option (List ℕ)) → GoesOn d kept here [] d kept here
   goes_nowhere d kept here p outside start text before talks = subst (λ t. Talks p outside start t d kept before here) (sym (append-nil text)) talks
 
@@ -203,12 +196,12 @@ module _ {X : Type 0} {B : X → Type 0} where
         let on = talks_on p outside start (text ++ bytes) before d kept mid (goes p outside start text before talks) byte now other adds in
         subst (λ t. Talks p outside start t d now before mid) (append_assoc text bytes (byte ∷ []) ∙ ap (λ t. text ++ t) (sym is)) on
 
-    pub goes_line : (new : Debugger X B) (then : Kept) (out : Option (List ℕ)) (failed : Bool) (said : Result (Option Command) DebugFault) → (byte == 10) ≡ true → then ≡ pending_of [] → ((line : List ℕ) → kept ≡ pending_of line → said ≡ command_said line) → Keeps d new
+    pub goes_line : (new : Debugger X B) (then : Kept) (out : Option (List ℕ)) (failed : Bool) (said : Result (Option Command) DebugFault) → (byte == 10) ≡ true → then ≡ pending_of [] → ((line : List ℕ) → kept ≡ pending_of line → said ≡ command_said line) → Keeps d.mover new.mover
         → Heard said d new (record { before = mid; now = out; failed = failed }) → GoesOn a first here more new then out
     goes_line new then out failed said feeds anew says keeps heard p outside start text before talks =
         let t = goes p outside start text before talks in
         let heard_so = subst (λ r. Heard r d new (record { before = mid; now = out; failed = failed })) (says t.rest t.pending) heard in
-        let on = talks_line p outside start (text ++ bytes) before d kept mid t new out failed byte then feeds anew keeps (keeps_outside d new keeps) heard_so in
+        let on = talks_line p outside start (text ++ bytes) before d kept mid t new out failed byte then feeds anew keeps heard_so in
         subst (λ u. Talks p outside start u new then before out) (append_assoc text bytes (byte ∷ []) ∙ ap (λ u. text ++ u) (sym is)) on
 
   -- the output fails in the line that a byte ends

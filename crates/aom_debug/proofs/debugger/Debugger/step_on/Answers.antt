@@ -1,19 +1,22 @@
 -- So many steps, and then where they have led.
 use Rattle.std.proofs.Common.{refl}
-use Rattle.aom_sound.specs.World.{Outside}
-use Rattle.aom_debug_courses.specs.Courses.{GoesBy}
+use Rattle.aom_debug_courses.specs.Movers.{outside_of}
 use Rattle.aom_debug_courses.proofs.Runs.{reaches_by}
-use Rattle.aom_debug.specs.Debugging.{outside_of}
+use Rattle.aom_debug.specs.Debugging.{steps_of}
 use Rattle.aom_debug.proofs.Answering.{answered, may_go}
 use Rattle.aom_debug.proofs.debugger.Debugger.step_on.Goals as goal
 
 pub returns-clause-agree : goal.returns-clause-agree
-returns-clause-agree g c = rw c.arrived.ensures.machine c.go_steps-went.ensures.agree
+returns-clause-agree g c = rw c.arrived.ensures.mover c.go_steps-went.ensures.agree
 
 pub returns-clause-answer : goal.returns-clause-answer
 returns-clause-answer g c =
-    let mid = record c.args.self.now { machine = c.go_steps-went.new.machine; recent = c.go_steps-went.new.recent; turn = c.go_steps-went.new.turn } in
-    answered (λ d (outside : Outside). GoesBy d.machine.core.image outside c.args.steps) c.args.self.now mid c.arrived.new.self (may_go c.args.self.now c.is_done.result c.if-is_done.false c.is_done.ensures) c.go_steps-went.ensures.image
-    (g.W.Sink.out c.args.out.now) (g.W.Sink.out c.go_steps-went.new.out) (g.W.Sink.out c.arrived.new.out) (g.W.Sink.failed c.arrived.new.out) c.events.result.now c.events.ensures
-    (reaches_by c.args.self.now.machine.core.image (outside_of c.args.self.now) c.args.steps c.args.self.now.recent mid.recent) refl refl c.go_steps-went.result
-    (g.W.Sink.failed c.go_steps-went.new.out) c.arrived.result c.go_steps-went.ensures.none c.go_steps-went.ensures.some c.arrived.ensures.none c.arrived.ensures.failed c.arrived.ensures.some
+    let a = c.args.self.now in
+    let p = a.mover.machine.core.image in
+    let mid = record a { mover = c.go_steps-went.new.mover } in
+    let went = c.go_steps-went.ensures in
+    let told = c.arrived.ensures in
+    answered (steps_of c.args.steps) a mid c.arrived.new.self (may_go a c.is_done.result c.if-is_done.false c.is_done.ensures) went.keeps.image
+    (g.W.Sink.out c.args.out.now) (g.W.Sink.out c.go_steps-went.new.out) (g.W.Sink.out c.arrived.new.out) (g.W.Sink.failed c.arrived.new.out)
+    (reaches_by p (outside_of a.mover) c.args.steps a.mover.recent mid.mover.recent) refl refl c.go_steps-went.result
+    (g.W.Sink.failed c.go_steps-went.new.out) c.arrived.result went.none went.some told.none told.failed told.some

@@ -1,0 +1,39 @@
+-- A machine that moves under a script.
+use Rattle.std.specs.Prelude.{◌≡◌, ◌≤◌, ◌+◌, ℕ, Bool, true, List, [], Option}
+use Rattle.aom_lines.specs.Turn.{step_lines}
+use Rattle.aom_parts.specs.declared.progress.Progress.{Progress}
+use Rattle.aom_script.specs.Script.{IsTimely}
+use Rattle.aom_sound.specs.World.{Outside}
+use Rattle.aom_exec.specs.Steps.{progress}
+use Rattle.aom_machine.specs.Calls.{Stands, natives_of}
+use Rattle.aom_run.specs.Turns.{hearing}
+use Rattle.aom_debug_moves.specs.Sends.{Breaks, Leads, Sends}
+pub use Rattle.aom_debug_moves.specs.declared.mover.Mover.{Mover}
+
+module _ {X : Type 0} {B : X → Type 0} where
+  -- what comes from outside of the image
+  abbrev pub outside_of : Mover X B → Outside
+  outside_of m = hearing m.turn.refused m.limit (natives_of m.machine) m.script.timed
+
+  -- the machine stands for a state, the turn has no lines and room for those of a step, and the events of the script are as a machine needs them
+  pub record IsReady (m : Mover X B) : Type 0 where
+    pub stands : Stands m.machine
+    pub none : m.turn.lines ≡ []
+    pub room : 64 + step_lines m.machine.core.image.header.messages ≤ m.turn.room
+    pub timely : IsTimely m.script.timed
+
+  -- what no move changes
+  pub record Keeps (old new : Mover X B) : Type 0 where
+    pub image : new.machine.core.image ≡ old.machine.core.image
+    pub natives : natives_of new.machine ≡ natives_of old.machine
+    pub script : new.script ≡ old.script
+    pub turn : new.turn ≡ old.turn
+    pub limit : new.limit ≡ old.limit
+
+  -- it went this way and has come so far, and its lines are out
+  abbrev pub IsThrough : Leads → Mover X B → Option (List ℕ) → Option (List ℕ) → Progress → Mover X B → Type 0
+  IsThrough leads old before out far new = Sends leads old.machine before out new.machine × (far ≡ progress new.machine.core)
+
+  -- or a beginning of its lines, since the sink failed
+  abbrev pub IsCutOff : Leads → Mover X B → Option (List ℕ) → Option (List ℕ) → Bool → Mover X B → Type 0
+  IsCutOff leads old before out failed new = (failed ≡ true) × Breaks leads old.machine before out new.machine
