@@ -1,13 +1,13 @@
 -- What a call of a debugger answers, by what was told.
-use Rattle.std.proofs.Common.{◌≡◌, ◌≢◌, ◌∙◌, ◌⊎◌, ◌||◌, ℕ, Bool, true, false, cond, List, Option, Result, Ok, Err, IfErr, IfNone, IfOk, IfSome, Some, None, take, refl, sym, ap, subst, inl, inr}
+use Rattle.std.proofs.Common.{◌≡◌, ◌≢◌, ◌∙◌, ◌⊎◌, ℕ, Bool, true, false, List, Option, Result, Ok, Err, IfErr, IfNone, IfOk, IfSome, Some, None, take, refl, sym, ap, subst, inl, inr}
 use Rattle.aom_sound.specs.State.{State}
 use Rattle.aom_sound.specs.World.{Reaches}
 use Rattle.aom_transcript.specs.declared.line.Line.{Line}
 use Rattle.aom_debug_courses.specs.Calls.{StandsFor}
-use Rattle.aom_debug_courses.specs.Movers.{IsCutOff, IsThrough, outside_of}
+use Rattle.aom_debug_courses.specs.Movers.{Went, outside_of}
 use Rattle.aom_debug_courses.specs.Runs.{after}
 use Rattle.aom_debug_words.specs.declared.fault.DebugFault.{DebugFault}
-use Rattle.aom_debug_words.specs.declared.fault.DebugFault.TheVariants.{BadCommand, NoSuch, Ended, OutOfMemory, WriteFault}
+use Rattle.aom_debug_words.specs.declared.fault.DebugFault.TheVariants.{WriteFault}
 use Rattle.aom_debug_sights.specs.Telling.{Tells, TellsPart}
 use Rattle.aom_debug.specs.Commands.{place_text}
 use Rattle.aom_debug_courses.specs.Sends.{Breaks, Machine, Sends}
@@ -24,21 +24,6 @@ module _ {X : Type 0} {B : X → Type 0} where
       → IfErr told (λ fault. TellsPart old.mover.machine.core (λ s. place_text old.mover.machine.core.image s) fault out.failed out.before out.now) → Shows old new out result
   shown old new out (Ok done) result is same changed tells part = subst (λ r. Shows old new out r) (sym is) (same, tells)
   shown old new out (Err fault) result is same changed tells part = subst (λ r. Shows old new out r) (sym is) (changed, part)
-
-  -- why nothing goes on
-  pub stopped_by : (d : Debugger X B) (b : Bool) → b ≡ true → b ≡ (d.has_failed || has_ended d) → (d.has_failed ≡ true) ⊎ (has_ended d ≡ true)
-  stopped_by d b is told = go d.has_failed (has_ended d) (sym told ∙ is)
-    where
-      go : (x y : Bool) → (x || y) ≡ true → (x ≡ true) ⊎ (y ≡ true)
-      go true y e = inl refl
-      go false y e = inr e
-
-  pub may_go : (d : Debugger X B) (b : Bool) → b ≡ false → b ≡ (d.has_failed || has_ended d) → MayGo d
-  may_go d b is told = go d.has_failed (has_ended d) (sym told ∙ is)
-    where
-      go : (x y : Bool) → (x || y) ≡ false → (x ≡ false) × (y ≡ false)
-      go true y e = absurd cc
-      go false y e = (refl, e)
 
   -- a course, and then where it has led; or it was cut
   module _ (leads : Debugger X B → Courses) (old mid new : Debugger X B) (may : MayGo old) (image : mid.mover.machine.core.image ≡ old.mover.machine.core.image)
@@ -90,24 +75,19 @@ module _ {X : Type 0} {B : X → Type 0} where
             ill = ap (λ (d : Debugger X B). d.has_failed) same;
           },
         )
-    gave_up (Ok done) fails breaks up = absurd up
-    gave_up (Err BadCommand) fails breaks up = absurd up
-    gave_up (Err NoSuch) fails breaks up = absurd up
-    gave_up (Err Ended) fails breaks up = absurd up
-    gave_up (Err OutOfMemory) fails breaks up = absurd up
+    gave_up _ fails breaks up = absurd up
 
   -- either of the two, by how it went
   module _ (leads : Debugger X B → Courses) (old mid new : Debugger X B) (may : MayGo old) (image : mid.mover.machine.core.image ≡ old.mover.machine.core.image)
       (before here now : Option (List ℕ)) (failed : Bool) where
     pub answered : ((s : State) (lines : List Line) (u : State) → leads old old.mover.recent mid.mover.recent s lines u → Reaches old.mover.machine.core.image (outside_of old.mover) s lines u)
         → (spots : mid.breakpoints ≡ old.breakpoints) → (well : mid.has_failed ≡ old.has_failed) → (went : Option Progress) (off : Bool) (result : Answer)
-        → IfNone went (IsCutOff (Reaches old.mover.machine.core.image (outside_of old.mover)) old.mover before here off mid.mover)
-        → IfSome went (λ far. IsThrough (leads old old.mover.recent mid.mover.recent) old.mover before here far mid.mover)
+        → Went (leads old old.mover.recent mid.mover.recent) (Reaches old.mover.machine.core.image (outside_of old.mover)) old.mover before here off went mid.mover
         → IfNone went (GivesUp mid new (record { before = here; now = now; failed = failed }) result) → IfNone went (failed ≡ off)
         → IfSome went (λ far. Shows mid new (record { before = here; now = now; failed = failed }) result)
         → Goes leads old new (record { before = before; now = now; failed = failed }) result
-    answered reaches spots well None off result none some up same shows = gave_up leads old mid new may image spots well before here now failed result (same ∙ none.0) none.1 up
-    answered reaches spots well (Some far) off result none some up same shows = gone leads old mid new may image spots well before here now failed reaches result some.0 shows
+    answered reaches spots well None off result x up same shows = gave_up leads old mid new may image spots well before here now failed result (same ∙ x.0) x.1 up
+    answered reaches spots well (Some far) off result x up same shows = gone leads old mid new may image spots well before here now failed reaches result x.0 shows
 
 -- a look
 pub looked : {X : Type 0} {B : X → Type 0} (shows : Debugger X B → State → List ℕ → Type 0) (old new : Debugger X B) (before now : Option (List ℕ)) (failed : Bool) (told result : Answer) → old.has_failed ≡ false → result ≡ told

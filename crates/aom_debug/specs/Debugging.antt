@@ -14,7 +14,9 @@ use Rattle.aom_debug_marks.specs.Marks.{is_set, with_spot}
 use Rattle.aom_debug_marks.specs.declared.spot.Spot.{Spot}
 use Rattle.aom_debug_lines.specs.declared.answer.Answer.TheVariants.{Done}
 use Rattle.aom_debug_lines.specs.Answers.{answer_text}
-use Rattle.aom_debug_courses.specs.Courses.{Courses, GoesBy, GoesToBreakpoint, TurnsOver}
+use Rattle.aom_debug_courses.specs.Courses.{Courses, course_of}
+use Rattle.aom_debug_courses.specs.declared.courses.Course.{Course}
+use Rattle.aom_debug_courses.specs.declared.courses.Course.TheVariants as course
 use Rattle.aom_debug_sights.specs.Telling.{Tells, TellsPart}
 use Rattle.aom_debug.specs.Commands.{NamesNoRoom, ShowsActives, ShowsCells, ShowsCleanup, ShowsOwners, ShowsRecent, is_count, moved_text, place_text, spot_named}
 use Rattle.aom_debug.specs.declared.debugger.Debugger.{Debugger}
@@ -75,6 +77,10 @@ module _ {X : Type 0} {B : X → Type 0} where
   Shows old new out (Ok done) = (new ≡ old) × Tells old.mover.machine.core (λ s. place_text old.mover.machine.core.image s) out.before out.now
   Shows old new out (Err fault) = (new ≡ record old { has_failed = true }) × TellsPart old.mover.machine.core (λ s. place_text old.mover.machine.core.image s) fault out.failed out.before out.now
 
+  -- so far
+  abbrev pub goes_of : Course → Debugger X B → Courses
+  goes_of course d = course_of d.mover.machine.core.image (outside_of d.mover) d.breakpoints course
+
   -- no number of steps
   abbrev pub CountsNot : Debugger X B → Debugger X B → Outgoing → Answer → Type 0
   CountsNot old new out (Err BadCommand) = (old.has_failed ≡ false) × Declined old new out
@@ -83,21 +89,21 @@ module _ {X : Type 0} {B : X → Type 0} where
 
   -- so many steps
   abbrev pub steps_of : ℕ → Debugger X B → Courses
-  steps_of n d = GoesBy d.mover.machine.core.image (outside_of d.mover) n
+  steps_of n = goes_of (course.Steps n)
 
   abbrev pub Steps : ℕ → Debugger X B → Debugger X B → Outgoing → Answer → Type 0
   Steps n old new out answer = cond (is_count n) (Goes (steps_of n) old new out answer) (CountsNot old new out answer)
 
   -- to the end of a dispatch
   abbrev pub turns_of : Debugger X B → Courses
-  turns_of d = TurnsOver d.mover.machine.core.image (outside_of d.mover)
+  turns_of = goes_of course.EndOfDispatch
 
   abbrev pub Turns : Debugger X B → Debugger X B → Outgoing → Answer → Type 0
   Turns old new out answer = Goes turns_of old new out answer
 
   -- to a breakpoint
   abbrev pub runs_of : Debugger X B → Courses
-  runs_of d = GoesToBreakpoint d.mover.machine.core.image (outside_of d.mover) d.breakpoints
+  runs_of = goes_of course.Breakpoint
 
   abbrev pub Runs : Debugger X B → Debugger X B → Outgoing → Answer → Type 0
   Runs old new out answer = Goes runs_of old new out answer

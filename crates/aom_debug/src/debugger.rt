@@ -3,11 +3,11 @@ ghost use Rattle.std.specs.Prelude.{◌≡◌, ◌||◌, [], false, true, IfErr,
 ghost use Rattle.aom_debug_courses.specs.Calls.{Stands};
 ghost use Rattle.aom_natives.specs.Slots.{AllAgree};
 ghost use Rattle.aom_debug_courses.specs.Movers.{IsReady, Keeps};
-ghost use Rattle.aom_debug.specs.Debugging.{GivesUp, Goes, Runs, Sets, SetsAt, Shows, Steps, Turns, has_ended, steps_of};
+ghost use Rattle.aom_debug.specs.Debugging.{GivesUp, Goes, Runs, Sets, SetsAt, Shows, Steps, Turns, goes_of, has_ended};
 
 use crate::marking::spot_named;
 use crate::showing::tell_place;
-use aom_debug_courses::{Mover, Progress, Sink, go_on, go_steps, go_turn};
+use aom_debug_courses::{Course, Mover, Progress, Sink, go};
 use aom_debug_lines::Answer;
 use aom_debug_marks::{Breakpoints, Spot};
 use aom_debug_sights::tell;
@@ -100,22 +100,22 @@ impl<'a> Debugger<'a> {
         if steps == 0 || steps > MOST_STEPS {
             return Err(DebugFault::BadCommand);
         }
-        self.step_on(steps, out)
+        self.go_by(Course::Steps(steps), out)
     }
 
-    /// So many steps.
-    fn step_on<W: Sink>(&mut self, steps: u32, out: &mut W) -> Result<(), DebugFault>
+    /// Goes on so far, and tells where that has led.
+    fn go_by<W: Sink>(&mut self, course: Course, out: &mut W) -> Result<(), DebugFault>
         requires agree { AllAgree (λ l. l.ids) (λ l. (⟦<dyn Native as Native>⟧ l.native.vtable).owed l.native.value) self.old.mover.machine.natives.slots.items }
         requires ready { IsReady self.old.mover }
         ensures agree { AllAgree (λ l. l.ids) (λ l. (⟦<dyn Native as Native>⟧ l.native.vtable).owed l.native.value) self.new.mover.machine.natives.slots.items }
         ensures ready { IsReady self.new.mover }
         ensures keeps { Keeps self.old.mover self.new.mover }
-        ensures answer { Goes (steps_of steps) self.old self.new (record { before = W.out out.old; now = W.out out.new; failed = W.failed out.new }) result }
+        ensures answer { Goes (goes_of course) self.old self.new (record { before = W.out out.old; now = W.out out.new; failed = W.failed out.new }) result }
     {
         if self.is_done() {
             return Err(DebugFault::Ended);
         }
-        let went = go_steps(&mut self.mover, steps, out);
+        let went = go(&mut self.mover, course, &self.breakpoints, out);
         self.arrived(went, out)
     }
 
@@ -128,11 +128,7 @@ impl<'a> Debugger<'a> {
         ensures keeps { Keeps self.old.mover self.new.mover }
         ensures answer { Turns self.old self.new (record { before = W.out out.old; now = W.out out.new; failed = W.failed out.new }) result }
     {
-        if self.is_done() {
-            return Err(DebugFault::Ended);
-        }
-        let went = go_turn(&mut self.mover, &self.breakpoints, out);
-        self.arrived(went, out)
+        self.go_by(Course::EndOfDispatch, out)
     }
 
     /// Goes on until an instruction with a breakpoint is next, but for where it begins, or to the end of the run.
@@ -144,11 +140,7 @@ impl<'a> Debugger<'a> {
         ensures keeps { Keeps self.old.mover self.new.mover }
         ensures answer { Runs self.old self.new (record { before = W.out out.old; now = W.out out.new; failed = W.failed out.new }) result }
     {
-        if self.is_done() {
-            return Err(DebugFault::Ended);
-        }
-        let went = go_on(&mut self.mover, &self.breakpoints, out);
-        self.arrived(went, out)
+        self.go_by(Course::Breakpoint, out)
     }
 
     /// Sets a breakpoint at the place that two numbers name. One that is set already counts once.

@@ -1,9 +1,8 @@
 //! So many steps, the end of a dispatch, and the next breakpoint.
-ghost use Rattle.std.specs.Prelude.{true, IfNone, IfSome};
 ghost use Rattle.aom_natives.specs.Slots.{AllAgree};
 ghost use Rattle.aom_sound.specs.World.{Reaches};
-ghost use Rattle.aom_debug_moves.specs.Movers.{IsCutOff, IsReady, IsThrough, Keeps, outside_of};
-ghost use Rattle.aom_debug_courses.specs.Courses.{GoesBy, GoesToBreakpoint, InDispatch, TurnsOver, WalksOn, stays_at};
+ghost use Rattle.aom_debug_moves.specs.Movers.{IsReady, Keeps, Went, outside_of};
+ghost use Rattle.aom_debug_courses.specs.Courses.{GoesBy, GoesToBreakpoint, InDispatch, TurnsOver, WalksOn, course_of, stays_at};
 ghost use Rattle.aom_debug_courses.specs.declared.walking.Until.TheVariants.{Breakpoint};
 
 use crate::walking::{Until, is_idle, is_there, walk, walk_unless};
@@ -11,15 +10,25 @@ use aom_debug_marks::Breakpoints;
 use aom_debug_moves::{Mover, Progress, Sink, arrive, stride};
 use aom_natives::Native;
 
+/// How far a debugger goes on, if the run does not end before.
+#[derive(Clone, Copy, PartialEq, Eq)]
+pub enum Course {
+    /// By so many steps.
+    Steps(u32),
+    /// To the end of the dispatch at hand, or of the next.
+    EndOfDispatch,
+    /// Until an instruction with a breakpoint is next, but for where it begins.
+    Breakpoint,
+}
+
 /// So many steps, or to the end of the run.
-pub fn go_steps<W: Sink>(mover: &mut Mover, steps: u32, out: &mut W) -> Option<Progress>
+fn go_steps<W: Sink>(mover: &mut Mover, steps: u32, out: &mut W) -> Option<Progress>
     requires agree { AllAgree (λ l. l.ids) (λ l. (⟦<dyn Native as Native>⟧ l.native.vtable).owed l.native.value) mover.old.machine.natives.slots.items }
     requires ready { IsReady mover.old }
     ensures agree { AllAgree (λ l. l.ids) (λ l. (⟦<dyn Native as Native>⟧ l.native.vtable).owed l.native.value) mover.new.machine.natives.slots.items }
     ensures ready { IsReady mover.new }
     ensures keeps { Keeps mover.old mover.new }
-    ensures none { IfNone result (IsCutOff (Reaches mover.old.machine.core.image (outside_of mover.old)) mover.old (W.out out.old) (W.out out.new) (W.failed out.new) mover.new) }
-    ensures some { IfSome result (λ far. IsThrough (GoesBy mover.old.machine.core.image (outside_of mover.old) steps mover.old.recent mover.new.recent) mover.old (W.out out.old) (W.out out.new) far mover.new) }
+    ensures went { Went (GoesBy mover.old.machine.core.image (outside_of mover.old) steps mover.old.recent mover.new.recent) (Reaches mover.old.machine.core.image (outside_of mover.old)) mover.old (W.out out.old) (W.out out.new) (W.failed out.new) result mover.new }
 {
     let mut done = 0;
     while done < steps {
@@ -34,18 +43,13 @@ pub fn go_steps<W: Sink>(mover: &mut Mover, steps: u32, out: &mut W) -> Option<P
 }
 
 /// To the end of the dispatch at hand, or of the next, or to the end of the run.
-pub fn go_turn<W: Sink>(
-    mover: &mut Mover,
-    breakpoints: &Breakpoints,
-    out: &mut W,
-) -> Option<Progress>
+fn go_turn<W: Sink>(mover: &mut Mover, breakpoints: &Breakpoints, out: &mut W) -> Option<Progress>
     requires agree { AllAgree (λ l. l.ids) (λ l. (⟦<dyn Native as Native>⟧ l.native.vtable).owed l.native.value) mover.old.machine.natives.slots.items }
     requires ready { IsReady mover.old }
     ensures agree { AllAgree (λ l. l.ids) (λ l. (⟦<dyn Native as Native>⟧ l.native.vtable).owed l.native.value) mover.new.machine.natives.slots.items }
     ensures ready { IsReady mover.new }
     ensures keeps { Keeps mover.old mover.new }
-    ensures none { IfNone result (IsCutOff (Reaches mover.old.machine.core.image (outside_of mover.old)) mover.old (W.out out.old) (W.out out.new) (W.failed out.new) mover.new) }
-    ensures some { IfSome result (λ far. IsThrough (TurnsOver mover.old.machine.core.image (outside_of mover.old) mover.old.recent mover.new.recent) mover.old (W.out out.old) (W.out out.new) far mover.new) }
+    ensures went { Went (TurnsOver mover.old.machine.core.image (outside_of mover.old) mover.old.recent mover.new.recent) (Reaches mover.old.machine.core.image (outside_of mover.old)) mover.old (W.out out.old) (W.out out.new) (W.failed out.new) result mover.new }
 {
     match arrive(mover, out)? {
         Progress::Running => walk(mover, Until::EndOfDispatch, breakpoints, out),
@@ -60,8 +64,7 @@ fn pass<W: Sink>(mover: &mut Mover, breakpoints: &Breakpoints, out: &mut W) -> O
     ensures agree { AllAgree (λ l. l.ids) (λ l. (⟦<dyn Native as Native>⟧ l.native.vtable).owed l.native.value) mover.new.machine.natives.slots.items }
     ensures ready { IsReady mover.new }
     ensures keeps { Keeps mover.old mover.new }
-    ensures none { IfNone result (IsCutOff (Reaches mover.old.machine.core.image (outside_of mover.old)) mover.old (W.out out.old) (W.out out.new) (W.failed out.new) mover.new) }
-    ensures some { IfSome result (λ far. IsThrough (InDispatch mover.old.machine.core.image (outside_of mover.old) (WalksOn mover.old.machine.core.image mover.old.turn.refused (λ s. stays_at mover.old.machine.core.image Breakpoint breakpoints.now s)) mover.old.recent mover.new.recent) mover.old (W.out out.old) (W.out out.new) far mover.new) }
+    ensures went { Went (InDispatch mover.old.machine.core.image (outside_of mover.old) (WalksOn mover.old.machine.core.image mover.old.turn.refused (λ s. stays_at mover.old.machine.core.image Breakpoint breakpoints.now s)) mover.old.recent mover.new.recent) (Reaches mover.old.machine.core.image (outside_of mover.old)) mover.old (W.out out.old) (W.out out.new) (W.failed out.new) result mover.new }
 {
     match arrive(mover, out)? {
         Progress::Running => {
@@ -73,14 +76,13 @@ fn pass<W: Sink>(mover: &mut Mover, breakpoints: &Breakpoints, out: &mut W) -> O
 }
 
 /// Until an instruction with a breakpoint is next, but for where it begins, or to the end of the run.
-pub fn go_on<W: Sink>(mover: &mut Mover, breakpoints: &Breakpoints, out: &mut W) -> Option<Progress>
+fn go_on<W: Sink>(mover: &mut Mover, breakpoints: &Breakpoints, out: &mut W) -> Option<Progress>
     requires agree { AllAgree (λ l. l.ids) (λ l. (⟦<dyn Native as Native>⟧ l.native.vtable).owed l.native.value) mover.old.machine.natives.slots.items }
     requires ready { IsReady mover.old }
     ensures agree { AllAgree (λ l. l.ids) (λ l. (⟦<dyn Native as Native>⟧ l.native.vtable).owed l.native.value) mover.new.machine.natives.slots.items }
     ensures ready { IsReady mover.new }
     ensures keeps { Keeps mover.old mover.new }
-    ensures none { IfNone result (IsCutOff (Reaches mover.old.machine.core.image (outside_of mover.old)) mover.old (W.out out.old) (W.out out.new) (W.failed out.new) mover.new) }
-    ensures some { IfSome result (λ far. IsThrough (GoesToBreakpoint mover.old.machine.core.image (outside_of mover.old) breakpoints.now mover.old.recent mover.new.recent) mover.old (W.out out.old) (W.out out.new) far mover.new) }
+    ensures went { Went (GoesToBreakpoint mover.old.machine.core.image (outside_of mover.old) breakpoints.now mover.old.recent mover.new.recent) (Reaches mover.old.machine.core.image (outside_of mover.old)) mover.old (W.out out.old) (W.out out.new) (W.failed out.new) result mover.new }
 {
     let rests = is_idle(&mover.machine);
     let mut progress = walk_unless(rests, mover, Until::Breakpoint, breakpoints, out)?;
@@ -90,5 +92,26 @@ pub fn go_on<W: Sink>(mover: &mut Mover, breakpoints: &Breakpoints, out: &mut W)
             other => return Some(other),
         }
         progress = pass(mover, breakpoints, out)?;
+    }
+}
+
+/// So far.
+pub fn go<W: Sink>(
+    mover: &mut Mover,
+    course: Course,
+    breakpoints: &Breakpoints,
+    out: &mut W,
+) -> Option<Progress>
+    requires agree { AllAgree (λ l. l.ids) (λ l. (⟦<dyn Native as Native>⟧ l.native.vtable).owed l.native.value) mover.old.machine.natives.slots.items }
+    requires ready { IsReady mover.old }
+    ensures agree { AllAgree (λ l. l.ids) (λ l. (⟦<dyn Native as Native>⟧ l.native.vtable).owed l.native.value) mover.new.machine.natives.slots.items }
+    ensures ready { IsReady mover.new }
+    ensures keeps { Keeps mover.old mover.new }
+    ensures went { Went (course_of mover.old.machine.core.image (outside_of mover.old) breakpoints.now course mover.old.recent mover.new.recent) (Reaches mover.old.machine.core.image (outside_of mover.old)) mover.old (W.out out.old) (W.out out.new) (W.failed out.new) result mover.new }
+{
+    match course {
+        Course::Steps(steps) => go_steps(mover, steps, out),
+        Course::EndOfDispatch => go_turn(mover, breakpoints, out),
+        Course::Breakpoint => go_on(mover, breakpoints, out),
     }
 }

@@ -1,5 +1,5 @@
 //! Steps one after another, as long as something is at hand.
-ghost use Rattle.std.specs.Prelude.{◌≡◌, ◌≢◌, true, false, IfNone, IfSome};
+ghost use Rattle.std.specs.Prelude.{◌≡◌, ◌≢◌, true, false};
 ghost use Rattle.aom_debug_moves.specs.Steps.{progress};
 ghost use Rattle.aom_parts.specs.declared.progress.Progress.TheVariants.{Running};
 ghost use Rattle.aom_debug_moves.specs.Calls.{Stands, StandsFor};
@@ -7,7 +7,7 @@ ghost use Rattle.aom_natives.specs.Slots.{AllAgree};
 ghost use Rattle.aom_debug_moves.specs.Runs.{Moving};
 ghost use Rattle.aom_sound.specs.State.{State};
 ghost use Rattle.aom_debug_views.specs.Next.{next_of, root_is_due, spot_of};
-ghost use Rattle.aom_debug_moves.specs.Movers.{IsCutOff, IsReady, IsThrough, Keeps};
+ghost use Rattle.aom_debug_moves.specs.Movers.{IsReady, Keeps, Went};
 ghost use Rattle.aom_debug_courses.specs.Courses.{WalksThere, WalksUnless, is_broken, stays_at};
 
 use aom_debug_marks::Breakpoints;
@@ -72,8 +72,7 @@ pub fn walk<W: Sink>(
     ensures agree { AllAgree (λ l. l.ids) (λ l. (⟦<dyn Native as Native>⟧ l.native.vtable).owed l.native.value) mover.new.machine.natives.slots.items }
     ensures ready { IsReady mover.new }
     ensures keeps { Keeps mover.old mover.new }
-    ensures none { IfNone result (IsCutOff (Moving mover.old.machine.core.image mover.old.turn.refused) mover.old (W.out out.old) (W.out out.new) (W.failed out.new) mover.new) }
-    ensures some { IfSome result (λ far. IsThrough (WalksThere mover.old.machine.core.image mover.old.turn.refused (λ s. stays_at mover.old.machine.core.image until breakpoints.now s) mover.old.recent mover.new.recent) mover.old (W.out out.old) (W.out out.new) far mover.new) }
+    ensures went { Went (WalksThere mover.old.machine.core.image mover.old.turn.refused (λ s. stays_at mover.old.machine.core.image until breakpoints.now s) mover.old.recent mover.new.recent) (Moving mover.old.machine.core.image mover.old.turn.refused) mover.old (W.out out.old) (W.out out.new) (W.failed out.new) result mover.new }
 {
     loop {
         let progress = stride(mover, out)?;
@@ -101,8 +100,7 @@ pub fn walk_unless<W: Sink>(
     ensures agree { AllAgree (λ l. l.ids) (λ l. (⟦<dyn Native as Native>⟧ l.native.vtable).owed l.native.value) mover.new.machine.natives.slots.items }
     ensures ready { IsReady mover.new }
     ensures keeps { Keeps mover.old mover.new }
-    ensures none { IfNone result (IsCutOff (Moving mover.old.machine.core.image mover.old.turn.refused) mover.old (W.out out.old) (W.out out.new) (W.failed out.new) mover.new) }
-    ensures some { IfSome result (λ far. IsThrough (WalksUnless rests mover.old.machine.core.image mover.old.turn.refused (λ s. stays_at mover.old.machine.core.image until breakpoints.now s) mover.old.recent mover.new.recent) mover.old (W.out out.old) (W.out out.new) far mover.new) }
+    ensures went { Went (WalksUnless rests mover.old.machine.core.image mover.old.turn.refused (λ s. stays_at mover.old.machine.core.image until breakpoints.now s) mover.old.recent mover.new.recent) (Moving mover.old.machine.core.image mover.old.turn.refused) mover.old (W.out out.old) (W.out out.new) (W.failed out.new) result mover.new }
 {
     if rests {
         return Some(mover.machine.core.progress());

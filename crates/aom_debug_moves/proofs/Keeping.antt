@@ -1,12 +1,16 @@
 -- What moves keep, one after another; and what is said by that after some of them is said by what it was before.
-use Rattle.std.proofs.Common.{◌≡◌, ◌∙◌, ℕ, List, refl, ap, subst}
+use Rattle.std.proofs.Common.{◌≡◌, ◌∙◌, ℕ, Bool, true, false, List, Option, Some, None, refl, ap, subst, sym}
+use Rattle.std.specs.Bool.{then_some}
 use Rattle.aom_image.specs.Image.{Image}
 use Rattle.aom_lines.specs.Turn.{Turn}
-use Rattle.aom_script.specs.Script.{Script}
-use Rattle.aom_machine.specs.Calls.{natives_of}
+use Rattle.aom_script.specs.Script.{IsTimely, Script}
+use Rattle.aom_exec.specs.Steps.{progress}
+use Rattle.aom_machine.specs.Calls.{Stands, natives_of}
 use Rattle.aom_run.specs.Turns.{hearing}
 use Rattle.aom_sound.specs.World.{Outside}
-use Rattle.aom_debug_moves.specs.Movers.{Keeps, Mover, outside_of}
+use Rattle.aom_parts.specs.declared.progress.Progress.{Progress}
+use Rattle.aom_debug_moves.specs.Movers.{IsReady, Keeps, Mover, Went, outside_of}
+use Rattle.aom_debug_moves.specs.Sends.{Breaks, Leads, Sends}
 
 module _ {X : Type 0} {B : X → Type 0} where
   pub keeps_all : (m : Mover X B) → Keeps m m
@@ -27,3 +31,26 @@ module _ {X : Type 0} {B : X → Type 0} where
 
     pub begun_as : (F : Image → List ℕ → Type 0) → F new.machine.core.image new.turn.refused → F old.machine.core.image old.turn.refused
     begun_as F = heard_as (λ p outside. F p outside.refused)
+
+  -- a mover that was ready is so while it stands for a state
+  pub ready_on : {old new : Mover X B} → IsReady old → Keeps old new → Stands new.machine → IsReady new
+  ready_on ready keeps stands =
+      record {
+        stands = stands;
+        none = ap (λ (t : Turn). t.lines) keeps.turn ∙ ready.none;
+        room = rw (keeps.image, ap (λ (t : Turn). t.room) keeps.turn) ready.room;
+        timely = subst (λ (s : Script). IsTimely s.timed) (sym keeps.script) ready.timely;
+      }
+
+  -- what came of a move, by whether all its lines are out
+  pub went_if : {so may : Leads} (a n : Mover X B) (before out : Option (List ℕ)) (failed : Bool) (far : Progress) (is_out : Bool) (result : Option Progress) → result ≡ then_some is_out far → far ≡ progress n.machine.core
+      → (is_out ≡ true → Sends so a.machine before out n.machine) → (is_out ≡ false → (failed ≡ true) × Breaks may a.machine before out n.machine) → Went so may a before out failed result n
+  went_if a n before out failed far true result is at sends breaks = rw is (sends refl, at)
+  went_if a n before out failed far false result is at sends breaks = rw is (breaks refl)
+
+  -- what came of a move is what came of more, by what is out before it
+  pub went_as : {so may other must : Leads} (a m n : Mover X B) (before here out : Option (List ℕ)) (failed : Bool) (result : Option Progress)
+      → (Sends so m.machine here out n.machine → Sends other a.machine before out n.machine) → (Breaks may m.machine here out n.machine → Breaks must a.machine before out n.machine)
+      → Went so may m here out failed result n → Went other must a before out failed result n
+  went_as a m n before here out failed None sends breaks x = (x.0, breaks x.1)
+  went_as a m n before here out failed (Some far) sends breaks x = (sends x.0, x.1)

@@ -1,5 +1,5 @@
 -- A machine that moves under a script.
-use Rattle.std.specs.Prelude.{◌≡◌, ◌≤◌, ◌+◌, ℕ, Bool, true, List, [], Option}
+use Rattle.std.specs.Prelude.{◌≡◌, ◌≤◌, ◌+◌, ℕ, Bool, true, List, [], Option, Some, None}
 use Rattle.aom_lines.specs.Turn.{step_lines}
 use Rattle.aom_parts.specs.declared.progress.Progress.{Progress}
 use Rattle.aom_script.specs.Script.{IsTimely}
@@ -30,10 +30,7 @@ module _ {X : Type 0} {B : X → Type 0} where
     pub turn : new.turn ≡ old.turn
     pub limit : new.limit ≡ old.limit
 
-  -- it went this way and has come so far, and its lines are out
-  abbrev pub IsThrough : Leads → Mover X B → Option (List ℕ) → Option (List ℕ) → Progress → Mover X B → Type 0
-  IsThrough leads old before out far new = Sends leads old.machine before out new.machine × (far ≡ progress new.machine.core)
-
-  -- or a beginning of its lines, since the sink failed
-  abbrev pub IsCutOff : Leads → Mover X B → Option (List ℕ) → Option (List ℕ) → Bool → Mover X B → Type 0
-  IsCutOff leads old before out failed new = (failed ≡ true) × Breaks leads old.machine before out new.machine
+  -- a move went so, has come so far, and its lines are out; or of a way that it may have gone a beginning is out, since the sink failed
+  abbrev pub Went : (so may : Leads) → Mover X B → Option (List ℕ) → Option (List ℕ) → Bool → Option Progress → Mover X B → Type 0
+  Went so may old before out failed None new = (failed ≡ true) × Breaks may old.machine before out new.machine
+  Went so may old before out failed (Some far) new = Sends so old.machine before out new.machine × (far ≡ progress new.machine.core)

@@ -1,5 +1,5 @@
 //! What comes between dispatches, whose lines go out.
-ghost use Rattle.std.specs.Prelude.{◌≡◌, ◌≢◌, true, IfNone, IfSome, Option};
+ghost use Rattle.std.specs.Prelude.{◌≡◌, ◌≢◌, IfSome, Option};
 ghost use Rattle.aom_exec.specs.Steps.{progress};
 ghost use Rattle.aom_lines.specs.Turn.{Turn as TurnRecord};
 ghost use Rattle.aom_parts.specs.declared.progress.Progress.TheVariants.{Turned};
@@ -7,7 +7,7 @@ ghost use Rattle.aom_natives.specs.Slots.{AllAgree};
 ghost use Rattle.aom_sound.specs.World.{Reaches};
 ghost use Rattle.aom_transcript.specs.declared.line.Ending.{Ending as EndingRecord};
 ghost use Rattle.aom_run.specs.Turns.{TakesTurns};
-ghost use Rattle.aom_debug_moves.specs.Movers.{IsCutOff, IsReady, IsThrough, Keeps, outside_of};
+ghost use Rattle.aom_debug_moves.specs.Movers.{IsReady, Keeps, Went, outside_of};
 ghost use Rattle.aom_debug_moves.specs.Moves.{Arrives, TurnsOnce};
 
 use crate::Mover;
@@ -26,16 +26,12 @@ pub fn turn_out<W: Sink>(mover: &mut Mover, out: &mut W) -> Option<Progress>
     ensures keeps { Keeps mover.old mover.new }
     ensures recent { mover.new.recent ≡ mover.old.recent }
     ensures takes { (ending : Option EndingRecord) × (now : TurnRecord) × TakesTurns mover.old.machine (outside_of mover.old) ending mover.old.turn now mover.new.machine }
-    ensures none { IfNone result (IsCutOff (Reaches mover.old.machine.core.image (outside_of mover.old)) mover.old (W.out out.old) (W.out out.new) (W.failed out.new) mover.new) }
-    ensures some { IfSome result (λ far. IsThrough (TurnsOnce mover.old.machine.core.image (outside_of mover.old)) mover.old (W.out out.old) (W.out out.new) far mover.new) }
+    ensures went { Went (TurnsOnce mover.old.machine.core.image (outside_of mover.old)) (Reaches mover.old.machine.core.image (outside_of mover.old)) mover.old (W.out out.old) (W.out out.new) (W.failed out.new) result mover.new }
 {
     let events = mover.script.events();
     let _ = take_turns(&mut mover.machine, events, &mut mover.turn, mover.limit);
-    if send(&mut mover.turn, &mut mover.page, out) {
-        Some(mover.machine.core.progress())
-    } else {
-        None
-    }
+    let progress = mover.machine.core.progress();
+    send(&mut mover.turn, &mut mover.page, out).then_some(progress)
 }
 
 /// Such turns, until something is at hand or the run is over.
@@ -46,8 +42,7 @@ pub fn arrive<W: Sink>(mover: &mut Mover, out: &mut W) -> Option<Progress>
     ensures ready { IsReady mover.new }
     ensures keeps { Keeps mover.old mover.new }
     ensures recent { mover.new.recent ≡ mover.old.recent }
-    ensures none { IfNone result (IsCutOff (Reaches mover.old.machine.core.image (outside_of mover.old)) mover.old (W.out out.old) (W.out out.new) (W.failed out.new) mover.new) }
-    ensures some { IfSome result (λ far. IsThrough (Arrives mover.old.machine.core.image (outside_of mover.old)) mover.old (W.out out.old) (W.out out.new) far mover.new) }
+    ensures went { Went (Arrives mover.old.machine.core.image (outside_of mover.old)) (Reaches mover.old.machine.core.image (outside_of mover.old)) mover.old (W.out out.old) (W.out out.new) (W.failed out.new) result mover.new }
     ensures goes { IfSome result (λ far. far ≢ Turned) }
 {
     loop {

@@ -1,5 +1,5 @@
 //! A step at hand, whose lines go out.
-ghost use Rattle.std.specs.Prelude.{◌≡◌, ◌<◌, ◌≤◌, ◌++◌, ◌∷◌, ◌+◌, ℕ, [], Bool, true, false, IfNone, IfSome, Some, length, take};
+ghost use Rattle.std.specs.Prelude.{◌≡◌, ◌<◌, ◌≤◌, ◌++◌, ◌∷◌, ◌+◌, ℕ, [], Bool, true, false, IfSome, Some, length, take};
 ghost use Rattle.aom_transcript.specs.Text.{text_of};
 ghost use Rattle.aom_exec.specs.Steps.{progress, rank};
 ghost use Rattle.aom_parts.specs.declared.progress.Progress.TheVariants.{Running};
@@ -8,7 +8,7 @@ ghost use Rattle.aom_machine.specs.Calls.{Stands, StandsFor};
 ghost use Rattle.aom_debug_views.specs.Next.{next_of, pauses, root_is_due, spot_of};
 ghost use Rattle.aom_natives.specs.Slots.{AllAgree};
 ghost use Rattle.aom_run.specs.Runs.{Moving, after};
-ghost use Rattle.aom_debug_moves.specs.Movers.{IsCutOff, IsReady, IsThrough, Keeps};
+ghost use Rattle.aom_debug_moves.specs.Movers.{IsReady, Keeps, Went};
 ghost use Rattle.aom_debug_moves.specs.Moves.{StepsOnce, Strides, noted};
 ghost use Rattle.aom_debug_moves.specs.Sends.{IfSo};
 
@@ -42,8 +42,7 @@ fn step_if<W: Sink>(asked: bool, mover: &mut Mover, out: &mut W) -> Option<Progr
     ensures ready { IsReady mover.new }
     ensures keeps { Keeps mover.old mover.new }
     ensures recent { mover.new.recent ≡ mover.old.recent }
-    ensures none { IfNone result (IsCutOff (Moving mover.old.machine.core.image mover.old.turn.refused) mover.old (W.out out.old) (W.out out.new) (W.failed out.new) mover.new) }
-    ensures some { IfSome result (λ far. IsThrough (IfSo asked (StepsOnce mover.old.machine.core.image mover.old.turn.refused)) mover.old (W.out out.old) (W.out out.new) far mover.new) }
+    ensures went { Went (IfSo asked (StepsOnce mover.old.machine.core.image mover.old.turn.refused)) (Moving mover.old.machine.core.image mover.old.turn.refused) mover.old (W.out out.old) (W.out out.new) (W.failed out.new) result mover.new }
     ensures was { progress mover.new.machine.core ≡ Running → progress mover.old.machine.core ≡ Running }
     ensures rank { progress mover.new.machine.core ≡ Running → rank mover.new.machine.core ≤ rank mover.old.machine.core }
     ensures falls { asked ≡ true → progress mover.new.machine.core ≡ Running → rank mover.new.machine.core < rank mover.old.machine.core }
@@ -52,11 +51,7 @@ fn step_if<W: Sink>(asked: bool, mover: &mut Mover, out: &mut W) -> Option<Progr
         return Some(mover.machine.core.progress());
     }
     let progress = mover.machine.step(&mut mover.turn);
-    if send(&mut mover.turn, &mut mover.page, out) {
-        Some(progress)
-    } else {
-        None
-    }
+    send(&mut mover.turn, &mut mover.page, out).then_some(progress)
 }
 
 /// Notes the instruction that is next, if one is.
@@ -91,8 +86,7 @@ pub fn stride<W: Sink>(mover: &mut Mover, out: &mut W) -> Option<Progress>
     ensures agree { AllAgree (λ l. l.ids) (λ l. (⟦<dyn Native as Native>⟧ l.native.vtable).owed l.native.value) mover.new.machine.natives.slots.items }
     ensures ready { IsReady mover.new }
     ensures keeps { Keeps mover.old mover.new }
-    ensures none { IfNone result (IsCutOff (Moving mover.old.machine.core.image mover.old.turn.refused) mover.old (W.out out.old) (W.out out.new) (W.failed out.new) mover.new) }
-    ensures some { IfSome result (λ far. IsThrough (Strides mover.old.machine.core.image mover.old.turn.refused mover.old.recent mover.new.recent) mover.old (W.out out.old) (W.out out.new) far mover.new) }
+    ensures went { Went (Strides mover.old.machine.core.image mover.old.turn.refused mover.old.recent mover.new.recent) (Moving mover.old.machine.core.image mover.old.turn.refused) mover.old (W.out out.old) (W.out out.new) (W.failed out.new) result mover.new }
     ensures falls { IfSome result (λ _. progress mover.new.machine.core ≡ Running → rank mover.new.machine.core < rank mover.old.machine.core) }
 {
     let begins = starts_end(&mover.machine);

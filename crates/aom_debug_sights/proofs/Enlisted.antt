@@ -68,20 +68,18 @@ module _ (server : Bool) (waiting : ℕ) where
       ∙ ap (λ x. Some (Active class r.priority (shown_phase x) status)) (ap phase_of (same_Some state held is) ∙ tells.0)
       ∙ ap (λ x. Some (Active class r.priority (shown_phase r.phase) x)) (sym (same_Some kept status at) ∙ tells.1)
       ∙ ap (λ b. Some (enlisted_as b class r waiting)) (sym (plain refl))
-  asked_shown (Some (Held_object held kept)) (Some r) (Some b) plain class priority status state tells has is at = absurd tells
-  asked_shown (Some (Held_object held kept)) None w plain class priority status state tells has is at = absurd tells
   asked_shown None r w plain class priority status state tells has is at = absurd (none-some state (sym is))
   asked_shown (Some (Held_server has_signal)) r w plain class priority status state tells has is at = absurd (none-some state (sym is))
+  asked_shown _ _ _ plain class priority status state tells has is at = absurd tells
 
   -- and a server
   served_shown : (q : Option Held_request) (r : Option Request) (w : Option Bool) → ((b : Bool) → w ≡ Some b → server ≡ true) → (class : ℕ) (priority : ℤ) →
       Tells_request q r w → HasPriority priority r → is_served q ≡ true → Some (Server class priority waiting) ≡ active_of server (Some class) r waiting
   served_shown (Some (Held_server has_signal)) (Some r) (Some b) is class priority tells has served =
       ap (λ x. Some (Server class x waiting)) (sym has) ∙ ap (λ c. Some (enlisted_as c class r waiting)) (sym (is b refl))
-  served_shown (Some (Held_server has_signal)) (Some r) None is class priority tells has served = absurd tells
-  served_shown (Some (Held_server has_signal)) None w is class priority tells has served = absurd tells
   served_shown None r w is class priority tells has served = absurd (true≢false (sym served))
   served_shown (Some (Held_object held kept)) r w is class priority tells has served = absurd (true≢false (sym served))
+  served_shown _ _ _ is class priority tells has served = absurd tells
 
   no_class : (r : Option Request) → None ≡ active_of server None r waiting
   no_class None = refl

@@ -491,12 +491,6 @@ module _ (m : Machine) (s : State) (st : StandsFor m s) (sessions_once : Session
     task_there d (Some t) n there is none = let less = within_over parts.stack.tasks d t there in let many = as_many_tasks p parts s st in omega (arith, less, many)
 
     register_small : (d i : ℕ) (o : Option Held_task) → over parts.stack.tasks d ≡ o → register_over o i ≡ x.name → i < 16
-    register_small d i None there is = absurd (some_number r x holds is)
-    register_small d i (Some Is_trap) there is = absurd (some_number r x holds is)
-    register_small d i (Some (Destroys y)) there is = absurd (some_number r x holds is)
-    register_small d i (Some Closes) there is = absurd (some_number r x holds is)
-    register_small d i (Some (Unwinds code)) there is = absurd (some_number r x holds is)
-    register_small d i (Some (Ends_dispatch e)) there is = absurd (some_number r x holds is)
     register_small d i (Some (Runs_frame f)) there is = go (nat_lt i 16) refl
       where
         go : (b : Bool) → nat_lt i 16 ≡ b → i < 16
@@ -506,6 +500,7 @@ module _ (m : Machine) (s : State) (st : StandsFor m s) (sessions_once : Session
             let wide = frame.2.wide in
             let past = get_or_past f.registers i null (omega (arith, wide, ltb-false i 16 more)) in
             absurd (some_number r x holds (sym past ∙ is))
+    register_small d i _ there is = absurd (some_number r x holds is)
 
     entry_small : (k : ℕ) (o : Option Held_item) → over parts.entries.items k ≡ o → owned_over o ≡ x.name → k < length s.items
     entry_small k None there is = absurd (some_number r x holds is)

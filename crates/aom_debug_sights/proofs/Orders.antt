@@ -71,9 +71,8 @@ not_both r q e f = at r.priority q.priority r.order q.order e f
     at a b m n e f = grind (arith, ints)
 
 apart_by : (r q : Option Request) → GoesBefore r q → GoesBefore q r → ⊥
-apart_by None q one other = absurd one
-apart_by (Some r) None one other = absurd one
 apart_by (Some r) (Some q) one other = not_both r q one other
+apart_by _ _ one other = absurd one
 
 pub orders_are_one : (cs : List Cell) (names others : List ℕ) → InOrderOfChoice cs names → InOrderOfChoice cs others → names ≡ others
 orders_are_one cs names others one other =

@@ -72,12 +72,7 @@ frame_by f _ same = absurd same
 
 frame_found : (o : Option Held_task) (f : Held_frame) → frame_over o ≡ Some f → o ≡ Some (Runs_frame f)
 frame_found (Some (Runs_frame g)) f is = ap (λ x. Some (Runs_frame x)) (same_Some g f is)
-frame_found (Some Is_trap) f is = absurd (none-some f is)
-frame_found (Some (Destroys x)) f is = absurd (none-some f is)
-frame_found (Some Closes) f is = absurd (none-some f is)
-frame_found (Some (Unwinds code)) f is = absurd (none-some f is)
-frame_found (Some (Ends d)) f is = absurd (none-some f is)
-frame_found None f is = absurd (none-some f is)
+frame_found _ f is = absurd (none-some f is)
 
 -- how many frames and destructions that is
 abbrev goings_over : Option Held_task → ℕ

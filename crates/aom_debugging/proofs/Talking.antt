@@ -1,6 +1,5 @@
 -- A session goes on with each line that is whole.
-use Rattle.std.proofs.Common.{◌≡◌, ◌∙◌, ◌==◌, ◌⊎◌, ◌+◌, ℕ, Bool, true, false, cond, List, [], ◌∷◌, ◌++◌, Option, Result, length, take, refl, sym, ap, subst, inl, inr, append-nil, append_assoc, arith}
-use Rattle.std.proofs.lemmas.Bool.Decides.{nat_tests}
+use Rattle.std.proofs.Common.{◌≡◌, ◌∙◌, ◌==◌, ◌⊎◌, ◌+◌, ℕ, Bool, true, false, cond, not, List, [], ◌∷◌, ◌++◌, Option, Result, length, take, refl, sym, ap, subst, inl, inr, append-nil, append_assoc, arith}
 use Rattle.std.specs.List.{slice_split}
 use Rattle.aom_text.specs.Words.{has_bytes}
 use Rattle.aom_text.specs.Text.{lines_of, true_lines}
@@ -151,13 +150,9 @@ module _ {X : Type 0} {B : X → Type 0} (p : Image) (outside : Outside) (start 
 
 -- ---- the rest of a line
 
-no_bytes : (line : List ℕ) → true ≡ (length line == 0) → has_bytes line ≡ false
-no_bytes [] is = refl
-no_bytes (b ∷ bs) is = absurd (grind (arith, nat_tests))
-
-some_bytes : (line : List ℕ) → false ≡ (length line == 0) → has_bytes line ≡ true
-some_bytes [] is = absurd cc
-some_bytes (b ∷ bs) is = refl
+is_there : (line : List ℕ) → has_bytes line ≡ not (length line == 0)
+is_there [] = refl
+is_there (b ∷ bs) = refl
 
 -- ---- bytes one after another
 
@@ -173,18 +168,18 @@ module _ {X : Type 0} {B : X → Type 0} where
   module _ (d : Debugger X B) (kept : Kept) (here : Option (List ℕ)) (empty : Bool) (says_empty : (line : List ℕ) → kept ≡ pending_of line → empty ≡ (length line == 0)) where
     -- behind a line feed
     pub ends_at_line : empty ≡ true → Ends d kept here here
-    ends_at_line is p outside start text before talks = talks_out p outside start text before d kept here talks (no_bytes talks.rest (sym is ∙ says_empty talks.rest talks.pending))
+    ends_at_line is p outside start text before talks = talks_out p outside start text before d kept here talks (is_there talks.rest ∙ ap not (sym (says_empty talks.rest talks.pending) ∙ is))
 
     -- in a line
     module _ (is : empty ≡ false) (now : Option (List ℕ)) (failed : Bool) (said : Result (Option Command) DebugFault) (says : (line : List ℕ) → kept ≡ pending_of line → said ≡ command_said line) where
       pub ends_in_line : (new : Debugger X B) → Heard said d new (record { before = here; now = now; failed = failed }) → Ends d kept here now
       ends_in_line new heard p outside start text before talks =
-          talks_last p outside start text before d kept here talks new now failed (some_bytes talks.rest (sym is ∙ says_empty talks.rest talks.pending))
+          talks_last p outside start text before d kept here talks new now failed (is_there talks.rest ∙ ap not (sym (says_empty talks.rest talks.pending) ∙ is))
           (subst (λ r. Heard r d new (record { before = here; now = now; failed = failed })) (says talks.rest talks.pending) heard)
 
       pub breaks_at_end : HeardPart said d (record { before = here; now = now; failed = failed }) → BreaksOff d kept here [] now failed
       breaks_at_end part p outside start text before talks =
-          let some = some_bytes talks.rest (sym is ∙ says_empty talks.rest talks.pending) in
+          let some = is_there talks.rest ∙ ap not (sym (says_empty talks.rest talks.pending) ∙ is) in
           talks_cut p outside start text before d kept here talks now failed (text ++ []) [] (ap lines_of (append-nil text) ∙ lines_last p outside start text before d kept here talks some)
           (subst (λ r. HeardPart r d (record { before = here; now = now; failed = failed })) (says talks.rest talks.pending) part)
 

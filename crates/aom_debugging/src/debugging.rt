@@ -175,7 +175,11 @@ fn begun<'a>(
 }
 
 /// The turn of a run under a script, and room for the latest instructions.
-fn room_of(alloc: Global, accepted: &Accepted, script: &Script) -> Result<(Turn, Recent), AllocError>
+fn room_of(
+    alloc: Global,
+    accepted: &Accepted,
+    script: &Script,
+) -> Result<(Turn, Recent), AllocError>
     ensures lines { IfOk result (λ r. r.0.lines ≡ []) }
     ensures refused { IfOk result (λ r. r.0.refused ≡ script.now.refused) }
     ensures room { IfOk result (λ r. r.0.room ≡ 64 + step_lines accepted.now.header.messages) }

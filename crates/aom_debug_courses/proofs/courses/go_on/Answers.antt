@@ -1,6 +1,5 @@
 -- Steps in the dispatch at hand, and then in one dispatch after another.
 use Rattle.std.proofs.Common.{arith, subst, ◌∙◌, ◌<◌, sym}
-use Rattle.aom_debug_moves.proofs.Running.{given_up}
 use Rattle.aom_sound.specs.State.{State}
 use Rattle.aom_sound.specs.World.{Reaches}
 use Rattle.aom_debug_moves.specs.Movers.{outside_of}
@@ -23,17 +22,17 @@ loop-progress-init g c =
     let stays = λ (s : State). stays_at p Breakpoint c.args.breakpoints.now s in
     let before = g.W.Sink.out c.args.out.now in
     let out = g.W.Sink.out c.walk_unless.new.out in
-    let walks = walked_if_any p a.turn.refused stays a.recent m.recent a.machine m.machine before out c.is_idle-rests.result c.is_idle-rests.ensures.rests c.in_ok-progress.ensures.some.0 in
+    let walks = walked_if_any p a.turn.refused stays a.recent m.recent a.machine m.machine before out c.is_idle-rests.result c.is_idle-rests.ensures.rests c.in_ok-progress.ensures.went.0 in
     record {
       so_far = begins_far p (outside_of a) stays a.recent m.recent a.machine m.machine before out walks;
-      far = c.in_ok-progress.ensures.some.1;
+      far = c.in_ok-progress.ensures.went.1;
       ready = c.walk_unless.ensures.ready;
       keeps = c.walk_unless.ensures.keeps;
       agree = c.walk_unless.ensures.agree;
     }
 
-pub returns-in_default-clause-some : goal.returns-in_default-clause-some
-returns-in_default-clause-some g c =
+pub returns-in_default-clause-went : goal.returns-in_default-clause-went
+returns-in_default-clause-went g c =
     let a = c.args.mover.now in
     let p = a.machine.core.image in
     let m = c.loop-progress.mover in
@@ -41,14 +40,14 @@ returns-in_default-clause-some g c =
     let i = c.loop-progress.invariant in
     (went_on p (outside_of a) stays a.recent m.recent a.machine m.machine (g.W.Sink.out c.args.out.now) (g.W.Sink.out c.loop-progress.out) (λ is. c.in_default.not-Turned (i.far ∙ is)) i.so_far, i.far)
 
-pub returns-in_err-progress-clause-none : goal.returns-in_err-progress-clause-none
-returns-in_err-progress-clause-none g c =
+pub returns-in_err-progress-clause-went : goal.returns-in_err-progress-clause-went
+returns-in_err-progress-clause-went g c =
     let a = c.args.mover.now in
-    let off = c.in_err-progress.ensures.none in
-    given_up c.from_residual.result (off.0, cut_run a.machine.core.image (outside_of a) a.machine c.walk_unless.new.mover.machine (g.W.Sink.out c.args.out.now) (g.W.Sink.out c.walk_unless.new.out) off.1)
+    let off = c.in_err-progress.ensures.went in
+    rw c.from_residual.ensures (off.0, cut_run a.machine.core.image (outside_of a) a.machine c.walk_unless.new.mover.machine (g.W.Sink.out c.args.out.now) (g.W.Sink.out c.walk_unless.new.out) off.1)
 
-pub returns-in_err-progress-2-clause-none : goal.returns-in_err-progress-2-clause-none
-returns-in_err-progress-2-clause-none g c =
+pub returns-in_err-progress-2-clause-went : goal.returns-in_err-progress-2-clause-went
+returns-in_err-progress-2-clause-went g c =
     let a = c.args.mover.now in
     let p = a.machine.core.image in
     let stays = λ (s : State). stays_at p Breakpoint c.args.breakpoints.now s in
@@ -57,9 +56,9 @@ returns-in_err-progress-2-clause-none g c =
     let n = c.pass.new.mover in
     let here = g.W.Sink.out c.loop-progress.out in
     let out = g.W.Sink.out c.pass.new.out in
-    let off = c.in_err-progress-2.ensures.none in
+    let off = c.in_err-progress-2.ensures.went in
     let cut = heard_as i.keeps (λ q o. Breaks (Reaches q o) m.machine here out n.machine) off.1 in
-    given_up c.from_residual-in_err-progress-2.result (off.0, far_cut p (outside_of a) stays a.recent m.recent a.machine m.machine n.machine (g.W.Sink.out c.args.out.now) here out i.so_far cut)
+    rw c.from_residual-in_err-progress-2.ensures (off.0, far_cut p (outside_of a) stays a.recent m.recent a.machine m.machine n.machine (g.W.Sink.out c.args.out.now) here out i.so_far cut)
 
 pub loop-progress-smaller : goal.loop-progress-smaller
 loop-progress-smaller g c =
@@ -67,7 +66,7 @@ loop-progress-smaller g c =
     let i = c.loop-progress.invariant in
     let m = c.loop-progress.mover in
     let n = c.pass.new.mover in
-    let some = c.in_ok-progress-2.ensures.some in
+    let some = c.in_ok-progress-2.ensures.went in
     let on = passed a m n i.keeps c.args.breakpoints.now _ _ some.0 in
     let resting = sym i.far ∙ c.in-Turned.is in
     let later = left_in a.script.timed a.limit n.machine.core.parts.rest in
@@ -84,7 +83,7 @@ loop-progress-preserved g c =
     let m = c.loop-progress.mover in
     let n = c.pass.new.mover in
     let stays = λ (s : State). stays_at p Breakpoint c.args.breakpoints.now s in
-    let some = c.in_ok-progress-2.ensures.some in
+    let some = c.in_ok-progress-2.ensures.went in
     let on = passed a m n i.keeps c.args.breakpoints.now _ _ some.0 in
     record {
       so_far = goes_far p (outside_of a) stays a.recent m.recent a.machine m.machine n.machine _ _ _ i.so_far n.recent on;

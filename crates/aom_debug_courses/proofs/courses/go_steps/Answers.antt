@@ -1,6 +1,5 @@
 -- A step more, after its turns.
 use Rattle.std.proofs.Common.{arith, subst, suc, ◌≡◌, ◌∙◌, ◌+◌, sym}
-use Rattle.aom_debug_moves.proofs.Running.{given_up}
 use Rattle.aom_debug_moves.specs.Runs.{Moving}
 use Rattle.aom_debug_moves.specs.Movers.{outside_of}
 use Rattle.aom_debug_moves.specs.Moves.{Strides}
@@ -20,29 +19,29 @@ loop-done-init g c =
       agree = c.requires.agree;
     }
 
-pub returns-in_err-other-clause-none : goal.returns-in_err-other-clause-none
-returns-in_err-other-clause-none g c =
+pub returns-in_err-other-clause-went : goal.returns-in_err-other-clause-went
+returns-in_err-other-clause-went g c =
     let a = c.args.mover.now in
     let i = c.loop-done.invariant in
     let m = c.loop-done.mover in
     let n = c.arrive.new.mover in
-    let off = c.in_err-other.ensures.none in
-    given_up c.from_residual.result (off.0, goes_cut a.machine.core.image (outside_of a) c.loop-done.done a.recent m.recent a.machine m.machine n.machine _ _ _ i.so_far (cut_so a m n i.keeps _ _ off.1))
+    let off = c.in_err-other.ensures.went in
+    rw c.from_residual.ensures (off.0, goes_cut a.machine.core.image (outside_of a) c.loop-done.done a.recent m.recent a.machine m.machine n.machine _ _ _ i.so_far (cut_so a m n i.keeps _ _ off.1))
 
-pub returns-in_default-clause-some : goal.returns-in_default-clause-some
-returns-in_default-clause-some g c =
+pub returns-in_default-clause-went : goal.returns-in_default-clause-went
+returns-in_default-clause-went g c =
     let a = c.args.mover.now in
     let i = c.loop-done.invariant in
     let m = c.loop-done.mover in
     let n = c.arrive.new.mover in
-    let some = c.in_ok-other.ensures.some in (
+    let some = c.in_ok-other.ensures.went in (
       ends_early a.machine.core.image (outside_of a) c.loop-done.done a.recent m.recent a.machine m.machine n.machine _ _ _ i.so_far c.args.steps c.loop-done-test.true
           (λ is. c.in_default.not-Running (some.1 ∙ is)) (λ is. c.in_ok-other.ensures.goes (some.1 ∙ is)) (comes_so a m n i.keeps _ _ some.0),
       some.1,
     )
 
-pub returns-in_err-stride-clause-none : goal.returns-in_err-stride-clause-none
-returns-in_err-stride-clause-none g c =
+pub returns-in_err-stride-clause-went : goal.returns-in_err-stride-clause-went
+returns-in_err-stride-clause-went g c =
     let a = c.args.mover.now in
     let i = c.loop-done.invariant in
     let m = c.loop-done.mover in
@@ -50,10 +49,10 @@ returns-in_err-stride-clause-none g c =
     let n = c.stride.new.mover in
     let then = g.W.Sink.out c.arrive.new.out in
     let out = g.W.Sink.out c.stride.new.out in
-    let comes = comes_so a m mid i.keeps _ _ c.in_ok-other.ensures.some.0 in
-    let off = c.in_err-stride.ensures.none in
+    let comes = comes_so a m mid i.keeps _ _ c.in_ok-other.ensures.went.0 in
+    let off = c.in_err-stride.ensures.went in
     let cut = begun_as (keeps_on i.keeps c.arrive.ensures.keeps) (λ q r. Breaks (Moving q r) mid.machine then out n.machine) off.1 in
-    given_up c.from_residual-in_err-stride.result (off.0, step_cut a.machine.core.image (outside_of a) c.loop-done.done a.recent m.recent a.machine m.machine mid.machine _ _ _ i.so_far n.machine out comes cut)
+    rw c.from_residual-in_err-stride.ensures (off.0, step_cut a.machine.core.image (outside_of a) c.loop-done.done a.recent m.recent a.machine m.machine mid.machine _ _ _ i.so_far n.machine out comes cut)
 
 pub loop-done-preserved : goal.loop-done-preserved
 loop-done-preserved g c =
@@ -63,10 +62,10 @@ loop-done-preserved g c =
     let mid = c.arrive.new.mover in
     let n = c.stride.new.mover in
     let out = g.W.Sink.out c.stride.new.out in
-    let some = c.in_ok-other.ensures.some in
+    let some = c.in_ok-other.ensures.went in
     let comes = comes_so a m mid i.keeps _ _ some.0 in
     let keeps = keeps_on i.keeps c.arrive.ensures.keeps in
-    let noted = subst (λ spots. Sends (Strides mid.machine.core.image mid.turn.refused spots n.recent) mid.machine (g.W.Sink.out c.arrive.new.out) out n.machine) c.arrive.ensures.recent c.in_ok-stride.ensures.some.0 in
+    let noted = subst (λ spots. Sends (Strides mid.machine.core.image mid.turn.refused spots n.recent) mid.machine (g.W.Sink.out c.arrive.new.out) out n.machine) c.arrive.ensures.recent c.in_ok-stride.ensures.went.0 in
     let step = begun_as keeps (λ q r. Sends (Strides q r m.recent n.recent) mid.machine (g.W.Sink.out c.arrive.new.out) out n.machine) noted in
     let more : suc c.loop-done.done ≡ c.loop-done.done + 1 = omega arith in
     record {
@@ -78,8 +77,8 @@ loop-done-preserved g c =
       agree = c.stride.ensures.agree;
     }
 
-pub returns-clause-some : goal.returns-clause-some
-returns-clause-some g c =
+pub returns-clause-went : goal.returns-clause-went
+returns-clause-went g c =
     let a = c.args.mover.now in
     let m = c.loop-done.mover in
     let i = c.loop-done.invariant in
