@@ -6,11 +6,12 @@ use Rattle.aom_lines.specs.Turn.{Turn}
 use Rattle.aom_script.specs.Script.{IsTimely, Script}
 use Rattle.aom_exec.specs.Steps.{progress}
 use Rattle.aom_machine.specs.Calls.{Stands, natives_of}
+use Rattle.aom_debug_marks.specs.declared.spot.Spot.{Spot}
 use Rattle.aom_run.specs.Turns.{hearing}
 use Rattle.aom_sound.specs.World.{Outside}
 use Rattle.aom_parts.specs.declared.progress.Progress.{Progress}
 use Rattle.aom_debug_moves.specs.Movers.{IsReady, Keeps, Mover, Went, outside_of}
-use Rattle.aom_debug_moves.specs.Sends.{Breaks, Leads, Sends}
+use Rattle.aom_debug_moves.specs.Sends.{Breaks, Leads, Machine, Sends}
 
 module _ {X : Type 0} {B : X → Type 0} where
   pub keeps_all : (m : Mover X B) → Keeps m m
@@ -18,6 +19,15 @@ module _ {X : Type 0} {B : X → Type 0} where
 
   pub keeps_on : {old mid new : Mover X B} → Keeps old mid → Keeps mid new → Keeps old new
   keeps_on was is = record { image = is.image ∙ was.image; natives = is.natives ∙ was.natives; script = is.script ∙ was.script; turn = is.turn ∙ was.turn; limit = is.limit ∙ was.limit }
+
+  -- also where other instructions are noted
+  pub keeps_noting : {old new : Mover X B} → Keeps old new → (spots : List Spot) → Keeps old (record new { recent = spots })
+  keeps_noting keeps spots = record { image = keeps.image; natives = keeps.natives; script = keeps.script; turn = keeps.turn; limit = keeps.limit }
+
+  -- a machine that has moved, whose turn is cleared again
+  pub keeps_with : (m : Mover X B) (machine : Machine X B) (turn : Turn) (page : List ℕ) → machine.core.image ≡ m.machine.core.image → natives_of machine ≡ natives_of m.machine → turn ≡ m.turn
+      → Keeps m (record m { machine = machine; turn = turn; page = page })
+  keeps_with m machine turn page image natives same = record { image = image; natives = natives; script = refl; turn = same; limit = refl }
 
   module _ {old new : Mover X B} (keeps : Keeps old new) where
     -- what is heard outside is the same
@@ -40,6 +50,7 @@ module _ {X : Type 0} {B : X → Type 0} where
         none = ap (λ (t : Turn). t.lines) keeps.turn ∙ ready.none;
         room = rw (keeps.image, ap (λ (t : Turn). t.room) keeps.turn) ready.room;
         timely = subst (λ (s : Script). IsTimely s.timed) (sym keeps.script) ready.timely;
+        few = rw keeps.limit ready.few;
       }
 
   -- what came of a move, by whether all its lines are out

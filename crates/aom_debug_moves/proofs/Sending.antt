@@ -179,6 +179,9 @@ module _ {X : Type 0} {B : X → Type 0} where
     pub stands_turned : Stands old → Stands new
     stands_turned st = let x = takes st.0 st.1 in (x.1, x.5)
 
+    pub turn_cleared : Stands old → (clear : Turn) → clear ≡ record now { lines = [] } → clear ≡ told
+    turn_cleared st clear is = let x = takes st.0 st.1 in is ∙ ap (λ (t : Turn). record t { lines = [] }) x.3 ∙ ap (λ ls. record told { lines = ls }) (sym none)
+
     turned_lines : (s : State) (stands : StandsFor old s) → now.lines ≡ (takes s stands).0
     turned_lines s stands = ap (λ (t : Turn). t.lines) (takes s stands).3 ∙ ap (λ ls. ls ++ (takes s stands).0) none
 

@@ -1,5 +1,5 @@
 -- A machine that moves under a script.
-use Rattle.std.specs.Prelude.{◌≡◌, ◌≤◌, ◌+◌, ℕ, Bool, true, List, [], Option, Some, None}
+use Rattle.std.specs.Prelude.{◌≡◌, ◌≤◌, ◌+◌, ◌-◌, ◌^◌, ℕ, Bool, true, List, [], Option, Some, None}
 use Rattle.aom_lines.specs.Turn.{step_lines}
 use Rattle.aom_parts.specs.declared.progress.Progress.{Progress}
 use Rattle.aom_script.specs.Script.{IsTimely}
@@ -15,12 +15,13 @@ module _ {X : Type 0} {B : X → Type 0} where
   abbrev pub outside_of : Mover X B → Outside
   outside_of m = hearing m.turn.refused m.limit (natives_of m.machine) m.script.timed
 
-  -- the machine stands for a state, the turn has no lines and room for those of a step, and the events of the script are as a machine needs them
+  -- the machine stands for a state, the turn has no lines and room for those of a step, the events of the script are as a machine needs them, and the limit is a number of 64 bits
   pub record IsReady (m : Mover X B) : Type 0 where
     pub stands : Stands m.machine
     pub none : m.turn.lines ≡ []
     pub room : 64 + step_lines m.machine.core.image.header.messages ≤ m.turn.room
     pub timely : IsTimely m.script.timed
+    pub few : m.limit ≤ 2 ^ 64 - 1
 
   -- what no move changes
   pub record Keeps (old new : Mover X B) : Type 0 where

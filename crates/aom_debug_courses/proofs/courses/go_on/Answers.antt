@@ -1,5 +1,5 @@
 -- Steps in the dispatch at hand, and then in one dispatch after another.
-use Rattle.std.proofs.Common.{arith, subst, ◌∙◌, ◌<◌, sym}
+use Rattle.std.proofs.Common.{subst, ◌∙◌, ◌<◌, sym}
 use Rattle.aom_sound.specs.State.{State}
 use Rattle.aom_sound.specs.World.{Reaches}
 use Rattle.aom_debug_moves.specs.Movers.{outside_of}
@@ -72,7 +72,7 @@ loop-progress-smaller g c =
     let later = left_in a.script.timed a.limit n.machine.core.parts.rest in
     let before = left_in a.script.timed a.limit m.machine.core.parts.rest in
     let far = c.in_ok-progress-2.progress in
-    let less = nearer far later before (λ again. left_falls a.machine.core.image (outside_of a) (omega arith) _ _ _ m.machine n.machine _ _ i.ready.stands resting on (sym some.1 ∙ again)) in
+    let less = nearer far later before (λ again. left_falls a.machine.core.image (outside_of a) c.requires.ready.few _ _ _ m.machine n.machine _ _ i.ready.stands resting on (sym some.1 ∙ again)) in
     subst (λ q. to_go far later < to_go q before) (sym c.in-Turned.is) less
 
 pub loop-progress-preserved : goal.loop-progress-preserved

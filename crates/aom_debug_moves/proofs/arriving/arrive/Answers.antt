@@ -1,8 +1,9 @@
 -- Turns, as long as nothing is at hand: fewer dispatches or events are to come after each.
-use Rattle.std.proofs.Common.{arith, subst, sym, ◌∙◌, ◌<◌}
+use Rattle.std.proofs.Common.{refl, subst, sym, ◌∙◌, ◌<◌}
 use Rattle.aom_exec.specs.Steps.{progress}
 use Rattle.aom_sound.specs.World.{Reaches}
-use Rattle.aom_run.proofs.Running.{given_up, left}
+use Rattle.aom_run.specs.Turns.{TakesTurns}
+use Rattle.aom_run.proofs.Running.{left}
 use Rattle.aom_debug_moves.specs.Movers.{outside_of}
 use Rattle.aom_debug_moves.specs.Moves.{TurnsOnce}
 use Rattle.aom_debug_moves.specs.Sends.{Breaks, Sends}
@@ -11,14 +12,54 @@ use Rattle.aom_debug_moves.proofs.Sending.{arrives_cut, arrives_nowhere, arrives
 use Rattle.aom_debug_moves.proofs.arriving.arrive.Goals as goal
 
 pub loop-mover-init : goal.loop-mover-init
-loop-mover-init g c = ?
+loop-mover-init g c =
+    let a = c.args.mover.now in
+    record {
+      so_far = arrives_nowhere a.machine.core.image (outside_of a) a.machine (g.W.Sink.out c.args.out.now);
+      ready = c.requires.ready;
+      keeps = keeps_all a;
+      recent = refl;
+      agree = c.requires.agree;
+    }
 
 pub loop-mover-smaller : goal.loop-mover-smaller
-loop-mover-smaller g c = ?
+loop-mover-smaller g c =
+    let a = c.args.mover.now in
+    let i = c.loop-mover.invariant in
+    let m = c.loop-mover.mover in
+    let new = c.turn_out.new.mover in
+    let resting = sym c.progress.ensures ∙ c.in-Turned.is in
+    let takes = c.turn_out.ensures.takes in
+    let so = subst (λ o. TakesTurns m.machine o takes.0 m.turn takes.1 new.machine) (hears_as i.keeps) takes.2 in
+    let less = nearer (progress new.machine.core) (left a.script.timed a.limit new.machine) (left a.script.timed a.limit m.machine) (λ again. fewer (outside_of a) c.requires.ready.few m.machine new.machine m.turn takes.1 takes.0 i.ready.stands resting so again) in
+    subst (λ q. to_go (progress new.machine.core) (left a.script.timed a.limit new.machine) < to_go q (left a.script.timed a.limit m.machine)) (sym resting) less
 
 pub loop-mover-preserved : goal.loop-mover-preserved
-loop-mover-preserved g c = ?
+loop-mover-preserved g c =
+    let a = c.args.mover.now in
+    let i = c.loop-mover.invariant in
+    let m = c.loop-mover.mover in
+    let new = c.turn_out.new.mover in
+    let here = g.W.Sink.out c.loop-mover.out in
+    let out = g.W.Sink.out c.turn_out.new.out in
+    let sent = heard_as i.keeps (λ q o. Sends (TurnsOnce q o) m.machine here out new.machine) c.in_ok-turn_out-in-Turned.ensures.went.0 in
+    record {
+      so_far = arrives_on a.machine.core.image (outside_of a) a.machine m.machine new.machine (g.W.Sink.out c.args.out.now) here out i.so_far (sym c.progress.ensures ∙ c.in-Turned.is) sent;
+      ready = c.turn_out.ensures.ready;
+      keeps = keeps_on i.keeps c.turn_out.ensures.keeps;
+      recent = c.turn_out.ensures.recent ∙ i.recent;
+      agree = c.turn_out.ensures.agree;
+    }
 
-pub returns-in_err-turn_out-in-Turned-clause-none :
-    goal.returns-in_err-turn_out-in-Turned-clause-none
-returns-in_err-turn_out-in-Turned-clause-none g c = ?
+pub returns-in_err-turn_out-in-Turned-clause-went :
+    goal.returns-in_err-turn_out-in-Turned-clause-went
+returns-in_err-turn_out-in-Turned-clause-went g c =
+    let a = c.args.mover.now in
+    let i = c.loop-mover.invariant in
+    let m = c.loop-mover.mover in
+    let new = c.turn_out.new.mover in
+    let here = g.W.Sink.out c.loop-mover.out in
+    let out = g.W.Sink.out c.turn_out.new.out in
+    let off = c.in_err-turn_out-in-Turned.ensures.went in
+    let cut = heard_as i.keeps (λ q o. Breaks (Reaches q o) m.machine here out new.machine) off.1 in
+    rw c.from_residual.ensures (off.0, arrives_cut a.machine.core.image (outside_of a) a.machine m.machine new.machine (g.W.Sink.out c.args.out.now) here out i.so_far cut)

@@ -18,4 +18,4 @@ invariant-loop-mover g l = record {
 }
 
 abbrev pub decreases-loop-mover : goal.decreases-loop-mover
-decreases-loop-mover g l = to_go (progress l.mover.machine.core) (left l.mover.script.timed l.mover.limit l.mover.machine)
+decreases-loop-mover g l = to_go (progress l.mover.machine.core) (left l.fn.mover.script.timed l.fn.mover.limit l.mover.machine)

@@ -1,6 +1,6 @@
 -- A step that is asked for, and its lines; or nothing.
-use Rattle.std.proofs.Common.{refl}
-use Rattle.aom_debug_moves.proofs.Keeping.{ready_on, went_if}
+use Rattle.aom_debug_moves.specs.Moves.{StepsOnce}
+use Rattle.aom_debug_moves.proofs.Keeping.{keeps_with, ready_on, went_if}
 use Rattle.aom_debug_moves.proofs.Sending.{breaks_step, cleared, far_after, sends_if_not, sends_if_so, sends_step, stands_after, stepped_of, was_running}
 use Rattle.aom_debug_moves.proofs.stepping.step_if.Goals as goal
 
@@ -8,23 +8,36 @@ pub returns-then-not-asked-clause-went : goal.returns-then-not-asked-clause-went
 returns-then-not-asked-clause-went g c = (sends_if_not c.args.asked c.if-not-asked.true _ c.args.mover.now.machine (g.W.Sink.out c.args.out.now), c.progress.ensures)
 
 pub returns-clause-ready : goal.returns-clause-ready
-returns-clause-ready g c = ?
+returns-clause-ready g c =
+    let a = c.args.mover.now in
+    let ready = c.requires.ready in
+    let step = c.step-progress in
+    let steps = stepped_of a.machine step.new.self step.result a.turn step.new.turn step.ensures.steps in
+    let same = cleared a.machine step.new.self step.result a.turn step.new.turn ready.none steps ready.stands c.send.new.turn c.send.ensures.clear in
+    ready_on ready (keeps_with a step.new.self c.send.new.turn c.send.new.page step.ensures.image step.ensures.natives same) (stands_after a.machine step.new.self step.result a.turn step.new.turn ready.none steps ready.stands)
 
 pub returns-clause-keeps : goal.returns-clause-keeps
 returns-clause-keeps g c =
     let a = c.args.mover.now in
+    let ready = c.requires.ready in
     let step = c.step-progress in
     let steps = stepped_of a.machine step.new.self step.result a.turn step.new.turn step.ensures.steps in
-    record {
-      image = step.ensures.image;
-      natives = step.ensures.natives;
-      script = refl;
-      turn = cleared a.machine step.new.self step.result a.turn step.new.turn c.requires.ready.none steps c.requires.ready.stands c.send.new.turn c.send.ensures.clear;
-      limit = refl;
-    }
+    let same = cleared a.machine step.new.self step.result a.turn step.new.turn ready.none steps ready.stands c.send.new.turn c.send.ensures.clear in
+    keeps_with a step.new.self c.send.new.turn c.send.new.page step.ensures.image step.ensures.natives same
 
 pub returns-clause-went : goal.returns-clause-went
-returns-clause-went g c = ?
+returns-clause-went g c =
+    let a = c.args.mover.now in
+    let ready = c.requires.ready in
+    let step = c.step-progress in
+    let new = record a { machine = step.new.self; turn = c.send.new.turn; page = c.send.new.page } in
+    let before = g.W.Sink.out c.args.out.now in
+    let out = g.W.Sink.out c.send.new.out in
+    let leads = StepsOnce a.machine.core.image a.turn.refused in
+    let steps = stepped_of a.machine step.new.self step.result a.turn step.new.turn step.ensures.steps in
+    went_if a new before out (g.W.Sink.failed c.send.new.out) step.result c.send.result c.then_some.result c.then_some.ensures (far_after a.machine step.new.self step.result a.turn step.new.turn ready.none steps ready.stands)
+    (λ all. sends_if_so c.args.asked c.if-not-asked.false leads a.machine step.new.self before out (sends_step a.machine step.new.self step.result a.turn step.new.turn ready.none steps before out (c.send.ensures.whole all)))
+    (λ part. (c.send.ensures.fails part, breaks_step a.machine step.new.self step.result a.turn step.new.turn ready.none steps before out c.send.ensures.prefix.0 c.send.ensures.prefix.1))
 
 pub returns-clause-was : goal.returns-clause-was
 returns-clause-was g c =
