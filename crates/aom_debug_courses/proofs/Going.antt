@@ -14,7 +14,8 @@ use Rattle.aom_debug_moves.specs.Steps.{progress}
 use Rattle.aom_debug_moves.proofs.Progressing.{at_hand, is_as_far}
 use Rattle.aom_debug_moves.specs.Calls.{Stands, StandsFor}
 use Rattle.aom_debug_moves.specs.Sends.{Breaks, Leads, Machine, Sends, Then}
-use Rattle.aom_debug_moves.specs.Movers.{Keeps, Mover, outside_of}
+use Rattle.aom_debug_moves.specs.Movers.{Keeps, outside_of}
+use Rattle.aom_debug_moves.specs.declared.mover.Mover.{Mover}
 use Rattle.aom_debug_moves.specs.Runs.{Moving, after, begins as stays_there}
 use Rattle.aom_debug_moves.proofs.Reaching.{reaches_both, reaches_then}
 use Rattle.aom_debug_moves.proofs.Keeping.{heard_as}

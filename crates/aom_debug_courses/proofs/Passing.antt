@@ -14,7 +14,8 @@ use Rattle.aom_debug_moves.specs.Steps.{IsAtHand, progress}
 use Rattle.aom_debug_moves.proofs.Progressing.{is_as_far}
 use Rattle.aom_debug_moves.specs.Calls.{Stands, StandsFor}
 use Rattle.aom_debug_moves.specs.Sends.{Breaks, Leads, Machine, Sends, Then}
-use Rattle.aom_debug_moves.specs.Movers.{Keeps, Mover, outside_of}
+use Rattle.aom_debug_moves.specs.Movers.{Keeps, outside_of}
+use Rattle.aom_debug_moves.specs.declared.mover.Mover.{Mover}
 use Rattle.aom_debug_moves.specs.Runs.{Moving, after}
 use Rattle.aom_debug_moves.proofs.Reaching.{reaches_both}
 use Rattle.aom_debug_marks.specs.declared.spot.Spot.{Spot}

@@ -12,7 +12,8 @@ use Rattle.aom_debug_moves.specs.Steps.{progress}
 use Rattle.aom_debug_moves.proofs.Progressing.{at_hand, is_as_far}
 use Rattle.aom_debug_moves.specs.Calls.{Stands, StandsFor}
 use Rattle.aom_debug_moves.specs.Sends.{Breaks, Leads, Machine, Sends, Then}
-use Rattle.aom_debug_moves.specs.Movers.{Keeps, Mover, outside_of}
+use Rattle.aom_debug_moves.specs.Movers.{Keeps, outside_of}
+use Rattle.aom_debug_moves.specs.declared.mover.Mover.{Mover}
 use Rattle.aom_debug_moves.specs.Runs.{Moving, after}
 use Rattle.aom_debug_moves.proofs.Reaching.{reaches_both}
 use Rattle.aom_debug_moves.proofs.Keeping.{begun_as}
@@ -24,12 +25,12 @@ use Rattle.aom_debug_courses.proofs.Going.{cut_run, is_over}
 
 module _ {X : Type 0} {B : X → Type 0} (p : Image) (outside : Outside) (leads : Courses) where
   -- the run is over before
-  pub over_there : (spots : List Spot) (a m : Machine X B) (before mid : Option (List ℕ)) → progress m.core ≢ Running → progress m.core ≢ Turned → Sends (Arrives p outside) a before mid m → Sends (InDispatch p outside leads spots spots) a before mid m
-  over_there spots a m before mid rests goes x s stands =
+  pub over_there : (old new : List Spot) → new ≡ old → (a m : Machine X B) (before mid : Option (List ℕ)) → progress m.core ≢ Running → progress m.core ≢ Turned → Sends (Arrives p outside) a before mid m → Sends (InDispatch p outside leads old new) a before mid m
+  over_there old new same a m before mid rests goes x s stands =
       let f = x s stands in
       let far = is_as_far m.core f.1 f.4.stands in
       let over = is_over f.1 (λ is. rests (far ∙ is)) (λ is. goes (far ∙ is)) in
-      (f.0 ++ [], f.1, (f.1, f.0, [], f.2, inl (over, (refl, refl, refl)), refl), sent_both before mid mid f.0 [] f.3 (after_none mid), f.4)
+      (f.0 ++ [], f.1, (f.1, f.0, [], f.2, inl (over, (refl, refl, same)), refl), sent_both before mid mid f.0 [] f.3 (after_none mid), f.4)
 
   -- a dispatch is at hand
   pub in_dispatch : (old new : List Spot) (a m c : Machine X B) (before mid out : Option (List ℕ)) → Sends (Arrives p outside) a before mid m → progress m.core ≡ Running → Sends (leads old new) m mid out c → Sends (InDispatch p outside leads old new) a before out c

@@ -5,7 +5,8 @@ use Rattle.aom_sound.specs.World.{boot_state}
 use Rattle.aom_lines.specs.Turn.{Turn}
 use Rattle.aom_machine.specs.Calls.{StandsFor, natives_of}
 use Rattle.aom_machine.specs.declared.machine.Machine.{Machine}
-use Rattle.aom_debug.specs.Movers.{Mover, outside_of}
+use Rattle.aom_debug.specs.Movers.{outside_of}
+use Rattle.aom_debug_moves.specs.declared.mover.Mover.{Mover}
 use Rattle.aom_debug.specs.Turns.{hearing}
 use Rattle.aom_debug_marks.specs.declared.spot.Spot.{Spot}
 use Rattle.aom_script.specs.Script.{Script}

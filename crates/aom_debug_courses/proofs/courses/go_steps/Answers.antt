@@ -35,8 +35,9 @@ returns-in_default-clause-went g c =
     let m = c.loop-done.mover in
     let n = c.arrive.new.mover in
     let some = c.in_ok-other.ensures.went in (
-      ends_early a.machine.core.image (outside_of a) c.loop-done.done a.recent m.recent a.machine m.machine n.machine _ _ _ i.so_far c.args.steps c.loop-done-test.true
-          (λ is. c.in_default.not-Running (some.1 ∙ is)) (λ is. c.in_ok-other.ensures.goes (some.1 ∙ is)) (comes_so a m n i.keeps _ _ some.0),
+      rw c.arrive.ensures.recent
+          (ends_early a.machine.core.image (outside_of a) c.loop-done.done a.recent m.recent a.machine m.machine n.machine _ _ _ i.so_far c.args.steps c.loop-done-test.true
+          (λ is. c.in_default.not-Running (some.1 ∙ is)) (λ is. c.in_ok-other.ensures.goes (some.1 ∙ is)) (comes_so a m n i.keeps _ _ some.0)),
       some.1,
     )
 
