@@ -1,5 +1,5 @@
 -- What is known of a session, of a script and of the image is what the status answers.
-use Rattle.std.proofs.Common.{◌≡◌, ◌∙◌, ℕ, List, [], Ok, refl, sym, ap, subst, inl, inr}
+use Rattle.std.proofs.Common.{◌≡◌, ◌∙◌, ℕ, List, [], Result, Ok, Err, IfErr, IfOk, refl, sym, ap, subst, inl, inr}
 use Rattle.std.specs.Prelude.{◌⊎◌}
 use Rattle.aom_image.specs.Image.{Image}
 use Rattle.aom_sound.specs.World.{Outside, boot_state}
@@ -25,6 +25,12 @@ use Rattle.aom_debugging.specs.Beginning.{IsBegun}
 use Rattle.aom_debugging.specs.Conversing.{BreaksDown, Broken, Given, Held, HoldsAll, IsUnread, Stopped, StopsShort}
 use Rattle.aom_debugging.specs.Hearing.{standing}
 use Rattle.aom_debugging.specs.Sessions.{SessionState}
+
+-- what is so of the status of a session, by how it was held
+pub by_done : (So : Result ExitStatus Fault → Type 0) (told : Result (Unit {0}) Fault) (result : Result ExitStatus Fault) {Holds : Type 0} {Fails : Fault → Type 0} → IfOk told (λ _. result ≡ Ok statuses.Done) → IfErr told (λ fault. result ≡ Err fault)
+    → IfOk told (λ _. Holds) → IfErr told Fails → (Holds → So (Ok statuses.Done)) → ((fault : Fault) → Fails fault → So (Err fault)) → So result
+by_done So (Ok done) result is not holds fails by or = subst So (sym is) (by holds)
+by_done So (Err fault) result is not holds fails by or = subst So (sym not) (or fault fails)
 
 -- ---- an accepted image under a script
 

@@ -1,6 +1,7 @@
 -- A session goes on with each line that is whole.
 use Rattle.std.proofs.Common.{◌≡◌, ◌∙◌, ◌==◌, ◌⊎◌, ◌+◌, ℕ, Bool, true, false, cond, not, List, [], ◌∷◌, ◌++◌, Option, Result, length, take, refl, sym, ap, subst, inl, inr, append-nil, append_assoc, arith}
 use Rattle.std.specs.List.{slice_split}
+use Rattle.std.proofs.lemmas.Bool.{ne_eqb}
 use Rattle.aom_text.specs.Words.{has_bytes}
 use Rattle.aom_text.specs.Text.{lines_of, true_lines}
 use Rattle.aom_image.specs.Image.{Image}
@@ -152,7 +153,7 @@ module _ {X : Type 0} {B : X → Type 0} (p : Image) (outside : Outside) (start 
 
 is_there : (line : List ℕ) → has_bytes line ≡ not (length line == 0)
 is_there [] = refl
-is_there (b ∷ bs) = refl
+is_there (b ∷ bs) = sym (ap not (ne_eqb (length (b ∷ bs)) 0 (λ none. omega (arith, none))))
 
 -- ---- bytes one after another
 

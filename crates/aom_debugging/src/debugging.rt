@@ -10,6 +10,7 @@ ghost use Rattle.aom_debug.specs.Movers.{IsReady};
 ghost use Rattle.aom_main.specs.Acceptable.{IsSpelled};
 ghost use Rattle.aom_main.specs.Headline.{RefusesBoot};
 ghost use Rattle.aom_main.specs.declared.faults.Fault.TheVariants.{Memory};
+ghost use Rattle.aom_main.specs.declared.status.ExitStatus.TheVariants.{Done};
 ghost use Rattle.aom_main.specs.Untold.{Untold};
 ghost use Rattle.aom_debugging.specs.Answers.{DebugAnswers};
 ghost use Rattle.aom_debugging.specs.Beginning.{IsBegun};
@@ -162,14 +163,17 @@ fn begun<'a>(
     ensures err { IfErr result (λ fault. fault ≡ Memory) }
 {
     match room_of(alloc, accepted, &script) {
-        Ok((turn, recent)) => Ok(Debugger::new(Mover {
-            machine,
-            script,
-            limit,
-            turn,
-            page: Page::new(),
-            recent,
-        })),
+        Ok((turn, recent)) => {
+            let page = Page::new();
+            Ok(Debugger::new(Mover {
+                machine,
+                script,
+                limit,
+                turn,
+                page,
+                recent,
+            }))
+        }
         Err(_) => Err(Fault::Memory),
     }
 }
