@@ -1,5 +1,5 @@
 -- What goes out after what is out: moves one after another, the last of which may be cut.
-use Rattle.std.proofs.Common.{◌≡◌, ◌∙◌, ◌+◌, ◌-◌, ◌^◌, ◌<◌, ◌≤◌, ℕ, suc, ℤ, Bool, true, false, List, [], ◌++◌, Option, Some, None, length, take, refl, sym, ap, subst, arith, IfNone, IfSome}
+use Rattle.std.proofs.Common.{◌≡◌, ◌∙◌, ◌+◌, ◌-◌, ◌^◌, ◌<◌, ◌≤◌, ℕ, suc, ℤ, Bool, true, false, List, [], ◌++◌, Option, Some, None, length, take, refl, sym, ap, subst, arith, IfSome}
 use Rattle.aom_debug_marks.specs.declared.spot.Spot.{Spot}
 use Rattle.aom_image.specs.Image.{Image}
 use Rattle.aom_sound.specs.State.{State}
@@ -25,17 +25,9 @@ use Rattle.aom_debug_moves.specs.Moves.{Arrives, StepsOnce, Strides, TurnsOnce, 
 use Rattle.aom_debug_moves.specs.Sends.{Breaks, IfSo, Leads, Sends, Then, Where}
 
 -- what holds of a value holds of it otherwise
-pub if_some : {A : Type 0} {P Q : A → Type 0} (r : Option A) → ((a : A) → P a → Q a) → IfSome r P → IfSome r Q
-if_some None by x = tt
-if_some (Some a) by x = by a x
-
 pub if_any : {A : Type 0} {P : Type 0} (r : Option A) → P → IfSome r (λ _. P)
 if_any None x = tt
 if_any (Some a) x = x
-
-pub if_none : {A : Type 0} {P Q : Type 0} (r : Option A) → (P → Q) → IfNone r P → IfNone r Q
-if_none None by x = by x
-if_none (Some a) by x = tt
 
 -- something is at hand
 running_of : (s : State) → IsAtHand s → progress_of s ≡ Running
@@ -112,9 +104,6 @@ module _ {X : Type 0} {B : X → Type 0} where
   pub sends_as : (a c : Machine X B) (before out : Option (List ℕ)) (one other : Leads) → ((s : State) → StandsFor a s → (ls : List Line) (u : State) → one s ls u → other s ls u) → Sends one a before out c → Sends other a before out c
   sends_as a c before out one other turn x s stands = let f = x s stands in (f.0, f.1, turn s stands f.0 f.1 f.2, f.3, f.4)
 
-  pub breaks_as : (a c : Machine X B) (before out : Option (List ℕ)) (one other : Leads) → ((s : State) (ls : List Line) (u : State) → one s ls u → other s ls u) → Breaks one a before out c → Breaks other a before out c
-  breaks_as a c before out one other turn x s stands = let f = x s stands in (f.0, f.1, turn s f.0 f.1 f.2, f.3, f.4)
-
   pub sends_nothing : (leads : Leads) (m : Machine X B) (out : Option (List ℕ)) → Sends (IfSo false leads) m out out m
   sends_nothing leads m out s stands = ([], s, (refl, refl), after_none out, stands)
 
@@ -127,9 +116,6 @@ module _ {X : Type 0} {B : X → Type 0} where
   -- what is asked for is what the states say
   pub sends_where : (b : Bool) (test : State → Bool) (leads : Leads) (a c : Machine X B) (before out : Option (List ℕ)) → ((s : State) → StandsFor a s → b ≡ test s) → Sends (IfSo b leads) a before out c → Sends (Where test leads) a before out c
   sends_where b test leads a c before out is x = sends_as a c before out (IfSo b leads) (Where test leads) (λ s stands ls u y. subst (λ z. IfSo z leads s ls u) (is s stands) y) x
-
-  pub stands_sent : (leads : Leads) (a c : Machine X B) (before out : Option (List ℕ)) → Sends leads a before out c → Stands a → Stands c
-  stands_sent leads a c before out x st = let f = x st.0 st.1 in (f.1, f.4)
 
   -- what one step does, whatever it hears
   abbrev pub Stepped : Machine X B → Progress → Turn → Turn → Machine X B → Type 0

@@ -16,15 +16,6 @@ returns-clause-ready g c =
     let same = cleared a.machine step.new.self step.result a.turn step.new.turn ready.none steps ready.stands c.send.new.turn c.send.ensures.clear in
     ready_on ready (keeps_with a step.new.self c.send.new.turn c.send.new.page step.ensures.image step.ensures.natives same) (stands_after a.machine step.new.self step.result a.turn step.new.turn ready.none steps ready.stands)
 
-pub returns-clause-keeps : goal.returns-clause-keeps
-returns-clause-keeps g c =
-    let a = c.args.mover.now in
-    let ready = c.requires.ready in
-    let step = c.step-progress in
-    let steps = stepped_of a.machine step.new.self step.result a.turn step.new.turn step.ensures.steps in
-    let same = cleared a.machine step.new.self step.result a.turn step.new.turn ready.none steps ready.stands c.send.new.turn c.send.ensures.clear in
-    keeps_with a step.new.self c.send.new.turn c.send.new.page step.ensures.image step.ensures.natives same
-
 pub returns-clause-went : goal.returns-clause-went
 returns-clause-went g c =
     let a = c.args.mover.now in
