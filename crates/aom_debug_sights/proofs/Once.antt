@@ -29,7 +29,7 @@ use Rattle.aom_debug_sights.specs.Telling.{gathered}
 use Rattle.aom_cells.specs.Heap.{field_of, null}
 use Rattle.aom_cleanup.specs.declared.item.Item.{Item as Held_item}
 use Rattle.aom_frames.specs.declared.task.Task.{Task as Held_task}
-use Rattle.aom_frames.specs.declared.task.Task.TheVariants.{Closing as Closes, Destroy as Destroys, Dispatched as Ends_dispatch, Run as Runs_frame, Trapped as Is_trap, Unwind as Unwinds}
+use Rattle.aom_frames.specs.declared.task.Task.TheVariants.{Run as Runs_frame}
 use Rattle.aom_parts.specs.Agrees.{word_at}
 use Rattle.aom_parts.specs.Agrees.{Shows as Held_shows}
 use Rattle.aom_acts.proofs.Running.{not_null}
@@ -479,8 +479,7 @@ module _ (m : Machine) (s : State) (st : StandsFor m s) (sessions_once : Session
   number_there r x holds = shown (value parts r) (word_at s.tasks r) (subst (λ o. Held_shows (value parts r) (word_at s.tasks r) o) holds (st.agrees.values r))
     where
       shown : (n : ℕ) (w : Option ℤ) → Held_shows n w (Some x) → n ≡ x.name
-      shown n None shows = shows
-      shown n (Some w) shows = absurd shows
+      shown n w shows = grind arith
 
   some_number : (r : Place) (x : Object) → held cs r ≡ Some x → null ≡ x.name → ⊥
   some_number r x holds is = not_null p parts st.typing s st.typed st.agrees r x holds (sym is)

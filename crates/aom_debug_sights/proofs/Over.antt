@@ -1,5 +1,5 @@
 -- What stands over as many members of two lists that stand for each other, shown from the last one on.
-use Rattle.std.proofs.Common.{◌≡◌, ◌∙◌, ℕ, Bool, true, false, cond, ◌==◌, List, [], ◌∷◌, length, Option, Some, None, refl, ap, subst}
+use Rattle.std.proofs.Common.{◌≡◌, ◌∙◌, ℕ, Bool, true, false, cond, ◌==◌, List, [], ◌∷◌, length, Option, Some, None, refl, subst}
 use Rattle.aom_sound.specs.Owned.{over}
 
 -- one on each side, and the two stand for each other, or none on either
