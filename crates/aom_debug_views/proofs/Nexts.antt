@@ -46,12 +46,10 @@ NoEnd (Ends_state d ∷ ts) = ⊥
 NoEnd _ = Unit {0}
 
 pub no_end_of_all : (p : Image) (us : List Task) → NoEnd us → ends_all_in p us ≡ false
-no_end_of_all p (Ends_state d ∷ ts) not = absurd not
-no_end_of_all p _ not = refl
+no_end_of_all p us not = grind arith
 
 pub no_last : (us : List Task) → NoEnd us → is_last_in us ≡ false
-no_last (Ends_state d ∷ ts) not = absurd not
-no_last _ not = refl
+no_last us not = grind arith
 
 module _ (p : Image) (m : Parts) (s : State) (st : StandsFor (record { image = p; parts = m }) s) where
   -- what lives under a number is of the class of the machine's cell there
@@ -146,8 +144,7 @@ module _ (p : Image) (m : Parts) (s : State) (st : StandsFor (record { image = p
   runs_told runs = go (alike m.stack.tasks s.tasks st.agrees.tasks) runs
     where
       go : {ms : List Held_task} {us : List Task} → Alike ms us → Runs ms → At (record { method = method_here ms; place = place_here ms }) ≡ next_in p s us
-      go (both_run f fr ms ts same rest more) runs = ap (λ k. At (record { method = k; place = f.place })) same.method ∙ ap (λ k. At (record { method = fr.method; place = k })) same.place
-      go _ runs = absurd runs
+      go x runs = grind arith
 
   pub goes_told : (number class : ℕ) → IsDestroying m.stack.tasks → number ≡ going_here m.stack.tasks → Lives m.cells (going_here m.stack.tasks) → class_at m.cells number ≡ Some class → Gone class ≡ next_in p s s.tasks
   goes_told number class going is lives told = go refl refl (alike m.stack.tasks s.tasks st.agrees.tasks) going is
