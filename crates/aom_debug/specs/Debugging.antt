@@ -1,22 +1,22 @@
 -- What each call of a debugger does, from each state that its machine stands for.
-use Rattle.std.specs.Prelude.{◌≡◌, ◌⊎◌, ◌≤◌, ◌+◌, ℕ, Bool, true, false, cond, List, [], Option, Some, None, is_some, take, codes, Result, Ok, Err}
+use Rattle.std.specs.Prelude.{◌≡◌, ◌⊎◌, ℕ, Bool, true, false, cond, List, [], Option, Some, None, is_some, take, codes, Result, Ok, Err}
 use Rattle.aom_text.specs.declared.number.Number.{Number}
 use Rattle.aom_sound.specs.State.{State}
-use Rattle.aom_sound.specs.World.{Outside, Reaches}
+use Rattle.aom_sound.specs.World.{Reaches}
 use Rattle.aom_transcript.specs.declared.line.Line.{Line}
 use Rattle.aom_transcript.specs.Text.{ended}
-use Rattle.aom_lines.specs.Turn.{step_lines}
-use Rattle.aom_debug_courses.specs.Calls.{Stands, StandsFor, natives_of}
+use Rattle.aom_debug_courses.specs.Calls.{StandsFor}
 use Rattle.aom_debug_courses.specs.Runs.{after}
-use Rattle.aom_debug_courses.specs.Turns.{hearing}
-use Rattle.aom_script.specs.Script.{IsTimely}
+use Rattle.aom_debug_courses.specs.Movers.{outside_of}
 use Rattle.aom_debug_words.specs.declared.fault.DebugFault.{DebugFault}
 use Rattle.aom_debug_words.specs.declared.fault.DebugFault.TheVariants.{BadCommand, NoSuch, Ended, OutOfMemory, WriteFault}
 use Rattle.aom_debug_marks.specs.Marks.{is_set, with_spot}
 use Rattle.aom_debug_marks.specs.declared.spot.Spot.{Spot}
 use Rattle.aom_debug_lines.specs.declared.answer.Answer.TheVariants.{Done}
 use Rattle.aom_debug_lines.specs.Answers.{answer_text}
-use Rattle.aom_debug_courses.specs.Courses.{Courses, GoesBy, GoesToBreakpoint, TurnsOver}
+use Rattle.aom_debug_courses.specs.Courses.{Courses, course_of}
+use Rattle.aom_debug_courses.specs.declared.courses.Course.{Course}
+use Rattle.aom_debug_courses.specs.declared.courses.Course.TheVariants as course
 use Rattle.aom_debug_sights.specs.Telling.{Tells, TellsPart}
 use Rattle.aom_debug.specs.Commands.{NamesNoRoom, ShowsActives, ShowsCells, ShowsCleanup, ShowsOwners, ShowsRecent, is_count, moved_text, place_text, spot_named}
 use Rattle.aom_debug.specs.declared.debugger.Debugger.{Debugger}
@@ -34,27 +34,8 @@ pub record Outgoing : Type 0 where
   pub failed : Bool
 
 module _ {X : Type 0} {B : X → Type 0} where
-  -- the machine stands for a state, the turn has no lines and room for those of a step, and the events of the script are as a machine needs them
-  pub record IsReady (d : Debugger X B) : Type 0 where
-    pub stands : Stands d.machine
-    pub none : d.turn.lines ≡ []
-    pub room : 64 + step_lines d.machine.core.image.header.messages ≤ d.turn.room
-    pub timely : IsTimely d.script.timed
-
-  -- what no command changes
-  pub record Keeps (old new : Debugger X B) : Type 0 where
-    pub image : new.machine.core.image ≡ old.machine.core.image
-    pub natives : natives_of new.machine ≡ natives_of old.machine
-    pub script : new.script ≡ old.script
-    pub turn : new.turn ≡ old.turn
-    pub limit : new.limit ≡ old.limit
-
-  -- what comes from outside of the image
-  abbrev pub outside_of : Debugger X B → Outside
-  outside_of d = hearing d.turn.refused d.limit (natives_of d.machine) d.script.timed
-
   abbrev pub has_ended : Debugger X B → Bool
-  has_ended d = is_some d.machine.core.parts.rest.ended
+  has_ended d = is_some d.mover.machine.core.parts.rest.ended
 
   -- a command is refused: it changes nothing and writes nothing
   pub record Declined (old new : Debugger X B) (out : Outgoing) : Type 0 where
@@ -65,13 +46,13 @@ module _ {X : Type 0} {B : X → Type 0} where
 
   -- from each state that the machine stood for such moves lead to one that it stands for, with the latest instructions as they are then, and their lines are out, and then where they lead
   pub record Moved (leads : Debugger X B → Courses) (old new : Debugger X B) (out : Outgoing) : Type 0 where
-    pub goes : (s : State) → StandsFor old.machine s → (lines : List Line) × (u : State) × leads old old.recent new.recent s lines u × (out.now ≡ after out.before (moved_text old.machine.core.image lines u)) × StandsFor new.machine u
+    pub goes : (s : State) → StandsFor old.mover.machine s → (lines : List Line) × (u : State) × leads old old.mover.recent new.mover.recent s lines u × (out.now ≡ after out.before (moved_text old.mover.machine.core.image lines u)) × StandsFor new.mover.machine u
     pub spots : new.breakpoints ≡ old.breakpoints
     pub well : new.has_failed ≡ false
 
   -- the sink failed: it is a run, and a beginning of what would be told of it is out
   pub record Cut (old new : Debugger X B) (out : Outgoing) : Type 0 where
-    pub goes : (s : State) → StandsFor old.machine s → (lines : List Line) × (u : State) × Reaches old.machine.core.image (outside_of old) s lines u × ((sent : ℕ) × (out.now ≡ after out.before (take sent (moved_text old.machine.core.image lines u)))) × StandsFor new.machine u
+    pub goes : (s : State) → StandsFor old.mover.machine s → (lines : List Line) × (u : State) × Reaches old.mover.machine.core.image (outside_of old.mover) s lines u × ((sent : ℕ) × (out.now ≡ after out.before (take sent (moved_text old.mover.machine.core.image lines u)))) × StandsFor new.mover.machine u
     pub spots : new.breakpoints ≡ old.breakpoints
     pub fails : out.failed ≡ true
     pub ill : new.has_failed ≡ true
@@ -93,8 +74,12 @@ module _ {X : Type 0} {B : X → Type 0} where
 
   -- or where they lead is told
   abbrev pub Shows : Debugger X B → Debugger X B → Outgoing → Answer → Type 0
-  Shows old new out (Ok done) = (new ≡ old) × Tells old.machine.core (λ s. place_text old.machine.core.image s) out.before out.now
-  Shows old new out (Err fault) = (new ≡ record old { has_failed = true }) × TellsPart old.machine.core (λ s. place_text old.machine.core.image s) fault out.failed out.before out.now
+  Shows old new out (Ok done) = (new ≡ old) × Tells old.mover.machine.core (λ s. place_text old.mover.machine.core.image s) out.before out.now
+  Shows old new out (Err fault) = (new ≡ record old { has_failed = true }) × TellsPart old.mover.machine.core (λ s. place_text old.mover.machine.core.image s) fault out.failed out.before out.now
+
+  -- so far
+  abbrev pub goes_of : Course → Debugger X B → Courses
+  goes_of course d = course_of d.mover.machine.core.image (outside_of d.mover) d.breakpoints course
 
   -- no number of steps
   abbrev pub CountsNot : Debugger X B → Debugger X B → Outgoing → Answer → Type 0
@@ -104,21 +89,21 @@ module _ {X : Type 0} {B : X → Type 0} where
 
   -- so many steps
   abbrev pub steps_of : ℕ → Debugger X B → Courses
-  steps_of n d = GoesBy d.machine.core.image (outside_of d) n
+  steps_of n = goes_of (course.Steps n)
 
   abbrev pub Steps : ℕ → Debugger X B → Debugger X B → Outgoing → Answer → Type 0
   Steps n old new out answer = cond (is_count n) (Goes (steps_of n) old new out answer) (CountsNot old new out answer)
 
   -- to the end of a dispatch
   abbrev pub turns_of : Debugger X B → Courses
-  turns_of d = TurnsOver d.machine.core.image (outside_of d)
+  turns_of = goes_of course.EndOfDispatch
 
   abbrev pub Turns : Debugger X B → Debugger X B → Outgoing → Answer → Type 0
   Turns old new out answer = Goes turns_of old new out answer
 
   -- to a breakpoint
   abbrev pub runs_of : Debugger X B → Courses
-  runs_of d = GoesToBreakpoint d.machine.core.image (outside_of d) d.breakpoints
+  runs_of = goes_of course.Breakpoint
 
   abbrev pub Runs : Debugger X B → Debugger X B → Outgoing → Answer → Type 0
   Runs old new out answer = Goes runs_of old new out answer
@@ -127,7 +112,7 @@ module _ {X : Type 0} {B : X → Type 0} where
 
   -- the numbers name a place, which can have a breakpoint
   pub record CanSet (method place : Number) (d : Debugger X B) (spot : Spot) : Type 0 where
-    pub names : spot_named d.machine.core.image method place ≡ Some spot
+    pub names : spot_named d.mover.machine.core.image method place ≡ Some spot
     pub room : is_set spot d.breakpoints ≡ true
 
   -- at a place
@@ -139,7 +124,7 @@ module _ {X : Type 0} {B : X → Type 0} where
 
   abbrev pub Sets : Number → Number → Debugger X B → Debugger X B → Outgoing → Answer → Type 0
   Sets method place old new out (Ok done) = (old.has_failed ≡ false) × (spot : Spot) × CanSet method place old spot × (new ≡ record old { breakpoints = with_spot spot old.breakpoints }) × (out.now ≡ after out.before (ended (answer_text Done)))
-  Sets method place old new out (Err NoSuch) = (old.has_failed ≡ false) × NamesNoRoom old.machine.core.image method place old.breakpoints × Declined old new out
+  Sets method place old new out (Err NoSuch) = (old.has_failed ≡ false) × NamesNoRoom old.mover.machine.core.image method place old.breakpoints × Declined old new out
   Sets method place old new out (Err Ended) = (old.has_failed ≡ true) × Declined old new out
   Sets method place old new out (Err WriteFault) = (old.has_failed ≡ false) × (spot : Spot) × CanSet method place old spot × (new ≡ record old { breakpoints = with_spot spot old.breakpoints; has_failed = true }) × (out.failed ≡ true) × (sent : ℕ) × (out.now ≡ after out.before (take sent (ended (answer_text Done))))
   Sets method place old new out (Err fault) = ⊥
@@ -148,19 +133,19 @@ module _ {X : Type 0} {B : X → Type 0} where
 
   -- of a state and the latest instructions
   abbrev pub Sees : Look → Debugger X B → State → List ℕ → Type 0
-  Sees At_cells d s text = ShowsCells d.machine.core.image s text
+  Sees At_cells d s text = ShowsCells d.mover.machine.core.image s text
   Sees At_owners d s text = ShowsOwners s text
   Sees At_cleanup d s text = ShowsCleanup s text
-  Sees At_actives d s text = ShowsActives d.machine.core.image s text
-  Sees At_recent d s text = ShowsRecent d.recent text
+  Sees At_actives d s text = ShowsActives d.mover.machine.core.image s text
+  Sees At_recent d s text = ShowsRecent d.mover.recent text
 
   -- what each state shows that the machine stands for is out
   abbrev pub Seen : (Debugger X B → State → List ℕ → Type 0) → Debugger X B → Option (List ℕ) → Option (List ℕ) → Type 0
-  Seen shows d before now = (s : State) → StandsFor d.machine s → (text : List ℕ) × shows d s text × (now ≡ after before text)
+  Seen shows d before now = (s : State) → StandsFor d.mover.machine s → (text : List ℕ) × shows d s text × (now ≡ after before text)
 
   -- or a beginning of it
   abbrev pub SeenCut : (Debugger X B → State → List ℕ → Type 0) → Debugger X B → Option (List ℕ) → Option (List ℕ) → Type 0
-  SeenCut shows d before now = (s : State) → StandsFor d.machine s → (text : List ℕ) × shows d s text × ((sent : ℕ) × (now ≡ after before (take sent text)))
+  SeenCut shows d before now = (s : State) → StandsFor d.mover.machine s → (text : List ℕ) × shows d s text × ((sent : ℕ) × (now ≡ after before (take sent text)))
 
   -- since the sink failed, and the fault says so
   abbrev pub SeenPart : (Debugger X B → State → List ℕ → Type 0) → Debugger X B → DebugFault → Bool → Option (List ℕ) → Option (List ℕ) → Type 0

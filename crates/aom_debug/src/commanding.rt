@@ -2,7 +2,7 @@
 ghost use Rattle.std.specs.Prelude.{◌≡◌};
 ghost use Rattle.aom_natives.specs.Slots.{AllAgree};
 ghost use Rattle.aom_debug_words.specs.Commands.{command_said};
-ghost use Rattle.aom_debug.specs.Debugging.{IsReady, Keeps};
+ghost use Rattle.aom_debug_courses.specs.Movers.{IsReady, Keeps};
 ghost use Rattle.aom_debug.specs.Obeying.{Heeds, Obeys};
 
 use crate::{Debugger, Look};
@@ -13,11 +13,11 @@ use aom_natives::Native;
 impl<'a> Debugger<'a> {
     /// Does what a line of commands says, which is given without its line feed. A line without words asks nothing.
     pub fn command<W: Sink>(&mut self, line: &[u8], out: &mut W) -> Result<(), DebugFault>
-        requires agree { AllAgree (λ l. l.ids) (λ l. (⟦<dyn Native as Native>⟧ l.native.vtable).owed l.native.value) self.old.machine.natives.slots.items }
-        requires ready { IsReady self.old }
-        ensures agree { AllAgree (λ l. l.ids) (λ l. (⟦<dyn Native as Native>⟧ l.native.vtable).owed l.native.value) self.new.machine.natives.slots.items }
-        ensures ready { IsReady self.new }
-        ensures keeps { Keeps self.old self.new }
+        requires agree { AllAgree (λ l. l.ids) (λ l. (⟦<dyn Native as Native>⟧ l.native.vtable).owed l.native.value) self.old.mover.machine.natives.slots.items }
+        requires ready { IsReady self.old.mover }
+        ensures agree { AllAgree (λ l. l.ids) (λ l. (⟦<dyn Native as Native>⟧ l.native.vtable).owed l.native.value) self.new.mover.machine.natives.slots.items }
+        ensures ready { IsReady self.new.mover }
+        ensures keeps { Keeps self.old.mover self.new.mover }
         ensures answer { Heeds (command_said line.now) self.old self.new (record { before = W.out out.old; now = W.out out.new; failed = W.failed out.new }) result }
     {
         if self.has_failed {
@@ -32,11 +32,11 @@ impl<'a> Debugger<'a> {
 
     /// Does what a command says.
     pub fn obey<W: Sink>(&mut self, command: Command, out: &mut W) -> Result<(), DebugFault>
-        requires agree { AllAgree (λ l. l.ids) (λ l. (⟦<dyn Native as Native>⟧ l.native.vtable).owed l.native.value) self.old.machine.natives.slots.items }
-        requires ready { IsReady self.old }
-        ensures agree { AllAgree (λ l. l.ids) (λ l. (⟦<dyn Native as Native>⟧ l.native.vtable).owed l.native.value) self.new.machine.natives.slots.items }
-        ensures ready { IsReady self.new }
-        ensures keeps { Keeps self.old self.new }
+        requires agree { AllAgree (λ l. l.ids) (λ l. (⟦<dyn Native as Native>⟧ l.native.vtable).owed l.native.value) self.old.mover.machine.natives.slots.items }
+        requires ready { IsReady self.old.mover }
+        ensures agree { AllAgree (λ l. l.ids) (λ l. (⟦<dyn Native as Native>⟧ l.native.vtable).owed l.native.value) self.new.mover.machine.natives.slots.items }
+        ensures ready { IsReady self.new.mover }
+        ensures keeps { Keeps self.old.mover self.new.mover }
         ensures answer { Obeys command self.old self.new (record { before = W.out out.old; now = W.out out.new; failed = W.failed out.new }) result }
     {
         match command {

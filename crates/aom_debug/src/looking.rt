@@ -1,7 +1,8 @@
 //! Looks, which change nothing.
 ghost use Rattle.std.specs.Prelude.{◌≡◌, IfErr, IfOk};
 ghost use Rattle.aom_natives.specs.Slots.{AllAgree};
-ghost use Rattle.aom_debug.specs.Debugging.{IsReady, Keeps, Looks, Seen, SeenPart, Sees};
+ghost use Rattle.aom_debug_courses.specs.Movers.{IsReady, Keeps};
+ghost use Rattle.aom_debug.specs.Debugging.{Looks, Seen, SeenPart, Sees};
 
 use crate::Debugger;
 use crate::showing::{show_cells, show_owners};
@@ -32,21 +33,21 @@ impl<'a> Debugger<'a> {
         ensures err { IfErr result (λ fault. SeenPart (Sees look) self.now fault (W.failed out.new) (W.out out.old) (W.out out.new)) }
     {
         match look {
-            Look::Cells => show_cells(&self.machine, out),
-            Look::Owners => show_owners(&self.machine, out),
-            Look::Cleanup => tell_cleanup(self.machine.core.parts(), out),
-            Look::Actives => tell_actives(self.machine.core.parts(), out),
-            Look::Recent => tell_recent(&self.recent, out),
+            Look::Cells => show_cells(&self.mover.machine, out),
+            Look::Owners => show_owners(&self.mover.machine, out),
+            Look::Cleanup => tell_cleanup(self.mover.machine.core.parts(), out),
+            Look::Actives => tell_actives(self.mover.machine.core.parts(), out),
+            Look::Recent => tell_recent(&self.mover.recent, out),
         }
     }
 
     /// Tells it, where all that was told before is out.
     pub fn look<W: Sink>(&mut self, look: Look, out: &mut W) -> Result<(), DebugFault>
-        requires agree { AllAgree (λ l. l.ids) (λ l. (⟦<dyn Native as Native>⟧ l.native.vtable).owed l.native.value) self.old.machine.natives.slots.items }
-        requires ready { IsReady self.old }
-        ensures agree { AllAgree (λ l. l.ids) (λ l. (⟦<dyn Native as Native>⟧ l.native.vtable).owed l.native.value) self.new.machine.natives.slots.items }
-        ensures ready { IsReady self.new }
-        ensures keeps { Keeps self.old self.new }
+        requires agree { AllAgree (λ l. l.ids) (λ l. (⟦<dyn Native as Native>⟧ l.native.vtable).owed l.native.value) self.old.mover.machine.natives.slots.items }
+        requires ready { IsReady self.old.mover }
+        ensures agree { AllAgree (λ l. l.ids) (λ l. (⟦<dyn Native as Native>⟧ l.native.vtable).owed l.native.value) self.new.mover.machine.natives.slots.items }
+        ensures ready { IsReady self.new.mover }
+        ensures keeps { Keeps self.old.mover self.new.mover }
         ensures answer { Looks (Sees look) self.old self.new (record { before = W.out out.old; now = W.out out.new; failed = W.failed out.new }) result }
     {
         if self.has_failed {

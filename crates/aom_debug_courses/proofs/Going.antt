@@ -12,14 +12,13 @@ use Rattle.aom_parts.specs.Progress.{progress_by, progress_of}
 use Rattle.aom_transcript.specs.declared.line.Ending.{Ending}
 use Rattle.aom_debug_moves.specs.Steps.{progress}
 use Rattle.aom_debug_moves.proofs.Progressing.{at_hand, is_as_far}
-use Rattle.aom_debug_moves.specs.Calls.{Stands, StandsFor, natives_of}
+use Rattle.aom_debug_moves.specs.Calls.{Stands, StandsFor}
 use Rattle.aom_debug_moves.specs.Sends.{Breaks, Leads, Machine, Sends, Then}
+use Rattle.aom_debug_moves.specs.Movers.{Keeps, outside_of}
+use Rattle.aom_debug_moves.specs.declared.mover.Mover.{Mover}
 use Rattle.aom_debug_moves.specs.Runs.{Moving, after, begins as stays_there}
 use Rattle.aom_debug_moves.proofs.Reaching.{reaches_both, reaches_then}
-use Rattle.aom_debug_moves.specs.Turns.{hearing}
-use Rattle.aom_lines.specs.Turn.{Turn}
-use Rattle.aom_transcript.specs.declared.event.TimedEvent.{TimedEvent}
-use Rattle.aom_debug_moves.proofs.Keeping.{Keeps, heard_as}
+use Rattle.aom_debug_moves.proofs.Keeping.{heard_as}
 use Rattle.aom_debug_moves.proofs.Sending.{after_none, breaks_then, moving_stride, reaches_arrived, sends_then, sent_both}
 use Rattle.aom_debug_marks.specs.declared.spot.Spot.{Spot}
 use Rattle.aom_debug_moves.specs.Moves.{Arrives, Strides}
@@ -95,15 +94,9 @@ module _ {X : Type 0} {B : X → Type 0} (p : Image) (outside : Outside) where
   all_made steps n is old new a c before out x s stands = let f = x s stands in (f.0, f.1, inl (subst (λ k. Goes p outside old s k new f.0 f.1) is f.2), f.3, f.4)
 
 -- what goes out in a loop of steps, by what it keeps
-module _ {X : Type 0} {B : X → Type 0} (a m c : Machine X B) (told now : Turn) (keeps : Keeps a m told now) (limit : ℕ) (events : List TimedEvent) (here out : Option (List ℕ)) where
-  abbrev Comes : Image → List ℕ → ℕ → Type 0
-  Comes q refused natives = Sends (Arrives q (hearing refused limit natives events)) m here out c
+module _ {X : Type 0} {B : X → Type 0} (a m c : Mover X B) (keeps : Keeps a m) (here out : Option (List ℕ)) where
+  pub comes_so : Sends (Arrives m.machine.core.image (outside_of m)) m.machine here out c.machine → Sends (Arrives a.machine.core.image (outside_of a)) m.machine here out c.machine
+  comes_so = heard_as keeps (λ q o. Sends (Arrives q o) m.machine here out c.machine)
 
-  abbrev Cut : Image → List ℕ → ℕ → Type 0
-  Cut q refused natives = Breaks (Reaches q (hearing refused limit natives events)) m here out c
-
-  pub comes_so : Comes m.core.image now.refused (natives_of m) → Comes a.core.image told.refused (natives_of a)
-  comes_so x = heard_as Comes keeps x
-
-  pub cut_so : Cut m.core.image now.refused (natives_of m) → Cut a.core.image told.refused (natives_of a)
-  cut_so x = heard_as Cut keeps x
+  pub cut_so : Breaks (Reaches m.machine.core.image (outside_of m)) m.machine here out c.machine → Breaks (Reaches a.machine.core.image (outside_of a)) m.machine here out c.machine
+  cut_so = heard_as keeps (λ q o. Breaks (Reaches q o) m.machine here out c.machine)

@@ -12,16 +12,15 @@ use Rattle.aom_parts.specs.declared.progress.Progress.TheVariants.{Running, Turn
 use Rattle.aom_parts.specs.Progress.{progress_by, progress_of}
 use Rattle.aom_debug_moves.specs.Steps.{IsAtHand, progress}
 use Rattle.aom_debug_moves.proofs.Progressing.{is_as_far}
-use Rattle.aom_debug_moves.specs.Calls.{Stands, StandsFor, natives_of}
+use Rattle.aom_debug_moves.specs.Calls.{Stands, StandsFor}
 use Rattle.aom_debug_moves.specs.Sends.{Breaks, Leads, Machine, Sends, Then}
+use Rattle.aom_debug_moves.specs.Movers.{Keeps, outside_of}
+use Rattle.aom_debug_moves.specs.declared.mover.Mover.{Mover}
 use Rattle.aom_debug_moves.specs.Runs.{Moving, after}
 use Rattle.aom_debug_moves.proofs.Reaching.{reaches_both}
 use Rattle.aom_debug_marks.specs.declared.spot.Spot.{Spot}
 use Rattle.aom_debug_moves.specs.Moves.{Arrives, Strides, TurnsOnce, stays as no_turns, turns}
-use Rattle.aom_debug_moves.specs.Turns.{hearing}
-use Rattle.aom_lines.specs.Turn.{Turn}
-use Rattle.aom_transcript.specs.declared.event.TimedEvent.{TimedEvent}
-use Rattle.aom_debug_moves.proofs.Keeping.{Keeps, heard_as}
+use Rattle.aom_debug_moves.proofs.Keeping.{heard_as}
 use Rattle.aom_debug_moves.proofs.Sending.{breaks_then, moving_stride, reaches_arrived, sent_both}
 use Rattle.aom_debug_courses.specs.Courses.{Courses, GoesOn, HasBegun, InDispatch, IsOver, IsThere, Passes, Rests, Walks, WalksIfAny, WalksOn, WalksThere, stays_at}
 use Rattle.aom_debug_courses.specs.declared.walking.Until.TheVariants.{Breakpoint}
@@ -176,11 +175,10 @@ module _ {X : Type 0} {B : X → Type 0} (p : Image) (outside : Outside) (stays 
 
 -- ---- by what a loop of dispatches keeps
 
-module _ {X : Type 0} {B : X → Type 0} (a m n : Machine X B) (told now : Turn) (keeps : Keeps a m told now) (limit : ℕ) (events : List TimedEvent) (marks mid new : List Spot)
-    (here out : Option (List ℕ)) where
+module _ {X : Type 0} {B : X → Type 0} (a m n : Mover X B) (keeps : Keeps a m) (marks : List Spot) (here out : Option (List ℕ)) where
   -- a dispatch from one state to another, up to a breakpoint
-  abbrev Passed : Image → List ℕ → ℕ → Type 0
-  Passed q refused natives = Sends (InDispatch q (hearing refused limit natives events) (WalksOn q refused (λ (s : State). stays_at q Breakpoint marks s)) mid new) m here out n
+  abbrev Passed : Image → Outside → Type 0
+  Passed q outside = Sends (InDispatch q outside (WalksOn q outside.refused (λ (s : State). stays_at q Breakpoint marks s)) m.recent n.recent) m.machine here out n.machine
 
-  pub passed : Passed m.core.image now.refused (natives_of m) → Passed a.core.image told.refused (natives_of a)
-  passed x = heard_as Passed keeps x
+  pub passed : Passed m.machine.core.image (outside_of m) → Passed a.machine.core.image (outside_of a)
+  passed = heard_as keeps Passed

@@ -10,7 +10,10 @@ use Rattle.aom_debug_views.specs.Next.{root_is_due}
 use Rattle.aom_debug_marks.specs.declared.spot.Spot.{Spot}
 use Rattle.aom_debug_moves.specs.Sends.{Leads}
 use Rattle.aom_debug_moves.proofs.Sending.{reaches_arrived}
-use Rattle.aom_debug_courses.specs.Courses.{GoesBy, GoesOn, IsOver, Rests, TurnsOver, WalksThere}
+use Rattle.aom_debug_courses.specs.Courses.{GoesBy, GoesOn, IsOver, Rests, TurnsOver, WalksThere, course_of, stays_at}
+use Rattle.aom_debug_courses.specs.declared.courses.Course.{Course}
+use Rattle.aom_debug_courses.specs.declared.courses.Course.TheVariants as course
+use Rattle.aom_debug_courses.specs.declared.walking.Until.TheVariants.{Breakpoint}
 use Rattle.aom_debug_courses.proofs.Going.{reaches_goes, run_of}
 use Rattle.aom_debug_courses.proofs.Passing.{reaches_passed}
 use Rattle.aom_debug_courses.proofs.Strides.{moving_walk}
@@ -36,3 +39,8 @@ pub reaches_on : (p : Image) (outside : Outside) (stays : State → Bool) (old n
 reaches_on p outside stays old new s lines u x =
     let z = x.1 in
     subst (λ ls. Reaches p outside s ls u) (sym z.5) (reaches_both p outside s z.1 z.0 z.2 u (reaches_passed p outside stays old s x.0 new z.1 z.0 z.3) (reaches_arrived p outside z.0 z.2 u z.4))
+
+pub reaches_course : (p : Image) (outside : Outside) (spots : List Spot) (way : Course) (old new : List Spot) (s : State) (lines : List Line) (u : State) → course_of p outside spots way old new s lines u → Reaches p outside s lines u
+reaches_course p outside spots (course.Steps n) = reaches_by p outside n
+reaches_course p outside spots course.EndOfDispatch = reaches_over p outside
+reaches_course p outside spots course.Breakpoint = reaches_on p outside (λ s. stays_at p Breakpoint spots s)

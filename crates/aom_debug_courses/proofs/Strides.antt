@@ -11,10 +11,11 @@ use Rattle.aom_debug_moves.specs.Steps.{progress}
 use Rattle.aom_debug_moves.proofs.Progressing.{at_hand, is_as_far}
 use Rattle.aom_debug_moves.specs.Calls.{Stands, StandsFor}
 use Rattle.aom_debug_moves.specs.Sends.{Breaks, Leads, Machine, Sends}
+use Rattle.aom_debug_moves.specs.Movers.{Keeps}
+use Rattle.aom_debug_moves.specs.declared.mover.Mover.{Mover}
 use Rattle.aom_debug_moves.specs.Runs.{Moving, after, begins as stays_there}
 use Rattle.aom_debug_moves.proofs.Reaching.{moving_both}
-use Rattle.aom_lines.specs.Turn.{Turn}
-use Rattle.aom_debug_moves.proofs.Keeping.{Keeps, begun_as}
+use Rattle.aom_debug_moves.proofs.Keeping.{begun_as}
 use Rattle.aom_debug_moves.proofs.Sending.{after_none, breaks_then, moving_stride, sent_both}
 use Rattle.aom_debug_marks.specs.declared.spot.Spot.{Spot}
 use Rattle.aom_debug_moves.specs.Moves.{Strides}
@@ -84,10 +85,14 @@ module _ {X : Type 0} {B : X → Type 0} (p : Image) (refused : List ℕ) (stays
 
 -- ---- by what a loop of steps keeps
 
-module _ {X : Type 0} {B : X → Type 0} (a m n : Machine X B) (told now : Turn) (keeps : Keeps a m told now) (stays : State → Bool) (old mid : List Spot) (before here out : Option (List ℕ))
-    (so_far : Sends (Underway a.core.image told.refused stays old mid) a before here m) where
-  pub stepped : (new : List Spot) → progress m.core ≡ Running → Sends (Strides m.core.image now.refused mid new) m here out n → Sends (Begun a.core.image told.refused stays old new) a before out n
-  stepped new running step = steps_more a.core.image told.refused stays old mid a m n before here out so_far new running (begun_as (λ q r. Sends (Strides q r mid new) m here out n) keeps step)
+module _ {X : Type 0} {B : X → Type 0} (a m n : Mover X B) (keeps : Keeps a m) (stays : State → Bool) (old : List Spot) (before here out : Option (List ℕ))
+    (so_far : Sends (Underway a.machine.core.image a.turn.refused stays old m.recent) a.machine before here m.machine) where
+  pub stepped : progress m.machine.core ≡ Running → Sends (Strides m.machine.core.image m.turn.refused m.recent n.recent) m.machine here out n.machine
+      → Sends (Begun a.machine.core.image a.turn.refused stays old n.recent) a.machine before out n.machine
+  stepped running step =
+      steps_more a.machine.core.image a.turn.refused stays old m.recent a.machine m.machine n.machine before here out so_far n.recent running
+      (begun_as keeps (λ q r. Sends (Strides q r m.recent n.recent) m.machine here out n.machine) step)
 
-  pub step_cut : Breaks (Moving m.core.image now.refused) m here out n → Breaks (Moving a.core.image told.refused) a before out n
-  step_cut cut = steps_cut a.core.image told.refused stays old mid a m n before here out so_far (begun_as (λ q r. Breaks (Moving q r) m here out n) keeps cut)
+  pub step_cut : Breaks (Moving m.machine.core.image m.turn.refused) m.machine here out n.machine → Breaks (Moving a.machine.core.image a.turn.refused) a.machine before out n.machine
+  step_cut cut =
+      steps_cut a.machine.core.image a.turn.refused stays old m.recent a.machine m.machine n.machine before here out so_far (begun_as keeps (λ q r. Breaks (Moving q r) m.machine here out n.machine) cut)

@@ -12,12 +12,12 @@ use Rattle.aom_debug_moves.specs.Steps.{progress}
 use Rattle.aom_debug_moves.proofs.Progressing.{at_hand, is_as_far}
 use Rattle.aom_debug_moves.specs.Calls.{Stands, StandsFor}
 use Rattle.aom_debug_moves.specs.Sends.{Breaks, Leads, Machine, Sends, Then}
+use Rattle.aom_debug_moves.specs.Movers.{Keeps, outside_of}
+use Rattle.aom_debug_moves.specs.declared.mover.Mover.{Mover}
 use Rattle.aom_debug_moves.specs.Runs.{Moving, after}
 use Rattle.aom_debug_moves.proofs.Reaching.{reaches_both}
-use Rattle.aom_debug_moves.specs.Turns.{hearing}
-use Rattle.aom_lines.specs.Turn.{Turn}
-use Rattle.aom_transcript.specs.declared.event.TimedEvent.{TimedEvent}
-use Rattle.aom_debug_moves.proofs.Sending.{after_none, as_begun, breaks_then, reaches_arrived, sent_both}
+use Rattle.aom_debug_moves.proofs.Keeping.{begun_as}
+use Rattle.aom_debug_moves.proofs.Sending.{after_none, breaks_then, reaches_arrived, sent_both}
 use Rattle.aom_debug_marks.specs.declared.spot.Spot.{Spot}
 use Rattle.aom_debug_moves.specs.Moves.{Arrives}
 use Rattle.aom_debug_courses.specs.Courses.{Courses, InDispatch}
@@ -25,12 +25,12 @@ use Rattle.aom_debug_courses.proofs.Going.{cut_run, is_over}
 
 module _ {X : Type 0} {B : X → Type 0} (p : Image) (outside : Outside) (leads : Courses) where
   -- the run is over before
-  pub over_there : (spots : List Spot) (a m : Machine X B) (before mid : Option (List ℕ)) → progress m.core ≢ Running → progress m.core ≢ Turned → Sends (Arrives p outside) a before mid m → Sends (InDispatch p outside leads spots spots) a before mid m
-  over_there spots a m before mid rests goes x s stands =
+  pub over_there : (old new : List Spot) → new ≡ old → (a m : Machine X B) (before mid : Option (List ℕ)) → progress m.core ≢ Running → progress m.core ≢ Turned → Sends (Arrives p outside) a before mid m → Sends (InDispatch p outside leads old new) a before mid m
+  over_there old new same a m before mid rests goes x s stands =
       let f = x s stands in
       let far = is_as_far m.core f.1 f.4.stands in
       let over = is_over f.1 (λ is. rests (far ∙ is)) (λ is. goes (far ∙ is)) in
-      (f.0 ++ [], f.1, (f.1, f.0, [], f.2, inl (over, (refl, refl, refl)), refl), sent_both before mid mid f.0 [] f.3 (after_none mid), f.4)
+      (f.0 ++ [], f.1, (f.1, f.0, [], f.2, inl (over, (refl, refl, same)), refl), sent_both before mid mid f.0 [] f.3 (after_none mid), f.4)
 
   -- a dispatch is at hand
   pub in_dispatch : (old new : List Spot) (a m c : Machine X B) (before mid out : Option (List ℕ)) → Sends (Arrives p outside) a before mid m → progress m.core ≡ Running → Sends (leads old new) m mid out c → Sends (InDispatch p outside leads old new) a before out c
@@ -47,9 +47,7 @@ turn_cut p outside a m c before mid out x y =
     (cut_run p outside m c mid out y)
 
 -- so where the turns keep the machine's image and what is refused
-pub walk_cut : {X : Type 0} {B : X → Type 0} (a m n : Machine X B) {told now : Turn} → m.core.image ≡ a.core.image → now ≡ told →
-    (limit natives : ℕ) (events : List TimedEvent) (before mid out : Option (List ℕ)) →
-    Sends (Arrives a.core.image (hearing told.refused limit natives events)) a before mid m → Breaks (Moving m.core.image now.refused) m mid out n →
-    Breaks (Reaches a.core.image (hearing told.refused limit natives events)) a before out n
-walk_cut a m n {told} image turn limit natives events before mid out x y =
-    turn_cut a.core.image (hearing told.refused limit natives events) a m n before mid out x (as_begun (λ q r. Breaks (Moving q r) m mid out n) image (ap (λ (t : Turn). t.refused) turn) y)
+pub walk_cut : {X : Type 0} {B : X → Type 0} (a m n : Mover X B) → Keeps a m → (before mid out : Option (List ℕ)) → Sends (Arrives a.machine.core.image (outside_of a)) a.machine before mid m.machine
+    → Breaks (Moving m.machine.core.image m.turn.refused) m.machine mid out n.machine → Breaks (Reaches a.machine.core.image (outside_of a)) a.machine before out n.machine
+walk_cut a m n keeps before mid out x y =
+    turn_cut a.machine.core.image (outside_of a) a.machine m.machine n.machine before mid out x (begun_as keeps (λ q r. Breaks (Moving q r) m.machine mid out n.machine) y)

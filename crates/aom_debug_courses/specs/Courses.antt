@@ -12,6 +12,8 @@ use Rattle.aom_debug_marks.specs.declared.spot.Spot.{Spot}
 use Rattle.aom_debug_views.specs.Next.{next_of, root_is_due, spot_of}
 use Rattle.aom_debug_moves.specs.Moves.{Arrives, Strides}
 use Rattle.aom_debug_moves.specs.Sends.{Leads, Then}
+use Rattle.aom_debug_courses.specs.declared.courses.Course.{Course}
+use Rattle.aom_debug_courses.specs.declared.courses.Course.TheVariants as course
 use Rattle.aom_debug_courses.specs.declared.walking.Until.{Until}
 use Rattle.aom_debug_courses.specs.declared.walking.Until.TheVariants.{EndOfDispatch, Breakpoint}
 
@@ -104,3 +106,9 @@ GoesOn p outside stays old new s lines u = (n : ℕ) × Then (λ a ls b. Passes 
 -- until an instruction with a breakpoint is next, but for where it begins, or to the end of the run
 abbrev pub GoesToBreakpoint : Image → Outside → List Spot → Courses
 GoesToBreakpoint p outside spots = GoesOn p outside (λ s. stays_at p Breakpoint spots s)
+
+-- each course that a debugger is asked for
+abbrev pub course_of : Image → Outside → List Spot → Course → Courses
+course_of p outside spots (course.Steps n) = GoesBy p outside n
+course_of p outside spots course.EndOfDispatch = TurnsOver p outside
+course_of p outside spots course.Breakpoint = GoesToBreakpoint p outside spots

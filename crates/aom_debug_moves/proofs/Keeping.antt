@@ -1,35 +1,67 @@
--- What a machine and a turn keep while moves go on, and what is said by them then is said by what they were.
-use Rattle.std.proofs.Common.{◌≡◌, ◌∙◌, ℕ, List, refl, ap}
+-- What moves keep, one after another; and what is said by that after some of them is said by what it was before.
+use Rattle.std.proofs.Common.{◌≡◌, ◌∙◌, ℕ, Bool, true, false, List, Option, Some, None, refl, ap, subst, sym}
+use Rattle.std.specs.Bool.{then_some}
 use Rattle.aom_image.specs.Image.{Image}
 use Rattle.aom_lines.specs.Turn.{Turn}
+use Rattle.aom_script.specs.Script.{IsTimely, Script}
+use Rattle.aom_exec.specs.Steps.{progress}
 use Rattle.aom_machine.specs.Calls.{Stands, natives_of}
-use Rattle.aom_machine.specs.declared.machine.Machine.{Machine}
+use Rattle.aom_debug_marks.specs.declared.spot.Spot.{Spot}
 use Rattle.aom_run.specs.Turns.{hearing}
-use Rattle.aom_transcript.specs.declared.event.TimedEvent.{TimedEvent}
-use Rattle.aom_debug_moves.proofs.Sending.{as_begun, as_heard}
-
-pub record Keeps {X : Type 0} {B : X → Type 0} (old new : Machine X B) (before now : Turn) : Type 0 where
-  pub stands : Stands new
-  pub image : new.core.image ≡ old.core.image
-  pub natives : natives_of new ≡ natives_of old
-  pub turn : now ≡ before
+use Rattle.aom_sound.specs.World.{Outside}
+use Rattle.aom_parts.specs.declared.progress.Progress.{Progress}
+use Rattle.aom_debug_moves.specs.Movers.{IsReady, Keeps, Mover, Went, outside_of}
+use Rattle.aom_debug_moves.specs.Sends.{Breaks, Leads, Machine, Sends}
 
 module _ {X : Type 0} {B : X → Type 0} where
-  pub keeps_all : (m : Machine X B) (turn : Turn) → Stands m → Keeps m m turn turn
-  keeps_all m turn stands = record { stands = stands; image = refl; natives = refl; turn = refl }
+  pub keeps_all : (m : Mover X B) → Keeps m m
+  keeps_all m = record { image = refl; natives = refl; script = refl; turn = refl; limit = refl }
 
-  pub keeps_on : {old mid new : Machine X B} {before then now : Turn} → Keeps old mid before then → Stands new → new.core.image ≡ mid.core.image → natives_of new ≡ natives_of mid →
-      now ≡ then → Keeps old new before now
-  keeps_on was stands image natives turn = record { stands = stands; image = image ∙ was.image; natives = natives ∙ was.natives; turn = turn ∙ was.turn }
+  pub keeps_on : {old mid new : Mover X B} → Keeps old mid → Keeps mid new → Keeps old new
+  keeps_on was is = record { image = is.image ∙ was.image; natives = is.natives ∙ was.natives; script = is.script ∙ was.script; turn = is.turn ∙ was.turn; limit = is.limit ∙ was.limit }
 
-  pub begun_as : (F : Image → List ℕ → Type 0) {old new : Machine X B} {before now : Turn} → Keeps old new before now → F new.core.image now.refused → F old.core.image before.refused
-  begun_as F keeps x = as_begun F keeps.image (ap (λ (t : Turn). t.refused) keeps.turn) x
+  -- also where other instructions are noted
+  pub keeps_noting : {old new : Mover X B} → Keeps old new → (spots : List Spot) → Keeps old (record new { recent = spots })
+  keeps_noting keeps spots = record { image = keeps.image; natives = keeps.natives; script = keeps.script; turn = keeps.turn; limit = keeps.limit }
 
-  pub heard_as : (F : Image → List ℕ → ℕ → Type 0) {old new : Machine X B} {before now : Turn} → Keeps old new before now → F new.core.image now.refused (natives_of new) →
-      F old.core.image before.refused (natives_of old)
-  heard_as F keeps x = as_heard F keeps.image (ap (λ (t : Turn). t.refused) keeps.turn) keeps.natives x
+  -- a machine that has moved, whose turn is cleared again
+  pub keeps_with : (m : Mover X B) (machine : Machine X B) (turn : Turn) (page : List ℕ) → machine.core.image ≡ m.machine.core.image → natives_of machine ≡ natives_of m.machine → turn ≡ m.turn
+      → Keeps m (record m { machine = machine; turn = turn; page = page })
+  keeps_with m machine turn page image natives same = record { image = image; natives = natives; script = refl; turn = same; limit = refl }
 
-  -- what is heard outside is the same
-  pub hears_as : {old new : Machine X B} {before now : Turn} → Keeps old new before now → (limit : ℕ) (events : List TimedEvent) →
-      hearing now.refused limit (natives_of new) events ≡ hearing before.refused limit (natives_of old) events
-  hears_as {old} {new} {before} keeps limit events = ap (λ (t : Turn). hearing t.refused limit (natives_of new) events) keeps.turn ∙ ap (λ n. hearing before.refused limit n events) keeps.natives
+  module _ {old new : Mover X B} (keeps : Keeps old new) where
+    -- what is heard outside is the same
+    pub hears_as : outside_of new ≡ outside_of old
+    hears_as =
+        ap (λ (t : Turn). hearing t.refused new.limit (natives_of new.machine) new.script.timed) keeps.turn ∙ ap (λ l. hearing old.turn.refused l (natives_of new.machine) new.script.timed) keeps.limit
+        ∙ ap (λ n. hearing old.turn.refused old.limit n new.script.timed) keeps.natives ∙ ap (λ (s : Script). hearing old.turn.refused old.limit (natives_of old.machine) s.timed) keeps.script
+
+    pub heard_as : (F : Image → Outside → Type 0) → F new.machine.core.image (outside_of new) → F old.machine.core.image (outside_of old)
+    heard_as F x = subst (λ p. F p (outside_of old)) keeps.image (subst (λ o. F new.machine.core.image o) hears_as x)
+
+    pub begun_as : (F : Image → List ℕ → Type 0) → F new.machine.core.image new.turn.refused → F old.machine.core.image old.turn.refused
+    begun_as F = heard_as (λ p outside. F p outside.refused)
+
+  -- a mover that was ready is so while it stands for a state
+  pub ready_on : {old new : Mover X B} → IsReady old → Keeps old new → Stands new.machine → IsReady new
+  ready_on ready keeps stands =
+      record {
+        stands = stands;
+        none = ap (λ (t : Turn). t.lines) keeps.turn ∙ ready.none;
+        room = rw (keeps.image, ap (λ (t : Turn). t.room) keeps.turn) ready.room;
+        timely = subst (λ (s : Script). IsTimely s.timed) (sym keeps.script) ready.timely;
+        few = rw keeps.limit ready.few;
+      }
+
+  -- what came of a move, by whether all its lines are out
+  pub went_if : {so may : Leads} (a n : Mover X B) (before out : Option (List ℕ)) (failed : Bool) (far : Progress) (is_out : Bool) (result : Option Progress) → result ≡ then_some is_out far → far ≡ progress n.machine.core
+      → (is_out ≡ true → Sends so a.machine before out n.machine) → (is_out ≡ false → (failed ≡ true) × Breaks may a.machine before out n.machine) → Went so may a before out failed result n
+  went_if a n before out failed far true result is at sends breaks = rw is (sends refl, at)
+  went_if a n before out failed far false result is at sends breaks = rw is (breaks refl)
+
+  -- what came of a move is what came of more, by what is out before it
+  pub went_as : {so may other must : Leads} (a m n : Mover X B) (before here out : Option (List ℕ)) (failed : Bool) (result : Option Progress)
+      → (Sends so m.machine here out n.machine → Sends other a.machine before out n.machine) → (Breaks may m.machine here out n.machine → Breaks must a.machine before out n.machine)
+      → Went so may m here out failed result n → Went other must a before out failed result n
+  went_as a m n before here out failed None sends breaks x = (x.0, breaks x.1)
+  went_as a m n before here out failed (Some far) sends breaks x = (sends x.0, x.1)

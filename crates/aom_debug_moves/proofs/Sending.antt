@@ -1,5 +1,5 @@
 -- What goes out after what is out: moves one after another, the last of which may be cut.
-use Rattle.std.proofs.Common.{◌≡◌, ◌∙◌, ◌+◌, ◌-◌, ◌^◌, ◌<◌, ◌≤◌, ℕ, suc, ℤ, Bool, true, false, List, [], ◌++◌, Option, Some, None, length, take, refl, sym, ap, subst, arith, IfNone, IfSome}
+use Rattle.std.proofs.Common.{◌≡◌, ◌∙◌, ◌+◌, ◌-◌, ◌^◌, ◌<◌, ◌≤◌, ℕ, suc, ℤ, Bool, true, false, List, [], ◌++◌, Option, Some, None, length, take, refl, sym, ap, subst, arith, IfSome}
 use Rattle.aom_debug_marks.specs.declared.spot.Spot.{Spot}
 use Rattle.aom_image.specs.Image.{Image}
 use Rattle.aom_sound.specs.State.{State}
@@ -25,24 +25,9 @@ use Rattle.aom_debug_moves.specs.Moves.{Arrives, StepsOnce, Strides, TurnsOnce, 
 use Rattle.aom_debug_moves.specs.Sends.{Breaks, IfSo, Leads, Sends, Then, Where}
 
 -- what holds of a value holds of it otherwise
-pub if_some : {A : Type 0} {P Q : A → Type 0} (r : Option A) → ((a : A) → P a → Q a) → IfSome r P → IfSome r Q
-if_some None by x = tt
-if_some (Some a) by x = by a x
-
 pub if_any : {A : Type 0} {P : Type 0} (r : Option A) → P → IfSome r (λ _. P)
 if_any None x = tt
 if_any (Some a) x = x
-
-pub if_none : {A : Type 0} {P Q : Type 0} (r : Option A) → (P → Q) → IfNone r P → IfNone r Q
-if_none None by x = by x
-if_none (Some a) by x = tt
-
--- what is said by what a later call found is said by what the first one did
-pub as_begun : (F : Image → List ℕ → Type 0) {p q : Image} {refused there : List ℕ} → q ≡ p → there ≡ refused → F q there → F p refused
-as_begun F {p} {q} {refused} {there} image same x = subst (λ r. F p r) same (subst (λ i. F i there) image x)
-
-pub as_heard : (F : Image → List ℕ → ℕ → Type 0) {p q : Image} {refused there : List ℕ} {natives many : ℕ} → q ≡ p → there ≡ refused → many ≡ natives → F q there many → F p refused natives
-as_heard F {p} {q} {refused} {there} {natives} {many} image same natives_same x = subst (λ n. F p refused n) natives_same (as_begun (λ i r. F i r many) image same x)
 
 -- something is at hand
 running_of : (s : State) → IsAtHand s → progress_of s ≡ Running
@@ -119,9 +104,6 @@ module _ {X : Type 0} {B : X → Type 0} where
   pub sends_as : (a c : Machine X B) (before out : Option (List ℕ)) (one other : Leads) → ((s : State) → StandsFor a s → (ls : List Line) (u : State) → one s ls u → other s ls u) → Sends one a before out c → Sends other a before out c
   sends_as a c before out one other turn x s stands = let f = x s stands in (f.0, f.1, turn s stands f.0 f.1 f.2, f.3, f.4)
 
-  pub breaks_as : (a c : Machine X B) (before out : Option (List ℕ)) (one other : Leads) → ((s : State) (ls : List Line) (u : State) → one s ls u → other s ls u) → Breaks one a before out c → Breaks other a before out c
-  breaks_as a c before out one other turn x s stands = let f = x s stands in (f.0, f.1, turn s f.0 f.1 f.2, f.3, f.4)
-
   pub sends_nothing : (leads : Leads) (m : Machine X B) (out : Option (List ℕ)) → Sends (IfSo false leads) m out out m
   sends_nothing leads m out s stands = ([], s, (refl, refl), after_none out, stands)
 
@@ -134,9 +116,6 @@ module _ {X : Type 0} {B : X → Type 0} where
   -- what is asked for is what the states say
   pub sends_where : (b : Bool) (test : State → Bool) (leads : Leads) (a c : Machine X B) (before out : Option (List ℕ)) → ((s : State) → StandsFor a s → b ≡ test s) → Sends (IfSo b leads) a before out c → Sends (Where test leads) a before out c
   sends_where b test leads a c before out is x = sends_as a c before out (IfSo b leads) (Where test leads) (λ s stands ls u y. subst (λ z. IfSo z leads s ls u) (is s stands) y) x
-
-  pub stands_sent : (leads : Leads) (a c : Machine X B) (before out : Option (List ℕ)) → Sends leads a before out c → Stands a → Stands c
-  stands_sent leads a c before out x st = let f = x st.0 st.1 in (f.1, f.4)
 
   -- what one step does, whatever it hears
   abbrev pub Stepped : Machine X B → Progress → Turn → Turn → Machine X B → Type 0
@@ -186,6 +165,9 @@ module _ {X : Type 0} {B : X → Type 0} where
     pub stands_turned : Stands old → Stands new
     stands_turned st = let x = takes st.0 st.1 in (x.1, x.5)
 
+    pub turn_cleared : Stands old → (clear : Turn) → clear ≡ record now { lines = [] } → clear ≡ told
+    turn_cleared st clear is = let x = takes st.0 st.1 in is ∙ ap (λ (t : Turn). record t { lines = [] }) x.3 ∙ ap (λ ls. record told { lines = ls }) (sym none)
+
     turned_lines : (s : State) (stands : StandsFor old s) → now.lines ≡ (takes s stands).0
     turned_lines s stands = ap (λ (t : Turn). t.lines) (takes s stands).3 ∙ ap (λ ls. ls ++ (takes s stands).0) none
 
@@ -201,22 +183,22 @@ module _ {X : Type 0} {B : X → Type 0} where
 
   -- ---- turns one after another
 
-  pub arrives_nowhere : (outside : Outside) (m : Machine X B) (out : Option (List ℕ)) → Sends (Arrives m.core.image outside) m out out m
-  arrives_nowhere outside m out s stands = ([], s, stays, after_none out, stands)
+  module _ (p : Image) (outside : Outside) where
+    pub arrives_nowhere : (m : Machine X B) (out : Option (List ℕ)) → Sends (Arrives p outside) m out out m
+    arrives_nowhere m out s stands = ([], s, stays, after_none out, stands)
 
-  -- one turn more, from a machine that is between dispatches
-  module _ (a m c : Machine X B) (outside : Outside) (before mid out : Option (List ℕ)) (image : m.core.image ≡ a.core.image) (x : Sends (Arrives a.core.image outside) a before mid m) (resting : progress m.core ≡ Turned) where
-    pub arrives_on : Sends (TurnsOnce m.core.image outside) m mid out c → Sends (Arrives a.core.image outside) a before out c
-    arrives_on y s stands =
-        let f = x s stands in
-        let g = y f.1 f.4 in
-        let is : IsBetween f.1 = turned_state f.1 (sym (is_as_far m.core f.1 f.4.stands) ∙ resting) in
-        (f.0 ++ g.0, g.1, turns f.2 is (subst (λ q. TurnsOnce q outside f.1 g.0 g.1) image g.2), sent_both before mid out f.0 g.0 f.3 g.3, g.4)
+    module _ (a m c : Machine X B) (before mid out : Option (List ℕ)) (x : Sends (Arrives p outside) a before mid m) where
+      -- one turn more, from a machine that is between dispatches
+      pub arrives_on : progress m.core ≡ Turned → Sends (TurnsOnce p outside) m mid out c → Sends (Arrives p outside) a before out c
+      arrives_on resting y s stands =
+          let f = x s stands in
+          let g = y f.1 f.4 in
+          let is : IsBetween f.1 = turned_state f.1 (sym (is_as_far m.core f.1 f.4.stands) ∙ resting) in
+          (f.0 ++ g.0, g.1, turns f.2 is g.2, sent_both before mid out f.0 g.0 f.3 g.3, g.4)
 
-    pub arrives_cut : Breaks (Reaches m.core.image outside) m mid out c → Breaks (Reaches a.core.image outside) a before out c
-    arrives_cut y =
-        breaks_then a m c before mid out (Arrives a.core.image outside) (Reaches a.core.image outside) x (Reaches a.core.image outside) (λ s ls v ks u f g. reaches_both a.core.image outside s ls v ks u (reaches_arrived a.core.image outside s ls v f) g)
-        (subst (λ q. Breaks (Reaches q outside) m mid out c) image y)
+      pub arrives_cut : Breaks (Reaches p outside) m mid out c → Breaks (Reaches p outside) a before out c
+      arrives_cut =
+          breaks_then a m c before mid out (Arrives p outside) (Reaches p outside) x (Reaches p outside) (λ s ls v ks u f g. reaches_both p outside s ls v ks u (reaches_arrived p outside s ls v f) g)
 
   -- fewer dispatches or events are to come
   pub fewer : (outside : Outside) → outside.limit ≤ 2 ^ 64 - 1 → (m mid : Machine X B) (told turn : Turn) (ending : Option Ending) → Stands m → progress m.core ≡ Turned → TakesTurns m outside ending told turn mid → progress mid.core ≡ Turned → left outside.events outside.limit mid < left outside.events outside.limit m

@@ -1,4 +1,5 @@
 pub mod Laws
+pub mod Movers
 pub mod Moves
 pub mod Sends
 -- what is said of the machine and of its runs, for those who say it of a course

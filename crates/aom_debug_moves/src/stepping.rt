@@ -1,17 +1,18 @@
 //! A step at hand, whose lines go out.
-ghost use Rattle.std.specs.Prelude.{◌≡◌, ◌<◌, ◌≤◌, ◌++◌, ◌∷◌, ◌+◌, ℕ, [], Bool, true, false, IfNone, IfSome, Some, length, take};
+ghost use Rattle.std.specs.Prelude.{◌≡◌, ◌<◌, ◌≤◌, ◌++◌, ◌∷◌, ◌+◌, ℕ, [], Bool, true, false, IfSome, Some, length, take};
 ghost use Rattle.aom_transcript.specs.Text.{text_of};
 ghost use Rattle.aom_exec.specs.Steps.{progress, rank};
 ghost use Rattle.aom_parts.specs.declared.progress.Progress.TheVariants.{Running};
 ghost use Rattle.aom_sound.specs.State.{State};
-ghost use Rattle.aom_machine.specs.Calls.{Stands, StandsFor, natives_of};
+ghost use Rattle.aom_machine.specs.Calls.{Stands, StandsFor};
 ghost use Rattle.aom_debug_views.specs.Next.{next_of, pauses, root_is_due, spot_of};
-ghost use Rattle.aom_lines.specs.Turn.{step_lines};
 ghost use Rattle.aom_natives.specs.Slots.{AllAgree};
 ghost use Rattle.aom_run.specs.Runs.{Moving, after};
+ghost use Rattle.aom_debug_moves.specs.Movers.{IsReady, Keeps, Went};
 ghost use Rattle.aom_debug_moves.specs.Moves.{StepsOnce, Strides, noted};
-ghost use Rattle.aom_debug_moves.specs.Sends.{Breaks, IfSo, Sends};
+ghost use Rattle.aom_debug_moves.specs.Sends.{IfSo};
 
+use crate::Mover;
 use aom_debug_marks::Recent;
 use aom_debug_views::{is_due, pauses, spot_at};
 use aom_exec::Progress;
@@ -34,37 +35,23 @@ pub fn send<W: Sink>(turn: &mut Turn, page: &mut Page, out: &mut W) -> bool
 }
 
 /// One step of the machine, if it is asked for, whose lines go out.
-fn step_if<W: Sink>(
-    asked: bool,
-    machine: &mut Machine,
-    turn: &mut Turn,
-    page: &mut Page,
-    out: &mut W,
-) -> Option<Progress>
-    requires agree { AllAgree (λ l. l.ids) (λ l. (⟦<dyn Native as Native>⟧ l.native.vtable).owed l.native.value) machine.old.natives.slots.items }
-    requires stands { Stands machine.old }
-    requires none { turn.old.lines ≡ [] }
-    requires room { 64 + step_lines machine.old.core.image.header.messages ≤ turn.old.room }
-    ensures agree { AllAgree (λ l. l.ids) (λ l. (⟦<dyn Native as Native>⟧ l.native.vtable).owed l.native.value) machine.new.natives.slots.items }
-    ensures image { machine.new.core.image ≡ machine.old.core.image }
-    ensures natives { natives_of machine.new ≡ natives_of machine.old }
-    ensures stands { Stands machine.new }
-    ensures turn { turn.new ≡ turn.old }
-    ensures none { IfNone result ((W.failed out.new ≡ true) × Breaks (Moving machine.old.core.image turn.old.refused) machine.old (W.out out.old) (W.out out.new) machine.new) }
-    ensures some { IfSome result (λ far. Sends (IfSo asked (StepsOnce machine.old.core.image turn.old.refused)) machine.old (W.out out.old) (W.out out.new) machine.new × (far ≡ progress machine.new.core)) }
-    ensures was { progress machine.new.core ≡ Running → progress machine.old.core ≡ Running }
-    ensures keeps { progress machine.new.core ≡ Running → rank machine.new.core ≤ rank machine.old.core }
-    ensures falls { asked ≡ true → progress machine.new.core ≡ Running → rank machine.new.core < rank machine.old.core }
+fn step_if<W: Sink>(asked: bool, mover: &mut Mover, out: &mut W) -> Option<Progress>
+    requires agree { AllAgree (λ l. l.ids) (λ l. (⟦<dyn Native as Native>⟧ l.native.vtable).owed l.native.value) mover.old.machine.natives.slots.items }
+    requires ready { IsReady mover.old }
+    ensures agree { AllAgree (λ l. l.ids) (λ l. (⟦<dyn Native as Native>⟧ l.native.vtable).owed l.native.value) mover.new.machine.natives.slots.items }
+    ensures ready { IsReady mover.new }
+    ensures keeps { Keeps mover.old mover.new }
+    ensures recent { mover.new.recent ≡ mover.old.recent }
+    ensures went { Went (IfSo asked (StepsOnce mover.old.machine.core.image mover.old.turn.refused)) (Moving mover.old.machine.core.image mover.old.turn.refused) mover.old (W.out out.old) (W.out out.new) (W.failed out.new) result mover.new }
+    ensures was { progress mover.new.machine.core ≡ Running → progress mover.old.machine.core ≡ Running }
+    ensures rank { progress mover.new.machine.core ≡ Running → rank mover.new.machine.core ≤ rank mover.old.machine.core }
+    ensures falls { asked ≡ true → progress mover.new.machine.core ≡ Running → rank mover.new.machine.core < rank mover.old.machine.core }
 {
     if !asked {
-        return Some(machine.core.progress());
+        return Some(mover.machine.core.progress());
     }
-    let progress = machine.step(turn);
-    if send(turn, page, out) {
-        Some(progress)
-    } else {
-        None
-    }
+    let progress = mover.machine.step(&mut mover.turn);
+    send(&mut mover.turn, &mut mover.page, out).then_some(progress)
 }
 
 /// Notes the instruction that is next, if one is.
@@ -93,30 +80,19 @@ fn stays_there(machine: &Machine) -> bool
 }
 
 /// One step of a debugger: an instruction, which is noted, or the going of a cell. Where the root's destruction is due it begins first.
-pub fn stride<W: Sink>(
-    machine: &mut Machine,
-    recent: &mut Recent,
-    turn: &mut Turn,
-    page: &mut Page,
-    out: &mut W,
-) -> Option<Progress>
-    requires agree { AllAgree (λ l. l.ids) (λ l. (⟦<dyn Native as Native>⟧ l.native.vtable).owed l.native.value) machine.old.natives.slots.items }
-    requires stands { Stands machine.old }
-    requires none { turn.old.lines ≡ [] }
-    requires room { 64 + step_lines machine.old.core.image.header.messages ≤ turn.old.room }
-    ensures agree { AllAgree (λ l. l.ids) (λ l. (⟦<dyn Native as Native>⟧ l.native.vtable).owed l.native.value) machine.new.natives.slots.items }
-    ensures image { machine.new.core.image ≡ machine.old.core.image }
-    ensures natives { natives_of machine.new ≡ natives_of machine.old }
-    ensures stands { Stands machine.new }
-    ensures turn { turn.new ≡ turn.old }
-    ensures none { IfNone result ((W.failed out.new ≡ true) × Breaks (Moving machine.old.core.image turn.old.refused) machine.old (W.out out.old) (W.out out.new) machine.new) }
-    ensures some { IfSome result (λ far. Sends (Strides machine.old.core.image turn.old.refused recent.old recent.new) machine.old (W.out out.old) (W.out out.new) machine.new × (far ≡ progress machine.new.core)) }
-    ensures falls { IfSome result (λ _. progress machine.new.core ≡ Running → rank machine.new.core < rank machine.old.core) }
+pub fn stride<W: Sink>(mover: &mut Mover, out: &mut W) -> Option<Progress>
+    requires agree { AllAgree (λ l. l.ids) (λ l. (⟦<dyn Native as Native>⟧ l.native.vtable).owed l.native.value) mover.old.machine.natives.slots.items }
+    requires ready { IsReady mover.old }
+    ensures agree { AllAgree (λ l. l.ids) (λ l. (⟦<dyn Native as Native>⟧ l.native.vtable).owed l.native.value) mover.new.machine.natives.slots.items }
+    ensures ready { IsReady mover.new }
+    ensures keeps { Keeps mover.old mover.new }
+    ensures went { Went (Strides mover.old.machine.core.image mover.old.turn.refused mover.old.recent mover.new.recent) (Moving mover.old.machine.core.image mover.old.turn.refused) mover.old (W.out out.old) (W.out out.new) (W.failed out.new) result mover.new }
+    ensures falls { IfSome result (λ _. progress mover.new.machine.core ≡ Running → rank mover.new.machine.core < rank mover.old.machine.core) }
 {
-    let begins = starts_end(machine);
-    step_if(begins, machine, turn, page, out)?;
-    note_next(machine, recent);
-    step_if(true, machine, turn, page, out)?;
-    let goes_on = stays_there(machine);
-    step_if(goes_on, machine, turn, page, out)
+    let begins = starts_end(&mover.machine);
+    step_if(begins, mover, out)?;
+    note_next(&mover.machine, &mut mover.recent);
+    step_if(true, mover, out)?;
+    let goes_on = stays_there(&mover.machine);
+    step_if(goes_on, mover, out)
 }

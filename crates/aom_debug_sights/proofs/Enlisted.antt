@@ -2,18 +2,16 @@
 use Rattle.std.proofs.Common.{◌≡◌, ◌∙◌, ℕ, ℤ, Bool, true, false, cond, List, [], ◌∷◌, Option, Some, None, IsSome, length, slice_get, take, refl, sym, ap, subst, suc, arith}
 use Rattle.std.specs.List.{Contains}
 use Rattle.std.specs.Prelude.{AllPairs, map}
-use Rattle.std.proofs.lemmas.Bool.{true≢false}
 use Rattle.std.proofs.lemmas.List.{length-map}
 use Rattle.std.proofs.lemmas.List.Elements.{All-map}
 use Rattle.std.proofs.lemmas.List.Kept.{AllPairs-cons}
-use Rattle.std.proofs.lemmas.Option.{get_or_from_slice_get, none-some, same_Some, slice_get_within}
+use Rattle.std.proofs.lemmas.Option.{get_or_from_slice_get, none-some, slice_get_within}
 use Rattle.aom_image.specs.Image.{Image}
 use Rattle.aom_cells.specs.Heap.{class_at}
 use Rattle.aom_clients.specs.Clients.{queue_at}
 use Rattle.aom_requests.specs.Requests.{IsEnlisted, is_server as is_served, request_at, state_at, state_of, status_at, status_of}
 use Rattle.aom_requests.specs.declared.request.State.{State as Held_state}
 use Rattle.aom_requests.specs.declared.request.Request.{Request as Held_request}
-use Rattle.aom_requests.specs.declared.request.Request.TheVariants.{Object as Held_object, Server as Held_server}
 use Rattle.aom_scheduler.specs.declared.entry.Entry.{Entry}
 use Rattle.aom_active.specs.Agrees.{GoesBefore, HasPriority, Tells as Tells_request, phase_of, queue_in, queued}
 use Rattle.aom_scheduler.proofs.Items.{IsAt, at_head, in_tail, pairs-head, pairs-nil, pairs-tail, place-at, some_is}
@@ -28,7 +26,7 @@ use Rattle.aom_run.specs.Runs.{after}
 use Rattle.aom_debug_words.specs.declared.fault.DebugFault.{DebugFault}
 use Rattle.aom_debug_lines.specs.declared.answer.Answer.{Answer}
 use Rattle.aom_debug_lines.specs.declared.answer.Answer.TheVariants.{Active, Server}
-use Rattle.aom_debug_sights.specs.Actives.{InOrderOfChoice, TellsActives, TellsActivesPart, active_answer, active_answers, active_at, active_of, enlisted_as, serves, shown_phase}
+use Rattle.aom_debug_sights.specs.Actives.{InOrderOfChoice, TellsActives, TellsActivesPart, active_answer, active_answers, active_at, active_of, serves, shown_phase}
 use Rattle.aom_debug_sights.specs.Sights.{class_of}
 use Rattle.aom_debug_sights.specs.Telling.{Tells, TellsPart, answers_text, gathered, listed}
 use Rattle.aom_debug_sights.proofs.Showing.{class_named}
@@ -37,10 +35,7 @@ use Rattle.aom_debug_sights.proofs.Telling.{gathered_items}
 -- ---- one entry
 
 none_asked : (q : Option Held_request) (r : Option Request) (w : Option Bool) → Tells_request q r w → None ≡ state_of q → is_served q ≡ false → r ≡ None
-none_asked None None w tells is plain = refl
-none_asked None (Some r) w tells is plain = absurd tells
-none_asked (Some (Held_object state status)) r w tells is plain = absurd (none-some state is)
-none_asked (Some (Held_server has_signal)) r w tells is plain = absurd (true≢false plain)
+none_asked q r w tells is plain = grind arith
 
 -- what has a queue is a server, and nothing else is
 serves_by : (p : Image) (o : Option Object) (v : Service) (b : Bool) → queue_in p o v ≡ Some b → serves p o ≡ true
@@ -63,25 +58,12 @@ module _ (server : Bool) (waiting : ℕ) where
   -- what is asked by a name, as it is told
   asked_shown : (q : Option Held_request) (r : Option Request) (w : Option Bool) → (w ≡ None → server ≡ false) → (class : ℕ) (priority status : ℤ) (state : Held_state) →
       Tells_request q r w → HasPriority priority r → Some state ≡ state_of q → status_of q ≡ Some status → Some (Active class priority (shown_phase (phase_of state)) status) ≡ active_of server (Some class) r waiting
-  asked_shown (Some (Held_object held kept)) (Some r) None plain class priority status state tells has is at =
-      ap (λ x. Some (Active class x (shown_phase (phase_of state)) status)) (sym has)
-      ∙ ap (λ x. Some (Active class r.priority (shown_phase x) status)) (ap phase_of (same_Some state held is) ∙ tells.0)
-      ∙ ap (λ x. Some (Active class r.priority (shown_phase r.phase) x)) (sym (same_Some kept status at) ∙ tells.1)
-      ∙ ap (λ b. Some (enlisted_as b class r waiting)) (sym (plain refl))
-  asked_shown (Some (Held_object held kept)) (Some r) (Some b) plain class priority status state tells has is at = absurd tells
-  asked_shown (Some (Held_object held kept)) None w plain class priority status state tells has is at = absurd tells
-  asked_shown None r w plain class priority status state tells has is at = absurd (none-some state (sym is))
-  asked_shown (Some (Held_server has_signal)) r w plain class priority status state tells has is at = absurd (none-some state (sym is))
+  asked_shown q r w plain class priority status state tells has is at = grind arith
 
   -- and a server
   served_shown : (q : Option Held_request) (r : Option Request) (w : Option Bool) → ((b : Bool) → w ≡ Some b → server ≡ true) → (class : ℕ) (priority : ℤ) →
       Tells_request q r w → HasPriority priority r → is_served q ≡ true → Some (Server class priority waiting) ≡ active_of server (Some class) r waiting
-  served_shown (Some (Held_server has_signal)) (Some r) (Some b) is class priority tells has served =
-      ap (λ x. Some (Server class x waiting)) (sym has) ∙ ap (λ c. Some (enlisted_as c class r waiting)) (sym (is b refl))
-  served_shown (Some (Held_server has_signal)) (Some r) None is class priority tells has served = absurd tells
-  served_shown (Some (Held_server has_signal)) None w is class priority tells has served = absurd tells
-  served_shown None r w is class priority tells has served = absurd (true≢false (sym served))
-  served_shown (Some (Held_object held kept)) r w is class priority tells has served = absurd (true≢false (sym served))
+  served_shown q r w is class priority tells has served = grind arith
 
   no_class : (r : Option Request) → None ≡ active_of server None r waiting
   no_class None = refl
@@ -132,8 +114,7 @@ abbrev pub names_of : Parts → List ℕ
 names_of m = map (λ e. e.id) m.active.roster.entries
 
 some_by : (priority : ℤ) (r : Option Request) → HasPriority priority r → IsSome r
-some_by priority None has = absurd has
-some_by priority (Some r) has = refl
+some_by priority r has = grind arith
 
 pairs_by : {A : Type 0} (R : ℕ → ℕ → Type 0) (f : A → ℕ) (xs : List A) → AllPairs (λ x y. R (f x) (f y)) xs → AllPairs R (map f xs)
 pairs_by R f [] pairs = pairs-nil R
@@ -141,9 +122,7 @@ pairs_by R f (x ∷ xs) pairs = AllPairs-cons R (f x) (map f xs) (All-map (R (f 
 
 -- who is asked in the state is enlisted, and has an entry
 listed_by : (q : Option Held_request) (r : Option Request) (w : Option Bool) → Tells_request q r w → IsSome r → IsSome q
-listed_by None None w tells some = some
-listed_by None (Some r) w tells some = absurd tells
-listed_by (Some q) r w tells some = refl
+listed_by q r w tells some = grind arith
 
 at_contains : (n : ℕ) (xs : List Entry) (i : ℕ) → IsAt (λ e. e.id) n xs i → Contains (map (λ e. e.id) xs) n
 at_contains n _ _ (at_head x xs same) = (0, omega arith, same)

@@ -1,6 +1,6 @@
 -- Each object and message has one line of the map of owners, but for those in a queue: the way from its owner up to an outer place goes through
 -- just the places from which it hangs, it ends since classes rise on it, and its end is one of those that the map begins at.
-use Rattle.std.proofs.Common.{◌≡◌, ◌∙◌, ◌<◌, ◌≤◌, ℕ, ℤ, nat_lt, zero, suc, ◌+◌, Bool, true, false, cond, ◌==◌, ◌&&◌, List, [], ◌∷◌, ◌++◌, length, Option, Some, None, inl, inr, refl, sym, ap, subst, arith}
+use Rattle.std.proofs.Common.{◌≡◌, ◌∙◌, ◌<◌, ◌≤◌, ℕ, ℤ, zero, suc, ◌+◌, Bool, true, false, cond, ◌==◌, ◌&&◌, List, [], ◌∷◌, ◌++◌, length, Option, Some, None, inl, inr, refl, sym, ap, subst, arith}
 use Rattle.std.specs.Prelude.{◌||◌, not}
 use Rattle.std.proofs.lemmas.Bool.{eq-eqb, eqb-true, false≢true, ne_eqb}
 use Rattle.std.proofs.lemmas.Option.{none-some, same_Some}
@@ -29,12 +29,12 @@ use Rattle.aom_debug_sights.specs.Telling.{gathered}
 use Rattle.aom_cells.specs.Heap.{field_of, null}
 use Rattle.aom_cleanup.specs.declared.item.Item.{Item as Held_item}
 use Rattle.aom_frames.specs.declared.task.Task.{Task as Held_task}
-use Rattle.aom_frames.specs.declared.task.Task.TheVariants.{Closing as Closes, Destroy as Destroys, Dispatched as Ends_dispatch, Run as Runs_frame, Trapped as Is_trap, Unwind as Unwinds}
+use Rattle.aom_frames.specs.declared.task.Task.TheVariants.{Run as Runs_frame}
 use Rattle.aom_parts.specs.Agrees.{word_at}
 use Rattle.aom_parts.specs.Agrees.{Shows as Held_shows}
 use Rattle.aom_acts.proofs.Running.{not_null}
 use Rattle.aom_shape.specs.Kinds.{is_object}
-use Rattle.std.proofs.lemmas.Bool.{ltb-false, ltb-true}
+use Rattle.std.proofs.Math.Nat.{lt_of_not-le}
 use Rattle.std.proofs.lemmas.List.{get_or_past}
 use Rattle.aom_debug_sights.proofs.Showing.{as_many_items, entry_there, owned_over}
 use Rattle.aom_debug_sights.proofs.Tasks.{as_many_tasks, frame_there, going_over, going_there, register_over, register_there}
@@ -479,8 +479,7 @@ module _ (m : Machine) (s : State) (st : StandsFor m s) (sessions_once : Session
   number_there r x holds = shown (value parts r) (word_at s.tasks r) (subst (λ o. Held_shows (value parts r) (word_at s.tasks r) o) holds (st.agrees.values r))
     where
       shown : (n : ℕ) (w : Option ℤ) → Held_shows n w (Some x) → n ≡ x.name
-      shown n None shows = shows
-      shown n (Some w) shows = absurd shows
+      shown n w shows = grind arith
 
   some_number : (r : Place) (x : Object) → held cs r ≡ Some x → null ≡ x.name → ⊥
   some_number r x holds is = not_null p parts st.typing s st.typed st.agrees r x holds (sym is)
@@ -491,21 +490,11 @@ module _ (m : Machine) (s : State) (st : StandsFor m s) (sessions_once : Session
     task_there d (Some t) n there is none = let less = within_over parts.stack.tasks d t there in let many = as_many_tasks p parts s st in omega (arith, less, many)
 
     register_small : (d i : ℕ) (o : Option Held_task) → over parts.stack.tasks d ≡ o → register_over o i ≡ x.name → i < 16
-    register_small d i None there is = absurd (some_number r x holds is)
-    register_small d i (Some Is_trap) there is = absurd (some_number r x holds is)
-    register_small d i (Some (Destroys y)) there is = absurd (some_number r x holds is)
-    register_small d i (Some Closes) there is = absurd (some_number r x holds is)
-    register_small d i (Some (Unwinds code)) there is = absurd (some_number r x holds is)
-    register_small d i (Some (Ends_dispatch e)) there is = absurd (some_number r x holds is)
-    register_small d i (Some (Runs_frame f)) there is = go (nat_lt i 16) refl
-      where
-        go : (b : Bool) → nat_lt i 16 ≡ b → i < 16
-        go true less = ltb-true i 16 less
-        go false more =
-            let frame = frame_there p parts s st d f there in
-            let wide = frame.2.wide in
-            let past = get_or_past f.registers i null (omega (arith, wide, ltb-false i 16 more)) in
-            absurd (some_number r x holds (sym past ∙ is))
+    register_small d i (Some (Runs_frame f)) there is =
+        let frame = frame_there p parts s st d f there in
+        let wide = frame.2.wide in
+        lt_of_not-le (λ more. some_number r x holds (sym (get_or_past f.registers i null (omega (arith, wide, more))) ∙ is))
+    register_small d i _ there is = absurd (some_number r x holds is)
 
     entry_small : (k : ℕ) (o : Option Held_item) → over parts.entries.items k ≡ o → owned_over o ≡ x.name → k < length s.items
     entry_small k None there is = absurd (some_number r x holds is)
@@ -513,14 +502,9 @@ module _ (m : Machine) (s : State) (st : StandsFor m s) (sessions_once : Session
 
     field_small : (n f : ℕ) (c : Option Held_cell) → cell_at parts.cells n ≡ c → field_of c f ≡ x.name → f < 8
     field_small n f None there is = absurd (some_number r x holds is)
-    field_small n f (Some c) there is = go (nat_lt f 8) refl
-      where
-        go : (b : Bool) → nat_lt f 8 ≡ b → f < 8
-        go true less = ltb-true f 8 less
-        go false more =
-            let wide = st.agrees.cells.wide n c there in
-            let past = get_or_past c.fields f null (omega (arith, wide, ltb-false f 8 more)) in
-            absurd (some_number r x holds (sym past ∙ is))
+    field_small n f (Some c) there is =
+        let wide = st.agrees.cells.wide n c there in
+        lt_of_not-le (λ more. some_number r x holds (sym (get_or_past c.fields f null (omega (arith, wide, more))) ∙ is))
 
   -- a way, and where it ends: a queue alone holds what waits in it
   abbrev Leads : Place → Type 0

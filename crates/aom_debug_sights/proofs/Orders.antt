@@ -1,13 +1,10 @@
 -- There is just one list of the enlisted objects in the order of choice: of two such lists the first names are the same, and so are the rests.
-use Rattle.std.proofs.Common.{◌≡◌, ◌∙◌, ◌⊎◌, ◌<◌, ℕ, ℤ, zero, suc, true, List, [], ◌∷◌, Option, Some, None, IsSome, length, get_or, refl, sym, ap, subst, inl, inr, arith}
+use Rattle.std.proofs.Common.{◌≡◌, ◌∙◌, ◌⊎◌, ◌<◌, ℕ, zero, suc, List, [], ◌∷◌, Option, IsSome, length, get_or, refl, sym, ap, subst, inl, inr, arith}
 use Rattle.std.specs.List.{Contains}
-use Rattle.std.specs.Ordering.{int_eq}
-use Rattle.std.specs.Prelude.{◌&&◌, ◌||◌, AllPairs, int_lt, nat_lt}
-use Rattle.std.proofs.lemmas.Int.{ints}
+use Rattle.std.specs.Prelude.{AllPairs}
 use Rattle.aom_active.specs.Agrees.{GoesBefore}
 use Rattle.aom_scheduler.proofs.Items.{pairs-head, pairs-tail}
 use Rattle.aom_sound.specs.Places.{Cell, Request, requested}
-use Rattle.aom_sound.specs.World.{goes_before}
 use Rattle.aom_debug_sights.specs.Actives.{InOrderOfChoice}
 
 -- ---- names on a list
@@ -64,16 +61,8 @@ module _ (Before : ℕ → ℕ → Type 0) (apart : (n m : ℕ) → Before n m �
 
 -- ---- of requests
 
-not_both : (r q : Request) → goes_before r q ≡ true → goes_before q r ≡ true → ⊥
-not_both r q e f = at r.priority q.priority r.order q.order e f
-  where
-    at : (a b : ℤ) (m n : ℕ) → (int_lt b a || (int_eq a b && nat_lt m n)) ≡ true → (int_lt a b || (int_eq b a && nat_lt n m)) ≡ true → ⊥
-    at a b m n e f = grind (arith, ints)
-
 apart_by : (r q : Option Request) → GoesBefore r q → GoesBefore q r → ⊥
-apart_by None q one other = absurd one
-apart_by (Some r) None one other = absurd one
-apart_by (Some r) (Some q) one other = not_both r q one other
+apart_by r q one other = grind arith
 
 pub orders_are_one : (cs : List Cell) (names others : List ℕ) → InOrderOfChoice cs names → InOrderOfChoice cs others → names ≡ others
 orders_are_one cs names others one other =

@@ -1,5 +1,5 @@
 -- What stands over as many members of two lists that stand for each other, shown from the last one on.
-use Rattle.std.proofs.Common.{◌≡◌, ◌∙◌, ℕ, Bool, true, false, cond, ◌==◌, List, [], ◌∷◌, length, Option, Some, None, refl, ap}
+use Rattle.std.proofs.Common.{◌≡◌, ◌∙◌, ℕ, Bool, true, false, cond, ◌==◌, List, [], ◌∷◌, length, Option, Some, None, refl, subst}
 use Rattle.aom_sound.specs.Owned.{over}
 
 -- one on each side, and the two stand for each other, or none on either
@@ -11,13 +11,11 @@ BothOver Same _ _ = ⊥
 -- so with a member more on each side
 pub one_over : {A B : Type 0} (Same : A → B → Type 0) (a : A) (b : B) (k : ℕ) (xs : List A) (ys : List B) → Same a b → length xs ≡ length ys → BothOver Same (over xs k) (over ys k) →
     BothOver Same (over (a ∷ xs) k) (over (b ∷ ys) k)
-one_over Same a b k xs ys same long below = go (length xs == k) (length ys == k) (ap (λ n. n == k) long)
+one_over Same a b k xs ys same long below = subst (λ n. BothOver Same (over (a ∷ xs) k) (cond (n == k) (Some b) (over ys k))) long (go (length xs == k))
   where
-    go : (x y : Bool) → x ≡ y → BothOver Same (cond x (Some a) (over xs k)) (cond y (Some b) (over ys k))
-    go true true e = same
-    go false false e = below
-    go true false e = cc
-    go false true e = cc
+    go : (x : Bool) → BothOver Same (cond x (Some a) (over xs k)) (cond x (Some b) (over ys k))
+    go true = same
+    go false = below
 
 -- what is read of the member over as many, if there is one
 abbrev pub read_over : {A R : Type 0} → (A → R) → R → Option A → R

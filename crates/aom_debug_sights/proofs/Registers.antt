@@ -1,5 +1,5 @@
 -- What the strongest abstract state of a frame says of its registers is what they own, also while the frame waits for what stands over it.
-use Rattle.std.proofs.Common.{◌≡◌, ◌∙◌, ℕ, suc, Bool, true, false, cond, ◌==◌, List, [], ◌∷◌, Option, Some, None, IsSome, inl, inr, slice_index_or, refl, sym, ap, subst}
+use Rattle.std.proofs.Common.{arith, ◌≡◌, ◌∙◌, ℕ, suc, Bool, true, false, cond, ◌==◌, List, [], ◌∷◌, Option, Some, None, IsSome, inl, inr, slice_index_or, refl, sym, ap, subst}
 use Rattle.std.specs.Prelude.{◌⊎◌, is_some}
 use Rattle.std.proofs.lemmas.Bool.{eqb-true, false≢true}
 use Rattle.std.proofs.lemmas.Option.{none-some, same_Some}
@@ -44,8 +44,7 @@ abbrev Keeps : Kind → Kind → Type 0
 Keeps k k' = (k' ≡ Null) ⊎ (readied k' ≡ readied k)
 
 readied_null : (k : Kind) → readied k ≡ Null → k ≡ Null
-readied_null Null is = refl
-readied_null _ is = cc
+readied_null k is = grind arith
 
 readied_twice : (k : Kind) → readied (readied k) ≡ readied k
 readied_twice (Own t a) = refl

@@ -1,7 +1,5 @@
 -- What a machine's numbers show of each state that it stands for: the classes of cells, and the items of the cleanup stack.
 use Rattle.std.proofs.Common.{◌≡◌, ◌∙◌, ◌<◌, ℕ, suc, ◌-◌, Bool, true, false, cond, ◌==◌, List, [], ◌∷◌, length, Option, Some, None, slice_get, refl, sym, ap, arith}
-use Rattle.std.specs.Prelude.{option_map}
-use Rattle.std.specs.Int.{w32, cast_signed}
 use Rattle.std.proofs.lemmas.Bool.{eqb-false, eqb-true}
 use Rattle.std.proofs.lemmas.Option.{none-some, same_Some}
 use Rattle.aom_image.specs.Image.{Image}
@@ -13,10 +11,10 @@ use Rattle.aom_cells.specs.Heap.{class_of as class_of_cell}
 use Rattle.aom_cells.specs.declared.cell.Cell.{Cell as Held_cell}
 use Rattle.aom_cleanup.specs.Items.{entry_in, owned_by}
 use Rattle.aom_cleanup.specs.declared.item.Item.{Item as Held_item}
-use Rattle.aom_cleanup.specs.declared.item.Item.TheVariants.{Object as Holds_object, Operation as Holds_operation, Mark as Is_mark}
+use Rattle.aom_cleanup.specs.declared.item.Item.TheVariants.{Object as Holds_object}
 use Rattle.aom_sound.specs.Owned.{over}
 use Rattle.aom_sound.specs.Places.{Cell, Entry, Object, Place, held, named}
-use Rattle.aom_sound.specs.State.{A_mark, An_object, An_operation, Item, State}
+use Rattle.aom_sound.specs.State.{Item, State}
 use Rattle.aom_sound.proofs.Maps.{held_lives}
 use Rattle.aom_parts.specs.declared.parts.Parts.{Parts}
 use Rattle.aom_parts.specs.Agrees.{SameItem, SameItems, number, thing_in, thing_of}
@@ -24,7 +22,6 @@ use Rattle.aom_parts.specs.Stands.{StandsFor}
 use Rattle.aom_parts.proofs.Alike.{by_items}
 use Rattle.aom_parts.proofs.Entries.{same_items_length}
 use Rattle.aom_debug_lines.specs.declared.answer.Answer.{Answer}
-use Rattle.aom_debug_lines.specs.declared.answer.Answer.TheVariants.{Object as Object_answer, Operation}
 use Rattle.aom_debug_sights.proofs.Over.{BothOver, one_over}
 use Rattle.aom_debug_sights.specs.Owners.{entries_of, is_entry}
 use Rattle.aom_debug_sights.specs.Sights.{class_in, class_of, held_answer, item_answer}
@@ -87,11 +84,7 @@ answer_at h None = None
 answer_at h (Some i) = held_answer h i
 
 same_answer : (h : Heap) (cs : List Cell) (k : ℕ) (o : Option Held_item) (u : Option Item) → SameOver o u → ((n : ℕ) → o ≡ Some (Holds_object n) → class_at h n ≡ class_of (held cs (Entry k))) → answer_at h o ≡ item_answer cs k u
-same_answer h cs k None None same object = refl
-same_answer h cs k (Some (Holds_object n)) (Some An_object) same object = ap (option_map (λ class. Object_answer class)) (object n refl)
-same_answer h cs k (Some (Holds_operation m n)) (Some (An_operation m' w)) same object = ap (λ x. Some (Operation x (cast_signed w32 n))) same.0 ∙ ap (λ x. Some (Operation m' x)) same.1
-same_answer h cs k (Some Is_mark) (Some A_mark) same object = refl
-same_answer h cs k _ _ same object = absurd same
+same_answer h cs k o u same object = grind arith
 
 -- how many entries that is
 abbrev pub entries_over : Option Held_item → ℕ
@@ -99,11 +92,7 @@ entries_over None = 0
 entries_over (Some i) = entries_of i
 
 entry_counted : (o : Option Held_item) (u : Option Item) → SameOver o u → entries_over o ≡ cond (is_entry u) 1 0
-entry_counted None None same = refl
-entry_counted (Some (Holds_object n)) (Some An_object) same = refl
-entry_counted (Some (Holds_operation m n)) (Some (An_operation m' w)) same = refl
-entry_counted (Some Is_mark) (Some A_mark) same = refl
-entry_counted _ _ same = absurd same
+entry_counted o u same = grind arith
 
 -- what an item owns is the number in its place
 abbrev pub owned_over : Option Held_item → ℕ

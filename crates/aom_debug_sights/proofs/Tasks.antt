@@ -9,10 +9,10 @@ use Rattle.aom_cells.specs.Heap.{null}
 use Rattle.aom_frames.specs.Tasks.{register_of}
 use Rattle.aom_frames.specs.declared.frame.Frame.{Frame as Held_frame}
 use Rattle.aom_frames.specs.declared.task.Task.{Task as Held_task}
-use Rattle.aom_frames.specs.declared.task.Task.TheVariants.{Run as Runs_frame, Trapped as Is_trap, Destroy as Destroys, Closing as Closes, Unwind as Unwinds, Dispatched as Ends}
+use Rattle.aom_frames.specs.declared.task.Task.TheVariants.{Run as Runs_frame}
 use Rattle.aom_sound.specs.Owned.{over}
 use Rattle.aom_sound.specs.Places.{Elsewhere, Entry, Going, In_service, Object, Register, Root, held}
-use Rattle.aom_sound.specs.State.{Closing, Destroy, Dispatched, Frame, Run, State, Task, Trapped, Unwind}
+use Rattle.aom_sound.specs.State.{Frame, Run, State, Task}
 use Rattle.aom_parts.specs.declared.parts.Parts.{Parts}
 use Rattle.aom_cleanup.specs.Items.{entry_in}
 use Rattle.aom_parts.specs.Agrees.{SameFrame, SameTask, SameTasks, number, word_in, word_of}
@@ -67,17 +67,11 @@ both_over k = by_tasks (λ ms us. SameOver (over ms k) (over us k)) tt (λ m u m
 
 -- a frame
 frame_by : (f : Held_frame) (u : Option Task) → SameOver (Some (Runs_frame f)) u → (fr : Frame) × (u ≡ Some (Run fr)) × SameFrame f fr
-frame_by f (Some (Run fr)) same = (fr, refl, same)
-frame_by f _ same = absurd same
+frame_by f u same = grind arith
 
 frame_found : (o : Option Held_task) (f : Held_frame) → frame_over o ≡ Some f → o ≡ Some (Runs_frame f)
 frame_found (Some (Runs_frame g)) f is = ap (λ x. Some (Runs_frame x)) (same_Some g f is)
-frame_found (Some Is_trap) f is = absurd (none-some f is)
-frame_found (Some (Destroys x)) f is = absurd (none-some f is)
-frame_found (Some Closes) f is = absurd (none-some f is)
-frame_found (Some (Unwinds code)) f is = absurd (none-some f is)
-frame_found (Some (Ends d)) f is = absurd (none-some f is)
-frame_found None f is = absurd (none-some f is)
+frame_found _ f is = absurd (none-some f is)
 
 -- how many frames and destructions that is
 abbrev goings_over : Option Held_task → ℕ
@@ -85,14 +79,7 @@ goings_over None = 0
 goings_over (Some t) = goings_in t
 
 counted : (o : Option Held_task) (u : Option Task) → SameOver o u → (is_some (frame_over o) ≡ is_frame u) × (goings_over o ≡ cond (is_going u) 1 0)
-counted None None same = (refl, refl)
-counted (Some (Runs_frame f)) (Some (Run fr)) same = (refl, refl)
-counted (Some Is_trap) (Some Trapped) same = (refl, refl)
-counted (Some (Destroys x)) (Some Destroy) same = (refl, refl)
-counted (Some Closes) (Some Closing) same = (refl, refl)
-counted (Some (Unwinds code)) (Some (Unwind c)) same = (refl, refl)
-counted (Some (Ends d)) (Some (Dispatched e)) same = (refl, refl)
-counted _ _ same = absurd same
+counted o u same = grind arith
 
 -- ---- the numbers in the places of a task
 
@@ -116,14 +103,7 @@ going_there ms k = read_there going_of null (λ ts. going_in ts k) k refl (λ t 
 
 -- what is no frame has neither numbers nor words
 no_frame : (o : Option Held_task) (u : Option Task) (i : ℕ) → SameOver o u → frame_over o ≡ None → (register_over o i ≡ null) × (word_over u i ≡ None)
-no_frame None None i same is = (refl, refl)
-no_frame (Some (Runs_frame f)) u i same is = absurd (none-some f (sym is))
-no_frame (Some Is_trap) (Some Trapped) i same is = (refl, refl)
-no_frame (Some (Destroys x)) (Some Destroy) i same is = (refl, refl)
-no_frame (Some Closes) (Some Closing) i same is = (refl, refl)
-no_frame (Some (Unwinds code)) (Some (Unwind c)) i same is = (refl, refl)
-no_frame (Some (Ends d)) (Some (Dispatched e)) i same is = (refl, refl)
-no_frame _ _ i same is = absurd same
+no_frame o u i same is = grind arith
 
 pub number_told : (m : Parts) (k : ℕ) (o : Option Held_task) → o ≡ slice_get (reverse m.stack.tasks) k → going_over o ≡ going_in m.stack.tasks k
 number_told m k o is = ap going_over (is ∙ over_from_bottom m.stack.tasks k) ∙ sym (going_there m.stack.tasks k)

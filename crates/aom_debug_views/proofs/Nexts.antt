@@ -46,22 +46,10 @@ NoEnd (Ends_state d ∷ ts) = ⊥
 NoEnd _ = Unit {0}
 
 pub no_end_of_all : (p : Image) (us : List Task) → NoEnd us → ends_all_in p us ≡ false
-no_end_of_all p [] not = refl
-no_end_of_all p (Run fr ∷ ts) not = refl
-no_end_of_all p (Trapped ∷ ts) not = refl
-no_end_of_all p (Destroy ∷ ts) not = refl
-no_end_of_all p (Closing ∷ ts) not = refl
-no_end_of_all p (Unwind code ∷ ts) not = refl
-no_end_of_all p (Ends_state d ∷ ts) not = absurd not
+no_end_of_all p us not = grind arith
 
 pub no_last : (us : List Task) → NoEnd us → is_last_in us ≡ false
-no_last [] not = refl
-no_last (Run fr ∷ ts) not = refl
-no_last (Trapped ∷ ts) not = refl
-no_last (Destroy ∷ ts) not = refl
-no_last (Closing ∷ ts) not = refl
-no_last (Unwind code ∷ ts) not = refl
-no_last (Ends_state d ∷ ts) not = absurd not
+no_last us not = grind arith
 
 module _ (p : Image) (m : Parts) (s : State) (st : StandsFor (record { image = p; parts = m }) s) where
   -- what lives under a number is of the class of the machine's cell there
@@ -156,13 +144,7 @@ module _ (p : Image) (m : Parts) (s : State) (st : StandsFor (record { image = p
   runs_told runs = go (alike m.stack.tasks s.tasks st.agrees.tasks) runs
     where
       go : {ms : List Held_task} {us : List Task} → Alike ms us → Runs ms → At (record { method = method_here ms; place = place_here ms }) ≡ next_in p s us
-      go (both_run f fr ms ts same rest more) runs = ap (λ k. At (record { method = k; place = f.place })) same.method ∙ ap (λ k. At (record { method = fr.method; place = k })) same.place
-      go (both_trapped ms ts rest more) runs = absurd runs
-      go (both_go x ms ts small rest more) runs = absurd runs
-      go (both_close ms ts rest more) runs = absurd runs
-      go (both_unwind code c ms ts same rest more) runs = absurd runs
-      go (both_end x d ms ts same rest more) runs = absurd runs
-      go no_tasks runs = absurd runs
+      go x runs = grind arith
 
   pub goes_told : (number class : ℕ) → IsDestroying m.stack.tasks → number ≡ going_here m.stack.tasks → Lives m.cells (going_here m.stack.tasks) → class_at m.cells number ≡ Some class → Gone class ≡ next_in p s s.tasks
   goes_told number class going is lives told = go refl refl (alike m.stack.tasks s.tasks st.agrees.tasks) going is
@@ -179,12 +161,7 @@ module _ (p : Image) (m : Parts) (s : State) (st : StandsFor (record { image = p
       go : {ms : List Held_task} {us : List Task} → m.stack.tasks ≡ ms → s.tasks ≡ us → Alike ms us → IsDestroying ms → number ≡ going_here ms → Gone class ≡ next_in p s us
       go e f (both_go x ms ts small same more) going is =
           owned x ts (held s.cells (Going (length ts))) refl (shows x ms ts e same) is (subst (λ k. IsSome (cell_at m.cells k)) (sym (is ∙ sym (ap going_here e))) lives)
-      go e f (both_run g fr ms ts same rest more) going is = absurd going
-      go e f (both_trapped ms ts rest more) going is = absurd going
-      go e f (both_close ms ts rest more) going is = absurd going
-      go e f (both_unwind code c ms ts same rest more) going is = absurd going
-      go e f (both_end x d ms ts same rest more) going is = absurd going
-      go e f no_tasks going is = absurd going
+      go e f _ going is = absurd going
 
   -- ---- where a server lets go of its sessions
 
@@ -222,21 +199,11 @@ module _ (p : Image) (m : Parts) (s : State) (st : StandsFor (record { image = p
           with_both (both_go x ns us small same more) e f g =
               let rest : us ≡ over.below = cc in
               (x, second x ns us e f small same over.object (ap (λ vs. held s.cells (Going (length vs))) rest ∙ over.held))
-          with_both (both_run h fr ns us same rest more) e f g = cc
-          with_both (both_trapped ns us rest more) e f g = cc
-          with_both (both_close ns us rest more) e f g = cc
-          with_both (both_unwind code c ns us same rest more) e f g = cc
-          with_both (both_end x d ns us same rest more) e f g = cc
-          with_both no_tasks e f g = cc
+          with_both _ e f g = cc
 
       go : {ms : List Held_task} {us : List Task} → m.stack.tasks ≡ ms → s.tasks ≡ us → Alike ms us → IsClosing ms → (x : ℕ) × ClosesAt x
       go e f (both_close ms ts same more) closing = first ms ts e f more (closing_found p st.typing s st.typed ts f)
-      go e f (both_run h fr ms ts same rest more) closing = absurd closing
-      go e f (both_trapped ms ts rest more) closing = absurd closing
-      go e f (both_go x ms ts small rest more) closing = absurd closing
-      go e f (both_unwind code c ms ts same rest more) closing = absurd closing
-      go e f (both_end x d ms ts same rest more) closing = absurd closing
-      go e f no_tasks closing = absurd closing
+      go e f _ closing = absurd closing
 
   -- so what is next is the first step of its destruction
   pub closes_next_told : (x : ℕ) (at : ClosesAt x) (told : Answer) → told ≡ destruction_of p s.cells (held s.cells (Going (length at.below))) → told ≡ next_in p s s.tasks
@@ -251,21 +218,11 @@ module _ (p : Image) (m : Parts) (s : State) (st : StandsFor (record { image = p
       go (both_end x e ms ts same rest more) ending =
           let which : x ≡ d = same_Some x d ending in
           by same.0 ∙ ap all (ap (dispatch_of same.0) (sym which) ∙ same.1) ∙ sym (is e ts)
-      go (both_run g fr ms ts same rest more) ending = absurd (none-some d ending)
-      go (both_trapped ms ts rest more) ending = absurd (none-some d ending)
-      go (both_go x ms ts small rest more) ending = absurd (none-some d ending)
-      go (both_close ms ts rest more) ending = absurd (none-some d ending)
-      go (both_unwind code c ms ts same rest more) ending = absurd (none-some d ending)
-      go no_tasks ending = absurd (none-some d ending)
+      go _ ending = absurd (none-some d ending)
 
   pub none_ends_told : (in_tasks : List Task → Bool) → ((us : List Task) → NoEnd us → in_tasks us ≡ false) → ending_here m.stack.tasks ≡ None → false ≡ in_tasks s.tasks
   none_ends_told in_tasks is none = go (alike m.stack.tasks s.tasks st.agrees.tasks) none
     where
       go : {ms : List Held_task} {us : List Task} → Alike ms us → ending_here ms ≡ None → false ≡ in_tasks us
       go (both_end x e ms ts same rest more) none = absurd (none-some x (sym none))
-      go (both_run g fr ms ts same rest more) none = sym (is (Run fr ∷ ts) tt)
-      go (both_trapped ms ts rest more) none = sym (is (Trapped ∷ ts) tt)
-      go (both_go x ms ts small rest more) none = sym (is (Destroy ∷ ts) tt)
-      go (both_close ms ts rest more) none = sym (is (Closing ∷ ts) tt)
-      go (both_unwind code c ms ts same rest more) none = sym (is (Unwind c ∷ ts) tt)
-      go no_tasks none = sym (is [] tt)
+      go {us} _ none = sym (is us tt)

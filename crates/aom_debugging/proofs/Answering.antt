@@ -1,5 +1,5 @@
 -- What is known of a session, of a script and of the image is what the status answers.
-use Rattle.std.proofs.Common.{◌≡◌, ◌∙◌, ℕ, List, [], Ok, refl, sym, ap, subst, inl, inr}
+use Rattle.std.proofs.Common.{◌≡◌, ◌∙◌, ℕ, List, [], Result, Ok, Err, IfErr, IfOk, refl, sym, ap, subst, inl, inr}
 use Rattle.std.specs.Prelude.{◌⊎◌}
 use Rattle.aom_image.specs.Image.{Image}
 use Rattle.aom_sound.specs.World.{Outside, boot_state}
@@ -9,7 +9,7 @@ use Rattle.aom_script.specs.Script.{RefusesOrWants, Script, denoted}
 use Rattle.aom_script.specs.declared.fault.ScriptFault.{ScriptFault}
 use Rattle.aom_script.specs.declared.fault.ScriptFaultKind.{ScriptFaultKind}
 use Rattle.aom_script.specs.declared.fault.ScriptFaultKind.TheVariants as kinds
-use Rattle.aom_debug.specs.Debugging.{outside_of}
+use Rattle.aom_debug.specs.Movers.{outside_of}
 use Rattle.aom_debug.specs.declared.debugger.Debugger.{Debugger}
 use Rattle.aom_main.specs.Acceptable.{IsAcceptable, IsSpelled, RefusesOrWants as RefusesImage}
 use Rattle.aom_main.specs.Headline.{Accepts, HasNatives, IsSilent, RefusesBoot, Sent, Told, outside_of as outside_by}
@@ -26,6 +26,12 @@ use Rattle.aom_debugging.specs.Conversing.{BreaksDown, Broken, Given, Held, Hold
 use Rattle.aom_debugging.specs.Hearing.{standing}
 use Rattle.aom_debugging.specs.Sessions.{SessionState}
 
+-- what is so of the status of a session, by how it was held
+pub by_done : (So : Result ExitStatus Fault → Type 0) (told : Result (Unit {0}) Fault) (result : Result ExitStatus Fault) {Holds : Type 0} {Fails : Fault → Type 0} → IfOk told (λ _. result ≡ Ok statuses.Done) → IfErr told (λ fault. result ≡ Err fault)
+    → IfOk told (λ _. Holds) → IfErr told Fails → (Holds → So (Ok statuses.Done)) → ((fault : Fault) → Fails fault → So (Err fault)) → So result
+by_done So (Ok done) result is not holds fails by or = subst So (sym is) (by holds)
+by_done So (Err fault) result is not holds fails by or = subst So (sym not) (or fault fails)
+
 -- ---- an accepted image under a script
 
 module _ (bytes text : List ℕ) (limit natives reads : ℕ) (p : Image) (script : Script) (acceptable : IsAcceptable p) (spelled : IsSpelled bytes p) (denotes : denoted text ≡ Ok script) (given : Given) (out errors : Sent) where
@@ -40,11 +46,11 @@ module _ (bytes text : List ℕ) (limit natives reads : ℕ) (p : Image) (script
     debugs = record { image = p; spelled = spelled; acceptable = acceptable; script = script; denotes = denotes; enough = begun.enough }
 
     -- what a session comes to from where the debugger begins
-    begun_so : (Q : Image → Outside → SessionState → Type 0) → Q d.machine.core.image (outside_of d) (standing d (boot_state p)) → Q p (outside_by script limit natives) (start_of p)
+    begun_so : (Q : Image → Outside → SessionState → Type 0) → Q d.mover.machine.core.image (outside_of d.mover) (standing d (boot_state p)) → Q p (outside_by script limit natives) (start_of p)
     begun_so Q x =
         subst (λ q. Q q (outside_by script limit natives) (start_of p)) begun.image
-        (subst (λ o. Q d.machine.core.image o (start_of p)) begun.outside (subst (λ ss. Q d.machine.core.image (outside_of d) (record { state = boot_state p; spots = ss; recent = [] })) begun.spots
-        (subst (λ rs. Q d.machine.core.image (outside_of d) (record { state = boot_state p; spots = d.breakpoints; recent = rs })) begun.recent x)))
+        (subst (λ o. Q d.mover.machine.core.image o (start_of p)) begun.outside (subst (λ ss. Q d.mover.machine.core.image (outside_of d.mover) (record { state = boot_state p; spots = ss; recent = [] })) begun.spots
+        (subst (λ rs. Q d.mover.machine.core.image (outside_of d.mover) (record { state = boot_state p; spots = d.breakpoints; recent = rs })) begun.recent x)))
 
     -- it was held whole
     pub held_of : HoldsAll d given out.before out.now → IsSilent errors → Answered statuses.Done

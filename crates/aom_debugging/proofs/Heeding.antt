@@ -54,7 +54,7 @@ module _ {X : Type 0} {B : X → Type 0} where
               s,
               inr (fault, r.1 s stands, (ap (λ (d : Debugger X B). standing d s) same, refl)),
               out ∙ ap (λ o. after o (fault_text fault)) r.0.silent,
-              subst (λ (m : Machine X B). StandsFor m s) (sym (ap (λ (d : Debugger X B). d.machine) same)) stands,
+              subst (λ (m : Machine X B). StandsFor m s) (sym (ap (λ (d : Debugger X B). d.mover.machine) same)) stands,
             );
             well = ap (λ (d : Debugger X B). d.has_failed) same ∙ well;
           }

@@ -12,11 +12,12 @@ use Rattle.aom_debug.specs.Runs.{after}
 use Rattle.aom_debug_words.specs.declared.command.Command.{Command}
 use Rattle.aom_debug_words.specs.declared.command.Command.TheVariants.{Step, Turn, Go, Break, Cells, Owners, Cleanup, Actives, Recent}
 use Rattle.aom_debug_words.specs.declared.fault.DebugFault.{DebugFault}
-use Rattle.aom_debug_words.specs.declared.fault.DebugFault.TheVariants.{BadCommand, NoSuch, Ended, OutOfMemory, WriteFault}
+use Rattle.aom_debug_words.specs.declared.fault.DebugFault.TheVariants.{BadCommand, NoSuch, Ended, WriteFault}
 use Rattle.aom_debug_marks.specs.declared.spot.Spot.{Spot}
 use Rattle.aom_debug.specs.Courses.{Courses}
 use Rattle.aom_debug.specs.Commands.{is_count, moved_text}
-use Rattle.aom_debug.specs.Debugging.{CountsNot, Declined, Goes, Looks, MayGo, Outgoing, Sees, Sets, has_ended, outside_of, runs_of, steps_of, turns_of}
+use Rattle.aom_debug.specs.Movers.{outside_of}
+use Rattle.aom_debug.specs.Debugging.{Answer, CountsNot, Declined, Goes, Looks, MayGo, Outgoing, Sees, Sets, Steps, has_ended, runs_of, steps_of, turns_of}
 use Rattle.aom_debug.specs.Obeying.{Obeys}
 use Rattle.aom_debug.specs.declared.debugger.Debugger.{Debugger}
 use Rattle.aom_debug.specs.declared.looking.Look.TheVariants as look
@@ -27,22 +28,22 @@ not_both : (b : Bool) → b ≡ true → b ≡ false → ⊥
 not_both b yes_is no_is = absurd cc
 
 module _ {X : Type 0} {B : X → Type 0} (old new : Debugger X B) (out : Outgoing) (well : old.has_failed ≡ false) where
-  ended_at : (s : State) → StandsFor old.machine s → is_some s.rest.ended ≡ has_ended old
+  ended_at : (s : State) → StandsFor old.mover.machine s → is_some s.rest.ended ≡ has_ended old
   ended_at s stands = sym (ap (λ (r : Rest). is_some r.ended) stands.stands.agrees.rest)
 
-  stands_same : new ≡ old → (s : State) → StandsFor old.machine s → StandsFor new.machine s
-  stands_same same s stands = subst (λ (m : Machine X B). StandsFor m s) (sym (ap (λ (d : Debugger X B). d.machine) same)) stands
+  stands_same : new ≡ old → (s : State) → StandsFor old.mover.machine s → StandsFor new.mover.machine s
+  stands_same same s stands = subst (λ (m : Machine X B). StandsFor m s) (sym (ap (λ (d : Debugger X B). d.mover.machine) same)) stands
 
   -- ---- what is done
 
   abbrev pub Done : (SessionState → List ℕ → SessionState → Type 0) → Type 0
-  Done does = (s : State) → StandsFor old.machine s → (text : List ℕ) × (u : State) × does (standing old s) text (standing new u) × (out.now ≡ after out.before text) × StandsFor new.machine u
+  Done does = (s : State) → StandsFor old.mover.machine s → (text : List ℕ) × (u : State) × does (standing old s) text (standing new u) × (out.now ≡ after out.before text) × StandsFor new.mover.machine u
 
-  goes_done : (leads : Debugger X B → Courses) → Goes leads old new out (Ok tt) → Done (λ a text b. GoesSo old.machine.core.image (leads old) a text b)
+  goes_done : (leads : Debugger X B → Courses) → Goes leads old new out (Ok tt) → Done (λ a text b. GoesSo old.mover.machine.core.image (leads old) a text b)
   goes_done leads x s stands =
       let moved = x.1 in
       let f = moved.goes s stands in
-      (moved_text old.machine.core.image f.0 f.1, f.1, (ended_at s stands ∙ x.0.1, f.0, f.2, moved.spots, refl), f.3, f.4)
+      (moved_text old.mover.machine.core.image f.0 f.1, f.1, (ended_at s stands ∙ x.0.1, f.0, f.2, moved.spots, refl), f.3, f.4)
 
   -- nothing changed
   shown_so : (shows : List ℕ → Type 0) (s : State) (text : List ℕ) → new ≡ old → shows text → Shown shows (standing old s) text (standing new s)
@@ -53,24 +54,31 @@ module _ {X : Type 0} {B : X → Type 0} (old new : Debugger X B) (out : Outgoin
       let f = x.2 s stands in
       (f.0, s, shown_so (λ t. shows old s t) s f.0 x.1 f.1, f.2, stands_same x.1 s stands)
 
-  sets_done : (method place : Number) → Sets method place old new out (Ok tt) → Done (λ a text b. SetsSo old.machine.core.image method place a text b)
+  sets_done : (method place : Number) → Sets method place old new out (Ok tt) → Done (λ a text b. SetsSo old.mover.machine.core.image method place a text b)
   sets_done method place x s stands =
       let can = x.2 in (
         _,
         s,
         (x.1, can.names, can.room, ap (λ (d : Debugger X B). standing d s) x.3, refl),
         x.4,
-        subst (λ (m : Machine X B). StandsFor m s) (sym (ap (λ (d : Debugger X B). d.machine) x.3)) stands,
+        subst (λ (m : Machine X B). StandsFor m s) (sym (ap (λ (d : Debugger X B). d.mover.machine) x.3)) stands,
       )
 
-  steps_done : (n : ℕ) → Obeys (Step n) old new out (Ok tt) → Done (λ a text b. Does old.machine.core.image (outside_of old) (Step n) a text b)
-  steps_done n x = go (is_count n) refl x
+  -- what is not answered where the number is none is answered where it is one
+  counted : (n : ℕ) (answer : Answer) → (CountsNot old new out answer → ⊥) → Steps n old new out answer → (is_count n ≡ true) × Goes (steps_of n) old new out answer
+  counted n answer not x = go (is_count n) refl x
     where
-      go : (b : Bool) → is_count n ≡ b → cond b (Goes (steps_of n) old new out (Ok tt)) (CountsNot old new out (Ok tt)) → Done (λ a text b. Does old.machine.core.image (outside_of old) (Step n) a text b)
-      go true is y = λ s stands. let f = goes_done (steps_of n) y s stands in (f.0, f.1, (is, f.2), f.3, f.4)
-      go false is y = absurd y
+      go : (b : Bool) → is_count n ≡ b → cond b (Goes (steps_of n) old new out answer) (CountsNot old new out answer) → (is_count n ≡ true) × Goes (steps_of n) old new out answer
+      go true is y = (is, y)
+      go false is y = absurd (not y)
 
-  pub is_done : (command : Command) → Obeys command old new out (Ok tt) → Done (λ a text b. Does old.machine.core.image (outside_of old) command a text b)
+  steps_done : (n : ℕ) → Obeys (Step n) old new out (Ok tt) → Done (λ a text b. Does old.mover.machine.core.image (outside_of old.mover) (Step n) a text b)
+  steps_done n x s stands =
+      let y = counted n (Ok tt) (λ z. z) x in
+      let f = goes_done (steps_of n) y.1 s stands in
+      (f.0, f.1, (y.0, f.2), f.3, f.4)
+
+  pub is_done : (command : Command) → Obeys command old new out (Ok tt) → Done (λ a text b. Does old.mover.machine.core.image (outside_of old.mover) command a text b)
   is_done (Step n) x = steps_done n x
   is_done Turn x = goes_done turns_of x
   is_done Go x = goes_done runs_of x
@@ -87,12 +95,8 @@ module _ {X : Type 0} {B : X → Type 0} (old new : Debugger X B) (out : Outgoin
   well_same : new ≡ old → new.has_failed ≡ false
   well_same same = ap (λ (d : Debugger X B). d.has_failed) same ∙ well
 
-  well_steps : (n : ℕ) (b : Bool) → cond b (Goes (steps_of n) old new out (Ok tt)) (CountsNot old new out (Ok tt)) → new.has_failed ≡ false
-  well_steps n true y = well_goes (steps_of n) y
-  well_steps n false y = absurd y
-
   pub still_well : (command : Command) → Obeys command old new out (Ok tt) → new.has_failed ≡ false
-  still_well (Step n) x = well_steps n (is_count n) x
+  still_well (Step n) x = well_goes (steps_of n) (counted n (Ok tt) (λ z. z) x).1
   still_well Turn x = well_goes turns_of x
   still_well Go x = well_goes runs_of x
   still_well (Break method place) x = ap (λ (d : Debugger X B). d.has_failed) x.3 ∙ well
@@ -105,32 +109,26 @@ module _ {X : Type 0} {B : X → Type 0} (old new : Debugger X B) (out : Outgoin
   -- ---- what is refused
 
   abbrev pub Refused : Command → DebugFault → Type 0
-  Refused command fault = Declined old new out × ((s : State) → StandsFor old.machine s → Refuses old.machine.core.image command (standing old s) fault)
+  Refused command fault = Declined old new out × ((s : State) → StandsFor old.mover.machine s → Refuses old.mover.machine.core.image command (standing old s) fault)
 
   ended_so : (old.has_failed ≡ true) ⊎ (has_ended old ≡ true) → has_ended old ≡ true
   ended_so (inl failed) = absurd (not_both old.has_failed failed well)
   ended_so (inr is) = is
 
-  goes_refused : (leads : Debugger X B → Courses) (fault : DebugFault) → fault ≢ WriteFault → Goes leads old new out (Err fault) → (fault ≡ Ended) × Declined old new out × ((s : State) → StandsFor old.machine s → is_ended (standing old s) ≡ true)
+  goes_refused : (leads : Debugger X B → Courses) (fault : DebugFault) → fault ≢ WriteFault → Goes leads old new out (Err fault) → (fault ≡ Ended) × Declined old new out × ((s : State) → StandsFor old.mover.machine s → is_ended (standing old s) ≡ true)
   goes_refused leads Ended other x = (refl, x.1, (λ s stands. ended_at s stands ∙ ended_so x.0))
   goes_refused leads WriteFault other x = absurd (other refl)
-  goes_refused leads BadCommand other x = absurd x
-  goes_refused leads NoSuch other x = absurd x
-  goes_refused leads OutOfMemory other x = absurd x
+  goes_refused leads _ other x = absurd x
 
   looks_refused : (shows : Debugger X B → State → List ℕ → Type 0) (fault : DebugFault) → fault ≢ WriteFault → Looks shows old new out (Err fault) → ⊥
   looks_refused shows Ended other x = not_both old.has_failed x.0 well
   looks_refused shows WriteFault other x = other refl
-  looks_refused shows BadCommand other x = x
-  looks_refused shows NoSuch other x = x
-  looks_refused shows OutOfMemory other x = x
+  looks_refused shows _ other x = x
 
   counts_refused : (n : ℕ) → is_count n ≡ false → (fault : DebugFault) → CountsNot old new out (Err fault) → Refused (Step n) fault
   counts_refused n is BadCommand x = (x.1, (λ s stands. is))
   counts_refused n is Ended x = absurd (not_both old.has_failed x.0 well)
-  counts_refused n is WriteFault x = absurd x
-  counts_refused n is NoSuch x = absurd x
-  counts_refused n is OutOfMemory x = absurd x
+  counts_refused n is _ x = absurd x
 
   steps_refused : (n : ℕ) (fault : DebugFault) → fault ≢ WriteFault → Obeys (Step n) old new out (Err fault) → Refused (Step n) fault
   steps_refused n fault other x = go (is_count n) refl x
@@ -143,8 +141,7 @@ module _ {X : Type 0} {B : X → Type 0} (old new : Debugger X B) (out : Outgoin
   sets_refused method place NoSuch other x = (x.2, (λ s stands. x.1))
   sets_refused method place Ended other x = absurd (not_both old.has_failed x.0 well)
   sets_refused method place WriteFault other x = absurd (other refl)
-  sets_refused method place BadCommand other x = absurd x
-  sets_refused method place OutOfMemory other x = absurd x
+  sets_refused method place _ other x = absurd x
 
   pub is_refused : (command : Command) (fault : DebugFault) → fault ≢ WriteFault → Obeys command old new out (Err fault) → Refused command fault
   is_refused (Step n) fault other x = steps_refused n fault other x
@@ -160,7 +157,7 @@ module _ {X : Type 0} {B : X → Type 0} (old new : Debugger X B) (out : Outgoin
   -- ---- what is cut
 
   abbrev pub CutOff : Command → Type 0
-  CutOff command = (out.failed ≡ true) × ((s : State) → StandsFor old.machine s → (text : List ℕ) × Begins old.machine.core.image (outside_of old) (Ok (Some command)) (standing old s) text × ((sent : ℕ) × (out.now ≡ after out.before (take sent text))))
+  CutOff command = (out.failed ≡ true) × ((s : State) → StandsFor old.mover.machine s → (text : List ℕ) × Begins old.mover.machine.core.image (outside_of old.mover) (Ok (Some command)) (standing old s) text × ((sent : ℕ) × (out.now ≡ after out.before (take sent text))))
 
   goes_cut : (command : Command) (leads : Debugger X B → Courses) → ((s : State) → is_ended (standing old s) ≡ false → MovesOn (Ok (Some command)) (standing old s)) → Goes leads old new out (Err WriteFault) → CutOff command
   goes_cut command leads on x =
@@ -168,10 +165,10 @@ module _ {X : Type 0} {B : X → Type 0} (old new : Debugger X B) (out : Outgoin
         cut.fails,
         (λ s stands.
             let f = cut.goes s stands in
-            (moved_text old.machine.core.image f.0 f.1, inr (on s (ended_at s stands ∙ x.0.1), f.0, f.1, f.2, refl), f.3)),
+            (moved_text old.mover.machine.core.image f.0 f.1, inr (on s (ended_at s stands ∙ x.0.1), f.0, f.1, f.2, refl), f.3)),
       )
 
-  looks_cut : (command : Command) (shows : Debugger X B → State → List ℕ → Type 0) → ((s : State) (text : List ℕ) → shows old s text → Does old.machine.core.image (outside_of old) command (standing old s) text (standing old s))
+  looks_cut : (command : Command) (shows : Debugger X B → State → List ℕ → Type 0) → ((s : State) (text : List ℕ) → shows old s text → Does old.mover.machine.core.image (outside_of old.mover) command (standing old s) text (standing old s))
       → Looks shows old new out (Err WriteFault) → CutOff command
   looks_cut command shows does x = (
     x.2,
@@ -185,12 +182,8 @@ module _ {X : Type 0} {B : X → Type 0} (old new : Debugger X B) (out : Outgoin
       let can = x.2 in
       (x.4, (λ s stands. (_, inl (_, inl (x.1, can.names, can.room, refl, refl)), (x.5, x.6))))
 
-  steps_cut : (n : ℕ) (b : Bool) → is_count n ≡ b → cond b (Goes (steps_of n) old new out (Err WriteFault)) (CountsNot old new out (Err WriteFault)) → CutOff (Step n)
-  steps_cut n true is y = goes_cut (Step n) (steps_of n) (λ s ended. (is, ended)) y
-  steps_cut n false is y = absurd y
-
   pub is_cut : (command : Command) → Obeys command old new out (Err WriteFault) → CutOff command
-  is_cut (Step n) x = steps_cut n (is_count n) refl x
+  is_cut (Step n) x = let y = counted n (Err WriteFault) (λ z. z) x in goes_cut (Step n) (steps_of n) (λ s ended. (y.0, ended)) y.1
   is_cut Turn x = goes_cut Turn turns_of (λ s ended. ended) x
   is_cut Go x = goes_cut Go runs_of (λ s ended. ended) x
   is_cut (Break method place) x = sets_cut method place x

@@ -8,7 +8,7 @@ use Rattle.aom_machine.specs.Calls.{StandsFor}
 use Rattle.aom_debug.specs.Runs.{after}
 use Rattle.aom_debug.proofs.Sending.{after_both, after_none}
 use Rattle.aom_debug_words.specs.Lines.{Kept, pending_of}
-use Rattle.aom_debug.specs.Debugging.{outside_of}
+use Rattle.aom_debug.specs.Movers.{outside_of}
 use Rattle.aom_debug.specs.declared.debugger.Debugger.{Debugger}
 use Rattle.aom_debugging.specs.Conversing.{BreaksDown, BreaksOff, Broken, Ends, Given, GoesOn, HoldsAll, StopsShort, Talks}
 use Rattle.aom_debugging.specs.Hearing.{standing}
@@ -18,8 +18,8 @@ use Rattle.aom_debugging.proofs.Talking.{talks_first, talks_stop}
 module _ {X : Type 0} {B : X → Type 0} where
   -- after so many reads, of which each gave some bytes: a session over the whole lines of them is out
   pub record Talked (a d : Debugger X B) (kept : Kept) (reads : ℕ) (given gives before now : Option (List ℕ)) : Type 0 where
-    pub goes : (s : State) → StandsFor a.machine s
-        → (text : List ℕ) × (gives ≡ after given text) × (reads ≤ length text) × Talks a.machine.core.image (outside_of a) (standing a s) text d kept before now
+    pub goes : (s : State) → StandsFor a.mover.machine s
+        → (text : List ℕ) × (gives ≡ after given text) × (reads ≤ length text) × Talks a.mover.machine.core.image (outside_of a.mover) (standing a s) text d kept before now
 
   pub talked_first : (a : Debugger X B) (kept : Kept) (given before : Option (List ℕ)) → a.has_failed ≡ false → kept ≡ pending_of [] → Talked a a kept 0 given given before before
   talked_first a kept given before well is =
@@ -28,7 +28,7 @@ module _ {X : Type 0} {B : X → Type 0} where
           [],
           after_none given,
           omega arith,
-          subst (λ k. Talks a.machine.core.image (outside_of a) (standing a s) [] a k before before) (sym is) (talks_first a.machine.core.image (outside_of a) (standing a s) [] before a s stands well),
+          subst (λ k. Talks a.mover.machine.core.image (outside_of a.mover) (standing a s) [] a k before before) (sym is) (talks_first a.mover.machine.core.image (outside_of a.mover) (standing a s) [] before a s stands well),
         );
       }
 
@@ -46,7 +46,7 @@ module _ {X : Type 0} {B : X → Type 0} where
                 t.0 ++ bytes,
                 more t.0 bytes gives t.1 is,
                 omega (arith, length-append t.0 bytes, t.2, some),
-                goes a.machine.core.image (outside_of a) (standing a s) t.0 before t.3,
+                goes a.mover.machine.core.image (outside_of a.mover) (standing a s) t.0 before t.3,
               );
         }
 
@@ -55,22 +55,22 @@ module _ {X : Type 0} {B : X → Type 0} where
         → BreaksDown a (record { before = given; now = gives; ended = ended; failed = ill }) before now failed
     talked_breaks bytes gives now ended ill failed is breaks = λ s stands.
         let t = talked.goes s stands in
-        (t.0 ++ bytes, (more t.0 bytes gives t.1 is, breaks a.machine.core.image (outside_of a) (standing a s) t.0 before t.3))
+        (t.0 ++ bytes, (more t.0 bytes gives t.1 is, breaks a.mover.machine.core.image (outside_of a.mover) (standing a s) t.0 before t.3))
 
     -- the one that tells the end
     pub talked_ends : (gives now : Option (List ℕ)) (ended ill : Bool) → gives ≡ after mid [] → ended ≡ true → Ends d kept here now → HoldsAll a (record { before = given; now = gives; ended = ended; failed = ill }) before now
     talked_ends gives now ended ill is end ends = λ s stands.
         let t = talked.goes s stands in
-        (t.0, ((is ∙ sym (after_none mid) ∙ t.1, end), ends a.machine.core.image (outside_of a) (standing a s) t.0 before t.3))
+        (t.0, ((is ∙ sym (after_none mid) ∙ t.1, end), ends a.mover.machine.core.image (outside_of a.mover) (standing a s) t.0 before t.3))
 
     -- one that fails
     pub talked_fails : (most : ℕ) (gives : Option (List ℕ)) (ended ill : Bool) → gives ≡ mid → ill ≡ true → StopsShort most a (record { before = given; now = gives; ended = ended; failed = ill }) before here
     talked_fails most gives ended ill is fails = λ s stands.
         let t = talked.goes s stands in
-        (t.0, ((is ∙ t.1, inl fails), talks_stop a.machine.core.image (outside_of a) (standing a s) t.0 before d kept here t.3))
+        (t.0, ((is ∙ t.1, inl fails), talks_stop a.mover.machine.core.image (outside_of a.mover) (standing a s) t.0 before d kept here t.3))
 
     -- or there may be no more
     pub talked_stops : (most : ℕ) (ended ill : Bool) → most ≤ reads → StopsShort most a (record { before = given; now = mid; ended = ended; failed = ill }) before here
     talked_stops most ended ill all = λ s stands.
         let t = talked.goes s stands in
-        (t.0, ((t.1, inr (omega (arith, all, t.2))), talks_stop a.machine.core.image (outside_of a) (standing a s) t.0 before d kept here t.3))
+        (t.0, ((t.1, inr (omega (arith, all, t.2))), talks_stop a.mover.machine.core.image (outside_of a.mover) (standing a s) t.0 before d kept here t.3))

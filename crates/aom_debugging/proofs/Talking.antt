@@ -1,25 +1,24 @@
 -- A session goes on with each line that is whole.
-use Rattle.std.proofs.Common.{◌≡◌, ◌∙◌, ◌==◌, ◌⊎◌, ◌+◌, ℕ, Bool, true, false, cond, List, [], ◌∷◌, ◌++◌, Option, Result, length, take, refl, sym, ap, subst, inl, inr, append-nil, append_assoc, arith}
-use Rattle.std.proofs.lemmas.Bool.Decides.{nat_tests}
+use Rattle.std.proofs.Common.{◌≡◌, ◌∙◌, ◌==◌, ◌⊎◌, ◌+◌, ℕ, Bool, true, false, cond, not, List, [], ◌∷◌, ◌++◌, Option, Result, length, take, refl, sym, ap, subst, inl, inr, append-nil, append_assoc, arith}
 use Rattle.std.specs.List.{slice_split}
+use Rattle.std.proofs.lemmas.Bool.{ne_eqb}
 use Rattle.aom_text.specs.Words.{has_bytes}
 use Rattle.aom_text.specs.Text.{lines_of, true_lines}
 use Rattle.aom_image.specs.Image.{Image}
 use Rattle.aom_sound.specs.State.{State}
 use Rattle.aom_sound.specs.World.{Outside}
-use Rattle.aom_machine.specs.Calls.{StandsFor, natives_of}
+use Rattle.aom_machine.specs.Calls.{StandsFor}
 use Rattle.aom_debug.specs.Runs.{after}
+use Rattle.aom_debug.proofs.Keeping.{hears_as}
 use Rattle.aom_debug.proofs.Sending.{after_both, after_none}
 use Rattle.aom_debug_words.specs.Commands.{command_said}
 use Rattle.aom_debug_words.specs.Lines.{Kept, pending_of}
-use Rattle.aom_debug.specs.Debugging.{Keeps, Outgoing, outside_of}
+use Rattle.aom_debug.specs.Movers.{Keeps, outside_of}
+use Rattle.aom_debug.specs.Debugging.{Outgoing}
 use Rattle.aom_debug.specs.declared.debugger.Debugger.{Debugger}
 use Rattle.aom_debugging.specs.Conversing.{BreaksOff, Broken, Ends, GoesOn, Held, Stopped, Talks}
 use Rattle.aom_debug_words.specs.declared.command.Command.{Command}
 use Rattle.aom_debug_words.specs.declared.fault.DebugFault.{DebugFault}
-use Rattle.aom_lines.specs.Turn.{Turn}
-use Rattle.aom_debug.specs.Turns.{hearing}
-use Rattle.aom_script.specs.Script.{Script}
 use Rattle.aom_debugging.specs.Hearing.{Heard, HeardPart, standing}
 use Rattle.aom_debugging.specs.Sessions.{Begins, Comes, Heeds, Session, SessionState}
 use Rattle.aom_debugging.specs.Sessions.Session.{begins, heeds}
@@ -27,7 +26,7 @@ use Rattle.aom_debugging.proofs.Lines.{last_line, lines_before, some_parts, spli
 
 module _ {X : Type 0} {B : X → Type 0} (p : Image) (outside : Outside) (start : SessionState) (text : List ℕ) (before : Option (List ℕ)) where
   -- nothing has come
-  pub talks_first : (d : Debugger X B) (s : State) → StandsFor d.machine s → d.has_failed ≡ false → Talks d.machine.core.image (outside_of d) (standing d s) [] d (pending_of []) before before
+  pub talks_first : (d : Debugger X B) (s : State) → StandsFor d.mover.machine s → d.has_failed ≡ false → Talks d.mover.machine.core.image (outside_of d.mover) (standing d s) [] d (pending_of []) before before
   talks_first d s stands well =
       record { lines = []; rest = []; comes = record { parts = refl }; pending = refl; told = []; state = s; session = begins; stands = stands; out = after_none before; image = refl; same = refl; well = well }
 
@@ -105,7 +104,7 @@ module _ {X : Type 0} {B : X → Type 0} (p : Image) (outside : Outside) (start 
             last = standing d talks.state;
             session = talks.session;
             next = f.0;
-            begins = subst (λ o. Begins p o (command_said talks.rest) (standing d talks.state) f.0) talks.same (subst (λ q. Begins q (outside_of d) (command_said talks.rest) (standing d talks.state) f.0) talks.image f.1);
+            begins = subst (λ o. Begins p o (command_said talks.rest) (standing d talks.state) f.0) talks.same (subst (λ q. Begins q (outside_of d.mover) (command_said talks.rest) (standing d talks.state) f.0) talks.image f.1);
             fails = part.failed;
             sent = f.2.0;
             out = joined (take f.2.0 f.0) now f.2.1;
@@ -117,7 +116,7 @@ module _ {X : Type 0} {B : X → Type 0} (p : Image) (outside : Outside) (start 
       heeded heard =
           let f = heard.goes talks.state talks.stands in
           heeds talks.rest f.0 talks.session
-          (subst (λ o. Heeds p o (command_said talks.rest) (standing d talks.state) f.0 (standing new f.1)) talks.same (subst (λ q. Heeds q (outside_of d) (command_said talks.rest) (standing d talks.state) f.0 (standing new f.1)) talks.image f.2))
+          (subst (λ o. Heeds p o (command_said talks.rest) (standing d talks.state) f.0 (standing new f.1)) talks.same (subst (λ q. Heeds q (outside_of d.mover) (command_said talks.rest) (standing d talks.state) f.0 (standing new f.1)) talks.image f.2))
 
       -- the last, which lacks its line feed
       pub talks_last : has_bytes talks.rest ≡ true → Heard (command_said talks.rest) d new (record { before = here; now = now; failed = failed }) → Held p outside start text before now
@@ -131,9 +130,9 @@ module _ {X : Type 0} {B : X → Type 0} (p : Image) (outside : Outside) (start 
           }
 
       -- a line that is whole
-      pub talks_line : (byte : ℕ) (then : Kept) → (byte == 10) ≡ true → then ≡ pending_of [] → Keeps d new → outside_of new ≡ outside_of d → Heard (command_said talks.rest) d new (record { before = here; now = now; failed = failed })
+      pub talks_line : (byte : ℕ) (then : Kept) → (byte == 10) ≡ true → then ≡ pending_of [] → Keeps d.mover new.mover → Heard (command_said talks.rest) d new (record { before = here; now = now; failed = failed })
           → Talks p outside start (text ++ byte ∷ []) new then before now
-      talks_line byte then feeds anew keeps out heard =
+      talks_line byte then feeds anew keeps heard =
           let f = heard.goes talks.state talks.stands in
           record {
             lines = talks.lines ++ talks.rest ∷ [];
@@ -146,29 +145,19 @@ module _ {X : Type 0} {B : X → Type 0} (p : Image) (outside : Outside) (start 
             stands = f.4;
             out = joined f.0 now f.3;
             image = keeps.image ∙ talks.image;
-            same = out ∙ talks.same;
+            same = hears_as keeps ∙ talks.same;
             well = heard.well;
           }
 
 -- ---- the rest of a line
 
-no_bytes : (line : List ℕ) → true ≡ (length line == 0) → has_bytes line ≡ false
-no_bytes [] is = refl
-no_bytes (b ∷ bs) is = absurd (grind (arith, nat_tests))
-
-some_bytes : (line : List ℕ) → false ≡ (length line == 0) → has_bytes line ≡ true
-some_bytes [] is = absurd cc
-some_bytes (b ∷ bs) is = refl
+is_there : (line : List ℕ) → has_bytes line ≡ not (length line == 0)
+is_there [] = refl
+is_there (b ∷ bs) = sym (ap not (ne_eqb (length (b ∷ bs)) 0 (λ none. omega (arith, none))))
 
 -- ---- bytes one after another
 
 module _ {X : Type 0} {B : X → Type 0} where
-  -- nothing that comes from outside is another
-  pub keeps_outside : (d new : Debugger X B) → Keeps d new → outside_of new ≡ outside_of d
-  keeps_outside d new keeps =
-      ap (λ (t : Turn). hearing t.refused new.limit (natives_of new.machine) new.script.timed) keeps.turn ∙ ap (λ l. hearing d.turn.refused l (natives_of new.machine) new.script.timed) keeps.limit
-      ∙ ap (λ n. hearing d.turn.refused d.limit n new.script.timed) keeps.natives ∙ ap (λ (s : Script). hearing d.turn.refused d.limit (natives_of d.machine) s.timed) keeps.script
-
   pub goes_nowhere : (d : Debugger X B) (kept : Kept) (here : Option (List ℕ)) → GoesOn d kept here [] d kept here
   goes_nowhere d kept here p outside start text before talks = subst (λ t. Talks p outside start t d kept before here) (sym (append-nil text)) talks
 
@@ -180,18 +169,18 @@ module _ {X : Type 0} {B : X → Type 0} where
   module _ (d : Debugger X B) (kept : Kept) (here : Option (List ℕ)) (empty : Bool) (says_empty : (line : List ℕ) → kept ≡ pending_of line → empty ≡ (length line == 0)) where
     -- behind a line feed
     pub ends_at_line : empty ≡ true → Ends d kept here here
-    ends_at_line is p outside start text before talks = talks_out p outside start text before d kept here talks (no_bytes talks.rest (sym is ∙ says_empty talks.rest talks.pending))
+    ends_at_line is p outside start text before talks = talks_out p outside start text before d kept here talks (is_there talks.rest ∙ ap not (sym (says_empty talks.rest talks.pending) ∙ is))
 
     -- in a line
     module _ (is : empty ≡ false) (now : Option (List ℕ)) (failed : Bool) (said : Result (Option Command) DebugFault) (says : (line : List ℕ) → kept ≡ pending_of line → said ≡ command_said line) where
       pub ends_in_line : (new : Debugger X B) → Heard said d new (record { before = here; now = now; failed = failed }) → Ends d kept here now
       ends_in_line new heard p outside start text before talks =
-          talks_last p outside start text before d kept here talks new now failed (some_bytes talks.rest (sym is ∙ says_empty talks.rest talks.pending))
+          talks_last p outside start text before d kept here talks new now failed (is_there talks.rest ∙ ap not (sym (says_empty talks.rest talks.pending) ∙ is))
           (subst (λ r. Heard r d new (record { before = here; now = now; failed = failed })) (says talks.rest talks.pending) heard)
 
       pub breaks_at_end : HeardPart said d (record { before = here; now = now; failed = failed }) → BreaksOff d kept here [] now failed
       breaks_at_end part p outside start text before talks =
-          let some = some_bytes talks.rest (sym is ∙ says_empty talks.rest talks.pending) in
+          let some = is_there talks.rest ∙ ap not (sym (says_empty talks.rest talks.pending) ∙ is) in
           talks_cut p outside start text before d kept here talks now failed (text ++ []) [] (ap lines_of (append-nil text) ∙ lines_last p outside start text before d kept here talks some)
           (subst (λ r. HeardPart r d (record { before = here; now = now; failed = failed })) (says talks.rest talks.pending) part)
 
@@ -203,12 +192,12 @@ module _ {X : Type 0} {B : X → Type 0} where
         let on = talks_on p outside start (text ++ bytes) before d kept mid (goes p outside start text before talks) byte now other adds in
         subst (λ t. Talks p outside start t d now before mid) (append_assoc text bytes (byte ∷ []) ∙ ap (λ t. text ++ t) (sym is)) on
 
-    pub goes_line : (new : Debugger X B) (then : Kept) (out : Option (List ℕ)) (failed : Bool) (said : Result (Option Command) DebugFault) → (byte == 10) ≡ true → then ≡ pending_of [] → ((line : List ℕ) → kept ≡ pending_of line → said ≡ command_said line) → Keeps d new
+    pub goes_line : (new : Debugger X B) (then : Kept) (out : Option (List ℕ)) (failed : Bool) (said : Result (Option Command) DebugFault) → (byte == 10) ≡ true → then ≡ pending_of [] → ((line : List ℕ) → kept ≡ pending_of line → said ≡ command_said line) → Keeps d.mover new.mover
         → Heard said d new (record { before = mid; now = out; failed = failed }) → GoesOn a first here more new then out
     goes_line new then out failed said feeds anew says keeps heard p outside start text before talks =
         let t = goes p outside start text before talks in
         let heard_so = subst (λ r. Heard r d new (record { before = mid; now = out; failed = failed })) (says t.rest t.pending) heard in
-        let on = talks_line p outside start (text ++ bytes) before d kept mid t new out failed byte then feeds anew keeps (keeps_outside d new keeps) heard_so in
+        let on = talks_line p outside start (text ++ bytes) before d kept mid t new out failed byte then feeds anew keeps heard_so in
         subst (λ u. Talks p outside start u new then before out) (append_assoc text bytes (byte ∷ []) ∙ ap (λ u. text ++ u) (sym is)) on
 
   -- the output fails in the line that a byte ends

@@ -9,7 +9,7 @@ use Rattle.aom_machine.specs.Calls.{StandsFor}
 use Rattle.aom_debug.specs.Runs.{after}
 use Rattle.aom_debug_words.specs.Commands.{command_said}
 use Rattle.aom_debug_words.specs.Lines.{Kept, pending_of}
-use Rattle.aom_debug.specs.Debugging.{outside_of}
+use Rattle.aom_debug.specs.Movers.{outside_of}
 use Rattle.aom_debug.specs.declared.debugger.Debugger.{Debugger}
 use Rattle.aom_debugging.specs.Hearing.{standing}
 use Rattle.aom_debugging.specs.Sessions.{Begins, Comes, Session, SessionState}
@@ -51,10 +51,10 @@ module _ {X : Type 0} {B : X → Type 0} where
     pub told : List ℕ
     pub state : State
     pub session : Session p outside start lines told (standing d state)
-    pub stands : StandsFor d.machine state
+    pub stands : StandsFor d.mover.machine state
     pub out : now ≡ after before told
-    pub image : d.machine.core.image ≡ p
-    pub same : outside_of d ≡ outside
+    pub image : d.mover.machine.core.image ≡ p
+    pub same : outside_of d.mover ≡ outside
     pub well : d.has_failed ≡ false
 
 -- a session over all lines of a text is out
@@ -107,7 +107,7 @@ module _ {X : Type 0} {B : X → Type 0} where
 
   -- what a conversation comes to, from each state that the machine stands for
   abbrev pub Conversed : (List ℕ → Image → Outside → SessionState → Type 0) → Debugger X B → Type 0
-  Conversed comes d = (s : State) → StandsFor d.machine s → (text : List ℕ) × comes text d.machine.core.image (outside_of d) (standing d s)
+  Conversed comes d = (s : State) → StandsFor d.mover.machine s → (text : List ℕ) × comes text d.mover.machine.core.image (outside_of d.mover) (standing d s)
 
   -- a text was read to its end, and a session over all of it went out
   abbrev pub HoldsAll : Debugger X B → Given → (before now : Option (List ℕ)) → Type 0

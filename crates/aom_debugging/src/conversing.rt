@@ -3,7 +3,7 @@ ghost use Rattle.std.specs.Prelude.{◌≡◌, ◌⊎◌, [], Some, false, Ok, I
 ghost use Rattle.aom_natives.specs.Slots.{AllAgree};
 ghost use Rattle.aom_debug.specs.Runs.{after};
 ghost use Rattle.aom_main.specs.declared.faults.Fault.TheVariants.{File, Write};
-ghost use Rattle.aom_debug.specs.Debugging.{IsReady, Keeps};
+ghost use Rattle.aom_debug.specs.Movers.{IsReady, Keeps};
 ghost use Rattle.aom_debugging.specs.Conversing.{BreaksDown, BreaksOff, Ends, GoesOn, HoldsAll, StopsShort};
 ghost use Rattle.aom_debugging.specs.Hearing.{Heard, HeardPart};
 ghost use Rattle.aom_debug.specs.Telling.{IsCut};
@@ -26,12 +26,12 @@ fn obey<W: Sink>(
     said: Result<Option<Command>, DebugFault>,
     out: &mut W,
 ) -> Result<(), Fault>
-    requires agree { AllAgree (λ l. l.ids) (λ l. (⟦<dyn Native as Native>⟧ l.native.vtable).owed l.native.value) debugger.old.machine.natives.slots.items }
-    requires ready { IsReady debugger.old }
+    requires agree { AllAgree (λ l. l.ids) (λ l. (⟦<dyn Native as Native>⟧ l.native.vtable).owed l.native.value) debugger.old.mover.machine.natives.slots.items }
+    requires ready { IsReady debugger.old.mover }
     requires well { debugger.old.has_failed ≡ false }
-    ensures agree { AllAgree (λ l. l.ids) (λ l. (⟦<dyn Native as Native>⟧ l.native.vtable).owed l.native.value) debugger.new.machine.natives.slots.items }
-    ensures ready { IsReady debugger.new }
-    ensures keeps { Keeps debugger.old debugger.new }
+    ensures agree { AllAgree (λ l. l.ids) (λ l. (⟦<dyn Native as Native>⟧ l.native.vtable).owed l.native.value) debugger.new.mover.machine.natives.slots.items }
+    ensures ready { IsReady debugger.new.mover }
+    ensures keeps { Keeps debugger.old.mover debugger.new.mover }
     ensures ok { IfOk result (λ _. Heard said debugger.old debugger.new (record { before = W.out out.old; now = W.out out.new; failed = W.failed out.new })) }
     ensures err { IfErr result (λ fault. (fault ≡ Write) × HeardPart said debugger.old (record { before = W.out out.old; now = W.out out.new; failed = W.failed out.new })) }
 {
@@ -50,12 +50,12 @@ fn command_done<W: Sink>(
     command: Command,
     out: &mut W,
 ) -> Result<(), Fault>
-    requires agree { AllAgree (λ l. l.ids) (λ l. (⟦<dyn Native as Native>⟧ l.native.vtable).owed l.native.value) debugger.old.machine.natives.slots.items }
-    requires ready { IsReady debugger.old }
+    requires agree { AllAgree (λ l. l.ids) (λ l. (⟦<dyn Native as Native>⟧ l.native.vtable).owed l.native.value) debugger.old.mover.machine.natives.slots.items }
+    requires ready { IsReady debugger.old.mover }
     requires well { debugger.old.has_failed ≡ false }
-    ensures agree { AllAgree (λ l. l.ids) (λ l. (⟦<dyn Native as Native>⟧ l.native.vtable).owed l.native.value) debugger.new.machine.natives.slots.items }
-    ensures ready { IsReady debugger.new }
-    ensures keeps { Keeps debugger.old debugger.new }
+    ensures agree { AllAgree (λ l. l.ids) (λ l. (⟦<dyn Native as Native>⟧ l.native.vtable).owed l.native.value) debugger.new.mover.machine.natives.slots.items }
+    ensures ready { IsReady debugger.new.mover }
+    ensures keeps { Keeps debugger.old.mover debugger.new.mover }
     ensures ok { IfOk result (λ _. Heard (Ok (Some command)) debugger.old debugger.new (record { before = W.out out.old; now = W.out out.new; failed = W.failed out.new })) }
     ensures err { IfErr result (λ fault. (fault ≡ Write) × HeardPart (Ok (Some command)) debugger.old (record { before = W.out out.old; now = W.out out.new; failed = W.failed out.new })) }
 {
@@ -81,8 +81,8 @@ fn tell_fault<W: Sink>(fault: DebugFault, out: &mut W) -> Result<(), Fault>
 
 /// Does what the last line says, which may lack its line feed.
 fn end<W: Sink>(debugger: &mut Debugger, pending: &mut Pending, out: &mut W) -> Result<(), Fault>
-    requires agree { AllAgree (λ l. l.ids) (λ l. (⟦<dyn Native as Native>⟧ l.native.vtable).owed l.native.value) debugger.old.machine.natives.slots.items }
-    requires ready { IsReady debugger.old }
+    requires agree { AllAgree (λ l. l.ids) (λ l. (⟦<dyn Native as Native>⟧ l.native.vtable).owed l.native.value) debugger.old.mover.machine.natives.slots.items }
+    requires ready { IsReady debugger.old.mover }
     requires well { debugger.old.has_failed ≡ false }
     ensures ok { IfOk result (λ _. Ends debugger.old pending.old (W.out out.old) (W.out out.new)) }
     ensures err { IfErr result (λ fault. (fault ≡ Write) × BreaksOff debugger.old pending.old (W.out out.old) [] (W.out out.new) (W.failed out.new)) }
@@ -101,11 +101,11 @@ fn hear<W: Sink>(
     bytes: &[u8],
     out: &mut W,
 ) -> Result<(), Fault>
-    requires agree { AllAgree (λ l. l.ids) (λ l. (⟦<dyn Native as Native>⟧ l.native.vtable).owed l.native.value) debugger.old.machine.natives.slots.items }
-    requires ready { IsReady debugger.old }
+    requires agree { AllAgree (λ l. l.ids) (λ l. (⟦<dyn Native as Native>⟧ l.native.vtable).owed l.native.value) debugger.old.mover.machine.natives.slots.items }
+    requires ready { IsReady debugger.old.mover }
     requires well { debugger.old.has_failed ≡ false }
-    ensures agree { AllAgree (λ l. l.ids) (λ l. (⟦<dyn Native as Native>⟧ l.native.vtable).owed l.native.value) debugger.new.machine.natives.slots.items }
-    ensures ready { IsReady debugger.new }
+    ensures agree { AllAgree (λ l. l.ids) (λ l. (⟦<dyn Native as Native>⟧ l.native.vtable).owed l.native.value) debugger.new.mover.machine.natives.slots.items }
+    ensures ready { IsReady debugger.new.mover }
     ensures well { IfOk result (λ _. debugger.new.has_failed ≡ false) }
     ensures ok { IfOk result (λ _. GoesOn debugger.old pending.old (W.out out.old) bytes.now debugger.new pending.new (W.out out.new)) }
     ensures err { IfErr result (λ fault. (fault ≡ Write) × BreaksOff debugger.old pending.old (W.out out.old) bytes.now (W.out out.new) (W.failed out.new)) }
@@ -128,8 +128,8 @@ pub fn converse<R: Reader, W: Sink>(
     reads: u64,
     out: &mut W,
 ) -> Result<(), Fault>
-    requires agree { AllAgree (λ l. l.ids) (λ l. (⟦<dyn Native as Native>⟧ l.native.vtable).owed l.native.value) debugger.old.machine.natives.slots.items }
-    requires ready { IsReady debugger.old }
+    requires agree { AllAgree (λ l. l.ids) (λ l. (⟦<dyn Native as Native>⟧ l.native.vtable).owed l.native.value) debugger.old.mover.machine.natives.slots.items }
+    requires ready { IsReady debugger.old.mover }
     requires well { debugger.old.has_failed ≡ false }
     ensures ok { IfOk result (λ _. HoldsAll debugger.old (record { before = R.given reader.old; now = R.given reader.new; ended = R.ended reader.new; failed = R.failed reader.new }) (W.out out.old) (W.out out.new)) }
     ensures err { IfErr result (λ fault. ((fault ≡ File) × StopsShort reads debugger.old (record { before = R.given reader.old; now = R.given reader.new; ended = R.ended reader.new; failed = R.failed reader.new }) (W.out out.old) (W.out out.new)) ⊎ ((fault ≡ Write) × BreaksDown debugger.old (record { before = R.given reader.old; now = R.given reader.new; ended = R.ended reader.new; failed = R.failed reader.new }) (W.out out.old) (W.out out.new) (W.failed out.new))) }

@@ -1,15 +1,16 @@
 //! A debugger over the bytes of files, as commands come.
-ghost use Rattle.std.specs.Prelude.{ℕ, ◌≡◌, ◌+◌, IfErr, IfOk, List, Ok, length};
+ghost use Rattle.std.specs.Prelude.{ℕ, ◌≡◌, ◌+◌, [], Err, IfErr, IfOk, List, Ok, length};
 ghost use Rattle.aom_natives.specs.Owed.{OweNothing};
 ghost use Rattle.aom_natives.specs.Slots.{AllAgree};
 ghost use Rattle.aom_sound.specs.World.{boot_state};
 ghost use Rattle.aom_lines.specs.Turn.{step_lines};
 ghost use Rattle.aom_machine.specs.Calls.{StandsFor, natives_of};
 ghost use Rattle.aom_script.specs.Script.{IsTimely, denoted};
-ghost use Rattle.aom_debug.specs.Debugging.{IsReady};
+ghost use Rattle.aom_debug.specs.Movers.{IsReady};
 ghost use Rattle.aom_main.specs.Acceptable.{IsSpelled};
 ghost use Rattle.aom_main.specs.Headline.{RefusesBoot};
 ghost use Rattle.aom_main.specs.declared.faults.Fault.TheVariants.{Memory};
+ghost use Rattle.aom_main.specs.declared.status.ExitStatus.TheVariants.{Done};
 ghost use Rattle.aom_main.specs.Untold.{Untold};
 ghost use Rattle.aom_debugging.specs.Answers.{DebugAnswers};
 ghost use Rattle.aom_debugging.specs.Beginning.{IsBegun};
@@ -17,12 +18,14 @@ ghost use Rattle.aom_debugging.specs.Beginning.{IsBegun};
 use crate::Reader;
 use crate::conversing::converse;
 use aom_budget::Accepted;
-use aom_debug::{Debugger, Sink};
+use aom_debug::{Debugger, Mover, Sink};
+use aom_debug_marks::Recent;
 use aom_lines::Turn;
 use aom_machine::Machine;
 use aom_main::{ExitStatus, Fault, accept_bytes, tell};
 use aom_natives::Native;
 use aom_script::{Script, read_script};
+use aom_transcript::Page;
 use std::alloc::{AllocError, Global};
 
 /// Runs an image under a script beside those natives as commands say, which come from a reader, and writes what they tell. The image is looked
@@ -104,11 +107,18 @@ fn debug_script<R: Reader, W: Sink>(
     ensures { (bytes text : List ℕ) → IsSpelled bytes accepted.now → denoted text ≡ Ok script → Untold (DebugAnswers bytes text limit (length boxes.items) reads (record { before = R.given reader.old; now = R.given reader.new; ended = R.ended reader.new; failed = R.failed reader.new }) (record { before = W.out out.old; now = W.out out.new; failed = W.failed out.new })) result }
 {
     accepted.facts();
-    let mut debugger = match begin(alloc, accepted, script, limit, boxes) {
-        Ok(debugger) => debugger,
-        Err(fault) => return Err(fault),
-    };
-    match converse(&mut debugger, reader, reads, out) {
+    match begin(alloc, accepted, script, limit, boxes) {
+        Ok(mut debugger) => done(converse(&mut debugger, reader, reads, out)),
+        Err(fault) => Err(fault),
+    }
+}
+
+/// The status of a session that was held whole.
+fn done(told: Result<(), Fault>) -> Result<ExitStatus, Fault>
+    ensures ok { IfOk told (λ _. result ≡ Ok Done) }
+    ensures err { IfErr told (λ fault. result ≡ Err fault) }
+{
+    match told {
         Ok(()) => Ok(ExitStatus::Done),
         Err(fault) => Err(fault),
     }
@@ -124,8 +134,8 @@ fn begin<'a>(
 ) -> Result<Debugger<'a>, Fault>
     requires owed { OweNothing (λ b. (⟦<dyn Native as Native>⟧ b.vtable).owed b.value) boxes.items }
     requires timely { IsTimely script.timed }
-    ensures agree { IfOk result (λ d. AllAgree (λ l. l.ids) (λ l. (⟦<dyn Native as Native>⟧ l.native.vtable).owed l.native.value) d.machine.natives.slots.items) }
-    ensures ready { IfOk result (λ d. IsReady d) }
+    ensures agree { IfOk result (λ d. AllAgree (λ l. l.ids) (λ l. (⟦<dyn Native as Native>⟧ l.native.vtable).owed l.native.value) d.mover.machine.natives.slots.items) }
+    ensures ready { IfOk result (λ d. IsReady d.mover) }
     ensures begun { IfOk result (λ d. IsBegun accepted.now script limit (length boxes.items) d) }
     ensures err { IfErr result (λ fault. RefusesBoot accepted.now (length boxes.items) fault) }
 {
@@ -147,25 +157,40 @@ fn begun<'a>(
     requires image { machine.core.image ≡ accepted.now }
     requires stands { StandsFor machine (boot_state accepted.now) }
     requires timely { IsTimely script.timed }
-    ensures agree { IfOk result (λ d. AllAgree (λ l. l.ids) (λ l. (⟦<dyn Native as Native>⟧ l.native.vtable).owed l.native.value) d.machine.natives.slots.items) }
-    ensures ready { IfOk result (λ d. IsReady d) }
+    ensures agree { IfOk result (λ d. AllAgree (λ l. l.ids) (λ l. (⟦<dyn Native as Native>⟧ l.native.vtable).owed l.native.value) d.mover.machine.natives.slots.items) }
+    ensures ready { IfOk result (λ d. IsReady d.mover) }
     ensures begun { IfOk result (λ d. IsBegun accepted.now script limit (natives_of machine.entry) d) }
     ensures err { IfErr result (λ fault. fault ≡ Memory) }
 {
-    let Ok(turn) = turn_of(alloc, accepted, &script) else {
-        return Err(Fault::Memory);
-    };
-    match Debugger::new(alloc, machine, script, turn, limit) {
-        Ok(debugger) => Ok(debugger),
+    match room_of(alloc, accepted, &script) {
+        Ok((turn, recent)) => {
+            let page = Page::new();
+            Ok(Debugger::new(Mover {
+                machine,
+                script,
+                limit,
+                turn,
+                page,
+                recent,
+            }))
+        }
         Err(_) => Err(Fault::Memory),
     }
 }
 
-/// The turn of a run under a script.
-fn turn_of(alloc: Global, accepted: &Accepted, script: &Script) -> Result<Turn, AllocError>
-    ensures refused { IfOk result (λ t. t.refused ≡ script.now.refused) }
-    ensures room { IfOk result (λ t. t.room ≡ 64 + step_lines accepted.now.header.messages) }
+/// The turn of a run under a script, and room for the latest instructions.
+fn room_of(
+    alloc: Global,
+    accepted: &Accepted,
+    script: &Script,
+) -> Result<(Turn, Recent), AllocError>
+    ensures lines { IfOk result (λ r. r.0.lines ≡ []) }
+    ensures refused { IfOk result (λ r. r.0.refused ≡ script.now.refused) }
+    ensures room { IfOk result (λ r. r.0.room ≡ 64 + step_lines accepted.now.header.messages) }
+    ensures recent { IfOk result (λ r. r.1 ≡ []) }
 {
     let refused = Vec::from_slice(alloc, script.refused())?;
-    Turn::new(alloc, accepted.linked(), refused)
+    let turn = Turn::new(alloc, accepted.linked(), refused)?;
+    let recent = Recent::new(alloc)?;
+    Ok((turn, recent))
 }

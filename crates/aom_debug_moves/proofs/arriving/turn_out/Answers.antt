@@ -1,14 +1,35 @@
 -- Turns, and their lines.
+use Rattle.std.proofs.Common.{subst}
 use Rattle.aom_machine.specs.Calls.{natives_of}
-use Rattle.aom_run.specs.Turns.{hearing}
-use Rattle.aom_debug_moves.proofs.Sending.{sends_turn, stands_turned}
+use Rattle.aom_run.specs.Turns.{TakesTurns, hearing}
+use Rattle.aom_debug_moves.specs.Movers.{outside_of}
+use Rattle.aom_debug_moves.proofs.Keeping.{keeps_with, ready_on, went_if}
+use Rattle.aom_debug_moves.proofs.Sending.{breaks_turn, sends_turn, stands_turned, turn_cleared}
 use Rattle.aom_debug_moves.proofs.arriving.turn_out.Goals as goal
 
-pub returns-then-send-clause-stands : goal.returns-then-send-clause-stands
-returns-then-send-clause-stands g c = stands_turned c.args.machine.now c.take_turns.new.machine (hearing c.args.turn.now.refused c.args.limit (natives_of c.args.machine.now) c.args.events.now) c.take_turns.result c.args.turn.now c.take_turns.new.turn c.requires.none c.take_turns.ensures.turns c.requires.stands
+pub returns-clause-takes : goal.returns-clause-takes
+returns-clause-takes g c =
+    let a = c.args.mover.now in
+    let turns = c.take_turns in
+    (turns.result, turns.new.turn, subst (λ es. TakesTurns a.machine (hearing a.turn.refused a.limit (natives_of a.machine) es) turns.result a.turn turns.new.turn turns.new.machine) c.events-events.ensures turns.ensures.turns)
 
-pub returns-then-send-clause-some : goal.returns-then-send-clause-some
-returns-then-send-clause-some g c = (sends_turn c.args.machine.now c.take_turns.new.machine (hearing c.args.turn.now.refused c.args.limit (natives_of c.args.machine.now) c.args.events.now) c.take_turns.result c.args.turn.now c.take_turns.new.turn c.requires.none c.take_turns.ensures.turns (g.W.Sink.out c.args.out.now) (g.W.Sink.out c.send.new.out) (c.send.ensures.whole c.if-send.true), c.progress.ensures)
+pub returns-clause-ready : goal.returns-clause-ready
+returns-clause-ready g c =
+    let a = c.args.mover.now in
+    let ready = c.requires.ready in
+    let turns = c.take_turns in
+    let heard = hearing a.turn.refused a.limit (natives_of a.machine) c.events-events.result.now in
+    let same = turn_cleared a.machine turns.new.machine heard turns.result a.turn turns.new.turn ready.none turns.ensures.turns ready.stands c.send.new.turn c.send.ensures.clear in
+    ready_on ready (keeps_with a turns.new.machine c.send.new.turn c.send.new.page turns.ensures.image turns.ensures.natives same) (stands_turned a.machine turns.new.machine heard turns.result a.turn turns.new.turn ready.none turns.ensures.turns ready.stands)
 
-pub returns-else-send-clause-stands : goal.returns-else-send-clause-stands
-returns-else-send-clause-stands g c = stands_turned c.args.machine.now c.take_turns.new.machine (hearing c.args.turn.now.refused c.args.limit (natives_of c.args.machine.now) c.args.events.now) c.take_turns.result c.args.turn.now c.take_turns.new.turn c.requires.none c.take_turns.ensures.turns c.requires.stands
+pub returns-clause-went : goal.returns-clause-went
+returns-clause-went g c =
+    let a = c.args.mover.now in
+    let turns = c.take_turns in
+    let new = record a { machine = turns.new.machine; turn = c.send.new.turn; page = c.send.new.page } in
+    let before = g.W.Sink.out c.args.out.now in
+    let out = g.W.Sink.out c.send.new.out in
+    let takes = subst (λ es. TakesTurns a.machine (hearing a.turn.refused a.limit (natives_of a.machine) es) turns.result a.turn turns.new.turn turns.new.machine) c.events-events.ensures turns.ensures.turns in
+    went_if a new before out (g.W.Sink.failed c.send.new.out) c.progress-progress.result c.send.result c.then_some.result c.then_some.ensures c.progress-progress.ensures
+    (λ all. sends_turn a.machine turns.new.machine (outside_of a) turns.result a.turn turns.new.turn c.requires.ready.none takes before out (c.send.ensures.whole all))
+    (λ part. (c.send.ensures.fails part, breaks_turn a.machine turns.new.machine (outside_of a) turns.result a.turn turns.new.turn c.requires.ready.none takes before out c.send.ensures.prefix.0 c.send.ensures.prefix.1))

@@ -1,34 +1,37 @@
 -- A step that is asked for, and its lines; or nothing.
 use Rattle.aom_debug_moves.specs.Moves.{StepsOnce}
-use Rattle.aom_debug_moves.proofs.Sending.{breaks_step, far_after, sends_if_not, sends_if_so, sends_step, stands_after, stepped_of, was_running}
+use Rattle.aom_debug_moves.proofs.Keeping.{keeps_with, ready_on, went_if}
+use Rattle.aom_debug_moves.proofs.Sending.{breaks_step, cleared, far_after, sends_if_not, sends_if_so, sends_step, stands_after, stepped_of, was_running}
 use Rattle.aom_debug_moves.proofs.stepping.step_if.Goals as goal
 
-pub returns-then-not-asked-clause-some : goal.returns-then-not-asked-clause-some
-returns-then-not-asked-clause-some g c = (sends_if_not c.args.asked c.if-not-asked.true (StepsOnce c.args.machine.now.core.image c.args.turn.now.refused) c.args.machine.now (g.W.Sink.out c.args.out.now), c.progress.ensures)
+pub returns-then-not-asked-clause-went : goal.returns-then-not-asked-clause-went
+returns-then-not-asked-clause-went g c = (sends_if_not c.args.asked c.if-not-asked.true _ c.args.mover.now.machine (g.W.Sink.out c.args.out.now), c.progress.ensures)
 
-pub returns-then-send-clause-stands : goal.returns-then-send-clause-stands
-returns-then-send-clause-stands g c = stands_after c.args.machine.now c.step-progress.new.self c.step-progress.result c.args.turn.now c.step-progress.new.turn c.requires.none (stepped_of c.args.machine.now c.step-progress.new.self c.step-progress.result c.args.turn.now c.step-progress.new.turn c.step-progress.ensures.steps) c.requires.stands
+pub returns-clause-ready : goal.returns-clause-ready
+returns-clause-ready g c =
+    let a = c.args.mover.now in
+    let ready = c.requires.ready in
+    let step = c.step-progress in
+    let steps = stepped_of a.machine step.new.self step.result a.turn step.new.turn step.ensures.steps in
+    let same = cleared a.machine step.new.self step.result a.turn step.new.turn ready.none steps ready.stands c.send.new.turn c.send.ensures.clear in
+    ready_on ready (keeps_with a step.new.self c.send.new.turn c.send.new.page step.ensures.image step.ensures.natives same) (stands_after a.machine step.new.self step.result a.turn step.new.turn ready.none steps ready.stands)
 
-pub returns-then-send-clause-some : goal.returns-then-send-clause-some
-returns-then-send-clause-some g c =
-    let leads = StepsOnce c.args.machine.now.core.image c.args.turn.now.refused in
+pub returns-clause-went : goal.returns-clause-went
+returns-clause-went g c =
+    let a = c.args.mover.now in
+    let ready = c.requires.ready in
+    let step = c.step-progress in
+    let new = record a { machine = step.new.self; turn = c.send.new.turn; page = c.send.new.page } in
+    let before = g.W.Sink.out c.args.out.now in
     let out = g.W.Sink.out c.send.new.out in
-    let step = sends_step c.args.machine.now c.step-progress.new.self c.step-progress.result c.args.turn.now c.step-progress.new.turn c.requires.none (stepped_of c.args.machine.now c.step-progress.new.self c.step-progress.result c.args.turn.now c.step-progress.new.turn c.step-progress.ensures.steps) (g.W.Sink.out c.args.out.now) out (c.send.ensures.whole c.if-send.true) in (
-      sends_if_so c.args.asked c.if-not-asked.false leads c.args.machine.now c.step-progress.new.self (g.W.Sink.out c.args.out.now) out step,
-      far_after c.args.machine.now c.step-progress.new.self c.step-progress.result c.args.turn.now c.step-progress.new.turn c.requires.none (stepped_of c.args.machine.now c.step-progress.new.self c.step-progress.result c.args.turn.now c.step-progress.new.turn c.step-progress.ensures.steps) c.requires.stands,
-    )
+    let leads = StepsOnce a.machine.core.image a.turn.refused in
+    let steps = stepped_of a.machine step.new.self step.result a.turn step.new.turn step.ensures.steps in
+    went_if a new before out (g.W.Sink.failed c.send.new.out) step.result c.send.result c.then_some.result c.then_some.ensures (far_after a.machine step.new.self step.result a.turn step.new.turn ready.none steps ready.stands)
+    (λ all. sends_if_so c.args.asked c.if-not-asked.false leads a.machine step.new.self before out (sends_step a.machine step.new.self step.result a.turn step.new.turn ready.none steps before out (c.send.ensures.whole all)))
+    (λ part. (c.send.ensures.fails part, breaks_step a.machine step.new.self step.result a.turn step.new.turn ready.none steps before out c.send.ensures.prefix.0 c.send.ensures.prefix.1))
 
-pub returns-then-send-clause-was : goal.returns-then-send-clause-was
-returns-then-send-clause-was g c = was_running c.args.machine.now c.step-progress.new.self c.step-progress.result c.args.turn.now c.step-progress.new.turn c.requires.none (stepped_of c.args.machine.now c.step-progress.new.self c.step-progress.result c.args.turn.now c.step-progress.new.turn c.step-progress.ensures.steps) c.requires.stands
-
-pub returns-else-send-clause-stands : goal.returns-else-send-clause-stands
-returns-else-send-clause-stands g c = stands_after c.args.machine.now c.step-progress.new.self c.step-progress.result c.args.turn.now c.step-progress.new.turn c.requires.none (stepped_of c.args.machine.now c.step-progress.new.self c.step-progress.result c.args.turn.now c.step-progress.new.turn c.step-progress.ensures.steps) c.requires.stands
-
-pub returns-else-send-clause-none : goal.returns-else-send-clause-none
-returns-else-send-clause-none g c = (
-  c.send.ensures.fails c.if-send.false,
-  breaks_step c.args.machine.now c.step-progress.new.self c.step-progress.result c.args.turn.now c.step-progress.new.turn c.requires.none (stepped_of c.args.machine.now c.step-progress.new.self c.step-progress.result c.args.turn.now c.step-progress.new.turn c.step-progress.ensures.steps) (g.W.Sink.out c.args.out.now) (g.W.Sink.out c.send.new.out) c.send.ensures.prefix.0 c.send.ensures.prefix.1,
-)
-
-pub returns-else-send-clause-was : goal.returns-else-send-clause-was
-returns-else-send-clause-was g c = was_running c.args.machine.now c.step-progress.new.self c.step-progress.result c.args.turn.now c.step-progress.new.turn c.requires.none (stepped_of c.args.machine.now c.step-progress.new.self c.step-progress.result c.args.turn.now c.step-progress.new.turn c.step-progress.ensures.steps) c.requires.stands
+pub returns-clause-was : goal.returns-clause-was
+returns-clause-was g c =
+    let a = c.args.mover.now in
+    let step = c.step-progress in
+    was_running a.machine step.new.self step.result a.turn step.new.turn c.requires.ready.none (stepped_of a.machine step.new.self step.result a.turn step.new.turn step.ensures.steps) c.requires.ready.stands

@@ -1,6 +1,6 @@
 use Rattle.std.proofs.Common.{◌≡◌, false, take}
 use Rattle.aom_natives.specs.Slots.{AllAgree}
-use Rattle.aom_debug.specs.Debugging.{IsReady}
+use Rattle.aom_debug.specs.Movers.{IsReady}
 use Rattle.aom_debugging.specs.Conversing.{GoesOn}
 use Rattle.aom_debugging.proofs.Talking.{talks_on}
 use Rattle.aom_debugging.proofs.conversing.hear.Given as goal
@@ -9,6 +9,6 @@ abbrev pub invariant-loop-byte : goal.invariant-loop-byte
 invariant-loop-byte g l = record {
   goes : GoesOn l.fn.debugger l.fn.pending (g.W.Sink.out l.fn.out) (take l.byte-index l.bytes) l.debugger l.pending (g.W.Sink.out l.out);
   well : l.debugger.has_failed ≡ false;
-  ready : IsReady l.debugger;
-  agree : AllAgree (λ x. x.ids) (λ x. (goal.Native-dyn g (x.native.vtable, x.native.value)).owed x.native.value) l.debugger.machine.natives.slots.items;
+  ready : IsReady l.debugger.mover;
+  agree : AllAgree (λ x. x.ids) (λ x. (goal.Native-dyn g (x.native.vtable, x.native.value)).owed x.native.value) l.debugger.mover.machine.natives.slots.items;
 }

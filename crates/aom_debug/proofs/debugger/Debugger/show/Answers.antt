@@ -17,22 +17,22 @@ returns-in-Owners-clause-err g c = rw c.in-Owners.is (IfErr-weaker c.show_owners
 
 pub returns-in-Cleanup-clause-ok : goal.returns-in-Cleanup-clause-ok
 returns-in-Cleanup-clause-ok g c =
-    let p = c.args.self.now.machine.core.image in
+    let p = c.args.self.now.mover.machine.core.image in
     rw c.in-Cleanup.is (IfOk-weaker c.tell_cleanup.result _ _ (λ done tells s st. (_, refl, (tells p).out s st.stands)) (rw c.parts.ensures.parts at c.tell_cleanup.ensures.ok))
 
 pub returns-in-Cleanup-clause-err : goal.returns-in-Cleanup-clause-err
 returns-in-Cleanup-clause-err g c =
-    let p = c.args.self.now.machine.core.image in
+    let p = c.args.self.now.mover.machine.core.image in
     rw c.in-Cleanup.is (IfErr-weaker c.tell_cleanup.result _ _ (λ fault part. ((part p).told, (part p).fails, (λ s st. (_, refl, (part p).out s st.stands)))) (rw c.parts.ensures.parts at c.tell_cleanup.ensures.err))
 
 pub returns-in-Actives-clause-ok : goal.returns-in-Actives-clause-ok
 returns-in-Actives-clause-ok g c =
-    let p = c.args.self.now.machine.core.image in
+    let p = c.args.self.now.mover.machine.core.image in
     rw c.in-Actives.is (IfOk-weaker c.tell_actives.result _ _ (λ done tells s st. (_, (_, (tells p).order s st.stands, refl), (tells p).out s st.stands)) (rw c.parts-in-Actives.ensures.parts at c.tell_actives.ensures.ok))
 
 pub returns-in-Actives-clause-err : goal.returns-in-Actives-clause-err
 returns-in-Actives-clause-err g c =
-    let p = c.args.self.now.machine.core.image in
+    let p = c.args.self.now.mover.machine.core.image in
     rw c.in-Actives.is (IfErr-weaker c.tell_actives.result _ _ (λ fault part. ((part p).told, (part p).fails, (λ s st. (_, (_, (part p).order s st.stands, refl), (part p).out s st.stands)))) (rw c.parts-in-Actives.ensures.parts at c.tell_actives.ensures.err))
 
 pub returns-in-Recent-clause-ok : goal.returns-in-Recent-clause-ok

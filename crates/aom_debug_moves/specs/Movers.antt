@@ -1,0 +1,37 @@
+-- A machine that moves under a script.
+use Rattle.std.specs.Prelude.{◌≡◌, ◌≤◌, ◌+◌, ◌-◌, ◌^◌, ℕ, Bool, true, List, [], Option, Some, None}
+use Rattle.aom_lines.specs.Turn.{step_lines}
+use Rattle.aom_parts.specs.declared.progress.Progress.{Progress}
+use Rattle.aom_script.specs.Script.{IsTimely}
+use Rattle.aom_sound.specs.World.{Outside}
+use Rattle.aom_exec.specs.Steps.{progress}
+use Rattle.aom_machine.specs.Calls.{Stands, natives_of}
+use Rattle.aom_run.specs.Turns.{hearing}
+use Rattle.aom_debug_moves.specs.Sends.{Breaks, Leads, Sends}
+pub use Rattle.aom_debug_moves.specs.declared.mover.Mover.{Mover}
+
+module _ {X : Type 0} {B : X → Type 0} where
+  -- what comes from outside of the image
+  abbrev pub outside_of : Mover X B → Outside
+  outside_of m = hearing m.turn.refused m.limit (natives_of m.machine) m.script.timed
+
+  -- the machine stands for a state, the turn has no lines and room for those of a step, the events of the script are as a machine needs them, and the limit is a number of 64 bits
+  pub record IsReady (m : Mover X B) : Type 0 where
+    pub stands : Stands m.machine
+    pub none : m.turn.lines ≡ []
+    pub room : 64 + step_lines m.machine.core.image.header.messages ≤ m.turn.room
+    pub timely : IsTimely m.script.timed
+    pub few : m.limit ≤ 2 ^ 64 - 1
+
+  -- what no move changes
+  pub record Keeps (old new : Mover X B) : Type 0 where
+    pub image : new.machine.core.image ≡ old.machine.core.image
+    pub natives : natives_of new.machine ≡ natives_of old.machine
+    pub script : new.script ≡ old.script
+    pub turn : new.turn ≡ old.turn
+    pub limit : new.limit ≡ old.limit
+
+  -- a move went so, has come so far, and its lines are out; or of a way that it may have gone a beginning is out, since the sink failed
+  abbrev pub Went : (so may : Leads) → Mover X B → Option (List ℕ) → Option (List ℕ) → Bool → Option Progress → Mover X B → Type 0
+  Went so may old before out failed None new = (failed ≡ true) × Breaks may old.machine before out new.machine
+  Went so may old before out failed (Some far) new = Sends so old.machine before out new.machine × (far ≡ progress new.machine.core)

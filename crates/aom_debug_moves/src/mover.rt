@@ -1,0 +1,19 @@
+//! A machine that moves under a script.
+use aom_debug_marks::Recent;
+use aom_lines::Turn;
+use aom_machine::Machine;
+use aom_script::Script;
+use aom_transcript::Page;
+
+/// A machine under a script, with all that its moves write to.
+#[derive(Drop)]
+pub struct Mover<'a> {
+    pub machine: Machine<'a>,
+    pub script: Script,
+    /// The most dispatches after main's.
+    pub limit: u32,
+    pub turn: Turn,
+    pub page: Page,
+    /// The latest instructions.
+    pub recent: Recent,
+}
