@@ -22,8 +22,7 @@ IsBytes-take n bytes h i =
     ]
 
 pub bind_ok : {A B : Type 0} (r : Result A LoadFault) (f : A → Result B LoadFault) (y : B) → (r >>= f) ≡ Ok y → (x : A) × (r ≡ Ok x) × (f x ≡ Ok y)
-bind_ok (Ok x) f y e = (x, refl, e)
-bind_ok (Err d) f y e = absurd cc
+bind_ok x f y e = grind arith
 
 abbrev done : {A : Type 0} → A → Result A LoadFault
 done x = Ok x
