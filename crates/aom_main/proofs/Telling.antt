@@ -28,7 +28,7 @@ use Rattle.aom_run.specs.declared.outcome.Outcome.TheVariants.{Stopped, Waiting,
 use Rattle.aom_script.proofs.Faulting.{IsOfText, is_of_text}
 use Rattle.aom_run.specs.Runs.{Ran, after}
 use Rattle.aom_machine.specs.declared.machine.Machine.{Machine}
-use Rattle.aom_script.specs.Script.{Script, denoted, RefusesOrWants}
+use Rattle.aom_script.specs.Script.{Script, denoted, RefusesOrWants, WantsMemory}
 use Rattle.aom_script.specs.declared.fault.ScriptFault.{ScriptFault}
 use Rattle.aom_script.specs.declared.fault.ScriptFaultKind.{ScriptFaultKind}
 use Rattle.aom_script.specs.declared.fault.ScriptFaultKind.TheVariants as kinds
@@ -40,7 +40,7 @@ use Rattle.aom_machine.specs.declared.fault.BootFault.{BootFault}
 use Rattle.aom_machine.specs.declared.fault.BootFault.TheVariants as boots
 use Rattle.aom_main.specs.Status.{of_boot, of_script, of_script_kind, status_of}
 use Rattle.aom_main.specs.Acceptable.{IsSpelled, IsAcceptable, Refuses, RefusesOrWants as RefusesImage}
-use Rattle.aom_main.specs.Headline.{Sent, outside_of, IsSilent, Told, Shows, Accepts, AcceptedAnswers, AllRunWell, CheckAnswers, Ends, EndsAs, HasNatives, ImageWantsMemory, IsOnly, IsRefused, RefusesBoot, RunAnswers, Runs, Shown, Transcribed}
+use Rattle.aom_main.specs.Headline.{Sent, outside_of, IsSilent, Told, Shows, Accepts, AcceptedAnswers, AllRunWell, CheckAnswers, Ends, EndsAs, HasNatives, ImageWantsMemory, IsNoScript, IsOnly, IsRefused, RefusesBoot, RunAnswers, Runs, Shown, Tells, Transcribed}
 use Rattle.aom_exec.proofs.Affording.{affords}
 use Rattle.aom_main.specs.Explored.{AcceptedExplores, BreaksOff, ExploreAnswers, Explored, RefusesTry}
 use Rattle.aom_main.specs.Explored.ExploreBreaks.{script_wants_memory as wants_for_script, machine_wants_memory as wants_for_machine, output_fails as fails}
@@ -167,15 +167,21 @@ told_so : (fault : ScriptFault) (kind : ScriptFaultKind) → IsOfText kind → o
 told_so fault kinds.OutOfMemory h = absurd h
 told_so fault kind h = refl
 
--- what is told of a text that is no script, or that there was no memory for
+-- what is told of a text that is no script, or that there was no memory for, is what each status answers which is one of that
+unread : (answers : ExitStatus → Type 0) (bytes text : List ℕ) (fault : ScriptFault) (line : Fault) (out errors : Sent) (status : ExitStatus) → Accepts bytes → RefusesOrWants text fault → IsSilent out
+    → line ≡ of_script fault → Told line status errors → (IsNoScript bytes text out errors → answers statuses.CallRefused) → (WantsMemory text fault → Tells faults.Memory errors → answers statuses.Fault)
+    → answers status
+unread answers bytes text fault line out errors status accepts (inl denotes) silent is told refused wanting =
+    let script : Told (faults.Script fault) status errors = subst (λ f. Told f status errors) (is ∙ told_so fault fault.kind (is_of_text text fault denotes)) told in
+    subst answers (sym script.0) (refused (record { silent = silent; accepts = accepts; fault = fault; denotes = denotes; tells = script.1 }))
+unread answers bytes text fault line out errors status accepts (inr wants) silent is told refused wanting =
+    let memory : Told faults.Memory status errors = subst (λ f. Told f status errors) (is ∙ ap (of_script_kind fault) wants.lines.kind) told in
+    subst answers (sym memory.0) (wanting wants memory.1)
+
 pub unscripted : (bytes text : List ℕ) (limit natives : ℕ) (fault : ScriptFault) (line : Fault) (out errors : Sent) (status : ExitStatus) → Accepts bytes → RefusesOrWants text fault → IsSilent out
     → line ≡ of_script fault → Told line status errors → AcceptedAnswers bytes text limit natives out errors status
-unscripted bytes text limit natives fault line out errors status accepts (inl denotes) silent is told =
-    let script : Told (faults.Script fault) status errors = subst (λ f. Told f status errors) (is ∙ told_so fault fault.kind (is_of_text text fault denotes)) told in
-    subst (AcceptedAnswers bytes text limit natives out errors) (sym script.0) (inl (record { silent = silent; accepts = accepts; fault = fault; denotes = denotes; tells = script.1 }))
-unscripted bytes text limit natives fault line out errors status accepts (inr wants) silent is told =
-    let memory : Told faults.Memory status errors = subst (λ f. Told f status errors) (is ∙ ap (of_script_kind fault) wants.lines.kind) told in
-    subst (AcceptedAnswers bytes text limit natives out errors) (sym memory.0) (script_wants_memory silent accepts fault wants memory.1)
+unscripted bytes text limit natives fault line out errors status accepts refuses silent is told =
+    unread (AcceptedAnswers bytes text limit natives out errors) bytes text fault line out errors status accepts refuses silent is told inl (script_wants_memory silent accepts fault)
 
 -- ---- runs with one more refusal
 
@@ -222,12 +228,8 @@ module _ (bytes text : List ℕ) (limit natives : ℕ) (p : Image) (script : Scr
 
 pub untried : (bytes text : List ℕ) (limit natives : ℕ) (part : Part) (fault : ScriptFault) (line : Fault) (out errors : Sent) (status : ExitStatus) → Accepts bytes → RefusesOrWants text fault → IsSilent out
     → line ≡ of_script fault → Told line status errors → AcceptedExplores bytes text limit natives part out errors status
-untried bytes text limit natives part fault line out errors status accepts (inl denotes) silent is told =
-    let script : Told (faults.Script fault) status errors = subst (λ f. Told f status errors) (is ∙ told_so fault fault.kind (is_of_text text fault denotes)) told in
-    subst (AcceptedExplores bytes text limit natives part out errors) (sym script.0) (inl (record { silent = silent; accepts = accepts; fault = fault; denotes = denotes; tells = script.1 }))
-untried bytes text limit natives part fault line out errors status accepts (inr wants) silent is told =
-    let memory : Told faults.Memory status errors = subst (λ f. Told f status errors) (is ∙ ap (of_script_kind fault) wants.lines.kind) told in
-    subst (AcceptedExplores bytes text limit natives part out errors) (sym memory.0) (wants_for_script silent accepts fault wants memory.1)
+untried bytes text limit natives part fault line out errors status accepts refuses silent is told =
+    unread (AcceptedExplores bytes text limit natives part out errors) bytes text fault line out errors status accepts refuses silent is told inl (wants_for_script silent accepts fault)
 
 pub explores : (bytes text : List ℕ) (limit natives : ℕ) (part : Part) (out errors : Sent) (status : ExitStatus) → AcceptedExplores bytes text limit natives part out errors status → ExploreAnswers bytes text limit natives part out errors status
 explores bytes text limit natives part out errors statuses.ImageRefused a = absurd a
@@ -236,39 +238,35 @@ explores bytes text limit natives part out errors _ a = a
 
 -- ---- bytes that are no accepted image
 
--- what the status is then, and what is told
-abbrev Turned : List ℕ → Sent → Sent → ExitStatus → Type 0
-Turned bytes out errors status = ((status ≡ statuses.ImageRefused) × IsRefused bytes out errors) ⊎ ((status ≡ statuses.Fault) × ImageWantsMemory out errors)
+-- what is told of them is want of memory or why they are none
+no_image : (bytes : List ℕ) (fault : Fault) → RefusesImage bytes fault → (fault ≡ faults.Memory) ⊎ (Refuses bytes fault × (status_of fault ≡ statuses.ImageRefused) × (fault ≡ faults.Memory → ⊥))
+no_image bytes (faults.Load fault) refuses = inr (refuses, refl, λ e. cc)
+no_image bytes (faults.Link fault) refuses = inr (refuses, refl, λ e. cc)
+no_image bytes (faults.Verify refusal) refuses = inr (refuses, refl, λ e. cc)
+no_image bytes (faults.Budget fault) refuses = inr (refuses, refl, λ e. cc)
+no_image bytes faults.Memory refuses = inl refl
+no_image bytes _ refuses = absurd refuses
 
-turned_for : (bytes : List ℕ) (fault : Fault) (out errors : Sent) (status : ExitStatus) → Refuses bytes fault → status_of fault ≡ statuses.ImageRefused → (fault ≡ faults.Memory → ⊥)
-    → ((p : Image) → IsSpelled bytes p → IsAcceptable p → fault ≡ faults.Memory) → IsSilent out → Told fault status errors → Turned bytes out errors status
-turned_for bytes fault out errors status refuses is other complete silent told =
-    inl (told.0 ∙ is, record { silent = silent; fault = fault; refuses = refuses; none = λ p spelled acceptable. other (complete p spelled acceptable); status = is; tells = told.1 })
-
-turned : (bytes : List ℕ) (fault : Fault) (out errors : Sent) (status : ExitStatus) → RefusesImage bytes fault
-    → ((p : Image) → IsSpelled bytes p → IsAcceptable p → fault ≡ faults.Memory) → IsSilent out → Told fault status errors → Turned bytes out errors status
-turned bytes (faults.Load fault) out errors status refuses complete silent told = turned_for bytes (faults.Load fault) out errors status refuses refl (λ e. cc) complete silent told
-turned bytes (faults.Link fault) out errors status refuses complete silent told = turned_for bytes (faults.Link fault) out errors status refuses refl (λ e. cc) complete silent told
-turned bytes (faults.Verify refusal) out errors status refuses complete silent told = turned_for bytes (faults.Verify refusal) out errors status refuses refl (λ e. cc) complete silent told
-turned bytes (faults.Budget fault) out errors status refuses complete silent told = turned_for bytes (faults.Budget fault) out errors status refuses refl (λ e. cc) complete silent told
-turned bytes faults.Memory out errors status refuses complete silent told = inr (told.0, record { silent = silent; tells = told.1 })
-turned bytes _ out errors status refuses complete silent told = absurd refuses
-
-to_run : (bytes text : List ℕ) (limit natives : ℕ) (out errors : Sent) (status : ExitStatus) → Turned bytes out errors status → RunAnswers bytes text limit natives out errors status
-to_run bytes text limit natives out errors status (inl refused) = subst (RunAnswers bytes text limit natives out errors) (sym refused.0) refused.1
-to_run bytes text limit natives out errors status (inr wants) = subst (RunAnswers bytes text limit natives out errors) (sym wants.0) (inl wants.1)
-
-to_check : (bytes : List ℕ) (out errors : Sent) (status : ExitStatus) → Turned bytes out errors status → CheckAnswers bytes out errors status
-to_check bytes out errors status (inl refused) = subst (CheckAnswers bytes out errors) (sym refused.0) refused.1
-to_check bytes out errors status (inr wants) = subst (CheckAnswers bytes out errors) (sym wants.0) (inl wants.1)
+-- so each status answers which is one of a refused image and of want of memory
+pub turned : (answers : ExitStatus → Type 0) (bytes : List ℕ) (fault : Fault) (out errors : Sent) (status : ExitStatus) → RefusesImage bytes fault
+    → ((p : Image) → IsSpelled bytes p → IsAcceptable p → fault ≡ faults.Memory) → IsSilent out → Told fault status errors
+    → ((refused : IsRefused bytes out errors) → refused.fault ≡ fault → answers statuses.ImageRefused) → (ImageWantsMemory out errors → answers statuses.Fault) → answers status
+turned answers bytes fault out errors status refuses complete silent told refused wants = go (no_image bytes fault refuses)
+  where
+    go : (fault ≡ faults.Memory) ⊎ (Refuses bytes fault × (status_of fault ≡ statuses.ImageRefused) × (fault ≡ faults.Memory → ⊥)) → answers status
+    go (inl memory) = let is : Told faults.Memory status errors = subst (λ f. Told f status errors) memory told in subst answers (sym is.0) (wants (record { silent = silent; tells = is.1 }))
+    go (inr (why, is, other)) =
+        subst answers (sym (told.0 ∙ is))
+        (refused (record { silent = silent; fault = fault; refuses = why; none = λ p spelled acceptable. other (complete p spelled acceptable); status = is; tells = told.1 }) refl)
 
 pub unaccepted : (bytes text : List ℕ) (limit natives : ℕ) (fault : Fault) (out errors : Sent) (status : ExitStatus) → RefusesImage bytes fault
     → ((p : Image) → IsSpelled bytes p → IsAcceptable p → fault ≡ faults.Memory) → IsSilent out → Told fault status errors → RunAnswers bytes text limit natives out errors status
-unaccepted bytes text limit natives fault out errors status refuses complete silent told = to_run bytes text limit natives out errors status (turned bytes fault out errors status refuses complete silent told)
+unaccepted bytes text limit natives fault out errors status refuses complete silent told =
+    turned (RunAnswers bytes text limit natives out errors) bytes fault out errors status refuses complete silent told (λ refused _. refused) inl
 
 pub unchecked : (bytes : List ℕ) (fault : Fault) (out errors : Sent) (status : ExitStatus) → RefusesImage bytes fault
     → ((p : Image) → IsSpelled bytes p → IsAcceptable p → fault ≡ faults.Memory) → IsSilent out → Told fault status errors → CheckAnswers bytes out errors status
-unchecked bytes fault out errors status refuses complete silent told = to_check bytes out errors status (turned bytes fault out errors status refuses complete silent told)
+unchecked bytes fault out errors status refuses complete silent told = turned (CheckAnswers bytes out errors) bytes fault out errors status refuses complete silent told (λ refused _. refused) inl
 
 -- ---- an accepted image
 
