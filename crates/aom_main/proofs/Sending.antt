@@ -1,5 +1,5 @@
 -- What is known of the bytes that were sent is what the status answers.
-use Rattle.std.proofs.Common.{◌≡◌, List, ℕ, true, sym, subst, inl, inr}
+use Rattle.std.proofs.Common.{◌≡◌, List, ℕ, true, sym, subst, inl, inr, arith}
 use Rattle.aom_run.specs.Runs.{after}
 use Rattle.aom_main.specs.declared.status.ExitStatus.{ExitStatus}
 use Rattle.aom_main.specs.declared.status.ExitStatus.TheVariants.{Done, Fault as Faulty}
@@ -39,12 +39,8 @@ listed bytes text out errors status lists sends = due_sent (DisAnswers bytes out
 
 -- bytes that are no image, or want of memory
 pub unlisted : (bytes : List ℕ) (fault : Fault) (out errors : Sent) (status : ExitStatus) → RefusesBytes bytes fault → IsSilent out → Told fault status errors → DisAnswers bytes out errors status
-unlisted bytes (faults.Load fault) out errors status refuses silent told = subst (DisAnswers bytes out errors) (sym told.0) (record { silent = silent; reason = fault; why = refuses; tells = told.1 })
-unlisted bytes faults.Memory out errors status refuses silent told = subst (DisAnswers bytes out errors) (sym told.0) (inl (record { silent = silent; tells = told.1 }))
-unlisted bytes _ out errors status refuses silent told = absurd refuses
+unlisted bytes fault out errors status refuses silent told = grind arith
 
 -- a text that denotes no image, or want of memory
 pub unassembled : (text : List ℕ) (fault : Fault) (out errors : Sent) (status : ExitStatus) → RefusesText text fault → IsSilent out → Told fault status errors → AsmAnswers text out errors status
-unassembled text (faults.Asm fault) out errors status refuses silent told = subst (AsmAnswers text out errors) (sym told.0) (record { silent = silent; reason = fault; why = refuses; tells = told.1 })
-unassembled text faults.Memory out errors status refuses silent told = subst (AsmAnswers text out errors) (sym told.0) (inl (record { silent = silent; tells = told.1 }))
-unassembled text _ out errors status refuses silent told = absurd refuses
+unassembled text fault out errors status refuses silent told = grind arith

@@ -117,32 +117,22 @@ module _ (bytes text : List ℕ) (limit natives : ℕ) (r : Runs bytes text limi
   ran : (out errors : Sent) (outcome : Outcome) (status : ExitStatus) → HasNatives r.image natives → Shows r.image around outcome out → Ends outcome status errors
       → AcceptedAnswers bytes text limit natives out errors status
   ran out errors Stopped status enough shows ends = subst (AcceptedAnswers bytes text limit natives out errors) (sym ends.0) (so _ out enough shows, ends.1)
-  ran out errors Waiting status enough shows ends = subst (AcceptedAnswers bytes text limit natives out errors) (sym ends.0) (endings.Waiting, tt, so _ out enough shows, ends.1)
-  ran out errors (MainLeft code) status enough shows ends = subst (AcceptedAnswers bytes text limit natives out errors) (sym ends.0) (endings.MainLeft code, tt, so _ out enough shows, ends.1)
-  ran out errors Limit status enough shows ends = subst (AcceptedAnswers bytes text limit natives out errors) (sym ends.0) (endings.Limit, tt, so _ out enough shows, ends.1)
-  ran out errors (Error answer) status enough shows ends = subst (AcceptedAnswers bytes text limit natives out errors) (sym ends.0) (endings.Error answer, tt, so _ out enough shows, ends.1)
   ran out errors WriteFault status enough shows ends = subst (AcceptedAnswers bytes text limit natives out errors) (sym ends.0) (output_fails r enough shows ends.1)
+  ran out errors _ status enough shows ends = subst (AcceptedAnswers bytes text limit natives out errors) (sym ends.0) (_, tt, so _ out enough shows, ends.1)
 
 -- the fault by which a machine does not boot
 pub boot_refused : (p : Image) (natives : ℕ) (fault : BootFault) → (fault ≡ boots.TooFewNatives) ↔ (natives < p.header.natives) → RefusesBoot p natives (of_boot fault)
 boot_refused p natives boots.TooFewNatives tells = tells.0 refl
-boot_refused p natives boots.OutOfMemory tells = not_fewer (λ few. other (tells.1 few))
+boot_refused p natives boots.OutOfMemory tells = not_fewer (λ few. let other = tells.1 few in cc)
   where
-    other : boots.OutOfMemory ≡ boots.TooFewNatives → ⊥
-    other e = cc
-
     not_fewer : (natives < p.header.natives → ⊥) → p.header.natives ≤ natives
     not_fewer none = omega (arith, none)
 
 -- what a run of a machine sends is what its outcome shows
 pub shown_by : {X : Type 0} {B : X → Type 0} (p : Image) (m new : Machine X B) (outside : Outside) (outcome : Outcome) (failed : Bool) (before now : Option (List ℕ)) → m.core.image ≡ p → Ran m outside outcome failed before now new
     → Shows p outside outcome (record { before = before; now = now; failed = failed })
-shown_by p m new outside Stopped failed before now image ran = rw (← image) (record { lines = ran.lines; last = ran.state; run = ran.run; out = ran.out })
-shown_by p m new outside Waiting failed before now image ran = rw (← image) (record { lines = ran.lines; last = ran.state; run = ran.run; out = ran.out })
-shown_by p m new outside (MainLeft code) failed before now image ran = rw (← image) (record { lines = ran.lines; last = ran.state; run = ran.run; out = ran.out })
-shown_by p m new outside Limit failed before now image ran = rw (← image) (record { lines = ran.lines; last = ran.state; run = ran.run; out = ran.out })
-shown_by p m new outside (Error answer) failed before now image ran = rw (← image) (record { lines = ran.lines; last = ran.state; run = ran.run; out = ran.out })
 shown_by p m new outside WriteFault failed before now image ran = rw (← image) (record { failed = ran.0; beginning = ran.1 })
+shown_by p m new outside _ failed before now image ran = rw (← image) (record { lines = ran.lines; last = ran.state; run = ran.run; out = ran.out })
 
 module _ (bytes text : List ℕ) (limit natives : ℕ) (p : Image) (script : Script) (acceptable : IsAcceptable p) (well : AllRunWell p) (spelled : IsSpelled bytes p) (denotes : denoted text ≡ Ok script) (out errors : Sent) where
   abbrev of_it : Runs bytes text limit natives
@@ -164,8 +154,7 @@ module _ (bytes text : List ℕ) (limit natives : ℕ) (p : Image) (script : Scr
 
 -- a fault of the text is told as one
 told_so : (fault : ScriptFault) (kind : ScriptFaultKind) → IsOfText kind → of_script_kind fault kind ≡ faults.Script fault
-told_so fault kinds.OutOfMemory h = absurd h
-told_so fault kind h = refl
+told_so fault kind h = grind arith
 
 -- what is told of a text that is no script, or that there was no memory for, is what each status answers which is one of that
 unread : (answers : ExitStatus → Type 0) (bytes text : List ℕ) (fault : ScriptFault) (line : Fault) (out errors : Sent) (status : ExitStatus) → Accepts bytes → RefusesOrWants text fault → IsSilent out
@@ -187,9 +176,7 @@ unscripted bytes text limit natives fault line out errors status accepts refuses
 
 -- with enough natives memory alone is wanting
 pub tried_refused : (p : Image) (natives : ℕ) (fault : Fault) → HasNatives p natives → RefusesTry p natives fault → fault ≡ faults.Memory
-tried_refused p natives (faults.Boot boots.TooFewNatives) enough few = absurd (omega (arith, enough, few))
-tried_refused p natives faults.Memory enough wants = refl
-tried_refused p natives _ enough refused = absurd refused
+tried_refused p natives fault enough refused = grind arith
 
 -- want of memory is a reason at any time
 pub memory_refused : (p : Image) (natives : ℕ) (fault : Fault) → fault ≡ faults.Memory → RefusesTry p natives fault
@@ -197,15 +184,11 @@ memory_refused p natives fault is = rw is tt
 
 -- nothing was tried yet
 pub begin_refused : (p : Image) (script : Script) (limit natives first : ℕ) (sent : Sent) (fault : Fault) → IsSilent sent → RefusesTry p natives fault → BreaksOff p script limit natives first sent fault
-begin_refused p script limit natives first sent (faults.Boot boots.TooFewNatives) silent few = (few, silent)
-begin_refused p script limit natives first sent faults.Memory silent wants = (0, nothing p script limit natives first sent silent)
-begin_refused p script limit natives first sent _ silent refused = absurd refused
+begin_refused p script limit natives first sent fault silent refused = grind (arith, nothing)
 
 -- why a machine does not boot is why its run is not made
 pub run_refused : (p : Image) (natives : ℕ) (fault : Fault) → RefusesBoot p natives fault → RefusesTry p natives fault
-run_refused p natives (faults.Boot boots.TooFewNatives) few = few
-run_refused p natives faults.Memory enough = tt
-run_refused p natives _ refused = absurd refused
+run_refused p natives fault refused = grind arith
 
 module _ (bytes text : List ℕ) (limit natives : ℕ) (p : Image) (script : Script) (acceptable : IsAcceptable p) (well : AllRunWell p) (spelled : IsSpelled bytes p) (denotes : denoted text ≡ Ok script) (part : Part) (out errors : Sent) where
   abbrev of_them : Runs bytes text limit natives
@@ -240,12 +223,7 @@ explores bytes text limit natives part out errors _ a = a
 
 -- what is told of them is want of memory or why they are none
 no_image : (bytes : List ℕ) (fault : Fault) → RefusesImage bytes fault → (fault ≡ faults.Memory) ⊎ (Refuses bytes fault × (status_of fault ≡ statuses.ImageRefused) × (fault ≡ faults.Memory → ⊥))
-no_image bytes (faults.Load fault) refuses = inr (refuses, refl, λ e. cc)
-no_image bytes (faults.Link fault) refuses = inr (refuses, refl, λ e. cc)
-no_image bytes (faults.Verify refusal) refuses = inr (refuses, refl, λ e. cc)
-no_image bytes (faults.Budget fault) refuses = inr (refuses, refl, λ e. cc)
-no_image bytes faults.Memory refuses = inl refl
-no_image bytes _ refuses = absurd refuses
+no_image bytes x refuses = grind arith
 
 -- so each status answers which is one of a refused image and of want of memory
 pub turned : (answers : ExitStatus → Type 0) (bytes : List ℕ) (fault : Fault) (out errors : Sent) (status : ExitStatus) → RefusesImage bytes fault
@@ -272,9 +250,6 @@ unchecked bytes fault out errors status refuses complete silent told = turned (C
 
 -- what is answered of an accepted image is an answer
 pub accepted : (bytes text : List ℕ) (limit natives : ℕ) (out errors : Sent) (status : ExitStatus) → AcceptedAnswers bytes text limit natives out errors status → RunAnswers bytes text limit natives out errors status
-accepted bytes text limit natives out errors statuses.Done answers = answers
 accepted bytes text limit natives out errors statuses.ImageRefused answers = absurd answers
-accepted bytes text limit natives out errors statuses.CallRefused answers = answers
-accepted bytes text limit natives out errors statuses.Unfinished answers = answers
-accepted bytes text limit natives out errors statuses.Broken answers = answers
 accepted bytes text limit natives out errors statuses.Fault answers = inr answers
+accepted bytes text limit natives out errors _ answers = answers
