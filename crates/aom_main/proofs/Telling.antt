@@ -223,7 +223,7 @@ explores bytes text limit natives part out errors _ a = a
 
 -- what is told of them is want of memory or why they are none
 no_image : (bytes : List ℕ) (fault : Fault) → RefusesImage bytes fault → (fault ≡ faults.Memory) ⊎ (Refuses bytes fault × (status_of fault ≡ statuses.ImageRefused) × (fault ≡ faults.Memory → ⊥))
-no_image bytes x refuses = grind arith
+no_image bytes fault refuses = grind arith
 
 -- so each status answers which is one of a refused image and of want of memory
 pub turned : (answers : ExitStatus → Type 0) (bytes : List ℕ) (fault : Fault) (out errors : Sent) (status : ExitStatus) → RefusesImage bytes fault

@@ -116,7 +116,9 @@ fn last_beside(
     ensures err { IfErr result (λ fault. RefusesBoot accepted.now (length boxes.items) fault) }
 {
     let mut machine = booted(alloc, accepted, boxes)?;
-    last_booted(alloc, accepted, &mut machine, script, refused, limit)
+    let last = last_booted(alloc, accepted, &mut machine, script, refused, limit);
+    drop(machine);
+    last
 }
 
 /// Makes the natives of one run, and runs an accepted image beside them to its end.
