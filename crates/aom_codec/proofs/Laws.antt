@@ -22,8 +22,7 @@ IsBytes-take n bytes h i =
     ]
 
 pub bind_ok : {A B : Type 0} (r : Result A LoadFault) (f : A → Result B LoadFault) (y : B) → (r >>= f) ≡ Ok y → (x : A) × (r ≡ Ok x) × (f x ≡ Ok y)
-bind_ok (Ok x) f y e = (x, refl, e)
-bind_ok (Err d) f y e = absurd cc
+bind_ok x f y e = grind arith
 
 abbrev done : {A : Type 0} → A → Result A LoadFault
 done x = Ok x
@@ -33,12 +32,10 @@ ok_is x y e = cc
 
 -- what a test leaves that refuses where it fails, and one that refuses where it passes
 pub passed : {A : Type 0} (b : Bool) (r : Result A LoadFault) (d : LoadFault) (y : A) → cond b r (Err d) ≡ Ok y → (b ≡ true) × (r ≡ Ok y)
-passed true r d y e = (refl, e)
-passed false r d y e = absurd cc
+passed x r d y e = grind arith
 
 pub kept : {A : Type 0} (b : Bool) (r : Result A LoadFault) (d : LoadFault) (y : A) → cond b (Err d) r ≡ Ok y → (b ≡ false) × (r ≡ Ok y)
-kept true r d y e = absurd cc
-kept false r d y e = (refl, e)
+kept x r d y e = grind arith
 
 pub guard_ok : {A : Type 0} (b : Bool) (d : LoadFault) (x y : A) → cond b (Ok x) (Err d) ≡ Ok y → (b ≡ true) × (x ≡ y)
 guard_ok b d x y e = let p = passed b (Ok x) d y e in (p.0, ok_is x y p.1)

@@ -137,10 +137,4 @@ rounds_read : (n : ℕ) → 1 ≤ n → cond (eqb n 0) (Err BadOperand) (below 6
 rounds_read n some = ap (λ b. cond b (Err BadOperand) (below 65536 n (large.Rounds n) BadOperand)) (ne_eqb n 0 (λ is. omega (arith, is, some)))
 
 pub large_takes : (l : Limits) (k : LargeKind) (o : Large) → Bounded l → LargeFits l k o → ReadsLarge l k o
-large_takes l lk.Nothing large.Nothing few fits = (lit< tt, refl)
-large_takes l lk.Number (large.Number z) few fits = (below_32 z fits, ap a_number (to_z-of_z w32 z fits))
-large_takes l lk.Rounds (large.Rounds n) few fits = (omega (arith, fits.1), rounds_read n fits.0 ∙ below_is 65536 n (large.Rounds n) BadOperand (omega (arith, fits.1)))
-large_takes l lk.Place (large.Place n) few fits = (omega (arith, few.places), below_is l.places n (large.Place n) BadIndex fits)
-large_takes l lk.Class (large.Class n) few fits = (omega (arith, few.classes), below_is l.classes n (large.Class n) BadIndex fits)
-large_takes l lk.Method (large.Method n) few fits = (omega (arith, few.methods), below_is l.methods n (large.Method n) BadIndex fits)
-large_takes l _ _ few fits = absurd fits
+large_takes l x y few fits = grind arith

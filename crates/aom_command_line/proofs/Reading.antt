@@ -50,8 +50,7 @@ chosen f id o d r is empty found = ap (λ (s : Bor Text). s.now) is ∙ read o d
 
 -- without a command there is none
 pub nothing_met : (met : Option (Text × List Row)) → None ≡ option_map (λ p. p.1) met → true ≡ true → IsCommand met → IsUnexplained met
-nothing_met None e taken is = absurd is
-nothing_met (Some m) e taken is = absurd cc
+nothing_met x e taken is = grind arith
 
 -- an argument for its own command alone leaves a command as it was in this
 pub as_before : (old new added : Bool) → new ≡ (old || added) → added ≡ false → new ≡ old
@@ -65,9 +64,7 @@ simple = refl
 
 -- each command that runs an image declines the same
 pub declines_run : (command : Text) (rows : List Row) (fault : WordsFault) → (command ≡ codes "run") ⊎ (command ≡ codes "explore") ⊎ (command ≡ codes "debug") → DeclinesRun rows fault → Declines true (Some (command, rows)) fault
-declines_run command rows (faults.Text text) runs none = absurd none
-declines_run command rows faults.Native runs none = (runs, none)
-declines_run command rows faults.Memory runs none = none
+declines_run command rows x runs none = grind arith
 
 -- ---- a text beside an image
 
@@ -87,9 +84,7 @@ no_text rows explain none = record { named = none; explained = λ some. absurd (
 
 -- a command that explains declines a text without `--explain`
 pub declines_text : (command : Text) (rows : List Row) (fault : WordsFault) → (command ≡ codes "check") ⊎ (command ≡ codes "run") → DeclinesText rows fault → Declines true (Some (command, rows)) fault
-declines_text command rows (faults.Text text) explains lacks = λ is known. (explains, lacks)
-declines_text command rows faults.Native explains none = absurd none
-declines_text command rows faults.Memory explains none = none
+declines_text command rows x explains lacks = grind arith
 
 -- what `clap` takes, and what it does not
 pub declines : (taken : Bool) (met : Option (Text × List Row)) (fault : WordsFault) → Declines true met fault → Declines taken met fault
@@ -98,9 +93,7 @@ declines taken met faults.Native d = d
 declines taken met faults.Memory d = d
 
 pub says : (taken : Bool) (met : Option (Text × List Row)) (kind : ErrorKind) (fault : WordsFault) → Says kind fault → (taken ≡ true → kind ≡ OutOfMemory) → Declines taken met fault
-says taken met kind (faults.Text text) s passes = λ is command. absurd (s (passes is))
-says taken met kind faults.Native s passes = absurd s
-says taken met kind faults.Memory s passes = s
+says taken met kind x s passes = grind arith
 
 -- ---- the words of natives
 

@@ -1,9 +1,9 @@
 //! Classes, and what their objects own.
 ghost use Rattle.std.specs.Prelude.{◌≡◌, ◌≤◌, ◌<◌, ◌++◌, OnOk, length};
 ghost use Rattle.aom_dot.specs.Each.{numbered};
-ghost use Rattle.aom_dot.specs.Classes.{kind_word, class_heading, class_line, thing_text, field_line, fields_text, class_text, classes_text};
+ghost use Rattle.aom_dot.specs.Classes.{kind_word, class_heading, thing_text, field_line, fields_text, class_text, classes_text};
 
-use crate::over::put_class_color;
+use crate::over::{class_is_over, put_color};
 use aom_budget::Figures;
 use aom_classes::Linked;
 use aom_figures::Writer;
@@ -49,21 +49,6 @@ fn put_class_heading(
     put_kind_word(out, kind)
 }
 
-/// Its line, red where its dispatches are over what is declared of them.
-fn put_class_line(
-    out: &mut Writer,
-    linked: &Linked,
-    figures: &Figures,
-    class: ClassNumber,
-    declaration: &ClassDecl,
-) -> Result<(), AllocError>
-    ensures { OnOk result (out.new ≡ out.old ++ class_line linked.now figures.now.prices class declaration.now.kind) }
-{
-    put_class_heading(out, class, declaration.kind)?;
-    put_class_color(out, linked, figures, class, declaration)?;
-    out.words(b"]\n")
-}
-
 /// What is owned.
 fn put_thing(out: &mut Writer, thing: Thing) -> Result<(), AllocError>
     ensures { OnOk result (out.new ≡ out.old ++ thing_text thing) }
@@ -97,7 +82,7 @@ fn put_fields(out: &mut Writer, class: ClassNumber, fields: &[Thing]) -> Result<
     Ok(())
 }
 
-/// A class, and what each of its owning fields may own.
+/// A class, red where its dispatches are over what is declared of them, and what each of its owning fields may own.
 fn put_class(
     out: &mut Writer,
     linked: &Linked,
@@ -107,7 +92,9 @@ fn put_class(
 ) -> Result<(), AllocError>
     ensures { OnOk result (out.new ≡ out.old ++ class_text linked.now figures.now.prices class declaration.now) }
 {
-    put_class_line(out, linked, figures, class, declaration)?;
+    put_class_heading(out, class, declaration.kind)?;
+    put_color(out, class_is_over(linked, figures, class, declaration))?;
+    out.words(b"]\n")?;
     put_fields(out, class, declaration.fields.as_slice())
 }
 

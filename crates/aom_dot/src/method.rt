@@ -1,22 +1,14 @@
 //! Methods, with their figures and what leads from them to others.
-ghost use Rattle.std.specs.Prelude.{◌≡◌, ◌≤◌, ◌<◌, ◌++◌, OnOk, length};
-ghost use Rattle.aom_dot.specs.Methods.{role_word, of_text, heading_text, figures_label, method_line, method_text, methods_text};
+ghost use Rattle.std.specs.Prelude.{◌≡◌, ◌≤◌, ◌++◌, OnOk, length};
+ghost use Rattle.aom_dot.specs.Methods.{role_word, of_text, heading_text, figures_label, method_text, methods_text};
 
 use crate::edge::put_code;
-use crate::over::put_method_color;
+use crate::over::{method_is_over, put_color};
 use aom_budget::Figures;
 use aom_classes::Linked;
-use aom_figures::Writer;
+use aom_figures::{Writer, method_number};
 use aom_image::{ClassNumber, Method, MethodNumber, Role};
 use std::alloc::AllocError;
-
-/// The number of the method at an index.
-fn method_number(index: usize) -> MethodNumber
-    requires { index < 1024 }
-    ensures { result ≡ index }
-{
-    MethodNumber::new(index as u16).unwrap()
-}
 
 fn put_role(out: &mut Writer, role: Role) -> Result<(), AllocError>
     ensures { OnOk result (out.new ≡ out.old ++ role_word role) }
@@ -64,23 +56,7 @@ fn put_heading(out: &mut Writer, number: MethodNumber, method: &Method) -> Resul
     put_class_of(out, method.class)
 }
 
-/// Its line, with its figures, red where it is over a limit.
-fn put_method_line(
-    out: &mut Writer,
-    linked: &Linked,
-    figures: &Figures,
-    number: MethodNumber,
-    method: &Method,
-) -> Result<(), AllocError>
-    ensures { OnOk result (out.new ≡ out.old ++ method_line linked.now figures.now number method.now) }
-{
-    put_heading(out, number, method)?;
-    put_figures(out, figures, number)?;
-    put_method_color(out, linked, figures, number)?;
-    out.words(b"]\n")
-}
-
-/// A method, and what its instructions lead to.
+/// A method with its figures, red where it is over a limit, and what its instructions lead to.
 fn put_method(
     out: &mut Writer,
     linked: &Linked,
@@ -90,7 +66,10 @@ fn put_method(
 ) -> Result<(), AllocError>
     ensures { OnOk result (out.new ≡ out.old ++ method_text linked.now figures.now number method.now) }
 {
-    put_method_line(out, linked, figures, number, method)?;
+    put_heading(out, number, method)?;
+    put_figures(out, figures, number)?;
+    put_color(out, method_is_over(linked, figures, number))?;
+    out.words(b"]\n")?;
     put_code(out, number, method.code.as_slice())
 }
 

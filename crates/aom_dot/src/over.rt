@@ -19,7 +19,7 @@ fn is_over(price: u64, declared: Option<u32>) -> bool
 }
 
 /// Whether a dispatch of an object of that class may cost more than is declared of it.
-fn class_is_over(
+pub(crate) fn class_is_over(
     linked: &Linked,
     figures: &Figures,
     class: ClassNumber,
@@ -40,7 +40,7 @@ fn main_is_over(linked: &Linked, figures: &Figures, method: MethodNumber) -> boo
 }
 
 /// Whether a method may come to more frames or cleanup entries than there may be, or is a main that is over its budget.
-fn method_is_over(linked: &Linked, figures: &Figures, method: MethodNumber) -> bool
+pub(crate) fn method_is_over(linked: &Linked, figures: &Figures, method: MethodNumber) -> bool
     ensures { result ≡ method_is_over linked.now figures.now method }
 {
     256 < figures.frames(method)
@@ -48,8 +48,9 @@ fn method_is_over(linked: &Linked, figures: &Figures, method: MethodNumber) -> b
         || main_is_over(linked, figures, method)
 }
 
+/// Red, where something is over.
 #[tactic(auto, unfolding(crate::specs::Over::color_text))]
-fn put_color(out: &mut Writer, is_over: bool) -> Result<(), AllocError>
+pub(crate) fn put_color(out: &mut Writer, is_over: bool) -> Result<(), AllocError>
     ensures { OnOk result (out.new ≡ out.old ++ color_text is_over) }
 {
     if is_over {
@@ -57,27 +58,4 @@ fn put_color(out: &mut Writer, is_over: bool) -> Result<(), AllocError>
     } else {
         Ok(())
     }
-}
-
-pub(crate) fn put_class_color(
-    out: &mut Writer,
-    linked: &Linked,
-    figures: &Figures,
-    class: ClassNumber,
-    declaration: &ClassDecl,
-) -> Result<(), AllocError>
-    ensures { OnOk result (out.new ≡ out.old ++ color_text (class_is_over linked.now figures.now.prices class declaration.now.kind)) }
-{
-    put_color(out, class_is_over(linked, figures, class, declaration))
-}
-
-pub(crate) fn put_method_color(
-    out: &mut Writer,
-    linked: &Linked,
-    figures: &Figures,
-    method: MethodNumber,
-) -> Result<(), AllocError>
-    ensures { OnOk result (out.new ≡ out.old ++ color_text (method_is_over linked.now figures.now method)) }
-{
-    put_color(out, method_is_over(linked, figures, method))
 }

@@ -126,6 +126,7 @@ fn put_register(out: &mut Writer, number: u8, kind: Kind) -> Result<(), AllocErr
     }
 }
 
+#[tactic(auto, using(crate::proofs::Parts::one_part_more), unfolding(crate::specs::Known::register_parts))]
 fn put_register_parts(out: &mut Writer, shape: &Shape<'_>) -> Result<(), AllocError>
     ensures { OnOk result (out.new ≡ out.old ++ register_parts shape.now) }
 {
@@ -185,6 +186,7 @@ fn field_at(number: u8) -> FieldIndex
     FieldIndex::new(number).unwrap()
 }
 
+#[tactic(auto, using(crate::proofs::Parts::one_part_more), unfolding(crate::specs::Known::field_parts))]
 fn put_field_parts(
     out: &mut Writer,
     linked: &Linked,
@@ -267,6 +269,7 @@ fn put_entry_part(out: &mut Writer, number: u8, entry: Option<Entry>) -> Result<
     }
 }
 
+#[tactic(auto, using(crate::proofs::Parts::one_part_more), unfolding(crate::specs::Known::entry_parts))]
 fn put_entry_parts(out: &mut Writer, shape: &Shape<'_>) -> Result<(), AllocError>
     ensures { OnOk result (out.new ≡ out.old ++ entry_parts shape.now) }
 {

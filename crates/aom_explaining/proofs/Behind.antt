@@ -1,19 +1,20 @@
 -- A command's fault that is told, and explained behind its line: it answers as it does without.
-use Rattle.std.proofs.Common.{ℕ, ◌≡◌, Bool, List, Option, Result, Err, refl}
+use Rattle.std.proofs.Common.{ℕ, ◌≡◌, Bool, List, Option, Result, Ok, Err, refl, subst, sym}
 use Rattle.std.specs.Prelude.{IfErr, IfOk}
 use Rattle.aom_main.specs.declared.status.ExitStatus.{ExitStatus}
 use Rattle.aom_main.specs.declared.faults.Fault.{Fault}
 use Rattle.aom_main.specs.declared.faults.Fault.TheVariants.{Memory}
 use Rattle.aom_main.specs.Headline.{Says, Sent, Tells, Told}
 use Rattle.aom_main.specs.Untold.{Untold}
-use Rattle.aom_explaining.specs.Explaining.{Explaining, ToldAndExplained}
-use Rattle.aom_explaining.specs.Explaining.Explaining.{behind}
+use Rattle.aom_explaining.specs.Explaining.{AnsweredOrExplained, Explaining, ToldAndExplained}
+use Rattle.aom_explaining.specs.Explaining.Explaining.{behind, without}
 use Rattle.aom_explaining.proofs.Saying.{said_or_told}
 
--- each way to tell the fault makes an answer, and so does this one
-pub told_behind : (answers : Sent → ExitStatus → Type 0) (explains : Fault → List ℕ → Type 0) (fault : Fault) (errors : Sent) (status : ExitStatus) → Untold answers (Err fault) →
-    ToldAndExplained (Told fault status) (explains fault) errors → Explaining answers explains errors status
-told_behind answers explains fault errors status untold more = behind fault more (untold more.line status more.told)
+-- what was not told yet is an answer without a fault, and with one each way to tell it is, and so is this one
+pub answered : (answers : Sent → ExitStatus → Type 0) (explains : Fault → List ℕ → Type 0) (found : Result ExitStatus Fault) (errors : Sent) (status : ExitStatus) → Untold answers found →
+    AnsweredOrExplained explains found errors status → Explaining answers explains errors status
+answered answers explains (Ok found) errors status untold told = without told.1 (subst (answers errors) (sym told.0) (untold errors told.1))
+answered answers explains (Err fault) errors status untold more = behind fault more (untold more.line status more.told)
 
 -- the explanation begins where the line has ended
 pub told_first : {X E : Type 0} (made : Result X E) (items : X → List ℕ) (tells : Sent → Type 0) (explains : List ℕ → Type 0) (before middle now : Option (List ℕ)) (told_fails fails : Bool) →

@@ -1,5 +1,5 @@
 -- What a command promises that explains its fault.
-use Rattle.std.specs.Prelude.{ℕ, ◌≡◌, ◌≢◌, List, [], codes}
+use Rattle.std.specs.Prelude.{ℕ, ◌≡◌, ◌≢◌, List, [], Result, Ok, Err, codes}
 use Rattle.aom_explain.specs.Entries.{entry_text}
 use Rattle.aom_explain.specs.Table.{text_texts}
 use Rattle.aom_main.specs.Assembly.{IsFaulty, Makes}
@@ -32,6 +32,11 @@ pub record ToldAndExplained (tells : Sent → Type 0) (explains : List ℕ → T
 pub data Explaining (answers : Sent → ExitStatus → Type 0) (explains : Fault → List ℕ → Type 0) (errors : Sent) (status : ExitStatus) : Type 0 where
   without : IsSilent errors → answers errors status → Explaining answers explains errors status
   behind : (fault : Fault) → (more : ToldAndExplained (Told fault status) (explains fault) errors) → answers more.line status → Explaining answers explains errors status
+
+-- a status was answered and nothing said to the errors, or the fault was told and explained behind its line
+abbrev pub AnsweredOrExplained : (explains : Fault → List ℕ → Type 0) → Result ExitStatus Fault → Sent → ExitStatus → Type 0
+AnsweredOrExplained explains (Ok found) errors status = (status ≡ found) × IsSilent errors
+AnsweredOrExplained explains (Err fault) errors status = ToldAndExplained (Told fault status) (explains fault) errors
 
 -- ---- texts beside images
 

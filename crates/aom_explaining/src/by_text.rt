@@ -7,7 +7,7 @@ ghost use Rattle.aom_explaining.specs.Explained.{ExplainsByText};
 ghost use Rattle.aom_explaining.specs.Explaining.{Beside, Explaining};
 
 use crate::beside::ImageText;
-use crate::telling_by_text::{refuse_text, tell_by_text};
+use crate::telling_by_text::{answer_by_text, refuse_text};
 use aom_main::{ExitStatus, try_check, try_prices, try_run};
 use aom_natives::Native;
 use aom_run::Sink;
@@ -25,10 +25,10 @@ pub fn check_by_text<W: Sink, E: Sink>(
 {
     match ImageText::beside(alloc, text, image) {
         Err(fault) => refuse_text(alloc, &fault, text, errors),
-        Ok(text) => match try_check(alloc, image, out) {
-            Ok(status) => status,
-            Err(fault) => tell_by_text(alloc, &fault, image, &text, b"", errors),
-        },
+        Ok(text) => {
+            let found = try_check(alloc, image, out);
+            answer_by_text(alloc, found, image, &text, b"", errors)
+        }
     }
 }
 
@@ -44,10 +44,10 @@ pub fn prices_by_text<W: Sink, E: Sink>(
 {
     match ImageText::beside(alloc, text, image) {
         Err(fault) => refuse_text(alloc, &fault, text, errors),
-        Ok(text) => match try_prices(alloc, image, out) {
-            Ok(status) => status,
-            Err(fault) => tell_by_text(alloc, &fault, image, &text, b"", errors),
-        },
+        Ok(text) => {
+            let found = try_prices(alloc, image, out);
+            answer_by_text(alloc, found, image, &text, b"", errors)
+        }
     }
 }
 
@@ -68,9 +68,9 @@ pub fn run_by_text<W: Sink, E: Sink>(
 {
     match ImageText::beside(alloc, text, image) {
         Err(fault) => refuse_text(alloc, &fault, text, errors),
-        Ok(text) => match try_run(alloc, image, script, limit, boxes, out) {
-            Ok(status) => status,
-            Err(fault) => tell_by_text(alloc, &fault, image, &text, script, errors),
-        },
+        Ok(text) => {
+            let found = try_run(alloc, image, script, limit, boxes, out);
+            answer_by_text(alloc, found, image, &text, script, errors)
+        }
     }
 }

@@ -7,7 +7,7 @@ ghost use Rattle.aom_main.specs.Prices.{PricesAnswers};
 ghost use Rattle.aom_explaining.specs.Explained.{Explains};
 ghost use Rattle.aom_explaining.specs.Explaining.{Explaining};
 
-use crate::telling::tell_explained;
+use crate::telling::answer_explained;
 use aom_main::{ExitStatus, try_asm, try_check, try_prices, try_run};
 use aom_natives::Native;
 use aom_run::Sink;
@@ -22,10 +22,8 @@ pub fn check_explained<W: Sink, E: Sink>(
 ) -> ExitStatus
     ensures { Explaining (CheckAnswers image.now (record { before = W.out out.old; now = W.out out.new; failed = W.failed out.new })) (Explains image.now []) (record { before = E.out errors.old; now = E.out errors.new; failed = E.failed errors.new }) result }
 {
-    match try_check(alloc, image, out) {
-        Ok(status) => status,
-        Err(fault) => tell_explained(alloc, &fault, image, b"", errors),
-    }
+    let found = try_check(alloc, image, out);
+    answer_explained(alloc, found, image, b"", errors)
 }
 
 /// The same with the image's figures.
@@ -37,10 +35,8 @@ pub fn prices_explained<W: Sink, E: Sink>(
 ) -> ExitStatus
     ensures { Explaining (PricesAnswers image.now (record { before = W.out out.old; now = W.out out.new; failed = W.failed out.new })) (Explains image.now []) (record { before = E.out errors.old; now = E.out errors.new; failed = E.failed errors.new }) result }
 {
-    match try_prices(alloc, image, out) {
-        Ok(status) => status,
-        Err(fault) => tell_explained(alloc, &fault, image, b"", errors),
-    }
+    let found = try_prices(alloc, image, out);
+    answer_explained(alloc, found, image, b"", errors)
 }
 
 /// Runs an image under a script beside those natives, and explains why it is not run. Lines are counted in the script.
@@ -57,10 +53,8 @@ pub fn run_explained<W: Sink, E: Sink>(
     requires owed { OweNothing (λ b. (⟦<dyn Native as Native>⟧ b.vtable).owed b.value) boxes.items }
     ensures { Explaining (RunAnswers image.now script.now limit (length boxes.items) (record { before = W.out out.old; now = W.out out.new; failed = W.failed out.new })) (Explains image.now script.now) (record { before = E.out errors.old; now = E.out errors.new; failed = E.failed errors.new }) result }
 {
-    match try_run(alloc, image, script, limit, boxes, out) {
-        Ok(status) => status,
-        Err(fault) => tell_explained(alloc, &fault, image, script, errors),
-    }
+    let found = try_run(alloc, image, script, limit, boxes, out);
+    answer_explained(alloc, found, image, script, errors)
 }
 
 /// Writes the bytes of the image that an assembly text denotes, and explains why it denotes none.
@@ -72,8 +66,6 @@ pub fn asm_explained<W: Sink, E: Sink>(
 ) -> ExitStatus
     ensures { Explaining (AsmAnswers text.now (record { before = W.out out.old; now = W.out out.new; failed = W.failed out.new })) (Explains [] text.now) (record { before = E.out errors.old; now = E.out errors.new; failed = E.failed errors.new }) result }
 {
-    match try_asm(alloc, text, out) {
-        Ok(status) => status,
-        Err(fault) => tell_explained(alloc, &fault, b"", text, errors),
-    }
+    let found = try_asm(alloc, text, out);
+    answer_explained(alloc, found, b"", text, errors)
 }

@@ -3,7 +3,7 @@ ghost use Rattle.std.specs.Prelude.{IfErr, IfOk};
 ghost use Rattle.aom_main.specs.Headline.{Says, Sent, Tells, Told};
 ghost use Rattle.aom_main.specs.declared.faults.Fault.TheVariants.{Memory};
 ghost use Rattle.aom_explaining.specs.Explained.{Explains};
-ghost use Rattle.aom_explaining.specs.Explaining.{ToldAndExplained};
+ghost use Rattle.aom_explaining.specs.Explaining.{AnsweredOrExplained, ToldAndExplained};
 
 use crate::explaining::explanation;
 use aom_main::{ExitStatus, Fault, tell};
@@ -36,4 +36,20 @@ pub fn tell_explained<E: Sink>(
     let status = tell(fault, errors);
     explain(explanation(alloc, fault, image, text), errors);
     status
+}
+
+/// Answers the status that a call has come to, or tells its fault and explains it behind its line.
+pub(crate) fn answer_explained<E: Sink>(
+    alloc: Global,
+    found: Result<ExitStatus, Fault>,
+    image: &[u8],
+    text: &[u8],
+    errors: &mut E,
+) -> ExitStatus
+    ensures { AnsweredOrExplained (Explains image.now text.now) found (record { before = E.out errors.old; now = E.out errors.new; failed = E.failed errors.new }) result }
+{
+    match found {
+        Ok(status) => status,
+        Err(fault) => tell_explained(alloc, &fault, image, text, errors),
+    }
 }

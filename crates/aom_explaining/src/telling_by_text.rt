@@ -5,7 +5,7 @@ ghost use Rattle.aom_transcript.specs.Text.{ended};
 ghost use Rattle.aom_explain.specs.Entries.{entry_text};
 ghost use Rattle.aom_explain.specs.Table.{text_texts};
 ghost use Rattle.aom_explaining.specs.Explained.{ExplainsByText};
-ghost use Rattle.aom_explaining.specs.Explaining.{TellsText, ToldAndExplained};
+ghost use Rattle.aom_explaining.specs.Explaining.{AnsweredOrExplained, TellsText, ToldAndExplained};
 
 use crate::beside::{ImageText, TextFault};
 use crate::explaining::{explanation_by_text, other_explanation};
@@ -15,7 +15,7 @@ use aom_run::{Sink, write_text};
 use std::alloc::Global;
 
 /// Tells a fault, explains it by the text that the image is of, and answers its status.
-pub fn tell_by_text<E: Sink>(
+fn tell_by_text<E: Sink>(
     alloc: Global,
     fault: &Fault,
     image: &[u8],
@@ -31,6 +31,23 @@ pub fn tell_by_text<E: Sink>(
         errors,
     );
     status
+}
+
+/// Answers the status that a call has come to, or tells its fault and explains it so behind its line.
+pub fn answer_by_text<E: Sink>(
+    alloc: Global,
+    found: Result<ExitStatus, Fault>,
+    image: &[u8],
+    text: &ImageText,
+    script: &[u8],
+    errors: &mut E,
+) -> ExitStatus
+    ensures { AnsweredOrExplained (ExplainsByText image.now text.now script.now) found (record { before = E.out errors.old; now = E.out errors.new; failed = E.failed errors.new }) result }
+{
+    match found {
+        Ok(status) => status,
+        Err(fault) => tell_by_text(alloc, &fault, image, text, script, errors),
+    }
 }
 
 /// Tells why a text is refused beside an image, and explains it.

@@ -9,5 +9,6 @@ mod most;
 mod text;
 mod writer;
 
+pub use most::method_number;
 pub use text::figures_text;
 pub use writer::Writer;

@@ -7,33 +7,34 @@ use aom_classes::Linked;
 use aom_image::MethodNumber;
 
 /// The number of the method at an index.
-pub(crate) fn method_number(index: usize) -> MethodNumber
+pub fn method_number(index: usize) -> MethodNumber
     requires { index < 1024 }
     ensures { result ≡ index }
 {
     MethodNumber::new(index as u16).unwrap()
 }
 
-/// The most frames that a method may come to.
-pub(crate) fn most_frames(linked: &Linked, figures: &Figures) -> u16
-    ensures { result ≡ most_below figures.now.depths (length linked.now.methods) }
-{
-    let mut most = 0;
-    let methods = linked.image().methods();
-    for index in 0..methods.len() {
-        most = figures.frames(method_number(index)).max(most);
-    }
-    most
+/// The most that a method may come to.
+#[derive(Clone, Copy)]
+pub(crate) struct Most {
+    pub(crate) frames: u16,
+    pub(crate) entries: u16,
 }
 
-/// The most cleanup entries that a method may come to.
-pub(crate) fn most_entries(linked: &Linked, figures: &Figures) -> u16
-    ensures { result ≡ most_below figures.now.heights (length linked.now.methods) }
+/// The most frames and the most cleanup entries of all methods.
+pub(crate) fn most_of(linked: &Linked, figures: &Figures) -> Most
+    ensures frames { result.frames ≡ most_below figures.now.depths (length linked.now.methods) }
+    ensures entries { result.entries ≡ most_below figures.now.heights (length linked.now.methods) }
 {
-    let mut most = 0;
+    let mut most = Most {
+        frames: 0,
+        entries: 0,
+    };
     let methods = linked.image().methods();
     for index in 0..methods.len() {
-        most = figures.entries(method_number(index)).max(most);
+        let method = method_number(index);
+        most.frames = figures.frames(method).max(most.frames);
+        most.entries = figures.entries(method).max(most.entries);
     }
     most
 }

@@ -6,7 +6,7 @@ ghost use Rattle.aom_figures.specs.Text.{classes_text, declared_text, dispatch_l
 ghost use Rattle.aom_budget.specs.Figures.{kind_by};
 ghost use Rattle.aom_budget.specs.Budgets.{kind_declares};
 
-use crate::most::{method_number, most_entries, most_frames};
+use crate::most::{method_number, most_of};
 use crate::writer::Writer;
 use aom_budget::{Figures, Payer, budget_of};
 use aom_classes::Linked;
@@ -74,9 +74,10 @@ impl Writer {
     fn limits(&mut self, linked: &Linked, figures: &Figures) -> Result<(), AllocError>
         ensures { OnOk result (self.new ≡ self.old ++ limits_text linked.now figures.now) }
     {
-        self.count(b"frames ", u64::from(most_frames(linked, figures)))?;
+        let most = most_of(linked, figures);
+        self.count(b"frames ", u64::from(most.frames))?;
         self.words(b" of 256\n")?;
-        self.count(b"entries ", u64::from(most_entries(linked, figures)))?;
+        self.count(b"entries ", u64::from(most.entries))?;
         self.words(b" of 1024\n")
     }
 

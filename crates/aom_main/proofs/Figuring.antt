@@ -12,17 +12,19 @@ use Rattle.aom_bounds.specs.Heights.{HasHeights}
 use Rattle.aom_bounds.proofs.Within.{all_high, all_within}
 use Rattle.aom_budget.specs.Budgets.{BudgetsWithin}
 use Rattle.aom_budget.specs.Faults.{Refuses as RefusesBudget}
+use Rattle.aom_budget.specs.Figures.{AreFigures, Figures}
 use Rattle.aom_budget.specs.declared.fault.BudgetFault.{BudgetFault}
 use Rattle.aom_budget.proofs.Budgeting.{refuses_none}
+use Rattle.aom_figures.specs.Text.{figures_text}
 use Rattle.aom_run.specs.Runs.{after}
 use Rattle.aom_main.specs.declared.status.ExitStatus.{ExitStatus}
-use Rattle.aom_main.specs.declared.status.ExitStatus.TheVariants as statuses
 use Rattle.aom_main.specs.declared.faults.Fault.{Fault}
 use Rattle.aom_main.specs.declared.faults.Fault.TheVariants as faults
-use Rattle.aom_main.specs.Status.{of_link, of_load, status_of}
-use Rattle.aom_main.specs.Acceptable.{IsSpelled, IsAcceptable, Refuses, RefusesOrWants}
-use Rattle.aom_main.specs.Headline.{Sent, ImageWantsMemory, IsSilent, Says, Told}
+use Rattle.aom_main.specs.Status.{of_link, of_load}
+use Rattle.aom_main.specs.Acceptable.{IsSpelled, IsAcceptable, RefusesOrWants}
+use Rattle.aom_main.specs.Headline.{Sent, IsRefused, IsSilent, Says, Told}
 use Rattle.aom_main.specs.Prices.{AreTold, IsBeyond, IsEarly, IsFigured, IsPriced, IsUnpriced, IsWithin, IsWritten, PricesAnswers, Shown}
+use Rattle.aom_main.proofs.Telling.{turned}
 use Rattle.aom_main.specs.Prices.PricesBreaks.{accepted_fails, refused_fails}
 
 -- ---- faults before budgets
@@ -48,39 +50,20 @@ shown bytes text (Some fault) out errors status written (inr fails) = subst (Pri
 
 -- ---- what was told
 
--- what the status is then, and what is told
-abbrev pub Turned : List ℕ → Sent → Sent → ExitStatus → Type 0
-Turned bytes out errors status = ((status ≡ statuses.ImageRefused) × IsUnpriced bytes out errors) ⊎ ((status ≡ statuses.Fault) × ImageWantsMemory out errors)
-
-turned_for : (bytes : List ℕ) (fault : Fault) (out errors : Sent) (status : ExitStatus) → Refuses bytes fault → IsEarly fault → status_of fault ≡ statuses.ImageRefused
-    → (fault ≡ faults.Memory → ⊥) → ((p : Image) → IsSpelled bytes p → IsAcceptable p → fault ≡ faults.Memory) → IsSilent out → Told fault status errors
-    → Turned bytes out errors status
-turned_for bytes fault out errors status refuses early is other complete silent told =
-    inl (
-      told.0 ∙ is,
-      record {
-        refused = record { silent = silent; fault = fault; refuses = refuses; none = λ p spelled acceptable. other (complete p spelled acceptable); status = is; tells = told.1 };
-        early = early;
-      },
-    )
-
-pub turned : (bytes : List ℕ) (fault : Fault) (out errors : Sent) (status : ExitStatus) → RefusesOrWants bytes fault → IsEarly fault
-    → ((p : Image) → IsSpelled bytes p → IsAcceptable p → fault ≡ faults.Memory) → IsSilent out → Told fault status errors → Turned bytes out errors status
-turned bytes (faults.Load fault) out errors status refuses early complete silent told = turned_for bytes (faults.Load fault) out errors status refuses early refl (λ e. cc) complete silent told
-turned bytes (faults.Link fault) out errors status refuses early complete silent told = turned_for bytes (faults.Link fault) out errors status refuses early refl (λ e. cc) complete silent told
-turned bytes (faults.Verify refusal) out errors status refuses early complete silent told = turned_for bytes (faults.Verify refusal) out errors status refuses early refl (λ e. cc) complete silent told
-turned bytes faults.Memory out errors status refuses early complete silent told = inr (told.0, record { silent = silent; tells = told.1 })
-turned bytes _ out errors status refuses early complete silent told = absurd (assumption tt)
-
-to_prices : (bytes : List ℕ) (out errors : Sent) (status : ExitStatus) → Turned bytes out errors status → PricesAnswers bytes out errors status
-to_prices bytes out errors status (inl refused) = subst (PricesAnswers bytes out errors) (sym refused.0) (inr refused.1)
-to_prices bytes out errors status (inr wants) = subst (PricesAnswers bytes out errors) (sym wants.0) (inl wants.1)
+-- why bytes have no figures
+pub no_figures : (bytes : List ℕ) (fault : Fault) (out errors : Sent) → IsEarly fault → (refused : IsRefused bytes out errors) → refused.fault ≡ fault → IsUnpriced bytes out errors
+no_figures bytes fault out errors early refused is = record { refused = refused; early = subst IsEarly (sym is) early }
 
 pub unpriced : (bytes : List ℕ) (fault : Fault) (out errors : Sent) (status : ExitStatus) → RefusesOrWants bytes fault → IsEarly fault
     → ((p : Image) → IsSpelled bytes p → IsAcceptable p → fault ≡ faults.Memory) → IsSilent out → Told fault status errors → PricesAnswers bytes out errors status
-unpriced bytes fault out errors status refuses early complete silent told = to_prices bytes out errors status (turned bytes fault out errors status refuses early complete silent told)
+unpriced bytes fault out errors status refuses early complete silent told =
+    turned (PricesAnswers bytes out errors) bytes fault out errors status refuses complete silent told (λ refused is. inr (no_figures bytes fault out errors early refused is)) inl
 
 -- ---- a checked image
+
+-- a text of its figures tells them
+pub told_so : (p linked : Image) (figures : Figures) (text : List ℕ) → AreFigures p figures → text ≡ figures_text linked figures → linked ≡ p → AreTold p text
+told_so p linked figures text are told same = record { figures = figures; are = are; told = told ∙ ap (λ q. figures_text q figures) same }
 
 -- it keeps within its budgets and its limits
 pub within : (bytes text : List ℕ) → (r : IsFigured bytes text) → BudgetsWithin r.image → HasDepths r.image → HasHeights r.image → IsWithin bytes text

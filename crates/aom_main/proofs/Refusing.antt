@@ -14,7 +14,6 @@ use Rattle.aom_rules.specs.Typing.{Typing, IsTyped}
 use Rattle.aom_bounds.specs.Strongest.{IsStrongest}
 use Rattle.aom_budget.specs.Faults.{RefusesOrWants as RefusesBudget}
 use Rattle.aom_budget.specs.declared.fault.BudgetFault.{BudgetFault}
-use Rattle.aom_budget.specs.declared.fault.BudgetFault.TheVariants.{OverBudget, TooDeep, CleanupTooDeep}
 use Rattle.aom_budget.specs.declared.fault.BudgetFault.TheVariants as budgets
 use Rattle.aom_main.specs.declared.faults.Fault.TheVariants.{Memory}
 use Rattle.aom_main.specs.Status.{of_load, of_link, of_budget}
@@ -52,8 +51,5 @@ has_typing : (p q : Image) → q ≡ p → (t : Typing) × IsStrongest q t → (
 has_typing p q same typing = subst (λ (r : Image). (t : Typing) × IsTyped r t) same (typing.0, typing.1.typed)
 
 pub budget_refused : (bytes : List ℕ) (p q : Image) (fault : BudgetFault) → IsSpelled bytes p → IsLinked p → q ≡ p → (t : Typing) × IsStrongest q t → RefusesBudget q fault → RefusesOrWants bytes (of_budget fault)
-budget_refused bytes p q (OverBudget payer price declared) spelled linked same typing h =
-    (p, spelled, linked, has_typing p q same typing, subst (λ (r : Image). RefusesBudget r (OverBudget payer price declared)) same h)
-budget_refused bytes p q TooDeep spelled linked same typing h = (p, spelled, linked, has_typing p q same typing, subst (λ (r : Image). RefusesBudget r TooDeep) same h)
-budget_refused bytes p q CleanupTooDeep spelled linked same typing h = (p, spelled, linked, has_typing p q same typing, subst (λ (r : Image). RefusesBudget r CleanupTooDeep) same h)
 budget_refused bytes p q budgets.OutOfMemory spelled linked same typing h = tt
+budget_refused bytes p q fault spelled linked same typing h = (p, spelled, linked, has_typing p q same typing, subst (λ (r : Image). RefusesBudget r fault) same h)

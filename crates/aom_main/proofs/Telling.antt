@@ -28,7 +28,7 @@ use Rattle.aom_run.specs.declared.outcome.Outcome.TheVariants.{Stopped, Waiting,
 use Rattle.aom_script.proofs.Faulting.{IsOfText, is_of_text}
 use Rattle.aom_run.specs.Runs.{Ran, after}
 use Rattle.aom_machine.specs.declared.machine.Machine.{Machine}
-use Rattle.aom_script.specs.Script.{Script, denoted, RefusesOrWants}
+use Rattle.aom_script.specs.Script.{Script, denoted, RefusesOrWants, WantsMemory}
 use Rattle.aom_script.specs.declared.fault.ScriptFault.{ScriptFault}
 use Rattle.aom_script.specs.declared.fault.ScriptFaultKind.{ScriptFaultKind}
 use Rattle.aom_script.specs.declared.fault.ScriptFaultKind.TheVariants as kinds
@@ -40,7 +40,7 @@ use Rattle.aom_machine.specs.declared.fault.BootFault.{BootFault}
 use Rattle.aom_machine.specs.declared.fault.BootFault.TheVariants as boots
 use Rattle.aom_main.specs.Status.{of_boot, of_script, of_script_kind, status_of}
 use Rattle.aom_main.specs.Acceptable.{IsSpelled, IsAcceptable, Refuses, RefusesOrWants as RefusesImage}
-use Rattle.aom_main.specs.Headline.{Sent, outside_of, IsSilent, Told, Shows, Accepts, AcceptedAnswers, AllRunWell, CheckAnswers, Ends, EndsAs, HasNatives, ImageWantsMemory, IsOnly, IsRefused, RefusesBoot, RunAnswers, Runs, Shown, Transcribed}
+use Rattle.aom_main.specs.Headline.{Sent, outside_of, IsSilent, Told, Shows, Accepts, AcceptedAnswers, AllRunWell, CheckAnswers, Ends, EndsAs, HasNatives, ImageWantsMemory, IsNoScript, IsOnly, IsRefused, RefusesBoot, RunAnswers, Runs, Shown, Tells, Transcribed}
 use Rattle.aom_exec.proofs.Affording.{affords}
 use Rattle.aom_main.specs.Explored.{AcceptedExplores, BreaksOff, ExploreAnswers, Explored, RefusesTry}
 use Rattle.aom_main.specs.Explored.ExploreBreaks.{script_wants_memory as wants_for_script, machine_wants_memory as wants_for_machine, output_fails as fails}
@@ -117,32 +117,22 @@ module _ (bytes text : List ℕ) (limit natives : ℕ) (r : Runs bytes text limi
   ran : (out errors : Sent) (outcome : Outcome) (status : ExitStatus) → HasNatives r.image natives → Shows r.image around outcome out → Ends outcome status errors
       → AcceptedAnswers bytes text limit natives out errors status
   ran out errors Stopped status enough shows ends = subst (AcceptedAnswers bytes text limit natives out errors) (sym ends.0) (so _ out enough shows, ends.1)
-  ran out errors Waiting status enough shows ends = subst (AcceptedAnswers bytes text limit natives out errors) (sym ends.0) (endings.Waiting, tt, so _ out enough shows, ends.1)
-  ran out errors (MainLeft code) status enough shows ends = subst (AcceptedAnswers bytes text limit natives out errors) (sym ends.0) (endings.MainLeft code, tt, so _ out enough shows, ends.1)
-  ran out errors Limit status enough shows ends = subst (AcceptedAnswers bytes text limit natives out errors) (sym ends.0) (endings.Limit, tt, so _ out enough shows, ends.1)
-  ran out errors (Error answer) status enough shows ends = subst (AcceptedAnswers bytes text limit natives out errors) (sym ends.0) (endings.Error answer, tt, so _ out enough shows, ends.1)
   ran out errors WriteFault status enough shows ends = subst (AcceptedAnswers bytes text limit natives out errors) (sym ends.0) (output_fails r enough shows ends.1)
+  ran out errors _ status enough shows ends = subst (AcceptedAnswers bytes text limit natives out errors) (sym ends.0) (_, tt, so _ out enough shows, ends.1)
 
 -- the fault by which a machine does not boot
 pub boot_refused : (p : Image) (natives : ℕ) (fault : BootFault) → (fault ≡ boots.TooFewNatives) ↔ (natives < p.header.natives) → RefusesBoot p natives (of_boot fault)
 boot_refused p natives boots.TooFewNatives tells = tells.0 refl
-boot_refused p natives boots.OutOfMemory tells = not_fewer (λ few. other (tells.1 few))
+boot_refused p natives boots.OutOfMemory tells = not_fewer (λ few. let other = tells.1 few in cc)
   where
-    other : boots.OutOfMemory ≡ boots.TooFewNatives → ⊥
-    other e = cc
-
     not_fewer : (natives < p.header.natives → ⊥) → p.header.natives ≤ natives
     not_fewer none = omega (arith, none)
 
 -- what a run of a machine sends is what its outcome shows
 pub shown_by : {X : Type 0} {B : X → Type 0} (p : Image) (m new : Machine X B) (outside : Outside) (outcome : Outcome) (failed : Bool) (before now : Option (List ℕ)) → m.core.image ≡ p → Ran m outside outcome failed before now new
     → Shows p outside outcome (record { before = before; now = now; failed = failed })
-shown_by p m new outside Stopped failed before now image ran = rw (← image) (record { lines = ran.lines; last = ran.state; run = ran.run; out = ran.out })
-shown_by p m new outside Waiting failed before now image ran = rw (← image) (record { lines = ran.lines; last = ran.state; run = ran.run; out = ran.out })
-shown_by p m new outside (MainLeft code) failed before now image ran = rw (← image) (record { lines = ran.lines; last = ran.state; run = ran.run; out = ran.out })
-shown_by p m new outside Limit failed before now image ran = rw (← image) (record { lines = ran.lines; last = ran.state; run = ran.run; out = ran.out })
-shown_by p m new outside (Error answer) failed before now image ran = rw (← image) (record { lines = ran.lines; last = ran.state; run = ran.run; out = ran.out })
 shown_by p m new outside WriteFault failed before now image ran = rw (← image) (record { failed = ran.0; beginning = ran.1 })
+shown_by p m new outside _ failed before now image ran = rw (← image) (record { lines = ran.lines; last = ran.state; run = ran.run; out = ran.out })
 
 module _ (bytes text : List ℕ) (limit natives : ℕ) (p : Image) (script : Script) (acceptable : IsAcceptable p) (well : AllRunWell p) (spelled : IsSpelled bytes p) (denotes : denoted text ≡ Ok script) (out errors : Sent) where
   abbrev of_it : Runs bytes text limit natives
@@ -164,26 +154,29 @@ module _ (bytes text : List ℕ) (limit natives : ℕ) (p : Image) (script : Scr
 
 -- a fault of the text is told as one
 told_so : (fault : ScriptFault) (kind : ScriptFaultKind) → IsOfText kind → of_script_kind fault kind ≡ faults.Script fault
-told_so fault kinds.OutOfMemory h = absurd h
-told_so fault kind h = refl
+told_so fault kind h = grind arith
 
--- what is told of a text that is no script, or that there was no memory for
+-- what is told of a text that is no script, or that there was no memory for, is what each status answers which is one of that
+unread : (answers : ExitStatus → Type 0) (bytes text : List ℕ) (fault : ScriptFault) (line : Fault) (out errors : Sent) (status : ExitStatus) → Accepts bytes → RefusesOrWants text fault → IsSilent out
+    → line ≡ of_script fault → Told line status errors → (IsNoScript bytes text out errors → answers statuses.CallRefused) → (WantsMemory text fault → Tells faults.Memory errors → answers statuses.Fault)
+    → answers status
+unread answers bytes text fault line out errors status accepts (inl denotes) silent is told refused wanting =
+    let script : Told (faults.Script fault) status errors = subst (λ f. Told f status errors) (is ∙ told_so fault fault.kind (is_of_text text fault denotes)) told in
+    subst answers (sym script.0) (refused (record { silent = silent; accepts = accepts; fault = fault; denotes = denotes; tells = script.1 }))
+unread answers bytes text fault line out errors status accepts (inr wants) silent is told refused wanting =
+    let memory : Told faults.Memory status errors = subst (λ f. Told f status errors) (is ∙ ap (of_script_kind fault) wants.lines.kind) told in
+    subst answers (sym memory.0) (wanting wants memory.1)
+
 pub unscripted : (bytes text : List ℕ) (limit natives : ℕ) (fault : ScriptFault) (line : Fault) (out errors : Sent) (status : ExitStatus) → Accepts bytes → RefusesOrWants text fault → IsSilent out
     → line ≡ of_script fault → Told line status errors → AcceptedAnswers bytes text limit natives out errors status
-unscripted bytes text limit natives fault line out errors status accepts (inl denotes) silent is told =
-    let script : Told (faults.Script fault) status errors = subst (λ f. Told f status errors) (is ∙ told_so fault fault.kind (is_of_text text fault denotes)) told in
-    subst (AcceptedAnswers bytes text limit natives out errors) (sym script.0) (inl (record { silent = silent; accepts = accepts; fault = fault; denotes = denotes; tells = script.1 }))
-unscripted bytes text limit natives fault line out errors status accepts (inr wants) silent is told =
-    let memory : Told faults.Memory status errors = subst (λ f. Told f status errors) (is ∙ ap (of_script_kind fault) wants.lines.kind) told in
-    subst (AcceptedAnswers bytes text limit natives out errors) (sym memory.0) (script_wants_memory silent accepts fault wants memory.1)
+unscripted bytes text limit natives fault line out errors status accepts refuses silent is told =
+    unread (AcceptedAnswers bytes text limit natives out errors) bytes text fault line out errors status accepts refuses silent is told inl (script_wants_memory silent accepts fault)
 
 -- ---- runs with one more refusal
 
 -- with enough natives memory alone is wanting
 pub tried_refused : (p : Image) (natives : ℕ) (fault : Fault) → HasNatives p natives → RefusesTry p natives fault → fault ≡ faults.Memory
-tried_refused p natives (faults.Boot boots.TooFewNatives) enough few = absurd (omega (arith, enough, few))
-tried_refused p natives faults.Memory enough wants = refl
-tried_refused p natives _ enough refused = absurd refused
+tried_refused p natives fault enough refused = grind arith
 
 -- want of memory is a reason at any time
 pub memory_refused : (p : Image) (natives : ℕ) (fault : Fault) → fault ≡ faults.Memory → RefusesTry p natives fault
@@ -191,15 +184,11 @@ memory_refused p natives fault is = rw is tt
 
 -- nothing was tried yet
 pub begin_refused : (p : Image) (script : Script) (limit natives first : ℕ) (sent : Sent) (fault : Fault) → IsSilent sent → RefusesTry p natives fault → BreaksOff p script limit natives first sent fault
-begin_refused p script limit natives first sent (faults.Boot boots.TooFewNatives) silent few = (few, silent)
-begin_refused p script limit natives first sent faults.Memory silent wants = (0, nothing p script limit natives first sent silent)
-begin_refused p script limit natives first sent _ silent refused = absurd refused
+begin_refused p script limit natives first sent fault silent refused = grind (arith, nothing)
 
 -- why a machine does not boot is why its run is not made
 pub run_refused : (p : Image) (natives : ℕ) (fault : Fault) → RefusesBoot p natives fault → RefusesTry p natives fault
-run_refused p natives (faults.Boot boots.TooFewNatives) few = few
-run_refused p natives faults.Memory enough = tt
-run_refused p natives _ refused = absurd refused
+run_refused p natives fault refused = grind arith
 
 module _ (bytes text : List ℕ) (limit natives : ℕ) (p : Image) (script : Script) (acceptable : IsAcceptable p) (well : AllRunWell p) (spelled : IsSpelled bytes p) (denotes : denoted text ≡ Ok script) (part : Part) (out errors : Sent) where
   abbrev of_them : Runs bytes text limit natives
@@ -222,12 +211,8 @@ module _ (bytes text : List ℕ) (limit natives : ℕ) (p : Image) (script : Scr
 
 pub untried : (bytes text : List ℕ) (limit natives : ℕ) (part : Part) (fault : ScriptFault) (line : Fault) (out errors : Sent) (status : ExitStatus) → Accepts bytes → RefusesOrWants text fault → IsSilent out
     → line ≡ of_script fault → Told line status errors → AcceptedExplores bytes text limit natives part out errors status
-untried bytes text limit natives part fault line out errors status accepts (inl denotes) silent is told =
-    let script : Told (faults.Script fault) status errors = subst (λ f. Told f status errors) (is ∙ told_so fault fault.kind (is_of_text text fault denotes)) told in
-    subst (AcceptedExplores bytes text limit natives part out errors) (sym script.0) (inl (record { silent = silent; accepts = accepts; fault = fault; denotes = denotes; tells = script.1 }))
-untried bytes text limit natives part fault line out errors status accepts (inr wants) silent is told =
-    let memory : Told faults.Memory status errors = subst (λ f. Told f status errors) (is ∙ ap (of_script_kind fault) wants.lines.kind) told in
-    subst (AcceptedExplores bytes text limit natives part out errors) (sym memory.0) (wants_for_script silent accepts fault wants memory.1)
+untried bytes text limit natives part fault line out errors status accepts refuses silent is told =
+    unread (AcceptedExplores bytes text limit natives part out errors) bytes text fault line out errors status accepts refuses silent is told inl (wants_for_script silent accepts fault)
 
 pub explores : (bytes text : List ℕ) (limit natives : ℕ) (part : Part) (out errors : Sent) (status : ExitStatus) → AcceptedExplores bytes text limit natives part out errors status → ExploreAnswers bytes text limit natives part out errors status
 explores bytes text limit natives part out errors statuses.ImageRefused a = absurd a
@@ -236,47 +221,35 @@ explores bytes text limit natives part out errors _ a = a
 
 -- ---- bytes that are no accepted image
 
--- what the status is then, and what is told
-abbrev Turned : List ℕ → Sent → Sent → ExitStatus → Type 0
-Turned bytes out errors status = ((status ≡ statuses.ImageRefused) × IsRefused bytes out errors) ⊎ ((status ≡ statuses.Fault) × ImageWantsMemory out errors)
+-- what is told of them is want of memory or why they are none
+no_image : (bytes : List ℕ) (fault : Fault) → RefusesImage bytes fault → (fault ≡ faults.Memory) ⊎ (Refuses bytes fault × (status_of fault ≡ statuses.ImageRefused) × (fault ≡ faults.Memory → ⊥))
+no_image bytes fault refuses = grind arith
 
-turned_for : (bytes : List ℕ) (fault : Fault) (out errors : Sent) (status : ExitStatus) → Refuses bytes fault → status_of fault ≡ statuses.ImageRefused → (fault ≡ faults.Memory → ⊥)
-    → ((p : Image) → IsSpelled bytes p → IsAcceptable p → fault ≡ faults.Memory) → IsSilent out → Told fault status errors → Turned bytes out errors status
-turned_for bytes fault out errors status refuses is other complete silent told =
-    inl (told.0 ∙ is, record { silent = silent; fault = fault; refuses = refuses; none = λ p spelled acceptable. other (complete p spelled acceptable); status = is; tells = told.1 })
-
-turned : (bytes : List ℕ) (fault : Fault) (out errors : Sent) (status : ExitStatus) → RefusesImage bytes fault
-    → ((p : Image) → IsSpelled bytes p → IsAcceptable p → fault ≡ faults.Memory) → IsSilent out → Told fault status errors → Turned bytes out errors status
-turned bytes (faults.Load fault) out errors status refuses complete silent told = turned_for bytes (faults.Load fault) out errors status refuses refl (λ e. cc) complete silent told
-turned bytes (faults.Link fault) out errors status refuses complete silent told = turned_for bytes (faults.Link fault) out errors status refuses refl (λ e. cc) complete silent told
-turned bytes (faults.Verify refusal) out errors status refuses complete silent told = turned_for bytes (faults.Verify refusal) out errors status refuses refl (λ e. cc) complete silent told
-turned bytes (faults.Budget fault) out errors status refuses complete silent told = turned_for bytes (faults.Budget fault) out errors status refuses refl (λ e. cc) complete silent told
-turned bytes faults.Memory out errors status refuses complete silent told = inr (told.0, record { silent = silent; tells = told.1 })
-turned bytes _ out errors status refuses complete silent told = absurd refuses
-
-to_run : (bytes text : List ℕ) (limit natives : ℕ) (out errors : Sent) (status : ExitStatus) → Turned bytes out errors status → RunAnswers bytes text limit natives out errors status
-to_run bytes text limit natives out errors status (inl refused) = subst (RunAnswers bytes text limit natives out errors) (sym refused.0) refused.1
-to_run bytes text limit natives out errors status (inr wants) = subst (RunAnswers bytes text limit natives out errors) (sym wants.0) (inl wants.1)
-
-to_check : (bytes : List ℕ) (out errors : Sent) (status : ExitStatus) → Turned bytes out errors status → CheckAnswers bytes out errors status
-to_check bytes out errors status (inl refused) = subst (CheckAnswers bytes out errors) (sym refused.0) refused.1
-to_check bytes out errors status (inr wants) = subst (CheckAnswers bytes out errors) (sym wants.0) (inl wants.1)
+-- so each status answers which is one of a refused image and of want of memory
+pub turned : (answers : ExitStatus → Type 0) (bytes : List ℕ) (fault : Fault) (out errors : Sent) (status : ExitStatus) → RefusesImage bytes fault
+    → ((p : Image) → IsSpelled bytes p → IsAcceptable p → fault ≡ faults.Memory) → IsSilent out → Told fault status errors
+    → ((refused : IsRefused bytes out errors) → refused.fault ≡ fault → answers statuses.ImageRefused) → (ImageWantsMemory out errors → answers statuses.Fault) → answers status
+turned answers bytes fault out errors status refuses complete silent told refused wants = go (no_image bytes fault refuses)
+  where
+    go : (fault ≡ faults.Memory) ⊎ (Refuses bytes fault × (status_of fault ≡ statuses.ImageRefused) × (fault ≡ faults.Memory → ⊥)) → answers status
+    go (inl memory) = let is : Told faults.Memory status errors = subst (λ f. Told f status errors) memory told in subst answers (sym is.0) (wants (record { silent = silent; tells = is.1 }))
+    go (inr (why, is, other)) =
+        subst answers (sym (told.0 ∙ is))
+        (refused (record { silent = silent; fault = fault; refuses = why; none = λ p spelled acceptable. other (complete p spelled acceptable); status = is; tells = told.1 }) refl)
 
 pub unaccepted : (bytes text : List ℕ) (limit natives : ℕ) (fault : Fault) (out errors : Sent) (status : ExitStatus) → RefusesImage bytes fault
     → ((p : Image) → IsSpelled bytes p → IsAcceptable p → fault ≡ faults.Memory) → IsSilent out → Told fault status errors → RunAnswers bytes text limit natives out errors status
-unaccepted bytes text limit natives fault out errors status refuses complete silent told = to_run bytes text limit natives out errors status (turned bytes fault out errors status refuses complete silent told)
+unaccepted bytes text limit natives fault out errors status refuses complete silent told =
+    turned (RunAnswers bytes text limit natives out errors) bytes fault out errors status refuses complete silent told (λ refused _. refused) inl
 
 pub unchecked : (bytes : List ℕ) (fault : Fault) (out errors : Sent) (status : ExitStatus) → RefusesImage bytes fault
     → ((p : Image) → IsSpelled bytes p → IsAcceptable p → fault ≡ faults.Memory) → IsSilent out → Told fault status errors → CheckAnswers bytes out errors status
-unchecked bytes fault out errors status refuses complete silent told = to_check bytes out errors status (turned bytes fault out errors status refuses complete silent told)
+unchecked bytes fault out errors status refuses complete silent told = turned (CheckAnswers bytes out errors) bytes fault out errors status refuses complete silent told (λ refused _. refused) inl
 
 -- ---- an accepted image
 
 -- what is answered of an accepted image is an answer
 pub accepted : (bytes text : List ℕ) (limit natives : ℕ) (out errors : Sent) (status : ExitStatus) → AcceptedAnswers bytes text limit natives out errors status → RunAnswers bytes text limit natives out errors status
-accepted bytes text limit natives out errors statuses.Done answers = answers
 accepted bytes text limit natives out errors statuses.ImageRefused answers = absurd answers
-accepted bytes text limit natives out errors statuses.CallRefused answers = answers
-accepted bytes text limit natives out errors statuses.Unfinished answers = answers
-accepted bytes text limit natives out errors statuses.Broken answers = answers
 accepted bytes text limit natives out errors statuses.Fault answers = inr answers
+accepted bytes text limit natives out errors _ answers = answers

@@ -79,10 +79,7 @@ unwritten p script limit natives first number mid sent far before now failed =
 module _ {X : Type 0} {B : X → Type 0} where
   told_of : (m new : Machine X B) (outside : Outside) (ending : Ending) (failed : Bool) (before now : Option (List ℕ)) → Ran m outside (outcome_of ending) failed before now new → Told m.core.image outside ending before now new
   told_of m new outside endings.Stopped failed before now ran = ran
-  told_of m new outside endings.Waiting failed before now ran = ran
-  told_of m new outside (endings.MainLeft code) failed before now ran = ran
-  told_of m new outside endings.Limit failed before now ran = ran
-  told_of m new outside (endings.Error answer) failed before now ran = ran
+  told_of m new outside _ failed before now ran = ran
 
   -- how it ended, with how many cells and after how many requests, the machine tells
   pub last_so : (p : Image) (m new : Machine X B) (outside : Outside) (outcome : Outcome) (ending : Ending) (failed : Bool) (before now : Option (List ℕ)) (cells requests : ℕ)

@@ -1,16 +1,14 @@
 -- What `dot` promises of its sinks and its status, from bytes to bytes.
-use Rattle.std.specs.Prelude.{ℕ, ◌≡◌, ◌⊎◌, true, List}
+use Rattle.std.specs.Prelude.{ℕ, ◌≡◌, ◌⊎◌, List}
 use Rattle.aom_image.specs.Image.{Image}
 use Rattle.aom_classes.specs.Linked.{IsLinked}
 use Rattle.aom_rules.specs.Typing.{Typing, IsTyped}
 use Rattle.aom_budget.specs.Figures.{Figures, AreFigures}
 use Rattle.aom_dot.specs.Dot.{dot_text}
-use Rattle.aom_run.specs.Runs.{after}
 use Rattle.aom_main.specs.declared.status.ExitStatus.{ExitStatus}
 use Rattle.aom_main.specs.declared.status.ExitStatus.TheVariants.{Done, ImageRefused, Fault as Faulty}
-use Rattle.aom_main.specs.declared.faults.Fault.TheVariants.{Write}
 use Rattle.aom_main.specs.Acceptable.{IsSpelled}
-use Rattle.aom_main.specs.Headline.{Sent, IsSilent, Says, Tells, ImageWantsMemory}
+use Rattle.aom_main.specs.Headline.{ImageWantsMemory, Sent, WriteFails, Writes}
 use Rattle.aom_main.specs.Prices.{IsUnpriced}
 
 -- the text is the graph of an image with its figures
@@ -28,17 +26,9 @@ pub record IsDrawn (bytes text : List ℕ) : Type 0 where
   pub typed : IsTyped image typing
   pub graph : IsGraph image text
 
--- the output failed at the graph of an image
-pub record DotBreaks (bytes : List ℕ) (out errors : Sent) : Type 0 where
-  pub text : List ℕ
-  pub drawn : IsDrawn bytes text
-  pub failed : out.failed ≡ true
-  pub says : Says text out
-  pub tells : Tells Write errors
-
 -- what each status says of a call of `dot`: an image is refused for what stands before its budgets alone
 abbrev pub DotAnswers : List ℕ → Sent → Sent → ExitStatus → Type 0
-DotAnswers bytes out errors Done = (text : List ℕ) × IsDrawn bytes text × (out.now ≡ after out.before text) × IsSilent errors
+DotAnswers bytes out errors Done = Writes (IsDrawn bytes) out errors
 DotAnswers bytes out errors ImageRefused = IsUnpriced bytes out errors
-DotAnswers bytes out errors Faulty = ImageWantsMemory out errors ⊎ DotBreaks bytes out errors
+DotAnswers bytes out errors Faulty = ImageWantsMemory out errors ⊎ WriteFails (IsDrawn bytes) out errors
 DotAnswers bytes out errors _ = ⊥

@@ -56,6 +56,30 @@ Sends text status out errors =
     ((status ≡ Done) × (out.now ≡ after out.before text) × IsSilent errors)
     ⊎ ((status ≡ Faulty) × (out.failed ≡ true) × Says text out × Tells faults.Write errors)
 
+-- a text that was due went out, and nothing was said to the errors
+abbrev pub Writes : (List ℕ → Type 0) → Sent → Sent → Type 0
+Writes Due out errors = (text : List ℕ) × Due text × (out.now ≡ after out.before text) × IsSilent errors
+
+-- a text was due, and the output failed
+pub record WriteFails (Due : List ℕ → Type 0) (out errors : Sent) : Type 0 where
+  pub text : List ℕ
+  pub due : Due text
+  pub failed : out.failed ≡ true
+  pub says : Says text out
+  pub tells : Tells faults.Write errors
+
+-- nothing went out, for a reason of one kind, and the errors say why
+pub record RefusedFor {F : Type 0} (line : F → Fault) (Why : F → Type 0) (out errors : Sent) : Type 0 where
+  pub silent : IsSilent out
+  pub reason : F
+  pub why : Why reason
+  pub tells : Tells (line reason) errors
+
+-- memory was wanting on the way to an image, before anything went out. It says nothing of the image
+pub record ImageWantsMemory (out errors : Sent) : Type 0 where
+  pub silent : IsSilent out
+  pub tells : Tells faults.Memory errors
+
 -- the transcript of a run of the checked machine went out
 pub record Transcribed (p : Image) (outside : Outside) (ending : Ending) (sent : Sent) : Type 0 where
   pub lines : List Line
@@ -193,11 +217,6 @@ AcceptedAnswers bytes text limit natives out errors Broken = (ending : Ending) �
 AcceptedAnswers bytes text limit natives out errors ImageRefused = ⊥
 AcceptedAnswers bytes text limit natives out errors CallRefused = IsNoScript bytes text out errors ⊎ WantsNatives bytes text natives out errors
 AcceptedAnswers bytes text limit natives out errors Faulty = RunBreaks bytes text limit natives out errors
-
--- memory was wanting on the way to an accepted image, before anything went out. It says nothing of the image
-pub record ImageWantsMemory (out errors : Sent) : Type 0 where
-  pub silent : IsSilent out
-  pub tells : Tells faults.Memory errors
 
 -- what each status says of a call of `run`, beside so many natives
 abbrev pub RunAnswers : List ℕ → List ℕ → (limit natives : ℕ) → Sent → Sent → ExitStatus → Type 0

@@ -9,6 +9,7 @@ ghost use Rattle.aom_main.specs.Untold.{Untold};
 
 use crate::accepting::accept_bytes;
 use crate::assembling::{assemble_bytes, disassemble_bytes};
+use crate::faults::answer;
 use crate::running::{run_accepted, runs_well};
 use crate::{ExitStatus, Fault, tell};
 use aom_budget::Accepted;
@@ -19,6 +20,7 @@ use std::alloc::Global;
 
 /// Runs an image under a script beside those natives, and writes the transcript. The image is looked at before the script, and
 /// the script before the natives.
+#[tactic(auto, using(crate::proofs::Untelling::answered))]
 pub fn run_bytes<W: Sink, E: Sink>(
     alloc: Global,
     image: &[u8],
@@ -32,10 +34,7 @@ pub fn run_bytes<W: Sink, E: Sink>(
     requires owed { OweNothing (λ b. (⟦<dyn Native as Native>⟧ b.vtable).owed b.value) boxes.items }
     ensures { RunAnswers image.now script.now limit (length boxes.items) (record { before = W.out out.old; now = W.out out.new; failed = W.failed out.new }) (record { before = E.out errors.old; now = E.out errors.new; failed = E.failed errors.new }) result }
 {
-    match try_run(alloc, image, script, limit, boxes, out) {
-        Ok(status) => status,
-        Err(fault) => tell(&fault, errors),
-    }
+    answer(try_run(alloc, image, script, limit, boxes, out), errors)
 }
 
 /// Runs an image as `run_bytes` does, and leaves its fault to be told.
@@ -114,6 +113,7 @@ fn end(outcome: Outcome) -> Result<ExitStatus, Fault>
 }
 
 /// Tells whether an image is accepted.
+#[tactic(auto, using(crate::proofs::Untelling::answered))]
 pub fn check_bytes<W: Sink, E: Sink>(
     alloc: Global,
     image: &[u8],
@@ -122,10 +122,7 @@ pub fn check_bytes<W: Sink, E: Sink>(
 ) -> ExitStatus
     ensures { CheckAnswers image.now (record { before = W.out out.old; now = W.out out.new; failed = W.failed out.new }) (record { before = E.out errors.old; now = E.out errors.new; failed = E.failed errors.new }) result }
 {
-    match try_check(alloc, image, out) {
-        Ok(status) => status,
-        Err(fault) => tell(&fault, errors),
-    }
+    answer(try_check(alloc, image, out), errors)
 }
 
 /// Checks an image as `check_bytes` does, and leaves its fault to be told.
@@ -139,6 +136,7 @@ pub fn try_check<W: Sink>(alloc: Global, image: &[u8], out: &mut W) -> Result<Ex
 }
 
 /// Writes the bytes of the image that an assembly text denotes.
+#[tactic(auto, using(crate::proofs::Untelling::answered))]
 pub fn asm_bytes<W: Sink, E: Sink>(
     alloc: Global,
     text: &[u8],
@@ -147,10 +145,7 @@ pub fn asm_bytes<W: Sink, E: Sink>(
 ) -> ExitStatus
     ensures { AsmAnswers text.now (record { before = W.out out.old; now = W.out out.new; failed = W.failed out.new }) (record { before = E.out errors.old; now = E.out errors.new; failed = E.failed errors.new }) result }
 {
-    match try_asm(alloc, text, out) {
-        Ok(status) => status,
-        Err(fault) => tell(&fault, errors),
-    }
+    answer(try_asm(alloc, text, out), errors)
 }
 
 /// Assembles a text as `asm_bytes` does, and leaves its fault to be told.
@@ -180,13 +175,11 @@ pub fn dis_bytes<W: Sink, E: Sink>(
 }
 
 /// Writes a text to the output, and tells whether that has failed.
+#[tactic(auto, using(crate::proofs::Untelling::answered))]
 pub fn send<W: Sink, E: Sink>(text: &[u8], out: &mut W, errors: &mut E) -> ExitStatus
     ensures { Sends text.now result (record { before = W.out out.old; now = W.out out.new; failed = W.failed out.new }) (record { before = E.out errors.old; now = E.out errors.new; failed = E.failed errors.new }) }
 {
-    match try_send(text, out) {
-        Ok(status) => status,
-        Err(fault) => tell(&fault, errors),
-    }
+    answer(try_send(text, out), errors)
 }
 
 /// Writes a text to the output. That this fails is left to be told.

@@ -81,13 +81,14 @@ fn last_booted(
     script: &Script,
     refused: Vec<u32>,
     limit: u32,
-) -> Result<Last, AllocError>
+) -> Result<Last, Fault>
     requires limit { (1 ≤ limit) × (limit ≤ 1000000000) }
     requires timely { IsTimely script.now.timed }
     requires agree { AllAgree (λ l. l.ids) (λ l. (⟦<dyn Native as Native>⟧ l.native.vtable).owed l.native.value) machine.old.natives.slots.items }
     requires image { machine.old.core.image ≡ accepted.now }
     requires fresh { IsFresh machine.old }
     ensures ok { IfOk result (λ last. IsLast accepted.now (hearing refused.items limit (natives_of machine.old) script.now.timed) last) }
+    ensures err { IfErr result (λ fault. fault ≡ Fault.Memory) }
 {
     let mut turn = Turn::new(alloc, accepted.linked(), refused)?;
     let outcome = run(machine, script, &mut turn, limit, &mut Nowhere);
@@ -115,7 +116,9 @@ fn last_beside(
     ensures err { IfErr result (λ fault. RefusesBoot accepted.now (length boxes.items) fault) }
 {
     let mut machine = booted(alloc, accepted, boxes)?;
-    Ok(last_booted(alloc, accepted, &mut machine, script, refused, limit)?)
+    let last = last_booted(alloc, accepted, &mut machine, script, refused, limit);
+    drop(machine);
+    last
 }
 
 /// Makes the natives of one run, and runs an accepted image beside them to its end.

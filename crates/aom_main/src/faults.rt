@@ -2,6 +2,7 @@
 ghost use Rattle.std.specs.Prelude.{◌≡◌};
 ghost use Rattle.aom_main.specs.Status.{status_of};
 ghost use Rattle.aom_main.specs.Headline.{Told};
+ghost use Rattle.aom_main.specs.Untold.{Answered};
 
 use crate::ExitStatus;
 use crate::fault_line::FaultLine;
@@ -166,6 +167,16 @@ impl<T: Drop> From<AllocFailed<T>> for Fault {
 
     fn from(_failed: AllocFailed<T>) -> Fault {
         Fault::Memory
+    }
+}
+
+/// Answers the status that a call has come to, or tells its fault.
+pub(crate) fn answer<E: Sink>(found: Result<ExitStatus, Fault>, errors: &mut E) -> ExitStatus
+    ensures { Answered found (record { before = E.out errors.old; now = E.out errors.new; failed = E.failed errors.new }) result }
+{
+    match found {
+        Ok(status) => status,
+        Err(fault) => tell(&fault, errors),
     }
 }
 

@@ -1,14 +1,16 @@
 //! The figures of an image that has been checked, accepted or not.
-ghost use Rattle.std.specs.Prelude.{◌≡◌, ◌++◌, IfOk, IfErr};
+ghost use Rattle.std.specs.Prelude.{◌≡◌, ◌++◌, None, IfOk, IfErr};
 ghost use Rattle.aom_image.specs.Image.{Image};
 ghost use Rattle.aom_classes.specs.Linked.{IsLinked};
+ghost use Rattle.aom_budget.specs.Figures.{AreFigures};
 ghost use Rattle.aom_main.specs.Acceptable.{IsSpelled, IsAcceptable, RefusesOrWants};
 ghost use Rattle.aom_main.specs.Headline.{accepted_text};
 ghost use Rattle.aom_main.specs.Prices.{IsEarly, IsPriced, IsWritten, PricesAnswers, Shown};
 ghost use Rattle.aom_main.specs.Untold.{Untold};
 
 use crate::accepting::link_bytes;
-use crate::{ExitStatus, Fault, tell};
+use crate::faults::answer;
+use crate::{ExitStatus, Fault};
 use aom_budget::{BudgetFault, Figures};
 use aom_figures::figures_text;
 use aom_run::{Sink, write_text};
@@ -24,6 +26,7 @@ struct Priced {
 
 /// Tells whether an image is accepted, with its figures. Those of one that its budgets or its limits alone refuse are
 /// told too.
+#[tactic(auto, using(crate::proofs::Untelling::answered))]
 pub fn prices_bytes<W: Sink, E: Sink>(
     alloc: Global,
     image: &[u8],
@@ -32,10 +35,7 @@ pub fn prices_bytes<W: Sink, E: Sink>(
 ) -> ExitStatus
     ensures { PricesAnswers image.now (record { before = W.out out.old; now = W.out out.new; failed = W.failed out.new }) (record { before = E.out errors.old; now = E.out errors.new; failed = E.failed errors.new }) result }
 {
-    match try_prices(alloc, image, out) {
-        Ok(status) => status,
-        Err(fault) => tell(&fault, errors),
-    }
+    answer(try_prices(alloc, image, out), errors)
 }
 
 /// Writes an image's figures as `prices_bytes` does, and leaves its fault to be told.
@@ -79,12 +79,17 @@ fn price_checked(alloc: Global, checked: &Checked) -> Result<Priced, AllocError>
     ensures { IfOk result (λ priced. IsPriced checked.now priced.text.items priced.refusal) }
 {
     let figures = Figures::of_image(alloc, checked)?;
-    let text = figures_text(alloc, checked.linked(), &figures)?;
+    price_figures(alloc, checked, &figures)
+}
+
+/// What is written of a checked image that has those figures.
+fn price_figures(alloc: Global, checked: &Checked, figures: &Figures) -> Result<Priced, AllocError>
+    requires { AreFigures checked.now figures.now }
+    ensures { IfOk result (λ priced. IsPriced checked.now priced.text.items priced.refusal) }
+{
+    let text = figures_text(alloc, checked.linked(), figures)?;
     match figures.keep(checked) {
-        Ok(()) => Ok(Priced {
-            text: with_accepted(alloc, &text)?,
-            refusal: None,
-        }),
+        Ok(()) => accepted_beside(alloc, &text),
         Err(fault) => Ok(Priced {
             text,
             refusal: Some(fault),
@@ -92,13 +97,16 @@ fn price_checked(alloc: Global, checked: &Checked) -> Result<Priced, AllocError>
     }
 }
 
-/// The text of an accepted image.
-fn with_accepted(alloc: Global, figures: &[u8]) -> Result<Vec<u8>, AllocError>
-    ensures { IfOk result (λ text. text.items ≡ accepted_text ++ figures.now) }
+/// What is written of an accepted image with those figures.
+fn accepted_beside(alloc: Global, figures: &[u8]) -> Result<Priced, AllocError>
+    ensures { IfOk result (λ priced. (priced.text.items ≡ accepted_text ++ figures.now) × (priced.refusal ≡ None)) }
 {
     let mut text = Vec::from_slice(alloc, b"accepted\n")?;
     text.extend_from_slice(figures)?;
-    Ok(text)
+    Ok(Priced {
+        text,
+        refusal: None,
+    })
 }
 
 /// The checked image that the bytes are, or the first fault on the way.

@@ -76,7 +76,9 @@ pub fn run_accepted<W: Sink>(
     ensures err { IfErr result (λ fault. RefusesBoot accepted.now (length boxes.items) fault × (W.out out.new ≡ W.out out.old)) }
 {
     let mut machine = booted(alloc, accepted, boxes)?;
-    run_booted(alloc, accepted, &mut machine, script, limit, out)
+    let outcome = run_booted(alloc, accepted, &mut machine, script, limit, out);
+    drop(machine);
+    outcome
 }
 
 /// Every run of an accepted image goes well within its declared steps, whatever is refused, and has one text.

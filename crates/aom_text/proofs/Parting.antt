@@ -1,5 +1,5 @@
 -- The parts of a text by where the first end is.
-use Rattle.std.proofs.Common.{◌≡◌, ℕ, suc, ◌+◌, ◌-◌, ◌<◌, ◌==◌, ◌&&◌, ◌||◌, Bool, true, false, not, cond, nat_lt, nat_le, List, [], ◌∷◌, Some, None, length, take, drop, map, refl, sym, ap, subst, ◌∙◌, arith, rules, tests}
+use Rattle.std.proofs.Common.{◌≡◌, ℕ, suc, ◌+◌, ◌-◌, ◌<◌, ◌==◌, ◌&&◌, ◌||◌, Bool, true, false, not, cond, nat_lt, nat_le, List, [], ◌∷◌, Option, Some, None, length, take, drop, map, refl, sym, ap, subst, ◌∙◌, arith, rules, tests}
 use Rattle.std.specs.List.{filter, slice_split, onto_first, find, position, position_or_len}
 use Rattle.std.proofs.lemmas.Grind.{common_steps}
 use Rattle.std.proofs.lemmas.List.{take_rest}
@@ -10,12 +10,10 @@ use Rattle.std.proofs.lemmas.Bool.{or_parts}
 
 -- where a place is chosen, it is the one that the test was for
 chosen : (t : Bool) (n i : ℕ) → cond t (Some n) None ≡ Some i → (t ≡ true) × (n ≡ i)
-chosen true n i is = (refl, cc)
-chosen false n i is = absurd cc
+chosen x n i is = grind arith
 
 not_chosen : (t : Bool) (n : ℕ) → cond t (Some n) None ≡ None → t ≡ false
-not_chosen true n is = absurd cc
-not_chosen false n is = refl
+not_chosen x n is = grind arith
 
 -- ---- parts in general
 
@@ -89,37 +87,55 @@ drop_one n b bs = ap (λ k. drop k (b ∷ bs)) (one_on n)
 take_one : (n b : ℕ) (bs : List ℕ) → take (1 + n) (b ∷ bs) ≡ b ∷ take n bs
 take_one n b bs = ap (λ k. take k (b ∷ bs)) (one_on n)
 
--- the words begin where the first byte is that is no blank
-pub record Inked (bs : List ℕ) (i : ℕ) : Type 0 where
+-- where the first byte is of which a test is false, what is said of a text by what is left of it there
+pub record First (p : ℕ → Bool) (So : List ℕ → List ℕ → Type 0) (bs : List ℕ) (i : ℕ) : Type 0 where
   pub first : ℕ
   pub more : List ℕ
   pub at : drop i bs ≡ first ∷ more
-  pub is : is_blank first ≡ false
-  pub same : words bs ≡ words (first ∷ more)
+  pub is : p first ≡ false
+  pub so : So bs (first ∷ more)
+
+-- it is said of a text if it is of the text behind a byte that passes
+module _ (p : ℕ → Bool) where
+  first_at : (So : List ℕ → List ℕ → Type 0) → ((bs : List ℕ) → So bs bs) → ((b : ℕ) (bs rest : List ℕ) → p b ≡ true → So bs rest → So (b ∷ bs) rest)
+      → (bs : List ℕ) → nat_lt (position_or_len (λ b. not (p b)) bs) (length bs) ≡ true → First p So bs (position_or_len (λ b. not (p b)) bs)
+  first_at So self behind [] h = absurd cc
+  first_at So self behind (b ∷ bs) h =
+      let known : (t : Bool) → p b ≡ t → nat_lt (cond (not (not t)) (1 + position_or_len (λ b. not (p b)) bs) 0) (length (b ∷ bs)) ≡ true → First p So (b ∷ bs) (cond (not (not t)) (1 + position_or_len (λ b. not (p b)) bs) 0) =
+      λ t. elim t as (λ t. p b ≡ t → nat_lt (cond (not (not t)) (1 + position_or_len (λ b. not (p b)) bs) 0) (length (b ∷ bs)) ≡ true → First p So (b ∷ bs) (cond (not (not t)) (1 + position_or_len (λ b. not (p b)) bs) 0)) [
+        | true ↦ λ e past. let rest = first_at So self behind bs (grind (arith, common_steps)) in record {
+          first = rest.first;
+          more = rest.more;
+          at = drop_one (position_or_len (λ b. not (p b)) bs) b bs ∙ rest.at;
+          is = rest.is;
+          so = behind b bs (rest.first ∷ rest.more) e rest.so;
+        }
+        | false ↦ λ e past. record { first = b; more = bs; at = refl; is = e; so = self (b ∷ bs) }
+      ] in
+      known (p b) refl h
+
+  -- and of one in which each byte passes
+  none_at : (So : List ℕ → Type 0) → So [] → ((b : ℕ) (bs : List ℕ) → p b ≡ true → So bs → So (b ∷ bs)) → (bs : List ℕ) → nat_lt (position_or_len (λ b. not (p b)) bs) (length bs) ≡ false → So bs
+  none_at So self behind [] h = self
+  none_at So self behind (b ∷ bs) h =
+      elim (p b) as (λ t. p b ≡ t → nat_lt (cond (not (not t)) (1 + position_or_len (λ b. not (p b)) bs) 0) (length (b ∷ bs)) ≡ false → So (b ∷ bs)) [
+        | true ↦ λ e past. behind b bs e (none_at So self behind bs (grind (arith, common_steps)))
+        | false ↦ λ e past. absurd (grind (arith, common_steps))
+      ] refl h
+
+-- a blank before them changes no words
+blank_first : (b : ℕ) (bs : List ℕ) (ws : List (List ℕ)) → is_blank b ≡ true → words bs ≡ ws → words (b ∷ bs) ≡ ws
+blank_first b bs ws e same = ap (λ t. filter has_bytes (cond t ([] ∷ slice_split is_blank bs) (onto_first b (slice_split is_blank bs)))) e ∙ same
+
+-- the words begin where the first byte is that is no blank
+abbrev Inked : List ℕ → ℕ → Type 0
+Inked = First is_blank (λ bs rest. words bs ≡ words rest)
 
 inked : (bs : List ℕ) → nat_lt (position_or_len (λ b. not (is_blank b)) bs) (length bs) ≡ true → Inked bs (position_or_len (λ b. not (is_blank b)) bs)
-inked [] h = absurd cc
-inked (b ∷ bs) h =
-    let known : (t : Bool) → is_blank b ≡ t → nat_lt (cond (not (not t)) (1 + position_or_len (λ b. not (is_blank b)) bs) 0) (length (b ∷ bs)) ≡ true → Inked (b ∷ bs) (cond (not (not t)) (1 + position_or_len (λ b. not (is_blank b)) bs) 0) =
-    λ t. elim t as (λ t. is_blank b ≡ t → nat_lt (cond (not (not t)) (1 + position_or_len (λ b. not (is_blank b)) bs) 0) (length (b ∷ bs)) ≡ true → Inked (b ∷ bs) (cond (not (not t)) (1 + position_or_len (λ b. not (is_blank b)) bs) 0)) [
-      | true ↦ λ e past. let rest = inked bs (grind (arith, common_steps)) in record {
-        first = rest.first;
-        more = rest.more;
-        at = drop_one (position_or_len (λ b. not (is_blank b)) bs) b bs ∙ rest.at;
-        is = rest.is;
-        same = ap (λ t. filter has_bytes (cond t ([] ∷ slice_split is_blank bs) (onto_first b (slice_split is_blank bs)))) e ∙ rest.same;
-      }
-      | false ↦ λ e past. record { first = b; more = bs; at = refl; is = e; same = refl }
-    ] in
-    known (is_blank b) refl h
+inked = first_at is_blank (λ bs rest. words bs ≡ words rest) (λ bs. refl) (λ b bs rest e same. blank_first b bs (words rest) e same)
 
 all_blank : (bs : List ℕ) → nat_lt (position_or_len (λ b. not (is_blank b)) bs) (length bs) ≡ false → words bs ≡ []
-all_blank [] h = refl
-all_blank (b ∷ bs) h =
-    elim (is_blank b) as (λ t. nat_lt (cond (not (not t)) (1 + position_or_len (λ b. not (is_blank b)) bs) 0) (length (b ∷ bs)) ≡ false → filter has_bytes (cond t ([] ∷ slice_split is_blank bs) (onto_first b (slice_split is_blank bs))) ≡ []) [
-      | true ↦ λ past. all_blank bs (grind (arith, common_steps))
-      | false ↦ λ past. absurd (grind (arith, common_steps))
-    ] h
+all_blank = none_at is_blank (λ bs. words bs ≡ []) refl (λ b bs e same. blank_first b bs [] e same)
 
 pub words_none : (bs : List ℕ) → position (λ b. not (is_blank b)) bs ≡ None → words bs ≡ []
 words_none bs is = all_blank bs (not_chosen _ _ is)
@@ -142,7 +158,7 @@ word_first bs i e is ends =
     let at = chosen (nat_lt (position_or_len (λ b. not (is_blank b)) bs) (length bs)) (position_or_len (λ b. not (is_blank b)) bs) i is in
     let ink : Inked bs i = subst (Inked bs) at.1 (inked bs at.0) in
     let same : take (length bs - i) (drop i bs) ≡ ink.first ∷ ink.more = take_rest bs i ∙ ink.at in
-    subst (λ (t : List ℕ). position is_blank t ≡ Some e → words bs ≡ take e t ∷ words (take (length t - (e + 1)) (drop (e + 1) t))) (sym same) (λ h. ink.same ∙ word_then ink.first ink.more e ink.is h) ends
+    subst (λ (t : List ℕ). position is_blank t ≡ Some e → words bs ≡ take e t ∷ words (take (length t - (e + 1)) (drop (e + 1) t))) (sym same) (λ h. ink.so ∙ word_then ink.first ink.more e ink.is h) ends
 
 pub word_only : (bs : List ℕ) (i : ℕ) → position (λ b. not (is_blank b)) bs ≡ Some i → position is_blank (take (length bs - i) (drop i bs)) ≡ None
     → words bs ≡ take (length bs - i) (drop i bs) ∷ []
@@ -150,39 +166,24 @@ word_only bs i is ends =
     let at = chosen (nat_lt (position_or_len (λ b. not (is_blank b)) bs) (length bs)) (position_or_len (λ b. not (is_blank b)) bs) i is in
     let ink : Inked bs i = subst (Inked bs) at.1 (inked bs at.0) in
     let same : take (length bs - i) (drop i bs) ≡ ink.first ∷ ink.more = take_rest bs i ∙ ink.at in
-    subst (λ (t : List ℕ). position is_blank t ≡ None → words bs ≡ t ∷ []) (sym same) (λ h. ink.same ∙ ap (filter has_bytes) (split_none is_blank (ink.first ∷ ink.more) h)) ends
+    subst (λ (t : List ℕ). position is_blank t ≡ None → words bs ≡ t ∷ []) (sym same) (λ h. ink.so ∙ ap (filter has_bytes) (split_none is_blank (ink.first ∷ ink.more) h)) ends
 
 -- ---- comments
 
--- the first byte that a text may not have
-pub record Other (bs : List ℕ) (i : ℕ) : Type 0 where
-  pub first : ℕ
-  pub at : take 1 (drop i bs) ≡ first ∷ []
-  pub is : is_plain first ≡ false
-  pub found : find (λ b. not (is_plain b)) bs ≡ Some first
+-- a byte that a text may have before them changes nothing of what is found
+plain_first : (b : ℕ) (bs : List ℕ) (found : Option ℕ) → is_plain b ≡ true → find (λ b. not (is_plain b)) bs ≡ found → find (λ b. not (is_plain b)) (b ∷ bs) ≡ found
+plain_first b bs found e same = ap (λ t. cond (not t) (Some b) (find (λ b. not (is_plain b)) bs)) e ∙ same
+
+-- the first byte that a text may not have is found
+abbrev Other : List ℕ → ℕ → Type 0
+Other = First is_plain (λ bs rest. find (λ b. not (is_plain b)) bs ≡ find (λ b. not (is_plain b)) rest)
 
 other : (bs : List ℕ) → nat_lt (position_or_len (λ b. not (is_plain b)) bs) (length bs) ≡ true → Other bs (position_or_len (λ b. not (is_plain b)) bs)
-other [] h = absurd cc
-other (b ∷ bs) h =
-    let known : (t : Bool) → is_plain b ≡ t → nat_lt (cond (not (not t)) (1 + position_or_len (λ b. not (is_plain b)) bs) 0) (length (b ∷ bs)) ≡ true → Other (b ∷ bs) (cond (not (not t)) (1 + position_or_len (λ b. not (is_plain b)) bs) 0) =
-    λ t. elim t as (λ t. is_plain b ≡ t → nat_lt (cond (not (not t)) (1 + position_or_len (λ b. not (is_plain b)) bs) 0) (length (b ∷ bs)) ≡ true → Other (b ∷ bs) (cond (not (not t)) (1 + position_or_len (λ b. not (is_plain b)) bs) 0)) [
-      | true ↦ λ e past. let rest = other bs (grind (arith, common_steps)) in record {
-        first = rest.first;
-        at = ap (take 1) (drop_one (position_or_len (λ b. not (is_plain b)) bs) b bs) ∙ rest.at;
-        is = rest.is;
-        found = ap (λ t. cond (not t) (Some b) (find (λ b. not (is_plain b)) bs)) e ∙ rest.found;
-      }
-      | false ↦ λ e past. record { first = b; at = refl; is = e; found = ap (λ t. cond (not t) (Some b) (find (λ b. not (is_plain b)) bs)) e }
-    ] in
-    known (is_plain b) refl h
+other =
+    first_at is_plain (λ bs rest. find (λ b. not (is_plain b)) bs ≡ find (λ b. not (is_plain b)) rest) (λ bs. refl) (λ b bs rest e same. plain_first b bs (find (λ b. not (is_plain b)) rest) e same)
 
 no_other : (bs : List ℕ) → nat_lt (position_or_len (λ b. not (is_plain b)) bs) (length bs) ≡ false → find (λ b. not (is_plain b)) bs ≡ None
-no_other [] h = refl
-no_other (b ∷ bs) h =
-    elim (is_plain b) as (λ t. nat_lt (cond (not (not t)) (1 + position_or_len (λ b. not (is_plain b)) bs) 0) (length (b ∷ bs)) ≡ false → cond (not t) (Some b) (find (λ b. not (is_plain b)) bs) ≡ None) [
-      | true ↦ λ past. no_other bs (grind (arith, common_steps))
-      | false ↦ λ past. absurd (grind (arith, common_steps))
-    ] h
+no_other = none_at is_plain (λ bs. find (λ b. not (is_plain b)) bs ≡ None) refl (λ b bs e same. plain_first b bs None e same)
 
 second : (p q : Bool) → (p || q) ≡ false → q ≡ false
 second p q h = (or_parts p q h).1
@@ -194,7 +195,8 @@ pub comment_some : (n : ℕ) (bs : List ℕ) (i : ℕ) → position (λ b. not (
 comment_some n bs i is =
     let at = chosen (nat_lt (position_or_len (λ b. not (is_plain b)) bs) (length bs)) (position_or_len (λ b. not (is_plain b)) bs) i is in
     let it : Other bs i = subst (Other bs) at.1 (other bs at.0) in
-    ap (other_byte n) it.found ∙ ap (λ ws. in_line n ws ∷ []) (sym (ap words it.at ∙ one_word it.first (second ((nat_le 32 it.first && nat_le it.first 126)) (is_blank it.first) it.is)))
+    let found = it.so ∙ ap (λ t. cond (not t) (Some it.first) (find (λ b. not (is_plain b)) it.more)) it.is in
+    ap (other_byte n) found ∙ ap (λ ws. in_line n ws ∷ []) (sym (ap (λ t. words (take 1 t)) it.at ∙ one_word it.first (second ((nat_le 32 it.first && nat_le it.first 126)) (is_blank it.first) it.is)))
 
 pub comment_none : (n : ℕ) (bs : List ℕ) → position (λ b. not (is_plain b)) bs ≡ None → comment_statements n bs ≡ []
 comment_none n bs is = ap (other_byte n) (no_other bs (not_chosen _ _ is))

@@ -1,5 +1,5 @@
 -- A state that says strictly less has a lower rank, and changes of lists of states add up.
-use Rattle.std.proofs.Common.{◌≡◌, ◌≢◌, ℕ, zero, suc, ◌<◌, ◌≤◌, List, [], ◌∷◌, IsTrue, sym, ◌∙◌, arith}
+use Rattle.std.proofs.Common.{◌≡◌, ◌≢◌, ℕ, zero, suc, ◌<◌, ◌≤◌, List, [], ◌∷◌, IsTrue, refl, sym, ◌∙◌, arith}
 use Rattle.std.specs.List.{sum_by}
 use Rattle.std.proofs.lemmas.List.Sums.{sum_by-cons}
 use Rattle.aom_shape.specs.Order.{Weaker, WeakerFilling, SaysNoMore}
@@ -40,33 +40,21 @@ filling_stays : (a b : Filling) → WeakerFilling a b → filling_rank a ≡ fil
 filling_stays a b (alike_filling {x = x}) e = alike_filling
 filling_stays a b _ e = absurd (omega arith)
 
-kinds_fall : (xs ys : List Kind) → ((i : ℕ) → Weaker (at Unset xs i) (at Unset ys i)) → sum_by kind_rank xs ≤ sum_by kind_rank ys
-kinds_fall [] ys h = omega arith
-kinds_fall (x ∷ xs) [] h = omega (arith, sum_by-cons kind_rank x xs, kind_falls x Unset (h 0), kinds_fall xs [] (λ i. h (suc i)))
-kinds_fall (x ∷ xs) (y ∷ ys) h = omega (arith, sum_by-cons kind_rank x xs, sum_by-cons kind_rank y ys, kind_falls x y (h 0), kinds_fall xs ys (λ i. h (suc i)))
+-- what can fall no more often in each place can so in all, and if it can as often in all it can in each
+module _ {K : Type 0} (none : K) (rank : K → ℕ) (Less : K → K → Type 0) (self : Less none none) (low : rank none ≡ 0) (falls : (a b : K) → Less a b → rank a ≤ rank b) (stays : (a b : K) → Less a b → rank a ≡ rank b → Less b a) where
+  all_fall : (xs ys : List K) → ((i : ℕ) → Less (at none xs i) (at none ys i)) → sum_by rank xs ≤ sum_by rank ys
+  all_fall [] ys h = omega arith
+  all_fall (x ∷ xs) [] h = omega (arith, sum_by-cons rank x xs, falls x none (h 0), all_fall xs [] (λ i. h (suc i)))
+  all_fall (x ∷ xs) (y ∷ ys) h = omega (arith, sum_by-cons rank x xs, sum_by-cons rank y ys, falls x y (h 0), all_fall xs ys (λ i. h (suc i)))
 
-kinds_stay : (xs ys : List Kind) → ((i : ℕ) → Weaker (at Unset xs i) (at Unset ys i)) → sum_by kind_rank xs ≡ sum_by kind_rank ys → (i : ℕ) → Weaker (at Unset ys i) (at Unset xs i)
-kinds_stay [] [] h e i = alike
-kinds_stay [] (y ∷ ys) h e zero = kind_stays Unset y (h 0) (omega (arith, sum_by-cons kind_rank y ys, kind_falls Unset y (h 0), kinds_fall [] ys (λ i. h (suc i))))
-kinds_stay [] (y ∷ ys) h e (suc i) = kinds_stay [] ys (λ i. h (suc i)) (omega (arith, sum_by-cons kind_rank y ys, kind_falls Unset y (h 0), kinds_fall [] ys (λ i. h (suc i)))) i
-kinds_stay (x ∷ xs) [] h e zero = kind_stays x Unset (h 0) (omega (arith, sum_by-cons kind_rank x xs, kind_falls x Unset (h 0), kinds_fall xs [] (λ i. h (suc i))))
-kinds_stay (x ∷ xs) [] h e (suc i) = kinds_stay xs [] (λ i. h (suc i)) (omega (arith, sum_by-cons kind_rank x xs, kind_falls x Unset (h 0), kinds_fall xs [] (λ i. h (suc i)))) i
-kinds_stay (x ∷ xs) (y ∷ ys) h e zero = kind_stays x y (h 0) (omega (arith, sum_by-cons kind_rank x xs, sum_by-cons kind_rank y ys, kind_falls x y (h 0), kinds_fall xs ys (λ i. h (suc i))))
-kinds_stay (x ∷ xs) (y ∷ ys) h e (suc i) = kinds_stay xs ys (λ i. h (suc i)) (omega (arith, sum_by-cons kind_rank x xs, sum_by-cons kind_rank y ys, kind_falls x y (h 0), kinds_fall xs ys (λ i. h (suc i)))) i
-
-fillings_fall : (xs ys : List Filling) → ((i : ℕ) → WeakerFilling (at Perhaps xs i) (at Perhaps ys i)) → sum_by filling_rank xs ≤ sum_by filling_rank ys
-fillings_fall [] ys h = omega arith
-fillings_fall (x ∷ xs) [] h = omega (arith, sum_by-cons filling_rank x xs, filling_falls x Perhaps (h 0), fillings_fall xs [] (λ i. h (suc i)))
-fillings_fall (x ∷ xs) (y ∷ ys) h = omega (arith, sum_by-cons filling_rank x xs, sum_by-cons filling_rank y ys, filling_falls x y (h 0), fillings_fall xs ys (λ i. h (suc i)))
-
-fillings_stay : (xs ys : List Filling) → ((i : ℕ) → WeakerFilling (at Perhaps xs i) (at Perhaps ys i)) → sum_by filling_rank xs ≡ sum_by filling_rank ys → (i : ℕ) → WeakerFilling (at Perhaps ys i) (at Perhaps xs i)
-fillings_stay [] [] h e i = alike_filling
-fillings_stay [] (y ∷ ys) h e zero = filling_stays Perhaps y (h 0) (omega (arith, sum_by-cons filling_rank y ys, filling_falls Perhaps y (h 0), fillings_fall [] ys (λ i. h (suc i))))
-fillings_stay [] (y ∷ ys) h e (suc i) = fillings_stay [] ys (λ i. h (suc i)) (omega (arith, sum_by-cons filling_rank y ys, filling_falls Perhaps y (h 0), fillings_fall [] ys (λ i. h (suc i)))) i
-fillings_stay (x ∷ xs) [] h e zero = filling_stays x Perhaps (h 0) (omega (arith, sum_by-cons filling_rank x xs, filling_falls x Perhaps (h 0), fillings_fall xs [] (λ i. h (suc i))))
-fillings_stay (x ∷ xs) [] h e (suc i) = fillings_stay xs [] (λ i. h (suc i)) (omega (arith, sum_by-cons filling_rank x xs, filling_falls x Perhaps (h 0), fillings_fall xs [] (λ i. h (suc i)))) i
-fillings_stay (x ∷ xs) (y ∷ ys) h e zero = filling_stays x y (h 0) (omega (arith, sum_by-cons filling_rank x xs, sum_by-cons filling_rank y ys, filling_falls x y (h 0), fillings_fall xs ys (λ i. h (suc i))))
-fillings_stay (x ∷ xs) (y ∷ ys) h e (suc i) = fillings_stay xs ys (λ i. h (suc i)) (omega (arith, sum_by-cons filling_rank x xs, sum_by-cons filling_rank y ys, filling_falls x y (h 0), fillings_fall xs ys (λ i. h (suc i)))) i
+  all_stay : (xs ys : List K) → ((i : ℕ) → Less (at none xs i) (at none ys i)) → sum_by rank xs ≡ sum_by rank ys → (i : ℕ) → Less (at none ys i) (at none xs i)
+  all_stay [] [] h e i = self
+  all_stay [] (y ∷ ys) h e zero = stays none y (h 0) (omega (arith, sum_by-cons rank y ys, falls none y (h 0), all_fall [] ys (λ i. h (suc i))))
+  all_stay [] (y ∷ ys) h e (suc i) = all_stay [] ys (λ i. h (suc i)) (omega (arith, sum_by-cons rank y ys, falls none y (h 0), all_fall [] ys (λ i. h (suc i)))) i
+  all_stay (x ∷ xs) [] h e zero = stays x none (h 0) (omega (arith, sum_by-cons rank x xs, falls x none (h 0), all_fall xs [] (λ i. h (suc i))))
+  all_stay (x ∷ xs) [] h e (suc i) = all_stay xs [] (λ i. h (suc i)) (omega (arith, sum_by-cons rank x xs, falls x none (h 0), all_fall xs [] (λ i. h (suc i)))) i
+  all_stay (x ∷ xs) (y ∷ ys) h e zero = stays x y (h 0) (omega (arith, sum_by-cons rank x xs, sum_by-cons rank y ys, falls x y (h 0), all_fall xs ys (λ i. h (suc i))))
+  all_stay (x ∷ xs) (y ∷ ys) h e (suc i) = all_stay xs ys (λ i. h (suc i)) (omega (arith, sum_by-cons rank x xs, sum_by-cons rank y ys, falls x y (h 0), all_fall xs ys (λ i. h (suc i)))) i
 
 -- a set that has another is that one, or falls less often
 states_fall : (a b : ℕ) → IsTrue (has a b) → states_rank a ≤ states_rank b
@@ -80,12 +68,12 @@ states_stay a b byte h e =
 -- a state that says strictly less
 pub shape_falls : (a b : Shape) → a.states < 256 → SaysNoMore a b → ¬ SaysNoMore b a → shape_rank a < shape_rank b
 shape_falls a b byte h refused =
-    let registers = kinds_fall a.registers b.registers h.registers in
-    let fields = fillings_fall a.fields b.fields h.fields in
+    let registers = all_fall Unset kind_rank Weaker alike refl kind_falls kind_stays a.registers b.registers h.registers in
+    let fields = all_fall Perhaps filling_rank WeakerFilling alike_filling refl filling_falls filling_stays a.fields b.fields h.fields in
     let states = states_fall a.states b.states h.states in
     let differ : shape_rank a ≢ shape_rank b = λ e. refused (record {
-      registers = kinds_stay a.registers b.registers h.registers (omega arith);
-      fields = fillings_stay a.fields b.fields h.fields (omega arith);
+      registers = all_stay Unset kind_rank Weaker alike refl kind_falls kind_stays a.registers b.registers h.registers (omega arith);
+      fields = all_stay Perhaps filling_rank WeakerFilling alike_filling refl filling_falls filling_stays a.fields b.fields h.fields (omega arith);
       entries = sym h.entries;
       states = states_stay a.states b.states byte h.states (omega arith);
       delivery = sym h.delivery;

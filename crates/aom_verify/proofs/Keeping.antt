@@ -1,5 +1,6 @@
 -- What is kept of the states of a method, and the states themselves.
 use Rattle.std.proofs.Common.{◌≡◌, ℕ, zero, suc, ◌<◌, List, [], ◌∷◌, length, Option, Some, None, replicate, slice_set, slice_index_or, inl, inr, refl, sym, ◌∙◌, ap, arith}
+use Rattle.std.specs.Prelude.{IfSome}
 use Rattle.std.proofs.lemmas.Bool.Decides.{eqb_tells}
 use Rattle.std.proofs.lemmas.List.{length-replicate}
 use Rattle.aom_shape.specs.Changes.{kept_shape}
@@ -45,11 +46,12 @@ none_shapes nodes (suc n) = ap (λ (s : Shapes). None ∷ s) (none_shapes nodes 
 pub read_kept : (kept : List (Option Kept)) (to : ℕ) (o : Option Kept) → to < length kept → o ≡ slice_index_or kept to o → at None kept to ≡ o
 read_kept kept to o within h = sym (at_within None o kept to within) ∙ sym h
 
-pub there_shape : (nodes : List Node) (kept : List (Option Kept)) (pc : ℕ) (k : Kept) → at None kept pc ≡ Some k → at None (shapes_of nodes kept) pc ≡ Some (kept_shape nodes k)
-there_shape nodes kept pc k e = at_shapes nodes kept pc ∙ ap (shape_of nodes) e
+pub kept_there : (nodes : List Node) (kept : List (Option Kept)) (pc : ℕ) (o : Option Kept) → pc < length (shapes_of nodes kept) → o ≡ slice_index_or kept pc o → shape_of nodes o ≡ at None (shapes_of nodes kept) pc
+kept_there nodes kept pc o within is = ap (shape_of nodes) (sym (read_kept kept pc o (omega (arith, within, length_shapes nodes kept)) is)) ∙ sym (at_shapes nodes kept pc)
 
-pub none_there : (nodes : List Node) (kept : List (Option Kept)) (pc : ℕ) → at None kept pc ≡ None → at None (shapes_of nodes kept) pc ≡ None
-none_there nodes kept pc e = at_shapes nodes kept pc ∙ ap (shape_of nodes) e
+pub kept_stands : (nodes : List Node) (kept : List (Option Kept)) (pc : ℕ) (o : Option Kept) → pc < length (shapes_of nodes kept) → o ≡ slice_index_or kept pc o → AreKept nodes kept → IfSome o (λ k. Stands nodes k.pile)
+kept_stands nodes kept pc None within is keeps = tt
+kept_stands nodes kept pc (Some k) within is keeps = keeps.stand pc k (read_kept kept pc (Some k) (omega (arith, within, length_shapes nodes kept)) is)
 
 -- ---- more nodes
 

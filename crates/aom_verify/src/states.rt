@@ -1,5 +1,5 @@
 //! The abstract states of one method, by place, and the sweeps that find them.
-ghost use Rattle.std.specs.Prelude.{◌≡◌, ◌<◌, suc, [], ◌∷◌, length, replicate, slice_set, IfOk, IfErr, IsSome, Some, None};
+ghost use Rattle.std.specs.Prelude.{◌≡◌, ◌<◌, suc, [], ◌∷◌, length, replicate, slice_set, IfOk, IfErr, IfSome, IsSome, Some, None};
 ghost use Rattle.aom_image.specs.Views.{instr_at};
 ghost use Rattle.aom_shape.specs.Changes.{changed, kept_shape, known_with, leads_both, leads_to, ways_from};
 ghost use Rattle.aom_rules.specs.Laws.{HaveAtMost};
@@ -9,7 +9,7 @@ ghost use Rattle.aom_rules.specs.Rules.{rule};
 ghost use Rattle.aom_shape.specs.Tables.{at};
 ghost use Rattle.aom_verify.specs.Entries.{IsFew, AllFew, HasRoom};
 ghost use Rattle.aom_verify.specs.Faults.{JoinStops, Stops, refusal_of};
-ghost use Rattle.aom_verify.specs.States.{Lowers, shapes};
+ghost use Rattle.aom_verify.specs.States.{Lowers, shape_of, shapes};
 ghost use Rattle.aom_verify.specs.Sweep.{Spans, AllWithin, Joins, Flows, Fails, IsAhead, SameBut, WithinMethod, Visits, Sweeps, SweepsOn, Settles};
 
 use crate::Refusal;
@@ -98,10 +98,10 @@ impl States {
     pub(crate) fn shape(&self, place: usize) -> Option<Shape<'_>>
         ensures { result ≡ at None (shapes self.now) place }
     {
-        if self.places.len() <= place {
+        if self.len() <= place {
             return None;
         }
-        match self.places[place] {
+        match self.kept_at(place) {
             None => None,
             Some(kept) => Some(kept.shape(&self.piles)),
         }
@@ -194,7 +194,7 @@ impl States {
         ensures ok { IfOk result (λ step. Visits linked.now method (shapes self.old) (shapes self.new) place step) }
         ensures err { IfErr result (λ fault. Stops linked.now method (shapes self.old) (shapes self.new) fault) }
     {
-        match self.places[place] {
+        match self.kept_at(place) {
             None => Ok(Step::nothing()),
             Some(kept) => {
                 match flow_of(linked, method, place, &kept.shape(&self.piles)) {
@@ -203,6 +203,15 @@ impl States {
                 }
             }
         }
+    }
+
+    /// What is kept of the state at a place, if it is reached.
+    fn kept_at(&self, place: usize) -> Option<Kept>
+        requires { place < length (shapes self.now) }
+        ensures shape { shape_of self.now.nodes result ≡ at None (shapes self.now) place }
+        ensures stands { IfSome result (λ kept. Stands self.now.nodes kept.pile) }
+    {
+        self.places[place]
     }
 
     /// Visits each place in order.
