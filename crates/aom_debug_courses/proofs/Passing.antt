@@ -1,5 +1,5 @@
 -- To a place to stay: steps in one dispatch after another, what goes out, and what is noted.
-use Rattle.std.proofs.Common.{◌≡◌, ◌≢◌, ◌⊎◌, ◌∙◌, ◌+◌, ℕ, suc, Bool, true, false, List, [], ◌++◌, Option, Some, None, refl, sym, ap, subst, inl, inr, append-nil, append_assoc}
+use Rattle.std.proofs.Common.{arith, ◌≡◌, ◌≢◌, ◌⊎◌, ◌∙◌, ◌+◌, ℕ, suc, Bool, true, false, List, [], ◌++◌, Option, Some, None, refl, sym, ap, subst, inl, inr, append-nil, append_assoc}
 use Rattle.aom_image.specs.Image.{Image}
 use Rattle.aom_sound.specs.State.{State}
 use Rattle.aom_sound.specs.World.{IsBetween, Outside, Reaches, begins as from_here}
@@ -47,8 +47,7 @@ running_of s hand = ap (λ e. progress_by e s.tasks) hand.going ∙ ap (λ ts. p
 
 -- nothing is, where the run is over
 over_by : {T : Type 0} (e : Option Ending) (ts : List T) → is_some e ≡ true → progress_by e ts ≢ Running
-over_by (Some ending) ts over is = absurd cc
-over_by None ts over is = absurd cc
+over_by e ts over is = grind arith
 
 over_rests : (s : State) → IsOver s → progress_of s ≢ Running
 over_rests s over = over_by s.rest.ended s.tasks over

@@ -1,5 +1,5 @@
 -- What is known of a session, of a script and of the image is what the status answers.
-use Rattle.std.proofs.Common.{◌≡◌, ◌∙◌, ℕ, List, [], Result, Ok, Err, IfErr, IfOk, refl, sym, ap, subst, inl, inr}
+use Rattle.std.proofs.Common.{arith, ◌≡◌, ◌∙◌, ℕ, List, [], Result, Ok, Err, IfErr, IfOk, sym, ap, subst, inl, inr}
 use Rattle.std.specs.Prelude.{◌⊎◌}
 use Rattle.aom_image.specs.Image.{Image}
 use Rattle.aom_sound.specs.World.{Outside, boot_state}
@@ -8,7 +8,6 @@ use Rattle.aom_script.proofs.Faulting.{IsOfText, is_of_text}
 use Rattle.aom_script.specs.Script.{RefusesOrWants, Script, denoted}
 use Rattle.aom_script.specs.declared.fault.ScriptFault.{ScriptFault}
 use Rattle.aom_script.specs.declared.fault.ScriptFaultKind.{ScriptFaultKind}
-use Rattle.aom_script.specs.declared.fault.ScriptFaultKind.TheVariants as kinds
 use Rattle.aom_debug.specs.Movers.{outside_of}
 use Rattle.aom_debug.specs.declared.debugger.Debugger.{Debugger}
 use Rattle.aom_main.specs.Acceptable.{IsAcceptable, IsSpelled, RefusesOrWants as RefusesImage}
@@ -80,8 +79,7 @@ module _ (bytes text : List ℕ) (limit natives reads : ℕ) (p : Image) (script
 
 -- a fault of the text is one of the call
 called : (fault : ScriptFault) (kind : ScriptFaultKind) → IsOfText kind → status_of (of_script_kind fault kind) ≡ statuses.CallRefused
-called fault kinds.OutOfMemory h = absurd h
-called fault kind h = refl
+called fault kind h = grind arith
 
 module _ (bytes text : List ℕ) (limit natives reads : ℕ) (given : Given) (out errors : Sent) (status : ExitStatus) (unread : IsUnread given) (silent : IsSilent out) where
   abbrev So : ExitStatus → Type 0
@@ -103,9 +101,4 @@ module _ (bytes text : List ℕ) (limit natives reads : ℕ) (given : Given) (ou
       subst So (sym (told.0 ∙ image)) (not_run bytes text limit natives fault out errors statuses.ImageRefused refuses complete silent (sym image, told.1), unread)
 
   pub unaccepted : (fault : Fault) → RefusesImage bytes fault → ((p : Image) → IsSpelled bytes p → IsAcceptable p → fault ≡ faults.Memory) → Told fault status errors → So status
-  unaccepted (faults.Load fault) refuses complete told = refused_by (faults.Load fault) refuses complete refl told
-  unaccepted (faults.Link fault) refuses complete told = refused_by (faults.Link fault) refuses complete refl told
-  unaccepted (faults.Verify refusal) refuses complete told = refused_by (faults.Verify refusal) refuses complete refl told
-  unaccepted (faults.Budget fault) refuses complete told = refused_by (faults.Budget fault) refuses complete refl told
-  unaccepted faults.Memory refuses complete told = subst So (sym told.0) (inl (record { silent = silent; tells = told.1 }, unread))
-  unaccepted _ refuses complete told = absurd refuses
+  unaccepted fault refuses complete told = grind arith

@@ -1,6 +1,5 @@
 -- What a line does to a debugger is what a session says of it: nothing, a fault, or a command with what it answers.
-use Rattle.std.proofs.Common.{◌≡◌, ◌≢◌, ◌∙◌, ◌⊎◌, ℕ, Bool, true, false, List, [], Option, Some, None, Result, Ok, Err, take, refl, sym, ap, subst, inl, inr}
-use Rattle.aom_sound.specs.State.{State}
+use Rattle.std.proofs.Common.{◌≡◌, ◌≢◌, ◌∙◌, ℕ, Bool, false, List, [], Option, Some, None, Ok, Err, take, refl, sym, ap, subst, inl, inr}
 use Rattle.aom_machine.specs.Calls.{StandsFor}
 use Rattle.aom_machine.specs.declared.machine.Machine.{Machine}
 use Rattle.aom_debug.specs.Runs.{after}
@@ -9,7 +8,6 @@ use Rattle.aom_debug_words.specs.declared.command.Command.{Command}
 use Rattle.aom_debug_words.specs.declared.fault.DebugFault.{DebugFault}
 use Rattle.aom_debug_words.specs.declared.fault.DebugFault.TheVariants.{WriteFault}
 use Rattle.aom_debug.specs.Telling.{IsCut}
-use Rattle.aom_debug.specs.Debugging.{Outgoing}
 use Rattle.aom_debug.specs.Obeying.{Obeys}
 use Rattle.aom_debug.specs.declared.debugger.Debugger.{Debugger}
 use Rattle.aom_debugging.specs.Hearing.{Heard, HeardPart, standing}

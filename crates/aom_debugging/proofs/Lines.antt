@@ -1,9 +1,9 @@
 -- The lines of a text while it comes: by how a text splits that stands behind another.
-use Rattle.std.proofs.Common.{◌≡◌, ◌∙◌, ◌==◌, ◌+◌, ℕ, Bool, true, false, cond, List, [], ◌∷◌, ◌++◌, length, refl, sym, ap, arith, append-nil}
+use Rattle.std.proofs.Common.{◌≡◌, ◌∙◌, ◌+◌, ℕ, Bool, true, false, cond, List, [], ◌∷◌, ◌++◌, length, refl, sym, ap, arith, append-nil}
 use Rattle.std.specs.List.{count_by, onto_first, slice_split}
 use Rattle.std.proofs.lemmas.List.Splits.{length-slice_split, slice_split-cons_no, slice_split-cons_yes}
 use Rattle.aom_text.specs.Words.{has_bytes}
-use Rattle.aom_text.specs.Text.{lines_of, true_lines}
+use Rattle.aom_text.specs.Text.{true_lines}
 
 -- ---- the parts of a text behind another
 

@@ -1,28 +1,24 @@
 -- A command by its call is what a session says of it: done, refused, or cut.
-use Rattle.std.proofs.Common.{◌≡◌, ◌≢◌, ◌∙◌, ◌⊎◌, ◌<◌, ℕ, Bool, true, false, cond, List, [], Option, Some, None, Result, Ok, Err, length, take, refl, sym, ap, subst, inl, inr}
+use Rattle.std.proofs.Common.{arith, ◌≡◌, ◌≢◌, ◌∙◌, ◌⊎◌, ℕ, Bool, true, false, cond, List, Some, Ok, Err, take, refl, sym, ap, subst, inl, inr}
 use Rattle.std.specs.Prelude.{is_some}
 use Rattle.aom_text.specs.declared.number.Number.{Number}
 use Rattle.aom_sound.specs.State.{Rest, State}
-use Rattle.aom_sound.specs.World.{Outside, Reaches}
-use Rattle.aom_transcript.specs.declared.line.Line.{Line}
-use Rattle.aom_transcript.specs.Text.{ended}
 use Rattle.aom_machine.specs.Calls.{StandsFor}
 use Rattle.aom_machine.specs.declared.machine.Machine.{Machine}
 use Rattle.aom_debug.specs.Runs.{after}
 use Rattle.aom_debug_words.specs.declared.command.Command.{Command}
 use Rattle.aom_debug_words.specs.declared.command.Command.TheVariants.{Step, Turn, Go, Break, Cells, Owners, Cleanup, Actives, Recent}
 use Rattle.aom_debug_words.specs.declared.fault.DebugFault.{DebugFault}
-use Rattle.aom_debug_words.specs.declared.fault.DebugFault.TheVariants.{BadCommand, NoSuch, Ended, WriteFault}
-use Rattle.aom_debug_marks.specs.declared.spot.Spot.{Spot}
+use Rattle.aom_debug_words.specs.declared.fault.DebugFault.TheVariants.{Ended, WriteFault}
 use Rattle.aom_debug.specs.Courses.{Courses}
 use Rattle.aom_debug.specs.Commands.{is_count, moved_text}
 use Rattle.aom_debug.specs.Movers.{outside_of}
-use Rattle.aom_debug.specs.Debugging.{Answer, CountsNot, Declined, Goes, Looks, MayGo, Outgoing, Sees, Sets, Steps, has_ended, runs_of, steps_of, turns_of}
+use Rattle.aom_debug.specs.Debugging.{Answer, CountsNot, Declined, Goes, Looks, Outgoing, Sees, Sets, Steps, has_ended, runs_of, steps_of, turns_of}
 use Rattle.aom_debug.specs.Obeying.{Obeys}
 use Rattle.aom_debug.specs.declared.debugger.Debugger.{Debugger}
 use Rattle.aom_debug.specs.declared.looking.Look.TheVariants as look
 use Rattle.aom_debugging.specs.Hearing.{standing}
-use Rattle.aom_debugging.specs.Sessions.{Begins, Does, Goes as GoesSo, Heeds, MovesOn, Refuses, Sets as SetsSo, Shown, SessionState, has_ended as is_ended}
+use Rattle.aom_debugging.specs.Sessions.{Begins, Does, Goes as GoesSo, MovesOn, Refuses, Sets as SetsSo, Shown, SessionState, has_ended as is_ended}
 
 not_both : (b : Bool) → b ≡ true → b ≡ false → ⊥
 not_both b yes_is no_is = absurd cc
@@ -116,9 +112,7 @@ module _ {X : Type 0} {B : X → Type 0} (old new : Debugger X B) (out : Outgoin
   ended_so (inr is) = is
 
   goes_refused : (leads : Debugger X B → Courses) (fault : DebugFault) → fault ≢ WriteFault → Goes leads old new out (Err fault) → (fault ≡ Ended) × Declined old new out × ((s : State) → StandsFor old.mover.machine s → is_ended (standing old s) ≡ true)
-  goes_refused leads Ended other x = (refl, x.1, (λ s stands. ended_at s stands ∙ ended_so x.0))
-  goes_refused leads WriteFault other x = absurd (other refl)
-  goes_refused leads _ other x = absurd x
+  goes_refused leads fault other x = grind arith
 
   looks_refused : (shows : Debugger X B → State → List ℕ → Type 0) (fault : DebugFault) → fault ≢ WriteFault → Looks shows old new out (Err fault) → ⊥
   looks_refused shows Ended other x = not_both old.has_failed x.0 well
@@ -126,9 +120,7 @@ module _ {X : Type 0} {B : X → Type 0} (old new : Debugger X B) (out : Outgoin
   looks_refused shows _ other x = x
 
   counts_refused : (n : ℕ) → is_count n ≡ false → (fault : DebugFault) → CountsNot old new out (Err fault) → Refused (Step n) fault
-  counts_refused n is BadCommand x = (x.1, (λ s stands. is))
-  counts_refused n is Ended x = absurd (not_both old.has_failed x.0 well)
-  counts_refused n is _ x = absurd x
+  counts_refused n is fault x = grind arith
 
   steps_refused : (n : ℕ) (fault : DebugFault) → fault ≢ WriteFault → Obeys (Step n) old new out (Err fault) → Refused (Step n) fault
   steps_refused n fault other x = go (is_count n) refl x
@@ -138,10 +130,7 @@ module _ {X : Type 0} {B : X → Type 0} (old new : Debugger X B) (out : Outgoin
       go false is y = counts_refused n is fault y
 
   sets_refused : (method place : Number) (fault : DebugFault) → fault ≢ WriteFault → Sets method place old new out (Err fault) → Refused (Break method place) fault
-  sets_refused method place NoSuch other x = (x.2, (λ s stands. x.1))
-  sets_refused method place Ended other x = absurd (not_both old.has_failed x.0 well)
-  sets_refused method place WriteFault other x = absurd (other refl)
-  sets_refused method place _ other x = absurd x
+  sets_refused method place fault other x = grind arith
 
   pub is_refused : (command : Command) (fault : DebugFault) → fault ≢ WriteFault → Obeys command old new out (Err fault) → Refused command fault
   is_refused (Step n) fault other x = steps_refused n fault other x

@@ -1,18 +1,15 @@
 -- A session over reads one after another: each gives some bytes, until one tells the end, fails, or is one too many.
-use Rattle.std.proofs.Common.{◌≡◌, ◌∙◌, ◌<◌, ◌≤◌, ◌+◌, ℕ, Bool, true, false, List, [], ◌++◌, Option, length, refl, sym, ap, subst, inl, inr, arith, append-nil}
+use Rattle.std.proofs.Common.{◌≡◌, ◌∙◌, ◌<◌, ◌≤◌, ◌+◌, ℕ, Bool, true, false, List, [], ◌++◌, Option, length, sym, ap, subst, inl, inr, arith}
 use Rattle.std.proofs.lemmas.List.{length-append}
-use Rattle.aom_image.specs.Image.{Image}
 use Rattle.aom_sound.specs.State.{State}
-use Rattle.aom_sound.specs.World.{Outside}
 use Rattle.aom_machine.specs.Calls.{StandsFor}
 use Rattle.aom_debug.specs.Runs.{after}
 use Rattle.aom_debug.proofs.Sending.{after_both, after_none}
 use Rattle.aom_debug_words.specs.Lines.{Kept, pending_of}
 use Rattle.aom_debug.specs.Movers.{outside_of}
 use Rattle.aom_debug.specs.declared.debugger.Debugger.{Debugger}
-use Rattle.aom_debugging.specs.Conversing.{BreaksDown, BreaksOff, Broken, Ends, Given, GoesOn, HoldsAll, StopsShort, Talks}
+use Rattle.aom_debugging.specs.Conversing.{BreaksDown, BreaksOff, Ends, GoesOn, HoldsAll, StopsShort, Talks}
 use Rattle.aom_debugging.specs.Hearing.{standing}
-use Rattle.aom_debugging.specs.Sessions.{SessionState}
 use Rattle.aom_debugging.proofs.Talking.{talks_first, talks_stop}
 
 module _ {X : Type 0} {B : X → Type 0} where

@@ -1,6 +1,5 @@
 -- A session goes on with each line that is whole.
-use Rattle.std.proofs.Common.{◌≡◌, ◌∙◌, ◌==◌, ◌⊎◌, ◌+◌, ℕ, Bool, true, false, cond, not, List, [], ◌∷◌, ◌++◌, Option, Result, length, take, refl, sym, ap, subst, inl, inr, append-nil, append_assoc, arith}
-use Rattle.std.specs.List.{slice_split}
+use Rattle.std.proofs.Common.{◌≡◌, ◌∙◌, ◌==◌, ℕ, Bool, true, false, cond, not, List, [], ◌∷◌, ◌++◌, Option, Result, length, take, refl, sym, ap, subst, append-nil, append_assoc, arith}
 use Rattle.std.proofs.lemmas.Bool.{ne_eqb}
 use Rattle.aom_text.specs.Words.{has_bytes}
 use Rattle.aom_text.specs.Text.{lines_of, true_lines}
@@ -14,13 +13,12 @@ use Rattle.aom_debug.proofs.Sending.{after_both, after_none}
 use Rattle.aom_debug_words.specs.Commands.{command_said}
 use Rattle.aom_debug_words.specs.Lines.{Kept, pending_of}
 use Rattle.aom_debug.specs.Movers.{Keeps, outside_of}
-use Rattle.aom_debug.specs.Debugging.{Outgoing}
 use Rattle.aom_debug.specs.declared.debugger.Debugger.{Debugger}
 use Rattle.aom_debugging.specs.Conversing.{BreaksOff, Broken, Ends, GoesOn, Held, Stopped, Talks}
 use Rattle.aom_debug_words.specs.declared.command.Command.{Command}
 use Rattle.aom_debug_words.specs.declared.fault.DebugFault.{DebugFault}
 use Rattle.aom_debugging.specs.Hearing.{Heard, HeardPart, standing}
-use Rattle.aom_debugging.specs.Sessions.{Begins, Comes, Heeds, Session, SessionState}
+use Rattle.aom_debugging.specs.Sessions.{Begins, Heeds, Session, SessionState}
 use Rattle.aom_debugging.specs.Sessions.Session.{begins, heeds}
 use Rattle.aom_debugging.proofs.Lines.{last_line, lines_before, some_parts, split_end, split_on}
 

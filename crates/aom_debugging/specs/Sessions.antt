@@ -1,7 +1,6 @@
 -- What a debugging session tells: commands one after another, from a state of the checked machine on.
-use Rattle.std.specs.Prelude.{◌≡◌, ◌⊎◌, ◌≤◌, ◌==◌, ℕ, Bool, true, false, List, [], ◌∷◌, ◌++◌, length, Option, Some, None, is_some, Result, Ok, Err}
+use Rattle.std.specs.Prelude.{◌≡◌, ◌⊎◌, ◌==◌, ℕ, Bool, true, false, List, [], ◌∷◌, ◌++◌, Option, Some, None, is_some, Result, Ok, Err}
 use Rattle.aom_text.specs.declared.number.Number.{Number}
-use Rattle.aom_text.specs.Words.{has_bytes}
 use Rattle.std.specs.List.{slice_split}
 use Rattle.aom_image.specs.Image.{Image}
 use Rattle.aom_sound.specs.State.{State}

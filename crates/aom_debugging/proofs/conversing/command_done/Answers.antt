@@ -2,7 +2,6 @@
 use Rattle.std.proofs.Common.{Err, refl, subst}
 use Rattle.std.proofs.lemmas.Result.{IfErr-weaker, IfOk-weaker}
 use Rattle.aom_debug.specs.Obeying.{Obeys}
-use Rattle.aom_debug_words.specs.declared.fault.DebugFault.TheVariants.{WriteFault}
 use Rattle.aom_debugging.proofs.Heeding.{heard_cut, heard_done, heard_refused, heard_refused_part}
 use Rattle.aom_debugging.proofs.conversing.command_done.Goals as goal
 

@@ -1,10 +1,10 @@
 -- A byte more in the line that comes, or a line that is whole.
-use Rattle.std.proofs.Common.{◌≡◌, ◌∙◌, ◌+◌, ◌<◌, ◌++◌, ◌∷◌, ℕ, [], List, ap, arith, drop, get_or, length, refl, suc, sym, take}
+use Rattle.std.proofs.Common.{◌≡◌, ◌∙◌, ◌+◌, ◌<◌, ◌++◌, ◌∷◌, ℕ, [], List, ap, arith, drop, get_or, length, suc, sym, take}
 use Rattle.std.proofs.Math.Seq.{take-suc}
 use Rattle.std.proofs.lemmas.Bool.{eq-eqb, ne_eqb}
 use Rattle.std.proofs.lemmas.List.{at_drop_more, take-append-drop, take_all}
 use Rattle.std.proofs.lemmas.Result.{err_from_is_err_and}
-use Rattle.aom_debugging.proofs.Talking.{breaks_in_line, goes_all, goes_byte, goes_line, goes_nowhere}
+use Rattle.aom_debugging.proofs.Talking.{breaks_in_line, goes_all, goes_byte, goes_line}
 use Rattle.aom_debugging.proofs.conversing.hear.Goals as goal
 use Rattle.aom_debugging.proofs.conversing.hear.Goals.{then-byte-eq10+in_ok-obey, else-byte-eq10}
 

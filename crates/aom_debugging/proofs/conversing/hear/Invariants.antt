@@ -2,7 +2,6 @@ use Rattle.std.proofs.Common.{◌≡◌, false, take}
 use Rattle.aom_natives.specs.Slots.{AllAgree}
 use Rattle.aom_debug.specs.Movers.{IsReady}
 use Rattle.aom_debugging.specs.Conversing.{GoesOn}
-use Rattle.aom_debugging.proofs.Talking.{talks_on}
 use Rattle.aom_debugging.proofs.conversing.hear.Given as goal
 
 abbrev pub invariant-loop-byte : goal.invariant-loop-byte

@@ -1,5 +1,4 @@
 -- A line without words, one that is bad, and a command.
-use Rattle.std.proofs.Common.{refl}
 use Rattle.std.proofs.lemmas.Result.{IfErr-weaker, IfOk-weaker}
 use Rattle.aom_debugging.proofs.Heeding.{heard_fault, heard_fault_part, heard_nothing}
 use Rattle.aom_debugging.proofs.conversing.obey.Goals as goal
