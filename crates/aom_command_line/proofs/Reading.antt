@@ -71,13 +71,7 @@ declines_run command rows x runs none = grind arith
 -- a text that is there, and a flag that is not set
 pub lacks_explain : (rows : List Row) (name : Text) (explain : Bool) → Some name ≡ first_of (codes "text") rows → (one_of (codes "explain") rows ≡ Some (codes "true") → explain ≡ true) → explain ≡ false
     → LacksExplain rows
-lacks_explain rows name explain there used unset = record { named = λ none. absurd (some_is_none (there ∙ none)); unasked = λ asked. absurd (both (used asked) unset) }
-  where
-    some_is_none : Some name ≡ None → ⊥
-    some_is_none e = cc
-
-    both : explain ≡ true → explain ≡ false → ⊥
-    both set out = cc
+lacks_explain rows name explain there used unset = grind arith
 
 pub no_text : {A : Type 0} (rows : List Row) (explain : Bool) → None ≡ first_of (codes "text") rows → AsksText {A = A} rows explain None
 no_text rows explain none = record { named = none; explained = λ some. absurd (some (sym none)) }

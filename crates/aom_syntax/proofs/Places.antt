@@ -1,11 +1,10 @@
 -- The first places of names, with one more name behind them.
-use Rattle.std.proofs.Common.{arith, ◌≡◌, ◌∙◌, ◌≤◌, ◌+◌, refl, sym, ap, subst, ℕ, nat_eq, nat_lt, Bool, true, false, cond, if◌then◌else◌, List, [], ◌∷◌, ◌++◌, length, map, Option, Some, None, is_some}
+use Rattle.std.proofs.Common.{arith, ◌≡◌, ◌∙◌, ◌≤◌, ◌+◌, sym, ap, subst, ℕ, nat_eq, nat_lt, Bool, true, false, cond, if◌then◌else◌, List, [], ◌∷◌, ◌++◌, length, map, Option, Some, None, is_some}
 use Rattle.std.specs.Borrow.{Bor}
 use Rattle.std.specs.Ordering.{nat_cmp}
 use Rattle.std.specs.Cmp.Lexicographic.{slice_cmp}
 use Rattle.std.specs.BTreeMap.{BTreeMap, get_by, UpdatesBy}
-use Rattle.std.specs.List.{position, position_or_len}
-use Rattle.std.specs.Map.{update}
+use Rattle.std.specs.List.{position_or_len}
 use Rattle.std.specs.Str.{bytes_eq}
 use Rattle.std.proofs.lemmas.Grind.{common_steps}
 use Rattle.std.proofs.lemmas.List.{length-map, map-append}
@@ -29,24 +28,13 @@ place_of_push q n names =
     let longer : length (names ++ n ∷ []) ≡ length names + 1 = grind (arith, common_steps) in
     rw (position_or_len_push (λ m. bytes_eq m q) names n, longer) (found_in (position_or_len (λ m. bytes_eq m q) names) (length names) (bytes_eq n q) (prefix_len-le-length _ names))
 
-no_place : (o : Option ℕ) → o ≡ None → is_some o ≡ true → ⊥
-no_place o is e = cc
-
-some_place : (o : Option ℕ) (i : ℕ) → o ≡ Some i → is_some o ≡ false → ⊥
-some_place o i is e = cc
-
 -- a name that was there
 again : (o : Option ℕ) (b : Bool) (last : ℕ) → (b ≡ true → is_some o ≡ true) → o ≡ or_last o b last
-again (Some i) b last e = refl
-again None true last e = absurd (no_place None refl (e refl))
-again None false last e = refl
+again o b last e = grind arith
 
 -- a name that was not
 fresh : (o : Option ℕ) (b : Bool) (last : ℕ) → (b ≡ true → is_some o ≡ false) → cond b (Some last) o ≡ or_last o b last
-fresh (Some i) true last e = absurd (some_place (Some i) i refl (e refl))
-fresh (Some i) false last e = refl
-fresh None true last e = refl
-fresh None false last e = refl
+fresh o b last e = grind arith
 
 -- equal names are found alike
 found_at : (q n : List ℕ) (names : List (List ℕ)) (b : Bool) → is_some (place_of n names) ≡ b → bytes_eq n q ≡ true → is_some (place_of q names) ≡ b

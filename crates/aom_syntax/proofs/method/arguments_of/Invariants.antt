@@ -1,4 +1,4 @@
-use Rattle.std.proofs.Common.{◌≡◌, ◌+◌, [], Option, Some, None, List, ℕ, length}
+use Rattle.std.proofs.Common.{◌≡◌}
 use Rattle.std.specs.Option.{option_map}
 use Rattle.aom_syntax.specs.Classes.{listed, elements, parts_left}
 use Rattle.aom_syntax.specs.Methods.{argument_of}

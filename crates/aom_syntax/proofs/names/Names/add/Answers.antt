@@ -1,5 +1,5 @@
 -- The table stays one of first places, whether the name stood there before or not.
-use Rattle.std.proofs.Common.{rules, ◌≡◌, [], ◌∷◌, ◌++◌}
+use Rattle.std.proofs.Common.{rules}
 use Rattle.aom_syntax.proofs.Places.{found_again, found_fresh}
 use Rattle.aom_syntax.proofs.names.Names.add.Goals as goal
 use Rattle.aom_syntax.proofs.names.Names.add.Goals.{then-not-contains_key+in_ok-insert, else-not-contains_key}
