@@ -5,8 +5,5 @@ use Rattle.aom_debug_words.specs.declared.fault.DebugFault.TheVariants.{BadComma
 
 -- the number of a fault
 abbrev pub number_of : DebugFault → ℕ
-number_of BadCommand = 1
-number_of NoSuch = 2
-number_of Ended = 3
-number_of OutOfMemory = 4
-number_of WriteFault = 5
+number_of = elim
+  [ BadCommand ↦ 1 | NoSuch ↦ 2 | Ended ↦ 3 | OutOfMemory ↦ 4 | WriteFault ↦ 5 ]

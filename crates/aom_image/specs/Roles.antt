@@ -5,13 +5,5 @@ use Rattle.aom_image.specs.declared.method.Role.TheVariants.{Do, Main, Construct
 
 -- the number of a role, from 0 to 9
 unfoldable pub role_number : Role → ℕ
-role_number Do = 0
-role_number Main = 1
-role_number Construct = 2
-role_number Destruct = 3
-role_number Run = 4
-role_number Cancel = 5
-role_number Error = 6
-role_number Accept = 7
-role_number Service = 8
-role_number Undo = 9
+role_number = elim
+  [ Do ↦ 0 | Main ↦ 1 | Construct ↦ 2 | Destruct ↦ 3 | Run ↦ 4 | Cancel ↦ 5 | Error ↦ 6 | Accept ↦ 7 | Service ↦ 8 | Undo ↦ 9 ]

@@ -6,14 +6,8 @@ use Rattle.aom_text.specs.declared.fault.AsmFaultKind.TheVariants.{NotAscii, Unk
 
 -- the number of a fault
 abbrev pub number_of : AsmFaultKind → ℕ
-number_of NotAscii = 1
-number_of UnknownWord = 2
-number_of BadNumber = 3
-number_of UnknownName = 4
-number_of DoubleName = 5
-number_of BadShape = 6
-number_of LimitPassed = 7
-number_of OutOfMemory = 8
+number_of = elim
+  [ NotAscii ↦ 1 | UnknownWord ↦ 2 | BadNumber ↦ 3 | UnknownName ↦ 4 | DoubleName ↦ 5 | BadShape ↦ 6 | LimitPassed ↦ 7 | OutOfMemory ↦ 8 ]
 
 -- a fault's line and number
 abbrev pub fault_text : AsmFault → List ℕ
