@@ -12,7 +12,7 @@ use Rattle.aom_classes.specs.declared.fault.LinkFault.TheVariants.{ClassOrder, C
 -- the number of a fault
 unfoldable pub number_of : LinkFault → ℕ
 number_of = elim
-  [ ClassOrder ↦ 1 | CallOrder ↦ 2 | MissingRole ↦ 3 | DoubleRole ↦ 4 | RoleShape ↦ 5 | BadJump ↦ 6 | BadLoop ↦ 7 | NoMain ↦ 8 | OutOfMemory ↦ 9 ]
+    [ ClassOrder ↦ 1 | CallOrder ↦ 2 | MissingRole ↦ 3 | DoubleRole ↦ 4 | RoleShape ↦ 5 | BadJump ↦ 6 | BadLoop ↦ 7 | NoMain ↦ 8 | OutOfMemory ↦ 9 ]
 
 -- the image fails the fault's condition, and keeps all of lower numbers. Want of memory is no reason to refuse one
 unfoldable pub Fails : Image → LinkFault → Type 0

@@ -6,4 +6,4 @@ use Rattle.aom_debug_words.specs.declared.fault.DebugFault.TheVariants.{BadComma
 -- the number of a fault
 abbrev pub number_of : DebugFault → ℕ
 number_of = elim
-  [ BadCommand ↦ 1 | NoSuch ↦ 2 | Ended ↦ 3 | OutOfMemory ↦ 4 | WriteFault ↦ 5 ]
+    [ BadCommand ↦ 1 | NoSuch ↦ 2 | Ended ↦ 3 | OutOfMemory ↦ 4 | WriteFault ↦ 5 ]

@@ -7,7 +7,7 @@ use Rattle.aom_script.specs.declared.fault.ScriptFaultKind.TheVariants.{NotAscii
 -- the number of a fault
 abbrev pub number_of : ScriptFaultKind → ℕ
 number_of = elim
-  [ NotAscii ↦ 1 | BadLine ↦ 2 | BadNumber ↦ 3 | TimeBack ↦ 4 | LimitPassed ↦ 5 | OutOfMemory ↦ 6 ]
+    [ NotAscii ↦ 1 | BadLine ↦ 2 | BadNumber ↦ 3 | TimeBack ↦ 4 | LimitPassed ↦ 5 | OutOfMemory ↦ 6 ]
 
 -- a fault's line and number
 abbrev pub fault_text : ScriptFault → List ℕ

@@ -5,7 +5,24 @@ use Rattle.aom_shape.specs.declared.why.Why.TheVariants.{RegisterKind, OwnedAtLe
 
 -- from 1 to 21
 abbrev pub why_number : Why → ℕ
-why_number = elim
-  [ RegisterKind ↦ 1 | OwnedAtLeave ↦ 2 | OwnedAtReturn ↦ 3 | CleanupAtReturn ↦ 4 | PopEmpty ↦ 5 | LeaveNotAllowed ↦ 6 | FieldNotNull ↦ 7
-  | FieldsLeft ↦ 8 | NotFresh ↦ 9 | StillFresh ↦ 10 | NotIdle ↦ 11 | NotIssued ↦ 12 | IssuedAtLeave ↦ 13 | IssuedAtReturn ↦ 14 | StillActive ↦ 15
-  | NotCancelled ↦ 16 | MessageAtLeave ↦ 17 | MessageAtReturn ↦ 18 | NotAdded ↦ 19 | EntryState ↦ 20 | QuietBroken ↦ 21 ]
+why_number RegisterKind = 1
+why_number OwnedAtLeave = 2
+why_number OwnedAtReturn = 3
+why_number CleanupAtReturn = 4
+why_number PopEmpty = 5
+why_number LeaveNotAllowed = 6
+why_number FieldNotNull = 7
+why_number FieldsLeft = 8
+why_number NotFresh = 9
+why_number StillFresh = 10
+why_number NotIdle = 11
+why_number NotIssued = 12
+why_number IssuedAtLeave = 13
+why_number IssuedAtReturn = 14
+why_number StillActive = 15
+why_number NotCancelled = 16
+why_number MessageAtLeave = 17
+why_number MessageAtReturn = 18
+why_number NotAdded = 19
+why_number EntryState = 20
+why_number QuietBroken = 21

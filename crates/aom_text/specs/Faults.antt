@@ -7,7 +7,7 @@ use Rattle.aom_text.specs.declared.fault.AsmFaultKind.TheVariants.{NotAscii, Unk
 -- the number of a fault
 abbrev pub number_of : AsmFaultKind → ℕ
 number_of = elim
-  [ NotAscii ↦ 1 | UnknownWord ↦ 2 | BadNumber ↦ 3 | UnknownName ↦ 4 | DoubleName ↦ 5 | BadShape ↦ 6 | LimitPassed ↦ 7 | OutOfMemory ↦ 8 ]
+    [ NotAscii ↦ 1 | UnknownWord ↦ 2 | BadNumber ↦ 3 | UnknownName ↦ 4 | DoubleName ↦ 5 | BadShape ↦ 6 | LimitPassed ↦ 7 | OutOfMemory ↦ 8 ]
 
 -- a fault's line and number
 abbrev pub fault_text : AsmFault → List ℕ
