@@ -9,7 +9,8 @@ ghost use Rattle.aom_explain.specs.Known.{age_words, any_known, class_words, del
 use aom_classes::Linked;
 use aom_figures::Writer;
 use aom_image::{ClassNumber, FieldIndex, MethodNumber, States, Thing};
-use aom_shape::{Age, Delivery, Entry, Filling, Kind, Shape, field_thing};
+use aom_shape::{Age, Delivery, Entry, Filling, Kind, Shape};
+use aom_site::field_thing;
 use bitflags::Flags;
 use std::alloc::AllocError;
 

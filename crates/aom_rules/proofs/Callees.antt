@@ -9,7 +9,7 @@ use Rattle.aom_instructions.specs.declared.instr.Instr.TheVariants.{Call, Trap, 
 use Rattle.aom_instructions.specs.declared.limits.Limits.{Limits}
 use Rattle.aom_classes.proofs.Facts.{all_there, of_method}
 use Rattle.aom_shape.proofs.Lists.{there}
-use Rattle.aom_rules.specs.Calls.{HasCallee, HasCodeRegister}
+use Rattle.aom_site.specs.Calls.{HasCallee, HasCodeRegister}
 
 has_callee : (p : Image) (n : ℕ) (i : Instr) → InstrFits (limits (length p.classes) (length p.methods) n) i → HasCallee p i
 unfolding method_at

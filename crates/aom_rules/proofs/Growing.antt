@@ -6,13 +6,12 @@ use Rattle.aom_instructions.specs.declared.instr.Instr.{Instr}
 use Rattle.aom_instructions.specs.declared.instr.Target.{Target}
 use Rattle.aom_instructions.specs.declared.instr.Target.TheVariants.{This, Register, Field, Entry as On_entry}
 use Rattle.aom_image.specs.declared.method.Argument.{Argument}
-use Rattle.aom_image.specs.declared.method.Argument.TheVariants.{Word as A_word_argument, Own as An_own_argument}
 use Rattle.aom_image.specs.declared.method.Gives.{Gives}
 use Rattle.aom_image.specs.declared.method.Gives.TheVariants.{Nothing, Word as A_word, Own as An_own, Maybe as A_maybe, Left}
-use Rattle.aom_rules.specs.Calls.{brought, caught, while_called, worked_on, lasting}
+use Rattle.aom_site.specs.Calls.{brought, caught, while_called, worked_on, lasting}
 use Rattle.aom_rules.specs.Requests.{resting}
 use Rattle.aom_shape.specs.Entries.{readied_at, without_top}
-use Rattle.aom_shape.specs.Arguments.{after_of, argument_moved, arguments_moved}
+use Rattle.aom_shape.specs.Arguments.{after_of, arguments_moved}
 use Rattle.aom_shape.specs.Kinds.{register, field}
 use Rattle.aom_rules.specs.Laws.{HaveAtMost}
 use Rattle.aom_rules.specs.Objects.{flow_jump_null, flow_jump_empty}
@@ -24,6 +23,7 @@ use Rattle.aom_shape.specs.declared.kind.Filling.{Filling}
 use Rattle.aom_shape.specs.declared.kind.Filling.TheVariants.{Empty, Full, Perhaps}
 use Rattle.aom_shape.specs.declared.kind.Kind.{Kind}
 use Rattle.aom_shape.specs.declared.kind.Kind.TheVariants.{Unset, Word, Null, Own, Maybe}
+use Rattle.aom_site.proofs.Calling.{arguments_leave}
 use Rattle.aom_rules.proofs.Branching.{by_states}
 
 top_gone : (es : List Entry) → length (without_top es) ≤ suc (length es)
@@ -34,14 +34,6 @@ as_many : (es : List Entry) (k : ℕ) → length (readied_at es k) ≡ length es
 as_many [] k = refl
 as_many (e ∷ es) zero = refl
 as_many (e ∷ es) (suc k) = ap suc (as_many es k)
-
-argument_leaves : (x : Argument) (r : ℕ) (sh : Shape) → (argument_moved x r sh).entries ≡ sh.entries
-argument_leaves A_word_argument r sh = refl
-argument_leaves (An_own_argument t) r sh = refl
-
-pub arguments_leave : (xs : List Argument) (first : ℕ) (sh : Shape) → (arguments_moved xs first sh).entries ≡ sh.entries
-arguments_leave [] first sh = refl
-arguments_leave (x ∷ xs) first sh = arguments_leave xs (suc first) (argument_moved x first sh) ∙ argument_leaves x first sh
 
 worked_leaves : (class : Option ℕ) (ended : ℕ) (sh : Shape) → (worked_on class ended sh).entries ≡ sh.entries
 worked_leaves None ended sh = refl

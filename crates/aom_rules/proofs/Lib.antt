@@ -1,7 +1,4 @@
 pub mod Resting
-pub mod Returning
-pub mod Arguments
-pub mod Calling
 pub mod Callees
 pub mod Telling
 pub mod Ways

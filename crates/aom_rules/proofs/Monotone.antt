@@ -15,10 +15,11 @@ use Rattle.aom_image.specs.declared.method.Gives.TheVariants.{Nothing, Word as A
 use Rattle.aom_image.specs.declared.method.Thing.TheVariants.{Message, Object}
 use Rattle.aom_roles.specs.States.{active, active_states, cancel_done, cancel_open, idle, issued, server_states, unlisted}
 use Rattle.aom_rules.specs.Requests.{begins_here, flow_in, flow_narrowed, is_cancel, is_construct, is_service, may_begin, once_cancelled, resting, unissued}
-use Rattle.aom_rules.specs.Calls.{is_destructor, is_target, age_need, awaits, brought, caught, worked_on, while_called, argument_needs, each_argument, rule_target, rule_arguments, rule_moved, rule_trapped, fields_done, rule_ended, rule_left, rule_result, result_moved, lasting}
+use Rattle.aom_site.specs.Site.{leave_point}
+use Rattle.aom_site.specs.Calls.{is_destructor, is_target, age_need, awaits, brought, caught, worked_on, while_called, argument_needs, each_argument, rule_target, rule_arguments, rule_moved, rule_trapped, fields_done, rule_ended, rule_left, rule_result, result_moved, lasting}
 use Rattle.aom_shape.specs.Entries.{readied_at, without_top, with_entry, without_entry}
 use Rattle.aom_shape.specs.Arguments.{after_of, argument_moved, arguments_moved, before_of}
-use Rattle.aom_rules.specs.Cleanup.{owns_object, entry_of, leave_point, top_kind}
+use Rattle.aom_rules.specs.Cleanup.{owns_object, entry_of, top_kind}
 use Rattle.aom_shape.specs.Kinds.{register, field, set_register, set_field, filled, filling_of, is_here, is_object_or_null, none_owns, readied}
 use Rattle.aom_rules.specs.Laws.{AllFollow, Follows}
 use Rattle.aom_shape.specs.Needs.{Flow, Need, AllTrue, only_if}

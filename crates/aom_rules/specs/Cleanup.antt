@@ -1,20 +1,20 @@
 -- The rules of the cleanup stack, and of leaves.
 use Rattle.std.specs.Prelude.{ℕ, Bool, false, not, List, [], ◌∷◌}
 use Rattle.aom_image.specs.Image.{Image}
-use Rattle.aom_image.specs.Views.{is_quiet, leaves}
+use Rattle.aom_image.specs.Views.{is_quiet}
 use Rattle.aom_image.specs.declared.method.Thing.{Thing}
 use Rattle.aom_image.specs.declared.method.Thing.TheVariants.{Object, Message}
 use Rattle.aom_shape.specs.Shape.{Shape}
 use Rattle.aom_shape.specs.Entries.{is_object_entry, with_entry, without_entry}
-use Rattle.aom_shape.specs.Kinds.{register, set_register, entry_kind, is_here, is_object, is_unowning, is_word, none_owns, no_entry}
-use Rattle.aom_rules.specs.Requests.{unissued}
+use Rattle.aom_shape.specs.Kinds.{register, set_register, entry_kind, is_object, is_unowning, is_word, no_entry}
+use Rattle.aom_site.specs.Site.{leave_point}
 use Rattle.aom_shape.specs.Needs.{Need}
 use Rattle.aom_shape.specs.declared.kind.Age.{Age}
 use Rattle.aom_shape.specs.declared.kind.Kind.{Kind}
 use Rattle.aom_shape.specs.declared.kind.Kind.TheVariants.{Unset, Word, Null, Own, Maybe}
 use Rattle.aom_shape.specs.declared.kind.Entry.{Entry}
 use Rattle.aom_shape.specs.declared.kind.Entry.TheVariants.{Object as An_object, Operation}
-use Rattle.aom_shape.specs.declared.why.Why.TheVariants.{RegisterKind, OwnedAtLeave, PopEmpty, LeaveNotAllowed, IssuedAtLeave, MessageAtLeave, QuietBroken}
+use Rattle.aom_shape.specs.declared.why.Why.TheVariants.{RegisterKind, PopEmpty, QuietBroken}
 
 -- it owns an object, which is no message
 abbrev pub owns_object : Kind → Bool
@@ -50,27 +50,18 @@ top_kind [] = Null
 top_kind (e ∷ es) = entry_kind e
 
 module _ (p : Image) (m : ℕ) (pc : ℕ) (sh : Shape) where
-  -- where a method may leave in that state: it is one that may, no register owns, no request waits to be set active, and the message is not taken
-  abbrev pub leave_point : Shape → List Need
-  leave_point left =
-      (leaves p m, LeaveNotAllowed)
-      ∷ (none_owns left.registers, OwnedAtLeave)
-      ∷ (unissued left.states, IssuedAtLeave)
-      ∷ (is_here left.delivery, MessageAtLeave)
-      ∷ []
-
   abbrev pub rule_new_or_leave : ℕ → List Need
-  rule_new_or_leave a = (is_unowning (register sh a), RegisterKind) ∷ (not (is_quiet p m), QuietBroken) ∷ leave_point sh
+  rule_new_or_leave a = (is_unowning (register sh a), RegisterKind) ∷ (not (is_quiet p m), QuietBroken) ∷ leave_point p m pc sh sh
 
   -- the object is on the cleanup stack before the push may leave
   abbrev pub rule_push : ℕ → List Need
-  rule_push a = (owns_object (register sh a), RegisterKind) ∷ leave_point (set_register sh a Null)
+  rule_push a = (owns_object (register sh a), RegisterKind) ∷ leave_point p m pc sh (set_register sh a Null)
 
   abbrev pub after_push : ℕ → Shape
   after_push a = with_entry (entry_of (register sh a)) (set_register sh a Null)
 
   abbrev pub rule_push_operation : ℕ → List Need
-  rule_push_operation a = (is_word (register sh a), RegisterKind) ∷ leave_point sh
+  rule_push_operation a = (is_word (register sh a), RegisterKind) ∷ leave_point p m pc sh sh
 
   abbrev pub rule_pop : ℕ → List Need
   rule_pop a =
@@ -91,4 +82,4 @@ module _ (p : Image) (m : ℕ) (pc : ℕ) (sh : Shape) where
 
   -- of the two instructions that leave with a word, one of them where it is negative
   abbrev pub rule_leave : ℕ → List Need
-  rule_leave a = (is_word (register sh a), RegisterKind) ∷ leave_point sh
+  rule_leave a = (is_word (register sh a), RegisterKind) ∷ leave_point p m pc sh sh

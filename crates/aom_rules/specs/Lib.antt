@@ -4,9 +4,8 @@ pub mod Cleanup
 pub mod Requests
 pub mod Natives
 pub mod Messages
-pub mod Calls
+pub use Rattle.aom_site.specs.Calls
 pub mod Ways
 pub mod Rules
 pub mod Typing
 pub mod Laws
-pub mod Site

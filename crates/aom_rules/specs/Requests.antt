@@ -1,59 +1,17 @@
--- What rules say of request states and of the message of a service, and the rules of instructions on requests.
-use Rattle.std.specs.Prelude.{ℕ, Bool, true, false, not, cond, ◌==◌, List, [], ◌∷◌, Option, Some, None, bit_and, bit_or, replicate}
+-- The rules of instructions on the request of the method's own object.
+use Rattle.std.specs.Prelude.{ℕ, Bool, true, false, not, cond, ◌==◌, List, [], ◌∷◌, Option, Some, bit_and, bit_or, replicate}
 use Rattle.aom_image.specs.Image.{Image}
-use Rattle.aom_image.specs.Views.{has, method_class, method_role}
+use Rattle.aom_image.specs.Views.{has, method_class}
 use Rattle.aom_image.specs.declared.class.ClassKind.{ClassKind}
 use Rattle.aom_image.specs.declared.class.ClassKind.TheVariants.{Active, Server}
-use Rattle.aom_image.specs.declared.method.Role.{Role}
-use Rattle.aom_image.specs.declared.method.Role.TheVariants.{Cancel, Construct, Service}
-use Rattle.aom_instructions.specs.declared.instr.Target.{Target}
-use Rattle.aom_instructions.specs.declared.instr.Target.TheVariants.{This, Register, Field, Entry as On_entry}
 use Rattle.aom_roles.specs.Shapes.{kind_of}
-use Rattle.aom_roles.specs.States.{unlisted, idle, issued, active, cancel_open, cancel_done, server_states, active_states, states_of}
-use Rattle.aom_shape.specs.Arguments.{before_of}
+use Rattle.aom_roles.specs.States.{unlisted, idle, issued, active, cancel_open, cancel_done, server_states, active_states}
 use Rattle.aom_shape.specs.Kinds.{register, is_unowning, is_word}
-use Rattle.aom_shape.specs.Needs.{Flow, Need, only_if}
+use Rattle.aom_shape.specs.Needs.{Flow, Need}
 use Rattle.aom_shape.specs.Shape.{Shape}
+pub use Rattle.aom_site.specs.Requests.{begins_here, begins_there, is_cancel, is_construct, is_service, may_begin, resting, unissued}
 use Rattle.aom_shape.specs.declared.kind.Filling.TheVariants.{Perhaps}
 use Rattle.aom_shape.specs.declared.why.Why.TheVariants.{EntryState, NotAdded, NotIdle, NotIssued, RegisterKind}
-
-abbrev pub is_construct : Option Role → Bool
-is_construct (Some Construct) = true
-is_construct _ = false
-
-abbrev pub is_cancel : Option Role → Bool
-is_cancel (Some Cancel) = true
-is_cancel _ = false
-
-abbrev pub is_service : Option Role → Bool
-is_service (Some Service) = true
-is_service _ = false
-
--- the object has no request that is not set active
-abbrev pub unissued : ℕ → Bool
-unissued states = not (has states issued)
-
--- the states in which an object of a class may be while nothing works on it
-abbrev pub resting : Image → Option ℕ → ℕ
-resting p class = states_of (kind_of p class)
-
-module _ (p : Image) (m' : ℕ) where
-  -- a method of that class begins in each state in which the caller's object may be; a static one asks nothing
-  abbrev pub begins_here : Option ℕ → ℕ → Bool
-  begins_here None states = true
-  begins_here (Some c) states = has (before_of p m') states
-
-  -- it begins in each state in which another object may be; one that is constructed is in its first
-  abbrev pub begins_there : Bool
-  begins_there = only_if (not (is_construct (method_role p m'))) (has (before_of p m') (resting p (method_class p m')))
-
-  abbrev pub may_begin : Target → ℕ → Bool
-  may_begin This states = begins_here (method_class p m') states
-  may_begin (Register r) states = begins_there
-  may_begin (Field f) states = begins_there
-  may_begin (On_entry k) states = begins_there
-
--- ---- instructions on the request of the method's own object
 
 -- objects of a class of active objects
 abbrev pub is_active_kind : Option ClassKind → Bool

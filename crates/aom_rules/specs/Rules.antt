@@ -1,20 +1,23 @@
 -- The verifier's rules: for each instruction what the abstract state must say, and which ways go on from it.
-use Rattle.std.specs.Prelude.{ℕ, List, [], Result}
+use Rattle.std.specs.Prelude.{ℕ, ◌≡◌, List, [], Result}
 use Rattle.aom_image.specs.Image.{Image}
 use Rattle.aom_roles.specs.States.{unlisted, idle, issued, active, cancel_done}
 use Rattle.aom_instructions.specs.declared.instr.Instr.{Instr}
 use Rattle.aom_instructions.specs.declared.instr.Instr.TheVariants.{Const, Copy, Move, Add, Sub, Mul, And, Or, Xor, Jump, JumpEqual, JumpLess, JumpNull, JumpEmpty, JumpActive, JumpAdded, Loop, Next, Print, Load, Store, Take, Put, New, NewOrLeave, Delete, Push, PushOperation, Pop, PopOperation, PopDelete, Call, Trap, Return, Leave, LeaveIf, Enlist, Issue, SetActive, Cancel, Abort, Status, Connect, Ask, Close, TakeMessage, Reply, Stop}
 use Rattle.aom_image.specs.declared.method.Thing.TheVariants.{Object}
+use Rattle.aom_shape.specs.Changes.{told}
 use Rattle.aom_shape.specs.Shape.{Shape}
 use Rattle.aom_shape.specs.Needs.{Need, Flow, judged}
+use Rattle.aom_site.specs.Site.{Site}
 use Rattle.aom_rules.specs.Words.{rule_const, rule_copy, rule_combine, rule_compare, rule_print, rule_load, rule_store}
 use Rattle.aom_rules.specs.Objects.{new_age, rule_move, rule_jump_null, rule_jump_empty, rule_take, rule_put, rule_new, rule_delete}
-use Rattle.aom_rules.specs.Calls.{rule_call, rule_trap, rule_return}
+use Rattle.aom_site.specs.Calls.{rule_call, rule_trap, rule_return}
 use Rattle.aom_rules.specs.Cleanup.{rule_new_or_leave, rule_push, rule_push_operation, rule_pop, rule_pop_operation, rule_pop_delete, rule_leave}
 use Rattle.aom_rules.specs.Requests.{enlisted, inactive, outstanding, rule_abort, rule_cancel, rule_enlist, rule_issue, rule_jump_active, rule_jump_added, rule_set_active, rule_status}
 use Rattle.aom_rules.specs.Natives.{rule_ask, rule_close, rule_connect}
 use Rattle.aom_rules.specs.Messages.{rule_reply, rule_take_message}
 use Rattle.aom_rules.specs.Ways.{Ways, Ends, Goes_on, Goes_to, Branches, Goes_back, Branches_on_null, Branches_on_empty, Branches_in, As_before, Holding, Moved, Taken, Taken_message, Filled, Pushed, Pushed_operation, Popped, Dropped, Called, Caught, Left_in, Cancelled, flowing}
+use Rattle.aom_shape.specs.declared.flow.Flow.{Flow as Answer}
 use Rattle.aom_shape.specs.declared.kind.Kind.TheVariants.{Word, Null, Own, Maybe}
 use Rattle.aom_shape.specs.declared.why.Why.{Why}
 
@@ -125,3 +128,7 @@ module _ (p : Image) (m : ℕ) (pc : ℕ) (sh : Shape) where
 
   abbrev pub rule : Instr → Result (List Flow) Why
   rule i = judged (rule_needs i) (flows i)
+
+-- it is what the rule of that instruction answers at that site
+abbrev pub Tells : Site → Instr → Result Answer Why → Type 0
+Tells s i answer = told s.shape.entries answer ≡ rule s.image s.method s.place s.shape i

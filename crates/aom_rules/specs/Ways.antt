@@ -2,7 +2,7 @@
 use Rattle.std.specs.Prelude.{ℕ, suc, List, [], ◌++◌}
 use Rattle.aom_image.specs.Image.{Image}
 use Rattle.aom_instructions.specs.declared.instr.Target.{Target}
-use Rattle.aom_rules.specs.Calls.{called, trapped}
+use Rattle.aom_site.specs.Calls.{called, trapped}
 use Rattle.aom_rules.specs.Cleanup.{after_pop, after_push}
 use Rattle.aom_shape.specs.Entries.{with_entry, without_entry}
 use Rattle.aom_shape.specs.Kinds.{field, register, set_register}

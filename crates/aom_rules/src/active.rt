@@ -1,19 +1,18 @@
 //! The rules of instructions on the request of the method's own object.
-ghost use Rattle.std.specs.Prelude.{◌≡◌, ◌++◌, ℤ, cond, not, suc};
-ghost use Rattle.aom_image.specs.Views.{has, method_class};
+ghost use Rattle.std.specs.Prelude.{◌≡◌, ◌++◌, ℤ, not, suc};
+ghost use Rattle.aom_image.specs.Views.{has};
 ghost use Rattle.aom_instructions.specs.declared.instr.Instr.TheVariants.{Abort, Cancel, Enlist, Issue, JumpActive, JumpAdded, SetActive, Status};
-ghost use Rattle.aom_roles.specs.States.{active, active_states, server_states, unlisted};
-ghost use Rattle.aom_rules.specs.Requests.{after_cancel, enlisted, flow_narrowed, inactive, is_active_kind, is_listed_kind, once_cancelled, outstanding, own_kind, resting};
-ghost use Rattle.aom_rules.specs.Site.{Tells};
+ghost use Rattle.aom_roles.specs.States.{active_states, server_states, unlisted};
+ghost use Rattle.aom_rules.specs.Requests.{enlisted, flow_narrowed, inactive, is_active_kind, is_listed_kind, once_cancelled, outstanding, own_kind, resting};
+ghost use Rattle.aom_rules.specs.Rules.{Tells};
 ghost use Rattle.aom_shape.specs.Changes.{ways_from};
 ghost use Rattle.aom_shape.specs.Needs.{to_next};
-ghost use Rattle.aom_shape.specs.declared.why.Why.{Why as WhyData};
 ghost use Rattle.aom_shape.specs.declared.why.Why.TheVariants.{NotAdded, NotIdle, RegisterKind};
 
-use crate::requests::resting;
-use crate::site::Site;
+use crate::words::with_word;
 use aom_image::{Place, Register, States};
-use aom_shape::{Flow, Kind, Why, judge};
+use aom_shape::{Flow, Why, judge};
+use aom_site::Site;
 use bitflags::Flags;
 
 /// The states of a server.
@@ -63,144 +62,134 @@ pub fn enlisted() -> States
     States::IDLE.union(States::ISSUED).union(outstanding())
 }
 
-impl Site<'_> {
-    /// The states in which an object of the method's class may be while nothing works on it.
-    #[tactic(auto, using(aom_shape::proofs::Views::class_there))]
-    fn resting(&self) -> States
-        ensures { result.0 ≡ resting self.now.image (method_class self.now.image self.now.method) }
-    {
-        resting(self.linked, self.linked.method(self.method).class)
-    }
+/// The method works on an active object.
+#[tactic(auto, using(crate::proofs::Resting::active_kind_rests))]
+fn needs_active_kind(site: &Site<'_>) -> (bool, Why)
+    ensures { result ≡ (is_active_kind (own_kind site.now.image site.now.method), RegisterKind) }
+{
+    (site.resting().contains(States::ACTIVE), Why::RegisterKind)
+}
 
-    /// The method works on an active object.
-    #[tactic(auto, using(crate::proofs::Resting::active_kind_rests))]
-    fn needs_active_kind(&self) -> (bool, Why)
-        ensures { result ≡ (is_active_kind (own_kind self.now.image self.now.method), RegisterKind) }
-    {
-        (self.resting().contains(States::ACTIVE), Why::RegisterKind)
-    }
+/// The method works on an object of a class whose objects are enlisted.
+#[tactic(auto, using(crate::proofs::Resting::listed_kind_rests))]
+fn needs_listed_kind(site: &Site<'_>) -> (bool, Why)
+    ensures { result ≡ (is_listed_kind (own_kind site.now.image site.now.method), RegisterKind) }
+{
+    (site.resting().contains(States::IDLE), Why::RegisterKind)
+}
 
-    /// The method works on an object of a class whose objects are enlisted.
-    #[tactic(auto, using(crate::proofs::Resting::listed_kind_rests))]
-    fn needs_listed_kind(&self) -> (bool, Why)
-        ensures { result ≡ (is_listed_kind (own_kind self.now.image self.now.method), RegisterKind) }
-    {
-        (self.resting().contains(States::IDLE), Why::RegisterKind)
-    }
+/// Each state in which the object may be is one of these.
+pub(crate) fn needs_states(site: &Site<'_>, states: States, why: Why) -> (bool, Why)
+    ensures { result ≡ (has states.0 site.now.shape.states, why) }
+{
+    (states.contains(site.shape.states()), why)
+}
 
-    /// Each state in which the object may be is one of these.
-    pub(crate) fn needs_states(&self, states: States, why: Why) -> (bool, Why)
-        ensures { result ≡ (has states.0 self.now.shape.states, why) }
-    {
-        (states.contains(self.shape.states()), why)
-    }
+/// The object is enlisted.
+fn needs_added(site: &Site<'_>) -> (bool, Why)
+    ensures { result ≡ (not (has site.now.shape.states unlisted), NotAdded) }
+{
+    let unlisted = site.shape.states().contains(States::UNLISTED);
+    (!unlisted, Why::NotAdded)
+}
 
-    /// The object is enlisted.
-    fn needs_added(&self) -> (bool, Why)
-        ensures { result ≡ (not (has self.now.shape.states unlisted), NotAdded) }
-    {
-        let unlisted = self.shape.states().contains(States::UNLISTED);
-        (!unlisted, Why::NotAdded)
-    }
+/// On to the next place, with the object's request in these states.
+fn left_in(site: &Site<'_>, states: States) -> Flow
+    ensures { ways_from site.now.shape.entries result ≡ to_next site.now.place (record site.now.shape { states = states.0 }) }
+{
+    site.next(&site.shape.with_states(states))
+}
 
-    /// On to the next place, with the object's request in these states.
-    fn left_in(&self, states: States) -> Flow
-        ensures { ways_from self.now.shape.entries result ≡ to_next self.now.place (record self.now.shape { states = states.0 }) }
-    {
-        self.next(&self.shape.with_states(states))
+/// To that place in some of the states in which the object may be, to the next place in others. A flow for which no
+/// state is left is none.
+fn branches_in(site: &Site<'_>, there: States, here: States, to: Place) -> Flow
+    ensures { ways_from site.now.shape.entries result ≡ flow_narrowed site.now.shape (suc site.now.place) here.0 ++ flow_narrowed site.now.shape to there.0 }
+{
+    let stays = site.shape.states().intersection(here);
+    let goes = site.shape.states().intersection(there);
+    let after = site.shape.with_states(stays);
+    let turned = site.shape.with_states(goes);
+    match (stays.is_empty(), goes.is_empty()) {
+        (false, false) => site.fork(&after, to, &turned),
+        (false, true) => site.next(&after),
+        (true, false) => Flow::to(to.number() as usize, &turned),
+        (true, true) => Flow::none(),
     }
+}
 
-    /// To that place in some of the states in which the object may be, to the next place in others. A flow for which no
-    /// state is left is none.
-    fn branches_in(&self, there: States, here: States, to: Place) -> Flow
-        ensures { ways_from self.now.shape.entries result ≡ flow_narrowed self.now.shape (suc self.now.place) here.0 ++ flow_narrowed self.now.shape to there.0 }
-    {
-        let stays = self.shape.states().intersection(here);
-        let goes = self.shape.states().intersection(there);
-        let after = self.shape.with_states(stays);
-        let turned = self.shape.with_states(goes);
-        match (stays.is_empty(), goes.is_empty()) {
-            (false, false) => self.fork(&after, to, &turned),
-            (false, true) => self.next(&after),
-            (true, false) => Flow::to(to.number() as usize, &turned),
-            (true, true) => Flow::none(),
-        }
-    }
+pub(crate) fn rule_jump_active(site: &Site<'_>, to: Place) -> Result<Flow, Why>
+    ensures { Tells site.now (JumpActive to) result }
+{
+    let flow = branches_in(site, outstanding(), inactive(), to);
+    judge(&[needs_active_kind(site)], flow)
+}
 
-    pub(crate) fn rule_jump_active(&self, to: Place) -> Result<Flow, Why>
-        ensures { Tells self.now (JumpActive to) result }
-    {
-        let flow = self.branches_in(outstanding(), inactive(), to);
-        judge(&[self.needs_active_kind()], flow)
-    }
+pub(crate) fn rule_jump_added(site: &Site<'_>, to: Place) -> Result<Flow, Why>
+    ensures { Tells site.now (JumpAdded to) result }
+{
+    let flow = branches_in(site, enlisted(), States::UNLISTED, to);
+    judge(&[needs_listed_kind(site)], flow)
+}
 
-    pub(crate) fn rule_jump_added(&self, to: Place) -> Result<Flow, Why>
-        ensures { Tells self.now (JumpAdded to) result }
-    {
-        let flow = self.branches_in(enlisted(), States::UNLISTED, to);
-        judge(&[self.needs_listed_kind()], flow)
-    }
+pub(crate) fn rule_enlist(site: &Site<'_>) -> Result<Flow, Why>
+    ensures { (priority : ℤ) → Tells site.now (Enlist priority) result }
+{
+    let needs = [
+        needs_listed_kind(site),
+        needs_states(site, States::UNLISTED, Why::NotAdded),
+    ];
+    judge(&needs, left_in(site, States::IDLE))
+}
 
-    pub(crate) fn rule_enlist(&self) -> Result<Flow, Why>
-        ensures { (priority : ℤ) → Tells self.now (Enlist priority) result }
-    {
-        let needs = [
-            self.needs_listed_kind(),
-            self.needs_states(States::UNLISTED, Why::NotAdded),
-        ];
-        judge(&needs, self.left_in(States::IDLE))
-    }
+pub(crate) fn rule_issue(site: &Site<'_>, a: Register, b: Register) -> Result<Flow, Why>
+    ensures { Tells site.now (Issue a b) result }
+{
+    let needs = [
+        site.needs_word(a),
+        site.needs_word(b),
+        needs_active_kind(site),
+        needs_added(site),
+        needs_states(site, States::IDLE, Why::NotIdle),
+    ];
+    judge(&needs, left_in(site, States::ISSUED))
+}
 
-    pub(crate) fn rule_issue(&self, a: Register, b: Register) -> Result<Flow, Why>
-        ensures { Tells self.now (Issue a b) result }
-    {
-        let needs = [
-            self.needs_word(a),
-            self.needs_word(b),
-            self.needs_active_kind(),
-            self.needs_added(),
-            self.needs_states(States::IDLE, Why::NotIdle),
-        ];
-        judge(&needs, self.left_in(States::ISSUED))
-    }
+pub(crate) fn rule_set_active(site: &Site<'_>) -> Result<Flow, Why>
+    ensures { Tells site.now SetActive result }
+{
+    let needs = [
+        needs_active_kind(site),
+        needs_states(site, States::ISSUED, Why::NotIssued),
+    ];
+    judge(&needs, left_in(site, States::ACTIVE))
+}
 
-    pub(crate) fn rule_set_active(&self) -> Result<Flow, Why>
-        ensures { Tells self.now SetActive result }
-    {
-        let needs = [
-            self.needs_active_kind(),
-            self.needs_states(States::ISSUED, Why::NotIssued),
-        ];
-        judge(&needs, self.left_in(States::ACTIVE))
-    }
+pub(crate) fn rule_cancel(site: &Site<'_>) -> Result<Flow, Why>
+    ensures { Tells site.now Cancel result }
+{
+    let needs = [
+        needs_active_kind(site),
+        needs_states(site, active_states(), Why::NotIdle),
+    ];
+    let states = once_cancelled(site.shape.states());
+    let after = site.shape.with_fields_unknown().with_states(states);
+    judge(&needs, site.next(&after))
+}
 
-    pub(crate) fn rule_cancel(&self) -> Result<Flow, Why>
-        ensures { Tells self.now Cancel result }
-    {
-        let needs = [
-            self.needs_active_kind(),
-            self.needs_states(active_states(), Why::NotIdle),
-        ];
-        let states = once_cancelled(self.shape.states());
-        let after = self.shape.with_fields_unknown().with_states(states);
-        judge(&needs, self.next(&after))
-    }
+pub(crate) fn rule_abort(site: &Site<'_>) -> Result<Flow, Why>
+    ensures { Tells site.now Abort result }
+{
+    let cancelling = States::OPEN.union(States::DONE);
+    let needs = [
+        needs_active_kind(site),
+        needs_states(site, cancelling, Why::EntryState),
+    ];
+    judge(&needs, left_in(site, States::DONE))
+}
 
-    pub(crate) fn rule_abort(&self) -> Result<Flow, Why>
-        ensures { Tells self.now Abort result }
-    {
-        let cancelling = States::OPEN.union(States::DONE);
-        let needs = [
-            self.needs_active_kind(),
-            self.needs_states(cancelling, Why::EntryState),
-        ];
-        judge(&needs, self.left_in(States::DONE))
-    }
-
-    pub(crate) fn rule_status(&self, a: Register) -> Result<Flow, Why>
-        ensures { Tells self.now (Status a) result }
-    {
-        let needs = [self.needs_active_kind(), self.needs_unowning(a)];
-        judge(&needs, self.with_word(a))
-    }
+pub(crate) fn rule_status(site: &Site<'_>, a: Register) -> Result<Flow, Why>
+    ensures { Tells site.now (Status a) result }
+{
+    let needs = [needs_active_kind(site), site.needs_unowning(a)];
+    judge(&needs, with_word(site, a))
 }

@@ -7,15 +7,12 @@
 #![tactic(auto)]
 
 mod active;
-mod calls;
 mod cleanup;
 mod laws;
 mod messages;
 mod natives;
 mod objects;
-mod requests;
 mod rules;
-mod site;
 mod words;
 
 pub use active::{enlisted, inactive, outstanding};

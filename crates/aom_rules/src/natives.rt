@@ -1,19 +1,19 @@
 //! The rules of instructions on the native that serves the method's own object.
 ghost use Rattle.std.specs.Prelude.{◌≡◌, Some};
-ghost use Rattle.aom_image.specs.Views.{method_class};
 ghost use Rattle.aom_instructions.specs.declared.instr.Instr.TheVariants.{Ask, Close, Connect};
 ghost use Rattle.aom_roles.specs.Classes.{kind_at};
 ghost use Rattle.aom_roles.specs.Shapes.{kind_of};
 ghost use Rattle.aom_rules.specs.Natives.{is_native_kind};
 ghost use Rattle.aom_rules.specs.Requests.{own_kind};
-ghost use Rattle.aom_rules.specs.Site.{Tells};
+ghost use Rattle.aom_rules.specs.Rules.{Tells};
 ghost use Rattle.aom_shape.specs.declared.why.Why.TheVariants.{RegisterKind};
 
-use crate::active::server_states;
-use crate::site::Site;
+use crate::active::{needs_states, server_states};
+use crate::words::with_word;
 use aom_classes::Linked;
 use aom_image::{ClassKind, ClassNumber, Provider, Register};
 use aom_shape::{Flow, Why, judge};
+use aom_site::Site;
 
 fn is_native_kind(kind: ClassKind) -> bool
     ensures { result ≡ is_native_kind (Some kind) }
@@ -47,42 +47,40 @@ fn is_native_of(linked: &Linked, class: Option<ClassNumber>) -> bool
     }
 }
 
-impl Site<'_> {
-    /// The method works on an object that a native serves.
-    #[tactic(auto, using(aom_shape::proofs::Views::class_there))]
-    fn needs_native_kind(&self) -> (bool, Why)
-        ensures { result ≡ (is_native_kind (own_kind self.now.image self.now.method), RegisterKind) }
-    {
-        let class = self.linked.method(self.method).class;
-        (is_native_of(self.linked, class), Why::RegisterKind)
-    }
+/// The method works on an object that a native serves.
+#[tactic(auto, using(aom_shape::proofs::Views::class_there))]
+fn needs_native_kind(site: &Site<'_>) -> (bool, Why)
+    ensures { result ≡ (is_native_kind (own_kind site.now.image site.now.method), RegisterKind) }
+{
+    let class = site.linked.method(site.method).class;
+    (is_native_of(site.linked, class), Why::RegisterKind)
+}
 
-    pub(crate) fn rule_connect(&self, a: Register) -> Result<Flow, Why>
-        ensures { Tells self.now (Connect a) result }
-    {
-        let needs = [self.needs_native_kind(), self.needs_unowning(a)];
-        judge(&needs, self.with_word(a))
-    }
+pub(crate) fn rule_connect(site: &Site<'_>, a: Register) -> Result<Flow, Why>
+    ensures { Tells site.now (Connect a) result }
+{
+    let needs = [needs_native_kind(site), site.needs_unowning(a)];
+    judge(&needs, with_word(site, a))
+}
 
-    pub(crate) fn rule_ask(&self, a: Register, b: Register, c: Register) -> Result<Flow, Why>
-        ensures { Tells self.now (Ask a b c) result }
-    {
-        let needs = [
-            self.needs_word(b),
-            self.needs_word(c),
-            self.needs_native_kind(),
-            self.needs_unowning(a),
-        ];
-        judge(&needs, self.with_word(a))
-    }
+pub(crate) fn rule_ask(site: &Site<'_>, a: Register, b: Register, c: Register) -> Result<Flow, Why>
+    ensures { Tells site.now (Ask a b c) result }
+{
+    let needs = [
+        site.needs_word(b),
+        site.needs_word(c),
+        needs_native_kind(site),
+        site.needs_unowning(a),
+    ];
+    judge(&needs, with_word(site, a))
+}
 
-    pub(crate) fn rule_close(&self) -> Result<Flow, Why>
-        ensures { Tells self.now Close result }
-    {
-        let needs = [
-            self.needs_native_kind(),
-            self.needs_states(server_states(), Why::NotIdle),
-        ];
-        judge(&needs, self.next(self.shape))
-    }
+pub(crate) fn rule_close(site: &Site<'_>) -> Result<Flow, Why>
+    ensures { Tells site.now Close result }
+{
+    let needs = [
+        needs_native_kind(site),
+        needs_states(site, server_states(), Why::NotIdle),
+    ];
+    judge(&needs, site.next(site.shape))
 }

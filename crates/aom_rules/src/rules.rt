@@ -1,15 +1,31 @@
 //! The rule of each instruction.
 ghost use Rattle.std.specs.Prelude.{◌≡◌, suc, ◌<◌, ◌^◌, IsSome, IfSome, Some, length};
 ghost use Rattle.aom_image.specs.Views.{instr_at, method_at};
-ghost use Rattle.aom_rules.specs.Calls.{HasCallee, HasCodeRegister};
+ghost use Rattle.aom_site.specs.Calls.{HasCallee, HasCodeRegister};
 ghost use Rattle.aom_shape.specs.Changes.{told};
 ghost use Rattle.aom_rules.specs.Rules.{rule};
 
-use crate::calls::Call;
-use crate::site::Site;
+use crate::active::{
+    rule_abort, rule_cancel, rule_enlist, rule_issue, rule_jump_active, rule_jump_added,
+    rule_set_active, rule_status,
+};
+use crate::cleanup::{
+    rule_leave, rule_leave_if, rule_new_or_leave, rule_pop, rule_pop_delete, rule_pop_operation,
+    rule_push, rule_push_operation,
+};
+use crate::messages::{rule_reply, rule_take_message};
+use crate::natives::{rule_ask, rule_close, rule_connect};
+use crate::objects::{
+    rule_delete, rule_jump_empty, rule_jump_null, rule_move, rule_new, rule_put, rule_take,
+};
+use crate::words::{
+    rule_combine, rule_compare, rule_const, rule_copy, rule_jump, rule_load, rule_loop, rule_next,
+    rule_print, rule_stop, rule_store,
+};
 use aom_classes::Linked;
 use aom_image::{Instr, MethodNumber};
 use aom_shape::{Flow, Shape, Why};
+use aom_site::{Call, Site};
 
 /// The instruction at a place, after which a place can be counted.
 fn instr_at(linked: &Linked, method: MethodNumber, place: usize) -> Instr
@@ -37,74 +53,67 @@ pub fn rule(
     ensures { IfSome (instr_at linked.now method place) (λ i. told shape.now.entries result ≡ rule linked.now method place shape.now i) }
 {
     let instr = instr_at(linked, method, place);
-    let site = Site {
-        linked,
-        method,
-        place,
-        shape,
-    };
-    site.rule(instr)
+    let site = Site::new(linked, method, place, shape);
+    rule_of(&site, instr)
 }
 
-impl Site<'_> {
-    /// The rule of an instruction there.
-    fn rule(&self, instr: Instr) -> Result<Flow, Why>
-        requires callee { HasCallee self.now.image instr }
-        requires code { HasCodeRegister instr }
-        ensures { told self.now.shape.entries result ≡ rule self.now.image self.now.method self.now.place self.now.shape instr }
-    {
-        match instr {
-            Instr::Const(a, _) => self.rule_const(a),
-            Instr::Copy(a, b) => self.rule_copy(a, b),
-            Instr::Add(a, b, c)
-            | Instr::Sub(a, b, c)
-            | Instr::Mul(a, b, c)
-            | Instr::And(a, b, c)
-            | Instr::Or(a, b, c)
-            | Instr::Xor(a, b, c) => self.rule_combine(a, b, c),
-            Instr::Jump(to) => self.rule_jump(to),
-            Instr::JumpEqual(a, b, to) | Instr::JumpLess(a, b, to) => self.rule_compare(a, b, to),
-            Instr::Loop(_, _) => self.rule_loop(),
-            Instr::Next(_, to) => self.rule_next(to),
-            Instr::Print(a) => self.rule_print(a),
-            Instr::Load(a, w) => self.rule_load(a, w),
-            Instr::Store(w, b) => self.rule_store(w, b),
-            Instr::Move(a, b) => self.rule_move(a, b),
-            Instr::JumpNull(a, to) => self.rule_jump_null(a, to),
-            Instr::JumpEmpty(f, to) => self.rule_jump_empty(f, to),
-            Instr::Take(a, f) => self.rule_take(a, f),
-            Instr::Put(f, b) => self.rule_put(f, b),
-            Instr::New(a, class) => self.rule_new(a, class),
-            Instr::Delete(a) => self.rule_delete(a),
-            Instr::Call(target, callee, first, result) => {
-                self.rule_call(&Call::new(target, callee, first, result))
-            }
-            Instr::Trap(target, callee, first, result) => {
-                self.rule_trap(&Call::new(target, callee, first, result))
-            }
-            Instr::NewOrLeave(a, class) => self.rule_new_or_leave(a, class),
-            Instr::Push(a) => self.rule_push(a),
-            Instr::PushOperation(a, _) => self.rule_push_operation(a),
-            Instr::Pop(a) => self.rule_pop(a),
-            Instr::PopOperation => self.rule_pop_operation(),
-            Instr::PopDelete => self.rule_pop_delete(),
-            Instr::Leave(a) => self.rule_leave(a),
-            Instr::LeaveIf(a) => self.rule_leave_if(a),
-            Instr::Return(a) => self.rule_return(a),
-            Instr::Stop => self.rule_stop(),
-            Instr::JumpActive(to) => self.rule_jump_active(to),
-            Instr::JumpAdded(to) => self.rule_jump_added(to),
-            Instr::Enlist(_) => self.rule_enlist(),
-            Instr::Issue(a, b) => self.rule_issue(a, b),
-            Instr::SetActive => self.rule_set_active(),
-            Instr::Abort => self.rule_abort(),
-            Instr::Status(a) => self.rule_status(a),
-            Instr::Cancel => self.rule_cancel(),
-            Instr::Connect(a) => self.rule_connect(a),
-            Instr::Ask(a, b, c) => self.rule_ask(a, b, c),
-            Instr::Close => self.rule_close(),
-            Instr::TakeMessage(a) => self.rule_take_message(a),
-            Instr::Reply(a, b) => self.rule_reply(a, b),
+/// The rule of an instruction there.
+fn rule_of(site: &Site<'_>, instr: Instr) -> Result<Flow, Why>
+    requires callee { HasCallee site.now.image instr }
+    requires code { HasCodeRegister instr }
+    ensures { told site.now.shape.entries result ≡ rule site.now.image site.now.method site.now.place site.now.shape instr }
+{
+    match instr {
+        Instr::Const(a, _) => rule_const(site, a),
+        Instr::Copy(a, b) => rule_copy(site, a, b),
+        Instr::Add(a, b, c)
+        | Instr::Sub(a, b, c)
+        | Instr::Mul(a, b, c)
+        | Instr::And(a, b, c)
+        | Instr::Or(a, b, c)
+        | Instr::Xor(a, b, c) => rule_combine(site, a, b, c),
+        Instr::Jump(to) => rule_jump(site, to),
+        Instr::JumpEqual(a, b, to) | Instr::JumpLess(a, b, to) => rule_compare(site, a, b, to),
+        Instr::Loop(_, _) => rule_loop(site),
+        Instr::Next(_, to) => rule_next(site, to),
+        Instr::Print(a) => rule_print(site, a),
+        Instr::Load(a, w) => rule_load(site, a, w),
+        Instr::Store(w, b) => rule_store(site, w, b),
+        Instr::Move(a, b) => rule_move(site, a, b),
+        Instr::JumpNull(a, to) => rule_jump_null(site, a, to),
+        Instr::JumpEmpty(f, to) => rule_jump_empty(site, f, to),
+        Instr::Take(a, f) => rule_take(site, a, f),
+        Instr::Put(f, b) => rule_put(site, f, b),
+        Instr::New(a, class) => rule_new(site, a, class),
+        Instr::Delete(a) => rule_delete(site, a),
+        Instr::Call(target, callee, first, result) => {
+            site.rule_call(&Call::new(target, callee, first, result))
         }
+        Instr::Trap(target, callee, first, result) => {
+            site.rule_trap(&Call::new(target, callee, first, result))
+        }
+        Instr::NewOrLeave(a, class) => rule_new_or_leave(site, a, class),
+        Instr::Push(a) => rule_push(site, a),
+        Instr::PushOperation(a, _) => rule_push_operation(site, a),
+        Instr::Pop(a) => rule_pop(site, a),
+        Instr::PopOperation => rule_pop_operation(site),
+        Instr::PopDelete => rule_pop_delete(site),
+        Instr::Leave(a) => rule_leave(site, a),
+        Instr::LeaveIf(a) => rule_leave_if(site, a),
+        Instr::Return(a) => site.rule_return(a),
+        Instr::Stop => rule_stop(site),
+        Instr::JumpActive(to) => rule_jump_active(site, to),
+        Instr::JumpAdded(to) => rule_jump_added(site, to),
+        Instr::Enlist(_) => rule_enlist(site),
+        Instr::Issue(a, b) => rule_issue(site, a, b),
+        Instr::SetActive => rule_set_active(site),
+        Instr::Abort => rule_abort(site),
+        Instr::Status(a) => rule_status(site, a),
+        Instr::Cancel => rule_cancel(site),
+        Instr::Connect(a) => rule_connect(site, a),
+        Instr::Ask(a, b, c) => rule_ask(site, a, b, c),
+        Instr::Close => rule_close(site),
+        Instr::TakeMessage(a) => rule_take_message(site, a),
+        Instr::Reply(a, b) => rule_reply(site, a, b),
     }
 }

@@ -2,7 +2,7 @@
 ghost use Rattle.std.specs.Prelude.{◌≡◌};
 ghost use Rattle.aom_shape.specs.Kinds.{is_empty, is_here, is_ready, is_word, is_unowning, is_object_or_null, may_be_destroyed, is_ready_kind, is_fresh_kind, readied, filled, filling_of, entry_kind};
 ghost use Rattle.aom_shape.specs.Entries.{readied_entry, is_object_entry};
-ghost use Rattle.aom_shape.specs.Tests.{same_age, same_delivery, is_unset, may_be_null, may_own, may_be_same, no_more, no_more_filling, meet_kind, apart, meet_filling, same_entry};
+ghost use Rattle.aom_shape.specs.Tests.{same_delivery, is_unset, may_be_null, may_own, may_be_same, no_more, no_more_filling, meet_kind, apart, meet_filling, same_entry};
 
 use crate::things::{is_object, same_thing};
 use aom_image::{ClassNumber, Thing};

@@ -3,8 +3,7 @@
 //! A state says what is known of registers, fields, cleanup entries, request states and the message in service at a place.
 //! `weaker` is the order, and `meet` is the strongest state that says no more than either, or a Why where there is none.
 //! `Flow` is what a rule answers: where a run may go on, and what is known there.
-//! What a declared thing may hold (`may_be`, `field_thing`, ..) is told here too, for the rules and for the laws. No call but `Piles::changed`
-//! takes memory, and nothing knows of instructions, of sweeps or of prices.
+//! No call but `Piles::changed` takes memory, and nothing knows of instructions, of sweeps or of prices.
 #![tactic(auto)]
 
 mod flow;
@@ -24,8 +23,5 @@ pub use laws::order_is_one;
 pub use order::{meet, weaker};
 pub use piles::{Pile, Piles};
 pub use shape::{Kept, Shape};
-pub use things::{
-    class_fields, field_thing, is_object, is_own_for, may_be, may_be_declared, stands_for,
-    word_count,
-};
+pub use things::{is_object, same_thing};
 pub use why::Why;

@@ -1,0 +1,149 @@
+-- What a call or a trap asks and leaves, by the declaration of the called method: its parts decide in turn.
+use Rattle.std.proofs.Common.{◌≡◌, ℕ, suc, true, false, not, cond, List, [], ◌∷◌, ◌++◌, length, Option, Some, Result, Ok, Err, refl, ap, sym, ◌∙◌}
+use Rattle.std.proofs.lemmas.List.{append_assoc}
+use Rattle.aom_image.specs.Image.{Image}
+use Rattle.aom_image.specs.Views.{arguments_of, method_at, method_class, method_role, is_quiet}
+use Rattle.aom_instructions.specs.declared.instr.Target.{Target}
+use Rattle.aom_image.specs.declared.method.Argument.{Argument}
+use Rattle.aom_image.specs.declared.method.Argument.TheVariants.{Word as A_word_argument, Own as An_own_argument}
+use Rattle.aom_image.specs.declared.method.Method.{Method}
+use Rattle.aom_image.specs.declared.method.Role.{Role}
+use Rattle.aom_site.specs.Calls.{brought, caught, while_called, rule_given, rule_target, rule_arguments, rule_moved, rule_call, flow_call, rule_trapped, rule_trap, flow_trap}
+use Rattle.aom_site.specs.Requests.{is_construct, resting}
+use Rattle.aom_site.specs.Site.{Site, call_answer, trap_answer}
+use Rattle.aom_site.specs.declared.calls.Call.{Call}
+use Rattle.aom_shape.specs.Arguments.{argument_moved, arguments_moved}
+use Rattle.aom_shape.specs.Needs.{Need, Flow, judged, tested, to_next}
+use Rattle.aom_shape.specs.Shape.{Shape}
+use Rattle.aom_shape.specs.declared.why.Why.{Why}
+use Rattle.aom_shape.specs.declared.why.Why.TheVariants.{QuietBroken}
+use Rattle.aom_shape.proofs.Judging.{failed_first, passed_first, all_failed, all_passed}
+use Rattle.aom_shape.proofs.Views.{after_there, class_there, role_there, gives_there, arguments_there}
+
+-- the arguments take no cleanup entry with them
+argument_leaves : (x : Argument) (r : ℕ) (sh : Shape) → (argument_moved x r sh).entries ≡ sh.entries
+argument_leaves A_word_argument r sh = refl
+argument_leaves (An_own_argument t) r sh = refl
+
+pub arguments_leave : (xs : List Argument) (first : ℕ) (sh : Shape) → (arguments_moved xs first sh).entries ≡ sh.entries
+arguments_leave [] first sh = refl
+arguments_leave (x ∷ xs) first sh = arguments_leave xs (suc first) (argument_moved x first sh) ∙ argument_leaves x first sh
+
+-- what passes is what was to pass
+passed_is : {A : Type 0} (xs : List Need) (a z : A) → judged xs a ≡ Ok z → a ≡ z
+passed_is [] a z e = cc
+passed_is {A = A} (x ∷ xs) a z e =
+    elim x.0 as (λ t. cond t (judged xs a) (Err x.1) ≡ Ok z → a ≡ z) [
+      | true ↦ λ e. passed_is xs a z e
+      | false ↦ λ e. absurd cc
+    ] e
+
+module _ (p : Image) (m : ℕ) (sh : Shape) (target : Target) (first : ℕ) (d : Method) where
+  abbrev of_target : List Need
+  of_target = rule_target p m sh target d.class (is_construct (Some d.role)) first (length d.arguments)
+
+  abbrev of_arguments : List Need
+  of_arguments = rule_arguments p sh d.arguments first
+
+  abbrev moved : Shape
+  moved = arguments_moved d.arguments first sh
+
+  abbrev given : List Need
+  given = rule_given p m sh target d first
+
+  pub target_refused : (w : Why) → tested of_target ≡ Err w → judged given moved ≡ Err w
+  target_refused w e = failed_first of_target of_arguments tt moved w e
+
+  pub arguments_refused : (u : Unit {0}) (w : Why) → tested of_target ≡ Ok u → tested of_arguments ≡ Err w → judged given moved ≡ Err w
+  arguments_refused u w e f = passed_first of_target of_arguments tt u moved e ∙ all_failed of_arguments moved w f
+
+  pub both_met : (u v : Unit {0}) → tested of_target ≡ Ok u → tested of_arguments ≡ Ok v → judged given moved ≡ Ok moved
+  both_met u v e f = passed_first of_target of_arguments tt u moved e ∙ all_passed of_arguments moved v f
+
+  pub entries_kept : (z : Shape) → judged given moved ≡ Ok z → sh.entries ≡ z.entries
+  entries_kept z e = sym (arguments_leave d.arguments first sh) ∙ ap (λ (s : Shape). s.entries) (passed_is given moved z e)
+
+  -- ---- what comes after them
+
+  -- each part decides in turn, and where all are met the flows are those of the last
+  pub record Decides (rest : Shape → List Need) (left : Shape → List Flow) (answer : Result (List Flow) Why) : Type 0 where
+    pub refused : (w : Why) → judged given moved ≡ Err w → answer ≡ Err w
+    pub rest_refused : (z : Shape) (w : Why) → judged given moved ≡ Ok z → tested (rest z) ≡ Err w → answer ≡ Err w
+    pub met : (z : Shape) (u : Unit {0}) → judged given moved ≡ Ok z → tested (rest z) ≡ Ok u → answer ≡ Ok (left z)
+
+  decides : (rest : Shape → List Need) (left : Shape → List Flow) (answer : Result (List Flow) Why) → answer ≡ judged (given ++ rest moved) (left moved) → Decides rest left answer
+  decides rest left answer is = record {
+    refused = λ w e. is ∙ failed_first given (rest moved) moved (left moved) w e;
+    rest_refused = λ z w e f. is ∙ passed_first given (rest moved) moved z (left moved) e ∙ all_failed (rest moved) (left moved) w (ap (λ s. tested (rest s)) (passed_is given moved z e) ∙ f);
+    met = λ z u e f.
+        is
+        ∙ passed_first given (rest moved) moved z (left moved) e
+        ∙ all_passed (rest moved) (left moved) u (ap (λ s. tested (rest s)) (passed_is given moved z e) ∙ f)
+        ∙ ap (λ s. Ok (left s)) (passed_is given moved z e);
+  }
+
+-- ---- at a site
+
+module _ (site : Site) (call : Call) (d : Method) (there : method_at site.image call.method ≡ Some d) where
+  abbrev needs : List Need
+  needs = rule_given site.image site.method site.shape call.target d call.first
+
+  abbrev after : Shape
+  after = arguments_moved d.arguments call.first site.shape
+
+  abbrev lasting : ℕ → Shape → Shape
+  lasting ended s = while_called call.target d.class ended s
+
+  -- what is asked, by what is declared of the called method
+  abbrev asks : (Shape → List Need) → Option ℕ → Option Role → List Argument → List Need
+  asks rest class role xs =
+      rule_target site.image site.method site.shape call.target class (is_construct role) call.first (length xs)
+      ++ (rule_arguments site.image site.shape xs call.first
+      ++ rest (arguments_moved xs call.first site.shape))
+
+  asked : (rest : Shape → List Need) → asks rest (method_class site.image call.method) (method_role site.image call.method) (arguments_of site.image call.method) ≡ needs ++ rest after
+  asked rest =
+      ap (λ class. asks rest class (method_role site.image call.method) (arguments_of site.image call.method)) (class_there site.image call.method d there)
+      ∙ ap (λ role. asks rest d.class role (arguments_of site.image call.method)) (role_there site.image call.method d there)
+      ∙ ap (λ xs. asks rest d.class (Some d.role) xs) (arguments_there site.image call.method d there)
+      ∙ sym (append_assoc (of_target site.image site.method site.shape call.target call.first d) (of_arguments site.image site.method site.shape call.target call.first d) (rest after))
+
+  -- ---- calls
+
+  abbrev of_moved : Shape → List Need
+  of_moved s = rule_moved site.image site.method s call.target call.method call.result
+
+  abbrev left_by_call : Shape → List Flow
+  left_by_call s = to_next site.place (brought d.gives call.result (lasting d.after.0 s))
+
+  call_leaves : flow_call site.image site.method site.place site.shape call.target call.method call.first call.result ≡ left_by_call after
+  call_leaves = rw (gives_there site.image call.method d there, class_there site.image call.method d there, arguments_there site.image call.method d there, after_there site.image call.method d there) refl
+
+  call_is : call_answer site call.target call.method call.first call.result ≡ judged (needs ++ of_moved after) (left_by_call after)
+  call_is = ap (λ ns. judged ns (flow_call site.image site.method site.place site.shape call.target call.method call.first call.result)) (asked of_moved) ∙ ap (λ fs. judged (needs ++ of_moved after) fs) call_leaves
+
+  pub call_decides : Decides site.image site.method site.shape call.target call.first d of_moved left_by_call (call_answer site call.target call.method call.first call.result)
+  call_decides = decides site.image site.method site.shape call.target call.first d of_moved left_by_call (call_answer site call.target call.method call.first call.result) call_is
+
+  -- ---- traps
+
+  abbrev of_trapped : Shape → List Need
+  of_trapped s = rule_trapped site.image site.method site.place site.shape s call.target call.method call.result
+
+  abbrev left_by_trap : Shape → List Flow
+  left_by_trap s = to_next site.place (caught d.gives call.result (lasting (resting site.image d.class) s))
+
+  module _ (loud : is_quiet site.image site.method ≡ false) where
+    trap_asks : rule_trap site.image site.method site.place site.shape call.target call.method call.first call.result ≡ (true, QuietBroken) ∷ (needs ++ of_trapped after)
+    trap_asks =
+        ap (λ quiet. (not quiet, QuietBroken) ∷ asks of_trapped (method_class site.image call.method) (method_role site.image call.method) (arguments_of site.image call.method)) loud
+        ∙ ap (λ (ns : List Need). (true, QuietBroken) ∷ ns) (asked of_trapped)
+
+    trap_leaves : flow_trap site.image site.method site.place site.shape call.target call.method call.first call.result ≡ left_by_trap after
+    trap_leaves = rw (gives_there site.image call.method d there, class_there site.image call.method d there, arguments_there site.image call.method d there) refl
+
+    trap_is : trap_answer site call.target call.method call.first call.result ≡ judged (needs ++ of_trapped after) (left_by_trap after)
+    trap_is = ap (λ ns. judged ns (flow_trap site.image site.method site.place site.shape call.target call.method call.first call.result)) trap_asks ∙ ap (λ fs. judged (needs ++ of_trapped after) fs) trap_leaves
+
+    pub trap_decides : Decides site.image site.method site.shape call.target call.first d of_trapped left_by_trap (trap_answer site call.target call.method call.first call.result)
+    trap_decides = decides site.image site.method site.shape call.target call.first d of_trapped left_by_trap (trap_answer site call.target call.method call.first call.result) trap_is

@@ -1,0 +1,419 @@
+//! The rules of calls and of returns.
+ghost use Rattle.std.specs.Prelude.{◌≡◌, ◌≤◌, ◌+◌, List, [], ◌∷◌, suc, ◌&&◌, nat_lt, IsSome, Some, length};
+ghost use Rattle.aom_image.specs.Views.{gives_of, method_at};
+ghost use Rattle.aom_image.specs.declared.method.Thing.TheVariants.{Object};
+ghost use Rattle.aom_site.specs.Calls.{stands_here, is_target, age_need, object_needs, is_among, awaits, brought, while_called, argument_needs, rule_arguments, rule_given, rule_target, rule_moved, caught, leaves_one, entries_done, rule_result, result_moved};
+ghost use Rattle.aom_site.specs.Requests.{is_construct, may_begin};
+ghost use Rattle.aom_site.specs.Site.{call_answer, return_answer, trap_answer};
+ghost use Rattle.aom_shape.specs.Arguments.{arguments_moved};
+ghost use Rattle.aom_shape.specs.Changes.{next_shape, told};
+ghost use Rattle.aom_shape.specs.Kinds.{is_own_for, entry_kind, is_ready_kind, is_unowning, register};
+ghost use Rattle.aom_shape.specs.Needs.{judged, tested};
+ghost use Rattle.aom_shape.specs.Tables.{at};
+ghost use Rattle.aom_shape.specs.declared.flow.Last.TheVariants.{Same};
+ghost use Rattle.aom_shape.specs.declared.kind.Entry.{Entry as EntryData};
+ghost use Rattle.aom_shape.specs.declared.kind.Entry.TheVariants.{Operation};
+ghost use Rattle.aom_shape.specs.declared.why.Why.TheVariants.{EntryState, RegisterKind, PopEmpty};
+
+use crate::requests::{is_construct, may_begin, resting, unissued};
+use crate::site::{Site, gives, is_quiet, leaves};
+use crate::things::{is_own_for, may_be, stands_for};
+use aom_classes::Linked;
+use aom_image::{
+    Argument, ClassNumber, EntryDepth, Gives, Method, MethodNumber, Register, States, Target, Thing,
+};
+use aom_shape::{Age, Entry, Flow, Kind, Next, Shape, Why, judge, judge_all, only_if};
+
+/// A call, as its instruction says it.
+#[derive(Clone, Copy)]
+pub struct Call {
+    pub target: Target,
+    pub method: MethodNumber,
+    pub first: Register,
+    pub result: Register,
+}
+
+impl Call {
+    pub fn new(target: Target, method: MethodNumber, first: Register, into: Register) -> Call
+        ensures { result ≡ record { target = target; method = method; first = first; result = into } }
+    {
+        Call {
+            target,
+            method,
+            first,
+            result: into,
+        }
+    }
+}
+
+/// A method of the first class may call one of the second class on its own object, and any method a static one.
+fn stands_here(linked: &Linked, here: Option<ClassNumber>, class: Option<ClassNumber>) -> bool
+    ensures { result ≡ stands_here linked.now here class }
+{
+    match class {
+        None => true,
+        Some(class) => match here {
+            None => false,
+            Some(here) => stands_for(linked, Thing::Object(here), Thing::Object(class)),
+        },
+    }
+}
+
+/// It owns an object on which a method of that class works.
+fn is_target(linked: &Linked, class: Option<ClassNumber>, kind: &Kind) -> bool
+    ensures { result ≡ is_target linked.now class kind.now }
+{
+    match class {
+        None => false,
+        Some(class) => is_own_for(linked, Thing::Object(class), *kind),
+    }
+}
+
+/// A construct method works on a fresh object, another method on a ready one.
+fn age_need(constructs: bool, kind: &Kind) -> (bool, Why)
+    ensures { result ≡ age_need constructs kind.now }
+{
+    if constructs {
+        (kind.is_fresh(), Why::NotFresh)
+    } else {
+        (kind.is_ready(), Why::StillFresh)
+    }
+}
+
+/// The register is one of so many from the first on.
+fn is_among(first: Register, count: usize, register: Register) -> bool
+    ensures { result ≡ is_among first count register }
+{
+    let first = first.number() as usize;
+    let number = register.number() as usize;
+    first <= number && number - first < count
+}
+
+/// What is asked of an object that a method so declared is called on.
+fn judge_object(linked: &Linked, callee: &Method, kind: &Kind) -> Result<(), Why>
+    ensures { result ≡ tested (object_needs linked.now callee.now.class (is_construct (Some callee.now.role)) kind.now) }
+{
+    let needs = [
+        (is_target(linked, callee.class, kind), Why::RegisterKind),
+        age_need(is_construct(callee.role), kind),
+    ];
+    judge_all(&needs)
+}
+
+fn judge_argument(linked: &Linked, argument: Argument, kind: &Kind) -> Result<(), Why>
+    ensures { result ≡ tested (argument_needs linked.now argument kind.now) }
+{
+    match argument {
+        Argument::Word => {
+            let needs = [(kind.is_word(), Why::RegisterKind)];
+            judge_all(&needs)
+        }
+        Argument::Own(thing) => {
+            let needs = [
+                (is_own_for(linked, thing, *kind), Why::RegisterKind),
+                (kind.is_ready(), Why::StillFresh),
+            ];
+            judge_all(&needs)
+        }
+    }
+}
+
+/// What is asked of the arguments, which stand in the registers from the first on.
+fn judge_arguments(
+    linked: &Linked,
+    shape: &Shape<'_>,
+    arguments: &[Argument],
+    first: Register,
+) -> Result<(), Why>
+    ensures { result ≡ tested (rule_arguments linked.now shape.now arguments.now first) }
+{
+    let first = first.number() as usize;
+    if 16 - first < arguments.len() {
+        return Err(Why::RegisterKind);
+    }
+    for index in 0..arguments.len() {
+        judge_argument(linked, arguments[index], &shape.kind_at(first + index))?;
+    }
+    Ok(())
+}
+
+/// The result has a register to come to.
+fn awaits(gives: Gives, kind: Kind) -> bool
+    ensures { result ≡ awaits gives kind }
+{
+    match gives {
+        Gives::Nothing | Gives::Left(_) => true,
+        Gives::Word | Gives::Own(_) | Gives::Maybe(_) => kind.is_unowning(),
+    }
+}
+
+/// The state while a call of a method of that class lasts, which ends in these states.
+fn while_called(
+    target: Target,
+    class: Option<ClassNumber>,
+    ended: States,
+    shape: &Shape<'_>,
+) -> Next
+    ensures value { next_shape shape.now.entries result ≡ while_called target class ended.0 shape.now }
+    ensures same { result.change.last ≡ Same }
+{
+    match target {
+        Target::This => match class {
+            None => Next::of(shape),
+            Some(_) => Next::of(&shape.with_fields_unknown().with_states(ended)),
+        },
+        Target::Register(register) => {
+            Next::of(&shape.with_register(register, shape.register(register).readied()))
+        }
+        Target::Field(_) => Next::of(shape),
+        Target::Entry(number) => Next::of(shape).with_readied_entry(number),
+    }
+}
+
+/// The state with the result.
+fn brought(gives: Gives, c: Register, lasting: Next) -> Next
+    requires { lasting.change.last ≡ Same }
+    ensures { (es : List EntryData) → next_shape es result ≡ brought gives c (next_shape es lasting) }
+{
+    let number = c.number() as usize;
+    match gives {
+        Gives::Nothing => lasting,
+        Gives::Word => lasting.with_kind(number, Kind::Word),
+        Gives::Own(thing) => lasting.with_kind(number, Kind::Own(thing, Age::Ready)),
+        Gives::Maybe(thing) => lasting.with_kind(number, Kind::Maybe(thing, Age::Ready)),
+        Gives::Left(class) => lasting.with_entry(Entry::Object(class, Age::Ready)),
+    }
+}
+
+/// What is asked under a trap once the arguments have moved: nothing leaves on, and the code has a register too.
+fn judge_trapped(linked: &Linked, moved: &Shape<'_>, call: &Call) -> Result<(), Why>
+    requires callee { IsSome (method_at linked.now call.now.method) }
+    requires code { call.now.result ≤ 14 }
+    ensures { result ≡ tested ((may_begin linked.now call.now.method call.now.target moved.now.states, EntryState) ∷ (awaits (gives_of linked.now call.now.method) (register moved.now call.now.result), RegisterKind) ∷ (is_unowning (register moved.now (suc call.now.result)), RegisterKind) ∷ []) }
+{
+    let begins = may_begin(linked, call.method, call.target, moved.states());
+    let gives = gives(linked, call.method);
+    let code = moved.kind_at(call.result.number() as usize + 1);
+    let needs = [
+        (begins, Why::EntryState),
+        (
+            awaits(gives, moved.register(call.result)),
+            Why::RegisterKind,
+        ),
+        (code.is_unowning(), Why::RegisterKind),
+    ];
+    judge_all(&needs)
+}
+
+/// The state after a trap, which may have left: with the code, and with the result, if there is one.
+fn caught(gives: Gives, c: Register, lasting: Next) -> Next
+    requires { c ≤ 14 }
+    ensures { (es : List EntryData) → next_shape es result ≡ caught gives c (next_shape es lasting) }
+{
+    let number = c.number() as usize;
+    let given = match gives {
+        Gives::Nothing | Gives::Left(_) => lasting,
+        Gives::Word => lasting.with_kind(number, Kind::Word),
+        Gives::Own(thing) | Gives::Maybe(thing) => {
+            lasting.with_kind(number, Kind::Maybe(thing, Age::Ready))
+        }
+    };
+    given.with_kind(number + 1, Kind::Word)
+}
+
+/// It is an entry of an object of that class, ready.
+fn is_left(linked: &Linked, class: ClassNumber, entry: &Entry) -> bool
+    ensures { result ≡ (is_own_for linked.now (Object class) (entry_kind entry.now) && is_ready_kind (entry_kind entry.now)) }
+{
+    is_own_for(linked, Thing::Object(class), entry.kind()) && entry.kind().is_ready()
+}
+
+/// One entry alone is left: of an object of that class, ready.
+fn leaves_one(linked: &Linked, class: ClassNumber, shape: &Shape<'_>) -> bool
+    ensures { result ≡ leaves_one linked.now class shape.now.entries }
+{
+    match shape.entry(0) {
+        None => false,
+        Some(last) => is_left(linked, class, &last) && shape.height() == 1,
+    }
+}
+
+impl<'a> Site<'a> {
+    /// What is asked of the cleanup entry that the method is called on.
+    fn judge_entry(&self, number: EntryDepth, callee: &Method) -> Result<(), Why>
+        ensures { result ≡ tested ((nat_lt number (length self.now.shape.entries), PopEmpty) ∷ object_needs self.now.image callee.now.class (is_construct (Some callee.now.role)) (entry_kind (at Operation self.now.shape.entries number))) }
+    {
+        match self.shape.entry(number.number() as usize) {
+            None => Err(Why::PopEmpty),
+            Some(entry) => judge_object(self.linked, callee, &entry.kind()),
+        }
+    }
+
+    /// What is asked of what the method is called on.
+    #[tactic(auto, using(aom_shape::proofs::Views::class_there))]
+    fn judge_target(&self, call: &Call, callee: &Method) -> Result<(), Why>
+        ensures { result ≡ tested (rule_target self.now.image self.now.method self.now.shape call.now.target callee.now.class (is_construct (Some callee.now.role)) call.now.first (length callee.now.arguments)) }
+    {
+        let constructs = is_construct(callee.role);
+        match call.target {
+            Target::This => {
+                let here = self.linked.method(self.method).class;
+                let needs = [
+                    (
+                        stands_here(self.linked, here, callee.class),
+                        Why::RegisterKind,
+                    ),
+                    (!constructs, Why::NotFresh),
+                ];
+                judge_all(&needs)
+            }
+            Target::Register(register) => {
+                let kind = self.shape.register(register);
+                let is_argument = is_among(call.first, callee.arguments.len(), register);
+                let needs = [
+                    (
+                        is_target(self.linked, callee.class, &kind),
+                        Why::RegisterKind,
+                    ),
+                    (!is_argument, Why::RegisterKind),
+                    age_need(constructs, &kind),
+                ];
+                judge_all(&needs)
+            }
+            Target::Field(field) => {
+                let kind = self.shape.field(field).kind(self.declared(field));
+                judge_object(self.linked, callee, &kind)
+            }
+            Target::Entry(number) => self.judge_entry(number, callee),
+        }
+    }
+
+    /// What is known once the arguments have moved, if what the method is called on and they are as they must be.
+    fn given(&self, call: &Call, callee: &Method) -> Result<Shape<'a>, Why>
+        ensures { result ≡ judged (rule_given self.now.image self.now.method self.now.shape call.now.target callee.now call.now.first) (arguments_moved callee.now.arguments call.now.first self.now.shape) }
+    {
+        let shape = self.shape;
+        let arguments = callee.arguments.as_slice();
+        self.judge_target(call, callee)?;
+        judge_arguments(self.linked, shape, arguments, call.first)?;
+        Ok(shape.without_arguments(arguments, call.first))
+    }
+
+    /// What is asked once the arguments have moved.
+    fn judge_moved(&self, moved: &Shape<'_>, call: &Call) -> Result<(), Why>
+        requires { IsSome (method_at self.now.image call.now.method) }
+        ensures { result ≡ tested (rule_moved self.now.image self.now.method moved.now call.now.target call.now.method call.now.result) }
+    {
+        let begins = may_begin(self.linked, call.method, call.target, moved.states());
+        let gives = gives(self.linked, call.method);
+        let may_leave = leaves(self.linked, call.method);
+        let quiet = is_quiet(self.linked, self.method);
+        let needs = [
+            (begins, Why::EntryState),
+            (
+                only_if(quiet, is_quiet(self.linked, call.method)),
+                Why::QuietBroken,
+            ),
+            (
+                awaits(gives, moved.register(call.result)),
+                Why::RegisterKind,
+            ),
+            (
+                only_if(may_leave, leaves(self.linked, self.method)),
+                Why::LeaveNotAllowed,
+            ),
+            (only_if(may_leave, moved.none_owns()), Why::OwnedAtLeave),
+            (
+                only_if(may_leave, unissued(moved.states())),
+                Why::IssuedAtLeave,
+            ),
+            (
+                only_if(may_leave, moved.delivery().is_here()),
+                Why::MessageAtLeave,
+            ),
+        ];
+        judge_all(&needs)
+    }
+
+    pub fn rule_call(&self, call: &Call) -> Result<Flow, Why>
+        requires { IsSome (method_at self.now.image call.now.method) }
+        ensures { told self.now.shape.entries result ≡ call_answer self.now call.now.target call.now.method call.now.first call.now.result }
+    {
+        let callee = self.linked.method(call.method);
+        let moved = self.given(call, callee)?;
+        self.judge_moved(&moved, call)?;
+        let lasting = while_called(call.target, callee.class, callee.after, &moved);
+        Ok(self.on(brought(callee.gives, call.result, lasting)))
+    }
+
+    pub fn rule_trap(&self, call: &Call) -> Result<Flow, Why>
+        requires callee { IsSome (method_at self.now.image call.now.method) }
+        requires code { call.now.result ≤ 14 }
+        ensures { told self.now.shape.entries result ≡ trap_answer self.now call.now.target call.now.method call.now.first call.now.result }
+    {
+        if is_quiet(self.linked, self.method) {
+            return Err(Why::QuietBroken);
+        }
+        let callee = self.linked.method(call.method);
+        let moved = self.given(call, callee)?;
+        judge_trapped(self.linked, &moved, call)?;
+        let rested = resting(self.linked, callee.class);
+        let lasting = while_called(call.target, callee.class, rested, &moved);
+        Ok(self.on(caught(callee.gives, call.result, lasting)))
+    }
+
+    /// No cleanup entry is left but the one that the method leaves.
+    fn entries_done(&self) -> bool
+        ensures { result ≡ entries_done self.now.image (gives_of self.now.image self.now.method) self.now.shape.entries }
+    {
+        match gives(self.linked, self.method) {
+            Gives::Nothing | Gives::Word | Gives::Own(_) | Gives::Maybe(_) => {
+                self.shape.has_no_entry()
+            }
+            Gives::Left(class) => leaves_one(self.linked, class, self.shape),
+        }
+    }
+
+    /// What is asked of the register of the result.
+    fn judge_result(&self, a: Register) -> Result<(), Why>
+        ensures { result ≡ tested (rule_result self.now.image self.now.method self.now.place self.now.shape (gives_of self.now.image self.now.method) a) }
+    {
+        match gives(self.linked, self.method) {
+            Gives::Nothing | Gives::Left(_) => {
+                judge_all(&[(a.number() == 0, Why::RegisterKind)])
+            }
+            Gives::Word => judge_all(&[self.needs_word(a)]),
+            Gives::Own(thing) => {
+                let owns = is_own_for(self.linked, thing, self.shape.register(a));
+                judge_all(&[(owns, Why::RegisterKind), self.needs_ready(a)])
+            }
+            Gives::Maybe(thing) => {
+                let owns = may_be(self.linked, thing, self.shape.register(a));
+                judge_all(&[(owns, Why::RegisterKind), self.needs_ready(a)])
+            }
+        }
+    }
+
+    /// The registers once the result has moved out.
+    fn result_moved(&self, a: Register) -> Shape<'a>
+        ensures { result ≡ result_moved self.now.image self.now.method self.now.place self.now.shape (gives_of self.now.image self.now.method) a }
+    {
+        match gives(self.linked, self.method) {
+            Gives::Nothing | Gives::Word | Gives::Left(_) => self.shape.same(),
+            Gives::Own(_) | Gives::Maybe(_) => self.shape.with_register(a, Kind::Null),
+        }
+    }
+
+    pub fn rule_return(&self, a: Register) -> Result<Flow, Why>
+        ensures { told self.now.shape.entries result ≡ return_answer self.now a }
+    {
+        self.judge_result(a)?;
+        let left = self.result_moved(a);
+        let needs = [
+            (self.entries_done(), Why::CleanupAtReturn),
+            (left.none_owns(), Why::OwnedAtReturn),
+        ];
+        judge_all(&needs)?;
+        judge(&self.ended(), Flow::none())
+    }
+}

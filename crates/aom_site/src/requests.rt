@@ -1,0 +1,184 @@
+//! What rules say of request states and of the message in service.
+ghost use Rattle.std.specs.Prelude.{◌≡◌, IsSome, not};
+ghost use Rattle.aom_image.specs.Views.{has, method_at, method_class, method_role};
+ghost use Rattle.aom_roles.specs.States.{active, cancel_done};
+ghost use Rattle.aom_site.specs.Calls.{fields_done, is_destruct, is_destructor, rule_ended};
+ghost use Rattle.aom_site.specs.Requests.{begins_here, begins_there, is_cancel, is_construct, is_service, may_begin, resting, unissued};
+ghost use Rattle.aom_shape.specs.Arguments.{after_of};
+ghost use Rattle.aom_shape.specs.Kinds.{is_here};
+ghost use Rattle.aom_shape.specs.Needs.{only_if};
+ghost use Rattle.aom_shape.specs.Things.{holder_by, holder_of};
+ghost use Rattle.aom_shape.specs.declared.why.Why.TheVariants.{EntryState, FieldsLeft, IssuedAtReturn, MessageAtReturn, NotCancelled, StillActive};
+
+use crate::site::Site;
+use crate::things::class_fields;
+use aom_classes::Linked;
+use aom_image::{ClassNumber, MethodNumber, Role, States, Target};
+use aom_roles::resting_states;
+use aom_shape::{Shape, Why, only_if};
+use bitflags::Flags;
+
+pub(crate) fn is_construct(role: Role) -> bool
+    ensures { result ≡ is_construct (Some role) }
+{
+    matches!(role, Role::Construct)
+}
+
+fn is_cancel(role: Role) -> bool
+    ensures { result ≡ is_cancel (Some role) }
+{
+    matches!(role, Role::Cancel)
+}
+
+pub(crate) fn is_service(role: Role) -> bool
+    ensures { result ≡ is_service (Some role) }
+{
+    matches!(role, Role::Service)
+}
+
+fn is_destruct(role: Role) -> bool
+    ensures { result ≡ is_destruct (Some role) }
+{
+    matches!(role, Role::Destruct)
+}
+
+/// The object has no request that is not set active.
+pub(crate) fn unissued(states: States) -> bool
+    ensures { result ≡ unissued states.0 }
+{
+    !states.contains(States::ISSUED)
+}
+
+/// The states in which an object of a class may be while nothing works on it.
+pub(crate) fn resting(linked: &Linked, class: Option<ClassNumber>) -> States
+    ensures { result.0 ≡ resting linked.now class }
+{
+    resting_states(linked.image(), class)
+}
+
+/// The method begins in each state in which the caller's object may be, unless it is static.
+#[tactic(auto, using(aom_shape::proofs::Views::before_there, aom_shape::proofs::Views::class_there))]
+fn begins_here(linked: &Linked, method: MethodNumber, states: States) -> bool
+    requires { IsSome (method_at linked.now method) }
+    ensures { result ≡ begins_here linked.now method (method_class linked.now method) states.0 }
+{
+    let callee = linked.method(method);
+    match callee.class {
+        None => true,
+        Some(_) => callee.before.contains(states),
+    }
+}
+
+/// The method begins in each state in which another object may be, unless it constructs that.
+#[tactic(auto, using(aom_shape::proofs::Views::before_there, aom_shape::proofs::Views::class_there, aom_shape::proofs::Views::role_there))]
+fn begins_there(linked: &Linked, method: MethodNumber) -> bool
+    requires { IsSome (method_at linked.now method) }
+    ensures { result ≡ begins_there linked.now method }
+{
+    let callee = linked.method(method);
+    let rested = resting(linked, callee.class);
+    only_if(!is_construct(callee.role), callee.before.contains(rested))
+}
+
+/// The method may be called on that target, where the caller's object may be in those states.
+pub(crate) fn may_begin(
+    linked: &Linked,
+    method: MethodNumber,
+    target: Target,
+    states: States,
+) -> bool
+    requires { IsSome (method_at linked.now method) }
+    ensures { result ≡ may_begin linked.now method target states.0 }
+{
+    match target {
+        Target::This => begins_here(linked, method, states),
+        Target::Register(_) => begins_there(linked, method),
+        Target::Field(_) => begins_there(linked, method),
+        Target::Entry(_) => begins_there(linked, method),
+    }
+}
+
+/// Whether the fields may be left as they are, by the role and the class of the method: a destructor leaves them null.
+fn done_by(linked: &Linked, role: Role, class: Option<ClassNumber>, shape: &Shape<'_>) -> bool
+    ensures { result ≡ fields_done linked.now (is_destruct (Some role)) (holder_by (Some role) class) shape.now.fields }
+{
+    match role {
+        Role::Destruct => match class {
+            None => true,
+            Some(class) => shape.are_empty(class_fields(linked, class)),
+        },
+        _ => true,
+    }
+}
+
+impl Site<'_> {
+    /// The states in which an object of the method's class may be while nothing works on it.
+    #[tactic(auto, using(aom_shape::proofs::Views::class_there))]
+    pub fn resting(&self) -> States
+        ensures { result.0 ≡ resting self.now.image (method_class self.now.image self.now.method) }
+    {
+        resting(self.linked, self.linked.method(self.method).class)
+    }
+
+    /// Whether the fields may be left as they are at a return.
+    #[tactic(auto, using(aom_shape::proofs::Views::holder_there, aom_shape::proofs::Views::role_there))]
+    fn fields_done(&self) -> bool
+        ensures { result ≡ fields_done self.now.image (is_destructor self.now.image self.now.method) (holder_of self.now.image self.now.method) self.now.shape.fields }
+    {
+        let declared = self.linked.method(self.method);
+        done_by(self.linked, declared.role, declared.class, self.shape)
+    }
+
+    /// A method that cancels has done so.
+    #[tactic(auto, using(aom_shape::proofs::Views::role_there))]
+    fn needs_cancelled(&self) -> (bool, Why)
+        ensures { result ≡ (only_if (is_cancel (method_role self.now.image self.now.method)) (has cancel_done self.now.shape.states), NotCancelled) }
+    {
+        let cancels = is_cancel(self.linked.method(self.method).role);
+        let done = States::DONE.contains(self.shape.states());
+        (only_if(cancels, done), Why::NotCancelled)
+    }
+
+    /// A destructor leaves no request active.
+    #[tactic(auto, using(aom_shape::proofs::Views::role_there))]
+    fn needs_still(&self) -> (bool, Why)
+        ensures { result ≡ (only_if (is_destructor self.now.image self.now.method) (not (has self.now.shape.states active)), StillActive) }
+    {
+        let destroys = is_destruct(self.linked.method(self.method).role);
+        let active = self.shape.states().contains(States::ACTIVE);
+        (only_if(destroys, !active), Why::StillActive)
+    }
+
+    /// The object is in a state in which the method may end.
+    #[tactic(auto, using(aom_shape::proofs::Views::after_there))]
+    fn needs_end(&self) -> (bool, Why)
+        ensures { result ≡ (has (after_of self.now.image self.now.method) self.now.shape.states, EntryState) }
+    {
+        let after = self.linked.method(self.method).after;
+        (after.contains(self.shape.states()), Why::EntryState)
+    }
+
+    /// A service has taken its message.
+    #[tactic(auto, using(aom_shape::proofs::Views::role_there))]
+    fn needs_taken(&self) -> (bool, Why)
+        ensures { result ≡ (only_if (is_service (method_role self.now.image self.now.method)) (not (is_here self.now.shape.delivery)), MessageAtReturn) }
+    {
+        let serves = is_service(self.linked.method(self.method).role);
+        let taken = !self.shape.delivery().is_here();
+        (only_if(serves, taken), Why::MessageAtReturn)
+    }
+
+    /// How the object and the message are left at a return.
+    pub(crate) fn ended(&self) -> [(bool, Why); 6]
+        ensures { result ≡ rule_ended self.now.image self.now.method self.now.place self.now.shape }
+    {
+        [
+            (unissued(self.shape.states()), Why::IssuedAtReturn),
+            self.needs_cancelled(),
+            self.needs_still(),
+            (self.fields_done(), Why::FieldsLeft),
+            self.needs_end(),
+            self.needs_taken(),
+        ]
+    }
+}
