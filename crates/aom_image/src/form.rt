@@ -66,14 +66,11 @@ fn kind_fits(kind: ClassKind, classes: usize, natives: u8) -> bool
 fn class_ok(class: &ClassDecl, classes: usize, natives: u8) -> bool
     ensures { IsTrue result ↔ ClassFits classes natives class.now }
 {
+    let fields = class.fields.as_slice();
     kind_fits(class.kind, classes, natives)
         && class.words <= 8
-        && class.fields.len() <= 8
-        && class
-            .fields
-            .as_slice()
-            .iter()
-            .all(|field| thing_fits(*field, classes))
+        && fields.len() <= 8
+        && fields.iter().all(|field| thing_fits(*field, classes))
 }
 
 fn method_ok(method: &Method, classes: usize, methods: usize) -> bool

@@ -21,20 +21,19 @@ use Rattle.aom_instructions.specs.declared.operand.Small.TheVariants as small
 -- what is read of an operand of that kind, as an operand
 abbrev small_again : SmallKind → Small → Small
 small_again sk.Unused o = small.Unused
-small_again sk.Register o = small.Register (register o)
-small_again sk.TrapResult o = small.Register (register o)
 small_again sk.Word o = small.Word (word o)
 small_again sk.Field o = small.Field (field o)
 small_again sk.Depth o = small.Depth (depth o)
 small_again sk.CallTarget o = small.CallTarget (target o)
+small_again _ o = small.Register (register o)
 
 abbrev large_again : LargeKind → Large → Large
-large_again lk.Nothing o = large.Nothing
 large_again lk.Number o = large.Number (number o)
 large_again lk.Rounds o = large.Rounds (rounds o)
 large_again lk.Place o = large.Place (place o)
 large_again lk.Class o = large.Class (class o)
 large_again lk.Method o = large.Method (method o)
+large_again _ o = large.Nothing
 
 small_same : (k : SmallKind) (o : Small) → SmallFits k o → small_again k o ≡ o
 small_same sk.Unused small.Unused fits = refl

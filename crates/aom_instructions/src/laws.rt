@@ -3,7 +3,5 @@ ghost use Rattle.aom_instructions.specs.Laws.{PartsMakeAgain, MakingPartsAgain, 
 
 /// Instructions and their parts give each other, and no two rows share an opcode or a mnemonic's text.
 pub fn instructions_and_rows()
-    ensures made { PartsMakeAgain }
-    ensures parted { MakingPartsAgain }
-    ensures rows { RowsAreOne }
+    ensures { PartsMakeAgain × MakingPartsAgain × RowsAreOne }
 {}

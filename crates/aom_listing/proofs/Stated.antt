@@ -38,11 +38,11 @@ use Rattle.aom_instructions.specs.declared.operand.Operands.{Operands}
 use Rattle.aom_instructions.specs.declared.operand.Small.{Small}
 use Rattle.aom_instructions.specs.declared.operand.Small.TheVariants as small
 use Rattle.aom_listing.specs.Classes.{budget_words, class_words, field_words, kind_words, provider_words, thing_word}
-use Rattle.aom_listing.specs.Headers.{header_words, root_words}
+use Rattle.aom_listing.specs.Headers.{header_words}
 use Rattle.aom_listing.specs.Jumps.{is_target}
 use Rattle.aom_listing.specs.Listing.{end_words, instr_words, label_words, listing, method_statements, placed}
-use Rattle.aom_listing.specs.Methods.{argument_word, flag_words, gives_words, heading_words, of_words, promise_words, role_keyword, states_word, word_where}
-use Rattle.aom_listing.specs.Operands.{label_name, target_word}
+use Rattle.aom_listing.specs.Methods.{argument_word, flag_words, gives_words, heading_words, promise_words, role_keyword, states_word, word_where}
+use Rattle.aom_listing.specs.Operands.{class_after, label_name, target_word}
 use Rattle.aom_listing.specs.Text.{list_word}
 use Rattle.aom_listing.specs.Words.{in_text, large_words, small_words, words_statement}
 use Rattle.aom_listing.proofs.PlainWords.{AreWords, IsWord, decimal_is_word, is_word_byte, keyword_is_word, list_is_word, map_words, mnemonic_is_word, name_is_word, signed_is_word, words_append}
@@ -109,9 +109,9 @@ code_is_stated code place (i ∷ is) = (labelled (is_target code place) place (w
 
 -- ---- headers and classes
 
-root_are_words : (root : Option ℕ) → AreWords (root_words root)
-root_are_words None = tt
-root_are_words (Some c) = (keyword_is_word k.Root, (name_is_word 99 c refl, tt))
+class_after_are_words : (key : Keyword) (class : Option ℕ) → AreWords (class_after key class)
+class_after_are_words key None = tt
+class_after_are_words key (Some c) = (keyword_is_word key, (name_is_word 99 c refl, tt))
 
 header_is_stated : (h : Header) → IsStated (header_words h)
 header_is_stated h = record {
@@ -126,7 +126,7 @@ header_is_stated h = record {
           keyword_is_word k.Messages,
           (
             decimal_is_word h.messages,
-            (keyword_is_word k.Natives, (decimal_is_word h.natives, (keyword_is_word k.Budget, (decimal_is_word h.budget, root_are_words h.root)))),
+            (keyword_is_word k.Natives, (decimal_is_word h.natives, (keyword_is_word k.Budget, (decimal_is_word h.budget, class_after_are_words k.Root h.root)))),
           ),
         ),
       ),
@@ -170,10 +170,6 @@ classes_are_stated place (c ∷ cs) = (class_is_stated place c, classes_are_stat
 
 -- ---- methods
 
-of_are_words : (class : Option ℕ) → AreWords (of_words class)
-of_are_words None = tt
-of_are_words (Some c) = (keyword_is_word k.Of, (name_is_word 99 c refl, tt))
-
 where_are_words : (b : Bool) (key : Keyword) → AreWords (word_where b key)
 where_are_words true key = (keyword_is_word key, tt)
 where_are_words false key = tt
@@ -210,9 +206,9 @@ promise_are_words method before after =
 
 heading_is_stated : (place : ℕ) (method : Method) → method.before.0 < 64 → method.after.0 < 64 → IsStated (heading_words place method)
 heading_is_stated place method before after =
-    let front : AreWords (of_words method.class ++ flag_words method.flags.0) = words_append (of_words method.class) (flag_words method.flags.0) (of_are_words method.class) (flags_are_words method.flags.0) in
-    let rest : AreWords (of_words method.class ++ flag_words method.flags.0 ++ promise_words method) =
-    words_append (of_words method.class ++ flag_words method.flags.0) (promise_words method) front (promise_are_words method before after)
+    let front : AreWords (class_after k.Of method.class ++ flag_words method.flags.0) = words_append (class_after k.Of method.class) (flag_words method.flags.0) (class_after_are_words k.Of method.class) (flags_are_words method.flags.0) in
+    let rest : AreWords (class_after k.Of method.class ++ flag_words method.flags.0 ++ promise_words method) =
+    words_append (class_after k.Of method.class ++ flag_words method.flags.0) (promise_words method) front (promise_are_words method before after)
     in
     record { some = refl; words = (keyword_is_word k.Method, (name_is_word 109 place refl, (keyword_is_word (role_keyword method.role), rest))) }
 

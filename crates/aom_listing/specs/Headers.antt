@@ -1,18 +1,13 @@
 -- The statement that opens a listing.
-use Rattle.std.specs.Prelude.{ℕ, List, [], ◌∷◌, ◌++◌, Option, Some, None, decimal}
+use Rattle.std.specs.Prelude.{ℕ, List, [], ◌∷◌, ◌++◌, decimal}
 use Rattle.aom_image.specs.declared.image.Header.{Header}
 use Rattle.aom_syntax.specs.Keywords.{keyword_text}
 use Rattle.aom_syntax.specs.declared.keyword.Keyword.TheVariants as k
-use Rattle.aom_listing.specs.Operands.{class_name}
-
--- the class of the root, where there is one
-abbrev pub root_words : Option ℕ → List (List ℕ)
-root_words None = []
-root_words (Some c) = keyword_text k.Root ∷ class_name c ∷ []
+use Rattle.aom_listing.specs.Operands.{class_after}
 
 -- the limits
 abbrev pub limit_words : Header → List (List ℕ)
 limit_words h = keyword_text k.Cells ∷ decimal h.cells ∷ keyword_text k.Messages ∷ decimal h.messages ∷ keyword_text k.Natives ∷ decimal h.natives ∷ []
 
 abbrev pub header_words : Header → List (List ℕ)
-header_words h = keyword_text k.Image ∷ (limit_words h ++ keyword_text k.Budget ∷ decimal h.budget ∷ root_words h.root)
+header_words h = keyword_text k.Image ∷ (limit_words h ++ keyword_text k.Budget ∷ decimal h.budget ∷ class_after k.Root h.root)

@@ -12,13 +12,13 @@ use Rattle.aom_instructions.specs.declared.operand.Large.TheVariants as large
 use Rattle.aom_instructions.specs.declared.operand.Operands.{Operands}
 use Rattle.aom_instructions.specs.declared.operand.Small.{Small}
 use Rattle.aom_instructions.specs.declared.operand.Small.TheVariants as small
-use Rattle.aom_listing.specs.Operands.{class_name, field_word, label_name, method_name, register_word, target_word, word_field_word}
+use Rattle.aom_listing.specs.Operands.{class_name, field_word, label_name, method_name, register_word, target_word}
 
 -- the word of a small operand, where there is one
 abbrev pub small_words : Small → List (List ℕ)
 small_words small.Unused = []
 small_words (small.Register r) = register_word r ∷ []
-small_words (small.Word w) = word_field_word w ∷ []
+small_words (small.Word w) = (119 ∷ decimal w) ∷ []
 small_words (small.Field f) = field_word f ∷ []
 small_words (small.Depth d) = decimal d ∷ []
 small_words (small.CallTarget t) = target_word t ∷ []

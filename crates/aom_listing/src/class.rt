@@ -1,7 +1,7 @@
 //! The statement that declares a class.
-ghost use Rattle.std.specs.Prelude.{◌≡◌, [], ◌∷◌, ◌++◌, OnOk, map};
+ghost use Rattle.std.specs.Prelude.{◌≡◌, [], ◌∷◌, ◌++◌, OnOk};
 ghost use Rattle.aom_listing.specs.Classes.{thing_word, provider_words, kind_words, budget_words, field_words, class_words};
-ghost use Rattle.aom_listing.specs.Text.{behind, line_of, list_word};
+ghost use Rattle.aom_listing.specs.Text.{behind, line_of};
 
 use crate::writer::Writer;
 use aom_image::{ClassDecl, ClassKind, Provider, Thing};
@@ -16,31 +16,6 @@ impl Writer {
         match thing {
             Thing::Object(class) => self.numbered(b'c', u32::from(class.number())),
             Thing::Message => self.push(Keyword::Message.text()),
-        }
-    }
-
-    /// Further elements of a list.
-    fn more_things(&mut self, things: &[Thing]) -> Result<(), AllocError>
-        ensures { OnOk result (self.new ≡ self.old ++ behind 44 (map thing_word things.now)) }
-    {
-        for thing in things {
-            self.push(b",")?;
-            self.thing(*thing)?;
-        }
-        Ok(())
-    }
-
-    /// A list of what may be owned, in one word.
-    fn things(&mut self, things: &[Thing]) -> Result<(), AllocError>
-        ensures { OnOk result (self.new ≡ self.old ++ 32 ∷ list_word (map thing_word things.now)) }
-    {
-        match things {
-            [] => self.word(b"-"),
-            [first, rest @ ..] => {
-                self.push(b" ")?;
-                self.thing(*first)?;
-                self.more_things(rest)
-            }
         }
     }
 
@@ -92,7 +67,7 @@ impl Writer {
     {
         self.counted(Keyword::Words, u32::from(class.words))?;
         self.keyword(Keyword::Own)?;
-        self.things(class.fields.as_slice())
+        self.list(class.fields.as_slice())
     }
 
     pub fn class(&mut self, place: u32, class: &ClassDecl) -> Result<(), AllocError>

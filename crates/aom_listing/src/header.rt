@@ -1,11 +1,11 @@
 //! The statement that opens a listing.
 ghost use Rattle.std.specs.Prelude.{◌≡◌, [], ◌∷◌, ◌++◌, OnOk, decimal};
 ghost use Rattle.aom_syntax.specs.Keywords.{keyword_text};
-ghost use Rattle.aom_listing.specs.Headers.{root_words, limit_words, header_words};
+ghost use Rattle.aom_listing.specs.Headers.{limit_words, header_words};
 ghost use Rattle.aom_listing.specs.Text.{behind, line_of};
 
 use crate::writer::Writer;
-use aom_image::{ClassNumber, Header};
+use aom_image::Header;
 use aom_syntax::Keyword;
 use std::alloc::AllocError;
 
@@ -16,18 +16,6 @@ impl Writer {
     {
         self.keyword(keyword)?;
         self.number(number)
-    }
-
-    fn root(&mut self, root: Option<ClassNumber>) -> Result<(), AllocError>
-        ensures { OnOk result (self.new ≡ self.old ++ behind 32 (root_words root)) }
-    {
-        match root {
-            None => Ok(()),
-            Some(class) => {
-                self.keyword(Keyword::Root)?;
-                self.class_name(class)
-            }
-        }
     }
 
     fn limits(&mut self, header: &Header) -> Result<(), AllocError>
@@ -44,7 +32,7 @@ impl Writer {
         self.first(Keyword::Image)?;
         self.limits(header)?;
         self.counted(Keyword::Budget, header.budget)?;
-        self.root(header.root)?;
+        self.class_after(Keyword::Root, header.root)?;
         self.end_line()
     }
 }

@@ -14,7 +14,7 @@ impl Writer {
         match operand {
             Small::Unused => Ok(()),
             Small::Register(register) => self.register(register),
-            Small::Word(word) => self.word_field(word),
+            Small::Word(word) => self.name(b'w', u32::from(word.number())),
             Small::Field(field) => self.field(field),
             Small::Depth(depth) => self.number(u32::from(depth.number())),
             Small::CallTarget(target) => self.target(target),
@@ -28,9 +28,9 @@ impl Writer {
             Large::Nothing => Ok(()),
             Large::Number(number) => self.signed(number),
             Large::Rounds(rounds) => self.number(u32::from(rounds)),
-            Large::Place(place) => self.label_name(place),
+            Large::Place(place) => self.name(b'L', u32::from(place.number())),
             Large::Class(class) => self.class_name(class),
-            Large::Method(method) => self.method_name(method),
+            Large::Method(method) => self.name(b'm', u32::from(method.number())),
         }
     }
 

@@ -3,21 +3,15 @@ ghost use Rattle.std.specs.Prelude.{◌≡◌, ◌<◌, ◌||◌, ℕ, false, sl
 ghost use Rattle.aom_syntax.specs.Classes.{is_at};
 ghost use Rattle.aom_listing.specs.Jumps.{jump_of, Tells};
 
-use aom_image::{Instr, Place};
+use aom_image::{Instr, Large, Operands, Place};
 
 /// Where an instruction jumps to.
 fn jump_of(instr: Instr) -> Option<Place>
     ensures { result ≡ jump_of instr }
 {
-    match instr {
-        Instr::Jump(place)
-        | Instr::JumpEqual(_, _, place)
-        | Instr::JumpLess(_, _, place)
-        | Instr::JumpNull(_, place)
-        | Instr::JumpEmpty(_, place)
-        | Instr::JumpActive(place)
-        | Instr::JumpAdded(place)
-        | Instr::Next(_, place) => Some(place),
+    let Operands { d, .. } = instr.operands();
+    match d {
+        Large::Place(place) => Some(place),
         _ => None,
     }
 }

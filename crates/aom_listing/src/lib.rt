@@ -10,6 +10,7 @@ mod header;
 mod instruction;
 mod jumps;
 mod laws;
+mod list;
 mod method;
 mod operands;
 mod single;

@@ -1,13 +1,13 @@
 //! The statement that declares a method.
-ghost use Rattle.std.specs.Prelude.{◌≡◌, [], ◌∷◌, ◌++◌, OnOk, map};
+ghost use Rattle.std.specs.Prelude.{◌≡◌, [], ◌∷◌, ◌++◌, OnOk};
 ghost use Rattle.aom_image.specs.Views.{has};
 ghost use Rattle.aom_syntax.specs.Keywords.{keyword_text};
 ghost use Rattle.aom_listing.specs.Classes.{thing_word};
-ghost use Rattle.aom_listing.specs.Methods.{role_keyword, of_words, word_where, flag_words, letter_where, state_letters, states_word, argument_word, gives_words, promise_words, heading_words};
-ghost use Rattle.aom_listing.specs.Text.{behind, line_of, list_word};
+ghost use Rattle.aom_listing.specs.Methods.{role_keyword, word_where, flag_words, letter_where, state_letters, states_word, argument_word, gives_words, promise_words, heading_words};
+ghost use Rattle.aom_listing.specs.Text.{behind, line_of};
 
 use crate::writer::Writer;
-use aom_image::{Argument, ClassNumber, Gives, Method, MethodFlags, Role, States, Thing};
+use aom_image::{Argument, Gives, Method, MethodFlags, Role, States, Thing};
 use aom_syntax::Keyword;
 use bitflags::Flags;
 use std::alloc::AllocError;
@@ -30,18 +30,6 @@ fn role_keyword(role: Role) -> Keyword
 }
 
 impl Writer {
-    fn of(&mut self, class: Option<ClassNumber>) -> Result<(), AllocError>
-        ensures { OnOk result (self.new ≡ self.old ++ behind 32 (of_words class)) }
-    {
-        match class {
-            None => Ok(()),
-            Some(class) => {
-                self.keyword(Keyword::Of)?;
-                self.class_name(class)
-            }
-        }
-    }
-
     /// A word, where a flag is set.
     fn flag(
         &mut self,
@@ -101,37 +89,12 @@ impl Writer {
     }
 
     /// An argument, without a space before it.
-    fn argument(&mut self, argument: Argument) -> Result<(), AllocError>
+    pub fn argument(&mut self, argument: Argument) -> Result<(), AllocError>
         ensures { OnOk result (self.new ≡ self.old ++ argument_word argument) }
     {
         match argument {
             Argument::Word => self.push(Keyword::Word.text()),
             Argument::Own(thing) => self.thing(thing),
-        }
-    }
-
-    /// Further elements of a list.
-    fn more_arguments(&mut self, arguments: &[Argument]) -> Result<(), AllocError>
-        ensures { OnOk result (self.new ≡ self.old ++ behind 44 (map argument_word arguments.now)) }
-    {
-        for argument in arguments {
-            self.push(b",")?;
-            self.argument(*argument)?;
-        }
-        Ok(())
-    }
-
-    /// A list of arguments, in one word.
-    fn arguments(&mut self, arguments: &[Argument]) -> Result<(), AllocError>
-        ensures { OnOk result (self.new ≡ self.old ++ 32 ∷ list_word (map argument_word arguments.now)) }
-    {
-        match arguments {
-            [] => self.word(b"-"),
-            [first, rest @ ..] => {
-                self.push(b" ")?;
-                self.argument(*first)?;
-                self.more_arguments(rest)
-            }
         }
     }
 
@@ -165,7 +128,7 @@ impl Writer {
         self.states(Keyword::In, method.before)?;
         self.states(Keyword::Out, method.after)?;
         self.keyword(Keyword::Args)?;
-        self.arguments(method.arguments.as_slice())?;
+        self.list(method.arguments.as_slice())?;
         self.keyword(Keyword::Gives)?;
         self.gives(method.gives)
     }
@@ -176,7 +139,7 @@ impl Writer {
         self.first(Keyword::Method)?;
         self.name(b'm', place)?;
         self.keyword(role_keyword(method.role))?;
-        self.of(method.class)?;
+        self.class_after(Keyword::Of, method.class)?;
         self.flags(method.flags)?;
         self.promise(method)?;
         self.end_line()

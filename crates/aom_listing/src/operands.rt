@@ -1,9 +1,10 @@
 //! Names, and the operands of instructions.
 ghost use Rattle.std.specs.Prelude.{◌≡◌, ◌∷◌, ◌++◌, OnOk};
-ghost use Rattle.aom_listing.specs.Operands.{class_name, method_name, label_name, register_word, field_word, word_field_word, target_word};
+ghost use Rattle.aom_listing.specs.Operands.{class_after, class_name, register_word, field_word, target_word};
+ghost use Rattle.aom_listing.specs.Text.{behind};
 
 use crate::writer::Writer;
-use aom_image::{ClassNumber, FieldIndex, MethodNumber, Place, Register, Target, WordIndex};
+use aom_image::{ClassNumber, FieldIndex, Register, Target};
 use aom_syntax::Keyword;
 use std::alloc::AllocError;
 
@@ -14,16 +15,21 @@ impl Writer {
         self.name(b'c', u32::from(class.number()))
     }
 
-    pub fn method_name(&mut self, method: MethodNumber) -> Result<(), AllocError>
-        ensures { OnOk result (self.new ≡ self.old ++ 32 ∷ method_name method) }
+    /// A keyword and the name of a class behind it, where there is one.
+    pub fn class_after(
+        &mut self,
+        keyword: Keyword,
+        class: Option<ClassNumber>,
+    ) -> Result<(), AllocError>
+        ensures { OnOk result (self.new ≡ self.old ++ behind 32 (class_after keyword class)) }
     {
-        self.name(b'm', u32::from(method.number()))
-    }
-
-    pub fn label_name(&mut self, place: Place) -> Result<(), AllocError>
-        ensures { OnOk result (self.new ≡ self.old ++ 32 ∷ label_name place) }
-    {
-        self.name(b'L', u32::from(place.number()))
+        match class {
+            None => Ok(()),
+            Some(class) => {
+                self.keyword(keyword)?;
+                self.class_name(class)
+            }
+        }
     }
 
     pub fn register(&mut self, register: Register) -> Result<(), AllocError>
@@ -36,12 +42,6 @@ impl Writer {
         ensures { OnOk result (self.new ≡ self.old ++ 32 ∷ field_word field) }
     {
         self.name(b'f', u32::from(field.number()))
-    }
-
-    pub fn word_field(&mut self, word: WordIndex) -> Result<(), AllocError>
-        ensures { OnOk result (self.new ≡ self.old ++ 32 ∷ word_field_word word) }
-    {
-        self.name(b'w', u32::from(word.number()))
     }
 
     pub fn target(&mut self, target: Target) -> Result<(), AllocError>

@@ -80,10 +80,8 @@ left_of_text text = left_of_line text.line ++ statements_from (text.line.number 
 
 -- the first statement
 abbrev pub first_statement : List Statement → Option Statement
-first_statement [] = None
-first_statement (s ∷ ss) = Some s
+first_statement = elim [ [] ↦ None | s ∷ ss ↦ Some s ]
 
 -- the statements after the first
 abbrev pub other_statements : List Statement → List Statement
-other_statements [] = []
-other_statements (s ∷ ss) = ss
+other_statements = elim [ [] ↦ [] | s ∷ ss ↦ ss ]
