@@ -18,11 +18,7 @@ use Rattle.aom_active.specs.Turns.{StandingFollows}
 
 -- the state of a phase
 abbrev pub held_state : Phase → State
-held_state Idle = Held_idle
-held_state Issued = Held_issued
-held_state Waiting = Held_active
-held_state Cancelling = Held_cancelling
-held_state Aborted = Held_aborted
+held_state phase = elim phase [ Idle ↦ Held_idle | Issued ↦ Held_issued | Waiting ↦ Held_active | Cancelling ↦ Held_cancelling | Aborted ↦ Held_aborted ]
 
 tells_some : (h : Option Held_request) (o : Option Request) (waits : Option Bool) → Tells h o waits → is_some h ≡ is_some o
 tells_some h o waits tells = grind arith

@@ -44,11 +44,7 @@ pub record IsWhole (a : Active) : Type 0 where
 -- ---- and stand for the requests of the checked machine, by name
 
 abbrev pub phase_of : State → Phase
-phase_of Held_idle = Idle
-phase_of Held_issued = Issued
-phase_of Held_active = Waiting
-phase_of Held_cancelling = Cancelling
-phase_of Held_aborted = Aborted
+phase_of state = elim state [ Held_idle ↦ Idle | Held_issued ↦ Issued | Held_active ↦ Waiting | Held_cancelling ↦ Cancelling | Held_aborted ↦ Aborted ]
 
 -- whether something waits in the queue of what stands there, if it is a server
 abbrev pub queue_in : Image → Option Object → Service → Option Bool
