@@ -21,6 +21,7 @@ pub mod Items
 pub mod Seats
 pub mod Claimed
 pub mod Guarded
+pub mod Exchanging
 pub mod Fitting
 pub mod Moving
 pub mod Turned

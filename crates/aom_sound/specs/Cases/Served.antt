@@ -1,5 +1,5 @@
 -- Runs with servers and clients, line by line.
-use Rattle.std.specs.Prelude.{ℕ, ℤ, pos, negsuc, ◌≡◌, List, [], ◌∷◌, Option, Some, None}
+use Rattle.std.specs.Prelude.{ℤ, pos, negsuc, ◌≡◌, List, [], ◌∷◌}
 use Rattle.aom_transcript.specs.declared.line.Ending.TheVariants.{Stopped, Waiting}
 use Rattle.aom_sound.specs.State.{CompletedTwice, MessageLost, Orphan}
 use Rattle.aom_transcript.specs.declared.event.Command.TheVariants.{Connect, Send, Close, Die}
