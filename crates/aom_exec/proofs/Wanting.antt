@@ -121,11 +121,11 @@ module _ (p : Image) (m : Parts) (s : State) (st : StandsFor (record { image = p
     worded_so :
         (w : (function word : ℤ) → Wanted) (v : (function word : ℤ) → Held_wanted) → ((f x : ℤ) → as_wanted (v f x) ≡ w f x) → (a b : ℕ) → is_some (word h.frame a) ≡ true → is_some (word h.frame b) ≡ true →
         cond (is_served s n id) (Some (w (read h.frame h.below s a) (read h.frame h.below s b))) None ≡ option_map as_wanted (cond is_there (Some (v (word_here m a) (word_here m b))) None)
-    worded_so w v as a b some_a some_b =
+    worded_so w v same a b some_a some_b =
         ap (λ y. cond y (Some (w (read h.frame h.below s a) (read h.frame h.below s b))) None) served
         ∙ ap (λ x. cond is_there (Some (w x (read h.frame h.below s b))) None) (word_told a some_a)
         ∙ ap (λ x. cond is_there (Some (w (word_here m a) x)) None) (word_told b some_b)
-        ∙ ap (λ x. cond is_there (Some x) None) (sym (as (word_here m a) (word_here m b)))
+        ∙ ap (λ x. cond is_there (Some x) None) (sym (same (word_here m a) (word_here m b)))
         ∙ mapped is_there (v (word_here m a) (word_here m b))
 
     call_so : (x : Exchange) → HasWords h.frame x → wanted_here s h.frame h.below n id x ≡ option_map as_wanted (wanted_call m owed n id x)

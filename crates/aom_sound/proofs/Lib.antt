@@ -31,6 +31,7 @@ pub mod Counting
 pub mod Straight
 pub mod Jumps
 pub mod Storing
+pub mod Sessions
 pub mod Words
 pub mod Requesting
 pub mod Serving
