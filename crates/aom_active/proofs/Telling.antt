@@ -30,10 +30,6 @@ tells_none h waits tells = grind arith
 tells_server : (h : Option Held_request) (r : Request) (waits : Option Bool) → Tells h (Some r) waits → is_server h ≡ is_some waits
 tells_server h r waits tells = grind arith
 
--- what has a state has a status
-pub has_status : (h : Option Held_request) → IsSome (state_of h) → IsSome (status_of h)
-has_status h some = grind arith
-
 -- an object's, which no server is
 tells_state : (h : Option Held_request) (r : Request) → Tells h (Some r) None → state_of h ≡ Some (held_state r.phase)
 tells_state h r tells = grind arith
