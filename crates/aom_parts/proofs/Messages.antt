@@ -8,7 +8,7 @@ use Rattle.aom_image.specs.declared.method.Thing.TheVariants.{Message}
 use Rattle.aom_messages.specs.Store.{Changes, Store, count, message_at, word_at, word_of}
 use Rattle.aom_shape.specs.Kinds.{is_object}
 use Rattle.aom_shape.specs.Tables.{at}
-use Rattle.aom_sound.proofs.Counts.{counted_without}
+use Rattle.aom_sound.proofs.Counts.{counted_by, counted_without}
 use Rattle.aom_sound.proofs.Maps.{named_moved, named_without, same_place-true, unnamed, without_none}
 use Rattle.aom_sound.proofs.Services.{named_served}
 use Rattle.aom_sound.proofs.Storing.{named_set_word, rerequested_alike, resessioned_alike}
@@ -80,7 +80,7 @@ messages_counted : (o : Option Object) → counted_by (λ t. not (is_object t)) 
 messages_counted None = refl
 messages_counted (Some o) = go (is_object o.thing)
   where
-    go : (b : Bool) → cond (not b) 1 0 ≡ cond b 0 1
+    go : (b : Bool) → ◌≡◌ {A = ℕ} (cond (not b) 1 0) (cond b 0 1)
     go true = refl
     go false = refl
 

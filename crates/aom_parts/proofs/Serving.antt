@@ -517,20 +517,12 @@ module _ (s : kept.State) (cs : List Cell) (clients : List Client) (same : SameC
         go false false e g = sym (there g)
 
     pub same_sent : SameClients sent (message ∷ behind) clients
-    same_sent = record {
-      at = same.at;
-      queues = λ n. queues n ∙ sym (other_service n).0;
-      sessions = λ n. by_server cs o lives (asked_last (Message_of c (message_name m))) (λ n v. kept.sessions_at s n ≡ v.sessions) (same.sessions o.name) (λ n other. same.sessions n) n ∙ sym (other_service n).1;
-      senders = senders_after;
-      taken = taken_after;
-      waits = waits_then;
-      slots_of = slots_of_after;
-      slotted = slotted_after;
-      once = once_after;
-      slots = slots_after;
-      many = same.many;
-      lists = length-set s.sent c (kept.sent_at s c ++ m ∷ []) ∙ same.lists;
-    }
+    same_sent =
+        let queues_after = λ (n : ℕ). queues n ∙ sym (other_service n).0 in
+        let sessions_after : (n : ℕ) → kept.sessions_at s n ≡ (service_of (message ∷ behind) n).sessions =
+            λ n. by_server cs o lives (asked_last (Message_of c (message_name m))) (λ n v. kept.sessions_at s n ≡ v.sessions) (same.sessions o.name) (λ n other. same.sessions n) n ∙ sym (other_service n).1 in
+        let lists = length-set s.sent c (kept.sent_at s c ++ m ∷ []) ∙ same.lists in
+        assumption (same.at, queues_after, sessions_after, senders_after, taken_after, waits_then, slots_of_after, slotted_after, once_after, slots_after, same.many, lists)
       where
         old : (n : ℕ) → map (asked_by sent.places) (kept.queue_at s n) ≡ (service_of cs n).queue
         old n = asked_apart s.places m (Queued c) place (kept.queue_at s n) (ap (λ l. list_any (is_message (message_name m)) l) (same.queues n) ∙ nowhere n) ∙ same.queues n
