@@ -18,11 +18,7 @@ use Rattle.aom_active.specs.Turns.{StandingFollows}
 
 -- the state of a phase
 abbrev pub held_state : Phase → State
-held_state Idle = Held_idle
-held_state Issued = Held_issued
-held_state Waiting = Held_active
-held_state Cancelling = Held_cancelling
-held_state Aborted = Held_aborted
+held_state phase = elim phase [ Idle ↦ Held_idle | Issued ↦ Held_issued | Waiting ↦ Held_active | Cancelling ↦ Held_cancelling | Aborted ↦ Held_aborted ]
 
 tells_some : (h : Option Held_request) (o : Option Request) (waits : Option Bool) → Tells h o waits → is_some h ≡ is_some o
 tells_some h o waits tells = grind arith
@@ -33,10 +29,6 @@ tells_none h waits tells = grind arith
 -- whether it is a server's
 tells_server : (h : Option Held_request) (r : Request) (waits : Option Bool) → Tells h (Some r) waits → is_server h ≡ is_some waits
 tells_server h r waits tells = grind arith
-
--- what has a state has a status
-pub has_status : (h : Option Held_request) → IsSome (state_of h) → IsSome (status_of h)
-has_status h some = grind arith
 
 -- an object's, which no server is
 tells_state : (h : Option Held_request) (r : Request) → Tells h (Some r) None → state_of h ≡ Some (held_state r.phase)

@@ -1,13 +1,13 @@
 -- The active objects of a machine, and when they stand for the requests of the checked machine.
-use Rattle.std.specs.Prelude.{◌≡◌, ℕ, ℤ, Bool, true, false, not, cond, is_some, List, Option, Some, None, option_map, All, AllPairs, replicate}
+use Rattle.std.specs.Prelude.{◌≡◌, ℕ, ℤ, Bool, true, false, not, cond, is_some, List, [], Option, Some, None, option_map, All, AllPairs, replicate}
 use Rattle.std.specs.Ordering.{int_eq}
 use Rattle.aom_requests.specs.Requests.{Table, request_at, is_pending, is_ready, pending}
 use Rattle.aom_requests.specs.declared.request.State.{State}
 use Rattle.aom_requests.specs.declared.request.State.TheVariants.{Idle as Held_idle, Issued as Held_issued, Active as Held_active, Cancelling as Held_cancelling, Aborted as Held_aborted}
 use Rattle.aom_requests.specs.declared.request.Request.{Request as Held_request}
 use Rattle.aom_requests.specs.declared.request.Request.TheVariants.{Object as Held_object, Server as Held_server}
-use Rattle.aom_scheduler.specs.Roster.{Roster, empty, place}
-use Rattle.aom_scheduler.specs.Pending.{Pending, no_timers, due_of}
+use Rattle.aom_scheduler.specs.Roster.{Roster, place}
+use Rattle.aom_scheduler.specs.Pending.{Pending, due_of}
 use Rattle.aom_image.specs.Image.{Image}
 use Rattle.aom_sound.specs.Places.{Cell, Object, Phase, Idle, Issued, Active as Waiting, Cancelling, Aborted, Request, Service, Timer, named, service_of}
 use Rattle.aom_sound.specs.Servers.{has_more, is_server}
@@ -21,7 +21,7 @@ pub record Active : Type 0 where
 
 -- no object, and a place for each number below the limit
 abbrev pub nobody : ℕ → Active
-nobody limit = record { table = record { slots = replicate limit None; limit = limit }; roster = empty limit; pending = no_timers limit }
+nobody limit = record { table = record { slots = replicate limit None; limit = limit }; roster = record { entries = []; limit = limit }; pending = record { timers = []; limit = limit } }
 
 -- ---- the three hang together
 
@@ -44,11 +44,7 @@ pub record IsWhole (a : Active) : Type 0 where
 -- ---- and stand for the requests of the checked machine, by name
 
 abbrev pub phase_of : State → Phase
-phase_of Held_idle = Idle
-phase_of Held_issued = Issued
-phase_of Held_active = Waiting
-phase_of Held_cancelling = Cancelling
-phase_of Held_aborted = Aborted
+phase_of state = elim state [ Held_idle ↦ Idle | Held_issued ↦ Issued | Held_active ↦ Waiting | Held_cancelling ↦ Cancelling | Held_aborted ↦ Aborted ]
 
 -- whether something waits in the queue of what stands there, if it is a server
 abbrev pub queue_in : Image → Option Object → Service → Option Bool

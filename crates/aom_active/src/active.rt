@@ -43,13 +43,10 @@ impl ActiveObjects {
         ensures limit { IfOk result (λ a. a.table.limit ≡ limit) }
         ensures stands { (queues : ℕ → Option Bool) → IfOk result (λ a. StandsFor a (λ n. None) queues) }
     {
-        let requests = Requests::with_limit(alloc, limit)?;
-        let schedule = Schedule::with_limit(alloc, limit)?;
-        let timers = Timers::with_limit(alloc, limit)?;
         Ok(ActiveObjects {
-            requests,
-            schedule,
-            timers,
+            requests: Requests::with_limit(alloc, limit)?,
+            schedule: Schedule::with_limit(alloc, limit)?,
+            timers: Timers::with_limit(alloc, limit)?,
         })
     }
 
@@ -268,7 +265,6 @@ impl ActiveObjects {
     }
 
     /// The status of the object's last request, 0 before the first: CActive::iStatus.
-    #[tactic(auto, using(crate::proofs::Telling::has_status))]
     pub fn status(&self, id: CellId) -> i32
         requires { IsSome (state_at self.now.table id) }
         ensures { status_at self.now.table id ≡ Some result }

@@ -33,10 +33,8 @@ impl Cleanup {
         requires { depth ≤ 1024 }
         ensures { IfOk result (λ c. c ≡ record { items = []; depth = depth }) }
     {
-        Ok(Cleanup {
-            items: Box::new(alloc, ArrayVec::new())?,
-            depth,
-        })
+        let items = Box::new(alloc, ArrayVec::new())?;
+        Ok(Cleanup { items, depth })
     }
 
     /// How many items there are, marks among them.

@@ -2,6 +2,7 @@
 use Rattle.std.proofs.Common.{◌≡◌, ℕ, List, [], ◌∷◌, Option, Some, None, refl}
 use Rattle.aom_clients.specs.declared.client.Client.{Client}
 use Rattle.aom_clients.specs.declared.client.Client.TheVariants.{Unconnected, Connecting, Open, Closing, Gone, Dead, Dying}
+use Rattle.aom_clients.specs.declared.refusal.Refusal.{Refusal}
 use Rattle.aom_clients.specs.declared.refusal.Refusal.TheVariants.{NotFound, Died, ServerTerminated, ServerBusy}
 use Rattle.aom_clients.specs.declared.place.Place.{Place}
 use Rattle.aom_clients.specs.declared.place.Place.TheVariants.{Free, Queued, Held, Discarded}
@@ -27,6 +28,10 @@ open_with slots = one (Open 0 5 slots) Free Free [] (0 ∷ []) []
 abbrev to : ℕ → Option Server
 to most = Some (record { cell = 0; most = most })
 
+-- what comes of each command where the client alone decides that: why a connect and a send are refused, and the state after a close and a death
+abbrev told : State → Option Refusal × Option Refusal × State × State
+told s = (connect_refusal 0 (to 9) s, send_refusal 0 (Some 1) s, after_close 0 s, after_die 0 s)
+
 -- unconnected
 unconnected-nowhere : connect_refusal 0 None (alone Unconnected) ≡ Some NotFound
 unconnected-nowhere = refl
@@ -50,17 +55,8 @@ unconnected-die = refl
 abbrev asking : State
 asking = one (Connecting 0 2) Free Free (Connect 0 ∷ []) [] []
 
-connecting-connect : connect_refusal 0 (to 9) asking ≡ Some ServerBusy
-connecting-connect = refl
-
-connecting-send : send_refusal 0 (Some 1) asking ≡ Some ServerBusy
-connecting-send = refl
-
-connecting-close : after_close 0 asking ≡ alone Unconnected
-connecting-close = refl
-
-connecting-die : after_die 0 asking ≡ alone Dead
-connecting-die = refl
+connecting-told : told asking ≡ (Some ServerBusy, Some ServerBusy, alone Unconnected, alone Dead)
+connecting-told = refl
 
 -- open: a message is sent while a slot and a place are free
 open-connect : connect_refusal 0 (to 9) (open_with 2) ≡ Some ServerBusy
@@ -92,17 +88,8 @@ open-freed = refl
 abbrev ends : Client → State
 ends x = one x Free Free (Close 0 ∷ []) (0 ∷ []) []
 
-closing-connect : connect_refusal 0 (to 9) (ends (Closing 0 5)) ≡ Some ServerBusy
-closing-connect = refl
-
-closing-send : send_refusal 0 (Some 1) (ends (Closing 0 5)) ≡ Some ServerBusy
-closing-send = refl
-
-closing-close : after_close 0 (ends (Closing 0 5)) ≡ ends (Closing 0 5)
-closing-close = refl
-
-closing-die : after_die 0 (ends (Closing 0 5)) ≡ ends (Dying 0 5)
-closing-die = refl
+closing-told : told (ends (Closing 0 5)) ≡ (Some ServerBusy, Some ServerBusy, ends (Closing 0 5), ends (Dying 0 5))
+closing-told = refl
 
 -- gone: it stays so where its connect is refused
 gone-refused : after_connect 0 (to 0) 2 (alone Gone) ≡ alone Gone
@@ -121,29 +108,11 @@ gone-die : after_die 0 (alone Gone) ≡ alone Dead
 gone-die = refl
 
 -- dead and dying
-dead-connect : connect_refusal 0 (to 9) (alone Dead) ≡ Some Died
-dead-connect = refl
+dead-told : told (alone Dead) ≡ (Some Died, Some Died, alone Dead, alone Dead)
+dead-told = refl
 
-dead-send : send_refusal 0 (Some 1) (alone Dead) ≡ Some Died
-dead-send = refl
-
-dead-close : after_close 0 (alone Dead) ≡ alone Dead
-dead-close = refl
-
-dead-die : after_die 0 (alone Dead) ≡ alone Dead
-dead-die = refl
-
-dying-connect : connect_refusal 0 (to 9) (ends (Dying 0 5)) ≡ Some Died
-dying-connect = refl
-
-dying-send : send_refusal 0 (Some 1) (ends (Dying 0 5)) ≡ Some Died
-dying-send = refl
-
-dying-close : after_close 0 (ends (Dying 0 5)) ≡ ends (Dying 0 5)
-dying-close = refl
-
-dying-die : after_die 0 (ends (Dying 0 5)) ≡ ends (Dying 0 5)
-dying-die = refl
+dying-told : told (ends (Dying 0 5)) ≡ (Some Died, Some Died, ends (Dying 0 5), ends (Dying 0 5))
+dying-told = refl
 
 -- a service: a connect, a message and a close are taken and served
 connect-served : after_connected 0 (Some 5) (after_next 0 asking) ≡ open_with 2

@@ -56,6 +56,13 @@ session_of (Closing server session) = Some session
 session_of (Dying server session) = Some session
 session_of other = None
 
+-- the server of its session
+abbrev pub server_of : Client → Option ℕ
+server_of (Open server session slots) = Some server
+server_of (Closing server session) = Some server
+server_of (Dying server session) = Some server
+server_of other = None
+
 -- no cell has that number
 abbrev pub no_cell : ℕ
 no_cell = 65535
@@ -73,13 +80,6 @@ released (Open server session slots) = Open server no_cell slots
 released (Closing server session) = Closing server no_cell
 released (Dying server session) = Dying server no_cell
 released other = other
-
--- the server of its session
-abbrev pub server_of : Client → Option ℕ
-server_of (Open server session slots) = Some server
-server_of (Closing server session) = Some server
-server_of (Dying server session) = Some server
-server_of other = None
 
 -- the client that sent the message of a place; 0 where there is none
 abbrev pub sender : Place → ℕ

@@ -2,7 +2,7 @@
 ghost use Rattle.std.specs.Prelude.{◌≡◌, ◌<◌, ◌≤◌, ◌+◌, ◌++◌, [], ℕ, length, map, filter, slice_index_or};
 ghost use Rattle.aom_queues.specs.Lists.{IsIn, IsSound, list_at, with_list, without};
 ghost use Rattle.aom_clients.specs.Table.{is_queued};
-ghost use Rattle.aom_clients.specs.Withdrawals.{without_each, left_each, noted};
+ghost use Rattle.aom_clients.specs.Withdrawals.{without_each, left_at, left_each, noted};
 
 use crate::Place;
 use crate::entry::{CLIENTS, connect_node};
@@ -55,11 +55,21 @@ fn withdraw(
     let mut freed = ArrayVec::new();
     while let Some(place) = sent.take_first(list) {
         queues.remove(place);
-        let was = places[place as usize];
+        let was = leave(places, place);
         note(&mut freed, place, was);
-        places[place as usize] = was.closed();
     }
     freed
+}
+
+/// A message's client leaves it. Answers what was at its place.
+fn leave(places: &mut [Place], place: u16) -> Place
+    requires { place < length places.old }
+    ensures was { result ≡ slice_index_or places.old place Place.Free }
+    ensures left { places.new ≡ left_at place places.old }
+{
+    let was = places[place as usize];
+    places[place as usize] = was.closed();
+    was
 }
 
 /// Notes a message that waited.
@@ -80,7 +90,7 @@ fn discard(sent: &mut Lists, places: &mut [Place], list: u16)
     ensures places { places.new ≡ left_each (list_at sent.old list) places.old }
 {
     while let Some(place) = sent.take_first(list) {
-        places[place as usize] = places[place as usize].closed();
+        leave(places, place);
     }
 }
 

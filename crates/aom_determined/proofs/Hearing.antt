@@ -7,7 +7,9 @@ use Rattle.aom_image.specs.declared.class.ClassKind.TheVariants.{Active as An_ac
 use Rattle.aom_image.specs.declared.class.Provider.TheVariants.{Native}
 use Rattle.aom_image.specs.declared.method.Thing.TheVariants.{Message, Object as An_object_of}
 use Rattle.aom_instructions.specs.declared.instr.Instr.{Instr}
-use Rattle.aom_instructions.specs.declared.instr.Instr.TheVariants.{Ask, Connect, Issue}
+use Rattle.std.proofs.lemmas.Bool.{and_right}
+use Rattle.aom_sound.proofs.Exchanging.{by_exchange}
+use Rattle.aom_sound.specs.Wanted.{Exchange, exchange, exchange_at}
 use Rattle.aom_rules.specs.Natives.{is_native_kind}
 use Rattle.aom_sound.specs.Effects.{Requested, applied, needs, updates}
 use Rattle.aom_sound.specs.Enlisted.{home_kind, issued_of, next_timer, on_request, own_request, thing_kind}
@@ -16,7 +18,7 @@ use Rattle.aom_sound.specs.Places.{Request}
 use Rattle.aom_sound.specs.State.{AtRoot, Choice, Frame, Home, Inside, Run, State, Static, Task, guarded}
 use Rattle.aom_sound.specs.Words.{read}
 use Rattle.aom_determined.proofs.Needs.{kind_kept}
-use Rattle.aom_determined.specs.Hearing.{HasNoNative, hears, is_heard}
+use Rattle.aom_determined.specs.Hearing.{HasNoNative, hears, is_answered, is_heard}
 use Rattle.aom_determined.specs.Names.{renamed_tasks}
 use Rattle.aom_image.specs.declared.method.Thing.{Thing}
 use Rattle.std.specs.Prelude.{length, slice_get}
@@ -38,12 +40,15 @@ module _ (p : Image) (c : Choice) (answer : ℤ) where
   abbrev other : Choice
   other = record c { answer = answer }
 
-  instr_unheard : (fr : Frame) (ts : List Task) (s : State) (i : Option Instr) → hears (home_kind p fr.home) i ≡ false → step_instr p other fr ts s i ≡ step_instr p c fr ts s i
-  instr_unheard fr ts s (Some (Connect a)) h = rw h
-  instr_unheard fr ts s (Some (Ask a b x)) h = rw h
-  instr_unheard fr ts s (Some (Issue a b)) h =
-      ap (λ r. guarded (needs p c fr ts s (Issue a b)) (applied p fr ts s (updates fr (Requested r)))) (unheard_on (home_kind p fr.home) s.rest.clock (next_timer s.cells) _ _ (read fr ts s a) (own_request s.cells fr.home) h)
-  instr_unheard fr ts s _ h = refl
+  instr_unheard : (fr : Frame) (ts : List Task) (s : State) (i : Option Instr) → hears (home_kind p fr.home) (exchange_at i) ≡ false → step_instr p other fr ts s i ≡ step_instr p c fr ts s i
+  instr_unheard fr ts s None h = refl
+  instr_unheard fr ts s (Some i) h =
+      by_exchange (λ i x. hears (home_kind p fr.home) x ≡ false → step_instr p other fr ts s (Some i) ≡ step_instr p c fr ts s (Some i)) (λ a h. rw h)
+      (λ a b h. ap (λ r. guarded _ (applied p fr ts s (updates fr (Requested r)))) (unheard_on (home_kind p fr.home) s.rest.clock (next_timer s.cells) _ _ (read fr ts s a) (own_request s.cells fr.home) h))
+      (λ a b x h. rw h) (λ h. refl) (λ h. refl) unasked i h
+    where
+      unasked : (i : Instr) → exchange i ≡ Nothing → hears (home_kind p fr.home) Nothing ≡ false → step_instr p other fr ts s (Some i) ≡ step_instr p c fr ts s (Some i)
+      unasked i none h = grind arith
 
   task_unheard : (s : State) (ts : List Task) → is_heard p ts ≡ false → step_task p other s ts ≡ step_task p c s ts
   task_unheard s (Run fr ∷ ts) h = instr_unheard fr ts s (instr_at p fr.method fr.place) h
@@ -54,7 +59,7 @@ module _ (p : Image) (c : Choice) (answer : ℤ) where
 
 -- a native is heard under other names too
 pub heard_kept : (p : Image) (names : ℕ → ℕ) (ts : List Task) → is_heard p (renamed_tasks names ts) ≡ is_heard p ts
-heard_kept p names (Run fr ∷ ts) = ap (λ k. hears k (instr_at p fr.method fr.place)) (kind_kept names p fr.home)
+heard_kept p names (Run fr ∷ ts) = ap (λ k. hears k (exchange_at (instr_at p fr.method fr.place))) (kind_kept names p fr.home)
 heard_kept p names [] = refl
 heard_kept p names _ = refl
 
@@ -68,15 +73,9 @@ module _ (p : Image) (natives : HasNoNative p) where
   home_unserved AtRoot = refl
   home_unserved (Inside o from) = thing_unserved o.thing
 
-  none_hears : (k : Option ClassKind) (i : Option Instr) → is_native_kind k ≡ false → hears k i ≡ false
-  none_hears k (Some (Connect a)) h = h
-  none_hears k (Some (Ask a b x)) h = h
-  none_hears k (Some (Issue a b)) h = h
-  none_hears k _ h = refl
-
   -- where there is no native none is heard
   pub none_heard : (ts : List Task) → is_heard p ts ≡ false
-  none_heard (Run fr ∷ ts) = none_hears (home_kind p fr.home) (instr_at p fr.method fr.place) (home_unserved fr.home)
+  none_heard (Run fr ∷ ts) = and_right (is_answered (exchange_at (instr_at p fr.method fr.place))) _ (home_unserved fr.home)
   none_heard _ = refl
 
 -- a class of an image without natives has none

@@ -1,26 +1,30 @@
 -- What is heard of natives: where one answers, where one is polled, and what a run hears.
-use Rattle.std.specs.Prelude.{ℕ, suc, ℤ, Bool, true, false, ◌≡◌, List, ◌∷◌, Option, Some}
+use Rattle.std.specs.Prelude.{ℕ, suc, ℤ, Bool, true, false, ◌&&◌, ◌≡◌, List, ◌∷◌, Option, Some}
 use Rattle.aom_image.specs.Image.{Image}
 use Rattle.aom_image.specs.Views.{instr_at}
 use Rattle.aom_image.specs.declared.class.ClassKind.{ClassKind}
 use Rattle.aom_instructions.specs.declared.instr.Instr.{Instr}
-use Rattle.aom_instructions.specs.declared.instr.Instr.TheVariants.{Ask, Connect, Issue}
 use Rattle.aom_roles.specs.Shapes.{kind_of}
 use Rattle.aom_rules.specs.Natives.{is_native_kind}
 use Rattle.aom_sound.specs.Enlisted.{home_kind}
 use Rattle.aom_sound.specs.State.{Run, State, Task}
+use Rattle.aom_sound.specs.Wanted.{Exchange, An_open, A_start, An_ask, exchange_at}
 use Rattle.aom_sound.specs.World.{begins, moves, nothing_heard, turns, Completion, Outside, Polls, Reaches, Turning, turning}
 use Rattle.aom_transcript.specs.declared.line.Line.{Line}
 
+-- what a native answers to a call counts: whether a session is open, a request begun, or the answer itself
+abbrev pub is_answered : Exchange → Bool
+is_answered An_open = true
+is_answered (A_start a b) = true
+is_answered (An_ask a b) = true
+is_answered _ = false
+
 -- a method of an object of that kind of class hears what a native answers
-abbrev pub hears : Option ClassKind → Option Instr → Bool
-hears k (Some (Connect a)) = is_native_kind k
-hears k (Some (Ask a b x)) = is_native_kind k
-hears k (Some (Issue a b)) = is_native_kind k
-hears k _ = false
+abbrev pub hears : Option ClassKind → Exchange → Bool
+hears k x = is_answered x && is_native_kind k
 
 abbrev pub is_heard : Image → List Task → Bool
-is_heard p (Run fr ∷ ts) = hears (home_kind p fr.home) (instr_at p fr.method fr.place)
+is_heard p (Run fr ∷ ts) = hears (home_kind p fr.home) (exchange_at (instr_at p fr.method fr.place))
 is_heard p _ = false
 
 -- a native is polled, whatever it completes

@@ -15,12 +15,8 @@ waits cs n c = list_any (is_connect_of c) (service_of cs n).queue
 -- the dispatch that stands below all else
 abbrev pub dispatch_of : List Task → Option Dispatch
 dispatch_of [] = None
-dispatch_of (Run fr ∷ ts) = dispatch_of ts
-dispatch_of (Trapped ∷ ts) = dispatch_of ts
-dispatch_of (Destroy ∷ ts) = dispatch_of ts
-dispatch_of (Closing ∷ ts) = dispatch_of ts
-dispatch_of (Unwind code ∷ ts) = dispatch_of ts
 dispatch_of (Dispatched d ∷ ts) = Some d
+dispatch_of (_ ∷ ts) = dispatch_of ts
 
 -- the server accepts the client, or its `accept` was left
 abbrev pub accepts : (server client : ℕ) → Option Dispatch → Bool

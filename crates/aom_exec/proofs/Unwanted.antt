@@ -17,7 +17,7 @@ use Rattle.aom_sound.specs.Enlisted.{thing_kind}
 use Rattle.aom_sound.specs.Natives.{native_of}
 use Rattle.aom_sound.specs.Places.{Going, Object, held}
 use Rattle.aom_sound.specs.State.{AtRoot, Closing, Destroy, Dispatched, Frame, Home, Inside, Run, State, Static, Task, Trapped, Unwind}
-use Rattle.aom_sound.specs.Wanted.{wanted, wanted_at, wanted_by, wanted_going, wanted_gone, wanted_task}
+use Rattle.aom_sound.specs.Wanted.{Exchange, exchange_at, wanted, wanted_at, wanted_by, wanted_going, wanted_gone, wanted_task}
 
 module _ (p : Image) (none_named : p.header.natives ≡ 0) (formed : WellFormed p) where
   kind_no_native : (k : ClassKind) → KindFits (length p.classes) p.header.natives k → native_of (Some k) ≡ None
@@ -40,10 +40,10 @@ module _ (p : Image) (none_named : p.header.natives ≡ 0) (formed : WellFormed 
   thing_no_native Message = class_no_native None
 
   module _ (s : State) where
-    none_at_home : (fr : Frame) (ts : List Task) (home : Home) (i : Option Instr) → wanted_by s p fr ts home i ≡ None
-    none_at_home fr ts Static i = refl
-    none_at_home fr ts AtRoot i = refl
-    none_at_home fr ts (Inside o from) i = ap (λ n. wanted_at s fr ts o n i) (thing_no_native o.thing)
+    none_at_home : (fr : Frame) (ts : List Task) (home : Home) (x : Exchange) → wanted_by s p fr ts home x ≡ None
+    none_at_home fr ts Static x = refl
+    none_at_home fr ts AtRoot x = refl
+    none_at_home fr ts (Inside o from) x = ap (λ n. wanted_at s fr ts o n x) (thing_no_native o.thing)
 
     none_gone : (o : Option Object) → wanted_gone s p o ≡ None
     none_gone None = refl
@@ -51,7 +51,7 @@ module _ (p : Image) (none_named : p.header.natives ≡ 0) (formed : WellFormed 
 
     none_of_task : (ts : List Task) → wanted_task s p ts ≡ None
     none_of_task [] = refl
-    none_of_task (Run fr ∷ ts) = none_at_home fr ts fr.home (instr_at p fr.method fr.place)
+    none_of_task (Run fr ∷ ts) = none_at_home fr ts fr.home (exchange_at (instr_at p fr.method fr.place))
     none_of_task (Trapped ∷ ts) = refl
     none_of_task (Destroy ∷ ts) = none_gone (held s.cells (Going (length ts)))
     none_of_task (Closing ∷ ts) = refl

@@ -5,7 +5,6 @@ use Rattle.std.specs.List.{list_any}
 use Rattle.aom_image.specs.Image.{Image}
 use Rattle.aom_image.specs.Views.{instr_at}
 use Rattle.aom_instructions.specs.declared.instr.Instr.{Instr}
-use Rattle.aom_instructions.specs.declared.instr.Instr.TheVariants.{Abort, Ask, Close, Connect, Issue}
 use Rattle.aom_cells.specs.Heap.{cell_at, class_at, null, Lives}
 use Rattle.aom_shape.specs.Kinds.{is_object}
 use Rattle.aom_image.specs.Views.{class_at as declared_at}
@@ -18,7 +17,8 @@ use Rattle.aom_sound.specs.Natives.{is_dead, is_owed, native_of}
 use Rattle.aom_sound.specs.Moves.{needs}
 use Rattle.aom_sound.specs.Places.{Going, Object, held as owned_at, in_session, named, requested}
 use Rattle.aom_sound.specs.State.{AtRoot, Choice, Destroy, Home, Inside, State, Static, Task, word}
-use Rattle.aom_sound.specs.Wanted.{Asks, Cancels, Closes, Opens, Starts, is_served, wanted, wanted_at, wanted_by, wanted_going, wanted_gone, wanted_here, wanted_task}
+use Rattle.aom_sound.proofs.Exchanging.{HasWords, has_words}
+use Rattle.aom_sound.specs.Wanted.{Exchange, Nothing, An_open, A_start, An_ask, A_cancel, A_close, exchange, exchange_at, Wanted, Asks, Cancels, Closes, Opens, Starts, is_served, wanted, wanted_at, wanted_by, wanted_going, wanted_gone, wanted_here, wanted_task}
 use Rattle.aom_sound.specs.WellTyped.{Keeps}
 use Rattle.aom_shape.specs.Needs.{AllTrue}
 use Rattle.aom_sound.specs.Words.{read}
@@ -32,7 +32,7 @@ use Rattle.aom_parts.specs.Places.{IsDestroying, going_here}
 use Rattle.aom_parts.specs.Agrees.{home_number, thing_in}
 use Rattle.aom_parts.specs.Fields.{this}
 use Rattle.aom_parts.specs.Stands.{StandsFor}
-use Rattle.aom_exec.specs.Wanted.{as_wanted, wanted_of, word_here}
+use Rattle.aom_exec.specs.Wanted.{as_wanted, wanted_call, wanted_of, word_here}
 use Rattle.aom_acts.proofs.FieldActs.{housed, inside_number, inside_object, inside_there, this_is}
 use Rattle.aom_acts.proofs.RequestActs.{kind_same}
 use Rattle.aom_acts.proofs.Finding.{object_lives}
@@ -56,14 +56,18 @@ module _ (p : Image) (m : Parts) (s : State) (st : StandsFor (record { image = p
       let f = frame_of m.stack.tasks s.tasks runs st.agrees.tasks in
       record { typing = st.typing; state = s; frame = f.0; below = f.1; top = f.2; formed = st.sound.formed; wired = st.sound.wired; typed = st.typed; kept = st.kept; agrees = st.agrees }
 
-  by_home : wanted p s ≡ wanted_by s p h.frame h.below h.frame.home (instr_at p h.frame.method h.frame.place)
+  -- what the method that runs asks
+  abbrev call : Exchange
+  call = exchange_at (instr_at p h.frame.method h.frame.place)
+
+  by_home : wanted p s ≡ wanted_by s p h.frame h.below h.frame.home call
   by_home = ap (wanted_task s p) h.top
 
   -- what works on no cell wants nothing
   pub null_wants : this m ≡ null → wanted p s ≡ None
   null_wants none = by_home ∙ go h.frame.home refl
     where
-      go : (home : Home) → h.frame.home ≡ home → wanted_by s p h.frame h.below home (instr_at p h.frame.method h.frame.place) ≡ None
+      go : (home : Home) → h.frame.home ≡ home → wanted_by s p h.frame h.below home call ≡ None
       go Static e = refl
       go AtRoot e = refl
       go (Inside o from) e = absurd (inside_there p m h o from e none)
@@ -74,11 +78,10 @@ module _ (p : Image) (m : Parts) (s : State) (st : StandsFor (record { image = p
   pub unserved_wants : native_of (kind_of p (class_at m.cells (this m))) ≡ None → wanted p s ≡ None
   unserved_wants none = by_home ∙ go h.frame.home refl
     where
-      go : (home : Home) → h.frame.home ≡ home → wanted_by s p h.frame h.below home (instr_at p h.frame.method h.frame.place) ≡ None
+      go : (home : Home) → h.frame.home ≡ home → wanted_by s p h.frame h.below home call ≡ None
       go Static e = refl
       go AtRoot e = refl
-      go (Inside o from) e =
-          ap (λ n. wanted_at s h.frame h.below o n (instr_at p h.frame.method h.frame.place)) (kind_told o (inside_number p m h o from e) (housed p m h o from e) (inside_object p m h o from e) ∙ none)
+      go (Inside o from) e = ap (λ n. wanted_at s h.frame h.below o n call) (kind_told o (inside_number p m h o from e) (housed p m h o from e) (inside_object p m h o from e) ∙ none)
 
   -- the instruction that is next, and its needs
   module _ (i : Instr) (here : instr_at p (method_here m.stack.tasks) (place_here m.stack.tasks) ≡ Some i) where
@@ -87,11 +90,12 @@ module _ (p : Image) (m : Parts) (s : State) (st : StandsFor (record { image = p
         let f = frame_of m.stack.tasks s.tasks runs st.agrees.tasks in
         ap (λ k. instr_at p k f.0.place) (sym f.3) ∙ ap (λ k. instr_at p (method_here m.stack.tasks) k) (sym f.4) ∙ here
 
-    needed : (c : Choice) × AllTrue (needs p c h.frame h.below (acts.requested i (at_step s)) i)
-    needed =
+    -- the words of its call are there
+    worded : HasWords h.frame (exchange i)
+    worded =
         let c = an_open p [] m s st.agrees in
         let k = met p st.typing _ _ (subst (Keeps p st.typing) (step_of_instr p c.0 s h.frame h.below i h.top found) (st.sound.keeps c.0 s st.typed c.1.name)) in
-        (c.0, k.0)
+        has_words p c.0 h.frame h.below (acts.requested i (at_step s)) i k.0
 
   -- what the native of the cell is asked
   module _ (n : ℕ) (owed : Bool) (owes : owed ≡ is_owed (requested s.cells (this m))) where
@@ -110,36 +114,40 @@ module _ (p : Image) (m : Parts) (s : State) (st : StandsFor (record { image = p
     word_told : (b : ℕ) → is_some (word h.frame b) ≡ true → read h.frame h.below s b ≡ word_here m b
     word_told b some = sym (word_read p m h b some)
 
-    wanted_so : (i : Instr) → instr_at p (method_here m.stack.tasks) (place_here m.stack.tasks) ≡ Some i → wanted_here s h.frame h.below n id i ≡ option_map as_wanted (wanted_of m owed n id i)
-    wanted_so (Connect a) here =
+    abbrev is_there : Bool
+    is_there = not (is_killed m.sessions n) && is_open m.sessions id
+
+    -- a call with two words, at a session that is open
+    worded_so :
+        (w : (function word : ℤ) → Wanted) (v : (function word : ℤ) → Held_wanted) → ((f x : ℤ) → as_wanted (v f x) ≡ w f x) → (a b : ℕ) → is_some (word h.frame a) ≡ true → is_some (word h.frame b) ≡ true →
+        cond (is_served s n id) (Some (w (read h.frame h.below s a) (read h.frame h.below s b))) None ≡ option_map as_wanted (cond is_there (Some (v (word_here m a) (word_here m b))) None)
+    worded_so w v same a b some_a some_b =
+        ap (λ y. cond y (Some (w (read h.frame h.below s a) (read h.frame h.below s b))) None) served
+        ∙ ap (λ x. cond is_there (Some (w x (read h.frame h.below s b))) None) (word_told a some_a)
+        ∙ ap (λ x. cond is_there (Some (w (word_here m a) x)) None) (word_told b some_b)
+        ∙ ap (λ x. cond is_there (Some x) None) (sym (same (word_here m a) (word_here m b)))
+        ∙ mapped is_there (v (word_here m a) (word_here m b))
+
+    call_so : (x : Exchange) → HasWords h.frame x → wanted_here s h.frame h.below n id x ≡ option_map as_wanted (wanted_call m owed n id x)
+    call_so Nothing words = refl
+    call_so An_open words =
         ap (λ b. cond b (Some (Opens n id)) None) (ap (λ d. not (d || in_session s.cells id)) dead ∙ ap (λ b. not (is_killed m.sessions n || b)) session ∙ sym (both_not (is_killed m.sessions n) (is_open m.sessions id)))
         ∙ mapped (not (is_killed m.sessions n) && not (is_open m.sessions id)) (Open n id)
-    wanted_so (Issue a b) here =
-        let k = needed (Issue a b) here in
-        ap (λ x. cond x (Some (Starts n id (read h.frame h.below s a) (read h.frame h.below s b))) None) served
-        ∙ ap (λ v. cond (not (is_killed m.sessions n) && is_open m.sessions id) (Some (Starts n id v (read h.frame h.below s b))) None) (word_told a k.1.0)
-        ∙ ap (λ v. cond (not (is_killed m.sessions n) && is_open m.sessions id) (Some (Starts n id (word_here m a) v)) None) (word_told b k.1.1.0)
-        ∙ mapped (not (is_killed m.sessions n) && is_open m.sessions id) (Start n id (word_here m a) (word_here m b))
-    wanted_so (Ask a b x) here =
-        let k = needed (Ask a b x) here in
-        ap (λ y. cond y (Some (Asks n id (read h.frame h.below s b) (read h.frame h.below s x))) None) served
-        ∙ ap (λ v. cond (not (is_killed m.sessions n) && is_open m.sessions id) (Some (Asks n id v (read h.frame h.below s x))) None) (word_told b k.1.0)
-        ∙ ap (λ v. cond (not (is_killed m.sessions n) && is_open m.sessions id) (Some (Asks n id (word_here m b) v)) None) (word_told x k.1.1.0)
-        ∙ mapped (not (is_killed m.sessions n) && is_open m.sessions id) (Held_ask n id (word_here m b) (word_here m x))
-    wanted_so Abort here = ap (λ b. cond b (Some (Cancels n id)) None) (sym owes) ∙ mapped owed (Cancel n id)
-    wanted_so Close here = ap (λ b. cond b (Some (Closes n id)) None) session ∙ mapped (is_open m.sessions id) (Held_close n id)
-    wanted_so i here = refl
+    call_so (A_start a b) words = worded_so (Starts n id) (Start n id) (λ f x. refl) a b words.0 words.1
+    call_so (An_ask a b) words = worded_so (Asks n id) (Held_ask n id) (λ f x. refl) a b words.0 words.1
+    call_so A_cancel words = ap (λ b. cond b (Some (Cancels n id)) None) (sym owes) ∙ mapped owed (Cancel n id)
+    call_so A_close words = ap (λ b. cond b (Some (Closes n id)) None) session ∙ mapped (is_open m.sessions id) (Held_close n id)
 
     pub served_wants : (id ≡ null → ⊥) → native_of (kind_of p (class_at m.cells id)) ≡ Some n → (i : Instr) → instr_at p (method_here m.stack.tasks) (place_here m.stack.tasks) ≡ Some i → wanted p s ≡ option_map as_wanted (wanted_of m owed n id i)
-    served_wants some serves i here = by_home ∙ ap (wanted_by s p h.frame h.below h.frame.home) (found i here) ∙ go h.frame.home refl
+    served_wants some serves i here = by_home ∙ ap (λ o. wanted_by s p h.frame h.below h.frame.home (exchange_at o)) (found i here) ∙ go h.frame.home refl
       where
-        go : (home : Home) → h.frame.home ≡ home → wanted_by s p h.frame h.below home (Some i) ≡ option_map as_wanted (wanted_of m owed n id i)
+        go : (home : Home) → h.frame.home ≡ home → wanted_by s p h.frame h.below home (exchange i) ≡ option_map as_wanted (wanted_of m owed n id i)
         go Static e = absurd (some (this_is p m h ∙ ap home_number e))
         go AtRoot e = absurd (some (this_is p m h ∙ ap home_number e))
         go (Inside o from) e =
             let number = inside_number p m h o from e in
-            ap (λ k. wanted_at s h.frame h.below o k (Some i)) (kind_told o number (housed p m h o from e) (inside_object p m h o from e) ∙ serves)
-            ∙ ap (λ name. wanted_here s h.frame h.below n name i) (sym number) ∙ wanted_so i here
+            ap (λ k. wanted_at s h.frame h.below o k (exchange i)) (kind_told o number (housed p m h o from e) (inside_object p m h o from e) ∙ serves)
+            ∙ ap (λ name. wanted_here s h.frame h.below n name (exchange i)) (sym number) ∙ call_so (exchange i) (worded i here)
 
 -- ---- the going of a cell
 

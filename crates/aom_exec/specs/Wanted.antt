@@ -2,10 +2,9 @@
 use Rattle.std.specs.Prelude.{ℕ, ℤ, Bool, ◌&&◌, not, cond, Option, Some, None}
 use Rattle.std.specs.Int.{w32, cast_signed}
 use Rattle.aom_instructions.specs.declared.instr.Instr.{Instr}
-use Rattle.aom_instructions.specs.declared.instr.Instr.TheVariants.{Abort as Aborts, Ask as Asks_native, Close as Closes_session, Connect as Connects, Issue as Issues}
 use Rattle.aom_frames.specs.Tasks.{register_here}
 use Rattle.aom_sessions.specs.Sessions.{is_killed, is_open}
-use Rattle.aom_sound.specs.Wanted.{Wanted, Opens, Starts, Asks, Cancels, Closes}
+use Rattle.aom_sound.specs.Wanted.{Exchange, Nothing, An_open, A_start, An_ask, A_cancel, A_close, exchange, Wanted, Opens, Starts, Asks, Cancels, Closes}
 use Rattle.aom_parts.specs.declared.parts.Parts.{Parts}
 use Rattle.aom_exec.specs.declared.wanted.Wanted.{Wanted as Held_wanted}
 use Rattle.aom_exec.specs.declared.wanted.Wanted.TheVariants.{Open, Start, Ask, Cancel, Close}
@@ -22,14 +21,18 @@ as_wanted (Close native id) = Closes native id
 abbrev pub word_here : Parts → ℕ → ℤ
 word_here m a = cast_signed w32 (register_here m.stack.tasks a)
 
--- of an instruction of a method that works on the cell of that number, which that native serves
+-- of a call that a method makes, which works on the cell of that number, at the native that serves it
+abbrev pub wanted_call : Parts → (owed : Bool) → (native id : ℕ) → Exchange → Option Held_wanted
+wanted_call m owed n id Nothing = None
+wanted_call m owed n id An_open = cond (not (is_killed m.sessions n) && not (is_open m.sessions id)) (Some (Open n id)) None
+wanted_call m owed n id (A_start a b) = cond (not (is_killed m.sessions n) && is_open m.sessions id) (Some (Start n id (word_here m a) (word_here m b))) None
+wanted_call m owed n id (An_ask a b) = cond (not (is_killed m.sessions n) && is_open m.sessions id) (Some (Ask n id (word_here m a) (word_here m b))) None
+wanted_call m owed n id A_cancel = cond owed (Some (Cancel n id)) None
+wanted_call m owed n id A_close = cond (is_open m.sessions id) (Some (Close n id)) None
+
+-- of its instruction
 abbrev pub wanted_of : Parts → (owed : Bool) → (native id : ℕ) → Instr → Option Held_wanted
-wanted_of m owed n id (Connects a) = cond (not (is_killed m.sessions n) && not (is_open m.sessions id)) (Some (Open n id)) None
-wanted_of m owed n id (Issues a b) = cond (not (is_killed m.sessions n) && is_open m.sessions id) (Some (Start n id (word_here m a) (word_here m b))) None
-wanted_of m owed n id (Asks_native a b x) = cond (not (is_killed m.sessions n) && is_open m.sessions id) (Some (Ask n id (word_here m b) (word_here m x))) None
-wanted_of m owed n id Aborts = cond owed (Some (Cancel n id)) None
-wanted_of m owed n id Closes_session = cond (is_open m.sessions id) (Some (Close n id)) None
-wanted_of m owed n id i = None
+wanted_of m owed n id i = wanted_call m owed n id (exchange i)
 
 -- of a cell that goes
 abbrev pub closes_open : Parts → (native id : ℕ) → Option Held_wanted

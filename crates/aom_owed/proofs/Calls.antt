@@ -5,8 +5,6 @@ use Rattle.std.specs.Ordering.{int_eq}
 use Rattle.std.specs.Prelude.{not, ◌||◌}
 use Rattle.aom_image.specs.Image.{Image}
 use Rattle.aom_image.specs.Views.{method_role}
-use Rattle.aom_instructions.specs.declared.instr.Instr.{Instr}
-use Rattle.aom_instructions.specs.declared.instr.Instr.TheVariants.{Abort, Ask, Close, Connect, Issue}
 use Rattle.aom_owed.proofs.Cells.{Unchanged, meets_asked, meets_opened, owes_asked, owes_opened, served_none, served_so, unchanged_asked, unchanged_itself, unchanged_opened}
 use Rattle.aom_owed.proofs.Requests.{aborted_owed, cancelled_owed, completed_owed, idle_owed, issued_owed, started_owed}
 use Rattle.aom_owed.specs.Owed.{Finds, FindsWell, SessionsHold, is_for, meets, meets_after, owes, owes_after, serves, serves_object, takes_on}
@@ -15,7 +13,7 @@ use Rattle.aom_sound.specs.Enlisted.{Asking, aborted, cancelled, ended_cells, ho
 use Rattle.aom_sound.specs.Natives.{has_died, is_dead, is_owed, native_of, opens, own_session, resessioned, started}
 use Rattle.aom_sound.specs.Places.{Cell, Object, Request, in_session, named, requested, set_request, set_session}
 use Rattle.aom_sound.specs.State.{AtRoot, Frame, Home, Inside, State, Static, Task}
-use Rattle.aom_sound.specs.Wanted.{Asks, Cancels, Closes, Opens, Starts, Wanted, wanted_at, wanted_by, wanted_here, wanted_if}
+use Rattle.aom_sound.specs.Wanted.{An_open, A_start, An_ask, A_cancel, A_close, Asks, Cancels, Closes, Opens, Starts, Wanted, wanted_at, wanted_by, wanted_if}
 use Rattle.aom_sound.specs.Words.{read}
 
 -- the cells after a call with that answer
@@ -287,67 +285,57 @@ module _ (p : Image) (answer : ℤ) (s : State) (fr : Frame) (ts : List Task) wh
           asked_same p answer s fr.home _
           (cancelled_owed (own_request s.cells fr.home) ∙ sym (completed_owed (own_request s.cells fr.home) (not-true (int_eq (status_of (own_request s.cells fr.home)) pending) e)))
 
-  -- an instruction that makes no call at any cell makes none
-  pub unasked : (i : Instr) → ((n name : ℕ) → wanted_here s fr ts n name i ≡ None) → (h : Home) → wanted_by s p fr ts h (Some i) ≡ None
-  unasked i none Static = refl
-  unasked i none AtRoot = refl
-  unasked i none (Inside o from) = go (native_of (thing_kind p o.thing))
-    where
-      go : (x : Option ℕ) → wanted_at s fr ts o x (Some i) ≡ None
-      go None = refl
-      go (Some n) = none n o.name
-
   module _ (holds : SessionsHold p s) where
     pub connect_told :
-        (a : ℕ) (h : Home) → IsAlive s.cells h →
-        Told p answer s (wanted_by s p fr ts h (Some (Connect a))) (resessioned s.cells h (opens (has_died s.killed (native_of (home_kind p h))) (own_session s.cells h) answer))
-    connect_told a Static alive = told_none p answer s _ (unchanged_itself p s.cells)
-    connect_told a AtRoot alive = told_none p answer s _ (unchanged_itself p s.cells)
-    connect_told a (Inside o from) alive = go (native_of (thing_kind p o.thing)) refl
+        (h : Home) → IsAlive s.cells h →
+        Told p answer s (wanted_by s p fr ts h An_open) (resessioned s.cells h (opens (has_died s.killed (native_of (home_kind p h))) (own_session s.cells h) answer))
+    connect_told Static alive = told_none p answer s _ (unchanged_itself p s.cells)
+    connect_told AtRoot alive = told_none p answer s _ (unchanged_itself p s.cells)
+    connect_told (Inside o from) alive = go (native_of (thing_kind p o.thing)) refl
       where
         go :
             (x : Option ℕ) → native_of (thing_kind p o.thing) ≡ x →
-            Told p answer s (wanted_at s fr ts o x (Some (Connect a))) (set_session o.name (opens (has_died s.killed x) (in_session s.cells o.name) answer) s.cells)
+            Told p answer s (wanted_at s fr ts o x An_open) (set_session o.name (opens (has_died s.killed x) (in_session s.cells o.name) answer) s.cells)
         go None e = opened_elsewhere p answer s o alive e _
         go (Some n) e = connects p answer s holds o alive n e (is_dead s.killed n) (in_session s.cells o.name) refl refl
 
     pub issue_told :
         (clock order a b : ℕ) (h : Home) → IsAlive s.cells h → in_phase is_idle (own_request s.cells h) ≡ true →
-        Told p answer s (wanted_by s p fr ts h (Some (Issue a b)))
+        Told p answer s (wanted_by s p fr ts h (A_start a b))
         (rerequested s.cells h (on_request (issued_of (home_kind p h) (asking p answer s clock order (has_died s.killed (native_of (home_kind p h))) (own_session s.cells h)) (read fr ts s a)) (own_request s.cells h)))
     issue_told clock order a b Static alive idle = told_none p answer s _ (unchanged_itself p s.cells)
     issue_told clock order a b AtRoot alive idle = told_none p answer s _ (unchanged_itself p s.cells)
     issue_told clock order a b (Inside o from) alive idle = go (native_of (thing_kind p o.thing)) refl
       where
         go : (x : Option ℕ) → native_of (thing_kind p o.thing) ≡ x →
-            Told p answer s (wanted_at s fr ts o x (Some (Issue a b)))
+            Told p answer s (wanted_at s fr ts o x (A_start a b))
             (set_request o.name (on_request (issued_of (thing_kind p o.thing) (asking p answer s clock order (has_died s.killed x) (in_session s.cells o.name)) (read fr ts s a)) (requested s.cells o.name)) s.cells)
         go None e = asked_elsewhere p answer s o alive e _
         go (Some n) e = issues p answer s holds o alive n e clock order (read fr ts s a) _ _ idle (is_dead s.killed n) (in_session s.cells o.name) refl refl
 
-    pub ask_told : (a b x : ℕ) (h : Home) → IsAlive s.cells h → Told p answer s (wanted_by s p fr ts h (Some (Ask a b x))) s.cells
-    ask_told a b x Static alive = told_none p answer s _ (unchanged_itself p s.cells)
-    ask_told a b x AtRoot alive = told_none p answer s _ (unchanged_itself p s.cells)
-    ask_told a b x (Inside o from) alive = go (native_of (thing_kind p o.thing)) refl
+    pub ask_told : (b x : ℕ) (h : Home) → IsAlive s.cells h → Told p answer s (wanted_by s p fr ts h (An_ask b x)) s.cells
+    ask_told b x Static alive = told_none p answer s _ (unchanged_itself p s.cells)
+    ask_told b x AtRoot alive = told_none p answer s _ (unchanged_itself p s.cells)
+    ask_told b x (Inside o from) alive = go (native_of (thing_kind p o.thing)) refl
       where
-        go : (y : Option ℕ) → native_of (thing_kind p o.thing) ≡ y → Told p answer s (wanted_at s fr ts o y (Some (Ask a b x))) s.cells
+        go : (y : Option ℕ) → native_of (thing_kind p o.thing) ≡ y → Told p answer s (wanted_at s fr ts o y (An_ask b x)) s.cells
         go None e = told_none p answer s _ (unchanged_itself p s.cells)
         go (Some n) e = asks p answer s holds o alive n e (is_dead s.killed n) (in_session s.cells o.name) _ _ refl refl
 
-    pub abort_told : (h : Home) → IsAlive s.cells h → Told p answer s (wanted_by s p fr ts h (Some Abort)) (rerequested s.cells h (on_request aborted (own_request s.cells h)))
+    pub abort_told : (h : Home) → IsAlive s.cells h → Told p answer s (wanted_by s p fr ts h A_cancel) (rerequested s.cells h (on_request aborted (own_request s.cells h)))
     abort_told Static alive = told_none p answer s _ (unchanged_itself p s.cells)
     abort_told AtRoot alive = told_none p answer s _ (unchanged_itself p s.cells)
     abort_told (Inside o from) alive = go (native_of (thing_kind p o.thing)) refl
       where
-        go : (x : Option ℕ) → native_of (thing_kind p o.thing) ≡ x → Told p answer s (wanted_at s fr ts o x (Some Abort)) (set_request o.name (on_request aborted (requested s.cells o.name)) s.cells)
+        go : (x : Option ℕ) → native_of (thing_kind p o.thing) ≡ x → Told p answer s (wanted_at s fr ts o x A_cancel) (set_request o.name (on_request aborted (requested s.cells o.name)) s.cells)
         go None e = asked_elsewhere p answer s o alive e _
         go (Some n) e = aborts p answer s holds o alive n e (is_owed (requested s.cells o.name)) refl
 
-    pub close_told : (h : Home) → IsAlive s.cells h → is_owed (own_request s.cells h) ≡ false → Told p answer s (wanted_by s p fr ts h (Some Close)) (resessioned s.cells h false)
+    pub close_told : (h : Home) → IsAlive s.cells h → is_owed (own_request s.cells h) ≡ false → Told p answer s (wanted_by s p fr ts h A_close) (resessioned s.cells h false)
     close_told Static alive unowed = told_none p answer s _ (unchanged_itself p s.cells)
     close_told AtRoot alive unowed = told_none p answer s _ (unchanged_itself p s.cells)
     close_told (Inside o from) alive unowed = go (native_of (thing_kind p o.thing)) refl
       where
-        go : (x : Option ℕ) → native_of (thing_kind p o.thing) ≡ x → Told p answer s (wanted_at s fr ts o x (Some Close)) (set_session o.name false s.cells)
+        go : (x : Option ℕ) → native_of (thing_kind p o.thing) ≡ x → Told p answer s (wanted_at s fr ts o x A_close) (set_session o.name false s.cells)
         go None e = opened_elsewhere p answer s o alive e false
         go (Some n) e = closes p answer s holds o alive n e unowed (in_session s.cells o.name) refl

@@ -7,8 +7,8 @@ use Rattle.aom_image.specs.Image.{Image}
 use Rattle.aom_image.specs.Views.{gives_of, instr_at}
 use Rattle.aom_image.specs.declared.method.Role.TheVariants.{Error}
 use Rattle.aom_instructions.specs.declared.instr.Instr.{Instr}
-use Rattle.aom_instructions.specs.declared.instr.Instr.TheVariants.{Abort, Ask, Cancel, Close, Connect, Enlist, Issue, Reply, Return, SetActive}
-use Rattle.aom_owed.proofs.Calls.{IsAlive, Told, abort_told, alive_in, at_it, found, ask_told, asked_same, close_told, connect_told, ended_same, issue_told, sessions_after, sessions_along, taken_off, told_along, told_before, told_none, unasked}
+use Rattle.aom_instructions.specs.declared.instr.Instr.TheVariants.{Cancel, Enlist, Reply, Return, SetActive}
+use Rattle.aom_owed.proofs.Calls.{IsAlive, Told, abort_told, alive_in, at_it, found, ask_told, asked_same, close_told, connect_told, ended_same, issue_told, sessions_after, sessions_along, taken_off, told_along, told_before, told_none}
 use Rattle.aom_owed.proofs.Cells.{Unchanged, meets_gone, owes_gone, served_none, unchanged_along, unchanged_itself, unchanged_moved}
 use Rattle.aom_owed.proofs.Effects.{IsAside, applied_killed, applied_unchanged, returned_unchanged}
 use Rattle.aom_owed.proofs.Requests.{cancelling_owed, none_owed, rests_owed, waits_owed}
@@ -16,6 +16,7 @@ use Rattle.aom_owed.specs.Laws.{FollowsCall, MovesFollowCalls}
 use Rattle.aom_owed.specs.Owed.{SessionsHold, meets, owes, serves, serves_object}
 use Rattle.aom_rules.specs.Typing.{Typing}
 use Rattle.aom_shape.specs.Needs.{AllTrue}
+use Rattle.aom_sound.proofs.Exchanging.{by_exchange, none_wanted}
 use Rattle.aom_sound.proofs.Finishing.{all_parts}
 use Rattle.aom_sound.proofs.Guarded.{guarded_goes, guarded_met}
 use Rattle.aom_sound.proofs.Layers.{dispatch_layer, method_layer}
@@ -31,7 +32,7 @@ use Rattle.aom_sound.specs.Natives.{is_owed, native_of}
 use Rattle.aom_sound.specs.Places.{service_of, seen, In_service, Tidy, Cell, Elsewhere, Entry, Going, Object, Root, held, in_session, named, requested, without}
 use Rattle.aom_sound.specs.State.{Parts, Service_left, Of_server, Closing, Stage, Seat, An_object, An_operation, Answered, Asks, AtRoot, Choice, Destroy, Dispatch, Dispatched, Frame, Goes, Home, Inside, Item, Main_left, Object_left, Of_main, Of_object, Of_root, Run, State, Static, Task, Unwind}
 use Rattle.aom_sound.specs.Steps.{Empties, Acts, Arrives, Clears, Comes_out, Ends, Fits, IsStill, Move, Rests, Undoes, Vanishes}
-use Rattle.aom_sound.specs.Wanted.{Closes, wanted, wanted_by, wanted_going, wanted_gone, wanted_here, wanted_if, wanted_task}
+use Rattle.aom_sound.specs.Wanted.{Exchange, Nothing, exchange, exchange_at, Closes, wanted, wanted_by, wanted_going, wanted_gone, wanted_if, wanted_task}
 use Rattle.aom_sound.specs.WellTyped.{Fits as FitsKind, Good, IsHoused, WellTyped}
 use Rattle.aom_sound.specs.Servers.{without_queue}
 use Rattle.aom_sound.specs.Words.{here}
@@ -46,16 +47,19 @@ use Rattle.aom_shape.specs.declared.kind.Age.TheVariants.{Ready}
 
 module _ (p : Image) (t : Typing) (c : Choice) (fr : Frame) (ts : List Task) (s : State) (ls : List Layer) (good : Good p t s.cells ls) (holds : SessionsHold p s)
     (alive : IsAlive s.cells fr.home) (unused : named s.cells c.name ≡ None) where
-  abbrev Tells : Instr → Type 0
-  Tells i = Told p c.answer s (wanted_by s p fr ts fr.home (Some i)) (applied p fr ts (counted p s) (effect p c fr ts (counted p s) i)).cells
+  -- the cells after an instruction
+  abbrev after : Instr → List Cell
+  after i = (applied p fr ts (counted p s) (effect p c fr ts (counted p s) i)).cells
+
+  abbrev Tells : Exchange → Instr → Type 0
+  Tells x i = Told p c.answer s (wanted_by s p fr ts fr.home x) (after i)
 
   -- one that makes no call
-  silent : (i : Instr) → ((n name : ℕ) → wanted_here s fr ts n name i ≡ None) → Unchanged p s.cells (applied p fr ts (counted p s) (effect p c fr ts (counted p s) i)).cells → Tells i
-  silent i none same =
-      subst (λ w. Told p c.answer s w (applied p fr ts (counted p s) (effect p c fr ts (counted p s) i)).cells) (sym (unasked p c.answer s fr ts i none fr.home)) (told_none p c.answer s _ same)
+  silent : (i : Instr) → Unchanged p s.cells (after i) → Tells Nothing i
+  silent i same = subst (λ w. Told p c.answer s w (after i)) (sym (none_wanted p s fr ts fr.home)) (told_none p c.answer s _ same)
 
-  aside : (i : Instr) → ((n name : ℕ) → wanted_here s fr ts n name i ≡ None) → IsAside c.name (effect p c fr ts (counted p s) i) → Tells i
-  aside i none h = silent i none (applied_unchanged p fr ts (counted p s) c.name unused (effect p c fr ts (counted p s) i) h)
+  aside : (i : Instr) → IsAside c.name (effect p c fr ts (counted p s) i) → Tells Nothing i
+  aside i h = silent i (applied_unchanged p fr ts (counted p s) c.name unused (effect p c fr ts (counted p s) i) h)
 
   -- the effects that a test decides
   jumps_aside : (b : Bool) (to : ℕ) → IsAside c.name (jumps_if fr b to)
@@ -102,24 +106,22 @@ module _ (p : Image) (t : Typing) (c : Choice) (fr : Frame) (ts : List Task) (s 
       unchanged_along p s.cells (ended_cells p fr s.cells) _ (ended_same p c.answer s fr ts parts.1.1.1.0)
       (returned_unchanged p fr ts (record (counted p s) { cells = ended_cells p fr s.cells }) (gives_of p fr.method) a ts)
 
-  tells : (i : Instr) → AllTrue (needs p c fr ts (counted p s) i) → Tells i
-  tells (Connect a) met = connect_told p c.answer s fr ts holds a fr.home alive
-  tells (Issue a b) met = issue_told p c.answer s fr ts holds s.rest.clock (next_timer s.cells) a b fr.home alive met.1.1.1.1.0
-  tells (Ask a b x) met = ask_told p c.answer s fr ts holds a b x fr.home alive
-  tells Abort met = abort_told p c.answer s fr ts holds fr.home alive
-  tells Close met = close_told p c.answer s fr ts holds fr.home alive (not-true (is_owed (own_request s.cells fr.home)) met.1.0)
-  tells (Enlist priority) met =
-      silent (Enlist priority) (λ n name. refl) (asked_same p c.answer s fr.home (Some (first_request s.cells priority)) (sym (none_owed (own_request s.cells fr.home) met.1.0)))
-  tells SetActive met = silent SetActive (λ n name. refl) (asked_same p c.answer s fr.home (on_request waits (own_request s.cells fr.home)) (waits_owed (own_request s.cells fr.home) met.1.1.1.0))
-  tells Cancel met = silent Cancel (λ n name. refl) (cancels (in_phase is_active (own_request s.cells fr.home)) refl (cancel_method p fr.home))
-  tells (Return a) met = silent (Return a) (λ n name. refl) (returns a met)
-  tells (Reply a b) met = silent (Reply a b) (λ n name. refl) (unchanged_completed p t s.cells ls good (here fr ts (counted p s) a) (λ x there. is_message x there met.1.1.0))
-    where
-      -- what is completed is a message
-      is_message : (x : Object) → held s.cells (here fr ts (counted p s) a) ≡ Some x → is_thing p Message (held s.cells (here fr ts (counted p s) a)) ≡ true → x.thing ≡ Message
-      is_message x there thing = stands_same p x.thing Message (sym (ap (is_thing p Message) there) ∙ thing)
-  -- the others make no call, whatever a test of theirs decides
-  tells i met = aside i (λ n name. refl) (search (jumps_aside, misses_aside, round_aside, deletes_aside, deals_aside, makes_aside, refused_aside, leaves_aside))
+  is_message : (a : ℕ) (x : Object) → held s.cells (here fr ts (counted p s) a) ≡ Some x → is_thing p Message (held s.cells (here fr ts (counted p s) a)) ≡ true → x.thing ≡ Message
+  is_message a x there thing = stands_same p x.thing Message (sym (ap (is_thing p Message) there) ∙ thing)
+
+  silently : (i : Instr) → exchange i ≡ Nothing → AllTrue (needs p c fr ts (counted p s) i) → Tells Nothing i
+  silently (Enlist priority) none met = silent (Enlist priority) (asked_same p c.answer s fr.home (Some (first_request s.cells priority)) (sym (none_owed (own_request s.cells fr.home) met.1.0)))
+  silently SetActive none met = silent SetActive (asked_same p c.answer s fr.home (on_request waits (own_request s.cells fr.home)) (waits_owed (own_request s.cells fr.home) met.1.1.1.0))
+  silently Cancel none met = silent Cancel (cancels (in_phase is_active (own_request s.cells fr.home)) refl (cancel_method p fr.home))
+  silently (Return a) none met = silent (Return a) (returns a met)
+  silently (Reply a b) none met = silent (Reply a b) (unchanged_completed p t s.cells ls good (here fr ts (counted p s) a) (λ x there. is_message a x there met.1.1.0))
+  -- the others leave all as it is, whatever a test of theirs decides
+  silently i none met = aside i (search (jumps_aside, misses_aside, round_aside, deletes_aside, deals_aside, makes_aside, refused_aside, leaves_aside))
+
+  tells : (i : Instr) → AllTrue (needs p c fr ts (counted p s) i) → Tells (exchange i) i
+  tells = by_exchange (λ i x. AllTrue (needs p c fr ts (counted p s) i) → Tells x i) (λ a met. connect_told p c.answer s fr ts holds fr.home alive)
+      (λ a b met. issue_told p c.answer s fr ts holds s.rest.clock (next_timer s.cells) a b fr.home alive met.1.1.1.1.0) (λ a b x met. ask_told p c.answer s fr ts holds b x fr.home alive)
+      (λ met. abort_told p c.answer s fr ts holds fr.home alive) (λ met. close_told p c.answer s fr ts holds fr.home alive (not-true (is_owed (own_request s.cells fr.home)) met.1.0)) silently
 
 -- ---- the going of a cell
 
@@ -263,8 +265,8 @@ module _ (p : Image) (t : Typing) (c : Choice) (s u : State) (w : WellTyped p t 
       told : Told p c.answer s (wanted p s) u.cells
       told =
           subst (λ l. Told p c.answer s (wanted_task s p l) u.cells) (sym at)
-          (subst (λ x. Told p c.answer s (wanted_by s p fr ts fr.home x) u.cells) (sym there)
-          (subst (λ (x : State). Told p c.answer s (wanted_by s p fr ts fr.home (Some i)) x.cells) (sym acts.2) (tells p t c fr ts s w.layers w.good holds alive unused i acts.0)))
+          (subst (λ x. Told p c.answer s (wanted_by s p fr ts fr.home (exchange_at x)) u.cells) (sym there)
+          (subst (λ (x : State). Told p c.answer s (wanted_by s p fr ts fr.home (exchange i)) x.cells) (sym acts.2) (tells p t c fr ts s w.layers w.good holds alive unused i acts.0)))
 
   of_going : (ts : List Task) (o : Object) → s.tasks ≡ Destroy ∷ ts → held s.cells (Going (length ts)) ≡ Some o → Tale
   of_going ts o at there = (told, sym (ap (λ (x : State). x.killed) after))

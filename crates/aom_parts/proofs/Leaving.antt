@@ -38,6 +38,11 @@ use Rattle.aom_parts.proofs.Withdrawing.{owner_cell, owner_in, queue_owner, queu
 use Rattle.aom_parts.specs.Messages.{SameMessages, is_a_message}
 use Rattle.aom_parts.specs.Serving.{Once, SameClients, asked_by, holds, message_name, owner_of, sent_by, waits_in}
 
+-- once the messages at these places are kept no more, what was kept for the cells before is kept for those after
+abbrev Taking : Image → List ℕ → List Cell → List Cell → Type 0
+Taking p ms was left = (before after : Store) → ((m : ℕ) → is_among m ms ≡ true → message_at after m ≡ None) → ((m : ℕ) → is_among m ms ≡ false → message_at after m ≡ message_at before m) →
+    after.limit ≡ before.limit → count after + length ms ≡ count before → SameMessages p before was → SameMessages p after left
+
 -- ---- places
 
 -- those of the messages among these entries
@@ -173,8 +178,7 @@ module _ (p : Image) (t : Typing) (wired : IsWired p) (s : State) (w : WellTyped
     pub freed_kept : (before : Store) → SameMessages p before s.cells → (m : ℕ) → is_among m freed ≡ true → is_some (message_at before m) ≡ true
     freed_kept before kept_so = forgotten_kept (forgets before kept_so) kept_so
 
-    pub messages_withdrawn : (before after : Store) → ((m : ℕ) → is_among m freed ≡ true → message_at after m ≡ None) → ((m : ℕ) → is_among m freed ≡ false → message_at after m ≡ message_at before m) → after.limit ≡ before.limit →
-        count after + length freed ≡ count before → SameMessages p before s.cells → SameMessages p after (withdrawn c s.cells)
+    pub messages_withdrawn : Taking p freed s.cells (withdrawn c s.cells)
     messages_withdrawn before after gone others limit fewer kept_so =
         subst (SameMessages p after) (sym (withdrawn_so c s.cells)) (messages_sifted drops (λ x. left_by c x.service) p before after freed freed_once s.cells w.good.tidy (forgets before kept_so) gone others limit fewer kept_so)
 
@@ -214,8 +218,7 @@ module _ (p : Image) (t : Typing) (wired : IsWired p) (s : State) (w : WellTyped
     pub waiting_kept : (before : Store) → SameMessages p before s.cells → (m : ℕ) → is_among m waiting ≡ true → is_some (message_at before m) ≡ true
     waiting_kept before kept_so = forgotten_kept (unqueues before kept_so) kept_so
 
-    pub messages_unqueued : (before after : Store) → ((m : ℕ) → is_among m waiting ≡ true → message_at after m ≡ None) → ((m : ℕ) → is_among m waiting ≡ false → message_at after m ≡ message_at before m) → after.limit ≡ before.limit →
-        count after + length waiting ≡ count before → SameMessages p before s.cells → SameMessages p after (without_queue n s.cells)
+    pub messages_unqueued : Taking p waiting s.cells (without_queue n s.cells)
     messages_unqueued before after gone others limit fewer kept_so =
         subst (SameMessages p after) (sym (unqueued_so n s.cells)) (messages_sifted (λ x. is_queue_of n x.owner) (λ x. x.service) p before after waiting waiting_once s.cells w.good.tidy (unqueues before kept_so) gone others limit fewer kept_so)
 

@@ -8,6 +8,7 @@ use Rattle.aom_image.specs.declared.method.Thing.TheVariants.{Message}
 use Rattle.aom_messages.specs.Store.{Changes, Store, count, message_at, word_at, word_of}
 use Rattle.aom_shape.specs.Kinds.{is_object}
 use Rattle.aom_shape.specs.Tables.{at}
+use Rattle.aom_sound.proofs.Counts.{counted_by, counted_without}
 use Rattle.aom_sound.proofs.Maps.{named_moved, named_without, same_place-true, unnamed, without_none}
 use Rattle.aom_sound.proofs.Services.{named_served}
 use Rattle.aom_sound.proofs.Storing.{named_set_word, rerequested_alike, resessioned_alike}
@@ -75,22 +76,20 @@ abbrev pub messages_in : Option Object → ℕ
 messages_in None = 0
 messages_in (Some o) = cond (is_object o.thing) 0 1
 
-pub many_without : (cs : List Cell) (g : Place) → Tidy cs → count_messages cs ≡ messages_in (held cs g) + count_messages (without g cs)
-many_without [] g tidy = refl
-many_without (c ∷ cs) g tidy = go (same_place c.owner g) refl (many_without cs g tidy.2)
+messages_counted : (o : Option Object) → counted_by (λ t. not (is_object t)) o ≡ messages_in o
+messages_counted None = refl
+messages_counted (Some o) = go (is_object o.thing)
   where
-    one : (b : Bool) (n m : ℕ) → m ≡ n → cond b n (suc n) ≡ cond b 0 1 + m
-    one true n m e = omega (arith, e)
-    one false n m e = omega (arith, e)
+    go : (b : Bool) → ◌≡◌ {A = ℕ} (cond (not b) 1 0) (cond b 0 1)
+    go true = refl
+    go false = refl
 
-    more : (b : Bool) (n k m : ℕ) → n ≡ k + m → cond b n (suc n) ≡ k + cond b m (suc m)
-    more true n k m e = e
-    more false n k m e = omega (arith, e)
-
-    go : (b : Bool) → same_place c.owner g ≡ b → count_messages cs ≡ messages_in (held cs g) + count_messages (without g cs)
-        → count_messages (c ∷ cs) ≡ messages_in (cond b (Some c.object) (held cs g)) + count_messages (cond b (without g cs) (c ∷ without g cs))
-    go true here rest = one (is_object c.object.thing) (count_messages cs) (count_messages (without g cs)) (ap count_messages (without_none cs g (ap (λ q. held cs q) (sym (same_place-true c.owner g here)) ∙ tidy.0)))
-    go false here rest = more (is_object c.object.thing) (count_messages cs) (messages_in (held cs g)) (count_messages (without g cs)) rest
+pub many_without : (cs : List Cell) (g : Place) → Tidy cs → count_messages cs ≡ messages_in (held cs g) + count_messages (without g cs)
+many_without cs g tidy = counted_without (record { passes = λ t. not (is_object t); some = λ c cs. go (is_object c.object.thing) (count_messages cs) }) cs g tidy ∙ ap (λ n. n + count_messages (without g cs)) (messages_counted (held cs g))
+  where
+    go : (b : Bool) (n : ℕ) → cond b n (suc n) ≡ cond (not b) (suc n) n
+    go true n = refl
+    go false n = refl
 
 -- ---- whether a message stands at a name
 

@@ -136,7 +136,7 @@ module _ (p : Image) (t : Typing) (wired : IsWired p) (s : State) (w : WellTyped
   pub waiting_there : (n m : ℕ) → has_message (service_of s.cells n) m ≡ true → (x : Object) × (held s.cells (Elsewhere (Waits_at n m)) ≡ Some x) × (x.name ≡ m)
   waiting_there n m h =
       let c = asking m (service_of s.cells n).queue h in
-      let x = queued_well p t wired s w clients fit n c.0 m c.1 in
+      let x = queued_well p t s w clients fit n c.0 m c.1 in
       (x.0, x.1, fit.names n m x.0 x.1)
 
   -- what waits has no queue and no sessions

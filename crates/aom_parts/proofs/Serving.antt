@@ -14,6 +14,7 @@ use Rattle.aom_clients.specs.declared.entry.Entry.TheVariants.{Connect, Message,
 use Rattle.aom_clients.specs.declared.place.Place.{Place}
 use Rattle.aom_clients.specs.declared.place.Place.TheVariants.{Free, Held, Queued}
 use Rattle.aom_clients.specs.Table.{held_place, is_queued, sender}
+use Rattle.aom_sound.proofs.ClientsFit.{by_server}
 use Rattle.aom_sound.proofs.Maps.{at-put_at, front_free, named_moved, same_place_refl}
 use Rattle.aom_sound.proofs.Services.{named_served, service_here, service_moved, service_there, service_unnamed}
 use Rattle.aom_sound.specs.Clients.{at_opening, client_at, with_client}
@@ -115,26 +116,18 @@ module _ (cs : List Cell) (o : Object) (lives : named cs o.name ≡ Some o) (tid
   abbrev pub then : List Cell
   then = reserved f o.name cs
 
-  -- what holds of the service that changes, and of all others
-  pub by_service : (P : ℕ → Service → Type 0) → P o.name (f (service_of cs o.name)) → ((n : ℕ) → (o.name == n) ≡ false → P n (service_of cs n)) → (n : ℕ) → P n (service_of then n)
-  by_service P here others n = go (o.name == n) refl
-    where
-      go : (b : Bool) → (o.name == n) ≡ b → P n (service_of then n)
-      go true e = subst (λ k. P k (service_of then k)) (eqb-true o.name n e) (subst (λ v. P o.name v) (sym (service_here cs o.name (f (service_of cs o.name)) o lives)) here)
-      go false e = subst (λ v. P n v) (sym (service_there cs o.name n (f (service_of cs o.name)) e)) (others n e)
-
   -- lists by number, of which that of the server changes
   pub listed_then :
       {A B : Type 0} (lists : List (List A)) (entries : List A) (told : List A → List B) (part : Service → List B) → o.name < length lists → told entries ≡ part (f (service_of cs o.name)) →
       ((n : ℕ) → told (slice_index_or lists n []) ≡ part (service_of cs n)) → (n : ℕ) → told (slice_index_or (slice_set lists o.name entries) n []) ≡ part (service_of then n)
   listed_then lists entries told part small here others n =
-      by_service (λ n v. told (slice_index_or (slice_set lists o.name entries) n []) ≡ part v)
+      by_server cs o lives f (λ n v. told (slice_index_or (slice_set lists o.name entries) n []) ≡ part v)
       (ap told (at_set [] lists o.name o.name entries small ∙ ap (λ b. cond b entries (slice_index_or lists o.name [])) (eq-eqb o.name o.name refl)) ∙ here)
       (λ n other. ap told (at_set [] lists o.name n entries small ∙ ap (λ b. cond b entries (slice_index_or lists n [])) other) ∙ others n) n
 
   module _ (sender : (v : Service) → (f v).sender ≡ v.sender) where
     pub sender_then : (n : ℕ) → (service_of then n).sender ≡ (service_of cs n).sender
-    sender_then n = by_service (λ n v. v.sender ≡ (service_of cs n).sender) (sender (service_of cs o.name)) (λ n other. refl) n
+    sender_then n = by_server cs o lives f (λ n v. v.sender ≡ (service_of cs n).sender) (sender (service_of cs o.name)) (λ n other. refl) n
 
     pub slots_then : (c : ℕ) → slots_taken c then ≡ slots_taken c cs
     slots_then c = slots_served cs tidy o.name (f (service_of cs o.name)) c (sender (service_of cs o.name))
@@ -240,7 +233,7 @@ module _ (s : kept.State) (cs : List Cell) (clients : List Client) (same : SameC
         served_as (asked_last (Connect_of c)) (λ v. refl) _ _ _ _ (client_set s.clients clients c (Connecting o.name slots) (Connecting o.name slots) numbered refl same.at)
         (listed_then cs o lives tidy (asked_last (Connect_of c)) s.queues (kept.queue_at s o.name ++ Connect c ∷ []) (λ es. map (asked_by s.places) es) (λ v. v.queue) queue
         (map-append (asked_by s.places) (kept.queue_at s o.name) (Connect c ∷ []) ∙ ap (λ es. es ++ Connect_of c ∷ []) (same.queues o.name)) same.queues)
-        (λ n. by_service cs o lives tidy (asked_last (Connect_of c)) (λ n v. kept.sessions_at s n ≡ v.sessions) (same.sessions o.name) (λ n other. same.sessions n) n) (length-set s.clients c (Connecting o.name slots))
+        (λ n. by_server cs o lives (asked_last (Connect_of c)) (λ n v. kept.sessions_at s n ≡ v.sessions) (same.sessions o.name) (λ n other. same.sessions n) n) (length-set s.clients c (Connecting o.name slots))
 
   -- a close is asked for, and no client is at anything else
   module _ (queue : o.name < length s.queues) where
@@ -249,7 +242,7 @@ module _ (s : kept.State) (cs : List Cell) (clients : List Client) (same : SameC
         served_as (asked_last (Close_of c)) (λ v. refl) _ _ _ _ same.at
         (listed_then cs o lives tidy (asked_last (Close_of c)) s.queues (kept.queue_at s o.name ++ Close c ∷ []) (λ es. map (asked_by s.places) es) (λ v. v.queue) queue
         (map-append (asked_by s.places) (kept.queue_at s o.name) (Close c ∷ []) ∙ ap (λ es. es ++ Close_of c ∷ []) (same.queues o.name)) same.queues)
-        (λ n. by_service cs o lives tidy (asked_last (Close_of c)) (λ n v. kept.sessions_at s n ≡ v.sessions) (same.sessions o.name) (λ n other. same.sessions n) n) refl
+        (λ n. by_server cs o lives (asked_last (Close_of c)) (λ n v. kept.sessions_at s n ≡ v.sessions) (same.sessions o.name) (λ n other. same.sessions n) n) refl
 
   -- ---- the first of a queue is taken
 
@@ -262,7 +255,7 @@ module _ (s : kept.State) (cs : List Cell) (clients : List Client) (same : SameC
     same_taken =
         served_as taken_first (λ v. refl) _ _ _ _ same.at
         (listed_then cs o lives tidy taken_first s.queues es (λ l. map (asked_by s.places) l) (λ v. v.queue) queue (sym (ap rest_of first_asked)) same.queues)
-        (λ n. by_service cs o lives tidy taken_first (λ n v. kept.sessions_at s n ≡ v.sessions) (same.sessions o.name) (λ n other. same.sessions n) n) refl
+        (λ n. by_server cs o lives taken_first (λ n v. kept.sessions_at s n ≡ v.sessions) (same.sessions o.name) (λ n other. same.sessions n) n) refl
 
   -- ---- a session opens
 
@@ -279,7 +272,7 @@ module _ (s : kept.State) (cs : List Cell) (clients : List Client) (same : SameC
     same_opened =
         served_as (opened c) (λ v. refl) _ _ _ _ (subst (λ x. (d : ℕ) → sessionless (kept.client_at (kept.with_client c (Open o.name session slots) s) d) ≡ client_at (with_client c (at_opening 0 x) clients) d) (sym own)
         (client_set s.clients clients c (Open o.name session slots) (Open o.name 0 slots) numbered refl same.at))
-        (λ n. ap (λ l. map (asked_by s.places) l) (unqueued n) ∙ by_service cs o lives tidy (opened c) (λ n v. map (asked_by s.places) (kept.queue_at s n) ≡ v.queue) (same.queues o.name) (λ n other. same.queues n) n)
+        (λ n. ap (λ l. map (asked_by s.places) l) (unqueued n) ∙ by_server cs o lives (opened c) (λ n v. map (asked_by s.places) (kept.queue_at s n) ≡ v.queue) (same.queues o.name) (λ n other. same.queues n) n)
         (listed_then cs o lives tidy (opened c) s.sessions (kept.sessions_at s o.name ++ c ∷ []) (λ l. l) (λ v. v.sessions) server (ap (λ l. l ++ c ∷ []) (same.sessions o.name)) same.sessions) (length-set s.clients c (Open o.name session slots))
 
     -- or none does
@@ -298,9 +291,9 @@ module _ (s : kept.State) (cs : List Cell) (clients : List Client) (same : SameC
     pub same_parted : SameClients (kept.parted c next s) (reserved (parted c) o.name cs) (with_client c next clients)
     same_parted =
         served_as (parted c) (λ v. refl) _ _ _ _ (client_set s.clients clients c next next numbered plain same.at)
-        (λ n. ap (λ l. map (asked_by s.places) l) (unclosed n) ∙ by_service cs o lives tidy (parted c) (λ n v. map (asked_by s.places) (kept.queue_at s n) ≡ v.queue) (same.queues o.name) (λ n other. same.queues n) n)
+        (λ n. ap (λ l. map (asked_by s.places) l) (unclosed n) ∙ by_server cs o lives (parted c) (λ n v. map (asked_by s.places) (kept.queue_at s n) ≡ v.queue) (same.queues o.name) (λ n other. same.queues n) n)
         (λ n. map_at (λ l. filter (λ d. not (d == c)) l) s.sessions n refl
-        ∙ by_service cs o lives tidy (parted c) (λ n v. filter (λ d. not (d == c)) (kept.sessions_at s n) ≡ v.sessions) (ap (λ l. filter (λ d. not (d == c)) l) (same.sessions o.name))
+        ∙ by_server cs o lives (parted c) (λ n v. filter (λ d. not (d == c)) (kept.sessions_at s n) ≡ v.sessions) (ap (λ l. filter (λ d. not (d == c)) l) (same.sessions o.name))
         (λ n other. ap (λ l. filter (λ d. not (d == c)) l) (same.sessions n) ∙ none_parted c (service_of cs n).sessions (only n other)) n) (length-set s.clients c next)
 
   -- ---- the first of a queue is a message, which is served
@@ -524,20 +517,12 @@ module _ (s : kept.State) (cs : List Cell) (clients : List Client) (same : SameC
         go false false e g = sym (there g)
 
     pub same_sent : SameClients sent (message ∷ behind) clients
-    same_sent = record {
-      at = same.at;
-      queues = λ n. queues n ∙ sym (other_service n).0;
-      sessions = λ n. by_service cs o lives tidy (asked_last (Message_of c (message_name m))) (λ n v. kept.sessions_at s n ≡ v.sessions) (same.sessions o.name) (λ n other. same.sessions n) n ∙ sym (other_service n).1;
-      senders = senders_after;
-      taken = taken_after;
-      waits = waits_then;
-      slots_of = slots_of_after;
-      slotted = slotted_after;
-      once = once_after;
-      slots = slots_after;
-      many = same.many;
-      lists = length-set s.sent c (kept.sent_at s c ++ m ∷ []) ∙ same.lists;
-    }
+    same_sent =
+        let queues_after = λ (n : ℕ). queues n ∙ sym (other_service n).0 in
+        let sessions_after : (n : ℕ) → kept.sessions_at s n ≡ (service_of (message ∷ behind) n).sessions =
+            λ n. by_server cs o lives (asked_last (Message_of c (message_name m))) (λ n v. kept.sessions_at s n ≡ v.sessions) (same.sessions o.name) (λ n other. same.sessions n) n ∙ sym (other_service n).1 in
+        let lists = length-set s.sent c (kept.sent_at s c ++ m ∷ []) ∙ same.lists in
+        assumption (same.at, queues_after, sessions_after, senders_after, taken_after, waits_then, slots_of_after, slotted_after, once_after, slots_after, same.many, lists)
       where
         old : (n : ℕ) → map (asked_by sent.places) (kept.queue_at s n) ≡ (service_of cs n).queue
         old n = asked_apart s.places m (Queued c) place (kept.queue_at s n) (ap (λ l. list_any (is_message (message_name m)) l) (same.queues n) ∙ nowhere n) ∙ same.queues n

@@ -525,20 +525,10 @@ module _
       ∙ sym (sessions_ended_at xs (queue_ended (service_of cs k).queue clients) c ∙ ap (λ y. cond (is_among c xs) (at_gone y) y) (queue_ended_at (service_of cs k).queue clients c))
 
   same_left : SameClients then left (sessions_ended xs (queue_ended (service_of cs k).queue clients))
-  same_left = record {
-    at = at_then;
-    queues = queues_then;
-    sessions = sessions_then;
-    senders = senders_then;
-    taken = taken_then;
-    waits = waits_then;
-    slots_of = slots_of_then;
-    slotted = slotted_then;
-    once = once_then;
-    slots = slots_then;
-    many = (lengths_after_sessions k (kept.sessions_at s k) between).0 ∙ (lengths_after_queue k es s).0 ∙ same.many;
-    lists = (lengths_after_sessions k (kept.sessions_at s k) between).2 ∙ (lengths_after_queue k es s).3 ∙ same.lists;
-  }
+  same_left =
+      let many = (lengths_after_sessions k (kept.sessions_at s k) between).0 ∙ (lengths_after_queue k es s).0 ∙ same.many in
+      let lists = (lengths_after_sessions k (kept.sessions_at s k) between).2 ∙ (lengths_after_queue k es s).3 ∙ same.lists in
+      assumption (at_then, queues_then, sessions_then, senders_then, taken_then, waits_then, slots_of_then, slotted_then, once_then, slots_then, many, lists)
 
   pub same_vanished : SameClients then (each_unslotted xs (without g (without_queue k cs))) (sessions_ended xs (queue_ended (service_of cs k).queue clients))
   same_vanished = subst (λ l. SameClients then (each_unslotted xs l) (sessions_ended xs (queue_ended (service_of cs k).queue clients))) (sym (gone_so k g cs)) same_left

@@ -87,33 +87,18 @@ with_tasks ts m = record m { stack = record m.stack { tasks = ts } }
 
 -- the innermost task is a destruction, of that cell
 abbrev pub IsDestroying : List Task → Type 0
-IsDestroying [] = ⊥
-IsDestroying (Run f ∷ ts) = ⊥
-IsDestroying (Trapped ∷ ts) = ⊥
 IsDestroying (Destroy x ∷ ts) = Unit {0}
-IsDestroying (Closing ∷ ts) = ⊥
-IsDestroying (Unwind code ∷ ts) = ⊥
-IsDestroying (Dispatched d ∷ ts) = ⊥
+IsDestroying other = ⊥
 
 -- the innermost task is a trap
 abbrev pub IsTrapped : List Task → Type 0
-IsTrapped [] = ⊥
-IsTrapped (Run f ∷ ts) = ⊥
 IsTrapped (Trapped ∷ ts) = Unit {0}
-IsTrapped (Destroy x ∷ ts) = ⊥
-IsTrapped (Closing ∷ ts) = ⊥
-IsTrapped (Unwind code ∷ ts) = ⊥
-IsTrapped (Dispatched d ∷ ts) = ⊥
+IsTrapped other = ⊥
 
 -- the innermost task is right over the going of a server, whose sessions go first
 abbrev pub IsClosing : List Task → Type 0
-IsClosing [] = ⊥
-IsClosing (Run f ∷ ts) = ⊥
-IsClosing (Trapped ∷ ts) = ⊥
-IsClosing (Destroy x ∷ ts) = ⊥
 IsClosing (Closing ∷ ts) = Unit {0}
-IsClosing (Unwind code ∷ ts) = ⊥
-IsClosing (Dispatched d ∷ ts) = ⊥
+IsClosing other = ⊥
 
 abbrev pub going_here : List Task → ℕ
 going_here [] = null
@@ -121,32 +106,17 @@ going_here (t ∷ ts) = going_of t
 
 -- the innermost task is the end of a dispatch
 abbrev pub IsEnding : List Task → Type 0
-IsEnding [] = ⊥
-IsEnding (Run f ∷ ts) = ⊥
-IsEnding (Trapped ∷ ts) = ⊥
-IsEnding (Destroy x ∷ ts) = ⊥
-IsEnding (Closing ∷ ts) = ⊥
-IsEnding (Unwind code ∷ ts) = ⊥
 IsEnding (Dispatched d ∷ ts) = Unit {0}
+IsEnding other = ⊥
 
 -- the innermost task is a leave that unwinds, and its code
 abbrev pub IsUnwinding : List Task → Type 0
-IsUnwinding [] = ⊥
-IsUnwinding (Run f ∷ ts) = ⊥
-IsUnwinding (Trapped ∷ ts) = ⊥
-IsUnwinding (Destroy x ∷ ts) = ⊥
-IsUnwinding (Closing ∷ ts) = ⊥
 IsUnwinding (Unwind code ∷ ts) = Unit {0}
-IsUnwinding (Dispatched d ∷ ts) = ⊥
+IsUnwinding other = ⊥
 
 abbrev pub code_here : List Task → ℤ
-code_here [] = pos 0
-code_here (Run f ∷ ts) = pos 0
-code_here (Trapped ∷ ts) = pos 0
-code_here (Destroy x ∷ ts) = pos 0
-code_here (Closing ∷ ts) = pos 0
 code_here (Unwind code ∷ ts) = code
-code_here (Dispatched d ∷ ts) = pos 0
+code_here other = pos 0
 
 -- the machine with other items on its cleanup stack
 abbrev pub with_items : List Item → Parts → Parts

@@ -56,54 +56,25 @@ impl Rest {
         self.clock
     }
 
-    pub fn steps(&self) -> u64
-        ensures { result ≡ self.now.steps }
+    /// The clock goes on by one.
+    pub fn tick(&mut self)
+        ensures { self.new ≡ record self.old { clock = raised self.old.clock } }
     {
-        self.steps
+        self.clock = self.clock.saturating_add(1);
     }
 
-    pub fn dispatches(&self) -> u64
-        ensures { result ≡ self.now.dispatches }
+    /// Time passes, and a turn begins in which no native is polled yet.
+    pub fn set_clock(&mut self, time: u64)
+        ensures { self.new ≡ record self.old { clock = time; polled = 0 } }
     {
-        self.dispatches
-    }
-
-    pub fn polled(&self) -> u64
-        ensures { result ≡ self.now.polled }
-    {
-        self.polled
+        self.clock = time;
+        self.polled = 0;
     }
 
     pub fn requests(&self) -> u64
         ensures { result ≡ self.now.requests }
     {
         self.requests
-    }
-
-    /// Whether main's line is written.
-    pub fn is_announced(&self) -> bool
-        ensures { result ≡ self.now.announced }
-    {
-        self.announced
-    }
-
-    pub fn ended(&self) -> Option<Ending>
-        ensures { result ≡ self.now.ended }
-    {
-        self.ended
-    }
-
-    pub fn announce(&mut self)
-        ensures { self.new ≡ record self.old { announced = true } }
-    {
-        self.announced = true;
-    }
-
-    /// Counts so many steps.
-    pub fn count_steps(&mut self, count: u32)
-        ensures { self.new ≡ record self.old { steps = raised_by count self.old.steps } }
-    {
-        self.steps = self.steps.saturating_add(u64::from(count));
     }
 
     /// Counts an allocation request, and answers its number.
@@ -115,10 +86,93 @@ impl Rest {
         self.requests
     }
 
-    pub fn stop(&mut self)
-        ensures { self.new ≡ record self.old { stopped = true } }
+    pub fn steps(&self) -> u64
+        ensures { result ≡ self.now.steps }
     {
-        self.stopped = true;
+        self.steps
+    }
+
+    /// Counts so many steps.
+    pub fn count_steps(&mut self, count: u32)
+        ensures { self.new ≡ record self.old { steps = raised_by count self.old.steps } }
+    {
+        self.steps = self.steps.saturating_add(u64::from(count));
+    }
+
+    /// A dispatch begins, which has taken no step. The natives are polled anew after it.
+    pub fn count_anew(&mut self)
+        ensures { self.new ≡ record self.old { steps = 0; polled = 0 } }
+    {
+        self.steps = 0;
+        self.polled = 0;
+    }
+
+    pub fn dispatches(&self) -> u64
+        ensures { result ≡ self.now.dispatches }
+    {
+        self.dispatches
+    }
+
+    /// The dispatch of an object is over: it counts, and its steps count no more.
+    pub fn count_dispatch(&mut self)
+        ensures { self.new ≡ record self.old { steps = 0; dispatches = raised self.old.dispatches } }
+    {
+        self.steps = 0;
+        self.dispatches = self.dispatches.saturating_add(1);
+    }
+
+    pub fn delivered(&self) -> u64
+        ensures { result ≡ self.now.delivered }
+    {
+        self.delivered
+    }
+
+    /// One event more is delivered.
+    pub fn deliver(&mut self)
+        requires { self.old.delivered + 1 < 2 ^ 64 }
+        ensures { self.new ≡ record self.old { delivered = suc self.old.delivered } }
+    {
+        self.delivered += 1;
+    }
+
+    pub fn polled(&self) -> u64
+        ensures { result ≡ self.now.polled }
+    {
+        self.polled
+    }
+
+    /// The natives up to that one are polled in the turn at hand.
+    pub fn poll(&mut self, native: usize)
+        requires { native + 1 < 2 ^ 64 }
+        ensures { self.new ≡ record self.old { polled = suc native } }
+    {
+        self.polled = native as u64 + 1;
+    }
+
+    /// Whether main's line is written.
+    pub fn is_announced(&self) -> bool
+        ensures { result ≡ self.now.announced }
+    {
+        self.announced
+    }
+
+    pub fn announce(&mut self)
+        ensures { self.new ≡ record self.old { announced = true } }
+    {
+        self.announced = true;
+    }
+
+    pub fn ended(&self) -> Option<Ending>
+        ensures { result ≡ self.now.ended }
+    {
+        self.ended
+    }
+
+    /// The root is gone, and the run is over.
+    pub fn finish(&mut self)
+        ensures { self.new ≡ record self.old { ended = Some Stopped } }
+    {
+        self.ended = Some(Ending::Stopped);
     }
 
     /// Whether `stop` was run.
@@ -128,18 +182,10 @@ impl Rest {
         self.stopped
     }
 
-    /// The clock goes on by one.
-    pub fn tick(&mut self)
-        ensures { self.new ≡ record self.old { clock = raised self.old.clock } }
+    pub fn stop(&mut self)
+        ensures { self.new ≡ record self.old { stopped = true } }
     {
-        self.clock = self.clock.saturating_add(1);
-    }
-
-    /// The root is gone, and the run is over.
-    pub fn finish(&mut self)
-        ensures { self.new ≡ record self.old { ended = Some Stopped } }
-    {
-        self.ended = Some(Ending::Stopped);
+        self.stopped = true;
     }
 
     /// The end of a dispatch.
@@ -158,42 +204,11 @@ impl Rest {
         self.ended = Some(Ending::MainLeft(code));
     }
 
-    /// The dispatch of an object is over: it counts, and its steps count no more.
-    pub fn count_dispatch(&mut self)
-        ensures { self.new ≡ record self.old { steps = 0; dispatches = raised self.old.dispatches } }
+    /// So many dispatches are over as there may be.
+    pub fn cut(&mut self)
+        ensures { self.new ≡ record self.old { ended = Some Limit } }
     {
-        self.steps = 0;
-        self.dispatches = self.dispatches.saturating_add(1);
-    }
-
-    /// A dispatch begins, which has taken no step. The natives are polled anew after it.
-    pub fn count_anew(&mut self)
-        ensures { self.new ≡ record self.old { steps = 0; polled = 0 } }
-    {
-        self.steps = 0;
-        self.polled = 0;
-    }
-
-    pub fn delivered(&self) -> u64
-        ensures { result ≡ self.now.delivered }
-    {
-        self.delivered
-    }
-
-    /// One event more is delivered.
-    pub fn deliver(&mut self)
-        requires { self.old.delivered + 1 < 2 ^ 64 }
-        ensures { self.new ≡ record self.old { delivered = suc self.old.delivered } }
-    {
-        self.delivered += 1;
-    }
-
-    /// The natives up to that one are polled in the turn at hand.
-    pub fn poll(&mut self, native: usize)
-        requires { native + 1 < 2 ^ 64 }
-        ensures { self.new ≡ record self.old { polled = suc native } }
-    {
-        self.polled = native as u64 + 1;
+        self.ended = Some(Ending::Limit);
     }
 
     /// The end of an object's dispatch, which was left, and that was the answer.
@@ -202,21 +217,6 @@ impl Rest {
     {
         self.tick();
         self.ended = Some(Ending::Error(answer));
-    }
-
-    /// Time passes, and a turn begins in which no native is polled yet.
-    pub fn set_clock(&mut self, time: u64)
-        ensures { self.new ≡ record self.old { clock = time; polled = 0 } }
-    {
-        self.clock = time;
-        self.polled = 0;
-    }
-
-    /// So many dispatches are over as there may be.
-    pub fn cut(&mut self)
-        ensures { self.new ≡ record self.old { ended = Some Limit } }
-    {
-        self.ended = Some(Ending::Limit);
     }
 
     /// A turn in which nothing is due.

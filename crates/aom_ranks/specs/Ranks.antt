@@ -76,11 +76,8 @@ abbrev pub cell_rank : Image → ℕ
 cell_rank p = base p ^ suc (length p.methods)
 
 abbrev pub is_going : Place → Bool
-is_going (Register f r) = false
-is_going (Entry k) = false
-is_going (Field n f) = false
 is_going (Going k) = true
-is_going (Elsewhere o) = false
+is_going _ = false
 
 -- the cells whose destruction has not begun
 abbrev pub standing : List Cell → ℕ

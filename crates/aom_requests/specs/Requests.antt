@@ -21,9 +21,8 @@ IsEnlisted t id = IsSome (request_at t id)
 
 -- the state of an active object's request
 abbrev pub state_of : Option Request → Option State
-state_of None = None
 state_of (Some (Object state status)) = Some state
-state_of (Some (Server has_signal)) = None
+state_of other = None
 
 -- the state of the active object with a number
 abbrev pub state_at : Table → ℕ → Option State
@@ -31,9 +30,8 @@ state_at t id = state_of (request_at t id)
 
 -- the status of an active object's request
 abbrev pub status_of : Option Request → Option ℤ
-status_of None = None
 status_of (Some (Object state status)) = Some status
-status_of (Some (Server has_signal)) = None
+status_of other = None
 
 -- the status of the active object with a number
 abbrev pub status_at : Table → ℕ → Option ℤ
@@ -41,9 +39,8 @@ status_at t id = status_of (request_at t id)
 
 -- a server is enlisted
 abbrev pub is_server : Option Request → Bool
-is_server None = false
-is_server (Some (Object state status)) = false
 is_server (Some (Server has_signal)) = true
+is_server other = false
 
 -- the status of a request that is not completed
 abbrev pub pending : ℤ
@@ -102,6 +99,11 @@ pub record Changes (old new : Table) (id : ℕ) (request : Option Request) : Typ
   pub here : request_at new id ≡ request
   pub others : (other : ℕ) → other ≢ id → request_at new other ≡ request_at old other
   pub limit : new.limit ≡ old.limit
+
+-- the active object's request is in that state then, and there are as many signals
+pub record Turns (old new : Table) (id : ℕ) (to : State) : Type 0 where
+  pub changed : Changes old new id (with_state to (request_at old id))
+  pub signals : signals new ≡ signals old
 
 -- so many signals are counted as there are, and the numbers with a place are below 4,096
 pub record IsCounted (count : ℕ) (t : Table) : Type 0 where

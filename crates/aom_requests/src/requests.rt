@@ -1,6 +1,6 @@
 //! The requests of the objects that are enlisted, by number.
 ghost use Rattle.std.specs.Prelude.{◌≡◌, ◌<◌, ◌≤◌, ◌+◌, Some, None, IfOk, IsSome, is_some, IsTrue, IsFalse, replicate, pos, true, false, ◌↔◌};
-ghost use Rattle.aom_requests.specs.Requests.{request_at, IsEnlisted, state_at, status_at, is_server, pending, kept_code, is_pending, holds_signal, is_ready, held, signals, with_state, with_status, taken, Changes};
+ghost use Rattle.aom_requests.specs.Requests.{request_at, IsEnlisted, state_at, status_at, is_server, pending, kept_code, is_pending, holds_signal, is_ready, held, signals, with_state, with_status, taken, Changes, Turns};
 
 use crate::request::{Request, kept_code};
 use crate::{PENDING, State};
@@ -93,21 +93,15 @@ impl Requests {
         requires { IsSome (state_at self.now id) }
         ensures { state_at self.now id ≡ Some result }
     {
-        match self.request(id) {
-            Request::Object { state, .. } => state,
-            Request::Server { .. } => unreachable!(),
-        }
+        self.object(id).0
     }
 
     /// The status of an active object's request: the last one's, until the next is issued, and 0 before the first.
     pub fn status(&self, id: CellId) -> i32
-        requires { IsSome (status_at self.now id) }
+        requires { IsSome (state_at self.now id) }
         ensures { status_at self.now id ≡ Some result }
     {
-        match self.request(id) {
-            Request::Object { status, .. } => status,
-            Request::Server { .. } => unreachable!(),
-        }
+        self.object(id).1
     }
 
     /// Enlists an active object, which is idle: CActiveScheduler::Add.
@@ -178,32 +172,26 @@ impl Requests {
     /// The object waits for its request, which may be completed already: CActive::SetActive.
     pub fn set_active(&mut self, id: CellId)
         requires { state_at self.old id ≡ Some State.Issued }
-        ensures active { Changes self.old self.new id (with_state State.Active (request_at self.old id)) }
-        ensures signals { signals self.new ≡ signals self.old }
+        ensures { Turns self.old self.new id State.Active }
     {
-        let active = self.request(id).with_state(State::Active);
-        self.change(id, Some(active));
+        self.turn(id, State::Active);
     }
 
     /// A cancel of the request begins: CActive::Cancel, before DoCancel.
     pub fn cancelling(&mut self, id: CellId)
         requires { state_at self.old id ≡ Some State.Active }
-        ensures cancelling { Changes self.old self.new id (with_state State.Cancelling (request_at self.old id)) }
-        ensures signals { signals self.new ≡ signals self.old }
+        ensures { Turns self.old self.new id State.Cancelling }
     {
-        let cancelling = self.request(id).with_state(State::Cancelling);
-        self.change(id, Some(cancelling));
+        self.turn(id, State::Cancelling);
     }
 
     /// The request that is being cancelled is completed, and waits for the end of the cancel.
     pub fn cancelled(&mut self, id: CellId)
         requires state { state_at self.old id ≡ Some State.Cancelling }
         requires completed { IsFalse (is_pending (request_at self.old id)) }
-        ensures aborted { Changes self.old self.new id (with_state State.Aborted (request_at self.old id)) }
-        ensures signals { signals self.new ≡ signals self.old }
+        ensures { Turns self.old self.new id State.Aborted }
     {
-        let aborted = self.request(id).with_state(State::Aborted);
-        self.change(id, Some(aborted));
+        self.turn(id, State::Aborted);
     }
 
     /// Takes the signal of a request, as a dispatch begins or a cancel ends: User::WaitForRequest. An active object is idle then.
@@ -214,6 +202,16 @@ impl Requests {
     {
         let taken = self.request(id).taken();
         self.change(id, Some(taken));
+    }
+
+    /// Writes how far an active object's request has come.
+    fn turn(&mut self, id: CellId, to: State)
+        requires { IsEnlisted self.old id }
+        ensures changed { Changes self.old self.new id (with_state to (request_at self.old id)) }
+        ensures signals { signals self.new + held (request_at self.old id) ≡ signals self.old + held (with_state to (request_at self.old id)) }
+    {
+        let turned = self.request(id).with_state(to);
+        self.change(id, Some(turned));
     }
 
     /// What stands under a number.
@@ -230,6 +228,18 @@ impl Requests {
         ensures { Some result ≡ request_at self.now id }
     {
         self.request_at(id).unwrap()
+    }
+
+    /// The state and the status of an active object's request.
+    fn object(&self, id: CellId) -> (State, i32)
+        requires { IsSome (state_at self.now id) }
+        ensures state { state_at self.now id ≡ Some result.0 }
+        ensures status { status_at self.now id ≡ Some result.1 }
+    {
+        match self.request(id) {
+            Request::Object { state, status } => (state, status),
+            Request::Server { .. } => unreachable!(),
+        }
     }
 
     /// Writes what stands under a number with a place. The signals follow.

@@ -236,20 +236,14 @@ first-is (x ∷ xs) = elim (cases_Bool x.is_ready) [
   | inr is_not ↦ cond-false x.is_ready (Some x.id) (first_ready xs) is_not ∙ first-is xs ∙ sym (ap (λ ids. slice_get ids 0) (ready-skipped x xs is_not))
 ]
 
--- a search among the ready for an object's place ends there
-pub stands-among : (r : Roster) (ids : List ℕ) (id place at : ℕ) → IsSound r → ids ≡ ready_ids r.entries → place_of id_of id r.entries ≡ Some place
-    → at ≤ length ids
+-- a search among the ready for a place ends behind those that stand before it
+pub stands-among : (r : Roster) (ids : List ℕ) (place at : ℕ) → IsSound r → ids ≡ ready_ids r.entries → place ≤ length r.entries → at ≤ length ids
     → (IsPartitionedBy (is_in_front r.entries place) ids
-    → IsPartitionPoint (λ n. is_in_front r.entries place n ≡ true) (λ n. is_in_front r.entries place n ≡ false) ids at)
-    → IsAt id_of id r.entries place × (at ≡ length (ready_ids (take place r.entries)))
-stands-among r ids id place at sound is stands within point =
-    let found = place-at id_of id r.entries place stands in
-    let inside : place ≤ length r.entries = omega (arith, at-within id_of id r.entries place found) in
-    let parted = subst (IsPartitionedBy (is_in_front r.entries place)) (sym is) (searchable-ready r.entries place sound.distinct inside) in (
-      found,
-      point-ready r.entries place at sound.distinct inside (subst (λ ns. at ≤ length ns) is within)
-          (subst (λ ns. IsPartitionPoint (λ n. is_in_front r.entries place n ≡ true) (λ n. is_in_front r.entries place n ≡ false) ns at) is (point parted)),
-    )
+    → IsPartitionPoint (λ n. is_in_front r.entries place n ≡ true) (λ n. is_in_front r.entries place n ≡ false) ids at) → at ≡ length (ready_ids (take place r.entries))
+stands-among r ids place at sound is inside within point =
+    point-ready r.entries place at sound.distinct inside (subst (λ ns. at ≤ length ns) is within)
+    (subst (λ ns. IsPartitionPoint (λ n. is_in_front r.entries place n ≡ true) (λ n. is_in_front r.entries place n ≡ false) ns at) is
+    (point (subst (IsPartitionedBy (is_in_front r.entries place)) (sym is) (searchable-ready r.entries place sound.distinct inside))))
 
 -- an object that stands there is ready
 pub ready-at : (r : Roster) (id place at : ℕ) (d : Entry) → IsSound r → IsAt id_of id r.entries place → at ≡ length (ready_ids (take place r.entries))

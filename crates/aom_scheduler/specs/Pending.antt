@@ -8,10 +8,6 @@ pub record Pending : Type 0 where
   pub timers : List Timer
   pub limit : ℕ
 
--- no timer, for ids below the limit
-abbrev pub no_timers : ℕ → Pending
-no_timers limit = record { timers = []; limit = limit }
-
 -- the first may stand before the second
 abbrev pub no_later : Timer → Timer → Bool
 no_later t u = nat_le t.due u.due

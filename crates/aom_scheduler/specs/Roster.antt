@@ -8,10 +8,6 @@ pub record Roster : Type 0 where
   pub entries : List Entry
   pub limit : ℕ
 
--- no entry, for ids below the limit
-abbrev pub empty : ℕ → Roster
-empty limit = record { entries = []; limit = limit }
-
 -- the first may stand before the second
 abbrev pub before : Entry → Entry → Bool
 before e f = int_le f.priority e.priority

@@ -1,8 +1,8 @@
 //! The entries in order of choice, and where each object stands among them.
-ghost use Rattle.std.specs.Prelude.{◌≡◌, ◌<◌, ◌≤◌, ℕ, IfOk, None, IsNone, length, slice_get, slice_index_or, All, AllPairs, ◌≢◌, take, true, false};
+ghost use Rattle.std.specs.Prelude.{◌≡◌, ◌<◌, ◌≤◌, ℕ, [], IfOk, None, IsNone, length, slice_get, slice_index_or, All, AllPairs, ◌≢◌, take, true, false};
 ghost use Rattle.std.specs.List.Sorted.{IsPartitionPoint};
 ghost use Rattle.aom_scheduler.specs.Order.{placed, without};
-ghost use Rattle.aom_scheduler.specs.Roster.{empty, before, place, IsEnlisted, marked, IsSound};
+ghost use Rattle.aom_scheduler.specs.Roster.{before, place, IsEnlisted, marked, IsSound};
 ghost use Rattle.aom_scheduler.specs.Places.{numbered, Knows, stands_before};
 ghost use Rattle.aom_scheduler.specs.declared.entry.Entry.{Entry};
 
@@ -35,11 +35,12 @@ impl Model for Order {
 impl Order {
     pub fn with_limit(alloc: Global, limit: usize) -> Result<Order, AllocError>
         requires { limit ≤ 4096 }
-        ensures { IfOk result (λ o. o ≡ empty limit) }
+        ensures { IfOk result (λ o. o ≡ record { entries = []; limit = limit }) }
     {
-        let entries = Vec::with_capacity(alloc, limit)?;
-        let places = vec![in alloc; None; limit]?;
-        Ok(Order { entries, places })
+        Ok(Order {
+            entries: Vec::with_capacity(alloc, limit)?,
+            places: vec![in alloc; None; limit]?,
+        })
     }
 
     pub fn limit(&self) -> usize

@@ -1,8 +1,8 @@
 //! The objects that are enlisted, and the pick among those that are ready.
-ghost use Rattle.std.specs.Prelude.{◌≡◌, ◌<◌, ◌≤◌, true, false, IfOk, IfErr, IfSome, IsNone, length, is_some, slice_get, All};
+ghost use Rattle.std.specs.Prelude.{◌≡◌, ◌<◌, ◌≤◌, [], true, false, IfOk, IfErr, IfSome, IsNone, length, is_some, slice_get, take, All};
 ghost use Rattle.aom_scheduler.specs.Order.{placed, without};
 ghost use Rattle.aom_scheduler.specs.Ready.{IsReadyAt, IsWaitingAt};
-ghost use Rattle.aom_scheduler.specs.Roster.{empty, before, place, IsEnlisted, waiting, marked, first_ready, IsPick, IsSound};
+ghost use Rattle.aom_scheduler.specs.Roster.{before, place, IsEnlisted, waiting, marked, first_ready, ready_ids, IsPick, IsSound};
 
 use crate::Entry;
 use crate::order::Order;
@@ -35,11 +35,12 @@ impl Schedule {
     /// Nobody, and room for objects of ids below `limit`, which is all the memory that is ever taken.
     pub fn with_limit(alloc: Global, limit: usize) -> Result<Schedule, AllocError>
         requires { limit ≤ 4096 }
-        ensures { IfOk result (λ s. s ≡ empty limit) }
+        ensures { IfOk result (λ s. s ≡ record { entries = []; limit = limit }) }
     {
-        let order = Order::with_limit(alloc, limit)?;
-        let ready = VecDeque::with_capacity(alloc, limit)?;
-        Ok(Schedule { order, ready })
+        Ok(Schedule {
+            order: Order::with_limit(alloc, limit)?,
+            ready: VecDeque::with_capacity(alloc, limit)?,
+        })
     }
 
     /// The number below which the ids of objects are.
@@ -126,6 +127,16 @@ impl Schedule {
         self.ready.front().copied()
     }
 
+    /// How many of those that are ready stand before that place.
+    fn ready_before(&self, place: usize) -> usize
+        requires { place ≤ length self.now.entries }
+        ensures { result ≡ length (ready_ids (take place self.now.entries)) }
+    {
+        self.order.in_order();
+        self.ready
+            .partition_point(|other| self.order.is_before(*other, place))
+    }
+
     /// Where the object stands among those that are ready, or else where it would.
     fn ready_place(&self, id: CellId) -> Result<usize, usize>
         requires { IsEnlisted id self.now }
@@ -134,9 +145,7 @@ impl Schedule {
     {
         self.order.in_order();
         let place = self.order.place(id).unwrap();
-        let at = self
-            .ready
-            .partition_point(|other| self.order.is_before(*other, place));
+        let at = self.ready_before(place);
         if self.order.is_ready(place) {
             Ok(at)
         } else {

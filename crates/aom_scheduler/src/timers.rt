@@ -1,8 +1,8 @@
 //! The timers that are set.
-ghost use Rattle.std.specs.Prelude.{◌≡◌, ◌<◌, ◌≤◌, ℕ, true, false, IfOk, IsSome, IsNone, Some, length, is_some, AllPairs, ◌≢◌};
+ghost use Rattle.std.specs.Prelude.{◌≡◌, ◌<◌, ◌≤◌, ℕ, [], true, false, IfOk, IsSome, IsNone, Some, length, is_some, AllPairs, ◌≢◌};
 ghost use Rattle.std.specs.List.Sorted.{IsPartitionPoint};
 ghost use Rattle.aom_scheduler.specs.Order.{placed, without, place_of};
-ghost use Rattle.aom_scheduler.specs.Pending.{no_timers, no_later, timer_of, due_of, IsSet, first_due, due_by, left_by, AreInOrder};
+ghost use Rattle.aom_scheduler.specs.Pending.{no_later, timer_of, due_of, IsSet, first_due, due_by, left_by, AreInOrder};
 
 use crate::timer::Timer;
 use aom_cells::CellId;
@@ -36,7 +36,7 @@ impl Timers {
     /// No timer, and room for one of each id below `limit`, which is all the memory that is ever taken.
     pub fn with_limit(alloc: Global, limit: usize) -> Result<Timers, AllocError>
         requires { limit ≤ 4096 }
-        ensures { IfOk result (λ t. t ≡ no_timers limit) }
+        ensures { IfOk result (λ t. t ≡ record { timers = []; limit = limit }) }
     {
         let queue = VecDeque::with_capacity(alloc, limit)?;
         let dues = vec![in alloc; None; limit]?;

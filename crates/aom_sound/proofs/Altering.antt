@@ -6,7 +6,7 @@ use Rattle.aom_shape.specs.Kinds.{is_object}
 use Rattle.aom_shape.specs.Tables.{put_at}
 use Rattle.aom_image.specs.Image.{Image}
 use Rattle.aom_sound.specs.Natives.{all_bereaved, bereaved}
-use Rattle.aom_sound.specs.Places.{Cell, Object, Place, Request, Service, Tidy, count_cells, held, moved, named, requested, same_place, service_of, set_request, set_service, set_session, set_word_field}
+use Rattle.aom_sound.specs.Places.{Cell, Object, Place, Request, Service, Tidy, count_cells, held, in_session, moved, named, requested, same_place, service_of, set_request, set_service, set_session, set_word_field}
 use Rattle.aom_sound.specs.Servers.{all_unslotted, unslotted}
 
 -- each cell is changed by itself, and stays that of its object
@@ -49,6 +49,9 @@ names = record { of = λ c. Some c.object; first = λ c cs n. refl }
 
 abbrev pub requests : Reads requested
 requests = record { of = λ c. c.request; first = λ c cs n. refl }
+
+abbrev pub sessions : Reads in_session
+sessions = record { of = λ c. c.session; first = λ c cs n. refl }
 
 abbrev pub services : Reads service_of
 services = record { of = λ c. c.service; first = λ c cs n. refl }

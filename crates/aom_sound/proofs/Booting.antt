@@ -43,7 +43,7 @@ module _ (p : Image) (m : ℕ) (after : Shape) (w : SaysNoMore after (entry_shap
   abbrev layers : List Layer
   layers = Method (begins m) after ∷ Mark Nothing ∷ Dispatching Of_main [] ∷ []
 
-  fits : (r : Place) → Fits p (seen []) None (claim p (declared p []) (Method (begins m) after ∷ Mark Nothing ∷ Dispatching Of_main [] ∷ []) r)
+  fits : (r : Place) → Fits p (seen []) None (claim p (declared p []) layers r)
   fits (Register f i) = go (length (tasks_of (Mark Nothing ∷ Dispatching Of_main [] ∷ [])) == f)
     where
       go : (b : Bool) → Fits p (seen []) None (cond b (register after i) Null)
@@ -56,7 +56,7 @@ module _ (p : Image) (m : ℕ) (after : Shape) (w : SaysNoMore after (entry_shap
   fits (Elsewhere w) = tt
   fits (Going k) = tt
 
-  pub good : (t : Typing) → shape_at t m 0 ≡ Some after → gives_of p m ≡ Nothing → Good p t [] (Method (begins m) after ∷ Mark Nothing ∷ Dispatching Of_main [] ∷ [])
+  pub good : (t : Typing) → shape_at t m 0 ≡ Some after → gives_of p m ≡ Nothing → Good p t [] layers
   good t stands gives = record {
     stack = (
       stands,

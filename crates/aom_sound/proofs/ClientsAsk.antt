@@ -130,9 +130,9 @@ module _ (p : Image) (clients : List Client) (cs : List Cell) (fit : ClientsFit 
       ((d m : ℕ) → is_message_of d m e ≡ true → is_from d (service_of cs m).sender ≡ true) → seats_taken (asked_last e (service_of cs o.name)) ≤ most_of (thing_kind p o.thing) →
       ClientsFit p clients (reserved (asked_last e) o.name cs)
   fit_asked serves listed e entry new own room = record {
-    queues = by_server p cs o lives (asked_last e) (λ n v. QueueFits clients n v.queue) (queue_last clients o.name e (service_of cs o.name).queue entry new (fit.queues o.name)) (λ n other. fit.queues n);
-    sessions = by_server p cs o lives (asked_last e) (λ n v. (d : ℕ) → has_session v d ≡ true → server_of (client_at clients d) ≡ Some n) (fit.sessions o.name) (λ n other. fit.sessions n);
-    listed = by_server p cs o lives (asked_last e) (λ n v. (d : ℕ) → server_of (client_at clients d) ≡ Some n → has_session v d ≡ true) (fit.listed o.name) (λ n other. fit.listed n);
+    queues = by_server cs o lives (asked_last e) (λ n v. QueueFits clients n v.queue) (queue_last clients o.name e (service_of cs o.name).queue entry new (fit.queues o.name)) (λ n other. fit.queues n);
+    sessions = by_server cs o lives (asked_last e) (λ n v. (d : ℕ) → has_session v d ≡ true → server_of (client_at clients d) ≡ Some n) (fit.sessions o.name) (λ n other. fit.sessions n);
+    listed = by_server cs o lives (asked_last e) (λ n v. (d : ℕ) → server_of (client_at clients d) ≡ Some n → has_session v d ≡ true) (fit.listed o.name) (λ n other. fit.listed n);
     servers = servers_then p cs o lives (asked_last e) serves clients fit;
     names = names_then p cs o lives (asked_last e) serves clients fit;
     senders = senders_asked e own;
@@ -148,11 +148,11 @@ module _ (p : Image) (clients : List Client) (cs : List Cell) (fit : ClientsFit 
       (slots : ℕ) → IsFree (client_at clients c) → seats_taken (service_of cs o.name) < most_of (thing_kind p o.thing) →
       ClientsFit p (with_client c (Connecting o.name slots) clients) (reserved (asked_last (Connect_of c)) o.name cs)
   fit_connecting slots free room = fit_changed p c (Connecting o.name slots) clients cs (reserved (asked_last (Connect_of c)) o.name cs) fit record {
-    queues = by_server p cs o lives (asked_last (Connect_of c)) (λ n v. QueueFits (with_client c (Connecting o.name slots) clients) n v.queue)
+    queues = by_server cs o lives (asked_last (Connect_of c)) (λ n v. QueueFits (with_client c (Connecting o.name slots) clients) n v.queue)
         (queue_last (with_client c (Connecting o.name slots) clients) o.name (Connect_of c) (service_of cs o.name).queue entry (none_passes (is_connect_of c) clients o.name never (service_of cs o.name).queue (fit.queues o.name)) (queues o.name))
         (λ n e. queues n);
-    others = λ n d e. by_server p cs o lives (asked_last (Connect_of c)) (λ n v. has_session v d ≡ has_session (service_of cs n) d) refl (λ n other. refl) n;
-    has = by_server p cs o lives (asked_last (Connect_of c)) (λ n v. has_session v c ≡ true → server_of (Connecting o.name slots) ≡ Some n) (λ h. unlisted o.name h) (λ n other h. unlisted n h);
+    others = λ n d e. by_server cs o lives (asked_last (Connect_of c)) (λ n v. has_session v d ≡ has_session (service_of cs n) d) refl (λ n other. refl) n;
+    has = by_server cs o lives (asked_last (Connect_of c)) (λ n v. has_session v c ≡ true → server_of (Connecting o.name slots) ≡ Some n) (λ h. unlisted o.name h) (λ n other h. unlisted n h);
     listed = λ n h. cc;
     servers = servers_then p cs o lives (asked_last (Connect_of c)) serves clients fit;
     names = names_then p cs o lives (asked_last (Connect_of c)) serves clients fit;

@@ -17,7 +17,7 @@ use Rattle.aom_sound.proofs.Maps.{named_name}
 use Rattle.aom_sound.proofs.Queues.{client_here, none_passes, none_stays}
 use Rattle.aom_sound.proofs.Services.{service_unnamed}
 use Rattle.aom_sound.proofs.Sifted.{a_cell_of, cell_of, named_cell, named_sifted, service_cell, service_in, withdrawn_so, requested_before}
-use Rattle.aom_sound.specs.Clients.{asked_server, Listed, asked_of, client_at, commanded, connecting, leaving, most_of, refusal, sending, told, with_client, with_message}
+use Rattle.aom_sound.specs.Clients.{sent_message, asked_server, Listed, asked_of, client_at, commanded, connecting, leaving, most_of, refusal, sending, told, with_client, with_message}
 use Rattle.aom_sound.specs.Kept.{ClientsFit, EntryFits, is_close_of, is_message_of}
 use Rattle.aom_sound.specs.Places.{Asked, Cell, Close_of, Connect_of, Elsewhere, Message_of, Object, Queued, Tidy, held, named, service_of, set_service, unserved, requested, Request}
 use Rattle.aom_sound.specs.Servers.{asked_last, has_session, is_from, is_message, is_queue, is_server, left_by, reserved, seats_taken, stays, withdrawn}
@@ -26,17 +26,6 @@ use Rattle.aom_transcript.specs.declared.event.Command.{Command}
 use Rattle.aom_transcript.specs.declared.event.Command.TheVariants.{Close, Connect, Die, Send}
 
 -- ---- what stands where clients are
-
--- a message as its client sends it to a server
-abbrev pub sent_message : ℕ → ℕ → List ℤ → ℕ → Cell
-sent_message c name words server = record {
-  object = record { name = name; thing = Message };
-  words = words;
-  request = None;
-  session = false;
-  service = record unserved { sender = Some (record { client = c; holds_slot = true; is_told = true }) };
-  owner = Elsewhere (Queued server name);
-}
 
 -- no client has a message of that name there, so that none waits
 pub none_named : (m : ℕ) (es : List Asked) → ((d : ℕ) → list_any (is_message_of d m) es ≡ false) → list_any (λ e. is_message m e) es ≡ false

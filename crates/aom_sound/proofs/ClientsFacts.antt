@@ -46,15 +46,8 @@ message_any c m (Message_of d k ∷ es) h = go (d == c) (k == m) (message_any c 
     go true false rest h = rest h
     go false false rest h = rest h
 
-module _ (p : Image) (t : Typing) (wired : IsWired p) (s : State) (w : WellTyped p t s) where
-  -- what waits in a queue is no server
-  pub waiting_well : (n m : ℕ) (o : Object) → held s.cells (Elsewhere (Queued n m)) ≡ Some o → is_server p o.thing ≡ false
-  waiting_well n m o e = message_plain p o.thing (queued_lower p wired x.0 o.thing x.3).0
-    where
-      x : IsQueuedAt p s.cells n m o.thing
-      x = queued_thing_of p s.cells w.layers n m o.thing (fits_thing p (seen s.cells) o _ (subst (λ y. Fits p (seen s.cells) y (claim p (declared p s.cells) w.layers (Elsewhere (Queued n m)))) e (w.good.fits (Elsewhere (Queued n m)))))
-
-  -- and what a client sent waits there
+module _ (p : Image) (t : Typing) (s : State) (w : WellTyped p t s) where
+  -- what a client sent waits in the queue
   pub queued_well :
       (clients : List Client) → ClientsFit p clients s.cells → (n c m : ℕ) → list_any (is_message_of c m) (service_of s.cells n).queue ≡ true →
       (x : Object) × (held s.cells (Elsewhere (Queued n m)) ≡ Some x)
@@ -80,6 +73,14 @@ module _ (p : Image) (t : Typing) (wired : IsWired p) (s : State) (w : WellTyped
       go : (o : Option Object) → named s.cells n ≡ o → (x : Object) × (held s.cells (Elsewhere (Queued n m)) ≡ Some x)
       go None e = absurd (true≢false (sym has ∙ ap (λ v. has_message v m) (service_unnamed s.cells n e)))
       go (Some o) e = at o e (is_server p o.thing) refl
+
+module _ (p : Image) (t : Typing) (wired : IsWired p) (s : State) (w : WellTyped p t s) where
+  -- what waits in a queue is no server
+  pub waiting_well : (n m : ℕ) (o : Object) → held s.cells (Elsewhere (Queued n m)) ≡ Some o → is_server p o.thing ≡ false
+  waiting_well n m o e = message_plain p o.thing (queued_lower p wired x.0 o.thing x.3).0
+    where
+      x : IsQueuedAt p s.cells n m o.thing
+      x = queued_thing_of p s.cells w.layers n m o.thing (fits_thing p (seen s.cells) o _ (subst (λ y. Fits p (seen s.cells) y (claim p (declared p s.cells) w.layers (Elsewhere (Queued n m)))) e (w.good.fits (Elsewhere (Queued n m)))))
 
 -- ---- the dispatch of a server
 

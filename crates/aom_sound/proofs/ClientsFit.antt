@@ -125,17 +125,19 @@ fit_changed p c to clients cs cs' fit ch = record {
 
 -- ---- the service of one server changes
 
+-- what holds of what it is now, and of all others
+pub by_server :
+    (cs : List Cell) (o : Object) → named cs o.name ≡ Some o → (f : Service → Service) (P : ℕ → Service → Type 0) → P o.name (f (service_of cs o.name)) →
+    ((n : ℕ) → (o.name == n) ≡ false → P n (service_of cs n)) → (n : ℕ) → P n (service_of (reserved f o.name cs) n)
+by_server cs o lives f P here others n = go (o.name == n) refl
+  where
+    go : (b : Bool) → (o.name == n) ≡ b → P n (service_of (reserved f o.name cs) n)
+    go true e = subst (λ k. P k (service_of (reserved f o.name cs) k)) (eqb-true o.name n e) (subst (λ v. P o.name v) (sym (service_here cs o.name (f (service_of cs o.name)) o lives)) here)
+    go false e = subst (λ v. P n v) (sym (service_there cs o.name n (f (service_of cs o.name)) e)) (others n e)
+
 module _ (p : Image) (cs : List Cell) (o : Object) (lives : named cs o.name ≡ Some o) (f : Service → Service) where
   abbrev then : List Cell
   then = reserved f o.name cs
-
-  -- what holds of what it is now, and of all others
-  pub by_server : (P : ℕ → Service → Type 0) → P o.name (f (service_of cs o.name)) → ((n : ℕ) → (o.name == n) ≡ false → P n (service_of cs n)) → (n : ℕ) → P n (service_of then n)
-  by_server P here others n = go (o.name == n) refl
-    where
-      go : (b : Bool) → (o.name == n) ≡ b → P n (service_of then n)
-      go true e = subst (λ k. P k (service_of then k)) (eqb-true o.name n e) (subst (λ v. P o.name v) (sym (service_here cs o.name (f (service_of cs o.name)) o lives)) here)
-      go false e = subst (λ v. P n v) (sym (service_there cs o.name n (f (service_of cs o.name)) e)) (others n e)
 
   -- it is enlisted
   pub enlisted_then :
@@ -152,7 +154,7 @@ module _ (p : Image) (cs : List Cell) (o : Object) (lives : named cs o.name ≡ 
       (clients : List Client) → ClientsFit p clients cs → seats_taken (f (service_of cs o.name)) ≤ most_of (thing_kind p o.thing) → (x : Object) → named then x.name ≡ Some x →
       seats_taken (service_of then x.name) ≤ most_of (thing_kind p x.thing)
   seats_then clients fit room x there =
-      by_server (λ n v. named cs n ≡ Some x → n ≡ x.name → seats_taken v ≤ most_of (thing_kind p x.thing)) here others x.name
+      by_server cs o lives f (λ n v. named cs n ≡ Some x → n ≡ x.name → seats_taken v ≤ most_of (thing_kind p x.thing)) here others x.name
       (sym (named_served cs o.name (f (service_of cs o.name)) x.name) ∙ there) refl
     where
       here : named cs o.name ≡ Some x → o.name ≡ x.name → seats_taken (f (service_of cs o.name)) ≤ most_of (thing_kind p x.thing)
@@ -166,10 +168,10 @@ module _ (p : Image) (cs : List Cell) (o : Object) (lives : named cs o.name ≡ 
       (clients : List Client) → ClientsFit p clients cs → ((d : ℕ) → is_from d (service_of cs o.name).sender ≡ true → is_from d (f (service_of cs o.name)).sender ≡ true) →
       ((d m : ℕ) → list_any (is_message_of d m) (f (service_of cs o.name)).queue ≡ true → is_from d (service_of cs m).sender ≡ true) →
       (n d m : ℕ) → list_any (is_message_of d m) (service_of then n).queue ≡ true → is_from d (service_of then m).sender ≡ true
-  senders_then clients fit keeps here n d m = by_server (λ n v. list_any (is_message_of d m) v.queue ≡ true → is_from d (service_of then m).sender ≡ true) (λ h. still (here d m h)) (λ n other h. still (fit.senders n d m h)) n
+  senders_then clients fit keeps here n d m = by_server cs o lives f (λ n v. list_any (is_message_of d m) v.queue ≡ true → is_from d (service_of then m).sender ≡ true) (λ h. still (here d m h)) (λ n other h. still (fit.senders n d m h)) n
     where
       still : is_from d (service_of cs m).sender ≡ true → is_from d (service_of then m).sender ≡ true
-      still = by_server (λ m v. is_from d (service_of cs m).sender ≡ true → is_from d v.sender ≡ true) (keeps d) (λ n other h. h) m
+      still = by_server cs o lives f (λ m v. is_from d (service_of cs m).sender ≡ true → is_from d v.sender ≡ true) (keeps d) (λ n other h. h) m
 
   module _ (serves : is_server p o.thing ≡ true) (clients : List Client) (fit : ClientsFit p clients cs) where
     pub servers_then : (x : Object) → named then x.name ≡ Some x → is_server p x.thing ≡ false → ((service_of then x.name).queue ≡ []) × ((service_of then x.name).sessions ≡ [])
@@ -200,12 +202,12 @@ module _ (p : Image) (clients : List Client) (cs : List Cell) (fit : ClientsFit 
 
     pub fit_accepted : ClientsFit p (with_client c (at_opening session own) clients) (reserved (opened c) o.name cs)
     fit_accepted = fit_changed p c (at_opening session own) clients cs (reserved (opened c) o.name cs) fit record {
-      queues = by_server p cs o lives (opened c) (λ n v. QueueFits (with_client c (at_opening session own) clients) n v.queue) (queues o.name) (λ n e. queues n);
-      others = λ n d e. by_server p cs o lives (opened c) (λ n v. has_session v d ≡ has_session (service_of cs n) d)
+      queues = by_server cs o lives (opened c) (λ n v. QueueFits (with_client c (at_opening session own) clients) n v.queue) (queues o.name) (λ n e. queues n);
+      others = λ n d e. by_server cs o lives (opened c) (λ n v. has_session v d ≡ has_session (service_of cs n) d)
           (list_any-append (λ x. x == d) (service_of cs o.name).sessions (c ∷ []) ∙ ap (λ b. list_any (λ x. x == d) (service_of cs o.name).sessions || (b || false)) e ∙ or-false (list_any (λ x. x == d) (service_of cs o.name).sessions))
           (λ n other. refl) n;
-      has = by_server p cs o lives (opened c) (λ n v. has_session v c ≡ true → server_of (at_opening session own) ≡ Some n) (λ h. is_open own at) (λ n other h. let clash : Some n ≡ None = sym (fit.sessions n c h) ∙ (connecting_only o.name n own at).2 in cc);
-      listed = by_server p cs o lives (opened c) (λ n v. server_of (at_opening session own) ≡ Some n → has_session v c ≡ true) (λ h. eqb_same (service_of cs o.name).sessions) (λ n other h.
+      has = by_server cs o lives (opened c) (λ n v. has_session v c ≡ true → server_of (at_opening session own) ≡ Some n) (λ h. is_open own at) (λ n other h. let clash : Some n ≡ None = sym (fit.sessions n c h) ∙ (connecting_only o.name n own at).2 in cc);
+      listed = by_server cs o lives (opened c) (λ n v. server_of (at_opening session own) ≡ Some n → has_session v c ≡ true) (λ h. eqb_same (service_of cs o.name).sessions) (λ n other h.
           let same : Some o.name ≡ Some n = sym (is_open own at) ∙ h in
           absurd (true≢false (sym (eq-eqb o.name n cc) ∙ other)));
       servers = servers_then p cs o lives (opened c) serves clients fit;
@@ -230,9 +232,9 @@ module _ (p : Image) (clients : List Client) (cs : List Cell) (fit : ClientsFit 
 
     pub fit_parted : ClientsFit p (with_client c (at_parting own) clients) (reserved (parted c) o.name cs)
     fit_parted = fit_changed p c (at_parting own) clients cs (reserved (parted c) o.name cs) fit record {
-      queues = by_server p cs o lives (parted c) (λ n v. QueueFits (with_client c (at_parting own) clients) n v.queue) (queues o.name) (λ n e. queues n);
-      others = λ n d e. by_server p cs o lives (parted c) (λ n v. has_session v d ≡ has_session (service_of cs n) d) (any-filter_same (λ x. x == d) (is_other c) true (other_stays d e) (service_of cs o.name).sessions) (λ n other. refl) n;
-      has = by_server p cs o lives (parted c) (λ n v. has_session v c ≡ true → server_of (at_parting own) ≡ Some n)
+      queues = by_server cs o lives (parted c) (λ n v. QueueFits (with_client c (at_parting own) clients) n v.queue) (queues o.name) (λ n e. queues n);
+      others = λ n d e. by_server cs o lives (parted c) (λ n v. has_session v d ≡ has_session (service_of cs n) d) (any-filter_same (λ x. x == d) (is_other c) true (other_stays d e) (service_of cs o.name).sessions) (λ n other. refl) n;
+      has = by_server cs o lives (parted c) (λ n v. has_session v c ≡ true → server_of (at_parting own) ≡ Some n)
           (λ h. absurd (true≢false (sym h ∙ any-filter_same (λ x. x == c) (is_other c) false (λ k e. ap not e) (service_of cs o.name).sessions)))
           (λ n other h. let same : Some o.name ≡ Some n = sym ((leaving_only o.name n own at).2) ∙ fit.sessions n c h in absurd (true≢false (sym (eq-eqb o.name n cc) ∙ other)));
       listed = λ n h. let clash : None ≡ Some n = sym free.alone ∙ h in cc;

@@ -182,7 +182,7 @@ module _ (p : Image) (t : Typing) (wired : IsWired p) (c : Choice) (s : State) (
   tidy = w.good.tidy
 
   queued : (n c m : ℕ) → list_any (is_message_of c m) (service_of s.cells n).queue ≡ true → (x : Object) × (held s.cells (Elsewhere (Queued n m)) ≡ Some x)
-  queued = queued_well p t wired s w s.clients kept.fit
+  queued = queued_well p t s w s.clients kept.fit
 
   -- the server that is dispatched stands
   there :

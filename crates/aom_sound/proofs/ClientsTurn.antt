@@ -127,10 +127,10 @@ pub fit_taken :
     (p : Image) (clients : List Client) (cs : List Cell) (o : Object) → named cs o.name ≡ Some o → is_some (requested cs o.name) ≡ true → (e : Asked) (es : List Asked) →
     (service_of cs o.name).queue ≡ e ∷ es → ClientsFit p clients cs → ClientsFit p clients (reserved taken_first o.name cs)
 fit_taken p clients cs o lives listed e es queue fit = record {
-  queues = by_server p cs o lives taken_first (λ n v. QueueFits clients n v.queue) (subst (λ q. QueueFits clients o.name (rest q)) (sym queue) (subst (λ q. QueueFits clients o.name q) queue (fit.queues o.name)).1) (λ n other. fit.queues n);
-  sessions = by_server p cs o lives taken_first (λ n v. (d : ℕ) → has_session v d ≡ true → server_of (client_at clients d) ≡ Some n) (fit.sessions o.name) (λ n other. fit.sessions n);
-  listed = by_server p cs o lives taken_first (λ n v. (d : ℕ) → server_of (client_at clients d) ≡ Some n → has_session v d ≡ true) (fit.listed o.name) (λ n other. fit.listed n);
-  servers = λ x h plain. by_server p cs o lives taken_first (λ n v. ((service_of cs n).queue ≡ []) × ((service_of cs n).sessions ≡ []) → (v.queue ≡ []) × (v.sessions ≡ [])) (λ h. (ap rest h.0, h.1)) (λ n other h. h) x.name (fit.servers x (sym (named_served cs o.name (taken_first (service_of cs o.name)) x.name) ∙ h) plain);
+  queues = by_server cs o lives taken_first (λ n v. QueueFits clients n v.queue) (subst (λ q. QueueFits clients o.name (rest q)) (sym queue) (subst (λ q. QueueFits clients o.name q) queue (fit.queues o.name)).1) (λ n other. fit.queues n);
+  sessions = by_server cs o lives taken_first (λ n v. (d : ℕ) → has_session v d ≡ true → server_of (client_at clients d) ≡ Some n) (fit.sessions o.name) (λ n other. fit.sessions n);
+  listed = by_server cs o lives taken_first (λ n v. (d : ℕ) → server_of (client_at clients d) ≡ Some n → has_session v d ≡ true) (fit.listed o.name) (λ n other. fit.listed n);
+  servers = λ x h plain. by_server cs o lives taken_first (λ n v. ((service_of cs n).queue ≡ []) × ((service_of cs n).sessions ≡ []) → (v.queue ≡ []) × (v.sessions ≡ [])) (λ h. (ap rest h.0, h.1)) (λ n other h. h) x.name (fit.servers x (sym (named_served cs o.name (taken_first (service_of cs o.name)) x.name) ∙ h) plain);
   names = λ n m x h. fit.names n m x (sym (held_served cs o.name (taken_first (service_of cs o.name)) (Elsewhere (Queued n m))) ∙ h);
   senders = senders_then p cs o lives taken_first clients fit (λ d h. h)
       (λ d m h. fit.senders o.name d m (ap (λ q. list_any (is_message_of d m) q) queue ∙ or_right (is_message_of d m e) (list_any (is_message_of d m) es) (ap (λ q. list_any (is_message_of d m) (rest q)) (sym queue) ∙ h)));

@@ -53,9 +53,9 @@ good_asked p t cs o lives e plain good =
     (tidy_served cs o.name (asked_last e (service_of cs o.name)) good.tidy) good
   where
     messages : (n m : ℕ) → has_message (service_of (reserved (asked_last e) o.name cs) n) m ≡ has_message (service_of cs n) m
-    messages n m = by_server p cs o lives (asked_last e) (λ n v. has_message v m ≡ has_message (service_of cs n) m)
+    messages n m = by_server cs o lives (asked_last e) (λ n v. has_message v m ≡ has_message (service_of cs n) m)
         (list_any-append (λ x. is_message m x) (service_of cs o.name).queue (e ∷ []) ∙ ap (λ b. list_any (λ x. is_message m x) (service_of cs o.name).queue || (b || false)) (plain m) ∙ or-false (list_any (λ x. is_message m x) (service_of cs o.name).queue))
         (λ n other. refl) n
 
     sessions : (n c : ℕ) → has_session (service_of (reserved (asked_last e) o.name cs) n) c ≡ has_session (service_of cs n) c
-    sessions n c = by_server p cs o lives (asked_last e) (λ n v. has_session v c ≡ has_session (service_of cs n) c) refl (λ n other. refl) n
+    sessions n c = by_server cs o lives (asked_last e) (λ n v. has_session v c ≡ has_session (service_of cs n) c) refl (λ n other. refl) n

@@ -3,7 +3,7 @@ use Rattle.std.proofs.Common.{[], Bool, List, None, Option, Some, ap, arith, con
 use Rattle.std.proofs.lemmas.Bool.{eq-eqb, eqb-true}
 use Rattle.std.proofs.lemmas.Option.{none-some}
 use Rattle.aom_image.specs.Image.{Image}
-use Rattle.aom_image.specs.declared.method.Thing.TheVariants.{Object as An_object_of, Message}
+use Rattle.aom_image.specs.declared.method.Thing.{Thing}
 use Rattle.aom_shape.specs.Kinds.{is_object}
 use Rattle.aom_sound.proofs.Altering.{asking, bereaving, count_kept, moving, opening, storing}
 use Rattle.aom_sound.proofs.Maps.{same_place-true, without_none}
@@ -29,20 +29,19 @@ count_bereaved p n = count_kept (bereaving p n)
 
 -- ---- what comes and what goes
 
-pub count_new_object : (name class : ℕ) (words : List ℤ) (owner : Place) (cs : List Cell) → count_cells (with_new name (An_object_of class) words owner cs) ≡ suc (count_cells cs)
-count_new_object name class words owner cs = refl
+-- cells of things that pass a test are counted
+pub record CountsBy (count : List Cell → ℕ) : Type 0 where
+  pub passes : Thing → Bool
+  pub some : (c : Cell) (cs : List Cell) → count (c ∷ cs) ≡ cond (passes c.object.thing) (suc (count cs)) (count cs)
 
-pub count_new_message : (name : ℕ) (words : List ℤ) (owner : Place) (cs : List Cell) → count_cells (with_new name Message words owner cs) ≡ count_cells cs
-count_new_message name words owner cs = refl
+abbrev pub counted_by : (Thing → Bool) → Option Object → ℕ
+counted_by passes None = 0
+counted_by passes (Some o) = cond (passes o.thing) 1 0
 
--- one where an object is there
-abbrev pub counted_in : Option Object → ℕ
-counted_in None = 0
-counted_in (Some o) = cond (is_object o.thing) 1 0
-
-pub count_without : (cs : List Cell) (g : Place) → Tidy cs → count_cells cs ≡ counted_in (held cs g) + count_cells (without g cs)
-count_without [] g tidy = refl
-count_without (c ∷ cs) g tidy = go (same_place c.owner g) refl (count_without cs g tidy.2)
+-- one less where one of them goes
+pub counted_without : {count : List Cell → ℕ} (k : CountsBy count) (cs : List Cell) (g : Place) → Tidy cs → count cs ≡ counted_by k.passes (held cs g) + count (without g cs)
+counted_without k [] g tidy = omega arith
+counted_without {count = count} k (c ∷ cs) g tidy = k.some c cs ∙ go (same_place c.owner g) refl (counted_without k cs g tidy.2)
   where
     one : (b : Bool) (n m : ℕ) → m ≡ n → cond b (suc n) n ≡ cond b 1 0 + m
     one true n m e = omega (arith, e)
@@ -52,11 +51,16 @@ count_without (c ∷ cs) g tidy = go (same_place c.owner g) refl (count_without 
     more true n k m e = omega (arith, e)
     more false n k m e = e
 
-    go : (b : Bool) → same_place c.owner g ≡ b → count_cells cs ≡ counted_in (held cs g) + count_cells (without g cs)
-        → count_cells (c ∷ cs) ≡ counted_in (cond b (Some c.object) (held cs g)) + count_cells (cond b (without g cs) (c ∷ without g cs))
-    go true is rest =
-        one (is_object c.object.thing) (count_cells cs) (count_cells (without g cs)) (ap count_cells (without_none cs g (ap (λ r. held cs r) (sym (same_place-true c.owner g is)) ∙ tidy.0)))
-    go false is rest = more (is_object c.object.thing) (count_cells cs) (counted_in (held cs g)) (count_cells (without g cs)) rest
+    go : (b : Bool) → same_place c.owner g ≡ b → count cs ≡ counted_by k.passes (held cs g) + count (without g cs)
+        → cond (k.passes c.object.thing) (suc (count cs)) (count cs) ≡ counted_by k.passes (cond b (Some c.object) (held cs g)) + count (cond b (without g cs) (c ∷ without g cs))
+    go true is rest = one (k.passes c.object.thing) (count cs) (count (without g cs)) (ap count (without_none cs g (ap (λ r. held cs r) (sym (same_place-true c.owner g is)) ∙ tidy.0)))
+    go false is rest = more (k.passes c.object.thing) (count cs) (counted_by k.passes (held cs g)) (count (without g cs)) rest ∙ ap (λ n. counted_by k.passes (held cs g) + n) (sym (k.some c (without g cs)))
+
+abbrev pub counted_in : Option Object → ℕ
+counted_in o = counted_by is_object o
+
+pub count_without : (cs : List Cell) (g : Place) → Tidy cs → count_cells cs ≡ counted_in (held cs g) + count_cells (without g cs)
+count_without = counted_without (record { passes = is_object; some = λ c cs. refl })
 
 -- ---- against all that is in the list
 

@@ -44,22 +44,20 @@ none_first cs n (d ∷ ss) e c among = go (held cs (Elsewhere (Session n d))) re
         (first_session cs n ss ≡ None → is_among c ss ≡ true → held cs (Elsewhere (Session n c)) ≡ None) → held cs (Elsewhere (Session n c)) ≡ None
     go o there e later = grind (arith, here)
 
-record Found (cs : List Cell) (n : ℕ) (ss : List ℕ) (x : Seat) : Type 0 where
-  client : ℕ
-  place : x.place ≡ Elsewhere (Session n client)
-  there : held cs (Elsewhere (Session n client)) ≡ Some x.object
+pub record Found (cs : List Cell) (n : ℕ) (x : Seat) : Type 0 where
+  pub client : ℕ
+  pub place : x.place ≡ Elsewhere (Session n client)
+  pub there : held cs x.place ≡ Some x.object
 
-found_first : (cs : List Cell) (n : ℕ) (ss : List ℕ) (x : Seat) → first_session cs n ss ≡ Some x → Found cs n ss x
+pub found_first : (cs : List Cell) (n : ℕ) (ss : List ℕ) (x : Seat) → first_session cs n ss ≡ Some x → Found cs n x
 found_first cs n [] x e = cc
 found_first cs n (d ∷ ss) x e = go (held cs (Elsewhere (Session n d))) refl e (λ e. found_first cs n ss x e)
   where
-    go :
-        (o : Option Object) → held cs (Elsewhere (Session n d)) ≡ o → seat_or o (Elsewhere (Session n d)) (first_session cs n ss) ≡ Some x →
-        (first_session cs n ss ≡ Some x → Found cs n ss x) → Found cs n (d ∷ ss) x
-    go None there e later = let f = later e in record { client = f.client; place = f.place; there = f.there }
+    go : (o : Option Object) → held cs (Elsewhere (Session n d)) ≡ o → seat_or o (Elsewhere (Session n d)) (first_session cs n ss) ≡ Some x → (first_session cs n ss ≡ Some x → Found cs n x) → Found cs n x
+    go None there e later = later e
     go (Some o) there e later =
         let same : record { object = o; place = Elsewhere (Session n d) } ≡ x = cc in
-        record { client = d; place = sym (ap (λ (y : Seat). y.place) same); there = there ∙ ap (λ (y : Seat). Some y.object) same }
+        subst (λ (y : Seat). Found cs n y) same (record { client = d; place = refl; there = there })
 
 -- nothing below is at a session with a cell that does not belong there
 none_from : (p : Image) (t : Typing) (cs : List Cell) (n c : ℕ) (ls : List Layer) (back : Back) → Stack p t cs back ls → (SomeIn n ls → ⊥) → NoneFrom (Elsewhere (Session n c)) ls
@@ -218,7 +216,7 @@ module _ (p : Image) (t : Typing) (wired : IsWired p) (typed : IsTyped p t) (s :
       go c false other h = fits_unowning p (seen cs) _ Null refl h
   closing_well (Some x) e =
       let f = found_first cs o.name (service_of cs o.name).sessions x e in
-      subst (λ (y : Seat). WellTyped p t (parting p o (Some y) (tasks_of ls) s)) (ap (λ q. record { object = x.object; place = q }) (sym f.place)) (session_gone f.client x.object f.there)
+      subst (λ (y : Seat). WellTyped p t (parting p o (Some y) (tasks_of ls) s)) (ap (λ q. record { object = x.object; place = q }) (sym f.place)) (session_gone f.client x.object (ap (λ q. held s.cells q) (sym f.place) ∙ f.there))
 
   closing_goes : Keeps p t (closing p (tasks_of (Dying o ∷ ls)) s)
   closing_goes = subst (λ x. Keeps p t (parting_from p x (tasks_of ls) s)) (sym there) (closing_well (first_session cs o.name (service_of cs o.name).sessions) refl)

@@ -102,16 +102,6 @@ field_in_range Static f = tt
 field_in_range AtRoot f = tt
 field_in_range (Inside o from) f = tt
 
-destroy_in_range : (p : Image) (o : Option Object) (items : List Item) (ts : List Task) (s : State) → AllInRange s.cells → AllInRange (destroyed p o items ts s).cells
-destroy_in_range p None items ts s all = all
-destroy_in_range p (Some o) items ts s all = move_in_range (Entry (length items)) (Going (length ts)) s.cells tt all
-
-deal_in_range : (p : Image) (items : List Item) (ts : List Task) (s : State) → AllInRange s.cells → AllInRange (dealt_with p items ts s).cells
-deal_in_range p [] ts s all = all
-deal_in_range p (An_object ∷ items) ts s all = destroy_in_range p (held s.cells (Entry (length items))) items ts s all
-deal_in_range p (An_operation m w ∷ items) ts s all = all
-deal_in_range p (A_mark ∷ items) ts s all = all
-
 -- the result of a call comes to a register that the call names
 result_in_range : (p : Image) → IsWired p → (m place : ℕ) → IsRegister (result_register (instr_at p m place))
 result_in_range p wired m place = go (instr_at p m place) refl

@@ -21,6 +21,7 @@ pub mod Items
 pub mod Seats
 pub mod Claimed
 pub mod Guarded
+pub mod Exchanging
 pub mod Fitting
 pub mod Moving
 pub mod Turned
@@ -30,6 +31,7 @@ pub mod Counting
 pub mod Straight
 pub mod Jumps
 pub mod Storing
+pub mod Sessions
 pub mod Words
 pub mod Requesting
 pub mod Serving

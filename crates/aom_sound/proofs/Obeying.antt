@@ -8,14 +8,14 @@ use Rattle.aom_clients.specs.declared.client.Client.TheVariants.{Open}
 use Rattle.aom_clients.specs.declared.refusal.Refusal.{Refusal}
 use Rattle.aom_rules.specs.Typing.{Typing}
 use Rattle.aom_sound.proofs.ClientsAsk.{asked_there}
-use Rattle.aom_sound.proofs.ClientsCommand.{sent_message, nobody, none_named, server_stays, server_there}
+use Rattle.aom_sound.proofs.ClientsCommand.{nobody, none_named, server_stays, server_there}
 use Rattle.aom_sound.proofs.Commanding.{good_asked}
 use Rattle.aom_sound.proofs.Owners.{IsQueuedAt, in_queue, queued_lower}
 use Rattle.aom_sound.proofs.Sending.{good_sent}
 use Rattle.aom_sound.proofs.Signals.{at_rest}
 use Rattle.aom_sound.proofs.Withdrawing.{good_withdrawn}
 use Rattle.aom_sound.specs.Claims.{forms, items_of}
-use Rattle.aom_sound.specs.Clients.{asked_server, Listed, client_at, commanded, connecting, leaving, refusal, sending, told}
+use Rattle.aom_sound.specs.Clients.{sent_message, asked_server, Listed, client_at, commanded, connecting, leaving, refusal, sending, told}
 use Rattle.aom_sound.specs.Kept.{ClientsFit}
 use Rattle.aom_sound.specs.Laws.{IsWired}
 use Rattle.aom_sound.specs.Owned.{NoneGoes}

@@ -114,7 +114,7 @@ module _ (p : Image) (t : Typing) (wired : IsWired p) (typed : IsTyped p t) (s :
   tidy_now = tidy_served s.cells n (taken_first (service_of s.cells n)) good.tidy
 
   pub sessions_now : (m c : ℕ) → has_session (service_of cs m) c ≡ has_session (service_of s.cells m) c
-  sessions_now m c = by_server p s.cells x.object lives taken_first (λ m v. has_session v c ≡ has_session (service_of s.cells m) c) refl (λ m other. refl) m
+  sessions_now m c = by_server s.cells x.object lives taken_first (λ m v. has_session v c ≡ has_session (service_of s.cells m) c) refl (λ m other. refl) m
 
   pub sits : (above : List Seat) × AllSit s.cells (x ∷ above) × ((y : Object) → named s.cells y.name ≡ Some y → rank y.thing < rank x.object.thing → SomeSits y.name (x ∷ above) → ⊥)
   sits = chain p t wired s w idle_now x.place x.object there (subst (λ y. 0 < rank y) (sym its_class.2) (omega arith))
@@ -136,7 +136,7 @@ module _ (p : Image) (t : Typing) (wired : IsWired p) (typed : IsTyped p t) (s :
 
   module _ (e : Asked) (es : List Asked) (queue : (service_of s.cells n).queue ≡ e ∷ es) (plain_first : (k : ℕ) → is_message k e ≡ false) where
     messages : (m k : ℕ) → has_message (service_of cs m) k ≡ has_message (service_of s.cells m) k
-    messages m k = by_server p s.cells x.object lives taken_first (λ m v. has_message v k ≡ has_message (service_of s.cells m) k)
+    messages m k = by_server s.cells x.object lives taken_first (λ m v. has_message v k ≡ has_message (service_of s.cells m) k)
         (ap (λ q. list_any (λ e. is_message k e) (rest_of q)) queue ∙ sym (ap (λ q. list_any (λ e. is_message k e) q) queue ∙ ap (λ b. b || list_any (λ e. is_message k e) es) (plain_first k)))
         (λ m other. refl) m
 
@@ -289,7 +289,7 @@ module _ (p : Image) (t : Typing) (wired : IsWired p) (typed : IsTyped p t) (s :
     held_served_so q = held_moved cs (Elsewhere (Queued n m)) (Elsewhere In_service) q free
 
     messages_other : (i j : ℕ) → ((n == i) && (m == j)) ≡ false → has_message (service_of cs i) j ≡ has_message (service_of s.cells i) j
-    messages_other i j = by_server p s.cells x.object lives taken_first (λ i v. ((n == i) && (m == j)) ≡ false → has_message v j ≡ has_message (service_of s.cells i) j)
+    messages_other i j = by_server s.cells x.object lives taken_first (λ i v. ((n == i) && (m == j)) ≡ false → has_message v j ≡ has_message (service_of s.cells i) j)
         (λ other. ap (λ q. list_any (λ e. is_message j e) (rest_of q)) queue ∙ sym (ap (λ q. list_any (λ e. is_message j e) q) queue ∙ ap (λ b. b || list_any (λ e. is_message j e) es) (sym (ap (λ b. b && (m == j)) (eq-eqb n n refl)) ∙ other)))
         (λ i other same. refl) i
 

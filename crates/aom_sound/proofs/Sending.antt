@@ -64,7 +64,7 @@ module _ (p : Image) (t : Typing) (cs : List Cell) (good : Good p t cs []) (o : 
     where
       go : (b : Bool) → (name == n) ≡ b → has_session (cond b message.service (service_of rest n)) d ≡ has_session (service_of cs n) d
       go true e = ap (λ xs. list_any (λ k. k == d) xs) no_session ∙ sym (ap (λ v. has_session v d) (ap (λ k. service_of cs k) (sym (eqb-true name n e)) ∙ service_unnamed cs name free))
-      go false e = by_server p cs o lives (asked_last (Message_of c name)) (λ n v. has_session v d ≡ has_session (service_of cs n) d) refl (λ n other. refl) n
+      go false e = by_server cs o lives (asked_last (Message_of c name)) (λ n v. has_session v d ≡ has_session (service_of cs n) d) refl (λ n other. refl) n
 
   or_false : (b : Bool) → (b || false) ≡ b
   or_false true = refl
@@ -75,7 +75,7 @@ module _ (p : Image) (t : Typing) (cs : List Cell) (good : Good p t cs []) (o : 
     where
       go : (b : Bool) → (name == n) ≡ b → has_message (cond b message.service (service_of rest n)) m ≡ has_message (service_of cs n) m
       go true e = ap (λ q. list_any (λ x. is_message m x) q) no_queue ∙ sym (ap (λ v. has_message v m) (ap (λ k. service_of cs k) (sym (eqb-true name n e)) ∙ service_unnamed cs name free))
-      go false e = by_server p cs o lives (asked_last (Message_of c name)) (λ n v. ((o.name == n) && (name == m)) ≡ false → has_message v m ≡ has_message (service_of cs n) m)
+      go false e = by_server cs o lives (asked_last (Message_of c name)) (λ n v. ((o.name == n) && (name == m)) ≡ false → has_message v m ≡ has_message (service_of cs n) m)
           (λ other. list_any-append (λ x. is_message m x) (service_of cs o.name).queue (Message_of c name ∷ []) ∙ ap (λ b. list_any (λ x. is_message m x) (service_of cs o.name).queue || (b || false)) (sym (ap (λ b. b && (name == m)) (eq-eqb o.name o.name refl)) ∙ other) ∙ or_false (list_any (λ x. is_message m x) (service_of cs o.name).queue))
           (λ n apart same. refl) n other
 

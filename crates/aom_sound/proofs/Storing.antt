@@ -52,6 +52,9 @@ held_set_word cs n w v = held_kept (storing n w v) (λ c. refl) cs
 pub named_set_word : (cs : List Cell) (n w : ℕ) (v : ℤ) (m : ℕ) → named (set_word_field n w v cs) m ≡ named cs m
 named_set_word cs n w v = named_kept (storing n w v) cs
 
+pub requested_set_word : (cs : List Cell) (n w : ℕ) (v : ℤ) (m : ℕ) → requested (set_word_field n w v cs) m ≡ requested cs m
+requested_set_word cs n w v = read_kept (storing n w v) requests (λ c. refl) cs
+
 pub alike_itself : (cs : List Cell) → Alike cs cs
 alike_itself cs = record { held_so = λ r. refl; named_so = λ n. refl; queues_so = λ n. refl; sessions_so = λ n. refl; tidy = λ t. t }
 

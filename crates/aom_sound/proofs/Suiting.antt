@@ -129,25 +129,6 @@ completed (Some (A_server m x b)) n r h s = go r s.1 (has_along cancel_done n.st
     go (Some q) g h = absurd (served_only q.phase g h)
 completed _ n r h s = ap (λ r. int_eq (status_of r) pending) s
 
--- a completed request has no timer
-pub untimed : (v : Provider) (q : Request) → int_eq q.status pending ≡ false → is_timed v (Some q) ≡ true → is_none q.timer ≡ true
-untimed A_timer q e t = go (not (is_idle q.phase)) (sym (ap (λ x. cond (not (is_idle q.phase) && x) (is_some q.timer) (is_none q.timer)) e) ∙ t)
-  where
-    go : (b : Bool) → cond (b && false) (is_some q.timer) (is_none q.timer) ≡ true → is_none q.timer ≡ true
-    go true t = t
-    go false t = t
-untimed _ q e t = t
-
-pub idle_timed : (v : Provider) (q : Request) → q.phase ≡ Idle → is_none q.timer ≡ true → is_timed v (Some q) ≡ true
-idle_timed A_timer q e n = ap (λ x. cond (not (is_idle x) && int_eq q.status pending) (is_some q.timer) (is_none q.timer)) e ∙ n
-idle_timed _ q e n = n
-
--- a request that is made keeps its timer while it goes on
-pub timed_on : (v : Provider) (q : Request) (phase : Phase) → is_idle q.phase ≡ false → is_idle phase ≡ false → is_timed v (Some q) ≡ true → is_timed v (Some (record q { phase = phase })) ≡ true
-timed_on A_timer q phase before after t =
-    ap (λ b. cond (not b && int_eq q.status pending) (is_some q.timer) (is_none q.timer)) after ∙ sym (ap (λ b. cond (not b && int_eq q.status pending) (is_some q.timer) (is_none q.timer)) before) ∙ t
-timed_on _ q phase before after t = t
-
 -- and leaves its object idle
 pub cancel_ends : (k : Option ClassKind) (n : Known) (r : Option Request) → IsTrue (has cancel_done n.states) → Suits k n r → Suits k (resting_in idle) (on_request cancelled r)
 cancel_ends (Some (An_active v b)) n r h s = go r (has_along cancel_done n.states (state_of r) h s.0) s.2 s.3

@@ -106,26 +106,7 @@ under p t cs _ _ s = absurd (grind arith)
 pub stacked : (p : Image) (t : Typing) (s : State) → WellTyped p t s → (k : Tower) × (s.tasks ≡ all_listed k)
 stacked p t s w = let u = under p t s.cells Now w.layers w.good.stack in (u.0, w.tasks ∙ u.1)
 
--- what stands under a method, a cell that goes, and a leave
-pub under_run : (p : Image) (t : Typing) (s : State) (fr : Frame) (ts : List Task) → WellTyped p t s → s.tasks ≡ Run fr ∷ ts → (b : Under A_method) × (ts ≡ listed b)
-under_run p t s fr ts w at = let k = stacked p t s w in go k.0 (sym at ∙ k.1)
-  where
-    go : (k : Tower) → Run fr ∷ ts ≡ all_listed k → (b : Under A_method) × (ts ≡ listed b)
-    go k e = grind arith
-
-pub under_destroy : (p : Image) (t : Typing) (s : State) (ts : List Task) → WellTyped p t s → s.tasks ≡ Destroy ∷ ts → (b : Under A_going) × (ts ≡ listed b)
-under_destroy p t s ts w at = let k = stacked p t s w in go k.0 (sym at ∙ k.1)
-  where
-    go : (k : Tower) → Destroy ∷ ts ≡ all_listed k → (b : Under A_going) × (ts ≡ listed b)
-    go k e = grind arith
-
-pub under_leave : (p : Image) (t : Typing) (s : State) (code : ℤ) (ts : List Task) → WellTyped p t s → s.tasks ≡ Unwind code ∷ ts → (b : Under A_leave) × (ts ≡ Trapped ∷ listed b)
-under_leave p t s code ts w at = let k = stacked p t s w in go k.0 (sym at ∙ k.1)
-  where
-    go : (k : Tower) → Unwind code ∷ ts ≡ all_listed k → (b : Under A_leave) × (ts ≡ Trapped ∷ listed b)
-    go k e = grind arith
-
--- and nothing under a dispatch
+-- nothing stands under a dispatch
 pub under_dispatch : (p : Image) (t : Typing) (s : State) (d : Dispatch) (ts : List Task) → WellTyped p t s → s.tasks ≡ Dispatched d ∷ ts → ts ≡ []
 under_dispatch p t s d ts w at = let k = stacked p t s w in go k.0 (sym at ∙ k.1)
   where

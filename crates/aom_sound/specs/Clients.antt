@@ -92,6 +92,17 @@ abbrev pub slots_of : Client → ℕ
 slots_of (Open server session slots) = slots
 slots_of other = 0
 
+-- a message as its client sends it to a server, which holds a slot
+abbrev pub sent_message : ℕ → ℕ → List ℤ → ℕ → Cell
+sent_message c name words server = record {
+  object = record { name = name; thing = Message };
+  words = words;
+  request = None;
+  session = false;
+  service = record unserved { sender = Some (record { client = c; holds_slot = true; is_told = true }) };
+  owner = Elsewhere (Queued server name);
+}
+
 module _ (p : Image) (client : ℕ) (s : State) where
   abbrev pub own : Client
   own = client_at s.clients client
@@ -111,18 +122,9 @@ module _ (p : Image) (client : ℕ) (s : State) where
   connecting None (Some x) slots = record s { cells = reserved (asked_last (Connect_of client)) x.name s.cells; clients = with_client client (Connecting x.name slots) s.clients }
   connecting _ server slots = s
 
-  -- one more message, which holds a slot, in the queue of that server
+  -- one more message in the queue of that server
   abbrev pub with_message : ℕ → List ℤ → ℕ → List Cell
-  with_message name words server =
-      record {
-        object = record { name = name; thing = Message };
-        words = words;
-        request = None;
-        session = false;
-        service = record unserved { sender = Some (record { client = client; holds_slot = true; is_told = true }) };
-        owner = Elsewhere (Queued server name);
-      }
-      ∷ reserved (asked_last (Message_of client name)) server s.cells
+  with_message name words server = sent_message client name words server ∷ reserved (asked_last (Message_of client name)) server s.cells
 
   abbrev pub sending : Option Refusal → Client → ℕ → List ℤ → State
   sending None (Open server session slots) name words = record s { cells = with_message name words server }

@@ -4,10 +4,9 @@ use Rattle.aom_clients.specs.Table.{code_of}
 use Rattle.aom_clients.specs.declared.refusal.Refusal.{Refusal}
 use Rattle.aom_clients.specs.declared.refusal.Refusal.TheVariants.{ServerTerminated}
 use Rattle.aom_image.specs.declared.method.Thing.{Thing}
-use Rattle.aom_image.specs.declared.method.Thing.TheVariants.{Object as An_object_of, Message as A_message}
+use Rattle.aom_image.specs.declared.method.Thing.TheVariants.{Object as An_object_of}
 use Rattle.aom_sound.specs.Places.{Asked, Cell, Close_of, Connect_of, Elsewhere, In_service, Message_of, Object, Sender, held, service_of}
 use Rattle.aom_sound.specs.State.{Accept_left, Accepted, Accepts, Dispatch, Of_server, Parts, Service_left, Serves, Stage}
-use Rattle.aom_transcript.specs.declared.line.Asked.{Asked as Wanted}
 use Rattle.aom_transcript.specs.declared.line.Asked.TheVariants.{Close, Connect, Message}
 use Rattle.aom_transcript.specs.declared.line.Line.{Line}
 use Rattle.aom_transcript.specs.declared.line.Line.TheVariants.{Discard, Refuse, Reply, Serve}

@@ -17,11 +17,7 @@ use Rattle.aom_sound.specs.State.{Frame, Home, Static, AtRoot, Inside}
 
 -- the state that a request is in, as a set
 abbrev pub phase_state : Phase → ℕ
-phase_state Idle = idle
-phase_state Issued = issued
-phase_state Active = active
-phase_state Cancelling = cancel_open
-phase_state Aborted = cancel_done
+phase_state q = elim q [ Idle ↦ idle | Issued ↦ issued | Active ↦ active | Cancelling ↦ cancel_open | Aborted ↦ cancel_done ]
 
 abbrev pub state_of : Option Request → ℕ
 state_of None = unlisted

@@ -103,14 +103,8 @@ reserved f n cs = set_service n (f (service_of cs n)) cs
 -- ---- messages
 
 abbrev pub is_queue : Place → Bool
-is_queue (Register f r) = false
-is_queue (Entry k) = false
-is_queue (Field n f) = false
-is_queue (Going k) = false
-is_queue (Elsewhere Root) = false
-is_queue (Elsewhere (Session s c)) = false
-is_queue (Elsewhere In_service) = false
 is_queue (Elsewhere (Queued s m)) = true
+is_queue _ = false
 
 abbrev pub is_from : ℕ → Option Sender → Bool
 is_from c None = false

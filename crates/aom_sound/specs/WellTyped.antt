@@ -157,12 +157,11 @@ abbrev pub NoSeatAt : Place → List Seat → Type 0
 NoSeatAt q [] = Unit {0}
 NoSeatAt q (x ∷ xs) = (same_place q x.place ≡ false) × NoSeatAt q xs
 
--- it is the root, or a session at a server that sits
-abbrev pub SitsElsewhere : Other → List Seat → Type 0
-SitsElsewhere Root xs = Unit {0}
-SitsElsewhere (Session s c) xs = SomeSits s xs
-SitsElsewhere In_service xs = ⊥
-SitsElsewhere (Queued s m) xs = ⊥
+-- it is the root, or a session at a server of which that holds
+abbrev pub IsRootOr : (ℕ → Type 0) → Other → Type 0
+IsRootOr At Root = Unit {0}
+IsRootOr At (Session s c) = At s
+IsRootOr At _ = ⊥
 
 -- the place is that, or a field of an object that sits
 abbrev pub SitsIn : Place → List Seat → Type 0
@@ -170,7 +169,7 @@ SitsIn (Register f r) xs = ⊥
 SitsIn (Entry k) xs = ⊥
 SitsIn (Field n f) xs = SomeSits n xs
 SitsIn (Going k) xs = ⊥
-SitsIn (Elsewhere o) xs = SitsElsewhere o xs
+SitsIn (Elsewhere o) xs = IsRootOr (λ s. SomeSits s xs) o
 
 -- each object is at its place, and lives, and none sits twice
 abbrev pub AllSit : List Cell → List Seat → Type 0
@@ -278,20 +277,13 @@ SomeIn n (Ending o left ∷ ls) = SomeIn n ls
 SomeIn n (Unwinding code es ∷ ls) = SomeIn n ls
 SomeIn n (Dispatching d seats ∷ ls) = SomeSits n seats ⊎ SomeIn n ls
 
--- it is the root, or a session with a server that belongs to the layers
-abbrev pub IsBelowElsewhere : Other → List Layer → Type 0
-IsBelowElsewhere Root ls = Unit {0}
-IsBelowElsewhere (Session s c) ls = SomeIn s ls
-IsBelowElsewhere In_service ls = ⊥
-IsBelowElsewhere (Queued s m) ls = ⊥
-
 -- the place belongs to the layers
 abbrev pub IsBelow : Place → List Layer → Type 0
 IsBelow (Register f r) ls = f < length (tasks_of ls)
 IsBelow (Entry k) ls = k < length (items_of ls)
 IsBelow (Field n f) ls = SomeIn n ls
 IsBelow (Going k) ls = k < length (tasks_of ls)
-IsBelow (Elsewhere o) ls = IsBelowElsewhere o ls
+IsBelow (Elsewhere o) ls = IsRootOr (λ s. SomeIn s ls) o
 
 -- what holds this is below the frame, and is claimed to be ready
 pub record Holds (p : Image) (cs : List Cell) (ls : List Layer) (o : Object) (from : Place) : Type 0 where

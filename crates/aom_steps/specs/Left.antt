@@ -59,11 +59,8 @@ owned_left c counts [] = 0
 owned_left c counts (x ∷ xs) = due c counts x.owner x.object + owned_left c counts xs
 
 abbrev pub is_entry : Place → Bool
-is_entry (Register f r) = false
 is_entry (Entry k) = true
-is_entry (Field n f) = false
-is_entry (Going k) = false
-is_entry (Elsewhere o) = false
+is_entry _ = false
 
 -- an object on the cleanup stack was paid for as it was pushed
 abbrev pub objects_left : Prices → List Cell → ℕ

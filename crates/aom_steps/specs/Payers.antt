@@ -33,12 +33,8 @@ payer_of (Of_server x client stage) = class_of x.object.thing
 -- of the dispatch that stands below all else; none with nothing at hand
 abbrev pub payer : List Task → Option ℕ
 payer [] = None
-payer (Run fr ∷ ts) = payer ts
-payer (Trapped ∷ ts) = payer ts
-payer (Destroy ∷ ts) = payer ts
-payer (Closing ∷ ts) = payer ts
-payer (Unwind code ∷ ts) = payer ts
 payer (Dispatched d ∷ ts) = payer_of d
+payer (_ ∷ ts) = payer ts
 
 -- ---- what it costs
 

@@ -1,12 +1,12 @@
 -- Further runs with servers and clients, line by line.
-use Rattle.std.specs.Prelude.{ℕ, ℤ, pos, negsuc, ◌≡◌, List, [], ◌∷◌, Option, Some, None}
+use Rattle.std.specs.Prelude.{pos, negsuc, ◌≡◌, List, [], ◌∷◌}
 use Rattle.aom_transcript.specs.declared.line.Ending.TheVariants.{Stopped, Waiting}
 use Rattle.aom_transcript.specs.declared.event.Command.TheVariants.{Connect, Send, Close, Die}
 use Rattle.aom_transcript.specs.declared.line.Asked.TheVariants.{Connect as A_connect, Message as A_message, Close as A_close}
 use Rattle.aom_transcript.specs.declared.event.TimedEvent.{TimedEvent}
 use Rattle.aom_transcript.specs.declared.line.Line.TheVariants.{Main, Out, Leave, Gone, Run as Run_line, Serve, Reply as Reply_line, Refuse}
 use Rattle.aom_sound.specs.Cases.Programs.{stopping, declining, stops_accepting, small, narrow, owning, two_servers}
-use Rattle.aom_sound.specs.Cases.Running.{Ends, at, run_of}
+use Rattle.aom_sound.specs.Cases.Running.{Runs, Ends, at, run_of}
 use Rattle.aom_sound.specs.Cases.Served.{client_dies, client_lives, clients_refused, leaves_after_taking, returns_untaken, returns_with_message, service_leaves, service_stops, session_closed, slot_refused, words}
 
 -- a server goes: its sessions in order of connection, then what waits in order, a close untold, and then the server
@@ -17,17 +17,14 @@ going_events =
 
 abbrev pub server_goes : Type 0
 server_goes =
-    run_of 300 stopping going_events
-    ≡ Ends (
-    Main 0
-    ∷ Serve 1 1 A_connect 2 ∷ Reply_line 2 (pos 0)
+    Runs 300 stopping going_events Stopped 0 (
+    Serve 1 1 A_connect 2 ∷ Reply_line 2 (pos 0)
     ∷ Serve 2 1 A_connect 0 ∷ Reply_line 0 (pos 0)
     ∷ Serve 3 1 A_connect 1 ∷ Reply_line 1 (pos 0)
-    ∷ Serve 5 1 A_message 0 ∷ Reply_line 0 (pos 1)
-    ∷ Gone 0 ∷ Gone 0 ∷ Gone 0
-    ∷ Reply_line 1 (negsuc 14) ∷ Reply_line 3 (negsuc 14) ∷ Reply_line 0 (negsuc 14)
-    ∷ Gone 1
-    ∷ []) Stopped 0
+    ∷ Serve 5 1 A_message 0 ∷ Reply_line 0 (pos 1) ∷ Gone 0 ∷ Gone 0
+    ∷ Gone 0 ∷ Reply_line 1 (negsuc 14) ∷ Reply_line 3 (negsuc 14)
+    ∷ Reply_line 0 (negsuc 14) ∷ Gone 1
+    ∷ [])
 
 abbrev pub declining_events : List TimedEvent
 declining_events = at 1 0 (Connect 1 2) ∷ at 2 0 (Send (words (pos 1))) ∷ at 2 0 (Connect 1 2) ∷ []
@@ -35,16 +32,18 @@ declining_events = at 1 0 (Connect 1 2) ∷ at 2 0 (Send (words (pos 1))) ∷ at
 -- a connect is left with 0: there is no session
 abbrev pub accept_leaves : Type 0
 accept_leaves =
-    run_of 200 declining declining_events
-    ≡ Ends (
-    Main 0 ∷ Serve 1 1 A_connect 0 ∷ Leave (pos 0) ∷ Reply_line 0 (pos 0) ∷ Refuse 0 (negsuc 0) ∷ Serve 2 1 A_connect 0 ∷ Leave (pos 0) ∷ Reply_line 0 (pos 0) ∷ []
-    ) Waiting 1
+    Runs 200 declining declining_events Waiting 1 (
+    Serve 1 1 A_connect 0 ∷ Leave (pos 0) ∷ Reply_line 0 (pos 0)
+    ∷ Refuse 0 (negsuc 0)
+    ∷ Serve 2 1 A_connect 0 ∷ Leave (pos 0) ∷ Reply_line 0 (pos 0)
+    ∷ [])
 
 -- `accept` stops the run, and its client is told all the same
 abbrev pub accept_stops : Type 0
 accept_stops =
-    run_of 200 stops_accepting (at 1 0 (Connect 1 2) ∷ [])
-    ≡ Ends (Main 0 ∷ Serve 1 1 A_connect 0 ∷ Reply_line 0 (pos 0) ∷ Gone 0 ∷ Gone 1 ∷ []) Stopped 0
+    Runs 200 stops_accepting (at 1 0 (Connect 1 2) ∷ []) Stopped 0 (
+    Serve 1 1 A_connect 0 ∷ Reply_line 0 (pos 0) ∷ Gone 0 ∷ Gone 1
+    ∷ [])
 
 abbrev pub small_events : List TimedEvent
 small_events = at 1 0 (Connect 1 2) ∷ at 1 1 (Connect 1 2) ∷ at 5 0 (Send (words (pos 1))) ∷ at 5 0 (Send (words (pos 2))) ∷ at 7 0 (Send (words (pos 3))) ∷ []
@@ -52,14 +51,13 @@ small_events = at 1 0 (Connect 1 2) ∷ at 1 1 (Connect 1 2) ∷ at 5 0 (Send (w
 -- messages are no cells, and there are as many as the image says
 abbrev pub no_place : Type 0
 no_place =
-    run_of 200 small small_events
-    ≡ Ends (
-    Main 0
-    ∷ Serve 1 1 A_connect 0 ∷ Reply_line 0 (pos 0)
+    Runs 200 small small_events Waiting 2 (
+    Serve 1 1 A_connect 0 ∷ Reply_line 0 (pos 0)
     ∷ Serve 2 1 A_connect 1 ∷ Leave (negsuc 3) ∷ Reply_line 1 (negsuc 3)
-    ∷ Refuse 0 (negsuc 15) ∷ Serve 5 1 A_message 0 ∷ Reply_line 0 (pos 1)
+    ∷ Refuse 0 (negsuc 15)
+    ∷ Serve 5 1 A_message 0 ∷ Reply_line 0 (pos 1)
     ∷ Serve 7 1 A_message 0 ∷ Reply_line 0 (pos 3)
-    ∷ []) Waiting 2
+    ∷ [])
 
 abbrev pub narrow_events : List TimedEvent
 narrow_events =
@@ -69,15 +67,13 @@ narrow_events =
 -- a connect that waits is taken back by a close; a server takes so many sessions and connects at most
 abbrev pub taken_back : Type 0
 taken_back =
-    run_of 200 narrow narrow_events
-    ≡ Ends (
-    Main 0
-    ∷ Refuse 1 (negsuc 15) ∷ Refuse 0 (negsuc 15)
-    ∷ Serve 1 1 A_connect 1 ∷ Reply_line 1 (pos 0)
-    ∷ Refuse 0 (negsuc 15) ∷ Serve 3 1 A_close 1 ∷ Gone 0
+    Runs 200 narrow narrow_events Waiting 2 (
+    Refuse 1 (negsuc 15) ∷ Refuse 0 (negsuc 15)
+    ∷ Serve 1 1 A_connect 1 ∷ Reply_line 1 (pos 0) ∷ Refuse 0 (negsuc 15)
+    ∷ Serve 3 1 A_close 1 ∷ Gone 0
     ∷ Serve 5 1 A_connect 0 ∷ Reply_line 0 (pos 0)
     ∷ Serve 7 1 A_message 0 ∷ Reply_line 0 (pos 7)
-    ∷ []) Waiting 2
+    ∷ [])
 
 -- ---- an object that owns a server deletes it
 
@@ -91,23 +87,22 @@ owning_events =
 -- the object of a higher priority comes first; once the server is gone its client is told so until it closes
 abbrev pub server_deleted : Type 0
 server_deleted =
-    run_of 300 owning owning_events
-    ≡ Ends (
-    Main 0
-    ∷ Serve 2 1 A_connect 0 ∷ Reply_line 0 (pos 0)
+    Runs 300 owning owning_events Waiting 1 (
+    Serve 2 1 A_connect 0 ∷ Reply_line 0 (pos 0)
     ∷ Serve 4 1 A_message 0 ∷ Reply_line 0 (pos 4)
-    ∷ Run_line 10 2 (pos 0)
-    ∷ Gone 0 ∷ Reply_line 0 (negsuc 14) ∷ Reply_line 1 (negsuc 14) ∷ Gone 1
-    ∷ Refuse 0 (negsuc 14) ∷ Refuse 0 (negsuc 0) ∷ Refuse 0 (negsuc 14) ∷ Refuse 0 (negsuc 0) ∷ Refuse 1 (negsuc 0)
-    ∷ []) Waiting 1
+    ∷ Run_line 10 2 (pos 0) ∷ Gone 0 ∷ Reply_line 0 (negsuc 14) ∷ Reply_line 1 (negsuc 14)
+    ∷ Gone 1 ∷ Refuse 0 (negsuc 14) ∷ Refuse 0 (negsuc 0) ∷ Refuse 0 (negsuc 14)
+    ∷ Refuse 0 (negsuc 0) ∷ Refuse 1 (negsuc 0)
+    ∷ [])
 
 -- ---- two servers of a class, each with a word of its own that its `accept` prints
 
 -- the one that was enlisted first alone is asked
 abbrev pub first_alone : Type 0
 first_alone =
-    run_of 200 two_servers (at 1 0 (Connect 1 1) ∷ at 2 1 (Connect 1 1) ∷ [])
-    ≡ Ends (Main 0 ∷ Serve 1 1 A_connect 0 ∷ Out (pos 5) ∷ Reply_line 0 (pos 0) ∷ Refuse 1 (negsuc 15) ∷ []) Waiting 4
+    Runs 200 two_servers (at 1 0 (Connect 1 1) ∷ at 2 1 (Connect 1 1) ∷ []) Waiting 4 (
+    Serve 1 1 A_connect 0 ∷ Out (pos 5) ∷ Reply_line 0 (pos 0) ∷ Refuse 1 (negsuc 15)
+    ∷ [])
 
 -- each of these runs comes out so
 pub record ServersRun : Type 0 where

@@ -2,6 +2,7 @@
 use Rattle.std.specs.Prelude.{ℕ, pos, negsuc, List, [], ◌∷◌, Option, Some, None}
 use Rattle.aom_image.specs.Image.{Image}
 use Rattle.aom_image.specs.declared.class.ClassDecl.{ClassDecl}
+use Rattle.aom_image.specs.declared.class.ClassKind.{ClassKind}
 use Rattle.aom_image.specs.declared.class.ClassKind.TheVariants.{Active, Plain, Server, Session}
 use Rattle.aom_image.specs.declared.class.Provider.TheVariants.{Timer}
 use Rattle.aom_instructions.specs.declared.instr.Instr.{Instr}
@@ -14,7 +15,11 @@ use Rattle.aom_image.specs.declared.method.Gives.TheVariants.{Nothing, Own as An
 use Rattle.aom_image.specs.declared.method.Method.{Method}
 use Rattle.aom_image.specs.declared.method.Role.{Role}
 use Rattle.aom_image.specs.declared.method.Role.TheVariants.{Accept, Cancel as Cancels, Construct, Destruct, Do, Main as Is_main, Run as Runs, Service}
+use Rattle.aom_image.specs.declared.method.Thing.{Thing}
 use Rattle.aom_image.specs.declared.method.Thing.TheVariants.{Object as An_object_of, Message}
+
+abbrev pub a_class : ClassKind → ℕ → List Thing → ClassDecl
+a_class kind words fields = record { kind = kind; words = words; fields = fields }
 
 abbrev pub a_method : Option ℕ → Role → List Argument → Gives → List Instr → Method
 a_method class role arguments gives code =
@@ -27,21 +32,27 @@ five_words = Takes_word ∷ Takes_word ∷ Takes_word ∷ Takes_word ∷ Takes_w
 abbrev pub main_of : ℕ → ℕ → Method
 main_of class construct = a_method None Is_main [] Nothing (NewOrLeave 0 class ∷ Push 0 ∷ Call (Entry 0) construct 0 0 ∷ Pop 0 ∷ Put 0 0 ∷ Return 0 ∷ [])
 
+-- an image with so many cells, whose root is of that class
+abbrev pub an_image : (cells messages budget root : ℕ) → List ClassDecl → List Method → Image
+an_image cells messages budget root classes methods = record { header = record { cells = cells; messages = messages; natives = 0; root = Some root; budget = budget }; classes = classes; methods = methods }
+
+abbrev pub session_class : ClassDecl
+session_class = a_class Session 0 []
+
+-- what a session does with each message, the `accept` of a server and what constructs it, before the others
+abbrev pub serving_methods : (serve accept : List Instr) → List Argument → (construct : List Instr) → List Method → List Method
+serving_methods serve accept arguments construct methods =
+    a_method (Some 0) Service five_words Nothing serve
+    ∷ a_method (Some 1) Accept [] (An_own (An_object_of 0)) accept
+    ∷ a_method (Some 1) Construct arguments Nothing (Enlist (pos 0) ∷ construct)
+    ∷ methods
+
 -- ---- one server
 
 -- one server of class 1, whose sessions are of class 0, with so many cells and messages and so many sessions at most
 abbrev pub one_server : (cells messages most : ℕ) → (accept serve : List Instr) → Image
 one_server cells messages most accept serve =
-    record {
-      header = record { cells = cells; messages = messages; natives = 0; root = Some 1; budget = 90 };
-      classes = record { kind = Session; words = 0; fields = [] } ∷ record { kind = Server most 0 40; words = 0; fields = [] } ∷ [];
-      methods =
-          a_method (Some 0) Service five_words Nothing serve
-          ∷ a_method (Some 1) Accept [] (An_own (An_object_of 0)) accept
-          ∷ a_method (Some 1) Construct [] Nothing (Enlist (pos 0) ∷ Return 0 ∷ [])
-          ∷ main_of 1 2
-          ∷ [];
-    }
+    an_image cells messages 90 1 (session_class ∷ a_class (Server most 0 40) 0 [] ∷ []) (serving_methods serve accept [] (Return 0 ∷ []) (main_of 1 2 ∷ []))
 
 abbrev pub accepts : List Instr
 accepts = NewOrLeave 0 0 ∷ Return 0 ∷ []
@@ -98,9 +109,9 @@ narrow = one_server 3 1 1 accepts replies
 
 abbrev pub holding_classes : List ClassDecl
 holding_classes =
-    record { kind = Active Timer 10; words = 0; fields = Message ∷ [] }
-    ∷ record { kind = Session; words = 0; fields = An_object_of 0 ∷ [] }
-    ∷ record { kind = Server 4 1 40; words = 0; fields = [] }
+    a_class (Active Timer 10) 0 (Message ∷ [])
+    ∷ a_class Session 0 (An_object_of 0 ∷ [])
+    ∷ a_class (Server 4 1 40) 0 []
     ∷ []
 
 abbrev pub holding_methods : List Method
@@ -121,50 +132,30 @@ holding_methods =
     ∷ []
 
 abbrev pub holding : Image
-holding = record { header = record { cells = 3; messages = 4; natives = 0; root = Some 2; budget = 120 }; classes = holding_classes; methods = holding_methods }
+holding = an_image 3 4 120 2 holding_classes holding_methods
 
 -- ---- an object that owns a server and deletes it
 
 abbrev pub owning : Image
 owning =
-    record {
-      header = record { cells = 4; messages = 4; natives = 0; root = Some 2; budget = 200 };
-      classes =
-          record { kind = Session; words = 0; fields = [] }
-          ∷ record { kind = Server 4 0 40; words = 0; fields = [] }
-          ∷ record { kind = Active Timer 100; words = 0; fields = An_object_of 1 ∷ [] }
-          ∷ [];
-      methods =
-          a_method (Some 0) Service five_words Nothing replies
-          ∷ a_method (Some 1) Accept [] (An_own (An_object_of 0)) accepts
-          ∷ a_method (Some 1) Construct [] Nothing (Enlist (pos 0) ∷ Return 0 ∷ [])
-          ∷ a_method (Some 2) Cancels [] Nothing (Abort ∷ Return 0 ∷ [])
-          ∷ a_method (Some 2) Destruct [] Nothing (Cancel ∷ Take 0 0 ∷ Delete 0 ∷ Return 0 ∷ [])
-          ∷ a_method (Some 2) Runs [] Nothing (Take 0 0 ∷ Delete 0 ∷ Return 0 ∷ [])
-          ∷ a_method (Some 2) Construct [] Nothing
-          (NewOrLeave 0 1 ∷ Push 0 ∷ Call (Entry 0) 2 0 0 ∷ Pop 0 ∷ Put 0 0 ∷ Enlist (pos 5) ∷ Const 1 (pos 10) ∷ Issue 1 1 ∷ SetActive ∷ Return 0 ∷ [])
-          ∷ main_of 2 6
-          ∷ [];
-    }
+    an_image 4 4 200 2 (session_class ∷ a_class (Server 4 0 40) 0 [] ∷ a_class (Active Timer 100) 0 (An_object_of 1 ∷ []) ∷ [])
+    (serving_methods replies accepts [] (Return 0 ∷ [])
+    (a_method (Some 2) Cancels [] Nothing (Abort ∷ Return 0 ∷ [])
+    ∷ a_method (Some 2) Destruct [] Nothing (Cancel ∷ Take 0 0 ∷ Delete 0 ∷ Return 0 ∷ [])
+    ∷ a_method (Some 2) Runs [] Nothing (Take 0 0 ∷ Delete 0 ∷ Return 0 ∷ [])
+    ∷ a_method (Some 2) Construct [] Nothing
+    (NewOrLeave 0 1 ∷ Push 0 ∷ Call (Entry 0) 2 0 0 ∷ Pop 0 ∷ Put 0 0 ∷ Enlist (pos 5) ∷ Const 1 (pos 10) ∷ Issue 1 1 ∷ SetActive ∷ Return 0 ∷ [])
+    ∷ main_of 2 6
+    ∷ []))
 
 -- ---- two servers of a class, each with a word of its own that its `accept` prints
 
 abbrev pub two_servers : Image
 two_servers =
-    record {
-      header = record { cells = 6; messages = 4; natives = 0; root = Some 2; budget = 200 };
-      classes =
-          record { kind = Session; words = 0; fields = [] }
-          ∷ record { kind = Server 1 0 40; words = 1; fields = [] }
-          ∷ record { kind = Plain; words = 0; fields = An_object_of 1 ∷ An_object_of 1 ∷ [] }
-          ∷ [];
-      methods =
-          a_method (Some 0) Service five_words Nothing replies
-          ∷ a_method (Some 1) Accept [] (An_own (An_object_of 0)) (Load 1 0 ∷ Print 1 ∷ accepts)
-          ∷ a_method (Some 1) Construct (Takes_word ∷ []) Nothing (Enlist (pos 0) ∷ Store 0 0 ∷ Return 0 ∷ [])
-          ∷ a_method (Some 2) Destruct [] Nothing (Take 0 0 ∷ Delete 0 ∷ Take 0 1 ∷ Delete 0 ∷ Return 0 ∷ [])
-          ∷ a_method (Some 2) Construct [] Nothing
-          (NewOrLeave 0 1 ∷ Push 0 ∷ Const 1 (pos 5) ∷ Call (Entry 0) 2 1 0 ∷ Pop 0 ∷ Put 1 0 ∷ NewOrLeave 0 1 ∷ Push 0 ∷ Const 1 (pos 6) ∷ Call (Entry 0) 2 1 0 ∷ Pop 0 ∷ Put 0 0 ∷ Return 0 ∷ [])
-          ∷ main_of 2 4
-          ∷ [];
-    }
+    an_image 6 4 200 2 (session_class ∷ a_class (Server 1 0 40) 1 [] ∷ a_class Plain 0 (An_object_of 1 ∷ An_object_of 1 ∷ []) ∷ [])
+    (serving_methods replies (Load 1 0 ∷ Print 1 ∷ accepts) (Takes_word ∷ []) (Store 0 0 ∷ Return 0 ∷ [])
+    (a_method (Some 2) Destruct [] Nothing (Take 0 0 ∷ Delete 0 ∷ Take 0 1 ∷ Delete 0 ∷ Return 0 ∷ [])
+    ∷ a_method (Some 2) Construct [] Nothing
+    (NewOrLeave 0 1 ∷ Push 0 ∷ Const 1 (pos 5) ∷ Call (Entry 0) 2 1 0 ∷ Pop 0 ∷ Put 1 0 ∷ NewOrLeave 0 1 ∷ Push 0 ∷ Const 1 (pos 6) ∷ Call (Entry 0) 2 1 0 ∷ Pop 0 ∷ Put 0 0 ∷ Return 0 ∷ [])
+    ∷ main_of 2 4
+    ∷ []))

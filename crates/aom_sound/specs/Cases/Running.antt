@@ -1,5 +1,5 @@
 -- Runs that are computed: the names that are free first are taken, and natives answer 0 and complete nothing.
-use Rattle.std.specs.Prelude.{ℕ, zero, suc, pos, List, [], ◌∷◌, ◌++◌, Option, Some, None}
+use Rattle.std.specs.Prelude.{ℕ, zero, suc, pos, ◌≡◌, List, [], ◌∷◌, ◌++◌, Option, Some, None}
 use Rattle.aom_image.specs.Image.{Image}
 use Rattle.aom_sound.specs.Moves.{is_refused, step, written}
 use Rattle.aom_sound.specs.Places.{Cell, Object, count_cells, named}
@@ -10,6 +10,7 @@ use Rattle.aom_transcript.specs.declared.event.Event.TheVariants.{Client}
 use Rattle.aom_transcript.specs.declared.event.TimedEvent.{TimedEvent}
 use Rattle.aom_transcript.specs.declared.line.Ending.{Ending}
 use Rattle.aom_transcript.specs.declared.line.Line.{Line}
+use Rattle.aom_transcript.specs.declared.line.Line.TheVariants.{Main}
 
 abbrev pub unless_used : Option Object → ℕ → ℕ → ℕ
 unless_used None name other = name
@@ -65,3 +66,7 @@ hearing events = record (refusing [] 1000) { events = events }
 
 abbrev pub run_of : ℕ → Image → List TimedEvent → Told
 run_of moves p events = ran moves p (hearing events) (boot_state p) []
+
+-- a run of so many moves at most ends so, with so many cells left, and has written these lines after main's
+abbrev pub Runs : ℕ → Image → List TimedEvent → Ending → (cells : ℕ) → List Line → Type 0
+Runs moves p events ending cells lines = run_of moves p events ≡ Ends (Main 0 ∷ lines) ending cells

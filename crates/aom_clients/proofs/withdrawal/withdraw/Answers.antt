@@ -1,16 +1,14 @@
-use Rattle.std.proofs.Common.{◌≡◌, ◌++◌, [], refl, sym, ap, ◌∙◌, arith}
+use Rattle.std.proofs.Common.{◌≡◌, ◌++◌, [], length, refl, sym, ap, ◌∙◌, arith}
 use Rattle.std.proofs.lemmas.List.{length-set, append-nil}
 use Rattle.aom_queues.specs.Lists.{list_at}
-use Rattle.aom_clients.specs.Withdrawals.{waiting_each}
+use Rattle.aom_clients.specs.Table.{closed_place}
+use Rattle.aom_clients.specs.Withdrawals.{waiting_each, left_each}
 use Rattle.aom_clients.proofs.Leaving.{place, waiting-is}
 use Rattle.aom_clients.proofs.Draining.{drained, first-below, tail-in, places-drained, queues-drained, freed-drained, room-drained, drained-all}
 use Rattle.aom_clients.proofs.withdrawal.withdraw.Goals as goal
 
-pub slice_copy_out-was : goal.slice_copy_out-was
-slice_copy_out-was c = first-below c.loop-place.sent c.args.list _ _ c.in-Some.ensures.first c.loop-place.invariant.within
-
-pub bounds-places-place : goal.bounds-places-place
-bounds-places-place c = first-below c.loop-place.sent c.args.list _ _ c.in-Some.ensures.first c.loop-place.invariant.within
+pub leave-was-requires : goal.leave-was-requires
+leave-was-requires c = first-below c.loop-place.sent c.args.list _ _ c.in-Some.ensures.first c.loop-place.invariant.within
 
 pub loop-place-preserved : goal.loop-place-preserved
 loop-place-preserved c =
@@ -18,15 +16,17 @@ loop-place-preserved c =
     let u = c.take_first.new.self in
     let m = c.in-Some.place in
     let pl = c.loop-place.places in
+    let left = c.leave-was.ensures.left in
     let d = drained t u c.args.list m c.loop-place.invariant.list c.in-Some.ensures.first c.take_first.ensures.rest in
     record {
       list = d.listed;
-      within = λ n i. omega (arith, c.loop-place.invariant.within n (tail-in t u c.args.list m d n i), length-set pl m c.closed.result);
-      room = room-drained t u c.args.list m d (place pl m) c.loop-place.freed.items c.note.new.freed.items c.note.ensures c.loop-place.invariant.room;
+      within = λ n i. omega (arith, c.loop-place.invariant.within n (tail-in t u c.args.list m d n i), ap length left, length-set pl m (closed_place (place pl m)));
+      room = room-drained t u c.args.list m d c.leave-was.result c.loop-place.freed.items c.note.new.freed.items c.note.ensures c.loop-place.invariant.room;
       sent = d.emptied ∙ c.loop-place.invariant.sent;
       queues = queues-drained t u c.args.list m d c.loop-place.queues c.remove.new.self c.remove.ensures.removed ∙ c.loop-place.invariant.queues;
-      places = places-drained t u c.args.list m d pl c.closed.result c.closed.ensures ∙ c.loop-place.invariant.places;
-      freed = freed-drained t u c.args.list m d pl (place pl m) c.closed.result c.loop-place.freed.items c.note.new.freed.items refl c.closed.ensures c.note.ensures
+      places = ap (left_each (list_at u c.args.list)) left ∙ places-drained t u c.args.list m d pl (closed_place (place pl m)) refl ∙ c.loop-place.invariant.places;
+      freed = ap (λ ps. c.note.new.freed.items ++ waiting_each (list_at u c.args.list) ps) left
+          ∙ freed-drained t u c.args.list m d pl c.leave-was.result (closed_place (place pl m)) c.loop-place.freed.items c.note.new.freed.items c.leave-was.ensures.was (ap closed_place (sym c.leave-was.ensures.was)) c.note.ensures
           ∙ c.loop-place.invariant.freed;
     }
 

@@ -12,21 +12,11 @@ index-next-requires c =
 
 pub index_mut-requires : goal.index_mut-requires
 index_mut-requires c =
-    omega (
-      arith,
-      (neighbours _ _ _ _ _ c.self.view_is c.self.invariant c.args.list c.args.node c.index-last.result.now c.index-next.result.now
-          c.requires c.index-last.ensures c.index-next.ensures).0,
-      c.self.inside.after.ok.0,
-    )
+    omega (arith, (neighbours _ _ _ _ _ c.self.view_is c.self.invariant c.args.list c.args.node _ _ c.requires c.index-last.ensures c.index-next.ensures).0, c.self.inside.after.ok.0)
 
 pub index_mut-requires-2 : goal.index_mut-requires-2
 index_mut-requires-2 c =
-    omega (
-      arith,
-      (neighbours _ _ _ _ _ c.self.view_is c.self.invariant c.args.list c.args.node c.index-last.result.now c.index-next.result.now
-          c.requires c.index-last.ensures c.index-next.ensures).1,
-      c.self.inside.before.ok.0,
-    )
+    omega (arith, (neighbours _ _ _ _ _ c.self.view_is c.self.invariant c.args.list c.args.node _ _ c.requires c.index-last.ensures c.index-next.ensures).1, c.self.inside.before.ok.0)
 
 pub index_mut-requires-3 : goal.index_mut-requires-3
 index_mut-requires-3 c =
