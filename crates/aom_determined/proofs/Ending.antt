@@ -21,6 +21,7 @@ use Rattle.aom_sound.proofs.Queues.{client_here, client_there}
 use Rattle.aom_sound.proofs.Services.{service_moved}
 use Rattle.aom_sound.specs.Claims.{Dying, Layer, tasks_of}
 use Rattle.aom_sound.specs.Clients.{at_parting, client_at, with_client}
+use Rattle.aom_sound.proofs.Emptying.{found_first}
 use Rattle.aom_sound.specs.Destruction.{closing, first_session, parting, parting_from, seat_or}
 use Rattle.aom_sound.specs.Enlisted.{part_of}
 use Rattle.aom_sound.specs.Kept.{ClientsFit, is_connect_of}
@@ -69,16 +70,6 @@ gone_apart p t s w ts tasks o there n c h =
 -- ---- the sessions of a server go
 
 -- each is one of that server
-first_session_at : (cs : List Cell) (n : ℕ) (clients : List ℕ) (x : Seat) → first_session cs n clients ≡ Some x → (c : ℕ) × (x.place ≡ Elsewhere (Session n c))
-first_session_at cs n [] x e = cc
-first_session_at cs n (c ∷ clients) x e = go (held cs (Elsewhere (Session n c))) (first_session_at cs n clients x) e
-  where
-    go :
-        (o : Option Object) → (first_session cs n clients ≡ Some x → (c : ℕ) × (x.place ≡ Elsewhere (Session n c))) →
-        seat_or o (Elsewhere (Session n c)) (first_session cs n clients) ≡ Some x → (c : ℕ) × (x.place ≡ Elsewhere (Session n c))
-    go None rest e = rest e
-    go (Some o) rest e = let same : record { object = o; place = Elsewhere (Session n c) } ≡ x = cc in (c, sym (ap (λ y. y.place) same))
-
 module _ (p : Image) (t : Typing) (s : State) (w : WellTyped p t s) (there : AllThere s) where
   closing_layers : (ls : List Layer) (ts : List Task) → Stack p t s.cells Now ls → Closing ∷ ts ≡ tasks_of ls → (below : List Layer) × (Stack p t s.cells Now below) × (ts ≡ tasks_of below)
   closing_layers ls ts k e = closing_layer (λ ls. Stack p t s.cells Now ls) ts ls (sym e) k (λ o left below is k. (below, k.3, sym is))
@@ -119,10 +110,10 @@ module _ (p : Image) (t : Typing) (s : State) (w : WellTyped p t s) (there : All
       by_session o at None first =
           there_by s.clients s.cells (dispatch_of below) s.clients s.cells _ refl (calm_itself s.cells) (dispatch_begun_by (destructor_of p o.thing) o (length s.items) below) before
       by_session o at (Some x) first =
-          let c = first_session_at s.cells o.name (service_of s.cells o.name).sessions x first in
-          let goes = session_goes o c.0 (length (Closing ∷ Destroy ∷ below)) (dispatch_of below) (λ x k stage d. dying_apart p t s.cells w.good.tidy l.0 below l.1 l.2 o at x k stage d) before in
+          let found = found_first s.cells o.name (service_of s.cells o.name).sessions x first in
+          let goes = session_goes o found.client (length (Closing ∷ Destroy ∷ below)) (dispatch_of below) (λ x k stage d. dying_apart p t s.cells w.good.tidy l.0 below l.1 l.2 o at x k stage d) before in
           there_by s.clients _ (dispatch_of below) s.clients _ _ refl (calm_itself _) (dispatch_begun p x.object (length s.items) (Closing ∷ Destroy ∷ below))
-          (subst (λ q. AreThere s.clients (moved q (Going (length (Closing ∷ Destroy ∷ below))) s.cells) (dispatch_of below)) (sym c.1) goes)
+          (subst (λ q. AreThere s.clients (moved q (Going (length (Closing ∷ Destroy ∷ below))) s.cells) (dispatch_of below)) (sym found.place) goes)
 
       by_server : (o : Option Object) → held s.cells (Going (length below)) ≡ o → parting_from p o below s ≡ Goes u → AllThere u
       by_server None at e = cc

@@ -27,7 +27,7 @@ use Rattle.aom_sound.specs.Places.{Asked, Cell, Close_of, Connect_of, Elsewhere,
 use Rattle.aom_sound.specs.Servers.{has_message, has_session, is_among, message_thing, session_thing}
 use Rattle.aom_sound.specs.State.{Answered, Asks, AtRoot, Closing, Destroy, Dispatch, Dispatched, Home, Inside, Object_left, Of_object, Of_server, Parts, Run, Seat, Serves, Stage, State, Static, Task, Trapped, Unwind}
 use Rattle.aom_sound.specs.WellTyped.{AllSit, Back, Caught, Fits, Gone, Good, IsHoused, Leaves, Now, Returns, SitsFirst, Stack, WellTyped, seat_of}
-use Rattle.aom_determined.proofs.Waiting.{queued_well}
+use Rattle.aom_sound.proofs.ClientsFacts.{queued_well}
 use Rattle.aom_determined.specs.Names.{IsOneToOne, renamed, renamed_asked, renamed_cells, renamed_client, renamed_clients, renamed_dispatch, renamed_home, renamed_place, renamed_queue, renamed_seat, renamed_stage, renamed_task, renamed_tasks, renamed_other}
 use Rattle.aom_determined.specs.There.{AllThere, IsAtPlace, accepts, dispatch_of}
 

@@ -35,9 +35,6 @@ pub record Calm (cs cs' : List Cell) : Type 0 where
 pub calm_itself : (cs : List Cell) → Calm cs cs
 calm_itself cs = record { connects = λ n c h. h; places = λ n c. refl }
 
-pub calm_then : (cs cs' cs'' : List Cell) → Calm cs cs' → Calm cs' cs'' → Calm cs cs''
-calm_then cs cs' cs'' a b = record { connects = λ n c h. b.connects n c (a.connects n c h); places = λ n c. b.places n c ∙ a.places n c }
-
 pub calm_steady : (cs cs' : List Cell) → Steady cs cs' → ((n c : ℕ) → held cs' (Elsewhere (Session n c)) ≡ held cs (Elsewhere (Session n c))) → Calm cs cs'
 calm_steady cs cs' still places = record { connects = λ n c h. ap (λ q. list_any (is_connect_of c) q) (still.queues n) ∙ h; places = places }
 

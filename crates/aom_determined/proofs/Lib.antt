@@ -10,7 +10,6 @@ pub mod Steps
 pub mod Hearing
 pub mod Polling
 pub mod Oracles
-pub mod Waiting
 pub mod Fresh
 pub mod Keeping
 pub mod Vanishing

@@ -7,11 +7,12 @@ use Rattle.aom_image.specs.Image.{Image}
 use Rattle.aom_image.specs.declared.method.Thing.{Thing}
 use Rattle.aom_owed.specs.Laws.{BootOwesNothing}
 use Rattle.aom_owed.specs.Owed.{meets, owes, serves, serves_object}
-use Rattle.aom_sound.proofs.Maps.{front_free, same_place-true, named_moved, named_without, requested_moved, requested_without, unnamed}
-use Rattle.aom_sound.proofs.Storing.{named_set_word, requested_here, requested_there, rerequested_alike, resessioned_alike, resessioned_requests}
+use Rattle.aom_sound.proofs.Maps.{named_moved, named_without, requested_moved, requested_without, unnamed}
+use Rattle.aom_sound.proofs.Sessions.{session_asked, session_moved, session_set_word, session_without}
+use Rattle.aom_sound.proofs.Storing.{named_set_word, requested_set_word, requested_here, requested_there, rerequested_alike, resessioned_alike, resessioned_requests}
 use Rattle.aom_sound.specs.Natives.{is_owed, is_served_by, native_of}
 use Rattle.aom_sound.specs.Enlisted.{thing_kind}
-use Rattle.aom_sound.specs.Places.{Cell, Elsewhere, Object, Place, Request, Root, Tidy, held, in_session, moved, named, requested, same_place, set_request, set_session, set_word_field, with_new, without}
+use Rattle.aom_sound.specs.Places.{Cell, Elsewhere, Object, Place, Request, Root, Tidy, held, in_session, moved, named, requested, set_request, set_session, set_word_field, with_new, without}
 use Rattle.aom_sound.specs.State.{AtRoot, Home, Inside, Static}
 use Rattle.aom_sound.specs.Words.{stored}
 
@@ -44,45 +45,10 @@ owes_at_one p cs n k m e f = serves_one p cs n k m (and_parts (serves p cs n m) 
 
 -- ---- sessions under changes of cells
 
-session_moved : (cs : List Cell) (p q : Place) (n : ℕ) → in_session (moved p q cs) n ≡ in_session cs n
-session_moved [] p q n = refl
-session_moved (c ∷ cs) p q n = ap (λ x. cond (c.object.name == n) c.session x) (session_moved cs p q n)
-
-session_set_word : (cs : List Cell) (n w : ℕ) (v : ℤ) (m : ℕ) → in_session (set_word_field n w v cs) m ≡ in_session cs m
-session_set_word [] n w v m = refl
-session_set_word (c ∷ cs) n w v m = ap (λ x. cond (c.object.name == m) c.session x) (session_set_word cs n w v m)
-
-requested_set_word : (cs : List Cell) (n w : ℕ) (v : ℤ) (m : ℕ) → requested (set_word_field n w v cs) m ≡ requested cs m
-requested_set_word [] n w v m = refl
-requested_set_word (c ∷ cs) n w v m = ap (λ x. cond (c.object.name == m) c.request x) (requested_set_word cs n w v m)
-
-session_asked : (cs : List Cell) (n : ℕ) (r : Option Request) (m : ℕ) → in_session (set_request n r cs) m ≡ in_session cs m
-session_asked [] n r m = refl
-session_asked (c ∷ cs) n r m = ap (λ x. cond (c.object.name == m) c.session x) (session_asked cs n r m)
-
 -- a session that is opened or closed is that of the cell of its name, if there is one
 session_set : (cs : List Cell) (n m : ℕ) (b : Bool) → in_session (set_session n b cs) m ≡ cond (n == m) (is_some (named cs m) && b) (in_session cs m)
 session_set [] n m b = grind arith
 session_set (c ∷ cs) n m b = grind (arith, nat_tests, session_set cs n m b)
-
--- nothing goes where nothing is held
-session_unheld : (cs : List Cell) (g : Place) (n : ℕ) → held cs g ≡ None → in_session (without g cs) n ≡ in_session cs n
-session_unheld [] g n e = refl
-session_unheld (c ∷ cs) g n e =
-    let f = front_free (same_place c.owner g) c.object (held cs g) e in
-    ap (λ b. in_session (cond b (without g cs) (c ∷ without g cs)) n) f.0 ∙ ap (λ x. cond (c.object.name == n) c.session x) (session_unheld cs g n f.1)
-
-session_without : (cs : List Cell) (g : Place) (o : Object) (n : ℕ) → Tidy cs → held cs g ≡ Some o → (o.name == n) ≡ false → in_session (without g cs) n ≡ in_session cs n
-session_without [] g o n t e d = refl
-session_without (c ∷ cs) g o n t e d = go (same_place c.owner g) refl (session_without cs g o n t.2) e
-  where
-    go : (x : Bool) → same_place c.owner g ≡ x → (held cs g ≡ Some o → (o.name == n) ≡ false → in_session (without g cs) n ≡ in_session cs n) → cond x (Some c.object) (held cs g) ≡ Some o →
-        in_session (cond x (without g cs) (c ∷ without g cs)) n ≡ cond (c.object.name == n) c.session (in_session cs n)
-    go true f ih e =
-        let same : c.object ≡ o = cc in
-        session_unheld cs g n (ap (λ q. held cs q) (sym (same_place-true c.owner g f)) ∙ t.0)
-        ∙ ap (λ b. cond b c.session (in_session cs n)) (sym (ap (λ x. x.name == n) same ∙ d))
-    go false f ih e = ap (λ x. cond (c.object.name == n) c.session x) (ih e d)
 
 -- ---- changes after which everyone owes and meets as before
 

@@ -45,6 +45,10 @@ use Rattle.aom_shape.specs.declared.kind.Age.TheVariants.{Ready}
 
 -- ---- an instruction
 
+abbrev IsNothing : Exchange → Type 0
+IsNothing Nothing = Unit {0}
+IsNothing _ = ⊥
+
 module _ (p : Image) (t : Typing) (c : Choice) (fr : Frame) (ts : List Task) (s : State) (ls : List Layer) (good : Good p t s.cells ls) (holds : SessionsHold p s)
     (alive : IsAlive s.cells fr.home) (unused : named s.cells c.name ≡ None) where
   -- the cells after an instruction
@@ -116,7 +120,9 @@ module _ (p : Image) (t : Typing) (c : Choice) (fr : Frame) (ts : List Task) (s 
   silently (Return a) none met = silent (Return a) (returns a met)
   silently (Reply a b) none met = silent (Reply a b) (unchanged_completed p t s.cells ls good (here fr ts (counted p s) a) (λ x there. is_message a x there met.1.1.0))
   -- the others leave all as it is, whatever a test of theirs decides
-  silently i none met = aside i (search (jumps_aside, misses_aside, round_aside, deletes_aside, deals_aside, makes_aside, refused_aside, leaves_aside))
+  silently i none met =
+      let nothing : IsNothing (exchange i) = subst IsNothing (sym none) tt in
+      aside i (search (nothing, jumps_aside, misses_aside, round_aside, deletes_aside, deals_aside, makes_aside, refused_aside, leaves_aside))
 
   tells : (i : Instr) → AllTrue (needs p c fr ts (counted p s) i) → Tells (exchange i) i
   tells = by_exchange (λ i x. AllTrue (needs p c fr ts (counted p s) i) → Tells x i) (λ a met. connect_told p c.answer s fr ts holds fr.home alive)

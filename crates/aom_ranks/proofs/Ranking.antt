@@ -23,13 +23,14 @@ use Rattle.aom_sound.specs.Effects.{Effect, applied}
 use Rattle.aom_sound.specs.Steps.{Acts, Arrives, Clears, Comes_out, Empties, Ends, Fits, IsStill, Move, Rests, Undoes, Vanishes}
 use Rattle.aom_sound.proofs.Moving.{steps_are_moves}
 use Rattle.aom_sound.specs.Claims.{Layer, Mark, Method, tasks_of}
-use Rattle.aom_sound.specs.Destruction.{begun, first_session, parting, seat_or, vanished}
+use Rattle.aom_sound.proofs.Emptying.{found_first}
+use Rattle.aom_sound.specs.Destruction.{begun, first_session, parting, vanished}
 use Rattle.aom_sound.proofs.Steps.{step_keeps}
 use Rattle.aom_sound.specs.Laws.{IsWired}
 use Rattle.aom_ranks.specs.Laws.{Moves, no_move, one_move}
 use Rattle.aom_sound.specs.WellTyped.{Keeps}
 use Rattle.aom_sound.specs.Moves.{answered, asking, counted, dispatch_ends, failed, handled, main_ends, object_ends, stage_ends, step}
-use Rattle.aom_sound.specs.Places.{Cell, Elsewhere, Entry, Going, In_service, Object, Root, Session, held, moved, service_of, without}
+use Rattle.aom_sound.specs.Places.{Cell, Elsewhere, Entry, Going, In_service, Object, Root, held, moved, service_of, without}
 use Rattle.aom_sound.specs.Servers.{parted, reserved}
 use Rattle.aom_sound.specs.State.{A_mark, Accept_left, An_object, An_operation, Answered, Asks, Choice, Closing, Destroy, Dispatch, Dispatched, Frame, Goes, Item, Main_left, Object_left, Of_main, Of_object, Of_root, Of_server, Outcome, Parts, Seat, Serves, Service_left, Stage, Run, State, Task, Trapped, Unwind, home_holder}
 use Rattle.aom_sound.specs.WellTyped.{AllUndo, Good, Now, Stack, WellTyped}
@@ -116,28 +117,16 @@ module _ (p : Image) (t : Typing) (linked : IsLinked p) (typed : IsTyped p t) (c
       let cells = fewer_stand (vanished o ts (counted p s)).cells (standing_gone (service_of s.cells o.name).sessions (Going (length ts)) o.name s.cells) in
       omega (arith, resumed_alike (rank_worths p) ts, cells)
 
-  -- the first session is there, and stands
-  session_there : (n : ℕ) (clients : List ℕ) (x : Seat) → first_session s.cells n clients ≡ Some x → (is_going x.place ≡ false) × (held s.cells x.place ≡ Some x.object)
-  session_there n [] x e = cc
-  session_there n (c ∷ clients) x e = go (held s.cells (Elsewhere (Session n c))) refl e (λ h. session_there n clients x h)
-    where
-      go : (o : Option Object) → held s.cells (Elsewhere (Session n c)) ≡ o → seat_or o (Elsewhere (Session n c)) (first_session s.cells n clients) ≡ Some x →
-          (first_session s.cells n clients ≡ Some x → (is_going x.place ≡ false) × (held s.cells x.place ≡ Some x.object)) → (is_going x.place ≡ false) × (held s.cells x.place ≡ Some x.object)
-      go None there e later = later e
-      go (Some o) there e later =
-          let same : record { object = o; place = Elsewhere (Session n c) } ≡ x = same_Some (record { object = o; place = Elsewhere (Session n c) }) x e in
-          subst (λ (y : Seat). (is_going y.place ≡ false) × (held s.cells y.place ≡ Some y.object)) same (refl, there)
-
   -- a server lets go of a session, which pays for its destruction, or its destructor begins
   empties :
       (ts : List Task) (o : Object) (y : Option Seat) → first_session s.cells o.name (service_of s.cells o.name).sessions ≡ y →
       rank p (parting p o y ts (counted p s)) < total (Closing ∷ Destroy ∷ ts)
   empties ts o None e = omega (arith, destructed_paid p linked o (length s.items) ts)
   empties ts o (Some x) e =
-      let there = session_there o.name (service_of s.cells o.name).sessions x e in
+      let found = found_first s.cells o.name (service_of s.cells o.name).sessions x e in
       let over = Closing ∷ Destroy ∷ ts in
       let destruction = begun_paid p linked x.object (length s.items) over in
-      let goes = standing_goes x.place (length over) x.object s.cells there.0 there.1 in
+      let goes = standing_goes x.place (length over) x.object s.cells (ap is_going found.place) found.there in
       let cells = one_less (standing (moved x.place (Going (length over)) s.cells) + operations s.items) (standing s.cells + operations s.items) (cell_rank p) (omega (arith, goes)) in
       omega (arith, destruction, cells)
 

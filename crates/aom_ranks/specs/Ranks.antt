@@ -5,7 +5,7 @@ use Rattle.aom_image.specs.Views.{is_quiet, method_at}
 use Rattle.aom_image.specs.declared.method.Method.{Method}
 use Rattle.aom_image.specs.declared.method.Role.TheVariants.{Error}
 use Rattle.aom_sound.specs.Enlisted.{part_of}
-use Rattle.aom_sound.specs.Places.{Place, Register, Entry, Field, Going, Elsewhere, Cell}
+use Rattle.aom_sound.specs.Places.{Place, Going, Cell}
 use Rattle.aom_sound.specs.State.{Frame, Dispatch, Of_main, Main_left, Of_root, Of_object, Object_left, Asks, Answered, Of_server, Seat, Task, Run, Trapped, Destroy, Closing, Unwind, Dispatched, Item, An_object, An_operation, A_mark, State}
 use Rattle.aom_ranks.specs.Within.{left}
 use Rattle.aom_ranks.specs.Worths.{Worths, tasks_worth, waiting_worth}

@@ -105,9 +105,6 @@ stored_held cs (Inside o from) w v q = held_set_word cs o.name w v q
 lasts_asked : (depth : ℕ) (cs : List Cell) (h : Home) (r : Option Request) → Lasts depth cs (rerequested cs h r)
 lasts_asked depth cs h r = record { going = λ k lt. (rerequested_alike cs h r).held_so (Going k); sessions = λ c n. omega (arith, rerequested_same c (is_session_with n) cs h r) }
 
-pub lasts_served : (depth : ℕ) (n : ℕ) (v : Service) (cs : List Cell) → Lasts depth cs (set_service n v cs)
-lasts_served depth n v cs = record { going = λ k lt. held_served cs n v (Going k); sessions = λ c m. omega (arith, served_same c (is_session_with m) n v cs) }
-
 pub lasts_ended : (depth : ℕ) (p : Image) (fr : Frame) (cs : List Cell) → Lasts depth cs (ended_cells p fr cs)
 lasts_ended depth p fr cs = go (is_cancel (method_role p fr.method))
   where
@@ -117,9 +114,6 @@ lasts_ended depth p fr cs = go (is_cancel (method_role p fr.method))
     go : (b : Bool) → Lasts depth cs (cond b (rerequested cs fr.home r) cs)
     go true = lasts_asked depth cs fr.home r
     go false = lasts_itself depth cs
-
-pub lasts_begun : (depth : ℕ) (fr : Frame) (cs : List Cell) (r : Option Request) → Lasts depth cs (rerequested cs fr.home r)
-lasts_begun depth fr cs r = lasts_asked depth cs fr.home r
 
 module _ (depth : ℕ) (p : Image) (fr : Frame) (ts : List Task) (s : State) where
   spot_apart : (x : Spot) → IsApart depth (spot_place p fr ts s x)

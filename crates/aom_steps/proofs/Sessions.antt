@@ -185,18 +185,3 @@ module _ (p : Image) (t : Typing) (c : Prices) (priced : IsPriced p t c) (cs : L
         held_moved cs from g g free ∙ ap (λ b. cond b (held cs from) (cond (same_place from g) None (held cs g))) (same_place_refl g) ∙ there,
         omega (arith, moved_less c (is_session_with o.name) from g cs refl, few_sessions o (held_lives cs from o good.tidy there) server),
       )
-
--- ---- the first session that is there
-
-pub first_there :
-    (cs : List Cell) (n : ℕ) (clients : List ℕ) (x : Seat) → first_session cs n clients ≡ Some x → (client : ℕ) × (x.place ≡ Elsewhere (Session n client)) × (held cs x.place ≡ Some x.object)
-first_there cs n [] x e = cc
-first_there cs n (k ∷ clients) x e = go (held cs (Elsewhere (Session n k))) refl e (first_there cs n clients x)
-  where
-    go :
-        (o : Option Object) → held cs (Elsewhere (Session n k)) ≡ o → seat_or o (Elsewhere (Session n k)) (first_session cs n clients) ≡ Some x →
-        (first_session cs n clients ≡ Some x → (client : ℕ) × (x.place ≡ Elsewhere (Session n client)) × (held cs x.place ≡ Some x.object)) → (client : ℕ) × (x.place ≡ Elsewhere (Session n client)) × (held cs x.place ≡ Some x.object)
-    go None there e later = later e
-    go (Some o) there e later =
-        let same : record { object = o; place = Elsewhere (Session n k) } ≡ x = cc in
-        subst (λ (y : Seat). (client : ℕ) × (y.place ≡ Elsewhere (Session n client)) × (held cs y.place ≡ Some y.object)) same (k, refl, there)

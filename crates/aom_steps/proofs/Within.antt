@@ -75,7 +75,8 @@ use Rattle.aom_sound.specs.Clients.{each_unslotted}
 use Rattle.aom_sound.proofs.ClientsKeep.{clients_keep}
 use Rattle.aom_sound.specs.Kept.{IsKept}
 use Rattle.aom_steps.proofs.Lasting.{IsApart, going_apart, lasting, lasts_below, lasts_gone, lasts_moved, resumed_closings}
-use Rattle.aom_steps.proofs.Sessions.{FewSeats, first_there, stands_at_going}
+use Rattle.aom_sound.proofs.Emptying.{found_first}
+use Rattle.aom_steps.proofs.Sessions.{FewSeats, stands_at_going}
 
 -- ---- every move
 
@@ -157,8 +158,8 @@ module _ (p : Image) (t : Typing) (c : Prices) (linked : IsLinked p) (typed : Is
       left p c (parting p o x ts (counted p s)) ≤ all_left (Closing ∷ Destroy ∷ ts)
   empties ts o None at server first = omega (arith, destructed_left p c o (length s.items) ts s.cells, ap (λ y. closing_left p c s.cells y) server)
   empties ts o (Some x) at server first =
-      let found = first_there s.cells o.name (service_of s.cells o.name).sessions x first in
-      lets_go ts o x found.0 found.1 found.2 at server
+      let found = found_first s.cells o.name (service_of s.cells o.name).sessions x first in
+      lets_go ts o x found.client found.place found.there at server
 
   -- a cell goes, and what waits in its queue
   vanishes : (ts : List Task) (o : Object) → 1 + left p c (vanished o ts (counted p s)) ≤ all_left (Destroy ∷ ts)
