@@ -69,18 +69,22 @@ if_true r s y b is e = ap (λ c. if c then r else s) (sym is) ∙ e
 
 -- ---- what holds
 
--- of what was read so far, with the names of classes and methods that are still to come
-record Holds (scope : Scope) (h : Header) (cs : List ClassDecl) (ms : List Method) (size : ℕ) (o : Option Body) (classes_left methods_left : ℕ) : Type 0 where
-  class_names : length cs + classes_left ≡ length scope.classes
-  method_names : length ms + open_count o + methods_left ≡ length scope.methods
+-- of the header, the classes and the methods that were read so far
+record Done (scope : Scope) (h : Header) (cs : List ClassDecl) (ms : List Method) : Type 0 where
   few_classes : length cs ≤ 256
-  few_methods : length ms + open_count o ≤ 1024
-  spelling : size ≡ 24 + 28 * length cs + sum_by spelled ms + spelled_open o
-  short : size ≤ 2 ^ 20
   header : scope.is_strict ≡ true → HeaderFits (length scope.classes) h
   classes : All (ClassFits (length scope.classes) h.natives) cs
   servers : count_by is_server cs ≤ 8
   methods : scope.is_strict ≡ true → All (MethodFits (length scope.classes) (length scope.methods)) ms
+
+-- and of the method that is open, with the names of classes and methods that are still to come
+record Holds (scope : Scope) (h : Header) (cs : List ClassDecl) (ms : List Method) (size : ℕ) (o : Option Body) (classes_left methods_left : ℕ) : Type 0 where
+  class_names : length cs + classes_left ≡ length scope.classes
+  method_names : length ms + open_count o + methods_left ≡ length scope.methods
+  few_methods : length ms + open_count o ≤ 1024
+  spelling : size ≡ 24 + 28 * length cs + sum_by spelled ms + spelled_open o
+  short : size ≤ 2 ^ 20
+  done : Done scope h cs ms
 
 -- of a method that is open, with the statements that are left before its end
 record BodyHolds (scope : Scope) (b : Body) (left : ℕ) : Type 0 where
@@ -116,19 +120,21 @@ module _ (headers : HeadersInRange) (classes_in : ClassesInRange) (headings : He
       let names = holds.class_names in
       let methods = holds.method_names in
       let spelling = holds.spelling in
-      let servers : count_by is_server (cs ++ c ∷ []) ≤ 8 = subst (λ n. n ≤ 8) (sym (counted_push cs c)) (few_counted (count_by is_server cs) (is_server c) range.server holds.servers) in
+      let servers : count_by is_server (cs ++ c ∷ []) ≤ 8 = subst (λ n. n ≤ 8) (sym (counted_push cs c)) (few_counted (count_by is_server cs) (is_server c) range.server holds.done.servers) in
       subst (λ q. Read scope q ss) (ok_is (program h (cs ++ c ∷ []) ms None t.first) q t.second) (record {
         parts = record {
           class_names = omega arith;
           method_names = omega arith;
-          few_classes = omega arith;
           few_methods = holds.few_methods;
           spelling = omega (arith, g.0);
           short = g.1;
-          header = holds.header;
-          classes = All-push (ClassFits (length scope.classes) h.natives) cs c holds.classes range.class;
-          servers = servers;
-          methods = holds.methods;
+          done = record {
+            few_classes = omega arith;
+            header = holds.done.header;
+            classes = All-push (ClassFits (length scope.classes) h.natives) cs c holds.done.classes range.class;
+            servers = servers;
+            methods = holds.done.methods;
+          };
         };
         body = tt;
       })
@@ -149,18 +155,7 @@ module _ (headers : HeadersInRange) (classes_in : ClassesInRange) (headings : He
       let methods = holds.method_names in
       let spelling = holds.spelling in
       subst (λ q. Read scope q ss) (ok_is (program h cs ms (begun m) t.first) q t.second) (record {
-        parts = record {
-          class_names = omega arith;
-          method_names = omega arith;
-          few_classes = holds.few_classes;
-          few_methods = omega arith;
-          spelling = omega (arith, g.0);
-          short = g.1;
-          header = holds.header;
-          classes = holds.classes;
-          servers = holds.servers;
-          methods = holds.methods;
-        };
+        parts = record { class_names = omega arith; method_names = omega arith; few_methods = omega arith; spelling = omega (arith, g.0); short = g.1; done = holds.done };
         body = record {
           labels = sym (length_labels [] ss);
           few = omega arith;
@@ -188,18 +183,7 @@ module _ (headers : HeadersInRange) (classes_in : ClassesInRange) (headings : He
       let spelling = holds.spelling in
       let same : program h cs ms (Some (longer_by added)) t.first ≡ q = ap (λ c. program h cs ms (Some c) t.first) (ok_is (longer_by added) s.first u.second) ∙ ok_is (program h cs ms (Some s.first) t.first) q t.second in
       subst (λ q. Read scope q ss) same (record {
-        parts = record {
-          class_names = holds.class_names;
-          method_names = holds.method_names;
-          few_classes = holds.few_classes;
-          few_methods = holds.few_methods;
-          spelling = omega (arith, g.0);
-          short = g.1;
-          header = holds.header;
-          classes = holds.classes;
-          servers = holds.servers;
-          methods = holds.methods;
-        };
+        parts = record { class_names = holds.class_names; method_names = holds.method_names; few_methods = holds.few_methods; spelling = omega (arith, g.0); short = g.1; done = holds.done };
         body = record {
           labels = omega arith;
           few = omega arith;
@@ -215,18 +199,8 @@ module _ (headers : HeadersInRange) (classes_in : ClassesInRange) (headings : He
   method_fits : (b : Body) (left : ℕ) → BodyHolds scope b left → scope.is_strict ≡ true → length b.labels ≡ length b.code → 1 ≤ length b.code → MethodFits (length scope.classes) (length scope.methods) (whole_of b)
   method_fits b left body strict places some =
       let range = body.heading strict in
-      record {
-        class = range.class;
-        flags = range.flags;
-        before = range.before;
-        after = range.after;
-        argument_count = range.argument_count;
-        arguments = range.arguments;
-        gives = range.gives;
-        some_code = some;
-        code_length = body.few;
-        code = subst (λ n. All (InstrFits (limits (length scope.classes) (length scope.methods) n)) b.code) places (body.code strict);
-      }
+      let code = subst (λ n. All (InstrFits (limits (length scope.classes) (length scope.methods) n)) b.code) places (body.code strict) in
+      record { class = range.class; flags = range.flags; before = range.before; after = range.after; argument_count = range.argument_count; arguments = range.arguments; gives = range.gives; some_code = some; code_length = body.few; code = code }
 
   -- the end of a method
   end_step : (ss : List Statement) (h : Header) (cs : List ClassDecl) (ms : List Method) (size left : ℕ) (b : Body) (ws : List (List ℕ)) (q : Program)
@@ -251,14 +225,16 @@ module _ (headers : HeadersInRange) (classes_in : ClassesInRange) (headings : He
         parts = record {
           class_names = holds.class_names;
           method_names = omega arith;
-          few_classes = holds.few_classes;
           few_methods = omega arith;
           spelling = omega arith;
           short = holds.short;
-          header = holds.header;
-          classes = holds.classes;
-          servers = holds.servers;
-          methods = λ strict. All-push (MethodFits (length scope.classes) (length scope.methods)) ms whole (holds.methods strict) (method_fits b left body strict places (omega (arith, some)));
+          done = record {
+            few_classes = holds.done.few_classes;
+            header = holds.done.header;
+            classes = holds.done.classes;
+            servers = holds.done.servers;
+            methods = λ strict. All-push (MethodFits (length scope.classes) (length scope.methods)) ms whole (holds.done.methods strict) (method_fits b left body strict places (omega (arith, some)));
+          };
         };
         body = tt;
       })
@@ -354,14 +330,16 @@ module _ (headers : HeadersInRange) (classes_in : ClassesInRange) (headings : He
         parts = record {
           class_names = omega (arith, class_names, declares_more k.Class s ss 0 silent.class);
           method_names = omega (arith, method_names, declares_more k.Method s ss 0 silent.method);
-          few_classes = omega arith;
           few_methods = omega arith;
           spelling = refl;
           short = omega arith;
-          header = λ strict. headers scope strict s.words t.first.0 t.first.1 t.read;
-          classes = All-nil (ClassFits (length scope.classes) t.first.0.natives);
-          servers = omega arith;
-          methods = λ strict. All-nil (MethodFits (length scope.classes) (length scope.methods));
+          done = record {
+            few_classes = omega arith;
+            header = λ strict. headers scope strict s.words t.first.0 t.first.1 t.read;
+            classes = All-nil (ClassFits (length scope.classes) t.first.0.natives);
+            servers = omega arith;
+            methods = λ strict. All-nil (MethodFits (length scope.classes) (length scope.methods));
+          };
         };
         body = tt;
       })
@@ -380,11 +358,11 @@ module _ (headers : HeadersInRange) (classes_in : ClassesInRange) (headings : He
       let spelling = parts.spelling in
       let class_count : length scope.classes ≡ length q.classes = omega (arith, declares_none k.Class) in
       let method_count : length scope.methods ≡ length q.methods = omega (arith, declares_none k.Method) in
-      let classes : ClassesFit q.header.natives q.classes = record { count = parts.few_classes; each = subst (λ n. All (ClassFits n q.header.natives) q.classes) class_count parts.classes; servers = parts.servers } in
-      let each : All (MethodFits (length q.classes) (length q.methods)) q.methods = subst (λ n. All (MethodFits n (length q.methods)) q.methods) class_count (subst (λ n. All (MethodFits (length scope.classes) n) q.methods) method_count (parts.methods strict)) in
+      let classes : ClassesFit q.header.natives q.classes = record { count = parts.done.few_classes; each = subst (λ n. All (ClassFits n q.header.natives) q.classes) class_count parts.done.classes; servers = parts.done.servers } in
+      let each : All (MethodFits (length q.classes) (length q.methods)) q.methods = subst (λ n. All (MethodFits n (length q.methods)) q.methods) class_count (subst (λ n. All (MethodFits (length scope.classes) n) q.methods) method_count (parts.done.methods strict)) in
       let methods : MethodsFit (length q.classes) q.methods = record { some = at.some; count = omega arith; each = each } in
       record {
-        header = subst (λ n. HeaderFits n q.header) class_count (parts.header strict);
+        header = subst (λ n. HeaderFits n q.header) class_count (parts.done.header strict);
         classes = classes;
         methods = methods;
         size = omega arith;
@@ -398,7 +376,7 @@ module _ (headers : HeadersInRange) (classes_in : ClassesInRange) (headings : He
   first_classes last ss q is =
       let at = program_read headers classes_in headings instructions (scope_of false ss []) 0 (λ strict. absurd (false≢true strict)) last ss q (count_declared k.Class ss) (count_declared k.Method ss)
       (program_starts last (scope_of false ss []) ss q is) in
-      at.read.parts.classes
+      at.read.parts.done.classes
 
   statements_well : (last : ℕ) (ss : List Statement) (i : Image) → read_statements last ss ≡ Ok i → WellFormed i
   statements_well last ss i is =

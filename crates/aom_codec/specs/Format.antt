@@ -120,17 +120,13 @@ server_part classes = after (fixed byte 0 NotZero) (next (limited byte 1 64) (λ
 
 -- the provider of an active class, and any where there is none
 abbrev pub active_provider : Purpose → Provider
-active_provider purposes.Plain = providers.Own
 active_provider (purposes.Active p) = p
-active_provider (purposes.Server sessions session) = providers.Own
-active_provider purposes.Session = providers.Own
+active_provider _ = providers.Own
 
 -- a server's most sessions and their class
 abbrev pub server_numbers : Purpose → ℕ × ℕ
-server_numbers purposes.Plain = (0, 0)
-server_numbers (purposes.Active p) = (0, 0)
 server_numbers (purposes.Server sessions session) = (sessions, session)
-server_numbers purposes.Session = (0, 0)
+server_numbers _ = (0, 0)
 
 -- what stands between the counts and the fields, by the kind's byte
 abbrev pub purpose : ℕ → ℕ → ℕ → Codec Purpose

@@ -5,13 +5,11 @@ use Rattle.aom_codec.specs.declared.fault.LoadFault.{LoadFault}
 use Rattle.aom_codec.specs.declared.fault.LoadFault.TheVariants.{OutOfMemory}
 
 abbrev pub Reads : {X Y : Type 0} → (X → Y) → Result X LoadFault → Result Y LoadFault → Type 0
-Reads view (Ok x) read = read ≡ Ok (view x)
-Reads view (Err e) read = read ≡ Err e
+Reads view result read = elim result [ Ok x ↦ read ≡ Ok (view x) | Err e ↦ read ≡ Err e ]
 
 -- the same, unless memory ran out
 abbrev pub ReadsOrNoMemory : {X Y : Type 0} → (X → Y) → Result X LoadFault → Result Y LoadFault → Type 0
-ReadsOrNoMemory view (Ok x) read = read ≡ Ok (view x)
-ReadsOrNoMemory view (Err e) read = e ≢ OutOfMemory → read ≡ Err e
+ReadsOrNoMemory view result read = elim result [ Ok x ↦ read ≡ Ok (view x) | Err e ↦ e ≢ OutOfMemory → read ≡ Err e ]
 
 -- decoding answered this image, or memory ran out
 abbrev pub DecodesTo : Image → Result Image LoadFault → Type 0

@@ -91,37 +91,30 @@ provider_sort (providers.Native n) = 2
 
 -- the provider, of active classes alone
 abbrev pub provider_byte : ClassKind → ℕ
-provider_byte kinds.Plain = 0
 provider_byte (kinds.Active provider budget) = provider_sort provider
-provider_byte (kinds.Server sessions session budget) = 0
-provider_byte kinds.Session = 0
+provider_byte _ = 0
 
 -- the number of a native, and 0 for other providers
 abbrev pub native_number : Provider → ℕ
-native_number providers.Own = 0
-native_number providers.Timer = 0
 native_number (providers.Native n) = n
+native_number _ = 0
 
 -- a native's number, or a server's most sessions
 abbrev pub number_byte : ClassKind → ℕ
-number_byte kinds.Plain = 0
 number_byte (kinds.Active provider budget) = native_number provider
 number_byte (kinds.Server sessions session budget) = sessions
-number_byte kinds.Session = 0
+number_byte _ = 0
 
 -- the class of a server's sessions
 abbrev pub session_number : ClassKind → ℕ
-session_number kinds.Plain = no_class
-session_number (kinds.Active provider budget) = no_class
 session_number (kinds.Server sessions session budget) = session
-session_number kinds.Session = no_class
+session_number _ = no_class
 
 -- the budget of active and server classes
 abbrev pub budget_of : ClassKind → ℕ
-budget_of kinds.Plain = 0
 budget_of (kinds.Active provider budget) = budget
 budget_of (kinds.Server sessions session budget) = budget
-budget_of kinds.Session = 0
+budget_of _ = 0
 
 -- a class, in 28 bytes
 abbrev pub class : ClassDecl → List ℕ

@@ -66,7 +66,6 @@ pub enum WordsFault {
 }
 
 impl From<AllocError> for WordsFault {
-    ghost use Rattle.std.specs.Prelude.{◌≡◌};
     ghost use Rattle.aom_command_line.specs.declared.words.WordsFault.TheVariants.{Memory};
 
     ghost from_gives = { λ _ f. f ≡ Memory };
@@ -77,7 +76,6 @@ impl From<AllocError> for WordsFault {
 }
 
 impl<T: Drop> From<AllocFailed<T>> for WordsFault {
-    ghost use Rattle.std.specs.Prelude.{◌≡◌};
     ghost use Rattle.aom_command_line.specs.declared.words.WordsFault.TheVariants.{Memory};
 
     ghost from_gives = { λ _ f. f ≡ Memory };

@@ -31,13 +31,9 @@ six_below u i s a o d hu hi hs ha ho hd = omega arith
 
 letters_below : (w : List ℕ) → (letters_of w).0 < 64
 letters_below w =
-    let u = cut_letter 117 1 w in
-    let i = cut_letter 105 2 u.1 in
-    let s = cut_letter 115 4 i.1 in
-    let a = cut_letter 97 8 s.1 in
-    let o = cut_letter 111 16 a.1 in
-    let d = cut_letter 100 32 o.1 in
-    six_below u.0 i.0 s.0 a.0 o.0 d.0 (cut_most 117 1 w) (cut_most 105 2 u.1) (cut_most 115 4 i.1) (cut_most 97 8 s.1) (cut_most 111 16 a.1) (cut_most 100 32 o.1)
+    let s = (cut_letter 105 2 (cut_letter 117 1 w).1).1 in
+    let o = (cut_letter 97 8 (cut_letter 115 4 s).1).1 in
+    six_below _ _ _ _ _ _ (cut_most 117 1 w) (cut_most 105 2 (cut_letter 117 1 w).1) (cut_most 115 4 s) (cut_most 97 8 (cut_letter 115 4 s).1) (cut_most 111 16 o) (cut_most 100 32 (cut_letter 111 16 o).1)
 
 read_below : (p : ℕ × List ℕ) (s : States) → p.0 < 64 → all_read p ≡ Ok s → AreStates s
 read_below p s below is = subst AreStates (ok_is (record { 0 = p.0 }) s (passed (length p.1 == 0) (Ok (record { 0 = p.0 })) BadShape s is).1) below

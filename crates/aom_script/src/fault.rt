@@ -1,6 +1,6 @@
 //! Why a script is refused.
-ghost use Rattle.std.specs.Prelude.{◌≡◌};
-ghost use Rattle.aom_script.specs.Faults.{number_of};
+ghost use Rattle.std.specs.Prelude.{◌≡◌, Some};
+ghost use Rattle.aom_script.specs.Faults.{fault_text, number_of};
 ghost use Rattle.aom_script.specs.declared.fault.ScriptFaultKind.TheVariants.{OutOfMemory};
 
 use std::alloc::AllocFailed;
@@ -40,15 +40,10 @@ pub struct ScriptFault {
 }
 
 impl fmt::Display for ScriptFault {
-    ghost use Rattle.std.specs.Prelude.{Some};
-    ghost use Rattle.aom_script.specs.Faults.{fault_text};
-
     ghost output = { λ f. Some (fault_text f) };
 
     fn fmt<W: fmt::Write>(&self, f: &mut fmt::Formatter<W>) -> fmt::Result {
-        let line = self.line;
-        let number = self.kind.number();
-        write!(f, "script {line} {number}")
+        write!(f, "script {} {}", self.line, self.kind.number())
     }
 }
 

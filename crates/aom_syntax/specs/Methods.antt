@@ -68,10 +68,8 @@ not_served false = Some result.Nothing
 
 -- what an accept gives
 abbrev pub accepted : Bool → ClassKind → Option Gives
-accepted known kinds.Plain = not_served known
-accepted known (kinds.Active p budget) = not_served known
 accepted known (kinds.Server sessions session budget) = Some (result.Own (owned.Object session))
-accepted known kinds.Session = not_served known
+accepted known _ = not_served known
 
 -- ---- what stands for what is missing
 
@@ -82,67 +80,44 @@ some_of states all = if all == 0 then 0 else states
 -- the states in which a method may begin, by its role and all states of its class
 abbrev pub usual_before : Role → ℕ → ℕ
 usual_before roles.Do all = all
-usual_before roles.Main all = 0
 usual_before roles.Construct all = some_of 1 all
 usual_before roles.Destruct all = all
 usual_before roles.Run all = 2
 usual_before roles.Cancel all = 16
 usual_before roles.Error all = 10
 usual_before roles.Accept all = 2
-usual_before roles.Service all = 0
-usual_before roles.Undo all = 0
+usual_before _ all = 0
 
 -- the states in which it may end
 abbrev pub usual_after : Role → ℕ → ℕ
 usual_after roles.Do all = all
-usual_after roles.Main all = 0
 usual_after roles.Construct all = all
 usual_after roles.Destruct all = some_of 3 all
 usual_after roles.Run all = 11
 usual_after roles.Cancel all = 32
 usual_after roles.Error all = 11
 usual_after roles.Accept all = 3
-usual_after roles.Service all = 0
-usual_after roles.Undo all = 0
+usual_after _ all = 0
 
 -- how many words it takes
 abbrev pub usual_words : Role → ℕ
-usual_words roles.Do = 0
-usual_words roles.Main = 0
-usual_words roles.Construct = 0
-usual_words roles.Destruct = 0
-usual_words roles.Run = 0
-usual_words roles.Cancel = 0
 usual_words roles.Error = 1
-usual_words roles.Accept = 0
 usual_words roles.Service = 5
 usual_words roles.Undo = 1
+usual_words _ = 0
 
 -- what it gives, if anything stands for it
 abbrev pub usual_gives : (known : Bool) → Role → ClassKind → Option Gives
-usual_gives known roles.Do kind = Some result.Nothing
-usual_gives known roles.Main kind = Some result.Nothing
-usual_gives known roles.Construct kind = Some result.Nothing
-usual_gives known roles.Destruct kind = Some result.Nothing
-usual_gives known roles.Run kind = Some result.Nothing
-usual_gives known roles.Cancel kind = Some result.Nothing
 usual_gives known roles.Error kind = Some result.Word
 usual_gives known roles.Accept kind = accepted known kind
-usual_gives known roles.Service kind = Some result.Nothing
-usual_gives known roles.Undo kind = Some result.Nothing
+usual_gives known _ kind = Some result.Nothing
 
 -- whether it is quiet, said or not
 abbrev pub is_quiet_role : Role → Bool
-is_quiet_role roles.Do = false
-is_quiet_role roles.Main = false
-is_quiet_role roles.Construct = false
 is_quiet_role roles.Destruct = true
-is_quiet_role roles.Run = false
 is_quiet_role roles.Cancel = true
-is_quiet_role roles.Error = false
-is_quiet_role roles.Accept = false
-is_quiet_role roles.Service = false
 is_quiet_role roles.Undo = true
+is_quiet_role _ = false
 
 -- ---- sets of states
 

@@ -2,8 +2,9 @@
 ghost use Rattle.std.specs.Prelude.{◌≡◌, ◌≤◌, ◌∷◌, ◌==◌, ◌<◌, length, option_map, IfSome};
 ghost use Rattle.std.specs.List.{slice_split, position};
 ghost use Rattle.aom_syntax.specs.Reading.{Reads, ReadsOrNoMemory};
-ghost use Rattle.aom_syntax.specs.Classes.{declared, parts_left, class_of, thing_of, thing, things, listed, provider, server, purpose, budget, kind, fields, class_statement};
+ghost use Rattle.aom_syntax.specs.Classes.{declared, parts_left, class_of, thing_of, thing, things, provider, server, purpose, budget, kind, fields, class_statement};
 
+use crate::list::listed;
 use crate::{Keyword, Names, Reader, Scope};
 use aom_image::{ClassDecl, ClassKind, ClassNumber, Items, NativeNumber, Provider, Thing};
 use aom_text::{AsmFaultKind, is_name};
@@ -55,27 +56,6 @@ pub fn thing_of(word: &[u8], scope: &Scope) -> Result<Thing, AsmFaultKind>
     Ok(Thing::Object(class_of(word, scope)?))
 }
 
-/// What a class owns, from a word that lists it.
-fn things_of(alloc: Global, word: &[u8], scope: &Scope) -> Result<Vec<Thing>, AsmFaultKind>
-    ensures { ReadsOrNoMemory (λ v. v.items) result (listed 8 (thing_of scope.now) word.now) }
-{
-    let mut things = Vec::new(alloc);
-    if word == b"-".as_slice() {
-        return Ok(things);
-    }
-    let mut rest = Some(word);
-    while let Some(list) = rest {
-        let (element, after) = split_element(list);
-        if things.len() >= 8 {
-            return Err(AsmFaultKind::LimitPassed);
-        }
-        let thing = thing_of(element, scope)?;
-        things.push(thing)?;
-        rest = after;
-    }
-    Ok(things)
-}
-
 impl<'a> Reader<'a> {
     /// A name that is declared here, at its place among all of its kind.
     pub fn declared(&mut self, place: usize, names: &Names) -> Result<(), AsmFaultKind>
@@ -97,7 +77,7 @@ impl<'a> Reader<'a> {
     fn things(&mut self, alloc: Global, scope: &Scope) -> Result<Vec<Thing>, AsmFaultKind>
         ensures { ReadsOrNoMemory (λ x. (x.items, self.new)) result (things scope.now self.old) }
     {
-        things_of(alloc, self.word()?, scope)
+        listed(alloc, self.word()?, scope, 8)
     }
 
     /// The provider that a keyword says.

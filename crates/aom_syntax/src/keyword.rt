@@ -166,10 +166,7 @@ impl Keyword {
     pub fn of(word: &[u8]) -> Option<Keyword>
         ensures { result ≡ keyword_of word.now }
     {
-        KEYWORDS
-            .iter()
-            .copied()
-            .find(|keyword| keyword.text() == word)
+        KEYWORDS.iter().copied().find(|key| key.text() == word)
     }
 }
 

@@ -5,6 +5,7 @@ mod class;
 mod header;
 mod instruction;
 mod keyword;
+mod list;
 mod method;
 mod names;
 mod operands;

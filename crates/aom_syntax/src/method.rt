@@ -2,10 +2,10 @@
 ghost use Rattle.std.specs.Prelude.{◌≡◌, ◌≤◌, ◌<◌, ◌∷◌, length, option_map, replicate, IfOk};
 ghost use Rattle.aom_image.specs.declared.method.Argument.TheVariants.{Word};
 ghost use Rattle.aom_syntax.specs.Reading.{Reads, ReadsOrNoMemory};
-ghost use Rattle.aom_syntax.specs.Classes.{listed};
 ghost use Rattle.aom_syntax.specs.Methods.{role, role_of, kind_of, all_states, accepted, usual_before, usual_after, usual_words, usual_gives, unsaid_gives, is_quiet_role, optional_states, optional_class, argument_of, optional_arguments, gives, optional_gives, flags_of, heading};
 
-use crate::class::{split_element, thing_of};
+use crate::class::thing_of;
+use crate::list::listed;
 use crate::states::{set_of, states_of};
 use crate::{Keyword, Reader, Scope};
 use aom_image::{
@@ -51,35 +51,22 @@ fn all_states(kind: ClassKind) -> u8
     }
 }
 
-/// The states in which a method may begin, where none are said.
-fn usual_before(role: Role, all: u8) -> u8
+/// The states in which a method may begin and those in which it may end, where none are said.
+fn usual_states(role: Role, all: u8) -> (u8, u8)
     requires { all < 64 }
-    ensures usual { result ≡ usual_before role all }
-    ensures few { result < 64 }
+    ensures before { result.0 ≡ usual_before role all }
+    ensures after { result.1 ≡ usual_after role all }
+    ensures few { (result.0 < 64) × (result.1 < 64) }
 {
     match role {
-        Role::Do | Role::Destruct => all,
-        Role::Construct if all != 0 => 1,
-        Role::Run | Role::Accept => 2,
-        Role::Cancel => 16,
-        Role::Error => 10,
-        Role::Main | Role::Construct | Role::Service | Role::Undo => 0,
-    }
-}
-
-/// The states in which it may end, where none are said.
-fn usual_after(role: Role, all: u8) -> u8
-    requires { all < 64 }
-    ensures usual { result ≡ usual_after role all }
-    ensures few { result < 64 }
-{
-    match role {
-        Role::Do | Role::Construct => all,
-        Role::Destruct if all != 0 => 3,
-        Role::Run | Role::Error => 11,
-        Role::Cancel => 32,
-        Role::Accept => 3,
-        Role::Main | Role::Destruct | Role::Service | Role::Undo => 0,
+        Role::Do => (all, all),
+        Role::Construct if all != 0 => (1, all),
+        Role::Destruct if all != 0 => (all, 3),
+        Role::Run => (2, 11),
+        Role::Cancel => (16, 32),
+        Role::Error => (10, 11),
+        Role::Accept => (2, 3),
+        Role::Main | Role::Construct | Role::Destruct | Role::Service | Role::Undo => (0, 0),
     }
 }
 
@@ -169,35 +156,13 @@ fn role_of(key: Keyword) -> Result<Role, AsmFaultKind>
     }
 }
 
-fn argument_of(word: &[u8], scope: &Scope) -> Result<Argument, AsmFaultKind>
+pub fn argument_of(word: &[u8], scope: &Scope) -> Result<Argument, AsmFaultKind>
     ensures { result ≡ argument_of scope.now word.now }
 {
     if word == b"word".as_slice() {
         return Ok(Argument::Word);
     }
     Ok(Argument::Own(thing_of(word, scope)?))
-}
-
-/// What a method takes, from a word that lists it.
-fn arguments_of(alloc: Global, word: &[u8], scope: &Scope) -> Result<Vec<Argument>, AsmFaultKind>
-    ensures { ReadsOrNoMemory (λ v. v.items) result (listed 6 (argument_of scope.now) word.now) }
-{
-    let _told: Option<Thing> = None;
-    let mut arguments = Vec::new(alloc);
-    if word == b"-".as_slice() {
-        return Ok(arguments);
-    }
-    let mut rest = Some(word);
-    while let Some(list) = rest {
-        let (element, after) = split_element(list);
-        if arguments.len() >= 6 {
-            return Err(AsmFaultKind::LimitPassed);
-        }
-        let argument = argument_of(element, scope)?;
-        arguments.push(argument)?;
-        rest = after;
-    }
-    Ok(arguments)
 }
 
 fn words(alloc: Global, count: usize) -> Result<Vec<Argument>, AllocError>
@@ -246,7 +211,7 @@ impl<'a> Reader<'a> {
         ensures { ReadsOrNoMemory (λ x. (x.items, self.new)) result (optional_arguments scope.now usual self.old) }
     {
         if self.took(Keyword::Args) {
-            arguments_of(alloc, self.word()?, scope)
+            listed(alloc, self.word()?, scope, 6)
         } else {
             Ok(words(alloc, usual)?)
         }
@@ -296,8 +261,9 @@ impl<'a> Reader<'a> {
         let quiet = self.took(Keyword::Quiet);
         let kind = kind_of(&scope.kinds, class);
         let all = all_states(kind);
-        let before = self.optional_states(Keyword::In, usual_before(role, all))?;
-        let after = self.optional_states(Keyword::Out, usual_after(role, all))?;
+        let (usual_before, usual_after) = usual_states(role, all);
+        let before = self.optional_states(Keyword::In, usual_before)?;
+        let after = self.optional_states(Keyword::Out, usual_after)?;
         let arguments = self.optional_arguments(alloc, scope, usual_words(role))?;
         let gives = self.optional_gives(scope, usual_gives(scope.is_strict, role, kind))?;
         Ok(Heading {

@@ -10,9 +10,11 @@ use aom_image::{
 };
 use aom_text::AsmFaultKind;
 
+type Read<T> = Result<T, AsmFaultKind>;
+
 impl<'a> Reader<'a> {
     /// A register is r0 where no word is left.
-    fn small_operand(&mut self, kind: SmallKind) -> Result<Small, AsmFaultKind>
+    fn small_operand(&mut self, kind: SmallKind) -> Read<Small>
         ensures { Reads (λ x. (x, self.new)) result (small_operand kind self.old) }
     {
         match kind {
@@ -26,12 +28,7 @@ impl<'a> Reader<'a> {
         }
     }
 
-    fn large_operand(
-        &mut self,
-        kind: LargeKind,
-        scope: &Scope,
-        labels: &Names,
-    ) -> Result<Large, AsmFaultKind>
+    fn large_operand(&mut self, kind: LargeKind, scope: &Scope, labels: &Names) -> Read<Large>
         ensures { Reads (λ x. (x, self.new)) result (large_operand scope.now labels.now kind self.old) }
     {
         match kind {
@@ -44,12 +41,7 @@ impl<'a> Reader<'a> {
         }
     }
 
-    fn operands(
-        &mut self,
-        kinds: Kinds,
-        scope: &Scope,
-        labels: &Names,
-    ) -> Result<Operands, AsmFaultKind>
+    fn operands(&mut self, kinds: Kinds, scope: &Scope, labels: &Names) -> Read<Operands>
         ensures { Reads (λ x. (x, self.new)) result (operands_read scope.now labels.now kinds self.old) }
     {
         let a = self.small_operand(kinds.a)?;
@@ -70,12 +62,7 @@ impl<'a> Reader<'a> {
     }
 
     /// The instruction of a mnemonic, from what stands behind it.
-    pub fn behind(
-        &mut self,
-        mnemonic: Mnemonic,
-        scope: &Scope,
-        labels: &Names,
-    ) -> Result<Instr, AsmFaultKind>
+    pub fn behind(&mut self, mnemonic: Mnemonic, scope: &Scope, labels: &Names) -> Read<Instr>
         ensures { Reads (λ x. (x, self.new)) result (words_operands scope.now labels.now mnemonic self.old) }
     {
         // The check has to be told of the types that `Operands` holds.
