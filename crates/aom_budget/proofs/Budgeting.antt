@@ -1,9 +1,9 @@
 -- What was found of each dispatch is its price, and an image whose dispatches cost more than is declared of them is none that keeps its budgets.
-use Rattle.std.proofs.Common.{◌≡◌, ◌∙◌, ◌<◌, ◌≤◌, ◌+◌, ⊎_elim, inl, inr, ap, ap₂, ℕ, List, [], length, Option, Some, None, IsSome, refl, sym, subst, arith}
+use Rattle.std.proofs.Common.{◌≡◌, ◌∙◌, ◌<◌, ◌≤◌, ◌+◌, inl, inr, ap, ap₂, ℕ, List, [], length, Option, Some, None, IsSome, refl, sym, subst, arith}
 use Rattle.aom_image.proofs.Given.{some_given}
 use Rattle.std.specs.Prelude.{min, slice_get}
 use Rattle.std.proofs.lemmas.Bool.Decides.{eqb_tells}
-use Rattle.std.proofs.lemmas.Option.{slice_get_cases, slice_get_within, same_Some}
+use Rattle.std.proofs.lemmas.Option.{slice_get_within, same_Some}
 use Rattle.aom_image.specs.Image.{Image}
 use Rattle.aom_image.specs.Views.{class_at, method_at}
 use Rattle.aom_image.specs.WellFormed.{ClassFits, KindFits, WellFormed}
@@ -19,6 +19,7 @@ use Rattle.aom_classes.specs.Roles.{main_of, role_of}
 use Rattle.aom_classes.proofs.Facts.{all_there}
 use Rattle.aom_classes.proofs.Playing.{main_found as main_method, role_found as role_method}
 use Rattle.aom_shape.specs.Tables.{at}
+use Rattle.aom_shape.proofs.Lists.{there}
 use Rattle.aom_rules.specs.Typing.{Typing}
 use Rattle.aom_bounds.specs.Strongest.{IsStrongest}
 use Rattle.aom_bounds.specs.Depths.{DepthsWithin}
@@ -177,10 +178,7 @@ main_over p prices declared cost fault declares costs over told =
 
 pub class_there : (p : Image) (k : ℕ) → k < length p.classes → IsSome (class_at p k)
 unfolding class_at
-class_there p k within = ⊎_elim
-    (λ found. subst (λ o. IsSome o) (sym found.2) refl)
-    (λ past. absurd (omega (arith, past.0, within)))
-    (slice_get_cases p.classes k).1
+class_there p k within = there p.classes k within
 
 -- what the class at a number declares
 module _ (p : Image) (prices : List ℕ) (k : ℕ) (class : ClassDecl) (is : class_at p k ≡ Some class) where

@@ -13,16 +13,8 @@ use Rattle.aom_dot.specs.Over.{color_text, method_is_over}
 
 -- what each role is called
 abbrev pub role_word : Role → List ℕ
-role_word roles.Do = codes " do"
-role_word roles.Main = codes " main"
-role_word roles.Construct = codes " construct"
-role_word roles.Destruct = codes " destruct"
-role_word roles.Run = codes " run"
-role_word roles.Cancel = codes " cancel"
-role_word roles.Error = codes " error"
-role_word roles.Accept = codes " accept"
-role_word roles.Service = codes " service"
-role_word roles.Undo = codes " undo"
+role_word role = codes (elim role
+    [ roles.Do ↦ " do" | roles.Main ↦ " main" | roles.Construct ↦ " construct" | roles.Destruct ↦ " destruct" | roles.Run ↦ " run" | roles.Cancel ↦ " cancel" | roles.Error ↦ " error" | roles.Accept ↦ " accept" | roles.Service ↦ " service" | roles.Undo ↦ " undo" ])
 
 -- the class whose objects a method works on, where there is one
 abbrev pub of_text : Option ℕ → List ℕ

@@ -44,13 +44,13 @@ impl Edge {
     }
 }
 
-fn put_kind(out: &mut Writer, kind: EdgeKind) -> Result<(), AllocError>
-    ensures { OnOk result (out.new ≡ out.old ++ kind_text kind) }
+fn words_of(kind: EdgeKind) -> &'static [u8]
+    ensures { result.now ≡ kind_text kind }
 {
     match kind {
-        EdgeKind::Call => out.words(b" [key=call"),
-        EdgeKind::Trap => out.words(b" [key=trap style=dashed"),
-        EdgeKind::Operation => out.words(b" [key=operation style=dotted"),
+        EdgeKind::Call => b" [key=call",
+        EdgeKind::Trap => b" [key=trap style=dashed",
+        EdgeKind::Operation => b" [key=operation style=dotted",
     }
 }
 
@@ -60,7 +60,7 @@ pub(crate) fn put_arrow(out: &mut Writer, from: MethodNumber, edge: Edge) -> Res
 {
     out.count(b"m", u64::from(from.number()))?;
     out.count(b" -> m", u64::from(edge.to.number()))?;
-    put_kind(out, edge.kind)
+    out.words(words_of(edge.kind))
 }
 
 fn put_edge(out: &mut Writer, from: MethodNumber, edge: Edge) -> Result<(), AllocError>

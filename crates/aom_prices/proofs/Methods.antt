@@ -1,5 +1,5 @@
 -- Which methods are there, by their numbers.
-use Rattle.std.proofs.Common.{◌≡◌, ◌<◌, ℕ, length, Some, inl, inr, refl, arith}
+use Rattle.std.proofs.Common.{◌≡◌, ◌<◌, ℕ, length, Some, inl, inr}
 use Rattle.aom_image.proofs.Given.{some_given}
 use Rattle.std.specs.Prelude.{IsSome}
 use Rattle.std.proofs.lemmas.Option.{slice_get_within}
@@ -10,9 +10,8 @@ use Rattle.aom_image.specs.declared.method.Role.TheVariants.{Destruct}
 use Rattle.aom_image.specs.declared.method.Thing.{Thing}
 use Rattle.aom_image.specs.declared.method.Thing.TheVariants.{Object}
 use Rattle.aom_classes.specs.Roles.{destructor_of}
-use Rattle.std.proofs.lemmas.Option.{slice_get_cases}
-use Rattle.std.proofs.Common.{⊎_elim, sym, subst}
 use Rattle.aom_classes.proofs.Playing.{destroyed, role_found}
+use Rattle.aom_shape.proofs.Lists.{there}
 use Rattle.aom_prices.specs.Layers.{Destructs}
 
 pub method_within : (p : Image) (m : ℕ) (d : Method) → method_at p m ≡ Some d → m < length p.methods
@@ -32,7 +31,4 @@ destructs_within p x k (inr w) = destructor_within p (Object w.0) k w.2
 
 pub method_is_some : (p : Image) (m : ℕ) → m < length p.methods → IsSome (method_at p m)
 unfolding method_at
-method_is_some p m lt = ⊎_elim
-    (λ found. subst (λ o. IsSome o) (sym found.2) refl)
-    (λ past. absurd (omega (arith, past.0, lt)))
-    (slice_get_cases p.methods m).1
+method_is_some p m lt = there p.methods m lt

@@ -4,20 +4,25 @@ use Rattle.aom_image.specs.Views.{has}
 use Rattle.aom_image.specs.declared.class.ClassKind.{ClassKind}
 use Rattle.aom_image.specs.declared.class.ClassKind.TheVariants.{Active, Server}
 
-abbrev pub no_state : ℕ
-no_state = 0
-
 abbrev pub unlisted : ℕ
 unlisted = 1
 
 abbrev pub idle : ℕ
 idle = 2
 
-abbrev pub issued : ℕ
-issued = 4
+-- the states of a server
+abbrev pub server_states : ℕ
+server_states = bit_or unlisted idle
 
 abbrev pub active : ℕ
 active = 8
+
+-- the states of an active object while nothing works on it
+abbrev pub active_states : ℕ
+active_states = bit_or server_states active
+
+abbrev pub issued : ℕ
+issued = 4
 
 -- being cancelled with its request open
 abbrev pub cancel_open : ℕ
@@ -27,13 +32,8 @@ cancel_open = 16
 abbrev pub cancel_done : ℕ
 cancel_done = 32
 
--- the states of a server
-abbrev pub server_states : ℕ
-server_states = bit_or unlisted idle
-
--- the states of an active object while nothing works on it
-abbrev pub active_states : ℕ
-active_states = bit_or server_states active
+abbrev pub no_state : ℕ
+no_state = 0
 
 -- the states in which the objects of a kind of class may be while nothing works on them
 unfoldable pub states_of : Option ClassKind → ℕ

@@ -114,6 +114,13 @@ pub fn resting_states(image: &Image, class: Option<ClassNumber>) -> States
     states_of(kind_of(image, class))
 }
 
+/// It takes nothing and gives nothing.
+fn is_bare(method: &Method) -> bool
+    ensures { IsTrue result ↔ (TakesWords 0 method.now × IsTrue (gives_nothing method.now.gives)) }
+{
+    takes_words(method, 0) && gives_nothing(method.gives)
+}
+
 fn stands_still(method: &Method) -> bool
     ensures { IsTrue result ↔ StandsStill method.now }
 {
@@ -147,11 +154,7 @@ fn is_do(kind: Option<ClassKind>, method: &Method) -> bool
 fn is_main(kind: Option<ClassKind>, method: &Method) -> bool
     ensures { IsTrue result ↔ IsMain kind method.now }
 {
-    kind.is_none()
-        && takes_words(method, 0)
-        && gives_nothing(method.gives)
-        && stands_still(method)
-        && !is_quiet(method)
+    kind.is_none() && is_bare(method) && stands_still(method) && !is_quiet(method)
 }
 
 fn is_construct(kind: Option<ClassKind>, method: &Method) -> bool
@@ -167,8 +170,7 @@ fn is_destruct(kind: Option<ClassKind>, method: &Method) -> bool
     ensures { IsTrue result ↔ IsDestruct kind method.now }
 {
     kind.is_some()
-        && takes_words(method, 0)
-        && gives_nothing(method.gives)
+        && is_bare(method)
         && same_states(method.before, states_of(kind))
         && same_states(method.after, last_of(kind))
         && is_quiet(method)
@@ -178,8 +180,7 @@ fn is_run(kind: Option<ClassKind>, method: &Method) -> bool
     ensures { IsTrue result ↔ IsRun kind method.now }
 {
     is_active_in(kind)
-        && takes_words(method, 0)
-        && gives_nothing(method.gives)
+        && is_bare(method)
         && same_states(method.before, States::IDLE)
         && is_part(active_states(), method.after)
 }
@@ -188,8 +189,7 @@ fn is_cancel(kind: Option<ClassKind>, method: &Method) -> bool
     ensures { IsTrue result ↔ IsCancel kind method.now }
 {
     is_active_in(kind)
-        && takes_words(method, 0)
-        && gives_nothing(method.gives)
+        && is_bare(method)
         && same_states(method.before, States::OPEN)
         && same_states(method.after, States::DONE)
         && is_quiet(method)

@@ -11,18 +11,15 @@ use Rattle.aom_site.specs.Site.{leave_point}
 use Rattle.aom_shape.specs.Needs.{Need}
 use Rattle.aom_shape.specs.declared.kind.Age.{Age}
 use Rattle.aom_shape.specs.declared.kind.Kind.{Kind}
-use Rattle.aom_shape.specs.declared.kind.Kind.TheVariants.{Unset, Word, Null, Own, Maybe}
+use Rattle.aom_shape.specs.declared.kind.Kind.TheVariants.{Null, Own}
 use Rattle.aom_shape.specs.declared.kind.Entry.{Entry}
 use Rattle.aom_shape.specs.declared.kind.Entry.TheVariants.{Object as An_object, Operation}
 use Rattle.aom_shape.specs.declared.why.Why.TheVariants.{RegisterKind, PopEmpty, QuietBroken}
 
 -- it owns an object, which is no message
 abbrev pub owns_object : Kind → Bool
-owns_object Unset = false
-owns_object Word = false
-owns_object Null = false
 owns_object (Own t a) = is_object t
-owns_object (Maybe t a) = false
+owns_object _ = false
 
 -- the entry of an object that is pushed
 abbrev pub thing_entry : Thing → Age → Entry
@@ -30,19 +27,19 @@ thing_entry (Object c) a = An_object c a
 thing_entry Message a = Operation
 
 abbrev pub entry_of : Kind → Entry
-entry_of Unset = Operation
-entry_of Word = Operation
-entry_of Null = Operation
 entry_of (Own t a) = thing_entry t a
-entry_of (Maybe t a) = Operation
+entry_of _ = Operation
+
+-- there is a last entry, and it passes that test
+abbrev pub tops : (Entry → Bool) → List Entry → Bool
+tops test [] = false
+tops test (e ∷ es) = test e
 
 abbrev pub tops_object : List Entry → Bool
-tops_object [] = false
-tops_object (e ∷ es) = is_object_entry e
+tops_object es = tops is_object_entry es
 
 abbrev pub tops_operation : List Entry → Bool
-tops_operation [] = false
-tops_operation (e ∷ es) = not (is_object_entry e)
+tops_operation es = tops (λ e. not (is_object_entry e)) es
 
 -- what the last entry owns
 abbrev pub top_kind : List Entry → Kind

@@ -1,5 +1,5 @@
 //! The rules of instructions on the request of the method's own object.
-ghost use Rattle.std.specs.Prelude.{◌≡◌, ◌++◌, ℤ, not, suc};
+ghost use Rattle.std.specs.Prelude.{◌≡◌, ◌++◌, ◌∷◌, [], ℤ, not, suc};
 ghost use Rattle.aom_image.specs.Views.{has};
 ghost use Rattle.aom_instructions.specs.declared.instr.Instr.TheVariants.{Abort, Cancel, Enlist, Issue, JumpActive, JumpAdded, SetActive, Status};
 ghost use Rattle.aom_roles.specs.States.{active_states, server_states, unlisted};
@@ -9,6 +9,7 @@ ghost use Rattle.aom_shape.specs.Changes.{ways_from};
 ghost use Rattle.aom_shape.specs.Needs.{to_next};
 ghost use Rattle.aom_shape.specs.declared.why.Why.TheVariants.{NotAdded, NotIdle, RegisterKind};
 
+use crate::rules::Ruling;
 use crate::words::with_word;
 use aom_image::{Place, Register, States};
 use aom_shape::{Flow, Why, judge};
@@ -85,6 +86,13 @@ pub(crate) fn needs_states(site: &Site<'_>, states: States, why: Why) -> (bool, 
     (states.contains(site.shape.states()), why)
 }
 
+/// The method works on an active object, and each state in which that may be is one of these.
+fn needs_active_in(site: &Site<'_>, states: States, why: Why) -> [(bool, Why); 2]
+    ensures { result ≡ (is_active_kind (own_kind site.now.image site.now.method), RegisterKind) ∷ (has states.0 site.now.shape.states, why) ∷ [] }
+{
+    [needs_active_kind(site), needs_states(site, states, why)]
+}
+
 /// The object is enlisted.
 fn needs_added(site: &Site<'_>) -> (bool, Why)
     ensures { result ≡ (not (has site.now.shape.states unlisted), NotAdded) }
@@ -117,21 +125,21 @@ fn branches_in(site: &Site<'_>, there: States, here: States, to: Place) -> Flow
     }
 }
 
-pub(crate) fn rule_jump_active(site: &Site<'_>, to: Place) -> Result<Flow, Why>
+pub(crate) fn rule_jump_active(site: &Site<'_>, to: Place) -> Ruling
     ensures { Tells site.now (JumpActive to) result }
 {
     let flow = branches_in(site, outstanding(), inactive(), to);
     judge(&[needs_active_kind(site)], flow)
 }
 
-pub(crate) fn rule_jump_added(site: &Site<'_>, to: Place) -> Result<Flow, Why>
+pub(crate) fn rule_jump_added(site: &Site<'_>, to: Place) -> Ruling
     ensures { Tells site.now (JumpAdded to) result }
 {
     let flow = branches_in(site, enlisted(), States::UNLISTED, to);
     judge(&[needs_listed_kind(site)], flow)
 }
 
-pub(crate) fn rule_enlist(site: &Site<'_>) -> Result<Flow, Why>
+pub(crate) fn rule_enlist(site: &Site<'_>) -> Ruling
     ensures { (priority : ℤ) → Tells site.now (Enlist priority) result }
 {
     let needs = [
@@ -141,7 +149,7 @@ pub(crate) fn rule_enlist(site: &Site<'_>) -> Result<Flow, Why>
     judge(&needs, left_in(site, States::IDLE))
 }
 
-pub(crate) fn rule_issue(site: &Site<'_>, a: Register, b: Register) -> Result<Flow, Why>
+pub(crate) fn rule_issue(site: &Site<'_>, a: Register, b: Register) -> Ruling
     ensures { Tells site.now (Issue a b) result }
 {
     let needs = [
@@ -154,40 +162,31 @@ pub(crate) fn rule_issue(site: &Site<'_>, a: Register, b: Register) -> Result<Fl
     judge(&needs, left_in(site, States::ISSUED))
 }
 
-pub(crate) fn rule_set_active(site: &Site<'_>) -> Result<Flow, Why>
+pub(crate) fn rule_set_active(site: &Site<'_>) -> Ruling
     ensures { Tells site.now SetActive result }
 {
-    let needs = [
-        needs_active_kind(site),
-        needs_states(site, States::ISSUED, Why::NotIssued),
-    ];
+    let needs = needs_active_in(site, States::ISSUED, Why::NotIssued);
     judge(&needs, left_in(site, States::ACTIVE))
 }
 
-pub(crate) fn rule_cancel(site: &Site<'_>) -> Result<Flow, Why>
+pub(crate) fn rule_cancel(site: &Site<'_>) -> Ruling
     ensures { Tells site.now Cancel result }
 {
-    let needs = [
-        needs_active_kind(site),
-        needs_states(site, active_states(), Why::NotIdle),
-    ];
+    let needs = needs_active_in(site, active_states(), Why::NotIdle);
     let states = once_cancelled(site.shape.states());
     let after = site.shape.with_fields_unknown().with_states(states);
     judge(&needs, site.next(&after))
 }
 
-pub(crate) fn rule_abort(site: &Site<'_>) -> Result<Flow, Why>
+pub(crate) fn rule_abort(site: &Site<'_>) -> Ruling
     ensures { Tells site.now Abort result }
 {
     let cancelling = States::OPEN.union(States::DONE);
-    let needs = [
-        needs_active_kind(site),
-        needs_states(site, cancelling, Why::EntryState),
-    ];
+    let needs = needs_active_in(site, cancelling, Why::EntryState);
     judge(&needs, left_in(site, States::DONE))
 }
 
-pub(crate) fn rule_status(site: &Site<'_>, a: Register) -> Result<Flow, Why>
+pub(crate) fn rule_status(site: &Site<'_>, a: Register) -> Ruling
     ensures { Tells site.now (Status a) result }
 {
     let needs = [needs_active_kind(site), site.needs_unowning(a)];

@@ -9,6 +9,7 @@ ghost use Rattle.aom_shape.specs.Needs.{judged};
 ghost use Rattle.aom_shape.specs.declared.kind.Entry.{Entry as EntryData};
 
 use crate::objects::new_age;
+use crate::rules::Ruling;
 use aom_image::{ClassNumber, Register, Thing};
 use aom_shape::{Age, Entry, Flow, Kind, Next, Shape, Why, is_object, judge};
 use aom_site::Site;
@@ -73,23 +74,14 @@ fn top_kind(shape: &Shape<'_>) -> Kind
 }
 
 /// That flow, where the need is met and the method may leave in that state.
-fn judge_leave(
-    site: &Site<'_>,
-    need: (bool, Why),
-    left: &Shape<'_>,
-    flow: Flow,
-) -> Result<Flow, Why>
+fn judge_leave(site: &Site<'_>, need: (bool, Why), left: &Shape<'_>, flow: Flow) -> Ruling
     ensures { (es : List EntryData) → told es result ≡ judged (need ∷ leave_point site.now.image site.now.method site.now.place site.now.shape left.now) (ways_from es flow) }
 {
     let [may_leave, unowned, unissued, here] = site.leave_point(left);
     judge(&[need, may_leave, unowned, unissued, here], flow)
 }
 
-pub(crate) fn rule_new_or_leave(
-    site: &Site<'_>,
-    a: Register,
-    class: ClassNumber,
-) -> Result<Flow, Why>
+pub(crate) fn rule_new_or_leave(site: &Site<'_>, a: Register, class: ClassNumber) -> Ruling
     ensures { Tells site.now (NewOrLeave a class) result }
 {
     let [may_leave, unowned, unissued, here] = site.leave_point(site.shape);
@@ -106,7 +98,7 @@ pub(crate) fn rule_new_or_leave(
 }
 
 /// The object is on the cleanup stack before the push may leave.
-pub(crate) fn rule_push(site: &Site<'_>, a: Register) -> Result<Flow, Why>
+pub(crate) fn rule_push(site: &Site<'_>, a: Register) -> Ruling
     ensures { Tells site.now (Push a) result }
 {
     let moved = site.shape.with_register(a, Kind::Null);
@@ -115,14 +107,14 @@ pub(crate) fn rule_push(site: &Site<'_>, a: Register) -> Result<Flow, Why>
     judge_leave(site, need, &moved, site.on(pushed))
 }
 
-pub(crate) fn rule_push_operation(site: &Site<'_>, a: Register) -> Result<Flow, Why>
+pub(crate) fn rule_push_operation(site: &Site<'_>, a: Register) -> Ruling
     ensures { (method : ℕ) → Tells site.now (PushOperation a method) result }
 {
     let pushed = Next::of(site.shape).with_entry(Entry::Operation);
     judge_leave(site, site.needs_word(a), site.shape, site.on(pushed))
 }
 
-pub(crate) fn rule_pop(site: &Site<'_>, a: Register) -> Result<Flow, Why>
+pub(crate) fn rule_pop(site: &Site<'_>, a: Register) -> Ruling
     ensures { Tells site.now (Pop a) result }
 {
     let needs = [
@@ -134,7 +126,7 @@ pub(crate) fn rule_pop(site: &Site<'_>, a: Register) -> Result<Flow, Why>
     judge(&needs, site.on(Next::of(&popped).without_entry()))
 }
 
-pub(crate) fn rule_pop_operation(site: &Site<'_>) -> Result<Flow, Why>
+pub(crate) fn rule_pop_operation(site: &Site<'_>) -> Ruling
     ensures { Tells site.now PopOperation result }
 {
     let needs = [
@@ -145,21 +137,21 @@ pub(crate) fn rule_pop_operation(site: &Site<'_>) -> Result<Flow, Why>
 }
 
 /// An object is destroyed, and an operation is run.
-pub(crate) fn rule_pop_delete(site: &Site<'_>) -> Result<Flow, Why>
+pub(crate) fn rule_pop_delete(site: &Site<'_>) -> Ruling
     ensures { Tells site.now PopDelete result }
 {
     let next = Next::of(site.shape).without_entry();
     judge(&[site.needs_entry()], site.on(next))
 }
 
-pub(crate) fn rule_leave(site: &Site<'_>, a: Register) -> Result<Flow, Why>
+pub(crate) fn rule_leave(site: &Site<'_>, a: Register) -> Ruling
     ensures { Tells site.now (Leave a) result }
 {
     judge_leave(site, site.needs_word(a), site.shape, Flow::none())
 }
 
 /// It leaves where the word is negative.
-pub(crate) fn rule_leave_if(site: &Site<'_>, a: Register) -> Result<Flow, Why>
+pub(crate) fn rule_leave_if(site: &Site<'_>, a: Register) -> Ruling
     ensures { Tells site.now (LeaveIf a) result }
 {
     judge_leave(site, site.needs_word(a), site.shape, site.next(site.shape))

@@ -6,6 +6,7 @@ ghost use Rattle.aom_rules.specs.Messages.{after_take_message};
 ghost use Rattle.aom_rules.specs.Rules.{Tells};
 ghost use Rattle.aom_shape.specs.declared.why.Why.TheVariants.{RegisterKind};
 
+use crate::rules::Ruling;
 use aom_image::{Register, Thing};
 use aom_shape::{Age, Delivery, Flow, Kind, Shape, Why, judge};
 use aom_site::Site;
@@ -20,7 +21,7 @@ fn with_message<'a>(site: &Site<'a>, a: Register) -> Shape<'a>
         .with_delivery(Delivery::Gone)
 }
 
-pub(crate) fn rule_take_message(site: &Site<'_>, a: Register) -> Result<Flow, Why>
+pub(crate) fn rule_take_message(site: &Site<'_>, a: Register) -> Ruling
     ensures { Tells site.now (TakeMessage a) result }
 {
     let needs = [
@@ -31,7 +32,7 @@ pub(crate) fn rule_take_message(site: &Site<'_>, a: Register) -> Result<Flow, Wh
     judge(&needs, site.next(&with_message(site, a)))
 }
 
-pub(crate) fn rule_reply(site: &Site<'_>, a: Register, b: Register) -> Result<Flow, Why>
+pub(crate) fn rule_reply(site: &Site<'_>, a: Register, b: Register) -> Ruling
     ensures { Tells site.now (Reply a b) result }
 {
     let needs = [site.needs_message(a), site.needs_word(b)];

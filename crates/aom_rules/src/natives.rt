@@ -9,6 +9,7 @@ ghost use Rattle.aom_rules.specs.Rules.{Tells};
 ghost use Rattle.aom_shape.specs.declared.why.Why.TheVariants.{RegisterKind};
 
 use crate::active::{needs_states, server_states};
+use crate::rules::Ruling;
 use crate::words::with_word;
 use aom_classes::Linked;
 use aom_image::{ClassKind, ClassNumber, Provider, Register};
@@ -56,14 +57,14 @@ fn needs_native_kind(site: &Site<'_>) -> (bool, Why)
     (is_native_of(site.linked, class), Why::RegisterKind)
 }
 
-pub(crate) fn rule_connect(site: &Site<'_>, a: Register) -> Result<Flow, Why>
+pub(crate) fn rule_connect(site: &Site<'_>, a: Register) -> Ruling
     ensures { Tells site.now (Connect a) result }
 {
     let needs = [needs_native_kind(site), site.needs_unowning(a)];
     judge(&needs, with_word(site, a))
 }
 
-pub(crate) fn rule_ask(site: &Site<'_>, a: Register, b: Register, c: Register) -> Result<Flow, Why>
+pub(crate) fn rule_ask(site: &Site<'_>, a: Register, b: Register, c: Register) -> Ruling
     ensures { Tells site.now (Ask a b c) result }
 {
     let needs = [
@@ -75,7 +76,7 @@ pub(crate) fn rule_ask(site: &Site<'_>, a: Register, b: Register, c: Register) -
     judge(&needs, with_word(site, a))
 }
 
-pub(crate) fn rule_close(site: &Site<'_>) -> Result<Flow, Why>
+pub(crate) fn rule_close(site: &Site<'_>) -> Ruling
     ensures { Tells site.now Close result }
 {
     let needs = [

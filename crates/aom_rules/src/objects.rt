@@ -6,11 +6,12 @@ ghost use Rattle.aom_rules.specs.Rules.{Tells};
 ghost use Rattle.aom_shape.specs.Changes.{ways_from};
 ghost use Rattle.aom_shape.specs.Kinds.{register, field};
 
+use crate::rules::Ruling;
 use aom_image::{ClassNumber, FieldIndex, Place, Register, Role, Thing};
 use aom_shape::{Age, Filling, Flow, Kind, Why, judge};
 use aom_site::Site;
 
-pub(crate) fn rule_move(site: &Site<'_>, a: Register, b: Register) -> Result<Flow, Why>
+pub(crate) fn rule_move(site: &Site<'_>, a: Register, b: Register) -> Ruling
     ensures { Tells site.now (Move a b) result }
 {
     let needs = [site.needs_object_or_null(b), site.needs_unowning(a)];
@@ -37,7 +38,7 @@ fn flow_jump_null(site: &Site<'_>, a: Register, to: Place) -> Flow
     }
 }
 
-pub(crate) fn rule_jump_null(site: &Site<'_>, a: Register, to: Place) -> Result<Flow, Why>
+pub(crate) fn rule_jump_null(site: &Site<'_>, a: Register, to: Place) -> Ruling
     ensures { Tells site.now (JumpNull a to) result }
 {
     judge(&[site.needs_object_or_null(a)], flow_jump_null(site, a, to))
@@ -58,13 +59,13 @@ fn flow_jump_empty(site: &Site<'_>, f: FieldIndex, to: Place) -> Flow
     }
 }
 
-pub(crate) fn rule_jump_empty(site: &Site<'_>, f: FieldIndex, to: Place) -> Result<Flow, Why>
+pub(crate) fn rule_jump_empty(site: &Site<'_>, f: FieldIndex, to: Place) -> Ruling
     ensures { Tells site.now (JumpEmpty f to) result }
 {
     judge(&[site.needs_field(f)], flow_jump_empty(site, f, to))
 }
 
-pub(crate) fn rule_take(site: &Site<'_>, a: Register, f: FieldIndex) -> Result<Flow, Why>
+pub(crate) fn rule_take(site: &Site<'_>, a: Register, f: FieldIndex) -> Ruling
     ensures { Tells site.now (Take a f) result }
 {
     let needs = [site.needs_field(f), site.needs_unowning(a)];
@@ -76,7 +77,7 @@ pub(crate) fn rule_take(site: &Site<'_>, a: Register, f: FieldIndex) -> Result<F
     judge(&needs, site.next(&next))
 }
 
-pub(crate) fn rule_put(site: &Site<'_>, f: FieldIndex, b: Register) -> Result<Flow, Why>
+pub(crate) fn rule_put(site: &Site<'_>, f: FieldIndex, b: Register) -> Ruling
     ensures { Tells site.now (Put f b) result }
 {
     let needs = [
@@ -102,7 +103,7 @@ pub(crate) fn new_age(site: &Site<'_>, class: ClassNumber) -> Age
     }
 }
 
-pub(crate) fn rule_new(site: &Site<'_>, a: Register, class: ClassNumber) -> Result<Flow, Why>
+pub(crate) fn rule_new(site: &Site<'_>, a: Register, class: ClassNumber) -> Ruling
     ensures { Tells site.now (New a class) result }
 {
     let needs = [site.needs_unowning(a), site.needs_loud()];
@@ -110,7 +111,7 @@ pub(crate) fn rule_new(site: &Site<'_>, a: Register, class: ClassNumber) -> Resu
     judge(&needs, site.next(&site.shape.with_register(a, made)))
 }
 
-pub(crate) fn rule_delete(site: &Site<'_>, a: Register) -> Result<Flow, Why>
+pub(crate) fn rule_delete(site: &Site<'_>, a: Register) -> Ruling
     ensures { Tells site.now (Delete a) result }
 {
     let needs = [(site.shape.register(a).may_be_destroyed(), Why::RegisterKind)];

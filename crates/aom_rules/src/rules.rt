@@ -27,6 +27,9 @@ use aom_image::{Instr, MethodNumber};
 use aom_shape::{Flow, Shape, Why};
 use aom_site::{Call, Site};
 
+/// What a rule answers.
+pub(crate) type Ruling = Result<Flow, Why>;
+
 /// The instruction at a place, after which a place can be counted.
 fn instr_at(linked: &Linked, method: MethodNumber, place: usize) -> Instr
     requires { IsSome (instr_at linked.now method place) }
@@ -58,7 +61,7 @@ pub fn rule(
 }
 
 /// The rule of an instruction there.
-fn rule_of(site: &Site<'_>, instr: Instr) -> Result<Flow, Why>
+fn rule_of(site: &Site<'_>, instr: Instr) -> Ruling
     requires callee { HasCallee site.now.image instr }
     requires code { HasCodeRegister instr }
     ensures { told site.now.shape.entries result ≡ rule site.now.image site.now.method site.now.place site.now.shape instr }

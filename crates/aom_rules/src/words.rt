@@ -5,8 +5,9 @@ ghost use Rattle.aom_rules.specs.Rules.{Tells};
 ghost use Rattle.aom_rules.specs.Words.{flow_word};
 ghost use Rattle.aom_shape.specs.Changes.{ways_from};
 
+use crate::rules::Ruling;
 use aom_image::{Place, Register, WordIndex};
-use aom_shape::{Flow, Kind, Why, judge};
+use aom_shape::{Flow, Kind, judge};
 use aom_site::Site;
 
 /// A word comes into the register.
@@ -16,13 +17,13 @@ pub(crate) fn with_word(site: &Site<'_>, a: Register) -> Flow
     site.next(&site.shape.with_register(a, Kind::Word))
 }
 
-pub(crate) fn rule_const(site: &Site<'_>, a: Register) -> Result<Flow, Why>
+pub(crate) fn rule_const(site: &Site<'_>, a: Register) -> Ruling
     ensures { (w : ℤ) → Tells site.now (Const a w) result }
 {
     judge(&[site.needs_unowning(a)], with_word(site, a))
 }
 
-pub(crate) fn rule_copy(site: &Site<'_>, a: Register, b: Register) -> Result<Flow, Why>
+pub(crate) fn rule_copy(site: &Site<'_>, a: Register, b: Register) -> Ruling
     ensures { Tells site.now (Copy a b) result }
 {
     let needs = [site.needs_word(b), site.needs_unowning(a)];
@@ -30,12 +31,7 @@ pub(crate) fn rule_copy(site: &Site<'_>, a: Register, b: Register) -> Result<Flo
 }
 
 /// The rule of the six operations on two words.
-pub(crate) fn rule_combine(
-    site: &Site<'_>,
-    a: Register,
-    b: Register,
-    c: Register,
-) -> Result<Flow, Why>
+pub(crate) fn rule_combine(site: &Site<'_>, a: Register, b: Register, c: Register) -> Ruling
     ensures { Tells site.now (Add a b c) result }
 {
     let needs = [
@@ -46,32 +42,27 @@ pub(crate) fn rule_combine(
     judge(&needs, with_word(site, a))
 }
 
-pub(crate) fn rule_jump(site: &Site<'_>, to: Place) -> Result<Flow, Why>
+pub(crate) fn rule_jump(site: &Site<'_>, to: Place) -> Ruling
     ensures { Tells site.now (Jump to) result }
 {
     judge(&[], Flow::to(to.number() as usize, site.shape))
 }
 
 /// The rule of the two jumps that compare words.
-pub(crate) fn rule_compare(
-    site: &Site<'_>,
-    a: Register,
-    b: Register,
-    to: Place,
-) -> Result<Flow, Why>
+pub(crate) fn rule_compare(site: &Site<'_>, a: Register, b: Register, to: Place) -> Ruling
     ensures { Tells site.now (JumpEqual a b to) result }
 {
     let needs = [site.needs_word(a), site.needs_word(b)];
     judge(&needs, site.fork(site.shape, to, site.shape))
 }
 
-pub(crate) fn rule_loop(site: &Site<'_>) -> Result<Flow, Why>
+pub(crate) fn rule_loop(site: &Site<'_>) -> Ruling
     ensures { (depth rounds : ℕ) → Tells site.now (Loop depth rounds) result }
 {
     judge(&[], site.next(site.shape))
 }
 
-pub(crate) fn rule_next(site: &Site<'_>, to: Place) -> Result<Flow, Why>
+pub(crate) fn rule_next(site: &Site<'_>, to: Place) -> Ruling
     ensures { (depth : ℕ) → Tells site.now (Next depth to) result }
 {
     let to = to.number() as usize;
@@ -79,27 +70,27 @@ pub(crate) fn rule_next(site: &Site<'_>, to: Place) -> Result<Flow, Why>
     judge(&[], flow)
 }
 
-pub(crate) fn rule_print(site: &Site<'_>, a: Register) -> Result<Flow, Why>
+pub(crate) fn rule_print(site: &Site<'_>, a: Register) -> Ruling
     ensures { Tells site.now (Print a) result }
 {
     judge(&[site.needs_word(a)], site.next(site.shape))
 }
 
-pub(crate) fn rule_load(site: &Site<'_>, a: Register, w: WordIndex) -> Result<Flow, Why>
+pub(crate) fn rule_load(site: &Site<'_>, a: Register, w: WordIndex) -> Ruling
     ensures { Tells site.now (Load a w) result }
 {
     let needs = [site.needs_word_of_object(w), site.needs_unowning(a)];
     judge(&needs, with_word(site, a))
 }
 
-pub(crate) fn rule_store(site: &Site<'_>, w: WordIndex, b: Register) -> Result<Flow, Why>
+pub(crate) fn rule_store(site: &Site<'_>, w: WordIndex, b: Register) -> Ruling
     ensures { Tells site.now (Store w b) result }
 {
     let needs = [site.needs_word_of_object(w), site.needs_word(b)];
     judge(&needs, site.next(site.shape))
 }
 
-pub(crate) fn rule_stop(site: &Site<'_>) -> Result<Flow, Why>
+pub(crate) fn rule_stop(site: &Site<'_>) -> Ruling
     ensures { Tells site.now Stop result }
 {
     judge(&[], site.next(site.shape))

@@ -44,9 +44,9 @@ pub weaker_tested : (a b : Kind) → no_more a b ≡ true → Weaker a b
 weaker_tested Unset Unset h = alike
 weaker_tested Unset Word h = unset_word
 weaker_tested Unset Null h = unset_null
+weaker_tested (Own u b) (Own t a) h = let s = same_own u t b a h in rw (s.0, s.1) alike
 weaker_tested Word Word h = alike
 weaker_tested Null Null h = alike
-weaker_tested (Own u b) (Own t a) h = let s = same_own u t b a h in rw (s.0, s.1) alike
 weaker_tested (Maybe u b) Null h = maybe_null
 weaker_tested (Maybe u b) (Own t a) h = let s = same_own u t b a h in rw (s.0, s.1) maybe_own
 weaker_tested (Maybe u b) (Maybe t a) h = let s = same_own u t b a h in rw (s.0, s.1) alike

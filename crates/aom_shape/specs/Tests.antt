@@ -16,9 +16,8 @@ use Rattle.aom_shape.specs.declared.kind.Filling.TheVariants.{Empty, Full, Perha
 
 abbrev pub same_age : Age → Age → Bool
 same_age Fresh Fresh = true
-same_age Fresh Ready = false
-same_age Ready Fresh = false
 same_age Ready Ready = true
+same_age _ _ = false
 
 abbrev pub same_delivery : Delivery → Delivery → Bool
 same_delivery Here d = is_here d
@@ -26,34 +25,24 @@ same_delivery Gone d = not (is_here d)
 
 abbrev pub is_unset : Kind → Bool
 is_unset Unset = true
-is_unset Word = false
-is_unset Null = false
-is_unset (Own t a) = false
-is_unset (Maybe t a) = false
+is_unset _ = false
 
 -- it says no more than null
 abbrev pub may_be_null : Kind → Bool
-may_be_null Unset = true
 may_be_null Word = false
-may_be_null Null = true
 may_be_null (Own t a) = false
-may_be_null (Maybe t a) = true
+may_be_null _ = true
 
 -- it says no more than that such an object is owned
 abbrev pub may_own : Thing → Age → Kind → Bool
-may_own t a Unset = false
-may_own t a Word = false
-may_own t a Null = false
 may_own t a (Own u b) = same_thing u t && same_age b a
 may_own t a (Maybe u b) = same_thing u t && same_age b a
+may_own t a _ = false
 
 -- it says no more than that such an object may be owned
 abbrev pub may_be_same : Thing → Age → Kind → Bool
-may_be_same t a Unset = false
-may_be_same t a Word = false
-may_be_same t a Null = false
-may_be_same t a (Own u b) = false
 may_be_same t a (Maybe u b) = same_thing u t && same_age b a
+may_be_same t a _ = false
 
 -- the first kind says no more than the second
 abbrev pub no_more : Kind → Kind → Bool
@@ -82,9 +71,8 @@ abbrev pub meet_kind : Kind → Kind → Option Kind
 meet_kind a b = cond (no_more a b) (Some a) (cond (no_more b a) (Some b) (apart a b))
 
 abbrev pub is_full : Filling → Bool
-is_full Empty = false
 is_full Full = true
-is_full Perhaps = false
+is_full _ = false
 
 -- the first filling says no more than the second
 abbrev pub no_more_filling : Filling → Filling → Bool
@@ -104,12 +92,10 @@ meet_filling a b = cond (no_more_filling a b) a Perhaps
 
 abbrev pub same_entry : Entry → Entry → Bool
 same_entry (An_object c a) (An_object d b) = c == d && same_age a b
-same_entry (An_object c a) Operation = false
-same_entry Operation (An_object d b) = false
 same_entry Operation Operation = true
+same_entry _ _ = false
 
 abbrev pub same_entries : List Entry → List Entry → Bool
 same_entries [] [] = true
-same_entries [] (y ∷ ys) = false
-same_entries (x ∷ xs) [] = false
 same_entries (x ∷ xs) (y ∷ ys) = same_entry x y && same_entries xs ys
+same_entries _ _ = false

@@ -18,30 +18,6 @@ use aom_roles::resting_states;
 use aom_shape::{Shape, Why, only_if};
 use bitflags::Flags;
 
-pub(crate) fn is_construct(role: Role) -> bool
-    ensures { result ≡ is_construct (Some role) }
-{
-    matches!(role, Role::Construct)
-}
-
-fn is_cancel(role: Role) -> bool
-    ensures { result ≡ is_cancel (Some role) }
-{
-    matches!(role, Role::Cancel)
-}
-
-pub(crate) fn is_service(role: Role) -> bool
-    ensures { result ≡ is_service (Some role) }
-{
-    matches!(role, Role::Service)
-}
-
-fn is_destruct(role: Role) -> bool
-    ensures { result ≡ is_destruct (Some role) }
-{
-    matches!(role, Role::Destruct)
-}
-
 /// The object has no request that is not set active.
 pub(crate) fn unissued(states: States) -> bool
     ensures { result ≡ unissued states.0 }
@@ -54,6 +30,12 @@ pub(crate) fn resting(linked: &Linked, class: Option<ClassNumber>) -> States
     ensures { result.0 ≡ resting linked.now class }
 {
     resting_states(linked.image(), class)
+}
+
+pub(crate) fn is_construct(role: Role) -> bool
+    ensures { result ≡ is_construct (Some role) }
+{
+    matches!(role, Role::Construct)
 }
 
 /// The method begins in each state in which the caller's object may be, unless it is static.
@@ -98,6 +80,12 @@ pub(crate) fn may_begin(
     }
 }
 
+fn is_destruct(role: Role) -> bool
+    ensures { result ≡ is_destruct (Some role) }
+{
+    matches!(role, Role::Destruct)
+}
+
 /// Whether the fields may be left as they are, by the role and the class of the method: a destructor leaves them null.
 fn done_by(linked: &Linked, role: Role, class: Option<ClassNumber>, shape: &Shape<'_>) -> bool
     ensures { result ≡ fields_done linked.now (is_destruct (Some role)) (holder_by (Some role) class) shape.now.fields }
@@ -109,6 +97,18 @@ fn done_by(linked: &Linked, role: Role, class: Option<ClassNumber>, shape: &Shap
         },
         _ => true,
     }
+}
+
+fn is_cancel(role: Role) -> bool
+    ensures { result ≡ is_cancel (Some role) }
+{
+    matches!(role, Role::Cancel)
+}
+
+pub(crate) fn is_service(role: Role) -> bool
+    ensures { result ≡ is_service (Some role) }
+{
+    matches!(role, Role::Service)
 }
 
 impl Site<'_> {

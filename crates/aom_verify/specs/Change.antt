@@ -56,10 +56,9 @@ IsChange old new Reached = unreached_count new < unreached_count old
 -- one change and then another
 abbrev pub then : Change → Change → Change
 then Nothing after = after
-then Fell Nothing = Fell
-then Fell Fell = Fell
 then Fell Reached = Reached
-then Reached after = Reached
+then Fell _ = Fell
+then Reached _ = Reached
 
 -- one step and then another
 abbrev pub step_then : Step → Step → Step

@@ -33,13 +33,6 @@ close-requires-clause-room c =
     c.args.method c.args.place c.in-Next.field-0 c.in-Next.to _ c.instr-instr.ensures c.in-Next.is in
     omega (arith, closes.3, c.number.ensures.value, closes.2.later, c.requires.place, c.requires.passing.after_size)
 
-pub close-requires-clause-around : goal.close-requires-clause-around
-close-requires-clause-around c =
-    let closes =
-    next_closes c.args.linked.now _ c.image.ensures c.methods-formed.ensures.well_formed c.facts.ensures.linked
-    c.args.method c.args.place c.in-Next.field-0 c.in-Next.to _ c.instr-instr.ensures c.in-Next.is in
-    omega (arith, closes.3, c.number.ensures.value, closes.2.later, c.requires.place, c.requires.passing.around_size)
-
 pub returns-in-Next-clause-passing : goal.returns-in-Next-clause-passing
 returns-in-Next-clause-passing c =
     let looped = linked_is_looped c.args.linked.now (rw c.image.ensures at c.methods-formed.ensures.well_formed) c.facts.ensures.linked in
@@ -79,3 +72,10 @@ returns-in_default c =
           (λ sh there. c.note-in_default.ensures.here sh there ∙ c.plain-cost.ensures.is sh there));
       size = c.note-in_default.ensures.size;
     }
+
+pub close-requires-clause-around : goal.close-requires-clause-around
+close-requires-clause-around c =
+    let closes =
+    next_closes c.args.linked.now _ c.image.ensures c.methods-formed.ensures.well_formed c.facts.ensures.linked
+    c.args.method c.args.place c.in-Next.field-0 c.in-Next.to _ c.instr-instr.ensures c.in-Next.is in
+    omega (arith, closes.3, c.number.ensures.value, closes.2.later, c.requires.place, c.requires.passing.around_size)

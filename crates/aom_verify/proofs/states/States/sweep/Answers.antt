@@ -13,6 +13,4 @@ loop-place-preserved c = rw c.then-step.ensures (sweeps_more _ _ _ _ _ _ _ _ c.l
 pub returns-in_err-visit-clause-err : goal.returns-in_err-visit-clause-err
 returns-in_err-visit-clause-err c =
     let p = err_from_is_err_and c.from_residual.result c.from_residual.ensures.1 in
-    let failed = c.in_err-visit.ensures.err in
-    let keeps = c.loop-place.invariant.keeps in
-    rw (p.1, p.2) (stops_before _ _ _ _ _ _ keeps failed)
+    rw (p.1, p.2) (stops_before _ _ _ _ _ _ c.loop-place.invariant.keeps c.in_err-visit.ensures.err)

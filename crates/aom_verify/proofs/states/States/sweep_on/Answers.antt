@@ -31,6 +31,4 @@ returns-then-not-step-clause-ok c =
 pub returns-in_err-step-clause-err : goal.returns-in_err-step-clause-err
 returns-in_err-step-clause-err c =
     let p = err_from_is_err_and c.from_residual.result c.from_residual.ensures.1 in
-    let failed = c.in_err-step.ensures.err in
-    let keeps = c.loop-step.invariant.keeps in
-    rw (p.1, p.2) (stops_before _ _ _ _ _ _ keeps failed)
+    rw (p.1, p.2) (stops_before _ _ _ _ _ _ c.loop-step.invariant.keeps c.in_err-step.ensures.err)
