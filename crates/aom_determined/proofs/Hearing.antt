@@ -9,7 +9,7 @@ use Rattle.aom_image.specs.declared.method.Thing.TheVariants.{Message, Object as
 use Rattle.aom_instructions.specs.declared.instr.Instr.{Instr}
 use Rattle.std.proofs.lemmas.Bool.{and_right}
 use Rattle.aom_sound.proofs.Exchanging.{by_exchange}
-use Rattle.aom_sound.specs.Wanted.{Exchange, exchange, exchange_at}
+use Rattle.aom_sound.specs.Wanted.{Exchange, Nothing, exchange, exchange_at}
 use Rattle.aom_rules.specs.Natives.{is_native_kind}
 use Rattle.aom_sound.specs.Effects.{Requested, applied, needs, updates}
 use Rattle.aom_sound.specs.Enlisted.{home_kind, issued_of, next_timer, on_request, own_request, thing_kind}

@@ -1,5 +1,5 @@
 -- From the first move on main's line is written: a move takes its course, or ends a dispatch, and neither takes that back.
-use Rattle.std.proofs.Common.{Bool, None, Option, Some, ap, cond, false, inl, inr, pos, refl, subst, sym, true, ℕ, ℤ, ◌∙◌, ◌≡◌}
+use Rattle.std.proofs.Common.{arith, Bool, None, Option, Some, ap, cond, false, inl, inr, pos, refl, subst, sym, true, ℕ, ℤ, ◌∙◌, ◌≡◌}
 use Rattle.std.specs.Ordering.{int_eq}
 use Rattle.std.specs.Prelude.{◌⊎◌}
 use Rattle.aom_image.specs.Image.{Image}
@@ -24,23 +24,14 @@ module _ (p : Image) (s : State) (told : IsTold s) where
   object_told = main_told p (handled s) told s.rest.stopped (held s.cells (Elsewhere Root))
 
   answer_told : (answer : ℤ) → IsTold (answered p answer s)
-  answer_told answer = go (int_eq answer (pos 0))
-    where
-      go : (b : Bool) → IsTold (cond b (object_ends p s) (failed answer s))
-      go true = object_told
-      go false = told
+  answer_told answer = grind (arith, object_told)
 
   asking_told : (m : Option ℕ) (x : Seat) (code : ℤ) → IsTold (asking p m x code s)
   asking_told None x code = answer_told code
   asking_told (Some m) x code = told
 
   stage_told : (x : Seat) (client : ℕ) (stage : Stage) → IsTold (stage_ends x client stage s)
-  stage_told x client Accepts = told
-  stage_told x client Accepted = told
-  stage_told x client (Accept_left code) = told
-  stage_told x client (Serves o) = told
-  stage_told x client (Service_left code) = told
-  stage_told x client Parts = told
+  stage_told x client stage = grind arith
 
   end_told : (d : Dispatch) → IsTold (dispatch_ends p d s)
   end_told Of_main = main_told p s told s.rest.stopped (held s.cells (Elsewhere Root))

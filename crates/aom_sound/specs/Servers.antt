@@ -144,14 +144,8 @@ all_unslotted c (x ∷ xs) = record x { service = record x.service { sender = un
 
 -- what waits in the queue of that server goes
 abbrev pub is_queue_of : ℕ → Place → Bool
-is_queue_of n (Register f r) = false
-is_queue_of n (Entry k) = false
-is_queue_of n (Field m f) = false
-is_queue_of n (Going k) = false
-is_queue_of n (Elsewhere Root) = false
-is_queue_of n (Elsewhere (Session s c)) = false
-is_queue_of n (Elsewhere In_service) = false
 is_queue_of n (Elsewhere (Queued s m)) = s == n
+is_queue_of n _ = false
 
 abbrev pub without_queue : ℕ → List Cell → List Cell
 without_queue n [] = []

@@ -195,11 +195,8 @@ SitsFirst cs (Some x) seats = (is_some (requested cs x.object.name) ≡ true) ×
 abbrev pub NoneIn : ℕ → List Layer → Type 0
 NoneIn n [] = Unit {0}
 NoneIn n (Method fr sh ∷ ls) = NotIn n fr.home × NoneIn n ls
-NoneIn n (Mark gv ∷ ls) = NoneIn n ls
-NoneIn n (Dying o ∷ ls) = NoneIn n ls
-NoneIn n (Ending o left ∷ ls) = NoneIn n ls
-NoneIn n (Unwinding code es ∷ ls) = NoneIn n ls
 NoneIn n (Dispatching d seats ∷ ls) = NoSeatIn n seats × NoneIn n ls
+NoneIn n (_ ∷ ls) = NoneIn n ls
 
 -- the layers claim nothing of that cell's fields beyond what its class declares
 abbrev pub by_field : (ℕ → Kind) → Place → Kind
@@ -246,11 +243,8 @@ NotFrom q (Inside o from) = same_place q from ≡ false
 abbrev pub NoneFrom : Place → List Layer → Type 0
 NoneFrom q [] = Unit {0}
 NoneFrom q (Method fr sh ∷ ls) = NotFrom q fr.home × NoneFrom q ls
-NoneFrom q (Mark gv ∷ ls) = NoneFrom q ls
-NoneFrom q (Dying o ∷ ls) = NoneFrom q ls
-NoneFrom q (Ending o left ∷ ls) = NoneFrom q ls
-NoneFrom q (Unwinding code es ∷ ls) = NoneFrom q ls
 NoneFrom q (Dispatching d seats ∷ ls) = NoSeatAt q seats × NoneFrom q ls
+NoneFrom q (_ ∷ ls) = NoneFrom q ls
 
 -- the layers below claim of the fields that a method works on no more than what is declared
 abbrev pub IsApart : Image → Home → List Layer → Type 0
@@ -271,11 +265,8 @@ WorksOn n (Inside o from) = o.name ≡ n
 abbrev pub SomeIn : ℕ → List Layer → Type 0
 SomeIn n [] = ⊥
 SomeIn n (Method fr sh ∷ ls) = WorksOn n fr.home ⊎ SomeIn n ls
-SomeIn n (Mark gv ∷ ls) = SomeIn n ls
-SomeIn n (Dying o ∷ ls) = SomeIn n ls
-SomeIn n (Ending o left ∷ ls) = SomeIn n ls
-SomeIn n (Unwinding code es ∷ ls) = SomeIn n ls
 SomeIn n (Dispatching d seats ∷ ls) = SomeSits n seats ⊎ SomeIn n ls
+SomeIn n (_ ∷ ls) = SomeIn n ls
 
 -- the place belongs to the layers
 abbrev pub IsBelow : Place → List Layer → Type 0

@@ -12,20 +12,19 @@ use Rattle.aom_rules.specs.Requests.{is_cancel}
 use Rattle.aom_sound.proofs.ClientsMoves.{held_elsewhere}
 use Rattle.aom_sound.proofs.Dropping.{held_dropped, queue_dropped}
 use Rattle.aom_sound.proofs.Maps.{held_without}
-use Rattle.aom_sound.proofs.Services.{held_served}
 use Rattle.aom_sound.proofs.Storing.{held_set_word, rerequested_alike, resessioned_alike}
 use Rattle.aom_sound.specs.Calls.{passed_cells, result_cells}
 use Rattle.aom_sound.specs.Cleanup.{to_trap, top_place}
 use Rattle.aom_sound.specs.Clients.{each_unslotted}
 use Rattle.aom_sound.specs.Effects.{Carried, In_field, In_register, Made, Popped, Popped_operation, Pushed, Pushed_operation, Replied, Requested, Same, Sessioned, Spot, The_message, Update, Written, cells_after, spot_place}
 use Rattle.aom_sound.specs.Enlisted.{cancelled, ended_cells, on_request, own_request, rerequested}
-use Rattle.aom_sound.specs.Places.{Cell, Entry, Going, Object, Place, Register, Request, Service, held, moved, same_place, set_service, without}
+use Rattle.aom_sound.specs.Places.{Cell, Entry, Going, Object, Place, Register, Request, held, moved, same_place, without}
 use Rattle.aom_sound.specs.Servers.{all_unslotted, is_queue_of, without_queue}
 use Rattle.aom_sound.specs.State.{AtRoot, Closing, Destroy, Dispatched, Frame, Home, Inside, Run, State, Static, Task, Trapped, Unwind, field_place, resumed}
 use Rattle.aom_sound.specs.Words.{here, stored}
 use Rattle.aom_prices.specs.Prices.{Prices}
 use Rattle.aom_steps.specs.Left.{closing_left, closings_left, goes_below, is_session_with, sessions_left}
-use Rattle.aom_steps.proofs.Pushed.{each_unslotted_same, field_no_session, moved_less, queue_less, rerequested_same, resessioned_same, served_same, stored_same, without_less}
+use Rattle.aom_steps.proofs.Pushed.{each_unslotted_same, field_no_session, moved_less, queue_less, rerequested_same, resessioned_same, stored_same, without_less}
 
 -- below that depth the same cells go, and with no server there are more sessions
 pub record Lasts (depth : ℕ) (cs us : List Cell) : Type 0 where

@@ -1,6 +1,6 @@
 -- A server pays for the sessions with it that are there: they are no more than it may have, and each is of their class.
 use Rattle.std.proofs.Common.{◌≡◌, ◌≤◌, ◌+◌, ◌*◌, ◌∙◌, ℕ, Bool, true, false, cond, List, [], ◌∷◌, length, Option, Some, None, refl, sym, ap, arith, subst}
-use Rattle.std.specs.Prelude.{filter, is_some, not, ◌==◌, ◌&&◌}
+use Rattle.std.specs.Prelude.{filter, is_some, ◌==◌, ◌&&◌}
 use Rattle.std.proofs.lemmas.Bool.{eqb-true, ne_eqb}
 use Rattle.std.proofs.Math.Nat.{mul-le-mul_right}
 use Rattle.aom_image.specs.Image.{Image}
@@ -22,12 +22,11 @@ use Rattle.aom_sound.specs.Clients.{most_of}
 use Rattle.aom_sound.specs.Enlisted.{thing_kind}
 use Rattle.aom_sound.specs.Places.{Cell, Elsewhere, Going, Object, Place, Session, Tidy, held, moved, named, same_place, seen, service_of}
 use Rattle.aom_sound.specs.Servers.{has_session, is_among, is_other, is_server, of_class, seats_taken, session_class, session_thing}
-use Rattle.aom_sound.specs.State.{Seat, Dispatch, Of_server, Parts}
+use Rattle.aom_sound.specs.State.{Dispatch, Of_server, Parts}
 use Rattle.aom_sound.specs.WellTyped.{EndsSessions, Back, Caught, Fits, Gone, Good, Leaves, Now, Returns, Stack}
 use Rattle.aom_prices.specs.Prices.{IsPriced, Prices, sessions_cost}
 use Rattle.aom_steps.specs.Left.{due, is_session_with, sessions_left}
 use Rattle.aom_steps.proofs.Pushed.{moved_less}
-use Rattle.aom_sound.specs.Destruction.{first_session, seat_or}
 
 -- ---- a session that is there is among those of its server, and of their class
 

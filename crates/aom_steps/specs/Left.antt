@@ -75,14 +75,8 @@ operations_left c (A_mark ∷ items) = operations_left c items
 
 -- a place of a session with that server
 abbrev pub is_session_with : ℕ → Place → Bool
-is_session_with n (Register f r) = false
-is_session_with n (Entry k) = false
-is_session_with n (Field m f) = false
-is_session_with n (Going k) = false
-is_session_with n (Elsewhere Root) = false
 is_session_with n (Elsewhere (Session s client)) = s == n
-is_session_with n (Elsewhere In_service) = false
-is_session_with n (Elsewhere (Queued s m)) = false
+is_session_with n _ = false
 
 abbrev pub sessions_left : Prices → ℕ → List Cell → ℕ
 sessions_left c n cs = owned_left c (is_session_with n) cs

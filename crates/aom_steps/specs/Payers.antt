@@ -8,7 +8,7 @@ use Rattle.aom_image.specs.declared.method.Thing.{Thing}
 use Rattle.aom_image.specs.declared.method.Thing.TheVariants.{Object, Message}
 use Rattle.aom_classes.specs.Roles.{role_of}
 use Rattle.aom_roles.specs.Shapes.{kind_of}
-use Rattle.aom_sound.specs.State.{Answered, Asks, Closing, Destroy, Dispatch, Dispatched, Main_left, Object_left, Of_main, Of_object, Of_root, Of_server, Run, Task, Trapped, Unwind}
+use Rattle.aom_sound.specs.State.{Answered, Asks, Dispatch, Dispatched, Main_left, Object_left, Of_main, Of_object, Of_root, Of_server, Task}
 use Rattle.aom_prices.specs.Dispatches.{main_price}
 use Rattle.aom_prices.specs.Prices.{Prices, perhaps_price}
 

@@ -177,9 +177,8 @@ same_kind _ _ = false
 
 abbrev pub same_kinds : List Stuck → List Stuck → Bool
 same_kinds [] [] = true
-same_kinds [] (k ∷ ks) = false
-same_kinds (k ∷ ks) [] = false
 same_kinds (k ∷ ks) (x ∷ xs) = same_kind k x && same_kinds ks xs
+same_kinds _ _ = false
 
 -- stuck by the first of these kinds, or not stuck where there is none
 abbrev pub is_stuck_by : List Stuck → Outcome → Bool
