@@ -22,7 +22,7 @@ use crate::wanted::{self, Wanted};
 use crate::{clients, moves, serving, turns};
 use aom_budget::Accepted;
 use aom_lines::Turn;
-use aom_parts::{Parts, Progress};
+use aom_parts::{Parts, Progress, Rest};
 use aom_transcript::Command;
 use std::alloc::{AllocError, Global};
 use std::marker::Model;
@@ -259,25 +259,11 @@ impl<'a> Machine<'a> {
         self.parts.rest.clock()
     }
 
-    /// How many events have come.
-    pub fn delivered(&self) -> u64
-        ensures { result ≡ self.now.parts.rest.delivered }
+    /// What is counted: dispatches of objects that are over, events that have come, natives that were polled in the turn at hand.
+    pub fn rest(&self) -> &Rest
+        ensures { result.now ≡ self.now.parts.rest }
     {
-        self.parts.rest.delivered()
-    }
-
-    /// The natives before that number are polled in the turn at hand.
-    pub fn polled_so_far(&self) -> u64
-        ensures { result ≡ self.now.parts.rest.polled }
-    {
-        self.parts.rest.polled()
-    }
-
-    /// How many dispatches of objects are over.
-    pub fn dispatches(&self) -> u64
-        ensures { result ≡ self.now.parts.rest.dispatches }
-    {
-        self.parts.rest.dispatches()
+        &self.parts.rest
     }
 
     /// The steps of the dispatch at hand: instructions that ran, and cells that went. After main's they stay until an object is

@@ -19,13 +19,15 @@ use Rattle.aom_sound.specs.Places.{named}
 use Rattle.aom_sound.specs.State.{Rest, State}
 use Rattle.aom_sound.specs.World.{AnswersWell, Completes, Completion, Cuts, Hears, Kills, Obeys, Passes, Picks, Polls, Turning, Waits, cell_at, delivers}
 use Rattle.aom_transcript.specs.declared.event.Command.{Command}
+use Rattle.aom_transcript.specs.declared.event.Event.{Event}
 use Rattle.aom_transcript.specs.declared.event.Event.TheVariants.{Client}
 use Rattle.aom_lines.specs.Turn.{Turn}
 use Rattle.aom_parts.specs.Stands.{Machine as Core, StandsFor as Core_stands}
 use Rattle.aom_exec.specs.Clients.{Obeyed}
+use Rattle.aom_exec.specs.Steps.{timers}
 use Rattle.aom_exec.specs.Turns.{NoneDue, Completed as Core_completed, Picked as Core_picked, Takes as Core_takes, TakesAll as Core_takes_all}
 use Rattle.aom_machine.specs.declared.machine.Machine.{Machine}
-use Rattle.aom_machine.specs.Calls.{Completed, Delivered, Picked, StandsFor, Takes, TakesAll}
+use Rattle.aom_machine.specs.Calls.{Completed, Delivered, IsDelivered, Picked, StandsFor, Takes, TakesAll}
 use Rattle.aom_machine.specs.Beside.{KeptSame, Serves}
 
 -- a part of a turn that neither kills nor completes anything at a native
@@ -209,3 +211,17 @@ module _ {X : Type 0} {B : X → Type 0} (old : Machine X B) (core : Core) (imag
       let d = done s st.stands in
       (d.0, d.1, d.2, plainly (Picks d.0.seat) s st (record { owes = λ n m b. refl; killed = refl }) (d.0, d.1, refl) tt before now d.3)
   picked_so false before now done = (ap (λ (c : Core). record { core = c; natives = old.natives }) done.0, done.1, λ s st. done.2 s st.stands)
+
+  -- an event that changes nothing writes no line
+  pub heard_only : (event : Event) (now : Turn) → Delivered old event now now (record { core = core; natives = old.natives }) → core.parts.rest ≡ record old.core.parts.rest { delivered = suc old.core.parts.rest.delivered } →
+      ((s : State) → Core_stands core s → Core_stands old.core (record s { rest = old.core.parts.rest })) → timers core ≡ timers old.core → IsDelivered old event false now now (record { core = core; natives = old.natives })
+  heard_only event now delivered rest back same = record {
+    image = image;
+    natives = refl;
+    delivered = delivered;
+    rest = rest;
+    timers = same;
+    told = omega arith;
+    quiet = λ e. refl;
+    none_due = λ e. none_due_still old.core core _ rest back;
+  }

@@ -1,5 +1,5 @@
 -- What the calls of a machine with natives do, from each state that it stands for.
-use Rattle.std.specs.Prelude.{ℕ, ℤ, ◌≡◌, ◌≤◌, ◌-◌, ◌++◌, Bool, true, false, List, length, Option, Some, None}
+use Rattle.std.specs.Prelude.{ℕ, ℤ, suc, ◌≡◌, ◌≤◌, ◌+◌, ◌-◌, ◌++◌, Bool, true, false, List, length, Option, Some, None}
 use Rattle.aom_lines.specs.Turn.{Turn}
 use Rattle.aom_transcript.specs.declared.event.Event.{Event}
 use Rattle.aom_transcript.specs.declared.event.Event.TheVariants.{Client}
@@ -8,9 +8,10 @@ use Rattle.aom_sound.specs.Places.{named}
 use Rattle.aom_sound.specs.State.{Goes, State}
 use Rattle.aom_sound.specs.World.{AnswersWell, Candidate, Completes, Completion, IsBetween, Outside, Picks, Polls, Timed, Turning, delivers, first_due, first_living, first_ready, has_signal, turned, written_by}
 use Rattle.aom_parts.specs.declared.progress.Progress.{Progress}
+use Rattle.aom_parts.specs.declared.progress.Progress.TheVariants.{Turned}
 use Rattle.aom_parts.specs.Progress.{progress_of}
 use Rattle.aom_exec.specs.Clients.{IsInRange}
-use Rattle.aom_exec.specs.Steps.{Quiet, Steps}
+use Rattle.aom_exec.specs.Steps.{Quiet, Steps, progress, timers}
 use Rattle.aom_parts.specs.Stands.{StandsFor as Core_stands}
 use Rattle.aom_exec.specs.Turns.{Answers, NoneDue}
 use Rattle.aom_machine.specs.declared.machine.Machine.{Machine}
@@ -27,6 +28,10 @@ module _ {X : Type 0} {B : X → Type 0} where
 
   abbrev pub Stands : Machine X B → Type 0
   Stands m = (s : State) × StandsFor m s
+
+  -- a state between dispatches
+  abbrev pub StandsBetween : Machine X B → Type 0
+  StandsBetween m = Stands m × (progress m.core ≡ Turned)
 
   -- how many natives there are, the dead among them
   abbrev pub natives_of : Machine X B → ℕ
@@ -78,6 +83,17 @@ module _ {X : Type 0} {B : X → Type 0} where
   Delivered old event told now new =
       (outside : Outside) → outside.natives ≡ natives_of old → (s : State) → StandsFor old s
       → (name : ℕ) × (named s.cells name ≡ None) × Takes old s (delivers outside name s event) told now new
+
+  -- so it does, and answers whether a line was written: none but then, and one at most; the image, the natives and what runs of timers stay
+  pub record IsDelivered (old : Machine X B) (event : Event) (answer : Bool) (before now : Turn) (new : Machine X B) : Type 0 where
+    pub image : new.core.image ≡ old.core.image
+    pub natives : natives_of new ≡ natives_of old
+    pub delivered : Delivered old event before now new
+    pub rest : new.core.parts.rest ≡ record old.core.parts.rest { delivered = suc old.core.parts.rest.delivered }
+    pub timers : timers new.core ≡ timers old.core
+    pub told : length now.lines ≤ length before.lines + 1
+    pub quiet : answer ≡ false → now ≡ before
+    pub none_due : answer ≡ false → NoneIsDue old → NoneIsDue new
 
   -- the native that comes next in the turn at hand is polled, and answers what it may; there is none where all are
   abbrev pub Polled : (may : ℕ → Option (ℕ × ℤ) → Type 0) → Machine X B → Bool → Machine X B → Type 0

@@ -3,12 +3,12 @@ ghost use Rattle.std.specs.Prelude.{◌≡◌, ◌<◌, ◌≤◌, ◌+◌, ◌-
 ghost use Rattle.aom_exec.specs.Clients.{IsInRange};
 ghost use Rattle.aom_exec.specs.Steps.{progress, timers};
 ghost use Rattle.aom_parts.specs.declared.progress.Progress.TheVariants.{Turned};
-ghost use Rattle.aom_machine.specs.Calls.{Completed, Delivered, EventInRange, NoneIsDue, Picked, Polled, Stands, StandsFor, TakesAll, natives_of, to_poll};
+ghost use Rattle.aom_machine.specs.Calls.{Completed, EventInRange, IsDelivered, NoneIsDue, Picked, Polled, Stands, StandsBetween, StandsFor, TakesAll, natives_of, to_poll};
 ghost use Rattle.aom_machine.specs.Beside.{KeptSame};
 ghost use Rattle.aom_natives.specs.Slots.{AllAgree, living_at};
 ghost use Rattle.aom_sound.specs.State.{State};
 ghost use Rattle.aom_transcript.specs.declared.event.Event.TheVariants.{Client, Kill};
-ghost use Rattle.aom_sound.specs.World.{Cuts, Hears, first_living, Passes, Waits};
+ghost use Rattle.aom_sound.specs.World.{Hears, first_living, Passes};
 
 use crate::Machine;
 use aom_lines::Turn;
@@ -54,14 +54,7 @@ impl<'a> Machine<'a> {
         requires ranged { EventInRange event }
         requires room { length turn.old.lines < turn.old.room }
         ensures agree { AllAgree (λ l. l.ids) (λ l. (⟦<dyn Native as Native>⟧ l.native.vtable).owed l.native.value) self.new.natives.slots.items }
-        ensures image { self.new.core.image ≡ self.old.core.image }
-        ensures natives { natives_of self.new ≡ natives_of self.old }
-        ensures delivered { Delivered self.old event turn.old turn.new self.new }
-        ensures rest { self.new.core.parts.rest ≡ record self.old.core.parts.rest { delivered = suc self.old.core.parts.rest.delivered } }
-        ensures timers { timers self.new.core ≡ timers self.old.core }
-        ensures told { length turn.new.lines ≤ length turn.old.lines + 1 }
-        ensures quiet { result ≡ false → turn.new ≡ turn.old }
-        ensures none_due { result ≡ false → NoneIsDue self.old → NoneIsDue self.new }
+        ensures delivered { IsDelivered self.old event result turn.old turn.new self.new }
     {
         match event {
             Event::Tell(native, word) => {
@@ -124,30 +117,6 @@ impl<'a> Machine<'a> {
         self.core.set_clock(time);
     }
 
-    /// Between dispatches, where nothing is due and nothing signals: the run is over.
-    pub fn wait(&mut self)
-        requires agree { AllAgree (λ l. l.ids) (λ l. (⟦<dyn Native as Native>⟧ l.native.vtable).owed l.native.value) self.old.natives.slots.items }
-        requires between { progress self.old.core ≡ Turned }
-        ensures agree { AllAgree (λ l. l.ids) (λ l. (⟦<dyn Native as Native>⟧ l.native.vtable).owed l.native.value) self.new.natives.slots.items }
-        ensures natives { natives_of self.new ≡ natives_of self.old }
-        ensures image { self.new.core.image ≡ self.old.core.image }
-        ensures waited { TakesAll self.old Waits self.new }
-    {
-        self.core.wait();
-    }
-
-    /// Between dispatches, where so many of objects are over as there may be: the run is over.
-    pub fn cut(&mut self)
-        requires agree { AllAgree (λ l. l.ids) (λ l. (⟦<dyn Native as Native>⟧ l.native.vtable).owed l.native.value) self.old.natives.slots.items }
-        requires between { progress self.old.core ≡ Turned }
-        ensures agree { AllAgree (λ l. l.ids) (λ l. (⟦<dyn Native as Native>⟧ l.native.vtable).owed l.native.value) self.new.natives.slots.items }
-        ensures natives { natives_of self.new ≡ natives_of self.old }
-        ensures image { self.new.core.image ≡ self.old.core.image }
-        ensures cut { TakesAll self.old Cuts self.new }
-    {
-        self.core.cut();
-    }
-
     /// A word comes for a native.
     fn tell(&mut self, native: usize, word: i32)
         requires agree { AllAgree (λ l. l.ids) (λ l. (⟦<dyn Native as Native>⟧ l.native.vtable).owed l.native.value) self.old.natives.slots.items }
@@ -168,19 +137,11 @@ impl<'a> Machine<'a> {
     /// A native is to end. Answers whether it lived.
     fn kill(&mut self, native: u8, turn: &mut Turn) -> bool
         requires agree { AllAgree (λ l. l.ids) (λ l. (⟦<dyn Native as Native>⟧ l.native.vtable).owed l.native.value) self.old.natives.slots.items }
-        requires stands { Stands self.old }
-        requires between { progress self.old.core ≡ Turned }
+        requires rests { StandsBetween self.old }
         requires few { self.old.core.parts.rest.delivered + 1 < 2 ^ 64 }
         requires room { length turn.old.lines < turn.old.room }
         ensures agree { AllAgree (λ l. l.ids) (λ l. (⟦<dyn Native as Native>⟧ l.native.vtable).owed l.native.value) self.new.natives.slots.items }
-        ensures image { self.new.core.image ≡ self.old.core.image }
-        ensures natives { natives_of self.new ≡ natives_of self.old }
-        ensures delivered { Delivered self.old (Kill native) turn.old turn.new self.new }
-        ensures rest { self.new.core.parts.rest ≡ record self.old.core.parts.rest { delivered = suc self.old.core.parts.rest.delivered } }
-        ensures timers { timers self.new.core ≡ timers self.old.core }
-        ensures told { length turn.new.lines ≤ length turn.old.lines + 1 }
-        ensures quiet { result ≡ false → turn.new ≡ turn.old }
-        ensures none_due { result ≡ false → NoneIsDue self.old → NoneIsDue self.new }
+        ensures delivered { IsDelivered self.old (Kill native) result turn.old turn.new self.new }
     {
         if !self.natives.is_alive(native as usize) {
             self.core.hear_event();
@@ -194,20 +155,12 @@ impl<'a> Machine<'a> {
     /// The client of that number does what it is told, if there is one. Answers whether that is refused.
     fn obey(&mut self, client: u8, command: Command, turn: &mut Turn) -> bool
         requires agree { AllAgree (λ l. l.ids) (λ l. (⟦<dyn Native as Native>⟧ l.native.vtable).owed l.native.value) self.old.natives.slots.items }
-        requires stands { Stands self.old }
-        requires between { progress self.old.core ≡ Turned }
+        requires rests { StandsBetween self.old }
         requires few { self.old.core.parts.rest.delivered + 1 < 2 ^ 64 }
         requires ranged { IsInRange command }
         requires room { length turn.old.lines < turn.old.room }
         ensures agree { AllAgree (λ l. l.ids) (λ l. (⟦<dyn Native as Native>⟧ l.native.vtable).owed l.native.value) self.new.natives.slots.items }
-        ensures image { self.new.core.image ≡ self.old.core.image }
-        ensures natives { natives_of self.new ≡ natives_of self.old }
-        ensures delivered { Delivered self.old (Client client command) turn.old turn.new self.new }
-        ensures rest { self.new.core.parts.rest ≡ record self.old.core.parts.rest { delivered = suc self.old.core.parts.rest.delivered } }
-        ensures timers { timers self.new.core ≡ timers self.old.core }
-        ensures told { length turn.new.lines ≤ length turn.old.lines + 1 }
-        ensures quiet { result ≡ false → turn.new ≡ turn.old }
-        ensures none_due { result ≡ false → NoneIsDue self.old → NoneIsDue self.new }
+        ensures delivered { IsDelivered self.old (Client client command) result turn.old turn.new self.new }
     {
         if client >= CLIENTS {
             self.core.hear_event();
@@ -221,7 +174,7 @@ impl<'a> Machine<'a> {
         ensures none { result ≡ None → (s : State) → StandsFor self.now s → first_living s.killed (natives_of self.now - s.rest.polled) s.rest.polled ≡ None }
         ensures some { IfSome result (λ n. (n < natives_of self.now) × (self.now.core.parts.rest.polled ≤ n) × IsSome (living_at self.now.natives.slots.items n) × ((s : State) → StandsFor self.now s → first_living s.killed (natives_of self.now - s.rest.polled) s.rest.polled ≡ Some n)) }
     {
-        let mut native = self.core.polled_so_far() as usize;
+        let mut native = self.core.rest().polled() as usize;
         while native < self.natives.count() {
             if self.natives.is_alive(native) {
                 return Some(native);

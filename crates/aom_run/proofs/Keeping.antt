@@ -4,6 +4,7 @@ use Rattle.aom_parts.specs.declared.progress.Progress.TheVariants.{Turned}
 use Rattle.aom_exec.specs.Steps.{progress, timers}
 use Rattle.aom_machine.specs.Calls.{NoneIsDue, Stands, natives_of}
 use Rattle.aom_machine.specs.declared.machine.Machine.{Machine}
+use Rattle.aom_run.specs.Runs.{KeepsImage}
 use Rattle.aom_run.specs.Turns.{Keeps}
 
 module _ {X : Type 0} {B : X → Type 0} where
@@ -27,3 +28,10 @@ module _ {X : Type 0} {B : X → Type 0} where
 
   pub times_on : {old m new : Machine X B} → KeepsTimers old m → Keeps old new → NoneIsDue new → timers new.core ≡ timers m.core → KeepsTimers old new
   times_on was keeps none same = record { keeps = keeps; none_due = none; timers = same ∙ was.timers }
+
+  -- the image stays, and how many natives there are
+  pub image_all : (m : Machine X B) → KeepsImage m m
+  image_all m = record { image = refl; natives = refl }
+
+  pub image_on : {old m new : Machine X B} → KeepsImage old m → new.core.image ≡ m.core.image → natives_of new ≡ natives_of m → KeepsImage old new
+  image_on was image natives = record { image = image ∙ was.image; natives = natives ∙ was.natives }

@@ -1,5 +1,5 @@
 -- What a run of the machine tells of the checked machine.
-use Rattle.std.specs.Prelude.{◌≡◌, ◌≢◌, ℕ, Bool, true, List, [], ◌++◌, Option, take, option_map}
+use Rattle.std.specs.Prelude.{◌≡◌, ◌≢◌, ◌<◌, ◌≤◌, ◌+◌, ℕ, length, Bool, true, List, [], ◌++◌, Option, take, option_map}
 use Rattle.aom_image.specs.Image.{Image}
 use Rattle.aom_sound.specs.Places.{count_cells}
 use Rattle.aom_sound.specs.Moves.{IsOpen, step, written}
@@ -8,14 +8,14 @@ use Rattle.aom_sound.specs.World.{boot_state, IsBusy, Run_of, Outside}
 use Rattle.aom_transcript.specs.declared.line.Line.{Line}
 use Rattle.aom_transcript.specs.declared.line.Ending.{Ending}
 use Rattle.aom_transcript.specs.declared.line.Ending.TheVariants as endings
-use Rattle.aom_lines.specs.Turn.{Turn}
+use Rattle.aom_lines.specs.Turn.{Turn, step_lines}
 use Rattle.aom_transcript.specs.Text.{text_of, transcript}
 use Rattle.aom_run.specs.declared.outcome.Outcome.{Outcome}
 use Rattle.aom_run.specs.declared.outcome.Outcome.TheVariants.{Stopped, Waiting, MainLeft, Limit, Error, WriteFault}
 use Rattle.aom_parts.specs.declared.progress.Progress.{Progress}
 use Rattle.aom_parts.specs.declared.progress.Progress.TheVariants.{Running}
 use Rattle.aom_parts.specs.Progress.{progress_of}
-use Rattle.aom_machine.specs.Calls.{StandsFor}
+use Rattle.aom_machine.specs.Calls.{StandsFor, natives_of}
 use Rattle.aom_machine.specs.declared.machine.Machine.{Machine}
 
 -- what is out once a text is out too, where the sink tells it
@@ -40,6 +40,15 @@ module _ {X : Type 0} {B : X → Type 0} where
   -- a machine that has not run: it stands for the boot state
   abbrev pub IsFresh : Machine X B → Type 0
   IsFresh m = StandsFor m (boot_state m.core.image)
+
+  -- it has the same image, beside as many natives
+  pub record KeepsImage (old new : Machine X B) : Type 0 where
+    pub image : new.core.image ≡ old.core.image
+    pub natives : natives_of new ≡ natives_of old
+
+  -- a turn has few lines, and room for many and for those of one step more
+  abbrev pub HasRoom : Machine X B → Turn → Type 0
+  HasRoom m turn = (length turn.lines < 64) × (64 + step_lines m.core.image.header.messages ≤ turn.room)
 
   -- from each state that the machine stands for moves lead to one that it then stands for, and their lines are added to the turn
   abbrev pub Filled : Machine X B → Progress → Turn → Turn → Machine X B → Type 0

@@ -9,7 +9,7 @@ use Rattle.aom_transcript.specs.declared.line.Ending.{Ending}
 use Rattle.aom_lines.specs.Turn.{Turn}
 use Rattle.aom_exec.specs.Steps.{progress, timers}
 use Rattle.aom_parts.specs.declared.progress.Progress.TheVariants.{Turned}
-use Rattle.aom_machine.specs.Calls.{NoneIsDue, Stands, StandsFor, natives_of}
+use Rattle.aom_machine.specs.Calls.{NoneIsDue, Stands, StandsBetween, StandsFor, natives_of}
 use Rattle.aom_machine.specs.declared.machine.Machine.{Machine}
 
 -- what comes from outside of the image, where there are so many natives
@@ -42,11 +42,11 @@ module _ {X : Type 0} {B : X → Type 0} where
 
   -- ---- events
 
-  -- it stands for a state between dispatches
-  abbrev pub StandsBetween : Machine X B → Type 0
-  StandsBetween m = Stands m × (progress m.core ≡ Turned)
+  -- it stands for a state between dispatches, and no timer is due
+  abbrev pub StandsUndue : Machine X B → Type 0
+  StandsUndue m = StandsBetween m × NoneIsDue m
 
-  -- and so it does again, with the same image, beside as many natives
+  -- it stands for one again, with the same image, beside as many natives
   pub record Keeps (old new : Machine X B) : Type 0 where
     pub stands : Stands new
     pub between : progress new.core ≡ Turned

@@ -1,10 +1,9 @@
 //! A dispatch, from where it begins until nothing is at hand, and its lines.
-ghost use Rattle.std.specs.Prelude.{ℕ, true, false, ◌≡◌, ◌<◌, ◌≤◌, ◌+◌, length, take, IfNone, IfSome};
+ghost use Rattle.std.specs.Prelude.{ℕ, true, false, ◌≡◌, ◌<◌, take, IfNone, IfSome};
 ghost use Rattle.aom_transcript.specs.Text.{text_of};
-ghost use Rattle.aom_run.specs.Runs.{CutOff, Filled, Sent, after};
+ghost use Rattle.aom_run.specs.Runs.{CutOff, Filled, HasRoom, KeepsImage, Sent, after};
 ghost use Rattle.aom_exec.specs.Steps.{rank};
-ghost use Rattle.aom_lines.specs.Turn.{step_lines};
-ghost use Rattle.aom_machine.specs.Calls.{Stands, natives_of};
+ghost use Rattle.aom_machine.specs.Calls.{Stands};
 ghost use Rattle.aom_natives.specs.Slots.{AllAgree};
 
 use crate::{Sink, write_text};
@@ -26,11 +25,9 @@ pub fn run_dispatch<W: Sink>(
 ) -> Option<Progress>
     requires agree { AllAgree (λ l. l.ids) (λ l. (⟦<dyn Native as Native>⟧ l.native.vtable).owed l.native.value) machine.old.natives.slots.items }
     requires stands { Stands machine.old }
-    requires few { length turn.old.lines < 64 }
-    requires room { 64 + step_lines machine.old.core.image.header.messages ≤ turn.old.room }
+    requires room { HasRoom machine.old turn.old }
     ensures agree { AllAgree (λ l. l.ids) (λ l. (⟦<dyn Native as Native>⟧ l.native.vtable).owed l.native.value) machine.new.natives.slots.items }
-    ensures image { machine.new.core.image ≡ machine.old.core.image }
-    ensures natives { natives_of machine.new ≡ natives_of machine.old }
+    ensures kept { KeepsImage machine.old machine.new }
     ensures none { IfNone result ((W.failed out.new ≡ true) × CutOff machine.old turn.old (W.out out.old) (W.out out.new) machine.new) }
     ensures some { IfSome result (λ progress. Sent machine.old progress turn.old turn.new (W.out out.old) (W.out out.new) machine.new) }
 {
@@ -52,11 +49,9 @@ pub fn run_dispatch<W: Sink>(
 fn fill(machine: &mut Machine, turn: &mut Turn) -> Progress
     requires agree { AllAgree (λ l. l.ids) (λ l. (⟦<dyn Native as Native>⟧ l.native.vtable).owed l.native.value) machine.old.natives.slots.items }
     requires stands { Stands machine.old }
-    requires few { length turn.old.lines < 64 }
-    requires room { 64 + step_lines machine.old.core.image.header.messages ≤ turn.old.room }
+    requires room { HasRoom machine.old turn.old }
     ensures agree { AllAgree (λ l. l.ids) (λ l. (⟦<dyn Native as Native>⟧ l.native.vtable).owed l.native.value) machine.new.natives.slots.items }
-    ensures image { machine.new.core.image ≡ machine.old.core.image }
-    ensures natives { natives_of machine.new ≡ natives_of machine.old }
+    ensures kept { KeepsImage machine.old machine.new }
     ensures steps { Filled machine.old result turn.old turn.new machine.new }
     ensures falls { result ≡ Progress.Running → rank machine.new.core < rank machine.old.core }
 {

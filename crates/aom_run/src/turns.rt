@@ -4,10 +4,10 @@ ghost use Rattle.aom_sound.specs.State.{State};
 ghost use Rattle.aom_sound.specs.World.{due_of, event_at, first_due, nearer, time_of};
 ghost use Rattle.aom_exec.specs.Steps.{progress, timers};
 ghost use Rattle.aom_parts.specs.declared.progress.Progress.TheVariants.{Turned};
-ghost use Rattle.aom_machine.specs.Calls.{EventInRange, NoneIsDue, Stands, StandsFor, natives_of};
+ghost use Rattle.aom_machine.specs.Calls.{EventInRange, NoneIsDue, Stands, StandsBetween, StandsFor, natives_of};
 ghost use Rattle.aom_natives.specs.Slots.{AllAgree};
 ghost use Rattle.aom_transcript.specs.declared.event.TimedEvent.{TimedEvent};
-ghost use Rattle.aom_run.specs.Turns.{AllPolled, CompletesDue, HasCome, HearsAll, IsDue, IsLate, Keeps, NoneHasCome, StandsBetween, Settles, TakesTurns, hearing, to_come, waiting};
+ghost use Rattle.aom_run.specs.Turns.{AllPolled, CompletesDue, HasCome, HearsAll, IsDue, IsLate, Keeps, NoneHasCome, StandsUndue, Settles, TakesTurns, hearing, to_come, waiting};
 
 use aom_lines::Turn;
 use aom_machine::Machine;
@@ -32,8 +32,8 @@ pub fn take_turns(
     ensures natives { natives_of machine.new ≡ natives_of machine.old }
     ensures turns { TakesTurns machine.old (hearing turn.old.refused limit (natives_of machine.old) events.now) result turn.old turn.new machine.new }
 {
-    if machine.core.dispatches() >= u64::from(limit) {
-        machine.cut();
+    if machine.core.rest().dispatches() >= u64::from(limit) {
+        machine.core.cut();
         return Some(Ending::Limit);
     }
     if settle(machine, events, turn) {
@@ -44,7 +44,7 @@ pub fn take_turns(
             return None;
         }
         let Some(time) = next_time(machine, events) else {
-            machine.wait();
+            machine.core.wait();
             return Some(Ending::Waiting);
         };
         machine.set_clock(time);
@@ -105,7 +105,7 @@ fn complete_due(machine: &mut Machine)
 fn next_event(machine: &Machine, events: &[TimedEvent]) -> Option<TimedEvent>
     ensures { result ≡ event_at events.now machine.now.core.parts.rest.delivered }
 {
-    match events.get(machine.core.delivered() as usize) {
+    match events.get(machine.core.rest().delivered() as usize) {
         Some(event) => Some(*event),
         None => None,
     }
@@ -125,8 +125,7 @@ fn come_event(machine: &Machine, events: &[TimedEvent]) -> Option<Event>
 /// Each event that has come is heard, where no timer is due, up to one that is told by a line. Answers whether one was.
 fn hear_due(machine: &mut Machine, events: &[TimedEvent], turn: &mut Turn) -> bool
     requires agree { AllAgree (λ l. l.ids) (λ l. (⟦<dyn Native as Native>⟧ l.native.vtable).owed l.native.value) machine.old.natives.slots.items }
-    requires rests { StandsBetween machine.old }
-    requires none_due { NoneIsDue machine.old }
+    requires rests { StandsUndue machine.old }
     requires ranged { All (λ e. EventInRange e.event) events.now }
     requires room { length turn.old.lines < turn.old.room }
     ensures agree { AllAgree (λ l. l.ids) (λ l. (⟦<dyn Native as Native>⟧ l.native.vtable).owed l.native.value) machine.new.natives.slots.items }
@@ -147,8 +146,7 @@ fn hear_due(machine: &mut Machine, events: &[TimedEvent], turn: &mut Turn) -> bo
 /// Each living native is polled once in the turn at hand, where no timer is due.
 fn poll_all(machine: &mut Machine)
     requires agree { AllAgree (λ l. l.ids) (λ l. (⟦<dyn Native as Native>⟧ l.native.vtable).owed l.native.value) machine.old.natives.slots.items }
-    requires rests { StandsBetween machine.old }
-    requires none_due { NoneIsDue machine.old }
+    requires rests { StandsUndue machine.old }
     ensures agree { AllAgree (λ l. l.ids) (λ l. (⟦<dyn Native as Native>⟧ l.native.vtable).owed l.native.value) machine.new.natives.slots.items }
     ensures kept { Keeps machine.old machine.new }
     ensures settled { (events : List TimedEvent) → NoneHasCome events machine.old → Settles events machine.old machine.new }

@@ -1,6 +1,7 @@
 use Rattle.std.proofs.Common.{◌∙◌, length, refl, ap, arith}
 use Rattle.aom_image.specs.Image.{Image}
 use Rattle.aom_run.proofs.Reaching.{steps_of, went_nowhere, went, filled, stands_on, room_stays}
+use Rattle.aom_run.proofs.Keeping.{image_all, image_on}
 use Rattle.aom_run.proofs.dispatches.fill.Goals as goal
 
 pub loop-progress-init : goal.loop-progress-init
@@ -9,10 +10,9 @@ loop-progress-init g c =
       went = went_nowhere c.args.machine.now c.args.turn.now;
       stands = c.requires.stands;
       agree = c.requires.agree;
-      image = refl;
-      natives = refl;
+      kept = image_all c.args.machine.now;
       room = refl;
-      few = c.requires.few;
+      few = c.requires.room.0;
       lower = omega arith;
     }
 
@@ -21,19 +21,19 @@ step_on-progress-requires g c =
     let i = c.loop-progress.invariant in
     let room = i.room in
     let few = i.few in
-    let enough = c.requires.room in
-    let messages = ap (λ (p : Image). p.header.messages) i.image in
+    let enough = c.requires.room.1 in
+    let messages = ap (λ (p : Image). p.header.messages) i.kept.image in
     record { agree = i.agree; stands = i.stands; room = omega (arith, room, few, enough, messages) }
 
-pub returns-then-lines-ge-MANY_LINES-clause-image :
-    goal.returns-then-lines-ge-MANY_LINES-clause-image
-returns-then-lines-ge-MANY_LINES-clause-image g c = c.step_on-progress.ensures.image ∙ c.loop-progress.invariant.image
+pub returns-then-lines-ge-MANY_LINES-clause-kept :
+    goal.returns-then-lines-ge-MANY_LINES-clause-kept
+returns-then-lines-ge-MANY_LINES-clause-kept g c = image_on c.loop-progress.invariant.kept c.step_on-progress.ensures.image c.step_on-progress.ensures.natives
 
 pub returns-then-lines-ge-MANY_LINES-clause-steps :
     goal.returns-then-lines-ge-MANY_LINES-clause-steps
 returns-then-lines-ge-MANY_LINES-clause-steps g c =
     let i = c.loop-progress.invariant in
-    filled c.args.machine.now c.loop-progress.machine c.step_on-progress.new.self c.args.turn.now c.loop-progress.turn c.step_on-progress.new.turn c.step_on-progress.result i.went i.image (steps_of c.loop-progress.machine c.step_on-progress.new.self c.step_on-progress.result c.loop-progress.turn c.step_on-progress.new.turn c.step_on-progress.ensures.steps)
+    filled c.args.machine.now c.loop-progress.machine c.step_on-progress.new.self c.args.turn.now c.loop-progress.turn c.step_on-progress.new.turn c.step_on-progress.result i.went i.kept.image (steps_of c.loop-progress.machine c.step_on-progress.new.self c.step_on-progress.result c.loop-progress.turn c.step_on-progress.new.turn c.step_on-progress.ensures.steps)
 
 pub returns-then-lines-ge-MANY_LINES-clause-falls :
     goal.returns-then-lines-ge-MANY_LINES-clause-falls
@@ -58,11 +58,10 @@ loop-progress-preserved g c =
     let count = ap length c.lines.ensures in
     let test = c.if-lines-ge-MANY_LINES.false in
     record {
-      went = went old new told now progress (filled old m new told mid now progress i.went i.image steps);
+      went = went old new told now progress (filled old m new told mid now progress i.went i.kept.image steps);
       stands = stands_on m new mid now progress i.stands steps;
       agree = c.step_on-progress.ensures.agree;
-      image = c.step_on-progress.ensures.image ∙ i.image;
-      natives = c.step_on-progress.ensures.natives ∙ i.natives;
+      kept = image_on i.kept c.step_on-progress.ensures.image c.step_on-progress.ensures.natives;
       room = room_stays m new mid now progress i.stands steps ∙ i.room;
       few = omega (arith, count, test);
       lower = omega (arith, falls, lower);
@@ -73,8 +72,7 @@ returns-in_default g c =
     let i = c.loop-progress.invariant in
     record {
       agree = c.step_on-progress.ensures.agree;
-      image = c.step_on-progress.ensures.image ∙ i.image;
-      natives = c.step_on-progress.ensures.natives ∙ i.natives;
-      steps = filled c.args.machine.now c.loop-progress.machine c.step_on-progress.new.self c.args.turn.now c.loop-progress.turn c.step_on-progress.new.turn c.step_on-progress.result i.went i.image (steps_of c.loop-progress.machine c.step_on-progress.new.self c.step_on-progress.result c.loop-progress.turn c.step_on-progress.new.turn c.step_on-progress.ensures.steps);
+      kept = image_on i.kept c.step_on-progress.ensures.image c.step_on-progress.ensures.natives;
+      steps = filled c.args.machine.now c.loop-progress.machine c.step_on-progress.new.self c.args.turn.now c.loop-progress.turn c.step_on-progress.new.turn c.step_on-progress.result i.went i.kept.image (steps_of c.loop-progress.machine c.step_on-progress.new.self c.step_on-progress.result c.loop-progress.turn c.step_on-progress.new.turn c.step_on-progress.ensures.steps);
       falls = λ is. absurd (c.in_default.not-Running is);
     }

@@ -1,7 +1,8 @@
 use Rattle.std.proofs.Common.{◌≡◌, ◌<◌, ◌≤◌, length}
 use Rattle.aom_exec.specs.Steps.{rank}
-use Rattle.aom_machine.specs.Calls.{Stands, natives_of}
+use Rattle.aom_machine.specs.Calls.{Stands}
 use Rattle.aom_natives.specs.Slots.{AllAgree}
+use Rattle.aom_run.specs.Runs.{KeepsImage}
 use Rattle.aom_run.proofs.Reaching.{Went}
 use Rattle.aom_run.proofs.dispatches.fill.Given as goal
 
@@ -10,8 +11,7 @@ invariant-loop-progress g l = record {
   went : Went l.fn.machine l.fn.turn l.turn l.machine;
   stands : Stands l.machine;
   agree : AllAgree (λ x. x.ids) (λ x. (goal.Native-dyn g (x.native.vtable, x.native.value)).owed x.native.value) l.machine.natives.slots.items;
-  image : l.machine.core.image ≡ l.fn.machine.core.image;
-  natives : natives_of l.machine ≡ natives_of l.fn.machine;
+  kept : KeepsImage l.fn.machine l.machine;
   room : l.turn.room ≡ l.fn.turn.room;
   few : length l.turn.lines < 64;
   lower : rank l.machine.core ≤ rank l.fn.machine.core;

@@ -3,27 +3,28 @@ use Rattle.aom_image.specs.Image.{Image}
 use Rattle.aom_lines.specs.Turn.{Turn, step_lines}
 use Rattle.aom_transcript.specs.Text.{text_of}
 use Rattle.aom_run.specs.Runs.{after}
+use Rattle.aom_run.proofs.Keeping.{image_all, image_on}
 use Rattle.aom_run.proofs.Underway.{cleared_same, cut_off, is_sent, still_stands, underway, underway_still}
 use Rattle.aom_run.proofs.dispatches.run_dispatch.Goals as goal
 
 pub loop-progress-init : goal.loop-progress-init
 loop-progress-init g c =
-    record { underway = underway c.args.machine.now c.args.turn.now (g.W.Sink.out c.args.out.now); stands = c.requires.stands; agree = c.requires.agree; image = refl; natives = refl; same = refl; few = c.requires.few }
+    record { underway = underway c.args.machine.now c.args.turn.now (g.W.Sink.out c.args.out.now); stands = c.requires.stands; agree = c.requires.agree; kept = image_all c.args.machine.now; same = refl; few = c.requires.room.0 }
 
 pub fill-progress-requires : goal.fill-progress-requires
 fill-progress-requires g c =
     let i = c.loop-progress.invariant in
-    record { agree = i.agree; stands = i.stands; few = i.few; room = subst (λ (t : Turn). 64 + step_lines c.loop-progress.machine.core.image.header.messages ≤ t.room) (sym i.same) (subst (λ (p : Image). 64 + step_lines p.header.messages ≤ c.args.turn.now.room) (sym i.image) c.requires.room) }
+    record { agree = i.agree; stands = i.stands; room = (i.few, subst (λ (t : Turn). 64 + step_lines c.loop-progress.machine.core.image.header.messages ≤ t.room) (sym i.same) (subst (λ (p : Image). 64 + step_lines p.header.messages ≤ c.args.turn.now.room) (sym i.kept.image) c.requires.room.1)) }
 
-pub returns-then-has_failed-clause-image : goal.returns-then-has_failed-clause-image
-returns-then-has_failed-clause-image g c = c.fill-progress.ensures.image ∙ c.loop-progress.invariant.image
+pub returns-then-has_failed-clause-kept : goal.returns-then-has_failed-clause-kept
+returns-then-has_failed-clause-kept g c = let e = c.fill-progress.ensures.kept in image_on c.loop-progress.invariant.kept e.image e.natives
 
 pub returns-then-has_failed-clause-none : goal.returns-then-has_failed-clause-none
 returns-then-has_failed-clause-none g c =
     let i = c.loop-progress.invariant in
     let sent = c.write_lines.ensures.prefix in (
       sym c.has_failed.ensures ∙ c.if-has_failed.true,
-      cut_off c.args.machine.now c.loop-progress.machine c.fill-progress.new.machine c.args.turn.now c.loop-progress.turn c.fill-progress.new.turn (g.W.Sink.out c.args.out.now) (g.W.Sink.out c.loop-progress.out) c.fill-progress.result i.underway i.image i.same c.fill-progress.ensures.steps _ sent.0 (sent.1 ∙ ap (λ ls. after (g.W.Sink.out c.loop-progress.out) (take sent.0 (text_of ls))) c.lines.ensures),
+      cut_off c.args.machine.now c.loop-progress.machine c.fill-progress.new.machine c.args.turn.now c.loop-progress.turn c.fill-progress.new.turn (g.W.Sink.out c.args.out.now) (g.W.Sink.out c.loop-progress.out) c.fill-progress.result i.underway i.kept.image i.same c.fill-progress.ensures.steps _ sent.0 (sent.1 ∙ ap (λ ls. after (g.W.Sink.out c.loop-progress.out) (take sent.0 (text_of ls))) c.lines.ensures),
     )
 
 pub loop-progress-smaller : goal.loop-progress-smaller
@@ -35,11 +36,10 @@ loop-progress-preserved g c =
     let out = c.write_lines.ensures.whole (sym c.has_failed.ensures ∙ c.if-has_failed.false) ∙ ap (λ ls. after (g.W.Sink.out c.loop-progress.out) (text_of ls)) c.lines.ensures in
     let none = ap (λ (t : Turn). length t.lines) c.clear.ensures in
     record {
-      underway = underway_still c.args.machine.now c.loop-progress.machine c.fill-progress.new.machine c.args.turn.now c.loop-progress.turn c.fill-progress.new.turn (g.W.Sink.out c.args.out.now) (g.W.Sink.out c.loop-progress.out) c.fill-progress.result i.underway i.image i.same c.fill-progress.ensures.steps _ _ c.clear.ensures out;
+      underway = underway_still c.args.machine.now c.loop-progress.machine c.fill-progress.new.machine c.args.turn.now c.loop-progress.turn c.fill-progress.new.turn (g.W.Sink.out c.args.out.now) (g.W.Sink.out c.loop-progress.out) c.fill-progress.result i.underway i.kept.image i.same c.fill-progress.ensures.steps _ _ c.clear.ensures out;
       stands = still_stands c.loop-progress.machine c.fill-progress.new.machine c.loop-progress.turn c.fill-progress.new.turn c.fill-progress.result i.stands c.fill-progress.ensures.steps;
       agree = c.fill-progress.ensures.agree;
-      image = c.fill-progress.ensures.image ∙ i.image;
-      natives = c.fill-progress.ensures.natives ∙ i.natives;
+      kept = image_on i.kept c.fill-progress.ensures.kept.image c.fill-progress.ensures.kept.natives;
       same = cleared_same c.loop-progress.machine c.fill-progress.new.machine c.args.turn.now c.loop-progress.turn c.fill-progress.new.turn c.clear.new.self c.fill-progress.result i.same i.stands c.fill-progress.ensures.steps c.clear.ensures;
       few = omega (arith, none);
     }
@@ -50,8 +50,7 @@ returns-in_default g c =
     let out = c.write_lines.ensures.whole (sym c.has_failed.ensures ∙ c.if-has_failed.false) ∙ ap (λ ls. after (g.W.Sink.out c.loop-progress.out) (text_of ls)) c.lines.ensures in
     record {
       agree = c.fill-progress.ensures.agree;
-      image = c.fill-progress.ensures.image ∙ i.image;
-      natives = c.fill-progress.ensures.natives ∙ i.natives;
+      kept = image_on i.kept c.fill-progress.ensures.kept.image c.fill-progress.ensures.kept.natives;
       none = tt;
-      some = is_sent c.args.machine.now c.loop-progress.machine c.fill-progress.new.machine c.args.turn.now c.loop-progress.turn c.fill-progress.new.turn (g.W.Sink.out c.args.out.now) (g.W.Sink.out c.loop-progress.out) c.fill-progress.result i.underway i.image i.same c.fill-progress.ensures.steps _ _ c.clear.ensures out c.in_default.not-Running;
+      some = is_sent c.args.machine.now c.loop-progress.machine c.fill-progress.new.machine c.args.turn.now c.loop-progress.turn c.fill-progress.new.turn (g.W.Sink.out c.args.out.now) (g.W.Sink.out c.loop-progress.out) c.fill-progress.result i.underway i.kept.image i.same c.fill-progress.ensures.steps _ _ c.clear.ensures out c.in_default.not-Running;
     }

@@ -12,7 +12,7 @@ run_dispatch-requires g c =
     let none = ap (λ (t : Turn). length t.lines) c.clear.ensures in
     let kept = ap (λ (t : Turn). t.room) c.clear.ensures in
     let room = c.requires.room in
-    record { agree = c.requires.agree; stands = (boot_state c.args.machine.now.core.image, c.requires.fresh); few = omega (arith, none); room = omega (arith, kept, room) }
+    record { agree = c.requires.agree; stands = (boot_state c.args.machine.now.core.image, c.requires.fresh); room = (omega (arith, none), omega (arith, kept, room)) }
 
 pub returns-in_err-progress-clause-none : goal.returns-in_err-progress-clause-none
 returns-in_err-progress-clause-none g c =
@@ -22,7 +22,7 @@ returns-in_err-progress-clause-none g c =
     let off = c.in_err-progress.ensures.none in
     let fits = c.ranges.limit.fits in
     given_up c.from_residual.result
-    (off.0, cut _ outside out out _ c.args.machine.now c.run_dispatch.new.machine c.clear.new.self c.run_dispatch.new.turn far refl (ap (λ (t : Turn). t.refused) c.clear.ensures) (omega (arith, fits)) c.run_dispatch.ensures.image off.1)
+    (off.0, cut _ outside out out _ c.args.machine.now c.run_dispatch.new.machine c.clear.new.self c.run_dispatch.new.turn far refl (ap (λ (t : Turn). t.refused) c.clear.ensures) (omega (arith, fits)) c.run_dispatch.ensures.kept.image off.1)
 
 pub loop-progress-init : goal.loop-progress-init
 loop-progress-init g c =
@@ -34,8 +34,8 @@ loop-progress-init g c =
     record {
       so_far = sent_on _ outside out out _ c.args.machine.now c.run_dispatch.new.machine c.clear.new.self c.run_dispatch.new.turn far refl (ap (λ (t : Turn). t.refused) c.clear.ensures) _ sent;
       agree = c.run_dispatch.ensures.agree;
-      image = c.run_dispatch.ensures.image;
-      natives = c.run_dispatch.ensures.natives;
+      image = c.run_dispatch.ensures.kept.image;
+      natives = c.run_dispatch.ensures.kept.natives;
       turn = sent_turn c.args.machine.now c.run_dispatch.new.machine _ _ _ _ _ stands sent ∙ ap (λ (t : Turn). record t { lines = [] }) c.clear.ensures;
       as_far = sent_far c.args.machine.now c.run_dispatch.new.machine _ _ _ _ _ stands sent;
       rests = sent_rests c.args.machine.now c.run_dispatch.new.machine _ _ _ _ _ stands sent;
@@ -82,10 +82,10 @@ run_dispatch-requires-in-loop-progress g c =
     let few = turned_few c.loop-progress.machine c.take_turns.new.machine outside c.loop-progress.turn c.take_turns.new.turn stands turns (ap (λ (t : Turn). t.lines) i.turn) in
     let kept = ap (λ (t : Turn). t.room) (turned_same c.loop-progress.machine c.take_turns.new.machine outside c.loop-progress.turn c.take_turns.new.turn stands turns ∙ ap (λ (t : Turn). record t { lines = c.take_turns.new.turn.lines }) i.turn) in
     let room = c.requires.room in
-    record { agree = c.take_turns.ensures.agree; stands = turned_stands c.loop-progress.machine c.take_turns.new.machine outside c.loop-progress.turn c.take_turns.new.turn stands turns; few = omega (arith, few); room = omega (arith, kept, room, messages) }
+    record { agree = c.take_turns.ensures.agree; stands = turned_stands c.loop-progress.machine c.take_turns.new.machine outside c.loop-progress.turn c.take_turns.new.turn stands turns; room = (omega (arith, few), omega (arith, kept, room, messages)) }
 
 pub returns-in_err-progress-2-clause-image : goal.returns-in_err-progress-2-clause-image
-returns-in_err-progress-2-clause-image g c = c.run_dispatch-in-loop-progress.ensures.image ∙ c.take_turns.ensures.image ∙ c.loop-progress.invariant.image
+returns-in_err-progress-2-clause-image g c = c.run_dispatch-in-loop-progress.ensures.kept.image ∙ c.take_turns.ensures.image ∙ c.loop-progress.invariant.image
 
 pub returns-in_err-progress-2-clause-none : goal.returns-in_err-progress-2-clause-none
 returns-in_err-progress-2-clause-none g c =
@@ -95,7 +95,7 @@ returns-in_err-progress-2-clause-none g c =
     let off = c.in_err-progress-2.ensures.none in
     let fits = c.ranges.limit.fits in
     given_up c.from_residual-in_err-progress-2.result
-    (off.0, cut _ _ _ _ _ c.take_turns.new.machine c.run_dispatch-in-loop-progress.new.machine c.take_turns.new.turn c.run_dispatch-in-loop-progress.new.turn turned.0 image (ap (λ (t : Turn). t.refused) turned.1) (omega (arith, fits)) (c.run_dispatch-in-loop-progress.ensures.image ∙ image) off.1)
+    (off.0, cut _ _ _ _ _ c.take_turns.new.machine c.run_dispatch-in-loop-progress.new.machine c.take_turns.new.turn c.run_dispatch-in-loop-progress.new.turn turned.0 image (ap (λ (t : Turn). t.refused) turned.1) (omega (arith, fits)) (c.run_dispatch-in-loop-progress.ensures.kept.image ∙ image) off.1)
 
 pub loop-progress-smaller : goal.loop-progress-smaller
 loop-progress-smaller g c =
@@ -115,8 +115,8 @@ loop-progress-preserved g c =
     record {
       so_far = sent_on _ _ _ _ _ m new c.take_turns.new.turn c.run_dispatch-in-loop-progress.new.turn turned.0 image (ap (λ (t : Turn). t.refused) turned.1) _ sent;
       agree = c.run_dispatch-in-loop-progress.ensures.agree;
-      image = c.run_dispatch-in-loop-progress.ensures.image ∙ image;
-      natives = c.run_dispatch-in-loop-progress.ensures.natives ∙ c.take_turns.ensures.natives ∙ i.natives;
+      image = c.run_dispatch-in-loop-progress.ensures.kept.image ∙ image;
+      natives = c.run_dispatch-in-loop-progress.ensures.kept.natives ∙ c.take_turns.ensures.natives ∙ i.natives;
       turn = sent_turn m new _ _ _ _ _ turned.2 sent ∙ ap (λ (t : Turn). record t { lines = [] }) turned.1;
       as_far = sent_far m new _ _ _ _ _ turned.2 sent;
       rests = sent_rests m new _ _ _ _ _ turned.2 sent;

@@ -11,7 +11,7 @@ pub loop-event-init : goal.loop-event-init
 loop-event-init g c =
     record {
       settled = none_settles c.args.events.now c.args.machine.now;
-      kept = times_all c.args.machine.now c.requires.rests.0 c.requires.rests.1 c.requires.none_due;
+      kept = times_all c.args.machine.now c.requires.rests.0.0 c.requires.rests.0.1 c.requires.rests.1;
       agree = c.requires.agree;
       turn = refl;
       fewer = inl refl;
@@ -33,7 +33,7 @@ returns-then-deliver-clause-heard g c =
     let m = c.loop-event.machine in
     let new = c.deliver.new.self in
     let now = c.deliver.new.turn in
-    let e = c.deliver.ensures in
+    let e = c.deliver.ensures.delivered in
     let come = c.in-Some.ensures.some in
     let takes = subst (λ event. Delivered m event c.loop-event.turn now new) (sym come.1) e.delivered in
     subst (λ t. TellsEnd c.args.events.now c.args.machine.now t now new) i.turn
@@ -43,7 +43,7 @@ pub returns-then-deliver-clause-kept : goal.returns-then-deliver-clause-kept
 returns-then-deliver-clause-kept g c =
     let i = c.loop-event.invariant in
     let m = c.loop-event.machine in
-    let e = c.deliver.ensures in
+    let e = c.deliver.ensures.delivered in
     let come = c.in-Some.ensures.some in
     let takes = subst (λ event. Delivered m event c.loop-event.turn c.deliver.new.turn c.deliver.new.self) (sym come.1) e.delivered in
     let none = i.kept.none_due in
@@ -54,7 +54,7 @@ pub loop-event-smaller : goal.loop-event-smaller
 loop-event-smaller g c =
     let i = c.loop-event.invariant in
     let m = c.loop-event.machine in
-    let e = c.deliver.ensures in
+    let e = c.deliver.ensures.delivered in
     let come = c.in-Some.ensures.some in
     let takes = subst (λ event. Delivered m event c.loop-event.turn c.deliver.new.turn c.deliver.new.self) (sym come.1) e.delivered in
     heard_fewer c.args.events.now m c.deliver.new.self c.loop-event.turn c.deliver.new.turn i.kept.none_due come.0 takes e.rest
@@ -69,7 +69,7 @@ loop-event-preserved g c =
     let new = c.deliver.new.self in
     let told = c.loop-event.turn in
     let now = c.deliver.new.turn in
-    let e = c.deliver.ensures in
+    let e = c.deliver.ensures.delivered in
     let events = c.args.events.now in
     let come = c.in-Some.ensures.some in
     let takes = subst (λ event. Delivered m event told now new) (sym come.1) e.delivered in
@@ -77,7 +77,7 @@ loop-event-preserved g c =
     record {
       settled = settles_both events old m k.image k.natives i.settled new (heard_settles events m new told now none come.0 takes e.rest quiet);
       kept = times_on i.kept (keeps_on k (heard_stands events m new told now none come.0 takes e.rest k.stands) (heard_far events m new told now none come.0 takes e.rest k.stands) e.image e.natives) (e.none_due c.if-deliver.false none) e.timers;
-      agree = e.agree;
+      agree = c.deliver.ensures.agree;
       turn = quiet ∙ i.turn;
       fewer = inr (less_to_come events old m new i.fewer (heard_fewer events m new told now none come.0 takes e.rest));
     }

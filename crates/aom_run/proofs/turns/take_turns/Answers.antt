@@ -2,6 +2,7 @@ use Rattle.std.proofs.Common.{ap, arith, length, subst, sym, true, Some, ◌∙�
 use Rattle.aom_transcript.specs.declared.line.Ending.TheVariants.{Waiting}
 use Rattle.aom_lines.specs.Turn.{Turn}
 use Rattle.aom_machine.specs.Calls.{Picked, natives_of}
+use Rattle.aom_machine.proofs.Serving.{cut_so, waited_so}
 use Rattle.aom_run.specs.Turns.{HearsAll, TakesTurns, hearing, waiting}
 use Rattle.aom_run.proofs.Resting.{dispatches_one, ends_told, limit_cuts, no_earlier, none_picked, passed_far, passed_late, passed_stands, passed_to_come, rests_on, tells_on, waits_on}
 use Rattle.aom_run.proofs.turns.take_turns.Goals as goal
@@ -10,21 +11,22 @@ pub returns-then-dispatches-from-clause-turns : goal.returns-then-dispatches-fro
 returns-then-dispatches-from-clause-turns g c =
     let over = c.if-dispatches-from.true in
     let limit = c.from.ensures in
-    let dispatches = c.dispatches.ensures in
-    limit_cuts c.args.machine.now (hearing c.args.turn.now.refused c.args.limit (natives_of c.args.machine.now) c.args.events.now) (omega (arith, over, limit, dispatches)) c.args.turn.now c.cut.new.self c.cut.ensures.cut
+    let dispatches = c.dispatches.ensures ∙ ap (λ r. r.dispatches) c.rest.ensures in
+    limit_cuts c.args.machine.now (hearing c.args.turn.now.refused c.args.limit (natives_of c.args.machine.now) c.args.events.now) (omega (arith, over, limit, dispatches)) c.args.turn.now (record { core = c.cut.new.self; natives = c.args.machine.now.natives })
+    (cut_so c.args.machine.now c.cut.new.self c.cut.ensures.image c.cut.ensures.cut)
 
 pub returns-then-settle-clause-turns : goal.returns-then-settle-clause-turns
 returns-then-settle-clause-turns g c =
     let under = c.if-dispatches-from.false in
     let limit = c.from.ensures in
-    let dispatches = c.dispatches.ensures in
+    let dispatches = c.dispatches.ensures ∙ ap (λ r. r.dispatches) c.rest.ensures in
     ends_told c.args.machine.now c.settle.new.machine c.args.events.now c.args.turn.now.refused c.args.limit c.args.turn.now c.settle.new.turn (omega (arith, under, limit, dispatches)) (subst (λ b. HearsAll b c.args.events.now c.args.machine.now c.args.turn.now c.settle.new.turn c.settle.new.machine) c.if-settle.true c.settle.ensures.heard)
 
 pub loop-limit-init : goal.loop-limit-init
 loop-limit-init g c =
     let under = c.if-dispatches-from.false in
     let limit = c.from.ensures in
-    let dispatches = c.dispatches.ensures in
+    let dispatches = c.dispatches.ensures ∙ ap (λ r. r.dispatches) c.rest.ensures in
     let done = c.settle.ensures in
     let quiet = c.if-settle.false in
     let all = subst (λ b. HearsAll b c.args.events.now c.args.machine.now c.args.turn.now c.settle.new.turn c.settle.new.machine) quiet done.heard in
@@ -62,18 +64,19 @@ returns-then-pick g c =
     }
 
 pub wait-requires : goal.wait-requires
-wait-requires g c = record { agree = c.pick.ensures.agree; between = (none_picked c.args.machine.now c.loop-limit.machine c.pick.new.self c.loop-limit.turn c.pick.new.turn c.pick.result c.loop-limit.invariant.rests c.if-pick.false c.pick.ensures.picked).0.between }
+wait-requires g c = (none_picked c.args.machine.now c.loop-limit.machine c.pick.new.self c.loop-limit.turn c.pick.new.turn c.pick.result c.loop-limit.invariant.rests c.if-pick.false c.pick.ensures.picked).0.between
 
 pub returns-in_default : goal.returns-in_default
 returns-in_default g c =
     let i = c.loop-limit.invariant in
     let k = none_picked c.args.machine.now c.loop-limit.machine c.pick.new.self c.loop-limit.turn c.pick.new.turn c.pick.result c.loop-limit.invariant.rests c.if-pick.false c.pick.ensures.picked in
-    let waits = waits_on c.args.machine.now c.pick.new.self c.args.events.now c.args.turn.now.refused c.args.limit k.0 k.2 c.next_time.result c.next_time.ensures c.in_default.is c.args.turn.now c.wait.new.self c.wait.ensures.waited in
+    let waited = waited_so c.pick.new.self c.wait.new.self c.wait.ensures.image c.wait.ensures.waited in
+    let waits = waits_on c.args.machine.now c.pick.new.self c.args.events.now c.args.turn.now.refused c.args.limit k.0 k.2 c.next_time.result c.next_time.ensures c.in_default.is c.args.turn.now (record { core = c.wait.new.self; natives = c.pick.new.self.natives }) waited in
     record {
-      agree = c.wait.ensures.agree;
+      agree = c.pick.ensures.agree;
       image = c.wait.ensures.image ∙ k.0.image;
-      natives = c.wait.ensures.natives ∙ k.0.natives;
-      turns = subst (λ t. TakesTurns c.args.machine.now (hearing c.args.turn.now.refused c.args.limit (natives_of c.args.machine.now) c.args.events.now) (Some Waiting) c.args.turn.now t c.wait.new.self) (sym (k.1 ∙ i.turn)) waits;
+      natives = k.0.natives;
+      turns = subst (λ t. TakesTurns c.args.machine.now (hearing c.args.turn.now.refused c.args.limit (natives_of c.args.machine.now) c.args.events.now) (Some Waiting) c.args.turn.now t (record { core = c.wait.new.self; natives = c.pick.new.self.natives })) (sym (k.1 ∙ i.turn)) waits;
     }
 
 pub set_clock-requires : goal.set_clock-requires

@@ -1,10 +1,12 @@
-use Rattle.std.proofs.Common.{rules, ◌<◌, ◌≤◌, ◌∙◌, sym, arith}
+use Rattle.std.proofs.Common.{rules, ap, ◌<◌, ◌≤◌, ◌∙◌, sym, arith}
 use Rattle.aom_machine.specs.Calls.{natives_of}
 use Rattle.aom_machine.proofs.Ending.{first_here, first_later, first_none, from_polled, is_alive_so, is_dead_so}
 use Rattle.aom_machine.proofs.machine.Machine.next_native.Goals as goal
 
 pub loop-native-init : goal.loop-native-init
-loop-native-init g c = (let is = c.polled_so_far-native.ensures in omega (arith, is), λ s st. from_polled c.args.self.now s st _ c.polled_so_far-native.ensures)
+loop-native-init g c =
+    let is = c.polled-native.ensures ∙ ap (λ r. r.polled) c.rest.ensures in
+    (omega (arith, is), λ s st. from_polled c.args.self.now s st _ is)
 
 pub returns-then-is_alive-clause-some : goal.returns-then-is_alive-clause-some
 returns-then-is_alive-clause-some g c =
