@@ -6,17 +6,17 @@
 
 ghost use Rattle.std.specs.Prelude.{◌≤◌};
 ghost use Rattle.aom_command_line.specs.CommandLine.{KeepsLimit};
+ghost use Rattle.aom_natives.specs.Owed.{OweNothing};
 
 use aom_command_line::{RunWords, Words, WordsFault, read_words};
 use aom_debugging::debug_bytes;
 use aom_explaining::{
-    asm_explained, check_by_text, check_explained, prices_by_text, prices_explained, run_by_text,
-    run_explained, tell_explained,
+    asm_explained, check_by_text, check_explained, run_by_text, run_explained, tell_explained,
 };
 use aom_host::{Input, Output, read_file};
 use aom_main::{
-    ExitStatus, Fault, Part, asm_bytes, check_bytes, dis_bytes, dot_bytes, explore_bytes,
-    prices_bytes, run_bytes, tell,
+    ExitStatus, Fault, Part, Translation, check_bytes, explore_bytes, run_bytes, tell,
+    translate_bytes,
 };
 use aom_natives::{Counter, Delay, Line, Native, NativeKind};
 use aom_run::{Sink, write_text};
@@ -155,18 +155,16 @@ fn obey<W: Sink, E: Sink>(
         }
         Words::Debug { run } => run_beside(rt, run, Purpose::Debug, out, errors),
         Words::Explore { run, first, last } => {
+            let files = RunFiles::read(rt, run)?;
             let (first, last) = (*first, *last);
-            explore_files(rt, run, Part { first, last }, out, errors)
+            Ok(explore_files(alloc, run, Part { first, last }, &files, out, errors))
         }
-        Words::Asm { text, explain } => {
-            let text = read_file(rt, text)?;
-            if *explain {
-                return Ok(asm_explained(alloc, &text, out, errors));
-            }
-            Ok(asm_bytes(alloc, &text, out, errors))
+        Words::Asm { text, explain } if *explain => {
+            Ok(asm_explained(alloc, &read_file(rt, text)?, out, errors))
         }
-        Words::Dis { image } => Ok(dis_bytes(alloc, &read_file(rt, image)?, out, errors)),
-        Words::Dot { image } => Ok(dot_bytes(alloc, &read_file(rt, image)?, out, errors)),
+        Words::Asm { text, .. } => translate_file(rt, Translation::Asm, text, out, errors),
+        Words::Dis { image } => translate_file(rt, Translation::Dis, image, out, errors),
+        Words::Dot { image } => translate_file(rt, Translation::Dot, image, out, errors),
     }
 }
 
@@ -188,14 +186,23 @@ fn check_beside<W: Sink, E: Sink>(
     out: &mut W,
     errors: &mut E,
 ) -> ExitStatus {
-    match (text, prices) {
-        (Some(text), false) => check_by_text(alloc, image, text, out, errors),
-        (Some(text), true) => prices_by_text(alloc, image, text, out, errors),
-        (None, false) if explain => check_explained(alloc, image, out, errors),
-        (None, true) if explain => prices_explained(alloc, image, out, errors),
-        (None, false) => check_bytes(alloc, image, out, errors),
-        (None, true) => prices_bytes(alloc, image, out, errors),
+    match text {
+        Some(text) => check_by_text(alloc, image, text, prices, out, errors),
+        None if explain => check_explained(alloc, image, prices, out, errors),
+        None => check_bytes(alloc, image, prices, out, errors),
     }
+}
+
+/// Writes what a file is translated to.
+fn translate_file<W: Sink, E: Sink>(
+    rt: &HostRuntime,
+    to: Translation,
+    name: &str,
+    out: &mut W,
+    errors: &mut E,
+) -> Result<ExitStatus, Fault> {
+    let file = read_file(rt, name)?;
+    Ok(translate_bytes(rt.alloc(), to, &file, out, errors))
 }
 
 /// The bytes of the files of a run.
@@ -234,9 +241,40 @@ impl<'a> Purpose<'a> {
             None => Purpose::Run,
         }
     }
+
+    /// Runs an image beside those natives. The answers of a debugger go out as they come.
+    fn run<W: Sink, E: Sink>(
+        self,
+        rt: &HostRuntime,
+        run: &RunWords,
+        files: &RunFiles,
+        boxes: Vec<Box<dyn Native>>,
+        out: &mut W,
+        errors: &mut E,
+    ) -> ExitStatus
+        requires limit { (1 ≤ run.now.limit) × (run.now.limit ≤ 1000000000) }
+        requires owed { OweNothing (λ b. (⟦<dyn Native as Native>⟧ b.vtable).owed b.value) boxes.items }
+    {
+        let (alloc, limit) = (rt.alloc(), run.limit);
+        let (image, script) = (&files.image, &files.script);
+        match self {
+            Purpose::Run => run_bytes(alloc, image, script, limit, boxes, out, errors),
+            Purpose::Explain => run_explained(alloc, image, script, limit, boxes, out, errors),
+            Purpose::ExplainByText(text) => {
+                run_by_text(alloc, image, text, script, limit, boxes, out, errors)
+            }
+            Purpose::Debug => {
+                let mut input = Input::new(rt.stdin());
+                let mut out = Output::new(rt.stdout());
+                debug_bytes(
+                    alloc, image, script, limit, boxes, &mut input, MOST_READS, &mut out, errors,
+                )
+            }
+        }
+    }
 }
 
-/// Makes the natives that the words name, and runs an image beside them. The answers of a debugger go out as they come.
+/// Reads the files of a run, and runs the image beside the natives that the words name.
 fn run_beside<W: Sink, E: Sink>(
     rt: &HostRuntime,
     run: &RunWords,
@@ -246,8 +284,24 @@ fn run_beside<W: Sink, E: Sink>(
 ) -> Result<ExitStatus, Fault>
     requires limit { (1 ≤ run.now.limit) × (run.now.limit ≤ 1000000000) }
 {
-    let alloc = rt.alloc();
     let files = RunFiles::read(rt, run)?;
+    let ended = run_files(rt, purpose, run, &files, out, errors);
+    drop(files);
+    ended
+}
+
+/// Makes the natives that the words name, and runs an image beside them.
+fn run_files<W: Sink, E: Sink>(
+    rt: &HostRuntime,
+    purpose: Purpose,
+    run: &RunWords,
+    files: &RunFiles,
+    out: &mut W,
+    errors: &mut E,
+) -> Result<ExitStatus, Fault>
+    requires limit { (1 ≤ run.now.limit) × (run.now.limit ≤ 1000000000) }
+{
+    let alloc = rt.alloc();
     let mut boxes: Vec<Box<dyn Native>> = Vec::new(alloc);
     for kind in run.natives.as_slice() {
         match *kind {
@@ -256,37 +310,30 @@ fn run_beside<W: Sink, E: Sink>(
             NativeKind::Delay => boxes.push(Box::new(alloc, Delay::new())?)?,
         }
     }
-    let limit = run.limit;
-    let (image, script) = (&files.image, &files.script);
-    Ok(match purpose {
-        Purpose::Run => run_bytes(alloc, image, script, limit, boxes, out, errors),
-        Purpose::Explain => run_explained(alloc, image, script, limit, boxes, out, errors),
-        Purpose::ExplainByText(text) => {
-            run_by_text(alloc, image, text, script, limit, boxes, out, errors)
-        }
-        Purpose::Debug => {
-            let mut input = Input::new(rt.stdin());
-            let mut out = Output::new(rt.stdout());
-            debug_bytes(
-                alloc, image, script, limit, boxes, &mut input, MOST_READS, &mut out, errors,
-            )
-        }
-    })
+    Ok(purpose.run(rt, run, files, boxes, out, errors))
 }
 
 /// Runs an image again and again, each time with one more allocation request refused.
 fn explore_files<W: Sink, E: Sink>(
-    rt: &HostRuntime,
+    alloc: Global,
     run: &RunWords,
     part: Part,
+    files: &RunFiles,
     out: &mut W,
     errors: &mut E,
-) -> Result<ExitStatus, Fault>
+) -> ExitStatus
     requires limit { (1 ≤ run.now.limit) × (run.now.limit ≤ 1000000000) }
 {
-    let alloc = rt.alloc();
-    let files = RunFiles::read(rt, run)?;
+    let limit = run.limit;
     let kinds = run.natives.as_slice();
-    let (image, script) = (&files.image, &files.script);
-    Ok(explore_bytes(alloc, image, script, run.limit, kinds, part, out, errors))
+    explore_bytes(
+        alloc,
+        &files.image,
+        &files.script,
+        limit,
+        kinds,
+        part,
+        out,
+        errors,
+    )
 }

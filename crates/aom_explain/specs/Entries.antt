@@ -1,4 +1,5 @@
 -- What is told of a fault by its kind and number alone.
+use Prim.Native.String.{String}
 use Rattle.std.specs.Prelude.{ℕ, List, [], ◌∷◌, ◌++◌, codes}
 
 -- the texts of an entry: a fault's name, what it means, and what usually mends it
@@ -6,6 +7,9 @@ pub record Texts : Type 0 where
   pub name : List ℕ
   pub meaning : List ℕ
   pub mend : List ℕ
+
+abbrev pub texts : (name meaning mend : String) → Texts
+texts name meaning mend = record { name = codes name; meaning = codes meaning; mend = codes mend }
 
 -- words to the end of a line
 abbrev pub sentence : List ℕ → List ℕ

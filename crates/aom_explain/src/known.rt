@@ -17,6 +17,14 @@ use std::alloc::AllocError;
 /// How many registers and cleanup entries an instruction may name.
 const NAMED: u8 = 16;
 
+/// Where a method stands, with what is known there.
+#[derive(Clone, Copy)]
+struct Standing<'a> {
+    linked: &'a Linked,
+    method: MethodNumber,
+    shape: &'a Shape<'a>,
+}
+
 fn put_class(out: &mut Writer, class: ClassNumber) -> Result<(), AllocError>
     ensures { OnOk result (out.new ≡ out.old ++ class_words class) }
 {
@@ -132,7 +140,8 @@ fn put_register_parts(out: &mut Writer, shape: &Shape<'_>) -> Result<(), AllocEr
     ensures { OnOk result (out.new ≡ out.old ++ register_parts shape.now) }
 {
     for number in 0..NAMED {
-        put_register(out, number, shape.kind_at(number as usize))?;
+        let kind = shape.kind_at(number as usize);
+        put_register(out, number, kind)?;
     }
     Ok(())
 }
@@ -188,49 +197,34 @@ fn field_at(number: u8) -> FieldIndex
 }
 
 #[tactic(auto, using(crate::proofs::Parts::one_part_more), unfolding(crate::specs::Known::field_parts))]
-fn put_field_parts(
-    out: &mut Writer,
-    linked: &Linked,
-    method: MethodNumber,
-    shape: &Shape<'_>,
-) -> Result<(), AllocError>
-    requires { IsSome (method_at linked.now method) }
-    ensures { OnOk result (out.new ≡ out.old ++ field_parts linked.now method shape.now) }
+fn put_field_parts(out: &mut Writer, at: &Standing<'_>) -> Result<(), AllocError>
+    requires { IsSome (method_at at.now.linked.now at.now.method) }
+    ensures { OnOk result (out.new ≡ out.old ++ field_parts at.now.linked.now at.now.method at.now.shape.now) }
 {
     for number in 0..8u8 {
         let field = field_at(number);
-        let declared = field_thing(linked, method, field);
-        put_field(out, field, declared, shape.field(field))?;
+        let declared = field_thing(at.linked, at.method, field);
+        put_field(out, field, declared, at.shape.field(field))?;
     }
     Ok(())
 }
 
-fn put_field_line(
-    out: &mut Writer,
-    linked: &Linked,
-    method: MethodNumber,
-    shape: &Shape<'_>,
-) -> Result<(), AllocError>
-    requires { IsSome (method_at linked.now method) }
-    ensures { OnOk result (out.new ≡ out.old ++ field_line linked.now method shape.now) }
+fn put_field_line(out: &mut Writer, at: &Standing<'_>) -> Result<(), AllocError>
+    requires { IsSome (method_at at.now.linked.now at.now.method) }
+    ensures { OnOk result (out.new ≡ out.old ++ field_line at.now.linked.now at.now.method at.now.shape.now) }
 {
     out.words(b"Known of fields:")?;
-    put_field_parts(out, linked, method, shape)?;
+    put_field_parts(out, at)?;
     out.words(b"\n")
 }
 
 /// Writes what the fields hold that the method works on, if there are any.
-fn put_fields(
-    out: &mut Writer,
-    linked: &Linked,
-    method: MethodNumber,
-    shape: &Shape<'_>,
-) -> Result<(), AllocError>
-    requires { IsSome (method_at linked.now method) }
-    ensures { OnOk result (out.new ≡ out.old ++ fields_line linked.now method shape.now) }
+fn put_fields(out: &mut Writer, at: &Standing<'_>) -> Result<(), AllocError>
+    requires { IsSome (method_at at.now.linked.now at.now.method) }
+    ensures { OnOk result (out.new ≡ out.old ++ fields_line at.now.linked.now at.now.method at.now.shape.now) }
 {
-    match field_thing(linked, method, FieldIndex::FIRST) {
-        Some(_) => put_field_line(out, linked, method, shape),
+    match field_thing(at.linked, at.method, FieldIndex::FIRST) {
+        Some(_) => put_field_line(out, at),
         None => Ok(()),
     }
 }
@@ -370,7 +364,12 @@ pub fn put_known(
     ensures { OnOk result (out.new ≡ out.old ++ known_text linked.now method shape.now) }
 {
     put_registers(out, shape)?;
-    put_fields(out, linked, method, shape)?;
+    let at = Standing {
+        linked,
+        method,
+        shape,
+    };
+    put_fields(out, &at)?;
     put_entries(out, shape)?;
     put_states(out, shape.states())?;
     put_delivery(out, shape.delivery())

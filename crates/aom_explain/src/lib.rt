@@ -30,6 +30,7 @@ pub use known::put_known;
 pub use place::{put_line, put_method};
 pub use source::{put_declared, put_source};
 pub use table::{
-    asm_entry, boot_entry, budget_entry, file_entry, link_entry, load_entry, memory_entry,
-    native_entry, script_entry, text_entry, verify_entry, write_entry,
+    asm_entry, boot_entry, budget_entry, link_entry, load_entry, script_entry, verify_entry,
+    word_entry,
 };
+pub use word::Unnumbered;

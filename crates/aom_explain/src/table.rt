@@ -1,8 +1,8 @@
 //! The entry of each fault.
 ghost use Rattle.std.specs.Prelude.{◌≡◌};
-ghost use Rattle.aom_explain.specs.Table.{asm_texts, boot_texts, budget_texts, file_texts, link_texts, load_texts, memory_texts, native_texts, script_texts, text_texts, verify_texts, write_texts};
+ghost use Rattle.aom_explain.specs.Table.{asm_texts, boot_texts, budget_texts, link_texts, load_texts, script_texts, verify_texts, word_texts};
 
-use crate::{Entry, asm, boot, budget, link, load, script, verify, word};
+use crate::{Entry, Unnumbered, asm, boot, budget, link, load, script, verify, word};
 use aom_budget::BudgetFault;
 use aom_classes::LinkFault;
 use aom_codec::LoadFault;
@@ -10,6 +10,19 @@ use aom_machine::BootFault;
 use aom_script::ScriptFaultKind;
 use aom_shape::Why;
 use aom_text::AsmFaultKind;
+
+/// What is told of a fault that has no number.
+pub fn word_entry(fault: Unnumbered) -> Entry
+    ensures { result ≡ word_texts fault }
+{
+    match fault {
+        Unnumbered::Native => word::NATIVE,
+        Unnumbered::File => word::FILE,
+        Unnumbered::Text => word::TEXT,
+        Unnumbered::Write => word::WRITE,
+        Unnumbered::Memory => word::MEMORY,
+    }
+}
 
 /// What is told of bytes that are no image.
 pub fn load_entry(fault: LoadFault) -> Entry
@@ -125,39 +138,4 @@ pub fn boot_entry(fault: BootFault) -> Entry
         BootFault::TooFewNatives => boot::TOO_FEW_NATIVES,
         BootFault::OutOfMemory => word::MEMORY,
     }
-}
-
-/// What is told of a word that names no native.
-pub fn native_entry() -> Entry
-    ensures { result ≡ native_texts }
-{
-    word::NATIVE
-}
-
-/// What is told of a file that cannot be read.
-pub fn file_entry() -> Entry
-    ensures { result ≡ file_texts }
-{
-    word::FILE
-}
-
-/// What is told of a text that the image beside it is not of.
-pub fn text_entry() -> Entry
-    ensures { result ≡ text_texts }
-{
-    word::TEXT
-}
-
-/// What is told of an output that has failed.
-pub fn write_entry() -> Entry
-    ensures { result ≡ write_texts }
-{
-    word::WRITE
-}
-
-/// What is told of want of memory.
-pub fn memory_entry() -> Entry
-    ensures { result ≡ memory_texts }
-{
-    word::MEMORY
 }

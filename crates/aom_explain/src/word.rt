@@ -2,6 +2,20 @@
 
 use crate::Entry;
 
+/// A fault that is told by its word alone.
+#[derive(Clone, Copy)]
+pub enum Unnumbered {
+    /// A word that names no native.
+    Native,
+    /// A file that cannot be read.
+    File,
+    /// A text that the image beside it is not of.
+    Text,
+    /// An output that has failed.
+    Write,
+    Memory,
+}
+
 pub(crate) const NATIVE: Entry = Entry {
     name: b"native",
     meaning: b"A word behind the script names no native that there is, or there are more than sixteen words.",

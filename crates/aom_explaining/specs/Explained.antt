@@ -18,7 +18,8 @@ use Rattle.aom_explain.specs.Entries.{Texts, entry_text}
 use Rattle.aom_explain.specs.Known.{known_text}
 use Rattle.aom_explain.specs.Places.{line_text, method_text}
 use Rattle.aom_explain.specs.Sources.{declared_text, source_text}
-use Rattle.aom_explain.specs.Table.{asm_texts, boot_texts, budget_texts, file_texts, link_texts, load_texts, memory_texts, native_texts, script_texts, verify_texts, write_texts}
+use Rattle.aom_explain.specs.Table.{asm_texts, boot_texts, budget_texts, link_texts, load_texts, memory_texts, script_texts, verify_texts, word_texts}
+use Rattle.aom_explain.specs.declared.word.Unnumbered.TheVariants as words
 use Rattle.aom_main.specs.Acceptable.{IsSpelled}
 use Rattle.aom_main.specs.declared.faults.Fault.{Fault}
 use Rattle.aom_main.specs.declared.faults.Fault.TheVariants.{Load, Asm, Link, Verify, Budget, Script, Boot, Native, File, Write, Memory}
@@ -37,9 +38,9 @@ texts_of (Verify refusal) = refusal_texts refusal
 texts_of (Budget fault) = budget_texts fault
 texts_of (Script fault) = script_texts fault.kind
 texts_of (Boot fault) = boot_texts fault
-texts_of Native = native_texts
-texts_of File = file_texts
-texts_of Write = write_texts
+texts_of Native = word_texts words.Native
+texts_of File = word_texts words.File
+texts_of Write = word_texts words.Write
 texts_of Memory = memory_texts
 
 -- what the listing of an image says of the place of a refusal

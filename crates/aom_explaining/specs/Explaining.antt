@@ -1,7 +1,8 @@
 -- What a command promises that explains its fault.
 use Rattle.std.specs.Prelude.{ℕ, ◌≡◌, ◌≢◌, List, [], Result, Ok, Err, codes}
 use Rattle.aom_explain.specs.Entries.{entry_text}
-use Rattle.aom_explain.specs.Table.{text_texts}
+use Rattle.aom_explain.specs.Table.{word_texts}
+use Rattle.aom_explain.specs.declared.word.Unnumbered.TheVariants.{Text}
 use Rattle.aom_main.specs.Assembly.{IsFaulty, Makes}
 use Rattle.aom_main.specs.declared.status.ExitStatus.{ExitStatus}
 use Rattle.aom_main.specs.declared.status.ExitStatus.TheVariants.{CallRefused, Fault as Faulty}
@@ -49,7 +50,7 @@ RefusesText text image Memory = Unit {0}
 -- how that is told: the first fault of the text with its line, or the line `text`
 abbrev pub TellsText : (text : List ℕ) → TextFault → ExitStatus → Sent → Type 0
 TellsText text (Asm fault) status errors = (status ≡ CallRefused) × ToldAndExplained (Tells (faults.Asm fault)) (Explains [] text (faults.Asm fault)) errors
-TellsText text Other status errors = (status ≡ CallRefused) × ToldAndExplained (Says (ended (codes "text"))) (λ said. said ≡ entry_text text_texts) errors
+TellsText text Other status errors = (status ≡ CallRefused) × ToldAndExplained (Says (ended (codes "text"))) (λ said. said ≡ entry_text (word_texts Text)) errors
 TellsText text Memory status errors = (status ≡ Faulty) × ToldAndExplained (Tells faults.Memory) (Explains [] [] faults.Memory) errors
 
 -- a command with a text beside its image: the text denotes the image, and the command answers so; or it does not, nothing else is done, and that is told and explained

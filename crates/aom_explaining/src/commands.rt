@@ -1,41 +1,30 @@
 //! The commands.
 ghost use Rattle.std.specs.Prelude.{◌≤◌, [], length};
 ghost use Rattle.aom_natives.specs.Owed.{OweNothing};
-ghost use Rattle.aom_main.specs.Assembly.{AsmAnswers};
-ghost use Rattle.aom_main.specs.Headline.{CheckAnswers, RunAnswers};
-ghost use Rattle.aom_main.specs.Prices.{PricesAnswers};
+ghost use Rattle.aom_main.specs.Headline.{RunAnswers};
+ghost use Rattle.aom_main.specs.Prices.{Checks};
+ghost use Rattle.aom_main.specs.Translations.{Translates};
+ghost use Rattle.aom_main.specs.declared.commands.Translation.TheVariants.{Asm};
 ghost use Rattle.aom_explaining.specs.Explained.{Explains};
 ghost use Rattle.aom_explaining.specs.Explaining.{Explaining};
 
 use crate::telling::answer_explained;
-use aom_main::{ExitStatus, try_asm, try_check, try_prices, try_run};
+use aom_main::{ExitStatus, Translation, try_check, try_run, try_translate};
 use aom_natives::Native;
 use aom_run::Sink;
 use std::alloc::Global;
 
-/// Tells whether an image is accepted, and explains why it is not.
+/// Tells whether an image is accepted, with its figures where they are asked, and explains why it is not.
 pub fn check_explained<W: Sink, E: Sink>(
     alloc: Global,
     image: &[u8],
+    prices: bool,
     out: &mut W,
     errors: &mut E,
 ) -> ExitStatus
-    ensures { Explaining (CheckAnswers image.now (record { before = W.out out.old; now = W.out out.new; failed = W.failed out.new })) (Explains image.now []) (record { before = E.out errors.old; now = E.out errors.new; failed = E.failed errors.new }) result }
+    ensures { Explaining (Checks prices image.now (record { before = W.out out.old; now = W.out out.new; failed = W.failed out.new })) (Explains image.now []) (record { before = E.out errors.old; now = E.out errors.new; failed = E.failed errors.new }) result }
 {
-    let found = try_check(alloc, image, out);
-    answer_explained(alloc, found, image, b"", errors)
-}
-
-/// The same with the image's figures.
-pub fn prices_explained<W: Sink, E: Sink>(
-    alloc: Global,
-    image: &[u8],
-    out: &mut W,
-    errors: &mut E,
-) -> ExitStatus
-    ensures { Explaining (PricesAnswers image.now (record { before = W.out out.old; now = W.out out.new; failed = W.failed out.new })) (Explains image.now []) (record { before = E.out errors.old; now = E.out errors.new; failed = E.failed errors.new }) result }
-{
-    let found = try_prices(alloc, image, out);
+    let found = try_check(alloc, image, prices, out);
     answer_explained(alloc, found, image, b"", errors)
 }
 
@@ -64,8 +53,8 @@ pub fn asm_explained<W: Sink, E: Sink>(
     out: &mut W,
     errors: &mut E,
 ) -> ExitStatus
-    ensures { Explaining (AsmAnswers text.now (record { before = W.out out.old; now = W.out out.new; failed = W.failed out.new })) (Explains [] text.now) (record { before = E.out errors.old; now = E.out errors.new; failed = E.failed errors.new }) result }
+    ensures { Explaining (Translates Asm text.now (record { before = W.out out.old; now = W.out out.new; failed = W.failed out.new })) (Explains [] text.now) (record { before = E.out errors.old; now = E.out errors.new; failed = E.failed errors.new }) result }
 {
-    let found = try_asm(alloc, text, out);
+    let found = try_translate(alloc, Translation::Asm, text, out);
     answer_explained(alloc, found, b"", text, errors)
 }

@@ -3,7 +3,8 @@ ghost use Rattle.std.specs.Prelude.{◌≡◌, ◌++◌, IfOk, OnOk};
 ghost use Rattle.aom_explain.specs.Compared.{compared_text};
 ghost use Rattle.aom_explain.specs.Entries.{entry_text};
 ghost use Rattle.aom_explain.specs.Sources.{declared_text};
-ghost use Rattle.aom_explain.specs.Table.{text_texts};
+ghost use Rattle.aom_explain.specs.Table.{word_texts};
+ghost use Rattle.aom_explain.specs.declared.word.Unnumbered.TheVariants.{Text};
 ghost use Rattle.aom_main.specs.Acceptable.{IsSpelled};
 ghost use Rattle.aom_explaining.specs.Explained.{Adds, AddsBeside, AddsKnown, AddsRefusal, Explains, ExplainsByText, refusal_source, refusal_texts, texts_of};
 
@@ -12,9 +13,9 @@ use crate::stopping::put_known_at;
 use aom_budget::BudgetFault;
 use aom_codec::decode;
 use aom_explain::{
-    Entry, asm_entry, boot_entry, budget_entry, file_entry, link_entry, load_entry, memory_entry,
-    native_entry, put_compared, put_declared, put_entry, put_line, put_method, put_source,
-    script_entry, text_entry, verify_entry, write_entry,
+    Entry, Unnumbered, asm_entry, boot_entry, budget_entry, link_entry, load_entry, put_compared,
+    put_declared, put_entry, put_line, put_method, put_source, script_entry, verify_entry,
+    word_entry,
 };
 use aom_figures::Writer;
 use aom_main::Fault;
@@ -26,7 +27,7 @@ fn refusal_entry(refusal: Refusal) -> Entry
     ensures { result ≡ refusal_texts refusal }
 {
     match refusal {
-        Refusal::OutOfMemory => memory_entry(),
+        Refusal::OutOfMemory => word_entry(Unnumbered::Memory),
         Refusal::Refused { why, .. } => verify_entry(why),
     }
 }
@@ -43,10 +44,10 @@ pub fn entry_of(fault: &Fault) -> Entry
         Fault::Budget(fault) => budget_entry(fault),
         Fault::Script(fault) => script_entry(fault.kind),
         Fault::Boot(fault) => boot_entry(fault),
-        Fault::Native => native_entry(),
-        Fault::File => file_entry(),
-        Fault::Write => write_entry(),
-        Fault::Memory => memory_entry(),
+        Fault::Native => word_entry(Unnumbered::Native),
+        Fault::File => word_entry(Unnumbered::File),
+        Fault::Write => word_entry(Unnumbered::Write),
+        Fault::Memory => word_entry(Unnumbered::Memory),
     }
 }
 
@@ -174,9 +175,9 @@ pub fn explanation_by_text(
 
 /// The explanation of a text that the image beside it is not of.
 pub fn other_explanation(alloc: Global) -> Result<Vec<u8>, AllocError>
-    ensures { IfOk result (λ said. said.items ≡ entry_text text_texts) }
+    ensures { IfOk result (λ said. said.items ≡ entry_text (word_texts Text)) }
 {
     let mut out = Writer::new(alloc);
-    put_entry(&mut out, &text_entry())?;
+    put_entry(&mut out, &word_entry(Unnumbered::Text))?;
     Ok(out.into_text())
 }

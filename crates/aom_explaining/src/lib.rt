@@ -1,8 +1,8 @@
 //! The commands that explain: each answers as it does without, and behind a fault's line says what the fault means.
 //!
-//! `check_explained`, `prices_explained`, `run_explained` and `asm_explained` promise `Explaining` of `specs/Explaining.antt`: the
+//! `check_explained`, `run_explained` and `asm_explained` promise `Explaining` of `specs/Explaining.antt`: the
 //! same status, the same output and the same fault line as the command of `aom_main`, and then the text of `specs/Explained.antt`,
-//! which `aom_explain` writes. Without a fault nothing is explained. `check_by_text`, `prices_by_text` and `run_by_text` take the
+//! which `aom_explain` writes. Without a fault nothing is explained. `check_by_text` and `run_by_text` take the
 //! text too that the image is of, and explain by its lines; they promise `Beside`, and refuse a text that denotes no image or
 //! another one. Nothing here knows why an image is refused, nor where a sink leads.
 #![tactic(auto)]
@@ -15,7 +15,7 @@ mod stopping;
 mod telling;
 mod telling_by_text;
 
-pub use by_text::{check_by_text, prices_by_text, run_by_text};
-pub use commands::{asm_explained, check_explained, prices_explained, run_explained};
+pub use by_text::{check_by_text, run_by_text};
+pub use commands::{asm_explained, check_explained, run_explained};
 pub use explaining::{entry_of, explanation};
 pub use telling::tell_explained;

@@ -3,7 +3,8 @@ ghost use Rattle.std.specs.Prelude.{◌≡◌, codes};
 ghost use Rattle.aom_main.specs.Headline.{Says, Sent, Told};
 ghost use Rattle.aom_transcript.specs.Text.{ended};
 ghost use Rattle.aom_explain.specs.Entries.{entry_text};
-ghost use Rattle.aom_explain.specs.Table.{text_texts};
+ghost use Rattle.aom_explain.specs.Table.{word_texts};
+ghost use Rattle.aom_explain.specs.declared.word.Unnumbered.TheVariants.{Text};
 ghost use Rattle.aom_explaining.specs.Explained.{ExplainsByText};
 ghost use Rattle.aom_explaining.specs.Explaining.{AnsweredOrExplained, TellsText, ToldAndExplained};
 
@@ -74,7 +75,7 @@ pub fn refuse_text<E: Sink>(
 
 /// Tells that a text denotes another image, and explains it.
 fn tell_other<E: Sink>(alloc: Global, errors: &mut E)
-    ensures { ToldAndExplained (Says (ended (codes "text"))) (λ said. said ≡ entry_text text_texts) (record { before = E.out errors.old; now = E.out errors.new; failed = E.failed errors.new }) }
+    ensures { ToldAndExplained (Says (ended (codes "text"))) (λ said. said ≡ entry_text (word_texts Text)) (record { before = E.out errors.old; now = E.out errors.new; failed = E.failed errors.new }) }
 {
     write_text(errors, b"text\n");
     explain(other_explanation(alloc), errors);

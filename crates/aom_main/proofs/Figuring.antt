@@ -1,9 +1,5 @@
--- A fault before budgets is none of theirs, and what was sent of an image's figures is what the status answers.
+-- What was sent of an image's figures is what the status answers.
 use Rattle.std.proofs.Common.{◌≡◌, ◌⊎◌, ◌∙◌, ℕ, List, Option, Some, None, ap, refl, sym, subst, inl, inr}
-use Rattle.aom_codec.specs.declared.fault.LoadFault.{LoadFault}
-use Rattle.aom_codec.specs.declared.fault.LoadFault.TheVariants as loads
-use Rattle.aom_classes.specs.declared.fault.LinkFault.{LinkFault}
-use Rattle.aom_classes.specs.declared.fault.LinkFault.TheVariants as links
 use Rattle.aom_image.specs.Image.{Image}
 use Rattle.aom_classes.specs.Linked.{IsLinked}
 use Rattle.aom_rules.specs.Typing.{Typing, IsTyped}
@@ -19,23 +15,11 @@ use Rattle.aom_figures.specs.Text.{figures_text}
 use Rattle.aom_run.specs.Runs.{after}
 use Rattle.aom_main.specs.declared.status.ExitStatus.{ExitStatus}
 use Rattle.aom_main.specs.declared.faults.Fault.{Fault}
-use Rattle.aom_main.specs.declared.faults.Fault.TheVariants as faults
-use Rattle.aom_main.specs.Status.{of_link, of_load}
-use Rattle.aom_main.specs.Acceptable.{IsSpelled, IsAcceptable, RefusesOrWants}
+use Rattle.aom_main.specs.Acceptable.{IsSpelled, IsAcceptable}
 use Rattle.aom_main.specs.Headline.{Sent, IsRefused, IsSilent, Says, Told}
-use Rattle.aom_main.specs.Prices.{AreTold, IsBeyond, IsEarly, IsFigured, IsPriced, IsUnpriced, IsWithin, IsWritten, PricesAnswers, Shown}
+use Rattle.aom_main.specs.Prices.{AreTold, IsBeyond, IsEarly, IsFigured, IsPriced, IsUnpriced, IsWithin, IsWritten, PricesAnswers, Shown, StopsEarly}
 use Rattle.aom_main.proofs.Telling.{turned}
 use Rattle.aom_main.specs.Prices.PricesBreaks.{accepted_fails, refused_fails}
-
--- ---- faults before budgets
-
-pub load_early : (fault : LoadFault) → IsEarly (of_load fault)
-load_early loads.OutOfMemory = tt
-load_early _ = tt
-
-pub link_early : (fault : LinkFault) → IsEarly (of_link fault)
-link_early links.OutOfMemory = tt
-link_early _ = tt
 
 -- ---- what was sent
 
@@ -54,10 +38,9 @@ shown bytes text (Some fault) out errors status written (inr fails) = subst (Pri
 pub no_figures : (bytes : List ℕ) (fault : Fault) (out errors : Sent) → IsEarly fault → (refused : IsRefused bytes out errors) → refused.fault ≡ fault → IsUnpriced bytes out errors
 no_figures bytes fault out errors early refused is = record { refused = refused; early = subst IsEarly (sym is) early }
 
-pub unpriced : (bytes : List ℕ) (fault : Fault) (out errors : Sent) (status : ExitStatus) → RefusesOrWants bytes fault → IsEarly fault
-    → ((p : Image) → IsSpelled bytes p → IsAcceptable p → fault ≡ faults.Memory) → IsSilent out → Told fault status errors → PricesAnswers bytes out errors status
-unpriced bytes fault out errors status refuses early complete silent told =
-    turned (PricesAnswers bytes out errors) bytes fault out errors status refuses complete silent told (λ refused is. inr (no_figures bytes fault out errors early refused is)) inl
+pub unpriced : (bytes : List ℕ) (fault : Fault) (out errors : Sent) (status : ExitStatus) → StopsEarly bytes fault → IsSilent out → Told fault status errors → PricesAnswers bytes out errors status
+unpriced bytes fault out errors status stops silent told =
+    turned (PricesAnswers bytes out errors) bytes fault out errors status stops.refuses stops.complete silent told (λ refused is. inr (no_figures bytes fault out errors stops.early refused is)) inl
 
 -- ---- a checked image
 

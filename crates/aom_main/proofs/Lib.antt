@@ -6,5 +6,5 @@ pub mod Telling
 pub mod Tries
 pub mod Meaning
 pub mod Figuring
-pub mod Graphing
+pub mod Translated
 pub mod Untelling

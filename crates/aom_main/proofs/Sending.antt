@@ -1,14 +1,10 @@
 -- What is known of the bytes that were sent is what the status answers.
-use Rattle.std.proofs.Common.{◌≡◌, List, ℕ, true, sym, subst, inl, inr, arith}
+use Rattle.std.proofs.Common.{◌≡◌, List, ℕ, true, sym, subst, inl, inr}
 use Rattle.aom_run.specs.Runs.{after}
 use Rattle.aom_main.specs.declared.status.ExitStatus.{ExitStatus}
 use Rattle.aom_main.specs.declared.status.ExitStatus.TheVariants.{Done, Fault as Faulty}
-use Rattle.aom_main.specs.declared.faults.Fault.{Fault}
 use Rattle.aom_main.specs.declared.faults.Fault.TheVariants as faults
 use Rattle.aom_main.specs.Headline.{Sent, Sends, Says, IsSilent, Tells, Told, Accepts, CheckAnswers, WriteFails, Writes, accepted_text}
-use Rattle.aom_main.specs.Assembly.{Lists, Makes, RefusesBytes, RefusesText, AsmAnswers, DisAnswers}
-
--- ---- a text that was sent
 
 -- the output failed, and that is told
 pub cut : (text : List ℕ) (out errors : Sent) (status : ExitStatus) → out.failed ≡ true → Says text out → Told faults.Write status errors → Sends text status out errors
@@ -28,19 +24,3 @@ pub checked : (bytes : List ℕ) (out errors : Sent) (status : ExitStatus) → A
 checked bytes out errors status accepts sends =
     sent (CheckAnswers bytes out errors) accepted_text out errors status sends (λ out silent. (accepts, out, silent))
     (λ failed says tells. inr (record { accepts = accepts; failed = failed; says = says; tells = tells }))
-
-pub assembled : (text bytes : List ℕ) (out errors : Sent) (status : ExitStatus) → Makes text bytes → Sends bytes status out errors → AsmAnswers text out errors status
-assembled text bytes out errors status makes sends = due_sent (AsmAnswers text out errors) bytes out errors status (Makes text) makes sends (λ all. all) inr
-
-pub listed : (bytes text : List ℕ) (out errors : Sent) (status : ExitStatus) → Lists bytes text → Sends text status out errors → DisAnswers bytes out errors status
-listed bytes text out errors status lists sends = due_sent (DisAnswers bytes out errors) text out errors status (Lists bytes) lists sends (λ all. all) inr
-
--- ---- a fault that was told
-
--- bytes that are no image, or want of memory
-pub unlisted : (bytes : List ℕ) (fault : Fault) (out errors : Sent) (status : ExitStatus) → RefusesBytes bytes fault → IsSilent out → Told fault status errors → DisAnswers bytes out errors status
-unlisted bytes fault out errors status refuses silent told = grind arith
-
--- a text that denotes no image, or want of memory
-pub unassembled : (text : List ℕ) (fault : Fault) (out errors : Sent) (status : ExitStatus) → RefusesText text fault → IsSilent out → Told fault status errors → AsmAnswers text out errors status
-unassembled text fault out errors status refuses silent told = grind arith

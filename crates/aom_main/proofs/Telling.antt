@@ -1,10 +1,10 @@
 -- What is known of an outcome, of a script and of the image is what the status answers.
-use Rattle.std.proofs.Common.{◌≡◌, ◌↔◌, ◌<◌, ◌≤◌, ◌∙◌, Bool, List, None, Option, ℕ, Ok, true, false, ap, arith, pos, refl, sym, subst, inl, inr}
+use Rattle.std.proofs.Common.{◌≡◌, ◌↔◌, ◌<◌, ◌≤◌, ◌∙◌, Bool, List, None, Option, ℕ, Result, Ok, Err, true, false, ap, arith, pos, refl, sym, subst, inl, inr}
 use Rattle.aom_transcript.specs.declared.line.Line.{Line}
 use Rattle.aom_sound.specs.Places.{count_cells}
 use Rattle.aom_sound.specs.State.{State}
 use Rattle.aom_sound.specs.World.{Outside, Reaches, Run_of, boot_state}
-use Rattle.std.specs.Prelude.{◌⊎◌}
+use Rattle.std.specs.Prelude.{◌⊎◌, IfErr, IfOk}
 use Rattle.aom_image.specs.Image.{Image}
 use Rattle.aom_classes.specs.Linked.{IsLinked}
 use Rattle.aom_rules.specs.Typing.{Typing}
@@ -40,7 +40,7 @@ use Rattle.aom_machine.specs.declared.fault.BootFault.{BootFault}
 use Rattle.aom_machine.specs.declared.fault.BootFault.TheVariants as boots
 use Rattle.aom_main.specs.Status.{of_boot, of_script, of_script_kind, status_of}
 use Rattle.aom_main.specs.Acceptable.{IsSpelled, IsAcceptable, Refuses, RefusesOrWants as RefusesImage}
-use Rattle.aom_main.specs.Headline.{Sent, outside_of, IsSilent, Told, Shows, Accepts, AcceptedAnswers, AllRunWell, CheckAnswers, Ends, EndsAs, HasNatives, ImageWantsMemory, IsNoScript, IsOnly, IsRefused, RefusesBoot, RunAnswers, Runs, Shown, Tells, Transcribed}
+use Rattle.aom_main.specs.Headline.{Sent, outside_of, IsSilent, Told, Shows, Accepts, AcceptedAnswers, AllRunWell, CheckAnswers, Ends, EndsAs, EndsOrFails, HasNatives, ImageWantsMemory, IsNoScript, IsOnly, IsRefused, RefusesBoot, RunAnswers, Runs, Shown, Tells, Transcribed}
 use Rattle.aom_exec.proofs.Affording.{affords}
 use Rattle.aom_main.specs.Explored.{AcceptedExplores, BreaksOff, ExploreAnswers, Explored, RefusesTry}
 use Rattle.aom_main.specs.Explored.ExploreBreaks.{script_wants_memory as wants_for_script, machine_wants_memory as wants_for_machine, output_fails as fails}
@@ -139,16 +139,22 @@ module _ (bytes text : List ℕ) (limit natives : ℕ) (p : Image) (script : Scr
   of_it = runs_of bytes text limit natives p script acceptable well spelled denotes
 
   -- a run of an accepted image under a script ended so
-  pub ran_of : (outcome : Outcome) (status : ExitStatus) → HasNatives p natives → Shows p (outside_of script limit natives) outcome out → Ends outcome status errors → AcceptedAnswers bytes text limit natives out errors status
+  ran_of : (outcome : Outcome) (status : ExitStatus) → HasNatives p natives → Shows p (outside_of script limit natives) outcome out → Ends outcome status errors → AcceptedAnswers bytes text limit natives out errors status
   ran_of outcome status enough shows ends = ran bytes text limit natives of_it out errors outcome status enough shows ends
 
   -- its machine did not boot, and that is told
-  pub unbooted : (fault : Fault) (status : ExitStatus) → RefusesBoot p natives fault → IsSilent out → Told fault status errors → AcceptedAnswers bytes text limit natives out errors status
+  unbooted : (fault : Fault) (status : ExitStatus) → RefusesBoot p natives fault → IsSilent out → Told fault status errors → AcceptedAnswers bytes text limit natives out errors status
   unbooted (faults.Boot boots.TooFewNatives) status few silent told =
       let accepts : Accepts bytes = record { image = p; spelled = spelled; acceptable = acceptable } in
       subst (AcceptedAnswers bytes text limit natives out errors) (sym told.0) (inr (record { silent = silent; accepts = accepts; script = script; denotes = denotes; few = few; tells = told.1 }))
   unbooted faults.Memory status enough silent told = subst (AcceptedAnswers bytes text limit natives out errors) (sym told.0) (machine_wants_memory silent of_it enough told.1)
   unbooted _ status refused silent told = absurd refused
+
+  -- a run that may not have been made
+  pub ended_so : (found : Result Outcome Fault) (status : ExitStatus) → IfOk found (λ _. HasNatives p natives) → IfOk found (λ outcome. Shows p (outside_of script limit natives) outcome out)
+      → IfErr found (λ fault. RefusesBoot p natives fault × IsSilent out) → EndsOrFails found status errors → AcceptedAnswers bytes text limit natives out errors status
+  ended_so (Ok outcome) status enough shows refused ends = ran_of outcome status enough shows ends
+  ended_so (Err fault) status enough shows refused told = unbooted fault status refused.0 refused.1 told
 
 -- ---- a text that is no script
 

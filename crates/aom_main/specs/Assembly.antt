@@ -1,5 +1,5 @@
--- What `asm` and `dis` promise of their sinks and their status, from a text to an image's bytes and back.
-use Rattle.std.specs.Prelude.{ℕ, ◌≡◌, ◌≤◌, ◌⊎◌, ◌^◌, List, length, Some, Err}
+-- A text and the bytes of the image that it denotes, bytes and their listing, and why there is none.
+use Rattle.std.specs.Prelude.{ℕ, ◌≡◌, ◌≤◌, ◌^◌, List, length, Some, Err}
 use Rattle.aom_image.specs.Image.{Image}
 use Rattle.aom_codec.specs.Spelling.{spell}
 use Rattle.aom_codec.specs.Format.{first_fault}
@@ -9,12 +9,9 @@ use Rattle.aom_asm.specs.Denoted.{denoted}
 use Rattle.aom_listing.specs.Listing.{listing_text}
 use Rattle.aom_readback.specs.Texts.{AllSayQuiet}
 use Rattle.aom_meaning.specs.Denotes.{Denotes}
-use Rattle.aom_main.specs.declared.status.ExitStatus.{ExitStatus}
-use Rattle.aom_main.specs.declared.status.ExitStatus.TheVariants.{Done, ImageRefused, Fault as Faulty}
 use Rattle.aom_main.specs.declared.faults.Fault.{Fault}
 use Rattle.aom_main.specs.declared.faults.Fault.TheVariants.{Asm, Load, Memory}
 use Rattle.aom_main.specs.Acceptable.{IsSpelled}
-use Rattle.aom_main.specs.Headline.{ImageWantsMemory, RefusedFor, Sent, WriteFails, Writes}
 
 -- the bytes spell the image that the text denotes
 pub record Makes (text bytes : List ℕ) : Type 0 where
@@ -33,13 +30,6 @@ RefusesText text (Asm fault) = IsFaulty text fault
 RefusesText text Memory = Unit {0}
 RefusesText text _ = ⊥
 
--- what each status says of a call of `asm`
-abbrev pub AsmAnswers : List ℕ → Sent → Sent → ExitStatus → Type 0
-AsmAnswers text out errors Done = Writes (Makes text) out errors
-AsmAnswers text out errors ImageRefused = RefusedFor Asm (IsFaulty text) out errors
-AsmAnswers text out errors Faulty = ImageWantsMemory out errors ⊎ WriteFails (Makes text) out errors
-AsmAnswers text out errors _ = ⊥
-
 -- the text is the listing of the image that the bytes spell; and it denotes that image, where each method that is quiet by its role says so and the text is not too long
 pub record Lists (bytes text : List ℕ) : Type 0 where
   pub image : Image
@@ -52,10 +42,3 @@ abbrev pub RefusesBytes : List ℕ → Fault → Type 0
 RefusesBytes bytes (Load fault) = first_fault bytes ≡ Some fault
 RefusesBytes bytes Memory = Unit {0}
 RefusesBytes bytes _ = ⊥
-
--- what each status says of a call of `dis`
-abbrev pub DisAnswers : List ℕ → Sent → Sent → ExitStatus → Type 0
-DisAnswers bytes out errors Done = Writes (Lists bytes) out errors
-DisAnswers bytes out errors ImageRefused = RefusedFor Load (λ fault. first_fault bytes ≡ Some fault) out errors
-DisAnswers bytes out errors Faulty = ImageWantsMemory out errors ⊎ WriteFails (Lists bytes) out errors
-DisAnswers bytes out errors _ = ⊥

@@ -1,15 +1,11 @@
--- What `dot` promises of its sinks and its status, from bytes to bytes.
-use Rattle.std.specs.Prelude.{ℕ, ◌≡◌, ◌⊎◌, List}
+-- Bytes and the graph of the image that they are.
+use Rattle.std.specs.Prelude.{ℕ, ◌≡◌, List}
 use Rattle.aom_image.specs.Image.{Image}
 use Rattle.aom_classes.specs.Linked.{IsLinked}
 use Rattle.aom_rules.specs.Typing.{Typing, IsTyped}
 use Rattle.aom_budget.specs.Figures.{Figures, AreFigures}
 use Rattle.aom_dot.specs.Dot.{dot_text}
-use Rattle.aom_main.specs.declared.status.ExitStatus.{ExitStatus}
-use Rattle.aom_main.specs.declared.status.ExitStatus.TheVariants.{Done, ImageRefused, Fault as Faulty}
 use Rattle.aom_main.specs.Acceptable.{IsSpelled}
-use Rattle.aom_main.specs.Headline.{ImageWantsMemory, Sent, WriteFails, Writes}
-use Rattle.aom_main.specs.Prices.{IsUnpriced}
 
 -- the text is the graph of an image with its figures
 pub record IsGraph (p : Image) (text : List ℕ) : Type 0 where
@@ -25,10 +21,3 @@ pub record IsDrawn (bytes text : List ℕ) : Type 0 where
   pub typing : Typing
   pub typed : IsTyped image typing
   pub graph : IsGraph image text
-
--- what each status says of a call of `dot`: an image is refused for what stands before its budgets alone
-abbrev pub DotAnswers : List ℕ → Sent → Sent → ExitStatus → Type 0
-DotAnswers bytes out errors Done = Writes (IsDrawn bytes) out errors
-DotAnswers bytes out errors ImageRefused = IsUnpriced bytes out errors
-DotAnswers bytes out errors Faulty = ImageWantsMemory out errors ⊎ WriteFails (IsDrawn bytes) out errors
-DotAnswers bytes out errors _ = ⊥

@@ -1,5 +1,5 @@
 -- What a call promises of its sinks and its status, from bytes to bytes.
-use Rattle.std.specs.Prelude.{ℕ, ◌≡◌, ◌<◌, ◌≤◌, ◌⊎◌, Bool, true, false, List, Option, take, codes, Ok, Err}
+use Rattle.std.specs.Prelude.{ℕ, ◌≡◌, ◌<◌, ◌≤◌, ◌⊎◌, Bool, true, false, List, Option, take, codes, Result, Ok, Err}
 use Rattle.aom_image.specs.Image.{Image}
 use Rattle.aom_sound.specs.Places.{count_cells}
 use Rattle.aom_sound.specs.State.{State}
@@ -11,12 +11,13 @@ use Rattle.aom_transcript.specs.declared.line.Ending.TheVariants as endings
 use Rattle.aom_determined.specs.Hearing.{Follows, Oracle}
 use Rattle.aom_determined.specs.Laws.{IsDetermined}
 use Rattle.aom_machine.specs.declared.fault.BootFault.TheVariants.{TooFewNatives}
+use Rattle.aom_machine.specs.declared.machine.Machine.{Machine}
 use Rattle.aom_transcript.specs.Text.{ended, transcript}
 use Rattle.aom_ranks.specs.Runs.{RunsWell}
 use Rattle.aom_steps.specs.Laws.{KeepsBudget}
 use Rattle.aom_run.specs.declared.outcome.Outcome.{Outcome}
 use Rattle.aom_run.specs.declared.outcome.Outcome.TheVariants as outcomes
-use Rattle.aom_run.specs.Runs.{after, CutShort}
+use Rattle.aom_run.specs.Runs.{after, CutShort, IsFresh}
 use Rattle.aom_script.specs.Script.{Script, WantsMemory, denoted}
 use Rattle.aom_script.specs.declared.fault.ScriptFault.{ScriptFault}
 use Rattle.aom_main.specs.declared.status.ExitStatus.{ExitStatus}
@@ -121,6 +122,11 @@ Ends outcomes.Limit status errors = (status ≡ Unfinished) × IsSilent errors
 Ends (outcomes.Error answer) status errors = (status ≡ Broken) × IsSilent errors
 Ends outcomes.WriteFault status errors = Told faults.Write status errors
 
+-- the same of one that may not have been made, whose fault is told then
+abbrev pub EndsOrFails : Result Outcome Fault → ExitStatus → Sent → Type 0
+EndsOrFails (Ok outcome) status errors = Ends outcome status errors
+EndsOrFails (Err fault) status errors = Told fault status errors
+
 -- the bytes are an accepted image
 pub record Accepts (bytes : List ℕ) : Type 0 where
   pub image : Image
@@ -132,6 +138,10 @@ pub record AllRunWell (p : Image) : Type 0 where
   pub each : (bytes : List ℕ) → IsSpelled bytes p → (outside : Outside) → RunsWell p outside
   pub within : (bytes : List ℕ) → IsSpelled bytes p → (outside : Outside) → KeepsBudget p outside
   pub one : (bytes : List ℕ) → IsSpelled bytes p → (outside : Outside) → IsDetermined p outside
+
+-- a machine of that image that has not run
+abbrev pub IsFreshOf : {X : Type 0} {B : X → Type 0} → Image → Machine X B → Type 0
+IsFreshOf p m = (m.core.image ≡ p) × IsFresh m
 
 -- what a script lets come from outside, beside so many natives, and the limit of the call
 abbrev pub outside_of : Script → (limit natives : ℕ) → Outside

@@ -5,4 +5,5 @@ pub mod Explored
 pub mod Status
 pub mod Prices
 pub mod Drawn
+pub mod Translations
 pub mod Untold

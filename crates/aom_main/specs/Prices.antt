@@ -1,5 +1,5 @@
 -- What `check --prices` promises of its sinks and its status, from bytes to bytes.
-use Rattle.std.specs.Prelude.{ℕ, ◌≡◌, ◌⊎◌, true, List, ◌++◌, Option, Some, None}
+use Rattle.std.specs.Prelude.{ℕ, ◌≡◌, ◌⊎◌, Bool, true, false, List, ◌++◌, Option, Some, None}
 use Rattle.aom_image.specs.Image.{Image}
 use Rattle.aom_classes.specs.Linked.{IsLinked}
 use Rattle.aom_rules.specs.Typing.{Typing, IsTyped}
@@ -14,9 +14,9 @@ use Rattle.aom_run.specs.Runs.{after}
 use Rattle.aom_main.specs.declared.status.ExitStatus.{ExitStatus}
 use Rattle.aom_main.specs.declared.status.ExitStatus.TheVariants.{Done, ImageRefused, Fault as Faulty}
 use Rattle.aom_main.specs.declared.faults.Fault.{Fault}
-use Rattle.aom_main.specs.declared.faults.Fault.TheVariants.{Budget, Write}
-use Rattle.aom_main.specs.Acceptable.{IsSpelled, IsAcceptable}
-use Rattle.aom_main.specs.Headline.{Sent, IsSilent, Says, Tells, ImageWantsMemory, IsRefused, accepted_text}
+use Rattle.aom_main.specs.declared.faults.Fault.TheVariants.{Budget, Memory, Write}
+use Rattle.aom_main.specs.Acceptable.{IsSpelled, IsAcceptable, RefusesOrWants}
+use Rattle.aom_main.specs.Headline.{CheckAnswers, Sent, IsSilent, Says, Tells, ImageWantsMemory, IsRefused, accepted_text}
 
 -- the bytes are an image of which its budgets and its limits alone are left to look at, and the text tells its figures
 pub record IsFigured (bytes text : List ℕ) : Type 0 where
@@ -61,6 +61,12 @@ abbrev pub IsEarly : Fault → Type 0
 IsEarly (Budget fault) = ⊥
 IsEarly _ = Unit {0}
 
+-- the bytes are no image of which its budgets alone are left to look at: that is no accepted one either, and the fault says why. Want of memory is no reason
+pub record StopsEarly (bytes : List ℕ) (fault : Fault) : Type 0 where
+  pub refuses : RefusesOrWants bytes fault
+  pub early : IsEarly fault
+  pub complete : (p : Image) → IsSpelled bytes p → IsAcceptable p → fault ≡ Memory
+
 -- the image is refused for its budgets or its limits, its figures went out, and the errors say why
 pub record IsOverBudget (bytes : List ℕ) (out errors : Sent) : Type 0 where
   pub text : List ℕ
@@ -85,6 +91,10 @@ PricesAnswers bytes out errors Done = (text : List ℕ) × IsWithin bytes text �
 PricesAnswers bytes out errors ImageRefused = IsOverBudget bytes out errors ⊎ IsUnpriced bytes out errors
 PricesAnswers bytes out errors Faulty = ImageWantsMemory out errors ⊎ PricesBreaks bytes out errors
 PricesAnswers bytes out errors _ = ⊥
+
+-- and what each says of a call of `check`, with the image's figures or without
+abbrev pub Checks : Bool → List ℕ → Sent → Sent → ExitStatus → Type 0
+Checks prices = elim prices [ true ↦ PricesAnswers | false ↦ CheckAnswers ]
 
 -- how a text goes out of which a fault is told, if there is one
 abbrev pub Passes : List ℕ → Option BudgetFault → ExitStatus → Sent → Sent → Type 0

@@ -31,12 +31,7 @@ use Rattle.aom_main.specs.declared.faults.Fault.TheVariants.{Load, Asm, Link, Ve
 
 -- the number that the system gets
 abbrev pub status_number : ExitStatus → ℕ
-status_number statuses.Done = 0
-status_number statuses.ImageRefused = 1
-status_number statuses.CallRefused = 2
-status_number statuses.Unfinished = 3
-status_number statuses.Broken = 4
-status_number statuses.Fault = 5
+status_number status = elim status [ statuses.Done ↦ 0 | statuses.ImageRefused ↦ 1 | statuses.CallRefused ↦ 2 | statuses.Unfinished ↦ 3 | statuses.Broken ↦ 4 | statuses.Fault ↦ 5 ]
 
 -- the line by which a fault is told, without its line feed
 abbrev pub fault_line : Fault → List ℕ
@@ -54,49 +49,39 @@ fault_line Memory = codes "memory"
 
 -- the status that goes with it
 abbrev pub status_of : Fault → ExitStatus
-status_of (Load fault) = statuses.ImageRefused
-status_of (Asm fault) = statuses.ImageRefused
-status_of (Link fault) = statuses.ImageRefused
-status_of (Verify refusal) = statuses.ImageRefused
-status_of (Budget fault) = statuses.ImageRefused
 status_of (Script fault) = statuses.CallRefused
 status_of (Boot fault) = statuses.CallRefused
 status_of Native = statuses.CallRefused
 status_of File = statuses.Fault
 status_of Write = statuses.Fault
 status_of Memory = statuses.Fault
+status_of _ = statuses.ImageRefused
 
 -- want of memory is one fault, wherever it comes
 abbrev pub of_load : LoadFault → Fault
-of_load loads.OutOfMemory = Memory
-of_load fault = Load fault
+of_load fault = elim fault [ loads.OutOfMemory ↦ Memory | other ↦ Load other ]
 
+abbrev pub of_link : LinkFault → Fault
+of_link fault = elim fault [ links.OutOfMemory ↦ Memory | other ↦ Link other ]
+
+abbrev pub of_refusal : Refusal → Fault
+of_refusal refusal = elim refusal [ refusals.OutOfMemory ↦ Memory | other ↦ Verify other ]
+
+abbrev pub of_budget : BudgetFault → Fault
+of_budget fault = elim fault [ budgets.OutOfMemory ↦ Memory | other ↦ Budget other ]
+
+abbrev pub of_boot : BootFault → Fault
+of_boot fault = elim fault [ boots.OutOfMemory ↦ Memory | other ↦ Boot other ]
+
+-- that of a text or a script comes with its line
 abbrev pub of_asm_kind : AsmFault → AsmFaultKind → Fault
-of_asm_kind fault texts.OutOfMemory = Memory
-of_asm_kind fault kind = Asm fault
+of_asm_kind fault kind = elim kind [ texts.OutOfMemory ↦ Memory | _ ↦ Asm fault ]
 
 abbrev pub of_asm : AsmFault → Fault
 of_asm fault = of_asm_kind fault fault.kind
 
-abbrev pub of_link : LinkFault → Fault
-of_link links.OutOfMemory = Memory
-of_link fault = Link fault
-
-abbrev pub of_refusal : Refusal → Fault
-of_refusal refusals.OutOfMemory = Memory
-of_refusal refusal = Verify refusal
-
-abbrev pub of_budget : BudgetFault → Fault
-of_budget budgets.OutOfMemory = Memory
-of_budget fault = Budget fault
-
 abbrev pub of_script_kind : ScriptFault → ScriptFaultKind → Fault
-of_script_kind fault kinds.OutOfMemory = Memory
-of_script_kind fault kind = Script fault
+of_script_kind fault kind = elim kind [ kinds.OutOfMemory ↦ Memory | _ ↦ Script fault ]
 
 abbrev pub of_script : ScriptFault → Fault
 of_script fault = of_script_kind fault fault.kind
-
-abbrev pub of_boot : BootFault → Fault
-of_boot boots.OutOfMemory = Memory
-of_boot fault = Boot fault

@@ -3,7 +3,7 @@ ghost use Rattle.std.specs.Prelude.{◌≡◌, IfOk, IfErr};
 ghost use Rattle.aom_image.specs.Image.{Image};
 ghost use Rattle.aom_classes.specs.Linked.{IsLinked};
 ghost use Rattle.aom_main.specs.Acceptable.{IsSpelled, IsAcceptable, RefusesOrWants};
-ghost use Rattle.aom_main.specs.Prices.{IsEarly};
+ghost use Rattle.aom_main.specs.Prices.{StopsEarly};
 
 use crate::Fault;
 use aom_budget::{Accepted, accept};
@@ -30,10 +30,8 @@ pub fn accept_bytes(alloc: Global, bytes: &[u8]) -> Result<Accepted, Fault>
 #[tactic(auto, using(crate::proofs::Refusing::no_value))]
 pub fn link_bytes(alloc: Global, bytes: &[u8]) -> Result<Linked, Fault>
     ensures ok { IfOk result (λ linked. IsSpelled bytes.now linked × IsLinked linked) }
-    ensures err { IfErr result (λ fault. RefusesOrWants bytes.now fault) }
-    ensures early { IfErr result (λ fault. IsEarly fault) }
+    ensures err { IfErr result (λ fault. StopsEarly bytes.now fault) }
     ensures only { (p : Image) → IsSpelled bytes.now p → IfOk result (λ linked. linked ≡ p) }
-    ensures complete { (p : Image) → IsSpelled bytes.now p → IsAcceptable p → IfErr result (λ fault. fault ≡ Fault.Memory) }
 {
     let image = decode(alloc, bytes)?;
     Ok(link(alloc, image)?)

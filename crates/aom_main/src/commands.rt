@@ -1,21 +1,23 @@
 //! The commands, over the bytes of files.
-ghost use Rattle.std.specs.Prelude.{ℕ, ◌≡◌, ◌≤◌, List, Ok, length};
+ghost use Rattle.std.specs.Prelude.{ℕ, ◌≤◌, IfErr, IfOk, List, length};
 ghost use Rattle.aom_natives.specs.Owed.{OweNothing};
-ghost use Rattle.aom_script.specs.Script.{IsTimely, denoted};
 ghost use Rattle.aom_main.specs.Acceptable.{IsSpelled};
-ghost use Rattle.aom_main.specs.Assembly.{AsmAnswers, DisAnswers};
-ghost use Rattle.aom_main.specs.Headline.{AcceptedAnswers, Ends, RunAnswers, CheckAnswers, Sends};
+ghost use Rattle.aom_main.specs.Headline.{AcceptedAnswers, EndsOrFails, RunAnswers, CheckAnswers, Sends};
+ghost use Rattle.aom_main.specs.Prices.{Checks};
+ghost use Rattle.aom_main.specs.Translations.{IsTranslation, RefusesFile, Translates};
 ghost use Rattle.aom_main.specs.Untold.{Untold};
 
 use crate::accepting::accept_bytes;
 use crate::assembling::{assemble_bytes, disassemble_bytes};
+use crate::drawing::draw_bytes;
 use crate::faults::answer;
+use crate::pricing::try_prices;
 use crate::running::{run_accepted, runs_well};
-use crate::{ExitStatus, Fault, tell};
+use crate::{ExitStatus, Fault};
 use aom_budget::Accepted;
 use aom_natives::Native;
 use aom_run::{Outcome, Sink, write_text};
-use aom_script::{Script, read_script};
+use aom_script::read_script;
 use std::alloc::Global;
 
 /// Runs an image under a script beside those natives, and writes the transcript. The image is looked at before the script, and
@@ -51,7 +53,11 @@ pub fn try_run<W: Sink>(
     ensures { Untold (RunAnswers image.now script.now limit (length boxes.items) (record { before = W.out out.old; now = W.out out.new; failed = W.failed out.new })) result }
 {
     match accept_bytes(alloc, image) {
-        Ok(accepted) => run_text(alloc, &accepted, script, limit, boxes, out),
+        Ok(accepted) => {
+            let ended = run_text(alloc, &accepted, script, limit, boxes, out);
+            drop(accepted);
+            ended
+        }
         Err(refusal) => Err(refusal),
     }
 }
@@ -70,39 +76,18 @@ fn run_text<W: Sink>(
     ensures { (bytes : List ℕ) → IsSpelled bytes accepted.now → Untold (AcceptedAnswers bytes text.now limit (length boxes.items) (record { before = W.out out.old; now = W.out out.new; failed = W.failed out.new })) result }
 {
     accepted.facts();
+    runs_well(accepted);
     match read_script(alloc, text) {
-        Ok(script) => run_script(alloc, accepted, &script, limit, boxes, out),
+        Ok(script) => end(run_accepted(alloc, accepted, &script, limit, boxes, out)),
         Err(fault) => Err(Fault::from(fault)),
     }
 }
 
-/// Runs an accepted image under a script.
-fn run_script<W: Sink>(
-    alloc: Global,
-    accepted: &Accepted,
-    script: &Script,
-    limit: u32,
-    boxes: Vec<Box<dyn Native>>,
-    out: &mut W,
-) -> Result<ExitStatus, Fault>
-    requires limit { (1 ≤ limit) × (limit ≤ 1000000000) }
-    requires timely { IsTimely script.now.timed }
-    requires owed { OweNothing (λ b. (⟦<dyn Native as Native>⟧ b.vtable).owed b.value) boxes.items }
-    ensures { (bytes text : List ℕ) → IsSpelled bytes accepted.now → denoted text ≡ Ok script.now → Untold (AcceptedAnswers bytes text limit (length boxes.items) (record { before = W.out out.old; now = W.out out.new; failed = W.failed out.new })) result }
+/// The status of a run that ended so, or that its output has failed, or why it was not made.
+fn end(outcome: Result<Outcome, Fault>) -> Result<ExitStatus, Fault>
+    ensures { Untold (λ errors status. EndsOrFails outcome status errors) result }
 {
-    accepted.facts();
-    runs_well(accepted);
-    match run_accepted(alloc, accepted, script, limit, boxes, out) {
-        Ok(outcome) => end(outcome),
-        Err(fault) => Err(fault),
-    }
-}
-
-/// The status of a run that ended so, or that its output has failed.
-fn end(outcome: Outcome) -> Result<ExitStatus, Fault>
-    ensures { Untold (λ errors status. Ends outcome status errors) result }
-{
-    match outcome {
+    match outcome? {
         Outcome::Stopped => Ok(ExitStatus::Done),
         Outcome::Waiting => Ok(ExitStatus::Unfinished),
         Outcome::MainLeft(_) => Ok(ExitStatus::Broken),
@@ -112,21 +97,38 @@ fn end(outcome: Outcome) -> Result<ExitStatus, Fault>
     }
 }
 
-/// Tells whether an image is accepted.
+/// Tells whether an image is accepted, with its figures where they are asked. Those of one that its budgets or its limits alone
+/// refuse are told too.
 #[tactic(auto, using(crate::proofs::Untelling::answered))]
 pub fn check_bytes<W: Sink, E: Sink>(
     alloc: Global,
     image: &[u8],
+    prices: bool,
     out: &mut W,
     errors: &mut E,
 ) -> ExitStatus
-    ensures { CheckAnswers image.now (record { before = W.out out.old; now = W.out out.new; failed = W.failed out.new }) (record { before = E.out errors.old; now = E.out errors.new; failed = E.failed errors.new }) result }
+    ensures { Checks prices image.now (record { before = W.out out.old; now = W.out out.new; failed = W.failed out.new }) (record { before = E.out errors.old; now = E.out errors.new; failed = E.failed errors.new }) result }
 {
-    answer(try_check(alloc, image, out), errors)
+    answer(try_check(alloc, image, prices, out), errors)
 }
 
 /// Checks an image as `check_bytes` does, and leaves its fault to be told.
-pub fn try_check<W: Sink>(alloc: Global, image: &[u8], out: &mut W) -> Result<ExitStatus, Fault>
+pub fn try_check<W: Sink>(
+    alloc: Global,
+    image: &[u8],
+    prices: bool,
+    out: &mut W,
+) -> Result<ExitStatus, Fault>
+    ensures { Untold (Checks prices image.now (record { before = W.out out.old; now = W.out out.new; failed = W.failed out.new })) result }
+{
+    if prices {
+        return try_prices(alloc, image, out);
+    }
+    try_verdict(alloc, image, out)
+}
+
+/// Tells whether an image is accepted, and no more.
+fn try_verdict<W: Sink>(alloc: Global, image: &[u8], out: &mut W) -> Result<ExitStatus, Fault>
     ensures { Untold (CheckAnswers image.now (record { before = W.out out.old; now = W.out out.new; failed = W.failed out.new })) result }
 {
     match accept_bytes(alloc, image) {
@@ -135,51 +137,56 @@ pub fn try_check<W: Sink>(alloc: Global, image: &[u8], out: &mut W) -> Result<Ex
     }
 }
 
-/// Writes the bytes of the image that an assembly text denotes.
+/// What a file is translated to.
+#[derive(Clone, Copy)]
+pub enum Translation {
+    /// The bytes of the image that an assembly text denotes.
+    Asm,
+    /// The listing of an image, which need not be accepted.
+    Dis,
+    /// The graph of an image in Graphviz's language. One that its budgets or its limits alone refuse is drawn too.
+    Dot,
+}
+
+/// Writes what a file is translated to.
 #[tactic(auto, using(crate::proofs::Untelling::answered))]
-pub fn asm_bytes<W: Sink, E: Sink>(
+pub fn translate_bytes<W: Sink, E: Sink>(
     alloc: Global,
-    text: &[u8],
+    to: Translation,
+    file: &[u8],
     out: &mut W,
     errors: &mut E,
 ) -> ExitStatus
-    ensures { AsmAnswers text.now (record { before = W.out out.old; now = W.out out.new; failed = W.failed out.new }) (record { before = E.out errors.old; now = E.out errors.new; failed = E.failed errors.new }) result }
+    ensures { Translates to file.now (record { before = W.out out.old; now = W.out out.new; failed = W.failed out.new }) (record { before = E.out errors.old; now = E.out errors.new; failed = E.failed errors.new }) result }
 {
-    answer(try_asm(alloc, text, out), errors)
+    answer(try_translate(alloc, to, file, out), errors)
 }
 
-/// Assembles a text as `asm_bytes` does, and leaves its fault to be told.
-pub fn try_asm<W: Sink>(alloc: Global, text: &[u8], out: &mut W) -> Result<ExitStatus, Fault>
-    ensures { Untold (AsmAnswers text.now (record { before = W.out out.old; now = W.out out.new; failed = W.failed out.new })) result }
+/// Translates a file as `translate_bytes` does, and leaves its fault to be told.
+pub fn try_translate<W: Sink>(
+    alloc: Global,
+    to: Translation,
+    file: &[u8],
+    out: &mut W,
+) -> Result<ExitStatus, Fault>
+    ensures { Untold (Translates to file.now (record { before = W.out out.old; now = W.out out.new; failed = W.failed out.new })) result }
 {
-    match assemble_bytes(alloc, text) {
-        Ok(bytes) => try_send(&bytes, out),
+    match translated(alloc, to, file) {
+        Ok(text) => try_send(&text, out),
         Err(fault) => Err(fault),
     }
 }
 
-/// Writes the listing of an image, which need not be accepted.
-#[tactic(auto, using(crate::proofs::Sending::listed))]
-pub fn dis_bytes<W: Sink, E: Sink>(
-    alloc: Global,
-    image: &[u8],
-    out: &mut W,
-    errors: &mut E,
-) -> ExitStatus
-    ensures { DisAnswers image.now (record { before = W.out out.old; now = W.out out.new; failed = W.failed out.new }) (record { before = E.out errors.old; now = E.out errors.new; failed = E.failed errors.new }) result }
+/// What a file is translated to, or its first fault.
+fn translated(alloc: Global, to: Translation, file: &[u8]) -> Result<Vec<u8>, Fault>
+    ensures ok { IfOk result (λ text. IsTranslation to file.now text.items) }
+    ensures err { IfErr result (λ fault. RefusesFile to file.now fault) }
 {
-    match disassemble_bytes(alloc, image) {
-        Ok(text) => send(&text, out, errors),
-        Err(fault) => tell(&fault, errors),
+    match to {
+        Translation::Asm => assemble_bytes(alloc, file),
+        Translation::Dis => disassemble_bytes(alloc, file),
+        Translation::Dot => draw_bytes(alloc, file),
     }
-}
-
-/// Writes a text to the output, and tells whether that has failed.
-#[tactic(auto, using(crate::proofs::Untelling::answered))]
-pub fn send<W: Sink, E: Sink>(text: &[u8], out: &mut W, errors: &mut E) -> ExitStatus
-    ensures { Sends text.now result (record { before = W.out out.old; now = W.out out.new; failed = W.failed out.new }) (record { before = E.out errors.old; now = E.out errors.new; failed = E.failed errors.new }) }
-{
-    answer(try_send(text, out), errors)
 }
 
 /// Writes a text to the output. That this fails is left to be told.

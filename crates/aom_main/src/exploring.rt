@@ -3,16 +3,17 @@ ghost use Rattle.std.specs.Prelude.{ℕ, ◌≡◌, ◌≤◌, ◌<◌, List, If
 ghost use Rattle.aom_natives.specs.Owed.{OweNothing};
 ghost use Rattle.aom_natives.specs.Slots.{AllAgree};
 ghost use Rattle.aom_machine.specs.Calls.{natives_of};
-ghost use Rattle.aom_run.specs.Runs.{IsFresh};
 ghost use Rattle.aom_run.specs.Turns.{hearing};
 ghost use Rattle.aom_run.specs.Outcomes.{outcome_of};
 ghost use Rattle.aom_script.specs.Script.{IsTimely, denoted};
 ghost use Rattle.aom_run.specs.declared.outcome.Outcome.TheVariants.{WriteFault};
 ghost use Rattle.aom_main.specs.Acceptable.{IsSpelled};
 ghost use Rattle.aom_main.specs.Explored.{AcceptedExplores, BreaksOff, ExploreAnswers, Explored, IsLast, RefusesTry, Tried};
-ghost use Rattle.aom_main.specs.Headline.{HasNatives, RefusesBoot, Says};
+ghost use Rattle.aom_main.specs.Headline.{HasNatives, IsFreshOf, RefusesBoot, Says};
+ghost use Rattle.aom_main.specs.Untold.{Untold};
 
 use crate::accepting::accept_bytes;
+use crate::faults::answer;
 use crate::running::{booted, runs_well};
 use crate::{ExitStatus, Fault, tell};
 use aom_budget::Accepted;
@@ -85,8 +86,7 @@ fn last_booted(
     requires limit { (1 ≤ limit) × (limit ≤ 1000000000) }
     requires timely { IsTimely script.now.timed }
     requires agree { AllAgree (λ l. l.ids) (λ l. (⟦<dyn Native as Native>⟧ l.native.vtable).owed l.native.value) machine.old.natives.slots.items }
-    requires image { machine.old.core.image ≡ accepted.now }
-    requires fresh { IsFresh machine.old }
+    requires fresh { IsFreshOf accepted.now machine.old }
     ensures ok { IfOk result (λ last. IsLast accepted.now (hearing refused.items limit (natives_of machine.old) script.now.timed) last) }
     ensures err { IfErr result (λ fault. fault ≡ Fault.Memory) }
 {
@@ -121,82 +121,75 @@ fn last_beside(
     last
 }
 
-/// Makes the natives of one run, and runs an accepted image beside them to its end.
-fn last_of(
-    alloc: Global,
-    accepted: &Accepted,
-    script: &Script,
-    refused: Vec<u32>,
+/// What is run again and again: an accepted image under a script, beside natives of those kinds.
+#[derive(Clone, Copy)]
+struct Trial<'a> {
+    accepted: &'a Accepted,
+    script: &'a Script,
     limit: u32,
-    kinds: &[NativeKind],
-) -> Result<Last, Fault>
-    requires limit { (1 ≤ limit) × (limit ≤ 1000000000) }
-    requires timely { IsTimely script.now.timed }
-    ensures ok { IfOk result (λ last. IsLast accepted.now (hearing refused.items limit (length kinds.now) script.now.timed) last) }
-    ensures enough { IfOk result (λ _. HasNatives accepted.now (length kinds.now)) }
-    ensures err { IfErr result (λ fault. RefusesTry accepted.now (length kinds.now) fault) }
+    kinds: &'a [NativeKind],
+}
+
+/// Makes the natives of one run, and runs the image beside them to its end.
+fn last_of(alloc: Global, trial: &Trial<'_>, refused: Vec<u32>) -> Result<Last, Fault>
+    requires limit { (1 ≤ trial.now.limit) × (trial.now.limit ≤ 1000000000) }
+    requires timely { IsTimely trial.now.script.now.timed }
+    ensures ok { IfOk result (λ last. IsLast trial.now.accepted.now (hearing refused.items trial.now.limit (length trial.now.kinds.now) trial.now.script.now.timed) last) }
+    ensures enough { IfOk result (λ _. HasNatives trial.now.accepted.now (length trial.now.kinds.now)) }
+    ensures err { IfErr result (λ fault. RefusesTry trial.now.accepted.now (length trial.now.kinds.now) fault) }
 {
     let mut boxes: Vec<Box<dyn Native>> = Vec::new(alloc);
-    for kind in kinds {
+    for kind in trial.kinds {
         match *kind {
             NativeKind::Counter => boxes.push(Box::new(alloc, Counter::new())?)?,
             NativeKind::Line => boxes.push(Box::new(alloc, Line::new())?)?,
             NativeKind::Delay => boxes.push(Box::new(alloc, Delay::new())?)?,
         }
     }
-    last_beside(alloc, accepted, script, refused, limit, boxes)
+    last_beside(
+        alloc,
+        trial.accepted,
+        trial.script,
+        refused,
+        trial.limit,
+        boxes,
+    )
 }
 
-/// Runs an accepted image with the request of that number refused too, and writes how that ended.
-fn try_one<W: Sink>(
-    alloc: Global,
-    accepted: &Accepted,
-    script: &Script,
-    limit: u32,
-    kinds: &[NativeKind],
-    number: u32,
-    out: &mut W,
-) -> Result<(), Fault>
-    requires limit { (1 ≤ limit) × (limit ≤ 1000000000) }
-    requires timely { IsTimely script.now.timed }
-    requires enough { HasNatives accepted.now (length kinds.now) }
-    ensures ok { IfOk result (λ _. (line : List ℕ) × Tried accepted.now script.now limit (length kinds.now) number line × Says line (record { before = W.out out.old; now = W.out out.new; failed = W.failed out.new })) }
+/// Runs the image with the request of that number refused too, and writes how that ended.
+fn try_one<W: Sink>(alloc: Global, trial: &Trial<'_>, number: u32, out: &mut W) -> Result<(), Fault>
+    requires limit { (1 ≤ trial.now.limit) × (trial.now.limit ≤ 1000000000) }
+    requires timely { IsTimely trial.now.script.now.timed }
+    requires enough { HasNatives trial.now.accepted.now (length trial.now.kinds.now) }
+    ensures ok { IfOk result (λ _. (line : List ℕ) × Tried trial.now.accepted.now trial.now.script.now trial.now.limit (length trial.now.kinds.now) number line × Says line (record { before = W.out out.old; now = W.out out.new; failed = W.failed out.new })) }
     ensures err { IfErr result (λ fault. (fault ≡ Fault.Memory) × (W.out out.new ≡ W.out out.old) × (W.failed out.new ≡ W.failed out.old)) }
 {
-    let mut refused = Vec::from_slice(alloc, script.refused())?;
+    let mut refused = Vec::from_slice(alloc, trial.script.refused())?;
     if let Err(failed) = refused.push(number) {
         return Err(AllocError::from(failed).into());
     }
-    let last = last_of(alloc, accepted, script, refused, limit, kinds)?;
+    let last = last_of(alloc, trial, refused)?;
     let mut page = Page::new();
     page.add_tried(number as u64, last.ending, last.cells);
     write_text(out, page.as_bytes());
     Ok(())
 }
 
-/// Runs an accepted image once, and then once for each of its allocation requests within the part, with that one refused
-/// too. It writes a line for each, and stops where the sink fails.
-fn explore<W: Sink>(
-    alloc: Global,
-    accepted: &Accepted,
-    script: &Script,
-    limit: u32,
-    kinds: &[NativeKind],
-    part: Part,
-    out: &mut W,
-) -> Result<(), Fault>
-    requires limit { (1 ≤ limit) × (limit ≤ 1000000000) }
-    requires timely { IsTimely script.now.timed }
-    ensures ok { IfOk result (λ _. Explored accepted.now script.now limit (length kinds.now) part (record { before = W.out out.old; now = W.out out.new; failed = W.failed out.new })) }
-    ensures enough { IfOk result (λ _. HasNatives accepted.now (length kinds.now)) }
-    ensures err { IfErr result (λ fault. BreaksOff accepted.now script.now limit (length kinds.now) part.first (record { before = W.out out.old; now = W.out out.new; failed = W.failed out.new }) fault) }
+/// Runs the image once, and then once for each of its allocation requests within the part, with that one refused too. It writes
+/// a line for each, and stops where the sink fails.
+fn explore<W: Sink>(alloc: Global, trial: &Trial<'_>, part: Part, out: &mut W) -> Result<(), Fault>
+    requires limit { (1 ≤ trial.now.limit) × (trial.now.limit ≤ 1000000000) }
+    requires timely { IsTimely trial.now.script.now.timed }
+    ensures ok { IfOk result (λ _. Explored trial.now.accepted.now trial.now.script.now trial.now.limit (length trial.now.kinds.now) part (record { before = W.out out.old; now = W.out out.new; failed = W.failed out.new })) }
+    ensures enough { IfOk result (λ _. HasNatives trial.now.accepted.now (length trial.now.kinds.now)) }
+    ensures err { IfErr result (λ fault. BreaksOff trial.now.accepted.now trial.now.script.now trial.now.limit (length trial.now.kinds.now) part.first (record { before = W.out out.old; now = W.out out.new; failed = W.failed out.new }) fault) }
 {
-    let own = Vec::from_slice(alloc, script.refused())?;
-    let plain = last_of(alloc, accepted, script, own, limit, kinds)?;
+    let own = Vec::from_slice(alloc, trial.script.refused())?;
+    let plain = last_of(alloc, trial, own)?;
     let last = plain.requests.min(part.last as u64);
     let mut number = part.first as u64;
     while number <= last && !out.has_failed() {
-        try_one(alloc, accepted, script, limit, kinds, number as u32, out)?;
+        try_one(alloc, trial, number as u32, out)?;
         number += 1;
     }
     Ok(())
@@ -219,13 +212,17 @@ pub fn explore_bytes<W: Sink, E: Sink>(
     ensures { ExploreAnswers image.now script.now limit (length kinds.now) part (record { before = W.out out.old; now = W.out out.new; failed = W.failed out.new }) (record { before = E.out errors.old; now = E.out errors.new; failed = E.failed errors.new }) result }
 {
     match accept_bytes(alloc, image) {
-        Ok(accepted) => explore_text(alloc, &accepted, script, limit, kinds, part, out, errors),
+        Ok(accepted) => {
+            let found = explore_text(alloc, &accepted, script, limit, kinds, part, out);
+            drop(accepted);
+            answer(found, errors)
+        }
         Err(refusal) => tell(&refusal, errors),
     }
 }
 
 /// Explores an accepted image under the script that a text is.
-fn explore_text<W: Sink, E: Sink>(
+fn explore_text<W: Sink>(
     alloc: Global,
     accepted: &Accepted,
     text: &[u8],
@@ -233,40 +230,42 @@ fn explore_text<W: Sink, E: Sink>(
     kinds: &[NativeKind],
     part: Part,
     out: &mut W,
-    errors: &mut E,
-) -> ExitStatus
+) -> Result<ExitStatus, Fault>
     requires limit { (1 ≤ limit) × (limit ≤ 1000000000) }
-    ensures { (bytes : List ℕ) → IsSpelled bytes accepted.now → AcceptedExplores bytes text.now limit (length kinds.now) part (record { before = W.out out.old; now = W.out out.new; failed = W.failed out.new }) (record { before = E.out errors.old; now = E.out errors.new; failed = E.failed errors.new }) result }
+    ensures { (bytes : List ℕ) → IsSpelled bytes accepted.now → Untold (AcceptedExplores bytes text.now limit (length kinds.now) part (record { before = W.out out.old; now = W.out out.new; failed = W.failed out.new })) result }
 {
     accepted.facts();
-    match read_script(alloc, text) {
-        Ok(script) => explore_script(alloc, accepted, &script, limit, kinds, part, out, errors),
-        Err(fault) => tell(&Fault::from(fault), errors),
-    }
+    let script = match read_script(alloc, text) {
+        Ok(script) => script,
+        Err(fault) => return Err(Fault::from(fault)),
+    };
+    let trial = Trial {
+        accepted,
+        script: &script,
+        limit,
+        kinds,
+    };
+    explore_script(alloc, &trial, part, out)
 }
 
 /// Explores an accepted image under a script.
-fn explore_script<W: Sink, E: Sink>(
+fn explore_script<W: Sink>(
     alloc: Global,
-    accepted: &Accepted,
-    script: &Script,
-    limit: u32,
-    kinds: &[NativeKind],
+    trial: &Trial<'_>,
     part: Part,
     out: &mut W,
-    errors: &mut E,
-) -> ExitStatus
-    requires limit { (1 ≤ limit) × (limit ≤ 1000000000) }
-    requires timely { IsTimely script.now.timed }
-    ensures { (bytes text : List ℕ) → IsSpelled bytes accepted.now → denoted text ≡ Ok script.now → AcceptedExplores bytes text limit (length kinds.now) part (record { before = W.out out.old; now = W.out out.new; failed = W.failed out.new }) (record { before = E.out errors.old; now = E.out errors.new; failed = E.failed errors.new }) result }
+) -> Result<ExitStatus, Fault>
+    requires limit { (1 ≤ trial.now.limit) × (trial.now.limit ≤ 1000000000) }
+    requires timely { IsTimely trial.now.script.now.timed }
+    ensures { (bytes text : List ℕ) → IsSpelled bytes trial.now.accepted.now → denoted text ≡ Ok trial.now.script.now → Untold (AcceptedExplores bytes text trial.now.limit (length trial.now.kinds.now) part (record { before = W.out out.old; now = W.out out.new; failed = W.failed out.new })) result }
 {
-    accepted.facts();
-    runs_well(accepted);
-    if let Err(fault) = explore(alloc, accepted, script, limit, kinds, part, out) {
-        return tell(&fault, errors);
+    trial.accepted.facts();
+    runs_well(trial.accepted);
+    if let Err(fault) = explore(alloc, trial, part, out) {
+        return Err(fault);
     }
     if out.has_failed() {
-        return tell(&Fault::Write, errors);
+        return Err(Fault::Write);
     }
-    ExitStatus::Done
+    Ok(ExitStatus::Done)
 }

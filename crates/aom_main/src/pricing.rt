@@ -2,14 +2,14 @@
 ghost use Rattle.std.specs.Prelude.{◌≡◌, ◌++◌, None, IfOk, IfErr};
 ghost use Rattle.aom_image.specs.Image.{Image};
 ghost use Rattle.aom_classes.specs.Linked.{IsLinked};
+ghost use Rattle.aom_rules.specs.Typing.{IsTyped, Typing};
 ghost use Rattle.aom_budget.specs.Figures.{AreFigures};
-ghost use Rattle.aom_main.specs.Acceptable.{IsSpelled, IsAcceptable, RefusesOrWants};
+ghost use Rattle.aom_main.specs.Acceptable.{IsSpelled};
 ghost use Rattle.aom_main.specs.Headline.{accepted_text};
-ghost use Rattle.aom_main.specs.Prices.{IsEarly, IsPriced, IsWritten, PricesAnswers, Shown};
+ghost use Rattle.aom_main.specs.Prices.{IsPriced, IsWritten, PricesAnswers, Shown, StopsEarly};
 ghost use Rattle.aom_main.specs.Untold.{Untold};
 
 use crate::accepting::link_bytes;
-use crate::faults::answer;
 use crate::{ExitStatus, Fault};
 use aom_budget::{BudgetFault, Figures};
 use aom_figures::figures_text;
@@ -24,22 +24,12 @@ struct Priced {
     refusal: Option<BudgetFault>,
 }
 
-/// Tells whether an image is accepted, with its figures. Those of one that its budgets or its limits alone refuse are
-/// told too.
-#[tactic(auto, using(crate::proofs::Untelling::answered))]
-pub fn prices_bytes<W: Sink, E: Sink>(
+/// Writes an image's figures, behind the word of an accepted one where it is one. A fault is left to be told.
+pub(crate) fn try_prices<W: Sink>(
     alloc: Global,
     image: &[u8],
     out: &mut W,
-    errors: &mut E,
-) -> ExitStatus
-    ensures { PricesAnswers image.now (record { before = W.out out.old; now = W.out out.new; failed = W.failed out.new }) (record { before = E.out errors.old; now = E.out errors.new; failed = E.failed errors.new }) result }
-{
-    answer(try_prices(alloc, image, out), errors)
-}
-
-/// Writes an image's figures as `prices_bytes` does, and leaves its fault to be told.
-pub fn try_prices<W: Sink>(alloc: Global, image: &[u8], out: &mut W) -> Result<ExitStatus, Fault>
+) -> Result<ExitStatus, Fault>
     ensures { Untold (PricesAnswers image.now (record { before = W.out out.old; now = W.out out.new; failed = W.failed out.new })) result }
 {
     match price_bytes(alloc, image) {
@@ -65,13 +55,12 @@ fn show<W: Sink>(priced: &Priced, out: &mut W) -> Result<ExitStatus, Fault>
 /// What is written of the image that the bytes are, or the first fault on the way to its budgets.
 fn price_bytes(alloc: Global, bytes: &[u8]) -> Result<Priced, Fault>
     ensures ok { IfOk result (λ priced. IsWritten bytes.now priced.text.items priced.refusal) }
-    ensures err { IfErr result (λ fault. RefusesOrWants bytes.now fault) }
-    ensures early { IfErr result (λ fault. IsEarly fault) }
-    ensures complete { (p : Image) → IsSpelled bytes.now p → IsAcceptable p → IfErr result (λ fault. fault ≡ Fault.Memory) }
+    ensures err { IfErr result (λ fault. StopsEarly bytes.now fault) }
 {
     let checked = check_image(alloc, bytes)?;
-    checked.typed();
-    Ok(price_checked(alloc, &checked)?)
+    let priced = price_checked(alloc, &checked);
+    drop(checked);
+    Ok(priced?)
 }
 
 /// What is written of a checked image.
@@ -110,13 +99,15 @@ fn accepted_beside(alloc: Global, figures: &[u8]) -> Result<Priced, AllocError>
 }
 
 /// The checked image that the bytes are, or the first fault on the way.
+#[tactic(auto, using(crate::proofs::Refusing::refusal_stops))]
 pub(crate) fn check_image(alloc: Global, bytes: &[u8]) -> Result<Checked, Fault>
     ensures ok { IfOk result (λ checked. IsSpelled bytes.now checked × IsLinked checked) }
-    ensures err { IfErr result (λ fault. RefusesOrWants bytes.now fault) }
-    ensures early { IfErr result (λ fault. IsEarly fault) }
+    ensures typed { IfOk result (λ checked. (t : Typing) × IsTyped checked t) }
+    ensures err { IfErr result (λ fault. StopsEarly bytes.now fault) }
     ensures only { (p : Image) → IsSpelled bytes.now p → IfOk result (λ checked. checked ≡ p) }
-    ensures complete { (p : Image) → IsSpelled bytes.now p → IsAcceptable p → IfErr result (λ fault. fault ≡ Fault.Memory) }
 {
     let linked = link_bytes(alloc, bytes)?;
-    Ok(check(alloc, linked)?)
+    let checked = check(alloc, linked)?;
+    checked.typed();
+    Ok(checked)
 }

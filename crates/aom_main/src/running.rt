@@ -3,9 +3,8 @@ ghost use Rattle.std.specs.Prelude.{◌≡◌, ◌≤◌, IfOk, IfErr, length};
 ghost use Rattle.aom_natives.specs.Owed.{OweNothing};
 ghost use Rattle.aom_natives.specs.Slots.{AllAgree};
 ghost use Rattle.aom_machine.specs.Calls.{natives_of};
-ghost use Rattle.aom_run.specs.Runs.{IsFresh};
 ghost use Rattle.aom_script.specs.Script.{IsTimely};
-ghost use Rattle.aom_main.specs.Headline.{AllRunWell, HasNatives, RefusesBoot, Shows, outside_of};
+ghost use Rattle.aom_main.specs.Headline.{AllRunWell, HasNatives, IsFreshOf, RefusesBoot, Shows, outside_of};
 ghost use Rattle.aom_main.specs.declared.faults.Fault.TheVariants.{Memory};
 
 use crate::Fault;
@@ -24,8 +23,7 @@ pub fn booted<'a>(
     boxes: Vec<Box<dyn Native>>,
 ) -> Result<Machine<'a>, Fault>
     requires owed { OweNothing (λ b. (⟦<dyn Native as Native>⟧ b.vtable).owed b.value) boxes.items }
-    ensures image { IfOk result (λ m. m.core.image ≡ accepted.now) }
-    ensures fresh { IfOk result (λ m. IsFresh m) }
+    ensures fresh { IfOk result (λ m. IsFreshOf accepted.now m) }
     ensures agree { IfOk result (λ m. AllAgree (λ l. l.ids) (λ l. (⟦<dyn Native as Native>⟧ l.native.vtable).owed l.native.value) m.natives.slots.items) }
     ensures natives { IfOk result (λ m. natives_of m ≡ length boxes.items) }
     ensures enough { IfOk result (λ _. HasNatives accepted.now (length boxes.items)) }
@@ -49,8 +47,7 @@ fn run_booted<W: Sink>(
     requires limit { (1 ≤ limit) × (limit ≤ 1000000000) }
     requires timely { IsTimely script.now.timed }
     requires agree { AllAgree (λ l. l.ids) (λ l. (⟦<dyn Native as Native>⟧ l.native.vtable).owed l.native.value) machine.old.natives.slots.items }
-    requires image { machine.old.core.image ≡ accepted.now }
-    requires fresh { IsFresh machine.old }
+    requires fresh { IsFreshOf accepted.now machine.old }
     ensures ok { IfOk result (λ outcome. Shows accepted.now (outside_of script.now limit (natives_of machine.old)) outcome (record { before = W.out out.old; now = W.out out.new; failed = W.failed out.new })) }
     ensures err { IfErr result (λ fault. (fault ≡ Memory) × (W.out out.new ≡ W.out out.old)) }
 {

@@ -20,16 +20,16 @@ impl Sink for Slip {
     ghost failed = { λ s. s.is_full };
 
     fn put(&mut self, bytes: &[u8]) -> usize {
-        if self.is_full || bytes.is_empty() {
+        let Some(&byte) = bytes.first() else {
             return 0;
-        }
+        };
         match self.text.get_mut(self.length) {
-            Some(place) => {
-                *place = bytes[0];
+            Some(place) if !self.is_full => {
+                *place = byte;
                 self.length = self.length.saturating_add(1);
                 1
             }
-            None => {
+            _ => {
                 self.is_full = true;
                 0
             }

@@ -11,7 +11,7 @@ use std::test::Fail;
 fn explaining_may_want_memory(rt: HostRuntime) {
     let mut written = Slip::blank();
     let mut told = Slip::blank();
-    let ended = check_explained(rt.alloc(), b"a text", &mut written, &mut told);
+    let ended = check_explained(rt.alloc(), b"a text", false, &mut written, &mut told);
     assert!(rt; written.has(b""));
     if ended == ExitStatus::Fault {
         let said =
@@ -42,7 +42,7 @@ fn is(ended: ExitStatus, out: &Page, errors: &Page, text: &[u8], line: &[u8]) ->
 fn an_output_that_fails_is_explained(rt: HostRuntime) {
     let mut out = Page::new(rt.alloc(), 6);
     let mut errors = Page::new(rt.alloc(), 4096);
-    let ended = check_explained(rt.alloc(), &FIRST, &mut out, &mut errors);
+    let ended = check_explained(rt.alloc(), &FIRST, false, &mut out, &mut errors);
     let line =
         b"write\nwrite: The standard output took nothing more. What is out is a beginning.\nTo mend it: Look for a full disk, or a reader that has ended.\n";
     assert!(rt; is(ended, &out, &errors, b"accept", line));

@@ -3,4 +3,4 @@ use Rattle.aom_explaining.proofs.Behind.{answered}
 use Rattle.aom_explaining.proofs.commands.asm_explained.Goals as goal
 
 pub returns : goal.returns
-returns g c = answered _ _ _ _ _ c.try_asm-found.ensures c.answer_explained.ensures
+returns g c = answered _ _ _ _ _ c.try_translate-found.ensures c.answer_explained.ensures

@@ -6,12 +6,12 @@ use Rattle.aom_main.proofs.accepting.accept_bytes.Goals as goal
 pub returns-in_err-linked-clause-err : goal.returns-in_err-linked-clause-err
 returns-in_err-linked-clause-err c =
     let e = err_from_is_err_and c.from_residual.result c.from_residual.ensures.1 in
-    rw (e.1, e.2) c.in_err-linked.ensures.err
+    rw (e.1, e.2) c.in_err-linked.ensures.err.refuses
 
 pub returns-in_err-linked-clause-complete : goal.returns-in_err-linked-clause-complete
 returns-in_err-linked-clause-complete c =
     let e = err_from_is_err_and c.from_residual.result c.from_residual.ensures.1 in
-    λ p spelled acceptable. rw (e.1, e.2) (c.in_err-linked.ensures.complete p spelled acceptable)
+    λ p spelled acceptable. rw (e.1, e.2) (c.in_err-linked.ensures.err.complete p spelled acceptable)
 
 pub returns-in_err-accepted-clause-err : goal.returns-in_err-accepted-clause-err
 returns-in_err-accepted-clause-err c =

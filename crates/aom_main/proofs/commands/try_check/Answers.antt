@@ -1,15 +1,8 @@
--- The image that is accepted is the one that the bytes spell. Bytes that are none have a fault, and so has want of memory.
-use Rattle.std.proofs.Common.{refl}
-use Rattle.aom_main.specs.Headline.{Accepts}
-use Rattle.aom_main.proofs.Sending.{checked}
-use Rattle.aom_main.proofs.Telling.{unchecked}
-use Rattle.aom_main.proofs.Untelling.{untold_weaker}
+-- The figures are told, or the verdict alone.
 use Rattle.aom_main.proofs.commands.try_check.Goals as goal
 
-pub returns-in-Ok : goal.returns-in-Ok
-returns-in-Ok g c =
-    let accepts : Accepts c.args.image.now = record { image = _; spelled = c.in-Ok.ensures.ok.0; acceptable = c.in-Ok.ensures.ok.1 } in
-    untold_weaker _ _ c.try_send.result (λ errors status sends. checked c.args.image.now _ errors status accepts sends) c.try_send.ensures
+pub returns-then-prices : goal.returns-then-prices
+returns-then-prices g c = rw c.if-prices.true c.try_prices.ensures
 
-pub returns-in-Err : goal.returns-in-Err
-returns-in-Err g c = λ errors status told. unchecked c.args.image.now c.in-Err.fault _ errors status c.in-Err.ensures.err c.in-Err.ensures.complete refl told
+pub returns : goal.returns
+returns g c = rw c.if-prices.false c.try_verdict.ensures

@@ -6,7 +6,7 @@ use Rattle.aom_main.proofs.commands.try_run.Goals as goal
 
 pub returns-in-Ok : goal.returns-in-Ok
 returns-in-Ok g c =
-    untold_weaker _ _ c.run_text.result (λ errors status. accepted c.args.image.now c.args.script.now c.args.limit (length c.args.boxes.items) _ errors status) (c.run_text.ensures c.args.image.now c.in-Ok.ensures.ok.0)
+    untold_weaker _ _ c.run_text-ended.result (λ errors status. accepted c.args.image.now c.args.script.now c.args.limit (length c.args.boxes.items) _ errors status) (c.run_text-ended.ensures c.args.image.now c.in-Ok.ensures.ok.0)
 
 pub returns-in-Err : goal.returns-in-Err
 returns-in-Err g c =

@@ -9,12 +9,12 @@ use Rattle.aom_main.proofs.exploring.explore.Goals as goal
 pub returns-in_err-own-clause-err : goal.returns-in_err-own-clause-err
 returns-in_err-own-clause-err g c =
     let p = err_from_is_err_and c.from_residual.result c.from_residual.ensures.1 in
-    rw p.1 (begin_refused c.args.accepted.now c.args.script.now c.args.limit (length c.args.kinds.now) c.args.part.first (record { before = g.W.Sink.out c.args.out.now; now = g.W.Sink.out c.args.out.now; failed = g.W.Sink.failed c.args.out.now }) p.0 refl (memory_refused c.args.accepted.now (length c.args.kinds.now) p.0 p.2))
+    rw p.1 (begin_refused c.args.trial.now.accepted.now c.args.trial.now.script.now c.args.trial.now.limit (length c.args.trial.now.kinds.now) c.args.part.first (record { before = g.W.Sink.out c.args.out.now; now = g.W.Sink.out c.args.out.now; failed = g.W.Sink.failed c.args.out.now }) p.0 refl (memory_refused c.args.trial.now.accepted.now (length c.args.trial.now.kinds.now) p.0 p.2))
 
 pub returns-in_err-plain-clause-err : goal.returns-in_err-plain-clause-err
 returns-in_err-plain-clause-err g c =
     let p = err_from_is_err_and c.from_residual-in_err-plain.result c.from_residual-in_err-plain.ensures.1 in
-    rw p.1 (begin_refused c.args.accepted.now c.args.script.now c.args.limit (length c.args.kinds.now) c.args.part.first (record { before = g.W.Sink.out c.args.out.now; now = g.W.Sink.out c.args.out.now; failed = g.W.Sink.failed c.args.out.now }) p.0 refl (subst (RefusesTry c.args.accepted.now (length c.args.kinds.now)) (sym p.2) c.in_err-plain.ensures.err))
+    rw p.1 (begin_refused c.args.trial.now.accepted.now c.args.trial.now.script.now c.args.trial.now.limit (length c.args.trial.now.kinds.now) c.args.part.first (record { before = g.W.Sink.out c.args.out.now; now = g.W.Sink.out c.args.out.now; failed = g.W.Sink.failed c.args.out.now }) p.0 refl (subst (RefusesTry c.args.trial.now.accepted.now (length c.args.trial.now.kinds.now)) (sym p.2) c.in_err-plain.ensures.err))
 
 pub loop-number-preserved : goal.loop-number-preserved
 loop-number-preserved g c =

@@ -1,4 +1,4 @@
--- The runs are of an accepted image. Where one was not made, or the output failed, that is told.
+-- The runs are of an accepted image. Where one was not made, or the output failed, that is left to be told.
 use Rattle.std.proofs.Common.{length, refl, sym, rules, ◌∙◌}
 use Rattle.aom_main.proofs.Acceptance.{acceptable_of}
 use Rattle.aom_main.proofs.Telling.{broken_off, cut_off, explored}
@@ -6,18 +6,21 @@ use Rattle.aom_main.proofs.exploring.explore_script.Goals as goal
 
 pub returns-in-Err : goal.returns-in-Err
 returns-in-Err g c =
-    λ bytes text spelled denotes.
-    broken_off bytes text c.args.limit (length c.args.kinds.now) c.args.accepted.now c.args.script.now
-    (acceptable_of c.facts.ensures.linked c.facts.ensures.typed c.facts.ensures.budgets c.facts.ensures.within c.facts.ensures.high) c.runs_well.ensures spelled denotes c.args.part _ _ c.in-Err.fault c.tell.result c.in-Err.ensures.err c.tell.ensures
+    let is = c.facts.ensures in
+    λ bytes text spelled denotes errors status told.
+    broken_off bytes text c.args.trial.now.limit (length c.args.trial.now.kinds.now) c.args.trial.now.accepted.now c.args.trial.now.script.now
+    (acceptable_of is.linked is.typed is.budgets is.within is.high) c.runs_well.ensures spelled denotes c.args.part _ errors c.in-Err.fault status c.in-Err.ensures.err told
 
 pub returns-then-has_failed : goal.returns-then-has_failed
 returns-then-has_failed g c =
-    λ bytes text spelled denotes.
-    cut_off bytes text c.args.limit (length c.args.kinds.now) c.args.accepted.now c.args.script.now
-    (acceptable_of c.facts.ensures.linked c.facts.ensures.typed c.facts.ensures.budgets c.facts.ensures.within c.facts.ensures.high) c.runs_well.ensures spelled denotes c.args.part _ _ c.tell-then-has_failed.result c.in_default.ensures.enough c.in_default.ensures.ok (sym c.has_failed.ensures ∙ search rules) c.tell-then-has_failed.ensures
+    let is = c.facts.ensures in
+    λ bytes text spelled denotes errors status told.
+    cut_off bytes text c.args.trial.now.limit (length c.args.trial.now.kinds.now) c.args.trial.now.accepted.now c.args.trial.now.script.now
+    (acceptable_of is.linked is.typed is.budgets is.within is.high) c.runs_well.ensures spelled denotes c.args.part _ errors status c.in_default.ensures.enough c.in_default.ensures.ok (sym c.has_failed.ensures ∙ search rules) told
 
 pub returns : goal.returns
 returns g c =
-    λ bytes text spelled denotes.
-    explored bytes text c.args.limit (length c.args.kinds.now) c.args.accepted.now c.args.script.now
-    (acceptable_of c.facts.ensures.linked c.facts.ensures.typed c.facts.ensures.budgets c.facts.ensures.within c.facts.ensures.high) c.runs_well.ensures spelled denotes c.args.part _ (record { before = g.E.Sink.out c.args.errors.now; now = g.E.Sink.out c.args.errors.now; failed = g.E.Sink.failed c.args.errors.now }) c.in_default.ensures.enough c.in_default.ensures.ok (sym c.has_failed.ensures ∙ search rules) refl
+    let is = c.facts.ensures in
+    λ bytes text spelled denotes errors silent.
+    explored bytes text c.args.trial.now.limit (length c.args.trial.now.kinds.now) c.args.trial.now.accepted.now c.args.trial.now.script.now
+    (acceptable_of is.linked is.typed is.budgets is.within is.high) c.runs_well.ensures spelled denotes c.args.part _ errors c.in_default.ensures.enough c.in_default.ensures.ok (sym c.has_failed.ensures ∙ search rules) silent

@@ -17,7 +17,7 @@ returns-clause-ok g c =
         lines = last.lines;
         state = last.state;
         ending = end;
-        run = subst (λ (xs : List ℕ). Run_of c.args.accepted.now (hearing xs c.args.limit (length c.args.kinds.now) c.args.script.now.timed) last.lines last.state end) items last.run;
+        run = subst (λ (xs : List ℕ). Run_of c.args.trial.now.accepted.now (hearing xs c.args.trial.now.limit (length c.args.trial.now.kinds.now) c.args.trial.now.script.now.timed) last.lines last.state end) items last.run;
         is = line ∙ ap (λ (n : ℕ). ended (tried_text c.args.number end n)) last.cells;
       },
       record { count = c.write_text.ensures.prefix.0; part = c.write_text.ensures.prefix.2; whole = c.write_text.ensures.whole },
