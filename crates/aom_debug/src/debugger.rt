@@ -90,7 +90,6 @@ impl<'a> Debugger<'a> {
         requires agree { AllAgree (λ l. l.ids) (λ l. (⟦<dyn Native as Native>⟧ l.native.vtable).owed l.native.value) self.old.mover.machine.natives.slots.items }
         requires ready { IsReady self.old.mover }
         ensures agree { AllAgree (λ l. l.ids) (λ l. (⟦<dyn Native as Native>⟧ l.native.vtable).owed l.native.value) self.new.mover.machine.natives.slots.items }
-        ensures ready { IsReady self.new.mover }
         ensures keeps { Keeps self.old.mover self.new.mover }
         ensures answer { Steps steps self.old self.new (record { before = W.out out.old; now = W.out out.new; failed = W.failed out.new }) result }
     {
@@ -108,7 +107,6 @@ impl<'a> Debugger<'a> {
         requires agree { AllAgree (λ l. l.ids) (λ l. (⟦<dyn Native as Native>⟧ l.native.vtable).owed l.native.value) self.old.mover.machine.natives.slots.items }
         requires ready { IsReady self.old.mover }
         ensures agree { AllAgree (λ l. l.ids) (λ l. (⟦<dyn Native as Native>⟧ l.native.vtable).owed l.native.value) self.new.mover.machine.natives.slots.items }
-        ensures ready { IsReady self.new.mover }
         ensures keeps { Keeps self.old.mover self.new.mover }
         ensures answer { Goes (goes_of course) self.old self.new (record { before = W.out out.old; now = W.out out.new; failed = W.failed out.new }) result }
     {
@@ -124,7 +122,6 @@ impl<'a> Debugger<'a> {
         requires agree { AllAgree (λ l. l.ids) (λ l. (⟦<dyn Native as Native>⟧ l.native.vtable).owed l.native.value) self.old.mover.machine.natives.slots.items }
         requires ready { IsReady self.old.mover }
         ensures agree { AllAgree (λ l. l.ids) (λ l. (⟦<dyn Native as Native>⟧ l.native.vtable).owed l.native.value) self.new.mover.machine.natives.slots.items }
-        ensures ready { IsReady self.new.mover }
         ensures keeps { Keeps self.old.mover self.new.mover }
         ensures answer { Turns self.old self.new (record { before = W.out out.old; now = W.out out.new; failed = W.failed out.new }) result }
     {
@@ -136,7 +133,6 @@ impl<'a> Debugger<'a> {
         requires agree { AllAgree (λ l. l.ids) (λ l. (⟦<dyn Native as Native>⟧ l.native.vtable).owed l.native.value) self.old.mover.machine.natives.slots.items }
         requires ready { IsReady self.old.mover }
         ensures agree { AllAgree (λ l. l.ids) (λ l. (⟦<dyn Native as Native>⟧ l.native.vtable).owed l.native.value) self.new.mover.machine.natives.slots.items }
-        ensures ready { IsReady self.new.mover }
         ensures keeps { Keeps self.old.mover self.new.mover }
         ensures answer { Runs self.old self.new (record { before = W.out out.old; now = W.out out.new; failed = W.failed out.new }) result }
     {
@@ -153,7 +149,6 @@ impl<'a> Debugger<'a> {
         requires agree { AllAgree (λ l. l.ids) (λ l. (⟦<dyn Native as Native>⟧ l.native.vtable).owed l.native.value) self.old.mover.machine.natives.slots.items }
         requires ready { IsReady self.old.mover }
         ensures agree { AllAgree (λ l. l.ids) (λ l. (⟦<dyn Native as Native>⟧ l.native.vtable).owed l.native.value) self.new.mover.machine.natives.slots.items }
-        ensures ready { IsReady self.new.mover }
         ensures keeps { Keeps self.old.mover self.new.mover }
         ensures answer { Sets method place self.old self.new (record { before = W.out out.old; now = W.out out.new; failed = W.failed out.new }) result }
     {

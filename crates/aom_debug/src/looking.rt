@@ -46,7 +46,6 @@ impl<'a> Debugger<'a> {
         requires agree { AllAgree (λ l. l.ids) (λ l. (⟦<dyn Native as Native>⟧ l.native.vtable).owed l.native.value) self.old.mover.machine.natives.slots.items }
         requires ready { IsReady self.old.mover }
         ensures agree { AllAgree (λ l. l.ids) (λ l. (⟦<dyn Native as Native>⟧ l.native.vtable).owed l.native.value) self.new.mover.machine.natives.slots.items }
-        ensures ready { IsReady self.new.mover }
         ensures keeps { Keeps self.old.mover self.new.mover }
         ensures answer { Looks (Sees look) self.old self.new (record { before = W.out out.old; now = W.out out.new; failed = W.failed out.new }) result }
     {

@@ -26,7 +26,6 @@ fn go_steps<W: Sink>(mover: &mut Mover, steps: u32, out: &mut W) -> Option<Progr
     requires agree { AllAgree (λ l. l.ids) (λ l. (⟦<dyn Native as Native>⟧ l.native.vtable).owed l.native.value) mover.old.machine.natives.slots.items }
     requires ready { IsReady mover.old }
     ensures agree { AllAgree (λ l. l.ids) (λ l. (⟦<dyn Native as Native>⟧ l.native.vtable).owed l.native.value) mover.new.machine.natives.slots.items }
-    ensures ready { IsReady mover.new }
     ensures keeps { Keeps mover.old mover.new }
     ensures went { Went (GoesBy mover.old.machine.core.image (outside_of mover.old) steps mover.old.recent mover.new.recent) (Reaches mover.old.machine.core.image (outside_of mover.old)) mover.old (W.out out.old) (W.out out.new) (W.failed out.new) result mover.new }
 {
@@ -47,7 +46,6 @@ fn go_turn<W: Sink>(mover: &mut Mover, breakpoints: &Breakpoints, out: &mut W) -
     requires agree { AllAgree (λ l. l.ids) (λ l. (⟦<dyn Native as Native>⟧ l.native.vtable).owed l.native.value) mover.old.machine.natives.slots.items }
     requires ready { IsReady mover.old }
     ensures agree { AllAgree (λ l. l.ids) (λ l. (⟦<dyn Native as Native>⟧ l.native.vtable).owed l.native.value) mover.new.machine.natives.slots.items }
-    ensures ready { IsReady mover.new }
     ensures keeps { Keeps mover.old mover.new }
     ensures went { Went (TurnsOver mover.old.machine.core.image (outside_of mover.old) mover.old.recent mover.new.recent) (Reaches mover.old.machine.core.image (outside_of mover.old)) mover.old (W.out out.old) (W.out out.new) (W.failed out.new) result mover.new }
 {
@@ -62,7 +60,6 @@ fn pass<W: Sink>(mover: &mut Mover, breakpoints: &Breakpoints, out: &mut W) -> O
     requires agree { AllAgree (λ l. l.ids) (λ l. (⟦<dyn Native as Native>⟧ l.native.vtable).owed l.native.value) mover.old.machine.natives.slots.items }
     requires ready { IsReady mover.old }
     ensures agree { AllAgree (λ l. l.ids) (λ l. (⟦<dyn Native as Native>⟧ l.native.vtable).owed l.native.value) mover.new.machine.natives.slots.items }
-    ensures ready { IsReady mover.new }
     ensures keeps { Keeps mover.old mover.new }
     ensures went { Went (InDispatch mover.old.machine.core.image (outside_of mover.old) (WalksOn mover.old.machine.core.image mover.old.turn.refused (λ s. stays_at mover.old.machine.core.image Breakpoint breakpoints.now s)) mover.old.recent mover.new.recent) (Reaches mover.old.machine.core.image (outside_of mover.old)) mover.old (W.out out.old) (W.out out.new) (W.failed out.new) result mover.new }
 {
@@ -80,7 +77,6 @@ fn go_on<W: Sink>(mover: &mut Mover, breakpoints: &Breakpoints, out: &mut W) -> 
     requires agree { AllAgree (λ l. l.ids) (λ l. (⟦<dyn Native as Native>⟧ l.native.vtable).owed l.native.value) mover.old.machine.natives.slots.items }
     requires ready { IsReady mover.old }
     ensures agree { AllAgree (λ l. l.ids) (λ l. (⟦<dyn Native as Native>⟧ l.native.vtable).owed l.native.value) mover.new.machine.natives.slots.items }
-    ensures ready { IsReady mover.new }
     ensures keeps { Keeps mover.old mover.new }
     ensures went { Went (GoesToBreakpoint mover.old.machine.core.image (outside_of mover.old) breakpoints.now mover.old.recent mover.new.recent) (Reaches mover.old.machine.core.image (outside_of mover.old)) mover.old (W.out out.old) (W.out out.new) (W.failed out.new) result mover.new }
 {
@@ -105,7 +101,6 @@ pub fn go<W: Sink>(
     requires agree { AllAgree (λ l. l.ids) (λ l. (⟦<dyn Native as Native>⟧ l.native.vtable).owed l.native.value) mover.old.machine.natives.slots.items }
     requires ready { IsReady mover.old }
     ensures agree { AllAgree (λ l. l.ids) (λ l. (⟦<dyn Native as Native>⟧ l.native.vtable).owed l.native.value) mover.new.machine.natives.slots.items }
-    ensures ready { IsReady mover.new }
     ensures keeps { Keeps mover.old mover.new }
     ensures went { Went (course_of mover.old.machine.core.image (outside_of mover.old) breakpoints.now course mover.old.recent mover.new.recent) (Reaches mover.old.machine.core.image (outside_of mover.old)) mover.old (W.out out.old) (W.out out.new) (W.failed out.new) result mover.new }
 {

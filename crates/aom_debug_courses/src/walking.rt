@@ -70,7 +70,6 @@ pub fn walk<W: Sink>(
     requires ready { IsReady mover.old }
     requires running { progress mover.old.machine.core ≡ Running }
     ensures agree { AllAgree (λ l. l.ids) (λ l. (⟦<dyn Native as Native>⟧ l.native.vtable).owed l.native.value) mover.new.machine.natives.slots.items }
-    ensures ready { IsReady mover.new }
     ensures keeps { Keeps mover.old mover.new }
     ensures went { Went (WalksThere mover.old.machine.core.image mover.old.turn.refused (λ s. stays_at mover.old.machine.core.image until breakpoints.now s) mover.old.recent mover.new.recent) (Moving mover.old.machine.core.image mover.old.turn.refused) mover.old (W.out out.old) (W.out out.new) (W.failed out.new) result mover.new }
 {
@@ -98,7 +97,6 @@ pub fn walk_unless<W: Sink>(
     requires ready { IsReady mover.old }
     requires running { rests ≡ false → progress mover.old.machine.core ≡ Running }
     ensures agree { AllAgree (λ l. l.ids) (λ l. (⟦<dyn Native as Native>⟧ l.native.vtable).owed l.native.value) mover.new.machine.natives.slots.items }
-    ensures ready { IsReady mover.new }
     ensures keeps { Keeps mover.old mover.new }
     ensures went { Went (WalksUnless rests mover.old.machine.core.image mover.old.turn.refused (λ s. stays_at mover.old.machine.core.image until breakpoints.now s) mover.old.recent mover.new.recent) (Moving mover.old.machine.core.image mover.old.turn.refused) mover.old (W.out out.old) (W.out out.new) (W.failed out.new) result mover.new }
 {

@@ -3,7 +3,7 @@ use Rattle.std.proofs.Common.{◌≡◌, ◌∙◌, ℕ, Bool, true, false, List
 use Rattle.std.specs.Bool.{then_some}
 use Rattle.aom_image.specs.Image.{Image}
 use Rattle.aom_lines.specs.Turn.{Turn}
-use Rattle.aom_script.specs.Script.{IsTimely, Script}
+use Rattle.aom_script.specs.Script.{Script}
 use Rattle.aom_exec.specs.Steps.{progress}
 use Rattle.aom_machine.specs.Calls.{Stands, natives_of}
 use Rattle.aom_debug_marks.specs.declared.spot.Spot.{Spot}
@@ -14,20 +14,37 @@ use Rattle.aom_debug_moves.specs.Movers.{IsReady, Keeps, Mover, Went, outside_of
 use Rattle.aom_debug_moves.specs.Sends.{Breaks, Leads, Machine, Sends}
 
 module _ {X : Type 0} {B : X → Type 0} where
-  pub keeps_all : (m : Mover X B) → Keeps m m
-  keeps_all m = record { image = refl; natives = refl; script = refl; turn = refl; limit = refl }
+  pub keeps_all : (m : Mover X B) → IsReady m → Keeps m m
+  keeps_all m ready = record { image = refl; natives = refl; script = refl; turn = refl; limit = refl; ready = ready }
 
   pub keeps_on : {old mid new : Mover X B} → Keeps old mid → Keeps mid new → Keeps old new
-  keeps_on was is = record { image = is.image ∙ was.image; natives = is.natives ∙ was.natives; script = is.script ∙ was.script; turn = is.turn ∙ was.turn; limit = is.limit ∙ was.limit }
+  keeps_on was is = record { image = is.image ∙ was.image; natives = is.natives ∙ was.natives; script = is.script ∙ was.script; turn = is.turn ∙ was.turn; limit = is.limit ∙ was.limit; ready = is.ready }
 
   -- also where other instructions are noted
   pub keeps_noting : {old new : Mover X B} → Keeps old new → (spots : List Spot) → Keeps old (record new { recent = spots })
-  keeps_noting keeps spots = record { image = keeps.image; natives = keeps.natives; script = keeps.script; turn = keeps.turn; limit = keeps.limit }
+  keeps_noting keeps spots =
+      let ready = keeps.ready in
+      record {
+        image = keeps.image;
+        natives = keeps.natives;
+        script = keeps.script;
+        turn = keeps.turn;
+        limit = keeps.limit;
+        ready = record { stands = ready.stands; none = ready.none; room = ready.room; timely = ready.timely; few = ready.few };
+      }
 
-  -- a machine that has moved, whose turn is cleared again
-  pub keeps_with : (m : Mover X B) (machine : Machine X B) (turn : Turn) (page : List ℕ) → machine.core.image ≡ m.machine.core.image → natives_of machine ≡ natives_of m.machine → turn ≡ m.turn
+  -- a machine that has moved, and stands for a state, and whose turn is cleared again
+  pub keeps_with : (m : Mover X B) → IsReady m → (machine : Machine X B) (turn : Turn) (page : List ℕ) → machine.core.image ≡ m.machine.core.image → natives_of machine ≡ natives_of m.machine → turn ≡ m.turn → Stands machine
       → Keeps m (record m { machine = machine; turn = turn; page = page })
-  keeps_with m machine turn page image natives same = record { image = image; natives = natives; script = refl; turn = same; limit = refl }
+  keeps_with m ready machine turn page image natives same stands =
+      record {
+        image = image;
+        natives = natives;
+        script = refl;
+        turn = same;
+        limit = refl;
+        ready = record { stands = stands; none = ap (λ (t : Turn). t.lines) same ∙ ready.none; room = rw (image, ap (λ (t : Turn). t.room) same) ready.room; timely = ready.timely; few = ready.few };
+      }
 
   module _ {old new : Mover X B} (keeps : Keeps old new) where
     -- what is heard outside is the same
@@ -41,17 +58,6 @@ module _ {X : Type 0} {B : X → Type 0} where
 
     pub begun_as : (F : Image → List ℕ → Type 0) → F new.machine.core.image new.turn.refused → F old.machine.core.image old.turn.refused
     begun_as F = heard_as (λ p outside. F p outside.refused)
-
-  -- a mover that was ready is so while it stands for a state
-  pub ready_on : {old new : Mover X B} → IsReady old → Keeps old new → Stands new.machine → IsReady new
-  ready_on ready keeps stands =
-      record {
-        stands = stands;
-        none = ap (λ (t : Turn). t.lines) keeps.turn ∙ ready.none;
-        room = rw (keeps.image, ap (λ (t : Turn). t.room) keeps.turn) ready.room;
-        timely = subst (λ (s : Script). IsTimely s.timed) (sym keeps.script) ready.timely;
-        few = rw keeps.limit ready.few;
-      }
 
   -- what came of a move, by whether all its lines are out
   pub went_if : {so may : Leads} (a n : Mover X B) (before out : Option (List ℕ)) (failed : Bool) (far : Progress) (is_out : Bool) (result : Option Progress) → result ≡ then_some is_out far → far ≡ progress n.machine.core

@@ -23,13 +23,14 @@ module _ {X : Type 0} {B : X → Type 0} where
     pub timely : IsTimely m.script.timed
     pub few : m.limit ≤ 2 ^ 64 - 1
 
-  -- what no move changes
+  -- what no move changes; and it is ready again
   pub record Keeps (old new : Mover X B) : Type 0 where
     pub image : new.machine.core.image ≡ old.machine.core.image
     pub natives : natives_of new.machine ≡ natives_of old.machine
     pub script : new.script ≡ old.script
     pub turn : new.turn ≡ old.turn
     pub limit : new.limit ≡ old.limit
+    pub ready : IsReady new
 
   -- a move went so, has come so far, and its lines are out; or of a way that it may have gone a beginning is out, since the sink failed
   abbrev pub Went : (so may : Leads) → Mover X B → Option (List ℕ) → Option (List ℕ) → Bool → Option Progress → Mover X B → Type 0

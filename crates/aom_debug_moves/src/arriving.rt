@@ -22,7 +22,6 @@ pub fn turn_out<W: Sink>(mover: &mut Mover, out: &mut W) -> Option<Progress>
     requires ready { IsReady mover.old }
     requires between { progress mover.old.machine.core ≡ Turned }
     ensures agree { AllAgree (λ l. l.ids) (λ l. (⟦<dyn Native as Native>⟧ l.native.vtable).owed l.native.value) mover.new.machine.natives.slots.items }
-    ensures ready { IsReady mover.new }
     ensures keeps { Keeps mover.old mover.new }
     ensures recent { mover.new.recent ≡ mover.old.recent }
     ensures takes { (ending : Option EndingRecord) × (now : TurnRecord) × TakesTurns mover.old.machine (outside_of mover.old) ending mover.old.turn now mover.new.machine }
@@ -39,7 +38,6 @@ pub fn arrive<W: Sink>(mover: &mut Mover, out: &mut W) -> Option<Progress>
     requires agree { AllAgree (λ l. l.ids) (λ l. (⟦<dyn Native as Native>⟧ l.native.vtable).owed l.native.value) mover.old.machine.natives.slots.items }
     requires ready { IsReady mover.old }
     ensures agree { AllAgree (λ l. l.ids) (λ l. (⟦<dyn Native as Native>⟧ l.native.vtable).owed l.native.value) mover.new.machine.natives.slots.items }
-    ensures ready { IsReady mover.new }
     ensures keeps { Keeps mover.old mover.new }
     ensures recent { mover.new.recent ≡ mover.old.recent }
     ensures went { Went (Arrives mover.old.machine.core.image (outside_of mover.old)) (Reaches mover.old.machine.core.image (outside_of mover.old)) mover.old (W.out out.old) (W.out out.new) (W.failed out.new) result mover.new }

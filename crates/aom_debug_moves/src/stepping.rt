@@ -39,7 +39,6 @@ fn step_if<W: Sink>(asked: bool, mover: &mut Mover, out: &mut W) -> Option<Progr
     requires agree { AllAgree (λ l. l.ids) (λ l. (⟦<dyn Native as Native>⟧ l.native.vtable).owed l.native.value) mover.old.machine.natives.slots.items }
     requires ready { IsReady mover.old }
     ensures agree { AllAgree (λ l. l.ids) (λ l. (⟦<dyn Native as Native>⟧ l.native.vtable).owed l.native.value) mover.new.machine.natives.slots.items }
-    ensures ready { IsReady mover.new }
     ensures keeps { Keeps mover.old mover.new }
     ensures recent { mover.new.recent ≡ mover.old.recent }
     ensures went { Went (IfSo asked (StepsOnce mover.old.machine.core.image mover.old.turn.refused)) (Moving mover.old.machine.core.image mover.old.turn.refused) mover.old (W.out out.old) (W.out out.new) (W.failed out.new) result mover.new }
@@ -84,7 +83,6 @@ pub fn stride<W: Sink>(mover: &mut Mover, out: &mut W) -> Option<Progress>
     requires agree { AllAgree (λ l. l.ids) (λ l. (⟦<dyn Native as Native>⟧ l.native.vtable).owed l.native.value) mover.old.machine.natives.slots.items }
     requires ready { IsReady mover.old }
     ensures agree { AllAgree (λ l. l.ids) (λ l. (⟦<dyn Native as Native>⟧ l.native.vtable).owed l.native.value) mover.new.machine.natives.slots.items }
-    ensures ready { IsReady mover.new }
     ensures keeps { Keeps mover.old mover.new }
     ensures went { Went (Strides mover.old.machine.core.image mover.old.turn.refused mover.old.recent mover.new.recent) (Moving mover.old.machine.core.image mover.old.turn.refused) mover.old (W.out out.old) (W.out out.new) (W.failed out.new) result mover.new }
     ensures falls { IfSome result (λ _. progress mover.new.machine.core ≡ Running → rank mover.new.machine.core < rank mover.old.machine.core) }

@@ -16,7 +16,7 @@ ghost use Rattle.aom_debug_sights.specs.Telling.{Tells, TellsPart};
 
 use crate::cleanup::item_at;
 use crate::tree::tell_place;
-use crate::way::Way;
+use crate::way;
 use aom_budget::Accepted;
 use aom_cells::NULL;
 use aom_cleanup::Item;
@@ -53,8 +53,12 @@ fn tell_register<W: Sink>(
     ensures err { IfErr result (λ fault. (p : Image) (depth : ℕ) → ShowsIf (may_own (kind_in shape.now register)) (record { image = p; parts = parts.now }) (slice_index_or frame.now.registers register null) (Register depth register) → TellsPart (record { image = p; parts = parts.now }) (λ s. owners_text (grown s.cells (In_register frames register) (Register depth register))) fault (W.failed out.new) (W.out out.old) (W.out out.new)) }
 {
     if may_own(shape, register) {
-        let way = Way::register(frames, register);
-        tell_place(parts, way, frame.register(register), out)
+        tell_place(
+            parts,
+            way::register(frames, register),
+            frame.register(register),
+            out,
+        )
     } else {
         Ok(())
     }
@@ -197,8 +201,7 @@ fn tell_entries<W: Sink>(parts: &Parts, out: &mut W) -> Result<(), DebugFault>
 {
     let mut entries = 0;
     for height in 0..parts.entries.len() {
-        let way = Way::entry(entries);
-        tell_place(parts, way, item_number(parts, height), out)?;
+        tell_place(parts, way::entry(entries), item_number(parts, height), out)?;
         entries += entries_at(parts, height);
     }
     Ok(())
@@ -253,8 +256,7 @@ fn tell_goings<W: Sink>(parts: &Parts, out: &mut W) -> Result<(), DebugFault>
 {
     let mut goings = 0;
     for depth in 0..parts.stack.len() {
-        let way = Way::going(goings);
-        tell_place(parts, way, going_number(parts, depth), out)?;
+        tell_place(parts, way::going(goings), going_number(parts, depth), out)?;
         goings += goings_at(parts, depth);
     }
     Ok(())
@@ -275,9 +277,9 @@ pub fn tell_owners<W: Sink>(
     ensures err { IfErr result (λ fault. TellsPart (record { image = accepted.now; parts = parts.now }) (λ s. owners_text (owners s)) fault (W.failed out.new) (W.out out.old) (W.out out.new)) }
 {
     parts.clients.are_apart();
-    tell_place(parts, Way::root(), parts.root, out)?;
+    tell_place(parts, way::root(), parts.root, out)?;
     tell_registers(parts, accepted.checked(), out)?;
     tell_entries(parts, out)?;
-    tell_place(parts, Way::service(), parts.served, out)?;
+    tell_place(parts, way::service(), parts.served, out)?;
     tell_goings(parts, out)
 }

@@ -5,7 +5,7 @@ ghost use Rattle.aom_run.specs.Runs.{after};
 ghost use Rattle.aom_debug_lines.specs.Answers.{answer_text};
 ghost use Rattle.aom_debug_sights.specs.Telling.{IsCut, answers_text, listed};
 
-use aom_debug_lines::{Answer, AnswerLine};
+use aom_debug_lines::{Answer, line_of};
 use aom_debug_words::DebugFault;
 use aom_run::{Sink, write_text};
 
@@ -26,7 +26,7 @@ pub fn tell<W: Sink>(answer: Answer, out: &mut W) -> Result<(), DebugFault>
     ensures ok { IfOk result (λ _. W.out out.new ≡ after (W.out out.old) (ended (answer_text answer))) }
     ensures err { IfErr result (λ fault. IsCut (ended (answer_text answer)) fault (W.failed out.new) (W.out out.old) (W.out out.new)) }
 {
-    let line = AnswerLine::of(answer);
+    let line = line_of(answer);
     send(line.as_bytes(), out)
 }
 

@@ -13,7 +13,7 @@ ghost use Rattle.aom_debug_sights.specs.Owners.{Outer, Shows, Way as WayRecord, 
 ghost use Rattle.aom_debug_sights.specs.Telling.{IsCut, Tells, TellsPart};
 
 use crate::sending::send;
-use crate::way::Way;
+use crate::way::{Way, add_class, add_message, enter, enter_session};
 use aom_cells::{CellId, NULL};
 use aom_clients::{Client, NO_CELL, Place};
 use aom_debug_words::DebugFault;
@@ -31,7 +31,7 @@ fn tell_owned<W: Sink>(way: &mut Way, class: u16, out: &mut W) -> Result<(), Deb
     ensures err { IfErr result (λ fault. IsCut (ended (way.old ++ codes " " ++ decimal class)) fault (W.failed out.new) (W.out out.old) (W.out out.new)) }
 {
     let length = way.len();
-    way.add_class(class);
+    add_class(way, class);
     let done = send(way.as_bytes(), out);
     way.cut(length);
     done
@@ -45,7 +45,7 @@ fn tell_sent<W: Sink>(way: &mut Way, client: u8, out: &mut W) -> Result<(), Debu
     ensures err { IfErr result (λ fault. IsCut (ended (way.old ++ codes " " ++ (codes "msg " ++ decimal client))) fault (W.failed out.new) (W.out out.old) (W.out out.new)) }
 {
     let length = way.len();
-    way.add_message(client);
+    add_message(way, client);
     let done = send(way.as_bytes(), out);
     way.cut(length);
     done
@@ -152,14 +152,14 @@ fn tell_tree<W: Sink>(
     tell_owned(way, parts.cells.class(id), out)?;
     let length = way.len();
     for field in 0..8u8 {
-        way.enter(field);
+        enter(way, field);
         tell_tree(parts, way, parts.cells.field(id, field), depth - 1, out)?;
         way.cut(length);
     }
     parts.clients.are_apart();
     let mut next = first_session(parts, id);
     while let Some(client) = next {
-        way.enter_session(client);
+        enter_session(way, client);
         tell_tree(
             parts,
             way,

@@ -4,168 +4,107 @@ ghost use Rattle.aom_transcript.specs.Text.{ended};
 ghost use Rattle.aom_debug_sights.specs.Owners.{branch_text, outer_text};
 ghost use Rattle.aom_debug_sights.specs.Owners.{At_root, At_service, By_field, By_session, In_entry, In_going, In_register};
 
-use arrayvec::ArrayVec;
-use itoa::Buffer;
-use std::marker::Model;
+use aom_buffers::Text;
 
 /// An outer place takes at most 48 bytes, each of 257 fields or sessions at most 5, and what is there at most 11.
 const LONGEST: usize = 1536;
 
 /// The text of a way, with room for any.
-#[derive(Drop)]
-pub(crate) struct Way {
-    bytes: ArrayVec<u8, LONGEST>,
+pub(crate) type Way = Text<LONGEST>;
+
+/// The root.
+pub(crate) fn root() -> Way
+    ensures text { result ≡ outer_text At_root }
+    ensures short { length result ≤ 48 }
+{
+    plain(b"root")
 }
 
-impl Model for Way {
-    ghost use Rattle.std.specs.Prelude.{ℕ, List};
-
-    ghost Value = { List ℕ };
-
-    ghost view = { λ w. w.bytes.items };
+/// A register of the frame over so many others.
+pub(crate) fn register(frames: usize, register: u8) -> Way
+    ensures text { result ≡ outer_text (In_register frames register) }
+    ensures short { length result ≤ 48 }
+{
+    let mut way = numbered(b"reg ", frames);
+    way.add_count(b" r", register);
+    way
 }
 
-impl Way {
-    /// The root.
-    pub(crate) fn root() -> Way
-        ensures text { result ≡ outer_text At_root }
-        ensures short { length result ≤ 48 }
-    {
-        Way::of(b"root")
-    }
+/// The cleanup entry over so many others.
+pub(crate) fn entry(entries: usize) -> Way
+    ensures text { result ≡ outer_text (In_entry entries) }
+    ensures short { length result ≤ 48 }
+{
+    numbered(b"clean ", entries)
+}
 
-    /// A register of the frame over so many others.
-    pub(crate) fn register(frames: usize, register: u8) -> Way
-        ensures text { result ≡ outer_text (In_register frames register) }
-        ensures short { length result ≤ 48 }
-    {
-        let mut way = Way::numbered(b"reg ", frames);
-        way.add(b" r");
-        way.add_small(u16::from(register));
-        way
-    }
+/// The destruction over so many others.
+pub(crate) fn going(goings: usize) -> Way
+    ensures text { result ≡ outer_text (In_going goings) }
+    ensures short { length result ≤ 48 }
+{
+    numbered(b"going ", goings)
+}
 
-    /// The cleanup entry over so many others.
-    pub(crate) fn entry(entries: usize) -> Way
-        ensures text { result ≡ outer_text (In_entry entries) }
-        ensures short { length result ≤ 48 }
-    {
-        Way::numbered(b"clean ", entries)
-    }
+/// The message that is served.
+pub(crate) fn service() -> Way
+    ensures text { result ≡ outer_text At_service }
+    ensures short { length result ≤ 48 }
+{
+    plain(b"service")
+}
 
-    /// The destruction over so many others.
-    pub(crate) fn going(goings: usize) -> Way
-        ensures text { result ≡ outer_text (In_going goings) }
-        ensures short { length result ≤ 48 }
-    {
-        Way::numbered(b"going ", goings)
-    }
+fn plain(words: &[u8]) -> Way
+    requires { length words.now ≤ 8 }
+    ensures { result ≡ words.now }
+{
+    let mut way = Way::new();
+    way.add(words);
+    way
+}
 
-    /// The message that is served.
-    pub(crate) fn service() -> Way
-        ensures text { result ≡ outer_text At_service }
-        ensures short { length result ≤ 48 }
-    {
-        Way::of(b"service")
-    }
+fn numbered(words: &[u8], number: usize) -> Way
+    requires { length words.now ≤ 8 }
+    ensures text { result ≡ words.now ++ decimal number }
+    ensures short { length result ≤ length words.now + 20 }
+{
+    let mut way = Way::new();
+    way.add_count(words, number);
+    way
+}
 
-    fn of(word: &[u8]) -> Way
-        requires { length word.now ≤ 8 }
-        ensures { result ≡ word.now }
-    {
-        let mut way = Way {
-            bytes: ArrayVec::new(),
-        };
-        way.add(word);
-        way
-    }
+/// On to a field.
+pub(crate) fn enter(way: &mut Way, field: u8)
+    requires { length way.old + 7 ≤ 1536 }
+    ensures text { way.new ≡ way.old ++ branch_text (By_field field) }
+    ensures short { length way.new ≤ length way.old + 5 }
+{
+    way.add_count(b".f", field);
+}
 
-    fn numbered(word: &[u8], number: usize) -> Way
-        requires { length word.now ≤ 8 }
-        ensures text { result ≡ word.now ++ decimal number }
-        ensures short { length result ≤ length word.now + 20 }
-    {
-        let mut way = Way::of(word);
-        let mut buffer = Buffer::new();
-        way.add(buffer.format(number as u64).as_bytes());
-        way
-    }
+/// On to the session of a client.
+pub(crate) fn enter_session(way: &mut Way, client: u8)
+    requires { length way.old + 7 ≤ 1536 }
+    ensures text { way.new ≡ way.old ++ branch_text (By_session client) }
+    ensures short { length way.new ≤ length way.old + 5 }
+{
+    way.add_count(b".s", client);
+}
 
-    pub(crate) fn len(&self) -> usize
-        ensures { result ≡ length self.now }
-    {
-        self.bytes.len()
-    }
+/// The client that sent the message which is there, behind the way, and the end of its line.
+pub(crate) fn add_message(way: &mut Way, client: u8)
+    requires { length way.old + 11 ≤ 1536 }
+    ensures { way.new ≡ ended (way.old ++ codes " " ++ (codes "msg " ++ decimal client)) }
+{
+    way.add_count(b" msg ", client);
+    way.add(b"\n");
+}
 
-    pub(crate) fn as_bytes(&self) -> &[u8]
-        ensures { result.now ≡ self.now }
-    {
-        self.bytes.as_slice()
-    }
-
-    /// On to a field.
-    pub(crate) fn enter(&mut self, field: u8)
-        requires { length self.old + 7 ≤ 1536 }
-        ensures text { self.new ≡ self.old ++ branch_text (By_field field) }
-        ensures short { length self.new ≤ length self.old + 5 }
-    {
-        self.add(b".f");
-        let mut buffer = Buffer::new();
-        self.add(buffer.format(field).as_bytes());
-    }
-
-    /// On to the session of a client.
-    pub(crate) fn enter_session(&mut self, client: u8)
-        requires { length self.old + 7 ≤ 1536 }
-        ensures text { self.new ≡ self.old ++ branch_text (By_session client) }
-        ensures short { length self.new ≤ length self.old + 5 }
-    {
-        self.add(b".s");
-        let mut buffer = Buffer::new();
-        self.add(buffer.format(client).as_bytes());
-    }
-
-    /// The client that sent the message which is there, behind the way, and the end of its line.
-    pub(crate) fn add_message(&mut self, client: u8)
-        requires { length self.old + 11 ≤ 1536 }
-        ensures { self.new ≡ ended (self.old ++ codes " " ++ (codes "msg " ++ decimal client)) }
-    {
-        self.add(b" msg ");
-        self.add_small(u16::from(client));
-        self.add(b"\n");
-    }
-
-    /// The class of what is there, behind the way, and the end of its line.
-    pub(crate) fn add_class(&mut self, class: u16)
-        requires { length self.old + 7 ≤ 1536 }
-        ensures { self.new ≡ ended (self.old ++ codes " " ++ decimal class) }
-    {
-        self.add(b" ");
-        self.add_small(class);
-        self.add(b"\n");
-    }
-
-    /// Back to its first so many bytes.
-    pub(crate) fn cut(&mut self, length: usize)
-        ensures { self.new ≡ take length self.old }
-    {
-        self.bytes.truncate(length);
-    }
-
-    fn add_small(&mut self, number: u16)
-        requires { length self.old + 5 ≤ 1536 }
-        ensures text { self.new ≡ self.old ++ decimal number }
-        ensures short { length self.new ≤ length self.old + 5 }
-    {
-        let mut buffer = Buffer::new();
-        self.add(buffer.format(number).as_bytes());
-    }
-
-    fn add(&mut self, part: &[u8])
-        requires { length self.old + length part.now ≤ 1536 }
-        ensures text { self.new ≡ self.old ++ part.now }
-        ensures long { length self.new ≡ length self.old + length part.now }
-    {
-        self.bytes.try_extend_from_slice(part).unwrap();
-    }
+/// The class of what is there, behind the way, and the end of its line.
+pub(crate) fn add_class(way: &mut Way, class: u16)
+    requires { length way.old + 7 ≤ 1536 }
+    ensures { way.new ≡ ended (way.old ++ codes " " ++ decimal class) }
+{
+    way.add_count(b" ", class);
+    way.add(b"\n");
 }

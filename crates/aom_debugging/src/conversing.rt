@@ -30,7 +30,6 @@ fn obey<W: Sink>(
     requires ready { IsReady debugger.old.mover }
     requires well { debugger.old.has_failed ≡ false }
     ensures agree { AllAgree (λ l. l.ids) (λ l. (⟦<dyn Native as Native>⟧ l.native.vtable).owed l.native.value) debugger.new.mover.machine.natives.slots.items }
-    ensures ready { IsReady debugger.new.mover }
     ensures keeps { Keeps debugger.old.mover debugger.new.mover }
     ensures ok { IfOk result (λ _. Heard said debugger.old debugger.new (record { before = W.out out.old; now = W.out out.new; failed = W.failed out.new })) }
     ensures err { IfErr result (λ fault. (fault ≡ Write) × HeardPart said debugger.old (record { before = W.out out.old; now = W.out out.new; failed = W.failed out.new })) }
@@ -54,7 +53,6 @@ fn command_done<W: Sink>(
     requires ready { IsReady debugger.old.mover }
     requires well { debugger.old.has_failed ≡ false }
     ensures agree { AllAgree (λ l. l.ids) (λ l. (⟦<dyn Native as Native>⟧ l.native.vtable).owed l.native.value) debugger.new.mover.machine.natives.slots.items }
-    ensures ready { IsReady debugger.new.mover }
     ensures keeps { Keeps debugger.old.mover debugger.new.mover }
     ensures ok { IfOk result (λ _. Heard (Ok (Some command)) debugger.old debugger.new (record { before = W.out out.old; now = W.out out.new; failed = W.failed out.new })) }
     ensures err { IfErr result (λ fault. (fault ≡ Write) × HeardPart (Ok (Some command)) debugger.old (record { before = W.out out.old; now = W.out out.new; failed = W.failed out.new })) }

@@ -5,7 +5,7 @@ ghost use Rattle.aom_main.specs.Headline.{Told};
 ghost use Rattle.aom_main.specs.Untold.{Answered};
 
 use crate::ExitStatus;
-use crate::fault_line::FaultLine;
+use crate::fault_line::fault_line;
 use aom_budget::BudgetFault;
 use aom_classes::LinkFault;
 use aom_codec::LoadFault;
@@ -184,7 +184,7 @@ pub(crate) fn answer<E: Sink>(found: Result<ExitStatus, Fault>, errors: &mut E) 
 pub fn tell<E: Sink>(fault: &Fault, errors: &mut E) -> ExitStatus
     ensures { Told fault.now result (record { before = E.out errors.old; now = E.out errors.new; failed = E.failed errors.new }) }
 {
-    let line = FaultLine::of(fault);
+    let line = fault_line(fault);
     write_text(errors, line.as_bytes());
     fault.status()
 }

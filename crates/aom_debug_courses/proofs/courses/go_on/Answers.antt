@@ -26,7 +26,6 @@ loop-progress-init g c =
     record {
       so_far = begins_far p (outside_of a) stays a.recent m.recent a.machine m.machine before out walks;
       far = c.in_ok-progress.ensures.went.1;
-      ready = c.walk_unless.ensures.ready;
       keeps = c.walk_unless.ensures.keeps;
       agree = c.walk_unless.ensures.agree;
     }
@@ -72,7 +71,7 @@ loop-progress-smaller g c =
     let later = left_in a.script.timed a.limit n.machine.core.parts.rest in
     let before = left_in a.script.timed a.limit m.machine.core.parts.rest in
     let far = c.in_ok-progress-2.progress in
-    let less = nearer far later before (λ again. left_falls a.machine.core.image (outside_of a) c.requires.ready.few _ _ _ m.machine n.machine _ _ i.ready.stands resting on (sym some.1 ∙ again)) in
+    let less = nearer far later before (λ again. left_falls a.machine.core.image (outside_of a) c.requires.ready.few _ _ _ m.machine n.machine _ _ i.keeps.ready.stands resting on (sym some.1 ∙ again)) in
     subst (λ q. to_go far later < to_go q before) (sym c.in-Turned.is) less
 
 pub loop-progress-preserved : goal.loop-progress-preserved
@@ -88,7 +87,6 @@ loop-progress-preserved g c =
     record {
       so_far = goes_far p (outside_of a) stays a.recent m.recent a.machine m.machine n.machine _ _ _ i.so_far n.recent on;
       far = some.1;
-      ready = c.pass.ensures.ready;
       keeps = keeps_on i.keeps c.pass.ensures.keeps;
       agree = c.pass.ensures.agree;
     }

@@ -14,8 +14,7 @@ loop-done-init g c =
     record {
       so_far = no_steps a.machine.core.image (outside_of a) a.recent a.machine (g.W.Sink.out c.args.out.now);
       within = omega arith;
-      ready = c.requires.ready;
-      keeps = keeps_all a;
+      keeps = keeps_all a c.requires.ready;
       agree = c.requires.agree;
     }
 
@@ -73,7 +72,6 @@ loop-done-preserved g c =
       so_far = subst (λ k. Sends (GoesSo a.machine.core.image (outside_of a) k a.recent n.recent) a.machine (g.W.Sink.out c.args.out.now) out n.machine) more
           (one_more a.machine.core.image (outside_of a) c.loop-done.done a.recent m.recent a.machine m.machine mid.machine _ _ _ i.so_far n.machine out comes n.recent (sym some.1 ∙ c.in-Running.is) step);
       within = omega (arith, c.loop-done-test.true);
-      ready = c.stride.ensures.ready;
       keeps = keeps_on keeps c.stride.ensures.keeps;
       agree = c.stride.ensures.agree;
     }

@@ -11,8 +11,7 @@ loop-progress-init g c =
     record {
       so_far = nowhere a.machine.core.image a.turn.refused (λ s. stays_at a.machine.core.image c.args.until c.args.breakpoints.now s) a.recent a.machine (g.W.Sink.out c.args.out.now);
       running = c.requires.running;
-      ready = c.requires.ready;
-      keeps = keeps_all a;
+      keeps = keeps_all a c.requires.ready;
       agree = c.requires.agree;
     }
 
@@ -44,7 +43,6 @@ loop-progress-preserved g c =
     record {
       so_far = not_there _ _ _ _ _ c.args.mover.now.machine c.stride.new.mover.machine _ _ made c.is_there.result c.if-is_there.false (λ s st. c.is_there.ensures s st ∙ ap (λ q. stays_at q c.args.until c.args.breakpoints.now s) (c.stride.ensures.keeps.image ∙ i.keeps.image));
       running = sym some.1 ∙ c.in-Running.is;
-      ready = c.stride.ensures.ready;
       keeps = keeps_on i.keeps c.stride.ensures.keeps;
       agree = c.stride.ensures.agree;
     }

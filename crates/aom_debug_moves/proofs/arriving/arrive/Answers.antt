@@ -16,8 +16,7 @@ loop-mover-init g c =
     let a = c.args.mover.now in
     record {
       so_far = arrives_nowhere a.machine.core.image (outside_of a) a.machine (g.W.Sink.out c.args.out.now);
-      ready = c.requires.ready;
-      keeps = keeps_all a;
+      keeps = keeps_all a c.requires.ready;
       recent = refl;
       agree = c.requires.agree;
     }
@@ -31,7 +30,7 @@ loop-mover-smaller g c =
     let resting = sym c.progress.ensures ∙ c.in-Turned.is in
     let takes = c.turn_out.ensures.takes in
     let so = subst (λ o. TakesTurns m.machine o takes.0 m.turn takes.1 new.machine) (hears_as i.keeps) takes.2 in
-    let less = nearer (progress new.machine.core) (left a.script.timed a.limit new.machine) (left a.script.timed a.limit m.machine) (λ again. fewer (outside_of a) c.requires.ready.few m.machine new.machine m.turn takes.1 takes.0 i.ready.stands resting so again) in
+    let less = nearer (progress new.machine.core) (left a.script.timed a.limit new.machine) (left a.script.timed a.limit m.machine) (λ again. fewer (outside_of a) c.requires.ready.few m.machine new.machine m.turn takes.1 takes.0 i.keeps.ready.stands resting so again) in
     subst (λ q. to_go (progress new.machine.core) (left a.script.timed a.limit new.machine) < to_go q (left a.script.timed a.limit m.machine)) (sym resting) less
 
 pub loop-mover-preserved : goal.loop-mover-preserved
@@ -45,7 +44,6 @@ loop-mover-preserved g c =
     let sent = heard_as i.keeps (λ q o. Sends (TurnsOnce q o) m.machine here out new.machine) c.in_ok-turn_out-in-Turned.ensures.went.0 in
     record {
       so_far = arrives_on a.machine.core.image (outside_of a) a.machine m.machine new.machine (g.W.Sink.out c.args.out.now) here out i.so_far (sym c.progress.ensures ∙ c.in-Turned.is) sent;
-      ready = c.turn_out.ensures.ready;
       keeps = keeps_on i.keeps c.turn_out.ensures.keeps;
       recent = c.turn_out.ensures.recent ∙ i.recent;
       agree = c.turn_out.ensures.agree;

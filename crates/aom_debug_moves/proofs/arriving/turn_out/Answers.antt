@@ -3,7 +3,7 @@ use Rattle.std.proofs.Common.{subst}
 use Rattle.aom_machine.specs.Calls.{natives_of}
 use Rattle.aom_run.specs.Turns.{TakesTurns, hearing}
 use Rattle.aom_debug_moves.specs.Movers.{outside_of}
-use Rattle.aom_debug_moves.proofs.Keeping.{keeps_with, ready_on, went_if}
+use Rattle.aom_debug_moves.proofs.Keeping.{keeps_with, went_if}
 use Rattle.aom_debug_moves.proofs.Sending.{breaks_turn, sends_turn, stands_turned, turn_cleared}
 use Rattle.aom_debug_moves.proofs.arriving.turn_out.Goals as goal
 
@@ -13,14 +13,14 @@ returns-clause-takes g c =
     let turns = c.take_turns in
     (turns.result, turns.new.turn, subst (λ es. TakesTurns a.machine (hearing a.turn.refused a.limit (natives_of a.machine) es) turns.result a.turn turns.new.turn turns.new.machine) c.events-events.ensures turns.ensures.turns)
 
-pub returns-clause-ready : goal.returns-clause-ready
-returns-clause-ready g c =
+pub returns-clause-keeps : goal.returns-clause-keeps
+returns-clause-keeps g c =
     let a = c.args.mover.now in
     let ready = c.requires.ready in
     let turns = c.take_turns in
     let heard = hearing a.turn.refused a.limit (natives_of a.machine) c.events-events.result.now in
     let same = turn_cleared a.machine turns.new.machine heard turns.result a.turn turns.new.turn ready.none turns.ensures.turns ready.stands c.send.new.turn c.send.ensures.clear in
-    ready_on ready (keeps_with a turns.new.machine c.send.new.turn c.send.new.page turns.ensures.image turns.ensures.natives same) (stands_turned a.machine turns.new.machine heard turns.result a.turn turns.new.turn ready.none turns.ensures.turns ready.stands)
+    keeps_with a ready turns.new.machine c.send.new.turn c.send.new.page turns.ensures.image turns.ensures.natives same (stands_turned a.machine turns.new.machine heard turns.result a.turn turns.new.turn ready.none turns.ensures.turns ready.stands)
 
 pub returns-clause-went : goal.returns-clause-went
 returns-clause-went g c =

@@ -1,20 +1,20 @@
 -- A step that is asked for, and its lines; or nothing.
 use Rattle.aom_debug_moves.specs.Moves.{StepsOnce}
-use Rattle.aom_debug_moves.proofs.Keeping.{keeps_with, ready_on, went_if}
+use Rattle.aom_debug_moves.proofs.Keeping.{keeps_with, went_if}
 use Rattle.aom_debug_moves.proofs.Sending.{breaks_step, cleared, far_after, sends_if_not, sends_if_so, sends_step, stands_after, stepped_of, was_running}
 use Rattle.aom_debug_moves.proofs.stepping.step_if.Goals as goal
 
 pub returns-then-not-asked-clause-went : goal.returns-then-not-asked-clause-went
 returns-then-not-asked-clause-went g c = (sends_if_not c.args.asked c.if-not-asked.true _ c.args.mover.now.machine (g.W.Sink.out c.args.out.now), c.progress.ensures)
 
-pub returns-clause-ready : goal.returns-clause-ready
-returns-clause-ready g c =
+pub returns-clause-keeps : goal.returns-clause-keeps
+returns-clause-keeps g c =
     let a = c.args.mover.now in
     let ready = c.requires.ready in
     let step = c.step-progress in
     let steps = stepped_of a.machine step.new.self step.result a.turn step.new.turn step.ensures.steps in
     let same = cleared a.machine step.new.self step.result a.turn step.new.turn ready.none steps ready.stands c.send.new.turn c.send.ensures.clear in
-    ready_on ready (keeps_with a step.new.self c.send.new.turn c.send.new.page step.ensures.image step.ensures.natives same) (stands_after a.machine step.new.self step.result a.turn step.new.turn ready.none steps ready.stands)
+    keeps_with a ready step.new.self c.send.new.turn c.send.new.page step.ensures.image step.ensures.natives same (stands_after a.machine step.new.self step.result a.turn step.new.turn ready.none steps ready.stands)
 
 pub returns-clause-went : goal.returns-clause-went
 returns-clause-went g c =

@@ -28,7 +28,7 @@ returns-in_err-tell_place-clause-err g c =
     let m = c.args.parts.now in
     let k = c.loop-height.height in
     rw (error.1, error.2) (λ p.
-    let cut = c.in_err-tell_place.ensures.err p (In_entry c.loop-height.entries) (Entry k) c.entry-way.ensures.text (subst (λ n. Shows (record { image = p; parts = m }) n (Entry k)) (sym c.item_number.ensures) (entry_shows p m k)) in
+    let cut = c.in_err-tell_place.ensures.err p (In_entry c.loop-height.entries) (Entry k) c.entry.ensures.text (subst (λ n. Shows (record { image = p; parts = m }) n (Entry k)) (sym c.item_number.ensures) (entry_shows p m k)) in
     part_further owned_line (record { image = p; parts = m }) hangs (λ s. length s.items) k _ _ _ _ _ (c.loop-height.invariant.out p) (λ s st. let many = as_many_items p m s st in omega (arith, c.loop-height-test.true, c.len-height-end.ensures.value, many))
     (part_same (record { image = p; parts = m }) _ (λ s. owners_text (hangs s k)) (numbered p m c.loop-height.entries k c.loop-height.invariant.count) _ _ _ _ cut))
 
@@ -41,7 +41,7 @@ loop-height-preserved g c =
       few = omega (arith, few, c.entries_at-entries.ensures.few);
       count = λ p s st. counted_next (λ j. is_entry (over s.items j)) k c.loop-height.entries c.entries_at-entries.result (c.loop-height.invariant.count p s st) (c.entries_at-entries.ensures.value p s st);
       out = λ p.
-          let told = c.in_ok-tell_place.ensures.ok p (In_entry c.loop-height.entries) (Entry k) c.entry-way.ensures.text (subst (λ n. Shows (record { image = p; parts = m }) n (Entry k)) (sym c.item_number.ensures) (entry_shows p m k)) in
+          let told = c.in_ok-tell_place.ensures.ok p (In_entry c.loop-height.entries) (Entry k) c.entry.ensures.text (subst (λ n. Shows (record { image = p; parts = m }) n (Entry k)) (sym c.item_number.ensures) (entry_shows p m k)) in
           tells_further owned_line (record { image = p; parts = m }) hangs k _ _ _ (c.loop-height.invariant.out p) (tells_same (record { image = p; parts = m }) _ (λ s. owners_text (hangs s k)) (numbered p m c.loop-height.entries k c.loop-height.invariant.count) _ _ told);
     }
 

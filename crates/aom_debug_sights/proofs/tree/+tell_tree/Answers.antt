@@ -57,7 +57,7 @@ returns-in_err-tell_tree-clause-err g t c =
     let deep = deeper c.args.depth c.if-depth-eq0.false in
     rw (error.1, error.2) (λ p w r is shows.
     let begun = c.tell_owned.ensures.same ∙ is in
-    let here = way_further w (By_field at) c.loop-field.way c.enter.new.self (c.loop-field.invariant.same ∙ begun) c.enter.ensures.text in
+    let here = way_further w (By_field at) c.loop-field.way c.enter.new.way (c.loop-field.invariant.same ∙ begun) c.enter.ensures.text in
     let cut = c.in_err-tell_tree.ensures.err p (further w (By_field at)) (Field id at) here (field_shows p m id at c.field.result c.field.ensures) in
     fields_unsent p m id c.class.result (c.args.depth - 1) c.args.depth w r c.args.way.now (subst (λ k. Shows (record { image = p; parts = m }) k r) (sym c.in-Some.ensures.value) shows) c.class.ensures is deep _ _ _ _ _ c.in_ok-tell_owned.ensures.ok
     (part_further owned_line (record { image = p; parts = m }) (below p m id (c.args.depth - 1) w) (λ s. 8) at _ _ _ _ _ (c.loop-field.invariant.out p w begun) (λ s st. c.loop-field-test.true) cut))
@@ -69,9 +69,9 @@ loop-field-preserved g t c =
     let at = c.loop-field.field in
     let first = c.tell_owned.new.way in
     record {
-      same = back_again first c.loop-field.way c.enter.new.self c.tell_tree.new.way c.cut.new.self (branch_text (By_field at)) c.len-length.result c.cut.ensures c.len-length.ensures c.in_ok-tell_tree.ensures.same c.enter.ensures.text c.loop-field.invariant.same;
+      same = back_again first c.loop-field.way c.enter.new.way c.tell_tree.new.way c.cut.new.self (branch_text (By_field at)) c.len-length.result c.cut.ensures c.len-length.ensures c.in_ok-tell_tree.ensures.same c.enter.ensures.text c.loop-field.invariant.same;
       out = λ p w is.
-          let here = way_further w (By_field at) c.loop-field.way c.enter.new.self (c.loop-field.invariant.same ∙ is) c.enter.ensures.text in
+          let here = way_further w (By_field at) c.loop-field.way c.enter.new.way (c.loop-field.invariant.same ∙ is) c.enter.ensures.text in
           tells_further owned_line (record { image = p; parts = m }) (below p m id (c.args.depth - 1) w) at _ _ _ (c.loop-field.invariant.out p w is)
           (c.in_ok-tell_tree.ensures.ok p (further w (By_field at)) (Field id at) here (field_shows p m id at c.field.result c.field.ensures));
     }
@@ -108,7 +108,7 @@ returns-in_err-tell_tree-2-clause-err g t c =
     rw (error.1, error.2) (λ p w r is shows.
     let begun = c.tell_owned.ensures.same ∙ is in
     let at_seats = c.loop-field.invariant.same ∙ begun in
-    let here = way_further w (By_session client) c.loop-next.way c.enter_session.new.self (i.same ∙ at_seats) c.enter_session.ensures.text in
+    let here = way_further w (By_session client) c.loop-next.way c.enter_session.new.way (i.same ∙ at_seats) c.enter_session.ensures.text in
     let cut = c.in_err-tell_tree-2.ensures.err p (further w (By_session client)) (Elsewhere (Session id client)) here (session_shows p m id client c.session_number.result c.session_number.ensures) in
     sessions_unsent p m id c.class.result (c.args.depth - 1) c.args.depth w r c.args.way.now (subst (λ k. Shows (record { image = p; parts = m }) k r) (sym c.in-Some.ensures.value) shows) c.class.ensures is deep _ _ _ c.in_ok-tell_owned.ensures.ok
     (tells_all owned_line (record { image = p; parts = m }) (below p m id (c.args.depth - 1) w) (λ s. 8) c.loop-field.field _ _ (c.loop-field.invariant.out p w begun) (λ s st. omega (arith, most, least))) _ _ _
@@ -132,14 +132,14 @@ loop-next-preserved g t c =
     let first = c.loop-field.way in
     let all = one_behind i.so_far.0 xs c.loop-next.next client (c.are_apart.ensures.once id) (i.inside client c.in-Some-next.is) c.in-Some-next.is i.so_far.1 in
     record {
-      same = back_again first c.loop-next.way c.enter_session.new.self c.tell_tree-in-Some-next.new.way c.cut-in-Some-next.new.self (branch_text (By_session client)) c.len-length.result c.cut-in-Some-next.ensures (c.len-length.ensures ∙ ap length (sym c.loop-field.invariant.same)) c.in_ok-tell_tree-2.ensures.same c.enter_session.ensures.text i.same;
+      same = back_again first c.loop-next.way c.enter_session.new.way c.tell_tree-in-Some-next.new.way c.cut-in-Some-next.new.self (branch_text (By_session client)) c.len-length.result c.cut-in-Some-next.ensures (c.len-length.ensures ∙ ap length (sym c.loop-field.invariant.same)) c.in_ok-tell_tree-2.ensures.same c.enter_session.ensures.text i.same;
       inside = λ d e. after-in client d xs (sym next ∙ e);
       small = λ d e. subst (λ o. IfSome o (λ k. k < 64)) e c.next_session-next.ensures.below;
       so_far = (
         i.so_far.0 ++ client ∷ [],
         ap (λ o. (i.so_far.0 ++ client ∷ []) ++ from o xs) next ∙ all,
         (λ p w is.
-            let here = way_further w (By_session client) c.loop-next.way c.enter_session.new.self (i.same ∙ is) c.enter_session.ensures.text in
+            let here = way_further w (By_session client) c.loop-next.way c.enter_session.new.way (i.same ∙ is) c.enter_session.ensures.text in
             seat_told p m id (c.args.depth - 1) w i.so_far.0 client _ _ _ (i.so_far.2 p w is)
             (c.in_ok-tell_tree-2.ensures.ok p (further w (By_session client)) (Elsewhere (Session id client)) here (session_shows p m id client c.session_number.result c.session_number.ensures))),
       );
