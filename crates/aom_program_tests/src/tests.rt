@@ -1,7 +1,7 @@
 mod backlog;
+mod bell;
 mod cut;
 mod explaining;
-mod files;
 mod input;
 mod memory;
 mod output;

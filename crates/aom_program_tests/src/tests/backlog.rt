@@ -130,24 +130,29 @@ fn serves_backlog(rt: &impl Abort, alloc: Global, script: &str, told: &[u8]) -> 
     Ok(())
 }
 
-#[test]
-fn requests_are_refused_at_once_and_completed_later(rt: HostRuntime) -> Result<(), Fail> {
-    let told =
-        b"@0 main\n@1 run 0 -7\nout -7\n@2 run 0 3\nout 3\n@3 run 0 1\nout 1\n@4 run 0 -7\nout -7\nkilled 0\nend waiting cells 3\n";
-    serves_backlog(&rt, rt.alloc(), "5 kill 0", told)
-}
+/// Scripts, and what a run under each tells.
+const TOLD: [(&str, &[u8]); 3] = [
+    // Every second request is refused at once, and the others are completed later, until the native is killed.
+    (
+        "5 kill 0",
+        b"@0 main\n@1 run 0 -7\nout -7\n@2 run 0 3\nout 3\n@3 run 0 1\nout 1\n@4 run 0 -7\nout -7\nkilled 0\nend waiting cells 3\n",
+    ),
+    // What is outstanding as the native is killed is completed with -15, and so is what is asked for later, at once.
+    (
+        "2 kill 0",
+        b"@0 main\n@1 run 0 -7\nout -7\nkilled 0\n@2 run 0 -15\nout -15\n@3 run 0 -15\nout -15\n@4 run 0 -15\nout -15\nend waiting cells 3\n",
+    ),
+    // A box that lives on is dropped with its machine.
+    (
+        "",
+        b"@0 main\n@1 run 0 -7\nout -7\n@2 run 0 3\nout 3\n@3 run 0 1\nout 1\n@4 run 0 -7\nout -7\nend waiting cells 3\n",
+    ),
+];
 
-/// What is outstanding as the native is killed is completed with -15, and so is what is asked for later, at once.
 #[test]
-fn a_kill_completes_all_that_is_outstanding(rt: HostRuntime) -> Result<(), Fail> {
-    let told =
-        b"@0 main\n@1 run 0 -7\nout -7\nkilled 0\n@2 run 0 -15\nout -15\n@3 run 0 -15\nout -15\n@4 run 0 -15\nout -15\nend waiting cells 3\n";
-    serves_backlog(&rt, rt.alloc(), "2 kill 0", told)
-}
-
-#[test]
-fn a_box_that_lives_on_is_dropped_with_its_machine(rt: HostRuntime) -> Result<(), Fail> {
-    let told =
-        b"@0 main\n@1 run 0 -7\nout -7\n@2 run 0 3\nout 3\n@3 run 0 1\nout 1\n@4 run 0 -7\nout -7\nend waiting cells 3\n";
-    serves_backlog(&rt, rt.alloc(), "", told)
+fn a_box_completes_what_it_owes_and_is_dropped_once(rt: HostRuntime) -> Result<(), Fail> {
+    for (script, told) in &TOLD {
+        serves_backlog(&rt, rt.alloc(), script, told)?;
+    }
+    Ok(())
 }

@@ -1,6 +1,7 @@
 //! Any request for memory may be refused: then a command says so, and writes nothing else. Nothing here but the
 //! command asks for memory.
 use super::pages::{Call, FIRST, FULL_HEAP, LISTING, SHORT, answer, sides};
+use aom_machine::BootFault;
 use aom_main::{ExitStatus, Fault, tell};
 use aom_pages::Slip;
 use std::alloc::Global;
@@ -96,10 +97,13 @@ fn refusing_with_figures_may_want_memory(rt: HostRuntime) {
     assert!(rt; ended == ExitStatus::ImageRefused && out.has(text) && errors.has(line));
 }
 
-/// That it is wanting has its line and its status.
+/// That it is wanting has its line and its status, where no command tells it too.
 #[test]
 fn want_of_memory_is_told(rt: HostRuntime) {
     let mut errors = Slip::blank();
     let status = tell(&Fault::Memory, &mut errors);
     assert!(rt; status.number() == 5 && errors.has(b"memory\n"));
+    if let Ok(text) = BootFault::OutOfMemory.to_string(rt.alloc()) {
+        assert!(rt; text.as_str() == "boot 2");
+    }
 }

@@ -81,9 +81,9 @@ pub fn sides(status: ExitStatus, told: &[u8]) -> (&[u8], &[u8]) {
     }
 }
 
-/// Whether a call with so much room for the output ends so and tells that.
+/// Whether a call with so much room for the output, which takes three bytes at a time, ends so and tells that.
 pub fn tells(alloc: Global, call: &Call<'_>, room: usize, status: ExitStatus, told: &[u8]) -> bool {
-    let mut out = Page::new(alloc, room);
+    let mut out = Page::narrow(alloc, room, 3);
     let mut errors = Page::new(alloc, 100);
     let ended = answer(alloc, call, &mut out, &mut errors);
     is_told(ended, &out, &errors, status, told)

@@ -69,11 +69,11 @@ newl r0 N;push r0;call c0 n;pop r0;put f1 r0;ret;end
 method main main leaves;newl r0 P;push r0;call c0 pn;pop r0;put f0 r0;ret;end
 ";
 
-/// An object that asks twice, with a main that ends as the text behind it says.
-pub const COUNTS: &str = "image cells 1 natives 1 budget 60 root N;class N active native 0 budget 20
+/// An object that asks twice and begins a request, with a main that ends as the text behind it says.
+pub const ASKS: &str = "image cells 1 natives 1 budget 60 root N;class N active native 0 budget 20
 method k cancel of N;abort;ret;end
 method d destruct of N;cancel;ret;end
-method r run of N;ret;end
+method r run of N;status r0;print r0;ret;end
 method n construct of N;enlist 0;connect r0;const r1 0;const r2 7
-ask r0 r1 r2;print r0;ask r0 r1 r2;print r0;ret;end
+ask r0 r1 r2;print r0;ask r0 r1 r2;print r0;issue r1 r2;setactive;ret;end
 method main main leaves;newl r0 N;push r0;call c0 n;pop r0;put f0 r0;";

@@ -1,9 +1,9 @@
 //! What a native is asked in a run.
 ghost use Rattle.std.specs.Prelude.{◌≡◌, [], IfOk};
 
-use super::served::{COUNTS, serves_beside};
+use super::served::{ASKS, serves_beside};
 use aom_main::ExitStatus;
-use aom_natives::{Counter, Native};
+use aom_natives::{Line, Native};
 use std::alloc::{AllocError, Global};
 use std::cell::Cell;
 use std::process::Abort;
@@ -14,7 +14,9 @@ use std::test::Fail;
 #[derive(Clone, Copy, PartialEq, Eq, Default)]
 struct Asked {
     opens: u32,
+    starts: u32,
     calls: u32,
+    cancels: u32,
     closes: u32,
     polls: u32,
     events: u32,
@@ -67,6 +69,9 @@ impl<N: Native> Native for Tally<N> {
     }
 
     fn start(&mut self, id: u32, function: i32, word: i32) -> i32 {
+        let mut asked = self.asked.get();
+        asked.starts = asked.starts.saturating_add(1);
+        self.asked.set(asked);
         self.native.start(id, function, word)
     }
 
@@ -78,6 +83,9 @@ impl<N: Native> Native for Tally<N> {
     }
 
     fn cancel(&mut self, id: u32) {
+        let mut asked = self.asked.get();
+        asked.cancels = asked.cancels.saturating_add(1);
+        self.asked.set(asked);
         self.native.cancel(id);
     }
 
@@ -104,97 +112,101 @@ impl<N: Native> Native for Tally<N> {
     }
 }
 
-/// A counter in a box, with what it is asked counted there.
-fn tallied(alloc: Global, asked: &Rc<Cell<Asked>>) -> Result<Box<Tally<Counter>>, AllocError>
-    ensures { IfOk result (λ b. ⟦<Tally<Counter> as Native>⟧.owed b.value ≡ []) }
+/// A line in a box, with what it is asked counted there.
+fn tallied(alloc: Global, asked: &Rc<Cell<Asked>>) -> Result<Box<Tally<Line>>, AllocError>
+    ensures { IfOk result (λ b. ⟦<Tally<Line> as Native>⟧.owed b.value ≡ []) }
 {
-    Ok(Box::new(alloc, Tally::new(Counter::new(), asked.clone()?))?)
+    Ok(Box::new(alloc, Tally::new(Line::new(), asked.clone()?))?)
 }
 
-/// A run of the image that counts, whose main ends as that text says, beside a counter that is asked so often.
-fn asks(
-    rt: &impl Abort,
-    alloc: Global,
-    end: &str,
-    script: &str,
+/// A run of the image that asks, whose main ends as a text says, under a script: how it ends, what it tells, and how often the
+/// native beside it is asked for what.
+struct Case<'a> {
+    end: &'a str,
+    script: &'a str,
     status: ExitStatus,
-    told: &[u8],
-    wanted: Asked,
-) -> Result<(), Fail> {
+    told: &'a [u8],
+    asked: Asked,
+}
+
+const CASES: [Case<'static>; 3] = [
+    // The object goes with the run, and what it has begun is cancelled.
+    Case {
+        end: "stop;ret;end",
+        script: "",
+        status: ExitStatus::Done,
+        told: b"@0 main\nout -5\nout -5\ngone 0\nend stopped cells 0\n",
+        asked: Asked {
+            opens: 1,
+            starts: 1,
+            calls: 2,
+            cancels: 1,
+            closes: 1,
+            polls: 0,
+            events: 0,
+            words: 0,
+            drops: 1,
+        },
+    },
+    // It is polled in the turn after main, and in the one to which time passes, which is the last.
+    Case {
+        end: "ret;end",
+        script: "5 event 1 3",
+        status: ExitStatus::Unfinished,
+        told: b"@0 main\nout -5\nout -5\nend waiting cells 1\n",
+        asked: Asked {
+            opens: 1,
+            starts: 1,
+            calls: 2,
+            cancels: 0,
+            closes: 0,
+            polls: 2,
+            events: 0,
+            words: 0,
+            drops: 1,
+        },
+    },
+    // It is polled before the dispatch that the first event brings, behind it, and in the turn to which time passes then.
+    Case {
+        end: "ret;end",
+        script: "0 event 0 3\n5 event 0 40\n5 event 1 500\n6 kill 0\n7 event 0 6000",
+        status: ExitStatus::Unfinished,
+        told: b"@0 main\nout -5\nout -5\n@1 run 0 3\nout 3\nkilled 0\nend waiting cells 1\n",
+        asked: Asked {
+            opens: 1,
+            starts: 1,
+            calls: 2,
+            cancels: 0,
+            closes: 0,
+            polls: 3,
+            events: 2,
+            words: 43,
+            drops: 1,
+        },
+    },
+];
+
+/// It is asked so often.
+fn asks(rt: &impl Abort, alloc: Global, case: &Case<'_>) -> Result<(), Fail> {
     let asked = Rc::new(alloc, Cell::new(Asked::default()))?;
-    let native = tallied(alloc, &asked)?;
-    serves_beside(rt, alloc, native, &[COUNTS, end], script, status, told)?;
-    assert!(rt; asked.get() == wanted);
+    serves_beside(
+        rt,
+        alloc,
+        tallied(alloc, &asked)?,
+        &[ASKS, case.end],
+        case.script,
+        case.status,
+        case.told,
+    )?;
+    assert!(rt; asked.get() == case.asked);
     Ok(())
 }
 
+/// Once for each call and for each event, once in each turn, and once more as it is dropped.
 #[test]
 fn a_box_is_asked_once_for_each_call(rt: HostRuntime) -> Result<(), Fail> {
-    let told = b"@0 main\nout 7\nout 14\ngone 0\nend stopped cells 0\n";
-    let once = Asked {
-        opens: 1,
-        calls: 2,
-        closes: 1,
-        polls: 0,
-        events: 0,
-        words: 0,
-        drops: 1,
-    };
-    asks(
-        &rt,
-        rt.alloc(),
-        "stop;ret;end",
-        "",
-        ExitStatus::Done,
-        told,
-        once,
-    )
-}
-
-/// The turn after main, and the one to which time passes, which is the last.
-#[test]
-fn a_box_is_polled_once_in_each_turn(rt: HostRuntime) -> Result<(), Fail> {
-    let told = b"@0 main\nout 7\nout 14\nend waiting cells 1\n";
-    let twice = Asked {
-        opens: 1,
-        calls: 2,
-        closes: 0,
-        polls: 2,
-        events: 0,
-        words: 0,
-        drops: 1,
-    };
-    asks(
-        &rt,
-        rt.alloc(),
-        "ret;end",
-        "5 event 1 3",
-        ExitStatus::Unfinished,
-        told,
-        twice,
-    )
-}
-
-#[test]
-fn an_event_reaches_its_box(rt: HostRuntime) -> Result<(), Fail> {
-    let told = b"@0 main\nout 7\nout 14\nkilled 0\nend waiting cells 1\n";
-    let script = "0 event 0 3\n5 event 0 40\n5 event 1 500\n6 kill 0\n7 event 0 6000";
-    let reached = Asked {
-        opens: 1,
-        calls: 2,
-        closes: 0,
-        polls: 2,
-        events: 2,
-        words: 43,
-        drops: 1,
-    };
-    asks(
-        &rt,
-        rt.alloc(),
-        "ret;end",
-        script,
-        ExitStatus::Unfinished,
-        told,
-        reached,
-    )
+    for case in &CASES {
+        asks(&rt, rt.alloc(), case)?;
+    }
+    Ok(())
 }

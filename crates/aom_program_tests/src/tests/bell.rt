@@ -1,7 +1,8 @@
 //! The native that docs/natives.md writes.
 ghost use Rattle.std.specs.Prelude.{pos, negsuc, ◌≡◌, ◌⊎◌, [], option_to_list};
 
-use super::asks::{Ask, ask_alone};
+use super::served::{TWO_SENSORS, serves_beside};
+use aom_main::ExitStatus;
 use aom_natives::Native;
 use std::test::Fail;
 
@@ -69,20 +70,18 @@ impl Native for Bell {
     fn close(&mut self, _id: u32) {}
 }
 
-const PRESSED: [Ask<'static>; 5] = [
-    Ask::Start(5, 0, 0, 0),
-    Ask::Start(6, 0, 0, -16),
-    Ask::Poll(None),
-    Ask::Event(3),
-    Ask::Poll(Some((5, 3))),
-];
-
+/// The second of two objects is refused as long as the bell owes something.
 #[test]
 fn a_bell_rings_once_it_was_pressed(rt: HostRuntime) -> Result<(), Fail> {
-    ask_alone(
+    let told =
+        b"@0 main\n@1 run 0 -16\nout -16\n@2 run 0 -16\nout -16\n@3 run 0 3\nout 3\n@4 run 0 3\nout 3\nend waiting cells 3\n";
+    serves_beside(
         &rt,
         rt.alloc(),
         Box::new(rt.alloc(), Bell::new())?,
-        &PRESSED,
+        &[TWO_SENSORS],
+        "3 event 0 3",
+        ExitStatus::Unfinished,
+        told,
     )
 }

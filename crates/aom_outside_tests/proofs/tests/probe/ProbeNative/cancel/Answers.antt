@@ -1,6 +1,0 @@
-use Rattle.std.proofs.Common.{rules, Contains}
-use Rattle.aom_natives.proofs.Ids.{owed-contains}
-use Rattle.aom_outside_tests.proofs.tests.probe.ProbeNative.cancel.Goals as goal
-
-pub unreachable-requires : goal.unreachable-requires
-unreachable-requires c = let has : Contains c.args.self.now.ids.items c.args.id = owed-contains _ _ c.requires in search rules

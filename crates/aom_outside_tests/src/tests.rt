@@ -1,9 +1,0 @@
-mod asks;
-mod bell;
-mod boxes;
-mod calls;
-mod many;
-mod probe;
-mod services;
-mod table;
-mod types;

@@ -1,6 +1,0 @@
-mod clients;
-mod conditions;
-mod drafts;
-mod events;
-mod scripts;
-mod words;

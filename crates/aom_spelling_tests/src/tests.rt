@@ -1,5 +1,0 @@
-mod images;
-mod listings;
-mod programs;
-mod statements;
-mod vectors;
