@@ -52,7 +52,7 @@ use Rattle.aom_parts.proofs.Listing.{listed_alike}
 use Rattle.aom_parts.proofs.Messages.{messages_as}
 use Rattle.aom_parts.proofs.Services.{services_still}
 use Rattle.aom_parts.proofs.Still.{still_bereaved}
-use Rattle.aom_parts.proofs.Sessions.{unnamed_closed}
+use Rattle.aom_sound.proofs.Sessions.{session_unnamed}
 use Rattle.aom_exec.proofs.Idle.{stands_idle}
 use Rattle.aom_exec.proofs.Timers.{timers_same}
 use Rattle.aom_exec.proofs.Turning.{machine_between}
@@ -244,7 +244,7 @@ module _ (p : Image) (native : ℕ) (old : Parts) (k : ℕ) (now : Parts) (so_fa
 
         go : (o : Option Object) → named s.cells k ≡ o → is_some o ≡ true
         go (Some o) f = refl
-        go None f = absurd (false≢true (sym (ap (λ b. b || in_session s.cells k) (no_request (requested s.cells k) f refl) ∙ unnamed_closed s.cells k f) ∙ e))
+        go None f = absurd (false≢true (sym (ap (λ b. b || in_session s.cells k) (no_request (requested s.cells k) f refl) ∙ session_unnamed s.cells k f) ∙ e))
 
     lives_here : (is_owed (asked k) || is_open now.sessions k) ≡ true → Lives now.cells k
     lives_here e = go (cell_at now.cells k) (named s.cells k) refl (ap (λ h. thing_in (cell_at h k)) same_cells ∙ st.agrees.cells.things k) (something_lives (sym something ∙ e))
