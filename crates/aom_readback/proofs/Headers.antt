@@ -7,13 +7,14 @@ use Rattle.aom_text.specs.Words.{others_of}
 use Rattle.aom_syntax.specs.Headers.{image_statement, optional_root, limits_and_root}
 use Rattle.aom_syntax.specs.declared.keyword.Keyword.TheVariants as k
 use Rattle.aom_syntax.specs.declared.scope.Scope.{Scope}
-use Rattle.aom_listing.specs.Headers.{header_words, root_words}
+use Rattle.aom_listing.specs.Headers.{header_words}
+use Rattle.aom_listing.specs.Operands.{class_after}
 use Rattle.aom_readback.specs.Naming.{HasNames}
 use Rattle.aom_readback.proofs.Operands.{takes_class}
 use Rattle.aom_readback.proofs.Readings.{Whole, done, ends, first, last, takes_keyword, takes_number, takes_optional}
 
 module _ {classes methods : ℕ} {scope : Scope} (names : HasNames classes methods scope) where
-  whole_root : (root : Option ℕ) → IfSome root (λ c. c < classes) → Whole (optional_root scope) (root_words root) root
+  whole_root : (root : Option ℕ) → IfSome root (λ c. c < classes) → Whole (optional_root scope) (class_after k.Root root) root
   whole_root None fits = record { reads = refl }
   whole_root (Some c) fits = record { reads = ends _ (takes_class names c fits) refl }
 

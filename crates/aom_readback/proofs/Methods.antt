@@ -25,7 +25,8 @@ use Rattle.aom_syntax.specs.Keywords.{keyword_text}
 use Rattle.aom_syntax.specs.declared.keyword.Keyword.TheVariants as k
 use Rattle.aom_syntax.specs.declared.method.Heading.{Heading}
 use Rattle.aom_syntax.specs.declared.scope.Scope.{Scope}
-use Rattle.aom_listing.specs.Methods.{argument_word, flag_words, gives_words, heading_words, of_words, promise_words, role_keyword, states_word, word_where}
+use Rattle.aom_listing.specs.Methods.{argument_word, flag_words, gives_words, heading_words, promise_words, role_keyword, states_word, word_where}
+use Rattle.aom_listing.specs.Operands.{class_after}
 use Rattle.aom_listing.specs.Text.{list_word}
 use Rattle.aom_readback.specs.Naming.{HasNames, heading_of}
 use Rattle.aom_readback.proofs.Classes.{takes_thing, thing_element}
@@ -96,7 +97,7 @@ no_class false true ws = refl
 no_class false false ws = refl
 
 module _ {classes methods : ℕ} {scope : Scope} (names : HasNames classes methods scope) where
-  class_before : (class : Option ℕ) → IfSome class (λ c. c < classes) → (ws : List (List ℕ)) → took k.Of ws ≡ (false, ws) → optional_class scope (of_words class ++ ws) ≡ Ok (class, ws)
+  class_before : (class : Option ℕ) → IfSome class (λ c. c < classes) → (ws : List (List ℕ)) → took k.Of ws ≡ (false, ws) → optional_class scope (class_after k.Of class ++ ws) ≡ Ok (class, ws)
   class_before None fits ws other = ap (λ p. if p.0 then (class scope p.1 >>= λ x. Ok (Some x.0, x.1)) else Ok (None, p.1)) other
   class_before (Some c) fits ws other = ap (λ e. e >>= λ x. Ok (Some x.0, x.1)) ((takes_class names c fits).reads ws)
 
@@ -142,9 +143,9 @@ module _ {classes methods : ℕ} {scope : Scope} (names : HasNames classes metho
       (settle (ap (with_flags m) (flags_read m.role m.flags fits.flags quiet)) (whole_promise m fits (has m.flags.0 1) (has m.flags.0 2)))
 
   whole_class_and_flags : (m : Method) → MethodFits classes methods m → (is_quiet_role m.role ≡ true → has m.flags.0 2 ≡ true)
-      → Whole (next (optional_class scope) (λ class. next (flag k.Leaves) (λ leaves. next (flag k.Quiet) (promised scope m.role class leaves)))) (of_words m.class ++ (flag_words m.flags.0 ++ promise_words m)) (heading_of m)
+      → Whole (next (optional_class scope) (λ class. next (flag k.Leaves) (λ leaves. next (flag k.Quiet) (promised scope m.role class leaves)))) (class_after k.Of m.class ++ (flag_words m.flags.0 ++ promise_words m)) (heading_of m)
   whole_class_and_flags m fits quiet = record {
-    reads = reads_on (optional_class scope) (λ class. next (flag k.Leaves) (λ leaves. next (flag k.Quiet) (promised scope m.role class leaves))) {ws = of_words m.class ++ (flag_words m.flags.0 ++ promise_words m)}
+    reads = reads_on (optional_class scope) (λ class. next (flag k.Leaves) (λ leaves. next (flag k.Quiet) (promised scope m.role class leaves))) {ws = class_after k.Of m.class ++ (flag_words m.flags.0 ++ promise_words m)}
         (class_before m.class fits.class (flag_words m.flags.0 ++ promise_words m) (no_class (has m.flags.0 1) (has m.flags.0 2) (others_of (promise_words m))))
         (whole_flags m fits quiet).reads;
   }
@@ -154,7 +155,7 @@ module _ {classes methods : ℕ} {scope : Scope} (names : HasNames classes metho
       let few = names.few_methods in
       first _ (takes_declared 109 place scope.methods refl (omega arith) (names.method place there)) (
       first _ (takes_role m.role) (
-      regroup (append_assoc (of_words m.class) (flag_words m.flags.0) (promise_words m)) (whole_class_and_flags m fits quiet)))
+      regroup (append_assoc (class_after k.Of m.class) (flag_words m.flags.0) (promise_words m)) (whole_class_and_flags m fits quiet)))
 
   pub heading_reads : (place : ℕ) (m : Method) → place < methods → MethodFits classes methods m → (is_quiet_role m.role ≡ true → has m.flags.0 2 ≡ true) → heading scope place (others_of (heading_words place m)) ≡ Ok (heading_of m, [])
   heading_reads place m there fits quiet = (whole_heading place m there fits quiet).reads

@@ -12,7 +12,7 @@ use Rattle.aom_syntax.specs.Names.{place_of}
 use Rattle.aom_syntax.specs.Reading.{◌>>=◌, in_range}
 use Rattle.aom_syntax.specs.Operands.{class, depth, field, label, last_register, method, rounds, signed, signed_of, target, target_of, word_field}
 use Rattle.aom_syntax.specs.declared.scope.Scope.{Scope}
-use Rattle.aom_listing.specs.Operands.{class_name, field_word, label_name, method_name, register_word, target_word, word_field_word}
+use Rattle.aom_listing.specs.Operands.{class_name, field_word, label_name, method_name, register_word, target_word}
 use Rattle.aom_readback.specs.Naming.{HasNames}
 use Rattle.aom_readback.proofs.Names.{plain_lettered, plain_signed}
 use Rattle.aom_readback.proofs.Numbers.{signed_of_decimal}
@@ -26,7 +26,7 @@ takes_last highest a fits few = record { reads = (takes_indexed 114 highest a re
 pub takes_field : (f : ℕ) → IsField f → Takes field (field_word f ∷ []) f
 takes_field f fits = takes_indexed 102 7 f refl (omega arith) (omega arith)
 
-pub takes_word_field : (w : ℕ) → IsWord w → Takes word_field (word_field_word w ∷ []) w
+pub takes_word_field : (w : ℕ) → IsWord w → Takes word_field ((119 ∷ decimal w) ∷ []) w
 takes_word_field w fits = takes_indexed 119 7 w refl (omega arith) (omega arith)
 
 -- ---- targets of calls

@@ -11,22 +11,17 @@ use Rattle.aom_instructions.specs.declared.mnemonic.Mnemonic.TheVariants as m
 use Rattle.aom_syntax.specs.Methods.{label_of}
 
 pub keyword_reads : (key : Keyword) → keyword_of (keyword_text key) ≡ Some key
-keyword_reads k.Image = refl
-keyword_reads _ = refl
+keyword_reads = elim [ k.Image ↦ refl | _ ↦ refl ]
 
 pub keyword_is_plain : (key : Keyword) → list_all is_plain (keyword_text key) ≡ true
-keyword_is_plain k.Image = refl
-keyword_is_plain _ = refl
+keyword_is_plain = elim [ k.Image ↦ refl | _ ↦ refl ]
 
 pub mnemonic_reads : (m : Mnemonic) → mnemonic_of (mnemonic_text m) ≡ Some m
-mnemonic_reads m.Const = refl
-mnemonic_reads _ = refl
+mnemonic_reads = elim [ m.Const ↦ refl | _ ↦ refl ]
 
 pub mnemonic_is_plain : (m : Mnemonic) → list_all is_plain (mnemonic_text m) ≡ true
-mnemonic_is_plain m.Const = refl
-mnemonic_is_plain _ = refl
+mnemonic_is_plain = elim [ m.Const ↦ refl | _ ↦ refl ]
 
 -- a mnemonic is no label
 pub mnemonic_is_no_label : (m : Mnemonic) → label_of (mnemonic_text m) ≡ None
-mnemonic_is_no_label m.Const = refl
-mnemonic_is_no_label _ = refl
+mnemonic_is_no_label = elim [ m.Const ↦ refl | _ ↦ refl ]

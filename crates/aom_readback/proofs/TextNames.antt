@@ -62,27 +62,11 @@ record Silent (key : Keyword) : Type 0 where
   plain : (i : Instr) → name_after key (words_statement i) ≡ None
   labelled : (label : List ℕ) (ws : List (List ℕ)) → name_after key ((76 ∷ label) ∷ ws) ≡ None
 
-class_plain : (i : Instr) → name_after k.Class (words_statement i) ≡ None
-class_plain (instr.Const a n) = refl
-class_plain _ = refl
-
-class_labelled : (label : List ℕ) (ws : List (List ℕ)) → name_after k.Class ((76 ∷ label) ∷ ws) ≡ None
-class_labelled label [] = refl
-class_labelled label (w ∷ ws) = refl
-
-method_plain : (i : Instr) → name_after k.Method (words_statement i) ≡ None
-method_plain (instr.Const a n) = refl
-method_plain _ = refl
-
-method_labelled : (label : List ℕ) (ws : List (List ℕ)) → name_after k.Method ((76 ∷ label) ∷ ws) ≡ None
-method_labelled label [] = refl
-method_labelled label (w ∷ ws) = refl
-
 silent_class : Silent k.Class
-silent_class = record { plain = class_plain; labelled = class_labelled }
+silent_class = record { plain = elim [ instr.Const a n ↦ refl | _ ↦ refl ]; labelled = λ label. elim [ [] ↦ refl | w ∷ ws ↦ refl ] }
 
 silent_method : Silent k.Method
-silent_method = record { plain = method_plain; labelled = method_labelled }
+silent_method = record { plain = elim [ instr.Const a n ↦ refl | _ ↦ refl ]; labelled = λ label. elim [ [] ↦ refl | w ∷ ws ↦ refl ] }
 
 module _ (key : Keyword) (silent : Silent key) where
   instruction_silent : (b : Bool) (place : ℕ) (i : Instr) → name_after key (label_words b place ++ words_statement i) ≡ None
