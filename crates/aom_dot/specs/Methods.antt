@@ -13,8 +13,8 @@ use Rattle.aom_dot.specs.Over.{color_text, method_is_over}
 
 -- what each role is called
 abbrev pub role_word : Role → List ℕ
-role_word role = codes (elim role
-    [ roles.Do ↦ " do" | roles.Main ↦ " main" | roles.Construct ↦ " construct" | roles.Destruct ↦ " destruct" | roles.Run ↦ " run" | roles.Cancel ↦ " cancel" | roles.Error ↦ " error" | roles.Accept ↦ " accept" | roles.Service ↦ " service" | roles.Undo ↦ " undo" ])
+role_word = elim
+    [ roles.Do ↦ codes " do" | roles.Main ↦ codes " main" | roles.Construct ↦ codes " construct" | roles.Destruct ↦ codes " destruct" | roles.Run ↦ codes " run" | roles.Cancel ↦ codes " cancel" | roles.Error ↦ codes " error" | roles.Accept ↦ codes " accept" | roles.Service ↦ codes " service" | roles.Undo ↦ codes " undo" ]
 
 -- the class whose objects a method works on, where there is one
 abbrev pub of_text : Option ℕ → List ℕ
