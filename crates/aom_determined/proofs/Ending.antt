@@ -22,7 +22,7 @@ use Rattle.aom_sound.proofs.Services.{service_moved}
 use Rattle.aom_sound.specs.Claims.{Dying, Layer, tasks_of}
 use Rattle.aom_sound.specs.Clients.{at_parting, client_at, with_client}
 use Rattle.aom_sound.proofs.Emptying.{found_first}
-use Rattle.aom_sound.specs.Destruction.{closing, first_session, parting, parting_from, seat_or}
+use Rattle.aom_sound.specs.Destruction.{closing, first_session, parting, parting_from}
 use Rattle.aom_sound.specs.Enlisted.{part_of}
 use Rattle.aom_sound.specs.Kept.{ClientsFit, is_connect_of}
 use Rattle.aom_sound.specs.Moves.{answered, asking, dispatch_ends, failed, handled, main_ends, object_ends, stage_ends}

@@ -7,9 +7,10 @@ use Rattle.aom_image.specs.declared.class.ClassKind.TheVariants.{Active as An_ac
 use Rattle.aom_image.specs.declared.class.Provider.TheVariants.{Native}
 use Rattle.aom_image.specs.declared.method.Thing.TheVariants.{Message, Object as An_object_of}
 use Rattle.aom_instructions.specs.declared.instr.Instr.{Instr}
+use Rattle.aom_instructions.specs.declared.instr.Instr.TheVariants.{Issue}
 use Rattle.std.proofs.lemmas.Bool.{and_right}
 use Rattle.aom_sound.proofs.Exchanging.{by_exchange}
-use Rattle.aom_sound.specs.Wanted.{Exchange, Nothing, exchange, exchange_at}
+use Rattle.aom_sound.specs.Wanted.{Nothing, exchange, exchange_at}
 use Rattle.aom_rules.specs.Natives.{is_native_kind}
 use Rattle.aom_sound.specs.Effects.{Requested, applied, needs, updates}
 use Rattle.aom_sound.specs.Enlisted.{home_kind, issued_of, next_timer, on_request, own_request, thing_kind}
@@ -44,7 +45,7 @@ module _ (p : Image) (c : Choice) (answer : ℤ) where
   instr_unheard fr ts s None h = refl
   instr_unheard fr ts s (Some i) h =
       by_exchange (λ i x. hears (home_kind p fr.home) x ≡ false → step_instr p other fr ts s (Some i) ≡ step_instr p c fr ts s (Some i)) (λ a h. rw h)
-      (λ a b h. ap (λ r. guarded _ (applied p fr ts s (updates fr (Requested r)))) (unheard_on (home_kind p fr.home) s.rest.clock (next_timer s.cells) _ _ (read fr ts s a) (own_request s.cells fr.home) h))
+      (λ a b h. ap (λ r. guarded (needs p c fr ts s (Issue a b)) (applied p fr ts s (updates fr (Requested r)))) (unheard_on (home_kind p fr.home) s.rest.clock (next_timer s.cells) _ _ (read fr ts s a) (own_request s.cells fr.home) h))
       (λ a b x h. rw h) (λ h. refl) (λ h. refl) unasked i h
     where
       unasked : (i : Instr) → exchange i ≡ Nothing → hears (home_kind p fr.home) Nothing ≡ false → step_instr p other fr ts s (Some i) ≡ step_instr p c fr ts s (Some i)

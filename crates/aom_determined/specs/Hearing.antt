@@ -1,9 +1,8 @@
 -- What is heard of natives: where one answers, where one is polled, and what a run hears.
-use Rattle.std.specs.Prelude.{ℕ, suc, ℤ, Bool, true, false, ◌&&◌, ◌≡◌, List, ◌∷◌, Option, Some}
+use Rattle.std.specs.Prelude.{ℕ, suc, ℤ, Bool, true, false, ◌&&◌, ◌≡◌, List, ◌∷◌, Option}
 use Rattle.aom_image.specs.Image.{Image}
 use Rattle.aom_image.specs.Views.{instr_at}
 use Rattle.aom_image.specs.declared.class.ClassKind.{ClassKind}
-use Rattle.aom_instructions.specs.declared.instr.Instr.{Instr}
 use Rattle.aom_roles.specs.Shapes.{kind_of}
 use Rattle.aom_rules.specs.Natives.{is_native_kind}
 use Rattle.aom_sound.specs.Enlisted.{home_kind}

@@ -6,7 +6,7 @@ use Rattle.aom_clients.specs.Nodes.{is_connecting_at}
 use Rattle.aom_sound.specs.Clients.{client_at}
 use Rattle.aom_sound.specs.Kept.{is_connect_of}
 use Rattle.aom_sound.specs.Places.{Cell, Elsewhere, Session, held, service_of}
-use Rattle.aom_sound.specs.State.{Accept_left, Accepts, Closing, Destroy, Dispatch, Dispatched, Of_server, Run, Serves, State, Task, Trapped, Unwind}
+use Rattle.aom_sound.specs.State.{Accept_left, Accepts, Dispatch, Dispatched, Of_server, Serves, State, Task}
 
 -- the client's connect waits in the queue of that server
 abbrev pub waits : List Cell → (server client : ℕ) → Bool
