@@ -1,5 +1,5 @@
 -- A server is dispatched: with what begins to serve its queue the machine stands for the state in which the checked machine goes on, and its line is the same.
-use Rattle.std.proofs.Common.{Bool, List, None, Option, Some, [], ap, arith, cond, false, inl, inr, length, map, refl, subst, suc, sym, true, zero, ℕ, ◌<◌, ◌≤◌, ◌++◌, ◌∙◌, ◌∷◌, ◌≡◌, ◌⊎◌}
+use Rattle.std.proofs.Common.{Bool, List, None, Option, Some, [], ap, arith, cond, false, inl, inr, length, map, refl, subst, suc, sym, true, zero, ℕ, ℤ, ◌<◌, ◌≤◌, ◌++◌, ◌∙◌, ◌∷◌, ◌≡◌, ◌⊎◌}
 use Rattle.std.specs.List.{list_any}
 use Rattle.std.specs.Prelude.{is_some}
 use Rattle.std.proofs.lemmas.Bool.{cases_lt, true≢false}
@@ -31,13 +31,13 @@ use Rattle.aom_sound.specs.Claims.{claim, declared}
 use Rattle.aom_sound.specs.Clients.{most_of}
 use Rattle.aom_sound.specs.Destruction.{begun, begun_by}
 use Rattle.aom_sound.specs.Enlisted.{thing_kind}
-use Rattle.aom_sound.specs.Kept.{ClientsFit, is_close_of, is_connect_of}
+use Rattle.aom_sound.specs.Kept.{ClientsFit, IsKept, is_close_of, is_connect_of}
 use Rattle.aom_sound.specs.Laws.{IsWired}
 use Rattle.aom_sound.specs.Lines.{serve_line, serve_of}
 use Rattle.aom_sound.specs.Places.{Cell, Elsewhere, Going, In_service, Object, Place, Queued, Service, Session, held, moved, named, requested, seen, service_of}
 use Rattle.aom_sound.specs.Quiet.{IsCalm}
 use Rattle.aom_sound.specs.Servers.{is_server, reserved, rest_of, seats_taken, taken_first}
-use Rattle.aom_sound.specs.State.{A_mark, Accepts, Closing, Destroy, Dispatch, Dispatched, Goes, Inside, Item, Of_server, Parts, Rest, Seat, Serves, State, Task, frame_of}
+use Rattle.aom_sound.specs.State.{A_mark, Accepts, Closing, Destroy, Dispatch, Dispatched, Goes, Inside, Item, Home, Of_server, Parts, Rest, Seat, Serves, Stage, State, Task, frame_of}
 use Rattle.aom_sound.specs.Traps.{AllAtTraps}
 use Rattle.aom_sound.specs.WellTyped.{Fits, Keeps}
 use Rattle.aom_sound.specs.World.{IsBetween, Picks, message_words, pick_line, picked, run_line, serving, taken_from as checked_taken}
@@ -47,6 +47,7 @@ use Rattle.aom_steps.specs.Left.{left}
 use Rattle.aom_steps.specs.Payers.{class_of, declared_of, payer, price_of}
 use Rattle.aom_transcript.specs.declared.line.Line.TheVariants.{Serve}
 use Rattle.aom_parts.specs.declared.parts.Parts.{Parts as Machine_parts}
+use Rattle.aom_parts.specs.Agrees.{Agrees}
 use Rattle.aom_parts.specs.Room.{AllFit, AllRunUnder, AllUnder, HasRoom}
 use Rattle.aom_parts.specs.Serving.{asked_by, message_name}
 use Rattle.aom_parts.specs.Stands.{StandsFor}
@@ -147,9 +148,6 @@ module _ (p : Image) (m : Machine_parts) (s : State) (st : StandsFor (record { i
   abbrev taken : Machine_parts
   taken = taken_from n active m
 
-  abbrev then : State
-  then = checked_taken n s
-
   abbrev class : ℕ
   class = (server_class p m s st idle x lives serves keeps).0
 
@@ -188,11 +186,31 @@ module _ (p : Image) (m : Machine_parts) (s : State) (st : StandsFor (record { i
   pays : (u : State) → picked p x s ≡ Goes u → left p st.sound.prices u ≤ price_of p st.sound.prices (payer u.tasks)
   pays u goes = picking p st.typing st.sound.prices st.sound.linked st.sound.affordable.priced s st.typed idle (Picks x) lives refl u goes
 
+  -- ---- a method begins, on these words
+
+  module _ (c method : ℕ) (a : Stage) (home : Home) (words : List (Option ℤ)) (from : State) (new : Machine_parts) where
+    abbrev begins : State
+    begins = serving x c a (record (frame_of method home (length (A_mark ∷ from.items))) { words = words }) from
+
+    method_stands : from.rest.steps ≡ 0 → picked p x s ≡ Goes begins → HasRoom p (at 0 st.sound.depths.depths) (at 0 st.sound.heights.heights) begins → IsKept p begins → Agrees p new begins → StandsFor (record { image = p; parts = new }) begins
+    method_stands steps goes room kept agrees = record {
+      typing = st.typing;
+      sound = st.sound;
+      typed = subst (λ o. Keeps p st.typing o) goes keeps;
+      calm = (λ clearing. absurd (true≢false (sym clearing)), (refl, tt));
+      traps = (tt, (tt, tt));
+      room = room;
+      waits = tt;
+      kept = kept;
+      within = record { within = omega (arith, steps, pays begins goes, affords) };
+      agrees = agrees;
+    }
+
   -- ---- a connect
 
   module _ (c : ℕ) (es : List Entry) (at_first : queue ≡ Connect c ∷ es) (method : ℕ) (accepts : role_of p class Accepts_role ≡ Some method) where
     abbrev accepted : State
-    accepted = serving x c Accepts (frame_of method (Inside x.object x.place) (length (A_mark ∷ s.items))) then
+    accepted = serving x c Accepts (frame_of method (Inside x.object x.place) (length (A_mark ∷ s.items))) (checked_taken n s)
 
     accepted_goes : picked p x s ≡ Goes accepted
     accepted_goes = accept_goes p m s st idle x lives serves class is active noted c es at_first method accepts
@@ -204,21 +222,14 @@ module _ (p : Image) (m : Machine_parts) (s : State) (st : StandsFor (record { i
         subst (λ v. seats_taken v < most_of (thing_kind p x.object.thing)) (sym (service_here s.cells n (taken_first (service_of s.cells n)) x.object lives)) (omega (arith, was, one))
 
     accept_stands : StandsFor (record { image = p; parts = accepting method subject c taken }) accepted
-    accept_stands = record {
-      typing = st.typing;
-      sound = st.sound;
-      typed = subst (λ o. Keeps p st.typing o) accepted_goes keeps;
-      calm = (λ clearing. absurd (true≢false (sym clearing)), (refl, tt));
-      traps = (tt, (tt, tt));
-      room = dispatches_with_room p (at 0 st.sound.depths.depths) st.sound.heights cs method (Inside x.object x.place) (Of_server x c Accepts) s.items then.rest s.killed s.clients (none_pushed p m s st idle);
-      waits = tt;
-      kept = record {
-        fit = fit_now (Connect c) es at_first;
-        stage = (first_fits p m s st idle x lives serves keeps (Connect c) es at_first, ap (λ q. list_any (is_connect_of c) q) (queue_now (Connect c) es at_first) ∙ not_again, seat_left);
-      };
-      within = record { within = omega (arith, pays accepted accepted_goes, affords) };
-      agrees = accept_agrees p m s st idle x lives serves class is active noted c es at_first method accepts;
-    }
+    accept_stands =
+        method_stands c method Accepts (Inside x.object x.place) [] (checked_taken n s) (accepting method subject c taken) refl accepted_goes
+        (dispatches_with_room p (at 0 st.sound.depths.depths) st.sound.heights cs method (Inside x.object x.place) (Of_server x c Accepts) s.items (checked_taken n s).rest s.killed s.clients (none_pushed p m s st idle))
+        (record {
+          fit = fit_now (Connect c) es at_first;
+          stage = (first_fits p m s st idle x lives serves keeps (Connect c) es at_first, ap (λ q. list_any (is_connect_of c) q) (queue_now (Connect c) es at_first) ∙ not_again, seat_left);
+        })
+        (accept_agrees p m s st idle x lives serves class is active noted c es at_first method accepts)
       where
         not_again : list_any (is_connect_of c) (map (asked_by m.clients.places) es) ≡ false
         not_again = first_once p m s st idle x lives serves keeps (Connect c) es at_first
@@ -236,7 +247,7 @@ module _ (p : Image) (m : Machine_parts) (s : State) (st : StandsFor (record { i
     abbrev attended : State
     attended =
         serving x c (Serves o) (record (frame_of method (Inside o home) (length (A_mark ∷ s.items))) { words = message_words cs (message_name j) })
-        (record then { cells = moved (Elsewhere (Queued n (message_name j))) (Elsewhere In_service) cs })
+        (record (checked_taken n s) { cells = moved (Elsewhere (Queued n (message_name j))) (Elsewhere In_service) cs })
 
     below : j < 1024
     below = place_there p m s st idle x lives serves keeps j es at_first
@@ -248,21 +259,12 @@ module _ (p : Image) (m : Machine_parts) (s : State) (st : StandsFor (record { i
     attended_goes = attend_goes p m s st idle x lives serves class is active noted j es at_first below o class' is' there method attends words
 
     attend_stands : StandsFor (record { image = p; parts = attending method (record { number = o.name; class = class' }) subject c j taken }) attended
-    attend_stands = record {
-      typing = st.typing;
-      sound = st.sound;
-      typed = subst (λ o. Keeps p st.typing o) attended_goes keeps;
-      calm = (λ clearing. absurd (true≢false (sym clearing)), (refl, tt));
-      traps = (tt, (tt, tt));
-      room = (let r = dispatches_with_room p (at 0 st.sound.depths.depths) st.sound.heights attended.cells method (Inside o home) (Of_server x c (Serves o)) s.items then.rest s.killed s.clients (none_pushed p m s st idle) in record { under = r.under; runs = r.runs; fit = r.fit; entries = r.entries });
-      waits = tt;
-      kept = record {
-        fit = fit_moved p s.clients cs (Elsewhere (Queued n (message_name j))) (Elsewhere In_service) (empty_now (Elsewhere In_service) refl) (λ i k. refl) (fit_now (Message j) es at_first);
-        stage = tt;
-      };
-      within = record { within = omega (arith, pays attended attended_goes, affords) };
-      agrees = attend_agrees p m s st idle x lives serves class is active noted j es at_first below o class' is' there method attends words;
-    }
+    attend_stands =
+        let r = dispatches_with_room p (at 0 st.sound.depths.depths) st.sound.heights attended.cells method (Inside o home) (Of_server x c (Serves o)) s.items (checked_taken n s).rest s.killed s.clients (none_pushed p m s st idle) in
+        method_stands c method (Serves o) (Inside o home) (message_words cs (message_name j)) (record (checked_taken n s) { cells = attended.cells }) (attending method (record { number = o.name; class = class' }) subject c j taken) refl attended_goes
+        (record { under = r.under; runs = r.runs; fit = r.fit; entries = r.entries })
+        (record { fit = fit_moved p s.clients cs (Elsewhere (Queued n (message_name j))) (Elsewhere In_service) (empty_now (Elsewhere In_service) refl) (λ i k. refl) (fit_now (Message j) es at_first); stage = tt })
+        (attend_agrees p m s st idle x lives serves class is active noted j es at_first below o class' is' there method attends words)
 
   -- ---- a close
 
@@ -274,7 +276,7 @@ module _ (p : Image) (m : Machine_parts) (s : State) (st : StandsFor (record { i
     parted_cells = moved (Elsewhere (Session n c)) (Going 1) cs
 
     abbrev parted : State
-    parted = record then { cells = parted_cells; tasks = begun p o (length s.items) (Dispatched d ∷ []) }
+    parted = record (checked_taken n s) { cells = parted_cells; tasks = begun p o (length s.items) (Dispatched d ∷ []) }
 
     client : c < 64
     client = closer_there p m s st idle x lives serves keeps c es at_first
@@ -289,7 +291,7 @@ module _ (p : Image) (m : Machine_parts) (s : State) (st : StandsFor (record { i
       typed = subst (λ o. Keeps p st.typing o) parted_goes keeps;
       calm = begun_calm p o (length s.items) d st.sound.wired;
       traps = begun_traps p o (length s.items) d;
-      room = begun_room p o (length s.items) d (at 0 st.sound.depths.depths) st.sound.heights parted_cells s.items then.rest s.killed s.clients (none_pushed p m s st idle);
+      room = begun_room p o (length s.items) d (at 0 st.sound.depths.depths) st.sound.heights parted_cells s.items (checked_taken n s).rest s.killed s.clients (none_pushed p m s st idle);
       waits = begun_waits p o (length s.items) d st.typing parted_cells;
       kept = record {
         fit = fit_moved p s.clients cs (Elsewhere (Session n c)) (Going 1) (empty_now (Going 1) refl) (λ i k. refl) (fit_now (Close c) es at_first);
