@@ -62,7 +62,7 @@ impl Page {
             Line::Serve(time, class, asked, client) => {
                 self.0.add_count(b"@", *time);
                 self.0.add_count(b" serve ", class.number());
-                self.add_asked(*asked);
+                self.0.add(asked_words(*asked));
                 self.add_one(b"", *client);
             }
             Line::Reply(client, code) => self.add_answer(b"reply ", *client, *code),
@@ -122,18 +122,6 @@ impl Page {
         self.add_one(b" ", code);
     }
 
-    fn add_asked(&mut self, asked: Asked)
-        requires { length self.old + 9 ≤ 4096 }
-        ensures text { self.new ≡ self.old ++ asked_text asked }
-        ensures short { length self.new ≤ length self.old + 9 }
-    {
-        match asked {
-            Asked::Connect => self.0.add(b" connect "),
-            Asked::Message => self.0.add(b" message "),
-            Asked::Close => self.0.add(b" close "),
-        }
-    }
-
     fn add_ending(&mut self, ending: Ending)
         requires { length self.old + 17 ≤ 4096 }
         ensures text { self.new ≡ self.old ++ ending_text ending }
@@ -146,5 +134,17 @@ impl Page {
             Ending::Limit => self.0.add(b"limit"),
             Ending::Error(answer) => self.0.add_count(b"error ", answer),
         }
+    }
+}
+
+/// What a server is asked for, with the spaces round it.
+fn asked_words(asked: Asked) -> &'static [u8]
+    ensures text { result.now ≡ asked_text asked }
+    ensures short { length result.now ≤ 9 }
+{
+    match asked {
+        Asked::Connect => b" connect ",
+        Asked::Message => b" message ",
+        Asked::Close => b" close ",
     }
 }

@@ -62,16 +62,16 @@ returns-in_err-progress-2-clause-went g c =
 pub loop-progress-smaller : goal.loop-progress-smaller
 loop-progress-smaller g c =
     let a = c.args.mover.now in
-    let i = c.loop-progress.invariant in
+    let keeps = c.loop-progress.invariant.keeps in
     let m = c.loop-progress.mover in
     let n = c.pass.new.mover in
     let some = c.in_ok-progress-2.ensures.went in
-    let on = passed a m n i.keeps c.args.breakpoints.now _ _ some.0 in
-    let resting = sym i.far ∙ c.in-Turned.is in
+    let on = passed a m n keeps c.args.breakpoints.now _ _ some.0 in
+    let resting = sym c.loop-progress.invariant.far ∙ c.in-Turned.is in
     let later = left_in a.script.timed a.limit n.machine.core.parts.rest in
     let before = left_in a.script.timed a.limit m.machine.core.parts.rest in
     let far = c.in_ok-progress-2.progress in
-    let less = nearer far later before (λ again. left_falls a.machine.core.image (outside_of a) c.requires.ready.few _ _ _ m.machine n.machine _ _ i.keeps.ready.stands resting on (sym some.1 ∙ again)) in
+    let less = nearer far later before (λ again. left_falls a.machine.core.image (outside_of a) c.requires.ready.few _ _ _ m.machine n.machine _ _ keeps.ready.stands resting on (sym some.1 ∙ again)) in
     subst (λ q. to_go far later < to_go q before) (sym c.in-Turned.is) less
 
 pub loop-progress-preserved : goal.loop-progress-preserved

@@ -23,36 +23,35 @@ returns-in_err-other-clause-went g c =
     let a = c.args.mover.now in
     let i = c.loop-done.invariant in
     let m = c.loop-done.mover in
-    let n = c.arrive.new.mover in
-    let off = c.in_err-other.ensures.went in
-    rw c.from_residual.ensures (off.0, goes_cut a.machine.core.image (outside_of a) c.loop-done.done a.recent m.recent a.machine m.machine n.machine _ _ _ i.so_far (cut_so a m n i.keeps _ _ off.1))
+    rw c.from_residual.ensures (
+      c.in_err-other.ensures.went.0,
+      goes_cut a.machine.core.image (outside_of a) c.loop-done.done a.recent m.recent a.machine m.machine c.arrive.new.mover.machine _ _ _ i.so_far (cut_so a m c.arrive.new.mover i.keeps _ _ c.in_err-other.ensures.went.1),
+    )
 
 pub returns-in_default-clause-went : goal.returns-in_default-clause-went
 returns-in_default-clause-went g c =
     let a = c.args.mover.now in
-    let i = c.loop-done.invariant in
     let m = c.loop-done.mover in
     let n = c.arrive.new.mover in
     let some = c.in_ok-other.ensures.went in (
       rw c.arrive.ensures.recent
-          (ends_early a.machine.core.image (outside_of a) c.loop-done.done a.recent m.recent a.machine m.machine n.machine _ _ _ i.so_far c.args.steps c.loop-done-test.true
-          (λ is. c.in_default.not-Running (some.1 ∙ is)) (λ is. c.in_ok-other.ensures.goes (some.1 ∙ is)) (comes_so a m n i.keeps _ _ some.0)),
+          (ends_early a.machine.core.image (outside_of a) c.loop-done.done a.recent m.recent a.machine m.machine n.machine _ _ _ c.loop-done.invariant.so_far c.args.steps c.loop-done-test.true
+          (λ is. c.in_default.not-Running (some.1 ∙ is)) (λ is. c.in_ok-other.ensures.goes (some.1 ∙ is)) (comes_so a m n c.loop-done.invariant.keeps _ _ some.0)),
       some.1,
     )
 
 pub returns-in_err-stride-clause-went : goal.returns-in_err-stride-clause-went
 returns-in_err-stride-clause-went g c =
     let a = c.args.mover.now in
-    let i = c.loop-done.invariant in
+    let keeps = c.loop-done.invariant.keeps in
     let m = c.loop-done.mover in
     let mid = c.arrive.new.mover in
-    let n = c.stride.new.mover in
-    let then = g.W.Sink.out c.arrive.new.out in
+    let n = c.stride.new.mover.machine in
     let out = g.W.Sink.out c.stride.new.out in
-    let comes = comes_so a m mid i.keeps _ _ c.in_ok-other.ensures.went.0 in
+    let comes = comes_so a m mid keeps _ _ c.in_ok-other.ensures.went.0 in
     let off = c.in_err-stride.ensures.went in
-    let cut = begun_as (keeps_on i.keeps c.arrive.ensures.keeps) (λ q r. Breaks (Moving q r) mid.machine then out n.machine) off.1 in
-    rw c.from_residual-in_err-stride.ensures (off.0, step_cut a.machine.core.image (outside_of a) c.loop-done.done a.recent m.recent a.machine m.machine mid.machine _ _ _ i.so_far n.machine out comes cut)
+    let cut = begun_as (keeps_on keeps c.arrive.ensures.keeps) (λ q r. Breaks (Moving q r) mid.machine (g.W.Sink.out c.arrive.new.out) out n) off.1 in
+    rw c.from_residual-in_err-stride.ensures (off.0, step_cut a.machine.core.image (outside_of a) c.loop-done.done a.recent m.recent a.machine m.machine mid.machine _ _ _ c.loop-done.invariant.so_far n out comes cut)
 
 pub loop-done-preserved : goal.loop-done-preserved
 loop-done-preserved g c =

@@ -24,26 +24,26 @@ loop-mover-init g c =
 pub loop-mover-smaller : goal.loop-mover-smaller
 loop-mover-smaller g c =
     let a = c.args.mover.now in
-    let i = c.loop-mover.invariant in
+    let keeps = c.loop-mover.invariant.keeps in
     let m = c.loop-mover.mover in
-    let new = c.turn_out.new.mover in
+    let turned = c.turn_out.new.mover.machine in
     let resting = sym c.progress.ensures ∙ c.in-Turned.is in
     let takes = c.turn_out.ensures.takes in
-    let so = subst (λ o. TakesTurns m.machine o takes.0 m.turn takes.1 new.machine) (hears_as i.keeps) takes.2 in
-    let less = nearer (progress new.machine.core) (left a.script.timed a.limit new.machine) (left a.script.timed a.limit m.machine) (λ again. fewer (outside_of a) c.requires.ready.few m.machine new.machine m.turn takes.1 takes.0 i.keeps.ready.stands resting so again) in
-    subst (λ q. to_go (progress new.machine.core) (left a.script.timed a.limit new.machine) < to_go q (left a.script.timed a.limit m.machine)) (sym resting) less
+    let so = subst (λ o. TakesTurns m.machine o takes.0 m.turn takes.1 turned) (hears_as keeps) takes.2 in
+    let less = nearer (progress turned.core) (left a.script.timed a.limit turned) (left a.script.timed a.limit m.machine) (λ again. fewer (outside_of a) c.requires.ready.few m.machine turned m.turn takes.1 takes.0 keeps.ready.stands resting so again) in
+    subst (λ q. to_go (progress turned.core) (left a.script.timed a.limit turned) < to_go q (left a.script.timed a.limit m.machine)) (sym resting) less
 
 pub loop-mover-preserved : goal.loop-mover-preserved
 loop-mover-preserved g c =
     let a = c.args.mover.now in
     let i = c.loop-mover.invariant in
-    let m = c.loop-mover.mover in
-    let new = c.turn_out.new.mover in
+    let m = c.loop-mover.mover.machine in
+    let turned = c.turn_out.new.mover.machine in
     let here = g.W.Sink.out c.loop-mover.out in
     let out = g.W.Sink.out c.turn_out.new.out in
-    let sent = heard_as i.keeps (λ q o. Sends (TurnsOnce q o) m.machine here out new.machine) c.in_ok-turn_out-in-Turned.ensures.went.0 in
+    let sent = heard_as i.keeps (λ q o. Sends (TurnsOnce q o) m here out turned) c.in_ok-turn_out-in-Turned.ensures.went.0 in
     record {
-      so_far = arrives_on a.machine.core.image (outside_of a) a.machine m.machine new.machine (g.W.Sink.out c.args.out.now) here out i.so_far (sym c.progress.ensures ∙ c.in-Turned.is) sent;
+      so_far = arrives_on a.machine.core.image (outside_of a) a.machine m turned (g.W.Sink.out c.args.out.now) here out i.so_far (sym c.progress.ensures ∙ c.in-Turned.is) sent;
       keeps = keeps_on i.keeps c.turn_out.ensures.keeps;
       recent = c.turn_out.ensures.recent ∙ i.recent;
       agree = c.turn_out.ensures.agree;
@@ -52,12 +52,8 @@ loop-mover-preserved g c =
 pub returns-in_err-turn_out-in-Turned-clause-went :
     goal.returns-in_err-turn_out-in-Turned-clause-went
 returns-in_err-turn_out-in-Turned-clause-went g c =
-    let a = c.args.mover.now in
     let i = c.loop-mover.invariant in
-    let m = c.loop-mover.mover in
-    let new = c.turn_out.new.mover in
-    let here = g.W.Sink.out c.loop-mover.out in
-    let out = g.W.Sink.out c.turn_out.new.out in
+    let m = c.loop-mover.mover.machine in
     let off = c.in_err-turn_out-in-Turned.ensures.went in
-    let cut = heard_as i.keeps (λ q o. Breaks (Reaches q o) m.machine here out new.machine) off.1 in
-    rw c.from_residual.ensures (off.0, arrives_cut a.machine.core.image (outside_of a) a.machine m.machine new.machine (g.W.Sink.out c.args.out.now) here out i.so_far cut)
+    let cut = heard_as i.keeps (λ q o. Breaks (Reaches q o) m (g.W.Sink.out c.loop-mover.out) (g.W.Sink.out c.turn_out.new.out) c.turn_out.new.mover.machine) off.1 in
+    rw c.from_residual.ensures (off.0, arrives_cut c.args.mover.now.machine.core.image (outside_of c.args.mover.now) c.args.mover.now.machine m c.turn_out.new.mover.machine _ _ _ i.so_far cut)

@@ -31,7 +31,7 @@ loop-byte-preserved g c =
             goes = goes_line c.args.debugger.now c.loop-byte.debugger first c.loop-byte.pending here mid (take i bytes) (take (i + 1) bytes) byte (up_to bytes i c.loop-byte-test.true) far.goes w.obey.new.debugger w.take-said.new.self (g.W.Sink.out w.obey.new.out)
                 (g.W.Sink.failed w.obey.new.out) w.take-said.result (eq-eqb byte 10 w.if-byte-eq10.true) w.take-said.ensures.anew w.take-said.ensures.said w.obey.ensures.keeps w.in_ok-obey.ensures.ok;
             well = w.in_ok-obey.ensures.ok.well;
-            ready = w.obey.ensures.ready;
+            ready = w.obey.ensures.keeps.ready;
             agree = w.obey.ensures.agree;
           })
       | else-byte-eq10 w ↦
