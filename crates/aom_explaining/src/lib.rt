@@ -8,14 +8,12 @@
 #![tactic(auto)]
 
 mod beside;
-mod by_text;
 mod commands;
 mod explaining;
 mod stopping;
 mod telling;
 mod telling_by_text;
 
-pub use by_text::{check_by_text, run_by_text};
-pub use commands::{asm_explained, check_explained, run_explained};
+pub use commands::{asm_explained, check_by_text, check_explained, run_by_text, run_explained};
 pub use explaining::{entry_of, explanation};
 pub use telling::tell_explained;

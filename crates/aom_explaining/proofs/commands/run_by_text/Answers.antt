@@ -2,10 +2,10 @@
 use Rattle.std.proofs.Common.{refl}
 use Rattle.aom_explaining.specs.Explaining.Beside.{denotes, refused}
 use Rattle.aom_explaining.proofs.Behind.{answered}
-use Rattle.aom_explaining.proofs.by_text.check_by_text.Goals as goal
+use Rattle.aom_explaining.proofs.commands.run_by_text.Goals as goal
 
 pub returns-in-Err : goal.returns-in-Err
 returns-in-Err g c = refused refl c.in-Err.fault c.in-Err.ensures.err c.refuse_text.ensures
 
 pub returns-in-Ok : goal.returns-in-Ok
-returns-in-Ok g c = denotes c.in-Ok.ensures.makes (answered _ _ _ _ _ c.try_check-found.ensures (rw c.in-Ok.ensures.text at c.answer_by_text.ensures))
+returns-in-Ok g c = denotes c.in-Ok.ensures.makes (answered _ _ _ _ _ c.try_run-found.ensures (rw c.in-Ok.ensures.text at c.answer_by_text.ensures))
