@@ -1,6 +1,6 @@
 -- What is found in a text that denotes an image, from the program that it is written from.
 use Rattle.std.proofs.Common.{◌≡◌, ◌∙◌, ℕ, suc, ◌+◌, List, Some, refl, sym, ap, slice_get, arith}
-use Rattle.std.specs.Prelude.{option_map, true}
+use Rattle.std.specs.Prelude.{option_map, true, false, map}
 use Rattle.std.specs.List.{filter}
 use Rattle.std.proofs.lemmas.Option.{slice_get-map}
 use Rattle.aom_image.specs.Image.{Image}
@@ -29,15 +29,20 @@ of_words key ss number = sym (slice_get-map words (filter (begins key) ss) numbe
 pub found_image : (text : List ℕ) (i : Image) (d : Denotes text i) → words_of (image_statement text) ≡ Some (header_words d.source.header)
 found_image text i d = sym (slice_get-map words (statements text) 0) ∙ ap (λ ws. slice_get ws 0) d.written
 
+-- the statement that a number finds behind the header is the one that the source has for it
+there_by : {A : Type 0} (key : Keyword) (text : List ℕ) (i : Image) (d : Denotes text i) (spell : A → List (List ℕ)) (said : List A) (number : ℕ) (one : A) → begins_with key (header_words d.source.header) ≡ false
+    → filter (begins_with key) (declared_statements d.source.declarations) ≡ map spell said → slice_get said number ≡ Some one → words_of (slice_get (filter (begins key) (statements text)) number) ≡ Some (spell one)
+there_by key text i d spell said number one headed passes there =
+    of_words key (statements text) number ∙ ap (λ ws. slice_get (filter (begins_with key) ws) number) d.written
+    ∙ ap (λ ws. slice_get ws number) (filter_no (begins_with key) (header_words d.source.header) (declared_statements d.source.declarations) headed ∙ passes)
+    ∙ slice_get-map spell said number ∙ ap (option_map spell) there
+
 pub found_class : (text : List ℕ) (i : Image) (d : Denotes text i) (number : ℕ) (c : ClassDecl) → slice_get i.classes number ≡ Some c → DeclaresClass text (names_of d.source) i.header.natives number c
 found_class text i d number c there =
     let said = pair_at (ClassMeans (names_of d.source) i.header.natives) (classes_of d.source.declarations) i.classes number c d.classes there in
     record {
       said = said.other;
-      there =
-          of_words k.Class (statements text) number ∙ ap (λ ws. slice_get (filter (begins_with k.Class) ws) number) d.written
-          ∙ ap (λ ws. slice_get ws number) (filter_no (begins_with k.Class) (header_words d.source.header) (declared_statements d.source.declarations) refl ∙ class_passes d.source.declarations)
-          ∙ slice_get-map class_words (classes_of d.source.declarations) number ∙ ap (option_map class_words) said.there;
+      there = there_by k.Class text i d class_words (classes_of d.source.declarations) number said.other refl (class_passes d.source.declarations) said.there;
       means = said.holds;
     }
 
@@ -57,10 +62,7 @@ found_method text i d number m there =
     let said = pair_at (MethodMeans (names_of d.source) true i.classes) (methods_of d.source.declarations) i.methods number m d.methods there in
     record {
       said = said.other;
-      there =
-          of_words k.Method (statements text) number ∙ ap (λ ws. slice_get (filter (begins_with k.Method) ws) number) d.written
-          ∙ ap (λ ws. slice_get ws number) (filter_no (begins_with k.Method) (header_words d.source.header) (declared_statements d.source.declarations) refl ∙ method_passes d.source.declarations)
-          ∙ slice_get-map method_words (methods_of d.source.declarations) number ∙ ap (option_map method_words) said.there;
+      there = there_by k.Method text i d method_words (methods_of d.source.declarations) number said.other refl (method_passes d.source.declarations) said.there;
       means = said.holds;
       code = λ place instr here. (
           let held = pair_at (InstructionMeans (names_of d.source) (labels_of said.other.code)) said.other.code m.code place instr said.holds.code here in
