@@ -1,5 +1,5 @@
 //! What an instruction may call.
-ghost use Rattle.std.specs.Prelude.{◌≡◌, ◌++◌, [], ◌∷◌, Some};
+ghost use Rattle.std.specs.Prelude.{◌≡◌, ◌++◌, Some};
 ghost use Rattle.aom_bounds.specs.Calls.{listed, destructors, cancel_of, thing_class, object_class, callees};
 ghost use Rattle.aom_budget.specs.Extents.{entered};
 ghost use Rattle.aom_image.specs.Views.{method_class};
@@ -57,30 +57,18 @@ pub(crate) fn class_of(linked: &Linked, method: MethodNumber) -> Option<ClassNum
 }
 
 impl Callees {
-    fn none() -> Callees
-        ensures { listed result.first ++ listed result.second ≡ [] }
-    {
-        Callees {
-            first: None,
-            second: None,
-        }
-    }
-
-    fn one(method: MethodNumber) -> Callees
-        ensures { listed result.first ++ listed result.second ≡ method ∷ [] }
-    {
-        Callees {
-            first: Some(method),
-            second: None,
-        }
-    }
-
     fn perhaps(method: Option<MethodNumber>) -> Callees
         ensures { listed result.first ++ listed result.second ≡ listed method }
     {
         match method {
-            Some(method) => Callees::one(method),
-            None => Callees::none(),
+            Some(method) => Callees {
+                first: Some(method),
+                second: None,
+            },
+            None => Callees {
+                first: None,
+                second: None,
+            },
         }
     }
 
@@ -106,7 +94,7 @@ impl Callees {
     {
         match class {
             Some(class) => Callees::of_class(linked, class),
-            None => Callees::none(),
+            None => Callees::perhaps(None),
         }
     }
 
@@ -122,12 +110,12 @@ impl Callees {
         match *instr {
             Instr::Call(_, called, _, _)
             | Instr::Trap(_, called, _, _)
-            | Instr::PushOperation(_, called) => Callees::one(called),
+            | Instr::PushOperation(_, called) => Callees::perhaps(Some(called)),
             Instr::Push(register) | Instr::Delete(register) => {
                 Callees::destructors(linked, object_class(shape.register(register)))
             }
             Instr::Cancel => Callees::perhaps(cancel_of(linked, class_of(linked, method))),
-            _ => Callees::none(),
+            _ => Callees::perhaps(None),
         }
     }
 
@@ -136,8 +124,10 @@ impl Callees {
         ensures { listed result.first ++ listed result.second ≡ listed (entered instr.now) }
     {
         match *instr {
-            Instr::Call(_, called, _, _) | Instr::Trap(_, called, _, _) => Callees::one(called),
-            _ => Callees::none(),
+            Instr::Call(_, called, _, _) | Instr::Trap(_, called, _, _) => Callees::perhaps(Some(
+                called,
+            )),
+            _ => Callees::perhaps(None),
         }
     }
 }

@@ -17,4 +17,4 @@ mod words;
 
 pub use active::{enlisted, inactive, outstanding};
 pub use laws::rules_are_monotone;
-pub use rules::rule;
+pub use rules::{Ruling, rule};

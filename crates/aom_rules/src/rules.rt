@@ -27,8 +27,8 @@ use aom_image::{Instr, MethodNumber};
 use aom_shape::{Flow, Shape, Why};
 use aom_site::{Call, Site};
 
-/// What a rule answers.
-pub(crate) type Ruling = Result<Flow, Why>;
+/// What a rule answers: where a run may go on, or why it may not.
+pub type Ruling = Result<Flow, Why>;
 
 /// The instruction at a place, after which a place can be counted.
 fn instr_at(linked: &Linked, method: MethodNumber, place: usize) -> Instr
@@ -45,12 +45,7 @@ fn instr_at(linked: &Linked, method: MethodNumber, place: usize) -> Instr
 
 /// What the instruction at that place asks of the abstract state, and where a run may go on from there: the first need
 /// that is not met, or each place with what is known there. There is room for one more cleanup entry.
-pub fn rule(
-    linked: &Linked,
-    method: MethodNumber,
-    place: usize,
-    shape: &Shape<'_>,
-) -> Result<Flow, Why>
+pub fn rule(linked: &Linked, method: MethodNumber, place: usize, shape: &Shape<'_>) -> Ruling
     requires instr { IsSome (instr_at linked.now method place) }
     requires room { length shape.now.entries < 1024 }
     ensures { IfSome (instr_at linked.now method place) (λ i. told shape.now.entries result ≡ rule linked.now method place shape.now i) }

@@ -14,31 +14,23 @@ instr-instr-requires c = instr_there _ _ _ _ c.requires.passing.places c.require
 
 pub overflow_sub-round : goal.overflow_sub-round
 overflow_sub-round c =
-    let closes =
-    next_closes c.args.linked.now _ c.image.ensures c.methods-formed.ensures.well_formed c.facts.ensures.linked
-    c.args.method c.args.place c.in-Next.field-0 c.in-Next.to _ c.instr-instr.ensures c.in-Next.is in
+    let closes = next_closes _ _ c.image.ensures c.methods-formed.ensures.well_formed c.facts.ensures.linked _ _ _ _ _ c.instr-instr.ensures c.in-Next.is in
     omega (arith, closes.3, c.number.ensures.value)
 
 pub follows-follows-requires-clause-order : goal.follows-follows-requires-clause-order
 follows-follows-requires-clause-order c =
-    let closes =
-    next_closes c.args.linked.now _ c.image.ensures c.methods-formed.ensures.well_formed c.facts.ensures.linked
-    c.args.method c.args.place c.in-Next.field-0 c.in-Next.to _ c.instr-instr.ensures c.in-Next.is in
+    let closes = next_closes _ _ c.image.ensures c.methods-formed.ensures.well_formed c.facts.ensures.linked _ _ _ _ _ c.instr-instr.ensures c.in-Next.is in
     omega (arith, closes.3, c.number.ensures.value, closes.2.later)
 
 pub close-requires-clause-room : goal.close-requires-clause-room
 close-requires-clause-room c =
-    let closes =
-    next_closes c.args.linked.now _ c.image.ensures c.methods-formed.ensures.well_formed c.facts.ensures.linked
-    c.args.method c.args.place c.in-Next.field-0 c.in-Next.to _ c.instr-instr.ensures c.in-Next.is in
+    let closes = next_closes _ _ c.image.ensures c.methods-formed.ensures.well_formed c.facts.ensures.linked _ _ _ _ _ c.instr-instr.ensures c.in-Next.is in
     omega (arith, closes.3, c.number.ensures.value, closes.2.later, c.requires.place, c.requires.passing.after_size)
 
 pub returns-in-Next-clause-passing : goal.returns-in-Next-clause-passing
 returns-in-Next-clause-passing c =
     let looped = linked_is_looped c.args.linked.now (rw c.image.ensures at c.methods-formed.ensures.well_formed) c.facts.ensures.linked in
-    let closes =
-    next_closes c.args.linked.now _ c.image.ensures c.methods-formed.ensures.well_formed c.facts.ensures.linked
-    c.args.method c.args.place c.in-Next.field-0 c.in-Next.to _ c.instr-instr.ensures c.in-Next.is in
+    let closes = next_closes _ _ c.image.ensures c.methods-formed.ensures.well_formed c.facts.ensures.linked _ _ _ _ _ c.instr-instr.ensures c.in-Next.is in
     let first : closes.0 ≡ c.number.result - 1 = omega (arith, closes.3, c.number.ensures.value) in
     let body = subst (λ f. Body c.args.linked.now c.args.method f c.args.place c.in-Next.field-0 closes.1) first closes.2 in
     let within : c.number.result - 1 < length c.args.self.now.from = omega (arith, body.later, c.requires.place) in
@@ -75,7 +67,5 @@ returns-in_default c =
 
 pub close-requires-clause-around : goal.close-requires-clause-around
 close-requires-clause-around c =
-    let closes =
-    next_closes c.args.linked.now _ c.image.ensures c.methods-formed.ensures.well_formed c.facts.ensures.linked
-    c.args.method c.args.place c.in-Next.field-0 c.in-Next.to _ c.instr-instr.ensures c.in-Next.is in
+    let closes = next_closes _ _ c.image.ensures c.methods-formed.ensures.well_formed c.facts.ensures.linked _ _ _ _ _ c.instr-instr.ensures c.in-Next.is in
     omega (arith, closes.3, c.number.ensures.value, closes.2.later, c.requires.place, c.requires.passing.around_size)
