@@ -15,8 +15,8 @@ use aom_explaining::{
 };
 use aom_host::{Input, Output, read_file};
 use aom_main::{
-    ExitStatus, Fault, Part, Translation, check_bytes, explore_bytes, run_bytes, tell,
-    translate_bytes,
+    ExitStatus, Fault, Part, asm_bytes, check_bytes, dis_bytes, dot_bytes, explore_bytes,
+    prices_bytes, run_bytes, tell,
 };
 use aom_natives::{Counter, Delay, Line, Native, NativeKind};
 use aom_run::{Sink, write_text};
@@ -162,9 +162,9 @@ fn obey<W: Sink, E: Sink>(
         Words::Asm { text, explain } if *explain => {
             Ok(asm_explained(alloc, &read_file(rt, text)?, out, errors))
         }
-        Words::Asm { text, .. } => translate_file(rt, Translation::Asm, text, out, errors),
-        Words::Dis { image } => translate_file(rt, Translation::Dis, image, out, errors),
-        Words::Dot { image } => translate_file(rt, Translation::Dot, image, out, errors),
+        Words::Asm { text, .. } => Ok(asm_bytes(alloc, &read_file(rt, text)?, out, errors)),
+        Words::Dis { image } => Ok(dis_bytes(alloc, &read_file(rt, image)?, out, errors)),
+        Words::Dot { image } => Ok(dot_bytes(alloc, &read_file(rt, image)?, out, errors)),
     }
 }
 
@@ -189,20 +189,9 @@ fn check_beside<W: Sink, E: Sink>(
     match text {
         Some(text) => check_by_text(alloc, image, text, prices, out, errors),
         None if explain => check_explained(alloc, image, prices, out, errors),
-        None => check_bytes(alloc, image, prices, out, errors),
+        None if prices => prices_bytes(alloc, image, out, errors),
+        None => check_bytes(alloc, image, out, errors),
     }
-}
-
-/// Writes what a file is translated to.
-fn translate_file<W: Sink, E: Sink>(
-    rt: &HostRuntime,
-    to: Translation,
-    name: &str,
-    out: &mut W,
-    errors: &mut E,
-) -> Result<ExitStatus, Fault> {
-    let file = read_file(rt, name)?;
-    Ok(translate_bytes(rt.alloc(), to, &file, out, errors))
 }
 
 /// The bytes of the files of a run.

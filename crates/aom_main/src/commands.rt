@@ -3,9 +3,10 @@ ghost use Rattle.std.specs.Prelude.{ℕ, ◌≤◌, IfErr, IfOk, List, length};
 ghost use Rattle.aom_natives.specs.Owed.{OweNothing};
 ghost use Rattle.aom_main.specs.Acceptable.{IsSpelled};
 ghost use Rattle.aom_main.specs.Headline.{AcceptedAnswers, EndsOrFails, RunAnswers, CheckAnswers, Sends};
-ghost use Rattle.aom_main.specs.Prices.{Checks};
+ghost use Rattle.aom_main.specs.Prices.{Checks, PricesAnswers};
 ghost use Rattle.aom_main.specs.Translations.{IsTranslation, RefusesFile, Translates};
 ghost use Rattle.aom_main.specs.Untold.{Untold};
+ghost use Rattle.aom_main.specs.declared.commands.Translation.TheVariants.{Asm, Dis, Dot};
 
 use crate::accepting::accept_bytes;
 use crate::assembling::{assemble_bytes, disassemble_bytes};
@@ -97,10 +98,33 @@ fn end(outcome: Result<Outcome, Fault>) -> Result<ExitStatus, Fault>
     }
 }
 
-/// Tells whether an image is accepted, with its figures where they are asked. Those of one that its budgets or its limits alone
-/// refuse are told too.
-#[tactic(auto, using(crate::proofs::Untelling::answered))]
+/// Tells whether an image is accepted.
 pub fn check_bytes<W: Sink, E: Sink>(
+    alloc: Global,
+    image: &[u8],
+    out: &mut W,
+    errors: &mut E,
+) -> ExitStatus
+    ensures { CheckAnswers image.now (record { before = W.out out.old; now = W.out out.new; failed = W.failed out.new }) (record { before = E.out errors.old; now = E.out errors.new; failed = E.failed errors.new }) result }
+{
+    told(alloc, image, false, out, errors)
+}
+
+/// Tells whether an image is accepted, with its figures. Those of one that its budgets or its limits alone refuse are told too.
+pub fn prices_bytes<W: Sink, E: Sink>(
+    alloc: Global,
+    image: &[u8],
+    out: &mut W,
+    errors: &mut E,
+) -> ExitStatus
+    ensures { PricesAnswers image.now (record { before = W.out out.old; now = W.out out.new; failed = W.failed out.new }) (record { before = E.out errors.old; now = E.out errors.new; failed = E.failed errors.new }) result }
+{
+    told(alloc, image, true, out, errors)
+}
+
+/// Tells whether an image is accepted, with its figures where they are asked.
+#[tactic(auto, using(crate::proofs::Untelling::answered))]
+fn told<W: Sink, E: Sink>(
     alloc: Global,
     image: &[u8],
     prices: bool,
@@ -112,7 +136,7 @@ pub fn check_bytes<W: Sink, E: Sink>(
     answer(try_check(alloc, image, prices, out), errors)
 }
 
-/// Checks an image as `check_bytes` does, and leaves its fault to be told.
+/// Checks an image as `check_bytes` or `prices_bytes` does, and leaves its fault to be told.
 pub fn try_check<W: Sink>(
     alloc: Global,
     image: &[u8],
@@ -148,9 +172,45 @@ pub enum Translation {
     Dot,
 }
 
+/// Writes the bytes of the image that an assembly text denotes.
+pub fn asm_bytes<W: Sink, E: Sink>(
+    alloc: Global,
+    text: &[u8],
+    out: &mut W,
+    errors: &mut E,
+) -> ExitStatus
+    ensures { Translates Asm text.now (record { before = W.out out.old; now = W.out out.new; failed = W.failed out.new }) (record { before = E.out errors.old; now = E.out errors.new; failed = E.failed errors.new }) result }
+{
+    translate(alloc, Translation::Asm, text, out, errors)
+}
+
+/// Writes the listing of an image, which need not be accepted.
+pub fn dis_bytes<W: Sink, E: Sink>(
+    alloc: Global,
+    image: &[u8],
+    out: &mut W,
+    errors: &mut E,
+) -> ExitStatus
+    ensures { Translates Dis image.now (record { before = W.out out.old; now = W.out out.new; failed = W.failed out.new }) (record { before = E.out errors.old; now = E.out errors.new; failed = E.failed errors.new }) result }
+{
+    translate(alloc, Translation::Dis, image, out, errors)
+}
+
+/// Writes the graph of an image in Graphviz's language. One that its budgets or its limits alone refuse is drawn too.
+pub fn dot_bytes<W: Sink, E: Sink>(
+    alloc: Global,
+    image: &[u8],
+    out: &mut W,
+    errors: &mut E,
+) -> ExitStatus
+    ensures { Translates Dot image.now (record { before = W.out out.old; now = W.out out.new; failed = W.failed out.new }) (record { before = E.out errors.old; now = E.out errors.new; failed = E.failed errors.new }) result }
+{
+    translate(alloc, Translation::Dot, image, out, errors)
+}
+
 /// Writes what a file is translated to.
 #[tactic(auto, using(crate::proofs::Untelling::answered))]
-pub fn translate_bytes<W: Sink, E: Sink>(
+fn translate<W: Sink, E: Sink>(
     alloc: Global,
     to: Translation,
     file: &[u8],
@@ -162,7 +222,7 @@ pub fn translate_bytes<W: Sink, E: Sink>(
     answer(try_translate(alloc, to, file, out), errors)
 }
 
-/// Translates a file as `translate_bytes` does, and leaves its fault to be told.
+/// Translates a file as `asm_bytes`, `dis_bytes` or `dot_bytes` does, and leaves its fault to be told.
 pub fn try_translate<W: Sink>(
     alloc: Global,
     to: Translation,

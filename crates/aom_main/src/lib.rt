@@ -1,9 +1,9 @@
 //! The program's library: one call for each command over bytes and sinks.
 //!
-//! `run_bytes`, `explore_bytes`, `check_bytes` and `translate_bytes` take the bytes of files and write to two sinks, one for what is
-//! asked and one for a fault's line. Their contracts, `RunAnswers` of `specs/Headline.antt`, `ExploreAnswers` of
-//! `specs/Explored.antt`, `Checks` of `specs/Prices.antt` and `Translates` of `specs/Translations.antt`, go from bytes to bytes: what
-//! the image is, what the script says, and that the text is the
+//! `run_bytes`, `explore_bytes`, `check_bytes`, `prices_bytes`, `asm_bytes`, `dis_bytes` and `dot_bytes` take the bytes of files and
+//! write to two sinks, one for what is asked and one for a fault's line. Their contracts, `RunAnswers` and `CheckAnswers` of
+//! `specs/Headline.antt`, `ExploreAnswers` of `specs/Explored.antt`, `PricesAnswers` of `specs/Prices.antt` and `Translates` of
+//! `specs/Translations.antt`, go from bytes to bytes: what the image is, what the script says, and that the text is the
 //! transcript of a run of the checked machine that never goes wrong. Nothing here reads a file, knows the command line or
 //! where a sink leads.
 #![tactic(auto)]
@@ -21,7 +21,8 @@ mod status;
 
 pub use accepting::accept_bytes;
 pub use commands::{
-    Translation, check_bytes, run_bytes, translate_bytes, try_check, try_run, try_translate,
+    Translation, asm_bytes, check_bytes, dis_bytes, dot_bytes, prices_bytes, run_bytes, try_check,
+    try_run, try_translate,
 };
 pub use exploring::{Part, explore_bytes};
 pub use faults::{Fault, tell};

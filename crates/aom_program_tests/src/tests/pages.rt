@@ -1,7 +1,7 @@
 //! What the tests share: two images and their texts, the calls of commands, and what each has to answer and to write.
 ghost use Rattle.aom_natives.specs.Owed.{OweNothing};
 
-use aom_main::{ExitStatus, Translation, check_bytes, run_bytes, translate_bytes};
+use aom_main::{ExitStatus, asm_bytes, check_bytes, dis_bytes, dot_bytes, prices_bytes, run_bytes};
 use aom_natives::Native;
 use aom_pages::Page;
 use aom_run::Sink;
@@ -62,11 +62,11 @@ pub fn answer<W: Sink, E: Sink>(
     errors: &mut E,
 ) -> ExitStatus {
     match *call {
-        Call::Asm(text) => translate_bytes(alloc, Translation::Asm, text, out, errors),
-        Call::Check(image) => check_bytes(alloc, image, false, out, errors),
-        Call::Prices(image) => check_bytes(alloc, image, true, out, errors),
-        Call::Dis(image) => translate_bytes(alloc, Translation::Dis, image, out, errors),
-        Call::Dot(image) => translate_bytes(alloc, Translation::Dot, image, out, errors),
+        Call::Asm(text) => asm_bytes(alloc, text, out, errors),
+        Call::Check(image) => check_bytes(alloc, image, out, errors),
+        Call::Prices(image) => prices_bytes(alloc, image, out, errors),
+        Call::Dis(image) => dis_bytes(alloc, image, out, errors),
+        Call::Dot(image) => dot_bytes(alloc, image, out, errors),
         Call::Run(image, script) => run_beside(alloc, image, script, Vec::new(alloc), out, errors),
     }
 }

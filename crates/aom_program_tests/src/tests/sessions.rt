@@ -2,7 +2,7 @@
 use super::programs::{CANCELS, CANCELS_ASKED};
 use super::readers::{Stuck, Typed};
 use aom_debugging::{Reader, debug_bytes};
-use aom_main::{ExitStatus, Translation, translate_bytes};
+use aom_main::{ExitStatus, asm_bytes};
 use aom_natives::Native;
 use aom_pages::{Answer, Page};
 use std::alloc::Global;
@@ -11,13 +11,7 @@ use std::alloc::Global;
 fn image_of(alloc: Global, program: &str) -> Vec<u8> {
     let mut image = Page::new(alloc, 4096);
     let mut errors = Page::new(alloc, 100);
-    translate_bytes(
-        alloc,
-        Translation::Asm,
-        program.as_bytes(),
-        &mut image,
-        &mut errors,
-    );
+    asm_bytes(alloc, program.as_bytes(), &mut image, &mut errors);
     image.text
 }
 

@@ -2,14 +2,14 @@
 use super::programs::{CANCELS, CANCELS_ASKED, CANCELS_TOLD};
 use super::readers::Typed;
 use aom_debugging::debug_bytes;
-use aom_main::{ExitStatus, Translation, translate_bytes};
+use aom_main::{ExitStatus, asm_bytes};
 use aom_natives::Native;
 use aom_pages::{Page, Slip};
 use std::alloc::Global;
 
 /// How the cancel is assembled.
 fn assembles(alloc: Global, image: &mut Page, errors: &mut Slip) -> ExitStatus {
-    translate_bytes(alloc, Translation::Asm, CANCELS.as_bytes(), image, errors)
+    asm_bytes(alloc, CANCELS.as_bytes(), image, errors)
 }
 
 /// How a session on an image ends.
