@@ -278,6 +278,6 @@ impl ActiveObjects {
         ensures timers { AreInOrder self.now.pending }
     {
         let _ = self.schedule.count();
-        let _ = self.timers.count();
+        self.timers.in_order();
     }
 }

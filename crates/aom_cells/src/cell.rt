@@ -24,26 +24,12 @@ impl Cell {
         }
     }
 
-    pub fn word(&self, word: u8) -> i32
-        requires { word < 8 }
-        ensures { result ≡ word_of (Some self.now) word }
-    {
-        self.words[word as usize]
-    }
-
     pub fn set_word(&mut self, word: u8, value: i32)
         requires { word < 8 }
         ensures changed { Some self.new ≡ with_word (Some self.old) word value }
         ensures here { word_of (Some self.new) word ≡ value }
     {
         self.words[word as usize] = value;
-    }
-
-    pub fn field(&self, field: u8) -> u32
-        requires { field < 8 }
-        ensures { result ≡ field_of (Some self.now) field }
-    {
-        self.fields[field as usize]
     }
 
     pub fn set_field(&mut self, field: u8, number: u32)

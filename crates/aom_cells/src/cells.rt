@@ -126,7 +126,7 @@ impl Cells {
         requires within { word < 8 }
         ensures { result ≡ word_at self.now id word }
     {
-        self.slab[id.number() as usize].word(word)
+        self.slab[id.number() as usize].words[word as usize]
     }
 
     pub fn set_word(&mut self, id: CellId, word: u8, value: i32)
@@ -145,7 +145,7 @@ impl Cells {
         requires within { field < 8 }
         ensures { result ≡ field_at self.now id field }
     {
-        self.slab[id.number() as usize].field(field)
+        self.slab[id.number() as usize].fields[field as usize]
     }
 
     /// Takes the number out of an owning field, and leaves null.

@@ -38,7 +38,5 @@ pub record Changes (old new : Store) (place : ℕ) (message : Option (List ℤ))
   pub limit : new.limit ≡ old.limit
 
 -- no more messages are kept than may be, and their places are below that limit, which is 1,024 at most
-pub record IsBounded (s : Store) : Type 0 where
-  pub within : count s ≤ s.limit
-  pub places : (place : ℕ) → IsKept s place → place < s.limit
-  pub limit : s.limit ≤ 1024
+abbrev pub IsBounded : Store → Type 0
+IsBounded s = (count s ≤ s.limit) × ((place : ℕ) → IsKept s place → place < s.limit) × (s.limit ≤ 1024)

@@ -520,7 +520,7 @@ module _ (s : kept.State) (cs : List Cell) (clients : List Client) (same : SameC
     same_sent =
         let queues_after = λ (n : ℕ). queues n ∙ sym (other_service n).0 in
         let sessions_after : (n : ℕ) → kept.sessions_at s n ≡ (service_of (message ∷ behind) n).sessions =
-            λ n. by_server cs o lives (asked_last (Message_of c (message_name m))) (λ n v. kept.sessions_at s n ≡ v.sessions) (same.sessions o.name) (λ n other. same.sessions n) n ∙ sym (other_service n).1 in
+        λ n. by_server cs o lives (asked_last (Message_of c (message_name m))) (λ n v. kept.sessions_at s n ≡ v.sessions) (same.sessions o.name) (λ n other. same.sessions n) n ∙ sym (other_service n).1 in
         let lists = length-set s.sent c (kept.sent_at s c ++ m ∷ []) ∙ same.lists in
         assumption (same.at, queues_after, sessions_after, senders_after, taken_after, waits_then, slots_of_after, slotted_after, once_after, slots_after, same.many, lists)
       where

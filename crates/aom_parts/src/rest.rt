@@ -162,6 +162,19 @@ impl Rest {
         self.announced = true;
     }
 
+    pub fn stop(&mut self)
+        ensures { self.new ≡ record self.old { stopped = true } }
+    {
+        self.stopped = true;
+    }
+
+    /// Whether `stop` was run.
+    pub fn is_stopped(&self) -> bool
+        ensures { result ≡ self.now.stopped }
+    {
+        self.stopped
+    }
+
     pub fn ended(&self) -> Option<Ending>
         ensures { result ≡ self.now.ended }
     {
@@ -173,19 +186,6 @@ impl Rest {
         ensures { self.new ≡ record self.old { ended = Some Stopped } }
     {
         self.ended = Some(Ending::Stopped);
-    }
-
-    /// Whether `stop` was run.
-    pub fn is_stopped(&self) -> bool
-        ensures { result ≡ self.now.stopped }
-    {
-        self.stopped
-    }
-
-    pub fn stop(&mut self)
-        ensures { self.new ≡ record self.old { stopped = true } }
-    {
-        self.stopped = true;
     }
 
     /// The end of a dispatch.
@@ -204,19 +204,19 @@ impl Rest {
         self.ended = Some(Ending::MainLeft(code));
     }
 
-    /// So many dispatches are over as there may be.
-    pub fn cut(&mut self)
-        ensures { self.new ≡ record self.old { ended = Some Limit } }
-    {
-        self.ended = Some(Ending::Limit);
-    }
-
     /// The end of an object's dispatch, which was left, and that was the answer.
     pub fn fail(&mut self, answer: i32)
         ensures { self.new ≡ record self.old { clock = raised self.old.clock; ended = Some (Error answer) } }
     {
         self.tick();
         self.ended = Some(Ending::Error(answer));
+    }
+
+    /// So many dispatches are over as there may be.
+    pub fn cut(&mut self)
+        ensures { self.new ≡ record self.old { ended = Some Limit } }
+    {
+        self.ended = Some(Ending::Limit);
     }
 
     /// A turn in which nothing is due.

@@ -95,23 +95,21 @@ pub(crate) struct Services {
     pub(crate) listed: Lists,
 }
 
-impl Services {
-    /// No client asked for anything, there is no message, and no server is found.
-    pub(crate) fn with_limit(
-        alloc: Global,
-        cells: usize,
-        messages: usize,
-    ) -> Result<Services, AllocError>
-        requires cells { cells ≤ 4096 }
-        requires messages { messages ≤ 1024 }
-        ensures clients { IfOk result (λ s. s.clients ≡ at_first cells) }
-        ensures messages { IfOk result (λ s. s.messages ≡ record { slots = []; limit = messages }) }
-        ensures listed { IfOk result (λ s. s.listed ≡ no_list cells 256) }
-    {
-        Ok(Services {
-            clients: Clients::with_limit(alloc, cells)?,
-            messages: Messages::with_limit(alloc, messages)?,
-            listed: Lists::with_limit(alloc, cells, CLASSES)?,
-        })
-    }
+/// No client asked for anything, there is no message, and no server is found.
+pub(crate) fn no_services(
+    alloc: Global,
+    cells: usize,
+    messages: usize,
+) -> Result<Services, AllocError>
+    requires cells { cells ≤ 4096 }
+    requires messages { messages ≤ 1024 }
+    ensures clients { IfOk result (λ s. s.clients ≡ at_first cells) }
+    ensures messages { IfOk result (λ s. s.messages ≡ record { slots = []; limit = messages }) }
+    ensures listed { IfOk result (λ s. s.listed ≡ no_list cells 256) }
+{
+    Ok(Services {
+        clients: Clients::with_limit(alloc, cells)?,
+        messages: Messages::with_limit(alloc, messages)?,
+        listed: Lists::with_limit(alloc, cells, CLASSES)?,
+    })
 }

@@ -38,13 +38,11 @@ without x xs = filter (λ y. not (y == x)) xs
 
 -- the node that comes first
 abbrev pub first_of : List ℕ → Option ℕ
-first_of [] = None
-first_of (x ∷ xs) = Some x
+first_of xs = elim xs [ [] ↦ None | y ∷ ys ↦ Some y ]
 
 -- the nodes after the first
 abbrev pub rest_of : List ℕ → List ℕ
-rest_of [] = []
-rest_of (x ∷ xs) = xs
+rest_of xs = elim xs [ [] ↦ [] | y ∷ ys ↦ ys ]
 
 -- the node that comes after this one
 abbrev pub after_node : ℕ → List ℕ → Option ℕ

@@ -37,8 +37,9 @@ impl Schedule {
         requires { limit ≤ 4096 }
         ensures { IfOk result (λ s. s ≡ record { entries = []; limit = limit }) }
     {
+        let order = Order::with_limit(alloc, limit)?;
         Ok(Schedule {
-            order: Order::with_limit(alloc, limit)?,
+            order,
             ready: VecDeque::with_capacity(alloc, limit)?,
         })
     }

@@ -51,15 +51,6 @@ impl Timers {
         self.dues.len()
     }
 
-    /// How many timers are set.
-    pub fn count(&self) -> usize
-        ensures value { result ≡ length self.now.timers }
-        ensures in_order { AreInOrder self.now }
-    {
-        let _ = &self.dues;
-        self.queue.len()
-    }
-
     /// Whether the object has a timer.
     pub fn is_set(&self, id: CellId) -> bool
         ensures { result ≡ is_some (due_of id self.now.timers) }
@@ -72,6 +63,13 @@ impl Timers {
         ensures { result ≡ first_due self.now.timers }
     {
         self.queue.front().map(|timer| timer.due)
+    }
+
+    /// How many timers are set.
+    pub fn count(&self) -> usize
+        ensures { result ≡ length self.now.timers }
+    {
+        self.queue.len()
     }
 
     /// Sets the object's timer, after all that are due at the same time or earlier.
@@ -108,6 +106,13 @@ impl Timers {
         self.queue.pop_front();
         self.dues[timer.id.number() as usize] = None;
         Some(timer.id)
+    }
+
+    /// For proofs alone: a look at a field tells what holds of the timers.
+    pub fn in_order(&self)
+        ensures { AreInOrder self.now }
+    {
+        let _ = &self.dues;
     }
 
     fn due_time(&self, id: CellId) -> Option<u64>

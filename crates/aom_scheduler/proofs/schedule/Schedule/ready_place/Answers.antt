@@ -19,10 +19,10 @@ pub returns-then-is_ready-clause-ready : goal.returns-then-is_ready-clause-ready
 returns-then-is_ready-clause-ready c =
     subst (λ s. IsReadyAt s c.args.id c.ready_before-at.result) c.self.view_is
     (ready-at c.self.inside.order c.args.id c.unwrap-place.result _ (waiting 0 (pos 0)) c.in_order.ensures (place-at id_of c.args.id _ _ (sym c.place.ensures ∙ c.unwrap-place.ensures))
-        (rw c.self.view_is c.ready_before-at.ensures) (sym (c.is_ready.ensures _) ∙ c.if-is_ready.true))
+    (rw c.self.view_is c.ready_before-at.ensures) (sym (c.is_ready.ensures _) ∙ c.if-is_ready.true))
 
 pub returns-else-is_ready-clause-waiting : goal.returns-else-is_ready-clause-waiting
 returns-else-is_ready-clause-waiting c =
     subst (λ s. IsWaitingAt s c.args.id c.ready_before-at.result) c.self.view_is
     (waiting-at c.self.inside.order c.args.id c.unwrap-place.result _ (waiting 0 (pos 0)) c.in_order.ensures (place-at id_of c.args.id _ _ (sym c.place.ensures ∙ c.unwrap-place.ensures))
-        (rw c.self.view_is c.ready_before-at.ensures) (sym (c.is_ready.ensures _) ∙ c.if-is_ready.false))
+    (rw c.self.view_is c.ready_before-at.ensures) (sym (c.is_ready.ensures _) ∙ c.if-is_ready.false))
