@@ -1,5 +1,5 @@
 -- What comes between dispatches, until an object or a server is dispatched, an event is told by a line, or the run ends.
-use Rattle.std.specs.Prelude.{◌≡◌, ◌⊎◌, ◌<◌, ◌≤◌, ◌+◌, ◌-◌, ◌++◌, is_some, ℕ, Bool, true, false, List, [], Option, Some, None, length}
+use Rattle.std.specs.Prelude.{◌≡◌, ◌⊎◌, ◌<◌, ◌≤◌, ◌+◌, ◌-◌, ◌++◌, is_some, ℕ, Bool, true, false, All, List, [], Option, Some, None, length}
 use Rattle.aom_sound.specs.State.{State}
 use Rattle.aom_sound.specs.World.{IsBetween, Outside, Reaches, Timed, event_at, first_due, first_living}
 use Rattle.aom_steps.specs.Payers.{payer}
@@ -9,7 +9,7 @@ use Rattle.aom_transcript.specs.declared.line.Ending.{Ending}
 use Rattle.aom_lines.specs.Turn.{Turn}
 use Rattle.aom_exec.specs.Steps.{progress, timers}
 use Rattle.aom_parts.specs.declared.progress.Progress.TheVariants.{Turned}
-use Rattle.aom_machine.specs.Calls.{NoneIsDue, Stands, StandsBetween, StandsFor, natives_of}
+use Rattle.aom_machine.specs.Calls.{EventInRange, NoneIsDue, Stands, StandsFor, natives_of}
 use Rattle.aom_machine.specs.declared.machine.Machine.{Machine}
 
 -- what comes from outside of the image, where there are so many natives
@@ -24,6 +24,10 @@ LeadTo outside None s lines u =
     (length lines ≤ 1) × (s.rest.dispatches < outside.limit) × (u.rest.dispatches ≡ s.rest.dispatches)
     × ((is_some (payer u.tasks) ≡ true) ⊎ (IsBetween u × (length outside.events - u.rest.delivered < length outside.events - s.rest.delivered)))
 LeadTo outside (Some ending) s lines u = (lines ≡ []) × (u.rest.ended ≡ Some ending)
+
+-- events are as a script has them, and a turn has room for a line
+abbrev pub CanHear : List TimedEvent → Turn → Type 0
+CanHear events turn = All (λ e. EventInRange e.event) events × (length turn.lines < turn.room)
 
 module _ {X : Type 0} {B : X → Type 0} where
   -- ---- timers
@@ -42,11 +46,7 @@ module _ {X : Type 0} {B : X → Type 0} where
 
   -- ---- events
 
-  -- it stands for a state between dispatches, and no timer is due
-  abbrev pub StandsUndue : Machine X B → Type 0
-  StandsUndue m = StandsBetween m × NoneIsDue m
-
-  -- it stands for one again, with the same image, beside as many natives
+  -- it stands for a state between dispatches again, with the same image, beside as many natives
   pub record Keeps (old new : Machine X B) : Type 0 where
     pub stands : Stands new
     pub between : progress new.core ≡ Turned

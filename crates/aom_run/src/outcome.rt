@@ -4,7 +4,7 @@ ghost use Rattle.aom_run.specs.Outcomes.{outcome_of};
 
 use aom_transcript::Ending;
 
-#[derive(Clone, Copy, PartialEq, Eq)]
+#[derive(Clone, Copy)]
 pub enum Outcome {
     Stopped,
     Waiting,

@@ -7,7 +7,7 @@ ghost use Rattle.aom_parts.specs.declared.progress.Progress.TheVariants.{Turned}
 ghost use Rattle.aom_machine.specs.Calls.{EventInRange, NoneIsDue, Stands, StandsBetween, StandsFor, natives_of};
 ghost use Rattle.aom_natives.specs.Slots.{AllAgree};
 ghost use Rattle.aom_transcript.specs.declared.event.TimedEvent.{TimedEvent};
-ghost use Rattle.aom_run.specs.Turns.{AllPolled, CompletesDue, HasCome, HearsAll, IsDue, IsLate, Keeps, NoneHasCome, StandsUndue, Settles, TakesTurns, hearing, to_come, waiting};
+ghost use Rattle.aom_run.specs.Turns.{AllPolled, CanHear, CompletesDue, HasCome, HearsAll, IsDue, IsLate, Keeps, NoneHasCome, Settles, TakesTurns, hearing, to_come, waiting};
 
 use aom_lines::Turn;
 use aom_machine::Machine;
@@ -71,8 +71,7 @@ fn next_time(machine: &Machine, events: &[TimedEvent]) -> Option<u64>
 fn settle(machine: &mut Machine, events: &[TimedEvent], turn: &mut Turn) -> bool
     requires agree { AllAgree (λ l. l.ids) (λ l. (⟦<dyn Native as Native>⟧ l.native.vtable).owed l.native.value) machine.old.natives.slots.items }
     requires rests { StandsBetween machine.old }
-    requires ranged { All (λ e. EventInRange e.event) events.now }
-    requires room { length turn.old.lines < turn.old.room }
+    requires can { CanHear events.now turn.old }
     ensures agree { AllAgree (λ l. l.ids) (λ l. (⟦<dyn Native as Native>⟧ l.native.vtable).owed l.native.value) machine.new.natives.slots.items }
     ensures kept { Keeps machine.old machine.new }
     ensures heard { HearsAll result events.now machine.old turn.old turn.new machine.new }
@@ -125,9 +124,9 @@ fn come_event(machine: &Machine, events: &[TimedEvent]) -> Option<Event>
 /// Each event that has come is heard, where no timer is due, up to one that is told by a line. Answers whether one was.
 fn hear_due(machine: &mut Machine, events: &[TimedEvent], turn: &mut Turn) -> bool
     requires agree { AllAgree (λ l. l.ids) (λ l. (⟦<dyn Native as Native>⟧ l.native.vtable).owed l.native.value) machine.old.natives.slots.items }
-    requires rests { StandsUndue machine.old }
-    requires ranged { All (λ e. EventInRange e.event) events.now }
-    requires room { length turn.old.lines < turn.old.room }
+    requires rests { StandsBetween machine.old }
+    requires none_due { NoneIsDue machine.old }
+    requires can { CanHear events.now turn.old }
     ensures agree { AllAgree (λ l. l.ids) (λ l. (⟦<dyn Native as Native>⟧ l.native.vtable).owed l.native.value) machine.new.natives.slots.items }
     ensures kept { Keeps machine.old machine.new }
     ensures heard { HearsAll result events.now machine.old turn.old turn.new machine.new }
@@ -146,7 +145,8 @@ fn hear_due(machine: &mut Machine, events: &[TimedEvent], turn: &mut Turn) -> bo
 /// Each living native is polled once in the turn at hand, where no timer is due.
 fn poll_all(machine: &mut Machine)
     requires agree { AllAgree (λ l. l.ids) (λ l. (⟦<dyn Native as Native>⟧ l.native.vtable).owed l.native.value) machine.old.natives.slots.items }
-    requires rests { StandsUndue machine.old }
+    requires rests { StandsBetween machine.old }
+    requires none_due { NoneIsDue machine.old }
     ensures agree { AllAgree (λ l. l.ids) (λ l. (⟦<dyn Native as Native>⟧ l.native.vtable).owed l.native.value) machine.new.natives.slots.items }
     ensures kept { Keeps machine.old machine.new }
     ensures settled { (events : List TimedEvent) → NoneHasCome events machine.old → Settles events machine.old machine.new }

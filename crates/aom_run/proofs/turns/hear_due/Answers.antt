@@ -1,5 +1,6 @@
 -- Each event that has come is heard, up to one that is told by a line.
-use Rattle.std.proofs.Common.{arith, inl, inr, refl, subst, sym, ◌∙◌}
+use Rattle.std.proofs.Common.{arith, inl, inr, length, refl, subst, sym, ◌<◌, ◌∙◌}
+use Rattle.aom_lines.specs.Turn.{Turn}
 use Rattle.aom_machine.specs.Calls.{Delivered, EventInRange}
 use Rattle.aom_run.specs.Turns.{TellsEnd}
 use Rattle.aom_run.proofs.Between.{come_within, heard_far, heard_fewer, heard_settles, heard_stands, heard_tells, less_to_come, none_settles, settles_both, tells_after}
@@ -11,7 +12,7 @@ pub loop-event-init : goal.loop-event-init
 loop-event-init g c =
     record {
       settled = none_settles c.args.events.now c.args.machine.now;
-      kept = times_all c.args.machine.now c.requires.rests.0.0 c.requires.rests.0.1 c.requires.rests.1;
+      kept = times_all c.args.machine.now c.requires.rests.0 c.requires.rests.1 c.requires.none_due;
       agree = c.requires.agree;
       turn = refl;
       fewer = inl refl;
@@ -22,10 +23,13 @@ deliver-requires-clause-few g c =
     let within = come_within c.args.events.now c.loop-event.machine c.in-Some.ensures.some.0 in
     omega (arith, within)
 
+pub deliver-requires-clause-room : goal.deliver-requires-clause-room
+deliver-requires-clause-room g c = subst (λ (t : Turn). length t.lines < t.room) (sym c.loop-event.invariant.turn) c.requires.can.1
+
 pub deliver-requires-clause-ranged : goal.deliver-requires-clause-ranged
 deliver-requires-clause-ranged g c =
     let come = c.in-Some.ensures.some in
-    subst EventInRange come.1 (all_got (λ e. EventInRange e.event) c.args.events.now c.loop-event.machine.core.parts.rest.delivered come.0.0 c.requires.ranged come.0.1)
+    subst EventInRange come.1 (all_got (λ e. EventInRange e.event) c.args.events.now c.loop-event.machine.core.parts.rest.delivered come.0.0 c.requires.can.0 come.0.1)
 
 pub returns-then-deliver-clause-heard : goal.returns-then-deliver-clause-heard
 returns-then-deliver-clause-heard g c =

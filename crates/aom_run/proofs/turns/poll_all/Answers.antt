@@ -9,7 +9,7 @@ pub loop-init : goal.loop-init
 loop-init g c =
     record {
       settled = λ events come. none_settles events c.args.machine.now;
-      kept = times_all c.args.machine.now c.requires.rests.0.0 c.requires.rests.0.1 c.requires.rests.1;
+      kept = times_all c.args.machine.now c.requires.rests.0 c.requires.rests.1 c.requires.none_due;
       agree = c.requires.agree;
       rest = refl;
     }

@@ -8,7 +8,7 @@ use Rattle.aom_run.proofs.turns.settle.Goals as goal
 pub hear_due-requires : goal.hear_due-requires
 hear_due-requires g c =
     let done = c.complete_due.ensures in
-    record { agree = done.agree; rests = ((done.kept.stands, done.kept.between), done.none); ranged = c.requires.ranged; room = c.requires.room }
+    record { agree = done.agree; rests = (done.kept.stands, done.kept.between); none_due = done.none; can = c.requires.can }
 
 pub returns-then-hear_due-clause-heard : goal.returns-then-hear_due-clause-heard
 returns-then-hear_due-clause-heard g c =
@@ -27,7 +27,8 @@ poll_all-requires g c =
     let all = subst (λ b. HearsAll b c.args.events.now c.complete_due.new.machine c.args.turn.now c.hear_due.new.turn c.hear_due.new.machine) c.if-hear_due.false heard.heard in
     record {
       agree = heard.agree;
-      rests = ((heard.kept.stands, heard.kept.between), all.2);
+      rests = (heard.kept.stands, heard.kept.between);
+      none_due = all.2;
     }
 
 pub returns : goal.returns

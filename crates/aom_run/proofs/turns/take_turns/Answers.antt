@@ -98,8 +98,7 @@ settle-requires-in-loop-limit g c =
         passed_stands c.args.machine.now c.pick.new.self c.args.events.now c.args.turn.now.refused c.args.limit k.0 k.2 c.next_time.result c.next_time.ensures c.in-Some.time c.in-Some.is c.set_clock.new.self e.image e.passed,
         passed_far c.args.machine.now c.pick.new.self c.args.events.now c.args.turn.now.refused c.args.limit k.0 k.2 c.next_time.result c.next_time.ensures c.in-Some.time c.in-Some.is c.set_clock.new.self e.image e.passed,
       );
-      ranged = c.requires.ranged;
-      room = subst (λ (t : Turn). length t.lines < t.room) (sym (k.1 ∙ c.loop-limit.invariant.turn)) c.requires.room;
+      can = (c.requires.ranged, subst (λ (t : Turn). length t.lines < t.room) (sym (k.1 ∙ c.loop-limit.invariant.turn)) c.requires.room);
     }
 
 pub returns-then-settle-2 : goal.returns-then-settle-2
