@@ -1,8 +1,8 @@
 //! Bytes that are read from the left.
-ghost use Rattle.std.specs.Prelude.{◌≡◌, ◌≤◌, ◌==◌, length, IfOk};
-ghost use Rattle.aom_codec.specs.Codec.{byte, pair, quad, fixed, limited, unused};
-ghost use Rattle.aom_codec.specs.Reads.{Reads};
-ghost use Rattle.aom_codec.specs.declared.fault.LoadFault.TheVariants.{NotZero};
+ghost use Rattle.std.specs.Prelude.{◌≡◌, ◌≤◌, ◌<◌, ◌==◌, false, true, drop, length, take, IfErr, IfOk};
+ghost use Rattle.aom_codec.specs.Codec.{byte, pair, quad, fixed, unused};
+ghost use Rattle.aom_codec.specs.Reads.{Reads, ReadsWithin};
+ghost use Rattle.aom_codec.specs.declared.fault.LoadFault.TheVariants.{NotZero, Truncated};
 
 use crate::LoadFault;
 use byteorder::{BigEndian, ByteOrder};
@@ -20,6 +20,14 @@ impl<'a> Model for Reader<'a> {
     ghost Value = { List ℕ };
 
     ghost view = { λ r. r.rest.now };
+}
+
+/// Goes on where it holds.
+fn require(holds: bool, fault: LoadFault) -> Result<(), LoadFault>
+    ensures ok { IfOk result (λ _. holds ≡ true) }
+    ensures err { IfErr result (λ e. (holds ≡ false) × (e ≡ fault)) }
+{
+    if holds { Ok(()) } else { Err(fault) }
 }
 
 impl<'a> Reader<'a> {
@@ -48,85 +56,68 @@ impl<'a> Reader<'a> {
         }
     }
 
+    /// The next bytes, so many.
+    fn front(&mut self, count: usize) -> Result<&'a [u8], LoadFault>
+        ensures there { IfOk result (λ x. (count ≤ length self.old) × (x.now ≡ take count self.old) × (self.new ≡ drop count self.old)) }
+        ensures short { IfErr result (λ e. (e ≡ Truncated) × (length self.old < count)) }
+    {
+        if self.rest.len() < count {
+            return Err(LoadFault::Truncated);
+        }
+        let (front, rest) = self.rest.split_at(count);
+        self.rest = rest;
+        Ok(front)
+    }
+
     pub fn pair(&mut self) -> Result<u16, LoadFault>
         ensures { Reads (λ x. (x, self.new)) result (pair.read self.old) }
     {
-        if self.rest.len() < 2 {
-            return Err(LoadFault::Truncated);
-        }
-        let (front, rest) = self.rest.split_at(2);
-        self.rest = rest;
-        Ok(BigEndian::read_u16(front))
+        Ok(BigEndian::read_u16(self.front(2)?))
     }
 
     pub fn quad(&mut self) -> Result<u32, LoadFault>
         ensures { Reads (λ x. (x, self.new)) result (quad.read self.old) }
     {
-        if self.rest.len() < 4 {
-            return Err(LoadFault::Truncated);
-        }
-        let (front, rest) = self.rest.split_at(4);
-        self.rest = rest;
-        Ok(BigEndian::read_u32(front))
+        Ok(BigEndian::read_u32(self.front(4)?))
     }
 
     /// A count or a limit.
     pub fn limited_byte(&mut self, low: u8, high: u8) -> Result<u8, LoadFault>
-        ensures read { Reads (λ x. (x, self.new)) result ((limited byte low high).read self.old) }
-        ensures within { IfOk result (λ n. (low ≤ n) × (n ≤ high)) }
+        ensures { ReadsWithin byte low high self.old self.new result }
     {
         let number = self.byte()?;
-        if low <= number && number <= high {
-            Ok(number)
-        } else {
-            Err(LoadFault::LimitPassed)
-        }
+        require(low <= number && number <= high, LoadFault::LimitPassed)?;
+        Ok(number)
     }
 
     /// A count or a limit.
     pub fn limited_pair(&mut self, low: u16, high: u16) -> Result<u16, LoadFault>
-        ensures read { Reads (λ x. (x, self.new)) result ((limited pair low high).read self.old) }
-        ensures within { IfOk result (λ n. (low ≤ n) × (n ≤ high)) }
+        ensures { ReadsWithin pair low high self.old self.new result }
     {
         let number = self.pair()?;
-        if low <= number && number <= high {
-            Ok(number)
-        } else {
-            Err(LoadFault::LimitPassed)
-        }
+        require(low <= number && number <= high, LoadFault::LimitPassed)?;
+        Ok(number)
     }
 
     /// The number that has to stand here.
     pub fn fixed_byte(&mut self, value: u8, fault: LoadFault) -> Result<(), LoadFault>
         ensures { Reads (λ x. (x, self.new)) result ((fixed byte value fault).read self.old) }
     {
-        if self.byte()? == value {
-            Ok(())
-        } else {
-            Err(fault)
-        }
+        require(self.byte()? == value, fault)
     }
 
     /// The number that has to stand here.
     pub fn fixed_pair(&mut self, value: u16, fault: LoadFault) -> Result<(), LoadFault>
         ensures { Reads (λ x. (x, self.new)) result ((fixed pair value fault).read self.old) }
     {
-        if self.pair()? == value {
-            Ok(())
-        } else {
-            Err(fault)
-        }
+        require(self.pair()? == value, fault)
     }
 
     /// The number that has to stand here.
     pub fn fixed_quad(&mut self, value: u32, fault: LoadFault) -> Result<(), LoadFault>
         ensures { Reads (λ x. (x, self.new)) result ((fixed quad value fault).read self.old) }
     {
-        if self.quad()? == value {
-            Ok(())
-        } else {
-            Err(fault)
-        }
+        require(self.quad()? == value, fault)
     }
 
     pub fn unused_pairs(&mut self, count: u8) -> Result<(), LoadFault>

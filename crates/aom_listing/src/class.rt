@@ -1,5 +1,5 @@
 //! The statement that declares a class.
-ghost use Rattle.std.specs.Prelude.{◌≡◌, [], ◌∷◌, ◌++◌, OnOk};
+ghost use Rattle.std.specs.Prelude.{◌≡◌, ◌++◌, OnOk};
 ghost use Rattle.aom_listing.specs.Classes.{thing_word, provider_words, kind_words, budget_words, field_words, class_words};
 ghost use Rattle.aom_listing.specs.Text.{behind, line_of};
 
