@@ -85,32 +85,20 @@ fn callee<'a>(
 }
 
 /// Calls a method, with its arguments from a register on.
-pub fn call(
-    parts: &mut Parts,
-    target: Target,
-    method: MethodNumber,
-    first: Register,
-    linked: &Linked,
-)
-    requires { (to : ℕ) × IsNext linked.now (Call target method first to) parts.old }
-    ensures { (refused : List ℕ) (to : ℕ) → DoesIn linked.now refused (Call target method first to) parts.old parts.new }
+pub fn call(parts: &mut Parts, on: Target, method: MethodNumber, first: Register, linked: &Linked)
+    requires { (to : ℕ) × IsNext linked.now (Call on method first to) parts.old }
+    ensures { (refused : List ℕ) (to : ℕ) → DoesIn linked.now refused (Call on method first to) parts.old parts.new }
 {
-    let (frame, arguments) = callee(parts, target, method, linked);
+    let (frame, arguments) = callee(parts, on, method, linked);
     parts.stack.enter(frame, first.number(), arguments);
 }
 
 /// The same under a trap, whose mark lies on the cleanup stack.
-pub fn trap(
-    parts: &mut Parts,
-    target: Target,
-    method: MethodNumber,
-    first: Register,
-    linked: &Linked,
-)
-    requires { (to : ℕ) × IsNext linked.now (Trap target method first to) parts.old }
-    ensures { (refused : List ℕ) (to : ℕ) → DoesIn linked.now refused (Trap target method first to) parts.old parts.new }
+pub fn trap(parts: &mut Parts, on: Target, method: MethodNumber, first: Register, linked: &Linked)
+    requires { (to : ℕ) × IsNext linked.now (Trap on method first to) parts.old }
+    ensures { (refused : List ℕ) (to : ℕ) → DoesIn linked.now refused (Trap on method first to) parts.old parts.new }
 {
-    let (frame, arguments) = callee(parts, target, method, linked);
+    let (frame, arguments) = callee(parts, on, method, linked);
     parts.stack.enter_trap(frame, first.number(), arguments);
     parts.entries.mark();
 }

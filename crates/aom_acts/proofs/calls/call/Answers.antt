@@ -2,13 +2,13 @@ use Rattle.aom_acts.proofs.EnterActs.{call_does, calls_well}
 use Rattle.aom_acts.proofs.calls.call.Goals as goal
 
 pub callee-frame-requires-clause-there : goal.callee-frame-requires-clause-there
-callee-frame-requires-clause-there c = (calls_well c.args.linked.now c.args.parts.now c.args.target c.args.method c.args.first c.requires.0 c.requires.1).0
+callee-frame-requires-clause-there c = (calls_well c.args.linked.now c.args.parts.now c.args.on c.args.method c.args.first c.requires.0 c.requires.1).0
 
 pub enter-requires-clause-within : goal.enter-requires-clause-within
 enter-requires-clause-within c =
-    rw (c.number.ensures.value, c.callee-frame.ensures.arguments) (calls_well c.args.linked.now c.args.parts.now c.args.target c.args.method c.args.first c.requires.0 c.requires.1).1
+    rw (c.number.ensures.value, c.callee-frame.ensures.arguments) (calls_well c.args.linked.now c.args.parts.now c.args.on c.args.method c.args.first c.requires.0 c.requires.1).1
 
 pub returns : goal.returns
 returns c = λ refused to.
     rw (c.enter.ensures, c.callee-frame.ensures.frame, c.number.ensures.value, c.callee-frame.ensures.arguments)
-    (call_does c.args.linked.now c.args.parts.now refused c.args.target c.args.method c.args.first to)
+    (call_does c.args.linked.now c.args.parts.now refused c.args.on c.args.method c.args.first to)

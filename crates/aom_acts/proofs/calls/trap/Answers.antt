@@ -3,16 +3,16 @@ use Rattle.aom_acts.proofs.Rooms.{mark_room}
 use Rattle.aom_acts.proofs.calls.trap.Goals as goal
 
 pub callee-frame-requires-clause-there : goal.callee-frame-requires-clause-there
-callee-frame-requires-clause-there c = (traps_well c.args.linked.now c.args.parts.now c.args.target c.args.method c.args.first c.requires.0 c.requires.1).0
+callee-frame-requires-clause-there c = (traps_well c.args.linked.now c.args.parts.now c.args.on c.args.method c.args.first c.requires.0 c.requires.1).0
 
 pub mark-requires : goal.mark-requires
-mark-requires c = mark_room c.args.linked.now c.args.parts.now c.args.target c.args.method c.args.first c.requires.0 c.requires.1
+mark-requires c = mark_room c.args.linked.now c.args.parts.now c.args.on c.args.method c.args.first c.requires.0 c.requires.1
 
 pub enter_trap-requires-clause-within : goal.enter_trap-requires-clause-within
 enter_trap-requires-clause-within c =
-    rw (c.number.ensures.value, c.callee-frame.ensures.arguments) (traps_well c.args.linked.now c.args.parts.now c.args.target c.args.method c.args.first c.requires.0 c.requires.1).1
+    rw (c.number.ensures.value, c.callee-frame.ensures.arguments) (traps_well c.args.linked.now c.args.parts.now c.args.on c.args.method c.args.first c.requires.0 c.requires.1).1
 
 pub returns : goal.returns
 returns c = λ refused to.
     rw (c.mark.ensures, c.enter_trap.ensures, c.callee-frame.ensures.frame, c.number.ensures.value, c.callee-frame.ensures.arguments)
-    (trap_does c.args.linked.now c.args.parts.now refused c.args.target c.args.method c.args.first to)
+    (trap_does c.args.linked.now c.args.parts.now refused c.args.on c.args.method c.args.first to)
