@@ -15,7 +15,7 @@ use Rattle.aom_frames.specs.declared.task.Task.TheVariants.{Run as Runs_frame, D
 use Rattle.aom_shape.specs.Kinds.{register}
 use Rattle.aom_shape.specs.Shape.{Shape}
 use Rattle.aom_shape.specs.declared.kind.Kind.{Kind}
-use Rattle.aom_shape.specs.declared.kind.Kind.TheVariants.{Maybe, Null, Own, Unset, Word}
+use Rattle.aom_shape.specs.declared.kind.Kind.TheVariants.{Maybe, Own}
 use Rattle.aom_transcript.specs.Text.{ended}
 use Rattle.aom_sound.specs.Owned.{over}
 use Rattle.aom_sound.specs.Places.{Cell, Elsewhere, Entry, Field, Going, In_service, Object, Place, Register, Root, Sender, Session, held, service_of}
@@ -179,11 +179,9 @@ ShowsIf false m n r = ShowsNone m r
 
 -- whether something of that kind may own an object
 abbrev pub may_own : Kind → Bool
-may_own Unset = false
-may_own Word = false
-may_own Null = false
 may_own (Own t a) = true
 may_own (Maybe t a) = true
+may_own _ = false
 
 -- so are the registers of a frame at that depth, by its abstract state
 pub record ShowsAll (m : Machine) (sh : Shape) (registers : List ℕ) (depth : ℕ) : Type 0 where
