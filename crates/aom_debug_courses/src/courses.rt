@@ -91,7 +91,7 @@ fn go_on<W: Sink>(mover: &mut Mover, breakpoints: &Breakpoints, out: &mut W) -> 
     }
 }
 
-/// So far.
+/// Goes on so far. `None` where the sink failed.
 pub fn go<W: Sink>(
     mover: &mut Mover,
     course: Course,
