@@ -99,7 +99,8 @@ def texts_of(folder, edits):
 
 def own_failures(crate, lines):
     """The functions that a check did not prove for a goal of their own, apart from those that wait for another."""
-    answers = {it[1] for it in map(ERROR.match, lines) if it}
+    # functions that call one another have one proof, whose folder begins with a plus
+    answers = {it[1].replace("/+", "/") for it in map(ERROR.match, lines) if it}
     found = []
     for line in lines:
         told, other = FUNCTION.match(line), OTHER.match(line)
