@@ -53,6 +53,7 @@ impl<const N: usize> Text<N> {
         self.bytes.truncate(length);
     }
 
+    #[inline(always)]
     pub fn add(&mut self, words: &[u8])
         requires { length self.old + length words.now ≤ N }
         ensures text { self.new ≡ self.old ++ words.now }
@@ -61,6 +62,7 @@ impl<const N: usize> Text<N> {
         self.bytes.try_extend_from_slice(words).unwrap();
     }
 
+    #[inline]
     pub fn add_number<I: Integer>(&mut self, number: I)
         requires { length self.old + I.MAX_STR_LEN ≤ N }
         ensures text { self.new ≡ self.old ++ I.text number }
@@ -71,6 +73,7 @@ impl<const N: usize> Text<N> {
     }
 
     /// Words, and a number behind them.
+    #[inline(always)]
     pub fn add_count<I: Integer>(&mut self, words: &[u8], number: I)
         requires { length self.old + length words.now + I.MAX_STR_LEN ≤ N }
         ensures text { self.new ≡ self.old ++ words.now ++ I.text number }
