@@ -27,6 +27,10 @@ class Turned:
         """What a check is asked for it by."""
         return "::".join(it for it in (self.module, self.owner, self.name) if it)
 
+    def folder(self):
+        """Where its proof stands."""
+        return "/".join(["proofs", *self.path().split("::")[1:]])
+
     def is_told_by(self, path):
         """Whether a name in a check's answer is that of this function, or of a closure in it."""
         head, _, rest = path.partition(f"{self.module}::")

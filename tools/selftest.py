@@ -65,6 +65,11 @@ pub fn two() -> u8
     1
 }
 """
+# a goal that is open, one that is closed, and one that is none
+GOALS = """- double-is-threefold.edit: proofs/double returns c
+- harmless.edit: proofs/part returns c
+- fourfold-is-once-too-much.edit: proofs/fourfold returns-otherwise c
+"""
 FILES = {
     "crates.txt": "sample:\nabove: sample\nfalse_one: sample\n",
     "HANDLES": "Handles allowed: none.\n",
@@ -73,6 +78,7 @@ FILES = {
     "crates/above/specs/Lib.antt": "pub mod Amounts\n",
     "crates/above/specs/Amounts.antt": AMOUNTS,
     "crates/above/must-fail/where.md": "- thrice-is-fourfold.edit: triple\n- thrice-in-other-words.edit: triple\n",
+    "crates/sample/must-fail/goals.md": GOALS,
     "crates/false_one/src/lib.rt": FALSE,
 }
 CODE, DEFINITIONS = "src/lib.rt", "specs/Amounts.antt"

@@ -8,6 +8,7 @@ import threading
 import rattle
 from batches import plan, refused_at, shown, texts_of, unread
 from edit_files import edit_faults, edit_files, places_of, read_edit
+from goals import goals_of, judged, offered, write_answers
 from holes import make_holes
 from house import PARTS, copy_parts, tells_errors
 from verdicts import Verdicts
@@ -37,6 +38,7 @@ class Trial:
         self.known = {it: self.known_of(it) for it in self.names}
         self.weight = {it: house.lines(it) for it in self.names}
         self.places = {it: places_of(house.folder(it)) for it in self.names}
+        self.goals = {it: goals_of(house.folder(it)) for it in self.names}
 
     def known_of(self, name):
         """The edits of a crate that an earlier run saw refused, as it and they stand."""
@@ -69,10 +71,15 @@ class Trial:
             (self.passed if well else self.failed).append(f"{name}/{edit}")
             self.say(f"must-fail {name}/{edit}: {text}")
 
-    def tell_refused(self, name, edit, text):
+    def tell_refused(self, name, edit, text, goals=()):
+        with self.lock:
+            self.goals[name][edit] = list(goals)
         if name in self.proved:
-            self.verdicts.keep_refused(name, edit)
+            self.keep_refused(name, edit)
         self.tell(name, edit, True, f"refused, as it must be{text}")
+
+    def keep_refused(self, name, edit):
+        self.verdicts.keep_refused(name, edit, self.goals[name].get(edit, []))
 
     def checked(self, kind, name, folder, functions, kept):
         """A check of a crate's copy; its time is counted."""
@@ -88,7 +95,7 @@ class Trial:
             self.proved.add(name)
             refused = [it.removeprefix(f"{name}/") for it in self.passed if it.startswith(f"{name}/")]
         for it in refused:
-            self.verdicts.keep_refused(name, it)
+            self.keep_refused(name, it)
 
     def give_up(self, name, lines):
         """What is refused of a crate that is not proved, or stands on one, says nothing."""
@@ -161,16 +168,16 @@ class Trial:
         if status:
             self.give_up(name, [it for it in lines if tells_errors(it)] or lines[-1:])
 
-    def check_with(self, kind, name, texts, functions):
+    def check_with(self, kind, name, texts, functions, goals=()):
         """Checks a copy of a crate with these texts in place of its own, over what is kept of the crate: all of it, or these functions,
-        with holes for the others. What cannot be judged so is checked without holes."""
-        answer = self.check_copy(kind, name, texts, functions, bool(functions))
+        with holes for the others. These goals are answered. What cannot be judged so is checked without holes."""
+        answer = self.check_copy(kind, name, texts, functions, bool(functions), goals)
         if functions and not rattle.is_judged(answer[1]):
-            answer = self.check_copy(kind, name, texts, functions, False)
+            answer = self.check_copy(kind, name, texts, functions, False, goals)
         self.add_rest(name)
         return answer
 
-    def check_copy(self, kind, name, texts, functions, with_holes):
+    def check_copy(self, kind, name, texts, functions, with_holes, goals):
         with tempfile.TemporaryDirectory(dir=self.place, ignore_cleanup_errors=True) as room:
             copy_parts(self.house.folder(name), f"{room}/c", PARTS)
             for path, text in texts.items():
@@ -178,6 +185,7 @@ class Trial:
                     it.write(text)
             if with_holes:
                 make_holes(name, f"{room}/c", functions)
+            write_answers(name, f"{room}/c", goals)
             with self.moving:
                 if self.kept[name]:
                     shutil.copytree(self.kept[name], f"{room}/kept")
@@ -197,14 +205,17 @@ class Trial:
     def try_batch(self, name, batch):
         texts = texts_of(self.house.folder(name), [it for it, _ in batch])
         functions = sorted({it.path() for _, turned in batch for it in turned})
-        status, lines = self.check_with("batches", name, texts, functions)
+        folders = {edit.name: {it.folder() for it in turned} for edit, turned in batch}
+        goals = [it for edit in folders for it in self.goals[name].get(edit, []) if it.folder in folders[edit]]
+        status, lines = self.check_with("batches", name, texts, functions, goals)
         unknown = rattle.unknown_functions(lines)
         if unknown:
             self.try_without(name, batch, unknown)
             return
-        refused = shown(name, batch, status, lines)
+        refused = shown(name, batch, status, judged(lines, goals))
+        left_open = [*goals, *offered(lines)]
         for edit in sorted(refused):
-            self.tell_refused(name, edit, " (shown in a batch, by a goal of its own)")
+            self.tell_refused(name, edit, " (shown in a batch, by a goal of its own)", [it for it in left_open if it.folder in folders[edit]])
         left = [it for it in batch if it[0].name not in refused]
         if refused or len(left) < 4:
             for edit, turned in left:

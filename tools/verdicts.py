@@ -5,11 +5,13 @@ import json
 import os
 import subprocess
 import tempfile
+from dataclasses import astuple
 
+from goals import Goal
 from house import files_of, read_bytes
 
 # what decides how an edit is tried
-TOOLS = ("batches.py", "edit_files.py", "holes.py", "house.py", "rattle.py", "source.py", "trial.py", "verdicts.py")
+TOOLS = ("batches.py", "edit_files.py", "goals.py", "holes.py", "house.py", "rattle.py", "source.py", "trial.py", "verdicts.py")
 
 
 def verdicts_folder():
@@ -51,22 +53,27 @@ class Verdicts:
 
     def is_refused(self, name, edit):
         """Whether an earlier run found that the prover refuses this edit of the crate as it stands."""
-        if not self.at or self.anew:
-            return False
+        return not self.anew and self.goals_of(name, edit) is not None
+
+    def goals_of(self, name, edit):
+        """The goals that an edit left open where an earlier run saw it refused, as far as they were told; None where no run did."""
+        if not self.at:
+            return None
         try:
             with open(self.file_of(name, edit), encoding="utf-8") as it:
-                return json.load(it) == [name, edit, "refused"]
-        except (OSError, ValueError):
-            return False
+                *said, goals = json.load(it)
+            return [Goal(*it) for it in goals] if said == [name, edit, "refused"] else None
+        except (OSError, TypeError, ValueError):
+            return None
 
-    def keep_refused(self, name, edit):
-        """Keeps that it was refused; where it cannot be kept the next run tries the edit again."""
+    def keep_refused(self, name, edit, goals=()):
+        """Keeps that it was refused, and which goals it left open; where it cannot be kept the next run tries the edit again."""
         if not self.at:
             return
         try:
             os.makedirs(self.at, exist_ok=True)
             with tempfile.NamedTemporaryFile("w", dir=self.at, delete=False, encoding="utf-8") as it:
-                json.dump([name, edit, "refused"], it)
+                json.dump([name, edit, "refused", [astuple(it) for it in goals]], it)
             os.replace(it.name, self.file_of(name, edit))
         except OSError:
             pass
