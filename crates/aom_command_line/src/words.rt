@@ -148,7 +148,19 @@ fn with_made<'a>(
 ) -> Result<Command<'a>, AllocError>
     ensures { IfOk result (λ c. IsOkAnd made.entry (λ m. AddsSubcommand command.entry m c)) }
 {
-    command.subcommand(made?)
+    match made {
+        Ok(made) => command.subcommand(made),
+        Err(error) => {
+            leave(command);
+            Err(error)
+        }
+    }
+}
+
+/// Gives a command up: `clap` takes it with no words, and frees it.
+fn leave(command: Command) {
+    let no_words: &[&str] = Default::default();
+    let _ = command.try_get_matches_from(no_words);
 }
 
 fn check_command<'a>(alloc: Global) -> Result<Command<'a>, AllocError>
