@@ -8,7 +8,6 @@ use Rattle.std.specs.Str.Parse.{IsNumeral, ParsesUnsigned, digits_value, without
 use Rattle.std.proofs.lemmas.Fmt.{parse-decimal}
 use Rattle.clap.specs.Words.{AddsSubcommand, App, ReadsOne, Row, Text, all_of, app_of, first_of, first_value, one_of, is_simple, matched_of, raw_values, rows_of, with_subcommand}
 use Rattle.clap.specs.declared.builder.command.Command.{Command}
-use Rattle.clap.specs.declared.builder.command.Command.TheViews.{out-Command as fields_of}
 use Rattle.clap.specs.declared.parser.matches.Found.{Found}
 use Rattle.clap.proofs.OnLiterals.{clap_on_literals}
 use Rattle.clap.proofs.WalkLemmas.{first_value-rows, raw_values-rows}
@@ -18,7 +17,7 @@ use Rattle.aom_command_line.specs.declared.words.WordsFault.{WordsFault}
 use Rattle.aom_command_line.specs.declared.words.WordsFault.TheVariants as faults
 use Rattle.aom_natives.specs.Kinds.{word_of as word_of_kind}
 use Rattle.aom_natives.specs.declared.kind.NativeKind.{NativeKind}
-use Rattle.aom_command_line.specs.CommandLine.{IsCommand, IsUnexplained, Declines, AsksText, DeclinesRun, DeclinesText, LacksExplain, NamesKinds, NamesNoKinds, Says, form, texts_in, word_of}
+use Rattle.aom_command_line.specs.CommandLine.{IsCommand, IsUnexplained, Declines, AsksText, DeclinesRun, DeclinesText, HasForm, LacksExplain, NamesKinds, NamesNoKinds, Says, form, texts_in, word_of}
 
 same : {E : Type 0} (v n : ℕ) (r : Result ℕ E) → r ≡ Ok v → r ≡ Ok n → Some v ≡ Some n
 same v n r a b = cc
@@ -119,6 +118,6 @@ too_many words many = inl (rw (length-map words (λ (w : Bor Text). w.now)) many
 
 -- a command that was made is added with its form
 pub has_form : {E : Type 0} (to : Command) (own : App) (made : Result Command E) (c : Command) → IsOkAnd made (λ m. AddsSubcommand to m c)
-    → IfOk made (λ m. app_of m ≡ own) → IfOk made (λ m. (fields_of m).has_globals ≡ false) → app_of c ≡ with_subcommand (app_of to) own.top
-has_form to own (Ok m) c adds is none = adds.shape none ∙ ap (λ (a : App). with_subcommand (app_of to) a.top) is
-has_form to own (Err _) c adds is none = elim adds [ ]
+    → IfOk made (λ m. HasForm own m) → app_of c ≡ with_subcommand (app_of to) own.top
+has_form to own (Ok m) c adds made = adds.shape made.own ∙ ap (λ (a : App). with_subcommand (app_of to) a.top) made.shape
+has_form to own (Err _) c adds made = elim adds [ ]

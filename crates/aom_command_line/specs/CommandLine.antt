@@ -5,8 +5,10 @@ use Rattle.std.specs.String.{string_bytes}
 use Rattle.std.specs.Fmt.{decimal}
 use Rattle.std.specs.Str.Parse.{IsNumeral, digits_value, without_leading_plus}
 use Rattle.clap.specs.Lexer.{usize_max}
-use Rattle.clap.specs.Words.{App, Row, Rule, Text, first_of, one_of, all_of, new_app, new_rule, with_rule, with_subcommand}
+use Rattle.clap.specs.Words.{App, Row, Rule, Text, app_of, first_of, one_of, all_of, new_app, new_rule, with_rule, with_subcommand}
 use Rattle.clap.specs.declared.builder.action.ArgAction.TheVariants.{Append, SetTrue}
+use Rattle.clap.specs.declared.builder.command.Command.{Command}
+use Rattle.clap.specs.declared.builder.command.Command.TheViews.{out-Command as fields_of}
 use Rattle.clap.specs.declared.builder.value_parser.ValueParser.{ValueParser}
 use Rattle.clap.specs.declared.builder.value_parser.ValueParser.TheVariants.{Signed}
 use Rattle.clap.specs.declared.error.kind.ErrorKind.{ErrorKind}
@@ -18,6 +20,11 @@ use Rattle.aom_command_line.specs.declared.words.Words.{Words}
 use Rattle.aom_command_line.specs.declared.words.Words.TheVariants.{Check, Run, Explore, Debug, Asm, Dis, Dot}
 use Rattle.aom_command_line.specs.declared.words.WordsFault.{WordsFault}
 use Rattle.aom_command_line.specs.declared.words.WordsFault.TheVariants as faults
+
+-- a command of that form, none of whose arguments is for all commands
+pub record HasForm (form : App) (command : Command) : Type 0 where
+  pub shape : app_of command ≡ form
+  pub own : (fields_of command).has_globals ≡ false
 
 -- the name of a file, which must be there
 abbrev pub file_rule : Text → Rule

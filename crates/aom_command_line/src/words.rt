@@ -1,9 +1,8 @@
 //! The command line.
 ghost use Rattle.std.specs.Prelude.{◌≡◌, ◌≤◌, IfOk, IfErr, IsOkAnd, Some, false, true, codes, length};
 ghost use Rattle.std.specs.String.{string_bytes};
-ghost use Rattle.clap.specs.declared.builder.command.Command.TheViews.{out-Command as fields_of};
-ghost use Rattle.clap.specs.Words.{AddsSubcommand, all_of, app_of, found_of, kind_of, one_of, rows_of, rule_of, subcommand_of, subcommand_rows_of, takes, with_subcommand};
-ghost use Rattle.aom_command_line.specs.CommandLine.{asm_form, check_form, debug_form, dis_form, dot_form, explain_rule, explore_form, run_form, form, file_rule, flag_rule, from_rule, limit_rule, native_rule, number_rule, prices_rule, text_rule, to_rule, texts_of, with_files, word_of, Asks, AsksRun, AsksText, Declines, DeclinesNatives, DeclinesRun, DeclinesText, IsFlag, IsNumberUpTo, KeepsLimit, NamesKinds, Says, texts_in};
+ghost use Rattle.clap.specs.Words.{AddsArg, AddsSubcommand, App, all_of, app_of, found_of, kind_of, one_of, rows_of, rule_of, subcommand_of, subcommand_rows_of, takes, with_subcommand};
+ghost use Rattle.aom_command_line.specs.CommandLine.{asm_form, check_form, debug_form, dis_form, dot_form, explain_rule, explore_form, run_form, form, file_rule, flag_rule, from_rule, limit_rule, native_rule, number_rule, prices_rule, text_rule, to_rule, texts_of, with_files, word_of, Asks, AsksRun, AsksText, Declines, DeclinesNatives, DeclinesRun, DeclinesText, HasForm, IsFlag, IsNumberUpTo, KeepsLimit, NamesKinds, Says, texts_in};
 
 use aom_natives::NativeKind;
 use clap::builder::ValueParser;
@@ -148,34 +147,56 @@ fn with_made<'a>(
 ) -> Result<Command<'a>, AllocError>
     ensures { IfOk result (λ c. IsOkAnd made.entry (λ m. AddsSubcommand command.entry m c)) }
 {
-    command.subcommand(made?)
+    match made {
+        Ok(made) => command.subcommand(made),
+        Err(error) => {
+            leave(command);
+            Err(error)
+        }
+    }
+}
+
+/// Gives a command up: `clap` takes it with no words, and frees it.
+fn leave(command: Command) {
+    let no_words: &[&str] = Default::default();
+    let _ = command.try_get_matches_from(no_words);
 }
 
 fn check_command<'a>(alloc: Global) -> Result<Command<'a>, AllocError>
-    ensures form { IfOk result (λ c. app_of c ≡ check_form) }
-    ensures own { IfOk result (λ c. (fields_of c).has_globals ≡ false) }
+    ensures { IfOk result (λ c. HasForm check_form c) }
 {
-    Command::new(alloc, "check")
+    let command = Command::new(alloc, "check")
         .about("Tells whether an image is accepted")
-        .arg(prices_arg(alloc))?
-        .arg(explain_arg(alloc))?
-        .arg(text_arg(alloc))?
-        .arg(file_arg(alloc, "IMAGE", "The file of an image"))
+        .arg(prices_arg(alloc));
+    let command = with_arg(command, explain_arg(alloc));
+    let command = with_arg(command, text_arg(alloc));
+    with_arg(command, file_arg(alloc, "IMAGE", "The file of an image"))
+}
+
+/// Adds an argument to a command, where that was made.
+fn with_arg<'a>(
+    command: Result<Command<'a>, AllocError>,
+    arg: Arg<'a>,
+) -> Result<Command<'a>, AllocError>
+    ensures { IfOk result (λ c. IsOkAnd command.entry (λ m. AddsArg m arg.entry c)) }
+{
+    command?.arg(arg)
 }
 
 fn asm_command<'a>(alloc: Global) -> Result<Command<'a>, AllocError>
-    ensures form { IfOk result (λ c. app_of c ≡ asm_form) }
-    ensures own { IfOk result (λ c. (fields_of c).has_globals ≡ false) }
+    ensures { IfOk result (λ c. HasForm asm_form c) }
 {
-    Command::new(alloc, "asm")
+    let command = Command::new(alloc, "asm")
         .about("Writes the image that a text denotes")
-        .arg(explain_arg(alloc))?
-        .arg(file_arg(alloc, "TEXT", "The file of an assembly text"))
+        .arg(explain_arg(alloc));
+    with_arg(
+        command,
+        file_arg(alloc, "TEXT", "The file of an assembly text"),
+    )
 }
 
 fn dis_command<'a>(alloc: Global) -> Result<Command<'a>, AllocError>
-    ensures form { IfOk result (λ c. app_of c ≡ dis_form) }
-    ensures own { IfOk result (λ c. (fields_of c).has_globals ≡ false) }
+    ensures { IfOk result (λ c. HasForm dis_form c) }
 {
     Command::new(alloc, "dis")
         .about("Writes the listing of an image")
@@ -183,8 +204,7 @@ fn dis_command<'a>(alloc: Global) -> Result<Command<'a>, AllocError>
 }
 
 fn dot_command<'a>(alloc: Global) -> Result<Command<'a>, AllocError>
-    ensures form { IfOk result (λ c. app_of c ≡ dot_form) }
-    ensures own { IfOk result (λ c. (fields_of c).has_globals ≡ false) }
+    ensures { IfOk result (λ c. HasForm dot_form c) }
 {
     Command::new(alloc, "dot")
         .about("Writes an image as a graph in Graphviz's language")
@@ -192,48 +212,43 @@ fn dot_command<'a>(alloc: Global) -> Result<Command<'a>, AllocError>
 }
 
 fn run_command<'a>(alloc: Global) -> Result<Command<'a>, AllocError>
-    ensures form { IfOk result (λ c. app_of c ≡ run_form) }
-    ensures own { IfOk result (λ c. (fields_of c).has_globals ≡ false) }
+    ensures { IfOk result (λ c. HasForm run_form c) }
 {
     let command = Command::new(alloc, "run")
         .about("Runs an image under a script and writes the transcript")
-        .arg(limit_arg(alloc))?
-        .arg(explain_arg(alloc))?
-        .arg(text_arg(alloc))?;
-    with_files(alloc, command)
+        .arg(limit_arg(alloc));
+    let command = with_arg(command, explain_arg(alloc));
+    let command = with_arg(command, text_arg(alloc));
+    with_files(alloc, command?)
 }
 
 fn explore_command<'a>(alloc: Global) -> Result<Command<'a>, AllocError>
-    ensures form { IfOk result (λ c. app_of c ≡ explore_form) }
-    ensures own { IfOk result (λ c. (fields_of c).has_globals ≡ false) }
+    ensures { IfOk result (λ c. HasForm explore_form c) }
 {
     let command = Command::new(alloc, "explore")
         .about("Runs an image again with one more allocation request refused, for each in turn")
-        .arg(limit_arg(alloc))?
-        .arg(from_arg(alloc))?
-        .arg(to_arg(alloc))?;
-    with_files(alloc, command)
+        .arg(limit_arg(alloc));
+    let command = with_arg(command, from_arg(alloc));
+    let command = with_arg(command, to_arg(alloc));
+    with_files(alloc, command?)
 }
 
 fn debug_command<'a>(alloc: Global) -> Result<Command<'a>, AllocError>
-    ensures form { IfOk result (λ c. app_of c ≡ debug_form) }
-    ensures own { IfOk result (λ c. (fields_of c).has_globals ≡ false) }
+    ensures { IfOk result (λ c. HasForm debug_form c) }
 {
     let command = Command::new(alloc, "debug")
         .about("Runs an image as commands say, which are read from standard input")
-        .arg(limit_arg(alloc))?;
-    with_files(alloc, command)
+        .arg(limit_arg(alloc));
+    with_files(alloc, command?)
 }
 
 /// Adds the files of a run, and its natives.
 fn with_files<'a>(alloc: Global, command: Command<'a>) -> Result<Command<'a>, AllocError>
-    ensures form { IfOk result (λ c. app_of c ≡ with_files (app_of command.entry)) }
-    ensures own { IfOk result (λ c. (fields_of c).has_globals ≡ (fields_of command.entry).has_globals) }
+    ensures { (form : App) → HasForm form command.entry → IfOk result (λ c. HasForm (with_files form) c) }
 {
-    command
-        .arg(file_arg(alloc, "IMAGE", "The file of an image"))?
-        .arg(file_arg(alloc, "SCRIPT", "The file of a script"))?
-        .arg(native_arg(alloc))
+    let command = command.arg(file_arg(alloc, "IMAGE", "The file of an image"));
+    let command = with_arg(command, file_arg(alloc, "SCRIPT", "The file of a script"));
+    with_arg(command, native_arg(alloc))
 }
 
 /// A file that has to be named.

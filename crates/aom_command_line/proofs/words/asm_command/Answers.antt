@@ -1,15 +1,12 @@
 -- The form is made of the arguments in turn.
-use Rattle.std.proofs.Common.{rules, ◌≡◌, ◌∙◌, ap₂, codes}
-use Rattle.std.proofs.lemmas.Result.{IfOk-weaker}
-use Rattle.clap.specs.Words.{app_of, new_app, with_rule}
-use Rattle.aom_command_line.specs.CommandLine.{explain_rule}
+use Rattle.std.proofs.Common.{rules, codes}
+use Rattle.clap.specs.Words.{new_app}
+use Rattle.aom_command_line.specs.CommandLine.{file_rule, HasForm}
+use Rattle.aom_command_line.proofs.Rules.{first, next}
 use Rattle.aom_command_line.proofs.words.asm_command.Goals as goal
 
-pub returns-clause-form : goal.returns-clause-form
-returns-clause-form c =
-    let bare : app_of c.about.result ≡ new_app (codes "asm") = search rules in
-    let explain : app_of c.in_ok-arg.field-0 ≡ with_rule (new_app (codes "asm")) explain_rule = c.in_ok-arg.ensures.shape c.explain_arg.ensures.own ∙ ap₂ with_rule bare c.explain_arg.ensures.rule in
-    IfOk-weaker c.arg-2.result _ _ (λ r added. added.shape c.file_arg.ensures.own ∙ ap₂ with_rule explain (search rules)) c.arg-2.ensures
-
-pub returns-clause-own : goal.returns-clause-own
-returns-clause-own c = IfOk-weaker c.arg-2.result _ _ (λ r added. search rules) c.arg-2.ensures
+pub returns : goal.returns
+returns c =
+    let bare : HasForm (new_app (codes "asm")) c.about.result = record { shape = search rules; own = search rules } in
+    let explain = first c.explain_arg.result _ _ c.arg-command.result c.arg-command.ensures bare c.explain_arg.ensures.rule c.explain_arg.ensures.own in
+    next c.file_arg.result _ (file_rule (codes "TEXT")) c.arg-command.result c.with_arg.result c.with_arg.ensures explain (search rules) c.file_arg.ensures.own

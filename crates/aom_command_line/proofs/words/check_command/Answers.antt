@@ -1,17 +1,14 @@
 -- The form is made of the arguments in turn.
-use Rattle.std.proofs.Common.{rules, ◌≡◌, ◌∙◌, ap₂, codes}
-use Rattle.std.proofs.lemmas.Result.{IfOk-weaker}
-use Rattle.clap.specs.Words.{app_of, new_app, with_rule}
-use Rattle.aom_command_line.specs.CommandLine.{explain_rule, prices_rule, text_rule}
+use Rattle.std.proofs.Common.{rules, codes}
+use Rattle.clap.specs.Words.{new_app}
+use Rattle.aom_command_line.specs.CommandLine.{file_rule, HasForm}
+use Rattle.aom_command_line.proofs.Rules.{first, next}
 use Rattle.aom_command_line.proofs.words.check_command.Goals as goal
 
-pub returns-clause-form : goal.returns-clause-form
-returns-clause-form c =
-    let bare : app_of c.about.result ≡ new_app (codes "check") = search rules in
-    let prices : app_of c.in_ok-arg.field-0 ≡ with_rule (new_app (codes "check")) prices_rule = c.in_ok-arg.ensures.shape c.prices_arg.ensures.own ∙ ap₂ with_rule bare c.prices_arg.ensures.rule in
-    let explain : app_of c.in_ok-arg-2.field-0 ≡ with_rule (with_rule (new_app (codes "check")) prices_rule) explain_rule = c.in_ok-arg-2.ensures.shape c.explain_arg.ensures.own ∙ ap₂ with_rule prices c.explain_arg.ensures.rule in
-    let text : app_of c.in_ok-arg-3.field-0 ≡ with_rule (with_rule (with_rule (new_app (codes "check")) prices_rule) explain_rule) text_rule = c.in_ok-arg-3.ensures.shape c.text_arg.ensures.own ∙ ap₂ with_rule explain c.text_arg.ensures.rule in
-    IfOk-weaker c.arg-4.result _ _ (λ r added. added.shape c.file_arg.ensures.own ∙ ap₂ with_rule text (search rules)) c.arg-4.ensures
-
-pub returns-clause-own : goal.returns-clause-own
-returns-clause-own c = IfOk-weaker c.arg-4.result _ _ (λ r added. search rules) c.arg-4.ensures
+pub returns : goal.returns
+returns c =
+    let bare : HasForm (new_app (codes "check")) c.about.result = record { shape = search rules; own = search rules } in
+    let prices = first c.prices_arg.result _ _ c.arg-command.result c.arg-command.ensures bare c.prices_arg.ensures.rule c.prices_arg.ensures.own in
+    let explain = next c.explain_arg.result _ _ c.arg-command.result c.with_arg-command.result c.with_arg-command.ensures prices c.explain_arg.ensures.rule c.explain_arg.ensures.own in
+    let text = next c.text_arg.result _ _ c.with_arg-command.result c.with_arg-command-2.result c.with_arg-command-2.ensures explain c.text_arg.ensures.rule c.text_arg.ensures.own in
+    next c.file_arg.result _ (file_rule (codes "IMAGE")) c.with_arg-command-2.result c.with_arg.result c.with_arg.ensures text (search rules) c.file_arg.ensures.own

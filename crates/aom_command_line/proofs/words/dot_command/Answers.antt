@@ -1,11 +1,11 @@
 -- The form is made of one argument.
 use Rattle.std.proofs.Common.{rules, codes}
-use Rattle.std.proofs.lemmas.Result.{IfOk-weaker}
-use Rattle.aom_command_line.proofs.Rules.{of_file}
+use Rattle.clap.specs.Words.{new_app}
+use Rattle.aom_command_line.specs.CommandLine.{file_rule, HasForm}
+use Rattle.aom_command_line.proofs.Rules.{first}
 use Rattle.aom_command_line.proofs.words.dot_command.Goals as goal
 
-pub returns-clause-form : goal.returns-clause-form
-returns-clause-form c = IfOk-weaker c.arg.result _ _ (λ r added. of_file (codes "dot") (added.shape c.file_arg.ensures.own) (search rules) (search rules)) c.arg.ensures
-
-pub returns-clause-own : goal.returns-clause-own
-returns-clause-own c = IfOk-weaker c.arg.result _ _ (λ r added. search rules) c.arg.ensures
+pub returns : goal.returns
+returns c =
+    let bare : HasForm (new_app (codes "dot")) c.about.result = record { shape = search rules; own = search rules } in
+    first c.file_arg.result _ (file_rule (codes "IMAGE")) c.arg.result c.arg.ensures bare (search rules) c.file_arg.ensures.own

@@ -1,14 +1,14 @@
 -- The form is made of the arguments in turn.
-use Rattle.std.proofs.Common.{rules, ◌∙◌, ap, codes}
-use Rattle.std.proofs.lemmas.Result.{IfOk-weaker}
+use Rattle.std.proofs.Common.{rules, codes}
 use Rattle.clap.specs.Words.{new_app}
-use Rattle.aom_command_line.specs.CommandLine.{with_files}
-use Rattle.aom_command_line.proofs.Rules.{ruled}
+use Rattle.aom_command_line.specs.CommandLine.{HasForm}
+use Rattle.aom_command_line.proofs.Rules.{first, made_of, next}
 use Rattle.aom_command_line.proofs.words.explore_command.Goals as goal
 
-pub returns-clause-form : goal.returns-clause-form
-returns-clause-form c = IfOk-weaker c.with_files.result _ _ (λ r is. is ∙ ap with_files (ruled (c.in_ok-command.ensures.shape c.to_arg.ensures.own) (ruled (c.in_ok-arg-2.ensures.shape c.from_arg.ensures.own)
-    (ruled {b = new_app (codes "explore")} (c.in_ok-arg.ensures.shape c.limit_arg.ensures.own) (search rules) c.limit_arg.ensures.rule) c.from_arg.ensures.rule) c.to_arg.ensures.rule)) c.with_files.ensures.form
-
-pub returns-clause-own : goal.returns-clause-own
-returns-clause-own c = IfOk-weaker c.with_files.result _ _ (λ r made. search rules) c.with_files.ensures.own
+pub returns : goal.returns
+returns c =
+    let bare : HasForm (new_app (codes "explore")) c.about.result = record { shape = search rules; own = search rules } in
+    let limit = first c.limit_arg.result _ _ c.arg-command.result c.arg-command.ensures bare c.limit_arg.ensures.rule c.limit_arg.ensures.own in
+    let from = next c.from_arg.result _ _ c.arg-command.result c.with_arg-command.result c.with_arg-command.ensures limit c.from_arg.ensures.rule c.from_arg.ensures.own in
+    let to = next c.to_arg.result _ _ c.with_arg-command.result c.with_arg-command-2.result c.with_arg-command-2.ensures from c.to_arg.ensures.rule c.to_arg.ensures.own in
+    c.with_files.ensures _ (made_of c.with_arg-command-2.result _ c.in_ok-command.was to)

@@ -8,6 +8,6 @@ use Rattle.aom_command_line.proofs.words.with_translations.Goals as goal
 
 pub returns : goal.returns
 returns c =
-    let one = has_form _ asm_form _ _ c.in_ok-command.ensures c.asm_command.ensures.form c.asm_command.ensures.own in
-    let two = has_form _ dis_form _ _ c.in_ok-command-2.ensures c.dis_command.ensures.form c.dis_command.ensures.own ∙ ap (λ a. with_subcommand a dis_form.top) one in
-    IfOk-weaker c.with_made-3.result _ _ (λ r adds. has_form _ dot_form _ r adds c.dot_command.ensures.form c.dot_command.ensures.own ∙ ap (λ a. with_subcommand a dot_form.top) two) c.with_made-3.ensures
+    let one = has_form _ asm_form _ _ c.in_ok-command.ensures c.asm_command.ensures in
+    let two = has_form _ dis_form _ _ c.in_ok-command-2.ensures c.dis_command.ensures ∙ ap (λ a. with_subcommand a dis_form.top) one in
+    IfOk-weaker c.with_made-3.result _ _ (λ r adds. has_form _ dot_form _ r adds c.dot_command.ensures ∙ ap (λ a. with_subcommand a dot_form.top) two) c.with_made-3.ensures

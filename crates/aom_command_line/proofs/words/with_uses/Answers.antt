@@ -8,7 +8,7 @@ use Rattle.aom_command_line.proofs.words.with_uses.Goals as goal
 
 pub returns : goal.returns
 returns c =
-    let one = has_form _ check_form _ _ c.in_ok-command.ensures c.check_command.ensures.form c.check_command.ensures.own in
-    let two = has_form _ run_form _ _ c.in_ok-command-2.ensures c.run_command.ensures.form c.run_command.ensures.own ∙ ap (λ a. with_subcommand a run_form.top) one in
-    let three = has_form _ explore_form _ _ c.in_ok-command-3.ensures c.explore_command.ensures.form c.explore_command.ensures.own ∙ ap (λ a. with_subcommand a explore_form.top) two in
-    IfOk-weaker c.with_made-4.result _ _ (λ r adds. has_form _ debug_form _ r adds c.debug_command.ensures.form c.debug_command.ensures.own ∙ ap (λ a. with_subcommand a debug_form.top) three) c.with_made-4.ensures
+    let one = has_form _ check_form _ _ c.in_ok-command.ensures c.check_command.ensures in
+    let two = has_form _ run_form _ _ c.in_ok-command-2.ensures c.run_command.ensures ∙ ap (λ a. with_subcommand a run_form.top) one in
+    let three = has_form _ explore_form _ _ c.in_ok-command-3.ensures c.explore_command.ensures ∙ ap (λ a. with_subcommand a explore_form.top) two in
+    IfOk-weaker c.with_made-4.result _ _ (λ r adds. has_form _ debug_form _ r adds c.debug_command.ensures ∙ ap (λ a. with_subcommand a debug_form.top) three) c.with_made-4.ensures
