@@ -26,10 +26,10 @@ use Rattle.aom_debugging.specs.Hearing.{standing}
 use Rattle.aom_debugging.specs.Sessions.{SessionState}
 
 -- what is so of the status of a session, by how it was held
-pub by_held : (So : Result ExitStatus Fault → Type 0) (result : Result ExitStatus Fault) {Holds : Type 0} {Fails : Fault → Type 0} → IfOk result (λ status. (status ≡ statuses.Done) × Holds) → IfErr result Fails
-    → (Holds → So (Ok statuses.Done)) → ((fault : Fault) → Fails fault → So (Err fault)) → So result
-by_held So (Ok status) holds fails by or = subst (λ s. So (Ok s)) (sym holds.0) (by holds.1)
-by_held So (Err fault) holds fails by or = or fault fails
+pub by_done : (So : Result ExitStatus Fault → Type 0) (told : Result (Unit {0}) Fault) (result : Result ExitStatus Fault) {Holds : Type 0} {Fails : Fault → Type 0} → IfOk told (λ _. result ≡ Ok statuses.Done) → IfErr told (λ fault. result ≡ Err fault)
+    → IfOk told (λ _. Holds) → IfErr told Fails → (Holds → So (Ok statuses.Done)) → ((fault : Fault) → Fails fault → So (Err fault)) → So result
+by_done So (Ok done) result is not holds fails by or = subst So (sym is) (by holds)
+by_done So (Err fault) result is not holds fails by or = subst So (sym not) (or fault fails)
 
 -- ---- an accepted image under a script
 

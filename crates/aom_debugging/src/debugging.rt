@@ -1,5 +1,5 @@
 //! A debugger over the bytes of files, as commands come.
-ghost use Rattle.std.specs.Prelude.{ℕ, ◌≡◌, ◌+◌, ◌⊎◌, [], Err, IfErr, IfOk, List, Ok, false, length};
+ghost use Rattle.std.specs.Prelude.{ℕ, ◌≡◌, ◌+◌, [], Err, IfErr, IfOk, List, Ok, length};
 ghost use Rattle.aom_natives.specs.Owed.{OweNothing};
 ghost use Rattle.aom_natives.specs.Slots.{AllAgree};
 ghost use Rattle.aom_sound.specs.World.{boot_state};
@@ -9,12 +9,11 @@ ghost use Rattle.aom_script.specs.Script.{IsTimely, denoted};
 ghost use Rattle.aom_debug.specs.Movers.{IsReady};
 ghost use Rattle.aom_main.specs.Acceptable.{IsSpelled};
 ghost use Rattle.aom_main.specs.Headline.{RefusesBoot};
-ghost use Rattle.aom_main.specs.declared.faults.Fault.TheVariants.{File, Memory, Write};
+ghost use Rattle.aom_main.specs.declared.faults.Fault.TheVariants.{Memory};
 ghost use Rattle.aom_main.specs.declared.status.ExitStatus.TheVariants.{Done};
 ghost use Rattle.aom_main.specs.Untold.{Untold};
 ghost use Rattle.aom_debugging.specs.Answers.{DebugAnswers};
 ghost use Rattle.aom_debugging.specs.Beginning.{IsBegun};
-ghost use Rattle.aom_debugging.specs.Conversing.{BreaksDown, HoldsAll, StopsShort};
 
 use crate::Reader;
 use crate::conversing::converse;
@@ -109,26 +108,20 @@ fn debug_script<R: Reader, W: Sink>(
 {
     accepted.facts();
     match begin(alloc, accepted, script, limit, boxes) {
-        Ok(debugger) => held(debugger, reader, reads, out),
+        Ok(mut debugger) => {
+            let told = converse(&mut debugger, reader, reads, out);
+            drop(debugger);
+            done(told)
+        }
         Err(fault) => Err(fault),
     }
 }
 
-/// Does what lines say to a debugger, and lets it go.
-fn held<R: Reader, W: Sink>(
-    mut debugger: Debugger,
-    reader: &mut R,
-    reads: u64,
-    out: &mut W,
-) -> Result<ExitStatus, Fault>
-    requires agree { AllAgree (λ l. l.ids) (λ l. (⟦<dyn Native as Native>⟧ l.native.vtable).owed l.native.value) debugger.mover.machine.natives.slots.items }
-    requires ready { IsReady debugger.mover }
-    requires well { debugger.has_failed ≡ false }
-    ensures ok { IfOk result (λ status. (status ≡ Done) × HoldsAll debugger.entry (record { before = R.given reader.old; now = R.given reader.new; ended = R.ended reader.new; failed = R.failed reader.new }) (W.out out.old) (W.out out.new)) }
-    ensures err { IfErr result (λ fault. ((fault ≡ File) × StopsShort reads debugger.entry (record { before = R.given reader.old; now = R.given reader.new; ended = R.ended reader.new; failed = R.failed reader.new }) (W.out out.old) (W.out out.new)) ⊎ ((fault ≡ Write) × BreaksDown debugger.entry (record { before = R.given reader.old; now = R.given reader.new; ended = R.ended reader.new; failed = R.failed reader.new }) (W.out out.old) (W.out out.new) (W.failed out.new))) }
+/// The status of a session that was held whole.
+fn done(told: Result<(), Fault>) -> Result<ExitStatus, Fault>
+    ensures ok { IfOk told (λ _. result ≡ Ok Done) }
+    ensures err { IfErr told (λ fault. result ≡ Err fault) }
 {
-    let told = converse(&mut debugger, reader, reads, out);
-    drop(debugger);
     match told {
         Ok(()) => Ok(ExitStatus::Done),
         Err(fault) => Err(fault),
@@ -174,32 +167,23 @@ fn begun<'a>(
     ensures err { IfErr result (λ fault. fault ≡ Memory) }
 {
     match room_of(alloc, accepted, &script) {
-        Ok(room) => Ok(made(machine, script, limit, room)),
+        Ok((turn, recent)) => {
+            let page = Page::new();
+            Ok(Debugger::new(Mover {
+                machine,
+                script,
+                limit,
+                turn,
+                page,
+                recent,
+            }))
+        }
         Err(_) => {
             drop(machine);
             drop(script);
             Err(Fault::Memory)
         }
     }
-}
-
-/// A debugger of these parts, with nothing written yet.
-fn made<'a>(machine: Machine<'a>, script: Script, limit: u32, room: (Turn, Recent)) -> Debugger<'a>
-    requires agree { AllAgree (λ l. l.ids) (λ l. (⟦<dyn Native as Native>⟧ l.native.vtable).owed l.native.value) machine.natives.slots.items }
-    ensures agree { AllAgree (λ l. l.ids) (λ l. (⟦<dyn Native as Native>⟧ l.native.vtable).owed l.native.value) result.mover.machine.natives.slots.items }
-    ensures mover { result.mover ≡ record { machine = machine.entry; script = script; limit = limit; turn = room.0; page = []; recent = room.1 } }
-    ensures marks { (result.breakpoints ≡ []) × (result.has_failed ≡ false) }
-{
-    let (turn, recent) = room;
-    let page = Page::new();
-    Debugger::new(Mover {
-        machine,
-        script,
-        limit,
-        turn,
-        page,
-        recent,
-    })
 }
 
 /// The turn of a run under a script, and room for the latest instructions.

@@ -5,7 +5,7 @@ use Rattle.aom_main.specs.Untold.{Untold}
 use Rattle.aom_main.proofs.Acceptance.{acceptable_of}
 use Rattle.aom_debugging.specs.Conversing.{Given}
 use Rattle.aom_debugging.specs.Answers.{DebugAnswers}
-use Rattle.aom_debugging.proofs.Answering.{broken_of, by_held, held_of, unbegun}
+use Rattle.aom_debugging.proofs.Answering.{broken_of, by_done, held_of, unbegun}
 use Rattle.aom_debugging.proofs.debugging.debug_script.Goals as goal
 
 pub returns-in-Err : goal.returns-in-Err
@@ -16,13 +16,13 @@ returns-in-Err g c =
 
 pub returns-in-Ok : goal.returns-in-Ok
 returns-in-Ok g c =
-    let given : Given = record { before = g.R.Reader.given c.args.reader.now; now = g.R.Reader.given c.held.new.reader; ended = g.R.Reader.ended c.held.new.reader; failed = g.R.Reader.failed c.held.new.reader } in
-    let out : Sent = record { before = g.W.Sink.out c.args.out.now; now = g.W.Sink.out c.held.new.out; failed = g.W.Sink.failed c.held.new.out } in
+    let given : Given = record { before = g.R.Reader.given c.args.reader.now; now = g.R.Reader.given c.converse-told.new.reader; ended = g.R.Reader.ended c.converse-told.new.reader; failed = g.R.Reader.failed c.converse-told.new.reader } in
+    let out : Sent = record { before = g.W.Sink.out c.args.out.now; now = g.W.Sink.out c.converse-told.new.out; failed = g.W.Sink.failed c.converse-told.new.out } in
     let natives = length c.args.boxes.items in
     let acceptable = acceptable_of c.facts.ensures.linked c.facts.ensures.typed c.facts.ensures.budgets c.facts.ensures.within c.facts.ensures.high in
     let d = c.in-Ok.debugger in
     let begun = c.in-Ok.ensures.begun in
     λ bytes text spelled denotes.
-    by_held (Untold (DebugAnswers bytes text c.args.limit natives c.args.reads given out)) c.held.result c.held.ensures.ok c.held.ensures.err
+    by_done (Untold (DebugAnswers bytes text c.args.limit natives c.args.reads given out)) c.converse-told.result c.done.result c.done.ensures.ok c.done.ensures.err c.converse-told.ensures.ok c.converse-told.ensures.err
     (λ holds errors silent. held_of bytes text c.args.limit natives c.args.reads c.args.accepted.now c.args.script acceptable spelled denotes given out errors d begun holds silent)
     (λ fault why errors status told. broken_of bytes text c.args.limit natives c.args.reads c.args.accepted.now c.args.script acceptable spelled denotes given out errors d begun fault status why told)
