@@ -108,7 +108,11 @@ fn debug_script<R: Reader, W: Sink>(
 {
     accepted.facts();
     match begin(alloc, accepted, script, limit, boxes) {
-        Ok(mut debugger) => done(converse(&mut debugger, reader, reads, out)),
+        Ok(mut debugger) => {
+            let told = converse(&mut debugger, reader, reads, out);
+            drop(debugger);
+            done(told)
+        }
         Err(fault) => Err(fault),
     }
 }
@@ -174,7 +178,11 @@ fn begun<'a>(
                 recent,
             }))
         }
-        Err(_) => Err(Fault::Memory),
+        Err(_) => {
+            drop(machine);
+            drop(script);
+            Err(Fault::Memory)
+        }
     }
 }
 
