@@ -63,9 +63,7 @@ fn run_booted<W: Sink>(
     ensures err { IfErr result (λ fault. (fault ≡ Memory) × (W.out out.new ≡ W.out out.old)) }
 {
     let mut turn = turn_of(alloc, accepted, script)?;
-    let outcome = run(machine, script, &mut turn, limit, out);
-    drop(turn);
-    Ok(outcome)
+    Ok(run(machine, script, &mut turn, limit, out))
 }
 
 /// Boots a machine beside those natives and runs it to its end. All memory is taken before anything is written.
