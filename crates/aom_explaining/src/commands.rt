@@ -27,7 +27,7 @@ pub fn check_explained<W: Sink, E: Sink>(
     ensures { Explaining (Checks prices image.now (record { before = W.out out.old; now = W.out out.new; failed = W.failed out.new })) (Explains image.now []) (record { before = E.out errors.old; now = E.out errors.new; failed = E.failed errors.new }) result }
 {
     let found = try_check(alloc, image, prices, out);
-    answer_explained(alloc, &found, image, b"", errors)
+    answer_explained(alloc, found, image, b"", errors)
 }
 
 /// Runs an image under a script beside those natives, and explains why it is not run. Lines are counted in the script.
@@ -45,7 +45,7 @@ pub fn run_explained<W: Sink, E: Sink>(
     ensures { Explaining (RunAnswers image.now script.now limit (length boxes.items) (record { before = W.out out.old; now = W.out out.new; failed = W.failed out.new })) (Explains image.now script.now) (record { before = E.out errors.old; now = E.out errors.new; failed = E.failed errors.new }) result }
 {
     let found = try_run(alloc, image, script, limit, boxes, out);
-    answer_explained(alloc, &found, image, script, errors)
+    answer_explained(alloc, found, image, script, errors)
 }
 
 /// Writes the bytes of the image that an assembly text denotes, and explains why it denotes none.
@@ -58,7 +58,7 @@ pub fn asm_explained<W: Sink, E: Sink>(
     ensures { Explaining (Translates Asm text.now (record { before = W.out out.old; now = W.out out.new; failed = W.failed out.new })) (Explains [] text.now) (record { before = E.out errors.old; now = E.out errors.new; failed = E.failed errors.new }) result }
 {
     let found = try_translate(alloc, Translation::Asm, text, out);
-    answer_explained(alloc, &found, b"", text, errors)
+    answer_explained(alloc, found, b"", text, errors)
 }
 
 /// Tells whether an image is accepted, with its figures where they are asked, and explains by its text why it is not.
@@ -76,7 +76,7 @@ pub fn check_by_text<W: Sink, E: Sink>(
         Err(fault) => refuse_text(alloc, &fault, text, errors),
         Ok(text) => {
             let found = try_check(alloc, image, prices, out);
-            answer_by_text(alloc, &found, image, &text, b"", errors)
+            answer_by_text(alloc, found, image, &text, b"", errors)
         }
     }
 }
@@ -98,25 +98,9 @@ pub fn run_by_text<W: Sink, E: Sink>(
 {
     match ImageText::beside(alloc, text, image) {
         Err(fault) => refuse_text(alloc, &fault, text, errors),
-        Ok(text) => run_of_text(alloc, image, &text, script, limit, boxes, out, errors),
+        Ok(text) => {
+            let found = try_run(alloc, image, script, limit, boxes, out);
+            answer_by_text(alloc, found, image, &text, script, errors)
+        }
     }
-}
-
-/// Runs an image, and explains by the text that it is of why it is not run.
-fn run_of_text<W: Sink, E: Sink>(
-    alloc: Global,
-    image: &[u8],
-    text: &ImageText,
-    script: &[u8],
-    limit: u32,
-    boxes: Vec<Box<dyn Native>>,
-    out: &mut W,
-    errors: &mut E,
-) -> ExitStatus
-    requires limit { (1 ≤ limit) × (limit ≤ 1000000000) }
-    requires owed { OweNothing (λ b. (⟦<dyn Native as Native>⟧ b.vtable).owed b.value) boxes.items }
-    ensures { Explaining (RunAnswers image.now script.now limit (length boxes.items) (record { before = W.out out.old; now = W.out out.new; failed = W.failed out.new })) (ExplainsByText image.now text.now script.now) (record { before = E.out errors.old; now = E.out errors.new; failed = E.failed errors.new }) result }
-{
-    let found = try_run(alloc, image, script, limit, boxes, out);
-    answer_by_text(alloc, &found, image, text, script, errors)
 }

@@ -41,15 +41,15 @@ pub fn tell_explained<E: Sink>(
 /// Answers the status that a call has come to, or tells its fault and explains it behind its line.
 pub(crate) fn answer_explained<E: Sink>(
     alloc: Global,
-    found: &Result<ExitStatus, Fault>,
+    found: Result<ExitStatus, Fault>,
     image: &[u8],
     text: &[u8],
     errors: &mut E,
 ) -> ExitStatus
-    ensures { AnsweredOrExplained (Explains image.now text.now) found.now (record { before = E.out errors.old; now = E.out errors.new; failed = E.failed errors.new }) result }
+    ensures { AnsweredOrExplained (Explains image.now text.now) found (record { before = E.out errors.old; now = E.out errors.new; failed = E.failed errors.new }) result }
 {
     match found {
-        Ok(status) => *status,
-        Err(fault) => tell_explained(alloc, fault, image, text, errors),
+        Ok(status) => status,
+        Err(fault) => tell_explained(alloc, &fault, image, text, errors),
     }
 }

@@ -37,17 +37,17 @@ fn tell_by_text<E: Sink>(
 /// Answers the status that a call has come to, or tells its fault and explains it so behind its line.
 pub fn answer_by_text<E: Sink>(
     alloc: Global,
-    found: &Result<ExitStatus, Fault>,
+    found: Result<ExitStatus, Fault>,
     image: &[u8],
     text: &ImageText,
     script: &[u8],
     errors: &mut E,
 ) -> ExitStatus
-    ensures { AnsweredOrExplained (ExplainsByText image.now text.now script.now) found.now (record { before = E.out errors.old; now = E.out errors.new; failed = E.failed errors.new }) result }
+    ensures { AnsweredOrExplained (ExplainsByText image.now text.now script.now) found (record { before = E.out errors.old; now = E.out errors.new; failed = E.failed errors.new }) result }
 {
     match found {
-        Ok(status) => *status,
-        Err(fault) => tell_by_text(alloc, fault, image, text, script, errors),
+        Ok(status) => status,
+        Err(fault) => tell_by_text(alloc, &fault, image, text, script, errors),
     }
 }
 

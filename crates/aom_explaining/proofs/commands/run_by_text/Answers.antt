@@ -1,10 +1,11 @@
 -- The text is refused, or it denotes the image, and the command goes on.
 use Rattle.std.proofs.Common.{refl}
 use Rattle.aom_explaining.specs.Explaining.Beside.{denotes, refused}
+use Rattle.aom_explaining.proofs.Behind.{answered}
 use Rattle.aom_explaining.proofs.commands.run_by_text.Goals as goal
 
 pub returns-in-Err : goal.returns-in-Err
 returns-in-Err g c = refused refl c.in-Err.fault c.in-Err.ensures.err c.refuse_text.ensures
 
 pub returns-in-Ok : goal.returns-in-Ok
-returns-in-Ok g c = denotes c.in-Ok.ensures.makes (rw c.in-Ok.ensures.text at c.run_of_text.ensures)
+returns-in-Ok g c = denotes c.in-Ok.ensures.makes (answered _ _ _ _ _ c.try_run-found.ensures (rw c.in-Ok.ensures.text at c.answer_by_text.ensures))
