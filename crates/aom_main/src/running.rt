@@ -1,8 +1,9 @@
 //! The run of an accepted image.
-ghost use Rattle.std.specs.Prelude.{◌≡◌, ◌≤◌, IfOk, IfErr, length};
+ghost use Rattle.std.specs.Prelude.{◌≡◌, ◌≤◌, ◌+◌, [], IfOk, IfErr, length};
 ghost use Rattle.aom_natives.specs.Owed.{OweNothing};
 ghost use Rattle.aom_natives.specs.Slots.{AllAgree};
 ghost use Rattle.aom_machine.specs.Calls.{natives_of};
+ghost use Rattle.aom_lines.specs.Turn.{step_lines};
 ghost use Rattle.aom_script.specs.Script.{IsTimely};
 ghost use Rattle.aom_main.specs.Headline.{AllRunWell, HasNatives, IsFreshOf, RefusesBoot, Shows, outside_of};
 ghost use Rattle.aom_main.specs.declared.faults.Fault.TheVariants.{Memory};
@@ -14,7 +15,7 @@ use aom_machine::Machine;
 use aom_natives::Native;
 use aom_run::{Outcome, Sink, run};
 use aom_script::Script;
-use std::alloc::Global;
+use std::alloc::{AllocError, Global};
 
 /// A machine that has booted beside those natives, or why it does not boot.
 pub fn booted<'a>(
@@ -35,6 +36,16 @@ pub fn booted<'a>(
     }
 }
 
+/// What hears a run of an accepted image under a script.
+fn turn_of(alloc: Global, accepted: &Accepted, script: &Script) -> Result<Turn, AllocError>
+    ensures lines { IfOk result (λ t. t.lines ≡ []) }
+    ensures refused { IfOk result (λ t. t.refused ≡ script.now.refused) }
+    ensures room { IfOk result (λ t. t.room ≡ 64 + step_lines accepted.now.header.messages) }
+{
+    let refused = Vec::from_slice(alloc, script.refused())?;
+    Turn::new(alloc, accepted.linked(), refused)
+}
+
 /// Runs a machine that has booted to its end. All memory is taken before anything is written.
 fn run_booted<W: Sink>(
     alloc: Global,
@@ -51,8 +62,7 @@ fn run_booted<W: Sink>(
     ensures ok { IfOk result (λ outcome. Shows accepted.now (outside_of script.now limit (natives_of machine.old)) outcome (record { before = W.out out.old; now = W.out out.new; failed = W.failed out.new })) }
     ensures err { IfErr result (λ fault. (fault ≡ Memory) × (W.out out.new ≡ W.out out.old)) }
 {
-    let refused = Vec::from_slice(alloc, script.refused())?;
-    let mut turn = Turn::new(alloc, accepted.linked(), refused)?;
+    let mut turn = turn_of(alloc, accepted, script)?;
     Ok(run(machine, script, &mut turn, limit, out))
 }
 
