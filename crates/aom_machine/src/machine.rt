@@ -69,7 +69,10 @@ impl<'a> Machine<'a> {
     {
         match Natives::adopt(alloc, boxes) {
             Ok(natives) => Ok(Machine { core, natives }),
-            Err((_, boxes)) => Err((BootFault::OutOfMemory, boxes)),
+            Err((_, boxes)) => {
+                drop(core);
+                Err((BootFault::OutOfMemory, boxes))
+            }
         }
     }
 
