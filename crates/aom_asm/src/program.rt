@@ -1,5 +1,5 @@
 //! A text while it is read.
-ghost use Rattle.std.specs.Prelude.{◌≡◌, ◌≤◌, ◌+◌, ◌^◌, [], None, count_by, IfOk};
+ghost use Rattle.std.specs.Prelude.{◌≡◌, ◌≤◌, ◌+◌, ◌^◌, [], None, Some, count_by, IfOk};
 ghost use Rattle.aom_image.specs.WellFormed.{is_server, WellFormed};
 ghost use Rattle.aom_syntax.specs.Reading.{Reads, ReadsOrNoMemory};
 ghost use Rattle.aom_asm.specs.Denoted.{grown, opened, with_class, with_heading, with_method, in_body, step, step_by, closed, image_of};
@@ -112,7 +112,7 @@ impl<'a> Program<'a> {
         }
         let labels = labels_of(alloc, text.again())?;
         let heading = reader.heading(alloc, scope, place)?;
-        self.body = Some(Body::open(alloc, heading, labels));
+        self.hold(Body::open(alloc, heading, labels));
         self.size = grown(24, self.size)?;
         Ok(())
     }
@@ -131,7 +131,7 @@ impl<'a> Program<'a> {
             return self.add_method(body, reader);
         }
         let added = body.add(scope, reader);
-        self.body = Some(body);
+        self.hold(body);
         added?;
         self.size = grown(8, self.size)?;
         Ok(())
@@ -160,6 +160,13 @@ impl<'a> Program<'a> {
             Some(body) => self.go_on(scope, body, reader),
             None => self.declare(alloc, scope, reader, text),
         }
+    }
+
+    /// From here on that method is open.
+    fn hold(&mut self, body: Body<'a>)
+        ensures { self.new ≡ record self.old { body = Some body.entry } }
+    {
+        self.body = Some(body);
     }
 
     /// The method that is open, which is open no more.
