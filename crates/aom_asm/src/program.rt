@@ -1,5 +1,5 @@
 //! A text while it is read.
-ghost use Rattle.std.specs.Prelude.{◌≡◌, ◌≤◌, ◌+◌, ◌^◌, [], None, Some, count_by, IfOk};
+ghost use Rattle.std.specs.Prelude.{◌≡◌, ◌≤◌, ◌+◌, ◌^◌, [], ◌∷◌, ◌++◌, None, Some, Ok, count_by, IfOk};
 ghost use Rattle.aom_image.specs.WellFormed.{is_server, WellFormed};
 ghost use Rattle.aom_syntax.specs.Reading.{Reads, ReadsOrNoMemory};
 ghost use Rattle.aom_asm.specs.Denoted.{grown, opened, with_class, with_heading, with_method, in_body, step, step_by, closed, image_of};
@@ -92,8 +92,16 @@ impl<'a> Program<'a> {
         let servers = self.servers();
         let natives = self.header.natives;
         let class = reader.class_statement(alloc, scope, natives, place, servers)?;
-        self.classes.push(class)?;
+        self.keep_class(class)?;
         self.size = grown(28, self.size)?;
+        Ok(())
+    }
+
+    /// One more class.
+    fn keep_class(&mut self, class: ClassDecl) -> Result<(), AsmFaultKind>
+        ensures { ReadsOrNoMemory (λ _. self.new) result (Ok (record self.old { classes = self.old.classes ++ class ∷ [] })) }
+    {
+        self.classes.push(class)?;
         Ok(())
     }
 
