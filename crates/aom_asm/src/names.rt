@@ -11,8 +11,14 @@ fn name_after<'a>(key: Keyword, mut words: Words<'a>) -> Option<&'a [u8]>
     ensures { option_map (λ w. w.now) result ≡ name_after key words.entry }
 {
     match words.next() {
-        Some(first) if first == key.text() => words.next(),
-        _ => None,
+        Some(first) => {
+            if first == key.text() {
+                words.next()
+            } else {
+                None
+            }
+        }
+        None => None,
     }
 }
 

@@ -1,5 +1,5 @@
 //! A text while it is read.
-ghost use Rattle.std.specs.Prelude.{◌≡◌, ◌≤◌, ◌+◌, ◌^◌, [], None, count_by, IfOk};
+ghost use Rattle.std.specs.Prelude.{◌≡◌, ◌≤◌, ◌+◌, ◌^◌, [], ◌∷◌, ◌++◌, None, Some, Ok, count_by, IfOk};
 ghost use Rattle.aom_image.specs.WellFormed.{is_server, WellFormed};
 ghost use Rattle.aom_syntax.specs.Reading.{Reads, ReadsOrNoMemory};
 ghost use Rattle.aom_asm.specs.Denoted.{grown, opened, with_class, with_heading, with_method, in_body, step, step_by, closed, image_of};
@@ -92,8 +92,16 @@ impl<'a> Program<'a> {
         let servers = self.servers();
         let natives = self.header.natives;
         let class = reader.class_statement(alloc, scope, natives, place, servers)?;
-        self.classes.push(class)?;
+        self.keep_class(class)?;
         self.size = grown(28, self.size)?;
+        Ok(())
+    }
+
+    /// One more class.
+    fn keep_class(&mut self, class: ClassDecl) -> Result<(), AsmFaultKind>
+        ensures { ReadsOrNoMemory (λ _. self.new) result (Ok (record self.old { classes = self.old.classes ++ class ∷ [] })) }
+    {
+        self.classes.push(class)?;
         Ok(())
     }
 
@@ -112,7 +120,7 @@ impl<'a> Program<'a> {
         }
         let labels = labels_of(alloc, text.again())?;
         let heading = reader.heading(alloc, scope, place)?;
-        self.body = Some(Body::open(alloc, heading, labels));
+        self.hold(Body::open(alloc, heading, labels));
         self.size = grown(24, self.size)?;
         Ok(())
     }
@@ -131,7 +139,7 @@ impl<'a> Program<'a> {
             return self.add_method(body, reader);
         }
         let added = body.add(scope, reader);
-        self.body = Some(body);
+        self.hold(body);
         added?;
         self.size = grown(8, self.size)?;
         Ok(())
@@ -160,6 +168,13 @@ impl<'a> Program<'a> {
             Some(body) => self.go_on(scope, body, reader),
             None => self.declare(alloc, scope, reader, text),
         }
+    }
+
+    /// From here on that method is open.
+    fn hold(&mut self, body: Body<'a>)
+        ensures { self.new ≡ record self.old { body = Some body.entry } }
+    {
+        self.body = Some(body);
     }
 
     /// The method that is open, which is open no more.

@@ -61,6 +61,17 @@ argument classes = seen (argument_from classes) argument_number pair
 
 -- ---- header
 
+-- what stands behind the counts
+abbrev pub header_fields : ℕ → Codec (ℕ × (ℕ × (ℕ × (Option ℕ × ℕ))))
+header_fields classes =
+    next (limited pair 0 4096) (λ _.
+    next (limited pair 0 1024) (λ _.
+    next (limited byte 0 16) (λ _.
+    after (fixed byte 0 NotZero) (
+    next (class_or_none classes) (λ _.
+    after (fixed pair 0 NotZero)
+    quad)))))
+
 -- the fields of the header
 abbrev pub opening_fields : Codec (ℕ × (ℕ × (ℕ × (ℕ × (ℕ × (Option ℕ × ℕ))))))
 opening_fields =
@@ -68,13 +79,7 @@ opening_fields =
     after (fixed pair 1 BadVersion) (
     next (limited pair 0 256) (λ classes.
     next (limited pair 1 1024) (λ _.
-    next (limited pair 0 4096) (λ _.
-    next (limited pair 0 1024) (λ _.
-    next (limited byte 0 16) (λ _.
-    after (fixed byte 0 NotZero) (
-    next (class_or_none classes) (λ _.
-    after (fixed pair 0 NotZero)
-    quad)))))))))
+    header_fields classes))))
 
 -- the header with the counts of classes and methods, which an image shows by its lists
 abbrev pub opening : Codec Opening

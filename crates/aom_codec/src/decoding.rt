@@ -3,7 +3,7 @@ ghost use Rattle.std.specs.Prelude.{◌≡◌, ◌≢◌, Some, IfOk, IfErr};
 ghost use Rattle.aom_image.specs.Image.{Image as ImageRecord};
 ghost use Rattle.aom_codec.specs.Spelling.{spell};
 ghost use Rattle.aom_image.specs.WellFormed.{WellFormed};
-ghost use Rattle.aom_codec.specs.Format.{read_image, first_fault};
+ghost use Rattle.aom_codec.specs.Format.{image as image_format, read_image, first_fault};
 ghost use Rattle.aom_codec.specs.Reads.{ReadsOrNoMemory, DecodesTo};
 ghost use Rattle.aom_codec.specs.declared.fault.LoadFault.TheVariants.{OutOfMemory as NoMemory};
 
@@ -32,6 +32,19 @@ pub fn decode(alloc: Global, bytes: &[u8]) -> Result<Image, LoadFault>
     Ok(Image::make(parts.header, parts.classes, parts.methods))
 }
 
+fn read_parts(alloc: Global, reader: &mut Reader<'_>) -> Result<Parts, LoadFault>
+    ensures { ReadsOrNoMemory (λ p. (record { header = p.header; classes = p.classes.items; methods = p.methods.items }, reader.new)) result (image_format.read reader.old) }
+{
+    let opening = reader.opening()?;
+    let classes = reader.classes(alloc, opening.classes, opening.header.natives)?;
+    let methods = reader.methods(alloc, opening.methods, opening.classes)?;
+    Ok(Parts {
+        header: opening.header,
+        classes,
+        methods,
+    })
+}
+
 fn parts_of(alloc: Global, bytes: &[u8]) -> Result<Parts, LoadFault>
     ensures { ReadsOrNoMemory (λ p. record { header = p.header; classes = p.classes.items; methods = p.methods.items }) result (read_image bytes.now) }
 {
@@ -39,15 +52,9 @@ fn parts_of(alloc: Global, bytes: &[u8]) -> Result<Parts, LoadFault>
         return Err(LoadFault::LimitPassed);
     }
     let mut reader = Reader::new(bytes);
-    let opening = reader.opening()?;
-    let classes = reader.classes(alloc, opening.classes, opening.header.natives)?;
-    let methods = reader.methods(alloc, opening.methods, opening.classes)?;
+    let parts = read_parts(alloc, &mut reader)?;
     if !reader.is_empty() {
         return Err(LoadFault::Trailing);
     }
-    Ok(Parts {
-        header: opening.header,
-        classes,
-        methods,
-    })
+    Ok(parts)
 }

@@ -1,5 +1,5 @@
 //! The way out: the bytes that spell an image.
-ghost use Rattle.std.specs.Prelude.{◌≡◌, ◌≤◌, ◌-◌, ◌++◌, ◌∷◌, length, flat_map, OnOk, IfOk};
+ghost use Rattle.std.specs.Prelude.{◌≡◌, ◌≤◌, ◌-◌, ◌++◌, ◌∷◌, All, length, flat_map, OnOk, IfOk};
 ghost use Rattle.aom_codec.specs.Spelling.{pair, quad, unused_pairs, class_number, thing_number, argument_number, gives_byte, result_number, kind_byte, provider_byte, number_byte, session_number, budget_of, class as class_bytes, target_byte, small_byte, large_number, instruction as instruction_bytes, method as method_bytes, spell};
 
 use aom_image::{
@@ -263,6 +263,27 @@ fn put_method(out: &mut Vec<u8>, method: &Method) -> Result<(), AllocError>
     put_code(out, method.code.as_slice())
 }
 
+fn put_classes(out: &mut Vec<u8>, classes: &[ClassDecl]) -> Result<(), AllocError>
+    requires { All (λ c. length c.fields ≤ 8) classes.now }
+    ensures { OnOk result (out.new.items ≡ out.old.items ++ flat_map class_bytes classes.now) }
+{
+    for class in classes {
+        put_class(out, class)?;
+    }
+    Ok(())
+}
+
+fn put_methods(out: &mut Vec<u8>, methods: &[Method]) -> Result<(), AllocError>
+    requires arguments { All (λ m. length m.arguments ≤ 6) methods.now }
+    requires code { All (λ m. length m.code ≤ 1024) methods.now }
+    ensures { OnOk result (out.new.items ≡ out.old.items ++ flat_map method_bytes methods.now) }
+{
+    for method in methods {
+        put_method(out, method)?;
+    }
+    Ok(())
+}
+
 /// The one spelling of an image.
 pub fn encode(alloc: Global, image: &Image) -> Result<Vec<u8>, AllocError>
     ensures { IfOk result (λ v. v.items ≡ spell image.now) }
@@ -272,11 +293,7 @@ pub fn encode(alloc: Global, image: &Image) -> Result<Vec<u8>, AllocError>
     let mut out = Vec::with_capacity(alloc, spelled_len(classes.len(), methods))?;
     put_counts(&mut out, classes.len() as u16, methods.len() as u16)?;
     put_limits(&mut out, image.header())?;
-    for class in classes {
-        put_class(&mut out, class)?;
-    }
-    for method in methods {
-        put_method(&mut out, method)?;
-    }
+    put_classes(&mut out, classes)?;
+    put_methods(&mut out, methods)?;
     Ok(out)
 }

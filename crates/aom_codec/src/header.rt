@@ -1,6 +1,6 @@
 //! The header, and the numbers of classes.
 ghost use Rattle.std.specs.Prelude.{◌≡◌, ◌≤◌, IfOk};
-ghost use Rattle.aom_codec.specs.Format.{opening, class_or_none, class_from, index_from};
+ghost use Rattle.aom_codec.specs.Format.{header_fields, opening, class_or_none, class_from, index_from};
 ghost use Rattle.aom_codec.specs.Reads.{Reads};
 
 use crate::LoadFault;
@@ -50,23 +50,32 @@ impl<'a> Reader<'a> {
         self.fixed_pair(1, LoadFault::BadVersion)?;
         let classes = self.limited_pair(0, 256)?;
         let methods = self.limited_pair(1, 1024)?;
+        let header = self.header(classes)?;
+        Ok(Opening {
+            classes,
+            methods,
+            header,
+        })
+    }
+
+    /// What stands behind the counts.
+    fn header(&mut self, classes: u16) -> Result<Header, LoadFault>
+        requires { classes ≤ 256 }
+        ensures read { Reads (λ h. ((h.cells, (h.messages, (h.natives, (h.root, h.budget)))), self.new)) result ((header_fields classes).read self.old) }
+        ensures natives { IfOk result (λ h. h.natives ≤ 16) }
+    {
         let cells = self.limited_pair(0, 4096)?;
         let messages = self.limited_pair(0, 1024)?;
         let natives = self.limited_byte(0, 16)?;
         self.fixed_byte(0, LoadFault::NotZero)?;
         let root = self.class_or_none(classes)?;
         self.fixed_pair(0, LoadFault::NotZero)?;
-        let budget = self.quad()?;
-        Ok(Opening {
-            classes,
-            methods,
-            header: Header {
-                cells,
-                messages,
-                natives,
-                root,
-                budget,
-            },
+        Ok(Header {
+            cells,
+            messages,
+            natives,
+            root,
+            budget: self.quad()?,
         })
     }
 }

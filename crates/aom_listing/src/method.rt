@@ -2,9 +2,11 @@
 ghost use Rattle.std.specs.Prelude.{◌≡◌, [], ◌∷◌, ◌++◌, OnOk};
 ghost use Rattle.aom_image.specs.Views.{has};
 ghost use Rattle.aom_syntax.specs.Keywords.{keyword_text};
+ghost use Rattle.aom_syntax.specs.declared.keyword.Keyword.TheVariants.{Method as MethodWord};
 ghost use Rattle.aom_listing.specs.Classes.{thing_word};
 ghost use Rattle.aom_listing.specs.Methods.{role_keyword, word_where, flag_words, letter_where, state_letters, states_word, argument_word, gives_words, promise_words, heading_words};
-ghost use Rattle.aom_listing.specs.Text.{behind, line_of};
+ghost use Rattle.aom_listing.specs.Operands.{method_name};
+ghost use Rattle.aom_listing.specs.Text.{behind, line_of, parted_by};
 
 use crate::writer::Writer;
 use aom_image::{Argument, Gives, Method, MethodFlags, Role, States, Thing};
@@ -133,12 +135,19 @@ impl Writer {
         self.gives(method.gives)
     }
 
-    pub fn heading(&mut self, place: u32, method: &Method) -> Result<(), AllocError>
-        ensures { OnOk result (self.new ≡ self.old ++ line_of (heading_words place method.now)) }
+    /// What every heading begins with.
+    fn name_and_role(&mut self, place: u32, role: Role) -> Result<(), AllocError>
+        ensures { OnOk result (self.new ≡ self.old ++ parted_by 32 (keyword_text MethodWord ∷ method_name place ∷ keyword_text (role_keyword role) ∷ [])) }
     {
         self.first(Keyword::Method)?;
         self.name(b'm', place)?;
-        self.keyword(role_keyword(method.role))?;
+        self.keyword(role_keyword(role))
+    }
+
+    pub fn heading(&mut self, place: u32, method: &Method) -> Result<(), AllocError>
+        ensures { OnOk result (self.new ≡ self.old ++ line_of (heading_words place method.now)) }
+    {
+        self.name_and_role(place, method.role)?;
         self.class_after(Keyword::Of, method.class)?;
         self.flags(method.flags)?;
         self.promise(method)?;

@@ -1,3 +1,4 @@
+pub mod Adopting
 pub mod Delays
 pub mod Ids
 pub mod Lines

@@ -107,9 +107,11 @@ pub(crate) fn no_services(
     ensures messages { IfOk result (λ s. s.messages ≡ record { slots = []; limit = messages }) }
     ensures listed { IfOk result (λ s. s.listed ≡ no_list cells 256) }
 {
+    let listed = Lists::with_limit(alloc, cells, CLASSES)?;
+    let messages = Messages::with_limit(alloc, messages)?;
     Ok(Services {
         clients: Clients::with_limit(alloc, cells)?,
-        messages: Messages::with_limit(alloc, messages)?,
-        listed: Lists::with_limit(alloc, cells, CLASSES)?,
+        messages,
+        listed,
     })
 }

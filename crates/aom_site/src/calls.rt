@@ -5,6 +5,7 @@ ghost use Rattle.aom_image.specs.declared.method.Thing.TheVariants.{Object};
 ghost use Rattle.aom_site.specs.Calls.{stands_here, is_target, age_need, object_needs, is_among, awaits, brought, while_called, argument_needs, rule_arguments, rule_given, rule_target, rule_moved, caught, leaves_one, entries_done, rule_result, result_moved};
 ghost use Rattle.aom_site.specs.Requests.{is_construct, may_begin};
 ghost use Rattle.aom_site.specs.Site.{call_answer, return_answer, trap_answer};
+ghost use Rattle.aom_instructions.specs.declared.instr.Target.TheVariants.{This, Register as OnRegister};
 ghost use Rattle.aom_shape.specs.Arguments.{arguments_moved};
 ghost use Rattle.aom_shape.specs.Changes.{next_shape, told};
 ghost use Rattle.aom_shape.specs.Kinds.{is_own_for, entry_kind, is_ready_kind, is_unowning, register};
@@ -249,37 +250,51 @@ impl<'a> Site<'a> {
         }
     }
 
-    /// What is asked of what the method is called on.
+    /// What is asked where the method is called on the object that it works on itself.
     #[tactic(auto, using(aom_shape::proofs::Views::class_there))]
+    fn judge_this(&self, callee: &Method) -> Result<(), Why>
+        ensures { result ≡ tested (rule_target self.now.image self.now.method self.now.shape This callee.now.class (is_construct (Some callee.now.role)) 0 (length callee.now.arguments)) }
+    {
+        let here = self.linked.method(self.method).class;
+        let needs = [
+            (
+                stands_here(self.linked, here, callee.class),
+                Why::RegisterKind,
+            ),
+            (!is_construct(callee.role), Why::NotFresh),
+        ];
+        judge_all(&needs)
+    }
+
+    /// What is asked of a register that the method is called on.
+    fn judge_register(
+        &self,
+        register: Register,
+        first: Register,
+        callee: &Method,
+    ) -> Result<(), Why>
+        ensures { result ≡ tested (rule_target self.now.image self.now.method self.now.shape (OnRegister register) callee.now.class (is_construct (Some callee.now.role)) first (length callee.now.arguments)) }
+    {
+        let kind = self.shape.register(register);
+        let is_argument = is_among(first, callee.arguments.len(), register);
+        let needs = [
+            (
+                is_target(self.linked, callee.class, &kind),
+                Why::RegisterKind,
+            ),
+            (!is_argument, Why::RegisterKind),
+            age_need(is_construct(callee.role), &kind),
+        ];
+        judge_all(&needs)
+    }
+
+    /// What is asked of what the method is called on.
     fn judge_target(&self, call: &Call, callee: &Method) -> Result<(), Why>
         ensures { result ≡ tested (rule_target self.now.image self.now.method self.now.shape call.now.target callee.now.class (is_construct (Some callee.now.role)) call.now.first (length callee.now.arguments)) }
     {
-        let constructs = is_construct(callee.role);
         match call.target {
-            Target::This => {
-                let here = self.linked.method(self.method).class;
-                let needs = [
-                    (
-                        stands_here(self.linked, here, callee.class),
-                        Why::RegisterKind,
-                    ),
-                    (!constructs, Why::NotFresh),
-                ];
-                judge_all(&needs)
-            }
-            Target::Register(register) => {
-                let kind = self.shape.register(register);
-                let is_argument = is_among(call.first, callee.arguments.len(), register);
-                let needs = [
-                    (
-                        is_target(self.linked, callee.class, &kind),
-                        Why::RegisterKind,
-                    ),
-                    (!is_argument, Why::RegisterKind),
-                    age_need(constructs, &kind),
-                ];
-                judge_all(&needs)
-            }
+            Target::This => self.judge_this(callee),
+            Target::Register(register) => self.judge_register(register, call.first, callee),
             Target::Field(field) => {
                 let kind = self.shape.field(field).kind(self.declared(field));
                 judge_object(self.linked, callee, &kind)
