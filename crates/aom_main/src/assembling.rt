@@ -14,10 +14,8 @@ pub fn assemble_bytes(alloc: Global, text: &[u8]) -> Result<Vec<u8>, Fault>
     ensures ok { IfOk result (λ bytes. Makes text.now bytes.items) }
     ensures err { IfErr result (λ fault. RefusesText text.now fault) }
 {
-    match assemble(alloc, text) {
-        Ok(image) => Ok(encode(alloc, &image)?),
-        Err(fault) => Err(Fault::from(fault)),
-    }
+    let image = assemble(alloc, text)?;
+    Ok(encode(alloc, &image)?)
 }
 
 /// The listing of the image that the bytes are, or their first fault.
