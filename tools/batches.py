@@ -118,15 +118,16 @@ def own_failures(crate, lines):
     return found
 
 
-def shown(crate, batch, status, lines):
-    """The edits of a batch that its check shows refused: a function that each turns has a failure of its own, and no function that is not turned has one."""
+def shown(crate, batch, status, lines, folders=()):
+    """The edits of a batch that its check shows refused: a function that each turns has a failure of its own, or its proof stands in a
+    folder with a goal that is left open, and no function that is not turned has one."""
     if status != 1 or not any(it.startswith(("logic=not-proved", "only=")) for it in lines):
         return set()
     failed = own_failures(crate, lines)
     everything = [it for _, turned in batch for it in turned]
     if any(not any(it.is_told_by(path) for it in everything) for path in failed):
         return set()
-    return {edit.name for edit, turned in batch if any(it.is_told_by(path) for it in turned for path in failed)}
+    return {edit.name for edit, turned in batch if any(it.folder() in folders or any(map(it.is_told_by, failed)) for it in turned)}
 
 
 def refused_at(status, lines, functions):

@@ -1,6 +1,6 @@
 """The goals that must-fail edits leave open. A check prints what it would offer for each open goal, and proves all anew for that: a
-fifth of the time of most batches. So where goals.md of a crate's must-fail/ names the goals of an edit, its check is given answers
-to them, the same searches that the toolchain tries by itself, and an edit is refused where each of them finds nothing."""
+fifth of the time of most batches. So where goals.md of a crate's must-fail/ names the goals of an edit, its check has holes for
+them, and beside each all that the toolchain tries by itself; an edit is refused where none of that finds a proof."""
 
 import os
 import re
@@ -20,20 +20,15 @@ REFUSED = re.compile(r"(?:\./)?(proofs/\S+)/Answers\.antt:\d+:\d+: error: (?:`([
 
 # what the toolchain tries at a goal without an answer, in its order
 SEARCHES = [
-    "search its-common.rules",
-    "grind (its-common.arith, its-grind.common_steps)",
-    "grind (its-common.arith, its-grind.common_steps, its-nat.rows)",
-    "grind (its-common.arith, its-grind.elements)",
-    "grind (its-common.arith, its-grind.moves)",
-    "search (its-grind.pieces, its-common.arith)",
-    "grind (its-common.arith, its-grind.common_steps, its-nat.widths)",
+    "search {common}.rules",
+    "grind ({common}.arith, {grind}.common_steps)",
+    "grind ({common}.arith, {grind}.common_steps, {nat}.rows)",
+    "grind ({common}.arith, {grind}.elements)",
+    "grind ({common}.arith, {grind}.moves)",
+    "search ({grind}.pieces, {common}.arith)",
+    "grind ({common}.arith, {grind}.common_steps, {nat}.widths)",
 ]
-IMPORTS = """use Rattle.std.proofs.Common as its-common
-use Rattle.std.proofs.lemmas.Grind as its-grind
-use Rattle.std.proofs.lemmas.Nat as its-nat
-use {goals} as its-goal
-
-"""
+MODULES = {"common": "Rattle.std.proofs.Common", "grind": "Rattle.std.proofs.lemmas.Grind", "nat": "Rattle.std.proofs.lemmas.Nat"}
 
 
 @dataclass(frozen=True)
@@ -44,12 +39,15 @@ class Goal:
     name: str
     binds: str
 
-    def answers(self):
-        """The names and the texts of the answers that are tried."""
-        yield self.name, f"pub {self.name} : its-goal.{self.name}\n{self.name}{self.binds} = {SEARCHES[0]}\n"
-        for number, how in enumerate(SEARCHES[1:]):
-            name = f"its-{number}-{self.name}"
-            yield name, f"{name} : its-goal.{self.name}\n{name}{self.binds} = {how}\n"
+    def tries(self):
+        """The names of what is tried."""
+        return [f"its-{number}-{self.name}" for number in range(len(SEARCHES))]
+
+    def text(self, names):
+        """What is added to the answers, where modules have these names: a hole, so that what cites the function is judged, and beside
+        it all that is tried."""
+        answers = [(f"pub {self.name}", "?"), *zip(self.tries(), (it.format(**names) for it in SEARCHES))]
+        return "\n".join(f"{it} : {names['goal']}.{self.name}\n{it.removeprefix('pub ')}{self.binds} = {how}\n" for it, how in answers)
 
 
 def goals_of(crate):
@@ -80,34 +78,44 @@ def offered(lines):
     return [it for it in found if it.folder not in bounded and "+" not in it.folder]
 
 
+def with_names(text, modules):
+    """A text of answers that names each of these modules, and the names. A file has one name for a module."""
+    names, added = {}, []
+    for word, module in modules.items():
+        known = re.search(rf"(?m)^use {re.escape(module)} as (\S+)$", text.replace("«", "").replace("»", ""))
+        names[word] = known[1] if known else f"its-{word}"
+        added += [] if known else [f"use {'.'.join(f'«{it}»' for it in module.split('.'))} as its-{word}\n"]
+    return f"{''.join(added)}{text}", names
+
+
 def write_answers(crate, copy, goals):
     """Adds answers to these goals to a copy of a crate."""
     for folder in {it.folder for it in goals}:
         file = f"{copy}/{folder}/Answers.antt"
-        module = ".".join(["Rattle", crate, "proofs", *(f"«{it}»" for it in folder.split("/")[1:]), "Goals"])
-        text = read_text(file) if os.path.isfile(file) else ""
-        added = [answer for it in goals if it.folder == folder for _, answer in it.answers()]
+        module = ".".join(["Rattle", crate, "proofs", *folder.split("/")[1:], "Goals"])
+        text, names = with_names(read_text(file) if os.path.isfile(file) else "", {**MODULES, "goal": module})
         os.makedirs(os.path.dirname(file), exist_ok=True)
         with open(file, "w", encoding="utf-8") as it:
-            it.write(IMPORTS.format(goals=module) + "\n".join([text, *added]))
+            it.write("\n".join([text, *(one.text(names) for one in goals if one.folder == folder)]))
 
 
-def judged(lines, goals):
-    """The lines of a check that was given answers to these goals, without the errors of answers where they say nothing: where one of
-    a goal's searches closed it or could not be read."""
-    failed = {}
+def left_open(lines, goals):
+    """Those of these goals where a check was told that nothing of what was tried proves them."""
+    failed = set()
     for line in lines:
         told = REFUSED.match(line)
         if told and told[3].startswith(("`search`", "`grind`")):
-            failed.setdefault(told[1], set()).add(told[2])
-    names = {(it.folder, name): it for it in goals for name, _ in it.answers()}
-    whole = {it for it in goals if {name for name, _ in it.answers()} <= failed.get(it.folder, set())}
+            failed.add((told[1], told[2]))
+    return [it for it in goals if all((it.folder, name) in failed for name in it.tries())]
+
+
+def without_tries(lines, goals):
+    """The lines of a check without what it says of these goals' tries, and of files that could not be read for them."""
+    tried = {(it.folder, name) for it in goals for name in [it.name, *it.tries()]}
     answered = {it.folder for it in goals}
 
     def says(line):
         told = REFUSED.match(line)
-        if not told or told[1] not in answered:
-            return True
-        return names[told[1], told[2]] in whole if (told[1], told[2]) in names else told[2] is not None
+        return not told or told[1] not in answered or told[2] is not None and (told[1], told[2]) not in tried
 
     return [it for it in lines if says(it)]

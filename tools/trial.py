@@ -8,8 +8,8 @@ import threading
 import rattle
 from batches import plan, refused_at, shown, texts_of, unread
 from edit_files import edit_faults, edit_files, places_of, read_edit
-from goals import goals_of, judged, offered, write_answers
-from holes import make_holes
+from goals import goals_of, left_open, offered, without_tries, write_answers
+from holes import make_holes, with_facts
 from house import PARTS, copy_parts, tells_errors
 from verdicts import Verdicts
 
@@ -205,17 +205,19 @@ class Trial:
     def try_batch(self, name, batch):
         texts = texts_of(self.house.folder(name), [it for it, _ in batch])
         functions = sorted({it.path() for _, turned in batch for it in turned})
-        folders = {edit.name: {it.folder() for it in turned} for edit, turned in batch}
+        own = with_facts(name, self.house.folder(name))
+        folders = {edit.name: {it.folder() for it in turned} - own for edit, turned in batch}
         goals = [it for edit in folders for it in self.goals[name].get(edit, []) if it.folder in folders[edit]]
         status, lines = self.check_with("batches", name, texts, functions, goals)
         unknown = rattle.unknown_functions(lines)
         if unknown:
             self.try_without(name, batch, unknown)
             return
-        refused = shown(name, batch, status, judged(lines, goals))
-        left_open = [*goals, *offered(lines)]
+        proofs = {it.folder for it in left_open(lines, goals)}
+        refused = shown(name, batch, status, without_tries(lines, goals), proofs)
+        seen = [*goals, *offered(lines)]
         for edit in sorted(refused):
-            self.tell_refused(name, edit, " (shown in a batch, by a goal of its own)", [it for it in left_open if it.folder in folders[edit]])
+            self.tell_refused(name, edit, " (shown in a batch, by a goal of its own)", [it for it in seen if it.folder in folders[edit]])
         left = [it for it in batch if it[0].name not in refused]
         if refused or len(left) < 4:
             for edit, turned in left:
