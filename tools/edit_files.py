@@ -60,6 +60,13 @@ def read_text(file):
         return it.read()
 
 
+def write_text(file, text):
+    """Writes a file, and makes its folder where there is none."""
+    os.makedirs(os.path.dirname(file), exist_ok=True)
+    with open(file, "w", encoding="utf-8") as it:
+        it.write(text)
+
+
 def read_edit(crate, name):
     edit = Edit(name)
     try:

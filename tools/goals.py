@@ -1,12 +1,13 @@
 """The goals that must-fail edits leave open. A check prints what it would offer for each open goal, and proves all anew for that: a
 fifth of the time of most batches. So where goals.md of a crate's must-fail/ names the goals of an edit, its check has holes for
-them, and beside each all that the toolchain tries by itself; an edit is refused where none of that finds a proof."""
+them, and beside each seven of the nine searches that the toolchain tries by itself; an edit is refused where none of them finds a
+proof. (The other two are for types with a ghost field and no model, and for types that contain themselves.)"""
 
 import os
 import re
 from dataclasses import dataclass
 
-from edit_files import read_text
+from edit_files import read_text, write_text
 
 HEAD = "# The goals that these edits leave open\n\nWritten by `tools/edits --goals`: of each edit the folder of a proof, a goal, and the names that its answer binds.\n\n"
 GOAL = re.compile(r"(?m)^- (\S+\.edit): (proofs/\S+) ([^\s:]+)((?: [^\s:]+)*)$")
@@ -18,7 +19,7 @@ BOUNDED = re.compile(r"  \| g\.met: ")
 TOLD = re.compile(r"note: `[^`]+` of (?:\./)?(proofs/\S+)/Answers\.antt must prove: ")
 REFUSED = re.compile(r"(?:\./)?(proofs/\S+)/Answers\.antt:\d+:\d+: error: (?:`([^`]+)`: )?(.*)")
 
-# what the toolchain tries at a goal without an answer, in its order
+# what the toolchain tries at any goal without an answer, in its order
 SEARCHES = [
     "search {common}.rules",
     "grind ({common}.arith, {grind}.common_steps)",
@@ -94,9 +95,7 @@ def write_answers(crate, copy, goals):
         file = f"{copy}/{folder}/Answers.antt"
         module = ".".join(["Rattle", crate, "proofs", *folder.split("/")[1:], "Goals"])
         text, names = with_names(read_text(file) if os.path.isfile(file) else "", {**MODULES, "goal": module})
-        os.makedirs(os.path.dirname(file), exist_ok=True)
-        with open(file, "w", encoding="utf-8") as it:
-            it.write("\n".join([text, *(one.text(names) for one in goals if one.folder == folder)]))
+        write_text(file, "\n".join([text, *(one.text(names) for one in goals if one.folder == folder)]))
 
 
 def left_open(lines, goals):

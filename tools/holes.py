@@ -6,7 +6,7 @@ from collections import Counter
 
 import source
 from batches import Turned, home_of, module_of
-from edit_files import read_text
+from edit_files import read_text, write_text
 
 PROOF = """use {module}.Statement as stated
 
@@ -47,13 +47,11 @@ def with_facts(crate, folder):
 def write_proof(crate, folder, function):
     words = [it for it in (*function.module.split("::")[1:], function.owner, function.name) if it]
     at = "/".join([folder, "proofs", *words])
-    os.makedirs(at, exist_ok=True)
     for it in ANSWERS:
         if os.path.isfile(f"{at}/{it}"):
             os.remove(f"{at}/{it}")
     module = ".".join([f"Rattle.{crate}.proofs", *(f"«{it}»" for it in words)])
-    with open(f"{at}/Proof.antt", "w", encoding="utf-8") as it:
-        it.write(PROOF.format(module=module, name=function.name))
+    write_text(f"{at}/Proof.antt", PROOF.format(module=module, name=function.name))
 
 
 def has_cycle(folder, module):
@@ -78,8 +76,7 @@ def make_holes(crate, folder, asked):
 
     for path, text, functions, turned in read:
         dropped = [(one, it) for one, it in zip(functions, turned) if not is_left(it)]
-        with open(f"{folder}/{path}", "w", encoding="utf-8") as it:
-            it.write(without_bodies(text, [one for one, _ in dropped]))
+        write_text(f"{folder}/{path}", without_bodies(text, [one for one, _ in dropped]))
         compared = [Turned(module_of(crate, path), f"{it}PartialEq", "eq") for it in COMPARED.findall(text)]
         for it in [*(it for _, it in dropped), *compared]:
             write_proof(crate, folder, it)

@@ -1,8 +1,8 @@
 """The test of the gate's own tools: a small repository of which one crate is false, and whose edits are known to be refused, or must not pass."""
 
-import os
 import shutil
 
+from edit_files import write_text
 from proving import prove_and_try
 
 SAMPLE = """//! A small crate on which the trial of edits is tried.
@@ -24,6 +24,13 @@ pub fn part(number: u8) -> u8
     number / 2
 }
 
+/// Three times the number.
+pub fn threefold(number: u8) -> u16
+    ensures { result ≡ number * 3 }
+{
+    double(number) + number as u16
+}
+
 /// Four times the number.
 pub fn fourfold(number: u8) -> u16
     ensures { result ≡ number * 4 }
@@ -31,27 +38,28 @@ pub fn fourfold(number: u8) -> u16
     double(number) + double(number)
 }
 """
-ABOVE = """//! A small crate over the other.
+AMOUNTS = """-- What comes of a number.
+use Rattle.std.specs.Prelude.{ℕ, ◌≡◌, ◌*◌}
+
+-- six times a number
+abbrev pub sixfold : ℕ → ℕ
+sixfold n = n * 6
+
+abbrev pub SixfoldIsSo : Type 0
+SixfoldIsSo = (n : ℕ) → sixfold n ≡ n * 6
+"""
+STATED_LAWS = """//! A law, as the contract of a function that does nothing.
+ghost use Rattle.stated.specs.Amounts.{SixfoldIsSo};
+
+/// What sixfold is.
+pub fn sixfold_is_so()
+    ensures { SixfoldIsSo }
+{}
+"""
+STATED = """//! A small crate of laws over the other.
 #![tactic(auto)]
 
-ghost use Rattle.std.specs.Prelude.{◌≡◌};
-ghost use Rattle.above.specs.Amounts.{thrice};
-
-use sample::double;
-
-/// Three times the number.
-pub fn triple(number: u8) -> u16
-    ensures { result ≡ thrice number }
-{
-    double(number) + number as u16
-}
-"""
-AMOUNTS = """-- What the functions are to answer.
-use Rattle.std.specs.Prelude.{ℕ, ◌*◌}
-
--- three times a number
-abbrev pub thrice : ℕ → ℕ
-thrice n = n * 3
+pub mod laws;
 """
 FALSE = """//! A small crate that is not proved.
 #![tactic(auto)]
@@ -68,49 +76,47 @@ pub fn two() -> u8
 # a goal that is open, one that is closed, and one that is none
 GOALS = """- double-is-threefold.edit: proofs/double returns c
 - harmless.edit: proofs/part returns c
-- fourfold-is-once-too-much.edit: proofs/fourfold returns-otherwise c
+- threefold-is-double.edit: proofs/threefold returns-otherwise c
+"""
+WHERE = """- no-text-of-the-logic.edit: laws::sixfold_is_so
+- sixfold-in-other-words.edit: laws::sixfold_is_so
+- sixfold-is-sevenfold.edit: laws::sixfold_is_so
 """
 FILES = {
-    "crates.txt": "sample:\nabove: sample\nfalse_one: sample\n",
+    "crates.txt": "sample:\nstated: sample\nfalse_one: sample\n",
     "HANDLES": "Handles allowed: none.\n",
     "crates/sample/src/lib.rt": SAMPLE,
-    "crates/above/src/lib.rt": ABOVE,
-    "crates/above/specs/Lib.antt": "pub mod Amounts\n",
-    "crates/above/specs/Amounts.antt": AMOUNTS,
-    "crates/above/must-fail/where.md": "- thrice-is-fourfold.edit: triple\n- thrice-in-other-words.edit: triple\n",
     "crates/sample/must-fail/goals.md": GOALS,
+    "crates/stated/src/lib.rt": STATED,
+    "crates/stated/src/laws.rt": STATED_LAWS,
+    "crates/stated/specs/Lib.antt": "pub mod Amounts\n",
+    "crates/stated/specs/Amounts.antt": AMOUNTS,
+    "crates/stated/must-fail/where.md": WHERE,
     "crates/false_one/src/lib.rt": FALSE,
 }
 CODE, DEFINITIONS = "src/lib.rt", "specs/Amounts.antt"
 # an edit's crate, name and file, the text that it takes away, the text in its place, and whether it is refused
 EDITS = [
     ("sample", "double-is-threefold", CODE, "number as u16 * 2", "number as u16 * 3", True),
-    ("sample", "fourfold-is-once-too-much", CODE, "double(number) + double(number)", "double(number) + double(number) + 1", True),
+    ("sample", "threefold-is-double", CODE, "double(number) + number as u16", "double(number)", True),
     # beside another that it calls, and that is refused
     ("sample", "fourfold-in-other-words", CODE, "double(number) + double(number)", "double(number) * 2", False),
     ("sample", "harmless", CODE, "number / 2", "number / 4", False),
-    ("sample", "no-text-of-the-language", CODE, "number / 2", "number /", False),
     ("sample", "stands-nowhere", CODE, "number / 3", "number", False),
-    ("above", "triple-is-double", CODE, "double(number) + number as u16", "double(number)", True),
-    ("above", "thrice-is-fourfold", DEFINITIONS, "n * 3", "n * 4", True),
-    ("above", "thrice-in-other-words", DEFINITIONS, "n * 3", "3 * n", False),
+    ("stated", "sixfold-is-sevenfold", DEFINITIONS, "sixfold n = n * 6", "sixfold n = n * 7", True),
+    ("stated", "sixfold-in-other-words", DEFINITIONS, "sixfold n = n * 6", "sixfold n = 6 * n", False),
+    ("stated", "no-text-of-the-logic", DEFINITIONS, "sixfold n = n * 6", "sixfold n =", False),
     ("false_one", "two-is-three", CODE, "    1", "    3", False),
 ]
-
-
-def write(file, text):
-    os.makedirs(os.path.dirname(file), exist_ok=True)
-    with open(file, "w", encoding="utf-8") as it:
-        it.write(text)
 
 
 def tools_are_well(place, jobs, say):
     """Whether just the edits that are wrong come out as refused, and just the crate that is false as not proved."""
     top = f"{place}/selftest"
     for file, text in FILES.items():
-        write(f"{top}/edits/{file}", text)
+        write_text(f"{top}/edits/{file}", text)
     for crate, name, file, old, new, _ in EDITS:
-        write(f"{top}/edits/crates/{crate}/must-fail/{name}.edit", f"file: {file}\nold: {old}\nnew: {new}\n")
+        write_text(f"{top}/edits/crates/{crate}/must-fail/{name}.edit", f"file: {file}\nold: {old}\nnew: {new}\n")
     shutil.copytree(f"{top}/edits", f"{top}/proofs")
 
     def tell(text):

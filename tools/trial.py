@@ -7,7 +7,8 @@ import threading
 
 import rattle
 from batches import plan, refused_at, shown, texts_of, unread
-from edit_files import edit_faults, edit_files, places_of, read_edit
+from copies import copies_of, texts_beside
+from edit_files import edit_faults, edit_files, places_of, read_edit, write_text
 from goals import goals_of, left_open, offered, without_tries, write_answers
 from holes import make_holes, with_facts
 from house import PARTS, copy_parts, tells_errors
@@ -15,9 +16,7 @@ from verdicts import Verdicts
 
 # the memory that a check takes for each line of a crate, in bytes
 LINE = 300_000
-KINDS = ("batches", "by one function", "whole", "proofs of their own")
-# more edits of definitions than these are worth a proof of their crate as it stands
-MANY = 3
+KINDS = ("batches", "side by side", "by one function", "whole")
 
 
 class Trial:
@@ -115,18 +114,18 @@ class Trial:
     # the edits
 
     def add_edits(self, name, libraries, kept):
-        """Adds the checks of a crate's edits. Where nothing of the crate is kept they stand on what the first of them keeps, or many edits of definitions on a proof of it."""
+        """Adds the checks of a crate's edits. Where nothing of the crate is kept they stand on what the first of them keeps."""
         if name not in self.names or name in self.given_up:
             return
         self.libraries[name], self.kept[name] = libraries, kept
         folder = self.house.folder(name)
         edits = [read_edit(folder, it) for it in self.left_of(name)]
         together, alone = plan(name, folder, [it for it in edits if not it.fault])
-        adders = [lambda it=it: self.add_batch(name, it) for it in together] + [lambda it=it: self.add_alone(name, it) for it in alone]
-        if not kept and not together and len(alone) > MANY:
-            self.rest[name] = adders
-            self.add(name, 1, lambda: self.prove(name))
-            return
+        copies = copies_of(name, folder, alone, self.places[name])
+        left = [it for it in alone if it.name not in [one.edit.name for one in copies]]
+        adders = [lambda it=it: self.add_batch(name, it) for it in together]
+        adders += [lambda: self.add(name, len(copies), lambda: self.try_copies(name, copies))] if copies else []
+        adders += [lambda it=it: self.add_alone(name, it) for it in left]
         at_once = len(adders) if kept else 1
         self.rest[name] = adders[at_once:]
         for add in adders[:at_once]:
@@ -162,12 +161,6 @@ class Trial:
         """Adds a check of the whole crate with an edit."""
         self.add(name, 0, lambda: self.try_whole(name, edit))
 
-    def prove(self, name):
-        """Proves a crate as it stands, and keeps that for what waits for it."""
-        status, lines = self.check_with("proofs of their own", name, {}, [])
-        if status:
-            self.give_up(name, [it for it in lines if tells_errors(it)] or lines[-1:])
-
     def check_with(self, kind, name, texts, functions, goals=()):
         """Checks a copy of a crate with these texts in place of its own, over what is kept of the crate: all of it, or these functions,
         with holes for the others. These goals are answered. What cannot be judged so is checked without holes."""
@@ -181,8 +174,7 @@ class Trial:
         with tempfile.TemporaryDirectory(dir=self.place, ignore_cleanup_errors=True) as room:
             copy_parts(self.house.folder(name), f"{room}/c", PARTS)
             for path, text in texts.items():
-                with open(f"{room}/c/{path}", "w", encoding="utf-8") as it:
-                    it.write(text)
+                write_text(f"{room}/c/{path}", text)
             if with_holes:
                 make_holes(name, f"{room}/c", functions)
             write_answers(name, f"{room}/c", goals)
@@ -227,6 +219,17 @@ class Trial:
         half = len(left) // 2
         self.add_batch(name, left[:half])
         self.add_batch(name, left[half:])
+
+    def try_copies(self, name, copies):
+        """Tries edits of definitions side by side. What that does not show is tried alone."""
+        texts = texts_beside(self.house.folder(name), copies)
+        status, lines = self.check_with("side by side", name, texts, [it.path() for it in copies])
+        for it in copies:
+            at = refused_at(status, lines, [it.path()])
+            if at and not unread([one for one in lines if it.is_told_in(one)], it.texts):
+                self.tell_refused(name, it.edit.name, " (shown by a law of its own, over its own copies)")
+            else:
+                self.add_alone(name, it.edit)
 
     def try_without(self, name, batch, unknown):
         """Tries the edits alone whose functions a check knows by other names, and the others in a batch."""

@@ -11,7 +11,7 @@ from goals import Goal
 from house import files_of, read_bytes
 
 # what decides how an edit is tried
-TOOLS = ("batches.py", "edit_files.py", "goals.py", "holes.py", "house.py", "rattle.py", "source.py", "trial.py", "verdicts.py")
+TOOLS = ("batches.py", "copies.py", "edit_files.py", "goals.py", "holes.py", "house.py", "rattle.py", "source.py", "trial.py", "verdicts.py")
 
 
 def verdicts_folder():

@@ -1,0 +1,138 @@
+"""Edits of the definitions of a crate of laws, side by side in one check. Each has copies of its own: of the files that it changes,
+of those that stand on them as far as the law that shows it reaches, and of that law. So a law that fails says nothing of another edit."""
+
+import os
+import re
+from dataclasses import dataclass
+
+from edit_files import read_text
+
+LAWS, ROOT = "src/laws.rt", "src/lib.rt"
+USE = re.compile(r"(?m)^ghost use (\S+?)\.\{([^}]*)\};$")
+COPY = re.compile(r"(?:\./)?((?:specs|proofs)/Edited\d+_\w+\.antt|src/edited_\d+\.rt|proofs/edited_\d+/\w+/Answers\.antt):")
+# a file can say which files stand below it
+BELOW = re.compile(r"(?m)^(?:pub )?mod \w+\n")
+
+
+@dataclass(frozen=True)
+class Copied:
+    """An edit, the law that shows it, the module with that law's copy, and the texts of all that is copied, by their paths."""
+
+    edit: object
+    law: str
+    module: str
+    texts: dict
+
+    def path(self):
+        """What a check is asked for it by."""
+        return f"{self.module}::{self.law}"
+
+    def is_told_in(self, line):
+        """Whether a line of a check may be of these texts, and is not of some other edit's."""
+        at = COPY.match(line)
+        return not at or at[1] in self.texts
+
+
+class Laws:
+    """A crate that has laws alone: functions that do nothing. Its modules are the files of specs/ and proofs/, but for the laws' own proofs."""
+
+    def __init__(self, crate, folder):
+        self.crate, self.folder = crate, folder
+        self.files = {}
+        for part in ("specs", "proofs"):
+            for at, folders, names in os.walk(f"{folder}/{part}"):
+                folders[:] = [it for it in folders if not (part == "proofs" and it == "laws")]
+                paths = [os.path.relpath(f"{at}/{it}", folder) for it in names if it.endswith(".antt")]
+                self.files.update({it.removesuffix(".antt").replace("/", "."): it for it in paths})
+        self.texts = {it: read_text(f"{folder}/{path}") for it, path in self.files.items()}
+        self.named = re.compile(rf"\bRattle\.{crate}\.((?:specs|proofs)(?:\.\w+)+)")
+
+    def module_of(self, words):
+        """The file that a name of the crate's logic begins with; empty where it is of none."""
+        while words and words not in self.files:
+            words = words.rpartition(".")[0]
+        return words
+
+    def named_in(self, text):
+        return {self.module_of(it[1]) for it in self.named.finditer(text)} - {""}
+
+    def reached(self, text):
+        """The modules that a text stands on."""
+        found, left = set(), self.named_in(text)
+        while left:
+            found |= left
+            left = {it for one in left for it in self.named_in(self.texts[one])} - found
+        return found
+
+    def law(self, name):
+        """The text of a law, with what it imports alone."""
+        text = read_text(f"{self.folder}/{LAWS}")
+        found = re.search(rf"(?m)^pub fn {name}\(\)\n(?:    .+\n)*\{{\}}$", text)
+        if not found:
+            return ""
+        words = set(re.findall(r"\w+", found[0]))
+        uses = [it[0] for it in USE.finditer(text) if not it[1].startswith(f"Rattle.{self.crate}.") or words & set(re.findall(r"\w+", it[2]))]
+        return "\n".join(["//! A law.", *uses, "", "/// A copy.", found[0], ""])
+
+    def copied(self, number, edit, function):
+        """What an edit's check has of its own, where it can be copied: the law reaches each file that is changed."""
+        law, module = function.rpartition("::")[2], f"edited_{number}"
+        text = self.law(law) if function == f"laws::{law}" else ""
+        if not text:
+            return None
+        file = f"{self.folder}/proofs/laws/{law}/Answers.antt"
+        answer = read_text(file) if os.path.isfile(file) else ""
+        changed = {self.module_of(it.removesuffix(".antt").replace("/", ".")): it for it in edit.texts}
+        reach = self.reached(text + answer)
+        if not reach.issuperset(changed):
+            return None
+        own = set(changed)
+        while more := {it for it in reach - own if self.named_in(self.texts[it]) & own}:
+            own |= more
+        names = {it: f"{it.partition('.')[0]}.Edited{number}_{it.partition('.')[2].replace('.', '_')}" for it in own}
+
+        def renamed(text):
+            """A text that names the copies."""
+
+            def other(found):
+                of = self.module_of(found[1])
+                return f"Rattle.{self.crate}.{names.get(of, of)}{found[1][len(of) :]}" if of else found[0]
+
+            return self.named.sub(other, text)
+
+        texts = {f"src/{module}.rt": renamed(text)}
+        if answer:
+            answer = answer.replace(f"Rattle.{self.crate}.proofs.laws.", f"Rattle.{self.crate}.proofs.{module}.")
+            texts[f"proofs/{module}/{law}/Answers.antt"] = renamed(answer)
+        for it, name in names.items():
+            found = edit.texts[changed[it]] if it in changed else self.texts[it]
+            texts[f"{name.replace('.', '/')}.antt"] = renamed(BELOW.sub("", found))
+        return Copied(edit, law, module, texts)
+
+
+def is_of_laws(folder):
+    """Whether a crate has laws alone."""
+    return {it for _, _, names in os.walk(f"{folder}/src") for it in names} == {"laws.rt", "lib.rt"} and not re.search(
+        r"\S", re.sub(r"(?m)^(//.*|ghost use .*|pub fn \w+\(\)\n(?:    .+\n)*\{\})$", "", read_text(f"{folder}/{LAWS}"))
+    )
+
+
+def copies_of(crate, folder, edits, places):
+    """The edits of a crate of laws that can be tried side by side, as each is shown by one law."""
+    if not is_of_laws(folder):
+        return []
+    laws = Laws(crate, folder)
+    wanted = [(it, *places[it.name]) for it in edits if len(places.get(it.name, [])) == 1]
+    found = [laws.copied(number, it, function) for number, (it, function) in enumerate(wanted)]
+    return [it for it in found if it]
+
+
+def texts_beside(folder, copies):
+    """The texts of a check of these copies: of what is copied, and of the files that declare it."""
+    texts = {path: text for it in copies for path, text in it.texts.items()}
+    for part in ("specs", "proofs"):
+        new = [it.split("/")[1].removesuffix(".antt") for it in texts if it.startswith(f"{part}/Edited")]
+        if new:
+            texts[f"{part}/Lib.antt"] = read_text(f"{folder}/{part}/Lib.antt") + "".join(f"pub mod {it}\n" for it in new)
+    texts[ROOT] = read_text(f"{folder}/{ROOT}") + "".join(f"pub mod {it.module};\n" for it in copies)
+    return texts
