@@ -1,3 +1,10 @@
+pub mod Prices
+pub mod Costs
+pub mod Sweeping
+pub mod Layers
+pub mod PriceLaws
+pub mod Cases
+pub mod Dispatches
 pub mod Shapes
 pub mod Strongest
 pub mod Calls

@@ -24,14 +24,14 @@ use Rattle.aom_rules.specs.Typing.{Typing}
 use Rattle.aom_bounds.specs.Strongest.{IsStrongest}
 use Rattle.aom_bounds.specs.Depths.{DepthsWithin}
 use Rattle.aom_bounds.specs.Heights.{HeightsWithin}
-use Rattle.aom_prices.specs.Costs.{ArePrices, destructor_price}
-use Rattle.aom_prices.specs.Dispatches.{IsAffordable, main_price, method_price, root_price}
-use Rattle.aom_prices.specs.Layers.{SayTheSame}
-use Rattle.aom_prices.specs.Prices.{Prices, price}
-use Rattle.aom_prices.proofs.Alike.{IsCovered, prices_alike}
-use Rattle.aom_prices.proofs.Methods.{destructs_within, method_is_some}
-use Rattle.aom_prices.proofs.Going.{going_alike, found_of}
-use Rattle.aom_prices.proofs.Unique.{law_one}
+use Rattle.aom_bounds.specs.Costs.{ArePrices, destructor_price}
+use Rattle.aom_bounds.specs.Dispatches.{IsAffordable, main_price, method_price, root_price}
+use Rattle.aom_bounds.specs.Layers.{SayTheSame}
+use Rattle.aom_bounds.specs.Prices.{Prices, price}
+use Rattle.aom_bounds.proofs.Alike.{IsCovered, prices_alike}
+use Rattle.aom_bounds.proofs.Methods.{destructs_within, method_is_some}
+use Rattle.aom_bounds.proofs.Going.{going_alike, found_of}
+use Rattle.aom_bounds.proofs.Unique.{law_one}
 use Rattle.aom_budget.specs.Budgets.{BudgetsWithin, CostsWithin, IsBefore, IsOver, class_declares, class_price, declared_by, kind_declares, kind_price, payer_price, role_price}
 use Rattle.aom_budget.specs.Faults.{Refuses}
 use Rattle.aom_budget.specs.Figures.{ClassesWithin, IsWithin, TellsFirst, TellsOver, class_by, kind_by, main_by, payer_by, role_by, root_by}

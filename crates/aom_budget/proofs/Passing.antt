@@ -23,15 +23,15 @@ use Rattle.aom_shape.specs.declared.kind.Kind.{Kind}
 use Rattle.aom_shape.specs.declared.kind.Kind.TheVariants.{Unset, Word, Null, Own, Maybe}
 use Rattle.aom_bounds.specs.Shapes.{Shapes}
 use Rattle.aom_bounds.specs.Calls.{Among, cancel_of, listed, thing_class, object_class, destructors, callees}
-use Rattle.aom_prices.specs.Prices.{Prices, price, kind_price, own, perhaps_price}
-use Rattle.aom_prices.specs.Costs.{AmongFlows, Region, Whole, Round, destructor_price}
-use Rattle.aom_prices.specs.Layers.{Destructs}
-use Rattle.aom_prices.specs.Sweeping.{Afters, IsInnermost, IsSweptFrom, all_going, most_within}
-use Rattle.aom_prices.proofs.At.{IsSweptAt, at_each, from_each}
-use Rattle.aom_prices.proofs.Going.{going_same}
-use Rattle.aom_prices.proofs.Regions.{ends_before, innermost_of_body}
+use Rattle.aom_bounds.specs.Prices.{Prices, price, kind_price, own, perhaps_price}
+use Rattle.aom_bounds.specs.Costs.{AmongFlows, Region, Whole, Round, destructor_price}
+use Rattle.aom_bounds.specs.Layers.{Destructs}
+use Rattle.aom_bounds.specs.Sweeping.{Afters, IsInnermost, IsSweptFrom, all_going, most_within}
+use Rattle.aom_bounds.proofs.At.{IsSweptAt, at_each, from_each}
+use Rattle.aom_bounds.proofs.Going.{going_same}
+use Rattle.aom_bounds.proofs.Regions.{ends_before, innermost_of_body}
 use Rattle.aom_budget.specs.Pricing.{kept, price_by, destruction_by, kind_by, own_by, null_targets, empty_targets, states_targets, targets_of, most_to, after_in, Found, Agrees, IsPassed}
-use Rattle.aom_prices.proofs.Among.{by_flow}
+use Rattle.aom_bounds.proofs.Among.{by_flow}
 use Rattle.aom_image.proofs.Given.{some_given}
 
 -- ---- targets

@@ -18,11 +18,11 @@ use Rattle.aom_rules.specs.Typing.{Typing, shape_at}
 use Rattle.aom_bounds.specs.Shapes.{Shapes, AllMet}
 use Rattle.aom_bounds.specs.Strongest.{IsMethodStrongest}
 use Rattle.aom_bounds.specs.Calls.{Among, callees}
-use Rattle.aom_prices.specs.Prices.{Prices, own}
-use Rattle.aom_prices.specs.Costs.{AmongFlows, GoesOut, Region, Whole, Round}
-use Rattle.aom_prices.specs.Sweeping.{Afters, IsAfter, IsInnermost, after, most_within}
-use Rattle.aom_prices.proofs.Regions.{innermost_of_body, one_innermost, no_loop_here, no_next_here}
-use Rattle.aom_prices.proofs.Adding.{goes_forward, jumps_forward}
+use Rattle.aom_bounds.specs.Prices.{Prices, own}
+use Rattle.aom_bounds.specs.Costs.{AmongFlows, GoesOut, Region, Whole, Round}
+use Rattle.aom_bounds.specs.Sweeping.{Afters, IsAfter, IsInnermost, after, most_within}
+use Rattle.aom_bounds.proofs.Regions.{innermost_of_body, one_innermost, no_loop_here, no_next_here}
+use Rattle.aom_bounds.proofs.Adding.{goes_forward, jumps_forward}
 use Rattle.aom_budget.specs.Extents.{IsMost, Before}
 use Rattle.aom_budget.specs.Pricing.{AreKept, kept, targets_of, most_to, after_in, ExitsAt, Found, Agrees, IsPassed, plain_cost}
 use Rattle.aom_budget.proofs.Mentioned.{called_lower}

@@ -19,14 +19,14 @@ use Rattle.aom_bounds.specs.Shapes.{Shapes}
 use Rattle.aom_bounds.specs.Strongest.{IsMethodStrongest, IsStrongest}
 use Rattle.aom_bounds.specs.Calls.{Among, listed, object_class, destructors, callees, CallsAt}
 use Rattle.aom_bounds.proofs.Typings.{image_strongest, method_within}
-use Rattle.aom_prices.specs.Prices.{Prices}
-use Rattle.aom_prices.specs.Costs.{destructor_price}
-use Rattle.aom_prices.specs.Layers.{KindDestructs, Pays, PaysBefore}
-use Rattle.aom_prices.specs.Sweeping.{Afters, IsSweptFrom, IsSweptUpTo, all_going}
-use Rattle.aom_prices.proofs.At.{from_each}
-use Rattle.aom_prices.proofs.Going.{going_same}
-use Rattle.aom_prices.proofs.Capping.{law_up_to}
-use Rattle.aom_prices.proofs.Places.{nothing_there}
+use Rattle.aom_bounds.specs.Prices.{Prices}
+use Rattle.aom_bounds.specs.Costs.{destructor_price}
+use Rattle.aom_bounds.specs.Layers.{KindDestructs, Pays, PaysBefore}
+use Rattle.aom_bounds.specs.Sweeping.{Afters, IsSweptFrom, IsSweptUpTo, all_going}
+use Rattle.aom_bounds.proofs.At.{from_each}
+use Rattle.aom_bounds.proofs.Going.{going_same}
+use Rattle.aom_bounds.proofs.Capping.{law_up_to}
+use Rattle.aom_bounds.proofs.Places.{nothing_there}
 use Rattle.aom_budget.specs.Pricing.{kept, Found, Agrees, IsMethodPriced, ArePricedBelow, ArePriced, IsPriceUpTo}
 use Rattle.aom_budget.proofs.Mentioned.{called_lower}
 use Rattle.aom_image.proofs.Given.{none_given}

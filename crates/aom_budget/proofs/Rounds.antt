@@ -10,9 +10,9 @@ use Rattle.aom_classes.specs.Bodies.{Body, IsIn, IsLooped}
 use Rattle.aom_classes.specs.Loops.{loop_in, next_in}
 use Rattle.aom_shape.specs.Tables.{at}
 use Rattle.aom_shape.proofs.Lists.{at_set_here, at_set_other}
-use Rattle.aom_prices.specs.Costs.{Region, Whole, Round}
-use Rattle.aom_prices.specs.Sweeping.{IsInnermost}
-use Rattle.aom_prices.proofs.Regions.{no_loop_here, no_next_here, nested, ends_before, one_end}
+use Rattle.aom_bounds.specs.Costs.{Region, Whole, Round}
+use Rattle.aom_bounds.specs.Sweeping.{IsInnermost}
+use Rattle.aom_bounds.proofs.Regions.{no_loop_here, no_next_here, nested, ends_before, one_end}
 use Rattle.aom_budget.specs.Pricing.{IsWithin, region_of}
 use Rattle.aom_budget.specs.declared.pass.Round as rounds
 

@@ -18,8 +18,8 @@ use Rattle.aom_bounds.specs.Shapes.{Shapes}
 use Rattle.aom_bounds.specs.Strongest.{IsMethodStrongest}
 use Rattle.aom_verify.specs.Sweep.{HasPlaces}
 use Rattle.aom_verify.proofs.Visiting.{has_instr}
-use Rattle.aom_prices.specs.Costs.{Region, Whole, Round}
-use Rattle.aom_prices.proofs.Regions.{by_kind, next_is_no_loop, one_end}
+use Rattle.aom_bounds.specs.Costs.{Region, Whole, Round}
+use Rattle.aom_bounds.proofs.Regions.{by_kind, next_is_no_loop, one_end}
 use Rattle.aom_budget.specs.Pricing.{AreKept, kept, after_in, Follows, IsPassing, region_of, found_by, plain_cost}
 use Rattle.aom_budget.specs.declared.pass.Round as rounds
 use Rattle.aom_budget.proofs.Passing.{Extends}

@@ -20,10 +20,10 @@ use Rattle.aom_bounds.specs.Shapes.{Shapes}
 use Rattle.aom_bounds.specs.Strongest.{IsMethodStrongest, IsStrongest}
 use Rattle.aom_bounds.specs.Calls.{Among, cancel_of}
 use Rattle.aom_verify.specs.Sweep.{HasPlaces}
-use Rattle.aom_prices.specs.Prices.{Prices, price}
-use Rattle.aom_prices.specs.Costs.{Region, Whole, Round, ArePrices, destructor_price}
-use Rattle.aom_prices.specs.Layers.{ArePricesUpTo}
-use Rattle.aom_prices.specs.Sweeping.{Afters, IsInnermost, IsSweptFrom, all_going, is_past}
+use Rattle.aom_bounds.specs.Prices.{Prices, price}
+use Rattle.aom_bounds.specs.Costs.{Region, Whole, Round, ArePrices, destructor_price}
+use Rattle.aom_bounds.specs.Layers.{ArePricesUpTo}
+use Rattle.aom_bounds.specs.Sweeping.{Afters, IsInnermost, IsSweptFrom, all_going, is_past}
 use Rattle.aom_budget.specs.Extents.{IsMost, Before}
 use Rattle.aom_budget.specs.declared.pass.Round as rounds
 

@@ -2,8 +2,8 @@
 ghost use Rattle.std.specs.Prelude.{◌≡◌, ◌≤◌, ◌*◌};
 ghost use Rattle.aom_image.specs.declared.method.Thing.TheVariants.{Object};
 ghost use Rattle.aom_roles.specs.Classes.{kind_at};
-ghost use Rattle.aom_prices.specs.Prices.{kind_sessions, perhaps_sessions};
-ghost use Rattle.aom_prices.specs.Sweeping.{going};
+ghost use Rattle.aom_bounds.specs.Prices.{kind_sessions, perhaps_sessions};
+ghost use Rattle.aom_bounds.specs.Sweeping.{going};
 ghost use Rattle.aom_budget.specs.Pricing.{destruction_by, price_by};
 
 use crate::sums::{Sums, kept};

@@ -27,9 +27,9 @@ use Rattle.aom_transcript.specs.declared.event.TimedEvent.{TimedEvent}
 use Rattle.aom_transcript.specs.declared.line.Line.{Line}
 use Rattle.aom_transcript.specs.declared.line.Ending.{Ending}
 use Rattle.aom_transcript.specs.declared.line.Ending.TheVariants.{Limit, Waiting}
-use Rattle.aom_ranks.specs.Ranks.{rank}
-use Rattle.aom_ranks.proofs.Ranking.{moves_lower_ranks}
-use Rattle.aom_ranks.proofs.Arriving.{leads_on}
+use Rattle.aom_steps.specs.Ranks.{rank}
+use Rattle.aom_steps.proofs.Ranking.{moves_lower_ranks}
+use Rattle.aom_steps.proofs.Arriving.{leads_on}
 use Rattle.aom_endings.proofs.Sorts.{Kind, completes_one, cuts, hears_one, kills_one, kind_of, obeys_one, passes_on, picks_one, polls_one, strays, waits}
 use Rattle.aom_endings.proofs.Lefts.{bereaved_no_more, commanded_no_more, completed_fewer, completed_no_more, event_there, events_left, fewer_left, later_left, left, natives_left, no_more_left, passed_late, timers_in}
 use Rattle.aom_endings.proofs.Spending.{moved_spares, picked_spares}

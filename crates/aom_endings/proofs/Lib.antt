@@ -1,3 +1,12 @@
+pub mod Cells
+pub mod Services
+pub mod Effects
+pub mod Requests
+pub mod Calls
+pub mod Moves
+pub mod Found
+pub mod Turns
+pub mod Runs
 pub mod Spending
 pub mod Lefts
 pub mod Sorts

@@ -1,1 +1,3 @@
+pub mod Owed
+pub mod Laws
 pub mod Endings

@@ -9,8 +9,8 @@ use Rattle.aom_image.specs.declared.method.Role.TheVariants.{Accept, Error, Run 
 use Rattle.aom_classes.specs.Roles.{role_of}
 use Rattle.aom_roles.specs.Classes.{kind_in}
 use Rattle.aom_roles.specs.Shapes.{kind_of}
-use Rattle.aom_prices.specs.Costs.{destructor_price}
-use Rattle.aom_prices.specs.Prices.{Prices, perhaps_price}
+use Rattle.aom_bounds.specs.Costs.{destructor_price}
+use Rattle.aom_bounds.specs.Prices.{Prices, perhaps_price}
 use Rattle.aom_budget.specs.Budgets.{CostsWithin, class_declares, class_price, kind_declares, kind_price}
 use Rattle.aom_budget.specs.declared.fault.Payer.TheVariants.{Class}
 use Rattle.aom_steps.specs.Payers.{AffordsObjects, class_budget, dispatch_price}

@@ -21,8 +21,8 @@ use Rattle.aom_sound.specs.Laws.{BootKeeps, StepKeeps, LinkedIsWired}
 use Rattle.aom_sound.proofs.ClientsKeep.{clients_keep}
 use Rattle.aom_sound.specs.Quiet.{CalmKeeps}
 use Rattle.aom_sound.specs.World.{main_tasks, boot_state}
-use Rattle.aom_prices.specs.Dispatches.{IsAffordable}
-use Rattle.aom_prices.specs.Prices.{Prices}
+use Rattle.aom_bounds.specs.Dispatches.{IsAffordable}
+use Rattle.aom_bounds.specs.Prices.{Prices}
 use Rattle.aom_steps.specs.Laws.{BootWithin, MovesPay}
 use Rattle.aom_sound.proofs.Standing.{boot as boots_at_traps}
 use Rattle.aom_sound.proofs.Maps.{cond_same}

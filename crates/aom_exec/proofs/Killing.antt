@@ -16,7 +16,7 @@ use Rattle.aom_active.proofs.Asking.{queued_same}
 use Rattle.aom_active.proofs.Telling.{standing_follows}
 use Rattle.aom_active.specs.Agrees.{Active, StandsFor as Asks_for, queued, timer_in}
 use Rattle.aom_active.specs.Meanings.{Makes, asked_anew}
-use Rattle.aom_owed.specs.Owed.{serves, serves_object}
+use Rattle.aom_endings.specs.Owed.{serves, serves_object}
 use Rattle.aom_sessions.specs.Sessions.{Sets, Standing, is_open}
 use Rattle.aom_shape.specs.Tables.{at}
 use Rattle.aom_sound.proofs.ClientsTurn.{fit_same, same_bereaved}

@@ -24,7 +24,7 @@ use Rattle.aom_sound.specs.WellTyped.{WellTyped}
 use Rattle.aom_sound.specs.World.{heard_one}
 use Rattle.aom_steps.proofs.Pushed.{served_same, withdrawn_same}
 use Rattle.aom_steps.specs.Left.{is_entry, objects_left}
-use Rattle.aom_prices.specs.Prices.{Prices}
+use Rattle.aom_bounds.specs.Prices.{Prices}
 use Rattle.aom_transcript.specs.declared.event.Command.{Command}
 use Rattle.aom_parts.proofs.Beside.{Beside, cells_beside, listed_beside, natives_beside, requests_beside}
 use Rattle.aom_parts.proofs.Elsewhere.{SessionsSame, shows_again}

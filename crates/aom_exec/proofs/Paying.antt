@@ -10,8 +10,8 @@ use Rattle.aom_sound.specs.Moves.{step}
 use Rattle.aom_sound.specs.State.{Choice, Goes, State}
 use Rattle.aom_sound.specs.WellTyped.{WellTyped}
 use Rattle.aom_sound.specs.World.{boot_state, main_tasks}
-use Rattle.aom_prices.specs.Dispatches.{IsAffordable}
-use Rattle.aom_prices.specs.Prices.{Prices}
+use Rattle.aom_bounds.specs.Dispatches.{IsAffordable}
+use Rattle.aom_bounds.specs.Prices.{Prices}
 use Rattle.aom_steps.proofs.Counted.{none_counted, steps_counted}
 use Rattle.aom_steps.specs.Laws.{BootWithin, MovesPay}
 use Rattle.aom_steps.specs.Payers.{declared_of, payer}

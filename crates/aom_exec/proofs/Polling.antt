@@ -9,7 +9,7 @@ use Rattle.aom_requests.specs.Requests.{is_pending, request_at}
 use Rattle.aom_active.proofs.Halves.{timer_anew}
 use Rattle.aom_active.specs.Agrees.{Active, queued, timer_in}
 use Rattle.aom_active.specs.Meanings.{Makes}
-use Rattle.aom_owed.specs.Owed.{owes, serves, serves_object}
+use Rattle.aom_endings.specs.Owed.{owes, serves, serves_object}
 use Rattle.aom_sound.proofs.ClientsTurn.{fit_same, on_none, same_requested}
 use Rattle.aom_sound.proofs.Turned.{recorded_so}
 use Rattle.aom_sound.proofs.Turning.{completed}

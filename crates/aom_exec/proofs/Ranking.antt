@@ -14,11 +14,11 @@ use Rattle.aom_frames.specs.declared.frame.Frame.{Frame as Held_frame}
 use Rattle.aom_frames.specs.declared.task.Task.{Task as Held_task}
 use Rattle.aom_frames.specs.declared.task.Task.TheVariants.{Trapped as Is_trap, Closing as Closes, Destroy as Destroys, Unwind as Unwinds, Dispatched as Ends}
 use Rattle.aom_cleanup.specs.declared.item.Item.{Item as Held_item}
-use Rattle.aom_ranks.specs.Within.{rounds_weight, weight}
-use Rattle.aom_ranks.specs.Ranks.{closing_rank, price, left_in, frame_rank, end_rank, waiting_rank, tasks_rank, standing, destructions, operations, cell_rank, rank}
-use Rattle.aom_ranks.proofs.Goings.{cells_stand_or_go}
-use Rattle.aom_ranks.proofs.Ranking.{moves_lower_ranks}
-use Rattle.aom_ranks.proofs.Rounds.{worth_alike}
+use Rattle.aom_steps.specs.Within.{rounds_weight, weight}
+use Rattle.aom_steps.specs.Ranks.{closing_rank, price, left_in, frame_rank, end_rank, waiting_rank, tasks_rank, standing, destructions, operations, cell_rank, rank}
+use Rattle.aom_steps.proofs.Goings.{cells_stand_or_go}
+use Rattle.aom_steps.proofs.Ranking.{moves_lower_ranks}
+use Rattle.aom_steps.proofs.Rounds.{worth_alike}
 use Rattle.aom_sound.specs.Places.{Elsewhere, Place, Root}
 use Rattle.aom_parts.proofs.Messages.{all_counted}
 use Rattle.aom_parts.specs.Agrees.{SameDispatch, dispatch_of, SameFrame, SameTasks, SameItems, Agrees}

@@ -18,8 +18,8 @@ use Rattle.aom_requests.specs.Requests.{is_pending, request_at}
 use Rattle.aom_requests.specs.declared.request.Request.{Request as Held_request}
 use Rattle.aom_requests.specs.declared.request.Request.TheVariants.{Object as Held_object}
 use Rattle.aom_active.specs.Agrees.{Tells, phase_of, queued, timer_in}
-use Rattle.aom_owed.proofs.Cells.{native_served}
-use Rattle.aom_owed.specs.Owed.{owes, serves, serves_object}
+use Rattle.aom_endings.proofs.Cells.{native_served}
+use Rattle.aom_endings.specs.Owed.{owes, serves, serves_object}
 use Rattle.aom_sound.specs.Enlisted.{is_aborted, is_idle, is_unanswered, pending, thing_kind}
 use Rattle.aom_sound.specs.Natives.{is_owed, is_served_by, native_of}
 use Rattle.aom_sound.specs.Places.{Cell, Object, Request, Timer, in_session, named, requested}

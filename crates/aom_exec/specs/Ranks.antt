@@ -9,7 +9,7 @@ use Rattle.aom_frames.specs.declared.task.Task.{Task as Held_task}
 use Rattle.aom_frames.specs.declared.task.Task.TheVariants.{Run as Runs_frame, Trapped as Is_trap, Destroy as Destroys, Closing as Closes, Unwind as Unwinds, Dispatched as Ends}
 use Rattle.aom_cleanup.specs.declared.item.Item.{Item as Held_item}
 use Rattle.aom_cleanup.specs.declared.item.Item.TheVariants.{Object as Holds_object, Operation as Holds_operation, Mark as Is_mark}
-use Rattle.aom_ranks.specs.Ranks.{tasks_rank, destructions, cell_rank}
+use Rattle.aom_steps.specs.Ranks.{tasks_rank, destructions, cell_rank}
 use Rattle.aom_sound.specs.Places.{Elsewhere, Root}
 use Rattle.aom_parts.specs.Agrees.{dispatch_of}
 

@@ -5,7 +5,7 @@ ghost use Rattle.std.specs.Prelude.{◌≡◌, ◌<◌, ◌≤◌, ◌+◌, ◌+
 ghost use Rattle.aom_cells.specs.Heap.{count};
 ghost use Rattle.aom_sound.specs.World.{AnswersWell, Completion, Cuts, Hears, Kills, Passes, Polls, Waits, boot_state, due_of, first_due};
 ghost use Rattle.aom_lines.specs.Turn.{Turn as TurnRecord, step_lines};
-ghost use Rattle.aom_owed.specs.Owed.{owes};
+ghost use Rattle.aom_endings.specs.Owed.{owes};
 ghost use Rattle.aom_exec.specs.Agreement.{AgreesInAll};
 ghost use Rattle.aom_exec.specs.Clients.{IsInRange, Obeyed};
 ghost use Rattle.aom_parts.specs.Stands.{Stands, StandsFor};

@@ -8,8 +8,8 @@ use Rattle.aom_rules.specs.Typing.{Typing}
 use Rattle.aom_endings.specs.Endings.{one_where}
 use Rattle.aom_natives.specs.Owed.{IsNew, IsOwed, times}
 use Rattle.aom_natives.specs.Slots.{ids_at, living_at}
-use Rattle.aom_owed.specs.Owed.{Finds, FindsWell, is_for, meets, owes, owes_after, serves, takes_on}
-use Rattle.aom_owed.proofs.Calls.{for_one}
+use Rattle.aom_endings.specs.Owed.{Finds, FindsWell, is_for, meets, owes, owes_after, serves, takes_on}
+use Rattle.aom_endings.proofs.Calls.{for_one}
 use Rattle.aom_sound.specs.Natives.{is_dead}
 use Rattle.aom_sound.specs.Places.{in_session}
 use Rattle.aom_sound.specs.State.{State}

@@ -5,7 +5,7 @@ use Rattle.aom_image.specs.Image.{Image}
 use Rattle.aom_endings.specs.Endings.{one_where}
 use Rattle.aom_natives.specs.Owed.{times}
 use Rattle.aom_natives.specs.Slots.{ids_at, living_at}
-use Rattle.aom_owed.proofs.Cells.{boot_owes_nothing}
+use Rattle.aom_endings.proofs.Cells.{boot_owes_nothing}
 use Rattle.aom_sound.specs.World.{boot_state}
 use Rattle.aom_machine.specs.Beside.{Serves}
 use Rattle.aom_machine.specs.declared.fault.BootFault.{BootFault}

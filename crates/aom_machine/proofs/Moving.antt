@@ -4,8 +4,8 @@ use Rattle.aom_transcript.specs.declared.line.Ending.{Ending}
 use Rattle.std.proofs.Common.{◌≡◌, ◌⊎◌, ℤ, ℕ, arith, false, pos, List, [], Option, Some, None, refl, sym, ap, subst, ◌∙◌, inl, inr}
 use Rattle.aom_image.specs.Image.{Image}
 use Rattle.aom_rules.specs.Typing.{Typing}
-use Rattle.aom_owed.specs.Owed.{FindsWell, SessionsHold, owes, owes_after}
-use Rattle.aom_owed.proofs.Moves.{moves_follow_calls}
+use Rattle.aom_endings.specs.Owed.{FindsWell, SessionsHold, owes, owes_after}
+use Rattle.aom_endings.proofs.Moves.{moves_follow_calls}
 use Rattle.aom_sound.specs.Places.{named}
 use Rattle.aom_sound.specs.Moves.{IsOpen, step}
 use Rattle.aom_sound.specs.State.{Choice, Goes, IsStuck, Outcome, State, Task}

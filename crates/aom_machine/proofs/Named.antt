@@ -18,8 +18,8 @@ use Rattle.aom_roles.specs.Shapes.{kind_of}
 use Rattle.aom_sound.specs.Enlisted.{thing_kind}
 use Rattle.aom_sound.specs.Natives.{native_of}
 use Rattle.aom_sound.specs.Places.{Cell, Object, named}
-use Rattle.aom_owed.specs.Owed.{serves, serves_object}
-use Rattle.aom_owed.proofs.Cells.{native_served}
+use Rattle.aom_endings.specs.Owed.{serves, serves_object}
+use Rattle.aom_endings.proofs.Cells.{native_served}
 use Rattle.aom_endings.specs.Endings.{one_where}
 use Rattle.aom_natives.specs.Owed.{IsNew, times}
 

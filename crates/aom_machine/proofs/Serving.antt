@@ -10,9 +10,9 @@ use Rattle.aom_endings.proofs.Ending.{above, top}
 use Rattle.aom_endings.specs.Endings.{one_where}
 use Rattle.aom_natives.specs.Owed.{TakesOut, times}
 use Rattle.aom_natives.specs.Slots.{KeepsOthers, ids_at, ids_of, living_at}
-use Rattle.aom_owed.specs.Owed.{has_name, killed_turned, owes, owes_turned}
-use Rattle.aom_owed.proofs.Found.{IsAbout}
-use Rattle.aom_owed.proofs.Turns.{Tale, sessions_turned, told}
+use Rattle.aom_endings.specs.Owed.{has_name, killed_turned, owes, owes_turned}
+use Rattle.aom_endings.proofs.Found.{IsAbout}
+use Rattle.aom_endings.proofs.Turns.{Tale, sessions_turned, told}
 use Rattle.aom_sound.specs.Clients.{client_count}
 use Rattle.aom_sound.specs.Natives.{is_dead}
 use Rattle.aom_sound.specs.Places.{named}

@@ -10,7 +10,7 @@ use Rattle.aom_exec.proofs.Progressing.{is_as_far}
 use Rattle.aom_machine.proofs.Named.{elsewhere, there, turned_false}
 use Rattle.aom_sound.specs.State.{State}
 use Rattle.aom_sound.specs.Wanted.{Wanted, Starts, wanted}
-use Rattle.aom_owed.specs.Owed.{FindsWell, is_for, takes_on}
+use Rattle.aom_endings.specs.Owed.{FindsWell, is_for, takes_on}
 use Rattle.aom_lines.specs.Turn.{Turn}
 use Rattle.aom_parts.specs.declared.progress.Progress.{Progress}
 use Rattle.aom_parts.specs.declared.progress.Progress.TheVariants.{Ended, Running, Turned}

@@ -1,7 +1,7 @@
 -- What a native may answer to what a step asks, and to a poll.
 use Rattle.std.specs.Prelude.{ℕ, ℤ, suc, pred, ◌≡◌, ◌<◌, ◌&&◌, cond, List, length, Option, None, Some, IfSome, IsSome, is_some}
 use Rattle.aom_natives.specs.Owed.{IsNew, IsOwed, times}
-use Rattle.aom_owed.specs.Owed.{is_for, takes_on}
+use Rattle.aom_endings.specs.Owed.{is_for, takes_on}
 use Rattle.aom_natives.specs.Slots.{ids_at, living_at}
 use Rattle.aom_image.specs.Image.{Image}
 use Rattle.aom_sound.specs.State.{State}

@@ -4,7 +4,7 @@ use Rattle.aom_image.specs.Image.{Image}
 use Rattle.aom_endings.specs.Endings.{one_where}
 use Rattle.aom_natives.specs.Owed.{times}
 use Rattle.aom_natives.specs.Slots.{ids_at, living_at}
-use Rattle.aom_owed.specs.Owed.{SessionsHold, owes}
+use Rattle.aom_endings.specs.Owed.{SessionsHold, owes}
 use Rattle.aom_sound.specs.Natives.{is_dead}
 use Rattle.aom_sound.specs.State.{State}
 use Rattle.aom_parts.specs.Stands.{Machine, StandsFor}

@@ -10,8 +10,8 @@ use Rattle.aom_classes.specs.Linked.{IsLinked}
 use Rattle.aom_rules.specs.Typing.{Typing}
 use Rattle.aom_bounds.specs.Strongest.{IsStrongest}
 use Rattle.aom_budget.specs.Budgets.{CostsWithin}
-use Rattle.aom_prices.specs.Dispatches.{IsAffordable}
-use Rattle.aom_prices.specs.Prices.{Prices}
+use Rattle.aom_bounds.specs.Dispatches.{IsAffordable}
+use Rattle.aom_bounds.specs.Prices.{Prices}
 use Rattle.aom_sound.specs.Laws.{LinkedIsWired}
 use Rattle.aom_transcript.specs.declared.line.Ending.{Ending}
 use Rattle.aom_transcript.specs.declared.line.Ending.TheVariants as endings
@@ -21,7 +21,7 @@ use Rattle.aom_determined.specs.Hearing.{Follows, Oracle}
 use Rattle.aom_determined.specs.Laws.{TextIsDetermined}
 use Rattle.aom_determined.proofs.Alike.{alike_counted}
 use Rattle.aom_transcript.specs.Text.{transcript}
-use Rattle.aom_ranks.specs.Runs.{TypedRunsWell}
+use Rattle.aom_steps.specs.Runs.{TypedRunsWell}
 use Rattle.aom_steps.specs.Laws.{StepsWithin}
 use Rattle.aom_run.specs.declared.outcome.Outcome.{Outcome}
 use Rattle.aom_run.specs.declared.outcome.Outcome.TheVariants.{Stopped, Waiting, MainLeft, Limit, Error, WriteFault}

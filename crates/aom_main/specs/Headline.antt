@@ -13,7 +13,7 @@ use Rattle.aom_determined.specs.Laws.{IsDetermined}
 use Rattle.aom_machine.specs.declared.fault.BootFault.TheVariants.{TooFewNatives}
 use Rattle.aom_machine.specs.declared.machine.Machine.{Machine}
 use Rattle.aom_transcript.specs.Text.{ended, transcript}
-use Rattle.aom_ranks.specs.Runs.{RunsWell}
+use Rattle.aom_steps.specs.Runs.{RunsWell}
 use Rattle.aom_steps.specs.Laws.{KeepsBudget}
 use Rattle.aom_run.specs.declared.outcome.Outcome.{Outcome}
 use Rattle.aom_run.specs.declared.outcome.Outcome.TheVariants as outcomes

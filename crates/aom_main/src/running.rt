@@ -95,7 +95,7 @@ pub fn runs_well(accepted: &Accepted)
 {
     accepted.facts();
     aom_sound::linked_is_wired();
-    aom_ranks::typed_runs_well();
+    aom_steps::typed_runs_well();
     aom_steps::steps_within();
     aom_determined::text_is_determined();
 }

@@ -16,7 +16,7 @@ use Rattle.aom_classes.specs.Linked.{IsLinked}
 use Rattle.aom_classes.specs.Roles.{role_of}
 use Rattle.aom_roles.specs.Classes.{sessions_in, sessions_of, is_session_in, is_session_kind, kind_in}
 use Rattle.aom_roles.specs.Shapes.{HasShape, IsShaped, is_active_in, kind_of}
-use Rattle.aom_prices.specs.Prices.{Prices, perhaps_price, price}
+use Rattle.aom_bounds.specs.Prices.{Prices, perhaps_price, price}
 use Rattle.aom_steps.specs.Payers.{dispatch_price, object_price}
 use Rattle.aom_sound.specs.Servers.{is_server}
 use Rattle.aom_image.specs.declared.class.ClassDecl.{ClassDecl}

@@ -32,7 +32,7 @@ use Rattle.aom_sound.specs.Places.{Object, held, seen}
 use Rattle.aom_sound.specs.State.{An_object, An_operation, Choice, Frame, Item, State, Task, counter, field_place, home_holder}
 use Rattle.aom_sound.specs.WellTyped.{Fits}
 use Rattle.aom_sound.specs.Words.{here, read}
-use Rattle.aom_prices.specs.Prices.{AllPaid, IsPriced, Prices, Stands, cancel_of, kind_price, own, perhaps_price, price}
+use Rattle.aom_bounds.specs.Prices.{AllPaid, IsPriced, Prices, Stands, cancel_of, kind_price, own, perhaps_price, price}
 use Rattle.aom_sound.proofs.Callees.{cancel_class}
 
 module _ (c : Prices) (fr : Frame) (sh : Shape) where

@@ -7,8 +7,8 @@ use Rattle.aom_sound.specs.Claims.{Dispatching, forms, items_of}
 use Rattle.aom_sound.specs.Places.{Cell, Entry, Place, held, same_place, seen}
 use Rattle.aom_sound.specs.State.{Dispatch, Item, Seat}
 use Rattle.aom_sound.specs.WellTyped.{Good}
-use Rattle.aom_ranks.proofs.Goings.{none_there, nothing_of_null}
-use Rattle.aom_prices.specs.Prices.{Prices}
+use Rattle.aom_steps.proofs.Goings.{none_there, nothing_of_null}
+use Rattle.aom_bounds.specs.Prices.{Prices}
 use Rattle.aom_steps.specs.Left.{is_entry, objects_left, operations_left}
 
 module _ (c : Prices) where

@@ -36,8 +36,8 @@ use Rattle.aom_sound.specs.State.{Goes, IsStuck, Outcome}
 use Rattle.aom_sound.specs.World.{boot_state}
 use Rattle.aom_transcript.specs.declared.line.Ending.{Ending}
 use Rattle.aom_transcript.specs.declared.line.Ending.TheVariants.{Stopped}
-use Rattle.aom_prices.specs.Prices.{AllPaid, Prices, Stands, own, perhaps_price, price, sessions_cost}
-use Rattle.aom_prices.specs.Dispatches.{IsAffordable, main_price}
+use Rattle.aom_bounds.specs.Prices.{AllPaid, Prices, Stands, own, perhaps_price, price, sessions_cost}
+use Rattle.aom_bounds.specs.Dispatches.{IsAffordable, main_price}
 use Rattle.aom_classes.proofs.Playing.{destroyed}
 
 -- ---- the image: main makes an object and deletes it, in three rounds

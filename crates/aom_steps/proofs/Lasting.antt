@@ -22,7 +22,7 @@ use Rattle.aom_sound.specs.Places.{Cell, Entry, Going, Object, Place, Register, 
 use Rattle.aom_sound.specs.Servers.{all_unslotted, is_queue_of, without_queue}
 use Rattle.aom_sound.specs.State.{AtRoot, Closing, Destroy, Dispatched, Frame, Home, Inside, Run, State, Static, Task, Trapped, Unwind, field_place, resumed}
 use Rattle.aom_sound.specs.Words.{here, stored}
-use Rattle.aom_prices.specs.Prices.{Prices}
+use Rattle.aom_bounds.specs.Prices.{Prices}
 use Rattle.aom_steps.specs.Left.{closing_left, closings_left, goes_below, is_session_with, sessions_left}
 use Rattle.aom_steps.proofs.Pushed.{each_unslotted_same, field_no_session, moved_less, queue_less, rerequested_same, resessioned_same, stored_same, without_less}
 

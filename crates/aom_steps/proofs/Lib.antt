@@ -1,3 +1,15 @@
+pub mod Sums
+pub mod Bodies
+pub mod Rounds
+pub mod Places
+pub mod Cells
+pub mod Worths
+pub mod Levels
+pub mod Falling
+pub mod Ranking
+pub mod Goings
+pub mod Arriving
+pub mod Runs
 pub mod Pushed
 pub mod Lasting
 pub mod Sessions

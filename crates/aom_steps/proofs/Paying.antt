@@ -30,11 +30,11 @@ use Rattle.aom_sound.specs.State.{An_object, An_operation, Choice, Frame, Run, S
 use Rattle.aom_sound.specs.Steps.{Fits, Sets}
 use Rattle.aom_sound.specs.WellTyped.{Fits as Holds_of, Now, Stack}
 use Rattle.aom_sound.specs.Words.{here}
-use Rattle.aom_ranks.specs.Within.{loops_worth, total, worth_at}
-use Rattle.aom_ranks.proofs.Rounds.{back, closed_loop, enters, jumps, leaves, straight_on}
-use Rattle.aom_ranks.proofs.Sums.{scaled, scaled_le}
-use Rattle.aom_ranks.proofs.Worths.{passed_less, returned_less, to_trap_less}
-use Rattle.aom_prices.specs.Prices.{IsPriced, Prices, Stands, kind_price, price, perhaps_price, sessions_cost}
+use Rattle.aom_steps.specs.Within.{loops_worth, total, worth_at}
+use Rattle.aom_steps.proofs.Rounds.{back, closed_loop, enters, jumps, leaves, straight_on}
+use Rattle.aom_steps.proofs.Sums.{scaled, scaled_le}
+use Rattle.aom_steps.proofs.Worths.{passed_less, returned_less, to_trap_less}
+use Rattle.aom_bounds.specs.Prices.{IsPriced, Prices, Stands, kind_price, price, perhaps_price, sessions_cost}
 use Rattle.aom_steps.specs.Left.{is_entry, left, left_worths, method_left, objects_left, operations_left, rounds_left, rounds_price, tasks_left, waiting_left, closing_left, closings_left, end_left, sessions_left}
 use Rattle.aom_steps.proofs.Covering.{Affords, Covers, pushes}
 use Rattle.aom_steps.proofs.Pushed.{enters_place, field_no_entry, leaves_place, moved_less, none_moves, operations_below, rerequested_same, stored_same, resessioned_same, enters_place, served_same, without_less}

@@ -8,7 +8,7 @@ use Rattle.aom_sound.specs.State.{AtRoot, Home, Inside, Item, An_object, Static,
 use Rattle.aom_sound.specs.Calls.{below_top}
 use Rattle.aom_sound.specs.Words.{stored}
 use Rattle.aom_sound.proofs.Maps.{same_place-true}
-use Rattle.aom_prices.specs.Prices.{Prices}
+use Rattle.aom_bounds.specs.Prices.{Prices}
 use Rattle.aom_steps.specs.Left.{due, is_entry, is_session_with, operations_left, owned_left}
 use Rattle.aom_sound.specs.Natives.{resessioned}
 use Rattle.aom_sound.proofs.Storing.{reset}

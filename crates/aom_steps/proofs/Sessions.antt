@@ -24,7 +24,7 @@ use Rattle.aom_sound.specs.Places.{Cell, Elsewhere, Going, Object, Place, Sessio
 use Rattle.aom_sound.specs.Servers.{has_session, is_among, is_other, is_server, of_class, seats_taken, session_class, session_thing}
 use Rattle.aom_sound.specs.State.{Dispatch, Of_server, Parts}
 use Rattle.aom_sound.specs.WellTyped.{EndsSessions, Back, Caught, Fits, Gone, Good, Leaves, Now, Returns, Stack}
-use Rattle.aom_prices.specs.Prices.{IsPriced, Prices, sessions_cost}
+use Rattle.aom_bounds.specs.Prices.{IsPriced, Prices, sessions_cost}
 use Rattle.aom_steps.specs.Left.{due, is_session_with, sessions_left}
 use Rattle.aom_steps.proofs.Pushed.{moved_less}
 

@@ -17,7 +17,7 @@ use Rattle.aom_sound.specs.Places.{Message_of, service_of, Cell, Object, Request
 use Rattle.aom_sound.specs.State.{Goes, Rest, Seat, State, Dispatched, Of_server, Parts}
 use Rattle.aom_sound.specs.WellTyped.{Good, WellTyped, Fits, Now}
 use Rattle.aom_sound.specs.World.{lives, Completes, Cuts, Hears, Kills, Passes, Picks, Polls, Turning, Waits, heard_one, past_native, turned, turning, with_request, without_native, Candidate, Completion, Heard, Obeys, Outside, Timed, by_event, by_timer, delivers, first_due, first_ready, has_signal, next_event, next_native, next_time, picks, polls, taken_from}
-use Rattle.aom_prices.specs.Prices.{Prices, perhaps_price, price, IsPriced}
+use Rattle.aom_bounds.specs.Prices.{Prices, perhaps_price, price, IsPriced}
 use Rattle.aom_steps.specs.Laws.{TurnsPay}
 use Rattle.aom_steps.specs.Left.{left, objects_left, operations_left, tasks_left, closings_left, is_entry}
 use Rattle.aom_steps.specs.Payers.{class_of, payer, price_of}

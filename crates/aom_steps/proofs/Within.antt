@@ -50,10 +50,10 @@ use Rattle.aom_sound.specs.Steps.{Acts, Arrives, Clears, Comes_out, Ends, Move, 
 use Rattle.aom_sound.specs.WellTyped.{Fits, Good, WellTyped}
 use Rattle.aom_sound.specs.World.{Heard, Reaches, begins, boot_state, main_tasks, moves, turn, turning, turns, Outside}
 use Rattle.aom_transcript.specs.declared.line.Line.{Line}
-use Rattle.aom_ranks.proofs.Worths.{resumed_alike, told_alike}
-use Rattle.aom_prices.specs.Layers.{ArePricesUpTo}
-use Rattle.aom_prices.specs.Prices.{IsPriced, Prices, Stands, perhaps_price, price, sessions_cost}
-use Rattle.aom_prices.specs.Dispatches.{IsAffordable, main_price, method_price, root_price}
+use Rattle.aom_steps.proofs.Worths.{resumed_alike, told_alike}
+use Rattle.aom_bounds.specs.Layers.{ArePricesUpTo}
+use Rattle.aom_bounds.specs.Prices.{IsPriced, Prices, Stands, perhaps_price, price, sessions_cost}
+use Rattle.aom_bounds.specs.Dispatches.{IsAffordable, main_price, method_price, root_price}
 use Rattle.aom_steps.specs.Laws.{BootWithin, KeepsBudget, MovesPay, StepsWithin}
 use Rattle.aom_steps.specs.Left.{WithinBudget, end_left, left, left_worths, objects_left, operations_left, tasks_left, waiting_left, closing_left, closings_left, is_entry, is_session_with, sessions_left}
 use Rattle.aom_steps.specs.Payers.{AffordsObjects, class_budget, declared_of, payer, price_of, dispatch_price}

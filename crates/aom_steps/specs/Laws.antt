@@ -11,9 +11,9 @@ use Rattle.aom_sound.specs.State.{State, Choice, Goes}
 use Rattle.aom_sound.specs.WellTyped.{WellTyped}
 use Rattle.aom_sound.specs.World.{boot_state, Heard, Reaches, Outside, turn, turning}
 use Rattle.aom_transcript.specs.declared.line.Line.{Line}
-use Rattle.aom_prices.specs.Dispatches.{IsAffordable, main_price}
-use Rattle.aom_prices.specs.Layers.{ArePricesUpTo}
-use Rattle.aom_prices.specs.Prices.{Prices, IsPriced}
+use Rattle.aom_bounds.specs.Dispatches.{IsAffordable, main_price}
+use Rattle.aom_bounds.specs.Layers.{ArePricesUpTo}
+use Rattle.aom_bounds.specs.Prices.{Prices, IsPriced}
 use Rattle.aom_steps.specs.Left.{WithinBudget, left}
 use Rattle.aom_steps.specs.Payers.{AffordsObjects, declared_of, payer, price_of}
 

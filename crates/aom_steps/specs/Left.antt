@@ -8,10 +8,10 @@ use Rattle.aom_classes.specs.Roles.{destructor_of}
 use Rattle.aom_sound.specs.Enlisted.{part_of}
 use Rattle.aom_sound.specs.Places.{Cell, Elsewhere, Entry, Field, Going, In_service, Object, Place, Queued, Register, Root, Session, held}
 use Rattle.aom_sound.specs.State.{A_mark, An_object, An_operation, Answered, Asks, Closing, Destroy, Dispatch, Dispatched, Item, Main_left, Object_left, Of_main, Of_object, Of_root, Of_server, Run, Seat, State, Task, Trapped, Unwind}
-use Rattle.aom_ranks.specs.Within.{loops_worth}
-use Rattle.aom_ranks.specs.Worths.{Worths, tasks_worth, waiting_worth}
-use Rattle.aom_prices.specs.Dispatches.{root_price}
-use Rattle.aom_prices.specs.Prices.{Prices, perhaps_price, price}
+use Rattle.aom_steps.specs.Within.{loops_worth}
+use Rattle.aom_steps.specs.Worths.{Worths, tasks_worth, waiting_worth}
+use Rattle.aom_bounds.specs.Dispatches.{root_price}
+use Rattle.aom_bounds.specs.Prices.{Prices, perhaps_price, price}
 
 -- the rounds that are left of a loop, but for the one at hand, which its place pays for
 abbrev pub rounds_price : Prices → (m rounds place : ℕ) → ℕ

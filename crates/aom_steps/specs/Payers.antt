@@ -9,8 +9,8 @@ use Rattle.aom_image.specs.declared.method.Thing.TheVariants.{Object, Message}
 use Rattle.aom_classes.specs.Roles.{role_of}
 use Rattle.aom_roles.specs.Shapes.{kind_of}
 use Rattle.aom_sound.specs.State.{Answered, Asks, Dispatch, Dispatched, Main_left, Object_left, Of_main, Of_object, Of_root, Of_server, Task}
-use Rattle.aom_prices.specs.Dispatches.{main_price}
-use Rattle.aom_prices.specs.Prices.{Prices, perhaps_price}
+use Rattle.aom_bounds.specs.Dispatches.{main_price}
+use Rattle.aom_bounds.specs.Prices.{Prices, perhaps_price}
 
 -- ---- who pays
 

@@ -6,8 +6,8 @@ use Rattle.aom_bounds.specs.Strongest.{IsStrongest}
 use Rattle.aom_bounds.specs.Depths.{DepthsWithin}
 use Rattle.aom_bounds.specs.Heights.{HeightsWithin}
 use Rattle.aom_bounds.proofs.Within.{all_within, all_high}
-use Rattle.aom_prices.specs.Dispatches.{IsAffordable}
-use Rattle.aom_prices.specs.Prices.{Prices}
+use Rattle.aom_bounds.specs.Dispatches.{IsAffordable}
+use Rattle.aom_bounds.specs.Prices.{Prices}
 use Rattle.aom_classes.specs.Linked.{IsLinked}
 use Rattle.aom_budget.specs.Budgets.{CostsWithin}
 use Rattle.aom_budget.proofs.Budgeting.{affordable}

@@ -1,9 +1,0 @@
-pub mod Cells
-pub mod Services
-pub mod Effects
-pub mod Requests
-pub mod Calls
-pub mod Moves
-pub mod Found
-pub mod Turns
-pub mod Runs

@@ -1,0 +1,139 @@
+-- The cells that go are as many as the destructions at hand.
+use Rattle.std.proofs.Common.{◌≡◌, ◌≤◌, ◌+◌, ◌∙◌, ℕ, suc, Bool, true, false, cond, List, [], ◌∷◌, length, Option, Some, None, refl, sym, ap, arith, subst}
+use Rattle.aom_image.proofs.Given.{false_given, none_given}
+use Rattle.std.specs.Prelude.{◌==◌, ◌&&◌, ◌||◌}
+use Rattle.std.proofs.lemmas.Bool.{eqb-true, ne_eqb}
+use Rattle.aom_image.specs.Image.{Image}
+use Rattle.aom_rules.specs.Typing.{Typing}
+use Rattle.aom_shape.specs.declared.kind.Age.TheVariants.{Ready}
+use Rattle.aom_shape.specs.declared.kind.Kind.TheVariants.{Null, Own}
+use Rattle.aom_sound.proofs.Maps.{held_without, same_place-true, same_place_refl, tidy_without}
+use Rattle.aom_sound.specs.Claims.{Dispatching, Dying, Ending, Layer, Mark, Unwinding, Method, claim, declared, tasks_of}
+use Rattle.aom_sound.specs.Places.{Cell, Going, Object, Place, Sight, Tidy, held, same_place, seen, without}
+use Rattle.aom_sound.specs.State.{State}
+use Rattle.aom_sound.specs.WellTyped.{Back, Caught, Fits, Gone, Now, Returns, Stack, WellTyped, Leaves}
+use Rattle.aom_steps.specs.Ranks.{destructions, is_going, standing}
+
+-- ---- cells
+
+pub none_there : (c : Cell) (cs : List Cell) (g : Place) → held (c ∷ cs) g ≡ None → (same_place c.owner g ≡ false) × (held cs g ≡ None)
+none_there c cs g e = false_given (λ b. cond b (Some c.object) (held cs g) ≡ None) (same_place c.owner g) e (λ e. cc) (λ s e. (s, e))
+
+all_stand : (cs : List Cell) → ((k : ℕ) → held cs (Going k) ≡ None) → standing cs ≡ length cs
+all_stand [] none = refl
+all_stand (c ∷ cs) none = here c.owner refl (all_stand cs (λ k. (none_there c cs (Going k) (none k)).1))
+  where
+    here : (r : Place) → c.owner ≡ r → standing cs ≡ length cs → cond (is_going r) (standing cs) (suc (standing cs)) ≡ suc (length cs)
+    here (Going k) e ih = let clash : true ≡ false = sym (ap (λ r. same_place r (Going k)) e ∙ same_place_refl (Going k)) ∙ (none_there c cs (Going k) (none k)).0 in cc
+    here _ e ih = ap suc ih
+
+still_stand : (k : ℕ) (cs : List Cell) → standing (without (Going k) cs) ≡ standing cs
+still_stand k [] = refl
+still_stand k (c ∷ cs) = here (same_place c.owner (Going k)) refl (still_stand k cs)
+  where
+    here :
+        (b : Bool) → same_place c.owner (Going k) ≡ b → standing (without (Going k) cs) ≡ standing cs →
+        standing (cond b (without (Going k) cs) (c ∷ without (Going k) cs)) ≡ cond (is_going c.owner) (standing cs) (suc (standing cs))
+    here true e ih = ih ∙ ap (λ b. cond b (standing cs) (suc (standing cs))) (sym (ap is_going (same_place-true c.owner (Going k) e)))
+    here false e ih = ap (λ n. cond (is_going c.owner) n (suc n)) ih
+
+none_without : (g : Place) (cs : List Cell) → held cs g ≡ None → length (without g cs) ≡ length cs
+none_without g [] e = refl
+none_without g (c ∷ cs) e =
+    let parts = none_there c cs g e in
+    ap (λ b. length (cond b (without g cs) (c ∷ without g cs))) parts.0 ∙ ap suc (none_without g cs parts.1)
+
+one_without : (g : Place) (cs : List Cell) (o : Object) → Tidy cs → held cs g ≡ Some o → suc (length (without g cs)) ≡ length cs
+one_without g [] o t e = cc
+one_without g (c ∷ cs) o t e = here (same_place c.owner g) refl (λ h. one_without g cs o t.2 h) e
+  where
+    here :
+        (b : Bool) → same_place c.owner g ≡ b → (held cs g ≡ Some o → suc (length (without g cs)) ≡ length cs) → cond b (Some c.object) (held cs g) ≡ Some o →
+        suc (length (cond b (without g cs) (c ∷ without g cs))) ≡ suc (length cs)
+    here true s ih e = ap suc (none_without g cs (ap (λ r. held cs r) (sym (same_place-true c.owner g s)) ∙ t.0))
+    here false s ih e = ap suc (ih e)
+
+-- ---- layers
+
+-- whether a destruction stands at that depth
+abbrev goes_at : List Layer → ℕ → Bool
+goes_at [] k = false
+goes_at (Method fr sh ∷ ls) k = goes_at ls k
+goes_at (Mark gv ∷ ls) k = goes_at ls k
+goes_at (Unwinding code es ∷ ls) k = goes_at ls k
+goes_at (Ending o left ∷ ls) k = goes_at ls k
+goes_at (Dying o ∷ ls) k = (length (tasks_of ls) == k) || goes_at ls k
+goes_at (Dispatching d seats ∷ ls) k = goes_at ls k
+
+-- each destruction has its cell
+abbrev DyingHeld : List Cell → List Layer → Type 0
+DyingHeld cs [] = Unit {0}
+DyingHeld cs (Method fr sh ∷ ls) = DyingHeld cs ls
+DyingHeld cs (Mark gv ∷ ls) = DyingHeld cs ls
+DyingHeld cs (Unwinding code es ∷ ls) = DyingHeld cs ls
+DyingHeld cs (Ending o left ∷ ls) = DyingHeld cs ls
+DyingHeld cs (Dying o ∷ ls) = (held cs (Going (length (tasks_of ls))) ≡ Some o) × DyingHeld cs ls
+DyingHeld cs (Dispatching d seats ∷ ls) = DyingHeld cs ls
+
+other_depth : (cs : List Cell) (n k : ℕ) → (n == k) ≡ false → held (without (Going n) cs) (Going k) ≡ held cs (Going k)
+other_depth cs n k e = held_without cs (Going n) (Going k) ∙ ap (λ b. cond ((3 == 3) && (b && (0 == 0))) None (held cs (Going k))) e
+
+same_depth : (cs : List Cell) (n : ℕ) → held (without (Going n) cs) (Going n) ≡ None
+same_depth cs n = held_without cs (Going n) (Going n) ∙ ap (λ b. cond b None (held cs (Going n))) (same_place_refl (Going n))
+
+held_below : (cs : List Cell) (n : ℕ) (ls : List Layer) → length (tasks_of ls) ≤ n → DyingHeld cs ls → DyingHeld (without (Going n) cs) ls
+held_below cs n [] le h = tt
+held_below cs n (Method fr sh ∷ ls) le h = held_below cs n ls (omega (arith, le)) h
+held_below cs n (Mark gv ∷ ls) le h = held_below cs n ls (omega (arith, le)) h
+held_below cs n (Unwinding code es ∷ ls) le h = held_below cs n ls (omega (arith, le)) h
+held_below cs n (Ending o left ∷ ls) le h = held_below cs n ls (omega (arith, le)) h
+held_below cs n (Dying o ∷ ls) le h = (other_depth cs n (length (tasks_of ls)) (ne_eqb n (length (tasks_of ls)) (λ e. absurd (omega (arith, le, e)))) ∙ h.0, held_below cs n ls (omega (arith, le)) h.1)
+held_below cs n (Dispatching d seats ∷ ls) le h = held_below cs n ls (omega (arith, le)) h
+
+counted_cells : (ls : List Layer) (cs : List Cell) → Tidy cs → DyingHeld cs ls → ((k : ℕ) → goes_at ls k ≡ false → held cs (Going k) ≡ None) → standing cs + destructions (tasks_of ls) ≡ length cs
+counted_cells [] cs t h none = omega (arith, all_stand cs (λ k. none k refl))
+counted_cells (Method fr sh ∷ ls) cs t h none = counted_cells ls cs t h none
+counted_cells (Mark gv ∷ ls) cs t h none = counted_cells ls cs t h none
+counted_cells (Unwinding code es ∷ ls) cs t h none = counted_cells ls cs t h none
+counted_cells (Ending o left ∷ ls) cs t h none = counted_cells ls cs t h none
+counted_cells (Dispatching d seats ∷ ls) cs t h none = counted_cells ls cs t h none
+counted_cells (Dying o ∷ ls) cs t h none =
+    let n = length (tasks_of ls) in
+    let ih = counted_cells ls (without (Going n) cs) (tidy_without cs (Going n) t) (held_below cs n ls (omega arith) h.1) (λ k e. left_none k (n == k) refl e) in
+    omega (arith, ih, still_stand n cs, one_without (Going n) cs o t h.0)
+  where
+    left_none : (k : ℕ) (b : Bool) → (length (tasks_of ls) == k) ≡ b → goes_at ls k ≡ false → held (without (Going (length (tasks_of ls))) cs) (Going k) ≡ None
+    left_none k true e f = subst (λ j. held (without (Going (length (tasks_of ls))) cs) (Going j) ≡ None) (eqb-true (length (tasks_of ls)) k e) (same_depth cs (length (tasks_of ls)))
+    left_none k false e f = other_depth cs (length (tasks_of ls)) k e ∙ none k (ap (λ b. b || goes_at ls k) e ∙ f)
+
+-- ---- well-typed states
+
+stack_held : (p : Image) (t : Typing) (cs : List Cell) (back : Back) (ls : List Layer) → Stack p t cs back ls → DyingHeld cs ls
+stack_held p t cs back [] h = tt
+stack_held p t cs back (Method fr sh ∷ ls) h = stack_held p t cs (Returns fr.method fr.home) ls h.4
+stack_held p t cs back (Mark gv ∷ ls) h = stack_held p t cs (Caught gv) ls h.1
+stack_held p t cs back (Unwinding code es ∷ ls) h = stack_held p t cs Leaves ls h.1
+stack_held p t cs back (Ending o left ∷ ls) h = stack_held p t cs Now ls h.3
+stack_held p t cs back (Dying o ∷ ls) h = (h.0.1, stack_held p t cs Gone ls h.2)
+stack_held p t cs back (Dispatching d seats ∷ []) h = tt
+stack_held p t cs back (Dispatching d seats ∷ l ∷ ls) h = let clash : l ∷ ls ≡ [] = h.1 in cc
+
+claims_none : (p : Image) (cs : List Cell) (ls : List Layer) (k : ℕ) → goes_at ls k ≡ false → claim p (declared p cs) ls (Going k) ≡ Null
+claims_none p cs [] k e = refl
+claims_none p cs (Method fr sh ∷ ls) k e = claims_none p cs ls k e
+claims_none p cs (Mark gv ∷ ls) k e = claims_none p cs ls k e
+claims_none p cs (Unwinding code es ∷ ls) k e = claims_none p cs ls k e
+claims_none p cs (Ending o left ∷ ls) k e = claims_none p cs ls k e
+claims_none p cs (Dispatching d seats ∷ ls) k e = claims_none p cs ls k e
+claims_none p cs (Dying o ∷ ls) k e =
+    let ih : (goes_at ls k ≡ false → claim p (declared p cs) ls (Going k) ≡ Null) = λ h. claims_none p cs ls k h in
+    false_given (λ b. (b || goes_at ls k) ≡ false) (length (tasks_of ls) == k) e (λ e. cc) (λ s e. ap (λ b. cond b (Own o.thing Ready) (claim p (declared p cs) ls (Going k))) s ∙ ih e)
+
+pub nothing_of_null : (p : Image) (h : Sight) (o : Option Object) → Fits p h o Null → o ≡ None
+nothing_of_null p h o f = none_given (λ x. Fits p h x Null) o f (λ x fits. fits) (λ none fits. none)
+
+pub cells_stand_or_go : (p : Image) (t : Typing) (s : State) → WellTyped p t s → standing s.cells + destructions s.tasks ≡ length s.cells
+cells_stand_or_go p t s w =
+    subst (λ ts. standing s.cells + destructions ts ≡ length s.cells) (sym w.tasks)
+    (counted_cells w.layers s.cells w.good.tidy (stack_held p t s.cells Now w.layers w.good.stack)
+    (λ k e. nothing_of_null p (seen s.cells) (held s.cells (Going k)) (subst (λ x. Fits p (seen s.cells) (held s.cells (Going k)) x) (claims_none p s.cells w.layers k e) (w.good.fits (Going k)))))

@@ -1,0 +1,178 @@
+-- What a run of a method costs those that begin it.
+use Rattle.std.proofs.Common.{Bool, IfSome, IsTrue, List, None, Option, Some, [], ap, arith, cond, false, length, refl, slice_get, subst, suc, true, ℕ, ◌*◌, ◌∷◌, ◌+◌, ◌<◌, ◌^◌, ◌∙◌, ◌≡◌, ◌≤◌}
+use Rattle.std.specs.Prelude.{IsSome, position}
+use Rattle.std.proofs.lemmas.Option.{slice_get_within}
+use Rattle.aom_image.specs.Image.{Image}
+use Rattle.aom_image.specs.Views.{is_quiet, leaves, leaves_in, method_at, quiet_in}
+use Rattle.aom_instructions.specs.declared.instr.Instr.{Instr}
+use Rattle.aom_instructions.specs.declared.instr.Instr.TheVariants.{Call, Cancel, Trap}
+use Rattle.aom_instructions.specs.declared.instr.Target.{Target}
+use Rattle.aom_image.specs.declared.method.Method.{Method}
+use Rattle.aom_image.specs.declared.class.ClassKind.{ClassKind}
+use Rattle.aom_image.specs.declared.method.Role.{Role}
+use Rattle.aom_image.specs.declared.method.Role.TheVariants.{Cancel as Cancel_role, Destruct}
+use Rattle.aom_image.specs.declared.method.Thing.{Thing}
+use Rattle.aom_classes.specs.Calls.{AllBelow, CallsOrdered, RunsBelow}
+use Rattle.aom_classes.specs.Linked.{IsLinked}
+use Rattle.aom_classes.specs.Roles.{destructor_of, is_main, main_of, plays, role_of}
+use Rattle.aom_roles.specs.Shapes.{FlagsFit, HasShape, IsShaped, kind_of, may_leave, is_quiet as quiet_bit}
+use Rattle.aom_classes.proofs.Facts.{all_there, at_place}
+use Rattle.aom_sound.specs.Destruction.{begun, begun_by, destructed}
+use Rattle.aom_sound.specs.Servers.{is_server}
+use Rattle.aom_sound.specs.Places.{Object}
+use Rattle.aom_sound.specs.State.{Closing, Destroy, Task}
+use Rattle.aom_sound.specs.WellTyped.{IsUndo}
+use Rattle.aom_steps.specs.Ranks.{all_left, base, cell_rank, closing_rank, left_in, level, price, tasks_rank, waiting_rank}
+use Rattle.aom_steps.specs.Within.{left}
+use Rattle.aom_steps.proofs.Sums.{pow_less, pow_more, pow_some, pow_step, pow_twice, whole_run}
+use Rattle.aom_image.proofs.Given.{cons_given, some_given}
+use Rattle.aom_classes.proofs.Playing.{destroyed, found, role_found}
+use Rattle.aom_steps.proofs.Sums.{one_of_all}
+
+left_below : (ms : List Method) (k : ℕ) (m : Method) → slice_get ms k ≡ Some m → left m.code [] 0 ≤ all_left ms
+left_below ms k m e = one_of_all (λ (x : Method). left x.code [] 0) all_left (λ x xs. refl) ms k m e
+
+left_at_begin : (p : Image) (m : ℕ) → left_in (method_at p m) [] 0 ≤ all_left p.methods
+unfolding method_at
+left_at_begin p m = go (slice_get p.methods m) refl
+  where
+    go : (o : Option Method) → slice_get p.methods m ≡ o → left_in o [] 0 ≤ all_left p.methods
+    go None e = omega arith
+    go (Some d) e = left_below p.methods m d e
+
+pub price_some : (p : Image) (m : ℕ) → 1 ≤ price p m
+price_some p m = pow_some (all_left p.methods) (level p m)
+
+pub cell_some : (p : Image) → 1 ≤ cell_rank p
+cell_some p = pow_some (all_left p.methods) (suc (length p.methods))
+
+-- a whole run of a method and two more are paid by a move of a higher level
+pub run_paid : (p : Image) (m : ℕ) (n : ℕ) → level p m < n → left_in (method_at p m) [] 0 * price p m + 2 ≤ base p ^ n
+run_paid p m n lower =
+    let whole = whole_run (left_in (method_at p m) [] 0) (all_left p.methods) (price p m) (left_at_begin p m) (price_some p m) in
+    let step : base p ^ suc (level p m) ≡ base p * price p m = pow_step (all_left p.methods) (level p m) in
+    let more : base p ^ suc (level p m) ≤ base p ^ n = pow_more (all_left p.methods) (suc (level p m)) n (omega (arith, lower)) in
+    omega (arith, whole, step, more)
+
+-- what is called has a lower level
+pub called_lower : (p : Image) (m m' : ℕ) → m' < m → (is_quiet p m ≡ true → is_quiet p m' ≡ true) → level p m' < level p m
+called_lower p m m' below quiet = go (is_quiet p m) (is_quiet p m') quiet
+  where
+    go : (b c : Bool) → (b ≡ true → c ≡ true) → cond c m' (suc (suc (length p.methods)) + m') < cond b m (suc (suc (length p.methods)) + m)
+    go true true h = below
+    go true false h = let clash = h refl in cc
+    go false true h = omega (arith, below)
+    go false false h = omega (arith, below)
+
+-- a cell has two at least, and as there is a method, so has what goes before a server
+pub cell_two : (p : Image) → 2 ≤ cell_rank p
+cell_two p = omega (arith, pow_less (all_left p.methods) 0 (suc (length p.methods)) (omega arith), pow_some (all_left p.methods) 0)
+
+closing_two : (p : Image) → IsLinked p → 2 ≤ closing_rank p
+unfolding main_of
+closing_two p linked =
+    let some : 1 ≤ length p.methods = cons_given (λ ms. IsSome (position is_main ms)) p.methods linked.main (λ none. cc) (λ m ms is found. omega (arith, ap length is)) in
+    omega (arith, pow_less (all_left p.methods) 0 (length p.methods) (omega (arith, some)), pow_some (all_left p.methods) 0)
+
+-- a method that may leave is not quiet
+pub loud_leaver : (p : Image) → IsLinked p → (m : ℕ) → leaves p m ≡ true → is_quiet p m ≡ false
+unfolding leaves_in quiet_in method_at
+loud_leaver p linked m e = some_given (λ o. leaves_in o ≡ true) (slice_get p.methods m) e (λ none. cc) (λ d there may.
+    let shaped : IsShaped p d = all_there (IsShaped p) p.methods m d linked.shapes there in ap quiet_in there ∙ flag d shaped.flags (quiet_bit d) refl may)
+  where
+    flag : (d : Method) → FlagsFit d → (b : Bool) → quiet_bit d ≡ b → may_leave d ≡ true → b ≡ false
+    flag d fits true q e = let never = fits.quiet q in cc
+    flag d fits false q e = refl
+
+-- a move of a method that is not quiet pays for a cell
+pub cell_paid : (p : Image) (m : ℕ) → is_quiet p m ≡ false → cell_rank p + cell_rank p ≤ price p m
+cell_paid p m loud =
+    let is : level p m ≡ suc (suc (length p.methods)) + m = ap (λ b. cond b m (suc (suc (length p.methods)) + m)) loud in
+    let twice : cell_rank p + cell_rank p ≤ base p ^ suc (suc (length p.methods)) = pow_twice (all_left p.methods) (suc (length p.methods)) in
+    let more : base p ^ suc (suc (length p.methods)) ≤ base p ^ level p m = pow_more (all_left p.methods) (suc (suc (length p.methods))) (level p m) (omega (arith, is)) in
+    omega (arith, twice, more)
+
+-- ---- destructors
+
+record IsQuietThere (p : Image) (m : ℕ) : Type 0 where
+  within : m < length p.methods
+  quiet : is_quiet p m ≡ true
+
+-- what plays a role whose shape asks for it is a quiet method of the image
+role_quiet : (p : Image) → IsLinked p → (c m : ℕ) (role : Role) → ((kind : Option ClassKind) (d : Method) → HasShape role kind d → quiet_in (Some d) ≡ true) → role_of p c role ≡ Some m → IsQuietThere p m
+unfolding method_at
+role_quiet p linked c m role quiet e =
+    let w = role_found p c m role e in
+    let d = w.0 in
+    let shaped : IsShaped p d = all_there (IsShaped p) p.methods m d linked.shapes w.1 in
+    let shape : HasShape role (kind_of p d.class) d = subst (λ r. HasShape r (kind_of p d.class) d) w.3 shaped.role in
+    record { within = slice_get_within p.methods m d w.1; quiet = ap quiet_in w.1 ∙ quiet (kind_of p d.class) d shape }
+
+quiet_destructor : (p : Image) → IsLinked p → (c m : ℕ) → role_of p c Destruct ≡ Some m → IsQuietThere p m
+unfolding quiet_in
+quiet_destructor p linked c m e = role_quiet p linked c m Destruct (λ kind d shape. shape.flags) e
+
+-- a destructor and the going after it are paid by what goes before a server, with one left
+pub destructed_paid : (p : Image) → IsLinked p → (o : Object) (height : ℕ) (below : List Task) → tasks_rank p (destructed p o height below) + 1 ≤ closing_rank p + waiting_rank p below
+destructed_paid p linked o height below = go (destructor_of p o.thing) (of_thing o.thing)
+  where
+    of_thing : (t : Thing) (m : ℕ) → destructor_of p t ≡ Some m → IsQuietThere p m
+    of_thing x m e = let w = destroyed p x m e in quiet_destructor p linked w.0 m w.2
+
+    go : (d : Option ℕ) → ((m : ℕ) → d ≡ Some m → IsQuietThere p m) → tasks_rank p (begun_by d o height below) + 1 ≤ closing_rank p + waiting_rank p below
+    go None h = omega (arith, closing_two p linked)
+    go (Some m) h =
+        let w = h m refl in
+        let is : level p m ≡ m = ap (λ b. cond b m (suc (suc (length p.methods)) + m)) w.quiet in
+        let paid : left_in (method_at p m) [] 0 * price p m + 2 ≤ closing_rank p = run_paid p m (length p.methods) (omega (arith, is, w.within)) in
+        omega (arith, paid)
+
+-- a destruction that begins is paid by its cell, with one left
+pub begun_paid : (p : Image) → IsLinked p → (o : Object) (height : ℕ) (below : List Task) → tasks_rank p (begun p o height below) + 1 ≤ cell_rank p + waiting_rank p below
+begun_paid p linked o height below = go (is_server p o.thing)
+  where
+    twice : closing_rank p + closing_rank p ≤ cell_rank p
+    twice = pow_twice (all_left p.methods) (length p.methods)
+
+    go : (b : Bool) → tasks_rank p (cond b (Closing ∷ Destroy ∷ below) (destructed p o height below)) + 1 ≤ cell_rank p + waiting_rank p below
+    go true = omega (arith, twice, closing_two p linked)
+    go false = omega (arith, twice, destructed_paid p linked o height below)
+
+-- what an instruction of a method runs comes before the method
+runs_below : (p : Image) → IsLinked p → (m place : ℕ) (d : Method) (i : Instr) → method_at p m ≡ Some d → slice_get d.code place ≡ Some i → RunsBelow p m d.class i
+unfolding method_at
+runs_below p linked m place d i is stands = all_there (RunsBelow p m d.class) d.code place i (at_place (CallsOrdered p) p.methods m d linked.calls is).code stands
+
+-- so a called method does
+pub called_before : (p : Image) → IsLinked p → (m place : ℕ) (d : Method) (target : Target) (m' first c : ℕ) → method_at p m ≡ Some d → slice_get d.code place ≡ Some (Call target m' first c) → m' < m
+called_before p linked m place d target m' first c is stands = (runs_below p linked m place d (Call target m' first c) is stands).below
+
+pub trapped_before : (p : Image) → IsLinked p → (m place : ℕ) (d : Method) (target : Target) (m' first c : ℕ) → method_at p m ≡ Some d → slice_get d.code place ≡ Some (Trap target m' first c) → m' < m
+trapped_before p linked m place d target m' first c is stands = (runs_below p linked m place d (Trap target m' first c) is stands).below
+
+-- an operation is paid by its item, with two left
+pub undo_paid : (p : Image) (m : ℕ) → IsUndo p m → left_in (method_at p m) [] 0 * price p m + 2 ≤ cell_rank p
+unfolding method_at
+undo_paid p m undo =
+    let is : level p m ≡ m = ap (λ b. cond b m (suc (suc (length p.methods)) + m)) undo.quiet in
+    let within : m < length p.methods = some_given (λ o. IsSome o) (slice_get p.methods m) undo.there (λ none. cc) (λ d is some. slice_get_within p.methods m d is) in
+    run_paid p m (suc (length p.methods)) (omega (arith, is, within))
+
+-- ---- methods that cancel
+
+-- one is a quiet method of the image
+pub quiet_canceller : (p : Image) → IsLinked p → (c m : ℕ) → role_of p c Cancel_role ≡ Some m → is_quiet p m ≡ true
+unfolding quiet_in
+quiet_canceller p linked c m e = (role_quiet p linked c m Cancel_role (λ kind d shape. shape.flags) e).quiet
+
+-- and comes before what cancels by it
+pub canceller_before :
+    (p : Image) → IsLinked p → (m place : ℕ) (d : Method) (c m' : ℕ) → method_at p m ≡ Some d → slice_get d.code place ≡ Some Cancel → d.class ≡ Some c → role_of p c Cancel_role ≡ Some m' →
+    m' < m
+unfolding method_at role_of
+canceller_before p linked m place d c m' is stands class e =
+    let runs = runs_below p linked m place d Cancel is stands in
+    let below : AllBelow p.methods m c Cancel_role = subst (λ o. IfSome o (λ c. AllBelow p.methods m c Cancel_role)) class runs in
+    let w = found (plays c Cancel_role) p.methods m' e in
+    let here : IfSome (Some w.0) (λ d. IsTrue (plays c Cancel_role d) → m' < m) = subst (λ o. IfSome o (λ d. IsTrue (plays c Cancel_role d) → m' < m)) w.1 (below m') in
+    here w.2
