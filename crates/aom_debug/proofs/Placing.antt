@@ -7,8 +7,8 @@ use Rattle.aom_transcript.specs.Text.{ended}
 use Rattle.aom_parts.specs.Stands.{Machine, StandsFor}
 use Rattle.aom_debug_courses.specs.Runs.{after}
 use Rattle.aom_debug_courses.proofs.Sending.{after_both, cut_next, cut_short}
-use Rattle.aom_debug_lines.specs.declared.answer.Answer.{Answer}
-use Rattle.aom_debug_lines.specs.Answers.{answer_text}
+use Rattle.aom_debug_words.specs.declared.answer.Answer.{Answer}
+use Rattle.aom_debug_words.specs.Answers.{answer_text}
 use Rattle.aom_debug_views.specs.Next.{next_of}
 use Rattle.aom_debug_words.specs.declared.fault.DebugFault.{DebugFault}
 use Rattle.aom_debug_sights.specs.Telling.{IsCut, Tells, TellsPart}

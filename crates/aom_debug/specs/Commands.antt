@@ -9,9 +9,9 @@ use Rattle.aom_sound.specs.State.{State}
 use Rattle.aom_transcript.specs.declared.line.Line.{Line}
 use Rattle.aom_transcript.specs.declared.line.Ending.{Ending}
 use Rattle.aom_transcript.specs.Text.{end_text, ended, text_of}
-use Rattle.aom_debug_marks.specs.Marks.{is_set}
-use Rattle.aom_debug_marks.specs.declared.spot.Spot.{Spot}
-use Rattle.aom_debug_lines.specs.Answers.{answer_text}
+use Rattle.aom_debug_words.specs.Marks.{is_set}
+use Rattle.aom_debug_words.specs.declared.spot.Spot.{Spot}
+use Rattle.aom_debug_words.specs.Answers.{answer_text}
 use Rattle.aom_debug_views.specs.Next.{next_of}
 use Rattle.aom_debug_sights.specs.Actives.{InOrderOfChoice, active_answers}
 use Rattle.aom_debug_sights.specs.Owners.{owners, owners_text}

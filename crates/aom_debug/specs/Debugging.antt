@@ -10,10 +10,10 @@ use Rattle.aom_debug_courses.specs.Runs.{after}
 use Rattle.aom_debug_courses.specs.Movers.{outside_of}
 use Rattle.aom_debug_words.specs.declared.fault.DebugFault.{DebugFault}
 use Rattle.aom_debug_words.specs.declared.fault.DebugFault.TheVariants.{BadCommand, NoSuch, Ended, OutOfMemory, WriteFault}
-use Rattle.aom_debug_marks.specs.Marks.{is_set, with_spot}
-use Rattle.aom_debug_marks.specs.declared.spot.Spot.{Spot}
-use Rattle.aom_debug_lines.specs.declared.answer.Answer.TheVariants.{Done}
-use Rattle.aom_debug_lines.specs.Answers.{answer_text}
+use Rattle.aom_debug_words.specs.Marks.{is_set, with_spot}
+use Rattle.aom_debug_words.specs.declared.spot.Spot.{Spot}
+use Rattle.aom_debug_words.specs.declared.answer.Answer.TheVariants.{Done}
+use Rattle.aom_debug_words.specs.Answers.{answer_text}
 use Rattle.aom_debug_courses.specs.Courses.{Courses, course_of}
 use Rattle.aom_debug_courses.specs.declared.courses.Course.{Course}
 use Rattle.aom_debug_courses.specs.declared.courses.Course.TheVariants as course

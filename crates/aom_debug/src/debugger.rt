@@ -8,10 +8,8 @@ ghost use Rattle.aom_debug.specs.Debugging.{GivesUp, Goes, Runs, Sets, SetsAt, S
 use crate::marking::spot_named;
 use crate::showing::tell_place;
 use aom_debug_courses::{Course, Mover, Progress, Sink, go};
-use aom_debug_lines::Answer;
-use aom_debug_marks::{Breakpoints, Spot};
 use aom_debug_sights::tell;
-use aom_debug_words::DebugFault;
+use aom_debug_words::{Answer, Breakpoints, DebugFault, Spot};
 use aom_natives::Native;
 use aom_text::Number;
 

@@ -20,7 +20,7 @@ use Rattle.aom_debug_moves.specs.Runs.{Moving, after, begins as stays_there}
 use Rattle.aom_debug_moves.proofs.Reaching.{reaches_both, reaches_then}
 use Rattle.aom_debug_moves.proofs.Keeping.{heard_as}
 use Rattle.aom_debug_moves.proofs.Sending.{after_none, breaks_then, moving_stride, reaches_arrived, sends_then, sent_both}
-use Rattle.aom_debug_marks.specs.declared.spot.Spot.{Spot}
+use Rattle.aom_debug_words.specs.declared.spot.Spot.{Spot}
 use Rattle.aom_debug_moves.specs.Moves.{Arrives, Strides}
 use Rattle.aom_debug_courses.specs.Courses.{Courses, Goes, GoesBy, IsOver}
 use Rattle.aom_debug_courses.specs.Courses.Goes.{begins, strides}

@@ -19,7 +19,7 @@ use Rattle.aom_debug_moves.specs.Sends.{Machine, Sends, Then}
 use Rattle.aom_debug_moves.specs.Runs.{Moving}
 use Rattle.aom_debug_moves.specs.Turns.{LeadTo}
 use Rattle.aom_debug_moves.proofs.Spared.{moving_spares}
-use Rattle.aom_debug_marks.specs.declared.spot.Spot.{Spot}
+use Rattle.aom_debug_words.specs.declared.spot.Spot.{Spot}
 use Rattle.aom_debug_moves.specs.Moves.{Arrives, TurnsOnce, stays as no_turns, turns}
 use Rattle.aom_debug_courses.specs.Courses.{InDispatch, IsOver, Rests, WalksOn, WalksThere}
 use Rattle.aom_debug_courses.proofs.Passing.{running_of}

@@ -18,7 +18,7 @@ use Rattle.aom_debug_moves.specs.Movers.{Keeps, outside_of}
 use Rattle.aom_debug_moves.specs.declared.mover.Mover.{Mover}
 use Rattle.aom_debug_moves.specs.Runs.{Moving, after}
 use Rattle.aom_debug_moves.proofs.Reaching.{reaches_both}
-use Rattle.aom_debug_marks.specs.declared.spot.Spot.{Spot}
+use Rattle.aom_debug_words.specs.declared.spot.Spot.{Spot}
 use Rattle.aom_debug_moves.specs.Moves.{Arrives, Strides, TurnsOnce, stays as no_turns, turns}
 use Rattle.aom_debug_moves.proofs.Keeping.{heard_as}
 use Rattle.aom_debug_moves.proofs.Sending.{breaks_then, moving_stride, reaches_arrived, sent_both}

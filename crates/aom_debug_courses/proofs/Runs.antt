@@ -7,7 +7,7 @@ use Rattle.aom_transcript.specs.declared.line.Line.{Line}
 use Rattle.aom_debug_moves.specs.Steps.{IsAtHand}
 use Rattle.aom_debug_moves.proofs.Reaching.{reaches_both}
 use Rattle.aom_debug_views.specs.Next.{root_is_due}
-use Rattle.aom_debug_marks.specs.declared.spot.Spot.{Spot}
+use Rattle.aom_debug_words.specs.declared.spot.Spot.{Spot}
 use Rattle.aom_debug_moves.specs.Sends.{Leads}
 use Rattle.aom_debug_moves.proofs.Sending.{reaches_arrived}
 use Rattle.aom_debug_courses.specs.Courses.{GoesBy, GoesOn, IsOver, Rests, TurnsOver, WalksThere, course_of, stays_at}

@@ -17,7 +17,7 @@ use Rattle.aom_debug_moves.specs.Runs.{Moving, after, begins as stays_there}
 use Rattle.aom_debug_moves.proofs.Reaching.{moving_both}
 use Rattle.aom_debug_moves.proofs.Keeping.{begun_as}
 use Rattle.aom_debug_moves.proofs.Sending.{after_none, breaks_then, moving_stride, sent_both}
-use Rattle.aom_debug_marks.specs.declared.spot.Spot.{Spot}
+use Rattle.aom_debug_words.specs.declared.spot.Spot.{Spot}
 use Rattle.aom_debug_moves.specs.Moves.{Strides}
 use Rattle.aom_debug_courses.specs.Courses.{Courses, IsThere, Walks, WalksIfAny, WalksOn, WalksThere, WalksUnless}
 use Rattle.aom_debug_courses.specs.Courses.Walks.{begins, strides}

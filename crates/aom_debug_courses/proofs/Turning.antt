@@ -18,7 +18,7 @@ use Rattle.aom_debug_moves.specs.Runs.{Moving, after}
 use Rattle.aom_debug_moves.proofs.Reaching.{reaches_both}
 use Rattle.aom_debug_moves.proofs.Keeping.{begun_as}
 use Rattle.aom_debug_moves.proofs.Sending.{after_none, breaks_then, reaches_arrived, sent_both}
-use Rattle.aom_debug_marks.specs.declared.spot.Spot.{Spot}
+use Rattle.aom_debug_words.specs.declared.spot.Spot.{Spot}
 use Rattle.aom_debug_moves.specs.Moves.{Arrives}
 use Rattle.aom_debug_courses.specs.Courses.{Courses, InDispatch}
 use Rattle.aom_debug_courses.proofs.Going.{cut_run, is_over}

@@ -6,8 +6,8 @@ ghost use Rattle.aom_debug_courses.specs.Courses.{GoesBy, GoesToBreakpoint, InDi
 ghost use Rattle.aom_debug_courses.specs.declared.walking.Until.TheVariants.{Breakpoint};
 
 use crate::walking::{Until, is_idle, is_there, walk, walk_unless};
-use aom_debug_marks::Breakpoints;
 use aom_debug_moves::{Mover, Progress, Sink, arrive, stride};
+use aom_debug_words::Breakpoints;
 use aom_natives::Native;
 
 /// How far a debugger goes on, if the run does not end before.

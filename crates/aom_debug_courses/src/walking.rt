@@ -10,9 +10,9 @@ ghost use Rattle.aom_debug_views.specs.Next.{next_of, root_is_due, spot_of};
 ghost use Rattle.aom_debug_moves.specs.Movers.{IsReady, Keeps, Went};
 ghost use Rattle.aom_debug_courses.specs.Courses.{WalksThere, WalksUnless, is_broken, stays_at};
 
-use aom_debug_marks::Breakpoints;
 use aom_debug_moves::{Machine, Mover, Progress, Sink, stride};
 use aom_debug_views::{is_due, spot_at};
+use aom_debug_words::Breakpoints;
 use aom_natives::Native;
 
 /// Where steps end, if not before.

@@ -1,6 +1,6 @@
 -- What a debugger's moves are to a run.
 use Rattle.std.specs.Prelude.{ℕ, List}
-use Rattle.aom_debug_marks.specs.declared.spot.Spot.{Spot}
+use Rattle.aom_debug_words.specs.declared.spot.Spot.{Spot}
 use Rattle.aom_image.specs.Image.{Image}
 use Rattle.aom_sound.specs.State.{State}
 use Rattle.aom_sound.specs.World.{Outside, Reaches}

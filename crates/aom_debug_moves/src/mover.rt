@@ -1,5 +1,5 @@
 //! A machine that moves under a script.
-use aom_debug_marks::Recent;
+use aom_debug_words::Recent;
 use aom_lines::Turn;
 use aom_machine::Machine;
 use aom_script::Script;

@@ -13,8 +13,8 @@ ghost use Rattle.aom_debug_moves.specs.Moves.{StepsOnce, Strides, noted};
 ghost use Rattle.aom_debug_moves.specs.Sends.{IfSo};
 
 use crate::Mover;
-use aom_debug_marks::Recent;
 use aom_debug_views::{is_due, pauses, spot_at};
+use aom_debug_words::Recent;
 use aom_exec::Progress;
 use aom_lines::Turn;
 use aom_machine::Machine;

@@ -14,9 +14,9 @@ use Rattle.aom_parts.specs.Stands.{StandsFor}
 use Rattle.aom_run.specs.Runs.{after}
 use Rattle.aom_transcript.specs.Text.{ended}
 use Rattle.aom_debug_words.specs.declared.fault.DebugFault.{DebugFault}
-use Rattle.aom_debug_lines.specs.Answers.{answer_text}
-use Rattle.aom_debug_lines.specs.declared.answer.Answer.{Answer}
-use Rattle.aom_debug_lines.specs.declared.answer.Answer.TheVariants.{Cells}
+use Rattle.aom_debug_words.specs.Answers.{answer_text}
+use Rattle.aom_debug_words.specs.declared.answer.Answer.{Answer}
+use Rattle.aom_debug_words.specs.declared.answer.Answer.TheVariants.{Cells}
 use Rattle.aom_debug_sights.specs.Telling.{IsCut, Tells, TellsPart, answers_text}
 use Rattle.aom_debug_sights.specs.Sights.{class_in, class_of, count_class, counted, is_class}
 use Rattle.aom_debug_sights.proofs.Showing.{class_named}

@@ -24,8 +24,8 @@ use Rattle.aom_parts.specs.Serving.{asked_by}
 use Rattle.aom_parts.specs.Stands.{Machine, StandsFor}
 use Rattle.aom_run.specs.Runs.{after}
 use Rattle.aom_debug_words.specs.declared.fault.DebugFault.{DebugFault}
-use Rattle.aom_debug_lines.specs.declared.answer.Answer.{Answer}
-use Rattle.aom_debug_lines.specs.declared.answer.Answer.TheVariants.{Active, Server}
+use Rattle.aom_debug_words.specs.declared.answer.Answer.{Answer}
+use Rattle.aom_debug_words.specs.declared.answer.Answer.TheVariants.{Active, Server}
 use Rattle.aom_debug_sights.specs.Actives.{InOrderOfChoice, TellsActives, TellsActivesPart, active_answer, active_answers, active_at, active_of, serves, shown_phase}
 use Rattle.aom_debug_sights.specs.Sights.{class_of}
 use Rattle.aom_debug_sights.specs.Telling.{Tells, TellsPart, answers_text, gathered, listed}

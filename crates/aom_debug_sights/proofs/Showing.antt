@@ -21,7 +21,7 @@ use Rattle.aom_parts.specs.Agrees.{SameItem, SameItems, number, thing_in, thing_
 use Rattle.aom_parts.specs.Stands.{StandsFor}
 use Rattle.aom_parts.proofs.Alike.{by_items}
 use Rattle.aom_parts.proofs.Entries.{same_items_length}
-use Rattle.aom_debug_lines.specs.declared.answer.Answer.{Answer}
+use Rattle.aom_debug_words.specs.declared.answer.Answer.{Answer}
 use Rattle.aom_debug_sights.proofs.Over.{BothOver, one_over}
 use Rattle.aom_debug_sights.specs.Owners.{entries_of, is_entry}
 use Rattle.aom_debug_sights.specs.Sights.{class_in, class_of, held_answer, item_answer}

@@ -10,10 +10,10 @@ use Rattle.aom_parts.specs.Stands.{Machine, StandsFor}
 use Rattle.aom_run.specs.Runs.{after}
 use Rattle.aom_debug_words.specs.declared.fault.DebugFault.{DebugFault}
 use Rattle.aom_debug_words.specs.declared.fault.DebugFault.TheVariants.{WriteFault}
-use Rattle.aom_debug_lines.specs.declared.answer.Answer.{Answer}
-use Rattle.aom_debug_lines.specs.declared.answer.Answer.TheVariants.{Active, Server}
-use Rattle.aom_debug_lines.specs.declared.answer.Phase.{Phase as Shown_phase}
-use Rattle.aom_debug_lines.specs.declared.answer.Phase.TheVariants as shown
+use Rattle.aom_debug_words.specs.declared.answer.Answer.{Answer}
+use Rattle.aom_debug_words.specs.declared.answer.Answer.TheVariants.{Active, Server}
+use Rattle.aom_debug_words.specs.declared.answer.Phase.{Phase as Shown_phase}
+use Rattle.aom_debug_words.specs.declared.answer.Phase.TheVariants as shown
 use Rattle.aom_debug_sights.specs.Sights.{class_of}
 use Rattle.aom_debug_sights.specs.Telling.{answers_text, listed}
 

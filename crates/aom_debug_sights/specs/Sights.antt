@@ -10,9 +10,9 @@ use Rattle.aom_cleanup.specs.declared.item.Item.TheVariants.{Object as Holds_obj
 use Rattle.aom_sound.specs.Owned.{over}
 use Rattle.aom_sound.specs.Places.{Cell, Entry, Object, count_cells, held}
 use Rattle.aom_sound.specs.State.{A_mark, An_object, An_operation, Item, State}
-use Rattle.aom_debug_marks.specs.declared.spot.Spot.{Spot}
-use Rattle.aom_debug_lines.specs.declared.answer.Answer.{Answer}
-use Rattle.aom_debug_lines.specs.declared.answer.Answer.TheVariants.{Cells, OfClass, Object as Object_answer, Operation, Ran, Trap}
+use Rattle.aom_debug_words.specs.declared.spot.Spot.{Spot}
+use Rattle.aom_debug_words.specs.declared.answer.Answer.{Answer}
+use Rattle.aom_debug_words.specs.declared.answer.Answer.TheVariants.{Cells, OfClass, Object as Object_answer, Operation, Ran, Trap}
 use Rattle.aom_debug_sights.specs.Telling.{gathered, listed}
 
 -- ---- classes

@@ -7,8 +7,8 @@ use Rattle.aom_parts.specs.Stands.{Machine, StandsFor}
 use Rattle.aom_run.specs.Runs.{after}
 use Rattle.aom_debug_words.specs.declared.fault.DebugFault.{DebugFault}
 use Rattle.aom_debug_words.specs.declared.fault.DebugFault.TheVariants.{WriteFault}
-use Rattle.aom_debug_lines.specs.declared.answer.Answer.{Answer}
-use Rattle.aom_debug_lines.specs.Answers.{answer_text}
+use Rattle.aom_debug_words.specs.declared.answer.Answer.{Answer}
+use Rattle.aom_debug_words.specs.Answers.{answer_text}
 
 -- what the first so many give, in order
 abbrev pub gathered : {A : Type 0} → (ℕ → List A) → ℕ → List A

@@ -9,8 +9,7 @@ ghost use Rattle.aom_debug_sights.specs.Actives.{TellsActives, TellsActivesPart,
 
 use crate::cleanup::class_of;
 use crate::sending::tell_any;
-use aom_debug_lines::{Answer, Phase};
-use aom_debug_words::DebugFault;
+use aom_debug_words::{Answer, DebugFault, Phase};
 use aom_parts::Parts;
 use aom_requests::State;
 use aom_run::Sink;

@@ -5,14 +5,13 @@ ghost use Rattle.aom_image.specs.Image.{Image};
 ghost use Rattle.aom_parts.specs.Stands.{StandsFor};
 ghost use Rattle.aom_sound.specs.Owned.{over};
 ghost use Rattle.aom_sound.specs.State.{State};
-ghost use Rattle.aom_debug_lines.specs.declared.answer.Answer.TheVariants.{Object};
+ghost use Rattle.aom_debug_words.specs.declared.answer.Answer.TheVariants.{Object};
 ghost use Rattle.aom_debug_sights.specs.Sights.{cleanup_answers, held_answer, item_answer};
 ghost use Rattle.aom_debug_sights.specs.Telling.{Tells, TellsPart, answers_text};
 
 use crate::sending::tell_any;
 use aom_cleanup::Item;
-use aom_debug_lines::Answer;
-use aom_debug_words::DebugFault;
+use aom_debug_words::{Answer, DebugFault};
 use aom_parts::Parts;
 use aom_run::Sink;
 

@@ -1,14 +1,12 @@
 //! The latest instructions.
 ghost use Rattle.std.specs.Prelude.{◌≡◌, IfErr, IfOk, option_map, slice_get};
 ghost use Rattle.aom_run.specs.Runs.{after};
-ghost use Rattle.aom_debug_lines.specs.declared.answer.Answer.TheVariants.{Ran};
+ghost use Rattle.aom_debug_words.specs.declared.answer.Answer.TheVariants.{Ran};
 ghost use Rattle.aom_debug_sights.specs.Sights.{recent_answers};
 ghost use Rattle.aom_debug_sights.specs.Telling.{IsCut, answers_text};
 
 use crate::sending::tell_any;
-use aom_debug_lines::Answer;
-use aom_debug_marks::Recent;
-use aom_debug_words::DebugFault;
+use aom_debug_words::{Answer, DebugFault, Recent};
 use aom_run::Sink;
 
 /// The place at an index, from the oldest, as it is told.

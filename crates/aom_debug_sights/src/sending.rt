@@ -2,11 +2,10 @@
 ghost use Rattle.std.specs.Prelude.{◌≡◌, IfErr, IfOk};
 ghost use Rattle.aom_transcript.specs.Text.{ended};
 ghost use Rattle.aom_run.specs.Runs.{after};
-ghost use Rattle.aom_debug_lines.specs.Answers.{answer_text};
+ghost use Rattle.aom_debug_words.specs.Answers.{answer_text};
 ghost use Rattle.aom_debug_sights.specs.Telling.{IsCut, answers_text, listed};
 
-use aom_debug_lines::{Answer, line_of};
-use aom_debug_words::DebugFault;
+use aom_debug_words::{Answer, DebugFault, line_of};
 use aom_run::{Sink, write_text};
 
 /// Writes a text. It is a write fault where the sink fails.

@@ -32,8 +32,8 @@ use Rattle.aom_parts.proofs.Alike.{Alike, alike, both_close, both_end, both_go, 
 use Rattle.aom_acts.specs.Going.{ending_here}
 use Rattle.aom_acts.proofs.Firsts.{ClosesOver, closing_found, found_session, its_session, no_session, session_lives}
 use Rattle.aom_acts.proofs.Running.{nothing_held, object_lives_at, object_there}
-use Rattle.aom_debug_lines.specs.declared.answer.Answer.{Answer}
-use Rattle.aom_debug_lines.specs.declared.answer.Answer.TheVariants.{At, Gone}
+use Rattle.aom_debug_words.specs.declared.answer.Answer.{Answer}
+use Rattle.aom_debug_words.specs.declared.answer.Answer.TheVariants.{At, Gone}
 use Rattle.aom_debug_views.specs.Next.{GoesFirst, begins_by, destroyed_under, destruction_by, destruction_of, ends_all_in, first_number, goes_first, gone_by, going_of, is_last_in, next_in}
 
 -- what goes is on top

@@ -16,9 +16,9 @@ use Rattle.aom_clients.specs.Clients.{first_there, sessions_at}
 use Rattle.aom_frames.specs.declared.task.Task.{Task as Held_task}
 use Rattle.aom_frames.specs.declared.task.Task.TheVariants.{Destroy as Destroys}
 use Rattle.aom_parts.specs.declared.parts.Parts.{Parts}
-use Rattle.aom_debug_marks.specs.declared.spot.Spot.{Spot}
-use Rattle.aom_debug_lines.specs.declared.answer.Answer.{Answer}
-use Rattle.aom_debug_lines.specs.declared.answer.Answer.TheVariants.{At, Gone, Between, Ended}
+use Rattle.aom_debug_words.specs.declared.spot.Spot.{Spot}
+use Rattle.aom_debug_words.specs.declared.answer.Answer.{Answer}
+use Rattle.aom_debug_words.specs.declared.answer.Answer.TheVariants.{At, Gone, Between, Ended}
 
 -- ---- destructions
 

@@ -11,13 +11,12 @@ ghost use Rattle.aom_parts.specs.Places.{IsClosing, IsDestroying, going_here};
 ghost use Rattle.aom_parts.specs.Stands.{Stands, StandsFor};
 ghost use Rattle.aom_sound.specs.Places.{Elsewhere, Place, Root, held};
 ghost use Rattle.aom_sound.specs.State.{State};
-ghost use Rattle.aom_debug_lines.specs.declared.answer.Answer.TheVariants.{At};
+ghost use Rattle.aom_debug_words.specs.declared.answer.Answer.TheVariants.{At};
 ghost use Rattle.aom_debug_views.specs.Next.{GoesFirst, begins_by, destroyed_under, destruction_of, next_in, next_of, spot_of};
 
 use aom_cells::NULL;
 use aom_classes::Linked;
-use aom_debug_lines::Answer;
-use aom_debug_marks::Spot;
+use aom_debug_words::{Answer, Spot};
 use aom_frames::{Task, TaskKind};
 use aom_image::{ClassNumber, Role};
 use aom_parts::Parts;

@@ -1,3 +1,5 @@
+pub mod Answers
+pub mod Marks
 pub mod Commands
 pub mod Faults
 pub mod Lines

@@ -1,15 +1,29 @@
-//! The words of a debugger: what a line of its input says, and why a command is refused.
+//! The words of a debugger: what a line of its input says, why a command is refused, by what lines it answers, and the marks
+//! that it keeps beside its machine.
 //!
 //! `read_command` answers just what a line says by `specs/Commands.antt`: a command with its numbers, nothing where the line has no
 //! word, or that it is bad. `Pending` keeps the line that is not yet whole, in the 256 bytes that a line may have, and gives just the
-//! lines of the text that came (`specs/Lines.antt`), however it is cut into parts.
-//! Nothing here takes memory, by signature. It knows nothing of machines.
+//! lines of the text that came (`specs/Lines.antt`), however it is cut into parts. An `Answer` is a line as a value, and `line_of`
+//! spells it just as `specs/Answers.antt` does, in a buffer of its own. `Breakpoints` has at most sixteen places and none twice, and
+//! `Recent` the latest sixteen of all places that were noted (`specs/Marks.antt`).
+//! After `Recent::new` nothing here takes memory, by signature. It knows nothing of machines and images: methods, classes and places
+//! are numbers.
 #![tactic(auto)]
 
+mod answer;
+mod breakpoints;
 mod command;
 mod fault;
+mod line;
 mod pending;
+mod recent;
+mod spot;
 
+pub use answer::{Answer, Phase};
+pub use breakpoints::Breakpoints;
 pub use command::{Command, read_command};
 pub use fault::DebugFault;
+pub use line::{AnswerLine, line_of};
 pub use pending::Pending;
+pub use recent::{Recent, notes_keep_latest};
+pub use spot::Spot;

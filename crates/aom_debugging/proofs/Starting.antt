@@ -8,7 +8,7 @@ use Rattle.aom_machine.specs.declared.machine.Machine.{Machine}
 use Rattle.aom_debug.specs.Movers.{outside_of}
 use Rattle.aom_debug_moves.specs.declared.mover.Mover.{Mover}
 use Rattle.aom_debug.specs.Turns.{hearing}
-use Rattle.aom_debug_marks.specs.declared.spot.Spot.{Spot}
+use Rattle.aom_debug_words.specs.declared.spot.Spot.{Spot}
 use Rattle.aom_script.specs.Script.{Script}
 use Rattle.aom_debug.specs.declared.debugger.Debugger.{Debugger}
 use Rattle.aom_main.proofs.Tries.{has_enough}

@@ -12,10 +12,10 @@ use Rattle.aom_debug_words.specs.declared.command.Command.{Command}
 use Rattle.aom_debug_words.specs.declared.command.Command.TheVariants.{Step, Turn, Go, Break, Cells, Owners, Cleanup, Actives, Recent}
 use Rattle.aom_debug_words.specs.declared.fault.DebugFault.{DebugFault}
 use Rattle.aom_debug_words.specs.declared.fault.DebugFault.TheVariants as faults
-use Rattle.aom_debug_marks.specs.Marks.{is_set, with_spot}
-use Rattle.aom_debug_marks.specs.declared.spot.Spot.{Spot}
-use Rattle.aom_debug_lines.specs.declared.answer.Answer.TheVariants.{Done, Fault}
-use Rattle.aom_debug_lines.specs.Answers.{answer_text}
+use Rattle.aom_debug_words.specs.Marks.{is_set, with_spot}
+use Rattle.aom_debug_words.specs.declared.spot.Spot.{Spot}
+use Rattle.aom_debug_words.specs.declared.answer.Answer.TheVariants.{Done, Fault}
+use Rattle.aom_debug_words.specs.Answers.{answer_text}
 use Rattle.aom_debug.specs.Courses.{Courses, GoesBy, GoesToBreakpoint, TurnsOver}
 use Rattle.aom_debug.specs.Commands.{NamesNoRoom, ShowsActives, ShowsCells, ShowsCleanup, ShowsOwners, ShowsRecent, is_count, moved_text, spot_named}
 

@@ -12,8 +12,7 @@ ghost use Rattle.aom_debugging.specs.Sessions.{fault_text};
 
 use crate::Reader;
 use aom_debug::{Debugger, Sink, tell};
-use aom_debug_lines::Answer;
-use aom_debug_words::{Command, DebugFault, Pending};
+use aom_debug_words::{Answer, Command, DebugFault, Pending};
 use aom_main::Fault;
 use aom_natives::Native;
 

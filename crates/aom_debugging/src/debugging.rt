@@ -19,7 +19,7 @@ use crate::Reader;
 use crate::conversing::converse;
 use aom_budget::Accepted;
 use aom_debug::{Debugger, Mover, Sink};
-use aom_debug_marks::Recent;
+use aom_debug_words::Recent;
 use aom_lines::Turn;
 use aom_machine::Machine;
 use aom_main::{ExitStatus, Fault, accept_bytes, tell};

@@ -1,1 +1,3 @@
+pub mod GraphGrowing
+pub mod Going
 pub mod Growing

@@ -9,7 +9,7 @@ use Rattle.aom_image.specs.WellFormed.{WellFormed}
 use Rattle.aom_asm.specs.Denoted.{denoted}
 use Rattle.aom_asm.proofs.Steps.{no_ok}
 use Rattle.aom_listing.specs.Listing.{listing_text}
-use Rattle.aom_readback.proofs.Assembling.{listing_assembles}
+use Rattle.aom_meaning.proofs.Assembling.{listing_assembles}
 use Rattle.aom_meaning.specs.Denotes.{Denotes}
 use Rattle.aom_meaning.proofs.Denoting.{denotes_read, read_denotes}
 use Rattle.aom_main.specs.Status.{of_asm, of_asm_kind}

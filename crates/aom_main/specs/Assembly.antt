@@ -7,7 +7,7 @@ use Rattle.aom_codec.specs.declared.fault.LoadFault.{LoadFault}
 use Rattle.aom_text.specs.declared.fault.AsmFault.{AsmFault}
 use Rattle.aom_asm.specs.Denoted.{denoted}
 use Rattle.aom_listing.specs.Listing.{listing_text}
-use Rattle.aom_readback.specs.Texts.{AllSayQuiet}
+use Rattle.aom_meaning.specs.Texts.{AllSayQuiet}
 use Rattle.aom_meaning.specs.Denotes.{Denotes}
 use Rattle.aom_main.specs.declared.faults.Fault.{Fault}
 use Rattle.aom_main.specs.declared.faults.Fault.TheVariants.{Asm, Load, Memory}

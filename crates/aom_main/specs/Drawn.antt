@@ -4,7 +4,7 @@ use Rattle.aom_image.specs.Image.{Image}
 use Rattle.aom_classes.specs.Linked.{IsLinked}
 use Rattle.aom_rules.specs.Typing.{Typing, IsTyped}
 use Rattle.aom_budget.specs.Figures.{Figures, AreFigures}
-use Rattle.aom_dot.specs.Dot.{dot_text}
+use Rattle.aom_figures.specs.Dot.{dot_text}
 use Rattle.aom_main.specs.Acceptable.{IsSpelled}
 
 -- the text is the graph of an image with its figures

@@ -17,7 +17,7 @@ use Rattle.aom_syntax.specs.declared.class.Purpose.{Purpose}
 use Rattle.aom_syntax.specs.declared.keyword.Keyword.{Keyword}
 use Rattle.aom_syntax.specs.declared.scope.Scope.{Scope}
 use Rattle.aom_asm.proofs.Counting.{begins_with}
-use Rattle.aom_readback.proofs.Readings.{Takes, Whole, done, first, first_two, gives, in_turn, last, made, takes_any_keyword, takes_keyword, takes_flag}
+use Rattle.aom_meaning.proofs.Readings.{Takes, Whole, done, first, first_two, gives, in_turn, last, made, takes_any_keyword, takes_keyword, takes_flag}
 use Rattle.aom_meaning.specs.Meaning.{ClassMeans, IsBudget, IsList, IsNumber, IsNumbered, IsThing, KindMeans, Names, ProviderMeans, SaidOr}
 use Rattle.aom_meaning.specs.Source.{ClassText, KindText, ProviderText, class_words, kind_words, part, provider_words}
 use Rattle.aom_meaning.proofs.Pieces.{NotNext, none_left, not_part, reads_part, saw, saw_keyword, saw_part, saw_used, takes_seen, then_reads, Part, not_last}
@@ -25,7 +25,7 @@ use Rattle.aom_meaning.proofs.Declared.{reads_mark, saw_declared, saw_mark, take
 use Rattle.aom_meaning.proofs.Headers.{number_reads}
 use Rattle.aom_meaning.proofs.Sound.{Sound, giving_sound, next_sound}
 use Rattle.aom_meaning.proofs.Words.{LooksUp, list_means, list_reads, takes_class, thing_means, thing_reads, told}
-use Rattle.aom_readback.proofs.Classes.{purpose_of}
+use Rattle.aom_meaning.proofs.ClassesBack.{purpose_of}
 use Rattle.aom_ranges.proofs.Within.{ok_is}
 use Rattle.aom_image.specs.declared.class.ClassKind.TheVariants as kinds
 use Rattle.aom_image.specs.declared.class.Provider.TheVariants as providers

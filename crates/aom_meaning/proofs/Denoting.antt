@@ -17,12 +17,12 @@ use Rattle.aom_asm.specs.Body.{Program}
 use Rattle.aom_asm.specs.Denoted.{and_then, at_line, denoted, image_of, last_line_of, opened, read_program, read_rest, read_statements, scope_of}
 use Rattle.aom_asm.proofs.Images.{reads_well}
 use Rattle.aom_asm.proofs.Steps.{steps_then}
-use Rattle.aom_readback.specs.Naming.{heading_of}
-use Rattle.aom_readback.specs.Texts.{all_words}
+use Rattle.aom_meaning.specs.Naming.{heading_of}
+use Rattle.aom_meaning.specs.Texts.{all_words}
 use Rattle.aom_ranges.proofs.Within.{ok_is, passed}
-use Rattle.aom_readback.proofs.Following.{Goes, first_of}
-use Rattle.aom_readback.proofs.Parts.{read_so_far, spelled}
-use Rattle.aom_readback.proofs.Wholes.{none_left}
+use Rattle.aom_meaning.proofs.Following.{Goes, first_of}
+use Rattle.aom_meaning.proofs.Parts.{read_so_far, spelled}
+use Rattle.aom_meaning.proofs.WholesBack.{none_left}
 use Rattle.aom_meaning.specs.Denotes.{Denotes, names_of}
 use Rattle.aom_meaning.specs.Meaning.{ClassMeans, DeclaredOnce, HeaderMeans, MethodMeans, Names, Pairwise}
 use Rattle.aom_meaning.specs.Source.{ClassText, MethodText, Source, classes_of, declared_statements, methods_of, source_statements}

@@ -26,9 +26,9 @@ use Rattle.aom_instructions.specs.declared.mnemonic.Mnemonic.{Mnemonic}
 use Rattle.aom_asm.proofs.Counting.{found_passes}
 use Rattle.aom_ranges.proofs.Names.{at_place}
 use Rattle.aom_ranges.proofs.Within.{ok_is, passed, steps, saw_word}
-use Rattle.aom_readback.proofs.Readings.{Takes, Whole, first, in_turn, last, regroup, sees, takes_word}
-use Rattle.aom_readback.proofs.Statements.{label_cut}
-use Rattle.aom_readback.proofs.Tables.{mnemonic_is_no_label, mnemonic_is_plain, mnemonic_reads}
+use Rattle.aom_meaning.proofs.Readings.{Takes, Whole, first, in_turn, last, regroup, sees, takes_word}
+use Rattle.aom_meaning.proofs.Statements.{label_cut}
+use Rattle.aom_meaning.proofs.Tables.{mnemonic_is_no_label, mnemonic_is_plain, mnemonic_reads}
 use Rattle.aom_meaning.specs.Meaning.{InstructionMeans, Names, lookup}
 use Rattle.aom_meaning.specs.Source.{InstructionText, instruction_words, label_words}
 use Rattle.aom_meaning.proofs.Operands.{operands_follow}

@@ -17,17 +17,17 @@ use Rattle.aom_syntax.specs.declared.keyword.Keyword.TheVariants as k
 use Rattle.aom_instructions.specs.declared.mnemonic.Mnemonic.{Mnemonic}
 use Rattle.aom_instructions.specs.declared.mnemonic.Mnemonic.TheVariants as m
 use Rattle.aom_asm.specs.TextNames.{declared_names, is_end, label_in, label_or_none, labels_of as labels_until, name_after, with_name}
-use Rattle.aom_readback.specs.Texts.{all_words}
-use Rattle.aom_readback.proofs.Statements.{label_cut}
-use Rattle.aom_readback.proofs.Tables.{mnemonic_is_no_label}
-use Rattle.aom_readback.proofs.TextNames.{by_words, by_words_more, declared_by_words}
+use Rattle.aom_meaning.specs.Texts.{all_words}
+use Rattle.aom_meaning.proofs.Statements.{label_cut}
+use Rattle.aom_meaning.proofs.Tables.{mnemonic_is_no_label}
+use Rattle.aom_meaning.proofs.TextNames.{by_words, by_words_more, declared_by_words}
 use Rattle.aom_meaning.specs.Denotes.{names_of}
 use Rattle.aom_meaning.specs.Meaning.{DeclaredOnce, Names, labels_of}
 use Rattle.aom_meaning.specs.Source as source
 use Rattle.aom_meaning.specs.Source.{Declaration, InstructionText, Source, classes_of, declaration_statements, declared_statements, end_words, header_words, instruction_words, label_words, methods_of, source_statements}
 use Rattle.aom_meaning.proofs.Pieces.{NotNext, not_word}
 use Rattle.aom_meaning.proofs.Places.{once_found}
-use Rattle.aom_readback.proofs.Following.{first_of}
+use Rattle.aom_meaning.proofs.Following.{first_of}
 use Rattle.aom_image.proofs.Given.{some_given}
 
 -- ---- what an instruction does not begin with

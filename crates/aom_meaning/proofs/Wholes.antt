@@ -24,11 +24,11 @@ use Rattle.aom_syntax.specs.declared.scope.Scope.{Scope}
 use Rattle.aom_asm.specs.Body.{Body, Program}
 use Rattle.aom_asm.specs.Denoted.{declaration, grown, step, with_instruction, with_method}
 use Rattle.aom_asm.specs.TextNames.{labels_of as labels_until, label_or_none}
-use Rattle.aom_readback.specs.Naming.{heading_of}
-use Rattle.aom_readback.specs.Texts.{all_words}
-use Rattle.aom_readback.proofs.Following.{Goes, arrives, at_seam, goes_on, room, stays, steps}
-use Rattle.aom_readback.proofs.Parts.{few_before, read_so_far, spelled}
-use Rattle.aom_readback.proofs.Readings.{takes_any_keyword}
+use Rattle.aom_meaning.specs.Naming.{heading_of}
+use Rattle.aom_meaning.specs.Texts.{all_words}
+use Rattle.aom_meaning.proofs.Following.{Goes, arrives, at_seam, goes_on, room, stays, steps}
+use Rattle.aom_meaning.proofs.Parts.{few_before, read_so_far, spelled}
+use Rattle.aom_meaning.proofs.Readings.{takes_any_keyword}
 use Rattle.aom_meaning.specs.Meaning.{ClassMeans, DeclaredOnce, HeadingMeans, InstructionMeans, MethodMeans, Names, labels_of}
 use Rattle.aom_meaning.specs.Source as source
 use Rattle.aom_meaning.specs.Source.{ClassText, Declaration, InstructionText, MethodText, class_words, classes_of, declared_statements, end_words, heading_words, instruction_words, kind_words, methods_of, part, promise_words}

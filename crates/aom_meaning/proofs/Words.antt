@@ -22,8 +22,8 @@ use Rattle.aom_syntax.specs.Reading.{◌>>=◌, as_name, name}
 use Rattle.aom_syntax.specs.declared.scope.Scope.{Scope}
 use Rattle.aom_ranges.proofs.Lists.{listed_fits}
 use Rattle.aom_ranges.proofs.Within.{marked_or, ok_is, passed, steps}
-use Rattle.aom_readback.proofs.Lists.{plain_form}
-use Rattle.aom_readback.proofs.Readings.{Takes, sees}
+use Rattle.aom_meaning.proofs.Lists.{plain_form}
+use Rattle.aom_meaning.proofs.Readings.{Takes, sees}
 use Rattle.aom_meaning.specs.Meaning.{Elements, IsArgument, IsList, IsNumbered, IsThing, Names, Pairwise}
 use Rattle.aom_meaning.proofs.Ascii.{plain_list}
 use Rattle.aom_meaning.proofs.Pieces.{Reads, numbered, takes_seen}

@@ -4,7 +4,7 @@ use Rattle.aom_image.specs.Image.{Image}
 use Rattle.aom_image.specs.WellFormed.{WellFormed}
 use Rattle.aom_asm.specs.Denoted.{denoted}
 use Rattle.aom_listing.specs.Listing.{listing_text}
-use Rattle.aom_readback.specs.Texts.{AllSayQuiet}
+use Rattle.aom_meaning.specs.Texts.{AllSayQuiet}
 use Rattle.aom_meaning.specs.Denotes.{Denotes}
 
 -- reading a text gives an image where the text denotes it, and only there; so a text denotes one image at most

@@ -1,3 +1,6 @@
+pub mod ReadbackLaws
+pub mod Naming
+pub mod Texts
 pub mod Source
 pub mod Meaning
 pub mod Denotes

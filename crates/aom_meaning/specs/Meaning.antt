@@ -24,7 +24,7 @@ use Rattle.aom_syntax.specs.Words.{words_operands}
 use Rattle.aom_syntax.specs.declared.scope.Scope.{Scope}
 use Rattle.aom_syntax.specs.declared.method.Heading.{Heading}
 use Rattle.aom_asm.specs.TextNames.{label_or_none}
-use Rattle.aom_readback.specs.Naming.{heading_of}
+use Rattle.aom_meaning.specs.Naming.{heading_of}
 use Rattle.aom_meaning.specs.Source.{Word, HeaderText, ProviderText, by_itself, by_timer, by_native, KindText, plain, session, active, server, ClassText, GivesText, unsaid, nothing, word, own, maybe, left, HeadingText, InstructionText, MethodText}
 
 -- ---- names

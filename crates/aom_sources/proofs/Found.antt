@@ -10,7 +10,7 @@ use Rattle.aom_text.specs.Text.{statements}
 use Rattle.aom_text.specs.declared.text.Statement.{Statement}
 use Rattle.aom_syntax.specs.declared.keyword.Keyword.{Keyword}
 use Rattle.aom_syntax.specs.declared.keyword.Keyword.TheVariants as k
-use Rattle.aom_readback.specs.Texts.{all_words}
+use Rattle.aom_meaning.specs.Texts.{all_words}
 use Rattle.aom_meaning.specs.Denotes.{Denotes, names_of}
 use Rattle.aom_meaning.specs.Meaning.{ClassMeans, InstructionMeans, MethodMeans, labels_of}
 use Rattle.aom_meaning.specs.Source.{InstructionText, MethodText, class_words, classes_of, declared_statements, header_words, instruction_words, methods_of}

@@ -8,8 +8,8 @@ use Rattle.aom_scheduler.specs.declared.entry.Entry.{Entry}
 use Rattle.aom_image.specs.Image.{Image}
 use Rattle.aom_sound.specs.State.{State}
 use Rattle.aom_parts.specs.declared.parts.Parts.{Parts}
-use Rattle.aom_debug_lines.specs.Answers.{answer_text}
-use Rattle.aom_debug_lines.specs.declared.answer.Answer.{Answer}
+use Rattle.aom_debug_words.specs.Answers.{answer_text}
+use Rattle.aom_debug_words.specs.declared.answer.Answer.{Answer}
 use Rattle.aom_debug_sights.specs.Actives.{active_at}
 use Rattle.aom_debug_sights.specs.Telling.{listed}
 use Rattle.aom_debug_sights.proofs.Enlisted.{actives_cut, actives_told, names_of}

@@ -1,6 +1,6 @@
 -- A class that has no object has no line.
 use Rattle.std.proofs.Common.{◌≡◌, ◌∙◌, ◌≢◌, ℕ, zero, suc, Some, ap, refl, sym}
-use Rattle.aom_debug_lines.specs.declared.answer.Answer.TheVariants.{OfClass}
+use Rattle.aom_debug_words.specs.declared.answer.Answer.TheVariants.{OfClass}
 use Rattle.aom_debug_sights.specs.Sights.{class_answer}
 use Rattle.aom_debug_sights.proofs.cells.class_answer.Goals as goal
 

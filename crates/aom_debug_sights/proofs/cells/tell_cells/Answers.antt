@@ -3,8 +3,8 @@ use Rattle.std.proofs.Common.{◌≡◌, ◌∙◌, ℕ, List, ap, length}
 use Rattle.std.proofs.lemmas.Result.{IfErr-weaker, IfOk-weaker, err_from_is_err_and}
 use Rattle.aom_image.specs.Image.{Image}
 use Rattle.aom_transcript.specs.Text.{ended}
-use Rattle.aom_debug_lines.specs.Answers.{answer_text}
-use Rattle.aom_debug_lines.specs.declared.answer.Answer.{Answer}
+use Rattle.aom_debug_words.specs.Answers.{answer_text}
+use Rattle.aom_debug_words.specs.declared.answer.Answer.{Answer}
 use Rattle.aom_debug_sights.specs.Sights.{first_classes}
 use Rattle.aom_debug_sights.proofs.Counting.{all_cells, count_cut, count_told}
 use Rattle.aom_debug_sights.proofs.Telling.{cut_first, cut_later, tells_both}

@@ -4,8 +4,8 @@ use Rattle.std.proofs.lemmas.Result.{err_from_is_err_and}
 use Rattle.aom_transcript.specs.Text.{ended}
 use Rattle.aom_sound.specs.Owned.{over}
 use Rattle.aom_sound.specs.State.{State}
-use Rattle.aom_debug_lines.specs.Answers.{answer_text}
-use Rattle.aom_debug_lines.specs.declared.answer.Answer.{Answer}
+use Rattle.aom_debug_words.specs.Answers.{answer_text}
+use Rattle.aom_debug_words.specs.declared.answer.Answer.{Answer}
 use Rattle.aom_debug_sights.specs.Sights.{item_answer}
 use Rattle.aom_debug_sights.specs.Telling.{listed}
 use Rattle.aom_debug_sights.proofs.Showing.{as_many_items}

@@ -4,10 +4,10 @@ use Rattle.std.specs.Prelude.{option_map, slice_get}
 use Rattle.std.proofs.lemmas.Result.{err_from_is_err_and}
 use Rattle.aom_transcript.specs.Text.{ended}
 use Rattle.aom_run.specs.Runs.{after}
-use Rattle.aom_debug_marks.specs.declared.spot.Spot.{Spot}
-use Rattle.aom_debug_lines.specs.Answers.{answer_text}
-use Rattle.aom_debug_lines.specs.declared.answer.Answer.{Answer}
-use Rattle.aom_debug_lines.specs.declared.answer.Answer.TheVariants.{Ran}
+use Rattle.aom_debug_words.specs.declared.spot.Spot.{Spot}
+use Rattle.aom_debug_words.specs.Answers.{answer_text}
+use Rattle.aom_debug_words.specs.declared.answer.Answer.{Answer}
+use Rattle.aom_debug_words.specs.declared.answer.Answer.TheVariants.{Ran}
 use Rattle.aom_debug_words.specs.declared.fault.DebugFault.{DebugFault}
 use Rattle.aom_debug_sights.specs.Sights.{recent_answers}
 use Rattle.aom_debug_sights.specs.Telling.{IsCut, answers_text, gathered, listed}

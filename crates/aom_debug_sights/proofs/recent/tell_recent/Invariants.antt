@@ -2,7 +2,7 @@
 use Rattle.std.proofs.Common.{◌≡◌}
 use Rattle.std.specs.Prelude.{option_map, slice_get}
 use Rattle.aom_run.specs.Runs.{after}
-use Rattle.aom_debug_lines.specs.declared.answer.Answer.TheVariants.{Ran}
+use Rattle.aom_debug_words.specs.declared.answer.Answer.TheVariants.{Ran}
 use Rattle.aom_debug_sights.specs.Telling.{answers_text, gathered, listed}
 use Rattle.aom_debug_sights.proofs.recent.tell_recent.Given as goal
 

@@ -1,5 +1,5 @@
 use Rattle.aom_listing.specs.Listing.{listing_text}
-use Rattle.aom_readback.proofs.Assembling.{listing_assembles}
+use Rattle.aom_meaning.proofs.Assembling.{listing_assembles}
 use Rattle.aom_meaning.proofs.Denoting.{read_denotes}
 use Rattle.aom_meaning.proofs.laws.listings_denote.Goals as goal
 

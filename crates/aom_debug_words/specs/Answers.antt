@@ -1,0 +1,46 @@
+-- How the answers of a debugger are spelled.
+use Rattle.std.specs.Prelude.{ℕ, ℤ, List, ◌++◌, codes, decimal}
+use Rattle.std.specs.Fmt.{signed_decimal}
+use Rattle.aom_debug_words.specs.Faults.{number_of}
+use Rattle.aom_debug_words.specs.declared.spot.Spot.{Spot}
+use Rattle.aom_debug_words.specs.declared.answer.Phase.{Phase}
+use Rattle.aom_debug_words.specs.declared.answer.Phase.TheVariants as phases
+use Rattle.aom_debug_words.specs.declared.answer.Answer.{Answer}
+use Rattle.aom_debug_words.specs.declared.answer.Answer.TheVariants.{Done, Fault, At, Gone, Between, Ended, Cells, OfClass, Trap, Object, Operation, Active, Server, Ran}
+
+-- two numbers, parted by a space
+abbrev pub numbers_text : ℕ → ℕ → List ℕ
+numbers_text a b = decimal a ++ codes " " ++ decimal b
+
+-- a method and a place
+abbrev pub spot_text : Spot → List ℕ
+spot_text spot = numbers_text spot.method spot.place
+
+-- with a space on each side
+abbrev pub phase_text : Phase → List ℕ
+phase_text phases.Idle = codes " idle "
+phase_text phases.Issued = codes " issued "
+phase_text phases.Active = codes " active "
+
+abbrev pub active_text : ℕ → ℤ → Phase → ℤ → List ℕ
+active_text class priority phase status = decimal class ++ codes " " ++ signed_decimal priority ++ phase_text phase ++ signed_decimal status
+
+abbrev pub server_text : ℕ → ℤ → ℕ → List ℕ
+server_text class priority queued = decimal class ++ codes " " ++ signed_decimal priority ++ codes " server " ++ decimal queued
+
+-- an answer, without its line feed
+abbrev pub answer_text : Answer → List ℕ
+answer_text Done = codes "ok"
+answer_text (Fault fault) = codes "fault " ++ decimal (number_of fault)
+answer_text (At spot) = codes "at " ++ spot_text spot
+answer_text (Gone class) = codes "at gone " ++ decimal class
+answer_text (Between time) = codes "between " ++ decimal time
+answer_text Ended = codes "ended"
+answer_text (Cells count) = codes "cells " ++ decimal count
+answer_text (OfClass class count) = numbers_text class count
+answer_text Trap = codes "trap"
+answer_text (Object class) = codes "object " ++ decimal class
+answer_text (Operation method word) = codes "op " ++ decimal method ++ codes " " ++ signed_decimal word
+answer_text (Active class priority phase status) = active_text class priority phase status
+answer_text (Server class priority queued) = server_text class priority queued
+answer_text (Ran spot) = spot_text spot

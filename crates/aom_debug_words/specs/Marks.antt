@@ -1,0 +1,24 @@
+-- Breakpoints, and the latest places.
+use Rattle.std.specs.Prelude.{◌≡◌, ℕ, Bool, ◌&&◌, ◌||◌, ◌==◌, cond, nat_lt, List, [], ◌∷◌, ◌++◌, length}
+use Rattle.std.specs.List.{list_any}
+use Rattle.circular_buffer.specs.Buffer.{keep_last}
+use Rattle.aom_debug_words.specs.declared.spot.Spot.{Spot}
+
+abbrev pub same_spot : Spot → Spot → Bool
+same_spot a b = a.method == b.method && a.place == b.place
+
+-- there is a breakpoint at that place
+abbrev pub has_spot : Spot → List Spot → Bool
+has_spot spot spots = list_any (same_spot spot) spots
+
+-- one can be set: it is already, or there are fewer than sixteen
+abbrev pub is_set : Spot → List Spot → Bool
+is_set spot spots = has_spot spot spots || nat_lt (length spots) 16
+
+-- the breakpoints once one is set, which counts once; the same where it cannot be
+abbrev pub with_spot : Spot → List Spot → List Spot
+with_spot spot spots = cond (has_spot spot spots) spots (cond (nat_lt (length spots) 16) (spots ++ spot ∷ []) spots)
+
+-- to note a place after the latest sixteen of a history is to have the latest sixteen of the longer history
+abbrev pub NotesKeepLatest : Type 0
+NotesKeepLatest = (history : List Spot) (spot : Spot) → keep_last 16 (keep_last 16 history ++ spot ∷ []) ≡ keep_last 16 (history ++ spot ∷ [])

@@ -1,0 +1,41 @@
+//! What a debugger answers.
+
+use crate::{DebugFault, Spot};
+
+/// How far the request of an enlisted object has come. One whose cancel is at hand is active.
+#[derive(Clone, Copy)]
+pub enum Phase {
+    Idle,
+    Issued,
+    Active,
+}
+
+/// A line that a debugger answers.
+#[derive(Clone, Copy)]
+pub enum Answer {
+    Done,
+    Fault(DebugFault),
+    /// The instruction that is next.
+    At(Spot),
+    /// A cell of that class goes next.
+    Gone(u16),
+    /// Nothing is at hand, at that time.
+    Between(u64),
+    Ended,
+    /// How many cells live.
+    Cells(usize),
+    /// So many cells of a class live.
+    OfClass(u16, usize),
+    /// Where a trap was set.
+    Trap,
+    /// An object of that class on the cleanup stack.
+    Object(u16),
+    /// A method on the cleanup stack, and the word that it is called on.
+    Operation(u16, i32),
+    /// An enlisted object of a class, with its priority, how far its request has come, and the status of that.
+    Active(u16, i32, Phase, i32),
+    /// An enlisted server of a class, with its priority, and how many connects, messages and closes wait in its queue.
+    Server(u16, i32, usize),
+    /// An instruction that ran.
+    Ran(Spot),
+}

@@ -1,0 +1,110 @@
+//! The text of an answer, in a buffer of its own.
+ghost use Rattle.std.specs.Prelude.{◌≡◌, ◌+◌, ◌≤◌, [], ◌++◌, length, decimal, codes};
+ghost use Rattle.std.specs.Fmt.{signed_decimal};
+ghost use Rattle.aom_transcript.specs.Text.{ended};
+ghost use Rattle.aom_debug_words.specs.Answers.{active_text, answer_text, numbers_text, phase_text, server_text, spot_text};
+
+use crate::{Answer, Phase, Spot};
+use aom_buffers::Text;
+
+/// No answer's line is longer.
+const LONGEST: usize = 64;
+
+/// The line of an answer, with its line feed.
+pub type AnswerLine = Text<LONGEST>;
+
+pub fn line_of(answer: Answer) -> AnswerLine
+    ensures { result ≡ ended (answer_text answer) }
+{
+    let mut line = AnswerLine::new();
+    add_answer(&mut line, answer);
+    line.add(b"\n");
+    line
+}
+
+fn add_answer(line: &mut AnswerLine, answer: Answer)
+    requires { line.old ≡ [] }
+    ensures text { line.new ≡ answer_text answer }
+    ensures short { length line.new ≤ 60 }
+{
+    match answer {
+        Answer::Done => line.add(b"ok"),
+        Answer::Fault(fault) => line.add_count(b"fault ", fault.number()),
+        Answer::At(spot) => add_at(line, spot),
+        Answer::Gone(class) => line.add_count(b"at gone ", class),
+        Answer::Between(time) => line.add_count(b"between ", time),
+        Answer::Ended => line.add(b"ended"),
+        Answer::Cells(count) => line.add_count(b"cells ", count),
+        Answer::OfClass(class, count) => add_two(line, class, count),
+        Answer::Trap => line.add(b"trap"),
+        Answer::Object(class) => line.add_count(b"object ", class),
+        Answer::Operation(method, word) => add_operation(line, method, word),
+        Answer::Active(class, priority, phase, status) => {
+            add_active(line, class, priority, phase, status);
+        }
+        Answer::Server(class, priority, queued) => add_server(line, class, priority, queued),
+        Answer::Ran(spot) => add_two(line, spot.method, spot.place),
+    }
+}
+
+fn add_at(line: &mut AnswerLine, spot: Spot)
+    requires { line.old ≡ [] }
+    ensures text { line.new ≡ codes "at " ++ spot_text spot }
+    ensures short { length line.new ≤ 44 }
+{
+    line.add_count(b"at ", spot.method);
+    line.add_count(b" ", spot.place);
+}
+
+fn add_operation(line: &mut AnswerLine, method: u16, word: i32)
+    requires { line.old ≡ [] }
+    ensures text { line.new ≡ codes "op " ++ decimal method ++ codes " " ++ signed_decimal word }
+    ensures short { length line.new ≤ 36 }
+{
+    line.add_count(b"op ", method);
+    line.add_count(b" ", word);
+}
+
+fn add_active(line: &mut AnswerLine, class: u16, priority: i32, phase: Phase, status: i32)
+    requires { line.old ≡ [] }
+    ensures text { line.new ≡ active_text class priority phase status }
+    ensures short { length line.new ≤ 60 }
+{
+    line.add_number(class);
+    line.add_count(b" ", priority);
+    add_phase(line, phase);
+    line.add_number(status);
+}
+
+fn add_server(line: &mut AnswerLine, class: u16, priority: i32, queued: usize)
+    requires { line.old ≡ [] }
+    ensures text { line.new ≡ server_text class priority queued }
+    ensures short { length line.new ≤ 60 }
+{
+    line.add_number(class);
+    line.add_count(b" ", priority);
+    line.add(b" server ");
+    line.add_number(queued);
+}
+
+fn add_phase(line: &mut AnswerLine, phase: Phase)
+    requires { length line.old ≤ 40 }
+    ensures text { line.new ≡ line.old ++ phase_text phase }
+    ensures short { length line.new ≤ length line.old + 8 }
+{
+    match phase {
+        Phase::Idle => line.add(b" idle "),
+        Phase::Issued => line.add(b" issued "),
+        Phase::Active => line.add(b" active "),
+    }
+}
+
+/// Adds two numbers.
+fn add_two(line: &mut AnswerLine, first: u16, second: usize)
+    requires { line.old ≡ [] }
+    ensures text { line.new ≡ numbers_text first second }
+    ensures short { length line.new ≤ 41 }
+{
+    line.add_number(first);
+    line.add_count(b" ", second);
+}

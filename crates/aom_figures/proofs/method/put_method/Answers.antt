@@ -1,0 +1,22 @@
+-- The parts of the method follow each other.
+use Rattle.std.proofs.Common.{◌++◌, ◌∙◌, ap}
+use Rattle.std.proofs.lemmas.Result.{IfOk-weaker}
+use Rattle.aom_figures.specs.Each.{line_end}
+use Rattle.aom_figures.specs.Edges.{code_text}
+use Rattle.aom_figures.specs.Methods.{figures_label, heading_text, method_line}
+use Rattle.aom_figures.specs.Over.{color_text, method_is_over}
+use Rattle.aom_figures.proofs.GraphGrowing.{then}
+use Rattle.aom_figures.proofs.method.put_method.Goals as goal
+
+pub returns : goal.returns
+returns c =
+    let text = c.args.out.now in
+    let number = c.args.number in
+    let heading = heading_text number c.args.method.now in
+    let figures = figures_label c.args.figures.now number in
+    let color = color_text (method_is_over c.args.linked.now c.args.figures.now number) in
+    let line = method_line c.args.linked.now c.args.figures.now number c.args.method.now in
+    let colored = c.in_ok-put_color.ensures ∙ ap (λ b. c.put_figures.new.out ++ color_text b) c.method_is_over.ensures in
+    let before = then text _ _ (heading ++ figures) color (then text _ _ heading figures c.in_ok-put_heading.ensures c.in_ok-put_figures.ensures) colored in
+    let ended = then text _ _ (heading ++ figures ++ color) line_end before c.in_ok-words.ensures in
+    IfOk-weaker c.put_code.result _ _ (λ r written. then text _ _ line (code_text number c.args.method.now.code) ended (written ∙ ap (λ is. c.words.new.self ++ code_text number is) c.as_slice.ensures)) c.put_code.ensures

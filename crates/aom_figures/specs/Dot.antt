@@ -1,0 +1,12 @@
+-- A checked image as a graph in Graphviz's language.
+use Rattle.std.specs.Prelude.{ℕ, List, [], ◌∷◌, ◌++◌, codes}
+use Rattle.aom_image.specs.Image.{Image}
+use Rattle.aom_classes.specs.Roles.{main_of}
+use Rattle.aom_budget.specs.Figures.{Figures}
+use Rattle.aom_figures.specs.Classes.{classes_text}
+use Rattle.aom_figures.specs.Methods.{methods_text}
+use Rattle.aom_figures.specs.Way.{way_of}
+
+-- the classes, the methods, and the way from main to the greatest price
+abbrev pub dot_text : Image → Figures → List ℕ
+dot_text p f = codes "digraph aom {" ++ 10 ∷ (classes_text p f.prices p.classes ++ methods_text p f p.methods ++ way_of p f.prices (main_of p) ++ codes "}" ++ 10 ∷ [])

@@ -1,0 +1,114 @@
+//! Classes, and what their objects own.
+ghost use Rattle.std.specs.Prelude.{◌≡◌, ◌≤◌, ◌<◌, ◌++◌, OnOk, length};
+ghost use Rattle.aom_figures.specs.Each.{numbered};
+ghost use Rattle.aom_figures.specs.Classes.{kind_word, class_heading, thing_text, field_line, fields_text, class_text, classes_text};
+
+use crate::Writer;
+use crate::over::{class_is_over, put_color};
+use aom_budget::Figures;
+use aom_classes::Linked;
+use aom_image::{ClassDecl, ClassKind, ClassNumber, Thing};
+use std::alloc::AllocError;
+
+/// The number of the class at an index.
+fn class_number(index: usize) -> ClassNumber
+    requires { index < 256 }
+    ensures { result ≡ index }
+{
+    ClassNumber::new(index as u16).unwrap()
+}
+
+fn put_kind_word(out: &mut Writer, kind: ClassKind) -> Result<(), AllocError>
+    ensures { OnOk result (out.new ≡ out.old ++ kind_word kind) }
+{
+    match kind {
+        ClassKind::Plain => out.words(b" plain\""),
+        ClassKind::Active { .. } => out.words(b" active\""),
+        ClassKind::Server { .. } => out.words(b" server\""),
+        ClassKind::Session => out.words(b" session\""),
+    }
+}
+
+/// Words, and a class behind them.
+fn put_class_number(out: &mut Writer, words: &[u8], class: ClassNumber) -> Result<(), AllocError>
+    ensures { OnOk result (out.new ≡ out.old ++ numbered words.now class) }
+{
+    out.count(words, u64::from(class.number()))
+}
+
+/// A box for a class, with its kind.
+fn put_class_heading(
+    out: &mut Writer,
+    class: ClassNumber,
+    kind: ClassKind,
+) -> Result<(), AllocError>
+    ensures { OnOk result (out.new ≡ out.old ++ class_heading class kind) }
+{
+    put_class_number(out, b"c", class)?;
+    put_class_number(out, b" [shape=box label=\"c", class)?;
+    put_kind_word(out, kind)
+}
+
+/// What is owned.
+fn put_thing(out: &mut Writer, thing: Thing) -> Result<(), AllocError>
+    ensures { OnOk result (out.new ≡ out.old ++ thing_text thing) }
+{
+    match thing {
+        Thing::Object(class) => out.count(b" -> c", u64::from(class.number())),
+        Thing::Message => out.words(b" -> message"),
+    }
+}
+
+fn put_field(
+    out: &mut Writer,
+    class: ClassNumber,
+    field: u64,
+    thing: Thing,
+) -> Result<(), AllocError>
+    ensures { OnOk result (out.new ≡ out.old ++ field_line class field thing) }
+{
+    out.count(b"c", u64::from(class.number()))?;
+    put_thing(out, thing)?;
+    out.count(b" [label=\"f", field)?;
+    out.words(b"\"]\n")
+}
+
+fn put_fields(out: &mut Writer, class: ClassNumber, fields: &[Thing]) -> Result<(), AllocError>
+    ensures { OnOk result (out.new ≡ out.old ++ fields_text class fields.now) }
+{
+    for (field, thing) in fields.iter().enumerate() {
+        put_field(out, class, field as u64, *thing)?;
+    }
+    Ok(())
+}
+
+/// A class, red where its dispatches are over what is declared of them, and what each of its owning fields may own.
+fn put_class(
+    out: &mut Writer,
+    linked: &Linked,
+    figures: &Figures,
+    class: ClassNumber,
+    declaration: &ClassDecl,
+) -> Result<(), AllocError>
+    ensures { OnOk result (out.new ≡ out.old ++ class_text linked.now figures.now.prices class declaration.now) }
+{
+    put_class_heading(out, class, declaration.kind)?;
+    put_color(out, class_is_over(linked, figures, class, declaration))?;
+    out.words(b"]\n")?;
+    put_fields(out, class, declaration.fields.as_slice())
+}
+
+pub(crate) fn put_classes(
+    out: &mut Writer,
+    linked: &Linked,
+    figures: &Figures,
+    classes: &[ClassDecl],
+) -> Result<(), AllocError>
+    requires { length classes.now ≤ 256 }
+    ensures { OnOk result (out.new ≡ out.old ++ classes_text linked.now figures.now.prices classes.now) }
+{
+    for (index, class) in classes.iter().enumerate() {
+        put_class(out, linked, figures, class_number(index), class)?;
+    }
+    Ok(())
+}

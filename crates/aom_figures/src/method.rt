@@ -1,0 +1,89 @@
+//! Methods, with their figures and what leads from them to others.
+ghost use Rattle.std.specs.Prelude.{◌≡◌, ◌≤◌, ◌++◌, OnOk, length};
+ghost use Rattle.aom_figures.specs.Methods.{role_word, of_text, heading_text, figures_label, method_text, methods_text};
+
+use crate::edge::put_code;
+use crate::over::{method_is_over, put_color};
+use crate::{Writer, method_number};
+use aom_budget::Figures;
+use aom_classes::Linked;
+use aom_image::{ClassNumber, Method, MethodNumber, Role};
+use std::alloc::AllocError;
+
+fn put_role(out: &mut Writer, role: Role) -> Result<(), AllocError>
+    ensures { OnOk result (out.new ≡ out.old ++ role_word role) }
+{
+    match role {
+        Role::Do => out.words(b" do"),
+        Role::Main => out.words(b" main"),
+        Role::Construct => out.words(b" construct"),
+        Role::Destruct => out.words(b" destruct"),
+        Role::Run => out.words(b" run"),
+        Role::Cancel => out.words(b" cancel"),
+        Role::Error => out.words(b" error"),
+        Role::Accept => out.words(b" accept"),
+        Role::Service => out.words(b" service"),
+        Role::Undo => out.words(b" undo"),
+    }
+}
+
+/// The class whose objects a method works on, where there is one.
+fn put_class_of(out: &mut Writer, class: Option<ClassNumber>) -> Result<(), AllocError>
+    ensures { OnOk result (out.new ≡ out.old ++ of_text class) }
+{
+    match class {
+        Some(class) => out.count(b" c", u64::from(class.number())),
+        None => Ok(()),
+    }
+}
+
+fn put_figures(out: &mut Writer, figures: &Figures, method: MethodNumber) -> Result<(), AllocError>
+    ensures { OnOk result (out.new ≡ out.old ++ figures_label figures.now method) }
+{
+    out.count(b"\\nprice ", figures.price(method))?;
+    out.count(b" frames ", u64::from(figures.frames(method)))?;
+    out.count(b" entries ", u64::from(figures.entries(method)))?;
+    out.words(b"\"")
+}
+
+/// A method with its role and its class.
+fn put_heading(out: &mut Writer, number: MethodNumber, method: &Method) -> Result<(), AllocError>
+    ensures { OnOk result (out.new ≡ out.old ++ heading_text number method.now) }
+{
+    out.count(b"m", u64::from(number.number()))?;
+    out.count(b" [label=\"m", u64::from(number.number()))?;
+    put_role(out, method.role)?;
+    put_class_of(out, method.class)
+}
+
+/// A method with its figures, red where it is over a limit, and what its instructions lead to.
+fn put_method(
+    out: &mut Writer,
+    linked: &Linked,
+    figures: &Figures,
+    number: MethodNumber,
+    method: &Method,
+) -> Result<(), AllocError>
+    ensures { OnOk result (out.new ≡ out.old ++ method_text linked.now figures.now number method.now) }
+{
+    put_heading(out, number, method)?;
+    put_figures(out, figures, number)?;
+    put_color(out, method_is_over(linked, figures, number))?;
+    out.words(b"]\n")?;
+    put_code(out, number, method.code.as_slice())
+}
+
+pub(crate) fn put_methods(
+    out: &mut Writer,
+    linked: &Linked,
+    figures: &Figures,
+    methods: &[Method],
+) -> Result<(), AllocError>
+    requires { length methods.now ≤ 1024 }
+    ensures { OnOk result (out.new ≡ out.old ++ methods_text linked.now figures.now methods.now) }
+{
+    for (index, method) in methods.iter().enumerate() {
+        put_method(out, linked, figures, method_number(index), method)?;
+    }
+    Ok(())
+}

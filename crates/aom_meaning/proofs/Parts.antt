@@ -1,0 +1,233 @@
+-- The parts of a listing are read one after another.
+use Rattle.std.proofs.Common.{◌≡◌, ℕ, suc, ◌+◌, ◌*◌, ◌<◌, ◌≤◌, ◌^◌, Bool, true, false, List, [], ◌∷◌, ◌++◌, length, slice_get, Option, Some, None, Result, Ok, Err, refl, sym, ap, subst, ◌∙◌, append_assoc, append-nil, arith}
+use Rattle.std.specs.Prelude.{cond, if◌then◌else◌}
+use Rattle.std.specs.List.{All, count_by, sum_by}
+use Rattle.std.proofs.Math.ListN.{length-append}
+use Rattle.std.proofs.lemmas.Bool.{lt-ltb, ne_eqb}
+use Rattle.std.proofs.lemmas.List.Elements.{All-head, All-tail}
+use Rattle.std.proofs.lemmas.List.Sums.{sum_by-append, sum_by-cons}
+use Rattle.aom_text.specs.Words.{others_of}
+use Rattle.aom_text.specs.declared.fault.AsmFaultKind.{AsmFaultKind}
+use Rattle.aom_text.specs.declared.fault.AsmFaultKind.TheVariants.{LimitPassed}
+use Rattle.aom_text.specs.declared.text.Statement.{Statement}
+use Rattle.aom_image.specs.WellFormed.{ClassFits, MethodFits, is_server}
+use Rattle.aom_instructions.specs.Fits.{InstrFits, limits}
+use Rattle.aom_image.specs.declared.class.ClassDecl.{ClassDecl}
+use Rattle.aom_image.specs.declared.image.Header.{Header}
+use Rattle.aom_instructions.specs.declared.instr.Instr.{Instr}
+use Rattle.aom_instructions.specs.declared.instr.Instr.TheVariants as instr
+use Rattle.aom_image.specs.declared.method.Method.{Method}
+use Rattle.aom_syntax.specs.Classes.{class_statement}
+use Rattle.aom_syntax.specs.Methods.{heading, instruction}
+use Rattle.aom_syntax.specs.Reading.{◌>>=◌, took}
+use Rattle.aom_syntax.specs.declared.keyword.Keyword.TheVariants as k
+use Rattle.aom_syntax.specs.declared.scope.Scope.{Scope}
+use Rattle.aom_listing.specs.Classes.{class_words}
+use Rattle.aom_listing.specs.Jumps.{is_target}
+use Rattle.aom_listing.specs.Listing.{classes_statements, end_words, instr_statements, instr_words, label_words, method_statements, methods_statements}
+use Rattle.aom_listing.specs.Methods.{heading_words}
+use Rattle.aom_listing.specs.Operands.{label_name}
+use Rattle.aom_listing.specs.Words.{words_statement}
+use Rattle.aom_asm.specs.Body.{Body, Program}
+use Rattle.aom_asm.specs.Denoted.{declaration, grown, step, with_instruction, with_method}
+use Rattle.aom_asm.specs.TextNames.{is_end, label_in, labels_of, label_or_none as label_or_empty}
+use Rattle.aom_meaning.specs.Naming.{HasNames, code_labels, heading_of, label_or_none, labels_from}
+use Rattle.aom_meaning.specs.Texts.{SaysQuiet, all_words}
+use Rattle.aom_meaning.proofs.ClassesBack.{class_statement_reads}
+use Rattle.aom_meaning.proofs.Following.{Goes, arrives, at_seam, goes_on, room, stays, steps, first_of}
+use Rattle.aom_meaning.proofs.Methods.{heading_reads}
+use Rattle.aom_meaning.proofs.Readings.{takes_any_keyword}
+use Rattle.aom_meaning.proofs.Statements.{instruction_reads, label_cut}
+
+-- ---- the first word of an instruction's statement
+
+plain_is_no_end : (i : Instr) → is_end (words_statement i) ≡ false
+plain_is_no_end (instr.Const a n) = refl
+plain_is_no_end _ = refl
+
+plain_has_no_label : (i : Instr) → label_in (words_statement i) ≡ []
+plain_has_no_label (instr.Const a n) = refl
+plain_has_no_label _ = refl
+
+plain_takes_no_end : (i : Instr) → took k.End (words_statement i) ≡ (false, words_statement i)
+plain_takes_no_end (instr.Const a n) = refl
+plain_takes_no_end _ = refl
+
+is_no_end : (b : Bool) (place : ℕ) (i : Instr) → is_end (label_words b place ++ words_statement i) ≡ false
+is_no_end true place i = refl
+is_no_end false place i = plain_is_no_end i
+
+takes_no_end : (b : Bool) (place : ℕ) (i : Instr) → took k.End (label_words b place ++ words_statement i) ≡ (false, label_words b place ++ words_statement i)
+takes_no_end true place i = refl
+takes_no_end false place i = plain_takes_no_end i
+
+has_its_label : (b : Bool) (place : ℕ) (i : Instr) → label_in (label_words b place ++ words_statement i) ≡ label_or_none b place
+has_its_label true place i = ap label_or_empty (label_cut (label_name place))
+has_its_label false place i = plain_has_no_label i
+
+-- the labels up to the end of a method are those of its code
+labels_there : (code : List Instr) (place : ℕ) (is : List Instr) (labels : List (List ℕ)) (left : List (List (List ℕ))) (ss : List Statement) → all_words ss ≡ instr_statements code place is ++ end_words ∷ left → labels_of labels ss ≡ labels ++ labels_from code place is
+labels_there code place [] labels left ss words =
+    let f = first_of ss words in
+    ap (labels_of labels) f.is ∙ ap (λ ws. if is_end ws then labels else labels_of (labels ++ label_in ws ∷ []) f.rest) f.here ∙ sym (append-nil labels)
+labels_there code place (i ∷ is) labels left ss words =
+    let f = first_of ss words in
+    let jumped = is_target code place in
+    ap (labels_of labels) f.is ∙ ap (λ ws. if is_end ws then labels else labels_of (labels ++ label_in ws ∷ []) f.rest) f.here
+    ∙ ap (λ b. if b then labels else labels_of (labels ++ label_in (instr_words code place i) ∷ []) f.rest) (is_no_end jumped place i)
+    ∙ ap (λ l. labels_of (labels ++ l ∷ []) f.rest) (has_its_label jumped place i)
+    ∙ labels_there code (place + 1) is (labels ++ label_or_none jumped place ∷ []) left f.rest f.behind
+    ∙ append_assoc labels (label_or_none jumped place ∷ []) (labels_from code (place + 1) is)
+
+-- ---- programs
+
+-- a program between two statements
+abbrev pub read_so_far : Header → List ClassDecl → List Method → Option Body → ℕ → Program
+read_so_far h cs ms b size = record { header = h; classes = cs; methods = ms; body = b; size = size }
+
+-- so much does a class count among the servers
+abbrev counted : ClassDecl → ℕ
+counted c = cond (is_server c) 1 0
+
+-- a class is a server while few have been, where few are in all
+pub few_before : (cs : List ClassDecl) (c : ClassDecl) (todo : List ClassDecl) → count_by is_server (cs ++ c ∷ todo) ≤ 8 → is_server c ≡ true → count_by is_server cs < 8
+few_before cs c todo few serves =
+    let one : counted c ≡ 1 = ap (λ (b : Bool). cond {A = ℕ} b 1 0) serves in
+    let parted : sum_by counted (cs ++ c ∷ todo) ≡ sum_by counted cs + sum_by counted (c ∷ todo) = sum_by-append counted cs (c ∷ todo) in
+    let headed : sum_by counted (c ∷ todo) ≡ counted c + sum_by counted todo = sum_by-cons counted c todo in
+    let bound : sum_by counted (cs ++ c ∷ todo) ≤ 8 = few in
+    let less : sum_by counted cs < 8 = omega arith in
+    less
+
+-- the bytes that a method spells
+abbrev pub spelled : Method → ℕ
+spelled m = 24 + 8 * length m.code
+
+module _ (last : ℕ) (h : Header) (classes methods : ℕ) (scope : Scope) (names : HasNames classes methods scope) (few_natives : h.natives ≤ 16) where
+  -- ---- classes
+
+  class_steps : (cs : List ClassDecl) (c : ClassDecl) (size : ℕ) (rest : List Statement) → length cs < classes → ClassFits classes h.natives c → (is_server c ≡ true → count_by is_server cs < 8) → size + 28 ≤ 2 ^ 20
+      → step scope rest (read_so_far h cs [] None size) (class_words (length cs) c) ≡ Ok (read_so_far h (cs ++ c ∷ []) [] None (size + 28))
+  class_steps cs c size rest there fits few enough =
+      let few_classes = names.few_classes in
+      let words = others_of (class_words (length cs) c) in
+      let p = read_so_far h cs [] None size in
+      ap (λ e. e >>= λ key. declaration scope rest p key.0 key.1) ((takes_any_keyword k.Class).reads words)
+      ∙ ap (λ b. if b then (class_statement scope h.natives (length cs) (count_by is_server cs) words >>= λ x. grown 28 size >>= λ n. Ok (read_so_far h (cs ++ x.0 ∷ []) [] None n)) else Err LimitPassed) (lt-ltb (length cs) 256 (omega arith))
+      ∙ ap (λ e. e >>= λ x. grown 28 size >>= λ n. Ok (read_so_far h (cs ++ x.0 ∷ []) [] None n)) (class_statement_reads classes methods scope names h.natives (count_by is_server cs) (length cs) c few_natives there fits few)
+      ∙ ap (λ e. e >>= λ n. Ok (read_so_far h (cs ++ c ∷ []) [] None n)) (room 28 size enough)
+
+  pub classes_go : (cs todo : List ClassDecl) (size : ℕ) (left : List (List (List ℕ))) (ss : List Statement)
+      → length cs + length todo ≤ classes → All (ClassFits classes h.natives) todo → count_by is_server (cs ++ todo) ≤ 8 → size + 28 * length todo ≤ 2 ^ 20
+      → all_words ss ≡ classes_statements (length cs) todo ++ left
+      → Goes last scope (read_so_far h cs [] None size) ss (read_so_far h (cs ++ todo) [] None (size + 28 * length todo)) left
+  classes_go cs [] size left ss there fits few enough words =
+      let same : size ≡ size + 28 * 0 = omega arith in
+      stays ss (ap (λ l. read_so_far h l [] None size) (sym (append-nil cs)) ∙ ap (λ n. read_so_far h (cs ++ []) [] None n) same) words
+  classes_go cs (c ∷ todo) size left ss there fits few enough words =
+      let longer : length (cs ++ c ∷ []) ≡ length cs + 1 = length-append cs (c ∷ []) in
+      let regrouped : (cs ++ c ∷ []) ++ todo ≡ cs ++ c ∷ todo = append_assoc cs (c ∷ []) todo in
+      let summed : (size + 28) + 28 * length todo ≡ size + 28 * suc (length todo) = omega arith in
+      goes_on
+      (steps {q = read_so_far h (cs ++ c ∷ []) [] None (size + 28)} {left = classes_statements (length cs + 1) todo ++ left} ss words
+      (λ rest behind. class_steps cs c size rest (omega arith) (All-head (ClassFits classes h.natives) c todo fits) (few_before cs c todo few) (omega arith)))
+      (λ rest behind. arrives (ap (λ l. read_so_far h l [] None ((size + 28) + 28 * length todo)) regrouped ∙ ap (λ n. read_so_far h (cs ++ c ∷ todo) [] None n) summed)
+      (classes_go (cs ++ c ∷ []) todo (size + 28) left rest (omega arith) (All-tail (ClassFits classes h.natives) c todo fits) (subst (λ l. count_by is_server l ≤ 8) (sym regrouped) few) (omega arith)
+      (behind ∙ ap (λ n. classes_statements n todo ++ left) (sym longer))))
+
+  -- ---- methods
+
+  module _ (cs : List ClassDecl) where
+    -- a method that is being read
+    abbrev body_of : Method → List Instr → Body
+    body_of m code = record { heading = heading_of m; labels = code_labels m.code; code = code }
+
+    abbrev opened : List Method → Method → List Instr → ℕ → Program
+    opened ms m code size = read_so_far h cs ms (Some (body_of m code)) size
+
+    heading_steps : (ms : List Method) (m : Method) (size : ℕ) (left : List (List (List ℕ))) (rest : List Statement) → length ms < methods → MethodFits classes methods m → SaysQuiet m → size + 24 ≤ 2 ^ 20
+        → all_words rest ≡ instr_statements m.code 0 m.code ++ end_words ∷ left
+        → step scope rest (read_so_far h cs ms None size) (heading_words (length ms) m) ≡ Ok (opened ms m [] (size + 24))
+    heading_steps ms m size left rest there fits quiet enough words =
+        let few_methods = names.few_methods in
+        let ws = others_of (heading_words (length ms) m) in
+        let p = read_so_far h cs ms None size in
+        ap (λ e. e >>= λ key. declaration scope rest p key.0 key.1) ((takes_any_keyword k.Method).reads ws)
+        ∙ ap (λ b. if b then (heading scope (length ms) ws >>= λ x. grown 24 size >>= λ n. Ok (read_so_far h cs ms (Some (record { heading = x.0; labels = labels_of [] rest; code = [] })) n)) else Err LimitPassed) (lt-ltb (length ms) 1024 (omega arith))
+        ∙ ap (λ e. e >>= λ x. grown 24 size >>= λ n. Ok (read_so_far h cs ms (Some (record { heading = x.0; labels = labels_of [] rest; code = [] })) n)) (heading_reads names (length ms) m there fits quiet)
+        ∙ ap (λ e. e >>= λ n. Ok (read_so_far h cs ms (Some (record { heading = heading_of m; labels = labels_of [] rest; code = [] })) n)) (room 24 size enough)
+        ∙ ap (λ l. Ok (read_so_far h cs ms (Some (record { heading = heading_of m; labels = l; code = [] })) (size + 24))) (labels_there m.code 0 m.code [] left rest words)
+
+    -- the instruction is read behind those that were read, and put behind them
+    abbrev added : List Method → Method → List Instr → ℕ → Result (Instr × List (List ℕ)) AsmFaultKind → Result Program AsmFaultKind
+    added ms m done size read = (read >>= λ x. Ok (body_of m (done ++ x.0 ∷ []))) >>= λ b. grown 8 size >>= λ n. Ok (read_so_far h cs ms (Some b) n)
+
+    instruction_steps : (ms : List Method) (m : Method) (done : List Instr) (i : Instr) (todo : List Instr) (size : ℕ) (rest : List Statement) → MethodFits classes methods m → m.code ≡ done ++ i ∷ todo → InstrFits (limits classes methods (length m.code)) i → size + 8 ≤ 2 ^ 20
+        → step scope rest (opened ms m done size) (instr_words m.code (length done) i) ≡ Ok (opened ms m (done ++ i ∷ []) (size + 8))
+    instruction_steps ms m done i todo size rest fits whole fit enough =
+        let place : ℕ = length done in
+        let ws = instr_words m.code place i in
+        let count : length m.code ≡ length done + length (i ∷ todo) = ap (λ (l : List Instr). length l) whole ∙ length-append done (i ∷ todo) in
+        let within : place < length m.code = omega arith in
+        let there : slice_get m.code place ≡ Some i = ap (λ l. slice_get l place) whole ∙ at_seam done i todo in
+        ap (λ t. if t.0 then with_method (read_so_far h cs ms None size) (body_of m done) t.1 else (with_instruction scope (body_of m done) t.1 >>= λ b. grown 8 size >>= λ n. Ok (read_so_far h cs ms (Some b) n))) (takes_no_end (is_target m.code place) place i)
+        ∙ ap (λ t. (if t then (instruction scope (code_labels m.code) place ws >>= λ x. Ok (body_of m (done ++ x.0 ∷ []))) else Err LimitPassed) >>= λ b. grown 8 size >>= λ n. Ok (read_so_far h cs ms (Some b) n)) (lt-ltb place 1024 (omega (arith, fits.code_length)))
+        ∙ ap (added ms m done size) (instruction_reads names m.code fits.code_length place i within there fit)
+        ∙ ap (λ e. e >>= λ n. Ok (opened ms m (done ++ i ∷ []) n)) (room 8 size enough)
+
+    instructions_go : (ms : List Method) (m : Method) (done todo : List Instr) (size : ℕ) (left : List (List (List ℕ))) (ss : List Statement)
+        → MethodFits classes methods m → m.code ≡ done ++ todo → All (InstrFits (limits classes methods (length m.code))) todo → size + 8 * length todo ≤ 2 ^ 20
+        → all_words ss ≡ instr_statements m.code (length done) todo ++ left
+        → Goes last scope (opened ms m done size) ss (opened ms m (done ++ todo) (size + 8 * length todo)) left
+    instructions_go ms m done [] size left ss fits whole each enough words =
+        let same : size ≡ size + 8 * 0 = omega arith in
+        stays ss (ap (λ l. opened ms m l size) (sym (append-nil done)) ∙ ap (λ n. opened ms m (done ++ []) n) same) words
+    instructions_go ms m done (i ∷ todo) size left ss fits whole each enough words =
+        let longer : length (done ++ i ∷ []) ≡ length done + 1 = length-append done (i ∷ []) in
+        let regrouped : (done ++ i ∷ []) ++ todo ≡ done ++ i ∷ todo = append_assoc done (i ∷ []) todo in
+        let summed : (size + 8) + 8 * length todo ≡ size + 8 * suc (length todo) = omega arith in
+        goes_on
+        (steps {q = opened ms m (done ++ i ∷ []) (size + 8)} {left = instr_statements m.code (length done + 1) todo ++ left} ss words
+        (λ rest behind. instruction_steps ms m done i todo size rest fits whole (All-head (InstrFits (limits classes methods (length m.code))) i todo each) (omega arith)))
+        (λ rest behind. arrives (ap (λ l. opened ms m l ((size + 8) + 8 * length todo)) regrouped ∙ ap (λ n. opened ms m (done ++ i ∷ todo) n) summed)
+        (instructions_go ms m (done ++ i ∷ []) todo (size + 8) left rest fits (whole ∙ sym regrouped) (All-tail (InstrFits (limits classes methods (length m.code))) i todo each) (omega arith)
+        (behind ∙ ap (λ n. instr_statements m.code n todo ++ left) (sym longer))))
+
+    end_steps : (ms : List Method) (m : Method) (size : ℕ) (rest : List Statement) → 1 ≤ length m.code → step scope rest (opened ms m m.code size) end_words ≡ Ok (read_so_far h cs (ms ++ m ∷ []) None size)
+    end_steps ms m size rest some =
+        ap (λ t. (if t then Err LimitPassed else Ok m) >>= λ x. Ok (read_so_far h cs (ms ++ x ∷ []) None size)) (ne_eqb (length m.code) 0 (λ none. omega arith))
+
+    method_goes : (ms : List Method) (m : Method) (size : ℕ) (left : List (List (List ℕ))) (ss : List Statement) → length ms < methods → MethodFits classes methods m → SaysQuiet m → size + spelled m ≤ 2 ^ 20
+        → all_words ss ≡ method_statements (length ms) m ++ left
+        → Goes last scope (read_so_far h cs ms None size) ss (read_so_far h cs (ms ++ m ∷ []) None (size + spelled m)) left
+    method_goes ms m size left ss there fits quiet enough words =
+        let code = instr_statements m.code 0 m.code in
+        let heading = heading_words (length ms) m in
+        let inner : (code ++ end_words ∷ []) ++ left ≡ code ++ end_words ∷ left = append_assoc code (end_words ∷ []) left in
+        let summed : (size + 24) + 8 * length m.code ≡ size + spelled m = omega arith in
+        arrives (ap (λ n. read_so_far h cs (ms ++ m ∷ []) None n) summed) (
+        goes_on
+        (steps {q = opened ms m [] (size + 24)} {left = code ++ end_words ∷ left} ss (words ∙ ap (λ l. heading ∷ l) inner)
+        (λ rest behind. heading_steps ms m size left rest there fits quiet (omega arith) behind))
+        (λ rest behind. goes_on
+        (instructions_go ms m [] m.code (size + 24) (end_words ∷ left) rest fits refl fits.code (omega arith) behind)
+        (λ rest behind. steps rest behind (λ rest behind. end_steps ms m ((size + 24) + 8 * length m.code) rest fits.some_code))))
+
+    pub methods_go : (ms todo : List Method) (size : ℕ) (left : List (List (List ℕ))) (ss : List Statement)
+        → length ms + length todo ≤ methods → All (MethodFits classes methods) todo → All SaysQuiet todo → size + sum_by spelled todo ≤ 2 ^ 20
+        → all_words ss ≡ methods_statements (length ms) todo ++ left
+        → Goes last scope (read_so_far h cs ms None size) ss (read_so_far h cs (ms ++ todo) None (size + sum_by spelled todo)) left
+    methods_go ms [] size left ss there fits quiet enough words =
+        let same : size ≡ size + 0 = omega arith in
+        stays ss (ap (λ l. read_so_far h cs l None size) (sym (append-nil ms)) ∙ ap (λ n. read_so_far h cs (ms ++ []) None n) same) words
+    methods_go ms (m ∷ todo) size left ss there fits quiet enough words =
+        let longer : length (ms ++ m ∷ []) ≡ length ms + 1 = length-append ms (m ∷ []) in
+        let regrouped : (ms ++ m ∷ []) ++ todo ≡ ms ++ m ∷ todo = append_assoc ms (m ∷ []) todo in
+        let total : sum_by spelled (m ∷ todo) ≡ spelled m + sum_by spelled todo = sum_by-cons spelled m todo in
+        let summed : (size + spelled m) + sum_by spelled todo ≡ size + sum_by spelled (m ∷ todo) = omega arith in
+        goes_on
+        (method_goes ms m size (methods_statements (length ms + 1) todo ++ left) ss (omega arith) (All-head (MethodFits classes methods) m todo fits) (All-head SaysQuiet m todo quiet) (omega arith)
+        (words ∙ append_assoc (method_statements (length ms) m) (methods_statements (length ms + 1) todo) left))
+        (λ rest behind. arrives (ap (λ l. read_so_far h cs l None ((size + spelled m) + sum_by spelled todo)) regrouped ∙ ap (λ n. read_so_far h cs (ms ++ m ∷ todo) None n) summed)
+        (methods_go (ms ++ m ∷ []) todo (size + spelled m) left rest (omega arith) (All-tail (MethodFits classes methods) m todo fits) (All-tail SaysQuiet m todo quiet) (omega arith)
+        (behind ∙ ap (λ n. methods_statements n todo ++ left) (sym longer))))

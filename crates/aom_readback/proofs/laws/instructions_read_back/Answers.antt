@@ -1,5 +1,0 @@
-use Rattle.aom_readback.proofs.Statements.{instruction_reads}
-use Rattle.aom_readback.proofs.laws.instructions_read_back.Goals as goal
-
-pub returns : goal.returns
-returns c classes methods scope names code place i few within there fits = instruction_reads names code few place i within there fits
