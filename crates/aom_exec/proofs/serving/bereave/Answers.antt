@@ -1,5 +1,5 @@
 -- What is outstanding is pending in the table.
-use Rattle.std.proofs.Common.{sym, ◌∙◌}
+use Rattle.std.proofs.Common.{sym, ◌∙◌, rules}
 use Rattle.aom_requests.specs.Requests.{request_at}
 use Rattle.aom_exec.proofs.Killing.{spares, terminates}
 use Rattle.aom_exec.proofs.Served.{pending_told}
@@ -17,3 +17,6 @@ returns-clause-requests c = λ asked queues stands. elim c.if-is_pending.branch 
   | then-is_pending w ↦ rw w.parts-is (terminates c.args.parts.now.active w.complete.new.self c.args.id asked queues stands (sym (c.is_pending.ensures asked queues stands) ∙ w.if-is_pending.true) w.complete.ensures)
   | else-is_pending w ↦ rw w.parts-is (spares c.args.parts.now.active c.args.id asked queues stands (sym (c.is_pending.ensures asked queues stands) ∙ w.if-is_pending.false))
 ]
+
+pub returns-clause-sessions : goal.returns-clause-sessions
+returns-clause-sessions c = search rules

@@ -1,3 +1,4 @@
+use Rattle.std.proofs.lemmas.Grind.{common_steps}
 use Rattle.std.proofs.Common.{◌≡◌, ◌<◌, length, refl, ap, ◌∙◌, arith}
 use Rattle.std.specs.Prelude.{slice_set, slice_index_or}
 use Rattle.std.proofs.lemmas.List.{get_or_read}
@@ -14,3 +15,6 @@ invariant_of-self c =
     let clients : slice_set cl c.args.client c.released.result ≡ slice_set cl c.args.client (released (slice_index_or cl c.args.client Unconnected)) =
     ap (slice_set cl c.args.client) (c.released.ensures ∙ ap released (get_or_read cl c.args.client c.index-was.result.now few c.index-was.ensures Unconnected)) in
     kept-as _ _ _ _ _ _ _ _ _ _ _ _ clients refl refl refl refl refl (released-kept _ _ _ _ _ _ c.self.invariant _ c.self.view_is c.args.client few)
+
+pub returns-clause-session : goal.returns-clause-session
+returns-clause-session c = grind (arith, common_steps)

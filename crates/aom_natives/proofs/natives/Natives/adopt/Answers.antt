@@ -1,4 +1,4 @@
-use Rattle.std.proofs.Common.{◌≡◌, ◌∙◌, ◌+◌, [], ◌∷◌, ◌++◌, Some, ap, sym, subst, vec_len, arith}
+use Rattle.std.proofs.Common.{◌≡◌, ◌∙◌, ◌+◌, [], ◌∷◌, ◌++◌, Some, ap, sym, subst, vec_len, arith, rules}
 use Rattle.std.specs.Prelude.{replicate}
 use Rattle.aom_natives.specs.Owed.{OweNothing}
 use Rattle.aom_natives.proofs.Adopting.{agree-more, front, last-is, moved-more, nothing-more, others-are}
@@ -24,3 +24,6 @@ loop-ids-preserved g c =
       agree = rw pushed (agree-more now.slots.items _ (λ x. x.ids) (λ x. (goal.Native-dyn g (x.native.vtable, x.native.value)).owed x.native.value) fresh owe.0 now.invariant.agree);
       owe = owe.1;
     }
+
+pub returns-in-Err-clause-back : goal.returns-in-Err-clause-back
+returns-in-Err-clause-back g c = search rules
