@@ -1,4 +1,6 @@
+use Rattle.std.proofs.Common.{rules}
 use Rattle.aom_classes.specs.Faults.{Fails}
+use Rattle.aom_classes.specs.Roles.{main_of}
 use Rattle.aom_classes.proofs.Each.{refused}
 use Rattle.aom_classes.proofs.linked.check_conditions.Goals as goal
 
@@ -62,3 +64,11 @@ returns-then-not-all_loops_nest-clause-err c = (
   c.all_jump_well.ensures.0 c.if-not-all_jump_well.false,
   refused _ c.all_loops_nest.ensures c.if-not-all_loops_nest.true,
 )
+
+pub returns-in-Some-clause-ok : goal.returns-in-Some-clause-ok
+unfolding main_of
+returns-in-Some-clause-ok c = search rules
+
+pub returns-in-None-clause-err : goal.returns-in-None-clause-err
+unfolding Fails
+returns-in-None-clause-err c = search rules
