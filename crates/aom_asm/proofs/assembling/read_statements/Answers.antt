@@ -1,5 +1,5 @@
 -- A fault of the first reading is the fault of the statements.
-use Rattle.std.proofs.Common.{◌≡◌, ◌∙◌, ap, ap₂, sym, List, [], false, true, ℕ, Result, Ok, Err, subst}
+use Rattle.std.proofs.Common.{◌≡◌, ◌∙◌, ap, ap₂, sym, List, [], false, true, ℕ, Result, Ok, Err, subst, rules}
 use Rattle.std.proofs.lemmas.Result.{err_from_is_err_and}
 use Rattle.aom_text.specs.declared.text.Statement.{Statement}
 use Rattle.aom_text.specs.declared.fault.AsmFault.{AsmFault}
@@ -23,3 +23,6 @@ returns-in_err-first c =
     let e = err_from_is_err_and c.from_residual-in_err-first.result c.from_residual-in_err-first.ensures.1 in
     let scope = named c.args.last c.named.result c.in_ok-scope.scope _ c.in_ok-scope.ensures c.named.ensures in
     rw (e.1, e.2) (λ other. fails c.args.last c.args.text _ (ap₂ (read_program c.args.last) (sym scope) (sym c.again.ensures) ∙ c.in_err-first.ensures other))
+
+pub returns : goal.returns
+returns c = search rules

@@ -1,4 +1,4 @@
-use Rattle.std.proofs.Common.{IfOk, Ok, Err, Result, ℕ, List, ◌≡◌}
+use Rattle.std.proofs.Common.{IfOk, Ok, Err, Result, ℕ, List, ◌≡◌, rules}
 use Rattle.aom_text.specs.Text.{lines_of}
 use Rattle.aom_script.specs.Script.{Script, denoted_by, IsTimely}
 use Rattle.aom_script.specs.declared.fault.ScriptFault.{ScriptFault}
@@ -11,3 +11,9 @@ of_lines lines (Err fault) denotes = tt
 
 pub returns-clause-timely : goal.returns-clause-timely
 returns-clause-timely c = of_lines (lines_of c.args.text.now) c.read_lines.result c.read_lines.ensures.ok
+
+pub returns-clause-err : goal.returns-clause-err
+returns-clause-err c = search rules
+
+pub returns-clause-ok : goal.returns-clause-ok
+returns-clause-ok c = search rules

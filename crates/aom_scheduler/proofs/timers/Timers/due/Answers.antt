@@ -1,4 +1,4 @@
-use Rattle.std.proofs.Common.{◌<◌, None, refl, sym, subst, length, arith}
+use Rattle.std.proofs.Common.{◌<◌, None, refl, sym, subst, length, arith, rules}
 use Rattle.std.specs.Prelude.{slice_set, remove}
 use Rattle.std.proofs.lemmas.List.{length-set}
 use Rattle.aom_scheduler.specs.Dues.{IsTimed}
@@ -19,3 +19,9 @@ invariant_of-self c =
       omega
           (arith, length-set dues c.number.result None, c.self.invariant.2),
     )
+
+pub returns-clause-left : goal.returns-clause-left
+returns-clause-left c = search rules
+
+pub returns-clause-value : goal.returns-clause-value
+returns-clause-value c = search rules

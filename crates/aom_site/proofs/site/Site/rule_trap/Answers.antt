@@ -1,4 +1,4 @@
-use Rattle.std.proofs.Common.{◌≡◌, false, Some, sym, ◌∙◌}
+use Rattle.std.proofs.Common.{◌≡◌, false, Some, sym, ◌∙◌, rules}
 use Rattle.std.proofs.lemmas.Result.{err_from_is_err_and}
 use Rattle.aom_image.specs.Views.{is_quiet, method_at}
 use Rattle.aom_site.specs.Calls.{while_called}
@@ -33,3 +33,6 @@ returns c =
     let lasting : next_shape site.shape.entries c.while_called-lasting.result ≡ while_called call.target c.method-callee.result.now.class (resting site.image c.method-callee.result.now.class) c.in_ok-moved.moved = rw (same, ← rested) c.while_called-lasting.ensures.value in
     rw (c.on.ensures site.shape.entries, c.caught.ensures site.shape.entries, lasting)
     (sym ((trap_decides c.args.self.now c.args.call.now c.method-callee.result.now there loud).met c.in_ok-moved.moved _ given (rw (← c.self.view_is) (sym c.judge_trapped.ensures ∙ c.in_ok-judge_trapped.was))))
+
+pub returns-then-is_quiet : goal.returns-then-is_quiet
+returns-then-is_quiet c = search rules
