@@ -68,7 +68,3 @@ returns-then-not-all_loops_nest-clause-err c = (
 pub returns-in-Some-clause-ok : goal.returns-in-Some-clause-ok
 unfolding main_of
 returns-in-Some-clause-ok c = search rules
-
-pub returns-in-None-clause-err : goal.returns-in-None-clause-err
-unfolding Fails
-returns-in-None-clause-err c = search rules
