@@ -3,15 +3,15 @@ use Rattle.std.proofs.Common.{◌≡◌, ◌≢◌, ◌∙◌, ◌⊎◌, ℕ, B
 use Rattle.aom_sound.specs.State.{State}
 use Rattle.aom_sound.specs.World.{Reaches}
 use Rattle.aom_transcript.specs.declared.line.Line.{Line}
-use Rattle.aom_debug_courses.specs.Calls.{StandsFor}
-use Rattle.aom_debug_courses.specs.Movers.{Went, outside_of}
-use Rattle.aom_debug_courses.specs.Runs.{after}
+use Rattle.aom_debug_moves.specs.Calls.{StandsFor}
+use Rattle.aom_debug_moves.specs.Movers.{Went, outside_of}
+use Rattle.aom_debug_moves.specs.Runs.{after}
 use Rattle.aom_debug_words.specs.declared.fault.DebugFault.{DebugFault}
 use Rattle.aom_debug_words.specs.declared.fault.DebugFault.TheVariants.{WriteFault}
 use Rattle.aom_debug_sights.specs.Telling.{Tells, TellsPart}
 use Rattle.aom_debug.specs.Commands.{place_text}
-use Rattle.aom_debug_courses.specs.Sends.{Breaks, Machine, Sends}
-use Rattle.aom_debug_courses.specs.Courses.{Courses}
+use Rattle.aom_debug_moves.specs.Sends.{Breaks, Machine, Sends}
+use Rattle.aom_debug_moves.specs.Courses.{Courses}
 use Rattle.aom_parts.specs.declared.progress.Progress.{Progress}
 use Rattle.aom_debug.specs.Debugging.{Answer, Cut, Declined, Goes, GivesUp, Looks, MayGo, Outgoing, Seen, SeenPart, Shows, has_ended}
 use Rattle.aom_debug.proofs.Moving.{all_out, cut_out, part_out}

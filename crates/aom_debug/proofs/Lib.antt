@@ -1,5 +1,5 @@
 pub mod Moving
 pub mod Placing
 pub mod Answering
-pub use Rattle.aom_debug_courses.proofs.Keeping
-pub use Rattle.aom_debug_courses.proofs.Sending
+pub use Rattle.aom_debug_moves.proofs.Keeping
+pub use Rattle.aom_debug_moves.proofs.Sending

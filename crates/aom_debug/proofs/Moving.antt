@@ -5,10 +5,10 @@ use Rattle.aom_sound.specs.State.{State}
 use Rattle.aom_sound.specs.World.{Outside, Reaches}
 use Rattle.aom_transcript.specs.declared.line.Line.{Line}
 use Rattle.aom_transcript.specs.Text.{text_of}
-use Rattle.aom_debug_courses.specs.Calls.{StandsFor}
-use Rattle.aom_debug_courses.specs.Sends.{Breaks, Leads, Machine, Sends}
-use Rattle.aom_debug_courses.specs.Runs.{after}
-use Rattle.aom_debug_courses.proofs.Sending.{after_both, cut_next, cut_short}
+use Rattle.aom_debug_moves.specs.Calls.{StandsFor}
+use Rattle.aom_debug_moves.specs.Sends.{Breaks, Leads, Machine, Sends}
+use Rattle.aom_debug_moves.specs.Runs.{after}
+use Rattle.aom_debug_moves.proofs.Sending.{after_both, cut_next, cut_short}
 use Rattle.aom_debug_words.specs.declared.fault.DebugFault.{DebugFault}
 use Rattle.aom_debug_sights.specs.Telling.{Tells, TellsPart}
 use Rattle.aom_debug.specs.Commands.{moved_text, place_text}

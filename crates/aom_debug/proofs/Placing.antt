@@ -5,8 +5,8 @@ use Rattle.aom_sound.specs.Places.{count_cells}
 use Rattle.aom_sound.specs.State.{Rest, State}
 use Rattle.aom_transcript.specs.Text.{ended}
 use Rattle.aom_parts.specs.Stands.{Machine, StandsFor}
-use Rattle.aom_debug_courses.specs.Runs.{after}
-use Rattle.aom_debug_courses.proofs.Sending.{after_both, cut_next, cut_short}
+use Rattle.aom_debug_moves.specs.Runs.{after}
+use Rattle.aom_debug_moves.proofs.Sending.{after_both, cut_next, cut_short}
 use Rattle.aom_debug_words.specs.declared.answer.Answer.{Answer}
 use Rattle.aom_debug_words.specs.Answers.{answer_text}
 use Rattle.aom_debug_views.specs.Next.{next_of}

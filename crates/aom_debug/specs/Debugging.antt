@@ -5,18 +5,18 @@ use Rattle.aom_sound.specs.State.{State}
 use Rattle.aom_sound.specs.World.{Reaches}
 use Rattle.aom_transcript.specs.declared.line.Line.{Line}
 use Rattle.aom_transcript.specs.Text.{ended}
-use Rattle.aom_debug_courses.specs.Calls.{StandsFor}
-use Rattle.aom_debug_courses.specs.Runs.{after}
-use Rattle.aom_debug_courses.specs.Movers.{outside_of}
+use Rattle.aom_debug_moves.specs.Calls.{StandsFor}
+use Rattle.aom_debug_moves.specs.Runs.{after}
+use Rattle.aom_debug_moves.specs.Movers.{outside_of}
 use Rattle.aom_debug_words.specs.declared.fault.DebugFault.{DebugFault}
 use Rattle.aom_debug_words.specs.declared.fault.DebugFault.TheVariants.{BadCommand, NoSuch, Ended, OutOfMemory, WriteFault}
 use Rattle.aom_debug_words.specs.Marks.{is_set, with_spot}
 use Rattle.aom_debug_words.specs.declared.spot.Spot.{Spot}
 use Rattle.aom_debug_words.specs.declared.answer.Answer.TheVariants.{Done}
 use Rattle.aom_debug_words.specs.Answers.{answer_text}
-use Rattle.aom_debug_courses.specs.Courses.{Courses, course_of}
-use Rattle.aom_debug_courses.specs.declared.courses.Course.{Course}
-use Rattle.aom_debug_courses.specs.declared.courses.Course.TheVariants as course
+use Rattle.aom_debug_moves.specs.Courses.{Courses, course_of}
+use Rattle.aom_debug_moves.specs.declared.courses.Course.{Course}
+use Rattle.aom_debug_moves.specs.declared.courses.Course.TheVariants as course
 use Rattle.aom_debug_sights.specs.Telling.{Tells, TellsPart}
 use Rattle.aom_debug.specs.Commands.{NamesNoRoom, ShowsActives, ShowsCells, ShowsCleanup, ShowsOwners, ShowsRecent, is_count, moved_text, place_text, spot_named}
 use Rattle.aom_debug.specs.declared.debugger.Debugger.{Debugger}

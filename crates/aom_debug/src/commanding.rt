@@ -2,11 +2,11 @@
 ghost use Rattle.std.specs.Prelude.{◌≡◌};
 ghost use Rattle.aom_natives.specs.Slots.{AllAgree};
 ghost use Rattle.aom_debug_words.specs.Commands.{command_said};
-ghost use Rattle.aom_debug_courses.specs.Movers.{IsReady, Keeps};
+ghost use Rattle.aom_debug_moves.specs.Movers.{IsReady, Keeps};
 ghost use Rattle.aom_debug.specs.Obeying.{Heeds, Obeys};
 
 use crate::{Debugger, Look};
-use aom_debug_courses::Sink;
+use aom_debug_moves::Sink;
 use aom_debug_words::{Command, DebugFault, read_command};
 use aom_natives::Native;
 

@@ -1,13 +1,13 @@
 //! A debugger.
 ghost use Rattle.std.specs.Prelude.{◌≡◌, ◌||◌, [], false, true, IfErr, IfNone, IfOk, IfSome};
-ghost use Rattle.aom_debug_courses.specs.Calls.{Stands};
+ghost use Rattle.aom_debug_moves.specs.Calls.{Stands};
 ghost use Rattle.aom_natives.specs.Slots.{AllAgree};
-ghost use Rattle.aom_debug_courses.specs.Movers.{IsReady, Keeps};
+ghost use Rattle.aom_debug_moves.specs.Movers.{IsReady, Keeps};
 ghost use Rattle.aom_debug.specs.Debugging.{GivesUp, Goes, Runs, Sets, SetsAt, Shows, Steps, Turns, goes_of, has_ended};
 
 use crate::marking::spot_named;
 use crate::showing::tell_place;
-use aom_debug_courses::{Course, Mover, Progress, Sink, go};
+use aom_debug_moves::{Course, Mover, Progress, Sink, go};
 use aom_debug_sights::tell;
 use aom_debug_words::{Answer, Breakpoints, DebugFault, Spot};
 use aom_natives::Native;

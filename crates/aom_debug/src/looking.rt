@@ -1,12 +1,12 @@
 //! Looks, which change nothing.
 ghost use Rattle.std.specs.Prelude.{◌≡◌, IfErr, IfOk};
 ghost use Rattle.aom_natives.specs.Slots.{AllAgree};
-ghost use Rattle.aom_debug_courses.specs.Movers.{IsReady, Keeps};
+ghost use Rattle.aom_debug_moves.specs.Movers.{IsReady, Keeps};
 ghost use Rattle.aom_debug.specs.Debugging.{Looks, Seen, SeenPart, Sees};
 
 use crate::Debugger;
 use crate::showing::{show_cells, show_owners};
-use aom_debug_courses::Sink;
+use aom_debug_moves::Sink;
 use aom_debug_sights::{tell_actives, tell_cleanup, tell_recent};
 use aom_debug_words::DebugFault;
 use aom_natives::Native;

@@ -1,13 +1,13 @@
 //! Where a run stands.
 ghost use Rattle.std.specs.Prelude.{◌≡◌, IfErr, IfOk};
 ghost use Rattle.aom_cells.specs.Heap.{count};
-ghost use Rattle.aom_debug_courses.specs.Calls.{Stands};
+ghost use Rattle.aom_debug_moves.specs.Calls.{Stands};
 ghost use Rattle.aom_debug_sights.specs.Owners.{owners, owners_text};
 ghost use Rattle.aom_debug_sights.specs.Sights.{cells_answers};
 ghost use Rattle.aom_debug_sights.specs.Telling.{Tells, TellsPart, answers_text};
 ghost use Rattle.aom_debug.specs.Commands.{end_by, place_text};
 
-use aom_debug_courses::{Machine, Progress, Sink};
+use aom_debug_moves::{Machine, Progress, Sink};
 use aom_debug_sights::{send, tell, tell_cells, tell_owners};
 use aom_debug_views::next_of;
 use aom_debug_words::DebugFault;

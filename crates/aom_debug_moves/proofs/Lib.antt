@@ -1,5 +1,11 @@
 pub mod Keeping
 pub mod Sending
+pub mod Strides
+pub mod Going
+pub mod Turning
+pub mod Passing
+pub mod Leaving
+pub mod Runs
 pub use Rattle.aom_exec.proofs.Progressing
 pub use Rattle.aom_run.proofs.Gets
 pub use Rattle.aom_run.proofs.Reaching

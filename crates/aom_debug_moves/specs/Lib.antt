@@ -1,8 +1,10 @@
-pub mod Laws
 pub mod Movers
 pub mod Moves
 pub mod Sends
--- what is said of the machine and of its runs, for those who say it of a course
+pub mod Laws
+pub mod Courses
+pub mod CourseLaws
+-- what is said of the machine and of its runs, for those who say it of a debugger
 pub use Rattle.aom_exec.specs.Steps
 pub use Rattle.aom_machine.specs.Calls
 pub use Rattle.aom_run.specs.Runs

@@ -1,21 +1,31 @@
-//! The moves of a debugger, each with its lines: a step at hand, and what comes between dispatches.
+//! The moves of a debugger, each with its lines, and how far it goes on by them.
 //!
 //! Of a `Mover`, which is a machine under a script, `stride` makes one instruction and notes it, or lets one cell go, and `arrive` takes
 //! turns until something is at hand or the run ends.
 //! Each promises that from every state that the machine stands for just these moves of the checked machine lead to one that it then
 //! stands for, and that their lines are out (`Sends` of `specs/Sends.antt`, with `Strides` and `Arrives` of `specs/Moves.antt`), or a
-//! beginning of the lines of some moves where the sink failed (`Breaks`). Nothing here takes memory, by signature. It knows no commands.
+//! beginning of the lines of some moves where the sink failed (`Breaks`).
+//!
+//! `go` goes by these moves one after another: by so many steps, to the end of a dispatch, or to a breakpoint. It promises of each
+//! course how many steps were made, where they end and that nowhere before was a place to stay (`GoesBy`, `TurnsOver` and
+//! `GoesToBreakpoint` of `specs/Courses.antt`), and that the lines that went out are those of these moves, or a beginning of the lines
+//! of a run where the sink failed; and that just the instructions that were made are noted, after the latest that were there.
+//! Nothing here takes memory, by signature. It knows no commands and no inspections.
 #![tactic(auto)]
 
 mod arriving;
+mod courses;
 mod laws;
 mod mover;
 mod stepping;
+mod walking;
 
 pub use aom_exec::Progress;
 pub use aom_machine::Machine;
 pub use aom_run::Sink;
 pub use arriving::{arrive, turn_out};
-pub use laws::moves_are_a_run;
+pub use courses::{Course, go};
+pub use laws::{courses_are_a_run, moves_are_a_run};
 pub use mover::Mover;
 pub use stepping::stride;
+pub use walking::{Until, walk};

@@ -1,0 +1,46 @@
+-- Each course is a run: its turns are, and its steps.
+use Rattle.std.proofs.Common.{◌≡◌, ◌⊎◌, ◌++◌, ℕ, suc, Bool, List, [], inl, inr, sym, subst, append-nil, ap, ◌∙◌}
+use Rattle.aom_image.specs.Image.{Image}
+use Rattle.aom_sound.specs.State.{State}
+use Rattle.aom_sound.specs.World.{Outside, Reaches}
+use Rattle.aom_transcript.specs.declared.line.Line.{Line}
+use Rattle.aom_exec.specs.Steps.{IsAtHand}
+use Rattle.aom_run.proofs.Reaching.{reaches_both}
+use Rattle.aom_debug_views.specs.Next.{root_is_due}
+use Rattle.aom_debug_words.specs.declared.spot.Spot.{Spot}
+use Rattle.aom_debug_moves.specs.Sends.{Leads}
+use Rattle.aom_debug_moves.proofs.Sending.{reaches_arrived}
+use Rattle.aom_debug_moves.specs.Courses.{GoesBy, GoesOn, IsOver, Rests, TurnsOver, WalksThere, course_of, stays_at}
+use Rattle.aom_debug_moves.specs.declared.courses.Course.{Course}
+use Rattle.aom_debug_moves.specs.declared.courses.Course.TheVariants as course
+use Rattle.aom_debug_moves.specs.declared.walking.Until.TheVariants.{Breakpoint}
+use Rattle.aom_debug_moves.proofs.Going.{reaches_goes, run_of}
+use Rattle.aom_debug_moves.proofs.Passing.{reaches_passed}
+use Rattle.aom_debug_moves.proofs.Strides.{moving_walk}
+
+pub reaches_by : (p : Image) (outside : Outside) (steps : ℕ) (old new : List Spot) (s : State) (lines : List Line) (u : State) → GoesBy p outside steps old new s lines u → Reaches p outside s lines u
+reaches_by p outside steps old new s lines u (inl x) = reaches_goes p outside old s steps new lines u x
+reaches_by p outside steps old new s lines u (inr y) =
+    let z = y.2 in
+    subst (λ ls. Reaches p outside s ls u) (sym z.5) (reaches_both p outside s z.1 z.0 z.2 u (reaches_goes p outside old s y.0 new z.1 z.0 z.3) (reaches_arrived p outside z.0 z.2 u z.4))
+
+pub reaches_over : (p : Image) (outside : Outside) (old new : List Spot) (s : State) (lines : List Line) (u : State) → TurnsOver p outside old new s lines u → Reaches p outside s lines u
+reaches_over p outside old new s lines u x = subst (λ ls. Reaches p outside s ls u) (sym x.5) (go x.4)
+  where
+    go : (IsOver x.0 × Rests old new x.0 x.2 u) ⊎ (IsAtHand x.0 × WalksThere p outside.refused (λ s. root_is_due p s) old new x.0 x.2 u) → Reaches p outside s (x.1 ++ x.2) u
+    go (inl y) =
+        let same = ap (λ l. x.1 ++ l) y.1.0 ∙ append-nil x.1 in
+        subst (λ ls. Reaches p outside s ls u) (sym same) (subst (λ v. Reaches p outside s x.1 v) (sym y.1.1) (reaches_arrived p outside s x.1 x.0 x.3))
+    go (inr y) =
+        reaches_both p outside s x.1 x.0 x.2 u (reaches_arrived p outside s x.1 x.0 x.3)
+        (run_of p outside x.0 x.2 u (moving_walk p outside.refused (λ s. root_is_due p s) old x.0 (suc y.1.0) new x.2 u y.1.1))
+
+pub reaches_on : (p : Image) (outside : Outside) (stays : State → Bool) (old new : List Spot) (s : State) (lines : List Line) (u : State) → GoesOn p outside stays old new s lines u → Reaches p outside s lines u
+reaches_on p outside stays old new s lines u x =
+    let z = x.1 in
+    subst (λ ls. Reaches p outside s ls u) (sym z.5) (reaches_both p outside s z.1 z.0 z.2 u (reaches_passed p outside stays old s x.0 new z.1 z.0 z.3) (reaches_arrived p outside z.0 z.2 u z.4))
+
+pub reaches_course : (p : Image) (outside : Outside) (spots : List Spot) (way : Course) (old new : List Spot) (s : State) (lines : List Line) (u : State) → course_of p outside spots way old new s lines u → Reaches p outside s lines u
+reaches_course p outside spots (course.Steps n) = reaches_by p outside n
+reaches_course p outside spots course.EndOfDispatch = reaches_over p outside
+reaches_course p outside spots course.Breakpoint = reaches_on p outside (λ s. stays_at p Breakpoint spots s)

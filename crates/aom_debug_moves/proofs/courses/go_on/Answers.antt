@@ -1,0 +1,92 @@
+-- Steps in the dispatch at hand, and then in one dispatch after another.
+use Rattle.std.proofs.Common.{subst, ◌∙◌, ◌<◌, sym}
+use Rattle.aom_sound.specs.State.{State}
+use Rattle.aom_sound.specs.World.{Reaches}
+use Rattle.aom_debug_moves.specs.Movers.{outside_of}
+use Rattle.aom_debug_moves.specs.Sends.{Breaks}
+use Rattle.aom_debug_moves.proofs.Keeping.{heard_as, keeps_on}
+use Rattle.aom_debug_moves.proofs.Sending.{nearer, to_go}
+use Rattle.aom_debug_moves.specs.Courses.{stays_at}
+use Rattle.aom_debug_moves.specs.declared.walking.Until.TheVariants.{Breakpoint}
+use Rattle.aom_debug_moves.proofs.Going.{cut_run}
+use Rattle.aom_debug_moves.proofs.Leaving.{left_falls, left_in}
+use Rattle.aom_debug_moves.proofs.Passing.{begins_far, far_cut, goes_far, passed, went_on}
+use Rattle.aom_debug_moves.proofs.Strides.{walked_if_any}
+use Rattle.aom_debug_moves.proofs.courses.go_on.Goals as goal
+
+pub loop-progress-init : goal.loop-progress-init
+loop-progress-init g c =
+    let a = c.args.mover.now in
+    let p = a.machine.core.image in
+    let m = c.walk_unless.new.mover in
+    let stays = λ (s : State). stays_at p Breakpoint c.args.breakpoints.now s in
+    let before = g.W.Sink.out c.args.out.now in
+    let out = g.W.Sink.out c.walk_unless.new.out in
+    let walks = walked_if_any p a.turn.refused stays a.recent m.recent a.machine m.machine before out c.is_idle-rests.result c.is_idle-rests.ensures.rests c.in_ok-progress.ensures.went.0 in
+    record {
+      so_far = begins_far p (outside_of a) stays a.recent m.recent a.machine m.machine before out walks;
+      far = c.in_ok-progress.ensures.went.1;
+      keeps = c.walk_unless.ensures.keeps;
+      agree = c.walk_unless.ensures.agree;
+    }
+
+pub returns-in_default-clause-went : goal.returns-in_default-clause-went
+returns-in_default-clause-went g c =
+    let a = c.args.mover.now in
+    let p = a.machine.core.image in
+    let m = c.loop-progress.mover in
+    let stays = λ (s : State). stays_at p Breakpoint c.args.breakpoints.now s in
+    let i = c.loop-progress.invariant in
+    (went_on p (outside_of a) stays a.recent m.recent a.machine m.machine (g.W.Sink.out c.args.out.now) (g.W.Sink.out c.loop-progress.out) (λ is. c.in_default.not-Turned (i.far ∙ is)) i.so_far, i.far)
+
+pub returns-in_err-progress-clause-went : goal.returns-in_err-progress-clause-went
+returns-in_err-progress-clause-went g c =
+    let a = c.args.mover.now in
+    let off = c.in_err-progress.ensures.went in
+    rw c.from_residual.ensures (off.0, cut_run a.machine.core.image (outside_of a) a.machine c.walk_unless.new.mover.machine (g.W.Sink.out c.args.out.now) (g.W.Sink.out c.walk_unless.new.out) off.1)
+
+pub returns-in_err-progress-2-clause-went : goal.returns-in_err-progress-2-clause-went
+returns-in_err-progress-2-clause-went g c =
+    let a = c.args.mover.now in
+    let p = a.machine.core.image in
+    let stays = λ (s : State). stays_at p Breakpoint c.args.breakpoints.now s in
+    let i = c.loop-progress.invariant in
+    let m = c.loop-progress.mover in
+    let n = c.pass.new.mover in
+    let here = g.W.Sink.out c.loop-progress.out in
+    let out = g.W.Sink.out c.pass.new.out in
+    let off = c.in_err-progress-2.ensures.went in
+    let cut = heard_as i.keeps (λ q o. Breaks (Reaches q o) m.machine here out n.machine) off.1 in
+    rw c.from_residual-in_err-progress-2.ensures (off.0, far_cut p (outside_of a) stays a.recent m.recent a.machine m.machine n.machine (g.W.Sink.out c.args.out.now) here out i.so_far cut)
+
+pub loop-progress-smaller : goal.loop-progress-smaller
+loop-progress-smaller g c =
+    let a = c.args.mover.now in
+    let keeps = c.loop-progress.invariant.keeps in
+    let m = c.loop-progress.mover in
+    let n = c.pass.new.mover in
+    let some = c.in_ok-progress-2.ensures.went in
+    let on = passed a m n keeps c.args.breakpoints.now _ _ some.0 in
+    let resting = sym c.loop-progress.invariant.far ∙ c.in-Turned.is in
+    let later = left_in a.script.timed a.limit n.machine.core.parts.rest in
+    let before = left_in a.script.timed a.limit m.machine.core.parts.rest in
+    let far = c.in_ok-progress-2.progress in
+    let less = nearer far later before (λ again. left_falls a.machine.core.image (outside_of a) c.requires.ready.few _ _ _ m.machine n.machine _ _ keeps.ready.stands resting on (sym some.1 ∙ again)) in
+    subst (λ q. to_go far later < to_go q before) (sym c.in-Turned.is) less
+
+pub loop-progress-preserved : goal.loop-progress-preserved
+loop-progress-preserved g c =
+    let a = c.args.mover.now in
+    let p = a.machine.core.image in
+    let i = c.loop-progress.invariant in
+    let m = c.loop-progress.mover in
+    let n = c.pass.new.mover in
+    let stays = λ (s : State). stays_at p Breakpoint c.args.breakpoints.now s in
+    let some = c.in_ok-progress-2.ensures.went in
+    let on = passed a m n i.keeps c.args.breakpoints.now _ _ some.0 in
+    record {
+      so_far = goes_far p (outside_of a) stays a.recent m.recent a.machine m.machine n.machine _ _ _ i.so_far n.recent on;
+      far = some.1;
+      keeps = keeps_on i.keeps c.pass.ensures.keeps;
+      agree = c.pass.ensures.agree;
+    }

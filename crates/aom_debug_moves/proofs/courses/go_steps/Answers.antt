@@ -1,0 +1,84 @@
+-- A step more, after its turns.
+use Rattle.std.proofs.Common.{arith, subst, suc, ◌≡◌, ◌∙◌, ◌+◌, sym}
+use Rattle.aom_run.specs.Runs.{Moving}
+use Rattle.aom_debug_moves.specs.Movers.{outside_of}
+use Rattle.aom_debug_moves.specs.Moves.{Strides}
+use Rattle.aom_debug_moves.specs.Sends.{Breaks, Sends}
+use Rattle.aom_debug_moves.proofs.Going.{GoesSo, all_made, comes_so, cut_so, ends_early, goes_cut, no_steps, one_more, step_cut}
+use Rattle.aom_debug_moves.proofs.Keeping.{begun_as, keeps_all, keeps_on}
+use Rattle.aom_debug_moves.proofs.courses.go_steps.Goals as goal
+
+pub loop-done-init : goal.loop-done-init
+loop-done-init g c =
+    let a = c.args.mover.now in
+    record {
+      so_far = no_steps a.machine.core.image (outside_of a) a.recent a.machine (g.W.Sink.out c.args.out.now);
+      within = omega arith;
+      keeps = keeps_all a c.requires.ready;
+      agree = c.requires.agree;
+    }
+
+pub returns-in_err-other-clause-went : goal.returns-in_err-other-clause-went
+returns-in_err-other-clause-went g c =
+    let a = c.args.mover.now in
+    let i = c.loop-done.invariant in
+    let m = c.loop-done.mover in
+    rw c.from_residual.ensures (
+      c.in_err-other.ensures.went.0,
+      goes_cut a.machine.core.image (outside_of a) c.loop-done.done a.recent m.recent a.machine m.machine c.arrive.new.mover.machine _ _ _ i.so_far (cut_so a m c.arrive.new.mover i.keeps _ _ c.in_err-other.ensures.went.1),
+    )
+
+pub returns-in_default-clause-went : goal.returns-in_default-clause-went
+returns-in_default-clause-went g c =
+    let a = c.args.mover.now in
+    let m = c.loop-done.mover in
+    let n = c.arrive.new.mover in
+    let some = c.in_ok-other.ensures.went in (
+      rw c.arrive.ensures.recent
+          (ends_early a.machine.core.image (outside_of a) c.loop-done.done a.recent m.recent a.machine m.machine n.machine _ _ _ c.loop-done.invariant.so_far c.args.steps c.loop-done-test.true
+          (λ is. c.in_default.not-Running (some.1 ∙ is)) (λ is. c.in_ok-other.ensures.goes (some.1 ∙ is)) (comes_so a m n c.loop-done.invariant.keeps _ _ some.0)),
+      some.1,
+    )
+
+pub returns-in_err-stride-clause-went : goal.returns-in_err-stride-clause-went
+returns-in_err-stride-clause-went g c =
+    let a = c.args.mover.now in
+    let keeps = c.loop-done.invariant.keeps in
+    let m = c.loop-done.mover in
+    let mid = c.arrive.new.mover in
+    let n = c.stride.new.mover.machine in
+    let out = g.W.Sink.out c.stride.new.out in
+    let comes = comes_so a m mid keeps _ _ c.in_ok-other.ensures.went.0 in
+    let off = c.in_err-stride.ensures.went in
+    let cut = begun_as (keeps_on keeps c.arrive.ensures.keeps) (λ q r. Breaks (Moving q r) mid.machine (g.W.Sink.out c.arrive.new.out) out n) off.1 in
+    rw c.from_residual-in_err-stride.ensures (off.0, step_cut a.machine.core.image (outside_of a) c.loop-done.done a.recent m.recent a.machine m.machine mid.machine _ _ _ c.loop-done.invariant.so_far n out comes cut)
+
+pub loop-done-preserved : goal.loop-done-preserved
+loop-done-preserved g c =
+    let a = c.args.mover.now in
+    let i = c.loop-done.invariant in
+    let m = c.loop-done.mover in
+    let mid = c.arrive.new.mover in
+    let n = c.stride.new.mover in
+    let out = g.W.Sink.out c.stride.new.out in
+    let some = c.in_ok-other.ensures.went in
+    let comes = comes_so a m mid i.keeps _ _ some.0 in
+    let keeps = keeps_on i.keeps c.arrive.ensures.keeps in
+    let noted = subst (λ spots. Sends (Strides mid.machine.core.image mid.turn.refused spots n.recent) mid.machine (g.W.Sink.out c.arrive.new.out) out n.machine) c.arrive.ensures.recent c.in_ok-stride.ensures.went.0 in
+    let step = begun_as keeps (λ q r. Sends (Strides q r m.recent n.recent) mid.machine (g.W.Sink.out c.arrive.new.out) out n.machine) noted in
+    let more : suc c.loop-done.done ≡ c.loop-done.done + 1 = omega arith in
+    record {
+      so_far = subst (λ k. Sends (GoesSo a.machine.core.image (outside_of a) k a.recent n.recent) a.machine (g.W.Sink.out c.args.out.now) out n.machine) more
+          (one_more a.machine.core.image (outside_of a) c.loop-done.done a.recent m.recent a.machine m.machine mid.machine _ _ _ i.so_far n.machine out comes n.recent (sym some.1 ∙ c.in-Running.is) step);
+      within = omega (arith, c.loop-done-test.true);
+      keeps = keeps_on keeps c.stride.ensures.keeps;
+      agree = c.stride.ensures.agree;
+    }
+
+pub returns-clause-went : goal.returns-clause-went
+returns-clause-went g c =
+    let a = c.args.mover.now in
+    let m = c.loop-done.mover in
+    let i = c.loop-done.invariant in
+    let all : c.loop-done.done ≡ c.args.steps = omega (arith, c.loop-done-test.false, i.within) in
+    (all_made a.machine.core.image (outside_of a) c.args.steps c.loop-done.done all a.recent m.recent a.machine m.machine (g.W.Sink.out c.args.out.now) (g.W.Sink.out c.loop-done.out) i.so_far, c.progress.ensures)

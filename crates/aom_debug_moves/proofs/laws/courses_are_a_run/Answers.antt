@@ -1,0 +1,11 @@
+use Rattle.aom_debug_moves.proofs.Runs.{reaches_by, reaches_on, reaches_over}
+use Rattle.aom_debug_moves.proofs.laws.courses_are_a_run.Goals as goal
+
+pub returns-clause-steps : goal.returns-clause-steps
+returns-clause-steps c = reaches_by
+
+pub returns-clause-turns : goal.returns-clause-turns
+returns-clause-turns c = reaches_over
+
+pub returns-clause-goes : goal.returns-clause-goes
+returns-clause-goes c = reaches_on

@@ -1,0 +1,48 @@
+-- Steps as long as something is at hand and it is no place to stay.
+use Rattle.std.proofs.Common.{ap, ◌∙◌, sym}
+use Rattle.aom_debug_moves.proofs.Keeping.{keeps_all, keeps_on}
+use Rattle.aom_debug_moves.specs.Courses.{stays_at}
+use Rattle.aom_debug_moves.proofs.Strides.{not_there, nowhere, over, step_cut, stepped, there}
+use Rattle.aom_debug_moves.proofs.walking.walk.Goals as goal
+
+pub loop-progress-init : goal.loop-progress-init
+loop-progress-init g c =
+    let a = c.args.mover.now in
+    record {
+      so_far = nowhere a.machine.core.image a.turn.refused (λ s. stays_at a.machine.core.image c.args.until c.args.breakpoints.now s) a.recent a.machine (g.W.Sink.out c.args.out.now);
+      running = c.requires.running;
+      keeps = keeps_all a c.requires.ready;
+      agree = c.requires.agree;
+    }
+
+pub returns-in_err-progress-clause-went : goal.returns-in_err-progress-clause-went
+returns-in_err-progress-clause-went g c =
+    let i = c.loop-progress.invariant in
+    let off = c.in_err-progress.ensures.went in
+    rw c.from_residual.ensures (off.0, step_cut c.args.mover.now c.loop-progress.mover c.stride.new.mover i.keeps _ _ _ _ _ i.so_far off.1)
+
+pub returns-in_default-clause-went : goal.returns-in_default-clause-went
+returns-in_default-clause-went g c =
+    let i = c.loop-progress.invariant in
+    let some = c.in_ok-progress.ensures.went in
+    let made = stepped c.args.mover.now c.loop-progress.mover c.stride.new.mover i.keeps _ _ _ _ _ i.so_far i.running some.0 in
+    (over _ _ _ _ _ c.args.mover.now.machine c.stride.new.mover.machine _ _ made (λ is. c.in_default.not-Running (some.1 ∙ is)), some.1)
+
+pub returns-then-is_there-clause-went : goal.returns-then-is_there-clause-went
+returns-then-is_there-clause-went g c =
+    let i = c.loop-progress.invariant in
+    let some = c.in_ok-progress.ensures.went in
+    let made = stepped c.args.mover.now c.loop-progress.mover c.stride.new.mover i.keeps _ _ _ _ _ i.so_far i.running some.0 in
+    (there _ _ _ _ _ c.args.mover.now.machine c.stride.new.mover.machine _ _ made c.is_there.result c.if-is_there.true (λ s st. c.is_there.ensures s st ∙ ap (λ q. stays_at q c.args.until c.args.breakpoints.now s) (c.stride.ensures.keeps.image ∙ i.keeps.image)), some.1)
+
+pub loop-progress-preserved : goal.loop-progress-preserved
+loop-progress-preserved g c =
+    let i = c.loop-progress.invariant in
+    let some = c.in_ok-progress.ensures.went in
+    let made = stepped c.args.mover.now c.loop-progress.mover c.stride.new.mover i.keeps _ _ _ _ _ i.so_far i.running some.0 in
+    record {
+      so_far = not_there _ _ _ _ _ c.args.mover.now.machine c.stride.new.mover.machine _ _ made c.is_there.result c.if-is_there.false (λ s st. c.is_there.ensures s st ∙ ap (λ q. stays_at q c.args.until c.args.breakpoints.now s) (c.stride.ensures.keeps.image ∙ i.keeps.image));
+      running = sym some.1 ∙ c.in-Running.is;
+      keeps = keeps_on i.keeps c.stride.ensures.keeps;
+      agree = c.stride.ensures.agree;
+    }

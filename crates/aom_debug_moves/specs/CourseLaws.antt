@@ -1,0 +1,21 @@
+-- What a debugger's courses are to a run.
+use Rattle.std.specs.Prelude.{ℕ, List, Bool}
+use Rattle.aom_image.specs.Image.{Image}
+use Rattle.aom_sound.specs.State.{State}
+use Rattle.aom_sound.specs.World.{Outside, Reaches}
+use Rattle.aom_transcript.specs.declared.line.Line.{Line}
+use Rattle.aom_debug_words.specs.declared.spot.Spot.{Spot}
+use Rattle.aom_debug_moves.specs.Courses.{Courses, GoesBy, GoesOn, TurnsOver}
+
+-- what leads so is a run, with the same lines
+abbrev pub AreRuns : Image → Outside → Courses → Type 0
+AreRuns p outside leads = (old new : List Spot) (s : State) (lines : List Line) (u : State) → leads old new s lines u → Reaches p outside s lines u
+
+abbrev pub StepsRun : Type 0
+StepsRun = (p : Image) (outside : Outside) (steps : ℕ) → AreRuns p outside (GoesBy p outside steps)
+
+abbrev pub TurnsRun : Type 0
+TurnsRun = (p : Image) (outside : Outside) → AreRuns p outside (TurnsOver p outside)
+
+abbrev pub GoingRuns : Type 0
+GoingRuns = (p : Image) (outside : Outside) (stays : State → Bool) → AreRuns p outside (GoesOn p outside stays)

@@ -1,0 +1,114 @@
+-- How far a debugger goes on, and what the latest instructions are before and after.
+use Rattle.std.specs.Prelude.{◌≡◌, ◌≢◌, ◌⊎◌, ◌<◌, ℕ, suc, Bool, true, false, List, [], ◌++◌, Option, Some, None, is_some}
+use Rattle.aom_image.specs.Image.{Image}
+use Rattle.aom_sound.specs.State.{State}
+use Rattle.aom_sound.specs.World.{Outside}
+use Rattle.aom_transcript.specs.declared.line.Line.{Line}
+use Rattle.aom_parts.specs.declared.progress.Progress.TheVariants.{Running}
+use Rattle.aom_parts.specs.Progress.{progress_of}
+use Rattle.aom_exec.specs.Steps.{IsAtHand}
+use Rattle.aom_debug_words.specs.Marks.{has_spot}
+use Rattle.aom_debug_words.specs.declared.spot.Spot.{Spot}
+use Rattle.aom_debug_views.specs.Next.{next_of, root_is_due, spot_of}
+use Rattle.aom_debug_moves.specs.Moves.{Arrives, Strides}
+use Rattle.aom_debug_moves.specs.Sends.{Leads, Then}
+use Rattle.aom_debug_moves.specs.declared.courses.Course.{Course}
+use Rattle.aom_debug_moves.specs.declared.courses.Course.TheVariants as course
+use Rattle.aom_debug_moves.specs.declared.walking.Until.{Until}
+use Rattle.aom_debug_moves.specs.declared.walking.Until.TheVariants.{EndOfDispatch, Breakpoint}
+
+-- what leads from a state to another, as the latest instructions are these before and after
+abbrev pub Courses : Type 1
+Courses = List Spot → List Spot → Leads
+
+-- ---- places to stay
+
+-- an instruction with a breakpoint is next
+abbrev pub is_broken : List Spot → Option Spot → Bool
+is_broken spots None = false
+is_broken spots (Some spot) = has_spot spot spots
+
+-- a place to stay, where something is at hand
+abbrev pub stays_at : Image → Until → List Spot → State → Bool
+stays_at p EndOfDispatch spots s = root_is_due p s
+stays_at p Breakpoint spots s = is_broken spots (spot_of (next_of p s))
+
+-- the run is over
+abbrev pub IsOver : State → Type 0
+IsOver s = is_some s.rest.ended ≡ true
+
+-- nothing is at hand, or it is a place to stay
+abbrev pub IsThere : (State → Bool) → State → Type 0
+IsThere stays s = (progress_of s ≢ Running) ⊎ (stays s ≡ true)
+
+-- nothing is done
+abbrev pub Rests : Courses
+Rests old new s lines u = (lines ≡ []) × (u ≡ s) × (new ≡ old)
+
+-- ---- steps one after another, in one dispatch
+
+-- so many of them; each but the first from a place that is none to stay at
+pub data Walks (p : Image) (refused : List ℕ) (stays : State → Bool) (old : List Spot) (s : State) : ℕ → List Spot → List Line → State → Type 0 where
+  begins : Walks p refused stays old s 0 old [] s
+  strides : {n : ℕ} {mid new : List Spot} {lines more : List Line} {v u : State} → Walks p refused stays old s n mid lines v → IsAtHand v → (n ≢ 0 → stays v ≡ false) → Strides p refused mid new v more u → Walks p refused stays old s (suc n) new (lines ++ more) u
+
+-- one step at least, until nothing is at hand or it is a place to stay
+abbrev pub WalksThere : Image → List ℕ → (State → Bool) → Courses
+WalksThere p refused stays old new s lines u = (n : ℕ) × Walks p refused stays old s (suc n) new lines u × IsThere stays u
+
+-- that, or nothing where it is to rest
+abbrev pub WalksUnless : Bool → Image → List ℕ → (State → Bool) → Courses
+WalksUnless true p refused stays = Rests
+WalksUnless false p refused stays = WalksThere p refused stays
+
+-- that where something is at hand, and nothing where nothing is
+abbrev pub WalksIfAny : Image → List ℕ → (State → Bool) → Courses
+WalksIfAny p refused stays old new s lines u = ((progress_of s ≢ Running) × Rests old new s lines u) ⊎ WalksThere p refused stays old new s lines u
+
+-- that where it is no place to stay, and nothing where it is
+abbrev pub WalksOn : Image → List ℕ → (State → Bool) → Courses
+WalksOn p refused stays old new s lines u = ((stays s ≡ true) × Rests old new s lines u) ⊎ ((stays s ≡ false) × WalksThere p refused stays old new s lines u)
+
+-- in the dispatch at hand, or in the next; nothing where there is none, and the run is over
+abbrev pub InDispatch : Image → Outside → Courses → Courses
+InDispatch p outside leads old new = Then (Arrives p outside) (λ s lines u. (IsOver s × Rests old new s lines u) ⊎ (IsAtHand s × leads old new s lines u))
+
+-- to its end; with the root's destruction due it is at its end
+abbrev pub TurnsOver : Image → Outside → Courses
+TurnsOver p outside = InDispatch p outside (WalksThere p outside.refused (λ s. root_is_due p s))
+
+-- ---- so many steps
+
+-- each after the turns that come before it
+pub data Goes (p : Image) (outside : Outside) (old : List Spot) (s : State) : ℕ → List Spot → List Line → State → Type 0 where
+  begins : Goes p outside old s 0 old [] s
+  strides : {n : ℕ} {mid new : List Spot} {lines first later : List Line} {v w u : State} → Goes p outside old s n mid lines v → Arrives p outside v first w → IsAtHand w → Strides p outside.refused mid new w later u → Goes p outside old s (suc n) new (lines ++ (first ++ later)) u
+
+-- so many, or fewer where the run ends before
+abbrev pub GoesBy : Image → Outside → ℕ → Courses
+GoesBy p outside steps old new s lines u = Goes p outside old s steps new lines u ⊎ ((n : ℕ) × (n < steps) × Then (λ a ls b. Goes p outside old a n new ls b) (Arrives p outside) s lines u × IsOver u)
+
+-- ---- to a place to stay, or to the end of the run
+
+-- where something was at hand at first a step was made
+abbrev pub HasBegun : ℕ → State → Type 0
+HasBegun n s = progress_of s ≡ Running → n ≢ 0
+
+-- so many steps, each after the turns that come before it, and, once it has begun, none from a place to stay
+pub data Passes (p : Image) (outside : Outside) (stays : State → Bool) (old : List Spot) (s : State) : ℕ → List Spot → List Line → State → Type 0 where
+  begins : Passes p outside stays old s 0 old [] s
+  strides : {n : ℕ} {mid new : List Spot} {lines first later : List Line} {v w u : State} → Passes p outside stays old s n mid lines v → Arrives p outside v first w → IsAtHand w → (HasBegun n s → stays w ≡ false) → Strides p outside.refused mid new w later u → Passes p outside stays old s (suc n) new (lines ++ (first ++ later)) u
+
+-- some steps and the turns behind them, up to the first place to stay once it has begun, or to the end of the run
+abbrev pub GoesOn : Image → Outside → (State → Bool) → Courses
+GoesOn p outside stays old new s lines u = (n : ℕ) × Then (λ a ls b. Passes p outside stays old a n new ls b) (Arrives p outside) s lines u × HasBegun n s × (IsOver u ⊎ (stays u ≡ true))
+
+-- until an instruction with a breakpoint is next, but for where it begins, or to the end of the run
+abbrev pub GoesToBreakpoint : Image → Outside → List Spot → Courses
+GoesToBreakpoint p outside spots = GoesOn p outside (λ s. stays_at p Breakpoint spots s)
+
+-- each course that a debugger is asked for
+abbrev pub course_of : Image → Outside → List Spot → Course → Courses
+course_of p outside spots (course.Steps n) = GoesBy p outside n
+course_of p outside spots course.EndOfDispatch = TurnsOver p outside
+course_of p outside spots course.Breakpoint = GoesToBreakpoint p outside spots

@@ -1,0 +1,114 @@
+//! So many steps, the end of a dispatch, and the next breakpoint.
+ghost use Rattle.aom_natives.specs.Slots.{AllAgree};
+ghost use Rattle.aom_sound.specs.World.{Reaches};
+ghost use Rattle.aom_debug_moves.specs.Movers.{IsReady, Keeps, Went, outside_of};
+ghost use Rattle.aom_debug_moves.specs.Courses.{GoesBy, GoesToBreakpoint, InDispatch, TurnsOver, WalksOn, course_of, stays_at};
+ghost use Rattle.aom_debug_moves.specs.declared.walking.Until.TheVariants.{Breakpoint};
+
+use crate::walking::{Until, is_idle, is_there, walk, walk_unless};
+use crate::{Mover, arrive, stride};
+use aom_debug_words::Breakpoints;
+use aom_exec::Progress;
+use aom_natives::Native;
+use aom_run::Sink;
+
+/// How far a debugger goes on, if the run does not end before.
+#[derive(Clone, Copy, PartialEq, Eq)]
+pub enum Course {
+    /// By so many steps.
+    Steps(u32),
+    /// To the end of the dispatch at hand, or of the next.
+    EndOfDispatch,
+    /// Until an instruction with a breakpoint is next, but for where it begins.
+    Breakpoint,
+}
+
+/// So many steps, or to the end of the run.
+fn go_steps<W: Sink>(mover: &mut Mover, steps: u32, out: &mut W) -> Option<Progress>
+    requires agree { AllAgree (λ l. l.ids) (λ l. (⟦<dyn Native as Native>⟧ l.native.vtable).owed l.native.value) mover.old.machine.natives.slots.items }
+    requires ready { IsReady mover.old }
+    ensures agree { AllAgree (λ l. l.ids) (λ l. (⟦<dyn Native as Native>⟧ l.native.vtable).owed l.native.value) mover.new.machine.natives.slots.items }
+    ensures keeps { Keeps mover.old mover.new }
+    ensures went { Went (GoesBy mover.old.machine.core.image (outside_of mover.old) steps mover.old.recent mover.new.recent) (Reaches mover.old.machine.core.image (outside_of mover.old)) mover.old (W.out out.old) (W.out out.new) (W.failed out.new) result mover.new }
+{
+    let mut done = 0;
+    while done < steps {
+        match arrive(mover, out)? {
+            Progress::Running => {}
+            other => return Some(other),
+        }
+        stride(mover, out)?;
+        done += 1;
+    }
+    Some(mover.machine.core.progress())
+}
+
+/// To the end of the dispatch at hand, or of the next, or to the end of the run.
+fn go_turn<W: Sink>(mover: &mut Mover, breakpoints: &Breakpoints, out: &mut W) -> Option<Progress>
+    requires agree { AllAgree (λ l. l.ids) (λ l. (⟦<dyn Native as Native>⟧ l.native.vtable).owed l.native.value) mover.old.machine.natives.slots.items }
+    requires ready { IsReady mover.old }
+    ensures agree { AllAgree (λ l. l.ids) (λ l. (⟦<dyn Native as Native>⟧ l.native.vtable).owed l.native.value) mover.new.machine.natives.slots.items }
+    ensures keeps { Keeps mover.old mover.new }
+    ensures went { Went (TurnsOver mover.old.machine.core.image (outside_of mover.old) mover.old.recent mover.new.recent) (Reaches mover.old.machine.core.image (outside_of mover.old)) mover.old (W.out out.old) (W.out out.new) (W.failed out.new) result mover.new }
+{
+    match arrive(mover, out)? {
+        Progress::Running => walk(mover, Until::EndOfDispatch, breakpoints, out),
+        other => Some(other),
+    }
+}
+
+/// To the next dispatch, and on in it unless its first instruction has a breakpoint.
+fn pass<W: Sink>(mover: &mut Mover, breakpoints: &Breakpoints, out: &mut W) -> Option<Progress>
+    requires agree { AllAgree (λ l. l.ids) (λ l. (⟦<dyn Native as Native>⟧ l.native.vtable).owed l.native.value) mover.old.machine.natives.slots.items }
+    requires ready { IsReady mover.old }
+    ensures agree { AllAgree (λ l. l.ids) (λ l. (⟦<dyn Native as Native>⟧ l.native.vtable).owed l.native.value) mover.new.machine.natives.slots.items }
+    ensures keeps { Keeps mover.old mover.new }
+    ensures went { Went (InDispatch mover.old.machine.core.image (outside_of mover.old) (WalksOn mover.old.machine.core.image mover.old.turn.refused (λ s. stays_at mover.old.machine.core.image Breakpoint breakpoints.now s)) mover.old.recent mover.new.recent) (Reaches mover.old.machine.core.image (outside_of mover.old)) mover.old (W.out out.old) (W.out out.new) (W.failed out.new) result mover.new }
+{
+    match arrive(mover, out)? {
+        Progress::Running => {
+            let rests = is_there(&mover.machine, Until::Breakpoint, breakpoints);
+            walk_unless(rests, mover, Until::Breakpoint, breakpoints, out)
+        }
+        other => Some(other),
+    }
+}
+
+/// Until an instruction with a breakpoint is next, but for where it begins, or to the end of the run.
+fn go_on<W: Sink>(mover: &mut Mover, breakpoints: &Breakpoints, out: &mut W) -> Option<Progress>
+    requires agree { AllAgree (λ l. l.ids) (λ l. (⟦<dyn Native as Native>⟧ l.native.vtable).owed l.native.value) mover.old.machine.natives.slots.items }
+    requires ready { IsReady mover.old }
+    ensures agree { AllAgree (λ l. l.ids) (λ l. (⟦<dyn Native as Native>⟧ l.native.vtable).owed l.native.value) mover.new.machine.natives.slots.items }
+    ensures keeps { Keeps mover.old mover.new }
+    ensures went { Went (GoesToBreakpoint mover.old.machine.core.image (outside_of mover.old) breakpoints.now mover.old.recent mover.new.recent) (Reaches mover.old.machine.core.image (outside_of mover.old)) mover.old (W.out out.old) (W.out out.new) (W.failed out.new) result mover.new }
+{
+    let rests = is_idle(&mover.machine);
+    let mut progress = walk_unless(rests, mover, Until::Breakpoint, breakpoints, out)?;
+    loop {
+        match progress {
+            Progress::Turned => {}
+            other => return Some(other),
+        }
+        progress = pass(mover, breakpoints, out)?;
+    }
+}
+
+/// Goes on so far. `None` where the sink failed.
+pub fn go<W: Sink>(
+    mover: &mut Mover,
+    course: Course,
+    breakpoints: &Breakpoints,
+    out: &mut W,
+) -> Option<Progress>
+    requires agree { AllAgree (λ l. l.ids) (λ l. (⟦<dyn Native as Native>⟧ l.native.vtable).owed l.native.value) mover.old.machine.natives.slots.items }
+    requires ready { IsReady mover.old }
+    ensures agree { AllAgree (λ l. l.ids) (λ l. (⟦<dyn Native as Native>⟧ l.native.vtable).owed l.native.value) mover.new.machine.natives.slots.items }
+    ensures keeps { Keeps mover.old mover.new }
+    ensures went { Went (course_of mover.old.machine.core.image (outside_of mover.old) breakpoints.now course mover.old.recent mover.new.recent) (Reaches mover.old.machine.core.image (outside_of mover.old)) mover.old (W.out out.old) (W.out out.new) (W.failed out.new) result mover.new }
+{
+    match course {
+        Course::Steps(steps) => go_steps(mover, steps, out),
+        Course::EndOfDispatch => go_turn(mover, breakpoints, out),
+        Course::Breakpoint => go_on(mover, breakpoints, out),
+    }
+}
