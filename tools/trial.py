@@ -178,12 +178,10 @@ class Trial:
             if with_holes:
                 make_holes(name, f"{room}/c", functions)
             write_answers(name, f"{room}/c", goals)
-            # keeping takes time, and a check that is the only one of its crate has no use for it
-            kept = f"{room}/kept" if self.kept[name] or self.rest.get(name) else ""
             with self.moving:
                 if self.kept[name]:
-                    shutil.copytree(self.kept[name], kept)
-            answer = self.checked(kind, name, f"{room}/c", functions, kept)
+                    shutil.copytree(self.kept[name], f"{room}/kept")
+            answer = self.checked(kind, name, f"{room}/c", functions, f"{room}/kept")
             if os.path.isdir(f"{room}/kept") and (not texts or not self.kept[name]):
                 self.keep(name, f"{room}/kept")
         return answer
