@@ -3,6 +3,8 @@ ghost use Rattle.std.specs.Prelude.{◌≡◌, ◌==◌};
 ghost use Rattle.std.specs.List.{find};
 ghost use Rattle.std.specs.Str.{bytes_eq};
 ghost use Rattle.aom_instructions.specs.Rows.{mnemonics, row, kinds, call_kinds};
+ghost use Rattle.aom_instructions.specs.declared.kinds.SmallKind.TheVariants.{Register, Unused};
+ghost use Rattle.aom_instructions.specs.declared.kinds.LargeKind.TheVariants.{Nothing};
 ghost use Rattle.aom_instructions.specs.Mnemonics.{mnemonic_of, mnemonic_text, with_opcode};
 
 use crate::LargeKind::{Class, Method, Nothing, Number, Place, Rounds};
@@ -150,6 +152,48 @@ impl Row {
         }
     }
 
+    /// No operands.
+    fn of_none(opcode: u8, text: &'static [u8]) -> Row
+        ensures { result ≡ record { opcode = opcode; text = text.now; kinds = kinds Unused Unused Unused Nothing } }
+    {
+        Row::of(opcode, text, Unused, Unused, Unused, Nothing)
+    }
+
+    /// One small operand.
+    fn of_one(opcode: u8, text: &'static [u8], a: SmallKind) -> Row
+        ensures { result ≡ record { opcode = opcode; text = text.now; kinds = kinds a Unused Unused Nothing } }
+    {
+        Row::of(opcode, text, a, Unused, Unused, Nothing)
+    }
+
+    /// Two small operands.
+    fn of_two(opcode: u8, text: &'static [u8], a: SmallKind, b: SmallKind) -> Row
+        ensures { result ≡ record { opcode = opcode; text = text.now; kinds = kinds a b Unused Nothing } }
+    {
+        Row::of(opcode, text, a, b, Unused, Nothing)
+    }
+
+    /// Three registers.
+    fn of_registers(opcode: u8, text: &'static [u8]) -> Row
+        ensures { result ≡ record { opcode = opcode; text = text.now; kinds = kinds Register Register Register Nothing } }
+    {
+        Row::of(opcode, text, Register, Register, Register, Nothing)
+    }
+
+    /// A large operand.
+    fn of_large(opcode: u8, text: &'static [u8], d: LargeKind) -> Row
+        ensures { result ≡ record { opcode = opcode; text = text.now; kinds = kinds Unused Unused Unused d } }
+    {
+        Row::of(opcode, text, Unused, Unused, Unused, d)
+    }
+
+    /// A small operand and a large one.
+    fn of_one_and_large(opcode: u8, text: &'static [u8], a: SmallKind, d: LargeKind) -> Row
+        ensures { result ≡ record { opcode = opcode; text = text.now; kinds = kinds a Unused Unused d } }
+    {
+        Row::of(opcode, text, a, Unused, Unused, d)
+    }
+
     /// What a call is made on, a method, the first argument and what becomes of the result.
     fn of_call(opcode: u8, text: &'static [u8], c: SmallKind) -> Row
         ensures { result ≡ record { opcode = opcode; text = text.now; kinds = call_kinds c } }
@@ -219,54 +263,54 @@ impl Mnemonic {
         ensures { result ≡ row self }
     {
         match self {
-            Mnemonic::Const => Row::of(0x01, b"const", Register, Unused, Unused, Number),
-            Mnemonic::Copy => Row::of(0x02, b"copy", Register, Register, Unused, Nothing),
-            Mnemonic::Move => Row::of(0x03, b"move", Register, Register, Unused, Nothing),
-            Mnemonic::Add => Row::of(0x04, b"add", Register, Register, Register, Nothing),
-            Mnemonic::Sub => Row::of(0x05, b"sub", Register, Register, Register, Nothing),
-            Mnemonic::Mul => Row::of(0x06, b"mul", Register, Register, Register, Nothing),
-            Mnemonic::And => Row::of(0x07, b"and", Register, Register, Register, Nothing),
-            Mnemonic::Or => Row::of(0x08, b"or", Register, Register, Register, Nothing),
-            Mnemonic::Xor => Row::of(0x09, b"xor", Register, Register, Register, Nothing),
-            Mnemonic::Jump => Row::of(0x0a, b"jump", Unused, Unused, Unused, Place),
+            Mnemonic::Const => Row::of_one_and_large(0x01, b"const", Register, Number),
+            Mnemonic::Copy => Row::of_two(0x02, b"copy", Register, Register),
+            Mnemonic::Move => Row::of_two(0x03, b"move", Register, Register),
+            Mnemonic::Add => Row::of_registers(0x04, b"add"),
+            Mnemonic::Sub => Row::of_registers(0x05, b"sub"),
+            Mnemonic::Mul => Row::of_registers(0x06, b"mul"),
+            Mnemonic::And => Row::of_registers(0x07, b"and"),
+            Mnemonic::Or => Row::of_registers(0x08, b"or"),
+            Mnemonic::Xor => Row::of_registers(0x09, b"xor"),
+            Mnemonic::Jump => Row::of_large(0x0a, b"jump", Place),
             Mnemonic::JumpEqual => Row::of(0x0b, b"jeq", Register, Register, Unused, Place),
             Mnemonic::JumpLess => Row::of(0x0c, b"jlt", Register, Register, Unused, Place),
-            Mnemonic::JumpNull => Row::of(0x0d, b"jnull", Register, Unused, Unused, Place),
-            Mnemonic::JumpEmpty => Row::of(0x0e, b"jempty", Field, Unused, Unused, Place),
-            Mnemonic::JumpActive => Row::of(0x0f, b"jactive", Unused, Unused, Unused, Place),
-            Mnemonic::JumpAdded => Row::of(0x10, b"jadded", Unused, Unused, Unused, Place),
-            Mnemonic::Loop => Row::of(0x11, b"loop", Depth, Unused, Unused, Rounds),
-            Mnemonic::Next => Row::of(0x12, b"next", Depth, Unused, Unused, Place),
-            Mnemonic::Print => Row::of(0x13, b"print", Register, Unused, Unused, Nothing),
-            Mnemonic::Load => Row::of(0x14, b"load", Register, Word, Unused, Nothing),
-            Mnemonic::Store => Row::of(0x15, b"store", Word, Register, Unused, Nothing),
-            Mnemonic::Take => Row::of(0x16, b"take", Register, Field, Unused, Nothing),
-            Mnemonic::Put => Row::of(0x17, b"put", Field, Register, Unused, Nothing),
-            Mnemonic::New => Row::of(0x18, b"new", Register, Unused, Unused, Class),
-            Mnemonic::NewOrLeave => Row::of(0x19, b"newl", Register, Unused, Unused, Class),
-            Mnemonic::Delete => Row::of(0x1a, b"delete", Register, Unused, Unused, Nothing),
-            Mnemonic::Push => Row::of(0x1b, b"push", Register, Unused, Unused, Nothing),
-            Mnemonic::PushOperation => Row::of(0x1c, b"pushop", Register, Unused, Unused, Method),
-            Mnemonic::Pop => Row::of(0x1d, b"pop", Register, Unused, Unused, Nothing),
-            Mnemonic::PopOperation => Row::of(0x1e, b"popop", Unused, Unused, Unused, Nothing),
-            Mnemonic::PopDelete => Row::of(0x1f, b"popdel", Unused, Unused, Unused, Nothing),
+            Mnemonic::JumpNull => Row::of_one_and_large(0x0d, b"jnull", Register, Place),
+            Mnemonic::JumpEmpty => Row::of_one_and_large(0x0e, b"jempty", Field, Place),
+            Mnemonic::JumpActive => Row::of_large(0x0f, b"jactive", Place),
+            Mnemonic::JumpAdded => Row::of_large(0x10, b"jadded", Place),
+            Mnemonic::Loop => Row::of_one_and_large(0x11, b"loop", Depth, Rounds),
+            Mnemonic::Next => Row::of_one_and_large(0x12, b"next", Depth, Place),
+            Mnemonic::Print => Row::of_one(0x13, b"print", Register),
+            Mnemonic::Load => Row::of_two(0x14, b"load", Register, Word),
+            Mnemonic::Store => Row::of_two(0x15, b"store", Word, Register),
+            Mnemonic::Take => Row::of_two(0x16, b"take", Register, Field),
+            Mnemonic::Put => Row::of_two(0x17, b"put", Field, Register),
+            Mnemonic::New => Row::of_one_and_large(0x18, b"new", Register, Class),
+            Mnemonic::NewOrLeave => Row::of_one_and_large(0x19, b"newl", Register, Class),
+            Mnemonic::Delete => Row::of_one(0x1a, b"delete", Register),
+            Mnemonic::Push => Row::of_one(0x1b, b"push", Register),
+            Mnemonic::PushOperation => Row::of_one_and_large(0x1c, b"pushop", Register, Method),
+            Mnemonic::Pop => Row::of_one(0x1d, b"pop", Register),
+            Mnemonic::PopOperation => Row::of_none(0x1e, b"popop"),
+            Mnemonic::PopDelete => Row::of_none(0x1f, b"popdel"),
             Mnemonic::Call => Row::of_call(0x20, b"call", Register),
             Mnemonic::Trap => Row::of_call(0x21, b"trap", TrapResult),
-            Mnemonic::Return => Row::of(0x22, b"ret", Register, Unused, Unused, Nothing),
-            Mnemonic::Leave => Row::of(0x23, b"leave", Register, Unused, Unused, Nothing),
-            Mnemonic::LeaveIf => Row::of(0x24, b"leaveif", Register, Unused, Unused, Nothing),
-            Mnemonic::Enlist => Row::of(0x25, b"enlist", Unused, Unused, Unused, Number),
-            Mnemonic::Issue => Row::of(0x26, b"issue", Register, Register, Unused, Nothing),
-            Mnemonic::SetActive => Row::of(0x27, b"setactive", Unused, Unused, Unused, Nothing),
-            Mnemonic::Cancel => Row::of(0x28, b"cancel", Unused, Unused, Unused, Nothing),
-            Mnemonic::Abort => Row::of(0x29, b"abort", Unused, Unused, Unused, Nothing),
-            Mnemonic::Status => Row::of(0x2a, b"status", Register, Unused, Unused, Nothing),
-            Mnemonic::Connect => Row::of(0x2b, b"connect", Register, Unused, Unused, Nothing),
-            Mnemonic::Ask => Row::of(0x2c, b"ask", Register, Register, Register, Nothing),
-            Mnemonic::Close => Row::of(0x2d, b"close", Unused, Unused, Unused, Nothing),
-            Mnemonic::TakeMessage => Row::of(0x2e, b"takemsg", Register, Unused, Unused, Nothing),
-            Mnemonic::Reply => Row::of(0x2f, b"reply", Register, Register, Unused, Nothing),
-            Mnemonic::Stop => Row::of(0x30, b"stop", Unused, Unused, Unused, Nothing),
+            Mnemonic::Return => Row::of_one(0x22, b"ret", Register),
+            Mnemonic::Leave => Row::of_one(0x23, b"leave", Register),
+            Mnemonic::LeaveIf => Row::of_one(0x24, b"leaveif", Register),
+            Mnemonic::Enlist => Row::of_large(0x25, b"enlist", Number),
+            Mnemonic::Issue => Row::of_two(0x26, b"issue", Register, Register),
+            Mnemonic::SetActive => Row::of_none(0x27, b"setactive"),
+            Mnemonic::Cancel => Row::of_none(0x28, b"cancel"),
+            Mnemonic::Abort => Row::of_none(0x29, b"abort"),
+            Mnemonic::Status => Row::of_one(0x2a, b"status", Register),
+            Mnemonic::Connect => Row::of_one(0x2b, b"connect", Register),
+            Mnemonic::Ask => Row::of_registers(0x2c, b"ask"),
+            Mnemonic::Close => Row::of_none(0x2d, b"close"),
+            Mnemonic::TakeMessage => Row::of_one(0x2e, b"takemsg", Register),
+            Mnemonic::Reply => Row::of_two(0x2f, b"reply", Register, Register),
+            Mnemonic::Stop => Row::of_none(0x30, b"stop"),
         }
     }
 }

@@ -41,6 +41,36 @@ impl Operands {
     {
         Operands { a, b, c, d }
     }
+
+    pub(crate) fn of_none() -> Operands
+        ensures { result ≡ operands_of Small.Unused Small.Unused Small.Unused Large.Nothing }
+    {
+        Operands::of_one(Small::Unused)
+    }
+
+    pub(crate) fn of_one(a: Small) -> Operands
+        ensures { result ≡ operands_of a Small.Unused Small.Unused Large.Nothing }
+    {
+        Operands::of_two(a, Small::Unused)
+    }
+
+    pub(crate) fn of_two(a: Small, b: Small) -> Operands
+        ensures { result ≡ operands_of a b Small.Unused Large.Nothing }
+    {
+        Operands::of(a, b, Small::Unused, Large::Nothing)
+    }
+
+    pub(crate) fn of_large(d: Large) -> Operands
+        ensures { result ≡ operands_of Small.Unused Small.Unused Small.Unused d }
+    {
+        Operands::of_one_and_large(Small::Unused, d)
+    }
+
+    pub(crate) fn of_one_and_large(a: Small, d: Large) -> Operands
+        ensures { result ≡ operands_of a Small.Unused Small.Unused d }
+    {
+        Operands::of(a, Small::Unused, Small::Unused, d)
+    }
 }
 
 /// What an operand says. An operand of another kind says number 0.

@@ -66,19 +66,9 @@ impl Instr {
         ensures { result ≡ operands self.now }
     {
         match *self {
-            Instr::Const(a, d) => Operands::of(
-                Small::Register(a),
-                Small::Unused,
-                Small::Unused,
-                Large::Number(d),
-            ),
+            Instr::Const(a, d) => Operands::of_one_and_large(Small::Register(a), Large::Number(d)),
             Instr::Copy(a, b) | Instr::Move(a, b) | Instr::Issue(a, b) | Instr::Reply(a, b) =>
-                Operands::of(
-                    Small::Register(a),
-                    Small::Register(b),
-                    Small::Unused,
-                    Large::Nothing,
-                ),
+                Operands::of_two(Small::Register(a), Small::Register(b)),
             Instr::Add(a, b, c)
             | Instr::Sub(a, b, c)
             | Instr::Mul(a, b, c)
@@ -91,10 +81,7 @@ impl Instr {
                 Small::Register(c),
                 Large::Nothing,
             ),
-            Instr::Jump(d) | Instr::JumpActive(d) | Instr::JumpAdded(d) => Operands::of(
-                Small::Unused,
-                Small::Unused,
-                Small::Unused,
+            Instr::Jump(d) | Instr::JumpActive(d) | Instr::JumpAdded(d) => Operands::of_large(
                 Large::Place(d),
             ),
             Instr::JumpEqual(a, b, d) | Instr::JumpLess(a, b, d) => Operands::of(
@@ -103,30 +90,13 @@ impl Instr {
                 Small::Unused,
                 Large::Place(d),
             ),
-            Instr::JumpNull(a, d) => Operands::of(
+            Instr::JumpNull(a, d) => Operands::of_one_and_large(
                 Small::Register(a),
-                Small::Unused,
-                Small::Unused,
                 Large::Place(d),
             ),
-            Instr::JumpEmpty(a, d) => Operands::of(
-                Small::Field(a),
-                Small::Unused,
-                Small::Unused,
-                Large::Place(d),
-            ),
-            Instr::Loop(a, d) => Operands::of(
-                Small::Depth(a),
-                Small::Unused,
-                Small::Unused,
-                Large::Rounds(d),
-            ),
-            Instr::Next(a, d) => Operands::of(
-                Small::Depth(a),
-                Small::Unused,
-                Small::Unused,
-                Large::Place(d),
-            ),
+            Instr::JumpEmpty(a, d) => Operands::of_one_and_large(Small::Field(a), Large::Place(d)),
+            Instr::Loop(a, d) => Operands::of_one_and_large(Small::Depth(a), Large::Rounds(d)),
+            Instr::Next(a, d) => Operands::of_one_and_large(Small::Depth(a), Large::Place(d)),
             Instr::Print(a)
             | Instr::Delete(a)
             | Instr::Push(a)
@@ -136,46 +106,17 @@ impl Instr {
             | Instr::LeaveIf(a)
             | Instr::Status(a)
             | Instr::Connect(a)
-            | Instr::TakeMessage(a) => Operands::of(
+            | Instr::TakeMessage(a) => Operands::of_one(Small::Register(a)),
+            Instr::Load(a, b) => Operands::of_two(Small::Register(a), Small::Word(b)),
+            Instr::Store(a, b) => Operands::of_two(Small::Word(a), Small::Register(b)),
+            Instr::Take(a, b) => Operands::of_two(Small::Register(a), Small::Field(b)),
+            Instr::Put(a, b) => Operands::of_two(Small::Field(a), Small::Register(b)),
+            Instr::New(a, d) | Instr::NewOrLeave(a, d) => Operands::of_one_and_large(
                 Small::Register(a),
-                Small::Unused,
-                Small::Unused,
-                Large::Nothing,
-            ),
-            Instr::Load(a, b) => Operands::of(
-                Small::Register(a),
-                Small::Word(b),
-                Small::Unused,
-                Large::Nothing,
-            ),
-            Instr::Store(a, b) => Operands::of(
-                Small::Word(a),
-                Small::Register(b),
-                Small::Unused,
-                Large::Nothing,
-            ),
-            Instr::Take(a, b) => Operands::of(
-                Small::Register(a),
-                Small::Field(b),
-                Small::Unused,
-                Large::Nothing,
-            ),
-            Instr::Put(a, b) => Operands::of(
-                Small::Field(a),
-                Small::Register(b),
-                Small::Unused,
-                Large::Nothing,
-            ),
-            Instr::New(a, d) | Instr::NewOrLeave(a, d) => Operands::of(
-                Small::Register(a),
-                Small::Unused,
-                Small::Unused,
                 Large::Class(d),
             ),
-            Instr::PushOperation(a, d) => Operands::of(
+            Instr::PushOperation(a, d) => Operands::of_one_and_large(
                 Small::Register(a),
-                Small::Unused,
-                Small::Unused,
                 Large::Method(d),
             ),
             Instr::PopOperation
@@ -184,24 +125,14 @@ impl Instr {
             | Instr::Cancel
             | Instr::Abort
             | Instr::Close
-            | Instr::Stop => Operands::of(
-                Small::Unused,
-                Small::Unused,
-                Small::Unused,
-                Large::Nothing,
-            ),
+            | Instr::Stop => Operands::of_none(),
             Instr::Call(a, d, b, c) | Instr::Trap(a, d, b, c) => Operands::of(
                 Small::CallTarget(a),
                 Small::Register(b),
                 Small::Register(c),
                 Large::Method(d),
             ),
-            Instr::Enlist(d) => Operands::of(
-                Small::Unused,
-                Small::Unused,
-                Small::Unused,
-                Large::Number(d),
-            ),
+            Instr::Enlist(d) => Operands::of_large(Large::Number(d)),
         }
     }
 
