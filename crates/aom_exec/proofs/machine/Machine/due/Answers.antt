@@ -3,6 +3,7 @@ use Rattle.std.proofs.Common.{subst}
 use Rattle.aom_parts.specs.Stands.{Machine}
 use Rattle.aom_exec.specs.Turns.{Completed}
 use Rattle.aom_exec.proofs.Turning.{completed_again}
+use Rattle.aom_exec.proofs.Agreeing.{agrees_in_all}
 use Rattle.aom_exec.proofs.machine.Machine.due.Goals as goal
 
 pub due-requires-clause-stands : goal.due-requires-clause-stands
@@ -17,3 +18,6 @@ pub returns-clause-completed : goal.returns-clause-completed
 returns-clause-completed c =
     let p = c.self.inside.accepted.now in
     subst (λ (m : Machine). Completed m c.due.result (record { image = p; parts = c.due.new.parts })) c.self.view_is (c.due.ensures.completed p)
+
+pub returns-clause-agrees : goal.returns-clause-agrees
+returns-clause-agrees c = agrees_in_all _

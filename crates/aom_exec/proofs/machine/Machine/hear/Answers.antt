@@ -3,6 +3,7 @@ use Rattle.std.specs.Int.{w32}
 use Rattle.std.proofs.lemmas.Int.{to_z-of_z}
 use Rattle.aom_parts.specs.Stands.{Machine, StandsFor}
 use Rattle.aom_exec.proofs.Wanting.{heard_stands}
+use Rattle.aom_exec.proofs.Agreeing.{agrees_in_all}
 use Rattle.aom_exec.proofs.machine.Machine.hear.Goals as goal
 
 pub invariant_of-self : goal.invariant_of-self
@@ -11,3 +12,6 @@ invariant_of-self c = rw (to_z-of_z w32 c.args.answer c.ranges.answer) (c.self.i
 pub returns-clause-stands : goal.returns-clause-stands
 returns-clause-stands c =
     rw (to_z-of_z w32 c.args.answer c.ranges.answer) (λ s st. heard_stands c.self.inside.accepted.now c.self.inside.parts c.args.answer s (subst (λ (x : Machine). StandsFor x s) (sym c.self.view_is) st))
+
+pub returns-clause-agrees : goal.returns-clause-agrees
+returns-clause-agrees c = agrees_in_all _

@@ -1,5 +1,6 @@
 -- An event comes.
 use Rattle.aom_exec.proofs.Turning.{hears_one, stands_back}
+use Rattle.aom_exec.proofs.Agreeing.{agrees_in_all}
 use Rattle.aom_exec.proofs.machine.Machine.hear_event.Goals as goal
 
 pub invariant_of-self : goal.invariant_of-self
@@ -10,3 +11,6 @@ returns-clause-heard c = rw c.deliver.ensures (hears_one c.self.inside.accepted.
 
 pub returns-clause-back : goal.returns-clause-back
 returns-clause-back c = rw c.deliver.ensures (stands_back c.self.inside.accepted.now c.self.inside.parts _ c.self.view_is c.requires.between c.self.invariant)
+
+pub returns-clause-agrees : goal.returns-clause-agrees
+returns-clause-agrees c = agrees_in_all _

@@ -7,6 +7,7 @@ use Rattle.aom_exec.specs.Steps.{timers}
 use Rattle.aom_exec.specs.Turns.{Takes}
 use Rattle.aom_exec.proofs.Seen.{seen_as}
 use Rattle.aom_image.specs.Image.{Image}
+use Rattle.aom_exec.proofs.Agreeing.{agrees_in_all}
 use Rattle.aom_exec.proofs.machine.Machine.kill.Goals as goal
 
 pub invariant_of-self : goal.invariant_of-self
@@ -20,3 +21,6 @@ returns-clause-killed c = seen_as (λ (old : Machine) (p : Image). (s : State) �
 
 pub returns-clause-timers : goal.returns-clause-timers
 returns-clause-timers c = subst (λ (old : Machine). timers (record { image = c.self.inside.accepted.now; parts = c.kill.new.parts }) ≡ timers old) c.self.view_is (ap length c.kill.ensures.timers)
+
+pub returns-clause-agrees : goal.returns-clause-agrees
+returns-clause-agrees c = agrees_in_all _

@@ -13,6 +13,7 @@ use Rattle.aom_exec.specs.Turns.{NoneDue}
 use Rattle.aom_exec.proofs.Timers.{none_due_still}
 use Rattle.aom_exec.proofs.Seen.{seen_as}
 use Rattle.aom_image.specs.Image.{Image}
+use Rattle.aom_exec.proofs.Agreeing.{agrees_in_all}
 use Rattle.aom_exec.proofs.machine.Machine.obey.Goals as goal
 
 pub invariant_of-self : goal.invariant_of-self
@@ -49,3 +50,6 @@ returns-clause-none_due c =
 
 pub returns-clause-timers : goal.returns-clause-timers
 returns-clause-timers c = subst (λ (old : Machine). timers (record { image = c.self.inside.accepted.now; parts = c.obey.new.parts }) ≡ timers old) c.self.view_is (ap length c.obey.ensures.timers)
+
+pub returns-clause-agrees : goal.returns-clause-agrees
+returns-clause-agrees c = agrees_in_all _

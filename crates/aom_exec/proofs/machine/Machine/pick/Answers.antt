@@ -5,6 +5,7 @@ use Rattle.aom_exec.specs.Turns.{Picked}
 use Rattle.aom_exec.proofs.Turning.{picked_again}
 use Rattle.aom_exec.proofs.Seen.{seen_as}
 use Rattle.aom_image.specs.Image.{Image}
+use Rattle.aom_exec.proofs.Agreeing.{agrees_in_all}
 use Rattle.aom_exec.proofs.machine.Machine.pick.Goals as goal
 
 pub invariant_of-self : goal.invariant_of-self
@@ -12,3 +13,6 @@ invariant_of-self c = picked_again _ _ c.pick.result c.args.turn.now c.pick.new.
 
 pub returns-clause-picked : goal.returns-clause-picked
 returns-clause-picked c = seen_as (λ (old : Machine) (p : Image). Picked old c.pick.result c.args.turn.now c.pick.new.turn (record { image = p; parts = c.pick.new.parts })) c.linked.ensures c.self.view_is c.pick.ensures
+
+pub returns-clause-agrees : goal.returns-clause-agrees
+returns-clause-agrees c = agrees_in_all _

@@ -8,6 +8,7 @@ use Rattle.aom_exec.specs.Steps.{progress, timers}
 use Rattle.aom_exec.specs.Turns.{NoneDue}
 use Rattle.aom_exec.proofs.Polling.{IsOwed, PollsAll, owed_pending, polled_again, polled_timers, polls_well}
 use Rattle.aom_exec.proofs.Timers.{none_due_still}
+use Rattle.aom_exec.proofs.Agreeing.{agrees_in_all}
 use Rattle.aom_exec.proofs.machine.Machine.polled.Goals as goal
 
 pub polled-requires-clause-pending : goal.polled-requires-clause-pending
@@ -47,3 +48,6 @@ returns-clause-timers c =
     let owed = subst (λ (m : Machine). IsOwed m c.args.native c.args.completion) (sym c.self.view_is) c.requires.owed in
     subst (λ (old : Machine). timers (record { image = p; parts = c.polled.new.parts }) ≡ timers old) c.self.view_is
     (ap length (polled_timers p c.self.inside.parts c.args.native c.args.completion c.polled.new.parts.active owed c.polled.ensures.finishes))
+
+pub returns-clause-agrees : goal.returns-clause-agrees
+returns-clause-agrees c = agrees_in_all _

@@ -4,6 +4,7 @@ use Rattle.aom_exec.specs.Steps.{Stepped, rank}
 use Rattle.aom_exec.proofs.Progressing.{stands_again}
 use Rattle.aom_exec.proofs.Seen.{seen_as}
 use Rattle.aom_image.specs.Image.{Image}
+use Rattle.aom_exec.proofs.Agreeing.{agrees_in_all}
 use Rattle.aom_exec.proofs.machine.Machine.step.Goals as goal
 
 pub invariant_of-self : goal.invariant_of-self
@@ -15,3 +16,6 @@ returns-clause-steps c = seen_as (λ (old : Machine) (p : Image). Stepped old c.
 pub returns-clause-falls : goal.returns-clause-falls
 returns-clause-falls c = λ running.
     seen_as (λ (old : Machine) (p : Image). rank (record { image = p; parts = c.step.new.parts }) < rank old) c.linked.ensures c.self.view_is (c.step.ensures.falls running)
+
+pub returns-clause-agrees : goal.returns-clause-agrees
+returns-clause-agrees c = agrees_in_all _

@@ -4,6 +4,7 @@ use Rattle.aom_exec.specs.Steps.{SteppedOn, rank}
 use Rattle.aom_exec.proofs.Many.{stands_on}
 use Rattle.aom_exec.proofs.Seen.{seen_as}
 use Rattle.aom_image.specs.Image.{Image}
+use Rattle.aom_exec.proofs.Agreeing.{agrees_in_all}
 use Rattle.aom_exec.proofs.machine.Machine.step_on.Goals as goal
 
 pub invariant_of-self : goal.invariant_of-self
@@ -15,3 +16,6 @@ returns-clause-steps c = seen_as (λ (old : Machine) (p : Image). SteppedOn old 
 pub returns-clause-falls : goal.returns-clause-falls
 returns-clause-falls c = λ running.
     seen_as (λ (old : Machine) (p : Image). rank (record { image = p; parts = c.step_on.new.parts }) < rank old) c.linked.ensures c.self.view_is (c.step_on.ensures.falls running)
+
+pub returns-clause-agrees : goal.returns-clause-agrees
+returns-clause-agrees c = agrees_in_all _
