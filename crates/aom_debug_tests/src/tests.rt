@@ -1,0 +1,4 @@
+mod programs;
+mod readers;
+mod sessions;
+mod sessions_memory;
