@@ -1,5 +1,6 @@
 -- What the place before the next tells, and what it does not.
 use Rattle.std.proofs.Common.{◌≡◌, ◌∙◌, ℕ, suc, Some, sym, ap, subst, arith}
+use Rattle.std.proofs.lemmas.Bool.{both_ways}
 use Rattle.std.proofs.lemmas.Option.{none-some, same_Some}
 use Rattle.aom_classes.specs.Jumps.{Body}
 use Rattle.aom_classes.proofs.LoopPlaces.{body_here, body_begins, body_back}
@@ -32,7 +33,7 @@ returns-then-begins_loop-clause-some c =
     body_here _ _ _ _ _ c.requires c.index-code-end.is (omega arith) c.index-code-start.is c.if-start-end.true (sym c.begins_loop.ensures ∙ c.if-begins_loop.true) (sym c.in_ok-back.ensures ∙ ap Some back)
 
 pub returns-then-begins_loop-clause-none : goal.returns-then-begins_loop-clause-none
-returns-then-begins_loop-clause-none c = λ none p b. cc
+returns-then-begins_loop-clause-none c = λ none. absurd (none-some _ (sym none))
 
 pub returns-then-begins_loop-clause-only : goal.returns-then-begins_loop-clause-only
 returns-then-begins_loop-clause-only c = λ r b.
@@ -45,6 +46,6 @@ returns-else-start-end-clause-none c = λ _ p b.
     let start : c.in_ok-start.start ≡ p = omega (arith, c.in_ok-start.ensures) in
     elim c.else-start-end.branch [
       else-start-end-via-then-start-end+else-begins_loop w ↦
-          let begins = body_begins _ _ _ _ (omega arith) w.index-code-start.is (subst (λ (x : ℕ). Body c.args.code.now x c.args.end) (sym start) b) in absurd (cc)
+          let begins = body_begins _ _ _ _ (omega arith) w.index-code-start.is (subst (λ (x : ℕ). Body c.args.code.now x c.args.end) (sym start) b) in absurd (both_ways _ w.if-begins_loop.false (w.begins_loop.ensures ∙ begins))
       | else-start-end-via-else-start-end w ↦ absurd (omega (arith, b.later))
     ]
