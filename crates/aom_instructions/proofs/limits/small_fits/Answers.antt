@@ -1,6 +1,6 @@
 -- An operand of the kind that is asked fits where it is in its range.
 use Rattle.std.proofs.Common.{refl}
-use Rattle.std.proofs.lemmas.Bool.{ltb-true, lt-ltb, leb-true, le-leb}
+use Rattle.std.proofs.lemmas.Bool.{ltb-true, lt-ltb}
 use Rattle.aom_instructions.proofs.limits.small_fits.Goals as goal
 
 pub returns-in-Unused-Unused : goal.returns-in-Unused-Unused
@@ -8,9 +8,6 @@ returns-in-Unused-Unused c = rw (c.in-Unused-Unused.is-0, c.in-Unused-Unused.is-
 
 pub returns-in-Register-Register : goal.returns-in-Register-Register
 returns-in-Register-Register c = rw (c.in-Register-Register.is-0, c.in-Register-Register.is-1, ← c.number.ensures.value) (ltb-true _ _, lt-ltb _ _)
-
-pub returns-in-TrapResult-Register : goal.returns-in-TrapResult-Register
-returns-in-TrapResult-Register c = rw (c.in-TrapResult-Register.is-0, c.in-TrapResult-Register.is-1, ← c.number-in-TrapResult-Register.ensures.value) (leb-true _ _, le-leb _ _)
 
 pub returns-in-Word-Word : goal.returns-in-Word-Word
 returns-in-Word-Word c = rw (c.in-Word-Word.is-0, c.in-Word-Word.is-1, ← c.number-in-Word-Word.ensures.value) (ltb-true _ _, lt-ltb _ _)

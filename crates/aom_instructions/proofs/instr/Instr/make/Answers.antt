@@ -1,9 +1,9 @@
 -- Each arm makes what its mnemonic says of what the operands say.
-use Rattle.std.proofs.Common.{refl}
+use Rattle.std.proofs.Common.{refl, rules}
 use Rattle.aom_instructions.proofs.instr.Instr.make.Goals as goal
 
 pub returns-in-Copy : goal.returns-in-Copy
-returns-in-Copy c = rw (c.in-Copy.is, c.register-in-Copy.ensures, c.register-in-Copy-2.ensures) refl
+returns-in-Copy c = search rules
 
 pub returns-in-Move : goal.returns-in-Move
 returns-in-Move c = rw (c.in-Move.is, c.register-in-Move.ensures, c.register-in-Move-2.ensures) refl

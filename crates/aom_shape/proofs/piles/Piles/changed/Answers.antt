@@ -1,7 +1,6 @@
 -- What is readied first is what the last change is made of.
-use Rattle.std.proofs.Common.{◌∙◌, ap, arith}
+use Rattle.std.proofs.Common.{arith, rules}
 use Rattle.std.proofs.lemmas.Result.{IfOk-weaker, IfOk-from_err}
-use Rattle.aom_shape.specs.Entries.{without_top}
 use Rattle.aom_shape.proofs.Piling.{extends_along}
 use Rattle.aom_shape.proofs.piles.Piles.changed.Goals as goal
 
@@ -30,4 +29,4 @@ pub returns-in-Fewer-clause-height : goal.returns-in-Fewer-clause-height
 returns-in-Fewer-clause-height c = omega (arith, c.in_ok-ready.ensures.height)
 
 pub returns-in-Fewer-clause-value : goal.returns-in-Fewer-clause-value
-returns-in-Fewer-clause-value c = rw c.in-Fewer.is (c.below.ensures.value ∙ ap without_top c.in_ok-ready.ensures.value)
+returns-in-Fewer-clause-value c = search rules
