@@ -1,6 +1,6 @@
 -- What the views answer, from what the lists of an image have at an index.
-use Rattle.std.proofs.Common.{◌≡◌, ℕ, ◌<◌, List, length, IsSome, Some, None, slice_get, slice_index_or, refl, subst}
-use Rattle.std.proofs.lemmas.Option.{slice_get_within, slice_get_read}
+use Rattle.std.proofs.Common.{◌≡◌, ℕ, ◌<◌, ◌≤◌, List, [], length, IsSome, Some, None, slice_get, slice_index_or, refl, subst}
+use Rattle.std.proofs.lemmas.Option.{slice_get_within, slice_get_read, slice_get_past}
 use Rattle.aom_image.specs.Image.{Image}
 use Rattle.aom_image.specs.Views.{class_at, method_at, instr_at, instr_in, fields_of, fields_in}
 use Rattle.aom_image.specs.declared.class.ClassDecl.{ClassDecl}
@@ -43,3 +43,12 @@ has_class p c field h =
 pub in_class : (p : Image) (c field : ℕ) (d : ClassDecl) → class_at p c ≡ Some d → slice_get (fields_of p c) field ≡ slice_get d.fields field
 unfolding fields_in
 in_class p c field d e = rw e refl
+
+-- the fields of a class that is read, and of none
+pub fields_found : (p : Image) (cs : List ClassDecl) (c i : ℕ) (d : ClassDecl) → cs ≡ p.classes → i ≡ c → i < length cs → d ≡ slice_index_or cs i d → d.fields ≡ fields_of p c
+unfolding fields_in class_at
+fields_found p cs c i d e f lt at = rw (← e, ← f, slice_get_read cs (length cs) i d refl lt at) refl
+
+pub fields_past : (p : Image) (cs : List ClassDecl) (c i : ℕ) → cs ≡ p.classes → i ≡ c → length cs ≤ i → [] ≡ fields_of p c
+unfolding fields_in class_at
+fields_past p cs c i e f past = rw (← e, ← f, slice_get_past cs i past) refl

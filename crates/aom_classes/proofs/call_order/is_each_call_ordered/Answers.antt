@@ -1,7 +1,14 @@
-use Rattle.std.proofs.Common.{refl}
+use Rattle.std.proofs.Common.{refl, arith}
 use Rattle.aom_classes.specs.Calls.{CallsOrdered}
-use Rattle.aom_classes.proofs.Each.{each_more, each_all}
+use Rattle.aom_classes.proofs.Each.{refused, each_more, each_all, each_not}
 use Rattle.aom_classes.proofs.call_order.is_each_call_ordered.Goals as goal
+
+pub loop-number-init : goal.loop-number-init
+loop-number-init c = λ k lt. absurd (omega arith)
+
+pub returns-then-not-is_call_ordered : goal.returns-then-not-is_call_ordered
+returns-then-not-is_call_ordered c =
+    each_not (CallsOrdered c.args.image.now) _ _ _ c.loop-number-test.true c.index-methods-number.is (refused _ c.is_call_ordered.ensures c.if-not-is_call_ordered.true)
 
 pub loop-number-preserved : goal.loop-number-preserved
 loop-number-preserved c =

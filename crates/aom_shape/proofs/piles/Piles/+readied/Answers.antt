@@ -1,10 +1,10 @@
 -- What is below is readied first, and then the entry comes on top of it.
-use Rattle.std.proofs.Common.{◌≡◌, ◌∷◌, List, ap, sym, ◌∙◌, arith}
-use Rattle.std.proofs.lemmas.Result.{IfOk-weaker}
+use Rattle.std.proofs.Common.{◌≡◌, ◌∷◌, List, ap, refl, sym, ◌∙◌, arith}
+use Rattle.std.proofs.lemmas.Result.{IfOk-weaker, IfOk-from_err}
 use Rattle.aom_shape.specs.Entries.{readied_at}
 use Rattle.aom_shape.specs.Piles.{entries_of, node_at}
 use Rattle.aom_shape.specs.declared.piles.Node.{Node}
-use Rattle.aom_shape.proofs.Piling.{readied_below}
+use Rattle.aom_shape.proofs.Piling.{extends_along, extends_self, readied_below}
 use Rattle.aom_shape.proofs.piles.Piles.+readied.Goals as goal
 
 pub returns-clause-value : goal.returns-clause-value
@@ -14,3 +14,36 @@ returns-clause-value t c =
     let below = sym (readied_below c.args.self.now c.args.pile.top c.args.pile.height c.args.number (omega (arith, c.if-pile-eq0.false)) (omega (arith, c.if-number-eq0.false))) in
     let step : c.node_at-entry.result.entry ∷ entries_of c.readied-2.new.self c.in_ok-rest.rest ≡ readied_at (entries_of c.args.self.now c.args.pile) c.args.number = rw (c.in_ok-rest.ensures.value, c.below-below.ensures.value, node) below in
     IfOk-weaker c.push-2.result _ _ (λ p h. h ∙ step) c.push-2.ensures.value
+
+pub returns-then-pile-eq0-clause-kept : goal.returns-then-pile-eq0-clause-kept
+returns-then-pile-eq0-clause-kept t c = extends_self _
+
+pub returns-then-pile-eq0-clause-value : goal.returns-then-pile-eq0-clause-value
+returns-then-pile-eq0-clause-value t c = rw c.if-pile-eq0.true refl
+
+pub returns-then-number-eq0-clause-kept : goal.returns-then-number-eq0-clause-kept
+returns-then-number-eq0-clause-kept t c = c.push.ensures.kept
+
+pub returns-then-number-eq0-clause-stands : goal.returns-then-number-eq0-clause-stands
+returns-then-number-eq0-clause-stands t c = c.push.ensures.stands
+
+pub returns-then-number-eq0-clause-height : goal.returns-then-number-eq0-clause-height
+returns-then-number-eq0-clause-height t c = IfOk-weaker c.push.result _ _ (λ p h. omega arith) c.push.ensures.height
+
+pub returns-in_err-rest-clause-stands : goal.returns-in_err-rest-clause-stands
+returns-in_err-rest-clause-stands t c = IfOk-from_err _ _ c.from_residual.ensures.0
+
+pub returns-in_err-rest-clause-height : goal.returns-in_err-rest-clause-height
+returns-in_err-rest-clause-height t c = IfOk-from_err _ _ c.from_residual.ensures.0
+
+pub returns-in_err-rest-clause-value : goal.returns-in_err-rest-clause-value
+returns-in_err-rest-clause-value t c = IfOk-from_err _ _ c.from_residual.ensures.0
+
+pub returns-clause-kept : goal.returns-clause-kept
+returns-clause-kept t c = extends_along _ _ _ c.readied-2.ensures.kept c.push-2.ensures.kept
+
+pub returns-clause-stands : goal.returns-clause-stands
+returns-clause-stands t c = c.push-2.ensures.stands
+
+pub returns-clause-height : goal.returns-clause-height
+returns-clause-height t c = IfOk-weaker c.push-2.result _ _ (λ p h. omega (arith, c.in_ok-rest.ensures.height)) c.push-2.ensures.height
