@@ -15,3 +15,18 @@ returns c = λ p s st has.
     let ended : FitsSigned w32 status = search rules in
     let class : Some c.in_ok-class.class ≡ class_at m.cells id = c.in_ok-class.ensures ∙ ap (class_at m.cells) c.number.ensures.value in
     rw (to_z-of_z w32 priority ranked, to_z-of_z w32 status ended, c.phase_of.ensures) (enlisted_told p m s st id c.in_ok-class.class priority status c.in_ok-state.state has c.in_ok-state.ensures c.status-status.ensures class)
+
+pub returns-in_err-class : goal.returns-in_err-class
+returns-in_err-class c = ?
+
+pub returns-then-is_server : goal.returns-then-is_server
+returns-then-is_server c = ?
+
+pub returns-in_err-state : goal.returns-in_err-state
+returns-in_err-state c = ?
+
+pub class_of-requires : goal.class_of-requires
+class_of-requires c = ?
+
+pub overflow_cast-number : goal.overflow_cast-number
+overflow_cast-number c = ?
