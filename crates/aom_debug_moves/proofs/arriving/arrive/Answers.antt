@@ -57,3 +57,33 @@ returns-in_err-turn_out-in-Turned-clause-went g c =
     let off = c.in_err-turn_out-in-Turned.ensures.went in
     let cut = heard_as i.keeps (λ q o. Breaks (Reaches q o) m (g.W.Sink.out c.loop-mover.out) (g.W.Sink.out c.turn_out.new.out) c.turn_out.new.mover.machine) off.1 in
     rw c.from_residual.ensures (off.0, arrives_cut c.args.mover.now.machine.core.image (outside_of c.args.mover.now) c.args.mover.now.machine m c.turn_out.new.mover.machine _ _ _ i.so_far cut)
+
+pub turn_out-requires-clause-agree : goal.turn_out-requires-clause-agree
+turn_out-requires-clause-agree g c = c.loop-mover.invariant.agree
+
+pub turn_out-requires-clause-ready : goal.turn_out-requires-clause-ready
+turn_out-requires-clause-ready g c = c.loop-mover.invariant.keeps.ready
+
+pub turn_out-requires-clause-between : goal.turn_out-requires-clause-between
+turn_out-requires-clause-between g c = sym c.progress.ensures ∙ c.in-Turned.is
+
+pub returns-in_err-turn_out-in-Turned-clause-agree : goal.returns-in_err-turn_out-in-Turned-clause-agree
+returns-in_err-turn_out-in-Turned-clause-agree g c = c.turn_out.ensures.agree
+
+pub returns-in_err-turn_out-in-Turned-clause-keeps : goal.returns-in_err-turn_out-in-Turned-clause-keeps
+returns-in_err-turn_out-in-Turned-clause-keeps g c = keeps_on c.loop-mover.invariant.keeps c.turn_out.ensures.keeps
+
+pub returns-in_err-turn_out-in-Turned-clause-recent : goal.returns-in_err-turn_out-in-Turned-clause-recent
+returns-in_err-turn_out-in-Turned-clause-recent g c = c.turn_out.ensures.recent ∙ c.loop-mover.invariant.recent
+
+pub returns-in_default-clause-agree : goal.returns-in_default-clause-agree
+returns-in_default-clause-agree g c = c.loop-mover.invariant.agree
+
+pub returns-in_default-clause-keeps : goal.returns-in_default-clause-keeps
+returns-in_default-clause-keeps g c = c.loop-mover.invariant.keeps
+
+pub returns-in_default-clause-recent : goal.returns-in_default-clause-recent
+returns-in_default-clause-recent g c = c.loop-mover.invariant.recent
+
+pub returns-in_default-clause-went : goal.returns-in_default-clause-went
+returns-in_default-clause-went g c = (c.loop-mover.invariant.so_far, c.progress.ensures)

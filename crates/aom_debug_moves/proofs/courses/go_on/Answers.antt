@@ -90,3 +90,36 @@ loop-progress-preserved g c =
       keeps = keeps_on i.keeps c.pass.ensures.keeps;
       agree = c.pass.ensures.agree;
     }
+
+pub walk_unless-requires-clause-agree : goal.walk_unless-requires-clause-agree
+walk_unless-requires-clause-agree g c = c.requires.agree
+
+pub walk_unless-requires-clause-ready : goal.walk_unless-requires-clause-ready
+walk_unless-requires-clause-ready g c = c.requires.ready
+
+pub walk_unless-requires-clause-running : goal.walk_unless-requires-clause-running
+walk_unless-requires-clause-running g c = c.is_idle-rests.ensures.goes
+
+pub returns-in_err-progress-clause-agree : goal.returns-in_err-progress-clause-agree
+returns-in_err-progress-clause-agree g c = c.walk_unless.ensures.agree
+
+pub returns-in_err-progress-clause-keeps : goal.returns-in_err-progress-clause-keeps
+returns-in_err-progress-clause-keeps g c = c.walk_unless.ensures.keeps
+
+pub returns-in_default-clause-agree : goal.returns-in_default-clause-agree
+returns-in_default-clause-agree g c = c.loop-progress.invariant.agree
+
+pub returns-in_default-clause-keeps : goal.returns-in_default-clause-keeps
+returns-in_default-clause-keeps g c = c.loop-progress.invariant.keeps
+
+pub pass-requires-clause-agree : goal.pass-requires-clause-agree
+pass-requires-clause-agree g c = c.loop-progress.invariant.agree
+
+pub pass-requires-clause-ready : goal.pass-requires-clause-ready
+pass-requires-clause-ready g c = c.loop-progress.invariant.keeps.ready
+
+pub returns-in_err-progress-2-clause-agree : goal.returns-in_err-progress-2-clause-agree
+returns-in_err-progress-2-clause-agree g c = c.pass.ensures.agree
+
+pub returns-in_err-progress-2-clause-keeps : goal.returns-in_err-progress-2-clause-keeps
+returns-in_err-progress-2-clause-keeps g c = keeps_on c.loop-progress.invariant.keeps c.pass.ensures.keeps

@@ -82,3 +82,42 @@ returns-clause-went g c =
     let i = c.loop-done.invariant in
     let all : c.loop-done.done ≡ c.args.steps = omega (arith, c.loop-done-test.false, i.within) in
     (all_made a.machine.core.image (outside_of a) c.args.steps c.loop-done.done all a.recent m.recent a.machine m.machine (g.W.Sink.out c.args.out.now) (g.W.Sink.out c.loop-done.out) i.so_far, c.progress.ensures)
+
+pub arrive-requires-clause-agree : goal.arrive-requires-clause-agree
+arrive-requires-clause-agree g c = c.loop-done.invariant.agree
+
+pub arrive-requires-clause-ready : goal.arrive-requires-clause-ready
+arrive-requires-clause-ready g c = c.loop-done.invariant.keeps.ready
+
+pub returns-in_err-other-clause-agree : goal.returns-in_err-other-clause-agree
+returns-in_err-other-clause-agree g c = c.arrive.ensures.agree
+
+pub returns-in_err-other-clause-keeps : goal.returns-in_err-other-clause-keeps
+returns-in_err-other-clause-keeps g c = keeps_on c.loop-done.invariant.keeps c.arrive.ensures.keeps
+
+pub returns-in_default-clause-agree : goal.returns-in_default-clause-agree
+returns-in_default-clause-agree g c = c.arrive.ensures.agree
+
+pub returns-in_default-clause-keeps : goal.returns-in_default-clause-keeps
+returns-in_default-clause-keeps g c = keeps_on c.loop-done.invariant.keeps c.arrive.ensures.keeps
+
+pub stride-requires-clause-agree : goal.stride-requires-clause-agree
+stride-requires-clause-agree g c = c.arrive.ensures.agree
+
+pub stride-requires-clause-ready : goal.stride-requires-clause-ready
+stride-requires-clause-ready g c = c.arrive.ensures.keeps.ready
+
+pub returns-in_err-stride-clause-agree : goal.returns-in_err-stride-clause-agree
+returns-in_err-stride-clause-agree g c = c.stride.ensures.agree
+
+pub returns-in_err-stride-clause-keeps : goal.returns-in_err-stride-clause-keeps
+returns-in_err-stride-clause-keeps g c = keeps_on (keeps_on c.loop-done.invariant.keeps c.arrive.ensures.keeps) c.stride.ensures.keeps
+
+pub loop-done-smaller : goal.loop-done-smaller
+loop-done-smaller g c = omega (arith, c.loop-done-test.true)
+
+pub returns-clause-agree : goal.returns-clause-agree
+returns-clause-agree g c = c.loop-done.invariant.agree
+
+pub returns-clause-keeps : goal.returns-clause-keeps
+returns-clause-keeps g c = c.loop-done.invariant.keeps

@@ -3,7 +3,7 @@ use Rattle.std.proofs.Common.{◌∙◌, sym}
 use Rattle.aom_sound.specs.State.{State}
 use Rattle.aom_debug_views.specs.Next.{root_is_due}
 use Rattle.aom_debug_moves.specs.Sends.{Sends}
-use Rattle.aom_debug_moves.proofs.Keeping.{begun_as, went_as}
+use Rattle.aom_debug_moves.proofs.Keeping.{begun_as, keeps_on, went_as}
 use Rattle.aom_debug_moves.specs.Courses.{WalksThere}
 use Rattle.aom_debug_moves.proofs.Turning.{in_dispatch, over_there, walk_cut}
 use Rattle.aom_debug_moves.proofs.courses.go_turn.Goals as goal
@@ -26,3 +26,39 @@ returns-in_default-clause-went g c =
     let some = c.in_ok-other.ensures.went in
     let leads = WalksThere a.machine.core.image a.turn.refused (λ (s : State). root_is_due a.machine.core.image s) in
     (over_there _ _ leads a.recent m.recent c.arrive.ensures.recent a.machine m.machine _ _ (λ is. c.in_default.not-Running (some.1 ∙ is)) (λ is. c.in_ok-other.ensures.goes (some.1 ∙ is)) some.0, some.1)
+
+pub arrive-requires-clause-agree : goal.arrive-requires-clause-agree
+arrive-requires-clause-agree g c = c.requires.agree
+
+pub arrive-requires-clause-ready : goal.arrive-requires-clause-ready
+arrive-requires-clause-ready g c = c.requires.ready
+
+pub returns-in_err-other-clause-agree : goal.returns-in_err-other-clause-agree
+returns-in_err-other-clause-agree g c = c.arrive.ensures.agree
+
+pub returns-in_err-other-clause-keeps : goal.returns-in_err-other-clause-keeps
+returns-in_err-other-clause-keeps g c = c.arrive.ensures.keeps
+
+pub returns-in_err-other-clause-went : goal.returns-in_err-other-clause-went
+returns-in_err-other-clause-went g c = rw c.from_residual.ensures c.in_err-other.ensures.went
+
+pub walk-requires-clause-agree : goal.walk-requires-clause-agree
+walk-requires-clause-agree g c = c.arrive.ensures.agree
+
+pub walk-requires-clause-ready : goal.walk-requires-clause-ready
+walk-requires-clause-ready g c = c.arrive.ensures.keeps.ready
+
+pub walk-requires-clause-running : goal.walk-requires-clause-running
+walk-requires-clause-running g c = sym c.in_ok-other.ensures.went.1 ∙ c.in-Running.is
+
+pub returns-in-Running-clause-agree : goal.returns-in-Running-clause-agree
+returns-in-Running-clause-agree g c = c.walk.ensures.agree
+
+pub returns-in-Running-clause-keeps : goal.returns-in-Running-clause-keeps
+returns-in-Running-clause-keeps g c = keeps_on c.arrive.ensures.keeps c.walk.ensures.keeps
+
+pub returns-in_default-clause-agree : goal.returns-in_default-clause-agree
+returns-in_default-clause-agree g c = c.arrive.ensures.agree
+
+pub returns-in_default-clause-keeps : goal.returns-in_default-clause-keeps
+returns-in_default-clause-keeps g c = c.arrive.ensures.keeps

@@ -3,7 +3,7 @@ use Rattle.std.proofs.Common.{ap, ◌∙◌, sym}
 use Rattle.aom_sound.specs.State.{State}
 use Rattle.aom_debug_moves.specs.declared.walking.Until.TheVariants.{Breakpoint}
 use Rattle.aom_debug_moves.specs.Sends.{Sends}
-use Rattle.aom_debug_moves.proofs.Keeping.{begun_as, went_as}
+use Rattle.aom_debug_moves.proofs.Keeping.{begun_as, keeps_on, went_as}
 use Rattle.aom_debug_moves.specs.Courses.{WalksOn, WalksUnless, stays_at}
 use Rattle.aom_debug_moves.proofs.Strides.{walked_on}
 use Rattle.aom_debug_moves.proofs.Turning.{in_dispatch, over_there, walk_cut}
@@ -35,3 +35,42 @@ returns-in_default-clause-went g c =
     let some = c.in_ok-other.ensures.went in
     let leads = WalksOn p a.turn.refused (λ (s : State). stays_at p Breakpoint c.args.breakpoints.now s) in
     (over_there _ _ leads a.recent m.recent c.arrive.ensures.recent a.machine m.machine _ _ (λ is. c.in_default.not-Running (some.1 ∙ is)) (λ is. c.in_ok-other.ensures.goes (some.1 ∙ is)) some.0, some.1)
+
+pub arrive-requires-clause-agree : goal.arrive-requires-clause-agree
+arrive-requires-clause-agree g c = c.requires.agree
+
+pub arrive-requires-clause-ready : goal.arrive-requires-clause-ready
+arrive-requires-clause-ready g c = c.requires.ready
+
+pub returns-in_err-other-clause-agree : goal.returns-in_err-other-clause-agree
+returns-in_err-other-clause-agree g c = c.arrive.ensures.agree
+
+pub returns-in_err-other-clause-keeps : goal.returns-in_err-other-clause-keeps
+returns-in_err-other-clause-keeps g c = c.arrive.ensures.keeps
+
+pub returns-in_err-other-clause-went : goal.returns-in_err-other-clause-went
+returns-in_err-other-clause-went g c = rw c.from_residual.ensures c.in_err-other.ensures.went
+
+pub is_there-rests-requires : goal.is_there-rests-requires
+is_there-rests-requires g c = c.arrive.ensures.keeps.ready.stands
+
+pub walk_unless-requires-clause-agree : goal.walk_unless-requires-clause-agree
+walk_unless-requires-clause-agree g c = c.arrive.ensures.agree
+
+pub walk_unless-requires-clause-ready : goal.walk_unless-requires-clause-ready
+walk_unless-requires-clause-ready g c = c.arrive.ensures.keeps.ready
+
+pub walk_unless-requires-clause-running : goal.walk_unless-requires-clause-running
+walk_unless-requires-clause-running g c = λ _. sym c.in_ok-other.ensures.went.1 ∙ c.in-Running.is
+
+pub returns-in-Running-clause-agree : goal.returns-in-Running-clause-agree
+returns-in-Running-clause-agree g c = c.walk_unless.ensures.agree
+
+pub returns-in-Running-clause-keeps : goal.returns-in-Running-clause-keeps
+returns-in-Running-clause-keeps g c = keeps_on c.arrive.ensures.keeps c.walk_unless.ensures.keeps
+
+pub returns-in_default-clause-agree : goal.returns-in_default-clause-agree
+returns-in_default-clause-agree g c = c.arrive.ensures.agree
+
+pub returns-in_default-clause-keeps : goal.returns-in_default-clause-keeps
+returns-in_default-clause-keeps g c = c.arrive.ensures.keeps

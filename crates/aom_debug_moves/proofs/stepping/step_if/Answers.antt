@@ -1,6 +1,7 @@
 -- A step that is asked for, and its lines; or nothing.
+use Rattle.std.proofs.Common.{refl}
 use Rattle.aom_debug_moves.specs.Moves.{StepsOnce}
-use Rattle.aom_debug_moves.proofs.Keeping.{keeps_with, went_if}
+use Rattle.aom_debug_moves.proofs.Keeping.{keeps_all, keeps_with, went_if}
 use Rattle.aom_debug_moves.proofs.Sending.{breaks_step, cleared, far_after, sends_if_not, sends_if_so, sends_step, stands_after, stepped_of, was_running}
 use Rattle.aom_debug_moves.proofs.stepping.step_if.Goals as goal
 
@@ -35,3 +36,27 @@ returns-clause-was g c =
     let a = c.args.mover.now in
     let step = c.step-progress in
     was_running a.machine step.new.self step.result a.turn step.new.turn c.requires.ready.none (stepped_of a.machine step.new.self step.result a.turn step.new.turn step.ensures.steps) c.requires.ready.stands
+
+pub returns-then-not-asked-clause-agree : goal.returns-then-not-asked-clause-agree
+returns-then-not-asked-clause-agree g c = c.requires.agree
+
+pub returns-then-not-asked-clause-keeps : goal.returns-then-not-asked-clause-keeps
+returns-then-not-asked-clause-keeps g c = keeps_all c.args.mover.now c.requires.ready
+
+pub returns-then-not-asked-clause-recent : goal.returns-then-not-asked-clause-recent
+returns-then-not-asked-clause-recent g c = refl
+
+pub returns-then-not-asked-clause-was : goal.returns-then-not-asked-clause-was
+returns-then-not-asked-clause-was g c = λ is. is
+
+pub step-progress-requires-clause-agree : goal.step-progress-requires-clause-agree
+step-progress-requires-clause-agree g c = c.requires.agree
+
+pub step-progress-requires-clause-stands : goal.step-progress-requires-clause-stands
+step-progress-requires-clause-stands g c = c.requires.ready.stands
+
+pub returns-clause-agree : goal.returns-clause-agree
+returns-clause-agree g c = c.step-progress.ensures.agree
+
+pub returns-clause-recent : goal.returns-clause-recent
+returns-clause-recent g c = refl

@@ -74,3 +74,45 @@ returns-clause-falls g c =
     let step = c.step_if-2.ensures.falls refl two in
     let first = c.step_if.ensures.rank one in
     omega (arith, last, step, first))
+
+pub step_if-requires-clause-agree : goal.step_if-requires-clause-agree
+step_if-requires-clause-agree g c = c.requires.agree
+
+pub step_if-requires-clause-ready : goal.step_if-requires-clause-ready
+step_if-requires-clause-ready g c = c.requires.ready
+
+pub returns-in_err-step_if-clause-agree : goal.returns-in_err-step_if-clause-agree
+returns-in_err-step_if-clause-agree g c = c.step_if.ensures.agree
+
+pub returns-in_err-step_if-clause-keeps : goal.returns-in_err-step_if-clause-keeps
+returns-in_err-step_if-clause-keeps g c = c.step_if.ensures.keeps
+
+pub returns-in_err-step_if-clause-went : goal.returns-in_err-step_if-clause-went
+returns-in_err-step_if-clause-went g c = rw c.from_residual.ensures c.in_err-step_if.ensures.went
+
+pub note_next-requires : goal.note_next-requires
+note_next-requires g c = c.step_if.ensures.keeps.ready.stands
+
+pub step_if-requires-2-clause-agree : goal.step_if-requires-2-clause-agree
+step_if-requires-2-clause-agree g c = c.step_if.ensures.agree
+
+pub step_if-requires-2-clause-ready : goal.step_if-requires-2-clause-ready
+step_if-requires-2-clause-ready g c = (keeps_noting c.step_if.ensures.keeps c.note_next.new.recent).ready
+
+pub returns-in_err-step_if-2-clause-agree : goal.returns-in_err-step_if-2-clause-agree
+returns-in_err-step_if-2-clause-agree g c = c.step_if-2.ensures.agree
+
+pub returns-in_err-step_if-2-clause-keeps : goal.returns-in_err-step_if-2-clause-keeps
+returns-in_err-step_if-2-clause-keeps g c = keeps_on (keeps_noting c.step_if.ensures.keeps c.note_next.new.recent) c.step_if-2.ensures.keeps
+
+pub step_if-requires-3-clause-agree : goal.step_if-requires-3-clause-agree
+step_if-requires-3-clause-agree g c = c.step_if-2.ensures.agree
+
+pub step_if-requires-3-clause-ready : goal.step_if-requires-3-clause-ready
+step_if-requires-3-clause-ready g c = c.step_if-2.ensures.keeps.ready
+
+pub returns-clause-agree : goal.returns-clause-agree
+returns-clause-agree g c = c.step_if-3.ensures.agree
+
+pub returns-clause-keeps : goal.returns-clause-keeps
+returns-clause-keeps g c = keeps_on (keeps_on (keeps_noting c.step_if.ensures.keeps c.note_next.new.recent) c.step_if-2.ensures.keeps) c.step_if-3.ensures.keeps

@@ -46,3 +46,33 @@ loop-progress-preserved g c =
       keeps = keeps_on i.keeps c.stride.ensures.keeps;
       agree = c.stride.ensures.agree;
     }
+
+pub stride-requires-clause-agree : goal.stride-requires-clause-agree
+stride-requires-clause-agree g c = c.loop-progress.invariant.agree
+
+pub stride-requires-clause-ready : goal.stride-requires-clause-ready
+stride-requires-clause-ready g c = c.loop-progress.invariant.keeps.ready
+
+pub returns-in_err-progress-clause-agree : goal.returns-in_err-progress-clause-agree
+returns-in_err-progress-clause-agree g c = c.stride.ensures.agree
+
+pub returns-in_err-progress-clause-keeps : goal.returns-in_err-progress-clause-keeps
+returns-in_err-progress-clause-keeps g c = keeps_on c.loop-progress.invariant.keeps c.stride.ensures.keeps
+
+pub returns-in_default-clause-agree : goal.returns-in_default-clause-agree
+returns-in_default-clause-agree g c = c.stride.ensures.agree
+
+pub returns-in_default-clause-keeps : goal.returns-in_default-clause-keeps
+returns-in_default-clause-keeps g c = keeps_on c.loop-progress.invariant.keeps c.stride.ensures.keeps
+
+pub is_there-requires : goal.is_there-requires
+is_there-requires g c = c.stride.ensures.keeps.ready.stands
+
+pub returns-then-is_there-clause-agree : goal.returns-then-is_there-clause-agree
+returns-then-is_there-clause-agree g c = c.stride.ensures.agree
+
+pub returns-then-is_there-clause-keeps : goal.returns-then-is_there-clause-keeps
+returns-then-is_there-clause-keeps g c = keeps_on c.loop-progress.invariant.keeps c.stride.ensures.keeps
+
+pub loop-progress-smaller : goal.loop-progress-smaller
+loop-progress-smaller g c = c.in_ok-progress.ensures.falls (sym c.in_ok-progress.ensures.went.1 ∙ c.in-Running.is)

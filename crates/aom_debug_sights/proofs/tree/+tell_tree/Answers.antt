@@ -163,3 +163,39 @@ returns-clause-ok g t c =
     tree_told p m id c.class.result (c.args.depth - 1) c.args.depth w r c.args.way.now (subst (λ k. Shows (record { image = p; parts = m }) k r) (sym c.in-Some.ensures.value) shows) c.class.ensures is deep _ _ _ c.in_ok-tell_owned.ensures.ok
     (tells_all owned_line (record { image = p; parts = m }) (below p m id (c.args.depth - 1) w) (λ s. 8) c.loop-field.field _ _ (c.loop-field.invariant.out p w begun) (λ s st. omega (arith, most, least))) _
     (seats_told p m id (c.args.depth - 1) w i.so_far.0 all _ _ (i.so_far.2 p w (c.loop-field.invariant.same ∙ begun)))
+
+pub returns-then-depth-eq0-clause-ok : goal.returns-then-depth-eq0-clause-ok
+returns-then-depth-eq0-clause-ok g t c = rw c.if-depth-eq0.true (λ p w r _ _. record { out = λ s st. none_sent _ })
+
+pub tell_message-requires-clause-room : goal.tell_message-requires-clause-room
+tell_message-requires-clause-room g t c = omega (arith, c.requires.room)
+
+pub tell_message-requires-clause-stands : goal.tell_message-requires-clause-stands
+tell_message-requires-clause-stands g t c = c.requires.stands
+
+pub class-requires : goal.class-requires
+class-requires g t c = rw c.in-Some.ensures.value (c.in-Some.ensures.lives.0 refl)
+
+pub tell_owned-requires : goal.tell_owned-requires
+tell_owned-requires g t c = omega (arith, c.requires.room)
+
+pub loop-field-init : goal.loop-field-init
+loop-field-init g t c = record { same = refl; out = λ p w is. record { out = λ s st. none_sent _ } }
+
+pub enter-requires : goal.enter-requires
+enter-requires g t c = let same = ap length (c.loop-field.invariant.same ∙ c.tell_owned.ensures.same) in omega (arith, c.requires.room, same)
+
+pub field-requires-clause-lives : goal.field-requires-clause-lives
+field-requires-clause-lives g t c = rw c.in-Some.ensures.value (c.in-Some.ensures.lives.0 refl)
+
+pub enter_session-requires : goal.enter_session-requires
+enter_session-requires g t c = let same = ap length (c.loop-next.invariant.same ∙ c.loop-field.invariant.same ∙ c.tell_owned.ensures.same) in omega (arith, c.requires.room, same)
+
+pub next_session-next-requires : goal.next_session-next-requires
+next_session-next-requires g t c = c.loop-next.invariant.inside c.in-Some-next.client c.in-Some-next.is
+
+pub first_session-next-requires-clause-lives : goal.first_session-next-requires-clause-lives
+first_session-next-requires-clause-lives g t c = rw c.in-Some.ensures.value (c.in-Some.ensures.lives.0 refl)
+
+pub first_session-next-requires-clause-stands : goal.first_session-next-requires-clause-stands
+first_session-next-requires-clause-stands g t c = c.requires.stands
