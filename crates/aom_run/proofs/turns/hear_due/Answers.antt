@@ -85,3 +85,30 @@ loop-event-preserved g c =
       turn = quiet ∙ i.turn;
       fewer = inr (less_to_come events old m new i.fewer (heard_fewer events m new told now none come.0 takes e.rest));
     }
+
+pub deliver-requires-clause-agree : goal.deliver-requires-clause-agree
+deliver-requires-clause-agree g c = c.loop-event.invariant.agree
+
+pub returns-then-deliver-clause-agree : goal.returns-then-deliver-clause-agree
+returns-then-deliver-clause-agree g c = c.deliver.ensures.agree
+
+pub returns-clause-agree : goal.returns-clause-agree
+returns-clause-agree g c = c.loop-event.invariant.agree
+
+pub returns-clause-kept : goal.returns-clause-kept
+returns-clause-kept g c = c.loop-event.invariant.kept.keeps
+
+pub returns-clause-heard : goal.returns-clause-heard
+returns-clause-heard g c = (c.loop-event.invariant.turn, c.loop-event.invariant.settled, c.loop-event.invariant.kept.none_due, c.in_default.ensures.none)
+
+pub returns-clause-timers : goal.returns-clause-timers
+returns-clause-timers g c = c.loop-event.invariant.kept.timers
+
+pub deliver-requires-clause-stands : goal.deliver-requires-clause-stands
+deliver-requires-clause-stands g c = c.loop-event.invariant.kept.keeps.stands
+
+pub deliver-requires-clause-between : goal.deliver-requires-clause-between
+deliver-requires-clause-between g c = c.loop-event.invariant.kept.keeps.between
+
+pub returns-then-deliver-clause-timers : goal.returns-then-deliver-clause-timers
+returns-then-deliver-clause-timers g c = c.deliver.ensures.delivered.timers ∙ c.loop-event.invariant.kept.timers
