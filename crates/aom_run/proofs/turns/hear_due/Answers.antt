@@ -3,7 +3,7 @@ use Rattle.std.proofs.Common.{arith, inl, inr, length, refl, subst, sym, ◌<◌
 use Rattle.aom_lines.specs.Turn.{Turn}
 use Rattle.aom_machine.specs.Calls.{Delivered, EventInRange}
 use Rattle.aom_run.specs.Turns.{TellsEnd}
-use Rattle.aom_run.proofs.Between.{come_within, heard_far, heard_fewer, heard_settles, heard_stands, heard_tells, less_to_come, none_settles, settles_both, tells_after}
+use Rattle.aom_run.proofs.Between.{at_most_to_come, come_within, had_come, heard_far, heard_fewer, heard_settles, heard_stands, heard_tells, less_to_come, none_settles, settles_both, tells_after}
 use Rattle.aom_run.proofs.Gets.{all_got}
 use Rattle.aom_run.proofs.Keeping.{keeps_on, times_all, times_on}
 use Rattle.aom_run.proofs.turns.hear_due.Goals as goal
@@ -112,3 +112,9 @@ deliver-requires-clause-between g c = c.loop-event.invariant.kept.keeps.between
 
 pub returns-then-deliver-clause-timers : goal.returns-then-deliver-clause-timers
 returns-then-deliver-clause-timers g c = c.deliver.ensures.delivered.timers ∙ c.loop-event.invariant.kept.timers
+
+pub returns-clause-no_more : goal.returns-clause-no_more
+returns-clause-no_more g c = at_most_to_come c.args.events.now c.args.machine.now c.loop-event.machine c.loop-event.invariant.fewer
+
+pub returns-clause-falls : goal.returns-clause-falls
+returns-clause-falls g c = λ is. had_come c.args.events.now c.args.machine.now c.loop-event.machine c.loop-event.invariant.fewer c.in_default.ensures.none
