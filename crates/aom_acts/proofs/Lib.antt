@@ -32,6 +32,7 @@ pub mod LeavingActs
 pub mod EntryActs
 pub mod DealActs
 pub mod Topping
+pub mod Resulting
 pub mod UnwindActs
 mod Vanishing
 pub mod Owned

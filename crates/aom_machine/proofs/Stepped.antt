@@ -18,7 +18,7 @@ use Rattle.aom_parts.specs.Progress.{progress_of}
 use Rattle.aom_parts.specs.Stands.{Machine as Core, StandsFor as Core_stands}
 use Rattle.aom_exec.specs.Steps.{Quiet, Stepped as Core_stepped, SteppedOn as Core_stepped_on, Steps, begins, progress}
 use Rattle.aom_machine.specs.declared.machine.Machine.{Machine}
-use Rattle.aom_machine.specs.Answers.{Asked, MayAsk, MayHear, asked_by, asked_of}
+use Rattle.aom_machine.specs.Answers.{Asked, MayAsk, MayHear, asked_by, asked_of, times_after}
 use Rattle.aom_machine.specs.Calls.{StandsFor, SteppedOn, SteppedOnce}
 use Rattle.aom_machine.specs.Beside.{Serves}
 use Rattle.aom_machine.proofs.Asked.{may_ask, serves_after, session_small}
@@ -67,6 +67,21 @@ module _ {L : Type 0} (kept : L → List ℕ) (old new : List (Option L)) (n x :
       at_own : (m : ℕ) → ((int_lt answer (pos 0) ≡ true) × (answer <ℤ pos 0)) ⊎ ((int_lt answer (pos 0) ≡ false) × (pos 0 ≤ℤ answer)) → times m (ids_at kept new n) ≡ cond (takes_on answer && is_for n x n m) (suc (times m (ids_at kept old n))) (times m (ids_at kept old n))
       at_own m (inl less) = ap (times m) (refused less.1) ∙ sym (ap (λ b. cond (not b && is_for n x n m) (suc (times m (ids_at kept old n))) (times m (ids_at kept old n))) less.0)
       at_own m (inr more) = ap (times m) (taken more.1) ∙ here m (ids_at kept old n) ∙ sym (ap (λ b. cond (not b && is_for n x n m) (suc (times m (ids_at kept old n))) (times m (ids_at kept old n))) more.0)
+
+  -- what is outstanding stays so, where the call neither begins nor cancels
+  pub asked_alone : (asked : Wanted) (answer : ℤ) → ((k m before : ℕ) → times_after (Some asked) answer k m before ≡ before) → ids_at kept new n ≡ ids_at kept old n → IsSome (living_at old n) → IsSome (living_at new n) → KeepsOthers old new n →
+      Asked kept old (Some asked) answer new
+  asked_alone asked answer stays same before after others = record {
+    count = others.count;
+    living = λ k. elim (cases_eq k n) [
+      | inl e ↦ subst (λ y. is_some (living_at new y) ≡ is_some (living_at old y)) (sym e) (after ∙ sym before)
+      | inr apart ↦ ap is_some (others.others k apart)
+    ];
+    times = λ k m. elim (cases_eq k n) [
+      | inl e ↦ subst (λ y. times m (ids_at kept new y) ≡ times_after (Some asked) answer y m (times m (ids_at kept old y))) (sym e) (ap (times m) same ∙ sym (stays n m _))
+      | inr apart ↦ ap (λ o. times m (ids_of kept o)) (others.others k apart) ∙ sym (stays k m _)
+    ];
+  }
 
   pub asked_to_start : (asked : Wanted) (f w answer : ℤ) → asked ≡ Starts n x f w → MayAsk kept old asked → (pos 0 ≤ℤ answer → ids_at kept new n ≡ ids_at kept old n ++ x ∷ []) → (answer <ℤ pos 0 → ids_at kept new n ≡ ids_at kept old n) → IsSome (living_at new n) → KeepsOthers old new n →
       Asked kept old (Some asked) answer new

@@ -6,7 +6,7 @@ use Rattle.aom_frames.specs.Tasks.{Runs, method_here, place_here, below_first}
 use Rattle.aom_acts.specs.Cleanup.{Unwinds, told}
 use Rattle.aom_acts.specs.Ends.{left_by}
 use Rattle.aom_parts.specs.Places.{code_here, with_tasks}
-use Rattle.aom_acts.proofs.Topping.{coded_through, ends_under}
+use Rattle.aom_acts.proofs.Topping.{coded_through, ends_under, returns_within_through}
 use Rattle.aom_acts.proofs.UnwindActs.{arrives_end, arrives_method, told_code}
 use Rattle.aom_acts.proofs.leaving.arrive.Goals as goal
 
@@ -33,3 +33,24 @@ returns-else-is_running c =
     rw (c.leave_dispatch.ensures, c.push.ensures, c.drop_task-2.ensures, c.drop_task.ensures)
     (subst (λ w. Unwinds c.args.linked.now m (record (with_tasks (left_by w (below_first (below_first m.stack.tasks))) m) { entries = c.unmark.new.self }) c.args.turn.now (record c.args.turn.now { lines = c.args.turn.now.lines ++ Leave w ∷ [] })) (sym code.0)
     (arrives_end c.args.linked.now m c.unmark.new.self marked c.args.turn.now code.1 c.requires.unwinding c.requires.trapped ending))
+
+pub unmark-requires : goal.unmark-requires
+unmark-requires c = rw (c.drop_task-2.ensures, c.drop_task.ensures) c.requires.marked
+
+pub receive_code-requires-clause-runs : goal.receive_code-requires-clause-runs
+receive_code-requires-clause-runs c = c.is_running.ensures.0 c.if-is_running.true
+
+pub receive_code-requires-clause-within : goal.receive_code-requires-clause-within
+receive_code-requires-clause-within c =
+    let runs = rw (c.drop_task-2.ensures, c.drop_task.ensures) at (c.is_running.ensures.0 c.if-is_running.true) in
+    rw (c.drop_task-2.ensures, c.drop_task.ensures) (returns_within_through c.args.linked.now (below_first c.args.parts.now.stack.tasks) c.requires.below c.requires.trapped runs)
+
+pub receive_code-requires-clause-coded : goal.receive_code-requires-clause-coded
+receive_code-requires-clause-coded c =
+    let runs = rw (c.drop_task-2.ensures, c.drop_task.ensures) at (c.is_running.ensures.0 c.if-is_running.true) in
+    rw (c.drop_task-2.ensures, c.drop_task.ensures) (coded_through c.args.linked.now (below_first c.args.parts.now.stack.tasks) c.requires.below c.requires.trapped runs)
+
+pub leave_dispatch-requires-clause-ending : goal.leave_dispatch-requires-clause-ending
+leave_dispatch-requires-clause-ending c =
+    let stops : Runs _ → ⊥ = λ runs. false≢true (sym c.if-is_running.false ∙ c.is_running.ensures.1 (rw (c.drop_task-2.ensures, c.drop_task.ensures) runs)) in
+    rw (c.drop_task-2.ensures, c.drop_task.ensures) (ends_under c.args.linked.now (below_first c.args.parts.now.stack.tasks) c.requires.below c.requires.trapped stops)

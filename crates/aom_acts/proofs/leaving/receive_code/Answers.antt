@@ -1,4 +1,4 @@
-use Rattle.std.proofs.Common.{suc, rules, sym, ap, ◌∙◌, ◌+◌, ◌≡◌, ℕ, w32, FitsSigned, of_z, arith}
+use Rattle.std.proofs.Common.{suc, rules, sym, ap, ◌∙◌, ◌+◌, ◌≡◌, ℕ, w32, FitsSigned, of_z, arith, subst}
 use Rattle.std.proofs.lemmas.Int.{to_z-of_z}
 use Rattle.aom_image.specs.Views.{instr_at}
 use Rattle.aom_image.specs.declared.method.Gives.{Gives}
@@ -6,7 +6,9 @@ use Rattle.aom_sound.specs.Calls.{called, result_register}
 use Rattle.aom_frames.specs.Tasks.{method_here, place_here}
 use Rattle.aom_parts.specs.declared.parts.Parts.{Parts}
 use Rattle.aom_parts.specs.Places.{next, set_register}
+use Rattle.aom_parts.specs.Room.{CalleeThere}
 use Rattle.aom_acts.specs.Cleanup.{lost}
+use Rattle.aom_acts.proofs.Resulting.{GoesOn, lost_goes_on, set_goes_on}
 use Rattle.aom_acts.proofs.leaving.receive_code.Goals as goal
 
 pub returns : goal.returns
@@ -26,3 +28,32 @@ returns c =
     ∙ ap (λ x. made (called p i) x (x + 1) c.cast_unsigned.result) to
     ∙ ap (λ k. made (called p i) (result_register i) k c.cast_unsigned.result) after
     ∙ ap (λ n. made (called p i) (result_register i) (suc (result_register i)) n) bits)
+
+pub called_gives-gives-requires : goal.called_gives-gives-requires
+called_gives-gives-requires c = subst (λ i. CalleeThere c.args.linked.now i) c.fetch-instr.ensures c.requires.calls
+
+pub lose_result-requires-clause-runs : goal.lose_result-requires-clause-runs
+lose_result-requires-clause-runs c = c.requires.runs
+
+pub lose_result-requires-clause-within : goal.lose_result-requires-clause-within
+lose_result-requires-clause-within c = c.result_of-to.ensures.in_range
+
+pub set_register-requires-clause-within : goal.set_register-requires-clause-within
+set_register-requires-clause-within c =
+    let to = c.result_of-to.ensures.value ∙ ap result_register (sym c.fetch-instr.ensures) in
+    omega (arith, to, c.requires.coded)
+
+pub set_register-requires-clause-runs : goal.set_register-requires-clause-runs
+set_register-requires-clause-runs c =
+    let on = lost_goes_on c.called_gives-gives.result c.result_of-to.result c.args.parts.now (record { runs = c.requires.runs; within = c.requires.within }) in
+    rw c.lose_result.ensures on.runs
+
+pub next-requires-clause-runs : goal.next-requires-clause-runs
+next-requires-clause-runs c =
+    let on = lost_goes_on c.called_gives-gives.result c.result_of-to.result c.args.parts.now (record { runs = c.requires.runs; within = c.requires.within }) in
+    rw (c.set_register.ensures, c.lose_result.ensures) (set_goes_on (c.result_of-to.result + 1) c.cast_unsigned.result _ on).runs
+
+pub next-requires-clause-within : goal.next-requires-clause-within
+next-requires-clause-within c =
+    let on = lost_goes_on c.called_gives-gives.result c.result_of-to.result c.args.parts.now (record { runs = c.requires.runs; within = c.requires.within }) in
+    rw (c.set_register.ensures, c.lose_result.ensures) (set_goes_on (c.result_of-to.result + 1) c.cast_unsigned.result _ on).within

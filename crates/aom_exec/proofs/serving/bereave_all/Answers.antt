@@ -1,6 +1,6 @@
 -- One cell after another is bereaved.
 use Rattle.std.proofs.Common.{arith}
-use Rattle.aom_exec.proofs.Killing.{all_hit, hits_next, misses_next, needs_code, needs_life}
+use Rattle.aom_exec.proofs.Killing.{all_hit, hits_next, misses_next, needs_code, needs_life, none_yet}
 use Rattle.aom_exec.proofs.serving.bereave_all.Goals as goal
 use Rattle.aom_exec.proofs.serving.bereave_all.Goals.{then-is_engaged, else-is_engaged}
 
@@ -31,3 +31,6 @@ returns c =
     let most = c.loop-number.auto.number-end in
     let least = c.loop-number-test.false in
     all_hit c.args.linked.now c.args.native c.args.parts.now c.loop-number.number c.loop-number.parts c.loop-number.invariant (omega (arith, limit, most, least))
+
+pub loop-number-init : goal.loop-number-init
+loop-number-init c = none_yet _ _ _

@@ -3,7 +3,7 @@ use Rattle.std.proofs.Common.{arith, inl, inr, length, refl, subst, sym, ◌<◌
 use Rattle.aom_lines.specs.Turn.{Turn}
 use Rattle.aom_machine.specs.Calls.{Delivered, EventInRange}
 use Rattle.aom_run.specs.Turns.{TellsEnd}
-use Rattle.aom_run.proofs.Between.{come_within, heard_far, heard_fewer, heard_settles, heard_stands, heard_tells, less_to_come, none_settles, settles_both, tells_after}
+use Rattle.aom_run.proofs.Between.{at_most_to_come, come_within, had_come, heard_far, heard_fewer, heard_settles, heard_stands, heard_tells, less_to_come, none_settles, settles_both, tells_after}
 use Rattle.aom_run.proofs.Gets.{all_got}
 use Rattle.aom_run.proofs.Keeping.{keeps_on, times_all, times_on}
 use Rattle.aom_run.proofs.turns.hear_due.Goals as goal
@@ -85,3 +85,36 @@ loop-event-preserved g c =
       turn = quiet ∙ i.turn;
       fewer = inr (less_to_come events old m new i.fewer (heard_fewer events m new told now none come.0 takes e.rest));
     }
+
+pub deliver-requires-clause-agree : goal.deliver-requires-clause-agree
+deliver-requires-clause-agree g c = c.loop-event.invariant.agree
+
+pub returns-then-deliver-clause-agree : goal.returns-then-deliver-clause-agree
+returns-then-deliver-clause-agree g c = c.deliver.ensures.agree
+
+pub returns-clause-agree : goal.returns-clause-agree
+returns-clause-agree g c = c.loop-event.invariant.agree
+
+pub returns-clause-kept : goal.returns-clause-kept
+returns-clause-kept g c = c.loop-event.invariant.kept.keeps
+
+pub returns-clause-heard : goal.returns-clause-heard
+returns-clause-heard g c = (c.loop-event.invariant.turn, c.loop-event.invariant.settled, c.loop-event.invariant.kept.none_due, c.in_default.ensures.none)
+
+pub returns-clause-timers : goal.returns-clause-timers
+returns-clause-timers g c = c.loop-event.invariant.kept.timers
+
+pub deliver-requires-clause-stands : goal.deliver-requires-clause-stands
+deliver-requires-clause-stands g c = c.loop-event.invariant.kept.keeps.stands
+
+pub deliver-requires-clause-between : goal.deliver-requires-clause-between
+deliver-requires-clause-between g c = c.loop-event.invariant.kept.keeps.between
+
+pub returns-then-deliver-clause-timers : goal.returns-then-deliver-clause-timers
+returns-then-deliver-clause-timers g c = c.deliver.ensures.delivered.timers ∙ c.loop-event.invariant.kept.timers
+
+pub returns-clause-no_more : goal.returns-clause-no_more
+returns-clause-no_more g c = at_most_to_come c.args.events.now c.args.machine.now c.loop-event.machine c.loop-event.invariant.fewer
+
+pub returns-clause-falls : goal.returns-clause-falls
+returns-clause-falls g c = λ is. had_come c.args.events.now c.args.machine.now c.loop-event.machine c.loop-event.invariant.fewer c.in_default.ensures.none

@@ -1,6 +1,7 @@
-use Rattle.std.proofs.Common.{subst}
+use Rattle.std.proofs.Common.{refl, subst}
 use Rattle.aom_sound.specs.World.{boot_state}
 use Rattle.aom_parts.specs.Boot.{Booted}
+use Rattle.aom_exec.proofs.Agreeing.{agrees_in_all}
 use Rattle.aom_exec.proofs.Booting.{boots}
 use Rattle.aom_exec.proofs.machine.Machine.boot.Goals as goal
 
@@ -17,3 +18,9 @@ returns-clause-stands c =
     let booted = subst (λ p. Booted p c.in_ok-parts.parts) c.linked-linked.ensures c.in_ok-parts.ensures in
     boots c.args.accepted.now c.in_ok-parts.parts c.facts.ensures.linked c.facts.ensures.affordable c.facts.ensures.depths c.facts.ensures.heights
     c.boot_keeps.ensures c.step_keeps.ensures c.calm_keeps.ensures c.linked_is_wired.ensures c.boot_within.ensures c.moves_pay.ensures booted
+
+pub returns-clause-agrees : goal.returns-clause-agrees
+returns-clause-agrees c = agrees_in_all _
+
+pub returns-clause-image : goal.returns-clause-image
+returns-clause-image c = refl
