@@ -1,4 +1,5 @@
-use Rattle.std.proofs.Common.{rules}
+use Rattle.std.proofs.Common.{refl, rules}
+use Rattle.std.proofs.lemmas.Result.{err_from_is_err_and}
 -- An image within its limits is refused for want of memory alone.
 use Rattle.aom_classes.specs.Linked.{IsLinked}
 use Rattle.aom_budget.proofs.Budgeting.{refuses_none}
@@ -14,3 +15,16 @@ returns-clause-complete c = search rules
 
 pub returns-clause-refused : goal.returns-clause-refused
 returns-clause-refused c = search rules
+
+pub returns-in_err-figures-clause-refused : goal.returns-in_err-figures-clause-refused
+returns-in_err-figures-clause-refused c =
+    let e = err_from_is_err_and c.from_residual.result c.from_residual.ensures.1 in
+    rw (e.1, e.2) tt
+
+pub returns-in_err-figures-clause-complete : goal.returns-in_err-figures-clause-complete
+returns-in_err-figures-clause-complete c =
+    let e = err_from_is_err_and c.from_residual.result c.from_residual.ensures.1 in
+    λ budgets within high. rw (e.1, e.2) refl
+
+pub returns-clause-ok : goal.returns-clause-ok
+returns-clause-ok c = refl

@@ -1,6 +1,10 @@
-use Rattle.std.proofs.lemmas.Grind.{common_steps}
-use Rattle.std.proofs.Common.{arith}
+-- The parts of the graph follow each other.
+use Rattle.std.proofs.Common.{◌∷◌, [], ◌++◌, ap, append_assoc, sym}
+use Rattle.std.specs.Prelude.{codes}
 use Rattle.aom_figures.proofs.graph.dot_text.Goals as goal
 
 pub returns : goal.returns
-returns c = grind (arith, common_steps)
+returns c =
+    rw (c.into_text.ensures, c.in_ok-words-2.ensures, c.in_ok-put_way.ensures, c.in_ok-put_methods.ensures, c.in_ok-put_classes.ensures, c.in_ok-words.ensures, c.new-out.ensures)
+    (rw (c.as_slice.ensures, c.as_slice-2.ensures, c.classes.ensures.value, c.methods.ensures.value, c.image-image.ensures)
+    (ap (λ t. codes "digraph aom {" ++ 10 ∷ t) (sym (append_assoc _ (codes "}") (10 ∷ [])))))

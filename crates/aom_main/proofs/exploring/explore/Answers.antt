@@ -1,9 +1,9 @@
 -- Each number is tried in turn. Where memory is wanting what went out stays.
-use Rattle.std.proofs.Common.{length, refl, sym, subst, inl, arith, rules, ◌∙◌}
+use Rattle.std.proofs.Common.{length, refl, sym, subst, inl, inr, arith, rules, ◌∙◌}
 use Rattle.std.proofs.lemmas.Result.{err_from_is_err_and}
 use Rattle.aom_main.specs.Explored.{RefusesTry}
 use Rattle.aom_main.proofs.Telling.{begin_refused, memory_refused}
-use Rattle.aom_main.proofs.Tries.{one_more}
+use Rattle.aom_main.proofs.Tries.{one_more, start}
 use Rattle.aom_main.proofs.exploring.explore.Goals as goal
 
 pub returns-in_err-own-clause-err : goal.returns-in_err-own-clause-err
@@ -20,3 +20,15 @@ pub loop-number-preserved : goal.loop-number-preserved
 loop-number-preserved g c =
     let tried = c.in_ok-try_one.ensures.ok in
     (one_more _ _ _ _ _ _ _ _ tried.0 c.loop-number.invariant.0 (sym c.has_failed.ensures ∙ search rules) refl tried.1 tried.2, inl (omega (arith, c.loop-number-test.true)))
+
+pub loop-number-init : goal.loop-number-init
+loop-number-init g c = (start _ _ _ _ _ _ refl, inr refl)
+
+pub returns-clause-ok : goal.returns-clause-ok
+returns-clause-ok g c = record {
+  plain = c.in_ok-plain.plain;
+  is = rw (c.in_ok-own.ensures.items, c.refused.ensures) at c.in_ok-plain.ensures.ok;
+  count = c.loop-number.invariant.0.count;
+  begun = c.loop-number.invariant.0.begun;
+  all = grind arith;
+}

@@ -1,9 +1,9 @@
 -- Each kind makes a box more, which owes nothing.
-use Rattle.std.proofs.Common.{◌∙◌, List, ℕ, ap, refl}
+use Rattle.std.proofs.Common.{◌≡◌, ◌∙◌, List, ℕ, length, ap, refl, arith}
 use denote.Param.Object.{read_made}
 use Rattle.aom_natives.specs.Lines.{Queues}
 use Rattle.aom_natives.specs.Delays.{ids_in}
-use Rattle.aom_main.proofs.Boxes.{one_more_made}
+use Rattle.aom_main.proofs.Boxes.{none_made, one_more_made}
 use Rattle.aom_main.proofs.exploring.last_of.OwnLists.{own-1, at-1-1, at-1-2, at-1-3}
 use Rattle.aom_main.proofs.exploring.last_of.Goals as goal
 use Rattle.aom_main.proofs.exploring.last_of.Goals.{in-Counter+in_ok-new-in-Counter+in_ok-push-in-Counter, in-Line+in_ok-new-in-Line+in_ok-push-in-Line, in-Delay+in_ok-new-in-Delay+in_ok-push-in-Delay}
@@ -20,3 +20,14 @@ loop-kind-preserved c = elim c.match-kind.branch [
       one_more_made _ c.loop-kind.boxes.items c.match-kind.boxes.items w.into_dyn_box-in_ok-new-in-Delay.result c.loop-kind.kind-index c.loop-kind.invariant (rw w.boxes-is w.in_ok-push-in-Delay.ensures.items)
       (read_made own-1 (own-1.entry at-1-3) at-1-3 refl (List ℕ) (λ e x. e.1.owed x) w.into_dyn_box-in_ok-new-in-Delay.result.vtable w.into_dyn_box-in_ok-new-in-Delay.result.value w.in_ok-new-in-Delay.field-0.value w.into_dyn_box-in_ok-new-in-Delay.ensures.1 ∙ (ap ids_in w.in_ok-new-in-Delay.ensures.ok ∙ w.new-in-Delay.ensures.owed))
 ]
+
+pub loop-kind-init : goal.loop-kind-init
+loop-kind-init c = none_made _ _ c.new-boxes.ensures.items
+
+pub last_beside-requires-clause-owed : goal.last_beside-requires-clause-owed
+last_beside-requires-clause-owed c = c.loop-kind.invariant.nothing
+
+pub returns-clause-ok : goal.returns-clause-ok
+returns-clause-ok c =
+    let many : length c.loop-kind.boxes.items ≡ length c.args.trial.now.kinds.now = omega (arith, c.loop-kind.invariant.many, c.loop-kind-test.false, c.loop-kind.auto.kind-index-end) in
+    rw many at c.last_beside.ensures.ok
