@@ -11,13 +11,13 @@ loop-number-init c = λ k lt. absurd (omega arith)
 pub returns-then-plays : goal.returns-then-plays
 returns-then-plays c =
     each_not (λ k d. IsTrue (plays c.args.class c.args.role d) → k < c.args.method) _ _ _ c.loop-number-test.true c.index-methods-number.is (
-      λ below. let lt = below (sym c.plays.ensures ∙ c.if-plays.true) in absurd (omega arith)
+    λ below. let lt = below (sym c.plays.ensures ∙ c.if-plays.true) in absurd (omega arith)
     )
 
 pub loop-number-preserved : goal.loop-number-preserved
 loop-number-preserved c =
     each_more (λ k d. IsTrue (plays c.args.class c.args.role d) → k < c.args.method) _ _ _ c.loop-number.invariant c.loop-number-test.true c.index-methods-number.is (
-      elim c.else-number-method.branch [ else-number-method-via-then-number-method+else-plays w ↦ λ is. absurd (cc) | else-number-method-via-else-number-method w ↦ λ is. w.if-number-method.false ]
+    elim c.else-number-method.branch [ else-number-method-via-then-number-method+else-plays w ↦ λ is. absurd (cc) | else-number-method-via-else-number-method w ↦ λ is. w.if-number-method.false ]
     )
 
 pub returns : goal.returns

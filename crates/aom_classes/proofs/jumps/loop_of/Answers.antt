@@ -45,7 +45,7 @@ returns-else-start-end-clause-none c = λ _ p b.
     let back : c.in_ok-back.back ≡ suc p = same_Some _ _ (c.in_ok-back.ensures ∙ body_back _ _ _ _ c.requires c.index-code-end.is b) in
     let start : c.in_ok-start.start ≡ p = omega (arith, c.in_ok-start.ensures) in
     elim c.else-start-end.branch [
-      else-start-end-via-then-start-end+else-begins_loop w ↦
+      | else-start-end-via-then-start-end+else-begins_loop w ↦
           let begins = body_begins _ _ _ _ (omega arith) w.index-code-start.is (subst (λ (x : ℕ). Body c.args.code.now x c.args.end) (sym start) b) in absurd (both_ways _ w.if-begins_loop.false (w.begins_loop.ensures ∙ begins))
       | else-start-end-via-else-start-end w ↦ absurd (omega (arith, b.later))
     ]
