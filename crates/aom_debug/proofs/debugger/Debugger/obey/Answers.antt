@@ -1,0 +1,137 @@
+-- What the called one keeps, and how it answers.
+use Rattle.aom_debug.proofs.debugger.Debugger.obey.Goals as goal
+
+pub step-requires-clause-agree : goal.step-requires-clause-agree
+step-requires-clause-agree g c = c.requires.agree
+
+pub step-requires-clause-ready : goal.step-requires-clause-ready
+step-requires-clause-ready g c = c.requires.ready
+
+pub returns-in-Step-clause-agree : goal.returns-in-Step-clause-agree
+returns-in-Step-clause-agree g c = c.step.ensures.agree
+
+pub returns-in-Step-clause-keeps : goal.returns-in-Step-clause-keeps
+returns-in-Step-clause-keeps g c = c.step.ensures.keeps
+
+pub returns-in-Step-clause-answer : goal.returns-in-Step-clause-answer
+returns-in-Step-clause-answer g c = rw c.in-Step.is c.step.ensures.answer
+
+pub turn-requires-clause-agree : goal.turn-requires-clause-agree
+turn-requires-clause-agree g c = c.requires.agree
+
+pub turn-requires-clause-ready : goal.turn-requires-clause-ready
+turn-requires-clause-ready g c = c.requires.ready
+
+pub returns-in-Turn-clause-agree : goal.returns-in-Turn-clause-agree
+returns-in-Turn-clause-agree g c = c.turn.ensures.agree
+
+pub returns-in-Turn-clause-keeps : goal.returns-in-Turn-clause-keeps
+returns-in-Turn-clause-keeps g c = c.turn.ensures.keeps
+
+pub returns-in-Turn-clause-answer : goal.returns-in-Turn-clause-answer
+returns-in-Turn-clause-answer g c = rw c.in-Turn.is c.turn.ensures.answer
+
+pub go-requires-clause-agree : goal.go-requires-clause-agree
+go-requires-clause-agree g c = c.requires.agree
+
+pub go-requires-clause-ready : goal.go-requires-clause-ready
+go-requires-clause-ready g c = c.requires.ready
+
+pub returns-in-Go-clause-agree : goal.returns-in-Go-clause-agree
+returns-in-Go-clause-agree g c = c.go.ensures.agree
+
+pub returns-in-Go-clause-keeps : goal.returns-in-Go-clause-keeps
+returns-in-Go-clause-keeps g c = c.go.ensures.keeps
+
+pub returns-in-Go-clause-answer : goal.returns-in-Go-clause-answer
+returns-in-Go-clause-answer g c = rw c.in-Go.is c.go.ensures.answer
+
+pub break_at-requires-clause-agree : goal.break_at-requires-clause-agree
+break_at-requires-clause-agree g c = c.requires.agree
+
+pub break_at-requires-clause-ready : goal.break_at-requires-clause-ready
+break_at-requires-clause-ready g c = c.requires.ready
+
+pub returns-in-Break-clause-agree : goal.returns-in-Break-clause-agree
+returns-in-Break-clause-agree g c = c.break_at.ensures.agree
+
+pub returns-in-Break-clause-keeps : goal.returns-in-Break-clause-keeps
+returns-in-Break-clause-keeps g c = c.break_at.ensures.keeps
+
+pub returns-in-Break-clause-answer : goal.returns-in-Break-clause-answer
+returns-in-Break-clause-answer g c = rw c.in-Break.is c.break_at.ensures.answer
+
+pub look-requires-clause-agree : goal.look-requires-clause-agree
+look-requires-clause-agree g c = c.requires.agree
+
+pub look-requires-clause-ready : goal.look-requires-clause-ready
+look-requires-clause-ready g c = c.requires.ready
+
+pub returns-in-Cells-clause-agree : goal.returns-in-Cells-clause-agree
+returns-in-Cells-clause-agree g c = c.look.ensures.agree
+
+pub returns-in-Cells-clause-keeps : goal.returns-in-Cells-clause-keeps
+returns-in-Cells-clause-keeps g c = c.look.ensures.keeps
+
+pub returns-in-Cells-clause-answer : goal.returns-in-Cells-clause-answer
+returns-in-Cells-clause-answer g c = rw c.in-Cells.is c.look.ensures.answer
+
+pub look-requires-in-Owners-clause-agree : goal.look-requires-in-Owners-clause-agree
+look-requires-in-Owners-clause-agree g c = c.requires.agree
+
+pub look-requires-in-Owners-clause-ready : goal.look-requires-in-Owners-clause-ready
+look-requires-in-Owners-clause-ready g c = c.requires.ready
+
+pub returns-in-Owners-clause-agree : goal.returns-in-Owners-clause-agree
+returns-in-Owners-clause-agree g c = c.look-in-Owners.ensures.agree
+
+pub returns-in-Owners-clause-keeps : goal.returns-in-Owners-clause-keeps
+returns-in-Owners-clause-keeps g c = c.look-in-Owners.ensures.keeps
+
+pub returns-in-Owners-clause-answer : goal.returns-in-Owners-clause-answer
+returns-in-Owners-clause-answer g c = rw c.in-Owners.is c.look-in-Owners.ensures.answer
+
+pub look-requires-in-Cleanup-clause-agree : goal.look-requires-in-Cleanup-clause-agree
+look-requires-in-Cleanup-clause-agree g c = c.requires.agree
+
+pub look-requires-in-Cleanup-clause-ready : goal.look-requires-in-Cleanup-clause-ready
+look-requires-in-Cleanup-clause-ready g c = c.requires.ready
+
+pub returns-in-Cleanup-clause-agree : goal.returns-in-Cleanup-clause-agree
+returns-in-Cleanup-clause-agree g c = c.look-in-Cleanup.ensures.agree
+
+pub returns-in-Cleanup-clause-keeps : goal.returns-in-Cleanup-clause-keeps
+returns-in-Cleanup-clause-keeps g c = c.look-in-Cleanup.ensures.keeps
+
+pub returns-in-Cleanup-clause-answer : goal.returns-in-Cleanup-clause-answer
+returns-in-Cleanup-clause-answer g c = rw c.in-Cleanup.is c.look-in-Cleanup.ensures.answer
+
+pub look-requires-in-Actives-clause-agree : goal.look-requires-in-Actives-clause-agree
+look-requires-in-Actives-clause-agree g c = c.requires.agree
+
+pub look-requires-in-Actives-clause-ready : goal.look-requires-in-Actives-clause-ready
+look-requires-in-Actives-clause-ready g c = c.requires.ready
+
+pub returns-in-Actives-clause-agree : goal.returns-in-Actives-clause-agree
+returns-in-Actives-clause-agree g c = c.look-in-Actives.ensures.agree
+
+pub returns-in-Actives-clause-keeps : goal.returns-in-Actives-clause-keeps
+returns-in-Actives-clause-keeps g c = c.look-in-Actives.ensures.keeps
+
+pub returns-in-Actives-clause-answer : goal.returns-in-Actives-clause-answer
+returns-in-Actives-clause-answer g c = rw c.in-Actives.is c.look-in-Actives.ensures.answer
+
+pub look-requires-in-Recent-clause-agree : goal.look-requires-in-Recent-clause-agree
+look-requires-in-Recent-clause-agree g c = c.requires.agree
+
+pub look-requires-in-Recent-clause-ready : goal.look-requires-in-Recent-clause-ready
+look-requires-in-Recent-clause-ready g c = c.requires.ready
+
+pub returns-in-Recent-clause-agree : goal.returns-in-Recent-clause-agree
+returns-in-Recent-clause-agree g c = c.look-in-Recent.ensures.agree
+
+pub returns-in-Recent-clause-keeps : goal.returns-in-Recent-clause-keeps
+returns-in-Recent-clause-keeps g c = c.look-in-Recent.ensures.keeps
+
+pub returns-in-Recent-clause-answer : goal.returns-in-Recent-clause-answer
+returns-in-Recent-clause-answer g c = rw c.in-Recent.is c.look-in-Recent.ensures.answer
