@@ -1,6 +1,6 @@
 -- The method that trapped goes on where it did.
 use Rattle.std.proofs.Common.{◌+◌}
-use Rattle.aom_acts.proofs.Resulting.{GoesOn, resulted_goes_on, set_goes_on}
+use Rattle.aom_acts.proofs.Resulting.{resulted_goes_on, set_goes_on}
 use Rattle.aom_acts.proofs.calls.receive_trapped.Goals as goal
 
 pub take_result-requires-clause-runs : goal.take_result-requires-clause-runs

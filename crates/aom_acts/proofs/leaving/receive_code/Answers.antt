@@ -8,7 +8,7 @@ use Rattle.aom_parts.specs.declared.parts.Parts.{Parts}
 use Rattle.aom_parts.specs.Places.{next, set_register}
 use Rattle.aom_parts.specs.Room.{CalleeThere}
 use Rattle.aom_acts.specs.Cleanup.{lost}
-use Rattle.aom_acts.proofs.Resulting.{GoesOn, lost_goes_on, set_goes_on}
+use Rattle.aom_acts.proofs.Resulting.{lost_goes_on, set_goes_on}
 use Rattle.aom_acts.proofs.leaving.receive_code.Goals as goal
 
 pub returns : goal.returns
