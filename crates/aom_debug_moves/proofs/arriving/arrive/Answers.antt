@@ -67,13 +67,16 @@ turn_out-requires-clause-ready g c = c.loop-mover.invariant.keeps.ready
 pub turn_out-requires-clause-between : goal.turn_out-requires-clause-between
 turn_out-requires-clause-between g c = sym c.progress.ensures ∙ c.in-Turned.is
 
-pub returns-in_err-turn_out-in-Turned-clause-agree : goal.returns-in_err-turn_out-in-Turned-clause-agree
+pub returns-in_err-turn_out-in-Turned-clause-agree :
+    goal.returns-in_err-turn_out-in-Turned-clause-agree
 returns-in_err-turn_out-in-Turned-clause-agree g c = c.turn_out.ensures.agree
 
-pub returns-in_err-turn_out-in-Turned-clause-keeps : goal.returns-in_err-turn_out-in-Turned-clause-keeps
+pub returns-in_err-turn_out-in-Turned-clause-keeps :
+    goal.returns-in_err-turn_out-in-Turned-clause-keeps
 returns-in_err-turn_out-in-Turned-clause-keeps g c = keeps_on c.loop-mover.invariant.keeps c.turn_out.ensures.keeps
 
-pub returns-in_err-turn_out-in-Turned-clause-recent : goal.returns-in_err-turn_out-in-Turned-clause-recent
+pub returns-in_err-turn_out-in-Turned-clause-recent :
+    goal.returns-in_err-turn_out-in-Turned-clause-recent
 returns-in_err-turn_out-in-Turned-clause-recent g c = c.turn_out.ensures.recent ∙ c.loop-mover.invariant.recent
 
 pub returns-in_default-clause-agree : goal.returns-in_default-clause-agree
