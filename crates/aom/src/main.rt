@@ -9,7 +9,7 @@ ghost use Rattle.aom_command_line.specs.CommandLine.{KeepsLimit};
 ghost use Rattle.aom_natives.specs.Owed.{OweNothing};
 
 use aom_command_line::{RunWords, Words, WordsFault, read_words};
-use aom_debugging::debug_bytes;
+use aom_debug::debug_bytes;
 use aom_explaining::{
     asm_explained, check_by_text, check_explained, run_by_text, run_explained, tell_explained,
 };

@@ -1,3 +1,10 @@
+pub mod Lines
+pub mod Obeying
+pub mod Heeding
+pub mod Talking
+pub mod Reading
+pub mod proofs
+pub mod Starting
 pub mod Moving
 pub mod Placing
 pub mod Answering

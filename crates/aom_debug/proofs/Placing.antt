@@ -9,7 +9,7 @@ use Rattle.aom_debug_moves.specs.Runs.{after}
 use Rattle.aom_debug_moves.proofs.Sending.{after_both, cut_next, cut_short}
 use Rattle.aom_debug_words.specs.declared.answer.Answer.{Answer}
 use Rattle.aom_debug_words.specs.Answers.{answer_text}
-use Rattle.aom_debug_views.specs.Next.{next_of}
+use Rattle.aom_debug_moves.specs.Next.{next_of}
 use Rattle.aom_debug_words.specs.declared.fault.DebugFault.{DebugFault}
 use Rattle.aom_debug_sights.specs.Telling.{IsCut, Tells, TellsPart}
 use Rattle.aom_debug.specs.Commands.{end_by, place_text}

@@ -12,7 +12,7 @@ use Rattle.aom_transcript.specs.Text.{end_text, ended, text_of}
 use Rattle.aom_debug_words.specs.Marks.{is_set}
 use Rattle.aom_debug_words.specs.declared.spot.Spot.{Spot}
 use Rattle.aom_debug_words.specs.Answers.{answer_text}
-use Rattle.aom_debug_views.specs.Next.{next_of}
+use Rattle.aom_debug_moves.specs.Next.{next_of}
 use Rattle.aom_debug_sights.specs.Actives.{InOrderOfChoice, active_answers}
 use Rattle.aom_debug_sights.specs.Owners.{owners, owners_text}
 use Rattle.aom_debug_sights.specs.Sights.{cells_answers, cleanup_answers, recent_answers}

@@ -1,3 +1,8 @@
+pub mod Answers
+pub mod Beginning
+pub mod Sessions
+pub mod Hearing
+pub mod Conversing
 pub mod Commands
 pub mod Debugging
 pub mod Obeying

@@ -1,19 +1,28 @@
-//! A debugger over a machine: it goes on by steps, to the end of a dispatch or to a breakpoint, and tells what is at hand.
+//! The program's debugger: over a machine, and over the bytes of files, a reader of commands and two sinks.
 //!
 //! `Debugger::command` does what a line of commands says, and each command is a call too. A call promises what it did to each state that
 //! the machine stood for and what went out (`specs/Debugging.antt`): the moves that the command asks for by `aom_debug_moves`, their
 //! lines and then where they lead; or what `aom_debug_sights` tells, and nothing changed; or that it is refused, and nothing was
-//! changed or written. Nothing here takes memory, by signature. It knows no files and no reader.
+//! changed or written. Nothing of this takes memory, by signature.
+//!
+//! `debug_bytes` looks at the image, the script and the natives as `run_bytes` of `aom_main` does, and then does what the lines say
+//! that the reader gives. Its contract, `DebugAnswers` of `specs/Answers.antt`, says of each exit status what was read and what went
+//! out: the text of a session (`specs/Sessions.antt`) from the image's boot state on, or a beginning of it where the output failed.
+//! It knows no files and no command line.
 #![tactic(auto)]
 
 mod commanding;
+mod conversing;
 mod debugger;
+mod debugging;
 mod looking;
 mod marking;
 mod showing;
 
 pub use aom_debug_moves::{Mover, Sink};
 pub use aom_debug_sights::tell;
+pub use aom_reader::Reader;
 pub use debugger::Debugger;
+pub use debugging::debug_bytes;
 pub use looking::Look;
 pub use showing::tell_place;

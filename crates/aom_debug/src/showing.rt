@@ -7,9 +7,8 @@ ghost use Rattle.aom_debug_sights.specs.Sights.{cells_answers};
 ghost use Rattle.aom_debug_sights.specs.Telling.{Tells, TellsPart, answers_text};
 ghost use Rattle.aom_debug.specs.Commands.{end_by, place_text};
 
-use aom_debug_moves::{Machine, Progress, Sink};
+use aom_debug_moves::{Machine, Progress, Sink, next_of};
 use aom_debug_sights::{send, tell, tell_cells, tell_owners};
-use aom_debug_views::next_of;
 use aom_debug_words::DebugFault;
 use aom_transcript::Page;
 

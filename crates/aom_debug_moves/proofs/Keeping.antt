@@ -5,7 +5,7 @@ use Rattle.aom_image.specs.Image.{Image}
 use Rattle.aom_lines.specs.Turn.{Turn}
 use Rattle.aom_script.specs.Script.{Script}
 use Rattle.aom_exec.specs.Steps.{progress}
-use Rattle.aom_machine.specs.Calls.{Stands, natives_of}
+use Rattle.aom_run.specs.Calls.{Stands, natives_of}
 use Rattle.aom_debug_words.specs.declared.spot.Spot.{Spot}
 use Rattle.aom_run.specs.Turns.{hearing}
 use Rattle.aom_sound.specs.World.{Outside}

@@ -14,7 +14,7 @@ use Rattle.aom_parts.specs.declared.progress.Progress.TheVariants.{Ended, Runnin
 use Rattle.aom_parts.specs.Progress.{progress_by, progress_of}
 use Rattle.aom_exec.specs.Steps.{IsAtHand, progress}
 use Rattle.aom_exec.proofs.Progressing.{between, is_as_far}
-use Rattle.aom_machine.specs.Calls.{Stands, StandsFor}
+use Rattle.aom_run.specs.Calls.{Stands, StandsFor}
 use Rattle.aom_debug_moves.specs.Sends.{Machine, Sends, Then}
 use Rattle.aom_run.specs.Runs.{Moving}
 use Rattle.aom_run.specs.Turns.{LeadTo}

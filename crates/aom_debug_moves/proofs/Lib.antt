@@ -1,3 +1,4 @@
+pub mod Nexts
 pub mod Keeping
 pub mod Sending
 pub mod Strides

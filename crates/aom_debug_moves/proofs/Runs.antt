@@ -6,7 +6,7 @@ use Rattle.aom_sound.specs.World.{Outside, Reaches}
 use Rattle.aom_transcript.specs.declared.line.Line.{Line}
 use Rattle.aom_exec.specs.Steps.{IsAtHand}
 use Rattle.aom_run.proofs.Reaching.{reaches_both}
-use Rattle.aom_debug_views.specs.Next.{root_is_due}
+use Rattle.aom_debug_moves.specs.Next.{root_is_due}
 use Rattle.aom_debug_words.specs.declared.spot.Spot.{Spot}
 use Rattle.aom_debug_moves.specs.Sends.{Leads}
 use Rattle.aom_debug_moves.proofs.Sending.{reaches_arrived}

@@ -10,7 +10,7 @@ use Rattle.aom_parts.specs.declared.progress.Progress.TheVariants.{Running, Turn
 use Rattle.aom_parts.specs.Progress.{progress_of}
 use Rattle.aom_exec.specs.Steps.{progress}
 use Rattle.aom_exec.proofs.Progressing.{at_hand, is_as_far}
-use Rattle.aom_machine.specs.Calls.{Stands, StandsFor}
+use Rattle.aom_run.specs.Calls.{Stands, StandsFor}
 use Rattle.aom_debug_moves.specs.Sends.{Breaks, Leads, Machine, Sends, Then}
 use Rattle.aom_debug_moves.specs.Movers.{Keeps, outside_of}
 use Rattle.aom_debug_moves.specs.declared.mover.Mover.{Mover}

@@ -9,7 +9,7 @@ use Rattle.aom_parts.specs.Progress.{progress_of}
 use Rattle.aom_exec.specs.Steps.{IsAtHand}
 use Rattle.aom_debug_words.specs.Marks.{has_spot}
 use Rattle.aom_debug_words.specs.declared.spot.Spot.{Spot}
-use Rattle.aom_debug_views.specs.Next.{next_of, root_is_due, spot_of}
+use Rattle.aom_debug_moves.specs.Next.{next_of, root_is_due, spot_of}
 use Rattle.aom_debug_moves.specs.Moves.{Arrives, Strides}
 use Rattle.aom_debug_moves.specs.Sends.{Leads, Then}
 use Rattle.aom_debug_moves.specs.declared.courses.Course.{Course}

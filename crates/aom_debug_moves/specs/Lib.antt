@@ -1,3 +1,4 @@
+pub mod Next
 pub mod Movers
 pub mod Moves
 pub mod Sends
@@ -6,6 +7,6 @@ pub mod Courses
 pub mod CourseLaws
 -- what is said of the machine and of its runs, for those who say it of a debugger
 pub use Rattle.aom_exec.specs.Steps
-pub use Rattle.aom_machine.specs.Calls
+pub use Rattle.aom_run.specs.Calls
 pub use Rattle.aom_run.specs.Runs
 pub use Rattle.aom_run.specs.Turns

@@ -5,7 +5,7 @@ use Rattle.aom_parts.specs.declared.progress.Progress.{Progress}
 use Rattle.aom_script.specs.Script.{IsTimely}
 use Rattle.aom_sound.specs.World.{Outside}
 use Rattle.aom_exec.specs.Steps.{progress}
-use Rattle.aom_machine.specs.Calls.{Stands, natives_of}
+use Rattle.aom_run.specs.Calls.{Stands, natives_of}
 use Rattle.aom_run.specs.Turns.{hearing}
 use Rattle.aom_debug_moves.specs.Sends.{Breaks, Leads, Sends}
 pub use Rattle.aom_debug_moves.specs.declared.mover.Mover.{Mover}

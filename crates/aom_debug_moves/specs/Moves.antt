@@ -9,7 +9,7 @@ use Rattle.aom_transcript.specs.declared.line.Line.{Line}
 use Rattle.aom_transcript.specs.declared.line.Ending.{Ending}
 use Rattle.aom_exec.specs.Steps.{Steps}
 use Rattle.aom_run.specs.Turns.{LeadTo}
-use Rattle.aom_debug_views.specs.Next.{next_of, pauses, root_is_due, spot_of}
+use Rattle.aom_debug_moves.specs.Next.{next_of, pauses, root_is_due, spot_of}
 use Rattle.aom_debug_moves.specs.Sends.{Leads, Then, Where}
 
 -- the latest instructions, once one is noted

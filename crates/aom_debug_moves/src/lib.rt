@@ -10,22 +10,29 @@
 //! course how many steps were made, where they end and that nowhere before was a place to stay (`GoesBy`, `TurnsOver` and
 //! `GoesToBreakpoint` of `specs/Courses.antt`), and that the lines that went out are those of these moves, or a beginning of the lines
 //! of a run where the sink failed; and that just the instructions that were made are noted, after the latest that were there.
+//!
+//! What they look at before they move: `next_of` answers the instruction or the going of a cell that is next in each state that the
+//! machine stands for, or the time where nothing is at hand, by `specs/Next.antt`; where `stop` was run and the dispatch is at its end,
+//! that is the first step of the root's destruction (`is_due`). These looks change nothing.
 //! Nothing here takes memory, by signature. It knows no commands and no inspections.
 #![tactic(auto)]
 
 mod arriving;
 mod courses;
+mod ends;
 mod laws;
 mod mover;
+mod next;
 mod stepping;
 mod walking;
 
 pub use aom_exec::Progress;
-pub use aom_machine::Machine;
-pub use aom_run::Sink;
+pub use aom_run::{Machine, Sink};
 pub use arriving::{arrive, turn_out};
 pub use courses::{Course, go};
+pub use ends::{is_due, pauses};
 pub use laws::{courses_are_a_run, moves_are_a_run};
 pub use mover::Mover;
+pub use next::{next_of, spot_at};
 pub use stepping::stride;
 pub use walking::{Until, walk};

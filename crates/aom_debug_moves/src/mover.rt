@@ -1,7 +1,7 @@
 //! A machine that moves under a script.
 use aom_debug_words::Recent;
 use aom_lines::Turn;
-use aom_machine::Machine;
+use aom_run::Machine;
 use aom_script::Script;
 use aom_transcript::Page;
 

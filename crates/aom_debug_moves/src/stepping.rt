@@ -4,22 +4,20 @@ ghost use Rattle.aom_transcript.specs.Text.{text_of};
 ghost use Rattle.aom_exec.specs.Steps.{progress, rank};
 ghost use Rattle.aom_parts.specs.declared.progress.Progress.TheVariants.{Running};
 ghost use Rattle.aom_sound.specs.State.{State};
-ghost use Rattle.aom_machine.specs.Calls.{Stands, StandsFor};
-ghost use Rattle.aom_debug_views.specs.Next.{next_of, pauses, root_is_due, spot_of};
+ghost use Rattle.aom_run.specs.Calls.{Stands, StandsFor};
+ghost use Rattle.aom_debug_moves.specs.Next.{next_of, pauses, root_is_due, spot_of};
 ghost use Rattle.aom_natives.specs.Slots.{AllAgree};
 ghost use Rattle.aom_run.specs.Runs.{Moving, after};
 ghost use Rattle.aom_debug_moves.specs.Movers.{IsReady, Keeps, Went};
 ghost use Rattle.aom_debug_moves.specs.Moves.{StepsOnce, Strides, noted};
 ghost use Rattle.aom_debug_moves.specs.Sends.{IfSo};
 
-use crate::Mover;
-use aom_debug_views::{is_due, pauses, spot_at};
+use crate::{Mover, is_due, pauses, spot_at};
 use aom_debug_words::Recent;
 use aom_exec::Progress;
 use aom_lines::Turn;
-use aom_machine::Machine;
 use aom_natives::Native;
-use aom_run::{Sink, write_lines};
+use aom_run::{Machine, Sink, write_lines};
 use aom_transcript::Page;
 
 /// Sends out what the turn has, and clears it. Answers whether all is out.

@@ -2,21 +2,19 @@
 ghost use Rattle.std.specs.Prelude.{◌≡◌, ◌≢◌, true, false};
 ghost use Rattle.aom_exec.specs.Steps.{progress};
 ghost use Rattle.aom_parts.specs.declared.progress.Progress.TheVariants.{Running};
-ghost use Rattle.aom_machine.specs.Calls.{Stands, StandsFor};
+ghost use Rattle.aom_run.specs.Calls.{Stands, StandsFor};
 ghost use Rattle.aom_natives.specs.Slots.{AllAgree};
 ghost use Rattle.aom_run.specs.Runs.{Moving};
 ghost use Rattle.aom_sound.specs.State.{State};
-ghost use Rattle.aom_debug_views.specs.Next.{next_of, root_is_due, spot_of};
+ghost use Rattle.aom_debug_moves.specs.Next.{next_of, root_is_due, spot_of};
 ghost use Rattle.aom_debug_moves.specs.Movers.{IsReady, Keeps, Went};
 ghost use Rattle.aom_debug_moves.specs.Courses.{WalksThere, WalksUnless, is_broken, stays_at};
 
-use crate::{Mover, stride};
-use aom_debug_views::{is_due, spot_at};
+use crate::{Mover, is_due, spot_at, stride};
 use aom_debug_words::Breakpoints;
 use aom_exec::Progress;
-use aom_machine::Machine;
 use aom_natives::Native;
-use aom_run::Sink;
+use aom_run::{Machine, Sink};
 
 /// Where steps end, if not before.
 #[derive(Clone, Copy, PartialEq, Eq)]

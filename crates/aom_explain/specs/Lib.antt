@@ -1,3 +1,5 @@
+pub mod Declared
+pub mod Laws
 pub mod Compared
 pub mod Entries
 pub mod Known

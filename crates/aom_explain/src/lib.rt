@@ -5,8 +5,12 @@
 //! kind's own texts stand in a file of its name. `put_entry` writes an entry, and `put_line`, `put_method` and `put_compared` what
 //! `specs/Places.antt` and `specs/Compared.antt` say of a line of a text, of an instruction and of a budget. A method and an
 //! instruction are written as in a listing; `put_source` and `put_declared` write in their place the statements of a text, as
-//! `specs/Sources.antt` says. `put_known` writes what is known where a method stands (`specs/Known.antt`). Nothing here knows which
-//! command was refused, nor where a text goes.
+//! `specs/Sources.antt` says. `put_known` writes what is known where a method stands (`specs/Known.antt`).
+//!
+//! The way back from an image to its text: `image_statement`, `class_statement`, `method_statement` and `instruction_statement` answer
+//! the statements, with their lines, that `specs/Declared.antt` finds in a text by counting those that begin with `class` or `method`.
+//! That they are the right ones where the text denotes the image is the law `statements_declare`. Nothing here knows which command was
+//! refused, nor where a text goes.
 #![tactic(auto)]
 
 mod asm;
@@ -14,7 +18,9 @@ mod boot;
 mod budget;
 mod compared;
 mod entry;
+mod finding;
 mod known;
+mod laws;
 mod link;
 mod load;
 mod place;
@@ -26,7 +32,7 @@ mod word;
 
 pub use compared::put_compared;
 pub use entry::{Entry, put_entry};
-pub use known::put_known;
+pub use laws::statements_declare;
 pub use place::{put_line, put_method};
 pub use source::{put_declared, put_source};
 pub use table::{

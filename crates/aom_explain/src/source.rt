@@ -2,10 +2,10 @@
 ghost use Rattle.std.specs.Prelude.{◌≡◌, ◌≤◌, ◌++◌, ◌^◌, OnOk, length};
 ghost use Rattle.aom_explain.specs.Sources.{budget_statement, declared_text, found_text, source_text, spaced, statement_text};
 
+use crate::finding::{class_statement, image_statement, instruction_statement, method_statement};
 use aom_budget::{BudgetFault, Payer};
 use aom_figures::Writer;
 use aom_image::MethodNumber;
-use aom_sources::{class_statement, image_statement, instruction_statement, method_statement};
 use aom_text::{Statement, Words};
 use std::alloc::AllocError;
 

@@ -15,11 +15,11 @@ use Rattle.aom_bounds.specs.Prices.{Prices}
 use Rattle.aom_sound.specs.Laws.{LinkedIsWired}
 use Rattle.aom_transcript.specs.declared.line.Ending.{Ending}
 use Rattle.aom_transcript.specs.declared.line.Ending.TheVariants as endings
-use Rattle.aom_determined.proofs.Oracles.{each_run_follows}
-use Rattle.aom_determined.proofs.Polling.{nothing_is_heard}
-use Rattle.aom_determined.specs.Hearing.{Follows, Oracle}
-use Rattle.aom_determined.specs.Laws.{TextIsDetermined}
-use Rattle.aom_determined.proofs.Alike.{alike_counted}
+use Rattle.aom_endings.proofs.Oracles.{each_run_follows}
+use Rattle.aom_endings.proofs.Polling.{nothing_is_heard}
+use Rattle.aom_endings.specs.Hearing.{Follows, Oracle}
+use Rattle.aom_endings.specs.specs.Determined.{TextIsDetermined}
+use Rattle.aom_endings.proofs.Alike.{alike_counted}
 use Rattle.aom_transcript.specs.Text.{transcript}
 use Rattle.aom_steps.specs.Runs.{TypedRunsWell}
 use Rattle.aom_steps.specs.Laws.{StepsWithin}
@@ -27,7 +27,7 @@ use Rattle.aom_run.specs.declared.outcome.Outcome.{Outcome}
 use Rattle.aom_run.specs.declared.outcome.Outcome.TheVariants.{Stopped, Waiting, MainLeft, Limit, Error, WriteFault}
 use Rattle.aom_script.proofs.Faulting.{IsOfText, is_of_text}
 use Rattle.aom_run.specs.Runs.{Ran, after}
-use Rattle.aom_machine.specs.declared.machine.Machine.{Machine}
+use Rattle.aom_run.specs.declared.machine.Machine.{Machine}
 use Rattle.aom_script.specs.Script.{Script, denoted, RefusesOrWants, WantsMemory}
 use Rattle.aom_script.specs.declared.fault.ScriptFault.{ScriptFault}
 use Rattle.aom_script.specs.declared.fault.ScriptFaultKind.{ScriptFaultKind}
@@ -36,8 +36,8 @@ use Rattle.aom_main.specs.declared.status.ExitStatus.{ExitStatus}
 use Rattle.aom_main.specs.declared.status.ExitStatus.TheVariants as statuses
 use Rattle.aom_main.specs.declared.faults.Fault.{Fault}
 use Rattle.aom_main.specs.declared.faults.Fault.TheVariants as faults
-use Rattle.aom_machine.specs.declared.fault.BootFault.{BootFault}
-use Rattle.aom_machine.specs.declared.fault.BootFault.TheVariants as boots
+use Rattle.aom_run.specs.declared.fault.BootFault.{BootFault}
+use Rattle.aom_run.specs.declared.fault.BootFault.TheVariants as boots
 use Rattle.aom_main.specs.Status.{of_boot, of_script, of_script_kind, status_of}
 use Rattle.aom_main.specs.Acceptable.{IsSpelled, IsAcceptable, Refuses, RefusesOrWants as RefusesImage}
 use Rattle.aom_main.specs.Headline.{Sent, outside_of, IsSilent, Told, Shows, Accepts, AcceptedAnswers, AllRunWell, CheckAnswers, Ends, EndsAs, EndsOrFails, HasNatives, ImageWantsMemory, IsNoScript, IsOnly, IsRefused, RefusesBoot, RunAnswers, Runs, Shown, Tells, Transcribed}

@@ -7,8 +7,8 @@ use Rattle.aom_sound.specs.State.{State}
 use Rattle.aom_sound.specs.World.{Outside, Run_of, boot_state}
 use Rattle.aom_transcript.specs.declared.line.Ending.{Ending}
 use Rattle.aom_transcript.specs.declared.line.Ending.TheVariants as endings
-use Rattle.aom_machine.specs.Calls.{StandsFor, natives_of}
-use Rattle.aom_machine.specs.declared.machine.Machine.{Machine}
+use Rattle.aom_run.specs.Calls.{StandsFor, natives_of}
+use Rattle.aom_run.specs.declared.machine.Machine.{Machine}
 use Rattle.aom_run.specs.Outcomes.{outcome_of}
 use Rattle.aom_run.specs.Turns.{hearing}
 use Rattle.aom_transcript.specs.declared.event.TimedEvent.{TimedEvent}

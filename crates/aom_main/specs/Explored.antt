@@ -13,7 +13,7 @@ use Rattle.aom_script.specs.declared.fault.ScriptFault.{ScriptFault}
 use Rattle.aom_main.specs.Headline.{Accepts, HasNatives, ImageWantsMemory, IsNoScript, IsRefused, IsSilent, Runs, Says, Sent, Tells, WantsNatives, outside_of}
 use Rattle.aom_main.specs.declared.exploring.Last.{Last}
 use Rattle.aom_main.specs.declared.exploring.Part.{Part}
-use Rattle.aom_machine.specs.declared.fault.BootFault.TheVariants.{TooFewNatives}
+use Rattle.aom_run.specs.declared.fault.BootFault.TheVariants.{TooFewNatives}
 use Rattle.aom_main.specs.declared.faults.Fault.{Fault}
 use Rattle.aom_main.specs.declared.faults.Fault.TheVariants as faults
 use Rattle.aom_main.specs.declared.status.ExitStatus.{ExitStatus}

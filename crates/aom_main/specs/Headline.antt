@@ -8,10 +8,10 @@ use Rattle.aom_sound.specs.World.{Outside, Run_of}
 use Rattle.aom_transcript.specs.declared.line.Line.{Line}
 use Rattle.aom_transcript.specs.declared.line.Ending.{Ending}
 use Rattle.aom_transcript.specs.declared.line.Ending.TheVariants as endings
-use Rattle.aom_determined.specs.Hearing.{Follows, Oracle}
-use Rattle.aom_determined.specs.Laws.{IsDetermined}
-use Rattle.aom_machine.specs.declared.fault.BootFault.TheVariants.{TooFewNatives}
-use Rattle.aom_machine.specs.declared.machine.Machine.{Machine}
+use Rattle.aom_endings.specs.Hearing.{Follows, Oracle}
+use Rattle.aom_endings.specs.specs.Determined.{IsDetermined}
+use Rattle.aom_run.specs.declared.fault.BootFault.TheVariants.{TooFewNatives}
+use Rattle.aom_run.specs.declared.machine.Machine.{Machine}
 use Rattle.aom_transcript.specs.Text.{ended, transcript}
 use Rattle.aom_steps.specs.Runs.{RunsWell}
 use Rattle.aom_steps.specs.Laws.{KeepsBudget}

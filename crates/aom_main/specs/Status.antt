@@ -17,9 +17,9 @@ use Rattle.aom_script.specs.Faults.{fault_text}
 use Rattle.aom_script.specs.declared.fault.ScriptFault.{ScriptFault}
 use Rattle.aom_script.specs.declared.fault.ScriptFaultKind.{ScriptFaultKind}
 use Rattle.aom_script.specs.declared.fault.ScriptFaultKind.TheVariants as kinds
-use Rattle.aom_machine.specs.Beside.{fault_number as boot_number}
-use Rattle.aom_machine.specs.declared.fault.BootFault.{BootFault}
-use Rattle.aom_machine.specs.declared.fault.BootFault.TheVariants as boots
+use Rattle.aom_run.specs.Beside.{fault_number as boot_number}
+use Rattle.aom_run.specs.declared.fault.BootFault.{BootFault}
+use Rattle.aom_run.specs.declared.fault.BootFault.TheVariants as boots
 use Rattle.aom_text.specs.Faults.{fault_text as asm_line}
 use Rattle.aom_text.specs.declared.fault.AsmFault.{AsmFault}
 use Rattle.aom_text.specs.declared.fault.AsmFaultKind.{AsmFaultKind}

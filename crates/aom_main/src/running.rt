@@ -2,7 +2,7 @@
 ghost use Rattle.std.specs.Prelude.{◌≡◌, ◌≤◌, ◌+◌, [], IfOk, IfErr, length};
 ghost use Rattle.aom_natives.specs.Owed.{OweNothing};
 ghost use Rattle.aom_natives.specs.Slots.{AllAgree};
-ghost use Rattle.aom_machine.specs.Calls.{natives_of};
+ghost use Rattle.aom_run.specs.Calls.{natives_of};
 ghost use Rattle.aom_lines.specs.Turn.{step_lines};
 ghost use Rattle.aom_script.specs.Script.{IsTimely};
 ghost use Rattle.aom_main.specs.Headline.{AllRunWell, HasNatives, IsFreshOf, RefusesBoot, Shows, outside_of};
@@ -11,9 +11,8 @@ ghost use Rattle.aom_main.specs.declared.faults.Fault.TheVariants.{Memory};
 use crate::Fault;
 use aom_budget::Accepted;
 use aom_lines::Turn;
-use aom_machine::Machine;
 use aom_natives::Native;
-use aom_run::{Outcome, Sink, run};
+use aom_run::{Machine, Outcome, Sink, run};
 use aom_script::Script;
 use std::alloc::{AllocError, Global};
 
@@ -97,5 +96,5 @@ pub fn runs_well(accepted: &Accepted)
     aom_sound::linked_is_wired();
     aom_steps::typed_runs_well();
     aom_steps::steps_within();
-    aom_determined::text_is_determined();
+    aom_endings::text_is_determined();
 }

@@ -16,7 +16,7 @@ use Rattle.aom_text.specs.declared.number.Number.{Number}
 use Rattle.aom_image.specs.declared.method.States.{States}
 use Rattle.aom_syntax.specs.Methods.{all_read, cut_letter, letters_of, states_of}
 use Rattle.aom_syntax.specs.Reading.{in_range, number_in}
-use Rattle.aom_ranges.proofs.Within.{passed}
+use Rattle.aom_syntax.proofs.Within.{passed}
 use Rattle.aom_meaning.proofs.Names.{all_of, digit_is_plain}
 use Rattle.aom_meaning.specs.Meaning.{Elements}
 use Rattle.aom_meaning.proofs.Pairs.{Pairs, pairs, no_pair, a_pair}

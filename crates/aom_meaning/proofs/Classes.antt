@@ -26,7 +26,7 @@ use Rattle.aom_meaning.proofs.Headers.{number_reads}
 use Rattle.aom_meaning.proofs.Sound.{Sound, giving_sound, next_sound}
 use Rattle.aom_meaning.proofs.Words.{LooksUp, list_means, list_reads, takes_class, thing_means, thing_reads, told}
 use Rattle.aom_meaning.proofs.ClassesBack.{purpose_of}
-use Rattle.aom_ranges.proofs.Within.{ok_is}
+use Rattle.aom_syntax.proofs.Within.{ok_is}
 use Rattle.aom_image.specs.declared.class.ClassKind.TheVariants as kinds
 use Rattle.aom_image.specs.declared.class.Provider.TheVariants as providers
 use Rattle.aom_syntax.specs.declared.class.Purpose.TheVariants as purposes

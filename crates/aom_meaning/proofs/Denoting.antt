@@ -19,7 +19,7 @@ use Rattle.aom_asm.proofs.Images.{reads_well}
 use Rattle.aom_asm.proofs.Steps.{steps_then}
 use Rattle.aom_meaning.specs.Naming.{heading_of}
 use Rattle.aom_meaning.specs.Texts.{all_words}
-use Rattle.aom_ranges.proofs.Within.{ok_is, passed}
+use Rattle.aom_syntax.proofs.Within.{ok_is, passed}
 use Rattle.aom_meaning.proofs.Following.{Goes, first_of}
 use Rattle.aom_meaning.proofs.Parts.{read_so_far, spelled}
 use Rattle.aom_meaning.proofs.WholesBack.{none_left}

@@ -13,7 +13,7 @@ use Rattle.aom_syntax.specs.Operands.{class, label, method, used}
 use Rattle.aom_syntax.specs.Reading.{◌>>=◌, Reading, name, next}
 use Rattle.aom_syntax.specs.Words.{in_order, large_operand, small_operand, words_operands}
 use Rattle.aom_syntax.specs.declared.scope.Scope.{Scope}
-use Rattle.aom_ranges.proofs.Within.{steps}
+use Rattle.aom_syntax.proofs.Within.{steps}
 
 -- whatever one reading gives, another gives too
 pub record Follows {X : Type 0} (r t : Reading X) : Type 0 where

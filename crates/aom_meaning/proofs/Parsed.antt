@@ -26,7 +26,7 @@ use Rattle.aom_asm.specs.Denoted.{at_line, closed, declaration, grown, method_of
 use Rattle.aom_asm.specs.TextNames.{labels_of as labels_until}
 use Rattle.aom_asm.proofs.Counting.{begins_with}
 use Rattle.aom_asm.proofs.Steps.{Started, no_ok, program_starts, said, started, steps_then}
-use Rattle.aom_ranges.proofs.Within.{kept, ok_is, passed, steps}
+use Rattle.aom_syntax.proofs.Within.{kept, ok_is, passed, steps}
 use Rattle.aom_meaning.specs.Texts.{all_words}
 use Rattle.aom_meaning.proofs.Parts.{read_so_far}
 use Rattle.aom_meaning.specs.Meaning.{ClassMeans, HeaderMeans, InstructionMeans, MethodMeans, Names, Pairwise, labels_of}

@@ -15,7 +15,7 @@ use Rattle.aom_syntax.specs.Names.{place_of, referred}
 use Rattle.aom_syntax.specs.Operands.{used}
 use Rattle.aom_syntax.specs.Reading.{◌>>=◌, Reading, as_name, exactly, keyword, name, next, nothing_more, seen, took, word}
 use Rattle.aom_syntax.specs.declared.keyword.Keyword.{Keyword}
-use Rattle.aom_ranges.proofs.Within.{ok_is, passed, saw_word, steps}
+use Rattle.aom_syntax.proofs.Within.{ok_is, passed, saw_word, steps}
 use Rattle.aom_meaning.proofs.Readings.{Takes, Whole, reads_on, sees, takes_word, took_same}
 use Rattle.aom_meaning.specs.Meaning.{IsNumbered, SaidOr}
 use Rattle.aom_meaning.specs.Source.{part, mark}

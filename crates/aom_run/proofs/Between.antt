@@ -7,8 +7,8 @@ use Rattle.aom_parts.specs.declared.progress.Progress.TheVariants.{Turned}
 use Rattle.aom_exec.specs.Steps.{progress, timers}
 use Rattle.aom_parts.specs.declared.rest.Rest.{Rest}
 use Rattle.aom_lines.specs.Turn.{Turn}
-use Rattle.aom_machine.specs.Calls.{Completed as Completes_one, Delivered, NoneIsDue, Polled, Stands, StandsFor, Takes, natives_of}
-use Rattle.aom_machine.specs.declared.machine.Machine.{Machine}
+use Rattle.aom_run.specs.Calls.{Completed as Completes_one, Delivered, NoneIsDue, Polled, Stands, StandsFor, Takes, natives_of}
+use Rattle.aom_run.specs.declared.machine.Machine.{Machine}
 use Rattle.aom_sound.specs.Places.{named}
 use Rattle.aom_sound.specs.State.{Goes, State}
 use Rattle.aom_sound.specs.World.{Completes, IsBetween, Outside, Reaches, Turning, begins, delivers, event_at, turned, written_by}

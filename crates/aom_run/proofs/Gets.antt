@@ -5,7 +5,7 @@ use Rattle.aom_classes.proofs.Facts.{all_there}
 use Rattle.aom_sound.specs.World.{event_at}
 use Rattle.std.proofs.lemmas.List.Elements.{All-weaker}
 use Rattle.aom_exec.specs.Clients.{IsInRange}
-use Rattle.aom_machine.specs.Calls.{EventInRange}
+use Rattle.aom_run.specs.Calls.{EventInRange}
 use Rattle.aom_script.specs.Script.{InRange, IsTimely, NumbersFit, SlotsFit}
 use Rattle.aom_transcript.specs.declared.event.Command.{Command}
 use Rattle.aom_transcript.specs.declared.event.Command.TheVariants.{Close, Connect, Die, Send}

@@ -1,3 +1,10 @@
+pub mod Named
+pub mod Serving
+pub mod Moving
+pub mod Asked
+pub mod Stepped
+pub mod Booted
+pub mod Ending
 pub mod Spared
 pub mod Prefix
 pub mod Reaching

@@ -9,8 +9,8 @@ use Rattle.aom_transcript.specs.declared.line.Line.{Line}
 use Rattle.aom_lines.specs.Turn.{Turn}
 use Rattle.aom_parts.specs.declared.progress.Progress.{Progress}
 use Rattle.aom_exec.specs.Steps.{Steps, rests, moves, Settles, settled, settles, IsUncounted, Quiet, begins as none, goes_on as then_on}
-use Rattle.aom_machine.specs.Calls.{Stands, StandsFor, SteppedOn}
-use Rattle.aom_machine.specs.declared.machine.Machine.{Machine}
+use Rattle.aom_run.specs.Calls.{Stands, StandsFor, SteppedOn}
+use Rattle.aom_run.specs.declared.machine.Machine.{Machine}
 use Rattle.aom_run.specs.Runs.{Filled, Moving, begins as stays, goes_on}
 
 is_busy : (s : State) → IsUncounted s.tasks → IsBusy s

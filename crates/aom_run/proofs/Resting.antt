@@ -6,8 +6,8 @@ use Rattle.aom_exec.specs.Steps.{progress}
 use Rattle.aom_image.specs.declared.method.Thing.{Thing}
 use Rattle.aom_image.specs.declared.method.Thing.TheVariants.{Message, Object as An_object_of}
 use Rattle.aom_lines.specs.Turn.{Turn}
-use Rattle.aom_machine.specs.Calls.{NoneIsDue, Picked, Stands, StandsFor, Takes, TakesAll, natives_of}
-use Rattle.aom_machine.specs.declared.machine.Machine.{Machine}
+use Rattle.aom_run.specs.Calls.{NoneIsDue, Picked, Stands, StandsFor, Takes, TakesAll, natives_of}
+use Rattle.aom_run.specs.declared.machine.Machine.{Machine}
 use Rattle.aom_sound.proofs.Counting.{dispatches_are_counted}
 use Rattle.aom_sound.proofs.Guarded.{goes_same}
 use Rattle.aom_sound.specs.Lines.{serve_line}

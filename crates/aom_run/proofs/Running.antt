@@ -17,8 +17,8 @@ use Rattle.aom_run.specs.declared.outcome.Outcome.TheVariants.{Stopped, Waiting,
 use Rattle.aom_parts.specs.declared.progress.Progress.{Progress}
 use Rattle.aom_parts.specs.declared.progress.Progress.TheVariants as progresses
 use Rattle.aom_exec.specs.Steps.{progress as reached}
-use Rattle.aom_machine.specs.Calls.{Stands, StandsFor, natives_of}
-use Rattle.aom_machine.specs.declared.machine.Machine.{Machine}
+use Rattle.aom_run.specs.Calls.{Stands, StandsFor, natives_of}
+use Rattle.aom_run.specs.declared.machine.Machine.{Machine}
 use Rattle.aom_frames.specs.declared.task.Task.{Task as Held_task}
 use Rattle.aom_steps.specs.Payers.{payer}
 use Rattle.aom_parts.specs.Progress.{progress_by, progress_of}

@@ -7,8 +7,8 @@ use Rattle.aom_lines.specs.Turn.{Turn}
 use Rattle.aom_parts.specs.declared.progress.Progress.{Progress}
 use Rattle.aom_parts.specs.declared.progress.Progress.TheVariants.{Running}
 use Rattle.aom_parts.specs.Progress.{progress_of}
-use Rattle.aom_machine.specs.Calls.{Stands, StandsFor}
-use Rattle.aom_machine.specs.declared.machine.Machine.{Machine}
+use Rattle.aom_run.specs.Calls.{Stands, StandsFor}
+use Rattle.aom_run.specs.declared.machine.Machine.{Machine}
 use Rattle.aom_run.specs.Runs.{after, begins, CutOff, Filled, Moving, Sent}
 use Rattle.aom_run.proofs.Reaching.{moving_both}
 use Rattle.aom_run.proofs.Sending.{after_both, after_none, cut_next, text_of_both}

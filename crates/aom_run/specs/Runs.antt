@@ -15,8 +15,8 @@ use Rattle.aom_run.specs.declared.outcome.Outcome.TheVariants.{Stopped, Waiting,
 use Rattle.aom_parts.specs.declared.progress.Progress.{Progress}
 use Rattle.aom_parts.specs.declared.progress.Progress.TheVariants.{Running}
 use Rattle.aom_parts.specs.Progress.{progress_of}
-use Rattle.aom_machine.specs.Calls.{StandsFor, natives_of}
-use Rattle.aom_machine.specs.declared.machine.Machine.{Machine}
+use Rattle.aom_run.specs.Calls.{StandsFor, natives_of}
+use Rattle.aom_run.specs.declared.machine.Machine.{Machine}
 
 -- what is out once a text is out too, where the sink tells it
 abbrev pub after : Option (List ℕ) → List ℕ → Option (List ℕ)

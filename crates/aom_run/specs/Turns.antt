@@ -9,8 +9,8 @@ use Rattle.aom_transcript.specs.declared.line.Ending.{Ending}
 use Rattle.aom_lines.specs.Turn.{Turn}
 use Rattle.aom_exec.specs.Steps.{progress, timers}
 use Rattle.aom_parts.specs.declared.progress.Progress.TheVariants.{Turned}
-use Rattle.aom_machine.specs.Calls.{EventInRange, NoneIsDue, Stands, StandsFor, natives_of}
-use Rattle.aom_machine.specs.declared.machine.Machine.{Machine}
+use Rattle.aom_run.specs.Calls.{EventInRange, NoneIsDue, Stands, StandsFor, natives_of}
+use Rattle.aom_run.specs.declared.machine.Machine.{Machine}
 
 -- what comes from outside of the image, where there are so many natives
 abbrev pub hearing : List ℕ → ℕ → (natives : ℕ) → List TimedEvent → Outside

@@ -3,13 +3,12 @@ ghost use Rattle.std.specs.Prelude.{ℕ, true, false, ◌≡◌, ◌<◌, take, 
 ghost use Rattle.aom_transcript.specs.Text.{text_of};
 ghost use Rattle.aom_run.specs.Runs.{CutOff, Filled, HasRoom, KeepsImage, Sent, after};
 ghost use Rattle.aom_exec.specs.Steps.{rank};
-ghost use Rattle.aom_machine.specs.Calls.{Stands};
+ghost use Rattle.aom_run.specs.Calls.{Stands};
 ghost use Rattle.aom_natives.specs.Slots.{AllAgree};
 
-use crate::{Sink, write_text};
+use crate::{Machine, Sink, write_text};
 use aom_exec::Progress;
 use aom_lines::Turn;
-use aom_machine::Machine;
 use aom_natives::Native;
 use aom_transcript::{Line, Page};
 

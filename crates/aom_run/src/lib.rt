@@ -1,17 +1,24 @@
-//! Runs: the sink that is written to, and the run of a machine up to its end.
+//! The machine with its natives, and its runs.
 //!
-//! `write_text` sends a text to a sink of any type, and stops where it fails. `run` promises that what went out is the
-//! transcript of a run of the checked machine, or a beginning of one where the sink failed (`Ran` of `specs/Runs.antt`).
-//! Nothing here takes memory, by signature. It knows what a machine's calls promise, and nothing of how it keeps its cells.
+//! A `Machine` has the boxes of its natives beside the machine of plain numbers, which makes no call to them itself. `write_text` sends
+//! a text to a sink of any type, and stops where it fails. `run` promises that what went out is the transcript of a run of the checked
+//! machine, or a beginning of one where the sink failed (`Ran` of `specs/Runs.antt`). No call but `Machine::boot` takes memory, by
+//! signature. A run knows what a machine's calls promise, and nothing of how it keeps its cells.
 #![tactic(auto)]
 
+mod asking;
+mod between;
 mod dispatches;
+mod fault;
+mod machine;
 mod outcome;
 mod runs;
 mod sink;
 mod turns;
 
 pub use dispatches::write_lines;
+pub use fault::BootFault;
+pub use machine::Machine;
 pub use outcome::Outcome;
 pub use runs::run;
 pub use sink::{Sink, write_text};

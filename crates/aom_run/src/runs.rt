@@ -2,22 +2,21 @@
 ghost use Rattle.std.specs.Prelude.{ℕ, true, ◌≡◌, ◌+◌, ◌<◌, ◌≤◌, All, take, IfNone, IfSome};
 ghost use Rattle.aom_sound.specs.Places.{count_cells};
 ghost use Rattle.aom_sound.specs.State.{State};
-ghost use Rattle.aom_determined.specs.Laws.{IsDetermined};
+ghost use Rattle.aom_endings.specs.specs.Determined.{IsDetermined};
 ghost use Rattle.aom_transcript.specs.Text.{ended, end_text};
 ghost use Rattle.aom_lines.specs.Turn.{step_lines};
 ghost use Rattle.aom_run.specs.Outcomes.{outcome_of};
 ghost use Rattle.aom_run.specs.Turns.{hearing};
 ghost use Rattle.aom_run.specs.Runs.{IsFresh, Ran, Ended, CutShort, after};
 ghost use Rattle.aom_script.specs.Script.{IsTimely};
-ghost use Rattle.aom_machine.specs.Calls.{EventInRange, StandsFor, natives_of};
+ghost use Rattle.aom_run.specs.Calls.{EventInRange, StandsFor, natives_of};
 ghost use Rattle.aom_natives.specs.Slots.{AllAgree};
 
 use crate::dispatches::run_dispatch;
 use crate::turns::take_turns;
-use crate::{Outcome, Sink, write_text};
+use crate::{Machine, Outcome, Sink, write_text};
 use aom_exec::Progress;
 use aom_lines::Turn;
-use aom_machine::Machine;
 use aom_natives::Native;
 use aom_script::Script;
 use aom_transcript::{Ending, Page, TimedEvent};
@@ -44,7 +43,7 @@ pub fn run<W: Sink>(
     ensures ran { Ran machine.old (hearing turn.old.refused limit (natives_of machine.old) script.now.timed) result (W.failed out.new) (W.out out.old) (W.out out.new) machine.new }
     ensures determined { IsDetermined machine.old.core.image (hearing turn.old.refused limit (natives_of machine.old) script.now.timed) }
 {
-    aom_determined::text_is_determined();
+    aom_endings::text_is_determined();
     match run_lines(machine, script.events(), turn, limit, out) {
         None => Outcome::WriteFault,
         Some(ending) => finish(machine, ending, out),

@@ -4,13 +4,13 @@ ghost use Rattle.aom_sound.specs.State.{State};
 ghost use Rattle.aom_sound.specs.World.{due_of, event_at, first_due, nearer, time_of};
 ghost use Rattle.aom_exec.specs.Steps.{progress, timers};
 ghost use Rattle.aom_parts.specs.declared.progress.Progress.TheVariants.{Turned};
-ghost use Rattle.aom_machine.specs.Calls.{EventInRange, NoneIsDue, Stands, StandsBetween, StandsFor, natives_of};
+ghost use Rattle.aom_run.specs.Calls.{EventInRange, NoneIsDue, Stands, StandsBetween, StandsFor, natives_of};
 ghost use Rattle.aom_natives.specs.Slots.{AllAgree};
 ghost use Rattle.aom_transcript.specs.declared.event.TimedEvent.{TimedEvent};
 ghost use Rattle.aom_run.specs.Turns.{AllPolled, CanHear, CompletesDue, HasCome, HearsAll, IsDue, IsLate, Keeps, NoneHasCome, Settles, TakesTurns, hearing, to_come, waiting};
 
+use crate::Machine;
 use aom_lines::Turn;
-use aom_machine::Machine;
 use aom_natives::Native;
 use aom_transcript::{Ending, Event, TimedEvent};
 

@@ -1,2 +1,12 @@
+pub mod Within
+pub mod Numbers
+pub mod Names
+pub mod Operands
+pub mod Instructions
+pub mod Headers
+pub mod proofs
+pub mod Classes
+pub mod States
+pub mod Headings
 pub mod Lists
 pub mod Places

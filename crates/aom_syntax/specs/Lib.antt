@@ -1,3 +1,4 @@
+pub mod Ranges
 pub mod Classes
 pub mod Headers
 pub mod Keywords

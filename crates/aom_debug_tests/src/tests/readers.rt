@@ -1,5 +1,5 @@
 //! Readers of tests.
-use aom_debugging::Reader;
+use aom_debug::Reader;
 
 /// A reader of a text, which gives at most so many bytes at a time, and tells its end or fails there.
 #[derive(Drop)]

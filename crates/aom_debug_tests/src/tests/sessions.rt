@@ -1,7 +1,7 @@
 //! Debugging sessions whose reader or output fails.
 use super::programs::{CANCELS, CANCELS_ASKED};
 use super::readers::{Stuck, Typed};
-use aom_debugging::{Reader, debug_bytes};
+use aom_debug::{Reader, debug_bytes};
 use aom_main::{ExitStatus, asm_bytes};
 use aom_natives::Native;
 use aom_pages::{Answer, Page};

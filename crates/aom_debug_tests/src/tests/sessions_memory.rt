@@ -1,7 +1,7 @@
 //! Any request for memory may be refused: then nothing is told of the session but that. None is made once it has begun.
 use super::programs::{CANCELS, CANCELS_ASKED, CANCELS_TOLD};
 use super::readers::Typed;
-use aom_debugging::debug_bytes;
+use aom_debug::debug_bytes;
 use aom_main::{ExitStatus, asm_bytes};
 use aom_natives::Native;
 use aom_pages::{Page, Slip};

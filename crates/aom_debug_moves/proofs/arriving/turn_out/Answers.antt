@@ -1,6 +1,6 @@
 -- Turns, and their lines.
 use Rattle.std.proofs.Common.{subst}
-use Rattle.aom_machine.specs.Calls.{natives_of}
+use Rattle.aom_run.specs.Calls.{natives_of}
 use Rattle.aom_run.specs.Turns.{TakesTurns, hearing}
 use Rattle.aom_debug_moves.specs.Movers.{outside_of}
 use Rattle.aom_debug_moves.proofs.Keeping.{keeps_with, went_if}

@@ -2,7 +2,7 @@
 use Rattle.std.proofs.Common.{arith, ap, refl, ◌∙◌}
 use Rattle.aom_run.specs.Runs.{Moving}
 use Rattle.aom_run.proofs.Reaching.{moving_both}
-use Rattle.aom_debug_views.specs.Next.{next_of, pauses, root_is_due, spot_of}
+use Rattle.aom_debug_moves.specs.Next.{next_of, pauses, root_is_due, spot_of}
 use Rattle.aom_debug_moves.specs.Moves.{Notes, StepsOnce, noted}
 use Rattle.aom_debug_moves.specs.Sends.{Breaks, IfSo, Sends, Then, Where}
 use Rattle.aom_debug_moves.proofs.Keeping.{begun_as, keeps_noting, keeps_on, went_as}

@@ -1,6 +1,6 @@
 use Rattle.std.proofs.Common.{◌≡◌, ◌<◌, length}
 use Rattle.aom_exec.specs.Steps.{rank}
-use Rattle.aom_machine.specs.Calls.{Stands}
+use Rattle.aom_run.specs.Calls.{Stands}
 use Rattle.aom_natives.specs.Slots.{AllAgree}
 use Rattle.aom_run.specs.Runs.{KeepsImage}
 use Rattle.aom_run.proofs.Underway.{Underway}

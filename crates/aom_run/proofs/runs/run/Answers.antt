@@ -1,6 +1,6 @@
 use Rattle.std.proofs.Common.{◌≡◌, List, subst, sym, true}
 use Rattle.std.specs.Prelude.{All}
-use Rattle.aom_machine.specs.Calls.{EventInRange, natives_of}
+use Rattle.aom_run.specs.Calls.{EventInRange, natives_of}
 use Rattle.aom_transcript.specs.declared.event.TimedEvent.{TimedEvent}
 use Rattle.aom_run.specs.Runs.{CutShort, Ended}
 use Rattle.aom_run.specs.Turns.{hearing}

@@ -2,7 +2,7 @@ use Rattle.std.proofs.Common.{Some, ap, arith, length, refl, sym, [], ◌∙◌}
 use Rattle.aom_image.specs.Image.{Image}
 use Rattle.aom_lines.specs.Turn.{Turn}
 use Rattle.aom_sound.specs.World.{boot_state}
-use Rattle.aom_machine.specs.Calls.{Stands, natives_of}
+use Rattle.aom_run.specs.Calls.{Stands, natives_of}
 use Rattle.aom_run.specs.Turns.{hearing}
 use Rattle.aom_run.proofs.Running.{after_turns, cut, ends, fewer_left, given_up, sent_far, sent_on, sent_rests, sent_turn, starts, turned_end, turned_few, turned_now, turned_same, turned_stands, turns_as}
 use Rattle.aom_run.proofs.runs.run_lines.Goals as goal

@@ -1,5 +1,5 @@
 use Rattle.std.proofs.Common.{◌≡◌, ◌≢◌, []}
-use Rattle.aom_machine.specs.Calls.{natives_of}
+use Rattle.aom_run.specs.Calls.{natives_of}
 use Rattle.aom_natives.specs.Slots.{AllAgree}
 use Rattle.aom_run.specs.Turns.{hearing}
 use Rattle.aom_exec.specs.Steps.{progress}

@@ -1,6 +1,6 @@
 use Rattle.std.proofs.Common.{inl, inr, refl, subst, sym, ◌<◌}
 use Rattle.aom_exec.specs.Steps.{timers}
-use Rattle.aom_machine.specs.Calls.{Completed as Completes_one}
+use Rattle.aom_run.specs.Calls.{Completed as Completes_one}
 use Rattle.aom_run.specs.Turns.{CompletesDue, IsDue, Keeps}
 use Rattle.aom_run.proofs.Between.{completed_far, completed_stands, fewer_then, no_more_then, none_completed, none_still, one_completed, was_due}
 use Rattle.aom_run.proofs.Keeping.{keeps_all, keeps_on}

@@ -1,7 +1,7 @@
 -- Each event that has come is heard, up to one that is told by a line.
 use Rattle.std.proofs.Common.{arith, inl, inr, length, refl, subst, sym, ◌<◌, ◌∙◌}
 use Rattle.aom_lines.specs.Turn.{Turn}
-use Rattle.aom_machine.specs.Calls.{Delivered, EventInRange}
+use Rattle.aom_run.specs.Calls.{Delivered, EventInRange}
 use Rattle.aom_run.specs.Turns.{TellsEnd}
 use Rattle.aom_run.proofs.Between.{at_most_to_come, come_within, had_come, heard_far, heard_fewer, heard_settles, heard_stands, heard_tells, less_to_come, none_settles, settles_both, tells_after}
 use Rattle.aom_run.proofs.Gets.{all_got}

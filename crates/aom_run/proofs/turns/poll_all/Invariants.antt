@@ -1,5 +1,5 @@
 use Rattle.std.proofs.Common.{◌≡◌, List}
-use Rattle.aom_machine.specs.Calls.{to_poll}
+use Rattle.aom_run.specs.Calls.{to_poll}
 use Rattle.aom_natives.specs.Slots.{AllAgree}
 use Rattle.aom_transcript.specs.declared.event.TimedEvent.{TimedEvent}
 use Rattle.aom_run.specs.Turns.{NoneHasCome, Settles}

@@ -1,8 +1,8 @@
 use Rattle.std.proofs.Common.{ap, arith, length, subst, sym, true, Some, ◌∙◌, ◌<◌}
 use Rattle.aom_transcript.specs.declared.line.Ending.TheVariants.{Waiting}
 use Rattle.aom_lines.specs.Turn.{Turn}
-use Rattle.aom_machine.specs.Calls.{Picked, natives_of}
-use Rattle.aom_machine.proofs.Serving.{cut_so, waited_so}
+use Rattle.aom_run.specs.Calls.{Picked, natives_of}
+use Rattle.aom_run.proofs.Serving.{cut_so, waited_so}
 use Rattle.aom_run.specs.Turns.{HearsAll, TakesTurns, hearing, waiting}
 use Rattle.aom_run.proofs.Resting.{dispatches_one, ends_told, limit_cuts, no_earlier, none_picked, passed_far, passed_late, passed_stands, passed_to_come, rests_on, tells_on, waits_on}
 use Rattle.aom_run.proofs.turns.take_turns.Goals as goal

@@ -1,0 +1,66 @@
+-- What a line does to a debugger is what a session says of it: nothing, a fault, or a command with what it answers.
+use Rattle.std.proofs.Common.{◌≡◌, ◌≢◌, ◌∙◌, ℕ, Bool, false, List, [], Option, Some, None, Ok, Err, take, refl, sym, ap, subst, inl, inr}
+use Rattle.aom_run.specs.Calls.{StandsFor}
+use Rattle.aom_run.specs.declared.machine.Machine.{Machine}
+use Rattle.aom_debug.specs.Runs.{after}
+use Rattle.aom_debug.proofs.Sending.{after_none}
+use Rattle.aom_debug_words.specs.declared.command.Command.{Command}
+use Rattle.aom_debug_words.specs.declared.fault.DebugFault.{DebugFault}
+use Rattle.aom_debug_words.specs.declared.fault.DebugFault.TheVariants.{WriteFault}
+use Rattle.aom_debug.specs.Telling.{IsCut}
+use Rattle.aom_debug.specs.Obeying.{Obeys}
+use Rattle.aom_debug.specs.declared.debugger.Debugger.{Debugger}
+use Rattle.aom_debug.specs.Hearing.{Heard, HeardPart, standing}
+use Rattle.aom_debug.specs.Sessions.{fault_text}
+use Rattle.aom_debug.proofs.Obeying.{is_cut, is_done, is_refused, still_well}
+
+module _ {X : Type 0} {B : X → Type 0} where
+  -- a line without words
+  pub heard_nothing : (d : Debugger X B) (before : Option (List ℕ)) (failed : Bool) → d.has_failed ≡ false → Heard (Ok None) d d (record { before = before; now = before; failed = failed })
+  heard_nothing d before failed well = record { goes = λ s stands. ([], s, (refl, refl), after_none before, stands); well = well }
+
+  -- a line that is bad
+  pub heard_fault : (d : Debugger X B) (fault : DebugFault) (before now : Option (List ℕ)) (failed : Bool) → d.has_failed ≡ false → now ≡ after before (fault_text fault) → Heard (Err fault) d d (record { before = before; now = now; failed = failed })
+  heard_fault d fault before now failed well out = record { goes = λ s stands. (fault_text fault, s, (refl, refl), out, stands); well = well }
+
+  pub heard_fault_part : (d : Debugger X B) (fault : DebugFault) (before now : Option (List ℕ)) (failed : Bool) → IsCut (fault_text fault) WriteFault failed before now → HeardPart (Err fault) d (record { before = before; now = now; failed = failed })
+  heard_fault_part d fault before now failed cut = record { goes = λ s stands. (fault_text fault, inl (standing d s, (refl, refl)), (cut.sent, cut.out)); failed = cut.fails }
+
+  module _ (old new : Debugger X B) (command : Command) (well : old.has_failed ≡ false) (before mid : Option (List ℕ)) (failed : Bool) where
+    -- a command that is done
+    pub heard_done : Obeys command old new (record { before = before; now = mid; failed = failed }) (Ok tt) → Heard (Ok (Some command)) old new (record { before = before; now = mid; failed = failed })
+    heard_done obeys =
+        record {
+          goes = λ s stands.
+              let f = is_done old new (record { before = before; now = mid; failed = failed }) well command obeys s stands in
+              (f.0, f.1, inl f.2, f.3, f.4);
+          well = still_well old new (record { before = before; now = mid; failed = failed }) well command obeys;
+        }
+
+    pub heard_cut : Obeys command old new (record { before = before; now = mid; failed = failed }) (Err WriteFault) → HeardPart (Ok (Some command)) old (record { before = before; now = mid; failed = failed })
+    heard_cut obeys = let x = is_cut old new (record { before = before; now = mid; failed = failed }) well command obeys in record { goes = x.1; failed = x.0 }
+
+    -- one that is refused
+    module _ (fault : DebugFault) (other : fault ≢ WriteFault) (obeys : Obeys command old new (record { before = before; now = mid; failed = failed }) (Err fault)) (now : Option (List ℕ)) (then : Bool) where
+      pub heard_refused : now ≡ after mid (fault_text fault) → Heard (Ok (Some command)) old new (record { before = before; now = now; failed = then })
+      heard_refused out =
+          let r = is_refused old new (record { before = before; now = mid; failed = failed }) well command fault other obeys in
+          let same = r.0.same in
+          record {
+            goes = λ s stands. (
+              fault_text fault,
+              s,
+              inr (fault, r.1 s stands, (ap (λ (d : Debugger X B). standing d s) same, refl)),
+              out ∙ ap (λ o. after o (fault_text fault)) r.0.silent,
+              subst (λ (m : Machine X B). StandsFor m s) (sym (ap (λ (d : Debugger X B). d.mover.machine) same)) stands,
+            );
+            well = ap (λ (d : Debugger X B). d.has_failed) same ∙ well;
+          }
+
+      pub heard_refused_part : IsCut (fault_text fault) WriteFault then mid now → HeardPart (Ok (Some command)) old (record { before = before; now = now; failed = then })
+      heard_refused_part cut =
+          let r = is_refused old new (record { before = before; now = mid; failed = failed }) well command fault other obeys in
+          record {
+            goes = λ s stands. (fault_text fault, inl (standing old s, inr (fault, r.1 s stands, (refl, refl))), (cut.sent, cut.out ∙ ap (λ o. after o (take cut.sent (fault_text fault))) r.0.silent));
+            failed = cut.fails;
+          }

@@ -1,0 +1,183 @@
+-- A command by its call is what a session says of it: done, refused, or cut.
+use Rattle.std.proofs.Common.{arith, ◌≡◌, ◌≢◌, ◌∙◌, ◌⊎◌, ℕ, Bool, true, false, cond, List, Some, Ok, Err, take, refl, sym, ap, subst, inl, inr}
+use Rattle.std.specs.Prelude.{is_some}
+use Rattle.aom_text.specs.declared.number.Number.{Number}
+use Rattle.aom_sound.specs.State.{Rest, State}
+use Rattle.aom_run.specs.Calls.{StandsFor}
+use Rattle.aom_run.specs.declared.machine.Machine.{Machine}
+use Rattle.aom_debug.specs.Runs.{after}
+use Rattle.aom_debug_words.specs.declared.command.Command.{Command}
+use Rattle.aom_debug_words.specs.declared.command.Command.TheVariants.{Step, Turn, Go, Break, Cells, Owners, Cleanup, Actives, Recent}
+use Rattle.aom_debug_words.specs.declared.fault.DebugFault.{DebugFault}
+use Rattle.aom_debug_words.specs.declared.fault.DebugFault.TheVariants.{Ended, WriteFault}
+use Rattle.aom_debug.specs.Courses.{Courses}
+use Rattle.aom_debug.specs.Commands.{is_count, moved_text}
+use Rattle.aom_debug.specs.Movers.{outside_of}
+use Rattle.aom_debug.specs.Debugging.{Answer, CountsNot, Declined, Goes, Looks, Outgoing, Sees, Sets, Steps, has_ended, runs_of, steps_of, turns_of}
+use Rattle.aom_debug.specs.Obeying.{Obeys}
+use Rattle.aom_debug.specs.declared.debugger.Debugger.{Debugger}
+use Rattle.aom_debug.specs.declared.looking.Look.TheVariants as look
+use Rattle.aom_debug.specs.Hearing.{standing}
+use Rattle.aom_debug.specs.Sessions.{Begins, Does, Goes as GoesSo, MovesOn, Refuses, Sets as SetsSo, Shown, SessionState, has_ended as is_ended}
+
+not_both : (b : Bool) → b ≡ true → b ≡ false → ⊥
+not_both b yes_is no_is = absurd cc
+
+module _ {X : Type 0} {B : X → Type 0} (old new : Debugger X B) (out : Outgoing) (well : old.has_failed ≡ false) where
+  ended_at : (s : State) → StandsFor old.mover.machine s → is_some s.rest.ended ≡ has_ended old
+  ended_at s stands = sym (ap (λ (r : Rest). is_some r.ended) stands.stands.agrees.rest)
+
+  stands_same : new ≡ old → (s : State) → StandsFor old.mover.machine s → StandsFor new.mover.machine s
+  stands_same same s stands = subst (λ (m : Machine X B). StandsFor m s) (sym (ap (λ (d : Debugger X B). d.mover.machine) same)) stands
+
+  -- ---- what is done
+
+  abbrev pub Done : (SessionState → List ℕ → SessionState → Type 0) → Type 0
+  Done does = (s : State) → StandsFor old.mover.machine s → (text : List ℕ) × (u : State) × does (standing old s) text (standing new u) × (out.now ≡ after out.before text) × StandsFor new.mover.machine u
+
+  goes_done : (leads : Debugger X B → Courses) → Goes leads old new out (Ok tt) → Done (λ a text b. GoesSo old.mover.machine.core.image (leads old) a text b)
+  goes_done leads x s stands =
+      let moved = x.1 in
+      let f = moved.goes s stands in
+      (moved_text old.mover.machine.core.image f.0 f.1, f.1, (ended_at s stands ∙ x.0.1, f.0, f.2, moved.spots, refl), f.3, f.4)
+
+  -- nothing changed
+  shown_so : (shows : List ℕ → Type 0) (s : State) (text : List ℕ) → new ≡ old → shows text → Shown shows (standing old s) text (standing new s)
+  shown_so shows s text same x = (ap (λ (d : Debugger X B). standing d s) same, x)
+
+  looks_done : (shows : Debugger X B → State → List ℕ → Type 0) → Looks shows old new out (Ok tt) → Done (λ a text b. Shown (λ t. shows old a.state t) a text b)
+  looks_done shows x s stands =
+      let f = x.2 s stands in
+      (f.0, s, shown_so (λ t. shows old s t) s f.0 x.1 f.1, f.2, stands_same x.1 s stands)
+
+  sets_done : (method place : Number) → Sets method place old new out (Ok tt) → Done (λ a text b. SetsSo old.mover.machine.core.image method place a text b)
+  sets_done method place x s stands =
+      let can = x.2 in (
+        _,
+        s,
+        (x.1, can.names, can.room, ap (λ (d : Debugger X B). standing d s) x.3, refl),
+        x.4,
+        subst (λ (m : Machine X B). StandsFor m s) (sym (ap (λ (d : Debugger X B). d.mover.machine) x.3)) stands,
+      )
+
+  -- what is not answered where the number is none is answered where it is one
+  counted : (n : ℕ) (answer : Answer) → (CountsNot old new out answer → ⊥) → Steps n old new out answer → (is_count n ≡ true) × Goes (steps_of n) old new out answer
+  counted n answer not x = go (is_count n) refl x
+    where
+      go : (b : Bool) → is_count n ≡ b → cond b (Goes (steps_of n) old new out answer) (CountsNot old new out answer) → (is_count n ≡ true) × Goes (steps_of n) old new out answer
+      go true is y = (is, y)
+      go false is y = absurd (not y)
+
+  steps_done : (n : ℕ) → Obeys (Step n) old new out (Ok tt) → Done (λ a text b. Does old.mover.machine.core.image (outside_of old.mover) (Step n) a text b)
+  steps_done n x s stands =
+      let y = counted n (Ok tt) (λ z. z) x in
+      let f = goes_done (steps_of n) y.1 s stands in
+      (f.0, f.1, (y.0, f.2), f.3, f.4)
+
+  pub is_done : (command : Command) → Obeys command old new out (Ok tt) → Done (λ a text b. Does old.mover.machine.core.image (outside_of old.mover) command a text b)
+  is_done (Step n) x = steps_done n x
+  is_done Turn x = goes_done turns_of x
+  is_done Go x = goes_done runs_of x
+  is_done (Break method place) x = sets_done method place x
+  is_done Cells x = looks_done (Sees look.Cells) x
+  is_done Owners x = looks_done (Sees look.Owners) x
+  is_done Cleanup x = looks_done (Sees look.Cleanup) x
+  is_done Actives x = looks_done (Sees look.Actives) x
+  is_done Recent x = looks_done (Sees look.Recent) x
+
+  well_goes : (leads : Debugger X B → Courses) → Goes leads old new out (Ok tt) → new.has_failed ≡ false
+  well_goes leads x = let moved = x.1 in moved.well
+
+  well_same : new ≡ old → new.has_failed ≡ false
+  well_same same = ap (λ (d : Debugger X B). d.has_failed) same ∙ well
+
+  pub still_well : (command : Command) → Obeys command old new out (Ok tt) → new.has_failed ≡ false
+  still_well (Step n) x = well_goes (steps_of n) (counted n (Ok tt) (λ z. z) x).1
+  still_well Turn x = well_goes turns_of x
+  still_well Go x = well_goes runs_of x
+  still_well (Break method place) x = ap (λ (d : Debugger X B). d.has_failed) x.3 ∙ well
+  still_well Cells x = well_same x.1
+  still_well Owners x = well_same x.1
+  still_well Cleanup x = well_same x.1
+  still_well Actives x = well_same x.1
+  still_well Recent x = well_same x.1
+
+  -- ---- what is refused
+
+  abbrev pub Refused : Command → DebugFault → Type 0
+  Refused command fault = Declined old new out × ((s : State) → StandsFor old.mover.machine s → Refuses old.mover.machine.core.image command (standing old s) fault)
+
+  ended_so : (old.has_failed ≡ true) ⊎ (has_ended old ≡ true) → has_ended old ≡ true
+  ended_so (inl failed) = absurd (not_both old.has_failed failed well)
+  ended_so (inr is) = is
+
+  goes_refused : (leads : Debugger X B → Courses) (fault : DebugFault) → fault ≢ WriteFault → Goes leads old new out (Err fault) → (fault ≡ Ended) × Declined old new out × ((s : State) → StandsFor old.mover.machine s → is_ended (standing old s) ≡ true)
+  goes_refused leads fault other x = grind arith
+
+  looks_refused : (shows : Debugger X B → State → List ℕ → Type 0) (fault : DebugFault) → fault ≢ WriteFault → Looks shows old new out (Err fault) → ⊥
+  looks_refused shows Ended other x = not_both old.has_failed x.0 well
+  looks_refused shows WriteFault other x = other refl
+  looks_refused shows _ other x = x
+
+  counts_refused : (n : ℕ) → is_count n ≡ false → (fault : DebugFault) → CountsNot old new out (Err fault) → Refused (Step n) fault
+  counts_refused n is fault x = grind arith
+
+  steps_refused : (n : ℕ) (fault : DebugFault) → fault ≢ WriteFault → Obeys (Step n) old new out (Err fault) → Refused (Step n) fault
+  steps_refused n fault other x = go (is_count n) refl x
+    where
+      go : (b : Bool) → is_count n ≡ b → cond b (Goes (steps_of n) old new out (Err fault)) (CountsNot old new out (Err fault)) → Refused (Step n) fault
+      go true is y = let r = goes_refused (steps_of n) fault other y in subst (λ f. Refused (Step n) f) (sym r.0) (r.1, (λ s stands. (is, r.2 s stands)))
+      go false is y = counts_refused n is fault y
+
+  sets_refused : (method place : Number) (fault : DebugFault) → fault ≢ WriteFault → Sets method place old new out (Err fault) → Refused (Break method place) fault
+  sets_refused method place fault other x = grind arith
+
+  pub is_refused : (command : Command) (fault : DebugFault) → fault ≢ WriteFault → Obeys command old new out (Err fault) → Refused command fault
+  is_refused (Step n) fault other x = steps_refused n fault other x
+  is_refused Turn fault other x = let r = goes_refused turns_of fault other x in subst (λ f. Refused Turn f) (sym r.0) (r.1, r.2)
+  is_refused Go fault other x = let r = goes_refused runs_of fault other x in subst (λ f. Refused Go f) (sym r.0) (r.1, r.2)
+  is_refused (Break method place) fault other x = sets_refused method place fault other x
+  is_refused Cells fault other x = absurd (looks_refused (Sees look.Cells) fault other x)
+  is_refused Owners fault other x = absurd (looks_refused (Sees look.Owners) fault other x)
+  is_refused Cleanup fault other x = absurd (looks_refused (Sees look.Cleanup) fault other x)
+  is_refused Actives fault other x = absurd (looks_refused (Sees look.Actives) fault other x)
+  is_refused Recent fault other x = absurd (looks_refused (Sees look.Recent) fault other x)
+
+  -- ---- what is cut
+
+  abbrev pub CutOff : Command → Type 0
+  CutOff command = (out.failed ≡ true) × ((s : State) → StandsFor old.mover.machine s → (text : List ℕ) × Begins old.mover.machine.core.image (outside_of old.mover) (Ok (Some command)) (standing old s) text × ((sent : ℕ) × (out.now ≡ after out.before (take sent text))))
+
+  goes_cut : (command : Command) (leads : Debugger X B → Courses) → ((s : State) → is_ended (standing old s) ≡ false → MovesOn (Ok (Some command)) (standing old s)) → Goes leads old new out (Err WriteFault) → CutOff command
+  goes_cut command leads on x =
+      let cut = x.1 in (
+        cut.fails,
+        (λ s stands.
+            let f = cut.goes s stands in
+            (moved_text old.mover.machine.core.image f.0 f.1, inr (on s (ended_at s stands ∙ x.0.1), f.0, f.1, f.2, refl), f.3)),
+      )
+
+  looks_cut : (command : Command) (shows : Debugger X B → State → List ℕ → Type 0) → ((s : State) (text : List ℕ) → shows old s text → Does old.mover.machine.core.image (outside_of old.mover) command (standing old s) text (standing old s))
+      → Looks shows old new out (Err WriteFault) → CutOff command
+  looks_cut command shows does x = (
+    x.2,
+    (λ s stands.
+        let f = x.3 s stands in
+        (f.0, inl (standing old s, inl (does s f.0 f.1)), f.2)),
+  )
+
+  sets_cut : (method place : Number) → Sets method place old new out (Err WriteFault) → CutOff (Break method place)
+  sets_cut method place x =
+      let can = x.2 in
+      (x.4, (λ s stands. (_, inl (_, inl (x.1, can.names, can.room, refl, refl)), (x.5, x.6))))
+
+  pub is_cut : (command : Command) → Obeys command old new out (Err WriteFault) → CutOff command
+  is_cut (Step n) x = let y = counted n (Err WriteFault) (λ z. z) x in goes_cut (Step n) (steps_of n) (λ s ended. (y.0, ended)) y.1
+  is_cut Turn x = goes_cut Turn turns_of (λ s ended. ended) x
+  is_cut Go x = goes_cut Go runs_of (λ s ended. ended) x
+  is_cut (Break method place) x = sets_cut method place x
+  is_cut Cells x = looks_cut Cells (Sees look.Cells) (λ s text y. (refl, y)) x
+  is_cut Owners x = looks_cut Owners (Sees look.Owners) (λ s text y. (refl, y)) x
+  is_cut Cleanup x = looks_cut Cleanup (Sees look.Cleanup) (λ s text y. (refl, y)) x
+  is_cut Actives x = looks_cut Actives (Sees look.Actives) (λ s text y. (refl, y)) x
+  is_cut Recent x = looks_cut Recent (Sees look.Recent) (λ s text y. (refl, y)) x

@@ -1,0 +1,203 @@
+//! A debugger over the bytes of files, as commands come.
+ghost use Rattle.std.specs.Prelude.{ℕ, ◌≡◌, ◌+◌, [], Err, IfErr, IfOk, List, Ok, length};
+ghost use Rattle.aom_natives.specs.Owed.{OweNothing};
+ghost use Rattle.aom_natives.specs.Slots.{AllAgree};
+ghost use Rattle.aom_sound.specs.World.{boot_state};
+ghost use Rattle.aom_lines.specs.Turn.{step_lines};
+ghost use Rattle.aom_run.specs.Calls.{StandsFor, natives_of};
+ghost use Rattle.aom_script.specs.Script.{IsTimely, denoted};
+ghost use Rattle.aom_debug.specs.Movers.{IsReady};
+ghost use Rattle.aom_main.specs.Acceptable.{IsSpelled};
+ghost use Rattle.aom_main.specs.Headline.{RefusesBoot};
+ghost use Rattle.aom_main.specs.declared.faults.Fault.TheVariants.{Memory};
+ghost use Rattle.aom_main.specs.declared.status.ExitStatus.TheVariants.{Done};
+ghost use Rattle.aom_main.specs.Untold.{Untold};
+ghost use Rattle.aom_debug.specs.Answers.{DebugAnswers};
+ghost use Rattle.aom_debug.specs.Beginning.{IsBegun};
+
+use crate::conversing::converse;
+use crate::{Debugger, Mover, Reader, Sink};
+use aom_budget::Accepted;
+use aom_debug_words::Recent;
+use aom_lines::Turn;
+use aom_main::{ExitStatus, Fault, accept_bytes, tell};
+use aom_natives::Native;
+use aom_run::Machine;
+use aom_script::{Script, read_script};
+use aom_transcript::Page;
+use std::alloc::{AllocError, Global};
+
+/// Runs an image under a script beside those natives as commands say, which come from a reader, and writes what they tell. The image is looked
+/// at before the script, and the script before the natives. After so many reads that give no end it is a fault.
+pub fn debug_bytes<R: Reader, W: Sink, E: Sink>(
+    alloc: Global,
+    image: &[u8],
+    script: &[u8],
+    limit: u32,
+    boxes: Vec<Box<dyn Native>>,
+    reader: &mut R,
+    reads: u64,
+    out: &mut W,
+    errors: &mut E,
+) -> ExitStatus
+    requires owed { OweNothing (λ b. (⟦<dyn Native as Native>⟧ b.vtable).owed b.value) boxes.items }
+    ensures { DebugAnswers image.now script.now limit (length boxes.items) reads (record { before = R.given reader.old; now = R.given reader.new; ended = R.ended reader.new; failed = R.failed reader.new }) (record { before = W.out out.old; now = W.out out.new; failed = W.failed out.new }) (record { before = E.out errors.old; now = E.out errors.new; failed = E.failed errors.new }) result }
+{
+    match try_debug(alloc, image, script, limit, boxes, reader, reads, out) {
+        Ok(status) => status,
+        Err(fault) => tell(&fault, errors),
+    }
+}
+
+/// Debugs an image, and leaves its fault to be told.
+fn try_debug<R: Reader, W: Sink>(
+    alloc: Global,
+    image: &[u8],
+    script: &[u8],
+    limit: u32,
+    boxes: Vec<Box<dyn Native>>,
+    reader: &mut R,
+    reads: u64,
+    out: &mut W,
+) -> Result<ExitStatus, Fault>
+    requires owed { OweNothing (λ b. (⟦<dyn Native as Native>⟧ b.vtable).owed b.value) boxes.items }
+    ensures { Untold (DebugAnswers image.now script.now limit (length boxes.items) reads (record { before = R.given reader.old; now = R.given reader.new; ended = R.ended reader.new; failed = R.failed reader.new }) (record { before = W.out out.old; now = W.out out.new; failed = W.failed out.new })) result }
+{
+    match accept_bytes(alloc, image) {
+        Ok(accepted) => debug_text(alloc, &accepted, script, limit, boxes, reader, reads, out),
+        Err(refusal) => Err(refusal),
+    }
+}
+
+/// Debugs an accepted image under the script that a text is.
+fn debug_text<R: Reader, W: Sink>(
+    alloc: Global,
+    accepted: &Accepted,
+    text: &[u8],
+    limit: u32,
+    boxes: Vec<Box<dyn Native>>,
+    reader: &mut R,
+    reads: u64,
+    out: &mut W,
+) -> Result<ExitStatus, Fault>
+    requires owed { OweNothing (λ b. (⟦<dyn Native as Native>⟧ b.vtable).owed b.value) boxes.items }
+    ensures { (bytes : List ℕ) → IsSpelled bytes accepted.now → Untold (DebugAnswers bytes text.now limit (length boxes.items) reads (record { before = R.given reader.old; now = R.given reader.new; ended = R.ended reader.new; failed = R.failed reader.new }) (record { before = W.out out.old; now = W.out out.new; failed = W.failed out.new })) result }
+{
+    accepted.facts();
+    match read_script(alloc, text) {
+        Ok(script) => debug_script(alloc, accepted, script, limit, boxes, reader, reads, out),
+        Err(fault) => Err(Fault::from(fault)),
+    }
+}
+
+/// Debugs an accepted image under a script.
+fn debug_script<R: Reader, W: Sink>(
+    alloc: Global,
+    accepted: &Accepted,
+    script: Script,
+    limit: u32,
+    boxes: Vec<Box<dyn Native>>,
+    reader: &mut R,
+    reads: u64,
+    out: &mut W,
+) -> Result<ExitStatus, Fault>
+    requires owed { OweNothing (λ b. (⟦<dyn Native as Native>⟧ b.vtable).owed b.value) boxes.items }
+    requires timely { IsTimely script.timed }
+    ensures { (bytes text : List ℕ) → IsSpelled bytes accepted.now → denoted text ≡ Ok script → Untold (DebugAnswers bytes text limit (length boxes.items) reads (record { before = R.given reader.old; now = R.given reader.new; ended = R.ended reader.new; failed = R.failed reader.new }) (record { before = W.out out.old; now = W.out out.new; failed = W.failed out.new })) result }
+{
+    accepted.facts();
+    match begin(alloc, accepted, script, limit, boxes) {
+        Ok(mut debugger) => {
+            let told = converse(&mut debugger, reader, reads, out);
+            drop(debugger);
+            done(told)
+        }
+        Err(fault) => Err(fault),
+    }
+}
+
+/// The status of a session that was held whole.
+fn done(told: Result<(), Fault>) -> Result<ExitStatus, Fault>
+    ensures ok { IfOk told (λ _. result ≡ Ok Done) }
+    ensures err { IfErr told (λ fault. result ≡ Err fault) }
+{
+    match told {
+        Ok(()) => Ok(ExitStatus::Done),
+        Err(fault) => Err(fault),
+    }
+}
+
+/// Boots a machine beside those natives, and a debugger of it. All memory is taken before anything is read or written.
+fn begin<'a>(
+    alloc: Global,
+    accepted: &'a Accepted,
+    script: Script,
+    limit: u32,
+    boxes: Vec<Box<dyn Native>>,
+) -> Result<Debugger<'a>, Fault>
+    requires owed { OweNothing (λ b. (⟦<dyn Native as Native>⟧ b.vtable).owed b.value) boxes.items }
+    requires timely { IsTimely script.timed }
+    ensures agree { IfOk result (λ d. AllAgree (λ l. l.ids) (λ l. (⟦<dyn Native as Native>⟧ l.native.vtable).owed l.native.value) d.mover.machine.natives.slots.items) }
+    ensures ready { IfOk result (λ d. IsReady d.mover) }
+    ensures begun { IfOk result (λ d. IsBegun accepted.now script limit (length boxes.items) d) }
+    ensures err { IfErr result (λ fault. RefusesBoot accepted.now (length boxes.items) fault) }
+{
+    match Machine::boot(alloc, accepted, boxes) {
+        Ok(machine) => begun(alloc, accepted, machine, script, limit),
+        Err((fault, _boxes)) => Err(Fault::from(fault)),
+    }
+}
+
+/// A debugger of a machine that has booted.
+fn begun<'a>(
+    alloc: Global,
+    accepted: &Accepted,
+    machine: Machine<'a>,
+    script: Script,
+    limit: u32,
+) -> Result<Debugger<'a>, Fault>
+    requires agree { AllAgree (λ l. l.ids) (λ l. (⟦<dyn Native as Native>⟧ l.native.vtable).owed l.native.value) machine.natives.slots.items }
+    requires image { machine.core.image ≡ accepted.now }
+    requires stands { StandsFor machine (boot_state accepted.now) }
+    requires timely { IsTimely script.timed }
+    ensures agree { IfOk result (λ d. AllAgree (λ l. l.ids) (λ l. (⟦<dyn Native as Native>⟧ l.native.vtable).owed l.native.value) d.mover.machine.natives.slots.items) }
+    ensures ready { IfOk result (λ d. IsReady d.mover) }
+    ensures begun { IfOk result (λ d. IsBegun accepted.now script limit (natives_of machine.entry) d) }
+    ensures err { IfErr result (λ fault. fault ≡ Memory) }
+{
+    match room_of(alloc, accepted, &script) {
+        Ok((turn, recent)) => {
+            let page = Page::new();
+            Ok(Debugger::new(Mover {
+                machine,
+                script,
+                limit,
+                turn,
+                page,
+                recent,
+            }))
+        }
+        Err(_) => {
+            drop(machine);
+            drop(script);
+            Err(Fault::Memory)
+        }
+    }
+}
+
+/// The turn of a run under a script, and room for the latest instructions.
+fn room_of(
+    alloc: Global,
+    accepted: &Accepted,
+    script: &Script,
+) -> Result<(Turn, Recent), AllocError>
+    ensures lines { IfOk result (λ r. r.0.lines ≡ []) }
+    ensures refused { IfOk result (λ r. r.0.refused ≡ script.now.refused) }
+    ensures room { IfOk result (λ r. r.0.room ≡ 64 + step_lines accepted.now.header.messages) }
+    ensures recent { IfOk result (λ r. r.1 ≡ []) }
+{
+    let refused = Vec::from_slice(alloc, script.refused())?;
+    let turn = Turn::new(alloc, accepted.linked(), refused)?;
+    let recent = Recent::new(alloc)?;
+    Ok((turn, recent))
+}

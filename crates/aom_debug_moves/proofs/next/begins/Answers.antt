@@ -1,0 +1,10 @@
+-- What goes first is told by its class.
+use Rattle.std.proofs.Common.{◌∙◌}
+use Rattle.aom_debug_moves.proofs.Nexts.{destroyed_told}
+use Rattle.aom_debug_moves.proofs.next.begins.Goals as goal
+
+pub class-requires-clause-lives : goal.class-requires-clause-lives
+class-requires-clause-lives c = c.first_to_go-first.ensures.lives
+
+pub returns : goal.returns
+returns c = λ s st q is. c.begins_by.ensures ∙ destroyed_told c.args.linked.now c.args.parts.now s st q c.args.number c.first_to_go-first.result _ is c.requires.lives c.first_to_go-first.ensures.first c.class.ensures

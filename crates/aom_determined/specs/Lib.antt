@@ -1,4 +1,0 @@
-pub mod Names
-pub mod There
-pub mod Hearing
-pub mod Laws

@@ -1,0 +1,310 @@
+-- What is asked is asked under other names too: no need looks at a name but to compare it with another.
+use Rattle.std.proofs.Common.{Bool, List, None, Option, Some, [], ap, cond, false, length, refl, suc, true, ℕ, ◌&&◌, ◌==◌, ◌∙◌, ◌∷◌, ◌≡◌}
+use Rattle.std.specs.Prelude.{is_none, is_some, option_map, ◌++◌}
+use Rattle.aom_image.specs.Image.{Image}
+use Rattle.aom_image.specs.Views.{arguments_of, gives_of, method_class}
+use Rattle.aom_instructions.specs.declared.instr.Target.{Target}
+use Rattle.aom_instructions.specs.declared.instr.Target.TheVariants.{Entry as On_entry, Field as On_field, Register as On_register, This}
+use Rattle.aom_image.specs.declared.method.Argument.{Argument}
+use Rattle.aom_image.specs.declared.method.Argument.TheVariants.{Own as Takes_own, Word as Takes_word}
+use Rattle.aom_image.specs.declared.method.Gives.{Gives}
+use Rattle.aom_image.specs.declared.method.Gives.TheVariants.{Left, Maybe as A_maybe, Nothing, Own as An_own, Word as A_word}
+use Rattle.aom_image.specs.declared.method.Thing.{Thing}
+use Rattle.aom_image.specs.declared.method.Thing.TheVariants.{Message, Object as An_object_of}
+use Rattle.aom_shape.specs.Things.{field_thing}
+use Rattle.aom_sound.specs.Calls.{end_needs, is_asked, entry_place, given_cells, is_level, is_worked_on, is_emptied, leaves_object, needs_argument, needs_call, needs_each, needs_ended, needs_entering, needs_reply, needs_result, needs_return, needs_target, needs_target_object, needs_trap, passed_cells, result_needs, result_source, tops_mark}
+use Rattle.aom_sound.specs.Cleanup.{above_trap_is_free, has_trap, if_refused, leave_needs, needs_push, pushed_cells, top_is_whole}
+use Rattle.aom_sound.specs.Enlisted.{home_kind, own_request}
+use Rattle.aom_sound.specs.Objects.{is_declared_thing, is_no_message, is_thing, needs_put, needs_take_message}
+use Rattle.aom_sound.specs.Places.{Cell, Elsewhere, Entry, In_service, Object, Place, Register, Session, held, moved}
+use Rattle.aom_sound.specs.Destruction.{owns_nothing}
+use Rattle.aom_sound.specs.Servers.{without_queue}
+use Rattle.aom_sound.specs.State.{A_mark, Accepts, An_object, An_operation, Asks, AtRoot, Choice, Destroy, Dispatch, Dispatched, Frame, Home, Inside, IsStuck, Item, MessageLost, Need, Of_server, Orphan, Run, Serves, State, Static, Task, Trapped, Unbalanced, field_place, guarded, home_holder}
+use Rattle.aom_sound.specs.Words.{needs_word}
+use Rattle.aom_endings.proofs.proofs.NamedCells.{held_renamed, moved_renamed, none_owns_kept, owns_nothing_kept, requested_kept, tasks_counted}
+use Rattle.aom_endings.proofs.Serving.{without_queue_renamed}
+use Rattle.aom_endings.specs.Names.{IsOneToOne, renamed, renamed_cells, renamed_choice, renamed_dispatch, renamed_frame, renamed_home, renamed_object, renamed_outcome, renamed_place, renamed_tasks}
+
+-- ---- what is asked of an object, none of which is its name
+
+module _ (names : ℕ → ℕ) where
+  pub none_kept : (o : Option Object) → is_none (option_map (renamed_object names) o) ≡ is_none o
+  none_kept None = refl
+  none_kept (Some o) = refl
+
+  pub some_kept : (o : Option Object) → is_some (option_map (renamed_object names) o) ≡ is_some o
+  some_kept None = refl
+  some_kept (Some o) = refl
+
+  pub thing_kept : (p : Image) (t : Thing) (o : Option Object) → is_thing p t (option_map (renamed_object names) o) ≡ is_thing p t o
+  thing_kept p t None = refl
+  thing_kept p t (Some o) = refl
+
+  declared_kept : (p : Image) (t : Option Thing) (o : Option Object) → is_declared_thing p t (option_map (renamed_object names) o) ≡ is_declared_thing p t o
+  declared_kept p None o = refl
+  declared_kept p (Some t) o = thing_kept p t o
+
+  message_kept : (o : Option Object) → is_no_message (option_map (renamed_object names) o) ≡ is_no_message o
+  message_kept None = refl
+  message_kept (Some o) = refl
+
+  worked_kept : (p : Image) (class : Option ℕ) (o : Option Object) → is_worked_on p class (option_map (renamed_object names) o) ≡ is_worked_on p class o
+  worked_kept p None o = refl
+  worked_kept p (Some x) None = refl
+  worked_kept p (Some x) (Some o) = refl
+
+  pub target_object_kept : (p : Image) (class : Option ℕ) (o : Option Object) → needs_target_object p class (option_map (renamed_object names) o) ≡ needs_target_object p class o
+  target_object_kept p class o = rw (some_kept o, worked_kept p class o)
+
+  pub holder_kept : (h : Home) → home_holder (renamed_home names h) ≡ home_holder h
+  holder_kept Static = refl
+  holder_kept AtRoot = refl
+  holder_kept (Inside o from) = refl
+
+  pub kind_kept : (p : Image) (h : Home) → home_kind p (renamed_home names h) ≡ home_kind p h
+  kind_kept p Static = refl
+  kind_kept p AtRoot = refl
+  kind_kept p (Inside o from) = refl
+
+  pub field_renamed : (h : Home) (f : ℕ) → field_place (renamed_home names h) f ≡ renamed_place names (field_place h f)
+  field_renamed Static f = refl
+  field_renamed AtRoot f = refl
+  field_renamed (Inside o from) f = refl
+
+  -- ---- what is asked of tasks
+
+  pub is_asked_kept : (d : Dispatch) → is_asked (renamed_dispatch names d) ≡ is_asked d
+  is_asked_kept (Asks x) = refl
+  is_asked_kept _ = refl
+
+  pub trap_kept : (ts : List Task) → has_trap (renamed_tasks names ts) ≡ has_trap ts
+  trap_kept (Run fr ∷ ts) = trap_kept ts
+  trap_kept _ = refl
+
+  free_kept : (cs : List Cell) (ts : List Task) → above_trap_is_free (renamed_cells names cs) (renamed_tasks names ts) ≡ above_trap_is_free cs ts
+  free_kept cs (Run fr ∷ ts) = rw (tasks_counted names ts, none_owns_kept names cs (length ts) None, free_kept cs ts)
+  free_kept cs _ = refl
+
+  pub leave_kept : (cs : List Cell) (ts : List Task) → leave_needs (renamed_cells names cs) (renamed_tasks names ts) ≡ leave_needs cs ts
+  leave_kept cs ts = rw (trap_kept ts, free_kept cs ts)
+
+-- ---- what is asked of places
+
+module _ (names : ℕ → ℕ) (one_to_one : IsOneToOne names) where
+  -- what a register has under other names
+  pub register_renamed :
+      (cs : List Cell) (ts : List Task) (a : ℕ) →
+      held (renamed_cells names cs) (Register (length (renamed_tasks names ts)) a) ≡ option_map (renamed_object names) (held cs (Register (length ts) a))
+  register_renamed cs ts a = ap (λ n. held (renamed_cells names cs) (Register n a)) (tasks_counted names ts) ∙ held_renamed names one_to_one cs (Register (length ts) a)
+
+  pub free_at : (cs : List Cell) (ts : List Task) (a : ℕ) → is_none (held (renamed_cells names cs) (Register (length (renamed_tasks names ts)) a)) ≡ is_none (held cs (Register (length ts) a))
+  free_at cs ts a = ap is_none (register_renamed cs ts a) ∙ none_kept names (held cs (Register (length ts) a))
+
+  owns_at : (cs : List Cell) (ts : List Task) (a : ℕ) → is_some (held (renamed_cells names cs) (Register (length (renamed_tasks names ts)) a)) ≡ is_some (held cs (Register (length ts) a))
+  owns_at cs ts a = ap is_some (register_renamed cs ts a) ∙ some_kept names (held cs (Register (length ts) a))
+
+  thing_at :
+      (p : Image) (t : Thing) (cs : List Cell) (ts : List Task) (a : ℕ) →
+      is_thing p t (held (renamed_cells names cs) (Register (length (renamed_tasks names ts)) a)) ≡ is_thing p t (held cs (Register (length ts) a))
+  thing_at p t cs ts a = ap (is_thing p t) (register_renamed cs ts a) ∙ thing_kept names p t (held cs (Register (length ts) a))
+
+  pub message_at :
+      (cs : List Cell) (ts : List Task) (a : ℕ) →
+      is_no_message (held (renamed_cells names cs) (Register (length (renamed_tasks names ts)) a)) ≡ is_no_message (held cs (Register (length ts) a))
+  message_at cs ts a = ap is_no_message (register_renamed cs ts a) ∙ message_kept names (held cs (Register (length ts) a))
+
+  -- what a field has
+  pub held_field : (cs : List Cell) (h : Home) (f : ℕ) → held (renamed_cells names cs) (field_place (renamed_home names h) f) ≡ option_map (renamed_object names) (held cs (field_place h f))
+  held_field cs h f = ap (held (renamed_cells names cs)) (field_renamed names h f) ∙ held_renamed names one_to_one cs (field_place h f)
+
+  field_at : (cs : List Cell) (h : Home) (f : ℕ) → is_none (held (renamed_cells names cs) (field_place (renamed_home names h) f)) ≡ is_none (held cs (field_place h f))
+  field_at cs h f = ap is_none (held_field cs h f) ∙ none_kept names (held cs (field_place h f))
+
+  emptied_kept : (cs : List Cell) (h : Home) → is_emptied (renamed_cells names cs) (renamed_home names h) ≡ is_emptied cs h
+  emptied_kept cs Static = refl
+  emptied_kept cs AtRoot = refl
+  emptied_kept cs (Inside o from) = ap (λ l. owns_nothing l (names o.name)) (without_queue_renamed names one_to_one o.name cs) ∙ owns_nothing_kept names one_to_one (without_queue o.name cs) o.name
+
+  pub place_owns : (cs : List Cell) (q : Place) → is_some (held (renamed_cells names cs) (renamed_place names q)) ≡ is_some (held cs q)
+  place_owns cs q = ap is_some (held_renamed names one_to_one cs q) ∙ some_kept names (held cs q)
+
+  place_free : (cs : List Cell) (q : Place) → is_none (held (renamed_cells names cs) (renamed_place names q)) ≡ is_none (held cs q)
+  place_free cs q = ap is_none (held_renamed names one_to_one cs q) ∙ none_kept names (held cs q)
+
+  -- what the return of the method of a dispatch needs
+  ended_kept : (d : Dispatch) (cs : List Cell) → needs_ended (renamed_dispatch names d) (renamed_cells names cs) ≡ needs_ended d cs
+  ended_kept (Of_server x c Accepts) cs = ap (λ b. (b, Orphan) ∷ []) (place_free cs (Elsewhere (Session x.object.name c)))
+  ended_kept (Of_server x c (Serves o)) cs = ap (λ b. (b, MessageLost) ∷ []) (place_free cs (Elsewhere In_service))
+  ended_kept (Of_server x c _) cs = refl
+  ended_kept _ cs = refl
+
+  -- the request of what a method works on
+  pub own_request_kept : (cs : List Cell) (h : Home) → own_request (renamed_cells names cs) (renamed_home names h) ≡ own_request cs h
+  own_request_kept cs Static = refl
+  own_request_kept cs AtRoot = refl
+  own_request_kept cs (Inside o from) = requested_kept names one_to_one cs o.name
+
+  entry_owns : (cs : List Cell) (k : ℕ) → is_some (held (renamed_cells names cs) (Entry k)) ≡ is_some (held cs (Entry k))
+  entry_owns cs k = ap is_some (held_renamed names one_to_one cs (Entry k)) ∙ some_kept names (held cs (Entry k))
+
+  pub whole_kept : (cs : List Cell) (items : List Item) → top_is_whole (renamed_cells names cs) items ≡ top_is_whole cs items
+  whole_kept cs [] = refl
+  whole_kept cs (An_object ∷ items) = entry_owns cs (length items)
+  whole_kept cs (An_operation m w ∷ items) = refl
+  whole_kept cs (A_mark ∷ items) = refl
+
+module _ (names : ℕ → ℕ) (one_to_one : IsOneToOne names) (p : Image) (c : Choice) (fr : Frame) (ts : List Task) (s : State) where
+  abbrev fr' : Frame
+  fr' = renamed_frame names fr
+
+  abbrev ts' : List Task
+  ts' = renamed_tasks names ts
+
+  abbrev s' : State
+  s' = renamed names s
+
+  abbrev c' : Choice
+  c' = renamed_choice names c
+
+  -- ---- calls
+
+  pub target_kept : (target : Target) (class : Option ℕ) (first count : ℕ) → needs_target p fr' ts' s' target class first count ≡ needs_target p fr ts s target class first count
+  target_kept This class first count = rw (holder_kept names fr.home)
+  target_kept (On_register r) class first count =
+      let o = held s.cells (Register (length ts) r) in
+      rw (register_renamed names one_to_one s.cells ts r, some_kept names o, worked_kept names p class o)
+  target_kept (On_field f) class first count = rw (holder_kept names fr.home, held_field names one_to_one s.cells fr.home f, target_object_kept names p class (held s.cells (field_place fr.home f)))
+  target_kept (On_entry k) class first count = rw (held_renamed names one_to_one s.cells (entry_place s.items k), target_object_kept names p class (held s.cells (entry_place s.items k)))
+
+  argument_kept : (x : Argument) (a : ℕ) → needs_argument p fr' ts' s' x a ≡ needs_argument p fr ts s x a
+  argument_kept Takes_word a = refl
+  argument_kept (Takes_own t) a = rw (owns_at names one_to_one s.cells ts a, thing_at names one_to_one p t s.cells ts a)
+
+  each_kept : (xs : List Argument) (first : ℕ) → needs_each p fr' ts' s' xs first ≡ needs_each p fr ts s xs first
+  each_kept [] first = refl
+  each_kept (x ∷ xs) first = rw (argument_kept x first, each_kept xs (suc first))
+
+  pub passed_renamed :
+      (depth : ℕ) (xs : List Argument) (first to : ℕ) (cs : List Cell) →
+      passed_cells p fr' ts' s' depth xs first to (renamed_cells names cs) ≡ renamed_cells names (passed_cells p fr ts s depth xs first to cs)
+  passed_renamed depth [] first to cs = refl
+  passed_renamed depth (Takes_word ∷ xs) first to cs = passed_renamed depth xs (suc first) (suc to) cs
+  passed_renamed depth (Takes_own t ∷ xs) first to cs =
+      ap (λ n. passed_cells p fr' ts' s' depth xs (suc first) (suc to) (moved (Register n first) (Register depth to) (renamed_cells names cs))) (tasks_counted names ts)
+      ∙ ap (passed_cells p fr' ts' s' depth xs (suc first) (suc to)) (moved_renamed names one_to_one (Register (length ts) first) (Register depth to) cs)
+      ∙ passed_renamed depth xs (suc first) (suc to) (moved (Register (length ts) first) (Register depth to) cs)
+
+  -- over these tasks
+  pub given_renamed : (over : List Task) (m first : ℕ) → given_cells p fr' ts' s' (renamed_tasks names over) m first ≡ renamed_cells names (given_cells p fr ts s over m first)
+  given_renamed over m first =
+      ap (λ n. passed_cells p fr' ts' s' n (arguments_of p m) first 0 (renamed_cells names s.cells)) (tasks_counted names over)
+      ∙ passed_renamed (length over) (arguments_of p m) first 0 s.cells
+
+  result_kept : (g : Gives) (cs : List Cell) (a : ℕ) → needs_result p fr' ts' s' g (renamed_cells names cs) a ≡ needs_result p fr ts s g cs a
+  result_kept Nothing cs a = refl
+  result_kept A_word cs a = rw (free_at names one_to_one cs ts a)
+  result_kept (An_own t) cs a = rw (free_at names one_to_one cs ts a)
+  result_kept (A_maybe t) cs a = rw (free_at names one_to_one cs ts a)
+  result_kept (Left x) cs a = refl
+
+  entering_kept : (target : Target) (m first : ℕ) (more : List Need) → needs_entering p fr' ts' s' target m first more ≡ needs_entering p fr ts s target m first more
+  entering_kept target m first more = rw (target_kept target (method_class p m) first (length (arguments_of p m)), each_kept (arguments_of p m) first)
+
+  pub call_kept : (target : Target) (m first a : ℕ) → needs_call p fr' ts' s' target m first a ≡ needs_call p fr ts s target m first a
+  call_kept target m first a =
+      entering_kept target m first _
+      ∙ ap (λ cs. needs_entering p fr ts s target m first (needs_result p fr' ts' s' (gives_of p m) cs a)) (given_renamed (Run fr ∷ ts) m first)
+      ∙ ap (needs_entering p fr ts s target m first) (result_kept (gives_of p m) (given_cells p fr ts s (Run fr ∷ ts) m first) a)
+
+  pub under_trap_kept : (target : Target) (m first a : ℕ) → needs_trap p fr' ts' s' target m first a ≡ needs_trap p fr ts s target m first a
+  under_trap_kept target m first a =
+      entering_kept target m first _
+      ∙ ap
+      (λ cs. needs_entering p fr ts s target m first (needs_result p fr' ts' s' (gives_of p m) cs a ++ ((is_none (held cs (Register (length ts') (suc a))), Orphan) ∷ [])))
+      (given_renamed (Trapped ∷ Run fr ∷ ts) m first)
+      ∙ rw (result_kept (gives_of p m) (given_cells p fr ts s (Trapped ∷ Run fr ∷ ts) m first) a, free_at names one_to_one (given_cells p fr ts s (Trapped ∷ Run fr ∷ ts) m first) ts (suc a))
+
+  -- ---- returns
+
+  result_needs_kept : (g : Gives) (a : ℕ) → result_needs p fr' ts' s' g a ≡ result_needs p fr ts s g a
+  result_needs_kept Nothing a = refl
+  result_needs_kept A_word a = refl
+  result_needs_kept (An_own t) a = argument_kept (Takes_own t) a
+  result_needs_kept (A_maybe t) a = rw (thing_at names one_to_one p t s.cells ts a)
+  result_needs_kept (Left x) a = refl
+
+  end_kept : (below : List Task) → end_needs p fr' ts' s' (renamed_tasks names below) ≡ end_needs p fr ts s below
+  end_kept (Destroy ∷ below) = rw (emptied_kept names one_to_one s.cells fr.home)
+  end_kept (Trapped ∷ Run caller ∷ below) = refl
+  end_kept (Trapped ∷ Dispatched d ∷ below) = ap (λ ns. (tops_mark s.items, Unbalanced) ∷ ns) (ended_kept names one_to_one d s.cells)
+  end_kept (Trapped ∷ _) = refl
+  end_kept (Dispatched d ∷ below) = rw (is_asked_kept names d)
+  end_kept _ = refl
+
+  leaves_object_kept : (x : ℕ) (items : List Item) → leaves_object p fr' ts' s' x items ≡ leaves_object p fr ts s x items
+  leaves_object_kept x [] = refl
+  leaves_object_kept x (An_object ∷ items) =
+      let o = held s.cells (Entry (length items)) in
+      ap (λ b. (length items == fr.height) && (is_some b && is_thing p (An_object_of x) b)) (held_renamed names one_to_one s.cells (Entry (length items)))
+      ∙ rw (some_kept names o, thing_kept names p (An_object_of x) o)
+  leaves_object_kept x (An_operation m w ∷ items) = refl
+  leaves_object_kept x (A_mark ∷ items) = refl
+
+  level_kept : (g : Gives) → is_level p fr' ts' s' g ≡ is_level p fr ts s g
+  level_kept (Left x) = leaves_object_kept x s.items
+  level_kept _ = refl
+
+  pub return_kept : (a : ℕ) → needs_return p fr' ts' s' a ≡ needs_return p fr ts s a
+  return_kept a = rw (
+    result_needs_kept (gives_of p fr.method) a,
+    level_kept (gives_of p fr.method),
+    tasks_counted names ts,
+    none_owns_kept names s.cells (length ts) (result_source (gives_of p fr.method) a),
+    own_request_kept names one_to_one s.cells fr.home,
+    end_kept ts,
+  )
+
+  -- ---- requests and leaves
+
+  pub refusal_kept : (cells : List Cell) → if_refused p c' fr' ts' s' (renamed_cells names cells) ≡ if_refused p c fr ts s cells
+  refusal_kept cells = ap (λ n. cond c.refused n []) (leave_kept names cells (Run fr ∷ ts))
+
+  -- the cells once the object of a register is on the cleanup stack
+  pub pushed_renamed : (a : ℕ) → pushed_cells fr' ts' s' a ≡ renamed_cells names (pushed_cells fr ts s a)
+  pushed_renamed a =
+      ap (λ n. moved (Register n a) (Entry (length s.items)) (renamed_cells names s.cells)) (tasks_counted names ts)
+      ∙ moved_renamed names one_to_one (Register (length ts) a) (Entry (length s.items)) s.cells
+
+  pub push_kept : (a : ℕ) → needs_push p c' fr' ts' s' a ≡ needs_push p c fr ts s a
+  push_kept a =
+      let refusal : if_refused p c' fr' ts' s' (pushed_cells fr' ts' s' a) ≡ if_refused p c fr ts s (pushed_cells fr ts s a) =
+      ap (if_refused p c' fr' ts' s') (pushed_renamed a) ∙ refusal_kept (pushed_cells fr ts s a) in
+      rw (owns_at names one_to_one s.cells ts a, message_at names one_to_one s.cells ts a, refusal, trap_kept names ts)
+
+  -- ---- messages
+
+  pub take_message_kept : (a : ℕ) → needs_take_message p c' fr' ts' s' a ≡ needs_take_message p c fr ts s a
+  take_message_kept a = rw (place_owns names one_to_one s.cells (Elsewhere In_service), free_at names one_to_one s.cells ts a)
+
+  pub reply_kept : (a b : ℕ) → needs_reply p fr' ts' s' a b ≡ needs_reply p fr ts s a b
+  reply_kept a b = ap (λ ns. ns ++ (needs_word fr ts s b ∷ [])) (argument_kept (Takes_own Message) a)
+
+  pub put_kept : (f b : ℕ) → needs_put p c' fr' ts' s' f b ≡ needs_put p c fr ts s f b
+  put_kept f b = rw (
+    holder_kept names fr.home,
+    register_renamed names one_to_one s.cells ts b,
+    declared_kept names p (field_thing p (home_holder fr.home) f) (held s.cells (Register (length ts) b)),
+    field_at names one_to_one s.cells fr.home f,
+  )
+
+-- ---- what becomes of a state once its needs are met
+
+pub guarded_renamed : (names : ℕ → ℕ) (ns : List Need) (s : State) → guarded ns (renamed names s) ≡ renamed_outcome names (guarded ns s)
+guarded_renamed names [] s = refl
+guarded_renamed names (n ∷ ns) s = go n.0 (guarded_renamed names ns s)
+  where
+    go :
+        (b : Bool) → guarded ns (renamed names s) ≡ renamed_outcome names (guarded ns s) →
+        cond b (guarded ns (renamed names s)) (IsStuck n.1) ≡ renamed_outcome names (cond b (guarded ns s) (IsStuck n.1))
+    go true e = e
+    go false e = refl

@@ -1,0 +1,70 @@
+-- What is found in a text that denotes an image, from the program that it is written from.
+use Rattle.std.proofs.Common.{◌≡◌, ◌∙◌, ℕ, suc, ◌+◌, List, Some, refl, sym, ap, slice_get, arith}
+use Rattle.std.specs.Prelude.{option_map, true, false, map}
+use Rattle.std.specs.List.{filter}
+use Rattle.std.proofs.lemmas.Option.{slice_get-map}
+use Rattle.aom_image.specs.Image.{Image}
+use Rattle.aom_image.specs.declared.class.ClassDecl.{ClassDecl}
+use Rattle.aom_image.specs.declared.method.Method.{Method}
+use Rattle.aom_text.specs.Text.{statements}
+use Rattle.aom_text.specs.declared.text.Statement.{Statement}
+use Rattle.aom_syntax.specs.declared.keyword.Keyword.{Keyword}
+use Rattle.aom_syntax.specs.declared.keyword.Keyword.TheVariants as k
+use Rattle.aom_meaning.specs.Texts.{all_words}
+use Rattle.aom_meaning.specs.Denotes.{Denotes, names_of}
+use Rattle.aom_meaning.specs.Meaning.{ClassMeans, InstructionMeans, MethodMeans, labels_of}
+use Rattle.aom_meaning.specs.Source.{InstructionText, MethodText, class_words, classes_of, declared_statements, header_words, instruction_words, methods_of}
+use Rattle.aom_explain.specs.Declared.{begins, begins_with, image_statement, instruction_statement, part}
+use Rattle.aom_explain.specs.Laws.{DeclaresClass, DeclaresMethod, words_of}
+use Rattle.aom_explain.proofs.proofs.Cuts.{filter_map, filter_no, part_map, part_no}
+use Rattle.aom_explain.proofs.Sources.{class_passes, code_found, method_passes, method_words, pair_at}
+
+abbrev words : Statement → List (List ℕ)
+words s = s.words
+
+-- the words of what is found among statements are found among their words
+of_words : (key : Keyword) (ss : List Statement) (number : ℕ) → words_of (slice_get (filter (begins key) ss) number) ≡ slice_get (filter (begins_with key) (all_words ss)) number
+of_words key ss number = sym (slice_get-map words (filter (begins key) ss) number) ∙ ap (λ ws. slice_get ws number) (filter_map (begins_with key) words ss)
+
+pub found_image : (text : List ℕ) (i : Image) (d : Denotes text i) → words_of (image_statement text) ≡ Some (header_words d.source.header)
+found_image text i d = sym (slice_get-map words (statements text) 0) ∙ ap (λ ws. slice_get ws 0) d.written
+
+-- the statement that a number finds behind the header is the one that the source has for it
+there_by : {A : Type 0} (key : Keyword) (text : List ℕ) (i : Image) (d : Denotes text i) (spell : A → List (List ℕ)) (said : List A) (number : ℕ) (one : A) → begins_with key (header_words d.source.header) ≡ false
+    → filter (begins_with key) (declared_statements d.source.declarations) ≡ map spell said → slice_get said number ≡ Some one → words_of (slice_get (filter (begins key) (statements text)) number) ≡ Some (spell one)
+there_by key text i d spell said number one headed passes there =
+    of_words key (statements text) number ∙ ap (λ ws. slice_get (filter (begins_with key) ws) number) d.written
+    ∙ ap (λ ws. slice_get ws number) (filter_no (begins_with key) (header_words d.source.header) (declared_statements d.source.declarations) headed ∙ passes)
+    ∙ slice_get-map spell said number ∙ ap (option_map spell) there
+
+pub found_class : (text : List ℕ) (i : Image) (d : Denotes text i) (number : ℕ) (c : ClassDecl) → slice_get i.classes number ≡ Some c → DeclaresClass text (names_of d.source) i.header.natives number c
+found_class text i d number c there =
+    let said = pair_at (ClassMeans (names_of d.source) i.header.natives) (classes_of d.source.declarations) i.classes number c d.classes there in
+    record {
+      said = said.other;
+      there = there_by k.Class text i d class_words (classes_of d.source.declarations) number said.other refl (class_passes d.source.declarations) said.there;
+      means = said.holds;
+    }
+
+-- what is found for a place of a method
+found_instruction : (text : List ℕ) (i : Image) (d : Denotes text i) (number place : ℕ) (said : MethodText) (t : InstructionText) → slice_get (methods_of d.source.declarations) number ≡ Some said
+    → slice_get said.code place ≡ Some t → words_of (instruction_statement text number place) ≡ Some (instruction_words t)
+found_instruction text i d number place said t method there =
+    let next : number + 1 ≡ suc number = omega arith in
+    sym (slice_get-map words (part (begins k.Method) (statements text) (number + 1)) place)
+    ∙ ap (λ ws. slice_get ws place)
+    (part_map (begins_with k.Method) words (statements text) (number + 1) ∙ ap (λ n. part (begins_with k.Method) (all_words (statements text)) n) next ∙ ap (λ ws. part (begins_with k.Method) ws (suc number)) d.written
+    ∙ part_no (begins_with k.Method) (header_words d.source.header) (declared_statements d.source.declarations) number refl)
+    ∙ code_found d.source.declarations number place said t method there
+
+pub found_method : (text : List ℕ) (i : Image) (d : Denotes text i) (number : ℕ) (m : Method) → slice_get i.methods number ≡ Some m → DeclaresMethod text (names_of d.source) i.classes number m
+found_method text i d number m there =
+    let said = pair_at (MethodMeans (names_of d.source) true i.classes) (methods_of d.source.declarations) i.methods number m d.methods there in
+    record {
+      said = said.other;
+      there = there_by k.Method text i d method_words (methods_of d.source.declarations) number said.other refl (method_passes d.source.declarations) said.there;
+      means = said.holds;
+      code = λ place instr here. (
+          let held = pair_at (InstructionMeans (names_of d.source) (labels_of said.other.code)) said.other.code m.code place instr said.holds.code here in
+          record { said = held.other; there = found_instruction text i d number place said.other held.other said.there held.there; means = held.holds });
+    }

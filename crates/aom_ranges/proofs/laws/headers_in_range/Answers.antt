@@ -1,5 +1,0 @@
-use Rattle.aom_ranges.proofs.Headers.{header_within}
-use Rattle.aom_ranges.proofs.laws.headers_in_range.Goals as goal
-
-pub returns : goal.returns
-returns c scope strict = (header_within scope strict).each

@@ -1,5 +1,0 @@
-use Rattle.aom_ranges.proofs.Headings.{heading_within}
-use Rattle.aom_ranges.proofs.laws.headings_in_range.Goals as goal
-
-pub returns : goal.returns
-returns c natives scope settled place = (heading_within natives scope settled place).each

@@ -1,5 +1,0 @@
-use Rattle.aom_ranges.proofs.Instructions.{instruction_within}
-use Rattle.aom_ranges.proofs.laws.instructions_in_range.Goals as goal
-
-pub returns : goal.returns
-returns c scope strict labels place = (instruction_within scope strict labels place).each

@@ -1,0 +1,113 @@
+-- What a step asks fits the natives, and what is kept of them after the call and the step fits the state.
+use Rattle.std.proofs.Common.{◌≡◌, ◌<◌, ◌≤◌, ℤ, ℕ, zero, suc, Bool, true, false, cond, List, [], ◌∷◌, Option, Some, None, refl, sym, ap, subst, ◌∙◌, length, arith, slice_index_or}
+use Rattle.std.specs.Prelude.{not, IsSome, ◌&&◌, ◌||◌, pred}
+use Rattle.std.proofs.lemmas.Bool.{and_parts, true≢false}
+use Rattle.aom_image.specs.Image.{Image}
+use Rattle.aom_image.specs.WellFormed.{WellFormed}
+use Rattle.aom_rules.specs.Typing.{Typing}
+use Rattle.aom_endings.specs.Endings.{one_where}
+use Rattle.aom_natives.specs.Owed.{IsNew, IsOwed, times}
+use Rattle.aom_natives.specs.Slots.{ids_at, living_at}
+use Rattle.aom_endings.specs.Owed.{Finds, FindsWell, is_for, meets, owes, owes_after, serves, takes_on}
+use Rattle.aom_endings.proofs.Calls.{for_one}
+use Rattle.aom_sound.specs.Natives.{is_dead}
+use Rattle.aom_sound.specs.Places.{in_session}
+use Rattle.aom_sound.specs.State.{State}
+use Rattle.aom_sound.specs.Wanted.{Wanted, Opens, Starts, Asks, Cancels, Closes}
+use Rattle.aom_parts.specs.Stands.{Machine as Core, StandsFor as Core_stands}
+use Rattle.aom_run.specs.Answers.{Asked, MayAsk, times_after}
+use Rattle.aom_run.specs.Beside.{Serves}
+use Rattle.aom_run.proofs.Moving.{Went}
+use Rattle.aom_run.proofs.Named.{at_most_one, few, serving_named}
+
+-- a cell with a session open has a number below 4,096
+in_range : (flags : List Bool) (n : ℕ) → slice_index_or flags n false ≡ true → n < length flags
+in_range [] n open_there = absurd (true≢false (sym open_there))
+in_range (b ∷ flags) zero open_there = omega arith
+in_range (b ∷ flags) (suc n) open_there = let rest = in_range flags n open_there in omega (arith, rest)
+
+pub session_small : (m : Core) (s : State) → Core_stands m s → (n x : ℕ) → meets m.image s.cells n x ≡ true → x < 4096
+session_small m s st n x e =
+    let flags = m.parts.sessions.flags in
+    let open_there = st.agrees.natives.sessions x ∙ (and_parts (serves m.image s.cells n x) (in_session s.cells x) e).1 in
+    let within = in_range flags x open_there in
+    let limit = st.agrees.natives.limit in
+    let cells = st.sound.formed.header.cells in
+    omega (arith, within, limit, cells)
+
+one_true : (b : Bool) → b ≡ true → one_where b ≡ 1
+one_true b e = ap one_where e
+
+one_false : (b : Bool) → b ≡ false → one_where b ≡ 0
+one_false b e = ap one_where e
+
+pub one_there : (b : Bool) → 0 < one_where b → b ≡ true
+one_there true some = refl
+one_there false some = absurd (omega (arith, some))
+
+module _ {L : Type 0} (kept : L → List ℕ) (p : Image) (s : State) (slots : List (Option L)) (keeps : Serves kept p s slots) (formed : WellFormed p) (small : (n x : ℕ) → meets p s.cells n x ≡ true → x < 4096) where
+  lives_there : (n x : ℕ) (session outstanding : Bool) → Finds p s n x session outstanding → IsSome (living_at slots n)
+  lives_there n x session outstanding finds =
+      let named = serving_named p formed s.cells n x finds.serves in
+      let enough = keeps.enough in
+      keeps.lives n (omega (arith, named, enough)) ∙ ap not finds.lives
+
+  new_there : (n x : ℕ) (session : Bool) → Finds p s n x session false → IsNew (ids_at kept slots n) x
+  new_there n x session finds = keeps.ids n x ∙ one_false _ finds.owes
+
+  owed_there : (n x : ℕ) → Finds p s n x true true → IsOwed (ids_at kept slots n) x
+  owed_there n x finds = let one = keeps.ids n x ∙ one_true _ finds.owes in omega (arith, one)
+
+  few_there : (n x : ℕ) → Finds p s n x true false → length (ids_at kept slots n) < 4096
+  few_there n x finds = few (ids_at kept slots n) x 4096 once all_small (new_there n x true finds) (small n x finds.meets)
+    where
+      once : (m : ℕ) → times m (ids_at kept slots n) ≤ 1
+      once m = let is = keeps.ids n m in let one = at_most_one (owes p s.cells n m) in omega (arith, is, one)
+
+      all_small : (m : ℕ) → 0 < times m (ids_at kept slots n) → m < 4096
+      all_small m some = small n m (keeps.sessions.met n m (one_there (owes p s.cells n m) (let is = keeps.ids n m in omega (arith, is, some))))
+
+  -- what is found well may be asked
+  pub may_ask : (w : Wanted) → FindsWell p s (Some w) → MayAsk kept slots w
+  may_ask (Opens n x) finds = lives_there n x false false finds
+  may_ask (Starts n x f w) finds = (lives_there n x true false finds, new_there n x true finds, few_there n x finds)
+  may_ask (Asks n x f w) finds = lives_there n x true _ finds
+  may_ask (Cancels n x) finds = (lives_there n x true true finds, owed_there n x finds)
+  may_ask (Closes n x) finds = (lives_there n x true false finds, new_there n x true finds)
+
+  -- ---- after the call, and the step
+
+  begun : (n x k m : ℕ) (taken : Bool) → Finds p s n x true false → cond (taken && is_for n x k m) (suc (one_where (owes p s.cells k m))) (one_where (owes p s.cells k m)) ≡ one_where ((taken && is_for n x k m) || owes p s.cells k m)
+  begun n x k m taken finds = go (taken && is_for n x k m) refl
+    where
+      go : (b : Bool) → (taken && is_for n x k m) ≡ b → cond b (suc (one_where (owes p s.cells k m))) (one_where (owes p s.cells k m)) ≡ one_where (b || owes p s.cells k m)
+      go false e = refl
+      go true e =
+          let own = for_one n x k m (and_parts taken (is_for n x k m) e).1 in
+          let none : owes p s.cells k m ≡ false = subst (λ y. owes p s.cells y m ≡ false) own.0 (subst (λ y. owes p s.cells n y ≡ false) own.1 finds.owes) in
+          ap (λ b. suc (one_where b)) none
+
+  ended : (n x k m : ℕ) → cond (is_for n x k m) (pred (one_where (owes p s.cells k m))) (one_where (owes p s.cells k m)) ≡ one_where (not (is_for n x k m) && owes p s.cells k m)
+  ended n x k m = go (is_for n x k m) (owes p s.cells k m)
+    where
+      go : (b owed : Bool) → cond b (pred (one_where owed)) (one_where owed) ≡ one_where (not b && owed)
+      go false owed = refl
+      go true true = refl
+      go true false = refl
+
+  counted_after : (asked : Option Wanted) (answer : ℤ) → FindsWell p s asked → (k m : ℕ) → times_after asked answer k m (one_where (owes p s.cells k m)) ≡ one_where (owes_after asked answer k m (owes p s.cells k m))
+  counted_after None answer finds k m = refl
+  counted_after (Some (Opens n x)) answer finds k m = refl
+  counted_after (Some (Starts n x f w)) answer finds k m = begun n x k m (takes_on answer) finds
+  counted_after (Some (Asks n x f w)) answer finds k m = refl
+  counted_after (Some (Cancels n x)) answer finds k m = ended n x k m
+  counted_after (Some (Closes n x)) answer finds k m = refl
+
+  -- what is kept after a call is what the state has outstanding that the step which asked it leads to
+  pub serves_after : (t : Typing) (asked : Option Wanted) (answer : ℤ) (new : List (Option L)) (u : State) → FindsWell p s asked → Asked kept slots asked answer new → Went p t s asked answer u → Serves kept p u new
+  serves_after t asked answer new u finds call went = record {
+    enough = (let enough = keeps.enough in let count = call.count in omega (arith, enough, count));
+    lives = λ n within. call.living n ∙ keeps.lives n (let count = call.count in omega (arith, within, count)) ∙ ap (λ l. not (is_dead l n)) (sym went.killed);
+    ids = λ n m. call.times n m ∙ ap (times_after asked answer n m) (keeps.ids n m) ∙ counted_after asked answer finds n m ∙ ap one_where (sym (went.owes n m));
+    sessions = went.sessions;
+  }

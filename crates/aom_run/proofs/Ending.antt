@@ -1,0 +1,143 @@
+-- Natives that are killed, and those that are polled: which they are in the checked machine.
+use Rattle.std.proofs.Common.{◌≡◌, ◌<◌, ◌≤◌, ◌+◌, ◌-◌, ℤ, ℕ, suc, Bool, true, false, cond, List, [], ◌∷◌, Option, Some, None, refl, sym, ap, subst, ◌∙◌, length, inl, inr, arith, nat_lt}
+use Rattle.std.proofs.lemmas.List.{get_or_past, length-append}
+use Rattle.aom_transcript.specs.declared.line.Line.TheVariants.{Killed}
+use Rattle.std.specs.Prelude.{IfSome, IsSome, MatchOption, is_some, not, ◌&&◌, ◌==◌}
+use Rattle.std.proofs.lemmas.Bool.{cases_lt, le-ltb, lt-ltb, not-true, true≢false}
+use Rattle.aom_natives.specs.Owed.{TakesOut}
+use Rattle.aom_natives.specs.Slots.{KeepsOthers, ids_at, living_at}
+use Rattle.aom_natives.proofs.Ids.{same-out}
+use Rattle.aom_endings.specs.Owed.{has_name, owes}
+use Rattle.aom_sound.specs.Natives.{is_dead}
+use Rattle.aom_sound.specs.State.{Rest, State}
+use Rattle.aom_sound.specs.World.{AnswersWell, Completion, Hears, Kills, Outside, Polls, cell_at, delivers, first_living, lives}
+use Rattle.aom_transcript.specs.declared.event.Event.TheVariants.{Kill}
+use Rattle.aom_lines.specs.Turn.{Turn}
+use Rattle.aom_parts.specs.Stands.{Machine as Core, StandsFor as Core_stands}
+use Rattle.aom_exec.specs.Turns.{Answers, Takes as Core_takes}
+use Rattle.aom_run.specs.declared.machine.Machine.{Machine}
+use Rattle.aom_run.specs.Calls.{Delivered, StandsFor, Takes, natives_of}
+use Rattle.aom_run.specs.Beside.{KeptSame}
+use Rattle.aom_run.proofs.Asked.{one_there}
+use Rattle.aom_run.proofs.Named.{there}
+use Rattle.aom_run.proofs.Serving.{heard_plain, kept_but, serves_completed, serves_killed, tale_of, takes_plainly, takes_so, untouched, with_any_name}
+
+-- a slot beyond the last has no native
+beyond : {L : Type 0} (slots : List (Option L)) (n : ℕ) → length slots ≤ n → is_some (living_at slots n) ≡ false
+beyond slots n past = ap is_some (get_or_past slots n None past)
+
+pub within : {L : Type 0} (slots : List (Option L)) (n : ℕ) → IsSome (living_at slots n) → n < length slots
+within slots n some = elim (cases_lt n (length slots)) [
+  | inl inside ↦ inside
+  | inr past ↦ absurd (true≢false (sym some ∙ beyond slots n past))
+]
+
+module _ {X : Type 0} {B : X → Type 0} (old : Machine X B) (s : State) (st : StandsFor old s) where
+  -- a native lives in the checked machine just where its slot has it
+  pub lives_is : (outside : Outside) → outside.natives ≡ natives_of old → (n : ℕ) → lives outside s n ≡ is_some (living_at old.natives.slots.items n)
+  lives_is outside same n = elim (cases_lt n (length old.natives.slots.items)) [
+    | inl inside ↦ ap (λ b. b && not (is_dead s.killed n)) (lt-ltb n outside.natives (subst (λ k. n < k) (sym same) inside)) ∙ sym (st.serves.lives n inside)
+    | inr past ↦ ap (λ b. b && not (is_dead s.killed n)) (not_below n outside.natives (subst (λ k. k ≤ n) (sym same) past)) ∙ sym (beyond old.natives.slots.items n past)
+  ]
+    where
+      not_below : (n k : ℕ) → k ≤ n → nat_lt n k ≡ false
+      not_below n k past = le-ltb n k past
+
+  pub is_alive_so : (n : ℕ) → n < natives_of old → is_some (living_at old.natives.slots.items n) ≡ true → is_dead s.killed n ≡ false
+  is_alive_so n inside alive = not-true (is_dead s.killed n) (sym (st.serves.lives n inside) ∙ alive)
+
+  pub is_dead_so : (n : ℕ) → n < natives_of old → is_some (living_at old.natives.slots.items n) ≡ false → is_dead s.killed n ≡ true
+  is_dead_so n inside dead = not-false (is_dead s.killed n) (sym (st.serves.lives n inside) ∙ dead)
+    where
+      not-false : (b : Bool) → not b ≡ false → b ≡ true
+      not-false true e = refl
+      not-false false e = absurd (true≢false e)
+
+  -- the first that lives, from the first that is not polled on
+  pub from_polled : (n : ℕ) → n ≡ old.core.parts.rest.polled → first_living s.killed (natives_of old - s.rest.polled) s.rest.polled ≡ first_living s.killed (natives_of old - n) n
+  from_polled n e = ap (λ k. first_living s.killed (natives_of old - k) k) (sym (e ∙ ap (λ (r : Rest). r.polled) st.stands.agrees.rest))
+
+  pub kills_it : (outside : Outside) → outside.natives ≡ natives_of old → (name n : ℕ) → IsSome (living_at old.natives.slots.items n) → delivers outside name s (Kill n) ≡ Kills n
+  kills_it outside same name n alive = ap (λ b. cond b (Kills n) Hears) (lives_is outside same n ∙ alive)
+
+  pub kills_none : (outside : Outside) → outside.natives ≡ natives_of old → (name n : ℕ) → is_some (living_at old.natives.slots.items n) ≡ false → delivers outside name s (Kill n) ≡ Hears
+  kills_none outside same name n dead = ap (λ b. cond b (Kills n) Hears) (lives_is outside same n ∙ dead)
+
+-- a native that does not live is killed no more
+pub kills_nothing : {X : Type 0} {B : X → Type 0} (old : Machine X B) (core : Core) (image : core.image ≡ old.core.image) (n : ℕ) → is_some (living_at old.natives.slots.items n) ≡ false →
+    ((now : Turn) (s : State) → (st : StandsFor old s) → Core_takes old.core s Hears now now core) → (now : Turn) → Delivered old (Kill n) now now (record { core = core; natives = old.natives })
+kills_nothing old core image n dead all now outside same s st =
+    with_any_name s (λ name. Takes old s (delivers outside name s (Kill n)) now now (record { core = core; natives = old.natives })) (λ name.
+    subst (λ part. Takes old s part now now (record { core = core; natives = old.natives })) (sym (kills_none old s st outside same name n dead))
+    (takes_plainly old (record { core = core; natives = old.natives }) s st Hears (heard_plain s) tt tt (untouched (λ l. l.ids) old.natives.slots.items) image now now (all now s st)))
+
+-- one that lives is
+pub kills_one : {X : Type 0} {B : X → Type 0} (old new : Machine X B) (image : new.core.image ≡ old.core.image) (n : ℕ) → IsSome (living_at old.natives.slots.items n) → living_at new.natives.slots.items n ≡ None → KeepsOthers old.natives.slots.items new.natives.slots.items n →
+    (before now : Turn) → ((s : State) (st : StandsFor old s) → Core_takes old.core s (Kills n) before now new.core) → Delivered old (Kill n) before now new
+kills_one old new image n alive dead others before now all outside same s st =
+    let core = all s st in
+    with_any_name s (λ name. Takes old s (delivers outside name s (Kill n)) before now new) (λ name.
+    subst (λ part. Takes old s part before now new) (sym (kills_it old s st outside same name n alive))
+    (takes_so old new s st (Kills n) others.count image before now core (serves_killed (λ l. l.ids) old.natives.slots.items new.natives.slots.items old.core.image s core.state n st.serves (tale_of old new s st (Kills n) tt tt before now core) dead others)))
+
+-- with one line
+pub line_more : (old new : Core) (s : State) (n : ℕ) (before now : Turn) → Core_takes old s (Kills n) before now new → length now.lines ≤ length before.lines + 1
+line_more old new s n before now core =
+    let same = ap (λ (x : Turn). length x.lines) core.lines ∙ length-append before.lines (Killed n ∷ []) in
+    omega (arith, same)
+
+-- ---- the native that is polled
+
+module _ (killed : List ℕ) (count n : ℕ) where
+  one_more : n < count → count - n ≡ suc (count - suc n)
+  one_more below = omega (arith, below)
+
+  later : n < count → is_dead killed n ≡ true → first_living killed (count - n) n ≡ first_living killed (count - suc n) (suc n)
+  later below dead = ap (λ k. first_living killed k n) (one_more below) ∙ ap (λ b. cond b (first_living killed (count - suc n) (suc n)) (Some n)) dead
+
+  pub first_later : n < count → is_dead killed n ≡ true → first_living killed (count - n) n ≡ first_living killed (count - (n + 1)) (n + 1)
+  first_later below dead = subst (λ k. first_living killed (count - n) n ≡ first_living killed (count - k) k) (omega arith) (later below dead)
+
+  pub first_here : n < count → is_dead killed n ≡ false → first_living killed (count - n) n ≡ Some n
+  first_here below alive = ap (λ k. first_living killed k n) (one_more below) ∙ ap (λ b. cond b (first_living killed (count - suc n) (suc n)) (Some n)) alive
+
+  pub first_none : count ≤ n → first_living killed (count - n) n ≡ None
+  first_none past = let none : count - n ≡ 0 = omega (arith, past) in ap (λ k. first_living killed k n) none
+
+module _ {X : Type 0} {B : X → Type 0} (old : Machine X B) (s : State) (st : StandsFor old s) where
+  -- what a native hands over is outstanding there
+  pub handed_over : (n id : ℕ) (ids : List ℕ) → TakesOut id (ids_at (λ l. l.ids) old.natives.slots.items n) ids → owes old.core.image s.cells n id ≡ true
+  handed_over n id ids out =
+      let is = (same-out id (ids_at (λ l. l.ids) old.natives.slots.items n) ids out).at id in
+      let has = st.serves.ids n id in
+      let here = there ids id in
+      one_there (owes old.core.image s.cells n id) (omega (arith, is, has, here))
+
+  pub polled_none : (new : Machine X B) (image : new.core.image ≡ old.core.image) (n : ℕ) → KeptSame (λ l. l.ids) old.natives.slots.items new.natives.slots.items → (now : Turn) → Core_takes old.core s (Polls n None) now now new.core → Takes old s (Polls n None) now now new
+  polled_none new image n same now core = takes_plainly old new s st (Polls n None) (record { owes = λ n m b. refl; killed = refl }) tt tt same image now now core
+
+  pub polled_some : (new : Machine X B) (image : new.core.image ≡ old.core.image) (n id : ℕ) (code : ℤ) (a : Completion) → TakesOut id (ids_at (λ l. l.ids) old.natives.slots.items n) (ids_at (λ l. l.ids) new.natives.slots.items n) →
+      IsSome (living_at old.natives.slots.items n) → IsSome (living_at new.natives.slots.items n) → KeepsOthers old.natives.slots.items new.natives.slots.items n → Answers s.cells (Some (id, code)) (Some a) → AnswersWell old.core.image s (Polls n (Some a)) →
+      (now : Turn) → Core_takes old.core s (Polls n (Some a)) now now new.core → Takes old s (Polls n (Some a)) now now new
+  polled_some new image n id code a out before after others is well now core =
+      takes_so old new s st (Polls n (Some a)) others.count image now now core
+      (serves_completed (λ l. l.ids) old.natives.slots.items new.natives.slots.items old.core.image s core.state n id a st.serves (tale_of old new s st (Polls n (Some a)) tt well now now core) named out before after others)
+    where
+      named : (m : ℕ) → has_name (cell_at s.cells a.cell) m ≡ (id == m)
+      named m = ap (λ o. has_name o m) is.1 ∙ ap (λ x. x == m) is.2
+
+-- what a native that is polled hands over is outstanding there
+pub owed_in : {X : Type 0} {B : X → Type 0} (old : Machine X B) (s : State) (st : StandsFor old s) (n : ℕ) (completion : Option (ℕ × ℤ)) (ids : List ℕ) →
+    MatchOption completion (ids ≡ ids_at (λ l. l.ids) old.natives.slots.items n) (λ x. TakesOut x.0 (ids_at (λ l. l.ids) old.natives.slots.items n) ids) →
+    IfSome completion (λ x. (s : State) × Core_stands old.core s × (owes old.core.image s.cells n x.0 ≡ true))
+owed_in old s st n None ids same = tt
+owed_in old s st n (Some x) ids out = (s, st.stands, handed_over old s st n x.0 ids out)
+
+-- so the poll is one of the checked machine's
+pub polled_so : {X : Type 0} {B : X → Type 0} (old new : Machine X B) (image : new.core.image ≡ old.core.image) (n : ℕ) (completion : Option (ℕ × ℤ)) →
+    MatchOption completion (ids_at (λ l. l.ids) new.natives.slots.items n ≡ ids_at (λ l. l.ids) old.natives.slots.items n) (λ x. TakesOut x.0 (ids_at (λ l. l.ids) old.natives.slots.items n) (ids_at (λ l. l.ids) new.natives.slots.items n)) →
+    IsSome (living_at old.natives.slots.items n) → IsSome (living_at new.natives.slots.items n) → KeepsOthers old.natives.slots.items new.natives.slots.items n →
+    (s : State) → StandsFor old s → (answer : Option Completion) → Answers s.cells completion answer → AnswersWell old.core.image s (Polls n answer) → (now : Turn) → Core_takes old.core s (Polls n answer) now now new.core → Takes old s (Polls n answer) now now new
+polled_so old new image n None same before after others s st None is well now core = polled_none old s st new image n (kept_but (λ l. l.ids) old.natives.slots.items new.natives.slots.items n before after same others) now core
+polled_so old new image n (Some x) out before after others s st (Some a) is well now core = polled_some old s st new image n x.0 x.1 a out before after others is well now core
+polled_so old new image n _ out before after others s st _ is well now core = absurd is

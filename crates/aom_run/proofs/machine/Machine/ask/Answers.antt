@@ -1,0 +1,24 @@
+use Rattle.std.proofs.Common.{rules, ◌∙◌, sym, ap, refl, w32}
+use Rattle.std.specs.Prelude.{FitsSigned}
+use Rattle.std.proofs.lemmas.Int.{to_z-of_z}
+use Rattle.aom_run.proofs.Stepped.{asks_nothing, asks_so, fits, heard_nothing, heard_so}
+use Rattle.aom_run.proofs.machine.Machine.ask.Goals as goal
+
+-- nothing is asked
+pub returns-in_default : goal.returns-in_default
+returns-in_default g c = record {
+  agree = c.requires.agree;
+  core = refl;
+  stands = λ s st. st;
+  asked = λ s st. heard_nothing _ _ _ _ _ _ _ (asks_nothing c.args.self.now s st (λ running. c.in_default.not-Running (c.progress.ensures ∙ running)));
+}
+
+-- what is asked fits
+pub call-answer-requires-clause-fits : goal.call-answer-requires-clause-fits
+call-answer-requires-clause-fits g c = fits c.args.self.now c.requires.stands.0 c.requires.stands.1 _ (c.in-Some.ensures c.requires.stands.0 c.requires.stands.1.stands)
+
+-- the answer is heard
+pub returns-in-Some-clause-asked : goal.returns-in-Some-clause-asked
+returns-in-Some-clause-asked g c = λ s st.
+    let fits : FitsSigned w32 c.call-answer.result = search rules in
+    heard_so _ _ _ _ _ _ _ _ _ _ (asks_so c.args.self.now s st _ (sym c.progress.ensures ∙ c.in-Running.is) (c.in-Some.ensures s st.stands)) (ap (λ m. m.parts.heard) c.hear.ensures.heard ∙ to_z-of_z w32 c.call-answer.result fits) c.call-answer.ensures.answer c.call-answer.ensures.after

@@ -1,0 +1,26 @@
+-- The core is of the accepted image, and there are as many natives as it names.
+use Rattle.std.proofs.Common.{rules, length, ◌≤◌, ◌∙◌, subst, sym}
+use Rattle.std.proofs.lemmas.Result.{IfErr-weaker, IfOk-weaker}
+use Rattle.aom_sound.specs.World.{boot_state}
+use Rattle.aom_parts.specs.Stands.{StandsFor as CoreStands}
+use Rattle.aom_run.proofs.Booted.{memory_is_not_few}
+use Rattle.aom_run.proofs.machine.Machine.boot.Goals as goal
+
+pub beside-requires-clause-stands : goal.beside-requires-clause-stands
+beside-requires-clause-stands g c = subst (λ p. CoreStands c.in-Ok.core (boot_state p)) (sym c.in-Ok.ensures.image) c.in-Ok.ensures.stands
+
+pub beside-requires-clause-enough : goal.beside-requires-clause-enough
+beside-requires-clause-enough g c =
+    let enough : c.args.accepted.now.header.natives ≤ length c.args.boxes.items = search rules in
+    rw c.in-Ok.ensures.image enough
+
+pub returns-in-Ok-clause-image : goal.returns-in-Ok-clause-image
+returns-in-Ok-clause-image g c = IfOk-weaker c.beside.result _ _ (λ m same. same ∙ c.in-Ok.ensures.image) c.beside.ensures.image
+
+pub returns-in-Ok-clause-stands : goal.returns-in-Ok-clause-stands
+returns-in-Ok-clause-stands g c = rw (← c.in-Ok.ensures.image) c.beside.ensures.stands
+
+pub returns-in-Ok-clause-few : goal.returns-in-Ok-clause-few
+returns-in-Ok-clause-few g c =
+    let enough : c.args.accepted.now.header.natives ≤ length c.args.boxes.items = search rules in
+    IfErr-weaker c.beside.result _ _ (λ e is. memory_is_not_few e.0 _ _ is enough) c.beside.ensures.memory

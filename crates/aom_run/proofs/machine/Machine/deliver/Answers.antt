@@ -1,0 +1,32 @@
+use Rattle.std.proofs.Common.{arith, refl, subst, sym}
+use Rattle.aom_sound.specs.World.{delivers}
+use Rattle.aom_run.specs.Calls.{EventInRange, IsDelivered, Takes}
+use Rattle.aom_run.proofs.Serving.{with_any_name}
+use Rattle.aom_run.proofs.machine.Machine.deliver.Goals as goal
+
+-- a word for a native changes nothing here, and its end is told
+pub returns-in-Tell-clause-delivered : goal.returns-in-Tell-clause-delivered
+returns-in-Tell-clause-delivered g c =
+    let e = c.tell.ensures in
+    record {
+      image = e.image;
+      natives = e.natives;
+      delivered = λ outside same s st.
+          with_any_name s (λ name. Takes c.args.self.now s (delivers outside name s c.args.event) c.args.turn.now c.args.turn.now c.tell.new.self) (λ name.
+          subst (λ x. Takes c.args.self.now s (delivers outside name s x) c.args.turn.now c.args.turn.now c.tell.new.self) (sym c.in-Tell.is) (e.heard c.args.turn.now s st));
+      rest = e.rest;
+      timers = e.timers;
+      told = omega arith;
+      quiet = λ is. refl;
+      none_due = λ is. e.none_due;
+    }
+
+pub returns-in-Kill-clause-delivered : goal.returns-in-Kill-clause-delivered
+returns-in-Kill-clause-delivered g c = subst (λ e. IsDelivered c.args.self.now e c.kill.result c.args.turn.now c.kill.new.turn c.kill.new.self) (sym c.in-Kill.is) c.kill.ensures.delivered
+
+-- a client does what it is told
+pub returns-in-Client-clause-delivered : goal.returns-in-Client-clause-delivered
+returns-in-Client-clause-delivered g c = subst (λ e. IsDelivered c.args.self.now e c.obey.result c.args.turn.now c.obey.new.turn c.obey.new.self) (sym c.in-Client.is) c.obey.ensures.delivered
+
+pub obey-requires-clause-ranged : goal.obey-requires-clause-ranged
+obey-requires-clause-ranged g c = subst EventInRange c.in-Client.is c.requires.ranged

@@ -1,0 +1,29 @@
+use Rattle.std.proofs.Common.{◌∙◌, false, sym}
+use Rattle.std.proofs.lemmas.Bool.{true≢false}
+use Rattle.aom_transcript.specs.declared.event.Event.TheVariants.{Kill}
+use Rattle.aom_run.proofs.Serving.{heard_only}
+use Rattle.aom_run.proofs.Ending.{kills_nothing, kills_one, line_more}
+use Rattle.aom_run.proofs.machine.Machine.kill.Goals as goal
+
+-- one that does not live is killed no more
+pub returns-then-not-is_alive-clause-delivered : goal.returns-then-not-is_alive-clause-delivered
+returns-then-not-is_alive-clause-delivered g c =
+    let e = c.hear_event.ensures in
+    heard_only c.args.self.now c.hear_event.new.self e.image (Kill c.args.native) c.args.turn.now
+    (kills_nothing c.args.self.now c.hear_event.new.self e.image c.args.native (sym c.is_alive.ensures ∙ c.if-not-is_alive.true) (λ now s st. e.heard now s st.stands) c.args.turn.now) e.rest e.back e.timers
+
+-- one that lives is
+pub returns-clause-delivered : goal.returns-clause-delivered
+returns-clause-delivered g c =
+    let e = c.kill-2.ensures in
+    record {
+      image = e.image;
+      natives = c.kill.ensures.others.count;
+      delivered =
+          kills_one c.args.self.now (record { core = c.kill-2.new.self; natives = c.kill.new.self }) e.image c.args.native (sym c.is_alive.ensures ∙ c.if-not-is_alive.false) c.kill.ensures.dead c.kill.ensures.others c.args.turn.now c.kill-2.new.turn (λ s st. e.killed s st.stands);
+      rest = e.rest;
+      timers = e.timers;
+      told = line_more c.args.self.now.core c.kill-2.new.self c.requires.rests.0.0 c.args.native c.args.turn.now c.kill-2.new.turn (e.killed c.requires.rests.0.0 c.requires.rests.0.1.stands);
+      quiet = λ is. absurd (true≢false is);
+      none_due = λ is. absurd (true≢false is);
+    }

@@ -1,0 +1,27 @@
+use Rattle.std.proofs.Common.{arith, refl}
+use Rattle.aom_transcript.specs.declared.event.Event.TheVariants.{Client}
+use Rattle.aom_run.proofs.Serving.{heard_only, obeyed_none, obeyed_so}
+use Rattle.aom_run.proofs.machine.Machine.obey.Goals as goal
+
+-- a number that is no client's changes nothing
+pub returns-then-client-ge-CLIENTS-clause-delivered : goal.returns-then-client-ge-CLIENTS-clause-delivered
+returns-then-client-ge-CLIENTS-clause-delivered g c =
+    let e = c.hear_event.ensures in
+    heard_only c.args.self.now c.hear_event.new.self e.image (Client c.args.client c.args.command) c.args.turn.now
+    (obeyed_none c.args.self.now c.hear_event.new.self e.image c.args.client c.args.command c.if-client-ge-CLIENTS.true e.heard c.args.turn.now) e.rest e.back e.timers
+
+-- a client does what it is told
+pub returns-clause-delivered : goal.returns-clause-delivered
+returns-clause-delivered g c =
+    let e = c.obey.ensures in
+    let few = c.if-client-ge-CLIENTS.false in
+    record {
+      image = e.image;
+      natives = refl;
+      delivered = obeyed_so c.args.self.now c.obey.new.self e.image c.args.client c.args.command c.args.turn.now c.obey.new.turn (omega (arith, few)) e.obeyed;
+      rest = e.rest;
+      timers = e.timers;
+      told = e.told;
+      quiet = e.quiet;
+      none_due = λ is. e.none_due;
+    }

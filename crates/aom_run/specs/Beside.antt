@@ -1,0 +1,37 @@
+-- What a machine and the natives beside it stand for.
+use Rattle.std.specs.Prelude.{ℕ, ◌≡◌, ◌<◌, ◌≤◌, not, List, Option, length, is_some}
+use Rattle.aom_image.specs.Image.{Image}
+use Rattle.aom_endings.specs.Endings.{one_where}
+use Rattle.aom_natives.specs.Owed.{times}
+use Rattle.aom_natives.specs.Slots.{ids_at, living_at}
+use Rattle.aom_endings.specs.Owed.{SessionsHold, owes}
+use Rattle.aom_sound.specs.Natives.{is_dead}
+use Rattle.aom_sound.specs.State.{State}
+use Rattle.aom_parts.specs.Stands.{Machine, StandsFor}
+use Rattle.aom_run.specs.declared.fault.BootFault.{BootFault}
+use Rattle.aom_run.specs.declared.fault.BootFault.TheVariants.{OutOfMemory, TooFewNatives}
+
+-- the slots of natives are as the state says: there are as many as the image names, at least; those live that are not killed; and what is
+-- kept as outstanding at each is what its cells have outstanding there
+pub record Serves {L : Type 0} (kept : L → List ℕ) (p : Image) (s : State) (slots : List (Option L)) : Type 0 where
+  pub enough : p.header.natives ≤ length slots
+  pub lives : (n : ℕ) → n < length slots → is_some (living_at slots n) ≡ not (is_dead s.killed n)
+  pub ids : (n m : ℕ) → times m (ids_at kept slots n) ≡ one_where (owes p s.cells n m)
+  pub sessions : SessionsHold p s
+
+-- the same natives live, with the same outstanding
+pub record KeptSame {L : Type 0} (kept : L → List ℕ) (old new : List (Option L)) : Type 0 where
+  pub count : length new ≡ length old
+  pub living : (k : ℕ) → is_some (living_at new k) ≡ is_some (living_at old k)
+  pub ids : (k : ℕ) → ids_at kept new k ≡ ids_at kept old k
+
+-- a machine with such natives beside it stands for a state
+pub record StandsBeside {L : Type 0} (kept : L → List ℕ) (m : Machine) (slots : List (Option L)) (s : State) : Type 0 where
+  pub stands : StandsFor m s
+  pub serves : Serves kept m.image s slots
+  pub countable : length slots < 18446744073709551616
+
+-- the number by which a fault is printed
+abbrev pub fault_number : BootFault → ℕ
+fault_number TooFewNatives = 1
+fault_number OutOfMemory = 2

@@ -1,0 +1,67 @@
+//! What a step asks of a native.
+ghost use Rattle.std.specs.Prelude.{◌≡◌, ◌<◌, Some};
+ghost use Rattle.aom_parts.specs.Stands.{StandsFor as CoreStandsFor};
+ghost use Rattle.aom_parts.specs.declared.progress.Progress.TheVariants.{Running};
+ghost use Rattle.aom_run.specs.Answers.{Asked, MayAsk, MayHear, asked_of};
+ghost use Rattle.aom_run.specs.Calls.{Stands, StandsFor};
+ghost use Rattle.aom_natives.specs.Slots.{AllAgree};
+ghost use Rattle.aom_sound.specs.State.{State};
+ghost use Rattle.aom_sound.specs.Wanted.{wanted};
+ghost use Rattle.aom_exec.specs.Wanted.{as_wanted};
+
+use crate::Machine;
+use aom_exec::{Progress, Wanted};
+use aom_natives::{Native, Natives};
+
+/// Makes the call that a step asks for at a living native, and answers what that does; 0 where there is no answer.
+fn call(natives: &mut Natives, wanted: Wanted) -> i32
+    requires agree { AllAgree (λ l. l.ids) (λ l. (⟦<dyn Native as Native>⟧ l.native.vtable).owed l.native.value) natives.old.slots.items }
+    requires fits { MayAsk (λ l. l.ids) natives.old.slots.items (as_wanted wanted) }
+    ensures agree { AllAgree (λ l. l.ids) (λ l. (⟦<dyn Native as Native>⟧ l.native.vtable).owed l.native.value) natives.new.slots.items }
+    ensures answer { MayHear (λ l. (⟦<dyn Native as Native>⟧ l.native.vtable).open_may l.native.value) (λ l. (⟦<dyn Native as Native>⟧ l.native.vtable).start_may l.native.value) (λ l. (⟦<dyn Native as Native>⟧ l.native.vtable).call_may l.native.value) natives.old.slots.items (Some (as_wanted wanted)) result }
+    ensures after { Asked (λ l. l.ids) natives.old.slots.items (Some (as_wanted wanted)) result natives.new.slots.items }
+{
+    match wanted {
+        Wanted::Open { native, id } => natives.open(native, id),
+        Wanted::Start {
+            native,
+            id,
+            function,
+            word,
+        } => natives.start(native, id, function, word),
+        Wanted::Ask {
+            native,
+            id,
+            function,
+            word,
+        } => natives.call(native, id, function, word),
+        Wanted::Cancel { native, id } => {
+            natives.cancel(native, id);
+            0
+        }
+        Wanted::Close { native, id } => {
+            natives.close(native, id);
+            0
+        }
+    }
+}
+
+impl<'a> Machine<'a> {
+    /// Asks of a native what the next step asks, which then hears the answer.
+    pub(crate) fn ask(&mut self)
+        requires agree { AllAgree (λ l. l.ids) (λ l. (⟦<dyn Native as Native>⟧ l.native.vtable).owed l.native.value) self.old.natives.slots.items }
+        requires stands { Stands self.old }
+        ensures agree { AllAgree (λ l. l.ids) (λ l. (⟦<dyn Native as Native>⟧ l.native.vtable).owed l.native.value) self.new.natives.slots.items }
+        ensures core { self.new.core ≡ record self.old.core { parts = record self.old.core.parts { heard = self.new.core.parts.heard } } }
+        ensures stands { (s : State) → CoreStandsFor self.old.core s → CoreStandsFor self.new.core s }
+        ensures asked { (s : State) → StandsFor self.old s → MayHear (λ l. (⟦<dyn Native as Native>⟧ l.native.vtable).open_may l.native.value) (λ l. (⟦<dyn Native as Native>⟧ l.native.vtable).start_may l.native.value) (λ l. (⟦<dyn Native as Native>⟧ l.native.vtable).call_may l.native.value) self.old.natives.slots.items (asked_of self.old.core.image s) self.new.core.parts.heard × Asked (λ l. l.ids) self.old.natives.slots.items (asked_of self.old.core.image s) self.new.core.parts.heard self.new.natives.slots.items }
+    {
+        let Progress::Running = self.core.progress() else {
+            return;
+        };
+        if let Some(wanted) = self.core.wanted() {
+            let answer = call(&mut self.natives, wanted);
+            self.core.hear(answer);
+        }
+    }
+}

@@ -1,3 +1,0 @@
-mod Parts
-mod Sources
-mod Found

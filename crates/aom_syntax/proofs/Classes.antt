@@ -1,0 +1,131 @@
+-- A class that is read is in its range.
+use Rattle.std.proofs.Common.{◌≡◌, ℕ, ◌<◌, ◌≤◌, ◌^◌, Bool, true, false, not, List, [], length, nat_lt, arith, refl}
+use Rattle.std.specs.Prelude.{if◌then◌else◌}
+use Rattle.std.proofs.lemmas.Bool.{ltb-true}
+use Rattle.std.proofs.lemmas.List.Elements.{All-nil}
+use Rattle.aom_text.specs.declared.fault.AsmFaultKind.TheVariants.{BadShape, LimitPassed}
+use Rattle.aom_image.specs.WellFormed.{KindFits, ProviderFits, ThingFits, is_server_kind}
+use Rattle.aom_image.specs.declared.class.ClassDecl.{ClassDecl}
+use Rattle.aom_image.specs.declared.class.ClassKind.{ClassKind}
+use Rattle.aom_image.specs.declared.class.ClassKind.TheVariants as kinds
+use Rattle.aom_image.specs.declared.class.Provider.TheVariants as providers
+use Rattle.aom_image.specs.declared.method.Thing.{Thing}
+use Rattle.aom_syntax.specs.Reading.{any_keyword, failing, giving, keyword, next, nothing_more, number, optional_number, word}
+use Rattle.aom_syntax.specs.Operands.{class}
+use Rattle.aom_syntax.specs.Classes.{budget, class_statement, declared, fields, flag, kind, listed, provider, purpose, server, thing_of, class_parts}
+use Rattle.aom_syntax.specs.declared.class.Purpose.{Purpose}
+use Rattle.aom_syntax.specs.declared.class.Purpose.TheVariants as purposes
+use Rattle.aom_syntax.specs.declared.keyword.Keyword.{Keyword}
+use Rattle.aom_syntax.specs.declared.keyword.Keyword.TheVariants as k
+use Rattle.aom_syntax.specs.declared.scope.Scope.{Scope}
+use Rattle.aom_syntax.specs.Ranges.{ClassIsRead}
+use Rattle.aom_syntax.proofs.Within.{Within, after, failing_within, giving_within, next_within, seen_within}
+use Rattle.aom_syntax.proofs.Names.{IsKnown, declared_below, used_below}
+use Rattle.aom_syntax.proofs.Numbers.{Between, number_between, optional_between}
+use Rattle.aom_syntax.proofs.proofs.RangedLists.{ListFits, listed_fits, thing_fits}
+
+-- ---- kinds
+
+native_within : (natives n : ℕ) (b : Bool) → nat_lt n natives ≡ b → Within (ProviderFits natives) (if b then giving (providers.Native n) else failing LimitPassed)
+native_within natives n true below = giving_within (ProviderFits natives) (providers.Native n) (ltb-true n natives below)
+native_within natives n false above = failing_within (ProviderFits natives) LimitPassed
+
+provider_within : (natives : ℕ) (key : Keyword) → Within (ProviderFits natives) (provider natives key)
+provider_within natives k.This = giving_within (ProviderFits natives) providers.Own tt
+provider_within natives k.Timer = giving_within (ProviderFits natives) providers.Timer tt
+provider_within natives k.Native = after (ProviderFits natives) (number 0 15) (λ n. if nat_lt n natives then giving (providers.Native n) else failing LimitPassed) (λ n. native_within natives n (nat_lt n natives) refl)
+provider_within natives key = failing_within (ProviderFits natives) BadShape
+
+-- what a class is for, beside so many classes and natives and after so many servers
+abbrev PurposeFits : ℕ → ℕ → ℕ → Purpose → Type 0
+PurposeFits classes natives servers purposes.Plain = Unit {0}
+PurposeFits classes natives servers (purposes.Active p) = ProviderFits natives p
+PurposeFits classes natives servers (purposes.Server sessions session) = (1 ≤ sessions) × (sessions ≤ 64) × (session < classes) × (servers < 8)
+PurposeFits classes natives servers purposes.Session = Unit {0}
+
+-- a kind, and a server only after so few others
+record KindIsRead (classes natives servers : ℕ) (kind : ClassKind) : Type 0 where
+  pub kind_fits : KindFits classes natives kind
+  pub server : is_server_kind kind ≡ true → servers < 8
+
+budget_within : Within (λ n. n < 2 ^ 32) budget
+budget_within =
+    after (λ n. n < 2 ^ 32) (keyword k.Budget) (λ u. next (number 0 4294967295) (λ n. next (nothing_more false) (λ u. giving n))) (λ u.
+    next_within (Between 0 4294967295) (λ n. n < 2 ^ 32) (number 0 4294967295) (λ n. next (nothing_more false) (λ u. giving n)) (number_between 0 4294967295) (λ n small.
+    after (λ n. n < 2 ^ 32) (nothing_more false) (λ u. giving n) (λ u. giving_within (λ n. n < 2 ^ 32) n (omega (arith, small.most)))))
+
+module _ (scope : Scope) (natives servers : ℕ) (known : IsKnown scope.is_strict (length scope.classes)) where
+  abbrev IsFor : Purpose → Type 0
+  IsFor p = PurposeFits (length scope.classes) natives servers p
+
+  abbrev IsOfKind : ClassKind → Type 0
+  IsOfKind kind = KindIsRead (length scope.classes) natives servers kind
+
+  abbrev AreOwned : List Thing → Type 0
+  AreOwned ts = ListFits (ThingFits (length scope.classes)) 8 ts
+
+  server_within : servers < 8 → Within IsFor (server scope)
+  server_within room =
+      next_within (λ c. c < length scope.classes) IsFor (class scope) (λ c. next (keyword k.Max) (λ u. next (number 1 64) (λ n. giving (purposes.Server n c)))) (used_below scope.is_strict 256 scope.classes known) (λ c below.
+      after IsFor (keyword k.Max) (λ u. next (number 1 64) (λ n. giving (purposes.Server n c))) (λ u.
+      next_within (Between 1 64) IsFor (number 1 64) (λ n. giving (purposes.Server n c)) (number_between 1 64) (λ n few.
+      giving_within IsFor (purposes.Server n c) (few.least, few.most, below, room))))
+
+  next_server : (b : Bool) → nat_lt servers 8 ≡ b → Within IsFor (if b then server scope else failing LimitPassed)
+  next_server true room = server_within (ltb-true servers 8 room)
+  next_server false room = failing_within IsFor LimitPassed
+
+  purpose_within : (key : Keyword) → Within IsFor (purpose scope natives servers key)
+  purpose_within k.Plain = giving_within IsFor purposes.Plain tt
+  purpose_within k.Session = giving_within IsFor purposes.Session tt
+  purpose_within k.Active =
+      after IsFor any_keyword (λ key. next (provider natives key) (λ p. giving (purposes.Active p))) (λ key.
+      next_within (ProviderFits natives) IsFor (provider natives key) (λ p. giving (purposes.Active p)) (provider_within natives key) (λ p fits.
+      giving_within IsFor (purposes.Active p) fits))
+  purpose_within k.Server = next_server (nat_lt servers 8) refl
+  purpose_within key = failing_within IsFor BadShape
+
+  quiet_kind : (is_open : Bool) (kind : ClassKind) → IsOfKind kind → Within IsOfKind (next (nothing_more is_open) (λ u. giving kind))
+  quiet_kind is_open kind fits = after IsOfKind (nothing_more is_open) (λ u. giving kind) (λ u. giving_within IsOfKind kind fits)
+
+  kind_within : (has_fields : Bool) (p : Purpose) → IsFor p → Within IsOfKind (kind has_fields p)
+  kind_within has_fields purposes.Plain fits = quiet_kind (not has_fields) kinds.Plain (record { kind_fits = tt; server = λ is. absurd cc })
+  kind_within has_fields purposes.Session fits = quiet_kind (not has_fields) kinds.Session (record { kind_fits = tt; server = λ is. absurd cc })
+  kind_within has_fields (purposes.Active p) fits =
+      next_within (λ n. n < 2 ^ 32) IsOfKind budget (λ n. giving (kinds.Active p n)) budget_within (λ n small.
+      giving_within IsOfKind (kinds.Active p n) (record { kind_fits = (fits, small); server = λ is. absurd cc }))
+  kind_within has_fields (purposes.Server sessions session) fits =
+      next_within (λ n. n < 2 ^ 32) IsOfKind budget (λ n. giving (kinds.Server sessions session n)) budget_within (λ n small.
+      giving_within IsOfKind (kinds.Server sessions session n) (record { kind_fits = (fits.0, fits.1, fits.2, small); server = λ is. fits.3 }))
+
+  fields_within : (owns : Bool) → Within AreOwned (fields scope owns)
+  fields_within false = giving_within AreOwned [] (record { few = omega arith; each = All-nil (ThingFits (length scope.classes)) })
+  fields_within true = seen_within AreOwned (listed 8 (thing_of scope)) word (listed_fits (ThingFits (length scope.classes)) 8 (thing_of scope) (thing_fits scope known))
+
+-- ---- the statement
+
+-- where a class is declared at its place there are names
+some_names : (is_strict : Bool) (place count : ℕ) → place < count → IsKnown is_strict count
+some_names is_strict place count below = record { some = λ loose. omega (arith, below) }
+
+module _ (scope : Scope) (natives place servers : ℕ) where
+  abbrev IsRead : ClassDecl → Type 0
+  IsRead c = ClassIsRead scope natives place servers c
+
+  behind_within : place < length scope.classes → Within IsRead (class_parts scope natives servers)
+  behind_within below =
+      let known = some_names scope.is_strict place (length scope.classes) below in
+      after IsRead any_keyword _ (λ key.
+      next_within (IsFor scope natives servers known) IsRead (purpose scope natives servers key) _ (purpose_within scope natives servers known key) (λ p is_for.
+      next_within (Between 0 8) IsRead (optional_number k.Words 8) _ (optional_between k.Words 8) (λ words few.
+      after IsRead (flag k.Own) _ (λ owns.
+      next_within (AreOwned scope natives servers known) IsRead (fields scope owns) _ (fields_within scope natives servers known owns) (λ list owned.
+      next_within (IsOfKind scope natives servers known) IsRead (kind owns p) _ (kind_within scope natives servers known owns p is_for) (λ kind is_read.
+      giving_within IsRead _ (record {
+        declared = below;
+        class = record { kind = is_read.kind_fits; words = few.most; field_count = owned.few; fields = owned.each };
+        server = is_read.server;
+      })))))))
+
+  pub class_within : Within IsRead (class_statement scope natives place servers)
+  class_within = next_within (λ u. place < length scope.classes) IsRead (declared place scope.classes) (λ u. class_parts scope natives servers) (declared_below place scope.classes) (λ u below. behind_within below)

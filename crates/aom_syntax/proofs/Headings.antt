@@ -1,0 +1,153 @@
+-- The beginning of a method that is read is in its range.
+use Rattle.std.proofs.Common.{◌≡◌, ℕ, ◌<◌, ◌≤◌, ◌||◌, Bool, true, false, List, length, replicate, All, Option, Some, None, Ok, slice_get, codes, subst, refl, arith, ap, ◌∙◌}
+use Rattle.std.specs.Prelude.{IfSome}
+use Rattle.std.specs.Str.{bytes_eq}
+use Rattle.std.proofs.lemmas.List.{length-replicate}
+use Rattle.std.proofs.lemmas.List.Elements.{All-replicate}
+use Rattle.std.proofs.lemmas.Option.{get_or_from_slice_get, slice_get_within}
+use Rattle.aom_text.specs.declared.fault.AsmFaultKind.TheVariants.{BadShape}
+use Rattle.aom_image.specs.WellFormed.{ArgumentFits, ClassFits, GivesFits, KindFits, ThingFits}
+use Rattle.aom_image.specs.declared.class.ClassDecl.{ClassDecl}
+use Rattle.aom_image.specs.declared.class.ClassKind.{ClassKind}
+use Rattle.aom_image.specs.declared.class.ClassKind.TheVariants as kinds
+use Rattle.aom_image.specs.declared.method.Argument.{Argument}
+use Rattle.aom_image.specs.declared.method.Argument.TheVariants as arg
+use Rattle.aom_image.specs.declared.method.Gives.{Gives}
+use Rattle.aom_image.specs.declared.method.Gives.TheVariants as result
+use Rattle.aom_image.specs.declared.method.Role.{Role}
+use Rattle.aom_image.specs.declared.method.Role.TheVariants as roles
+use Rattle.aom_syntax.specs.Reading.{any_keyword, giving, next, nothing_more, seen, took, word}
+use Rattle.aom_syntax.specs.Operands.{class}
+use Rattle.aom_syntax.specs.Classes.{declared, flag, listed, thing, thing_of}
+use Rattle.aom_syntax.specs.Methods.{accepted, all_states, argument_of, flags_of, gives, heading, is_quiet_role, kind_of, not_served, optional_arguments, optional_class, optional_gives, optional_states, role, unsaid_gives, usual_after, usual_before, usual_gives, usual_words, behind_class}
+use Rattle.aom_syntax.specs.declared.keyword.Keyword.{Keyword}
+use Rattle.aom_syntax.specs.declared.keyword.Keyword.TheVariants as k
+use Rattle.aom_syntax.specs.declared.method.Heading.{Heading}
+use Rattle.aom_syntax.specs.declared.scope.Scope.{Scope}
+use Rattle.aom_syntax.specs.Ranges.{HeadingIsRead, IsSettled}
+use Rattle.aom_syntax.proofs.Within.{Within, after, either, failing_within, giving_within, next_within, ok_is, seen_within, marked_or}
+use Rattle.aom_syntax.proofs.Names.{IsKnown, all_known, declared_below, used_below}
+use Rattle.aom_syntax.proofs.proofs.RangedLists.{ListFits, listed_fits, thing_fits, thing_within}
+use Rattle.aom_syntax.proofs.States.{AreStates, after_below, all_few, before_below, flags_below, states_within, words_few}
+use Rattle.aom_image.proofs.Given.{some_given}
+
+-- ---- what an accept gives
+
+abbrev MayGive : ℕ → Option Gives → Type 0
+MayGive classes usual = IfSome usual (λ g. GivesFits classes g)
+
+not_served_fits : (classes : ℕ) (known : Bool) → MayGive classes (not_served known)
+not_served_fits classes true = tt
+not_served_fits classes false = tt
+
+accepted_fits : (classes natives : ℕ) (known : Bool) (kind : ClassKind) → KindFits classes natives kind → MayGive classes (accepted known kind)
+accepted_fits classes natives known (kinds.Server sessions session budget) fits = fits.2
+accepted_fits classes natives known _ fits = not_served_fits classes known
+
+usual_fits : (classes natives : ℕ) (known : Bool) (role : Role) (kind : ClassKind) → KindFits classes natives kind → MayGive classes (usual_gives known role kind)
+usual_fits classes natives known roles.Accept kind fits = accepted_fits classes natives known kind fits
+usual_fits classes natives known _ kind fits = tt
+
+-- what is not said is what stands for it
+pub stands_for : (usual : Option Gives) (g : Gives) → unsaid_gives usual ≡ Ok g → usual ≡ Some g
+stands_for usual g is = some_given (λ o. unsaid_gives o ≡ Ok g) usual is (λ e. cc) (λ u same e. same ∙ ap Some (ok_is u g e))
+
+unsaid_fits : (classes : ℕ) (usual : Option Gives) (g : Gives) → MayGive classes usual → unsaid_gives usual ≡ Ok g → GivesFits classes g
+unsaid_fits classes usual g fits is = subst (MayGive classes) (stands_for usual g is) fits
+
+-- a class among those that were read before
+kind_fits : (classes natives : ℕ) (decls : List ClassDecl) (class : Option ℕ) → All (ClassFits classes natives) decls → KindFits classes natives (kind_of decls class)
+kind_fits classes natives decls None all = tt
+kind_fits classes natives decls (Some c) all = go (slice_get decls c) refl
+  where
+    go : (o : Option ClassDecl) → slice_get decls c ≡ o → KindFits classes natives (elim o [ None ↦ kinds.Plain | Some decl ↦ decl.kind ])
+    go None there = tt
+    go (Some decl) there = (subst (ClassFits classes natives) (get_or_from_slice_get decls c decl decl there) (all c decl (slice_get_within decls c decl there))).kind
+
+-- ---- parts of the statement
+
+module _ (scope : Scope) (known : IsKnown scope.is_strict (length scope.classes)) where
+  abbrev IsClass : Option ℕ → Type 0
+  IsClass class = IfSome class (λ c. c < length scope.classes)
+
+  abbrev IsArgument : Argument → Type 0
+  IsArgument a = ArgumentFits (length scope.classes) a
+
+  abbrev AreArguments : List Argument → Type 0
+  AreArguments list = ListFits IsArgument 6 list
+
+  abbrev IsGiven : Gives → Type 0
+  IsGiven g = GivesFits (length scope.classes) g
+
+  class_within : Within IsClass (optional_class scope)
+  class_within =
+      either IsClass (λ ws. (took k.Of ws).0) (λ ws. (took k.Of ws).1) (next (class scope) (λ c. giving (Some c))) (giving None)
+      (next_within (λ c. c < length scope.classes) IsClass (class scope) (λ c. giving (Some c)) (used_below scope.is_strict 256 scope.classes known) (λ c below. giving_within IsClass (Some c) below))
+      (giving_within IsClass None tt)
+
+  argument_fits : (w : List ℕ) (a : Argument) → argument_of scope w ≡ Ok a → IsArgument a
+  argument_fits w a is =
+      marked_or IsArgument (bytes_eq w (codes "word")) arg.Word (thing_of scope w) (λ t. arg.Own t) a (λ same. tt) (thing_fits scope known w) is
+
+  arguments_within : (usual : ℕ) → usual ≤ 6 → Within AreArguments (optional_arguments scope usual)
+  arguments_within usual few =
+      either AreArguments (λ ws. (took k.Args ws).0) (λ ws. (took k.Args ws).1) (seen (listed 6 (argument_of scope)) word) (giving (replicate usual arg.Word))
+      (seen_within AreArguments (listed 6 (argument_of scope)) word (listed_fits IsArgument 6 (argument_of scope) argument_fits))
+      (giving_within AreArguments (replicate usual arg.Word) (record { few = omega (arith, length-replicate usual arg.Word, few); each = All-replicate IsArgument usual arg.Word tt }))
+
+  gives_within : (key : Keyword) → Within IsGiven (gives scope key)
+  gives_within k.Nothing = giving_within IsGiven result.Nothing tt
+  gives_within k.Word = giving_within IsGiven result.Word tt
+  gives_within k.Own = next_within (ThingFits (length scope.classes)) IsGiven (thing scope) (λ t. giving (result.Own t)) (thing_within scope known) (λ t fits. giving_within IsGiven (result.Own t) fits)
+  gives_within k.Maybe = next_within (ThingFits (length scope.classes)) IsGiven (thing scope) (λ t. giving (result.Maybe t)) (thing_within scope known) (λ t fits. giving_within IsGiven (result.Maybe t) fits)
+  gives_within k.Left = next_within (λ c. c < length scope.classes) IsGiven (class scope) (λ c. giving (result.Left c)) (used_below scope.is_strict 256 scope.classes known) (λ c below. giving_within IsGiven (result.Left c) below)
+  gives_within key = failing_within IsGiven BadShape
+
+  said_gives : Within IsGiven (next any_keyword (λ key. next (gives scope key) (λ g. next (nothing_more false) (λ u. giving g))))
+  said_gives =
+      after IsGiven any_keyword (λ key. next (gives scope key) (λ g. next (nothing_more false) (λ u. giving g))) (λ key.
+      next_within IsGiven IsGiven (gives scope key) (λ g. next (nothing_more false) (λ u. giving g)) (gives_within key) (λ g fits.
+      after IsGiven (nothing_more false) (λ u. giving g) (λ u. giving_within IsGiven g fits)))
+
+  optional_within : (usual : Option Gives) → MayGive (length scope.classes) usual → Within IsGiven (optional_gives scope usual)
+  optional_within usual fits =
+      either IsGiven (λ ws. (took k.Gives ws).0) (λ ws. (took k.Gives ws).1) (next any_keyword (λ key. next (gives scope key) (λ g. next (nothing_more false) (λ u. giving g))))
+      (seen (λ u. unsaid_gives usual) (nothing_more true)) said_gives (seen_within IsGiven (λ u. unsaid_gives usual) (nothing_more true) (λ u g is. unsaid_fits (length scope.classes) usual g fits is))
+
+-- ---- the statement
+
+module _ (natives : ℕ) (scope : Scope) (settled : IsSettled natives scope) (place : ℕ) where
+  known : IsKnown scope.is_strict (length scope.classes)
+  known = all_known scope.is_strict (length scope.classes) settled.is_strict
+
+  abbrev IsRead : Heading → Type 0
+  IsRead h = HeadingIsRead scope place h
+
+  behind_within : place < length scope.methods → (role : Role) (class : Option ℕ) → IsClass scope known class → Within IsRead (behind_class scope role class)
+  behind_within below role class is_class =
+      let few = all_few (kind_of scope.kinds class) in
+      after IsRead (flag k.Leaves) _ (λ leaves.
+      after IsRead (flag k.Quiet) _ (λ quiet.
+      next_within AreStates IsRead (optional_states k.In (usual_before role (all_states (kind_of scope.kinds class)))) _ (states_within k.In _ (before_below role _ few)) (λ before in_states.
+      next_within AreStates IsRead (optional_states k.Out (usual_after role (all_states (kind_of scope.kinds class)))) _ (states_within k.Out _ (after_below role _ few)) (λ after out_states.
+      next_within (AreArguments scope known) IsRead (optional_arguments scope (usual_words role)) _ (arguments_within scope known (usual_words role) (words_few role)) (λ arguments are_few.
+      next_within (IsGiven scope known) IsRead (optional_gives scope (usual_gives scope.is_strict role (kind_of scope.kinds class))) _
+      (optional_within scope known (usual_gives scope.is_strict role (kind_of scope.kinds class)) (usual_fits (length scope.classes) natives scope.is_strict role (kind_of scope.kinds class) (kind_fits (length scope.classes) natives scope.kinds class settled.kinds))) (λ gives is_given.
+      giving_within IsRead (record { class = class; role = role; flags = flags_of leaves (quiet || is_quiet_role role); before = before; after = after; arguments = arguments; gives = gives }) (record {
+        declared = below;
+        heading = record {
+          class = is_class;
+          flags = flags_below leaves (quiet || is_quiet_role role);
+          before = in_states;
+          after = out_states;
+          argument_count = are_few.few;
+          arguments = are_few.each;
+          gives = is_given;
+        };
+      })))))))
+
+  pub heading_within : Within IsRead (heading scope place)
+  heading_within =
+      next_within (λ u. place < length scope.methods) IsRead (declared place scope.methods) (λ u. next role (λ role. next (optional_class scope) (λ class. behind_class scope role class))) (declared_below place scope.methods) (λ u below.
+      after IsRead role (λ role. next (optional_class scope) (λ class. behind_class scope role class)) (λ role.
+      next_within (IsClass scope known) IsRead (optional_class scope) (λ class. behind_class scope role class) (class_within scope known) (λ class is_class. behind_within below role class is_class)))

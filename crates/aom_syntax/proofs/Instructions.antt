@@ -1,0 +1,106 @@
+-- Whatever instruction is read has its operands in their ranges.
+use Rattle.std.proofs.Common.{◌≡◌, ℕ, ◌≤◌, ◌<◌, true, false, FitsSigned, w32, List, length, sym, subst}
+use Rattle.aom_instructions.specs.Operands.{IsDepth, IsField, IsRegister, IsWord, LargeFits, OperandsFit, SmallFits, TargetFits}
+use Rattle.aom_instructions.specs.declared.kinds.Kinds.{Kinds}
+use Rattle.aom_instructions.specs.declared.limits.Limits.{Limits}
+use Rattle.aom_instructions.specs.declared.operand.Operands.{Operands}
+use Rattle.aom_instructions.specs.Fits.{InstrFits, limits}
+use Rattle.aom_instructions.specs.declared.instr.Instr.{Instr}
+use Rattle.aom_instructions.proofs.Again.{making_parts_again}
+use Rattle.aom_instructions.specs.Parts.{make, operands, operands_of}
+use Rattle.aom_instructions.specs.Rows.{row}
+use Rattle.aom_instructions.specs.declared.kinds.LargeKind.{LargeKind}
+use Rattle.aom_instructions.specs.declared.kinds.LargeKind.TheVariants as lk
+use Rattle.aom_instructions.specs.declared.kinds.Order.{Order}
+use Rattle.aom_instructions.specs.declared.kinds.Order.TheVariants.{LargeLast, LargeSecond}
+use Rattle.aom_instructions.specs.declared.kinds.SmallKind.{SmallKind}
+use Rattle.aom_instructions.specs.declared.kinds.SmallKind.TheVariants as sk
+use Rattle.aom_instructions.specs.declared.operand.Large.TheVariants as large
+use Rattle.aom_instructions.specs.declared.operand.Small.TheVariants as small
+use Rattle.aom_syntax.specs.Reading.{Reading, giving, next, nothing_more, seen}
+use Rattle.aom_syntax.specs.Operands.{class, depth, field, label, last_register, method, rounds, signed, target, word_field}
+use Rattle.aom_syntax.specs.Words.{in_order, large_operand, operands_read, small_operand, words_operands}
+use Rattle.aom_syntax.specs.Methods.{after_label, instruction, named_mnemonic}
+use Rattle.aom_syntax.specs.declared.scope.Scope.{Scope}
+use Rattle.aom_instructions.specs.declared.mnemonic.Mnemonic.{Mnemonic}
+use Rattle.aom_syntax.proofs.Within.{Within, after, giving_within, next_within}
+use Rattle.aom_syntax.proofs.Names.{all_known, used_below}
+use Rattle.aom_syntax.proofs.Numbers.{signed_within}
+use Rattle.aom_syntax.proofs.Operands.{AreRounds, depth_within, field_within, last_most, last_within, rounds_within, target_within, word_field_within}
+
+module _ (scope : Scope) (strict : scope.is_strict ≡ true) (labels : List (List ℕ)) where
+  abbrev bounds : Limits
+  bounds = limits (length scope.classes) (length scope.methods) (length labels)
+
+  abbrev Fits : Instr → Type 0
+  Fits i = InstrFits bounds i
+
+  abbrev IsClass : ℕ → Type 0
+  IsClass c = c < length scope.classes
+
+  abbrev IsMethod : ℕ → Type 0
+  IsMethod n = n < length scope.methods
+
+  abbrev IsLabel : ℕ → Type 0
+  IsLabel l = l < length labels
+
+  class_within : Within IsClass (class scope)
+  class_within = used_below scope.is_strict 256 scope.classes (all_known scope.is_strict (length scope.classes) strict)
+
+  method_within : Within IsMethod (method scope)
+  method_within = used_below scope.is_strict 1024 scope.methods (all_known scope.is_strict (length scope.methods) strict)
+
+  label_within : Within IsLabel (label scope labels)
+  label_within = used_below scope.is_strict 1024 labels (all_known scope.is_strict (length labels) strict)
+
+  -- ---- by the kind of an operand
+
+  said : {A X : Type 0} (P : A → Type 0) (Q : X → Type 0) (a : Reading A) (f : A → X) → Within P a → ((x : A) → P x → Q (f x)) → Within Q (next a (λ x. giving (f x)))
+  said P Q a f wa fits = next_within P Q a (λ x. giving (f x)) wa (λ x p. giving_within Q (f x) (fits x p))
+
+  small_within : (k : SmallKind) → Within (SmallFits k) (small_operand k)
+  small_within sk.Unused = giving_within (SmallFits sk.Unused) small.Unused tt
+  small_within sk.Register = said IsRegister (SmallFits sk.Register) (last_register 15) (λ r. small.Register r) last_within (λ r p. p)
+  small_within sk.TrapResult = said (λ n. n ≤ 14) (SmallFits sk.TrapResult) (last_register 14) (λ r. small.Register r) (last_most 14) (λ r p. p)
+  small_within sk.Word = said IsWord (SmallFits sk.Word) word_field (λ w. small.Word w) word_field_within (λ w p. p)
+  small_within sk.Field = said IsField (SmallFits sk.Field) field (λ f. small.Field f) field_within (λ f p. p)
+  small_within sk.Depth = said IsDepth (SmallFits sk.Depth) depth (λ d. small.Depth d) depth_within (λ d p. p)
+  small_within sk.CallTarget = said TargetFits (SmallFits sk.CallTarget) target (λ t. small.CallTarget t) target_within (λ t p. p)
+
+  large_within : (k : LargeKind) → Within (LargeFits bounds k) (large_operand scope labels k)
+  large_within lk.Nothing = giving_within (LargeFits bounds lk.Nothing) large.Nothing tt
+  large_within lk.Number = said (FitsSigned w32) (LargeFits bounds lk.Number) signed (λ z. large.Number z) signed_within (λ z p. p)
+  large_within lk.Rounds = said AreRounds (LargeFits bounds lk.Rounds) rounds (λ n. large.Rounds n) rounds_within (λ n p. p)
+  large_within lk.Place = said IsLabel (LargeFits bounds lk.Place) (label scope labels) (λ n. large.Place n) label_within (λ n p. p)
+  large_within lk.Class = said IsClass (LargeFits bounds lk.Class) (class scope) (λ n. large.Class n) class_within (λ n p. p)
+  large_within lk.Method = said IsMethod (LargeFits bounds lk.Method) (method scope) (λ n. large.Method n) method_within (λ n p. p)
+
+  -- ---- behind each mnemonic
+
+  in_order_within : (k : Kinds) (order : Order) → Within (OperandsFit bounds k) (in_order order (small_operand k.a) (small_operand k.b) (small_operand k.c) (large_operand scope labels k.d))
+  in_order_within k LargeLast =
+      next_within (SmallFits k.a) (OperandsFit bounds k) (small_operand k.a) _ (small_within k.a) (λ a pa.
+      next_within (SmallFits k.b) (OperandsFit bounds k) (small_operand k.b) _ (small_within k.b) (λ b pb.
+      next_within (SmallFits k.c) (OperandsFit bounds k) (small_operand k.c) _ (small_within k.c) (λ c pc.
+      said (LargeFits bounds k.d) (OperandsFit bounds k) (large_operand scope labels k.d) (λ d. operands_of a b c d) (large_within k.d) (λ d pd. record { a = pa; b = pb; c = pc; d = pd }))))
+  in_order_within k LargeSecond =
+      next_within (SmallFits k.a) (OperandsFit bounds k) (small_operand k.a) _ (small_within k.a) (λ a pa.
+      next_within (LargeFits bounds k.d) (OperandsFit bounds k) (large_operand scope labels k.d) _ (large_within k.d) (λ d pd.
+      next_within (SmallFits k.b) (OperandsFit bounds k) (small_operand k.b) _ (small_within k.b) (λ b pb.
+      said (SmallFits k.c) (OperandsFit bounds k) (small_operand k.c) (λ c. operands_of a b c d) (small_within k.c) (λ c pc. record { a = pa; b = pb; c = pc; d = pd }))))
+
+  -- what is made of operands that a row asks
+  made_fits : (m : Mnemonic) (o : Operands) → OperandsFit bounds (row m).kinds o → Fits (make m o)
+  made_fits m o fits =
+      let again = making_parts_again bounds m o fits in
+      subst (λ n. OperandsFit bounds (row n).kinds (operands (make m o))) (sym again.0) (subst (OperandsFit bounds (row m).kinds) (sym again.1) fits)
+
+  operands_within : (m : Mnemonic) → Within Fits (words_operands scope labels m)
+  operands_within m =
+      said (OperandsFit bounds (row m).kinds) Fits (operands_read scope labels (row m).kinds) (λ o. make m o) (in_order_within (row m).kinds (row m).kinds.order) (λ o fits. made_fits m o fits)
+
+  pub instruction_within : (place : ℕ) → Within Fits (instruction scope labels place)
+  instruction_within place =
+      after Fits (seen named_mnemonic (after_label place labels)) (λ m. next (words_operands scope labels m) (λ i. next (nothing_more false) (λ u. giving i))) (λ m.
+      next_within Fits Fits (words_operands scope labels m) (λ i. next (nothing_more false) (λ u. giving i)) (operands_within m) (λ i fits.
+      after Fits (nothing_more false) (λ u. giving i) (λ u. giving_within Fits i fits)))

@@ -1,0 +1,5 @@
+use Rattle.aom_syntax.proofs.Classes.{class_within}
+use Rattle.aom_syntax.proofs.laws.classes_in_range.Goals as goal
+
+pub returns : goal.returns
+returns c scope natives place servers = (class_within scope natives place servers).each

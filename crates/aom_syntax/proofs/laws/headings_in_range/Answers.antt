@@ -1,0 +1,5 @@
+use Rattle.aom_syntax.proofs.Headings.{heading_within}
+use Rattle.aom_syntax.proofs.laws.headings_in_range.Goals as goal
+
+pub returns : goal.returns
+returns c natives scope settled place = (heading_within natives scope settled place).each

@@ -1,0 +1,5 @@
+use Rattle.aom_syntax.proofs.Instructions.{instruction_within}
+use Rattle.aom_syntax.proofs.laws.instructions_in_range.Goals as goal
+
+pub returns : goal.returns
+returns c scope strict labels place = (instruction_within scope strict labels place).each
