@@ -3,7 +3,7 @@ pub mod Obeying
 pub mod Heeding
 pub mod Talking
 pub mod Reading
-pub mod proofs
+pub mod Statuses
 pub mod Starting
 pub mod Moving
 pub mod Placing

@@ -8,12 +8,12 @@ use Rattle.aom_sound.specs.Places.{named, count_cells}
 use Rattle.aom_sound.specs.State.{Choice, Goes, IsStuck, Outcome, State}
 use Rattle.aom_sound.specs.WellTyped.{WellTyped}
 use Rattle.aom_sound.specs.World.{Heard, nothing_heard, Outside, turn, turning, written_turn}
-use Rattle.aom_endings.proofs.proofs.NamedCells.{cells_counted}
+use Rattle.aom_endings.proofs.NamedCells.{cells_counted}
 use Rattle.aom_endings.proofs.Fresh.{renamed_twice, swap_first, swap_one_to_one, swapped, swapped_free}
 use Rattle.aom_endings.proofs.Steps.{free_so, moves_so, refused_so, writes_so}
 use Rattle.aom_endings.proofs.Polling.{turn_unpolled}
 use Rattle.aom_endings.proofs.Turning.{polling_kept, turns_so, writes_turn_so}
-use Rattle.aom_endings.specs.specs.Determined.{MovesStayAlike, TurnsStayAlike}
+use Rattle.aom_endings.specs.Determined.{MovesStayAlike, TurnsStayAlike}
 use Rattle.aom_endings.specs.There.{AllThere}
 use Rattle.aom_endings.specs.Names.{AlikeOutcomes, AreAlike, IsOneToOne, renamed, renamed_choice, renamed_outcome}
 use Rattle.aom_endings.specs.Hearing.{is_heard, is_polling}

@@ -27,7 +27,7 @@ use Rattle.aom_sound.specs.Places.{Asked, Cell, Close_of, Connect_of, Elsewhere,
 use Rattle.aom_sound.specs.Servers.{asked_last, is_other, is_server, reserved, rest_of, stays, taken_first, withdrawn}
 use Rattle.aom_sound.specs.State.{Accepts, Dispatched, Goes, Of_object, Of_server, Parts, Seat, State}
 use Rattle.aom_sound.specs.World.{picked, serves_first, accepting, attended, attending, parting_with, taken_from, dispatched}
-use Rattle.aom_endings.proofs.proofs.Remaining.{AllWait, calm_waits, plain_there}
+use Rattle.aom_endings.proofs.Remaining.{AllWait, calm_waits, plain_there}
 use Rattle.aom_endings.proofs.Keeping.{Calm, calm_moved, calm_reserved}
 use Rattle.aom_endings.proofs.Moving.{dispatch_begun}
 use Rattle.aom_endings.specs.There.{AllThere, AreThere, waits}

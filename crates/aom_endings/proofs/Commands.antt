@@ -17,7 +17,7 @@ use Rattle.aom_sound.specs.Clients.{Listed, among_listed, asked_of, asked_server
 use Rattle.aom_sound.specs.Places.{Asked, Cell, Close_of, Connect_of, Elsewhere, Message_of, Object, Place, Queued, Request, Service, service_of, unserved}
 use Rattle.aom_sound.specs.Servers.{asked_last, discarded, holds_slot, is_connect, is_from, is_queue, is_server, left_by, reserved, seats_taken, slots_taken, stays, withdrawn}
 use Rattle.aom_sound.specs.State.{State}
-use Rattle.aom_endings.proofs.proofs.NamedCells.{cond_applied, cond_mapped}
+use Rattle.aom_endings.proofs.NamedCells.{cond_applied, cond_mapped}
 use Rattle.aom_endings.proofs.Serving.{asks_renamed, client_renamed, service_renamed, with_client_renamed}
 use Rattle.aom_endings.specs.Names.{IsOneToOne, renamed, renamed_asked, renamed_cell, renamed_cells, renamed_client, renamed_object, renamed_place, renamed_queue, renamed_service}
 

@@ -21,7 +21,7 @@ use Rattle.aom_sound.specs.Moves.{does, needs}
 use Rattle.aom_sound.specs.Places.{Cell, Elsewhere, Entry, Going, Object, Place, Register, Request, Session, held, moved}
 use Rattle.aom_sound.specs.State.{A_mark, Accepts, An_object, An_operation, Asks, AtRoot, Choice, Closing, Destroy, Dispatch, Dispatched, Frame, Home, Inside, Item, Of_server, Run, Serves, State, Static, Task, Trapped, counter, field_place}
 use Rattle.aom_sound.specs.Words.{loaded, stored}
-use Rattle.aom_endings.proofs.proofs.NamedCells.{held_renamed, moved_renamed, order_kept, set_request_renamed, set_word_field_renamed, tasks_counted, timer_kept, word_field_kept, in_session_kept, set_session_renamed, cond_applied, without_renamed}
+use Rattle.aom_endings.proofs.NamedCells.{held_renamed, moved_renamed, order_kept, set_request_renamed, set_word_field_renamed, tasks_counted, timer_kept, word_field_kept, in_session_kept, set_session_renamed, cond_applied, without_renamed}
 use Rattle.aom_endings.proofs.Serving.{opened_client_renamed, opens_renamed}
 use Rattle.aom_endings.proofs.Needs.{call_kept, field_renamed, free_at, given_renamed, held_field, holder_kept, kind_kept, leave_kept, message_at, own_request_kept, push_kept, pushed_renamed, put_kept, refusal_kept, register_renamed, reply_kept, return_kept, take_message_kept, trap_kept, under_trap_kept, whole_kept}
 use Rattle.aom_endings.specs.Names.{IsOneToOne, renamed, renamed_cells, renamed_clients, renamed_choice, renamed_dispatch, renamed_frame, renamed_home, renamed_object, renamed_place, renamed_tasks}

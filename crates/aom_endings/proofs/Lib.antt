@@ -1,4 +1,4 @@
-pub mod proofs
+pub mod NamedCells
 pub mod Serving
 pub mod Commands
 pub mod Lines
@@ -14,11 +14,11 @@ pub mod Fresh
 pub mod Keeping
 pub mod Vanishing
 pub mod Moving
-pub mod proofs
+pub mod Remaining
 pub mod Asking
 pub mod Staying
 pub mod Alike
-pub mod proofs
+pub mod TwoRuns
 pub mod Cells
 pub mod Services
 pub mod Effects

@@ -8,7 +8,7 @@ use Rattle.aom_clients.specs.declared.refusal.Refusal.TheVariants.{ServerTermina
 use Rattle.aom_sound.specs.Lines.{dispatch_lines, ended_line, message_line, queue_lines, serve_line, serve_of, stage_lines, told_line}
 use Rattle.aom_sound.specs.Places.{Asked, Cell, Close_of, Connect_of, Elsewhere, In_service, Message_of, Object, held, service_of}
 use Rattle.aom_sound.specs.State.{Dispatch, Of_server, Service_left, Serves, Stage}
-use Rattle.aom_endings.proofs.proofs.NamedCells.{held_renamed}
+use Rattle.aom_endings.proofs.NamedCells.{held_renamed}
 use Rattle.aom_endings.proofs.Serving.{service_renamed}
 use Rattle.aom_endings.specs.Names.{IsOneToOne, renamed_asked, renamed_cells, renamed_dispatch, renamed_object, renamed_queue, renamed_stage}
 

@@ -8,7 +8,7 @@ use Rattle.aom_sound.specs.World.{Completes, Cuts, Heard, Hears, Obeys, Outside,
 use Rattle.aom_transcript.specs.declared.event.Event.{Event}
 use Rattle.aom_transcript.specs.declared.event.Event.TheVariants.{Client as Of_client, Kill, Tell}
 use Rattle.aom_transcript.specs.declared.event.TimedEvent.{TimedEvent}
-use Rattle.aom_endings.proofs.proofs.NamedCells.{cond_applied}
+use Rattle.aom_endings.proofs.NamedCells.{cond_applied}
 use Rattle.aom_endings.specs.Hearing.{is_polling}
 
 -- the turn, whatever its name

@@ -21,7 +21,7 @@ use Rattle.aom_sound.specs.Destruction.{owns_nothing}
 use Rattle.aom_sound.specs.Servers.{without_queue}
 use Rattle.aom_sound.specs.State.{A_mark, Accepts, An_object, An_operation, Asks, AtRoot, Choice, Destroy, Dispatch, Dispatched, Frame, Home, Inside, IsStuck, Item, MessageLost, Need, Of_server, Orphan, Run, Serves, State, Static, Task, Trapped, Unbalanced, field_place, guarded, home_holder}
 use Rattle.aom_sound.specs.Words.{needs_word}
-use Rattle.aom_endings.proofs.proofs.NamedCells.{held_renamed, moved_renamed, none_owns_kept, owns_nothing_kept, requested_kept, tasks_counted}
+use Rattle.aom_endings.proofs.NamedCells.{held_renamed, moved_renamed, none_owns_kept, owns_nothing_kept, requested_kept, tasks_counted}
 use Rattle.aom_endings.proofs.Serving.{without_queue_renamed}
 use Rattle.aom_endings.specs.Names.{IsOneToOne, renamed, renamed_cells, renamed_choice, renamed_dispatch, renamed_frame, renamed_home, renamed_object, renamed_outcome, renamed_place, renamed_tasks}
 

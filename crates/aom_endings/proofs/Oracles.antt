@@ -6,7 +6,7 @@ use Rattle.aom_sound.specs.State.{State}
 use Rattle.aom_sound.specs.World.{Outside, Reaches, begins, moves, turns}
 use Rattle.aom_transcript.specs.declared.line.Line.{Line}
 use Rattle.aom_endings.specs.Hearing.{Follows, Oracle, stages}
-use Rattle.aom_endings.specs.specs.Determined.{EachRunFollows}
+use Rattle.aom_endings.specs.Determined.{EachRunFollows}
 
 -- the same, but for one stage
 abbrev said : {A : Type 0} → (ℕ → A) → ℕ → A → ℕ → A

@@ -15,11 +15,11 @@ use Rattle.aom_transcript.specs.declared.event.Event.{Event}
 use Rattle.aom_transcript.specs.declared.event.Event.TheVariants.{Client as Of_client, Kill, Tell}
 use Rattle.aom_transcript.specs.declared.event.TimedEvent.{TimedEvent}
 use Rattle.aom_transcript.specs.declared.line.Line.{Line}
-use Rattle.aom_endings.proofs.proofs.NamedCells.{cond_applied}
+use Rattle.aom_endings.proofs.NamedCells.{cond_applied}
 use Rattle.aom_endings.proofs.Naming.{polling_named}
 use Rattle.aom_endings.proofs.Hearing.{none_heard, thing_unserved, unnamed_unserved}
 use Rattle.aom_endings.specs.Hearing.{Follows, HasNoNative, Oracle, is_heard, is_polling, stages}
-use Rattle.aom_endings.specs.specs.Determined.{NothingIsHeard}
+use Rattle.aom_endings.specs.Determined.{NothingIsHeard}
 
 -- the same turn, where the native that is polled completes that
 abbrev told : Option Completion → Turning → Turning

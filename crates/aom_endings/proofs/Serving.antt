@@ -10,7 +10,7 @@ use Rattle.aom_sound.specs.Destruction.{first_session, seat_or}
 use Rattle.aom_sound.specs.Places.{Asked, Cell, Close_of, Connect_of, Elsewhere, Message_of, Object, Place, Queued, Service, Session, held, service_of, set_service}
 use Rattle.aom_sound.specs.Servers.{all_unslotted, asked_last, has_more, is_queue_of, opened, parted, reserved, rest_of, taken_first, unslotted, without_queue}
 use Rattle.aom_sound.specs.State.{Seat}
-use Rattle.aom_endings.proofs.proofs.NamedCells.{cond_applied, held_renamed, same_name}
+use Rattle.aom_endings.proofs.NamedCells.{cond_applied, held_renamed, same_name}
 use Rattle.aom_endings.specs.Names.{IsOneToOne, renamed_asked, renamed_cell, renamed_cells, renamed_client, renamed_clients, renamed_object, renamed_place, renamed_queue, renamed_seat, renamed_service}
 
 module _ (names : ℕ → ℕ) where

@@ -30,12 +30,12 @@ use Rattle.aom_sound.specs.State.{Choice, Closing, Destroy, Dispatched, Frame, G
 use Rattle.aom_sound.specs.WellTyped.{WellTyped}
 use Rattle.aom_sound.specs.Words.{here}
 use Rattle.aom_sound.specs.World.{Completes, Kills, Obeys, Picks, Polls, Strays, Turning, boot_state, heard_one, main_tasks, turned, turning, with_request}
-use Rattle.aom_endings.proofs.proofs.Remaining.{AllWait, all_wait, closing_there, dispatch_there, gone_apart, plain_there}
+use Rattle.aom_endings.proofs.Remaining.{AllWait, all_wait, closing_there, dispatch_there, gone_apart, plain_there}
 use Rattle.aom_endings.proofs.Keeping.{calm_ended, there_by}
 use Rattle.aom_endings.proofs.Moving.{dispatch_resumed, effect_there, returned_there, unwound_there}
 use Rattle.aom_endings.proofs.Asking.{commanded_waits, picked_there, same_waits}
 use Rattle.aom_endings.proofs.Vanishing.{calm_without, there_vanished}
-use Rattle.aom_endings.specs.specs.Determined.{AllStaysThere}
+use Rattle.aom_endings.specs.Determined.{AllStaysThere}
 use Rattle.aom_endings.specs.There.{AllThere, AreThere, IsAtPlace, dispatch_of}
 
 -- ---- as it boots

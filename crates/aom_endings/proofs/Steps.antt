@@ -20,13 +20,13 @@ use Rattle.aom_sound.specs.Enlisted.{part_of}
 use Rattle.aom_sound.specs.Moves.{IsOpen, answered, asked, asking, counted, dispatch_ends, does, failed, goes_line, handled, is_counted, is_refused, main_ends, makes_cell, needs, needs_end, object_ends, served_so, stage_ends, step, step_instr, step_task, written, written_instr, written_task}
 use Rattle.aom_sound.specs.Places.{Cell, Elsewhere, Going, In_service, Object, Register, Root, held, named, service_of, without}
 use Rattle.aom_sound.specs.State.{A_mark, Accept_left, Accepted, Accepts, An_object, An_operation, Answered, Asks, Choice, Closing, CompletedTwice, Destroy, Dispatch, Dispatched, Frame, Goes, IsStuck, Item, Main_left, NullOrDead, Object_left, Of_main, Of_object, Of_root, Of_server, Parts, Run, Seat, Service_left, Serves, Stage, State, Task, Trapped, Unwind, guarded, resumed}
-use Rattle.aom_endings.proofs.proofs.NamedCells.{cells_counted, cond_applied, held_renamed, moved_renamed, named_renamed, owns_nothing_kept, requested_kept, tasks_counted, without_renamed}
+use Rattle.aom_endings.proofs.NamedCells.{cells_counted, cond_applied, held_renamed, moved_renamed, named_renamed, owns_nothing_kept, requested_kept, tasks_counted, without_renamed}
 use Rattle.aom_endings.proofs.Doing.{begun_renamed, dealt_renamed, destructed_renamed, does_renamed, needs_kept, told_renamed}
 use Rattle.aom_endings.proofs.Needs.{guarded_renamed, place_owns, register_renamed, whole_kept}
 use Rattle.aom_endings.proofs.Lines.{dispatch_lines_kept, message_line_kept, queue_lines_kept}
 use Rattle.aom_endings.proofs.Serving.{each_unslotted_renamed, first_session_renamed, parted_client_renamed, parts_renamed, queue_ended_renamed, service_renamed, sessions_ended_renamed, with_client_renamed, without_queue_renamed}
 use Rattle.aom_endings.proofs.Turning.{turns_so, writes_turn_so, answers_so}
-use Rattle.aom_endings.specs.specs.Determined.{NamesMeanNothing}
+use Rattle.aom_endings.specs.Determined.{NamesMeanNothing}
 use Rattle.aom_endings.specs.Names.{IsOneToOne, renamed, renamed_cells, renamed_choice, renamed_clients, renamed_queue, renamed_stage, renamed_dispatch, renamed_frame, renamed_object, renamed_outcome, renamed_seat, renamed_tasks, renamed_heard}
 
 module _ (names : ℕ → ℕ) (one_to_one : IsOneToOne names) where

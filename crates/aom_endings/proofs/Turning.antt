@@ -16,7 +16,7 @@ use Rattle.aom_sound.specs.World.{Candidate, Completes, Completion, Cuts, Heard,
 use Rattle.aom_transcript.specs.declared.event.Event.{Event}
 use Rattle.aom_transcript.specs.declared.event.Event.TheVariants.{Client as Of_client, Kill, Tell}
 use Rattle.aom_transcript.specs.declared.event.TimedEvent.{TimedEvent}
-use Rattle.aom_endings.proofs.proofs.NamedCells.{cell_at_renamed, cond_applied, cond_mapped, each_renamed, held_renamed, moved_renamed, requested_kept, set_request_renamed, word_field_kept}
+use Rattle.aom_endings.proofs.NamedCells.{cell_at_renamed, cond_applied, cond_mapped, each_renamed, held_renamed, moved_renamed, requested_kept, set_request_renamed, word_field_kept}
 use Rattle.aom_endings.proofs.Commands.{commanded_renamed, refusal_kept}
 use Rattle.aom_endings.proofs.Lines.{serve_kept}
 use Rattle.aom_endings.proofs.Naming.{polling_named, written_named}

@@ -1,7 +1,7 @@
 pub mod Names
 pub mod There
 pub mod Hearing
-pub mod specs
+pub mod Determined
 pub mod Owed
 pub mod Laws
 pub mod Endings

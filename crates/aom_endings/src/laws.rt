@@ -1,5 +1,5 @@
 //! The laws, each as the contract of a function that does nothing.
-ghost use Rattle.aom_endings.specs.specs.Determined.{AllStaysThere, EachRunFollows, MovesStayAlike, NamesMeanNothing, NothingIsHeard, TextIsDetermined, TurnsStayAlike};
+ghost use Rattle.aom_endings.specs.Determined.{AllStaysThere, EachRunFollows, MovesStayAlike, NamesMeanNothing, NothingIsHeard, TextIsDetermined, TurnsStayAlike};
 ghost use Rattle.aom_endings.specs.Laws.{BootOwesNothing, MovesFollowCalls, TurnsKillOrComplete, RunsKeepSessions, OwesAtOne};
 ghost use Rattle.aom_endings.specs.Endings.{DispatchesAreSpent, RunsCanEnd};
 

@@ -18,7 +18,7 @@ use Rattle.aom_transcript.specs.declared.line.Ending.TheVariants as endings
 use Rattle.aom_endings.proofs.Oracles.{each_run_follows}
 use Rattle.aom_endings.proofs.Polling.{nothing_is_heard}
 use Rattle.aom_endings.specs.Hearing.{Follows, Oracle}
-use Rattle.aom_endings.specs.specs.Determined.{TextIsDetermined}
+use Rattle.aom_endings.specs.Determined.{TextIsDetermined}
 use Rattle.aom_endings.proofs.Alike.{alike_counted}
 use Rattle.aom_transcript.specs.Text.{transcript}
 use Rattle.aom_steps.specs.Runs.{TypedRunsWell}

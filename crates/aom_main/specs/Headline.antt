@@ -9,7 +9,7 @@ use Rattle.aom_transcript.specs.declared.line.Line.{Line}
 use Rattle.aom_transcript.specs.declared.line.Ending.{Ending}
 use Rattle.aom_transcript.specs.declared.line.Ending.TheVariants as endings
 use Rattle.aom_endings.specs.Hearing.{Follows, Oracle}
-use Rattle.aom_endings.specs.specs.Determined.{IsDetermined}
+use Rattle.aom_endings.specs.Determined.{IsDetermined}
 use Rattle.aom_run.specs.declared.fault.BootFault.TheVariants.{TooFewNatives}
 use Rattle.aom_run.specs.declared.machine.Machine.{Machine}
 use Rattle.aom_transcript.specs.Text.{ended, transcript}

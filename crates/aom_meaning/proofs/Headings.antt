@@ -24,7 +24,7 @@ use Rattle.aom_syntax.specs.declared.keyword.Keyword.TheVariants as k
 use Rattle.aom_syntax.specs.declared.method.Heading.{Heading}
 use Rattle.aom_syntax.specs.declared.scope.Scope.{Scope}
 use Rattle.aom_asm.proofs.Counting.{begins_with}
-use Rattle.aom_syntax.proofs.Headings.{stands_for}
+use Rattle.aom_syntax.proofs.RangedHeadings.{stands_for}
 use Rattle.aom_syntax.proofs.Within.{ok_is, steps}
 use Rattle.aom_meaning.proofs.Readings.{Takes, Whole, done, first, gives as gives_it, in_turn, last, only_two, sees, settle, takes_any_keyword}
 use Rattle.aom_meaning.specs.Meaning.{AreStates, GivesMeans, HeadingMeans, IsArgument, IsList, IsNumbered, IsThing, Names, SaidOr, SaidOrNone, states}

@@ -24,7 +24,7 @@ use Rattle.aom_syntax.specs.Reading.{◌>>=◌, as_name, giving, next, nothing_m
 use Rattle.aom_syntax.specs.Words.{words_operands}
 use Rattle.aom_instructions.specs.declared.mnemonic.Mnemonic.{Mnemonic}
 use Rattle.aom_asm.proofs.Counting.{found_passes}
-use Rattle.aom_syntax.proofs.Names.{at_place}
+use Rattle.aom_syntax.proofs.RangedNames.{at_place}
 use Rattle.aom_syntax.proofs.Within.{ok_is, passed, steps, saw_word}
 use Rattle.aom_meaning.proofs.Readings.{Takes, Whole, first, in_turn, last, regroup, sees, takes_word}
 use Rattle.aom_meaning.proofs.Statements.{label_cut}

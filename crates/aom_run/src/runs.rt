@@ -2,7 +2,7 @@
 ghost use Rattle.std.specs.Prelude.{ℕ, true, ◌≡◌, ◌+◌, ◌<◌, ◌≤◌, All, take, IfNone, IfSome};
 ghost use Rattle.aom_sound.specs.Places.{count_cells};
 ghost use Rattle.aom_sound.specs.State.{State};
-ghost use Rattle.aom_endings.specs.specs.Determined.{IsDetermined};
+ghost use Rattle.aom_endings.specs.Determined.{IsDetermined};
 ghost use Rattle.aom_transcript.specs.Text.{ended, end_text};
 ghost use Rattle.aom_lines.specs.Turn.{step_lines};
 ghost use Rattle.aom_run.specs.Outcomes.{outcome_of};

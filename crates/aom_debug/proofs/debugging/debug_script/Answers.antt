@@ -5,7 +5,7 @@ use Rattle.aom_main.specs.Untold.{Untold}
 use Rattle.aom_main.proofs.Acceptance.{acceptable_of}
 use Rattle.aom_debug.specs.Conversing.{Given}
 use Rattle.aom_debug.specs.Answers.{DebugAnswers}
-use Rattle.aom_debug.proofs.proofs.Statuses.{broken_of, by_done, held_of, unbegun}
+use Rattle.aom_debug.proofs.Statuses.{broken_of, by_done, held_of, unbegun}
 use Rattle.aom_debug.proofs.debugging.debug_script.Goals as goal
 
 pub returns-in-Err : goal.returns-in-Err

@@ -1,6 +1,6 @@
 -- The accepted image is the one that the bytes spell. Bytes that are none have a fault, and so has want of memory.
 use Rattle.std.proofs.Common.{length, refl}
-use Rattle.aom_debug.proofs.proofs.Statuses.{unaccepted}
+use Rattle.aom_debug.proofs.Statuses.{unaccepted}
 use Rattle.aom_debug.proofs.debugging.try_debug.Goals as goal
 
 pub returns-in-Ok : goal.returns-in-Ok

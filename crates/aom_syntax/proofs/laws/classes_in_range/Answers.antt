@@ -1,4 +1,4 @@
-use Rattle.aom_syntax.proofs.Classes.{class_within}
+use Rattle.aom_syntax.proofs.RangedClasses.{class_within}
 use Rattle.aom_syntax.proofs.laws.classes_in_range.Goals as goal
 
 pub returns : goal.returns

@@ -1,4 +1,4 @@
-use Rattle.aom_syntax.proofs.Headers.{header_within}
+use Rattle.aom_syntax.proofs.RangedHeaders.{header_within}
 use Rattle.aom_syntax.proofs.laws.headers_in_range.Goals as goal
 
 pub returns : goal.returns

@@ -1,4 +1,4 @@
-use Rattle.aom_syntax.proofs.Headings.{heading_within}
+use Rattle.aom_syntax.proofs.RangedHeadings.{heading_within}
 use Rattle.aom_syntax.proofs.laws.headings_in_range.Goals as goal
 
 pub returns : goal.returns

@@ -1,4 +1,4 @@
-use Rattle.aom_syntax.proofs.Instructions.{instruction_within}
+use Rattle.aom_syntax.proofs.RangedInstructions.{instruction_within}
 use Rattle.aom_syntax.proofs.laws.instructions_in_range.Goals as goal
 
 pub returns : goal.returns

@@ -19,7 +19,7 @@ use Rattle.aom_transcript.specs.declared.line.Line.{Line}
 use Rattle.aom_endings.proofs.Staying.{all_stays_there}
 use Rattle.aom_endings.specs.There.{AllThere}
 use Rattle.aom_endings.proofs.Alike.{move_alike, turn_alike, turn_writes_alike, writes_alike}
-use Rattle.aom_endings.specs.specs.Determined.{Begins, TextIsDetermined}
+use Rattle.aom_endings.specs.Determined.{Begins, TextIsDetermined}
 use Rattle.aom_endings.specs.Names.{AlikeOutcomes, AreAlike, renamed_tasks}
 use Rattle.aom_endings.specs.Hearing.{Follows, Oracle, is_heard, is_polling, stages}
 use Rattle.aom_endings.proofs.Hearing.{heard_kept}

@@ -24,9 +24,9 @@ use Rattle.aom_syntax.specs.Methods.{after_label, instruction, named_mnemonic}
 use Rattle.aom_syntax.specs.declared.scope.Scope.{Scope}
 use Rattle.aom_instructions.specs.declared.mnemonic.Mnemonic.{Mnemonic}
 use Rattle.aom_syntax.proofs.Within.{Within, after, giving_within, next_within}
-use Rattle.aom_syntax.proofs.Names.{all_known, used_below}
+use Rattle.aom_syntax.proofs.RangedNames.{all_known, used_below}
 use Rattle.aom_syntax.proofs.Numbers.{signed_within}
-use Rattle.aom_syntax.proofs.Operands.{AreRounds, depth_within, field_within, last_most, last_within, rounds_within, target_within, word_field_within}
+use Rattle.aom_syntax.proofs.RangedOperands.{AreRounds, depth_within, field_within, last_most, last_within, rounds_within, target_within, word_field_within}
 
 module _ (scope : Scope) (strict : scope.is_strict ≡ true) (labels : List (List ℕ)) where
   abbrev bounds : Limits

@@ -20,9 +20,9 @@ use Rattle.aom_syntax.specs.declared.keyword.Keyword.TheVariants as k
 use Rattle.aom_syntax.specs.declared.scope.Scope.{Scope}
 use Rattle.aom_syntax.specs.Ranges.{ClassIsRead}
 use Rattle.aom_syntax.proofs.Within.{Within, after, failing_within, giving_within, next_within, seen_within}
-use Rattle.aom_syntax.proofs.Names.{IsKnown, declared_below, used_below}
+use Rattle.aom_syntax.proofs.RangedNames.{IsKnown, declared_below, used_below}
 use Rattle.aom_syntax.proofs.Numbers.{Between, number_between, optional_between}
-use Rattle.aom_syntax.proofs.proofs.RangedLists.{ListFits, listed_fits, thing_fits}
+use Rattle.aom_syntax.proofs.RangedLists.{ListFits, listed_fits, thing_fits}
 
 -- ---- kinds
 

@@ -26,9 +26,9 @@ use Rattle.aom_syntax.specs.declared.method.Heading.{Heading}
 use Rattle.aom_syntax.specs.declared.scope.Scope.{Scope}
 use Rattle.aom_syntax.specs.Ranges.{HeadingIsRead, IsSettled}
 use Rattle.aom_syntax.proofs.Within.{Within, after, either, failing_within, giving_within, next_within, ok_is, seen_within, marked_or}
-use Rattle.aom_syntax.proofs.Names.{IsKnown, all_known, declared_below, used_below}
-use Rattle.aom_syntax.proofs.proofs.RangedLists.{ListFits, listed_fits, thing_fits, thing_within}
-use Rattle.aom_syntax.proofs.States.{AreStates, after_below, all_few, before_below, flags_below, states_within, words_few}
+use Rattle.aom_syntax.proofs.RangedNames.{IsKnown, all_known, declared_below, used_below}
+use Rattle.aom_syntax.proofs.RangedLists.{ListFits, listed_fits, thing_fits, thing_within}
+use Rattle.aom_syntax.proofs.RangedStates.{AreStates, after_below, all_few, before_below, flags_below, states_within, words_few}
 use Rattle.aom_image.proofs.Given.{some_given}
 
 -- ---- what an accept gives

@@ -9,7 +9,7 @@ use Rattle.aom_syntax.specs.Reading.{giving, keyword, next, nothing_more, number
 use Rattle.aom_syntax.specs.declared.keyword.Keyword.TheVariants as k
 use Rattle.aom_syntax.specs.declared.scope.Scope.{Scope}
 use Rattle.aom_syntax.proofs.Within.{Within, after, either, giving_within, next_within}
-use Rattle.aom_syntax.proofs.Names.{all_known, used_below}
+use Rattle.aom_syntax.proofs.RangedNames.{all_known, used_below}
 use Rattle.aom_syntax.proofs.Numbers.{Between, number_between, optional_between}
 
 module _ (scope : Scope) (strict : scope.is_strict ≡ true) where

@@ -16,7 +16,7 @@ use Rattle.aom_syntax.specs.Reading.{◌>>=◌, as_name, word}
 use Rattle.aom_syntax.specs.Classes.{class_of, elements, listed, thing, thing_of}
 use Rattle.aom_syntax.specs.declared.scope.Scope.{Scope}
 use Rattle.aom_syntax.proofs.Within.{Within, ok_is, passed, seen_within, steps, marked_or}
-use Rattle.aom_syntax.proofs.Names.{IsKnown, referred_below}
+use Rattle.aom_syntax.proofs.RangedNames.{IsKnown, referred_below}
 
 -- so few elements, and each in its range
 pub record ListFits {X : Type 0} (P : X → Type 0) (most : ℕ) (xs : List X) : Type 0 where
