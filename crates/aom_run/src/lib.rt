@@ -7,7 +7,6 @@
 #![tactic(auto)]
 
 mod asking;
-mod between;
 mod dispatches;
 mod fault;
 mod machine;
@@ -15,6 +14,7 @@ mod outcome;
 mod runs;
 mod sink;
 mod turns;
+mod waiting;
 
 pub use dispatches::write_lines;
 pub use fault::BootFault;
