@@ -14,7 +14,7 @@ use Rattle.aom_meaning.specs.Texts.{all_words}
 use Rattle.aom_meaning.specs.Denotes.{Denotes, names_of}
 use Rattle.aom_meaning.specs.Meaning.{ClassMeans, InstructionMeans, MethodMeans, labels_of}
 use Rattle.aom_meaning.specs.Source.{InstructionText, MethodText, class_words, classes_of, declared_statements, header_words, instruction_words, methods_of}
-use Rattle.aom_explain.specs.Declared.{begins, begins_with, image_statement, instruction_statement, part}
+use Rattle.aom_explain.specs.Declarations.{begins, begins_with, image_statement, instruction_statement, part}
 use Rattle.aom_explain.specs.Laws.{DeclaresClass, DeclaresMethod, words_of}
 use Rattle.aom_explain.proofs.Cuts.{filter_map, filter_no, part_map, part_no}
 use Rattle.aom_explain.proofs.Sources.{class_passes, code_found, method_passes, method_words, pair_at}

@@ -16,7 +16,7 @@ use Rattle.aom_meaning.proofs.Statements.{label_cut}
 use Rattle.aom_meaning.specs.Meaning.{Pairwise}
 use Rattle.aom_meaning.specs.Source as source
 use Rattle.aom_meaning.specs.Source.{Declaration, InstructionText, MethodText, class_words, classes_of, declared_statements, end_words, heading_words, instruction_words, label_words, methods_of}
-use Rattle.aom_explain.specs.Declared.{begins_with, part}
+use Rattle.aom_explain.specs.Declarations.{begins_with, part}
 use Rattle.aom_explain.proofs.Cuts.{filter_no, filter_yes, part_first, part_no, part_yes}
 
 -- ---- what an instruction and an end do not begin with

@@ -8,7 +8,7 @@ use Rattle.aom_text.specs.declared.text.Statement.{Statement}
 use Rattle.aom_meaning.specs.Denotes.{Denotes, names_of}
 use Rattle.aom_meaning.specs.Meaning.{ClassMeans, InstructionMeans, MethodMeans, Names, labels_of}
 use Rattle.aom_meaning.specs.Source.{ClassText, InstructionText, MethodText, class_words, header_words, heading_words, instruction_words}
-use Rattle.aom_explain.specs.Declared.{class_statement, image_statement, instruction_statement, method_statement}
+use Rattle.aom_explain.specs.Declarations.{class_statement, image_statement, instruction_statement, method_statement}
 
 -- the words of a statement, where one was found
 abbrev pub words_of : Option Statement → Option (List (List ℕ))

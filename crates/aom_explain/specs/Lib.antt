@@ -1,4 +1,4 @@
-pub mod Declared
+pub mod Declarations
 pub mod Laws
 pub mod Compared
 pub mod Entries

@@ -5,7 +5,7 @@ use Rattle.aom_budget.specs.declared.fault.BudgetFault.{BudgetFault}
 use Rattle.aom_budget.specs.declared.fault.BudgetFault.TheVariants.{OverBudget, TooDeep, CleanupTooDeep, OutOfMemory}
 use Rattle.aom_budget.specs.declared.fault.Payer.{Payer}
 use Rattle.aom_budget.specs.declared.fault.Payer.TheVariants.{Main, Class}
-use Rattle.aom_explain.specs.Declared.{class_statement, image_statement, instruction_statement, method_statement}
+use Rattle.aom_explain.specs.Declarations.{class_statement, image_statement, instruction_statement, method_statement}
 use Rattle.aom_text.specs.declared.text.Statement.{Statement}
 
 -- words, each behind a space

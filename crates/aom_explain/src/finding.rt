@@ -1,7 +1,7 @@
 //! Statements, by what they declare.
 ghost use Rattle.std.specs.Prelude.{◌≡◌, ◌≤◌, ◌+◌, ◌^◌, [], length, option_map, slice_get, unwrap_or};
 ghost use Rattle.std.specs.List.{filter};
-ghost use Rattle.aom_explain.specs.Declared.{begins_with, begins, class_statement, image_statement, instruction_statement, method_statement, part};
+ghost use Rattle.aom_explain.specs.Declarations.{begins_with, begins, class_statement, image_statement, instruction_statement, method_statement, part};
 
 use aom_syntax::Keyword;
 use aom_text::{Statement, Text, Words};

@@ -8,7 +8,7 @@
 //! `specs/Sources.antt` says. `put_known` writes what is known where a method stands (`specs/Known.antt`).
 //!
 //! The way back from an image to its text: `image_statement`, `class_statement`, `method_statement` and `instruction_statement` answer
-//! the statements, with their lines, that `specs/Declared.antt` finds in a text by counting those that begin with `class` or `method`.
+//! the statements, with their lines, that `specs/Declarations.antt` finds in a text by counting those that begin with `class` or `method`.
 //! That they are the right ones where the text denotes the image is the law `statements_declare`. Nothing here knows which command was
 //! refused, nor where a text goes.
 #![tactic(auto)]

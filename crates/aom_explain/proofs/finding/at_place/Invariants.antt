@@ -1,6 +1,6 @@
 -- What is at the place in the text is in the rest of it, with as many before it as are left.
 use Rattle.std.proofs.Common.{◌≡◌, length, slice_get}
-use Rattle.aom_explain.specs.Declared.{begins, part}
+use Rattle.aom_explain.specs.Declarations.{begins, part}
 use Rattle.aom_explain.proofs.finding.at_place.Given as goal
 
 abbrev pub invariant-loop-statement : goal.invariant-loop-statement

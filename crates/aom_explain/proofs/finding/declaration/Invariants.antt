@@ -1,7 +1,7 @@
 -- What is sought in the text is what is sought in the rest of it, with as many before it as are left.
 use Rattle.std.proofs.Common.{◌≡◌, ◌+◌, length, slice_get}
 use Rattle.std.specs.List.{filter}
-use Rattle.aom_explain.specs.Declared.{begins, part}
+use Rattle.aom_explain.specs.Declarations.{begins, part}
 use Rattle.aom_explain.proofs.finding.declaration.Given as goal
 
 abbrev pub invariant-loop-statement : goal.invariant-loop-statement
