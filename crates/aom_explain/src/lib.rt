@@ -32,6 +32,7 @@ mod word;
 
 pub use compared::put_compared;
 pub use entry::{Entry, put_entry};
+pub use known::put_known;
 pub use laws::statements_declare;
 pub use place::{put_line, put_method};
 pub use source::{put_declared, put_source};
