@@ -1,4 +1,4 @@
-"""Edits of the definitions of a crate of laws, side by side in one check. Each has copies of its own: of the files that it changes,
+"""Edits of the definitions that laws tell of, side by side in one check. Each has copies of its own: of the files that it changes,
 of those that stand on them as far as the law that shows it reaches, and of that law. So a law that fails says nothing of another edit."""
 
 import os
@@ -10,6 +10,7 @@ from edit_files import read_text
 LAWS, ROOT = "src/laws.rt", "src/lib.rt"
 USE = re.compile(r"(?m)^ghost use (\S+?)\.\{([^}]*)\};$")
 COPY = re.compile(r"(?:\./)?((?:specs|proofs)/Edited\d+_\w+\.antt|src/edited_\d+\.rt|proofs/edited_\d+/\w+/Answers\.antt):")
+TOLD = re.compile(r"fn \w+::edited_\d+::")
 # a file can say which files stand below it
 BELOW = re.compile(r"(?m)^(?:pub )?mod \w+\n")
 
@@ -34,7 +35,7 @@ class Copied:
 
 
 class Laws:
-    """A crate that has laws alone: functions that do nothing. Its modules are the files of specs/ and proofs/, but for the laws' own proofs."""
+    """The laws of a crate: functions that do nothing. Its modules are the files of specs/ and proofs/, but for the laws' own proofs."""
 
     def __init__(self, crate, folder):
         self.crate, self.folder = crate, folder
@@ -110,16 +111,15 @@ class Laws:
         return Copied(edit, law, module, texts)
 
 
-def is_of_laws(folder):
-    """Whether a crate has laws alone."""
-    return {it for _, _, names in os.walk(f"{folder}/src") for it in names} == {"laws.rt", "lib.rt"} and not re.search(
-        r"\S", re.sub(r"(?m)^(//.*|ghost use .*|pub fn \w+\(\)\n(?:    .+\n)*\{\})$", "", read_text(f"{folder}/{LAWS}"))
-    )
+def has_laws_apart(folder):
+    """Whether a crate has a file of laws alone."""
+    path = f"{folder}/{LAWS}"
+    return os.path.isfile(path) and not re.search(r"\S", re.sub(r"(?m)^(//.*|ghost use .*|pub fn \w+\(\)\n(?:    .+\n)*\{\})$", "", read_text(path)))
 
 
 def copies_of(crate, folder, edits, places):
-    """The edits of a crate of laws that can be tried side by side, as each is shown by one law."""
-    if not is_of_laws(folder):
+    """The edits of definitions that can be tried by copies, as each is shown by one law."""
+    if not has_laws_apart(folder):
         return []
     laws = Laws(crate, folder)
     wanted = [(it, *places[it.name]) for it in edits if len(places.get(it.name, [])) == 1]
@@ -127,12 +127,23 @@ def copies_of(crate, folder, edits, places):
     return [it for it in found if it]
 
 
-def texts_beside(folder, copies):
-    """The texts of a check of these copies: of what is copied, and of the files that declare it."""
-    texts = {path: text for it in copies for path, text in it.texts.items()}
+def is_of_copies(line):
+    """Whether a line of a check tells of copies."""
+    return bool(COPY.match(line) or TOLD.match(line))
+
+
+def texts_beside(folder, copies, texts):
+    """These texts of a check with those of copies beside them: of what is copied, and of the files that declare it."""
+    if not copies:
+        return texts
+    texts = {**texts, **{path: text for it in copies for path, text in it.texts.items()}}
+
+    def add(path, lines):
+        texts[path] = (texts.get(path) or read_text(f"{folder}/{path}")) + "".join(f"{it}\n" for it in lines)
+
     for part in ("specs", "proofs"):
         new = [it.split("/")[1].removesuffix(".antt") for it in texts if it.startswith(f"{part}/Edited")]
         if new:
-            texts[f"{part}/Lib.antt"] = read_text(f"{folder}/{part}/Lib.antt") + "".join(f"pub mod {it}\n" for it in new)
-    texts[ROOT] = read_text(f"{folder}/{ROOT}") + "".join(f"pub mod {it.module};\n" for it in copies)
+            add(f"{part}/Lib.antt", [f"pub mod {it}" for it in new])
+    add(ROOT, [f"pub mod {it.module};" for it in copies])
     return texts

@@ -7,7 +7,7 @@ import threading
 
 import rattle
 from batches import plan, refused_at, shown, texts_of, unread
-from copies import copies_of, texts_beside
+from copies import copies_of, is_of_copies, texts_beside
 from edit_files import edit_faults, edit_files, places_of, read_edit, write_text
 from goals import goals_of, left_open, offered, without_tries, write_answers
 from holes import make_holes, with_facts
@@ -123,8 +123,9 @@ class Trial:
         together, alone = plan(name, folder, [it for it in edits if not it.fault])
         copies = copies_of(name, folder, alone, self.places[name])
         left = [it for it in alone if it.name not in [one.edit.name for one in copies]]
-        adders = [lambda it=it: self.add_batch(name, it) for it in together]
-        adders += [lambda: self.add(name, len(copies), lambda: self.try_copies(name, copies))] if copies else []
+        # copies go with the first batch
+        batches = together or ([[]] if copies else [])
+        adders = [lambda it=it, own=copies if it is batches[0] else (): self.add_batch(name, it, own) for it in batches]
         adders += [lambda it=it: self.add_alone(name, it) for it in left]
         at_once = len(adders) if kept else 1
         self.rest[name] = adders[at_once:]
@@ -143,11 +144,14 @@ class Trial:
         needs = 10**9 + LINE * self.weight[name]
         self.lanes.add(self.weight[name] + more, lambda: name in self.given_up or work(), needs)
 
-    def add_batch(self, name, batch):
-        if len(batch) == 1:
-            self.add_alone(name, batch[0][0], [it.path() for it in batch[0][1]])
+    def add_batch(self, name, batch, copies=()):
+        """Adds the check of a batch, and of copies beside it."""
+        if len(batch) + len(copies) > 1:
+            self.add(name, len(batch) + len(copies), lambda: self.try_batch(name, batch, copies))
         elif batch:
-            self.add(name, len(batch), lambda: self.try_batch(name, batch))
+            self.add_alone(name, batch[0][0], [it.path() for it in batch[0][1]])
+        elif copies:
+            self.add_alone(name, copies[0].edit)
 
     def add_alone(self, name, edit, functions=()):
         """Adds the check of one edit: first of the functions that may show it, if any are known."""
@@ -194,17 +198,22 @@ class Trial:
             os.makedirs(os.path.dirname(to), exist_ok=True)
             self.kept[name] = shutil.move(kept, to)
 
-    def try_batch(self, name, batch):
-        texts = texts_of(self.house.folder(name), [it for it, _ in batch])
+    def try_batch(self, name, batch, copies=()):
+        """Tries edits of different functions together, and edits of definitions beside them, by their copies."""
+        folder = self.house.folder(name)
+        texts = texts_beside(folder, copies, texts_of(folder, [it for it, _ in batch]))
         functions = sorted({it.path() for _, turned in batch for it in turned})
-        own = with_facts(name, self.house.folder(name))
+        own = with_facts(name, folder)
         folders = {edit.name: {it.folder() for it in turned} - own for edit, turned in batch}
         goals = [it for edit in folders for it in self.goals[name].get(edit, []) if it.folder in folders[edit]]
-        status, lines = self.check_with("batches", name, texts, functions, goals)
+        kind = "batches" if batch else "side by side"
+        status, lines = self.check_with(kind, name, texts, functions + [it.path() for it in copies], goals)
         unknown = rattle.unknown_functions(lines)
         if unknown:
-            self.try_without(name, batch, unknown)
+            self.try_without(name, batch, unknown, copies)
             return
+        self.judge_copies(name, copies, status, lines)
+        lines = [it for it in lines if not is_of_copies(it)]
         proofs = {it.folder for it in left_open(lines, goals)}
         refused = shown(name, batch, status, without_tries(lines, goals), proofs)
         seen = [*goals, *offered(lines)]
@@ -220,10 +229,8 @@ class Trial:
         self.add_batch(name, left[:half])
         self.add_batch(name, left[half:])
 
-    def try_copies(self, name, copies):
-        """Tries edits of definitions side by side. What that does not show is tried alone."""
-        texts = texts_beside(self.house.folder(name), copies)
-        status, lines = self.check_with("side by side", name, texts, [it.path() for it in copies])
+    def judge_copies(self, name, copies, status, lines):
+        """Takes what a check says of copies. What it does not show is tried alone."""
         for it in copies:
             at = refused_at(status, lines, [it.path()])
             if at and not unread([one for one in lines if it.is_told_in(one)], it.texts):
@@ -231,13 +238,16 @@ class Trial:
             else:
                 self.add_alone(name, it.edit)
 
-    def try_without(self, name, batch, unknown):
+    def try_without(self, name, batch, unknown, copies):
         """Tries the edits alone whose functions a check knows by other names, and the others in a batch."""
         known = [it for it in batch if not any(turned.path() in unknown for turned in it[1])]
         for edit, _ in batch:
             if edit.name not in [it.name for it, _ in known]:
                 self.add_alone(name, edit)
-        self.add_batch(name, known)
+        self.add_batch(name, known, [it for it in copies if it.path() not in unknown])
+        for it in copies:
+            if it.path() in unknown:
+                self.add_alone(name, it.edit)
 
     def try_alone(self, name, edit, functions):
         """Tries an edit by the functions that may show it. The whole crate is the last word where these do not."""
