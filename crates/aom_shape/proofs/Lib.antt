@@ -1,3 +1,4 @@
+pub mod Pairs
 pub mod Sets
 pub mod Lists
 pub mod Piling
