@@ -1,4 +1,3 @@
-pub mod Pairs
 pub mod Sets
 pub mod Lists
 pub mod Piling

@@ -119,8 +119,8 @@ pub(crate) fn all_empty(declared: &[Thing], fillings: &[Filling]) -> bool
     if fillings.len() < declared.len() {
         return false;
     }
-    for index in 0..declared.len() {
-        if !fillings[index].is_empty() {
+    for (_, filling) in declared.iter().zip(fillings) {
+        if !filling.is_empty() {
             return false;
         }
     }

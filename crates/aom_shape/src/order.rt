@@ -10,22 +10,22 @@ ghost use Rattle.aom_shape.specs.declared.kind.Entry.{Entry};
 use crate::{Filling, Kind, Known, Shape, Why};
 use bitflags::Flags;
 
-fn kinds_say_no_more(a: &[Kind; 16], b: &[Kind; 16]) -> bool
+fn kinds_say_no_more(a: &[Kind], b: &[Kind]) -> bool
     ensures { result ≡ all_no_more a.now b.now }
 {
-    for index in 0..16 {
-        if !a[index].says_no_more(&b[index]) {
+    for (one, other) in a.iter().zip(b) {
+        if !one.says_no_more(other) {
             return false;
         }
     }
     true
 }
 
-fn fillings_say_no_more(a: &[Filling; 8], b: &[Filling; 8]) -> bool
+fn fillings_say_no_more(a: &[Filling], b: &[Filling]) -> bool
     ensures { result ≡ all_no_more_fillings a.now b.now }
 {
-    for index in 0..8 {
-        if !a[index].says_no_more(b[index]) {
+    for (one, other) in a.iter().zip(b) {
+        if !one.says_no_more(*other) {
             return false;
         }
     }
