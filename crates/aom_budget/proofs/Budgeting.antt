@@ -33,7 +33,7 @@ use Rattle.aom_bounds.proofs.Methods.{destructs_within, method_is_some}
 use Rattle.aom_bounds.proofs.Going.{going_alike, found_of}
 use Rattle.aom_bounds.proofs.Unique.{law_one}
 use Rattle.aom_budget.specs.Budgets.{BudgetsWithin, CostsWithin, IsBefore, IsOver, class_declares, class_price, declared_by, kind_declares, kind_price, payer_price, role_price}
-use Rattle.aom_budget.specs.Faults.{Refuses}
+use Rattle.aom_budget.specs.Faults.{Refuses, RefusesOrWants}
 use Rattle.aom_budget.specs.Figures.{ClassesWithin, IsWithin, TellsFirst, TellsOver, class_by, kind_by, main_by, payer_by, role_by, root_by}
 use Rattle.aom_budget.specs.Pricing.{ArePriced, destruction_by, price_by}
 use Rattle.aom_budget.specs.declared.fault.BudgetFault.{BudgetFault}
@@ -269,3 +269,16 @@ refuses_none p (OverBudget payer found most) linked h budgets within low = none_
 refuses_none p TooDeep linked h budgets within low = omega (arith, within.within h.1.method h.1.count h.1.frames, h.1.many)
 refuses_none p CleanupTooDeep linked h budgets within low = omega (arith, low.within h.2.method h.2.count h.2.heights, h.2.many)
 refuses_none p OutOfMemory linked h budgets within low = h
+
+-- what an image is refused for is told, and where it is within its limits memory was wanting
+pub told_or_wants : (p : Image) (fault : BudgetFault) → Refuses p fault → RefusesOrWants p fault
+told_or_wants p (OverBudget payer found most) h = h
+told_or_wants p TooDeep h = h
+told_or_wants p CleanupTooDeep h = h
+told_or_wants p OutOfMemory h = tt
+
+pub wants_memory : (p : Image) (fault : BudgetFault) → IsLinked p → RefusesOrWants p fault → BudgetsWithin p → DepthsWithin p → HeightsWithin p → fault ≡ OutOfMemory
+wants_memory p (OverBudget payer found most) linked h budgets within low = absurd (refuses_none p (OverBudget payer found most) linked h budgets within low)
+wants_memory p TooDeep linked h budgets within low = absurd (refuses_none p TooDeep linked h budgets within low)
+wants_memory p CleanupTooDeep linked h budgets within low = absurd (refuses_none p CleanupTooDeep linked h budgets within low)
+wants_memory p OutOfMemory linked h budgets within low = refl

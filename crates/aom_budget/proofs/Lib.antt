@@ -1,3 +1,4 @@
+pub mod Classes
 pub mod Mentioned
 pub mod Most
 pub mod Filling

@@ -87,6 +87,24 @@ impl Accepted {
     }
 }
 
+/// The figures of a checked image that keeps within its limits.
+fn kept_figures(alloc: Global, checked: &Checked) -> Result<Figures, BudgetFault>
+    ensures found { IfOk result (λ figures. AreFigures checked.now figures) }
+    ensures budgets { IfOk result (λ _. BudgetsWithin checked.now) }
+    ensures depths { IfOk result (λ _. HasDepths checked.now) }
+    ensures heights { IfOk result (λ _. HasHeights checked.now) }
+    ensures refused { IfErr result (λ fault. RefusesOrWants checked.now fault) }
+{
+    let figures = Figures::of_image(alloc, checked)?;
+    match figures.keep(checked) {
+        Ok(()) => Ok(figures),
+        Err(fault) => {
+            drop(figures);
+            Err(fault)
+        }
+    }
+}
+
 /// Accepts an image, or refuses it where a dispatch may take more steps than it declares, where a method may come to
 /// more than 256 frames, or to more than 1,024 cleanup entries. A refused image is dropped.
 pub fn accept(alloc: Global, checked: Checked) -> Result<Accepted, BudgetFault>
@@ -95,7 +113,11 @@ pub fn accept(alloc: Global, checked: Checked) -> Result<Accepted, BudgetFault>
     ensures complete { BudgetsWithin checked → DepthsWithin checked → HeightsWithin checked → IfErr result (λ fault. fault ≡ BudgetFault.OutOfMemory) }
 {
     checked.linked().facts();
-    let figures = Figures::of_image(alloc, &checked)?;
-    figures.keep(&checked)?;
-    Ok(Accepted { checked, figures })
+    match kept_figures(alloc, &checked) {
+        Ok(figures) => Ok(Accepted { checked, figures }),
+        Err(fault) => {
+            drop(checked);
+            Err(fault)
+        }
+    }
 }

@@ -45,7 +45,6 @@ fn object_class(kind: Kind) -> Option<ClassNumber>
     }
 }
 
-#[tactic(auto, unfolding(aom_image::specs::Views::class_in, aom_image::specs::Views::method_at))]
 pub(crate) fn class_of(linked: &Linked, method: MethodNumber) -> Option<ClassNumber>
     ensures { result ≡ method_class linked.now method }
 {

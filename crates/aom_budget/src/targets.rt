@@ -1,9 +1,9 @@
 //! Where an instruction goes on.
-ghost use Rattle.std.specs.Prelude.{◌≡◌, ◌++◌, [], ◌∷◌, ◌<◌, ◌^◌, suc};
+ghost use Rattle.std.specs.Prelude.{◌≡◌, ◌++◌, [], ◌∷◌, ◌<◌, ◌^◌, suc, bit_and};
 ghost use Rattle.aom_bounds.specs.Calls.{listed};
 ghost use Rattle.aom_budget.specs.Pricing.{null_targets, empty_targets, states_targets, targets_of};
 
-use aom_image::{Instr, States};
+use aom_image::{Instr, Place, States};
 use aom_rules::{enlisted, inactive, outstanding};
 use aom_shape::{Filling, Kind, Shape};
 use bitflags::Flags;
@@ -13,6 +13,13 @@ use bitflags::Flags;
 pub(crate) struct Targets {
     pub(crate) first: Option<usize>,
     pub(crate) second: Option<usize>,
+}
+
+/// A place as an index.
+fn index_of(place: Place) -> usize
+    ensures { result ≡ place }
+{
+    place.number() as usize
 }
 
 impl Targets {
@@ -64,10 +71,13 @@ impl Targets {
         }
     }
 
-    /// The next place in the first states, and that place in the others. A place for which there is no state is left out.
-    fn of_states(next: usize, here: States, to: usize, there: States) -> Targets
-        ensures { listed result.first ++ listed result.second ≡ states_targets next here.0 to there.0 }
+    /// The next place in the first of the states, and that place in the others. A place for which there is no state is left
+    /// out.
+    fn of_states(next: usize, states: States, first: States, to: usize, others: States) -> Targets
+        ensures { listed result.first ++ listed result.second ≡ states_targets next (bit_and states.0 first.0) to (bit_and states.0 others.0) }
     {
+        let here = states.intersection(first);
+        let there = states.intersection(others);
         match (here.is_empty(), there.is_empty()) {
             (false, false) => Targets::two(next, to),
             (false, true) => Targets::one(next),
@@ -83,27 +93,35 @@ impl Targets {
     {
         let next = place + 1;
         match *instr {
-            Instr::Jump(to) => Targets::one(to.number() as usize),
+            Instr::Jump(to) => Targets::one(index_of(to)),
             Instr::JumpEqual(_, _, to) | Instr::JumpLess(_, _, to) => {
-                Targets::two(next, to.number() as usize)
+                Targets::two(next, index_of(to))
             }
             Instr::JumpNull(register, to) => {
-                Targets::of_null(next, shape.register(register), to.number() as usize)
+                Targets::of_null(next, shape.register(register), index_of(to))
             }
             Instr::JumpEmpty(field, to) => {
-                Targets::of_empty(next, shape.field(field), to.number() as usize)
+                Targets::of_empty(next, shape.field(field), index_of(to))
             }
             Instr::JumpActive(to) => {
-                let here = shape.states().intersection(inactive());
-                let there = shape.states().intersection(outstanding());
-                Targets::of_states(next, here, to.number() as usize, there)
+                Targets::of_states(
+                    next,
+                    shape.states(),
+                    inactive(),
+                    index_of(to),
+                    outstanding(),
+                )
             }
             Instr::JumpAdded(to) => {
-                let here = shape.states().intersection(States::UNLISTED);
-                let there = shape.states().intersection(enlisted());
-                Targets::of_states(next, here, to.number() as usize, there)
+                Targets::of_states(
+                    next,
+                    shape.states(),
+                    States::UNLISTED,
+                    index_of(to),
+                    enlisted(),
+                )
             }
-            Instr::Next(_, to) => Targets::two(to.number() as usize, next),
+            Instr::Next(_, to) => Targets::two(index_of(to), next),
             Instr::Return(_) | Instr::Leave(_) => Targets::none(),
             _ => Targets::one(next),
         }

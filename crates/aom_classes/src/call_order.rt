@@ -96,9 +96,12 @@ fn may_run(image: &Image, method: usize, own: Option<ClassNumber>, instr: &Instr
 fn may_own(image: &Image, method: usize, things: &[Thing]) -> bool
     ensures { IsTrue result ↔ All (MentionsThing image.now method) things.now }
 {
-    things
-        .iter()
-        .all(|thing| may_mention_thing(image, method, *thing))
+    for thing in things {
+        if !may_mention_thing(image, method, *thing) {
+            return false;
+        }
+    }
+    true
 }
 
 #[tactic(auto, unfolding(aom_image::specs::Views::fields_in, aom_image::specs::Views::class_at))]
@@ -130,23 +133,36 @@ fn may_own_root(image: &Image, method: usize) -> bool
     }
 }
 
+fn may_take_each(image: &Image, method: usize, arguments: &[Argument]) -> bool
+    ensures { IsTrue result ↔ All (MentionsArgument image.now method) arguments.now }
+{
+    for argument in arguments {
+        if !may_take(image, method, *argument) {
+            return false;
+        }
+    }
+    true
+}
+
+fn may_run_each(image: &Image, number: usize, method: &Method) -> bool
+    ensures { IsTrue result ↔ All (RunsBelow image.now number method.now.class) method.now.code }
+{
+    for instr in method.code.as_slice() {
+        if !may_run(image, number, method.class, instr) {
+            return false;
+        }
+    }
+    true
+}
+
 fn is_call_ordered(image: &Image, number: usize, method: &Method) -> bool
     ensures { IsTrue result ↔ CallsOrdered image.now number method.now }
 {
-    let own = method.class;
-    method
-        .arguments
-        .as_slice()
-        .iter()
-        .all(|argument| may_take(image, number, *argument))
+    may_take_each(image, number, method.arguments.as_slice())
         && may_give(image, number, method.gives)
-        && may_own_fields(image, number, own)
+        && may_own_fields(image, number, method.class)
         && (!is_main(method) || may_own_root(image, number))
-        && method
-            .code
-            .as_slice()
-            .iter()
-            .all(|instr| may_run(image, number, own, instr))
+        && may_run_each(image, number, method)
 }
 
 fn is_each_call_ordered(image: &Image, methods: &[Method]) -> bool

@@ -54,7 +54,6 @@ pub fn link(alloc: Global, image: Image) -> Result<Linked, LinkFault>
 }
 
 /// The main of an image that keeps the conditions.
-#[tactic(auto, unfolding(crate::specs::Roles::main_of, crate::specs::Faults::Fails))]
 pub fn check_conditions(image: &Image) -> Result<MethodNumber, LinkFault>
     ensures ok { IfOk result (λ main. IsLinked image.now × (main_of image.now ≡ Some main)) }
     ensures err { IfErr result (λ fault. Fails image.now fault) }

@@ -69,11 +69,13 @@ pub fn needs_are_met(image: &Image) -> bool
 fn at_most_one(methods: &[Method], class: ClassNumber, role: Role) -> bool
     ensures { IsTrue result ↔ AtMostOne methods.now class role }
 {
-    methods
-        .iter()
-        .filter(|method| plays(class, role, method))
-        .count()
-        <= 1
+    let mut count: usize = 0;
+    for method in methods {
+        if plays(class, role, method) {
+            count += 1;
+        }
+    }
+    count <= 1
 }
 
 fn is_single(methods: &[Method], class: ClassNumber) -> bool
@@ -103,7 +105,13 @@ fn is_each_single(methods: &[Method], classes: &[ClassDecl]) -> bool
 fn has_one_main(methods: &[Method]) -> bool
     ensures { IsTrue result ↔ (count_by is_main methods.now ≤ 1) }
 {
-    methods.iter().filter(|method| is_main(method)).count() <= 1
+    let mut mains: usize = 0;
+    for method in methods {
+        if is_main(method) {
+            mains += 1;
+        }
+    }
+    mains <= 1
 }
 
 /// Whether no class has two methods of one role that it may have once, and there are no two mains.

@@ -242,20 +242,30 @@ impl Mnemonic {
     pub fn of(word: &[u8]) -> Option<Mnemonic>
         ensures { result ≡ mnemonic_of word.now }
     {
-        MNEMONICS
-            .iter()
-            .copied()
-            .find(|mnemonic| mnemonic.text() == word)
+        for mnemonic in &MNEMONICS {
+            if mnemonic.text() == word {
+                return Some(*mnemonic);
+            }
+        }
+        None
+    }
+
+    fn has_opcode(self, opcode: u8) -> bool
+        ensures { result ≡ ((row self).opcode == opcode) }
+    {
+        self.row().opcode() == opcode
     }
 
     /// The mnemonic of an opcode.
     pub fn with_opcode(opcode: u8) -> Option<Mnemonic>
         ensures { result ≡ with_opcode opcode }
     {
-        MNEMONICS
-            .iter()
-            .copied()
-            .find(|mnemonic| mnemonic.row().opcode() == opcode)
+        for mnemonic in &MNEMONICS {
+            if mnemonic.has_opcode(opcode) {
+                return Some(*mnemonic);
+            }
+        }
+        None
     }
 
     /// The table itself.

@@ -1,3 +1,4 @@
+pub mod Classes
 pub mod Resting
 pub mod Callees
 pub mod Telling

@@ -26,7 +26,6 @@ fn is_native_kind(kind: ClassKind) -> bool
 }
 
 /// A native serves the objects of the class.
-#[tactic(auto, unfolding(aom_roles::specs::Classes::kind_in, aom_image::specs::Views::class_at))]
 fn is_native(linked: &Linked, class: ClassNumber) -> bool
     ensures { result ≡ is_native_kind (kind_at linked.now class) }
 {

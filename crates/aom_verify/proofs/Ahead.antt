@@ -10,7 +10,8 @@ use Rattle.aom_shape.proofs.Lists.{at_set_other}
 use Rattle.aom_bounds.specs.Shapes.{Shapes, IsBelow}
 use Rattle.aom_verify.specs.Change.{IsChange, step_then, then}
 use Rattle.aom_verify.specs.States.{shapes_of}
-use Rattle.aom_verify.specs.Sweep.{AppliesAt, IsAhead, SameBut, SameUpTo}
+use Rattle.aom_shape.specs.Needs.{Flow}
+use Rattle.aom_verify.specs.Sweep.{AppliesAt, IsAhead, Joins, SameBut, SameUpTo}
 use Rattle.aom_verify.specs.declared.change.Change.{Change}
 use Rattle.aom_verify.specs.declared.change.Change.TheVariants.{Nothing}
 use Rattle.aom_verify.specs.declared.change.Step.{Step}
@@ -31,6 +32,14 @@ joined_ahead old new to seen step changed others ahead nothing = record { same =
     go : (step.change ≡ Nothing) ⊎ (seen < to) → SameUpTo seen old new
     go (inl none) pc le = let same : new ≡ old = rw none at changed in ap (λ s. at None s pc) same
     go (inr lt) pc le = others pc (λ e. absurd (omega (arith, e, le, lt)))
+
+-- what was joined at a place by a step with that change
+pub joined_at :
+    (old new : Shapes) (ways : List Flow) (to seen : ℕ) (change : Change) (step : Step) → Joins old new ways change → SameBut to old new → step.change ≡ change →
+    (step.is_behind ≡ false → (change ≡ Nothing) ⊎ (seen < to)) → (change ≡ Nothing → step.is_behind ≡ false) → Joins old new ways step.change × IsAhead seen old new step
+joined_at old new ways to seen change step joins others same ahead nothing =
+    let here : Joins old new ways step.change = rw same joins in
+    (here, joined_ahead old new to seen step here.changed others (rw same ahead) (rw same nothing))
 
 -- ---- nothing changes, and one step after another
 

@@ -1,5 +1,6 @@
 -- Where one is found, and where none is.
 use Rattle.std.proofs.Common.{◌<◌, ◌∙◌, IsTrue, refl, sym, arith}
+use Rattle.std.proofs.lemmas.Bool.{both_ways}
 use Rattle.aom_classes.specs.Roles.{plays}
 use Rattle.aom_classes.proofs.Each.{each_more, each_all, each_not}
 use Rattle.aom_classes.proofs.call_order.all_below.Goals as goal
@@ -17,7 +18,7 @@ returns-then-plays c =
 pub loop-number-preserved : goal.loop-number-preserved
 loop-number-preserved c =
     each_more (λ k d. IsTrue (plays c.args.class c.args.role d) → k < c.args.method) _ _ _ c.loop-number.invariant c.loop-number-test.true c.index-methods-number.is (
-    elim c.else-number-method.branch [ else-number-method-via-then-number-method+else-plays w ↦ λ is. absurd (cc) | else-number-method-via-else-number-method w ↦ λ is. w.if-number-method.false ]
+    elim c.else-number-method.branch [ else-number-method-via-then-number-method+else-plays w ↦ λ is. absurd (both_ways _ w.if-plays.false (w.plays.ensures ∙ is)) | else-number-method-via-else-number-method w ↦ λ is. w.if-number-method.false ]
     )
 
 pub returns : goal.returns

@@ -1,6 +1,10 @@
-use Rattle.std.proofs.Common.{rules}
+-- The first condition that is not kept is told, and where all are kept there is a main.
+use Rattle.std.proofs.Common.{◌≡◌, ◌∙◌, ℕ, List, Option, position, refl, sym, ap}
+use Rattle.std.proofs.lemmas.Bool.{false≢true}
+use Rattle.aom_image.specs.Image.{Image}
+use Rattle.aom_image.specs.declared.method.Method.{Method}
 use Rattle.aom_classes.specs.Faults.{Fails}
-use Rattle.aom_classes.specs.Roles.{main_of}
+use Rattle.aom_classes.specs.Roles.{is_main, main_of}
 use Rattle.aom_classes.proofs.Each.{refused}
 use Rattle.aom_classes.proofs.linked.check_conditions.Goals as goal
 
@@ -65,6 +69,36 @@ returns-then-not-all_loops_nest-clause-err c = (
   refused _ c.all_loops_nest.ensures c.if-not-all_loops_nest.true,
 )
 
-pub returns-in-Some-clause-ok : goal.returns-in-Some-clause-ok
+found_as : (p : Image) (ms : List Method) (o : Option ℕ) → o ≡ position is_main ms → ms ≡ p.methods → main_of p ≡ o
 unfolding main_of
-returns-in-Some-clause-ok c = search rules
+found_as p ms o e f = ap (position is_main) (sym f) ∙ sym e
+
+pub returns-in-Some-clause-ok : goal.returns-in-Some-clause-ok
+returns-in-Some-clause-ok c =
+    let main = found_as c.args.image.now _ _ c.find_main.ensures (c.as_slice.ensures ∙ c.methods.ensures.value) ∙ c.in-Some.is in (
+      record {
+        classes = c.classes_are_ordered.ensures.0 c.if-not-classes_are_ordered.false;
+        calls = c.calls_are_ordered.ensures.0 c.if-not-calls_are_ordered.false;
+        needs = c.needs_are_met.ensures.0 c.if-not-needs_are_met.false;
+        single = c.roles_are_single.ensures.0 c.if-not-roles_are_single.false;
+        shapes = c.all_are_shaped.ensures.0 c.if-not-all_are_shaped.false;
+        jumps = c.all_jump_well.ensures.0 c.if-not-all_jump_well.false;
+        loops = c.all_loops_nest.ensures.0 c.if-not-all_loops_nest.false;
+        main = rw main refl;
+      },
+      main,
+    )
+
+pub returns-in-None-clause-err : goal.returns-in-None-clause-err
+unfolding Fails
+returns-in-None-clause-err c =
+    let main = found_as c.args.image.now _ _ c.find_main.ensures (c.as_slice.ensures ∙ c.methods.ensures.value) ∙ c.in-None.is in (
+      c.classes_are_ordered.ensures.0 c.if-not-classes_are_ordered.false,
+      c.calls_are_ordered.ensures.0 c.if-not-calls_are_ordered.false,
+      c.needs_are_met.ensures.0 c.if-not-needs_are_met.false,
+      c.roles_are_single.ensures.0 c.if-not-roles_are_single.false,
+      c.all_are_shaped.ensures.0 c.if-not-all_are_shaped.false,
+      c.all_jump_well.ensures.0 c.if-not-all_jump_well.false,
+      c.all_loops_nest.ensures.0 c.if-not-all_loops_nest.false,
+      λ some. false≢true (rw main at some),
+    )

@@ -1,6 +1,7 @@
 -- Settled states are a typing of the method, and where the sweeps end early their states stop at a place.
 use Rattle.aom_verify.proofs.Stopping.{stops_there}
-use Rattle.aom_verify.proofs.Sweeping.{settled}
+use Rattle.aom_verify.proofs.Sweeping.{settled, first_count}
+use Rattle.aom_verify.proofs.Places.{spanned}
 use Rattle.aom_verify.proofs.stop.stop_of.Goals as goal
 
 pub returns-in-Ok-clause-none : goal.returns-in-Ok-clause-none
@@ -12,3 +13,9 @@ pub returns-in-Err-At-clause-some : goal.returns-in-Err-At-clause-some
 returns-in-Err-At-clause-some c =
     let stopped = rw (c.in_ok-sheet.ensures, c.in-Err-At.field-0-is) at c.in-Err-At.ensures.err in
     stops_there _ _ _ _ _ _ _ c.place_count.ensures.some c.entry-entry.ensures.no_more c.entry-entry.ensures.no_less stopped
+
+pub new-requires : goal.new-requires
+new-requires c = c.place_count.ensures.some
+
+pub settle-requires : goal.settle-requires
+settle-requires c = rw c.in_ok-sheet.ensures (spanned _ _ _ _ c.place_count.ensures.all (first_count _ _))

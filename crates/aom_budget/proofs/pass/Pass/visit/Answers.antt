@@ -1,7 +1,7 @@
 -- A next, a loop or a plain instruction.
 use Rattle.std.proofs.Common.{◌≡◌, ◌≢◌, ◌<◌, ◌-◌, ℕ, List, length, Some, None, ap, ◌∙◌, subst, arith}
 use Rattle.aom_image.specs.Views.{instr_at}
-use Rattle.aom_instructions.specs.declared.instr.Instr.TheVariants.{Loop, Next}
+use Rattle.aom_instructions.specs.declared.instr.Instr.TheVariants.{Loop}
 use Rattle.aom_classes.specs.Bodies.{Body}
 use Rattle.aom_classes.proofs.Bodies.{linked_is_looped}
 use Rattle.aom_shape.specs.Tables.{at}

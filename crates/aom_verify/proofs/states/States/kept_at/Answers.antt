@@ -1,5 +1,5 @@
 -- What is kept at a place is read there.
-use Rattle.std.proofs.Common.{◌<◌, length, arith}
+use Rattle.std.proofs.Common.{arith}
 use Rattle.aom_verify.proofs.Keeping.{kept_stands, kept_there, length_shapes}
 use Rattle.aom_verify.proofs.states.States.kept_at.Goals as goal
 

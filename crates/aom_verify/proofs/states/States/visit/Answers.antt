@@ -6,7 +6,7 @@ use Rattle.aom_verify.specs.Entries.{HasFewEntries}
 use Rattle.aom_verify.specs.States.{shapes}
 use Rattle.aom_verify.proofs.Few.{room, ways_few}
 use Rattle.aom_verify.proofs.Stopping.{stops_rule, stops_visit}
-use Rattle.aom_verify.proofs.Visiting.{has_instr, visited, visited_none}
+use Rattle.aom_verify.proofs.Visiting.{has_instr, visited, visited_none, within_shapes}
 use Rattle.aom_verify.proofs.states.States.visit.Goals as goal
 
 pub flow_of-requires-clause-instr : goal.flow_of-requires-clause-instr
@@ -49,3 +49,12 @@ returns-in-Err-clause-err c =
     let here = sym (rw c.in-Some.is at c.kept_at.ensures.shape) in
     let shown : c.shape.result ≡ kept_shape c.args.self.now.nodes c.in-Some.kept = rw (← c.self.view_is) c.shape.ensures in
     stops_rule _ _ _ _ _ _ c.requires.place here (rw shown at c.in-Err.ensures.err)
+
+pub kept_at-requires : goal.kept_at-requires
+kept_at-requires c = c.requires.place
+
+pub follow-requires-clause-within : goal.follow-requires-clause-within
+follow-requires-clause-within c = within_shapes _ _ _ _ c.requires.spans (rw (← c.self.view_is) (rw c.shape.ensures at c.in-Ok.ensures.within))
+
+pub follow-requires-clause-room : goal.follow-requires-clause-room
+follow-requires-clause-room c = rw (← c.self.view_is) (rw c.shape.ensures at c.in-Ok.ensures.room)
