@@ -7,6 +7,7 @@ pub mod Statuses
 pub mod Starting
 pub mod Moving
 pub mod Placing
+mod Declining
 pub mod Answering
 pub use Rattle.aom_debug_moves.proofs.Keeping
 pub use Rattle.aom_debug_moves.proofs.Sending

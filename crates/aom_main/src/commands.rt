@@ -23,7 +23,6 @@ use std::alloc::Global;
 
 /// Runs an image under a script beside those natives, and writes the transcript. The image is looked at before the script, and
 /// the script before the natives.
-#[tactic(auto, using(crate::proofs::Untelling::answered))]
 pub fn run_bytes<W: Sink, E: Sink>(
     alloc: Global,
     image: &[u8],
@@ -123,7 +122,6 @@ pub fn prices_bytes<W: Sink, E: Sink>(
 }
 
 /// Tells whether an image is accepted, with its figures where they are asked.
-#[tactic(auto, using(crate::proofs::Untelling::answered))]
 fn told<W: Sink, E: Sink>(
     alloc: Global,
     image: &[u8],
@@ -157,7 +155,7 @@ fn try_verdict<W: Sink>(alloc: Global, image: &[u8], out: &mut W) -> Result<Exit
 {
     match accept_bytes(alloc, image) {
         Ok(_accepted) => try_send(b"accepted\n", out),
-        Err(fault) => Err(fault),
+        Err(refused) => Err(refused),
     }
 }
 
@@ -209,7 +207,6 @@ pub fn dot_bytes<W: Sink, E: Sink>(
 }
 
 /// Writes what a file is translated to.
-#[tactic(auto, using(crate::proofs::Untelling::answered))]
 fn translate<W: Sink, E: Sink>(
     alloc: Global,
     to: Translation,

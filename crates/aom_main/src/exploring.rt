@@ -1,5 +1,5 @@
 //! Runs of an image in which one more allocation request is refused, each by its last line.
-ghost use Rattle.std.specs.Prelude.{ℕ, ◌≡◌, ◌≤◌, ◌<◌, List, IfOk, IfErr, Ok, length};
+ghost use Rattle.std.specs.Prelude.{ℕ, ◌≡◌, ◌≤◌, ◌<◌, ◌++◌, ◌∷◌, [], List, IfOk, IfErr, Ok, length};
 ghost use Rattle.aom_natives.specs.Owed.{OweNothing};
 ghost use Rattle.aom_natives.specs.Slots.{AllAgree};
 ghost use Rattle.aom_run.specs.Calls.{natives_of};
@@ -155,6 +155,15 @@ fn last_of(alloc: Global, trial: &Trial<'_>, refused: Vec<u32>) -> Result<Last, 
     )
 }
 
+/// What a run is refused by its script, and the request of that number.
+fn refused_too(alloc: Global, script: &Script, number: u32) -> Result<Vec<u32>, AllocError>
+    ensures { IfOk result (λ refused. refused.items ≡ script.now.refused ++ number ∷ []) }
+{
+    let mut refused = Vec::from_slice(alloc, script.refused())?;
+    refused.push(number)?;
+    Ok(refused)
+}
+
 /// Runs the image with the request of that number refused too, and writes how that ended.
 fn try_one<W: Sink>(alloc: Global, trial: &Trial<'_>, number: u32, out: &mut W) -> Result<(), Fault>
     requires limit { (1 ≤ trial.now.limit) × (trial.now.limit ≤ 1000000000) }
@@ -163,15 +172,24 @@ fn try_one<W: Sink>(alloc: Global, trial: &Trial<'_>, number: u32, out: &mut W) 
     ensures ok { IfOk result (λ _. (line : List ℕ) × Tried trial.now.accepted.now trial.now.script.now trial.now.limit (length trial.now.kinds.now) number line × Says line (record { before = W.out out.old; now = W.out out.new; failed = W.failed out.new })) }
     ensures err { IfErr result (λ fault. (fault ≡ Fault.Memory) × (W.out out.new ≡ W.out out.old) × (W.failed out.new ≡ W.failed out.old)) }
 {
-    let mut refused = Vec::from_slice(alloc, trial.script.refused())?;
-    if let Err(failed) = refused.push(number) {
-        return Err(AllocError::from(failed).into());
-    }
+    let refused = refused_too(alloc, trial.script, number)?;
     let last = last_of(alloc, trial, refused)?;
     let mut page = Page::new();
     page.add_tried(number as u64, last.ending, last.cells);
     write_text(out, page.as_bytes());
     Ok(())
+}
+
+/// Runs the image once, with nothing refused but what its script refuses.
+fn plain_of(alloc: Global, trial: &Trial<'_>) -> Result<Last, Fault>
+    requires limit { (1 ≤ trial.now.limit) × (trial.now.limit ≤ 1000000000) }
+    requires timely { IsTimely trial.now.script.now.timed }
+    ensures ok { IfOk result (λ last. IsLast trial.now.accepted.now (hearing trial.now.script.now.refused trial.now.limit (length trial.now.kinds.now) trial.now.script.now.timed) last) }
+    ensures enough { IfOk result (λ _. HasNatives trial.now.accepted.now (length trial.now.kinds.now)) }
+    ensures err { IfErr result (λ fault. RefusesTry trial.now.accepted.now (length trial.now.kinds.now) fault) }
+{
+    let own = Vec::from_slice(alloc, trial.script.refused())?;
+    last_of(alloc, trial, own)
 }
 
 /// Runs the image once, and then once for each of its allocation requests within the part, with that one refused too. It writes
@@ -183,8 +201,7 @@ fn explore<W: Sink>(alloc: Global, trial: &Trial<'_>, part: Part, out: &mut W) -
     ensures enough { IfOk result (λ _. HasNatives trial.now.accepted.now (length trial.now.kinds.now)) }
     ensures err { IfErr result (λ fault. BreaksOff trial.now.accepted.now trial.now.script.now trial.now.limit (length trial.now.kinds.now) part.first (record { before = W.out out.old; now = W.out out.new; failed = W.failed out.new }) fault) }
 {
-    let own = Vec::from_slice(alloc, trial.script.refused())?;
-    let plain = last_of(alloc, trial, own)?;
+    let plain = plain_of(alloc, trial)?;
     let last = plain.requests.min(part.last as u64);
     let mut number = part.first as u64;
     while number <= last && !out.has_failed() {

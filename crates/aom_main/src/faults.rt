@@ -16,7 +16,7 @@ use aom_verify::Refusal;
 use std::alloc::{AllocError, AllocFailed};
 
 /// Why a call does not do what is asked. Each is told in one line.
-#[derive(Clone, Copy, PartialEq, Eq)]
+#[derive(Clone, Copy)]
 pub enum Fault {
     Load(LoadFault),
     Asm(AsmFault),

@@ -99,7 +99,6 @@ fn accepted_beside(alloc: Global, figures: &[u8]) -> Result<Priced, AllocError>
 }
 
 /// The checked image that the bytes are, or the first fault on the way.
-#[tactic(auto, using(crate::proofs::Refusing::refusal_stops))]
 pub(crate) fn check_image(alloc: Global, bytes: &[u8]) -> Result<Checked, Fault>
     ensures ok { IfOk result (λ checked. IsSpelled bytes.now checked × IsLinked checked) }
     ensures typed { IfOk result (λ checked. (t : Typing) × IsTyped checked t) }

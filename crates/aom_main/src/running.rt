@@ -88,7 +88,6 @@ pub fn run_accepted<W: Sink>(
 }
 
 /// Every run of an accepted image goes well within its declared steps, whatever is refused, and has one text.
-#[tactic(auto, using(crate::proofs::Telling::all_run_well))]
 pub fn runs_well(accepted: &Accepted)
     ensures { AllRunWell accepted.now }
 {

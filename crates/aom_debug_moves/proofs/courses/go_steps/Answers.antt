@@ -121,3 +121,6 @@ returns-clause-agree g c = c.loop-done.invariant.agree
 
 pub returns-clause-keeps : goal.returns-clause-keeps
 returns-clause-keeps g c = c.loop-done.invariant.keeps
+
+pub overflow_add-done : goal.overflow_add-done
+overflow_add-done g c = omega (arith, c.loop-done-test.true)

@@ -1,5 +1,6 @@
 -- A step that is asked for, and its lines; or nothing.
-use Rattle.std.proofs.Common.{refl}
+use Rattle.std.proofs.Common.{◌∙◌, arith, refl, sym}
+use Rattle.std.proofs.lemmas.Bool.{true≢false}
 use Rattle.aom_debug_moves.specs.Moves.{StepsOnce}
 use Rattle.aom_debug_moves.proofs.Keeping.{keeps_all, keeps_with, went_if}
 use Rattle.aom_debug_moves.proofs.Sending.{breaks_step, cleared, far_after, sends_if_not, sends_if_so, sends_step, stands_after, stepped_of, was_running}
@@ -60,3 +61,30 @@ returns-clause-agree g c = c.step-progress.ensures.agree
 
 pub returns-clause-recent : goal.returns-clause-recent
 returns-clause-recent g c = refl
+
+pub step-progress-requires-clause-room : goal.step-progress-requires-clause-room
+step-progress-requires-clause-room g c = rw c.requires.ready.none (omega (arith, c.requires.ready.room))
+
+pub returns-then-not-asked-clause-rank : goal.returns-then-not-asked-clause-rank
+returns-then-not-asked-clause-rank g c = λ _. omega arith
+
+pub returns-then-not-asked-clause-falls : goal.returns-then-not-asked-clause-falls
+returns-then-not-asked-clause-falls g c = λ asked. absurd (true≢false (sym asked ∙ c.if-not-asked.true))
+
+pub returns-clause-rank : goal.returns-clause-rank
+returns-clause-rank g c =
+    let a = c.args.mover.now in
+    let ready = c.requires.ready in
+    let step = c.step-progress in
+    let steps = stepped_of a.machine step.new.self step.result a.turn step.new.turn step.ensures.steps in
+    λ running.
+    let falls = step.ensures.falls (far_after a.machine step.new.self step.result a.turn step.new.turn ready.none steps ready.stands ∙ running) in
+    omega (arith, falls)
+
+pub returns-clause-falls : goal.returns-clause-falls
+returns-clause-falls g c =
+    let a = c.args.mover.now in
+    let ready = c.requires.ready in
+    let step = c.step-progress in
+    let steps = stepped_of a.machine step.new.self step.result a.turn step.new.turn step.ensures.steps in
+    λ asked running. step.ensures.falls (far_after a.machine step.new.self step.result a.turn step.new.turn ready.none steps ready.stands ∙ running)

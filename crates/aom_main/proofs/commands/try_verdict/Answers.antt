@@ -12,4 +12,4 @@ returns-in-Ok g c =
     untold_weaker _ _ c.try_send.result (λ errors status sends. checked c.args.image.now _ errors status accepts sends) c.try_send.ensures
 
 pub returns-in-Err : goal.returns-in-Err
-returns-in-Err g c = λ errors status told. unchecked c.args.image.now c.in-Err.fault _ errors status c.in-Err.ensures.err c.in-Err.ensures.complete refl told
+returns-in-Err g c = λ errors status told. unchecked c.args.image.now c.in-Err.refused _ errors status c.in-Err.ensures.err c.in-Err.ensures.complete refl told

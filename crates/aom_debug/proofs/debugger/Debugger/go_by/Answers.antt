@@ -2,6 +2,7 @@
 use Rattle.std.proofs.Common.{refl, sym, ◌∙◌}
 use Rattle.std.proofs.lemmas.Bool.{or_parts}
 use Rattle.aom_debug_moves.specs.Movers.{outside_of}
+use Rattle.aom_debug_moves.proofs.Keeping.{keeps_all}
 use Rattle.aom_debug_moves.proofs.Runs.{reaches_course}
 use Rattle.aom_debug.specs.Debugging.{goes_of}
 use Rattle.aom_debug.proofs.Answering.{answered}
@@ -20,3 +21,21 @@ returns-clause-answer g c =
     (g.W.Sink.out c.args.out.now) (g.W.Sink.out c.go-went.new.out) (g.W.Sink.out c.arrived.new.out) (g.W.Sink.failed c.arrived.new.out)
     (reaches_course a.mover.machine.core.image (outside_of a.mover) a.breakpoints c.args.course a.mover.recent mid.mover.recent) refl refl c.go-went.result
     (g.W.Sink.failed c.go-went.new.out) c.arrived.result went.went told.none told.failed told.some
+
+pub returns-then-is_done-clause-agree : goal.returns-then-is_done-clause-agree
+returns-then-is_done-clause-agree g c = c.requires.agree
+
+pub returns-then-is_done-clause-keeps : goal.returns-then-is_done-clause-keeps
+returns-then-is_done-clause-keeps g c = keeps_all c.args.self.now.mover c.requires.ready
+
+pub go-went-requires-clause-agree : goal.go-went-requires-clause-agree
+go-went-requires-clause-agree g c = c.requires.agree
+
+pub go-went-requires-clause-ready : goal.go-went-requires-clause-ready
+go-went-requires-clause-ready g c = c.requires.ready
+
+pub arrived-requires : goal.arrived-requires
+arrived-requires g c = record { stands = c.go-went.ensures.keeps.ready.stands }
+
+pub returns-clause-keeps : goal.returns-clause-keeps
+returns-clause-keeps g c = rw c.arrived.ensures.mover c.go-went.ensures.keeps

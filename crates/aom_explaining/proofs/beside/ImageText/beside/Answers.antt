@@ -1,4 +1,4 @@
--- A text whose image cannot be made is refused beside any.
+-- Why a text denotes no image is why it is refused beside any.
 use Rattle.std.proofs.lemmas.Result.{err_from_is_err_and}
 use Rattle.aom_explaining.proofs.beside.ImageText.beside.Goals as goal
 

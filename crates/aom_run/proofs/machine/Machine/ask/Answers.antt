@@ -22,3 +22,18 @@ pub returns-in-Some-clause-asked : goal.returns-in-Some-clause-asked
 returns-in-Some-clause-asked g c = λ s st.
     let fits : FitsSigned w32 c.call-answer.result = search rules in
     heard_so _ _ _ _ _ _ _ _ _ _ (asks_so c.args.self.now s st _ (sym c.progress.ensures ∙ c.in-Running.is) (c.in-Some.ensures s st.stands)) (ap (λ m. m.parts.heard) c.hear.ensures.heard ∙ to_z-of_z w32 c.call-answer.result fits) c.call-answer.ensures.answer c.call-answer.ensures.after
+
+pub call-answer-requires-clause-agree : goal.call-answer-requires-clause-agree
+call-answer-requires-clause-agree g c = c.requires.agree
+
+pub returns-in-Some-clause-agree : goal.returns-in-Some-clause-agree
+returns-in-Some-clause-agree g c = c.call-answer.ensures.agree
+
+pub returns-in_default-wanted-clause-agree : goal.returns-in_default-wanted-clause-agree
+returns-in_default-wanted-clause-agree g c = c.requires.agree
+
+pub returns-in_default-wanted-clause-core : goal.returns-in_default-wanted-clause-core
+returns-in_default-wanted-clause-core g c = refl
+
+pub returns-in_default-wanted-clause-stands : goal.returns-in_default-wanted-clause-stands
+returns-in_default-wanted-clause-stands g c = λ s st. st

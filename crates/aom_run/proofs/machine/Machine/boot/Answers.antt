@@ -1,5 +1,5 @@
 -- The core is of the accepted image, and there are as many natives as it names.
-use Rattle.std.proofs.Common.{rules, length, ◌≤◌, ◌∙◌, subst, sym}
+use Rattle.std.proofs.Common.{rules, length, refl, ◌<◌, ◌≤◌, ◌∙◌, subst, sym}
 use Rattle.std.proofs.lemmas.Result.{IfErr-weaker, IfOk-weaker}
 use Rattle.aom_sound.specs.World.{boot_state}
 use Rattle.aom_parts.specs.Stands.{StandsFor as CoreStands}
@@ -24,3 +24,20 @@ pub returns-in-Ok-clause-few : goal.returns-in-Ok-clause-few
 returns-in-Ok-clause-few g c =
     let enough : c.args.accepted.now.header.natives ≤ length c.args.boxes.items = search rules in
     IfErr-weaker c.beside.result _ _ (λ e is. memory_is_not_few e.0 _ _ is enough) c.beside.ensures.memory
+
+pub returns-then-len-header-clause-few : goal.returns-then-len-header-clause-few
+returns-then-len-header-clause-few g c =
+    let few : length c.args.boxes.items < c.args.accepted.now.header.natives = search rules in
+    (λ _. few, λ _. refl)
+
+pub beside-requires-clause-owed : goal.beside-requires-clause-owed
+beside-requires-clause-owed g c = c.requires
+
+pub returns-in-Ok-clause-agree : goal.returns-in-Ok-clause-agree
+returns-in-Ok-clause-agree g c = c.beside.ensures.agree
+
+pub returns-in-Ok-clause-boxes : goal.returns-in-Ok-clause-boxes
+returns-in-Ok-clause-boxes g c = c.beside.ensures.boxes
+
+pub returns-in-Ok-clause-back : goal.returns-in-Ok-clause-back
+returns-in-Ok-clause-back g c = c.beside.ensures.back

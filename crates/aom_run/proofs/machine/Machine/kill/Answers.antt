@@ -27,3 +27,21 @@ returns-clause-delivered g c =
       quiet = λ is. absurd (true≢false is);
       none_due = λ is. absurd (true≢false is);
     }
+
+pub hear_event-requires-clause-few : goal.hear_event-requires-clause-few
+hear_event-requires-clause-few g c = c.requires.few
+
+pub returns-then-not-is_alive-clause-agree : goal.returns-then-not-is_alive-clause-agree
+returns-then-not-is_alive-clause-agree g c = c.requires.agree
+
+pub kill-requires-clause-agree : goal.kill-requires-clause-agree
+kill-requires-clause-agree g c = c.requires.agree
+
+pub kill-requires-2-clause-few : goal.kill-requires-2-clause-few
+kill-requires-2-clause-few g c = c.requires.few
+
+pub kill-requires-2-clause-room : goal.kill-requires-2-clause-room
+kill-requires-2-clause-room g c = c.requires.room
+
+pub returns-clause-agree : goal.returns-clause-agree
+returns-clause-agree g c = c.kill.ensures.agree

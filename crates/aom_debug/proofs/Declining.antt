@@ -1,0 +1,106 @@
+-- What a debugger answers that declines: by cases of what is asked.
+use Rattle.std.proofs.Common.{◌≡◌, ◌<◌, ◌≤◌, ◌||◌, ◌++◌, ◌∷◌, [], ℕ, Bool, true, false, List, Option, Some, None, Result, Ok, Err, arith, rules, ap, cond, inl, inr, length, nat_lt, refl}
+use Rattle.std.specs.Prelude.{IfErr, IfOk}
+use Rattle.std.proofs.lemmas.Bool.Decides.{nat_tests}
+use Rattle.aom_debug_words.specs.Commands.{command_said}
+use Rattle.aom_debug_words.specs.declared.command.Command.{Command}
+use Rattle.aom_debug_words.specs.declared.command.Command.TheVariants.{Step, Turn, Go, Break, Cells, Owners, Cleanup, Actives, Recent}
+use Rattle.aom_debug_words.specs.declared.fault.DebugFault.{DebugFault}
+use Rattle.aom_debug_words.specs.declared.fault.DebugFault.TheVariants.{Ended}
+use Rattle.aom_debug_words.specs.declared.fault.DebugFault.TheVariants as faults
+use Rattle.aom_debug_words.specs.declared.spot.Spot.{Spot}
+use Rattle.aom_debug_words.specs.Marks.{has_spot, is_set, with_spot}
+use Rattle.aom_parts.specs.Progress.{progress_by}
+use Rattle.aom_parts.specs.declared.progress.Progress.TheVariants as progress
+use Rattle.aom_text.specs.declared.number.Number.{Number}
+use Rattle.aom_transcript.specs.declared.line.Ending.{Ending}
+use Rattle.aom_debug.specs.Commands.{is_count, spot_named}
+use Rattle.aom_debug.specs.Debugging.{Answer, CountsNot, Declined, Goes, Outgoing, Sets, SetsAt, steps_of}
+use Rattle.aom_debug.specs.Obeying.{Heeds, Obeys, Passes}
+use Rattle.aom_debug.specs.declared.debugger.Debugger.{Debugger}
+
+-- ---- what holds of each value, or of each error
+
+pub ok_all : {X E : Type 0} (r : Result X E) (P : X → Type 0) → ((x : X) → P x) → IfOk r P
+ok_all (Ok x) P all = all x
+ok_all (Err e) P all = tt
+
+pub err_all : {X E : Type 0} (r : Result X E) (P : E → Type 0) → ((e : E) → P e) → IfErr r P
+err_all (Ok x) P all = tt
+err_all (Err e) P all = all e
+
+-- ---- steps
+
+counted : (n : ℕ) → 0 < n → n ≤ 1000000 → is_count n ≡ true
+counted n some few = grind (arith, nat_tests)
+
+-- so many may be asked for
+pub counts : (n : ℕ) (so other : Type 0) → 0 < n → n ≤ 1000000 → so → cond (is_count n) so other
+counts n so other some few holds = rw (counted n some few) holds
+
+-- ---- breakpoints
+
+unset : (known room : Bool) (more spots : List Spot) → (known || room) ≡ false → cond known spots (cond room more spots) ≡ spots
+unset false false more spots is = refl
+unset _ _ more spots is = cc
+
+-- where one cannot be set they stay
+pub set_not : (spot : Spot) (spots : List Spot) → is_set spot spots ≡ false → with_spot spot spots ≡ spots
+set_not spot spots is = unset (has_spot spot spots) (nat_lt (length spots) 16) (spots ++ spot ∷ []) spots is
+
+module _ {X : Type 0} {B : X → Type 0} (spot : Spot) (old new : Debugger X B) (out : Outgoing) where
+  pub set_mover : (answer : Answer) → SetsAt spot old new out answer → new.mover ≡ old.mover
+  set_mover (Ok done) sets = ap (λ (d : Debugger X B). d.mover) sets.1
+  set_mover (Err faults.NoSuch) sets = ap (λ (d : Debugger X B). d.mover) sets.1.same
+  set_mover (Err faults.WriteFault) sets = ap (λ (d : Debugger X B). d.mover) sets.1
+  set_mover (Err _) sets = absurd sets
+
+  -- one that two numbers name
+  pub set_named : (method place : Number) → old.has_failed ≡ false → spot_named old.mover.machine.core.image method place ≡ Some spot → (answer : Answer) → SetsAt spot old new out answer → Sets method place old new out answer
+  set_named method place well names (Ok done) sets = (well, spot, record { names = names; room = sets.0 }, sets.1, sets.2)
+  set_named method place well names (Err faults.NoSuch) sets = (well, inr (spot, names, sets.0), sets.1)
+  set_named method place well names (Err faults.WriteFault) sets = (well, spot, record { names = names; room = sets.0 }, sets.1, sets.2, sets.3, sets.4)
+  set_named method place well names (Err _) sets = absurd sets
+
+-- ---- the end
+
+pub ended_by : {T : Type 0} (ended : Option Ending) (tasks : List T) (ending : Ending) → progress_by ended tasks ≡ progress.Ended ending → ended ≡ Some ending
+ended_by (Some other) tasks ending is = cc
+ended_by None [] ending is = cc
+ended_by None (task ∷ tasks) ending is = cc
+
+-- ---- a debugger that has failed
+
+module _ {X : Type 0} {B : X → Type 0} where
+  -- what is kept of what was told does not move
+  pub kept_mover : (old new : Debugger X B) (told : Result (Unit {0}) DebugFault) → IfOk told (λ _. new ≡ old) → IfErr told (λ _. new ≡ record old { has_failed = true }) → new.mover ≡ old.mover
+  kept_mover old new (Ok done) same changed = ap (λ (d : Debugger X B). d.mover) same
+  kept_mover old new (Err fault) same changed = ap (λ (d : Debugger X B). d.mover) changed
+
+  module _ (d : Debugger X B) (out : Option (List ℕ)) (failed : Bool) (ill : d.has_failed ≡ true) where
+    declined : Declined d d (record { before = out; now = out; failed = failed })
+    declined = record { same = refl; silent = refl }
+
+    either : (b : Bool) (n : ℕ) → cond b (Goes (steps_of n) d d (record { before = out; now = out; failed = failed }) (Err Ended)) (CountsNot d d (record { before = out; now = out; failed = failed }) (Err Ended))
+    either true n = (inl ill, declined)
+    either false n = (ill, declined)
+
+    obeys_failed : (command : Command) → Obeys command d d (record { before = out; now = out; failed = failed }) (Err Ended)
+    obeys_failed (Step n) = either (is_count n) n
+    obeys_failed Turn = (inl ill, declined)
+    obeys_failed Go = (inl ill, declined)
+    obeys_failed (Break method place) = (ill, declined)
+    obeys_failed _ = (ill, declined)
+
+    pub heeds_failed : (said : Result (Option Command) DebugFault) → Heeds said d d (record { before = out; now = out; failed = failed }) (Err Ended)
+    heeds_failed (Err fault) = (ill, declined)
+    heeds_failed (Ok None) = (ill, declined)
+    heeds_failed (Ok (Some command)) = obeys_failed command
+
+  pub passes_on : (d : Debugger X B) (out : Option (List ℕ)) (failed : Bool) → d.has_failed ≡ false → (fault : DebugFault) → (fault ≡ Ended → ⊥) → Passes (Err fault) d d (record { before = out; now = out; failed = failed }) (Err fault)
+  passes_on d out failed well Ended not = absurd (not refl)
+  passes_on d out failed well _ not = (well, refl, record { same = refl; silent = refl })
+
+-- no line says that the run has ended
+pub says_no_end : (line : List ℕ) → command_said line ≡ Err Ended → ⊥
+says_no_end line is = search rules
