@@ -1,5 +1,6 @@
-use Rattle.std.proofs.Common.{rules}
-use Rattle.aom_syntax.proofs.reader.Reader.image_statement.Goals as goal
+-- The limits are read one after the other.
+use Rattle.std.proofs.Common.{refl}
+use Rattle.aom_syntax.proofs.reader.Reader.limits_and_root.Goals as goal
 
 pub returns : goal.returns
-returns c = search rules
+returns c = rw (c.in_ok-cells.ensures.read, c.in_ok-messages.ensures.read, c.in_ok-natives.ensures.read, c.in_ok-keyword.ensures, c.in_ok-budget.ensures.read, c.in_ok-root.ensures) refl
