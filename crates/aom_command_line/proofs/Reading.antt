@@ -18,7 +18,7 @@ use Rattle.aom_command_line.specs.declared.words.WordsFault.{WordsFault}
 use Rattle.aom_command_line.specs.declared.words.WordsFault.TheVariants as faults
 use Rattle.aom_natives.specs.Kinds.{word_of as word_of_kind}
 use Rattle.aom_natives.specs.declared.kind.NativeKind.{NativeKind}
-use Rattle.aom_command_line.specs.CommandLine.{IsCommand, IsUnexplained, Declines, AsksText, DeclinesRun, DeclinesText, HasForm, LacksExplain, NamesKinds, NamesNoKinds, Says, form, texts_in, word_of}
+use Rattle.aom_command_line.specs.CommandLine.{IsCommand, IsUnexplained, Declines, AsksText, DeclinesText, HasForm, LacksExplain, NamesKinds, NamesNoKinds, Says, form, texts_in, word_of}
 
 same : {E : Type 0} (v n : ℕ) (r : Result ℕ E) → r ≡ Ok v → r ≡ Ok n → Some v ≡ Some n
 same v n r a b = cc
@@ -61,10 +61,6 @@ as_before false new added is none = is ∙ none
 pub simple : is_simple form ≡ true
 unfolding clap_on_literals
 simple = refl
-
--- each command that runs an image declines the same
-pub declines_run : (command : Text) (rows : List Row) (fault : WordsFault) → (command ≡ codes "run") ⊎ (command ≡ codes "explore") ⊎ (command ≡ codes "debug") → DeclinesRun rows fault → Declines true (Some (command, rows)) fault
-declines_run command rows x runs none = grind arith
 
 -- ---- a text beside an image
 

@@ -440,19 +440,10 @@ fn command_words(alloc: Global, command: &str, own: &ArgMatches) -> Result<Words
         "check" => check_words(alloc, own),
         "run" => running_words(alloc, own),
         "explore" => explore_words(alloc, own),
-        "debug" => Ok(Words::Debug {
-            run: run_words(alloc, own)?,
-        }),
-        "asm" => Ok(Words::Asm {
-            text: word_of(alloc, own, "TEXT")?,
-            explain: is_set(own, "explain"),
-        }),
-        "dis" => Ok(Words::Dis {
-            image: word_of(alloc, own, "IMAGE")?,
-        }),
-        "dot" => Ok(Words::Dot {
-            image: word_of(alloc, own, "IMAGE")?,
-        }),
+        "debug" => debug_words(alloc, own),
+        "asm" => asm_words(alloc, own),
+        "dis" => dis_words(alloc, own),
+        "dot" => dot_words(alloc, own),
         _ => Err(WordsFault::Text(String::new(alloc))),
     }
 }
@@ -507,6 +498,41 @@ fn explore_words(alloc: Global, own: &ArgMatches) -> Result<Words, WordsFault>
         first: number_of(own, "from", 1, u32::MAX),
         last: number_of(own, "to", u32::MAX, u32::MAX),
     })
+}
+
+fn debug_words(alloc: Global, own: &ArgMatches) -> Result<Words, WordsFault>
+    ensures asks { IfOk result (λ asked. Asks (Some (codes "debug", rows_of (found_of own.now))) asked) }
+    ensures declines { IfErr result (λ fault. Declines true (Some (codes "debug", rows_of (found_of own.now))) fault) }
+{
+    let run = run_words(alloc, own)?;
+    Ok(Words::Debug { run })
+}
+
+fn asm_words(alloc: Global, own: &ArgMatches) -> Result<Words, WordsFault>
+    ensures asks { IfOk result (λ asked. Asks (Some (codes "asm", rows_of (found_of own.now))) asked) }
+    ensures declines { IfErr result (λ fault. Declines true (Some (codes "asm", rows_of (found_of own.now))) fault) }
+{
+    let text = word_of(alloc, own, "TEXT")?;
+    Ok(Words::Asm {
+        text,
+        explain: is_set(own, "explain"),
+    })
+}
+
+fn dis_words(alloc: Global, own: &ArgMatches) -> Result<Words, WordsFault>
+    ensures asks { IfOk result (λ asked. Asks (Some (codes "dis", rows_of (found_of own.now))) asked) }
+    ensures declines { IfErr result (λ fault. Declines true (Some (codes "dis", rows_of (found_of own.now))) fault) }
+{
+    let image = word_of(alloc, own, "IMAGE")?;
+    Ok(Words::Dis { image })
+}
+
+fn dot_words(alloc: Global, own: &ArgMatches) -> Result<Words, WordsFault>
+    ensures asks { IfOk result (λ asked. Asks (Some (codes "dot", rows_of (found_of own.now))) asked) }
+    ensures declines { IfErr result (λ fault. Declines true (Some (codes "dot", rows_of (found_of own.now))) fault) }
+{
+    let image = word_of(alloc, own, "IMAGE")?;
+    Ok(Words::Dot { image })
 }
 
 /// What is to run.
