@@ -1,5 +1,5 @@
 //! The way from a text to its image.
-ghost use Rattle.std.specs.Prelude.{◌≡◌, ◌≢◌, ◌≤◌, ◌^◌, length, IfOk, IfErr, Ok, Err, [], false};
+ghost use Rattle.std.specs.Prelude.{◌≡◌, ◌≢◌, ◌≤◌, ◌^◌, length, IfOk, IfErr, Ok, Err, [], false, true};
 ghost use Rattle.aom_text.specs.Text.{statements};
 ghost use Rattle.aom_text.specs.declared.fault.AsmFaultKind.TheVariants.{OutOfMemory};
 ghost use Rattle.aom_syntax.specs.Reading.{ReadsOrNoMemory};
@@ -7,7 +7,7 @@ ghost use Rattle.aom_asm.specs.Denoted.{at_line, Answers, read_rest, read_after,
 
 use crate::names::declared_names;
 use crate::program::Program;
-use aom_image::{Image, Items};
+use aom_image::{ClassDecl, Image, Items};
 use aom_syntax::{Keyword, Reader, Scope};
 use aom_text::{AsmFault, AsmFaultKind, Statement, Text, last_line};
 use std::alloc::{AllocError, Global};
@@ -54,8 +54,13 @@ fn read_after<'a>(
 {
     let opened = Program::open(alloc, scope, Reader::of(first.words));
     let mut program = at_line(first.line, opened)?;
-    read_rest(alloc, text, last, scope, &mut program)?;
-    Ok(program)
+    match read_rest(alloc, text, last, scope, &mut program) {
+        Ok(()) => Ok(program),
+        Err(fault) => {
+            drop(program);
+            Err(fault)
+        }
+    }
 }
 
 /// Reads the statements after others.
@@ -97,11 +102,26 @@ fn named<'a>(alloc: Global, text: &Text<'a>) -> Result<Scope<'a>, AsmFaultKind>
 fn read_statements<'a>(alloc: Global, text: Text<'a>, last: u32) -> Result<Program<'a>, AsmFault>
     ensures { Answers image_of result (read_statements last text.entry) }
 {
-    let mut scope = at_line(last, named(alloc, &text))?;
+    let scope = at_line(last, named(alloc, &text))?;
     let first = read_program(alloc, text.again(), last, &scope)?;
+    read_again(alloc, scope, first.into_classes(), text, last)
+}
+
+/// Reads the statements with the names told apart, and with the classes that were read before.
+fn read_again<'a>(
+    alloc: Global,
+    mut scope: Scope<'a>,
+    kinds: Items<ClassDecl>,
+    text: Text<'a>,
+    last: u32,
+) -> Result<Program<'a>, AsmFault>
+    ensures { Answers (λ p. p) result (read_program last (record scope.entry { is_strict = true; kinds = kinds }) text.entry) }
+{
     scope.is_strict = true;
-    scope.kinds = first.into_classes();
-    read_program(alloc, text, last, &scope)
+    scope.kinds = kinds;
+    let program = read_program(alloc, text, last, &scope);
+    drop(scope);
+    program
 }
 
 /// The last line of a text, and 1 where there is none.
