@@ -84,10 +84,12 @@ fn read_rest<'a>(
 fn scope_of<'a>(alloc: Global, text: &Text<'a>) -> Result<Scope<'a>, AllocError>
     ensures { IfOk result (λ s. s ≡ scope_of false text.now []) }
 {
+    let classes = declared_names(alloc, text.again(), Keyword::Class)?;
+    let methods = declared_names(alloc, text.again(), Keyword::Method)?;
     Ok(Scope {
         is_strict: false,
-        classes: declared_names(alloc, text.again(), Keyword::Class)?,
-        methods: declared_names(alloc, text.again(), Keyword::Method)?,
+        classes,
+        methods,
         kinds: Items::from_vec(Vec::new(alloc)),
     })
 }
