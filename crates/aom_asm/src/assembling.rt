@@ -1,5 +1,5 @@
 //! The way from a text to its image.
-ghost use Rattle.std.specs.Prelude.{◌≡◌, ◌≢◌, ◌≤◌, ◌^◌, length, IfOk, IfErr, Ok, Err, [], true, false};
+ghost use Rattle.std.specs.Prelude.{◌≡◌, ◌≢◌, ◌≤◌, ◌^◌, length, IfOk, IfErr, Ok, Err, [], false, true};
 ghost use Rattle.aom_text.specs.Text.{statements};
 ghost use Rattle.aom_text.specs.declared.fault.AsmFaultKind.TheVariants.{OutOfMemory};
 ghost use Rattle.aom_syntax.specs.Reading.{ReadsOrNoMemory};
@@ -84,10 +84,12 @@ fn read_rest<'a>(
 fn scope_of<'a>(alloc: Global, text: &Text<'a>) -> Result<Scope<'a>, AllocError>
     ensures { IfOk result (λ s. s ≡ scope_of false text.now []) }
 {
+    let classes = declared_names(alloc, text.again(), Keyword::Class)?;
+    let methods = declared_names(alloc, text.again(), Keyword::Method)?;
     Ok(Scope {
         is_strict: false,
-        classes: declared_names(alloc, text.again(), Keyword::Class)?,
-        methods: declared_names(alloc, text.again(), Keyword::Method)?,
+        classes,
+        methods,
         kinds: Items::from_vec(Vec::new(alloc)),
     })
 }
@@ -102,33 +104,26 @@ fn named<'a>(alloc: Global, text: &Text<'a>) -> Result<Scope<'a>, AsmFaultKind>
 fn read_statements<'a>(alloc: Global, text: Text<'a>, last: u32) -> Result<Program<'a>, AsmFault>
     ensures { Answers image_of result (read_statements last text.entry) }
 {
-    let mut scope = at_line(last, named(alloc, &text))?;
-    let read = read_twice(alloc, text, last, &mut scope);
-    drop(scope);
-    read
+    let scope = at_line(last, named(alloc, &text))?;
+    let first = read_program(alloc, text.again(), last, &scope)?;
+    read_again(alloc, scope, first.into_classes(), text, last)
 }
 
-/// From here on names are told apart, beside classes of those kinds.
-fn tell_apart(scope: &mut Scope, kinds: Items<ClassDecl>)
-    ensures { scope.new ≡ record scope.old { is_strict = true; kinds = kinds } }
+/// Reads the statements with the names told apart, and with the classes that were read before.
+fn read_again<'a>(
+    alloc: Global,
+    mut scope: Scope<'a>,
+    kinds: Items<ClassDecl>,
+    text: Text<'a>,
+    last: u32,
+) -> Result<Program<'a>, AsmFault>
+    ensures { Answers (λ p. p) result (read_program last (record scope.entry { is_strict = true; kinds = kinds }) text.entry) }
 {
     scope.is_strict = true;
     scope.kinds = kinds;
-}
-
-/// Reads the statements with names that are not told apart, and then with names that are.
-fn read_twice<'a>(
-    alloc: Global,
-    text: Text<'a>,
-    last: u32,
-    scope: &mut Scope<'a>,
-) -> Result<Program<'a>, AsmFault>
-    requires { scope.old ≡ scope_of false text [] }
-    ensures { Answers image_of result (read_statements last text.entry) }
-{
-    let first = read_program(alloc, text.again(), last, scope)?;
-    tell_apart(scope, first.into_classes());
-    read_program(alloc, text, last, scope)
+    let program = read_program(alloc, text, last, &scope);
+    drop(scope);
+    program
 }
 
 /// The last line of a text, and 1 where there is none.

@@ -57,6 +57,7 @@ impl<'a> Body<'a> {
     {
         let _told: Option<Target> = None;
         if self.code.is_empty() {
+            drop(self);
             return Err(AsmFaultKind::LimitPassed);
         }
         let heading = self.heading;

@@ -136,13 +136,14 @@ impl<'a> Program<'a> {
         ensures { ReadsOrNoMemory (λ _. self.new) result (in_body scope.now self.old body.entry reader.entry) }
     {
         if reader.took(Keyword::End) {
-            return self.add_method(body, reader);
+            self.add_method(body, reader)
+        } else {
+            let added = body.add(scope, reader);
+            self.hold(body);
+            added?;
+            self.size = grown(8, self.size)?;
+            Ok(())
         }
-        let added = body.add(scope, reader);
-        self.hold(body);
-        added?;
-        self.size = grown(8, self.size)?;
-        Ok(())
     }
 
     /// Adds the method that ends here.

@@ -8,3 +8,4 @@ pub mod Formats
 pub mod Spelled
 pub mod Fitting
 pub mod Images
+pub mod Putting

@@ -139,15 +139,18 @@ impl<'a> Reader<'a> {
                 self.fixed_quad(0, LoadFault::NotZero)?;
                 Ok(ClassKind::Plain)
             }
-            Purpose::Active(provider) => Ok(ClassKind::Active {
-                provider,
-                budget: self.quad()?,
-            }),
-            Purpose::Server(sessions, session) => Ok(ClassKind::Server {
-                sessions,
-                session,
-                budget: self.quad()?,
-            }),
+            Purpose::Active(provider) => {
+                let budget = self.quad()?;
+                Ok(ClassKind::Active { provider, budget })
+            }
+            Purpose::Server(sessions, session) => {
+                let budget = self.quad()?;
+                Ok(ClassKind::Server {
+                    sessions,
+                    session,
+                    budget,
+                })
+            }
             Purpose::Session => {
                 self.fixed_quad(0, LoadFault::NotZero)?;
                 Ok(ClassKind::Session)

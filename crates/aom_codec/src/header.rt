@@ -70,12 +70,13 @@ impl<'a> Reader<'a> {
         self.fixed_byte(0, LoadFault::NotZero)?;
         let root = self.class_or_none(classes)?;
         self.fixed_pair(0, LoadFault::NotZero)?;
+        let budget = self.quad()?;
         Ok(Header {
             cells,
             messages,
             natives,
             root,
-            budget: self.quad()?,
+            budget,
         })
     }
 }

@@ -6,6 +6,7 @@ use Rattle.std.specs.Borrow.{Bor}
 use Rattle.std.specs.Fmt.{decimal}
 use Rattle.std.specs.Str.Parse.{IsNumeral, ParsesUnsigned, digits_value, without_leading_plus}
 use Rattle.std.proofs.lemmas.Fmt.{parse-decimal}
+use Rattle.std.proofs.lemmas.Result.{IfOk-weaker}
 use Rattle.clap.specs.Words.{AddsSubcommand, App, ReadsOne, Row, Text, all_of, app_of, first_of, first_value, one_of, is_simple, matched_of, raw_values, rows_of, with_subcommand}
 use Rattle.clap.specs.declared.builder.command.Command.{Command}
 use Rattle.clap.specs.declared.parser.matches.Found.{Found}
@@ -17,7 +18,7 @@ use Rattle.aom_command_line.specs.declared.words.WordsFault.{WordsFault}
 use Rattle.aom_command_line.specs.declared.words.WordsFault.TheVariants as faults
 use Rattle.aom_natives.specs.Kinds.{word_of as word_of_kind}
 use Rattle.aom_natives.specs.declared.kind.NativeKind.{NativeKind}
-use Rattle.aom_command_line.specs.CommandLine.{IsCommand, IsUnexplained, Declines, AsksText, DeclinesRun, DeclinesText, HasForm, LacksExplain, NamesKinds, NamesNoKinds, Says, form, texts_in, word_of}
+use Rattle.aom_command_line.specs.CommandLine.{IsCommand, IsUnexplained, Declines, AsksText, DeclinesText, HasForm, LacksExplain, NamesKinds, NamesNoKinds, Says, form, texts_in, word_of}
 
 same : {E : Type 0} (v n : ℕ) (r : Result ℕ E) → r ≡ Ok v → r ≡ Ok n → Some v ≡ Some n
 same v n r a b = cc
@@ -60,10 +61,6 @@ as_before false new added is none = is ∙ none
 pub simple : is_simple form ≡ true
 unfolding clap_on_literals
 simple = refl
-
--- each command that runs an image declines the same
-pub declines_run : (command : Text) (rows : List Row) (fault : WordsFault) → (command ≡ codes "run") ⊎ (command ≡ codes "explore") ⊎ (command ≡ codes "debug") → DeclinesRun rows fault → Declines true (Some (command, rows)) fault
-declines_run command rows x runs none = grind arith
 
 -- ---- a text beside an image
 
@@ -121,3 +118,9 @@ pub has_form : {E : Type 0} (to : Command) (own : App) (made : Result Command E)
     → IfOk made (λ m. HasForm own m) → app_of c ≡ with_subcommand (app_of to) own.top
 has_form to own (Ok m) c adds made = adds.shape made.own ∙ ap (λ (a : App). with_subcommand (app_of to) a.top) made.shape
 has_form to own (Err _) c adds made = elim adds [ ]
+
+-- one command more, where both were made
+pub next_form : {E : Type 0} (own to : App) (before made more : Result Command E) → IfOk more (λ c. IsOkAnd before (λ b. IsOkAnd made (λ m. AddsSubcommand b m c)))
+    → IfOk made (λ m. HasForm own m) → IfOk before (λ b. app_of b ≡ to) → IfOk more (λ c. app_of c ≡ with_subcommand to own.top)
+next_form own to (Ok b) made more adds formed is = IfOk-weaker more _ _ (λ c added. has_form b own made c added formed ∙ ap (λ a. with_subcommand a own.top) is) adds
+next_form own to (Err e) made more adds formed is = IfOk-weaker more _ _ (λ c added. elim added [ ]) adds

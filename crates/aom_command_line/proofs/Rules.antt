@@ -1,5 +1,5 @@
 -- A command with one rule more, by what the command and the rule are.
-use Rattle.std.proofs.Common.{◌≡◌, ◌∙◌, ap₂, false, IfOk, IsOkAnd, Result, Ok, Err, subst}
+use Rattle.std.proofs.Common.{◌≡◌, ◌∙◌, ap₂, false, IfOk, IsOkAnd, Result, Ok, Err}
 use Rattle.std.proofs.lemmas.Result.{IfOk-weaker}
 use Rattle.clap.specs.Words.{AddsArg, App, Rule, rule_of, with_rule}
 use Rattle.clap.specs.declared.builder.arg.Arg.{Arg}
@@ -20,7 +20,3 @@ pub next : {E : Type 0} (arg : Arg) (form : App) (rule : Rule) (made more : Resu
     → IfOk more (λ c. HasForm (with_rule form rule) c)
 next arg form rule (Ok m) more adds bare is own = first arg form rule more adds bare is own
 next arg form rule (Err e) more adds bare is own = IfOk-weaker more _ _ (λ c added. elim added [ ]) adds
-
--- a command has its form where it was made
-pub made_of : {E : Type 0} {form : App} (made : Result Command E) (m : Command) → made ≡ Ok m → IfOk made (λ c. HasForm form c) → HasForm form m
-made_of {E} {form} made m is holds = subst (λ r. IfOk r (λ c. HasForm form c)) is holds

@@ -106,8 +106,16 @@ pub fn read_words(alloc: Global, words: Vec<String>) -> Result<Words, WordsFault
 {
     let command = aom_command(alloc)?;
     match command.try_get_matches_from(words.as_slice()) {
-        Ok(matches) => words_of(alloc, &matches),
-        Err(error) => Err(refusal_of(alloc, &error)),
+        Ok(matches) => {
+            let asked = words_of(alloc, &matches);
+            drop(matches);
+            asked
+        }
+        Err(error) => {
+            let refusal = refusal_of(alloc, &error);
+            drop(error);
+            Err(refusal)
+        }
     }
 }
 
@@ -118,30 +126,49 @@ fn aom_command<'a>(alloc: Global) -> Result<Command<'a>, AllocError>
     let command = Command::new(alloc, "aom")
         .about("Assembles, lists, checks and runs images of programs of active objects")
         .subcommand_required(true);
-    with_translations(alloc, with_uses(alloc, command)?)
+    with_translations(alloc, with_uses(alloc, command))
 }
 
 /// Adds what is done with an image.
 fn with_uses<'a>(alloc: Global, command: Command<'a>) -> Result<Command<'a>, AllocError>
     ensures { IfOk result (λ c. app_of c ≡ with_subcommand (with_subcommand (with_subcommand (with_subcommand (app_of command.entry) check_form.top) run_form.top) explore_form.top) debug_form.top) }
 {
-    let command = with_made(command, check_command(alloc))?;
-    let command = with_made(command, run_command(alloc))?;
-    let command = with_made(command, explore_command(alloc))?;
+    let command = with_command(command, check_command(alloc));
+    let command = with_made(command, run_command(alloc));
+    let command = with_made(command, explore_command(alloc));
     with_made(command, debug_command(alloc))
 }
 
 /// Adds what makes an image of a text, and texts of an image.
-fn with_translations<'a>(alloc: Global, command: Command<'a>) -> Result<Command<'a>, AllocError>
-    ensures { IfOk result (λ c. app_of c ≡ with_subcommand (with_subcommand (with_subcommand (app_of command.entry) asm_form.top) dis_form.top) dot_form.top) }
+fn with_translations<'a>(
+    alloc: Global,
+    command: Result<Command<'a>, AllocError>,
+) -> Result<Command<'a>, AllocError>
+    ensures { (to : App) → IfOk command.entry (λ c. app_of c ≡ to) → IfOk result (λ c. app_of c ≡ with_subcommand (with_subcommand (with_subcommand to asm_form.top) dis_form.top) dot_form.top) }
 {
-    let command = with_made(command, asm_command(alloc))?;
-    let command = with_made(command, dis_command(alloc))?;
+    let command = with_made(command, asm_command(alloc));
+    let command = with_made(command, dis_command(alloc));
     with_made(command, dot_command(alloc))
 }
 
-/// Adds a command that was made.
+/// Adds a command, where both were made.
 fn with_made<'a>(
+    command: Result<Command<'a>, AllocError>,
+    made: Result<Command<'a>, AllocError>,
+) -> Result<Command<'a>, AllocError>
+    ensures { IfOk result (λ c. IsOkAnd command.entry (λ b. IsOkAnd made.entry (λ m. AddsSubcommand b m c))) }
+{
+    match command {
+        Ok(command) => with_command(command, made),
+        Err(error) => {
+            leave_made(made);
+            Err(error)
+        }
+    }
+}
+
+/// Adds a command that was made.
+fn with_command<'a>(
     command: Command<'a>,
     made: Result<Command<'a>, AllocError>,
 ) -> Result<Command<'a>, AllocError>
@@ -153,6 +180,14 @@ fn with_made<'a>(
             leave(command);
             Err(error)
         }
+    }
+}
+
+/// Gives a command up, where it was made.
+fn leave_made(made: Result<Command, AllocError>) {
+    match made {
+        Ok(made) => leave(made),
+        Err(_) => {}
     }
 }
 
@@ -219,7 +254,7 @@ fn run_command<'a>(alloc: Global) -> Result<Command<'a>, AllocError>
         .arg(limit_arg(alloc));
     let command = with_arg(command, explain_arg(alloc));
     let command = with_arg(command, text_arg(alloc));
-    with_files(alloc, command?)
+    with_files(alloc, command)
 }
 
 fn explore_command<'a>(alloc: Global) -> Result<Command<'a>, AllocError>
@@ -230,7 +265,7 @@ fn explore_command<'a>(alloc: Global) -> Result<Command<'a>, AllocError>
         .arg(limit_arg(alloc));
     let command = with_arg(command, from_arg(alloc));
     let command = with_arg(command, to_arg(alloc));
-    with_files(alloc, command?)
+    with_files(alloc, command)
 }
 
 fn debug_command<'a>(alloc: Global) -> Result<Command<'a>, AllocError>
@@ -239,14 +274,17 @@ fn debug_command<'a>(alloc: Global) -> Result<Command<'a>, AllocError>
     let command = Command::new(alloc, "debug")
         .about("Runs an image as commands say, which are read from standard input")
         .arg(limit_arg(alloc));
-    with_files(alloc, command?)
+    with_files(alloc, command)
 }
 
 /// Adds the files of a run, and its natives.
-fn with_files<'a>(alloc: Global, command: Command<'a>) -> Result<Command<'a>, AllocError>
-    ensures { (form : App) → HasForm form command.entry → IfOk result (λ c. HasForm (with_files form) c) }
+fn with_files<'a>(
+    alloc: Global,
+    command: Result<Command<'a>, AllocError>,
+) -> Result<Command<'a>, AllocError>
+    ensures { (form : App) → IfOk command.entry (λ c. HasForm form c) → IfOk result (λ c. HasForm (with_files form) c) }
 {
-    let command = command.arg(file_arg(alloc, "IMAGE", "The file of an image"));
+    let command = with_arg(command, file_arg(alloc, "IMAGE", "The file of an image"));
     let command = with_arg(command, file_arg(alloc, "SCRIPT", "The file of a script"));
     with_arg(command, native_arg(alloc))
 }
@@ -402,19 +440,10 @@ fn command_words(alloc: Global, command: &str, own: &ArgMatches) -> Result<Words
         "check" => check_words(alloc, own),
         "run" => running_words(alloc, own),
         "explore" => explore_words(alloc, own),
-        "debug" => Ok(Words::Debug {
-            run: run_words(alloc, own)?,
-        }),
-        "asm" => Ok(Words::Asm {
-            text: word_of(alloc, own, "TEXT")?,
-            explain: is_set(own, "explain"),
-        }),
-        "dis" => Ok(Words::Dis {
-            image: word_of(alloc, own, "IMAGE")?,
-        }),
-        "dot" => Ok(Words::Dot {
-            image: word_of(alloc, own, "IMAGE")?,
-        }),
+        "debug" => debug_words(alloc, own),
+        "asm" => asm_words(alloc, own),
+        "dis" => dis_words(alloc, own),
+        "dot" => dot_words(alloc, own),
         _ => Err(WordsFault::Text(String::new(alloc))),
     }
 }
@@ -469,6 +498,41 @@ fn explore_words(alloc: Global, own: &ArgMatches) -> Result<Words, WordsFault>
         first: number_of(own, "from", 1, u32::MAX),
         last: number_of(own, "to", u32::MAX, u32::MAX),
     })
+}
+
+fn debug_words(alloc: Global, own: &ArgMatches) -> Result<Words, WordsFault>
+    ensures asks { IfOk result (λ asked. Asks (Some (codes "debug", rows_of (found_of own.now))) asked) }
+    ensures declines { IfErr result (λ fault. Declines true (Some (codes "debug", rows_of (found_of own.now))) fault) }
+{
+    let run = run_words(alloc, own)?;
+    Ok(Words::Debug { run })
+}
+
+fn asm_words(alloc: Global, own: &ArgMatches) -> Result<Words, WordsFault>
+    ensures asks { IfOk result (λ asked. Asks (Some (codes "asm", rows_of (found_of own.now))) asked) }
+    ensures declines { IfErr result (λ fault. Declines true (Some (codes "asm", rows_of (found_of own.now))) fault) }
+{
+    let text = word_of(alloc, own, "TEXT")?;
+    Ok(Words::Asm {
+        text,
+        explain: is_set(own, "explain"),
+    })
+}
+
+fn dis_words(alloc: Global, own: &ArgMatches) -> Result<Words, WordsFault>
+    ensures asks { IfOk result (λ asked. Asks (Some (codes "dis", rows_of (found_of own.now))) asked) }
+    ensures declines { IfErr result (λ fault. Declines true (Some (codes "dis", rows_of (found_of own.now))) fault) }
+{
+    let image = word_of(alloc, own, "IMAGE")?;
+    Ok(Words::Dis { image })
+}
+
+fn dot_words(alloc: Global, own: &ArgMatches) -> Result<Words, WordsFault>
+    ensures asks { IfOk result (λ asked. Asks (Some (codes "dot", rows_of (found_of own.now))) asked) }
+    ensures declines { IfErr result (λ fault. Declines true (Some (codes "dot", rows_of (found_of own.now))) fault) }
+{
+    let image = word_of(alloc, own, "IMAGE")?;
+    Ok(Words::Dot { image })
 }
 
 /// What is to run.

@@ -1,3 +1,4 @@
 pub mod Faulting
 pub mod Lines
 pub mod Timely
+pub mod Messages

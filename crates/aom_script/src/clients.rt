@@ -1,7 +1,10 @@
 //! The words of a client's line.
-ghost use Rattle.std.specs.Prelude.{◌≡◌, ◌∷◌, Some};
+ghost use Rattle.std.specs.Prelude.{◌≡◌, ◌∷◌, if◌then◌else◌, codes, Some, Err};
+ghost use Rattle.std.specs.Str.{bytes_eq};
 ghost use Rattle.aom_text.specs.Numbers.{number_of};
 ghost use Rattle.aom_script.specs.Script.{client_says, command_numbers, connect_numbers, connect_says, leaving_says, message_numbers, message_says, send_says};
+ghost use Rattle.aom_script.specs.declared.fault.ScriptFaultKind.TheVariants.{BadLine};
+ghost use Rattle.aom_script.specs.declared.reading.CommandNumbers.TheVariants.{ToClose, ToDie};
 
 use crate::ScriptFaultKind;
 use crate::reading::{CommandNumbers, EventNumbers, Reading};
@@ -15,7 +18,16 @@ pub fn read_client(kind: &[u8], time: &[u8], words: Words) -> Result<Reading, Sc
         read_connect(time, words)
     } else if kind == b"send".as_slice() {
         read_send(time, words)
-    } else if kind == b"close".as_slice() {
+    } else {
+        read_end(kind, time, words)
+    }
+}
+
+/// Reads the line of a client that closes its session or dies.
+fn read_end(kind: &[u8], time: &[u8], words: Words) -> Result<Reading, ScriptFaultKind>
+    ensures { result ≡ (if bytes_eq kind.now (codes "close") then leaving_says ToClose (time.now ∷ words.entry) else if bytes_eq kind.now (codes "die") then leaving_says ToDie (time.now ∷ words.entry) else Err BadLine) }
+{
+    if kind == b"close".as_slice() {
         read_leaving(time, words, CommandNumbers::ToClose)
     } else if kind == b"die".as_slice() {
         read_leaving(time, words, CommandNumbers::ToDie)
@@ -95,13 +107,12 @@ fn message_of(
 ) -> Option<CommandNumbers>
     ensures { result ≡ message_numbers (number_of function.now) (number_of first.now) (number_of second.now) (number_of third.now) (number_of fourth.now) }
 {
-    Some(CommandNumbers::ToSend(
-        Number::of(function)?,
-        Number::of(first)?,
-        Number::of(second)?,
-        Number::of(third)?,
-        Number::of(fourth)?,
-    ))
+    let function = Number::of(function)?;
+    let first = Number::of(first)?;
+    let second = Number::of(second)?;
+    let third = Number::of(third)?;
+    let fourth = Number::of(fourth)?;
+    Some(CommandNumbers::ToSend(function, first, second, third, fourth))
 }
 
 fn read_leaving(

@@ -94,13 +94,12 @@ fn message_within(
 ) -> Option<Command>
     ensures { result ≡ send_of (number_signed function) (number_signed first) (number_signed second) (number_signed third) (number_signed fourth) }
 {
-    Some(Command::Send([
-        function.signed()?,
-        first.signed()?,
-        second.signed()?,
-        third.signed()?,
-        fourth.signed()?,
-    ]))
+    let function = function.signed()?;
+    let first = first.signed()?;
+    let second = second.signed()?;
+    let third = third.signed()?;
+    let fourth = fourth.signed()?;
+    Some(Command::Send([function, first, second, third, fourth]))
 }
 
 /// The number of a native.

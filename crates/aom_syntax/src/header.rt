@@ -1,7 +1,7 @@
 //! The statement that opens a text.
 ghost use Rattle.std.specs.Prelude.{◌≡◌};
 ghost use Rattle.aom_syntax.specs.Reading.{Reads};
-ghost use Rattle.aom_syntax.specs.Headers.{optional_version, optional_root, image_statement};
+ghost use Rattle.aom_syntax.specs.Headers.{optional_version, optional_root, limits_and_root, image_statement};
 
 use crate::{Keyword, Reader, Scope};
 use aom_image::{ClassNumber, Header};
@@ -23,21 +23,20 @@ impl<'a> Reader<'a> {
     fn optional_root(&mut self, scope: &Scope) -> Result<Option<ClassNumber>, AsmFaultKind>
         ensures { Reads (λ x. (x, self.new)) result (optional_root scope.now self.old) }
     {
-        if !self.took(Keyword::Root) {
+        if self.took(Keyword::Root) {
+            let root = self.class(scope)?;
+            self.nothing_more(false)?;
+            Ok(Some(root))
+        } else {
             self.nothing_more(true)?;
-            return Ok(None);
+            Ok(None)
         }
-        let root = self.class(scope)?;
-        self.nothing_more(false)?;
-        Ok(Some(root))
     }
 
-    /// What a text says of the whole program, from the word `image` on.
-    pub fn image_statement(&mut self, scope: &Scope) -> Result<Header, AsmFaultKind>
-        ensures { Reads (λ x. (x, self.new)) result (image_statement scope.now self.old) }
+    /// The limits, main's budget and the class of the root.
+    fn limits_and_root(&mut self, scope: &Scope) -> Result<Header, AsmFaultKind>
+        ensures { Reads (λ x. (x, self.new)) result (limits_and_root scope.now self.old) }
     {
-        self.keyword(Keyword::Image)?;
-        self.optional_version()?;
         let cells = self.optional_number(Keyword::Cells, 4096)?;
         let messages = self.optional_number(Keyword::Messages, 1024)?;
         let natives = self.optional_number(Keyword::Natives, 16)?;
@@ -51,5 +50,14 @@ impl<'a> Reader<'a> {
             root,
             budget,
         })
+    }
+
+    /// What a text says of the whole program, from the word `image` on.
+    pub fn image_statement(&mut self, scope: &Scope) -> Result<Header, AsmFaultKind>
+        ensures { Reads (λ x. (x, self.new)) result (image_statement scope.now self.old) }
+    {
+        self.keyword(Keyword::Image)?;
+        self.optional_version()?;
+        self.limits_and_root(scope)
     }
 }

@@ -1,6 +1,6 @@
 //! The statements of a method's code.
 ghost use Rattle.std.specs.Prelude.{◌≡◌, option_map};
-ghost use Rattle.aom_syntax.specs.Reading.{Reads};
+ghost use Rattle.aom_syntax.specs.Reading.{Reads, seen};
 ghost use Rattle.aom_syntax.specs.Methods.{label_of, named_mnemonic, check_label, after_label, instruction};
 
 use crate::keyword::strange;
@@ -55,6 +55,13 @@ impl<'a> Reader<'a> {
         }
     }
 
+    /// The mnemonic of an instruction, behind its label.
+    fn mnemonic(&mut self, labels: &Names, place: usize) -> Result<Mnemonic, AsmFaultKind>
+        ensures { Reads (λ x. (x, self.new)) result (seen named_mnemonic (after_label place labels.now) self.old) }
+    {
+        mnemonic_of(self.after_label(labels, place)?)
+    }
+
     /// An instruction with its label, at its place in a method.
     pub fn instruction(
         &mut self,
@@ -64,7 +71,7 @@ impl<'a> Reader<'a> {
     ) -> Result<Instr, AsmFaultKind>
         ensures { Reads (λ x. (x, self.new)) result (instruction scope.now labels.now place self.old) }
     {
-        let mnemonic = mnemonic_of(self.after_label(labels, place)?)?;
+        let mnemonic = self.mnemonic(labels, place)?;
         let instr = self.behind(mnemonic, scope, labels)?;
         self.nothing_more(false)?;
         Ok(instr)

@@ -47,10 +47,10 @@ pub fn listed<E: Element>(
 ) -> Result<Vec<E>, AsmFaultKind>
     ensures { ReadsOrNoMemory (λ v. v.items) result (listed most (E.said scope.now) word.now) }
 {
-    let mut elements = Vec::new(alloc);
     if word == b"-".as_slice() {
-        return Ok(elements);
+        return Ok(Vec::new(alloc));
     }
+    let mut elements = Vec::new(alloc);
     let mut rest = Some(word);
     while let Some(list) = rest {
         let (first, after) = split_element(list);

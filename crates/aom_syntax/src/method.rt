@@ -1,8 +1,8 @@
 //! The statement that declares a method.
-ghost use Rattle.std.specs.Prelude.{◌≡◌, ◌≤◌, ◌<◌, ◌∷◌, length, option_map, replicate, IfOk};
+ghost use Rattle.std.specs.Prelude.{◌≡◌, ◌≤◌, ◌<◌, ◌∷◌, length, option_map, replicate, Ok};
 ghost use Rattle.aom_image.specs.declared.method.Argument.TheVariants.{Word};
 ghost use Rattle.aom_syntax.specs.Reading.{Reads, ReadsOrNoMemory};
-ghost use Rattle.aom_syntax.specs.Methods.{role, role_of, kind_of, all_states, accepted, usual_before, usual_after, usual_words, usual_gives, unsaid_gives, is_quiet_role, optional_states, optional_class, argument_of, optional_arguments, gives, optional_gives, flags_of, heading};
+ghost use Rattle.aom_syntax.specs.Methods.{role, role_of, kind_of, all_states, accepted, usual_before, usual_after, usual_words, usual_gives, unsaid_gives, is_quiet_role, optional_states, optional_class, argument_of, optional_arguments, gives, optional_gives, flags_of, promised, heading};
 
 use crate::class::thing_of;
 use crate::list::listed;
@@ -12,7 +12,7 @@ use aom_image::{
     Argument, ClassDecl, ClassKind, ClassNumber, Gives, Items, MethodFlags, Role, States, Thing,
 };
 use aom_text::AsmFaultKind;
-use std::alloc::{AllocError, Global};
+use std::alloc::Global;
 
 /// A method but its code.
 #[derive(Drop)]
@@ -165,11 +165,11 @@ pub fn argument_of(word: &[u8], scope: &Scope) -> Result<Argument, AsmFaultKind>
     Ok(Argument::Own(thing_of(word, scope)?))
 }
 
-fn words(alloc: Global, count: usize) -> Result<Vec<Argument>, AllocError>
-    ensures { IfOk result (λ v. v.items ≡ replicate count Word) }
+fn words(alloc: Global, count: usize) -> Result<Vec<Argument>, AsmFaultKind>
+    ensures { ReadsOrNoMemory (λ v. v.items) result (Ok (replicate count Word)) }
 {
     let _told: Option<Thing> = None;
-    vec![in alloc; Argument::Word; count]
+    Ok(vec![in alloc; Argument::Word; count]?)
 }
 
 impl<'a> Reader<'a> {
@@ -213,7 +213,7 @@ impl<'a> Reader<'a> {
         if self.took(Keyword::Args) {
             listed(alloc, self.word()?, scope, 6)
         } else {
-            Ok(words(alloc, usual)?)
+            words(alloc, usual)
         }
     }
 
@@ -235,14 +235,44 @@ impl<'a> Reader<'a> {
     fn optional_gives(&mut self, scope: &Scope, usual: Option<Gives>) -> Result<Gives, AsmFaultKind>
         ensures { Reads (λ x. (x, self.new)) result (optional_gives scope.now usual self.old) }
     {
-        if !self.took(Keyword::Gives) {
+        if self.took(Keyword::Gives) {
+            let key = self.any_keyword()?;
+            let gives = self.gives(key, scope)?;
+            self.nothing_more(false)?;
+            Ok(gives)
+        } else {
             self.nothing_more(true)?;
-            return unsaid_gives(usual);
+            unsaid_gives(usual)
         }
-        let key = self.any_keyword()?;
-        let gives = self.gives(key, scope)?;
-        self.nothing_more(false)?;
-        Ok(gives)
+    }
+
+    /// What a method promises behind its flags: its states, its arguments and its result.
+    fn promised(
+        &mut self,
+        alloc: Global,
+        scope: &Scope,
+        role: Role,
+        class: Option<ClassNumber>,
+        leaves: bool,
+        quiet: bool,
+    ) -> Result<Heading, AsmFaultKind>
+        ensures { ReadsOrNoMemory (λ x. (x, self.new)) result (promised scope.now role class leaves quiet self.old) }
+    {
+        let kind = kind_of(&scope.kinds, class);
+        let (usual_before, usual_after) = usual_states(role, all_states(kind));
+        let before = self.optional_states(Keyword::In, usual_before)?;
+        let after = self.optional_states(Keyword::Out, usual_after)?;
+        let arguments = self.optional_arguments(alloc, scope, usual_words(role))?;
+        let gives = self.optional_gives(scope, usual_gives(scope.is_strict, role, kind))?;
+        Ok(Heading {
+            class,
+            role,
+            flags: flags_of(leaves, quiet || is_quiet_role(role)),
+            before,
+            after,
+            arguments: Items::from_vec(arguments),
+            gives,
+        })
     }
 
     /// The method of a statement, after the word `method`: at its place among the methods.
@@ -259,21 +289,6 @@ impl<'a> Reader<'a> {
         let class = self.optional_class(scope)?;
         let leaves = self.took(Keyword::Leaves);
         let quiet = self.took(Keyword::Quiet);
-        let kind = kind_of(&scope.kinds, class);
-        let all = all_states(kind);
-        let (usual_before, usual_after) = usual_states(role, all);
-        let before = self.optional_states(Keyword::In, usual_before)?;
-        let after = self.optional_states(Keyword::Out, usual_after)?;
-        let arguments = self.optional_arguments(alloc, scope, usual_words(role))?;
-        let gives = self.optional_gives(scope, usual_gives(scope.is_strict, role, kind))?;
-        Ok(Heading {
-            class,
-            role,
-            flags: flags_of(leaves, quiet || is_quiet_role(role)),
-            before,
-            after,
-            arguments: Items::from_vec(arguments),
-            gives,
-        })
+        self.promised(alloc, scope, role, class, leaves, quiet)
     }
 }

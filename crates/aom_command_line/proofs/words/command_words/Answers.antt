@@ -1,7 +1,4 @@
 -- Each command asks what its own words ask.
-use Rattle.std.proofs.Common.{inr}
-use Rattle.std.proofs.lemmas.Result.{err_from_is_err_and}
-use Rattle.aom_command_line.proofs.Reading.{declines_run}
 use Rattle.aom_command_line.proofs.words.command_words.Goals as goal
 
 pub returns-in-check-clause-asks : goal.returns-in-check-clause-asks
@@ -22,10 +19,26 @@ returns-in-explore-clause-asks c = rw c.in-explore.is c.explore_words.ensures.as
 pub returns-in-explore-clause-declines : goal.returns-in-explore-clause-declines
 returns-in-explore-clause-declines c = rw c.in-explore.is c.explore_words.ensures.declines
 
-pub returns-in_err-run_words-in-debug-clause-declines : goal.returns-in_err-run_words-in-debug-clause-declines
-returns-in_err-run_words-in-debug-clause-declines c =
-    let e = err_from_is_err_and c.from_residual.result c.from_residual.ensures.1 in
-    rw (e.1, e.2) (declines_run _ _ _ (inr (inr c.in-debug.is)) c.in_err-run_words-in-debug.ensures.declines)
+pub returns-in-debug-clause-asks : goal.returns-in-debug-clause-asks
+returns-in-debug-clause-asks c = rw c.in-debug.is c.debug_words.ensures.asks
 
-pub returns-in_ok-run_words-in-debug-clause-asks : goal.returns-in_ok-run_words-in-debug-clause-asks
-returns-in_ok-run_words-in-debug-clause-asks c = (c.in-debug.is, c.in_ok-run_words-in-debug.ensures.asks)
+pub returns-in-debug-clause-declines : goal.returns-in-debug-clause-declines
+returns-in-debug-clause-declines c = rw c.in-debug.is c.debug_words.ensures.declines
+
+pub returns-in-asm-clause-asks : goal.returns-in-asm-clause-asks
+returns-in-asm-clause-asks c = rw c.in-asm.is c.asm_words.ensures.asks
+
+pub returns-in-asm-clause-declines : goal.returns-in-asm-clause-declines
+returns-in-asm-clause-declines c = rw c.in-asm.is c.asm_words.ensures.declines
+
+pub returns-in-dis-clause-asks : goal.returns-in-dis-clause-asks
+returns-in-dis-clause-asks c = rw c.in-dis.is c.dis_words.ensures.asks
+
+pub returns-in-dis-clause-declines : goal.returns-in-dis-clause-declines
+returns-in-dis-clause-declines c = rw c.in-dis.is c.dis_words.ensures.declines
+
+pub returns-in-dot-clause-asks : goal.returns-in-dot-clause-asks
+returns-in-dot-clause-asks c = rw c.in-dot.is c.dot_words.ensures.asks
+
+pub returns-in-dot-clause-declines : goal.returns-in-dot-clause-declines
+returns-in-dot-clause-declines c = rw c.in-dot.is c.dot_words.ensures.declines

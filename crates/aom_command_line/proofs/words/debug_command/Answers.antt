@@ -2,11 +2,11 @@
 use Rattle.std.proofs.Common.{rules, codes}
 use Rattle.clap.specs.Words.{new_app}
 use Rattle.aom_command_line.specs.CommandLine.{HasForm}
-use Rattle.aom_command_line.proofs.Rules.{first, made_of}
+use Rattle.aom_command_line.proofs.Rules.{first}
 use Rattle.aom_command_line.proofs.words.debug_command.Goals as goal
 
 pub returns : goal.returns
 returns c =
     let bare : HasForm (new_app (codes "debug")) c.about.result = record { shape = search rules; own = search rules } in
     let limit = first c.limit_arg.result _ _ c.arg-command.result c.arg-command.ensures bare c.limit_arg.ensures.rule c.limit_arg.ensures.own in
-    c.with_files.ensures _ (made_of c.arg-command.result _ c.in_ok-command.was limit)
+    c.with_files.ensures _ limit

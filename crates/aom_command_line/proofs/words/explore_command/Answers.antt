@@ -2,7 +2,7 @@
 use Rattle.std.proofs.Common.{rules, codes}
 use Rattle.clap.specs.Words.{new_app}
 use Rattle.aom_command_line.specs.CommandLine.{HasForm}
-use Rattle.aom_command_line.proofs.Rules.{first, made_of, next}
+use Rattle.aom_command_line.proofs.Rules.{first, next}
 use Rattle.aom_command_line.proofs.words.explore_command.Goals as goal
 
 pub returns : goal.returns
@@ -11,4 +11,4 @@ returns c =
     let limit = first c.limit_arg.result _ _ c.arg-command.result c.arg-command.ensures bare c.limit_arg.ensures.rule c.limit_arg.ensures.own in
     let from = next c.from_arg.result _ _ c.arg-command.result c.with_arg-command.result c.with_arg-command.ensures limit c.from_arg.ensures.rule c.from_arg.ensures.own in
     let to = next c.to_arg.result _ _ c.with_arg-command.result c.with_arg-command-2.result c.with_arg-command-2.ensures from c.to_arg.ensures.rule c.to_arg.ensures.own in
-    c.with_files.ensures _ (made_of c.with_arg-command-2.result _ c.in_ok-command.was to)
+    c.with_files.ensures _ to

@@ -1,5 +1,5 @@
-use Rattle.std.proofs.Common.{rules}
+use Rattle.std.proofs.Common.{refl}
 use Rattle.aom_command_line.proofs.words.explore_words.Goals as goal
 
 pub returns-clause-asks : goal.returns-clause-asks
-returns-clause-asks c = search rules
+returns-clause-asks c = (refl, c.in_ok-run_words.ensures.asks, c.number_of.ensures, c.number_of-2.ensures)

@@ -2,7 +2,7 @@
 use Rattle.std.proofs.Common.{rules, codes}
 use Rattle.clap.specs.Words.{new_app}
 use Rattle.aom_command_line.specs.CommandLine.{HasForm}
-use Rattle.aom_command_line.proofs.Rules.{first, made_of, next}
+use Rattle.aom_command_line.proofs.Rules.{first, next}
 use Rattle.aom_command_line.proofs.words.run_command.Goals as goal
 
 pub returns : goal.returns
@@ -11,4 +11,4 @@ returns c =
     let limit = first c.limit_arg.result _ _ c.arg-command.result c.arg-command.ensures bare c.limit_arg.ensures.rule c.limit_arg.ensures.own in
     let explain = next c.explain_arg.result _ _ c.arg-command.result c.with_arg-command.result c.with_arg-command.ensures limit c.explain_arg.ensures.rule c.explain_arg.ensures.own in
     let text = next c.text_arg.result _ _ c.with_arg-command.result c.with_arg-command-2.result c.with_arg-command-2.ensures explain c.text_arg.ensures.rule c.text_arg.ensures.own in
-    c.with_files.ensures _ (made_of c.with_arg-command-2.result _ c.in_ok-command.was text)
+    c.with_files.ensures _ text

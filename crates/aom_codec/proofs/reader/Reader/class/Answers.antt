@@ -1,0 +1,8 @@
+-- The parts of a class are read one after the other, and what was read is it.
+use Rattle.std.proofs.Common.{refl}
+use Rattle.aom_codec.proofs.reader.Reader.class.Goals as goal
+
+pub returns : goal.returns
+returns c =
+    rw (c.in_ok-sort.ensures, c.in_ok-words.ensures.read, c.in_ok-count.ensures.read, c.in_ok-purpose.ensures, c.in_ok-fields.ensures, c.in_ok-unused_pairs.ensures, c.in_ok-kind.ensures)
+    (rw c.from_vec.ensures refl)
