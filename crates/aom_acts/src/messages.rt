@@ -1,5 +1,6 @@
 //! Instructions on messages: the one that is served is taken, and a message is completed.
 ghost use Rattle.std.specs.Prelude.{◌≡◌, ◌<◌, ℕ, List, length};
+ghost use Rattle.aom_cells.specs.Heap.{null};
 ghost use Rattle.aom_image.specs.Image.{Image};
 ghost use Rattle.aom_instructions.specs.declared.instr.Instr.TheVariants.{Reply, TakeMessage};
 ghost use Rattle.aom_acts.specs.Acts.{Does, Tells};
@@ -16,12 +17,20 @@ use aom_parts::Parts;
 use aom_transcript::Line;
 use std::mem;
 
+/// The message that is served is taken, and none is served from then on: its number.
+pub fn take_served(parts: &mut Parts) -> u32
+    ensures number { result ≡ parts.old.served }
+    ensures taken { parts.new ≡ record parts.old { served = null } }
+{
+    mem::replace(&mut parts.served, NULL)
+}
+
 /// The message that is served comes to a register.
 pub fn take_message(parts: &mut Parts, to: Register)
     requires { (p : Image) × IsNext p (TakeMessage to) parts.old }
     ensures { (refused : List ℕ) → Does refused (TakeMessage to) parts.old parts.new }
 {
-    let message = mem::replace(&mut parts.served, NULL);
+    let message = take_served(parts);
     objects::bring(parts, to, message);
 }
 

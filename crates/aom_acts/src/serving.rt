@@ -8,14 +8,12 @@ ghost use Rattle.aom_parts.specs.Places.{IsEnding, with_tasks};
 
 use crate::messages;
 use crate::natives::TERMINATED;
-use aom_cells::NULL;
 use aom_clients::{Clients, Entry, Taken};
 use aom_frames::{Dispatch, Stage, Task, TaskKind};
 use aom_lines::Turn;
 use aom_messages::MessageId;
 use aom_parts::Parts;
 use aom_transcript::Line;
-use std::mem;
 
 /// The method that a dispatch ran under its trap has returned, with that number: what `accept` gives is the session of the client, and a
 /// message is served.
@@ -61,7 +59,7 @@ pub fn end_stage(parts: &mut Parts, client: u8, stage: Stage, turn: &mut Turn)
             turn.push(Line::Reply(client, code));
         }
         Stage::ServiceLeft(code) => {
-            let message = mem::replace(&mut parts.served, NULL);
+            let message = messages::take_served(parts);
             messages::complete(parts, message, code, turn);
         }
         Stage::Parts => parts.clients.closed(client),

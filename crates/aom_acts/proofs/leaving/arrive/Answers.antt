@@ -1,4 +1,4 @@
-use Rattle.std.proofs.Common.{rules, subst, sym, ◌∙◌, ◌∷◌, ◌++◌, []}
+use Rattle.std.proofs.Common.{rules, subst, sym, to_z, of_z, w32, ◌≡◌, ◌∙◌, ◌∷◌, ◌++◌, []}
 use Rattle.std.proofs.lemmas.Bool.{false≢true}
 use Rattle.aom_image.specs.Views.{instr_at}
 use Rattle.aom_transcript.specs.declared.line.Line.TheVariants.{Leave}
@@ -20,7 +20,8 @@ returns-then-is_running c =
     let marked = rw (c.drop_task-2.ensures, c.drop_task.ensures) at c.unmark.ensures in
     let runs : Runs under = rw (c.drop_task-2.ensures, c.drop_task.ensures) at (c.is_running.ensures.0 c.if-is_running.true) in
     let coded = coded_through p (below_first m.stack.tasks) c.requires.below c.requires.trapped runs in
-    rw (c.receive_code.ensures, c.push.ensures, c.drop_task-2.ensures, c.drop_task.ensures)
+    let received : c.receive_code.new.parts ≡ told p i (to_z w32 (of_z w32 c.args.code)) (record (with_tasks under m) { entries = c.unmark.new.self }) = rw (c.drop_task-2.ensures, c.drop_task.ensures) at c.receive_code.ensures in
+    rw (received, c.push.ensures)
     (subst (λ w. Unwinds p m (told p i w (record (with_tasks under m) { entries = c.unmark.new.self })) c.args.turn.now (record c.args.turn.now { lines = c.args.turn.now.lines ++ Leave w ∷ [] })) (sym code.0)
     (arrives_method p m c.unmark.new.self marked c.args.turn.now code.1 c.requires.unwinding c.requires.trapped runs coded))
 
@@ -30,7 +31,8 @@ returns-else-is_running c =
     let code = told_code c.args.code (code_here m.stack.tasks) (search rules) c.requires.coded in
     let marked = rw (c.drop_task-2.ensures, c.drop_task.ensures) at c.unmark.ensures in
     let ending = ends_under c.args.linked.now (below_first m.stack.tasks) c.requires.below c.requires.trapped (λ runs. false≢true (sym c.if-is_running.false ∙ c.is_running.ensures.1 (rw (c.drop_task-2.ensures, c.drop_task.ensures) runs))) in
-    rw (c.leave_dispatch.ensures, c.push.ensures, c.drop_task-2.ensures, c.drop_task.ensures)
+    let left : c.leave_dispatch.new.parts ≡ record (with_tasks (left_by (to_z w32 (of_z w32 c.args.code)) (below_first (below_first m.stack.tasks))) m) { entries = c.unmark.new.self } = rw (c.drop_task-2.ensures, c.drop_task.ensures) at c.leave_dispatch.ensures in
+    rw (left, c.push.ensures)
     (subst (λ w. Unwinds c.args.linked.now m (record (with_tasks (left_by w (below_first (below_first m.stack.tasks))) m) { entries = c.unmark.new.self }) c.args.turn.now (record c.args.turn.now { lines = c.args.turn.now.lines ++ Leave w ∷ [] })) (sym code.0)
     (arrives_end c.args.linked.now m c.unmark.new.self marked c.args.turn.now code.1 c.requires.unwinding c.requires.trapped ending))
 

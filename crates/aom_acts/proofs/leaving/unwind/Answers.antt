@@ -5,6 +5,9 @@ use Rattle.aom_acts.proofs.Stepping.{unwinding_moves}
 use Rattle.aom_acts.proofs.UnwindActs.{deals_move, unwinds_marked, unwinds_to, unwinds_trapped, unwinds_whole, calls_there}
 use Rattle.aom_acts.proofs.leaving.unwind.Goals as goal
 
+pub deal_with_entry-requires-clause-entry : goal.deal_with_entry-requires-clause-entry
+deal_with_entry-requires-clause-entry c = c.above_mark.ensures.0 c.if-above_mark.true
+
 pub deal_with_entry-requires-clause-lives : goal.deal_with_entry-requires-clause-lives
 deal_with_entry-requires-clause-lives c = unwinds_whole c.args.linked.now c.args.parts.now c.requires.stands c.requires.unwinding
 

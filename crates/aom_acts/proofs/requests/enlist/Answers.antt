@@ -32,3 +32,17 @@ returns c = λ refused.
           let enlists = rw (c.living-id.ensures.value, c.this.ensures, to_z-of_z w32 c.args.priority c.ranges.priority) at w.enlist.ensures in
           rw (c.next.ensures, w.parts-is) (enlist_plain_does c.args.linked.now c.args.parts.now refused w.enlist.new.self c.args.priority (ap (is_server_class c.args.linked.now) told ∙ sym c.is_server.ensures ∙ w.if-is_server.false) enlists)
     ]
+
+pub next-requires-clause-runs : goal.next-requires-clause-runs
+next-requires-clause-runs c =
+    elim c.if-is_server.branch [
+      | then-is_server w ↦ rw w.parts-is c.requires.runs
+      | else-is_server w ↦ rw w.parts-is c.requires.runs
+    ]
+
+pub next-requires-clause-within : goal.next-requires-clause-within
+next-requires-clause-within c =
+    elim c.if-is_server.branch [
+      | then-is_server w ↦ rw w.parts-is c.requires.within
+      | else-is_server w ↦ rw w.parts-is c.requires.within
+    ]

@@ -8,3 +8,9 @@ returns-clause-clients c =
     let s = c.args.parts.now.clients in
     let n = c.args.server in
     c.end_sessions.ensures ∙ rw c.end_queue.ensures.clients (ap (λ cs. sessions_gone n cs (queue_gone n (queue_at s n) s)) (sessions_still n (queue_at s n) s))
+
+pub end_queue-requires-clause-can : goal.end_queue-requires-clause-can
+end_queue-requires-clause-can c = c.requires.can
+
+pub end_sessions-requires-clause-empty : goal.end_sessions-requires-clause-empty
+end_sessions-requires-clause-empty c = c.end_queue.ensures.empty

@@ -1,7 +1,7 @@
 -- A cell that is to go lives, and what goes next is told by its class.
 use Rattle.std.proofs.Common.{subst, sym}
 use Rattle.aom_cells.specs.Heap.{Lives}
-use Rattle.aom_acts.proofs.Finding.{cell_lives}
+use Rattle.aom_acts.proofs.Finding.{cell_lives, class_fits}
 use Rattle.aom_acts.proofs.OnTop.{goes_on_top, number_on_top}
 use Rattle.aom_debug_moves.proofs.Nexts.{goes_told}
 use Rattle.aom_debug_moves.proofs.next.next_in.Goals as goal
@@ -17,3 +17,6 @@ returns-in-Some-Destroy c = λ s st.
     let going = goes_on_top _ _ top c.in-Some-Destroy.field-0-is in
     let lives = cell_lives c.args.linked.now c.args.parts.now c.requires.stands going in
     rw c.number.ensures.value (goes_told c.args.linked.now c.args.parts.now s st c.in-Some-Destroy.number c.class.result going (number_on_top _ _ top c.in-Some-Destroy.field-0-is) lives c.class.ensures)
+
+pub class-requires-clause-small : goal.class-requires-clause-small
+class-requires-clause-small c = class_fits c.args.linked.now c.args.parts.now c.requires.stands.0 c.requires.stands.1.agrees c.in-Some-Destroy.number

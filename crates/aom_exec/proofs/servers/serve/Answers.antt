@@ -1,5 +1,5 @@
 -- Something waits at the server that is served, and what serves it is there still once it is taken.
-use Rattle.std.proofs.Common.{ap, subst, sym, ◌∙◌}
+use Rattle.std.proofs.Common.{rules, ap, subst, sym, ◌∙◌}
 use Rattle.std.proofs.lemmas.Option.{none-some, same_Some}
 use Rattle.aom_frames.specs.declared.dispatch.Subject.{Subject}
 use Rattle.aom_exec.specs.Servers.{CanTake, taken_from}
@@ -21,3 +21,6 @@ begin-requires-clause-can c =
     let waits = sym (rw c.number-server.ensures.value at c.next.ensures.taken) ∙ c.in-Some.is in
     rw (c.count_anew.ensures, c.note_queue.ensures.rest, c.next.ensures.after, c.number-server.ensures.value)
     (subst (λ k. CanTake c.args.linked.now k c.in-Some.taken.client c.in-Some.taken.entry (taken_from c.args.id active m)) same (take_again c.args.linked.now m c.args.id active can c.in-Some.taken waits))
+
+pub returns : goal.returns
+returns c = search (rules, c.note_queue.ensures.noted)

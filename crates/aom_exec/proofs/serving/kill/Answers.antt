@@ -1,5 +1,6 @@
 -- A native is killed as the checked machine kills it.
-use Rattle.std.proofs.Common.{subst, sym}
+use Rattle.std.proofs.Common.{ap, subst, sym, ◌∙◌, ◌++◌, ◌∷◌, []}
+use Rattle.aom_sessions.specs.Sessions.{Standing}
 use Rattle.aom_sound.specs.World.{Kills}
 use Rattle.aom_exec.specs.Turns.{Takes}
 use Rattle.aom_exec.proofs.Killing.{killed_is, kills, kills_no_timer}
@@ -15,3 +16,6 @@ returns-clause-killed c = λ s st.
 
 pub returns-clause-timers : goal.returns-clause-timers
 returns-clause-timers c = kills_no_timer c.args.linked.now c.args.native c.args.parts.now c.bereave_all.new.parts c.bereave_all.ensures c.requires.stands
+
+pub returns-clause-ended : goal.returns-clause-ended
+returns-clause-ended c = ap (λ (w : Standing). w.killed) c.kill.ensures ∙ ap (λ ks. ks ++ c.args.native ∷ []) c.bereave_all.ensures.others.killed

@@ -1,4 +1,4 @@
-use Rattle.std.proofs.Common.{subst, sym}
+use Rattle.std.proofs.Common.{ap, subst, sym}
 use Rattle.std.specs.Int.{w32}
 use Rattle.std.proofs.lemmas.Int.{to_z-of_z}
 use Rattle.aom_parts.specs.Stands.{Machine, StandsFor}
@@ -15,3 +15,6 @@ returns-clause-stands c =
 
 pub returns-clause-agrees : goal.returns-clause-agrees
 returns-clause-agrees c = agrees_in_all _
+
+pub returns-clause-heard : goal.returns-clause-heard
+returns-clause-heard c = rw (to_z-of_z w32 c.args.answer c.ranges.answer) (ap (λ (x : Machine). record x { parts = record x.parts { heard = c.args.answer } }) c.self.view_is)

@@ -1,6 +1,6 @@
-use Rattle.std.proofs.Common.{refl, ◌<◌}
+use Rattle.std.proofs.Common.{refl, length, ◌<◌, ◌⊎◌}
 use Rattle.aom_parts.specs.Stands.{Machine}
-use Rattle.aom_exec.specs.Steps.{SteppedOn, rank}
+use Rattle.aom_exec.specs.Steps.{SteppedOn, Wants, rank}
 use Rattle.aom_exec.proofs.Many.{stands_on}
 use Rattle.aom_exec.proofs.Seen.{seen_as}
 use Rattle.aom_image.specs.Image.{Image}
@@ -19,3 +19,7 @@ returns-clause-falls c = λ running.
 
 pub returns-clause-agrees : goal.returns-clause-agrees
 returns-clause-agrees c = agrees_in_all _
+
+pub returns-clause-told : goal.returns-clause-told
+returns-clause-told c = λ running.
+    seen_as (λ (old : Machine) (p : Image). (length c.args.turn.now.lines < length c.step_on.new.turn.lines) ⊎ Wants (record { image = p; parts = c.step_on.new.parts })) c.linked.ensures c.self.view_is (c.step_on.ensures.told running)
