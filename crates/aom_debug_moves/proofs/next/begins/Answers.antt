@@ -1,13 +1,8 @@
 -- What goes first is told by its class.
 use Rattle.std.proofs.Common.{◌∙◌}
-<<<<<<< HEAD:crates/aom_debug_moves/proofs/next/begins/Answers.antt
+use Rattle.aom_acts.proofs.Finding.{class_fits}
 use Rattle.aom_debug_moves.proofs.Nexts.{destroyed_told}
 use Rattle.aom_debug_moves.proofs.next.begins.Goals as goal
-=======
-use Rattle.aom_acts.proofs.Finding.{class_fits}
-use Rattle.aom_debug_views.proofs.Nexts.{destroyed_told}
-use Rattle.aom_debug_views.proofs.next.begins.Goals as goal
->>>>>>> 9fcf9e6100067831c1bff9f5ea84f2f84aa51313:crates/aom_debug_views/proofs/next/begins/Answers.antt
 
 pub class-requires-clause-lives : goal.class-requires-clause-lives
 class-requires-clause-lives c = c.first_to_go-first.ensures.lives
