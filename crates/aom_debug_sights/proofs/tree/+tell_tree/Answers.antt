@@ -1,5 +1,5 @@
 -- The line of what is held, and then what hangs from its fields, one field after another, and from its sessions, one after another.
-use Rattle.std.proofs.Common.{◌≡◌, ◌≢◌, ◌∙◌, ◌<◌, ◌-◌, ◌++◌, ◌∷◌, [], ℕ, IfSome, List, Option, Some, ap, append_assoc, arith, length, refl, subst, suc, sym, take}
+use Rattle.std.proofs.Common.{◌≡◌, ◌≢◌, ◌∙◌, ◌<◌, ◌-◌, ◌++◌, ◌∷◌, [], ℕ, IfSome, List, Option, Some, ap, append_assoc, arith, length, refl, rules, subst, suc, sym, take}
 use Rattle.std.proofs.Math.Seq.{take-append_seam}
 use Rattle.std.proofs.lemmas.Bool.{false≢true}
 use Rattle.std.proofs.lemmas.List.{append-nil}
@@ -199,3 +199,13 @@ first_session-next-requires-clause-lives g t c = rw c.in-Some.ensures.value (c.i
 
 pub first_session-next-requires-clause-stands : goal.first_session-next-requires-clause-stands
 first_session-next-requires-clause-stands g t c = c.requires.stands
+
+pub tell_tree-requires : goal.tell_tree-requires
+tell_tree-requires g t c =
+    let same = ap length (c.loop-field.invariant.same ∙ c.tell_owned.ensures.same) in
+    λ κs lives. (omega (arith, c.decreases, c.if-depth-eq0.false), (search rules, (omega (arith, c.requires.room, c.enter.ensures.short, same, c.if-depth-eq0.false), c.requires.stands)))
+
+pub tell_tree-requires-in-Some-next : goal.tell_tree-requires-in-Some-next
+tell_tree-requires-in-Some-next g t c =
+    let same = ap length (c.loop-next.invariant.same ∙ c.loop-field.invariant.same ∙ c.tell_owned.ensures.same) in
+    λ κs lives. (omega (arith, c.decreases, c.if-depth-eq0.false), (search rules, (omega (arith, c.requires.room, c.enter_session.ensures.short, same, c.if-depth-eq0.false), c.requires.stands)))
