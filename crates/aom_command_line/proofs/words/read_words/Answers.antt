@@ -1,6 +1,6 @@
 -- What `clap` makes of the words is what its exact matches say.
 use Rattle.std.proofs.Common.{◌≡◌, ◌∙◌, ap, ap₂, subst, true, IfOk, IfErr}
-use Rattle.std.proofs.lemmas.Result.{IfErr-weaker}
+use Rattle.std.proofs.lemmas.Result.{IfErr-weaker, err_from_is_err_and}
 use Rattle.clap.specs.Words.{is_simple, kind_of, subcommand_of, subcommand_rows_of, takes}
 use Rattle.aom_command_line.specs.CommandLine.{form, texts_of, Asks, Declines}
 use Rattle.aom_command_line.proofs.Reading.{simple, declines, says}
@@ -23,3 +23,20 @@ pub returns-clause-declines : goal.returns-clause-declines
 returns-clause-declines c =
     says (takes form (texts_of c.args.words.items)) (subcommand_of form (texts_of c.args.words.items)) (kind_of c.in-Err.error) c.refusal_of-refusal.result c.refusal_of-refusal.ensures
     (λ taken. c.in-Err.ensures.passes (ap₂ takes c.in_ok-command.ensures (ap texts_of c.as_slice.ensures.value) ∙ taken))
+
+pub returns-clause-asks : goal.returns-clause-asks
+returns-clause-asks c = tt
+
+pub returns-clause-limit : goal.returns-clause-limit
+returns-clause-limit c = tt
+
+-- ---- where memory is wanting
+
+pub returns-in_err-command-clause-asks : goal.returns-in_err-command-clause-asks
+returns-in_err-command-clause-asks c = let error = err_from_is_err_and c.from_residual.result c.from_residual.ensures.1 in rw error.1 tt
+
+pub returns-in_err-command-clause-declines : goal.returns-in_err-command-clause-declines
+returns-in_err-command-clause-declines c = let error = err_from_is_err_and c.from_residual.result c.from_residual.ensures.1 in rw (error.1, error.2) tt
+
+pub returns-in_err-command-clause-limit : goal.returns-in_err-command-clause-limit
+returns-in_err-command-clause-limit c = let error = err_from_is_err_and c.from_residual.result c.from_residual.ensures.1 in rw error.1 tt
