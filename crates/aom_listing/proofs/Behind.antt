@@ -1,8 +1,9 @@
 -- What is written one after the other, each part behind a byte.
-use Rattle.std.proofs.Common.{◌≡◌, ◌∙◌, ap, sym, ℕ, List, [], ◌∷◌, ◌++◌, append_assoc, Result, Ok, Err}
+use Rattle.std.proofs.Common.{◌≡◌, ◌∙◌, ap, sym, ℕ, List, [], ◌∷◌, ◌++◌, append_assoc, arith, Result, Ok, Err}
 use Rattle.std.specs.Prelude.{IsErr, OnOk}
-use Rattle.std.proofs.lemmas.Grind.{flat_map-append}
-use Rattle.aom_listing.specs.Text.{behind, parted_by}
+use Rattle.std.proofs.lemmas.Grind.{common_steps, flat_map-append}
+use Rattle.aom_listing.specs.Listing.{lines_text}
+use Rattle.aom_listing.specs.Text.{behind, line_of, parted_by}
 
 -- parts, and others behind them
 more_behind : (byte : ℕ) (text : List ℕ) (xs ys : List (List ℕ)) → (text ++ behind byte xs) ++ behind byte ys ≡ text ++ behind byte (xs ++ ys)
@@ -44,6 +45,16 @@ line_behind byte end first vs ws xs ys text t1 t2 t3 t4 new (Ok x) i1 i2 i3 i4 i
     let all = i4 ∙ parts_behind byte t1 t3 (ws ++ xs) ys (i3 ∙ parts_behind byte t1 t2 ws xs i2) ∙ ap (λ t. t ++ behind byte ((ws ++ xs) ++ ys)) i1
     ∙ append_assoc text (first ++ behind byte vs) (behind byte ((ws ++ xs) ++ ys)) ∙ ap (λ t. text ++ t) (more_behind byte first vs ((ws ++ xs) ++ ys)) in
     i5 ∙ ap (λ t. t ++ end) all ∙ append_assoc text (first ++ behind byte (vs ++ ((ws ++ xs) ++ ys))) end
+
+-- a line, further lines, and one more
+pub lines_behind : {X E : Type 0} (first last : List (List ℕ)) (lines : List (List (List ℕ))) (text t1 t2 new : List ℕ) (r : Result X E)
+    → t1 ≡ text ++ line_of first → t2 ≡ t1 ++ lines_text lines → OnOk r (new ≡ t2 ++ line_of last)
+    → OnOk r (new ≡ text ++ lines_text (first ∷ (lines ++ last ∷ [])))
+lines_behind first last lines text t1 t2 new (Err x) i1 i2 i3 = tt
+lines_behind first last lines text t1 t2 new (Ok x) i1 i2 i3 =
+    let more : lines_text lines ++ line_of last ≡ lines_text (lines ++ last ∷ []) = grind (arith, common_steps) in
+    i3 ∙ ap (λ t. t ++ line_of last) i2 ∙ append_assoc t1 (lines_text lines) (line_of last) ∙ ap (λ x. t1 ++ x) more
+    ∙ ap (λ t. t ++ lines_text (lines ++ last ∷ [])) i1 ∙ append_assoc text (line_of first) (lines_text (lines ++ last ∷ []))
 
 -- nothing is said where it failed
 pub on_err : {X E : Type 0} (P : Type 0) (r : Result X E) → IsErr r → OnOk r P
