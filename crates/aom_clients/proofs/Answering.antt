@@ -1,10 +1,10 @@
 -- What reads answer, and the lists at first.
-use Rattle.std.proofs.Common.{Option, ◌≡◌, ◌≢◌, ◌<◌, ◌≤◌, ◌+◌, ◌⊎◌, ◌==◌, ℕ, zero, suc, Bool, true, false, cond, List, [], ◌∷◌, Some, None, length, replicate, get_or, refl, sym, ap, ◌∙◌, subst, inl, inr, arith}
-use Rattle.std.specs.Prelude.{map, filter, slice_index_or, nat_lt, All, IfSome}
+use Rattle.std.proofs.Common.{Option, ◌≡◌, ◌≢◌, ◌<◌, ◌≤◌, ◌+◌, ◌⊎◌, ◌==◌, ℕ, zero, suc, Bool, true, false, cond, List, [], ◌∷◌, Some, None, length, replicate, get_or, refl, sym, ap, ◌∙◌, subst, inl, inr, arith, rules}
+use Rattle.std.specs.Prelude.{map, filter, slice_index_or, nat_lt, is_some, All, IfSome}
 use Rattle.std.proofs.lemmas.List.Elements.{All-nil, All-cons}
 use Rattle.std.proofs.lemmas.Bool.{cases_eq, eq-eqb, ne_eqb, cond-true, cond-false}
 use Rattle.std.proofs.lemmas.Option.{same_Some}
-use Rattle.std.proofs.lemmas.List.{length-replicate, get_or_past}
+use Rattle.std.proofs.lemmas.List.{length-map, length-replicate, get_or_past}
 use Rattle.aom_queues.specs.Lists.{Table, IsIn, empty, list_at, first_of, after_node}
 use Rattle.aom_clients.specs.declared.client.Client.{Client}
 use Rattle.aom_clients.specs.declared.client.Client.TheVariants.{Unconnected, Connecting, Open, Closing, Gone, Dead, Dying}
@@ -13,7 +13,7 @@ use Rattle.aom_clients.specs.declared.place.Place.TheVariants.{Free, Queued, Hel
 use Rattle.aom_clients.specs.declared.entry.Entry.{Entry}
 use Rattle.aom_clients.specs.declared.place.Completion.{Completion}
 use Rattle.aom_clients.specs.Table.{completion, server_of}
-use Rattle.aom_clients.specs.Clients.{State, at_first, client_at, queue_at, sessions_at, sent_at, has_slot, sending_to, is_connect, first_client, client_after}
+use Rattle.aom_clients.specs.Clients.{State, at_first, client_at, queue_at, sessions_at, sent_at, has_slot, sending_to, is_connect, first_client, first_entry, client_after}
 use Rattle.aom_clients.specs.Nodes.{entry_of, connecting_in, slots_of, named_by, state_of, AreSent, IsKept}
 use Rattle.aom_clients.proofs.Entries.{connects-counted}
 use Rattle.aom_clients.proofs.Plain.{nothing, false-true, cases_lt}
@@ -45,6 +45,18 @@ pub after-same : (c : ℕ) (xs : List ℕ) → after_node c xs ≡ client_after 
 after-same c [] = refl
 after-same c (x ∷ xs) =
     ap (λ o. cond (x == c) o (after_node c xs)) (first-same xs) ∙ ap (λ o. cond (x == c) (first_client xs) o) (after-same c xs)
+
+-- whether a queue has an entry is told by its length
+some-first : (s : State) (es : List Entry) → nat_lt 0 (length es) ≡ is_some (first_entry s es)
+some-first s [] = refl
+some-first s (e ∷ es) = search rules
+
+none-waits : (es : List Entry) → nat_lt 0 (length es) ≡ false → es ≡ []
+none-waits [] nothing_is = refl
+none-waits (e ∷ es) nothing_is = absurd (false-true (sym nothing_is ∙ ap (λ n. nat_lt 0 n) refl ∙ some))
+  where
+    some : nat_lt 0 (suc (length es)) ≡ true
+    some = search rules
 
 first-in : (d : ℕ) (xs : List ℕ) → first_of xs ≡ Some d → IsIn d xs
 first-in d [] e = absurd (nothing d e)
@@ -78,8 +90,20 @@ module _ (cl : List Client) (pl : List Place) (q cn ss st : Table) (r : IsKept c
       go (inl few) = omega (arith, few, r.sized.clients_long)
       go (inr large) = absurd (nothing k (sym (ap server_of (get_or_past cl c Unconnected large)) ∙ r.connected.has k c i))
 
+  counted : (k n : ℕ) → n ≡ length (list_at q k) → n ≡ length (queue_at s k)
+  counted k n e = e ∙ sym (length-map (list_at q k) entry_of) ∙ ap length (queue-is cl pl q cn ss st r s is k)
+
+  pub waits : (k n : ℕ) → n ≡ length (list_at q k) → nat_lt 0 n ≡ is_some (first_entry s (queue_at s k))
+  waits k n e = ap (nat_lt 0) (counted k n e) ∙ some-first s (queue_at s k)
+
+  pub waits-not : (k n : ℕ) → n ≡ length (list_at q k) → nat_lt 0 n ≡ false → queue_at s k ≡ []
+  waits-not k n e nothing_is = none-waits (queue_at s k) (sym (ap (nat_lt 0) (counted k n e)) ∙ nothing_is)
+
   pub first-small : (k c : ℕ) → first_of (list_at ss k) ≡ Some c → c < 64
   first-small k c e = session-small k c (first-in c (list_at ss k) e)
+
+  pub first-is : (k : ℕ) → first_of (list_at ss k) ≡ first_client (sessions_at s k)
+  first-is k = first-same (list_at ss k) ∙ ap (λ t. first_client (sessions_at t k)) is
 
   pub next-small : (k c d : ℕ) → after_node c (list_at ss k) ≡ Some d → d < 64
   next-small k c d e = session-small k d (after-in c d (list_at ss k) e)

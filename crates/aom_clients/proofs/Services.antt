@@ -16,7 +16,7 @@ use Rattle.aom_clients.specs.declared.entry.Taken.{Taken}
 use Rattle.aom_clients.specs.Table.{is_queued, held_place, completion, sender}
 use Rattle.aom_clients.specs.Clients.{MessageBelow, IsNumbered, State, client_at, place_at, queue_at, sessions_at, with_client, with_queue, taken_entry, first_entry, taking, taken, after_next, opened, going, gone, parted, after_complete, after_next_gone, is_no_connect_of, is_no_close_of}
 use Rattle.aom_clients.specs.Nodes.{entry_of, is_connect_node, slots_of, named_by, state_of, Waits, AreSized, AreEntries, AreConnects, AreNamed, IsKept}
-use Rattle.aom_clients.specs.Parts.{client_in, taken_of, if_taken, unlisted, held_by, given_up, slot_freed, place_freed, is_connecting, is_ending, is_apart}
+use Rattle.aom_clients.specs.Parts.{ConnectBelow, client_in, taken_of, if_taken, unlisted, held_by, given_up, slot_freed, place_freed, is_connecting, is_ending, is_apart}
 use Rattle.aom_clients.proofs.Entries.{Kind, kind, message-is, connect-is, close-is, message-no, close-no, no-connect, no-close}
 use Rattle.aom_clients.proofs.Entries.Kind.{message, connect, close}
 use Rattle.aom_clients.proofs.Tables.{alike-same, alike-with, alike-without, Fewer, fewer-with, fewer-without, at-without, shown, shown-without}
@@ -47,6 +47,21 @@ queue-none cl pl q cn ss st r s is k e = sym (queue-is cl pl q cn ss st r s is k
 pub sessions-none : (cl : List Client) (pl : List Place) (q cn ss st : Table) (s : State) (is : state_of cl pl q ss st ≡ s) (k : ℕ)
     → None ≡ first_of (list_at ss k) → sessions_at s k ≡ []
 sessions-none cl pl q cn ss st s is k e = sym (ap (λ t. sessions_at t k) is) ∙ empty (list_at ss k) e
+
+-- a message that was taken has a place among so many
+pub message-below : (x : Option Taken) (n : ℕ) → 1024 ≡ n → IfSome x IsNumbered → IfSome x (λ t. MessageBelow n t.entry)
+message-below None n e all = all
+message-below (Some t) n e all = subst (λ m. MessageBelow m t.entry) e all.1
+
+-- and the client of a connect among so many
+pub connect-below : (s : State) (es : List Entry) (x : Option Taken) (n : ℕ) → 64 ≡ n → x ≡ first_entry s es → IfSome x IsNumbered → IfSome x (λ t. ConnectBelow n t.entry)
+connect-below s es x n e told all = subst (λ y. IfSome y (λ t. ConnectBelow n t.entry)) (sym told) (go es (subst (λ y. IfSome y IsNumbered) told all))
+  where
+    go : (es : List Entry) → IfSome (first_entry s es) IsNumbered → IfSome (first_entry s es) (λ t. ConnectBelow n t.entry)
+    go [] all = all
+    go (Connect c ∷ es) all = subst (λ m. c < m) e all.0
+    go (Message m ∷ es) all = tt
+    go (Close c ∷ es) all = tt
 
 never-held : (p : Place) (c : ℕ) → held_place p ≡ Queued c → ⊥
 never-held x c e = grind arith

@@ -11,7 +11,7 @@ use Rattle.aom_clients.specs.declared.place.Place.{Place}
 use Rattle.aom_clients.specs.declared.place.Place.TheVariants.{Free, Queued, Held, Discarded}
 use Rattle.aom_clients.specs.declared.entry.Entry.TheVariants.{Connect, Message}
 use Rattle.aom_clients.specs.Table.{row, server_of, is_queued, is_out_of, at_gone}
-use Rattle.aom_clients.specs.Clients.{State, client_at, place_at, queue_at, sent_at, with_client, with_place, with_sent, queued}
+use Rattle.aom_clients.specs.Clients.{sessions_at, State, client_at, place_at, queue_at, sent_at, with_client, with_place, with_sent, queued}
 use Rattle.aom_clients.specs.Nodes.{entry_of, is_connecting_at, is_leaving, is_open_at, slots_of, named_by, is_held_of, state_of, Waits, IsKept}
 use Rattle.aom_clients.specs.Parts.{is_connecting, is_ending, is_apart}
 use Rattle.aom_clients.proofs.Entries.{message-is, connect-is, message-no, listed-in}
@@ -162,6 +162,19 @@ module _ (cl : List Client) (pl : List Place) (q cn ss st : Table) (r : IsKept c
 
   pub among : (c : ℕ) → c < 64 → c < length cl
   among c small = omega (arith, small, r.sized.clients_long)
+
+  pub sessions-cell : (k : ℕ) → k < length s.queues → k < length ss.lists
+  sessions-cell k small = subst (λ n. k < n) (sym r.sized.sessions_long) (cell k small)
+
+  pub connects-cell : (k : ℕ) → k < length s.queues → k < length cn.lists
+  connects-cell k small = subst (λ n. k < n) (sym r.sized.connects_long) (cell k small)
+
+  -- a client with a session is among those of its server, and each of these has its session there
+  pub is-there : (k c : ℕ) → server_of (client_at s c) ≡ Some k → IsIn c (list_at ss k)
+  is-there k c e = r.connected.listed k c (ap server_of (client-is c) ∙ e)
+
+  pub has-there : (k c : ℕ) → IsIn c (sessions_at s k) → server_of (client_at s c) ≡ Some k
+  has-there k c i = sym (ap server_of (client-is c)) ∙ r.connected.has k c (subst (IsIn c) (sym (ap (λ t. sessions_at t k) is)) i)
 
   -- a message that waits has a place
   pub waiting-below : (c m : ℕ) → place pl m ≡ Queued c → m < 1024

@@ -8,7 +8,7 @@ use crate::Refusal;
 pub const NO_CELL: u16 = 65535;
 
 /// What a client is at.
-#[derive(Clone, Copy, PartialEq, Eq)]
+#[derive(Clone, Copy)]
 pub enum Client {
     /// It has no session and asked for none, as one that was not named yet.
     Unconnected,

@@ -4,7 +4,7 @@ ghost use Rattle.std.specs.Prelude.{◌≡◌};
 use aom_image::ClassNumber;
 
 /// An object that is dispatched: the number of its cell, and its class.
-#[derive(Clone, Copy, PartialEq, Eq)]
+#[derive(Clone, Copy)]
 pub struct Subject {
     pub number: u32,
     /// A plain number, as a cell has it.
@@ -29,7 +29,7 @@ impl Subject {
 }
 
 /// How far the dispatch of a server has come with the first of its queue.
-#[derive(Clone, Copy, PartialEq, Eq)]
+#[derive(Clone, Copy)]
 pub enum Stage {
     /// Of a connect: its accept runs, has given a session, or has left with that code.
     Accepts,
@@ -43,7 +43,7 @@ pub enum Stage {
 }
 
 /// What a dispatch is of.
-#[derive(Clone, Copy, PartialEq, Eq)]
+#[derive(Clone, Copy)]
 pub enum Dispatch {
     Main,
     /// The end of main's, which left with that code.

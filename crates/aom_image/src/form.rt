@@ -3,7 +3,9 @@ ghost use Rattle.std.specs.Prelude.{◌≡◌, ◌<◌, ◌≤◌, ◌↔◌, Is
 ghost use Rattle.aom_image.specs.WellFormed.{ThingFits, ProviderFits, KindFits, ClassFits, ClassesFit, MethodsFit, ArgumentFits, GivesFits, MethodFits, HeaderFits, WellFormed, is_server, spelled_size};
 ghost use Rattle.aom_instructions.specs.Fits.{InstrFits};
 
-use crate::{Argument, ClassDecl, ClassKind, ClassNumber, Gives, Header, Method, Provider, Thing};
+use crate::{
+    Argument, ClassDecl, ClassKind, ClassNumber, Gives, Header, Instr, Method, Provider, Thing,
+};
 use aom_instructions::{Limits, fits};
 
 fn class_fits(class: ClassNumber, classes: usize) -> bool
@@ -28,6 +30,14 @@ fn argument_fits(argument: Argument, classes: usize) -> bool
         Argument::Word => true,
         Argument::Own(thing) => thing_fits(thing, classes),
     }
+}
+
+fn arguments_fit(arguments: &[Argument], classes: usize) -> bool
+    ensures { IsTrue result ↔ All (ArgumentFits classes) arguments.now }
+{
+    arguments
+        .iter()
+        .all(|argument| argument_fits(*argument, classes))
 }
 
 fn gives_fits(gives: Gives, classes: usize) -> bool
@@ -63,6 +73,12 @@ fn kind_fits(kind: ClassKind, classes: usize, natives: u8) -> bool
     }
 }
 
+fn fields_fit(fields: &[Thing], classes: usize) -> bool
+    ensures { IsTrue result ↔ All (ThingFits classes) fields.now }
+{
+    fields.iter().all(|field| thing_fits(*field, classes))
+}
+
 fn class_ok(class: &ClassDecl, classes: usize, natives: u8) -> bool
     ensures { IsTrue result ↔ ClassFits classes natives class.now }
 {
@@ -70,7 +86,13 @@ fn class_ok(class: &ClassDecl, classes: usize, natives: u8) -> bool
     kind_fits(class.kind, classes, natives)
         && class.words <= 8
         && fields.len() <= 8
-        && fields.iter().all(|field| thing_fits(*field, classes))
+        && fields_fit(fields, classes)
+}
+
+fn code_fits(code: &[Instr], limits: Limits) -> bool
+    ensures { IsTrue result ↔ All (InstrFits limits) code.now }
+{
+    code.iter().all(|instr| fits(instr, limits))
 }
 
 fn method_ok(method: &Method, classes: usize, methods: usize) -> bool
@@ -90,19 +112,11 @@ fn method_ok(method: &Method, classes: usize, methods: usize) -> bool
         && method.before.is_known()
         && method.after.is_known()
         && method.arguments.len() <= 6
-        && method
-            .arguments
-            .as_slice()
-            .iter()
-            .all(|argument| argument_fits(*argument, classes))
+        && arguments_fit(method.arguments.as_slice(), classes)
         && gives_fits(method.gives, classes)
         && 1 <= limits.places
         && limits.places <= 1024
-        && method
-            .code
-            .as_slice()
-            .iter()
-            .all(|instr| fits(instr, limits))
+        && code_fits(method.code.as_slice(), limits)
 }
 
 fn header_ok(header: &Header, classes: usize) -> bool
@@ -130,24 +144,45 @@ pub fn spelled_len(classes: usize, methods: &[Method]) -> usize
     len
 }
 
+fn each_class_ok(classes: &[ClassDecl], count: usize, natives: u8) -> bool
+    ensures { IsTrue result ↔ All (ClassFits count natives) classes.now }
+{
+    classes.iter().all(|class| class_ok(class, count, natives))
+}
+
+/// How many of the classes are of servers.
+fn servers_in(classes: &[ClassDecl]) -> usize
+    ensures { result ≡ count_by is_server classes.now }
+{
+    let mut count = 0;
+    for class in classes {
+        if class.is_server() {
+            count += 1;
+        }
+    }
+    count
+}
+
 fn classes_ok(classes: &[ClassDecl], natives: u8) -> bool
     ensures { IsTrue result ↔ ClassesFit natives classes.now }
 {
     classes.len() <= 256
-        && classes
-            .iter()
-            .all(|class| class_ok(class, classes.len(), natives))
-        && classes.iter().filter(|class| class.is_server()).count() <= 8
+        && each_class_ok(classes, classes.len(), natives)
+        && servers_in(classes) <= 8
+}
+
+fn each_method_ok(methods: &[Method], classes: usize, count: usize) -> bool
+    ensures { IsTrue result ↔ All (MethodFits classes count) methods.now }
+{
+    methods
+        .iter()
+        .all(|method| method_ok(method, classes, count))
 }
 
 fn methods_ok(methods: &[Method], classes: usize) -> bool
     ensures { IsTrue result ↔ MethodsFit classes methods.now }
 {
-    1 <= methods.len()
-        && methods.len() <= 1024
-        && methods
-            .iter()
-            .all(|method| method_ok(method, classes, methods.len()))
+    1 <= methods.len() && methods.len() <= 1024 && each_method_ok(methods, classes, methods.len())
 }
 
 /// Whether these are the parts of a well-formed image.

@@ -22,11 +22,11 @@ fn room_for(
     ensures slots { IfOk result (λ r. (r.0.items ≡ []) × (count ≤ vec_capacity r.0)) }
     ensures ids { IfOk result (λ r. r.1.items ≡ replicate count []) }
 {
-    let slots = Vec::with_capacity(alloc, count)?;
     let mut rooms = Vec::with_capacity(alloc, count)?;
     for _ in 0..count {
         rooms.push(Outstanding::with_room(alloc)?)?;
     }
+    let slots = Vec::with_capacity(alloc, count)?;
     Ok((slots, rooms))
 }
 

@@ -17,3 +17,7 @@ each_all P xs i le h k =
       | inl w ↦ h k (omega (arith, w.1))
       | inr w ↦ rw w.1 tt
     ]
+
+-- what holds at each place holds of the element there
+pub each_at : {X : Type 0} (P : ℕ → X → Type 0) (xs : List X) (i : ℕ) (x : X) → ((k : ℕ) → IfSome (slice_get xs k) (P k)) → i < length xs → x ≡ slice_index_or xs i x → P i x
+each_at P xs i x h lt e = rw (slice_get_read xs (length xs) i x refl lt e) at (h i)

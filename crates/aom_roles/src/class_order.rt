@@ -1,5 +1,5 @@
 //! What classes own, and whose sessions they are.
-ghost use Rattle.std.specs.Prelude.{◌≡◌, ◌<◌, ◌↔◌, IsTrue};
+ghost use Rattle.std.specs.Prelude.{◌≡◌, ◌<◌, ◌↔◌, IsTrue, All};
 ghost use Rattle.aom_roles.specs.Classes.{sessions_of, is_session_kind, kind_at, is_session_in, is_session, sessions_in, sessions_at, OwnsBefore, SessionsBefore, ClassOrdered, EachOrdered, RootOrdered, ClassesOrdered};
 
 use aom_image::{ClassDecl, ClassKind, ClassNumber, Image, Thing};
@@ -74,6 +74,12 @@ fn owns_before(image: &Image, class: usize, thing: Thing) -> bool
     }
 }
 
+fn owns_all_before(image: &Image, class: usize, things: &[Thing]) -> bool
+    ensures { IsTrue result ↔ All (OwnsBefore image.now class) things.now }
+{
+    things.iter().all(|thing| owns_before(image, class, *thing))
+}
+
 fn has_sessions_before(image: &Image, class: usize, kind: ClassKind) -> bool
     ensures { IsTrue result ↔ SessionsBefore image.now class kind }
 {
@@ -86,10 +92,7 @@ fn has_sessions_before(image: &Image, class: usize, kind: ClassKind) -> bool
 fn is_class_ordered(image: &Image, class: usize, decl: &ClassDecl) -> bool
     ensures { IsTrue result ↔ ClassOrdered image.now class decl.now }
 {
-    decl.fields
-        .as_slice()
-        .iter()
-        .all(|field| owns_before(image, class, *field))
+    owns_all_before(image, class, decl.fields.as_slice())
         && has_sessions_before(image, class, decl.kind)
 }
 

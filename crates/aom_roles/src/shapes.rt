@@ -302,16 +302,18 @@ fn names_roles(image: &Image, instr: &Instr) -> bool
     }
 }
 
+fn each_names_roles(image: &Image, code: &[Instr]) -> bool
+    ensures { IsTrue result ↔ All (NamesRoles image.now) code.now }
+{
+    code.iter().all(|instr| names_roles(image, instr))
+}
+
 fn is_shaped(image: &Image, method: &Method) -> bool
     ensures { IsTrue result ↔ IsShaped image.now method.now }
 {
     flags_fit(method)
         && has_shape(kind_of(image, method.class), method)
-        && method
-            .code
-            .as_slice()
-            .iter()
-            .all(|instr| names_roles(image, instr))
+        && each_names_roles(image, method.code.as_slice())
 }
 
 /// Whether each method has the shape of its role, and each instruction names methods of the roles that it may.

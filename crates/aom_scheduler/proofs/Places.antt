@@ -266,6 +266,8 @@ pub record Removal (entries : List Entry) (places : List (Option ℕ)) (at gone 
   pub is : remove entries at ≡ without id_of gone entries
   pub many : length (remove entries at) ≤ length places
   pub known : Knows (set places gone None) (take at (remove entries at))
+  pub ordered : IsOrdered id_of before (length places) (remove entries at)
+  pub left : at ≤ length (remove entries at)
 
 pub removal : (entries : List Entry) (places : List (Option ℕ)) (at gone : ℕ) → IsIndexed entries places → IsAt id_of gone entries at
     → Removal entries places at gone
@@ -279,6 +281,9 @@ removal entries places at gone indexed found =
       is = without-at id_of gone entries at indexed.ordered.distinct found;
       many = omega (arith, length-remove entries at within, few id_of (length places) entries indexed.ordered.below indexed.ordered.distinct);
       known = known-remove entries places at gone indexed (at-place id_of gone entries at found);
+      ordered = subst (IsOrdered id_of before (length places)) (sym (without-at id_of gone entries at indexed.ordered.distinct found))
+          (ordered-without id_of before (length places) gone entries indexed.ordered);
+      left = omega (arith, length-remove entries at within);
     }
   where
     d : Entry
@@ -290,6 +295,12 @@ pub removal-from : {roster : Roster} {entries : List Entry} {places : List (Opti
     → Removal entries places at gone
 removal-from {roster} {entries} {places} {at} {o} gone view is some indexed =
     removal entries places at gone indexed (stands-in roster entries (length places) gone at o view is some)
+
+-- the entries that are left, as far as the places go that are written
+pub ordered-left : (entries shown : List Entry) (places lent : List (Option ℕ)) (at gone : ℕ) → Removal entries places at gone
+    → shown ≡ remove entries at → lent ≡ set places gone None → IsOrdered id_of before (length lent) shown
+ordered-left entries shown places lent at gone made is same =
+    subst (λ n. IsOrdered id_of before n shown) (sym (ap length same ∙ length-set places gone None)) (subst (IsOrdered id_of before (length places)) (sym is) made.ordered)
 
 -- the places after the entry is gone and those behind it are numbered anew
 pub indexed-by_removal : (entries shown : List Entry) (places lent now : List (Option ℕ)) (at gone : ℕ) → Removal entries places at gone

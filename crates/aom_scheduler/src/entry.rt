@@ -3,7 +3,7 @@
 use aom_cells::CellId;
 
 /// An object with its priority, of which a higher one goes first.
-#[derive(Clone, Copy, PartialEq, Eq)]
+#[derive(Clone, Copy)]
 pub struct Entry {
     pub id: CellId,
     pub priority: i32,

@@ -37,10 +37,10 @@ impl Schedule {
         requires { limit ≤ 4096 }
         ensures { IfOk result (λ s. s ≡ record { entries = []; limit = limit }) }
     {
-        let order = Order::with_limit(alloc, limit)?;
+        let ready = VecDeque::with_capacity(alloc, limit)?;
         Ok(Schedule {
-            order,
-            ready: VecDeque::with_capacity(alloc, limit)?,
+            order: Order::with_limit(alloc, limit)?,
+            ready,
         })
     }
 

@@ -3,6 +3,7 @@ use Rattle.aom_queues.specs.Lists.{IsOnce}
 use Rattle.aom_clients.specs.Clients.{State, client_at, first_there, sessions_at}
 use Rattle.aom_clients.specs.Table.{has_cell}
 use Rattle.aom_clients.proofs.Looking.{after-in, first-in, found, from, from-first, from-next, looked}
+use Rattle.aom_clients.proofs.Steps.{has-there}
 use Rattle.aom_clients.proofs.clients.Clients.first_there.Goals as goal
 
 pub loop-next-init : goal.loop-next-init
@@ -42,3 +43,18 @@ loop-next-preserved c =
       below = λ d e. subst (λ o. IfSome o (λ k. k < 64)) e c.next_session-next.ensures.below;
       rest = ap (λ o. first_there s (from o xs)) next ∙ sym (looked s c.in-Some.client xs once (c.loop-next.invariant.inside c.in-Some.client c.in-Some.is) none) ∙ ap (λ o. first_there s (from o xs)) (sym c.in-Some.is) ∙ c.loop-next.invariant.rest;
     }
+
+pub first_session-next-requires : goal.first_session-next-requires
+first_session-next-requires c = c.requires
+
+pub client-requires : goal.client-requires
+client-requires c = c.loop-next.invariant.below c.in-Some.client c.in-Some.is
+
+pub returns-then-has_cell-clause-below : goal.returns-then-has_cell-clause-below
+returns-then-has_cell-clause-below c = c.loop-next.invariant.below c.in-Some.client c.in-Some.is
+
+pub next_session-next-requires : goal.next_session-next-requires
+next_session-next-requires c = has-there _ _ _ _ _ _ c.self.invariant _ c.self.view_is c.args.server c.in-Some.client (c.loop-next.invariant.inside c.in-Some.client c.in-Some.is)
+
+pub returns-clause-value : goal.returns-clause-value
+returns-clause-value c = ap (λ o. first_there c.args.self.now (from o (sessions_at c.args.self.now c.args.server))) (sym c.in_default.is) ∙ c.loop-next.invariant.rest

@@ -1,9 +1,8 @@
-use Rattle.std.proofs.lemmas.Grind.{common_steps, elements}
-use Rattle.std.proofs.Common.{arith}
+use Rattle.aom_clients.proofs.Answering.{waits, waits-not}
 use Rattle.aom_clients.proofs.clients.Clients.is_queued.Goals as goal
 
-pub returns-clause-empty : goal.returns-clause-empty
-returns-clause-empty c = grind (arith, common_steps)
-
 pub returns-clause-value : goal.returns-clause-value
-returns-clause-value c = grind (arith, elements)
+returns-clause-value c = waits _ _ _ _ _ _ c.self.invariant _ c.self.view_is c.args.server _ c.count.ensures
+
+pub returns-clause-empty : goal.returns-clause-empty
+returns-clause-empty c = waits-not _ _ _ _ _ _ c.self.invariant _ c.self.view_is c.args.server _ c.count.ensures

@@ -1,7 +1,8 @@
-use Rattle.std.proofs.Common.{refl, ap, ◌∙◌}
+use Rattle.std.proofs.Common.{◌<◌, length, refl, sym, ap, ◌∙◌, subst}
 use Rattle.aom_clients.specs.Parts.{if_taken, place_freed, given_up}
 use Rattle.aom_clients.proofs.Same.{kept-as, state-as, written}
-use Rattle.aom_clients.proofs.Services.{served}
+use Rattle.aom_clients.proofs.Services.{connect-below, message-below, served}
+use Rattle.aom_clients.proofs.Steps.{cell}
 use Rattle.aom_clients.proofs.clients.Clients.next_gone.Goals as goal
 
 pub invariant_of-self : goal.invariant_of-self
@@ -30,3 +31,26 @@ returns-clause-below c = (served _ _ _ _ _ _ c.self.invariant _ c.self.view_is c
 
 pub returns-clause-empty : goal.returns-clause-empty
 returns-clause-empty c = (served _ _ _ _ _ _ c.self.invariant _ c.self.view_is c.args.server c.requires _ c.take-taken.ensures.rest _ _ c.take-taken.ensures.taken c.deref.ensures.value c.take-taken.ensures.below c.take-taken.ensures.free).drained
+
+pub take-taken-requires-clause-queue : goal.take-taken-requires-clause-queue
+take-taken-requires-clause-queue c = cell _ _ _ _ _ _ c.self.invariant _ c.self.view_is c.args.server c.requires
+
+pub take-taken-requires-clause-list : goal.take-taken-requires-clause-list
+take-taken-requires-clause-list c =
+    subst (λ n. c.args.server < n) (sym c.self.invariant.sized.connects_long) (cell _ _ _ _ _ _ c.self.invariant _ c.self.view_is c.args.server c.requires)
+
+pub take-taken-requires-clause-nodes : goal.take-taken-requires-clause-nodes
+take-taken-requires-clause-nodes c = c.self.invariant.sized.queues_nodes
+
+pub take-taken-requires-clause-places : goal.take-taken-requires-clause-places
+take-taken-requires-clause-places c = ap length c.deref.ensures.value ∙ c.self.invariant.sized.places_long
+
+pub give_up-requires : goal.give_up-requires
+give_up-requires c =
+    let taken = (served _ _ _ _ _ _ c.self.invariant _ c.self.view_is c.args.server c.requires _ c.take-taken.ensures.rest _ _ c.take-taken.ensures.taken c.deref.ensures.value c.take-taken.ensures.below c.take-taken.ensures.free) in
+    connect-below c.args.self.now _ _ _ (sym (ap length c.deref_mut.ensures.value ∙ c.self.invariant.sized.clients_long)) taken.told taken.numbered
+
+pub free_place-requires : goal.free_place-requires
+free_place-requires c =
+    message-below _ _ (sym (ap length c.deref_mut-2.ensures.value ∙ c.self.invariant.sized.places_long))
+    (served _ _ _ _ _ _ c.self.invariant _ c.self.view_is c.args.server c.requires _ c.take-taken.ensures.rest _ _ c.take-taken.ensures.taken c.deref.ensures.value c.take-taken.ensures.below c.take-taken.ensures.free).numbered

@@ -1,8 +1,8 @@
-use Rattle.std.proofs.Common.{◌≡◌, ◌+◌, ◌++◌, ◌∷◌, [], refl, sym, ap, ◌∙◌, subst}
+use Rattle.std.proofs.Common.{◌≡◌, ◌<◌, length, ◌+◌, ◌++◌, ◌∷◌, [], refl, sym, ap, ◌∙◌, subst}
 use Rattle.aom_queues.specs.Lists.{IsFree, list_at, with_list}
 use Rattle.aom_clients.proofs.Same.{kept-as, state-as}
 use Rattle.aom_clients.proofs.clients.Clients.start_connecting.Goals as goal
-use Rattle.aom_clients.proofs.Steps.{connect-free, connect-unlisted, connected}
+use Rattle.aom_clients.proofs.Steps.{cell, connect-free, connect-unlisted, connected}
 
 pub push_last-requires-clause-free : goal.push_last-requires-clause-free
 push_last-requires-clause-free c =
@@ -28,3 +28,13 @@ returns c =
     let queue : c.push_last.new.self ≡ with_list c.args.server (list_at q c.args.server ++ (1024 + c.args.client) ∷ []) q =
     c.push_last.ensures ∙ ap (λ n. with_list c.args.server (list_at q c.args.server ++ n ∷ []) q) c.connect_node.ensures in
     state-as _ _ _ _ _ _ _ c.self.inside.sessions _ c.self.inside.sent refl refl queue refl refl ∙ made.seen
+
+pub push_last-requires-clause-list : goal.push_last-requires-clause-list
+push_last-requires-clause-list c = cell _ _ _ _ _ _ c.self.invariant _ c.self.view_is c.args.server c.requires.server
+
+pub push_last-requires-2-clause-list : goal.push_last-requires-2-clause-list
+push_last-requires-2-clause-list c =
+    subst (λ n. c.args.server < n) (sym c.self.invariant.sized.connects_long) (cell _ _ _ _ _ _ c.self.invariant _ c.self.view_is c.args.server c.requires.server)
+
+pub push_last-requires-2-clause-node : goal.push_last-requires-2-clause-node
+push_last-requires-2-clause-node c = subst (λ n. c.args.client < n) (sym c.self.invariant.sized.connects_nodes) c.requires.client

@@ -27,3 +27,9 @@ loop-ids-preserved g c =
 
 pub returns-in-Err-clause-back : goal.returns-in-Err-clause-back
 returns-in-Err-clause-back g c = search rules
+
+pub returns-clause-nothing : goal.returns-clause-nothing
+returns-clause-nothing g c = c.loop-ids.invariant.nothing
+
+pub returns-clause-agree : goal.returns-clause-agree
+returns-clause-agree g c = c.loop-ids.invariant.agree

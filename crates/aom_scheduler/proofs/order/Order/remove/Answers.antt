@@ -1,9 +1,10 @@
 use Rattle.std.proofs.Common.{◌≡◌, ◌≤◌, None, take, length, sym, subst, ap, ◌∙◌, arith}
-use Rattle.std.specs.Prelude.{remove, vec_capacity, slice_set}
+use Rattle.std.specs.Prelude.{IsSome, remove, vec_capacity, slice_set}
+use Rattle.std.proofs.lemmas.Bool.{false≢true}
 use Rattle.std.proofs.lemmas.List.{length-set}
 use Rattle.aom_scheduler.specs.Order.{without}
 use Rattle.aom_scheduler.specs.Places.{Knows, IsIndexed}
-use Rattle.aom_scheduler.proofs.Places.{indexed-by_removal, written, same_roster, id_of, removal-from}
+use Rattle.aom_scheduler.proofs.Places.{indexed-by_removal, ordered-left, written, same_roster, id_of, removal-from}
 use Rattle.aom_scheduler.proofs.order.Order.remove.Goals as goal
 
 pub remove-requires : goal.remove-requires
@@ -53,3 +54,30 @@ returns-in-Some c =
     same_roster _ _ _ _ (c.remove.ensures.items ∙ made.is ∙ ap (λ r. without id_of c.args.id r.entries) c.self.view_is)
     (ap length over ∙ c.renumber.ensures.length ∙ ap length c.deref_mut.ensures.value ∙ length-set places c.number.result None
     ∙ ap (λ r. r.limit) c.self.view_is)
+
+pub index_mut-requires : goal.index_mut-requires
+index_mut-requires c =
+    let made = removal-from c.args.id c.self.view_is c.place.ensures c.in-Some.is c.self.invariant.0 in
+    omega (arith, made.small, c.number.ensures.value, c.self.inside.places.ok.0)
+
+pub renumber-requires-clause-below : goal.renumber-requires-clause-below
+renumber-requires-clause-below c =
+    let made = removal-from c.args.id c.self.view_is c.place.ensures c.in-Some.is c.self.invariant.0 in
+    let shown = c.deref.ensures.value ∙ c.remove.ensures.items in
+    let lent = c.deref_mut.ensures.value ∙ ap (λ n. slice_set c.self.inside.places.items n None) c.number.ensures.value in
+    (ordered-left _ _ _ _ _ _ made shown lent).below
+
+pub renumber-requires-clause-distinct : goal.renumber-requires-clause-distinct
+renumber-requires-clause-distinct c =
+    let made = removal-from c.args.id c.self.view_is c.place.ensures c.in-Some.is c.self.invariant.0 in
+    let shown = c.deref.ensures.value ∙ c.remove.ensures.items in
+    let lent = c.deref_mut.ensures.value ∙ ap (λ n. slice_set c.self.inside.places.items n None) c.number.ensures.value in
+    (ordered-left _ _ _ _ _ _ made shown lent).distinct
+
+pub renumber-requires-clause-within : goal.renumber-requires-clause-within
+renumber-requires-clause-within c =
+    let made = removal-from c.args.id c.self.view_is c.place.ensures c.in-Some.is c.self.invariant.0 in
+    subst (λ xs. c.in-Some.at ≤ length xs) (sym (c.deref.ensures.value ∙ c.remove.ensures.items)) made.left
+
+pub returns-in_default : goal.returns-in_default
+returns-in_default c = absurd (false≢true (subst IsSome (sym c.place.ensures ∙ c.in_default.is) c.requires))
