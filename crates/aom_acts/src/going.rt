@@ -36,7 +36,6 @@ fn destruct(parts: &mut Parts, number: u32, class: ClassNumber, linked: &Linked)
 }
 
 /// Whether the objects of a class are servers.
-#[tactic(auto, unfolding(aom_roles::specs::Shapes::kind_of))]
 pub fn is_server(class: ClassNumber, linked: &Linked) -> bool
     ensures { result ≡ is_server_class linked.now (Some class) }
 {

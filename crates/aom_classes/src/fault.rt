@@ -30,7 +30,6 @@ pub enum LinkFault {
 }
 
 impl LinkFault {
-    #[tactic(auto, unfolding(crate::specs::Faults::number_of))]
     pub fn number(self) -> u8
         ensures { result ≡ number_of self }
     {

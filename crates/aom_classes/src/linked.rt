@@ -43,7 +43,6 @@ impl Model for Linked {
 
 /// Links an image: the image as it was, or the first condition that it fails. A refused image is dropped. Memory is
 /// wanted for the table of roles alone, and only of an image that keeps them all.
-#[tactic(auto, unfolding(crate::specs::Faults::RefusesOrWants))]
 pub fn link(alloc: Global, image: Image) -> Result<Linked, LinkFault>
     ensures ok { IfOk result (λ l. (l ≡ image) × IsLinked image) }
     ensures err { IfErr result (λ fault. RefusesOrWants image fault) }

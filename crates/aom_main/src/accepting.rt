@@ -27,7 +27,6 @@ pub fn accept_bytes(alloc: Global, bytes: &[u8]) -> Result<Accepted, Fault>
 }
 
 /// The linked image that the bytes are, or the first fault on the way.
-#[tactic(auto, using(crate::proofs::Refusing::no_value))]
 pub fn link_bytes(alloc: Global, bytes: &[u8]) -> Result<Linked, Fault>
     ensures ok { IfOk result (λ linked. IsSpelled bytes.now linked × IsLinked linked) }
     ensures err { IfErr result (λ fault. StopsEarly bytes.now fault) }

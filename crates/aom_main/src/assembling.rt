@@ -9,7 +9,6 @@ use aom_listing::disassemble;
 use std::alloc::Global;
 
 /// The bytes of the image that a text denotes, or the first fault of the text.
-#[tactic(auto, using(crate::proofs::Refusing::no_value))]
 pub fn assemble_bytes(alloc: Global, text: &[u8]) -> Result<Vec<u8>, Fault>
     ensures ok { IfOk result (λ bytes. Makes text.now bytes.items) }
     ensures err { IfErr result (λ fault. RefusesText text.now fault) }

@@ -76,7 +76,6 @@ impl Sessions {
     }
 
     /// That native is killed, after those that are.
-    #[tactic(auto, using(crate::proofs::Numbers::few, crate::proofs::Numbers::one_more))]
     pub fn kill(&mut self, native: u8)
         requires { is_killed self.old native ≡ false }
         ensures { self.new ≡ record self.old { killed = self.old.killed ++ native ∷ [] } }

@@ -39,7 +39,6 @@ pub(crate) fn is_construct(role: Role) -> bool
 }
 
 /// The method begins in each state in which the caller's object may be, unless it is static.
-#[tactic(auto, using(aom_shape::proofs::Views::before_there, aom_shape::proofs::Views::class_there))]
 fn begins_here(linked: &Linked, method: MethodNumber, states: States) -> bool
     requires { IsSome (method_at linked.now method) }
     ensures { result ≡ begins_here linked.now method (method_class linked.now method) states.0 }
@@ -113,7 +112,6 @@ pub(crate) fn is_service(role: Role) -> bool
 
 impl Site<'_> {
     /// The states in which an object of the method's class may be while nothing works on it.
-    #[tactic(auto, using(aom_shape::proofs::Views::class_there))]
     pub fn resting(&self) -> States
         ensures { result.0 ≡ resting self.now.image (method_class self.now.image self.now.method) }
     {
@@ -130,7 +128,6 @@ impl Site<'_> {
     }
 
     /// A method that cancels has done so.
-    #[tactic(auto, using(aom_shape::proofs::Views::role_there))]
     fn needs_cancelled(&self) -> (bool, Why)
         ensures { result ≡ (only_if (is_cancel (method_role self.now.image self.now.method)) (has cancel_done self.now.shape.states), NotCancelled) }
     {
@@ -140,7 +137,6 @@ impl Site<'_> {
     }
 
     /// A destructor leaves no request active.
-    #[tactic(auto, using(aom_shape::proofs::Views::role_there))]
     fn needs_still(&self) -> (bool, Why)
         ensures { result ≡ (only_if (is_destructor self.now.image self.now.method) (not (has self.now.shape.states active)), StillActive) }
     {

@@ -162,7 +162,6 @@ impl<'a> Site<'a> {
     }
 
     /// The method serves messages.
-    #[tactic(auto, using(aom_shape::proofs::Views::role_there))]
     pub fn needs_service(&self) -> (bool, Why)
         ensures { result ≡ (is_service (method_role self.now.image self.now.method), RegisterKind) }
     {

@@ -92,7 +92,6 @@ fn thing_by(
 }
 
 /// What is declared of a field that the method works on.
-#[tactic(auto, using(aom_shape::proofs::Views::holder_there))]
 pub fn field_thing(linked: &Linked, method: MethodNumber, field: FieldIndex) -> Option<Thing>
     requires { IsSome (method_at linked.now method) }
     ensures { result ≡ field_thing linked.now (holder_of linked.now method) field }

@@ -5,6 +5,8 @@ use Rattle.aom_classes.specs.Linked.{IsLinked}
 use Rattle.aom_main.specs.Acceptable.{IsSpelled}
 use Rattle.aom_main.proofs.Refusing.{link_stops, load_stops}
 use Rattle.aom_main.proofs.accepting.link_bytes.Goals as goal
+use Rattle.std.proofs.Common.{rules}
+use Rattle.aom_main.proofs.Refusing.{no_value}
 
 pub returns-in_err-image-clause-err : goal.returns-in_err-image-clause-err
 returns-in_err-image-clause-err c =
@@ -26,3 +28,15 @@ returns-clause-ok c =
 pub returns-clause-only : goal.returns-clause-only
 returns-clause-only c =
     λ p spelled. c.in_ok-link.ensures.ok.0 ∙ c.in_ok-image.ensures.only p spelled.formed spelled.spelling
+
+pub returns-in_err-image-clause-ok : goal.returns-in_err-image-clause-ok
+returns-in_err-image-clause-ok c = search (rules, no_value)
+
+pub returns-in_err-link-clause-ok : goal.returns-in_err-link-clause-ok
+returns-in_err-link-clause-ok c = search (rules, no_value)
+
+pub returns-in_err-image-clause-only : goal.returns-in_err-image-clause-only
+returns-in_err-image-clause-only c = search (rules, no_value)
+
+pub returns-in_err-link-clause-only : goal.returns-in_err-link-clause-only
+returns-in_err-link-clause-only c = search (rules, no_value)

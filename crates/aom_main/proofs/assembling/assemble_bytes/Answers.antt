@@ -2,6 +2,8 @@
 use Rattle.std.proofs.lemmas.Result.{err_from_is_err_and}
 use Rattle.aom_main.proofs.Meaning.{makes, no_image}
 use Rattle.aom_main.proofs.assembling.assemble_bytes.Goals as goal
+use Rattle.std.proofs.Common.{rules}
+use Rattle.aom_main.proofs.Refusing.{no_value}
 
 pub returns-in_err-image-clause-err : goal.returns-in_err-image-clause-err
 returns-in_err-image-clause-err c =
@@ -10,3 +12,9 @@ returns-in_err-image-clause-err c =
 
 pub returns-clause-ok : goal.returns-clause-ok
 returns-clause-ok c = makes _ _ _ c.in_ok-image.ensures.image c.in_ok-encode.ensures
+
+pub returns-in_err-image-clause-ok : goal.returns-in_err-image-clause-ok
+returns-in_err-image-clause-ok c = search (rules, no_value)
+
+pub returns-in_err-encode-clause-ok : goal.returns-in_err-encode-clause-ok
+returns-in_err-encode-clause-ok c = search (rules, no_value)

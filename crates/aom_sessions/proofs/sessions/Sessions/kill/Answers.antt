@@ -5,6 +5,7 @@ use Rattle.std.specs.Prelude.{◌==◌}
 use Rattle.aom_sessions.specs.Sessions.{AreNatives}
 use Rattle.aom_sessions.proofs.Numbers.{one_more}
 use Rattle.aom_sessions.proofs.sessions.Sessions.kill.Goals as goal
+use Rattle.aom_sessions.proofs.Numbers.{few}
 
 pub invariant_of-self : goal.invariant_of-self
 invariant_of-self c =
@@ -14,3 +15,9 @@ invariant_of-self c =
     let small : c.args.native < 256 = search rules in
     let room : 256 ≤ vec_capacity c.push.new.self = search rules in
     (room, subst AreNatives (sym items) (one_more killed c.args.native c.self.invariant.1 small other))
+
+pub unwrap-requires : goal.unwrap-requires
+unwrap-requires c = search (rules, few)
+
+pub returns : goal.returns
+returns c = search rules

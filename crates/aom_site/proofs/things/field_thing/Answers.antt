@@ -1,0 +1,6 @@
+use Rattle.std.proofs.Common.{rules}
+use Rattle.aom_shape.proofs.Views.{holder_there}
+use Rattle.aom_site.proofs.things.field_thing.Goals as goal
+
+pub returns : goal.returns
+returns c = search (rules, holder_there)
