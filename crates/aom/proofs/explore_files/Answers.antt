@@ -1,0 +1,6 @@
+-- The limit is the one that was read.
+use Rattle.std.proofs.Common.{rules}
+use Rattle.aom.proofs.explore_files.Goals as goal
+
+pub explore_bytes-requires : goal.explore_bytes-requires
+explore_bytes-requires g c = search rules
