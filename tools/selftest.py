@@ -4,6 +4,7 @@ import shutil
 
 from edit_files import write_text
 from proving import prove_and_try
+from showing import ANSWER, GOAL, NAME
 
 SAMPLE = """//! A small crate on which the trial of edits is tried.
 #![tactic(auto)]
@@ -37,6 +38,34 @@ pub fn fourfold(number: u8) -> u16
 {
     double(number) + double(number)
 }
+
+/// Five times the number.
+pub fn fivefold(number: u8) -> u16
+    ensures { result ≡ number * 5 }
+{
+    fourfold(number) + number as u16
+}
+
+/// The number again.
+pub fn again(number: u8) -> u16
+    ensures { result ≡ number }
+{
+    let once = number as u16;
+    once
+}
+"""
+# answers by hand, of which one names a call
+FIVEFOLD = """use Rattle.std.proofs.Common.{arith}
+use Rattle.sample.proofs.fivefold.Goals as goal
+
+pub returns : goal.returns
+returns c = omega (arith, c.fourfold.ensures)
+"""
+AGAIN = """use Rattle.std.proofs.Common.{refl}
+use Rattle.sample.proofs.again.Goals as goal
+
+pub returns : goal.returns
+returns c = refl
 """
 AMOUNTS = """-- What comes of a number.
 use Rattle.std.specs.Prelude.{ℕ, ◌≡◌, ◌*◌}
@@ -86,6 +115,8 @@ FILES = {
     "crates.txt": "sample:\nstated: sample\nfalse_one: sample\n",
     "HANDLES": "Handles allowed: none.\n",
     "crates/sample/src/lib.rt": SAMPLE,
+    "crates/sample/proofs/fivefold/Answers.antt": FIVEFOLD,
+    "crates/sample/proofs/again/Answers.antt": AGAIN,
     "crates/sample/must-fail/goals.md": GOALS,
     "crates/stated/src/lib.rt": STATED,
     "crates/stated/src/laws.rt": STATED_LAWS,
@@ -95,18 +126,21 @@ FILES = {
     "crates/false_one/src/lib.rt": FALSE,
 }
 CODE, DEFINITIONS = "src/lib.rt", "specs/Amounts.antt"
-# an edit's crate, name and file, the text that it takes away, the text in its place, and whether it is refused
+# an edit's crate, name and file, the text that it takes away, the text in its place, and by what it is refused, if it is
 EDITS = [
-    ("sample", "double-is-threefold", CODE, "number as u16 * 2", "number as u16 * 3", True),
-    ("sample", "threefold-is-double", CODE, "double(number) + number as u16", "double(number)", True),
+    ("sample", "double-is-threefold", CODE, "number as u16 * 2", "number as u16 * 3", GOAL),
+    ("sample", "threefold-is-double", CODE, "double(number) + number as u16", "double(number)", GOAL),
     # beside another that it calls, and that is refused
-    ("sample", "fourfold-in-other-words", CODE, "double(number) + double(number)", "double(number) * 2", False),
-    ("sample", "harmless", CODE, "number / 2", "number / 4", False),
-    ("sample", "stands-nowhere", CODE, "number / 3", "number", False),
-    ("stated", "sixfold-is-sevenfold", DEFINITIONS, "sixfold n = n * 6", "sixfold n = n * 7", True),
-    ("stated", "sixfold-in-other-words", DEFINITIONS, "sixfold n = n * 6", "sixfold n = 6 * n", False),
-    ("stated", "no-text-of-the-logic", DEFINITIONS, "sixfold n = n * 6", "sixfold n =", False),
-    ("false_one", "two-is-three", CODE, "    1", "    3", False),
+    ("sample", "fourfold-in-other-words", CODE, "double(number) + double(number)", "double(number) * 2", ""),
+    ("sample", "harmless", CODE, "number / 2", "number / 4", ""),
+    ("sample", "stands-nowhere", CODE, "number / 3", "number", ""),
+    ("sample", "fivefold-is-sixfold", CODE, "fourfold(number) + number as u16", "fourfold(number) + double(number)", GOAL),
+    ("sample", "fivefold-in-other-words", CODE, "fourfold(number) + number as u16", "threefold(number) + double(number)", NAME),
+    ("sample", "again-in-other-words", CODE, "let once = number as u16;", "let once = number as u16 * 1;", ANSWER),
+    ("stated", "sixfold-is-sevenfold", DEFINITIONS, "sixfold n = n * 6", "sixfold n = n * 7", GOAL),
+    ("stated", "sixfold-in-other-words", DEFINITIONS, "sixfold n = n * 6", "sixfold n = 6 * n", ""),
+    ("stated", "no-text-of-the-logic", DEFINITIONS, "sixfold n = n * 6", "sixfold n =", ""),
+    ("false_one", "two-is-three", CODE, "    1", "    3", ""),
 ]
 
 
@@ -123,6 +157,6 @@ def tools_are_well(place, jobs, say):
         say(f"of the tools' own test: {text}")
 
     proofs, trial = prove_and_try(top, jobs, False, tell, tell)
-    wanted = sorted(f"{crate}/{name}.edit" for crate, name, *_, is_refused in EDITS if is_refused)
-    is_told = sorted(trial.passed) == wanted and len(trial.failed) == len(EDITS) - len(wanted)
+    wanted = {f"{crate}/{name}.edit": kind for crate, name, *_, kind in EDITS if kind}
+    is_told = {it: trial.kinds[it] for it in trial.passed} == wanted and len(trial.failed) == len(EDITS) - len(wanted)
     return is_told and (proofs.passed, proofs.failed) == (2, 1)

@@ -12,6 +12,7 @@ from edit_files import edit_faults, edit_files, places_of, read_edit, write_text
 from goals import goals_of, left_open, offered, without_tries, write_answers
 from holes import make_holes, with_facts
 from house import PARTS, copy_parts, tells_errors
+from showing import KINDS as SHOWN, kind_alone, kind_in_batch
 from verdicts import Verdicts
 
 # the memory that a check takes for each line of a crate, in bytes
@@ -27,6 +28,8 @@ class Trial:
         self.lanes = source.lanes
         self.verdicts = verdicts or Verdicts(house, None)
         self.passed, self.failed = [], []
+        # by what each was refused
+        self.kinds = {}
         self.seconds, self.checks = dict.fromkeys(KINDS, 0.0), dict.fromkeys(KINDS, 0)
         # by crate: where its libraries lie, and what its checks have kept
         self.libraries, self.kept, self.rest = {}, {}, {}
@@ -48,7 +51,9 @@ class Trial:
             self.tell(name, it, False, f"BAD EDIT: {fault}")
         for name in self.names:
             for it in self.known[name]:
-                self.tell(name, it, True, "refused, as it must be (by an earlier run here, of the same texts)")
+                kind = self.verdicts.kind_of(name, it)
+                self.kinds[f"{name}/{it}"] = kind
+                self.tell(name, it, True, f"refused, as it must be, by {kind} (by an earlier run here, of the same texts)")
         self.source.start([it for it in self.names if self.left_of(it)], self.add_edits, self.count, self.give_up)
 
     def run(self):
@@ -70,15 +75,20 @@ class Trial:
             (self.passed if well else self.failed).append(f"{name}/{edit}")
             self.say(f"must-fail {name}/{edit}: {text}")
 
-    def tell_refused(self, name, edit, text, goals=()):
+    def tell_refused(self, name, edit, kind, text, goals=()):
         with self.lock:
             self.goals[name][edit] = list(goals)
+            self.kinds[f"{name}/{edit}"] = kind
         if name in self.proved:
             self.keep_refused(name, edit)
-        self.tell(name, edit, True, f"refused, as it must be{text}")
+        self.tell(name, edit, True, f"refused, as it must be, by {kind}{text}")
 
     def keep_refused(self, name, edit):
-        self.verdicts.keep_refused(name, edit, self.goals[name].get(edit, []))
+        self.verdicts.keep_refused(name, edit, self.kinds[f"{name}/{edit}"], self.goals[name].get(edit, []))
+
+    def shown_by(self):
+        """How many of the edits that are refused are so by each kind of what a check says."""
+        return {kind: sum(self.kinds.get(it) == kind for it in self.passed) for kind in SHOWN}
 
     def checked(self, kind, name, folder, functions, kept):
         """A check of a crate's copy; its time is counted."""
@@ -217,8 +227,10 @@ class Trial:
         proofs = {it.folder for it in left_open(lines, goals)}
         refused = shown(name, batch, status, without_tries(lines, goals), proofs)
         seen = [*goals, *offered(lines)]
-        for edit in sorted(refused):
-            self.tell_refused(name, edit, " (shown in a batch, by a goal of its own)", [it for it in seen if it.folder in folders[edit]])
+        for edit, turned in batch:
+            if edit.name in refused:
+                kind = kind_in_batch(lines, turned, bool({it.folder() for it in turned} & proofs))
+                self.tell_refused(name, edit.name, kind, " (shown in a batch)", [it for it in seen if it.folder in folders[edit.name]])
         left = [it for it in batch if it[0].name not in refused]
         if refused or len(left) < 4:
             for edit, turned in left:
@@ -233,8 +245,9 @@ class Trial:
         """Takes what a check says of copies. What it does not show is tried alone."""
         for it in copies:
             at = refused_at(status, lines, [it.path()])
-            if at and not unread([one for one in lines if it.is_told_in(one)], it.texts):
-                self.tell_refused(name, it.edit.name, " (shown by a law of its own, over its own copies)")
+            own = [one for one in lines if it.is_told_in(one)]
+            if at and not unread(own, it.texts):
+                self.tell_refused(name, it.edit.name, kind_alone(own), " (shown by a law of its own, over its own copies)")
             else:
                 self.add_alone(name, it.edit)
 
@@ -254,7 +267,7 @@ class Trial:
         status, lines = self.check_with("by one function", name, edit.texts, functions)
         at = refused_at(status, lines, functions)
         if at and not unread(lines, edit.texts):
-            self.tell_refused(name, edit.name, f": {at[:160]}")
+            self.tell_refused(name, edit.name, kind_alone(lines), f": {at[:160]}")
         else:
             self.add_whole(name, edit)
 
@@ -265,7 +278,7 @@ class Trial:
         if bad:
             self.tell(name, edit.name, False, f"BAD EDIT: the prover cannot read the edited text, so no contract was tried: {bad[:200]}")
         elif status == 1 and any(it.startswith("logic=not-proved") for it in lines):
-            self.tell_refused(name, edit.name, f": {told[:160]}")
+            self.tell_refused(name, edit.name, kind_alone(lines), f": {told[:160]}")
         elif status == 0:
             self.tell(name, edit.name, False, "NOT REFUSED: the crate is still proved with this edit")
         else:
