@@ -290,7 +290,7 @@ module _ (p : Image) (t : Typing) (c : Choice) (s u : State) (w : WellTyped p t 
       unqueued : Told p c.answer less (wanted_gone less p (Some o)) (without (Going (length ts)) less.cells)
       unqueued =
           goes_told p c.answer less (sessions_along p s less (unchanged_unqueued p t s.cells w.layers w.good o.name) refl holds) (tidy_unqueued p t s.cells w.layers w.good o.name) (length ts) o
-          (going_unqueued p t s.cells w.layers w.good o.name (length ts) o there) (guarded_met (needs_gone less.cells o) _ u goes).1.0
+          (going_unqueued p t s.cells w.layers w.good o.name (length ts) o there) (guarded_met (needs_gone less.cells o) _ u goes).1.1.0
 
       same_call : wanted_gone less p (Some o) ≡ wanted_gone s p (Some o)
       same_call = go (native_of (thing_kind p o.thing))

@@ -2,10 +2,11 @@
 use Rattle.std.proofs.Common.{Bool, List, None, Option, Some, [], ap, cond, false, length, refl, suc, true, zero, ℕ, ℤ, ◌&&◌, ◌==◌, ◌∙◌, ◌∷◌, ◌≡◌}
 use Rattle.std.proofs.lemmas.Bool.{eq-eqb, eqb-false, eqb-true, ne_eqb}
 use Rattle.std.proofs.lemmas.List.{length-map}
-use Rattle.std.specs.Prelude.{map, max, option_map}
+use Rattle.std.specs.Prelude.{map, max, not, option_map}
+use Rattle.aom_image.specs.declared.method.Thing.{Thing}
 use Rattle.aom_shape.specs.Kinds.{is_object}
 use Rattle.aom_sound.specs.Calls.{is_register_but, none_owns_but}
-use Rattle.aom_sound.specs.Destruction.{is_field_of, owns_nothing}
+use Rattle.aom_sound.specs.Destruction.{is_field_of, needs_emptied, owns_none}
 use Rattle.aom_sound.specs.Enlisted.{next_order, next_timer, order_after, request_after}
 use Rattle.aom_sound.specs.Places.{Cell, Elsewhere, Entry, Field, Going, Place, Register, Request, held, moved, named, requested, same_place, set_request, set_word_field, without, word_field, in_session, set_session, count_cells, Other, Root, Session, In_service, Queued}
 use Rattle.aom_sound.specs.State.{Task}
@@ -106,9 +107,12 @@ module _ (names : ℕ → ℕ) (one_to_one : IsOneToOne names) where
   is_field_kept n (Elsewhere _) = refl
   is_field_kept n _ = refl
 
-  pub owns_nothing_kept : (cs : List Cell) (n : ℕ) → owns_nothing (renamed_cells names cs) (names n) ≡ owns_nothing cs n
-  owns_nothing_kept [] n = refl
-  owns_nothing_kept (c ∷ cs) n = rw (is_field_kept n c.owner, owns_nothing_kept cs n)
+  owns_none_kept : (such : Thing → Bool) (cs : List Cell) (n : ℕ) → owns_none such (renamed_cells names cs) (names n) ≡ owns_none such cs n
+  owns_none_kept such [] n = refl
+  owns_none_kept such (c ∷ cs) n = rw (is_field_kept n c.owner, owns_none_kept such cs n)
+
+  pub emptied_kept : (cs : List Cell) (n : ℕ) → needs_emptied (renamed_cells names cs) (names n) ≡ needs_emptied cs n
+  emptied_kept cs n = rw (owns_none_kept is_object cs n, owns_none_kept (λ t. not (is_object t)) cs n)
 
 -- what changes each cell without a look at its name
 pub each_renamed :

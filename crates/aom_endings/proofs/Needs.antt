@@ -12,16 +12,16 @@ use Rattle.aom_image.specs.declared.method.Gives.TheVariants.{Left, Maybe as A_m
 use Rattle.aom_image.specs.declared.method.Thing.{Thing}
 use Rattle.aom_image.specs.declared.method.Thing.TheVariants.{Message, Object as An_object_of}
 use Rattle.aom_shape.specs.Things.{field_thing}
-use Rattle.aom_sound.specs.Calls.{end_needs, is_asked, entry_place, given_cells, is_level, is_worked_on, is_emptied, leaves_object, needs_argument, needs_call, needs_each, needs_ended, needs_entering, needs_reply, needs_result, needs_return, needs_target, needs_target_object, needs_trap, passed_cells, result_needs, result_source, tops_mark}
+use Rattle.aom_sound.specs.Calls.{end_needs, is_asked, entry_place, given_cells, is_level, is_worked_on, leaves_object, needs_argument, needs_call, needs_destroyed, needs_each, needs_ended, needs_entering, needs_reply, needs_result, needs_return, needs_target, needs_target_object, needs_trap, passed_cells, result_needs, result_source, tops_mark}
 use Rattle.aom_sound.specs.Cleanup.{above_trap_is_free, has_trap, if_refused, leave_needs, needs_push, pushed_cells, top_is_whole}
 use Rattle.aom_sound.specs.Enlisted.{home_kind, own_request}
 use Rattle.aom_sound.specs.Objects.{is_declared_thing, is_no_message, is_thing, needs_put, needs_take_message}
 use Rattle.aom_sound.specs.Places.{Cell, Elsewhere, Entry, In_service, Object, Place, Register, Session, held, moved}
-use Rattle.aom_sound.specs.Destruction.{owns_nothing}
+use Rattle.aom_sound.specs.Destruction.{needs_emptied}
 use Rattle.aom_sound.specs.Servers.{without_queue}
 use Rattle.aom_sound.specs.State.{A_mark, Accepts, An_object, An_operation, Asks, AtRoot, Choice, Destroy, Dispatch, Dispatched, Frame, Home, Inside, IsStuck, Item, MessageLost, Need, Of_server, Orphan, Run, Serves, State, Static, Task, Trapped, Unbalanced, field_place, guarded, home_holder}
 use Rattle.aom_sound.specs.Words.{needs_word}
-use Rattle.aom_endings.proofs.NamedCells.{held_renamed, moved_renamed, none_owns_kept, owns_nothing_kept, requested_kept, tasks_counted}
+use Rattle.aom_endings.proofs.NamedCells.{emptied_kept, held_renamed, moved_renamed, none_owns_kept, requested_kept, tasks_counted}
 use Rattle.aom_endings.proofs.Serving.{without_queue_renamed}
 use Rattle.aom_endings.specs.Names.{IsOneToOne, renamed, renamed_cells, renamed_choice, renamed_dispatch, renamed_frame, renamed_home, renamed_object, renamed_outcome, renamed_place, renamed_tasks}
 
@@ -120,10 +120,10 @@ module _ (names : ℕ → ℕ) (one_to_one : IsOneToOne names) where
   field_at : (cs : List Cell) (h : Home) (f : ℕ) → is_none (held (renamed_cells names cs) (field_place (renamed_home names h) f)) ≡ is_none (held cs (field_place h f))
   field_at cs h f = ap is_none (held_field cs h f) ∙ none_kept names (held cs (field_place h f))
 
-  emptied_kept : (cs : List Cell) (h : Home) → is_emptied (renamed_cells names cs) (renamed_home names h) ≡ is_emptied cs h
-  emptied_kept cs Static = refl
-  emptied_kept cs AtRoot = refl
-  emptied_kept cs (Inside o from) = ap (λ l. owns_nothing l (names o.name)) (without_queue_renamed names one_to_one o.name cs) ∙ owns_nothing_kept names one_to_one (without_queue o.name cs) o.name
+  destroyed_kept : (cs : List Cell) (h : Home) → needs_destroyed (renamed_cells names cs) (renamed_home names h) ≡ needs_destroyed cs h
+  destroyed_kept cs Static = refl
+  destroyed_kept cs AtRoot = refl
+  destroyed_kept cs (Inside o from) = ap (λ l. needs_emptied l (names o.name)) (without_queue_renamed names one_to_one o.name cs) ∙ emptied_kept names one_to_one (without_queue o.name cs) o.name
 
   pub place_owns : (cs : List Cell) (q : Place) → is_some (held (renamed_cells names cs) (renamed_place names q)) ≡ is_some (held cs q)
   place_owns cs q = ap is_some (held_renamed names one_to_one cs q) ∙ some_kept names (held cs q)
@@ -234,7 +234,7 @@ module _ (names : ℕ → ℕ) (one_to_one : IsOneToOne names) (p : Image) (c : 
   result_needs_kept (Left x) a = refl
 
   end_kept : (below : List Task) → end_needs p fr' ts' s' (renamed_tasks names below) ≡ end_needs p fr ts s below
-  end_kept (Destroy ∷ below) = rw (emptied_kept names one_to_one s.cells fr.home)
+  end_kept (Destroy ∷ below) = destroyed_kept names one_to_one s.cells fr.home
   end_kept (Trapped ∷ Run caller ∷ below) = refl
   end_kept (Trapped ∷ Dispatched d ∷ below) = ap (λ ns. (tops_mark s.items, Unbalanced) ∷ ns) (ended_kept names one_to_one d s.cells)
   end_kept (Trapped ∷ _) = refl

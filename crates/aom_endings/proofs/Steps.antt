@@ -14,13 +14,13 @@ use Rattle.aom_sound.specs.Calls.{called, result_register}
 use Rattle.aom_sound.specs.Cleanup.{arrived, dealt_with, ended_by, top_is_whole, unwound}
 use Rattle.aom_clients.specs.declared.client.Client.TheVariants.{Unconnected}
 use Rattle.aom_sound.specs.Clients.{at_parting, client_at, each_unslotted, queue_ended, sessions_ended, with_client}
-use Rattle.aom_sound.specs.Destruction.{closing, first_session, gone, needs_gone, parting, parting_from, vanished}
+use Rattle.aom_sound.specs.Destruction.{closing, first_session, gone, is_at_rest, needs_emptied, needs_gone, parting, parting_from, vanished}
 use Rattle.aom_sound.specs.Servers.{parted, reserved, without_queue}
 use Rattle.aom_sound.specs.Enlisted.{part_of}
 use Rattle.aom_sound.specs.Moves.{IsOpen, answered, asked, asking, counted, dispatch_ends, does, failed, goes_line, handled, is_counted, is_refused, main_ends, makes_cell, needs, needs_end, object_ends, served_so, stage_ends, step, step_instr, step_task, written, written_instr, written_task}
 use Rattle.aom_sound.specs.Places.{Cell, Elsewhere, Going, In_service, Object, Register, Root, held, named, service_of, without}
-use Rattle.aom_sound.specs.State.{A_mark, Accept_left, Accepted, Accepts, An_object, An_operation, Answered, Asks, Choice, Closing, CompletedTwice, Destroy, Dispatch, Dispatched, Frame, Goes, IsStuck, Item, Main_left, NullOrDead, Object_left, Of_main, Of_object, Of_root, Of_server, Parts, Run, Seat, Service_left, Serves, Stage, State, Task, Trapped, Unwind, guarded, resumed}
-use Rattle.aom_endings.proofs.NamedCells.{cells_counted, cond_applied, held_renamed, moved_renamed, named_renamed, owns_nothing_kept, requested_kept, tasks_counted, without_renamed}
+use Rattle.aom_sound.specs.State.{A_mark, Accept_left, Accepted, ActiveDestroyed, Accepts, An_object, An_operation, Answered, Asks, Choice, Closing, CompletedTwice, Destroy, Dispatch, Dispatched, Frame, Goes, IsStuck, Item, Main_left, Need, NullOrDead, Object_left, Of_main, Of_object, Of_root, Of_server, Parts, Run, Seat, Service_left, Serves, Stage, State, Task, Trapped, Unwind, guarded, resumed}
+use Rattle.aom_endings.proofs.NamedCells.{cells_counted, cond_applied, emptied_kept, held_renamed, moved_renamed, named_renamed, requested_kept, tasks_counted, without_renamed}
 use Rattle.aom_endings.proofs.Doing.{begun_renamed, dealt_renamed, destructed_renamed, does_renamed, needs_kept, told_renamed}
 use Rattle.aom_endings.proofs.Needs.{guarded_renamed, place_owns, register_renamed, whole_kept}
 use Rattle.aom_endings.proofs.Lines.{dispatch_lines_kept, message_line_kept, queue_lines_kept}
@@ -48,7 +48,8 @@ module _ (names : ℕ → ℕ) (one_to_one : IsOneToOne names) where
   needs_gone_kept : (o : Object) (cs : List Cell) → needs_gone (without_queue (names o.name) (renamed_cells names cs)) (renamed_object names o) ≡ needs_gone (without_queue o.name cs) o
   needs_gone_kept o cs =
       ap (λ l. needs_gone l (renamed_object names o)) (without_queue_renamed names one_to_one o.name cs)
-      ∙ rw (owns_nothing_kept names one_to_one (without_queue o.name cs) o.name, requested_kept names one_to_one (without_queue o.name cs) o.name)
+      ∙ ap (λ (ns : List Need). ns ++ ((is_at_rest (requested (renamed_cells names (without_queue o.name cs)) (names o.name)), ActiveDestroyed) ∷ [])) (emptied_kept names one_to_one (without_queue o.name cs) o.name)
+      ∙ ap (λ r. needs_emptied (without_queue o.name cs) o.name ++ ((is_at_rest r, ActiveDestroyed) ∷ [])) (requested_kept names one_to_one (without_queue o.name cs) o.name)
 
   vanished_renamed : (o : Object) (ts : List Task) (s : State) → vanished (renamed_object names o) (renamed_tasks names ts) (renamed names s) ≡ renamed names (vanished o ts s)
   vanished_renamed o ts s =

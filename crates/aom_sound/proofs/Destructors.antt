@@ -21,11 +21,13 @@ use Rattle.aom_shape.specs.declared.kind.Filling.TheVariants.{Perhaps}
 use Rattle.aom_shape.specs.declared.kind.Kind.TheVariants.{Null}
 use Rattle.aom_sound.proofs.Claimed.{claim_register_above}
 use Rattle.aom_sound.proofs.Finishing.{ended_plainly, no_entries, none_left, none_owns_at, return_needs, returnable, same_items}
+use Rattle.aom_sound.proofs.Emptied.{emptied_by}
 use Rattle.aom_sound.proofs.Going.{nothing_left}
 use Rattle.aom_sound.proofs.Straight.{At, Law, fits_unowning}
-use Rattle.aom_sound.specs.Calls.{is_emptied, result_needs}
+use Rattle.aom_sound.specs.Calls.{needs_destroyed, result_needs}
 use Rattle.aom_sound.specs.Claims.{serves, Dying, Layer, claim, declared, entry_claim, home_claim, items_of, root_claim, tasks_of}
 use Rattle.aom_sound.specs.Places.{In_service, Elsewhere, Entry, Field, Going, Object, Place, Register, Root, held, requested, seen}
+use Rattle.aom_sound.specs.Servers.{without_queue}
 use Rattle.aom_sound.specs.State.{Choice, Frame, Inside, State, home_holder, thing_holder}
 use Rattle.aom_sound.specs.WellTyped.{Fits, Good}
 use Rattle.aom_shape.specs.Arguments.{after_of}
@@ -137,6 +139,6 @@ module _ (p : Image) (t : Typing) (c : Choice) (s : State) (fr : Frame) (sh : Sh
       } in (
         return_needs p t c s fr sh (Dying o ∷ ls) at_hand a r
             (subst (λ g. AllTrue (result_needs p fr (tasks_of (Dying o ∷ ls)) s g a)) (sym above.3) tt)
-            (ap (λ h. is_emptied s.cells h) above.1 ∙ nothing_left p t s.cells o ls good, tt),
+            (subst (λ h. AllTrue (needs_destroyed s.cells h)) (sym above.1) (emptied_by (without_queue o.name s.cells) o.name (nothing_left p t s.cells o ls good))),
         ended_plainly p t c s fr sh (Dying o ∷ ls) at_hand a r plain (record { layers = Dying o ∷ ls; tasks = refl; items = same_items p t c s fr sh (Dying o ∷ ls) at_hand entries; undos = at_hand.undos; good = good }),
       )

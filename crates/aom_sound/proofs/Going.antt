@@ -10,12 +10,13 @@ use Rattle.std.specs.Prelude.{is_some}
 use Rattle.aom_sound.proofs.Seats.{no_seat, NoFieldHere, first_kept, sits_kept}
 use Rattle.aom_sound.proofs.Claimed.{no_seat_outside, Outside, claim_frame, claim_going_above, claim_rel, claim_unclaimed, fits_age, going_differs, outside_differs, outside_less}
 use Rattle.aom_sound.proofs.Destroying.{eqb_comm, Untouched, other_name, untouched}
+use Rattle.aom_sound.proofs.Emptied.{emptied_by}
 use Rattle.aom_sound.proofs.Maps.{cond_same, same_place_refl, front_free, held_without, named_without, requested_without, same_place-true, tidy_without, unnamed, unrequested}
 use Rattle.aom_sound.proofs.Straight.{Fitted, fits_unowning, settle}
 use Rattle.aom_sound.specs.Claims.{Ending, Dispatching, Dying, Layer, Mark, Method, Unwinding, claim, declared, declared_field, forms, items_of, objects, tasks_of}
-use Rattle.aom_sound.specs.Destruction.{gone, is_at_rest, is_field_of, owns_nothing}
+use Rattle.aom_sound.specs.Destruction.{gone, is_at_rest, is_field_of, owns_no_message, owns_nothing}
 use Rattle.aom_sound.specs.Places.{Session, Queued, service_of, Cell, Elsewhere, Field, Going, Object, Place, Request, Tidy, held, named, requested, same_place, seen, without}
-use Rattle.aom_sound.specs.State.{Of_server, Parts, Seat, ActiveDestroyed, AtRoot, Home, Inside, IsStuck, Of_root, Orphan, State, Static, guarded, next, resumed}
+use Rattle.aom_sound.specs.State.{Of_server, Parts, Seat, ActiveDestroyed, AtRoot, Home, Inside, IsStuck, MessageLost, Of_root, Orphan, State, Static, guarded, next, resumed}
 use Rattle.aom_sound.specs.WellTyped.{IsOverDying, SitsFirst, NoSeatAt, seat_of, AllUndo, Back, Caught, Fits, Gone, Good, Holds, IsHoused, Keeps, Leaves, Now, Returns, Stack, WellTyped}
 use Rattle.aom_sound.specs.Requests.{AllSuit, Suits, resting_in, states_claim, thing_kind}
 use Rattle.aom_roles.specs.States.{last_of}
@@ -339,8 +340,11 @@ pub going_keeps :
     (p : Image) (t : Typing) (s : State) (o : Object) (ls : List Layer) → Good p t s.cells (Dying o ∷ ls) → forms s.items ≡ items_of ls → AllUndo p s.items →
     Keeps p t (gone (held s.cells (Going (length (tasks_of ls)))) (tasks_of ls) s)
 going_keeps p t s o ls good items undos =
-    let end = after p t s o ls good (without_queue o.name s.cells) in
+    let left = without_queue o.name s.cells in
+    let end = after p t s o ls good left in
+    let emptied = emptied_by left o.name (nothing_left p t s.cells o ls good) in
     subst (λ x. Keeps p t (gone x (tasks_of ls) s)) (sym good.stack.0.1)
-    (subst (λ b. Keeps p t (cond b (guarded ((is_at_rest (requested (without_queue o.name s.cells) o.name), ActiveDestroyed) ∷ []) end) (IsStuck Orphan))) (sym (nothing_left p t s.cells o ls good))
+    (subst (λ b. Keeps p t (cond b (guarded ((owns_no_message left o.name, MessageLost) ∷ (is_at_rest (requested left o.name), ActiveDestroyed) ∷ []) end) (IsStuck Orphan))) (sym emptied.0)
+    (subst (λ b. Keeps p t (cond b (guarded ((is_at_rest (requested left o.name), ActiveDestroyed) ∷ []) end) (IsStuck MessageLost))) (sym emptied.1.0)
     (subst (λ b. Keeps p t (cond b (guarded [] end) (IsStuck ActiveDestroyed))) (sym (ap (λ l. is_at_rest (requested l o.name)) (queue_dropped o.name s.cells) ∙ rests_less p t s o ls good))
-    (subst (λ l. WellTyped p t (after p t s o ls good l)) (sym (queue_dropped o.name s.cells)) (gone_well p t s o ls good items undos))))
+    (subst (λ l. WellTyped p t (after p t s o ls good l)) (sym (queue_dropped o.name s.cells)) (gone_well p t s o ls good items undos)))))

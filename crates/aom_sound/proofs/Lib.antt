@@ -15,6 +15,7 @@ pub mod Dropping
 pub mod Unslotting
 pub mod Accepting
 pub mod Parting
+pub mod Emptied
 pub mod Emptying
 pub mod Things
 pub mod Items

@@ -6,6 +6,7 @@ use Rattle.aom_image.specs.Image.{Image}
 use Rattle.aom_image.specs.Views.{instr_at}
 use Rattle.aom_instructions.specs.declared.instr.Instr.{Instr}
 use Rattle.aom_shape.specs.Needs.{AllTrue}
+use Rattle.aom_sound.proofs.Emptied.{owns_nothing_by}
 use Rattle.aom_sound.proofs.Fitting.{fits}
 use Rattle.aom_sound.proofs.Guarded.{goes_same, guarded_goes, guarded_met}
 use Rattle.aom_sound.specs.Cleanup.{arrived, destroyed, unwound}
@@ -22,7 +23,8 @@ vanishes : (p : Image) (c : Choice) (ts : List Task) (s u : State) → s.tasks �
 vanishes p c ts s u at e = some_given (λ o. gone o ts (counted p s) ≡ Goes u) (held s.cells (Going (length ts))) e (λ stuck. cc) (λ o there e.
     let needed = needs_gone (without_queue o.name s.cells) o in
     let after : State = vanished o ts (counted p s) in
-    Vanishes ts o at there (guarded_met needed after u e).0 (sym (guarded_goes needed after u e)))
+    let met = guarded_met needed after u e in
+    Vanishes ts o at there (owns_nothing_by (without_queue o.name s.cells) o.name met.0 met.1.0) (sym (guarded_goes needed after u e)))
 
 -- a server that goes has its sessions go first
 empties : (p : Image) (c : Choice) (ts : List Task) (s u : State) → s.tasks ≡ Closing ∷ ts → closing p ts (counted p s) ≡ Goes u → Move p c s u

@@ -19,7 +19,7 @@ use Rattle.aom_sound.specs.Clients.{at_opening, client_at, with_client}
 use Rattle.aom_sound.specs.Servers.{without_queue, opened, reserved}
 use Rattle.aom_sound.specs.Places.{Object, Place, Register, Entry, Field, Going, Elsewhere, Cell, held, moved, Session, In_service}
 use Rattle.aom_sound.specs.State.{Home, Static, AtRoot, Inside, Frame, Dispatch, Asks, Answered, Task, Run, Trapped, Destroy, Unwind, Dispatched, Item, An_object, An_operation, A_mark, State, Need, Unbalanced, PopUnder, Orphan, NullOrDead, WrongKind, word, set_word, next, field_place, home_holder, frame_of, Of_server, Of_object, Accepts, Accepted, Serves, MessageLost}
-use Rattle.aom_sound.specs.Destruction.{owns_nothing}
+use Rattle.aom_sound.specs.Destruction.{needs_emptied}
 use Rattle.aom_sound.specs.Enlisted.{needs_cancelled}
 use Rattle.aom_sound.specs.Words.{here, needs_word, word_or_zero}
 use Rattle.aom_sound.specs.Objects.{is_thing}
@@ -225,11 +225,11 @@ abbrev pub told_answer : Gives → Frame → ℕ → ℤ
 told_answer A_word fr a = word_or_zero (word fr a)
 told_answer _ fr a = pos 0
 
--- what a method works on is a cell, no field of which owns; what waits in its queue is none
-abbrev pub is_emptied : List Cell → Home → Bool
-is_emptied cs Static = false
-is_emptied cs AtRoot = false
-is_emptied cs (Inside o from) = owns_nothing (without_queue o.name cs) o.name
+-- what a destructor works on is a cell, no field of which owns; what waits in its queue is none
+abbrev pub needs_destroyed : List Cell → Home → List Need
+needs_destroyed cs Static = (false, Orphan) ∷ []
+needs_destroyed cs AtRoot = (false, Orphan) ∷ []
+needs_destroyed cs (Inside o from) = needs_emptied (without_queue o.name cs) o.name
 
 -- ---- the method that a dispatch runs under its trap
 
@@ -283,7 +283,7 @@ module _ (p : Image) (fr : Frame) (ts : List Task) (s : State) where
   end_needs (Run caller ∷ below) = []
   end_needs (Trapped ∷ Run caller ∷ below) = (tops_mark s.items, Unbalanced) ∷ []
   end_needs (Trapped ∷ Dispatched d ∷ below) = (tops_mark s.items, Unbalanced) ∷ needs_ended d s.cells
-  end_needs (Destroy ∷ below) = (is_emptied s.cells fr.home, Orphan) ∷ []
+  end_needs (Destroy ∷ below) = needs_destroyed s.cells fr.home
   end_needs (Unwind code ∷ below) = []
   end_needs (Dispatched d ∷ below) = (is_asked d, Unbalanced) ∷ []
   end_needs _ = (false, Unbalanced) ∷ []

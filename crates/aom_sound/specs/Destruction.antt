@@ -1,12 +1,14 @@
 -- Destruction: a cell is at hand from here on, its destructor runs first, and then the cell goes.
-use Rattle.std.specs.Prelude.{ℕ, Bool, true, false, not, ◌&&◌, ◌==◌, List, [], ◌∷◌, Option, Some, None, length, cond}
+use Rattle.std.specs.Prelude.{ℕ, Bool, true, false, not, ◌&&◌, ◌==◌, List, [], ◌∷◌, ◌++◌, Option, Some, None, length, cond}
 use Rattle.aom_image.specs.Image.{Image}
+use Rattle.aom_image.specs.declared.method.Thing.{Thing}
+use Rattle.aom_shape.specs.Kinds.{is_object}
 use Rattle.aom_classes.specs.Roles.{destructor_of}
 use Rattle.aom_sound.specs.Clients.{each_unslotted, queue_ended, sessions_ended}
 use Rattle.aom_sound.specs.Servers.{is_server, without_queue}
 use Rattle.aom_sound.specs.Enlisted.{is_idle}
 use Rattle.aom_sound.specs.Places.{Place, Register, Entry, Field, Going, Elsewhere, Object, Cell, Request, requested, without, Session, other_cell, service_of, held, moved}
-use Rattle.aom_sound.specs.State.{Inside, Task, Run, Destroy, frame_of, State, Outcome, Need, IsStuck, Orphan, NullOrDead, ActiveDestroyed, guarded, resumed, Closing, Seat, Goes, Unbalanced}
+use Rattle.aom_sound.specs.State.{Inside, Task, Run, Destroy, frame_of, State, Outcome, Need, IsStuck, MessageLost, Orphan, NullOrDead, ActiveDestroyed, guarded, resumed, Closing, Seat, Goes, Unbalanced}
 
 abbrev pub begun_by : Option ℕ → Object → ℕ → List Task → List Task
 begun_by None o height below = Destroy ∷ below
@@ -36,14 +38,29 @@ abbrev pub owns_nothing : List Cell → ℕ → Bool
 owns_nothing [] n = true
 owns_nothing (c ∷ cs) n = not (is_field_of n c.owner) && owns_nothing cs n
 
+-- no field of that cell owns such a thing
+abbrev pub owns_none : (Thing → Bool) → List Cell → ℕ → Bool
+owns_none such [] n = true
+owns_none such (c ∷ cs) n = not (is_field_of n c.owner && such c.object.thing) && owns_none such cs n
+
+abbrev pub owns_no_object : List Cell → ℕ → Bool
+owns_no_object cs n = owns_none is_object cs n
+
+abbrev pub owns_no_message : List Cell → ℕ → Bool
+owns_no_message cs n = owns_none (λ t. not (is_object t)) cs n
+
+-- an object that is left in a field is an orphan, and then a message there is lost
+abbrev pub needs_emptied : List Cell → ℕ → List Need
+needs_emptied cs n = (owns_no_object cs n, Orphan) ∷ (owns_no_message cs n, MessageLost) ∷ []
+
 -- the object has no request that is issued, waited for or being cancelled
 abbrev pub is_at_rest : Option Request → Bool
 is_at_rest None = true
 is_at_rest (Some r) = is_idle r.phase
 
--- what the going of a cell needs
+-- what the going of a cell needs: first of its fields, then of its request
 abbrev pub needs_gone : List Cell → Object → List Need
-needs_gone cs o = (owns_nothing cs o.name, Orphan) ∷ (is_at_rest (requested cs o.name), ActiveDestroyed) ∷ []
+needs_gone cs o = needs_emptied cs o.name ++ ((is_at_rest (requested cs o.name), ActiveDestroyed) ∷ [])
 
 -- a cell is gone, with what waits in its queue where it is a server
 abbrev pub vanished : Object → List Task → State → State

@@ -4,8 +4,8 @@ use Rattle.aom_image.specs.Image.{Image}
 use Rattle.aom_instructions.specs.declared.instr.Instr.TheVariants.{Stop}
 use Rattle.aom_image.specs.declared.method.Gives.TheVariants.{Nothing}
 use Rattle.aom_image.specs.declared.method.Thing.TheVariants.{Message}
-use Rattle.aom_sound.specs.Places.{Entry, Field, Going, Phase, Idle, Issued, Active, Cancelling, Aborted}
-use Rattle.aom_sound.specs.State.{Static, frame_of, Task, Run, Trapped, Destroy, Unwind, Dispatched, Of_main, An_object, An_operation, A_mark, State, Stuck, Unbalanced, ActiveDestroyed, Orphan, NullOrDead, WrongKind}
+use Rattle.aom_sound.specs.Places.{Cell, Entry, Field, Going, Phase, Idle, Issued, Active, Cancelling, Aborted}
+use Rattle.aom_sound.specs.State.{Static, frame_of, Task, Run, Trapped, Destroy, Unwind, Dispatched, Of_main, An_object, An_operation, A_mark, State, Stuck, Unbalanced, ActiveDestroyed, MessageLost, Orphan, NullOrDead, WrongKind}
 use Rattle.aom_sound.specs.Moves.{step}
 use Rattle.aom_sound.specs.Cases.Building.{leaf, pair, waiter, a_method, a_cell, at_bottom, small_image, state_of, is_stuck_by, missed}
 
@@ -30,19 +30,35 @@ AllTurn cases = missed 0 (map turns cases) ≡ []
 abbrev pub runs : Task
 runs = Run (frame_of 0 Static 1)
 
--- a cell goes whose object is enlisted, with its request in that phase
-abbrev pub goes_in : Phase → List Stuck → Turning
-goes_in phase kinds = at kinds (state_of (Destroy ∷ at_bottom) (record (a_cell 1 waiter (Going 2)) { request = Some (record { order = 0; priority = pos 0; phase = phase; status = pos 0; timer = None }) } ∷ []) (A_mark ∷ []))
+-- a cell goes beside these
+abbrev pub goes_beside : Cell → List Cell → List Stuck → Turning
+goes_beside c others kinds = at kinds (state_of (Destroy ∷ at_bottom) (c ∷ others) (A_mark ∷ []))
 
--- a cell goes: it is there, no field of it owns, and it has no request
+-- an object that is enlisted, with its request in that phase
+abbrev pub requesting : Phase → Cell
+requesting phase = record (a_cell 1 waiter (Going 2)) { request = Some (record { order = 0; priority = pos 0; phase = phase; status = pos 0; timer = None }) }
+
+abbrev pub goes_in : Phase → List Stuck → Turning
+goes_in phase kinds = goes_beside (requesting phase) [] kinds
+
+-- a pair goes while these are owned
+abbrev pub goes_with : List Cell → List Stuck → Turning
+goes_with others kinds = goes_beside (a_cell 1 pair (Going 2)) others kinds
+
+-- a cell goes: it is there, no field of it owns an object or a message, in this order, and then it has no request
 abbrev pub going_cases : List Turning
 going_cases =
-    at [] (state_of (Destroy ∷ at_bottom) (a_cell 1 pair (Going 2) ∷ []) (A_mark ∷ []))
-    ∷ at [] (state_of (Destroy ∷ at_bottom) (a_cell 1 pair (Going 2) ∷ a_cell 2 leaf (Field 3 0) ∷ []) (A_mark ∷ []))
+    goes_with [] []
+    ∷ goes_with (a_cell 2 leaf (Field 3 0) ∷ []) []
+    ∷ goes_with (a_cell 2 Message (Field 3 1) ∷ []) []
     ∷ at (NullOrDead ∷ []) (state_of (Destroy ∷ at_bottom) [] (A_mark ∷ []))
     ∷ at (NullOrDead ∷ []) (state_of (Destroy ∷ at_bottom) (a_cell 1 pair (Going 3) ∷ []) (A_mark ∷ []))
-    ∷ at (Orphan ∷ []) (state_of (Destroy ∷ at_bottom) (a_cell 1 pair (Going 2) ∷ a_cell 2 leaf (Field 1 0) ∷ []) (A_mark ∷ []))
-    ∷ at (Orphan ∷ []) (state_of (Destroy ∷ at_bottom) (a_cell 2 Message (Field 1 1) ∷ a_cell 1 pair (Going 2) ∷ []) (A_mark ∷ []))
+    ∷ goes_with (a_cell 2 leaf (Field 1 0) ∷ []) (Orphan ∷ [])
+    ∷ goes_with (a_cell 2 Message (Field 1 1) ∷ []) (MessageLost ∷ [])
+    ∷ at (MessageLost ∷ []) (state_of (Destroy ∷ at_bottom) (a_cell 2 Message (Field 1 1) ∷ a_cell 1 pair (Going 2) ∷ []) (A_mark ∷ []))
+    ∷ goes_with (a_cell 2 Message (Field 1 1) ∷ a_cell 3 leaf (Field 1 0) ∷ []) (Orphan ∷ [])
+    ∷ goes_beside (requesting Active) (a_cell 2 leaf (Field 1 0) ∷ []) (Orphan ∷ [])
+    ∷ goes_beside (requesting Active) (a_cell 2 Message (Field 1 0) ∷ []) (MessageLost ∷ [])
     ∷ goes_in Idle []
     ∷ goes_in Issued (ActiveDestroyed ∷ [])
     ∷ goes_in Active (ActiveDestroyed ∷ [])

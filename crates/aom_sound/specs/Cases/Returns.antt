@@ -8,7 +8,7 @@ use Rattle.aom_image.specs.declared.method.Role.{Role}
 use Rattle.aom_image.specs.declared.method.Role.TheVariants.{Cancel, Do}
 use Rattle.aom_sound.specs.Enlisted.{cancelled_code, pending}
 use Rattle.aom_sound.specs.Places.{Aborted, Active, Cancelling, Elsewhere, Entry, Field, Phase, Place, Register, Root}
-use Rattle.aom_sound.specs.State.{Static, frame_of, Task, Run, Trapped, Destroy, Unwind, Dispatched, Of_main, An_object, An_operation, A_mark, Stuck, CancelHang, Unbalanced, Orphan, NullOrDead, WrongKind}
+use Rattle.aom_sound.specs.State.{Static, frame_of, Task, Run, Trapped, Destroy, Unwind, Dispatched, Of_main, An_object, An_operation, A_mark, Stuck, CancelHang, Unbalanced, MessageLost, Orphan, NullOrDead, WrongKind}
 use Rattle.aom_sound.specs.Cases.Building.{leaf, pair, waiter, seven, a_cell, at_bottom, mine, inside, Case, fails, AllBite}
 
 -- a method that waits for another
@@ -101,11 +101,12 @@ waiting_cases =
     ∷ record (ends_over (Trapped ∷ waits ∷ at_bottom) (Unbalanced ∷ [])) { items = An_object ∷ []; cells = a_cell 1 leaf (Entry 0) ∷ [] }
     ∷ record (ends_over at_bottom (Unbalanced ∷ [])) { items = An_operation 1 (pos 7) ∷ [] }
     ∷ record (ends_over at_bottom (Unbalanced ∷ Unbalanced ∷ [])) { items = [] }
-    -- a destructor works on a cell, and leaves no field that owns
+    -- a destructor works on a cell, and leaves no field that owns: an object there is an orphan, and a message is lost
     ∷ ends_over (Destroy ∷ at_bottom) (Orphan ∷ [])
     ∷ record (ends_over (Destroy ∷ at_bottom) (Orphan ∷ [])) { home = inside pair; cells = a_cell 1 leaf (Field 9 0) ∷ [] }
-    ∷ record (ends_over (Destroy ∷ at_bottom) (Orphan ∷ [])) { home = inside pair; cells = a_cell 1 Message (Field 9 1) ∷ [] }
-    ∷ record (ends_over (Destroy ∷ at_bottom) []) { home = inside pair; cells = a_cell 1 leaf (Field 5 0) ∷ [] }
+    ∷ record (ends_over (Destroy ∷ at_bottom) (MessageLost ∷ [])) { home = inside pair; cells = a_cell 1 Message (Field 9 1) ∷ [] }
+    ∷ record (ends_over (Destroy ∷ at_bottom) (Orphan ∷ MessageLost ∷ [])) { home = inside pair; cells = a_cell 1 Message (Field 9 1) ∷ a_cell 2 leaf (Field 9 0) ∷ [] }
+    ∷ record (ends_over (Destroy ∷ at_bottom) []) { home = inside pair; cells = a_cell 1 leaf (Field 5 0) ∷ a_cell 2 Message (Field 5 1) ∷ [] }
     ∷ []
 
 -- a method of that role returns, and the request of what it works on is so far, with that status
