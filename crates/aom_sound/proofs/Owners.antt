@@ -414,7 +414,7 @@ module _ (p : Image) (t : Typing) (wired : IsWired p) (s : State) (w : WellTyped
       ((lives c.owner c.object fits.0 e, ends c.owner c.object e), all_owned cs (λ q o h. up q o (later cs c q o t' h)) t'.2 fits.1)
 
   pub owned : AllInRange s.cells → Owned p s
-  owned fits = record { each = all_owned s.cells (λ q o h. h) w.good.tidy fits; settled = clear }
+  owned fits = record { each = all_owned s.cells (λ q o h. h) w.good.tidy fits; alone = w.good.tidy; settled = clear }
 
 -- at a dispatch's end, and between dispatches
 pub ends_owned : EndsOwned

@@ -44,13 +44,17 @@ no_end _ (by_server o q other named there ends) h = no_end q ends (held_by_them 
 abbrev server : Object
 server = record { name = 5; thing = keeper }
 
+-- the pair that the root owns
+abbrev of_pair : Object
+of_pair = record { name = 5; thing = pair }
+
 pub owners_bite : OwnersBite
 unfolding class_at fields_in
 owners_bite = record {
-  register = record { each = (((tt, omega arith), at_register), ((refl, at_root), tt)); settled = tt };
-  item = record { each = ((tt, at_entry), ((refl, at_root), tt)); settled = tt };
-  field = record { each = (((record { name = 5; thing = pair }, refl, refl), by_cell (record { name = 5; thing = pair }) (Elsewhere Root) refl refl at_root), ((refl, at_root), tt)); settled = tt };
-  root = record { each = ((refl, at_root), tt); settled = tt };
+  register = record { each = (((tt, omega arith), at_register), ((refl, at_root), tt)); alone = (refl, refl, (refl, refl, tt)); settled = tt };
+  item = record { each = ((tt, at_entry), ((refl, at_root), tt)); alone = (refl, refl, (refl, refl, tt)); settled = tt };
+  field = record { each = (((of_pair, refl, refl), by_cell of_pair (Elsewhere Root) refl refl at_root), ((refl, at_root), tt)); alone = (refl, refl, (refl, refl, tt)); settled = tt };
+  root = record { each = ((refl, at_root), tt); alone = (refl, refl, tt); settled = tt };
   dead_frame = λ h. h.each.0.0.0;
   trap = λ h. h.each.0.0.0;
   dispatch = λ h. h.each.0.0.0;
@@ -61,15 +65,15 @@ owners_bite = record {
   operation = λ h. h.each.0.0;
   no_item = λ h. h.each.0.0;
   past_fields = λ h.
-      let same : record { name = 5; thing = pair } ≡ h.each.0.0.0 = cc in
+      let same : of_pair ≡ h.each.0.0.0 = cc in
       let has : false ≡ true = subst (λ o. IsSome (field_thing an_image (thing_holder o.thing) 2)) (sym same) h.each.0.0.2 in
       cc;
   gone = λ h. let there = h.each.0.0.1 in cc;
   no_root = λ h. let has = h.each.0.0 in cc;
-  of_session = record { each = ((((server, refl, refl), by_server server (Elsewhere Root) refl refl refl at_root)), ((refl, at_root), tt)); settled = tt };
-  in_queue = record { each = ((((server, refl, refl), by_server server (Elsewhere Root) refl refl refl at_root)), ((refl, at_root), tt)); settled = tt };
-  served = record { each = ((refl, at_service), (((server, refl, refl), by_server server (Elsewhere Root) refl refl refl at_root), ((refl, at_root), tt))); settled = tt };
-  left = record { each = ((refl, at_service), (((server, refl, refl), by_server server (Elsewhere Root) refl refl refl at_root), ((refl, at_root), tt))); settled = tt };
+  of_session = record { each = ((((server, refl, refl), by_server server (Elsewhere Root) refl refl refl at_root)), ((refl, at_root), tt)); alone = (refl, refl, (refl, refl, tt)); settled = tt };
+  in_queue = record { each = ((((server, refl, refl), by_server server (Elsewhere Root) refl refl refl at_root)), ((refl, at_root), tt)); alone = (refl, refl, (refl, refl, tt)); settled = tt };
+  served = record { each = ((refl, at_service), (((server, refl, refl), by_server server (Elsewhere Root) refl refl refl at_root), ((refl, at_root), tt))); alone = (refl, refl, (refl, refl, (refl, refl, tt))); settled = tt };
+  left = record { each = ((refl, at_service), (((server, refl, refl), by_server server (Elsewhere Root) refl refl refl at_root), ((refl, at_root), tt))); alone = (refl, refl, (refl, refl, (refl, refl, tt))); settled = tt };
   unlisted = λ h. let has : false ≡ true = h.each.0.0.2 in cc;
   not_queued = λ h. let has : false ≡ true = h.each.0.0.2 in cc;
   of_none = λ h. let there = h.each.0.0.1 in cc;
@@ -83,5 +87,13 @@ owners_bite = record {
   going = λ h. h.settled;
   destruction = λ h. h.settled;
   closing = λ h. h.settled;
+  side_by_side = record {
+    each = (((of_pair, refl, refl), by_cell of_pair (Elsewhere Root) refl refl at_root), (((of_pair, refl, refl), by_cell of_pair (Elsewhere Root) refl refl at_root), ((refl, at_root), tt)));
+    alone = (refl, refl, (refl, refl, (refl, refl, tt)));
+    settled = tt;
+  };
+  together = λ h. let apart = h.alone.0 in cc;
+  at_the_root = λ h. let apart = h.alone.0 in cc;
+  namesakes = λ h. let other = h.alone.1 in cc;
   round = λ h. no_end (Field 2 0) h.each.0.1 (inr refl);
 }

@@ -88,5 +88,10 @@ pub record OwnersBite : Type 0 where
   pub destruction : OwnedBy an_image (Destroy ∷ at_bottom) [] → ⊥
   -- nor is one while sessions go before a server
   pub closing : OwnedBy an_image (Closing ∷ at_bottom) [] → ⊥
+  -- no place owns two cells, whatever is owned beside them, and no two cells have one name
+  pub side_by_side : OwnedBy an_image caught_tasks (a_cell 1 leaf (Field 5 0) ∷ a_cell 2 Message (Field 5 1) ∷ a_cell 5 pair (Elsewhere Root) ∷ [])
+  pub together : OwnedBy an_image caught_tasks (a_cell 1 leaf (Field 5 0) ∷ a_cell 2 leaf (Field 5 0) ∷ a_cell 5 pair (Elsewhere Root) ∷ []) → ⊥
+  pub at_the_root : OwnedBy an_image caught_tasks (a_cell 1 pair (Elsewhere Root) ∷ a_cell 2 pair (Elsewhere Root) ∷ []) → ⊥
+  pub namesakes : OwnedBy an_image caught_tasks (a_cell 1 leaf (Field 5 0) ∷ a_cell 1 Message (Field 5 1) ∷ a_cell 5 pair (Elsewhere Root) ∷ []) → ⊥
   -- two cells that own each other have no end
   pub round : OwnedBy an_image caught_tasks (a_cell 1 pair (Field 2 0) ∷ a_cell 2 pair (Field 1 0) ∷ []) → ⊥
