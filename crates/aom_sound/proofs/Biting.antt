@@ -69,12 +69,13 @@ moves_bite = record { going = refl; unwinding = refl; arrival = refl; traps = re
 
 pub servers_bite : ServersBite
 unfolding is_role role_number role_of plays kind_of kind_in sessions_in sessions_of class_at class_in fields_in gives_in instr_in method_at role_in
-servers_bite = record { taking = refl; replying = refl; returning = refl; ending = refl; closing = refl; signals = (refl, (refl, (refl, (refl, (refl, tt))))); picking = refl }
+servers_bite = record { taking = refl; replying = refl; returning = refl; ending = refl; closing = refl; signals = (refl, (refl, (refl, (refl, (refl, tt))))); counts = (refl, refl, (refl, refl, (refl, refl, tt))); picking = refl }
 
 pub turns_bite : TurnsBite
 turns_bite =
     record {
       signals = (refl, (refl, (refl, (refl, (refl, (refl, (refl, (refl, tt))))))));
+      counts = (refl, refl, (refl, refl, (refl, refl, (refl, refl, (refl, refl, (refl, refl, tt))))));
       picks = (refl, (refl, (refl, (refl, (refl, tt)))));
       timers = (refl, (refl, (refl, (refl, (refl, (refl, tt))))));
       stray = refl;

@@ -312,7 +312,7 @@ module _ (p : Image) (t : Typing) (s : State) (w : WellTyped p t s) (idle_now : 
     picks_well None e (Some time) = same_well _
 
     signal_well : (next : Option ℕ) → Keeps p t (turned p s (picks (has_signal s.cells) (first_ready s.cells) next))
-    signal_well next = subst (λ b. Keeps p t (turned p s (picks b (first_ready s.cells) next))) (sym (signals_are_ready p t s w idle_now).1) (picks_well (first_ready s.cells) refl next)
+    signal_well next = subst (λ b. Keeps p t (turned p s (picks b (first_ready s.cells) next))) (sym ((signals_are_ready p t s w).1 idle_now).first) (picks_well (first_ready s.cells) refl next)
 
     -- one test after another, as a turn makes them
     poll_well :

@@ -21,14 +21,14 @@ use Rattle.aom_roles.specs.Shapes.{kind_of}
 use Rattle.aom_roles.specs.States.{active, cancel_open, first_of, idle, last_of, states_of}
 use Rattle.aom_rules.specs.Typing.{Typing, IsTyped}
 use Rattle.aom_roles.specs.Classes.{is_session, sessions_at}
-use Rattle.aom_sound.specs.Places.{Elsewhere, Root, held, named}
+use Rattle.aom_sound.specs.Places.{Cell, Elsewhere, Root, held, named}
 use Rattle.aom_sound.specs.State.{Dispatch, Frame, Task, Run, Destroy, Unwind, Dispatched, Item, A_mark, State, Choice, Goes}
 use Rattle.aom_sound.specs.Moves.{step, IsOpen}
 use Rattle.aom_sound.specs.WellTyped.{LeavesNone, IsUndo, WellTyped, Keeps}
 use Rattle.aom_sound.specs.Kept.{ClientsFit, IsKept}
 use Rattle.aom_sound.specs.Owned.{Owned}
 use Rattle.aom_sound.specs.Registers.{AllInRange}
-use Rattle.aom_sound.specs.World.{AllSettled, Heard, HearsWell, boot_state, first_ready, has_signal, IsBetween, IsBusy, Reaches, Outside, turn}
+use Rattle.aom_sound.specs.World.{AllSettled, Heard, HearsWell, boot_state, first_ready, has_signal, IsBetween, IsBusy, Reaches, Outside, ready_count, signal_count, turn}
 use Rattle.aom_transcript.specs.declared.line.Line.{Line}
 use Rattle.aom_transcript.specs.declared.line.Ending.TheVariants.{Stopped}
 
@@ -144,9 +144,15 @@ pub record ClientsKeep : Type 0 where
   pub moves : (p : Image) (t : Typing) → IsWired p → IsTyped p t → (c : Choice) (s u : State) → WellTyped p t s → named s.cells c.name ≡ None → IsKept p s → step p c s ≡ Goes u → IsKept p u
   pub turns : (p : Image) (t : Typing) (outside : Outside) → IsWired p → IsTyped p t → (heard : Heard) (s u : State) → WellTyped p t s → IsBetween s → HearsWell p outside heard s → IsKept p s → turn p outside heard s ≡ Goes u → IsKept p u
 
--- between dispatches no request is made that is not waited for, and what signals is ready
+-- no request is made that is not waited for; as many signals are there as objects and servers that are ready, and one of these goes first where something signals
+pub record AllRest (cs : List Cell) : Type 0 where
+  pub settled : AllSettled cs
+  pub count : signal_count cs ≡ ready_count cs
+  pub first : has_signal cs ≡ is_some (first_ready cs)
+
+-- so it is at a dispatch's end, whether `stop` was run or not, and between dispatches
 abbrev pub SignalsAreReady : Type 0
-SignalsAreReady = (p : Image) (t : Typing) (s : State) → WellTyped p t s → s.tasks ≡ [] → AllSettled s.cells × (has_signal s.cells ≡ is_some (first_ready s.cells))
+SignalsAreReady = (p : Image) (t : Typing) (s : State) → WellTyped p t s → ((d : Dispatch) → s.tasks ≡ Dispatched d ∷ [] → AllRest s.cells) × (s.tasks ≡ [] → AllRest s.cells)
 
 -- at a dispatch's end, and between dispatches, each cell has exactly one living owner
 abbrev pub EndsOwned : Type 0
@@ -163,7 +169,9 @@ pub record IsSound (p : Image) (outside : Outside) : Type 0 where
   pub goes_on : (lines : List Line) (s : State) → Reaches p outside (boot_state p) lines s → IsBusy s → (c : Choice) → IsOpen p outside.refused c s → (u : State) × (step p c s ≡ Goes u)
   -- each turn goes on: no signal is stray
   pub turns_on : (lines : List Line) (s : State) → Reaches p outside (boot_state p) lines s → IsBetween s → (heard : Heard) → HearsWell p outside heard s → (u : State) × (turn p outside heard s ≡ Goes u)
-  pub settled : (lines : List Line) (s : State) → Reaches p outside (boot_state p) lines s → s.tasks ≡ [] → AllSettled s.cells × (has_signal s.cells ≡ is_some (first_ready s.cells))
+  -- there are as many signals as objects and servers that are ready, between dispatches and at each dispatch's end
+  pub rests : (lines : List Line) (s : State) → Reaches p outside (boot_state p) lines s → s.tasks ≡ [] → AllRest s.cells
+  pub ends_at_rest : (lines : List Line) (s : State) (d : Dispatch) → Reaches p outside (boot_state p) lines s → s.tasks ≡ Dispatched d ∷ [] → AllRest s.cells
   -- a leave is caught once all that was pushed since its trap is dealt with
   pub caught : (lines : List Line) (s : State) (code : ℤ) (tasks : List Task) (items : List Item) → Reaches p outside (boot_state p) lines s → s.tasks ≡ Unwind code ∷ tasks → s.items ≡ A_mark ∷ items → Owned p s
   pub owned : (lines : List Line) (s : State) (d : Dispatch) → Reaches p outside (boot_state p) lines s → s.tasks ≡ Dispatched d ∷ [] → Owned p s

@@ -108,6 +108,11 @@ abbrev pub has_signal : List Cell → Bool
 has_signal [] = false
 has_signal (c ∷ cs) = signals c c.request || has_signal cs
 
+-- how many signals there are
+abbrev pub signal_count : List Cell → ℕ
+signal_count [] = 0
+signal_count (c ∷ cs) = cond (signals c c.request) (suc (signal_count cs)) (signal_count cs)
+
 -- an object that waits is ready once its request is completed
 abbrev pub is_ready : Request → Bool
 is_ready r = is_active r.phase && not (int_eq r.status pending)
@@ -137,6 +142,15 @@ among_ready c (Some r) others = cond (goes_now c r) (Some (before_others (record
 abbrev pub first_ready : List Cell → Option Candidate
 first_ready [] = None
 first_ready (c ∷ cs) = among_ready c c.request (first_ready cs)
+
+-- how many enlisted objects and servers are ready
+abbrev pub stands_ready : Cell → Option Request → Bool
+stands_ready c None = false
+stands_ready c (Some r) = goes_now c r
+
+abbrev pub ready_count : List Cell → ℕ
+ready_count [] = 0
+ready_count (c ∷ cs) = cond (stands_ready c c.request) (suc (ready_count cs)) (ready_count cs)
 
 -- no request is made that is not waited for, and none is being cancelled
 abbrev pub is_settled : Option Request → Bool

@@ -9,7 +9,7 @@ use Rattle.aom_sound.specs.State.{Accept_left, Accepted, Accepts, Closing, Compl
 use Rattle.aom_sound.specs.World.{Picks, Waits, turned}
 use Rattle.aom_sound.specs.Cases.Building.{AllBite, Case, a_cell, at_bottom, fails, is_stuck_by, keeper, leaf, mine, missed, seven, state_of}
 use Rattle.aom_sound.specs.Cases.Moves.{AllTurn, Turning, an_image, at}
-use Rattle.aom_sound.specs.Cases.Turns.{AllCome, Turn_case, comes_to}
+use Rattle.aom_sound.specs.Cases.Turns.{AllCome, AllCount, Count_case, Turn_case, comes_to, count}
 
 -- a server that the root owns, and what clients have at it
 abbrev pub a_server : Service → Cell
@@ -123,6 +123,14 @@ signal_cases =
     ∷ comes_to (Picks seat) (listed (a_server (asked (Close_of 0 ∷ []))) ∷ [])
     ∷ []
 
+-- it has one signal, however many wait there
+abbrev pub count_cases : List Count_case
+count_cases =
+    count 0 0 (listed (a_server unserved) ∷ [])
+    ∷ count 0 0 (a_server (asked (Connect_of 0 ∷ [])) ∷ [])
+    ∷ count 1 1 (listed (a_server (asked (Connect_of 0 ∷ Message_of 1 2 ∷ Close_of 3 ∷ []))) ∷ [])
+    ∷ []
+
 -- a server with that queue is picked, beside these cells; its image has no method that accepts or serves
 abbrev pub picked_with : List Asked → List Cell → State
 picked_with queue cells = state_of [] (listed (a_server (asked queue)) ∷ cells) []
@@ -152,4 +160,5 @@ pub record ServersBite : Type 0 where
   pub ending : AllTurn ending_cases
   pub closing : AllTurn closing_cases
   pub signals : AllCome signal_cases
+  pub counts : AllCount count_cases
   pub picking : AllPick pick_cases

@@ -1,9 +1,9 @@
 -- What a turn does, by what signals, what is due and what waits; and where it is stuck.
 use Rattle.std.specs.Prelude.{ℕ, ℤ, pos, negsuc, List, [], ◌∷◌, ◌≡◌, Some, None}
 use Rattle.aom_sound.specs.Enlisted.{pending}
-use Rattle.aom_sound.specs.Places.{Active, Cancelling, Cell, Elsewhere, Idle, Issued, Object, Phase, Root, Timer}
+use Rattle.aom_sound.specs.Places.{Aborted, Active, Cancelling, Cell, Elsewhere, Idle, Issued, Object, Phase, Root, Timer}
 use Rattle.aom_sound.specs.State.{IsStuck, Seat, State, Stray}
-use Rattle.aom_sound.specs.World.{Completes, Cuts, Outside, Passes, Picks, Strays, Turning, Waits, nothing_heard, refusing, turn, turning}
+use Rattle.aom_sound.specs.World.{Completes, Cuts, Outside, Passes, Picks, Strays, Turning, Waits, nothing_heard, ready_count, refusing, signal_count, turn, turning}
 use Rattle.aom_sound.specs.Cases.Building.{a_cell, state_of, waiter}
 use Rattle.aom_sound.specs.Cases.Moves.{an_image}
 
@@ -56,6 +56,30 @@ signal_cases =
     ∷ comes_to Strays (listed 1 0 (pos 0) Cancelling (pos 0) ∷ [])
     ∷ []
 
+-- cells with so many signals, of whose objects and servers so many are ready
+pub record Count_case : Type 0 where
+  pub signals : ℕ
+  pub ready : ℕ
+  pub cells : List Cell
+
+abbrev pub count : (signals ready : ℕ) → List Cell → Count_case
+count signals ready cells = record { signals = signals; ready = ready; cells = cells }
+
+abbrev pub AllCount : List Count_case → Type 0
+AllCount [] = Unit {0}
+AllCount (c ∷ cs) = (signal_count c.cells ≡ c.signals) × (ready_count c.cells ≡ c.ready) × AllCount cs
+
+-- each completed request has one signal until it is taken, and its object is ready where it waits for it
+abbrev pub count_cases : List Count_case
+count_cases =
+    count 0 0 (a_cell 1 waiter (Elsewhere Root) ∷ [])
+    ∷ count 0 0 (listed 1 0 (pos 0) Idle (pos 0) ∷ listed 2 1 (pos 0) Active pending ∷ listed 3 2 (pos 0) Issued pending ∷ [])
+    ∷ count 1 1 (listed 1 0 (pos 0) Active (pos 0) ∷ [])
+    ∷ count 1 0 (listed 1 0 (pos 0) Issued (pos 0) ∷ [])
+    ∷ count 2 0 (listed 1 0 (pos 0) Cancelling (pos 0) ∷ listed 2 1 (pos 0) Aborted (negsuc 2) ∷ [])
+    ∷ count 3 2 (listed 1 0 (pos 0) Active (pos 0) ∷ listed 2 1 (pos 0) Issued (pos 0) ∷ listed 3 2 (pos 0) Idle (pos 0) ∷ listed 4 3 (pos 0) Active (negsuc 2) ∷ [])
+    ∷ []
+
 -- of the ready objects the one of the highest priority is picked, and among equals the one enlisted first
 abbrev pub pick_cases : List Turn_case
 pick_cases =
@@ -80,6 +104,7 @@ timer_cases =
 -- each turn comes out so, and a signal without a ready object makes it stuck
 pub record TurnsBite : Type 0 where
   pub signals : AllCome signal_cases
+  pub counts : AllCount count_cases
   pub picks : AllCome pick_cases
   pub timers : AllCome timer_cases
   pub stray : turn an_image (within 9) nothing_heard (between (listed 1 0 (pos 0) Issued (pos 0) ∷ [])) ≡ IsStuck Stray
