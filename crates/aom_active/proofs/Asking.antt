@@ -9,11 +9,10 @@ use Rattle.aom_sound.proofs.Storing.{requested_here, requested_there}
 use Rattle.aom_sound.specs.Enlisted.{next_order, next_timer, order_after, request_after}
 use Rattle.aom_sound.specs.Places.{Cell, Object, Place, Request, Tidy, held, named, requested, set_request, set_word_field, with_new, without, Service, service_of, set_service}
 use Rattle.aom_active.specs.Agrees.{timer_in, queue_in, queued}
-use Rattle.aom_active.specs.Meanings.{IsNewest, IsNewestTimer, asked_anew, is_wanted, queued_anew}
+use Rattle.aom_active.specs.Meanings.{AreWanted, IsNewest, IsNewestTimer, asked_anew, is_wanted, queued_anew}
 use Rattle.aom_image.specs.Image.{Image}
 use Rattle.aom_sound.specs.Servers.{has_more, is_server}
 use Rattle.aom_sound.proofs.Services.{named_served, service_here, service_there, service_unnamed, service_without}
-use Rattle.aom_active.proofs.Choosing.{AreWanted}
 use Rattle.aom_sound.proofs.Dropping.{requested_unnamed}
 
 -- another request of a cell that is there

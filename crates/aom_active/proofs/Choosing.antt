@@ -9,7 +9,7 @@ use Rattle.aom_sound.specs.Places.{Cell, Object, Place, Request, Tidy, held, nam
 use Rattle.aom_sound.specs.Servers.{has_more}
 use Rattle.aom_sound.specs.World.{Candidate, among_ready, before_others, first_ready, goes_before, goes_now, is_ready}
 use Rattle.aom_active.proofs.Cells.{asked_first, asked_later, asked_lives, named_first, named_later, other_name}
-use Rattle.aom_active.specs.Meanings.{IsFirstReady, NoneReady, is_wanted}
+use Rattle.aom_active.specs.Meanings.{AreWanted, IsFirstReady, NoneReady}
 
 -- the first cell as a candidate
 abbrev first_seat : Cell → Request → Candidate
@@ -142,10 +142,6 @@ chosen (c ∷ cs) id r tidy asked ready first =
     go : (b : Bool) → (c.object.name == id) ≡ b → cond b c.request (requested cs id) ≡ Some r → (requested cs id ≡ Some r → IsChosen cs id r) → IsChosen (c ∷ cs) id r
     go true same here rest = in_front (eqb-true c.object.name id same) here
     go false other here rest = behind other (rest here)
-
--- these are the queues in which something waits
-abbrev pub AreWanted : (ℕ → Option Bool) → List Cell → Type 0
-AreWanted queues cs = (n : ℕ) → is_wanted (queues n) ≡ has_more (service_of cs n).queue
 
 -- the first ready object is the candidate that the checked machine takes
 pub picked :

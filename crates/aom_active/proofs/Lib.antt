@@ -3,6 +3,7 @@ pub mod Halves
 pub mod Cells
 pub mod Choosing
 pub mod Firsts
+pub mod Signals
 pub mod Dues
 pub mod Turns
 pub mod Calls

@@ -5,8 +5,9 @@ use Rattle.aom_requests.specs.declared.request.State.TheVariants.{Active as Held
 use Rattle.aom_requests.specs.declared.request.Request.{Request as Held_request}
 use Rattle.aom_requests.specs.declared.request.Request.TheVariants.{Object as Held_object}
 use Rattle.aom_sound.specs.Enlisted.{pending, taken_up, timed_out}
-use Rattle.aom_sound.specs.Places.{Cell, Idle, Issued, Request, Tidy, Timer, requested}
-use Rattle.aom_sound.specs.World.{first_due, goes_before, is_ready, is_sooner}
+use Rattle.aom_sound.specs.Places.{Cell, Idle, Issued, Request, Tidy, Timer, requested, service_of}
+use Rattle.aom_sound.specs.Servers.{has_more}
+use Rattle.aom_sound.specs.World.{first_due, goes_before, is_ready, is_sooner, signal_count}
 use Rattle.aom_active.specs.Agrees.{Active, StandsFor, timer_in}
 
 -- ---- tests on a request of the table
@@ -108,7 +109,7 @@ Completes now old new (Some id) = Makes old new id timed_out × ((asked : ℕ �
 abbrev pub IsNextDue : Active → Option ℕ → Type 0
 IsNextDue a due = (cs : List Cell) (queues : ℕ → Option Bool) → Tidy cs → StandsFor a (requested cs) queues → due ≡ option_map (λ x. x.timer.due) (first_due cs)
 
--- ---- the pick
+-- ---- the pick, and signals
 
 -- it is a server in whose queue something waits
 abbrev pub is_wanted : Option Bool → Bool
@@ -139,3 +140,11 @@ TakesUp false old new id = Makes old new id taken_up
 abbrev pub Picks : Active → Active → Option ℕ → Type 0
 Picks old new None = (new ≡ old) × ((asked : ℕ → Option Request) (queues : ℕ → Option Bool) → StandsFor old asked queues → NoneReady asked queues)
 Picks old new (Some id) = TakesUp (is_server (request_at old.table id)) old new id × ((asked : ℕ → Option Request) (queues : ℕ → Option Bool) → StandsFor old asked queues → IsFirstReady id asked queues)
+
+-- these are the queues in which something waits
+abbrev pub AreWanted : (ℕ → Option Bool) → List Cell → Type 0
+AreWanted queues cs = (n : ℕ) → is_wanted (queues n) ≡ has_more (service_of cs n).queue
+
+-- the checked machine has as many signals
+abbrev pub IsSignalCount : Active → ℕ → Type 0
+IsSignalCount a count = (cs : List Cell) (queues : ℕ → Option Bool) → Tidy cs → AreWanted queues cs → StandsFor a (requested cs) queues → count ≡ signal_count cs

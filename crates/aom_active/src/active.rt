@@ -8,7 +8,7 @@ ghost use Rattle.aom_sound.specs.Enlisted.{completed_at_once, completed_with, pe
 ghost use Rattle.aom_sound.specs.Natives.{is_owed};
 ghost use Rattle.aom_sound.specs.Places.{Request as RequestRecord};
 ghost use Rattle.aom_active.specs.Agrees.{StandsFor};
-ghost use Rattle.aom_active.specs.Meanings.{is_waited_for, is_being_cancelled, is_busy, begun_with, Makes, Removes, Enlists, Asks, Times, Completes, IsNextDue, Picks};
+ghost use Rattle.aom_active.specs.Meanings.{is_waited_for, is_being_cancelled, is_busy, begun_with, Makes, Removes, Enlists, Asks, Times, Completes, IsNextDue, IsSignalCount, Picks};
 
 use crate::parts::{abort_request, mark, signal, stop_timer};
 use aom_cells::CellId;
@@ -199,6 +199,13 @@ impl ActiveObjects {
         self.requests.wait_for(pick);
         self.schedule.set_waiting(pick);
         Some(pick)
+    }
+
+    /// How many signals there are: of requests that are completed and not taken, and of servers in whose queues something waits.
+    pub fn signals(&self) -> usize
+        ensures { IsSignalCount self.now result }
+    {
+        self.requests.signals()
     }
 
     /// How many objects are enlisted. Each has an entry.
