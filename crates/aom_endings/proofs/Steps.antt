@@ -18,7 +18,7 @@ use Rattle.aom_sound.specs.Destruction.{closing, first_session, gone, is_at_rest
 use Rattle.aom_sound.specs.Servers.{parted, reserved, without_queue}
 use Rattle.aom_sound.specs.Enlisted.{part_of}
 use Rattle.aom_sound.specs.Moves.{IsOpen, answered, asked, asking, counted, dispatch_ends, does, failed, goes_line, handled, is_counted, is_refused, main_ends, makes_cell, needs, needs_end, object_ends, served_so, stage_ends, step, step_instr, step_task, written, written_instr, written_task}
-use Rattle.aom_sound.specs.Places.{Cell, Elsewhere, Going, In_service, Object, Register, Root, held, named, service_of, without}
+use Rattle.aom_sound.specs.Places.{Cell, Elsewhere, Going, In_service, Object, Register, Root, held, named, service_of, without, requested}
 use Rattle.aom_sound.specs.State.{A_mark, Accept_left, Accepted, ActiveDestroyed, Accepts, An_object, An_operation, Answered, Asks, Choice, Closing, CompletedTwice, Destroy, Dispatch, Dispatched, Frame, Goes, IsStuck, Item, Main_left, Need, NullOrDead, Object_left, Of_main, Of_object, Of_root, Of_server, Parts, Run, Seat, Service_left, Serves, Stage, State, Task, Trapped, Unwind, guarded, resumed}
 use Rattle.aom_endings.proofs.NamedCells.{cells_counted, cond_applied, emptied_kept, held_renamed, moved_renamed, named_renamed, requested_kept, tasks_counted, without_renamed}
 use Rattle.aom_endings.proofs.Doing.{begun_renamed, dealt_renamed, destructed_renamed, does_renamed, needs_kept, told_renamed}
