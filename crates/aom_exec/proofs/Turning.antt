@@ -44,7 +44,7 @@ use Rattle.aom_sound.specs.Servers.{has_more, is_server}
 use Rattle.aom_sound.specs.Places.{Cell, Elsewhere, Entry, Object, Going, Place, Register, Request, Root, Timer, held, named, requested, service_of}
 use Rattle.aom_sound.specs.State.{Dispatch, Dispatched, Goes, Inside, Of_object, Rest, Seat, State, Trapped}
 use Rattle.aom_sound.specs.WellTyped.{Keeps}
-use Rattle.aom_sound.specs.World.{Candidate, Cuts, Hears, IsBetween, Passes, Picks, Timed, Turning, Waits, dispatched, serves_first, due_of, first_due, first_ready, is_ready, picked as any_picked, run_line, turned, with_request, written_by}
+use Rattle.aom_sound.specs.World.{Candidate, Cuts, Hears, IsBetween, Passes, Picks, Timed, Turning, Waits, dispatched, serves_first, due_of, first_due, first_ready, is_ready, picked as any_picked, run_line, turned, with_request, written_by, ready_count, signal_count}
 use Rattle.aom_steps.proofs.Pushed.{asked_same}
 use Rattle.aom_steps.proofs.Turns.{picking}
 use Rattle.aom_steps.specs.Left.{is_entry}
@@ -169,6 +169,17 @@ due_same (Some x) = refl
 
 pub next_due_told : (m : Machine) (due : Option ℕ) → meanings.IsNextDue m.parts.active due → (s : State) → StandsFor m s → due ≡ due_of (first_due s.cells)
 next_due_told m due next s st = next s.cells (queued m.image s.cells) st.typed.good.tidy st.agrees.requests.stands ∙ due_same (first_due s.cells)
+
+-- and it counts the signals of the checked machine
+module _ (m : Machine) (count : ℕ) (counts : meanings.IsSignalCount m.parts.active count) (s : State) (st : StandsFor m s) where
+  pub signals_told : count ≡ signal_count s.cells
+  signals_told = counts s.cells (queued m.image s.cells) st.typed.good.tidy (are_wanted m.image s.cells (λ o lives plain. (st.kept.fit.servers o lives plain).0)) st.agrees.requests.stands
+
+  pub ready_between : s.tasks ≡ [] → count ≡ ready_count s.cells
+  ready_between idle = signals_told ∙ ((signals_are_ready m.image st.typing s st.typed).1 idle).count
+
+  pub ready_at_end : (d : Dispatch) → s.tasks ≡ Dispatched d ∷ [] → count ≡ ready_count s.cells
+  ready_at_end d ends = signals_told ∙ ((signals_are_ready m.image st.typing s st.typed).0 d ends).count
 
 -- ---- a timer completes a request
 
@@ -303,7 +314,7 @@ module _ (p : Image) (m : Parts) (s : State) (st : StandsFor (record { image = p
     pub keeps : Keeps p st.typing (any_picked p candidate.seat s)
 
   -- the queues in which something waits are those of servers
-  wanted : choosing.AreWanted (queued p s.cells) s.cells
+  wanted : meanings.AreWanted (queued p s.cells) s.cells
   wanted = are_wanted p s.cells (λ o lives plain. (st.kept.fit.servers o lives plain).0)
 
   pub found_of : (id : ℕ) → IsFirstReady id (requested s.cells) (queued p s.cells) → Found id
@@ -536,7 +547,7 @@ module _ (p : Image) (m : Parts) (turned : progress_by m.rest.ended m.stack.task
       let makes = makes_in a id c plain s st in (
         k.found.candidate,
         k.found.first,
-        (signals_are_ready p st.typing s st.typed idle).1 ∙ ap is_some k.found.first,
+        ((signals_are_ready p st.typing s st.typed).1 idle).first ∙ ap is_some k.found.first,
         record {
           between = machine_between was s st turned;
           state = then p m s st idle id k a told now new makes d;
@@ -557,7 +568,7 @@ module _ (p : Image) (m : Parts) (turned : progress_by m.rest.ended m.stack.task
     refl,
     λ s st.
         let idle = (machine_between was s st turned).idle in
-        (signals_are_ready p st.typing s st.typed idle).1 ∙ ap is_some (none_found p m s st idle (c.1 (requested s.cells) (queued p s.cells) st.agrees.requests.stands)),
+        ((signals_are_ready p st.typing s st.typed).1 idle).first ∙ ap is_some (none_found p m s st idle (c.1 (requested s.cells) (queued p s.cells) st.agrees.requests.stands)),
   )
 
 -- and the machine stands for a state again

@@ -3,7 +3,7 @@
 
 ghost use Rattle.std.specs.Prelude.{◌≡◌, ◌<◌, ◌≤◌, ◌+◌, ◌++◌, ◌∷◌, ◌^◌, ◌↔◌, ◌⊎◌, [], IfOk, IfSome, IsTrue, Option, false, length, option_map, suc, true};
 ghost use Rattle.aom_cells.specs.Heap.{count};
-ghost use Rattle.aom_sound.specs.World.{AnswersWell, Completion, Cuts, Hears, Kills, Passes, Polls, Waits, boot_state, due_of, first_due};
+ghost use Rattle.aom_sound.specs.World.{AnswersWell, Completion, Cuts, Hears, Kills, Passes, Polls, Waits, boot_state, due_of, first_due, ready_count, signal_count};
 ghost use Rattle.aom_lines.specs.Turn.{Turn as TurnRecord, step_lines};
 ghost use Rattle.aom_endings.specs.Owed.{owes};
 ghost use Rattle.aom_exec.specs.Agreement.{AgreesInAll};
@@ -12,7 +12,7 @@ ghost use Rattle.aom_parts.specs.Stands.{Stands, StandsFor};
 ghost use Rattle.aom_exec.specs.Steps.{Stepped, SteppedOn, Wants, progress, rank, timers};
 ghost use Rattle.aom_exec.specs.Turns.{Answers, Completed, NoneDue, Picked, Takes, TakesAll};
 ghost use Rattle.aom_sessions.specs.Sessions.{is_killed};
-ghost use Rattle.aom_sound.specs.State.{State};
+ghost use Rattle.aom_sound.specs.State.{Dispatch, Dispatched, State};
 ghost use Rattle.aom_sound.specs.Wanted.{wanted};
 ghost use Rattle.aom_exec.specs.Wanted.{as_wanted};
 ghost use Rattle.aom_steps.specs.Payers.{declared_of, payer};
@@ -131,6 +131,16 @@ impl<'a> Machine<'a> {
         ensures { (s : State) → StandsFor self.now s → result ≡ due_of (first_due s.cells) }
     {
         self.parts.active.next_due()
+    }
+
+    /// How many signals there are: of requests that are completed and not taken, and of servers in whose queues something waits.
+    /// Between dispatches, and at the end of each, as many objects and servers are ready.
+    pub fn signals(&self) -> usize
+        ensures signals { (s : State) → StandsFor self.now s → result ≡ signal_count s.cells }
+        ensures between { (s : State) → StandsFor self.now s → s.tasks ≡ [] → result ≡ ready_count s.cells }
+        ensures at_end { (s : State) → StandsFor self.now s → (d : Dispatch) → s.tasks ≡ Dispatched d ∷ [] → result ≡ ready_count s.cells }
+    {
+        self.parts.active.signals()
     }
 
     /// Between dispatches time passes. It does not go back.
