@@ -28,7 +28,7 @@ use Rattle.aom_acts.specs.Going.{destructor_at, is_server_class}
 use Rattle.aom_image.specs.WellFormed.{WellFormed}
 use Rattle.aom_cells.specs.Heap.{class_at}
 use Rattle.aom_sound.proofs.Maps.{held_lives}
-use Rattle.aom_acts.proofs.Owned.{entry_object}
+use Rattle.aom_sound.proofs.Owned.{entry_object}
 use Rattle.aom_parts.specs.Places.{others, value_in, with_items}
 use Rattle.aom_parts.proofs.Alike.{Entries_alike, entries_alike, entries_own, entries_run}
 use Rattle.aom_parts.proofs.Entries.{owns_none, same_items_length, top_value, value_alike, value_popped}

@@ -43,7 +43,7 @@ use Rattle.aom_parts.proofs.Overs.{held_over, higher, over_deep, over_register, 
 use Rattle.aom_acts.proofs.ReturnActs.{none_above}
 use Rattle.aom_acts.proofs.WordActs.{plain_at}
 use Rattle.aom_parts.proofs.Services.{services_passed}
-use Rattle.aom_acts.proofs.Owned.{object_for}
+use Rattle.aom_sound.proofs.Owned.{object_for}
 use Rattle.aom_sound.proofs.Maps.{held_lives}
 use Rattle.aom_acts.proofs.FieldActs.{this_is}
 use Rattle.aom_acts.proofs.Running.{Aside, Top, agrees_with, aside_of, aside_with, by_top, begun_frame, object_small, reframed, no_word}

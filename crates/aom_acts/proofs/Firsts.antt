@@ -17,6 +17,7 @@ use Rattle.aom_shape.specs.declared.kind.Kind.{Kind}
 use Rattle.aom_shape.specs.declared.kind.Kind.TheVariants.{Maybe, Null, Own}
 use Rattle.aom_sound.proofs.Layers.{closing_layer}
 use Rattle.aom_sound.proofs.Maps.{held_lives}
+use Rattle.aom_sound.proofs.Owned.{session_object}
 use Rattle.aom_sound.proofs.Picking.{own_held}
 use Rattle.aom_sound.proofs.Things.{stands_same}
 use Rattle.aom_sound.specs.Claims.{Dying as Dying_layer, Ending, Layer, Mark, Method, Unwinding, Dispatching, by_close, by_session, claim, declared, tasks_of}
@@ -160,55 +161,9 @@ module _ (p : Image) (m : Parts) (t : Typing) (s : State) (typed : WellTyped p t
         IsSeat c r (first_session s.cells n (service_of s.cells n).sessions)
     its_session c r e is some = some_first (service_of s.cells n).sessions own_with c r (ap (first_there m.clients) (sym (agrees.services.clients.sessions n)) ∙ e) is some
 
--- ---- a session is an object
+-- ---- a session is there
 
-abbrev NoMessage : Kind → Type 0
-NoMessage (Own t a) = is_object t ≡ true
-NoMessage (Maybe t a) = is_object t ≡ true
-NoMessage _ = Unit {0}
-
-plain_cond : (b : Bool) (j k : Kind) → NoMessage j → NoMessage k → NoMessage (cond b j k)
-plain_cond true j k a b = a
-plain_cond false j k a b = b
-
-plain_class : (class : Option ℕ) → NoMessage (filled (of_class class) Full)
-plain_class None = tt
-plain_class (Some class) = refl
-
-plain_session : (p : Image) (o : Option Object) → NoMessage (filled (session_thing p o) Full)
-plain_session p None = tt
-plain_session p (Some o) = plain_class (session_class p o.thing)
-
-plain_object : (p : Image) (h : Sight) (o : Object) (k : Kind) → NoMessage k → Fits p h (Some o) k → is_object o.thing ≡ true
-plain_object p h o (Own t a) plain f = ap is_object (stands_same p o.thing t f.0) ∙ plain
-plain_object p h o (Maybe t a) plain f = ap is_object (stands_same p o.thing t f.0) ∙ plain
-plain_object p h o _ plain f = absurd (assumption tt)
-
-module _ (p : Image) (n c : ℕ) where
-  plain_close : (d : Dispatch) (k : Kind) → NoMessage k → NoMessage (by_close d n c k)
-  plain_close (Of_server x client Parts_with) k plain = plain_cond ((x.object.name == n) && (client == c)) Null k tt plain
-  plain_close _ k plain = plain
-
-  plain_layer : (l : Layer) (k : Kind) → NoMessage k → NoMessage (by_session p l n c k)
-  plain_layer (Method fr sh) k plain = plain
-  plain_layer (Mark gv) k plain = plain
-  plain_layer (Dying_layer o) k plain = plain_cond (o.name == n) Null k tt plain
-  plain_layer (Ending o left) k plain = plain_cond (o.name == n) (cond (is_among c left) (filled (session_thing p (Some o)) Full) Null) k (plain_cond (is_among c left) (filled (session_thing p (Some o)) Full) Null (plain_session p (Some o)) tt) plain
-  plain_layer (Unwinding code es) k plain = plain
-  plain_layer (Dispatching d seats) k plain = plain_close d k plain
-
-  plain_claim : (d : Place → Kind) (ls : List Layer) → NoMessage (d (Elsewhere (Session n c))) → NoMessage (claim p d ls (Elsewhere (Session n c)))
-  plain_claim d [] plain = plain
-  plain_claim d (l ∷ ls) plain = plain_layer l (claim p d ls (Elsewhere (Session n c))) (plain_claim d ls plain)
-
-  pub session_object : (t : Typing) (s : State) → WellTyped p t s → (o : Object) → held s.cells (Elsewhere (Session n c)) ≡ Some o → is_object o.thing ≡ true
-  session_object t s w o e =
-      let place = Elsewhere (Session n c) in
-      plain_object p (seen s.cells) o (claim p (declared p s.cells) w.layers place)
-      (plain_claim (declared p s.cells) w.layers (plain_cond (has_session (service_of s.cells n) c) (filled (session_thing p (named s.cells n)) Full) Null (plain_session p (named s.cells n)) tt))
-      (subst (λ x. Fits p (seen s.cells) x (claim p (declared p s.cells) w.layers place)) e (w.good.fits place))
-
--- so the machine has its cell
+-- the machine has the cell of a session
 pub session_lives : (p : Image) (m : Parts) (t : Typing) (s : State) → WellTyped p t s → Agrees p m s → (n c : ℕ) (o : Object) → held s.cells (Elsewhere (Session n c)) ≡ Some o → Lives m.cells o.name
 session_lives p m t s w agrees n c o e = object_lives_at p m s agrees o (held_lives s.cells (Elsewhere (Session n c)) o w.good.tidy e) (session_object p n c t s w o e)
 

@@ -22,7 +22,7 @@ use Rattle.aom_sound.specs.Servers.{is_server}
 use Rattle.aom_shape.specs.Kinds.{is_object}
 use Rattle.aom_image.specs.WellFormed.{WellFormed}
 use Rattle.aom_parts.proofs.CellFields.{root_written}
-use Rattle.aom_acts.proofs.Owned.{root_object}
+use Rattle.aom_sound.proofs.Owned.{root_object}
 use Rattle.aom_sound.specs.Moves.{goes_line}
 use Rattle.aom_sound.specs.WellTyped.{WellTyped}
 use Rattle.aom_transcript.specs.declared.line.Line.TheVariants.{Gone}

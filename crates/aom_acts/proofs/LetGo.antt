@@ -33,7 +33,8 @@ use Rattle.aom_parts.specs.Places.{IsClosing, IsDestroying, going_here, others, 
 use Rattle.aom_parts.specs.Stands.{Stands}
 use Rattle.aom_parts.specs.declared.parts.Parts.{Parts}
 use Rattle.aom_acts.proofs.Ends.{at_close}
-use Rattle.aom_acts.proofs.Firsts.{IsSeat, closing_found, its_session, no_session, session_lives, session_object}
+use Rattle.aom_acts.proofs.Firsts.{IsSeat, closing_found, its_session, no_session, session_lives}
+use Rattle.aom_sound.proofs.Owned.{session_object}
 use Rattle.aom_acts.proofs.GoingActs.{begins, closes_value, closes_word, destructor_same, destructs, dying_shows, server_same}
 use Rattle.aom_acts.proofs.ReturnActs.{lives_within}
 use Rattle.aom_acts.proofs.Running.{Aside, an_open, aside_counted, aside_moved, aside_of, nothing_held, object_lives_at, object_small, object_there}

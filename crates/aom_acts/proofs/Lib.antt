@@ -35,5 +35,4 @@ pub mod Topping
 pub mod Resulting
 pub mod UnwindActs
 mod Vanishing
-pub mod Owned
 pub mod MessageActs

@@ -35,7 +35,7 @@ use Rattle.std.proofs.lemmas.Bool.{false≢true}
 use Rattle.aom_image.proofs.Given.{some_given}
 use Rattle.aom_parts.proofs.Alike.{A_catcher, A_method, A_trap, Alike, Alike_items, Tops, alike, both_objects, both_trapped, by_item, by_items, catcher_on_top, items_alike, method_on_top, same_below, tops, trap_on_top}
 use Rattle.aom_parts.proofs.Entries.{same_items_length, top_value}
-use Rattle.aom_acts.proofs.Owned.{entry_object}
+use Rattle.aom_sound.proofs.Owned.{entry_object}
 use Rattle.aom_acts.proofs.Finding.{class_fits, object_lives}
 use Rattle.aom_acts.proofs.Housing.{at_hand, needs_met}
 use Rattle.aom_acts.proofs.Stepping.{at_step}

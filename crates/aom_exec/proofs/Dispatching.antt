@@ -58,7 +58,7 @@ use Rattle.aom_parts.proofs.Sessions.{natives_moved}
 use Rattle.aom_parts.proofs.Sizing.{sized_next, sized_released}
 use Rattle.aom_parts.proofs.Values.{moves}
 use Rattle.aom_acts.proofs.GoingActs.{begins, destructor_same, dying_shows, server_same, thing_is}
-use Rattle.aom_acts.proofs.Firsts.{session_object}
+use Rattle.aom_sound.proofs.Owned.{session_object}
 use Rattle.aom_acts.proofs.Running.{Aside, begun_frame, begun_registers, nothing_held, object_class, object_small}
 use Rattle.aom_acts.specs.Going.{dying}
 use Rattle.aom_parts.proofs.Asking.{requests_moved}

@@ -42,7 +42,7 @@ use Rattle.aom_parts.proofs.Premises.{leaving_below, messages_wait, open_below}
 use Rattle.aom_parts.proofs.Values.{none_alike}
 use Rattle.aom_parts.proofs.Withdrawing.{AllWait}
 use Rattle.aom_acts.proofs.Finding.{class_fits}
-use Rattle.aom_acts.proofs.Firsts.{session_object}
+use Rattle.aom_sound.proofs.Owned.{session_object}
 use Rattle.aom_acts.proofs.RoomMoves.{none_formed}
 use Rattle.aom_acts.proofs.Running.{object_class, object_small}
 use Rattle.aom_exec.specs.Servers.{HasCaller, CanTake, HasSession, IsOfClass, taken_from as machine_taken}

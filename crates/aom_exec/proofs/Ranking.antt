@@ -1,11 +1,11 @@
 -- The machine's rank is that of the states that it stands for, and each move lowers that.
-use Rattle.std.proofs.Common.{zero, suc, ◌≡◌, ℕ, ◌<◌, ◌+◌, ◌-◌, ◌*◌, length, List, [], ◌∷◌, Option, Some, None, slice_index_or, refl, ap, ◌∙◌, arith}
-use Rattle.std.specs.Prelude.{map}
+use Rattle.std.proofs.Common.{zero, suc, ◌≡◌, ℕ, ◌<◌, ◌+◌, ◌-◌, ◌*◌, length, List, [], ◌∷◌, Option, Some, None, Bool, true, false, cond, ◌==◌, inl, inr, ⊎_elim, slice_index_or, refl, sym, subst, ap, ◌∙◌, arith}
+use Rattle.std.specs.Prelude.{map, ◌⊎◌}
+use Rattle.std.proofs.lemmas.Option.{none-some}
 use Rattle.aom_image.specs.Image.{Image}
 use Rattle.aom_image.specs.Views.{method_at}
 use Rattle.aom_image.specs.declared.method.Method.{Method}
-use Rattle.aom_messages.specs.Store.{count as count_messages}
-use Rattle.aom_cells.specs.Heap.{count}
+use Rattle.aom_cells.specs.Heap.{count, null}
 use Rattle.aom_shape.specs.Tables.{at}
 use Rattle.aom_rules.specs.Typing.{Typing}
 use Rattle.aom_sound.specs.State.{Closing, Dispatch, Frame, Task, Trapped, Destroy, Unwind, Dispatched, Item, State, next}
@@ -19,9 +19,12 @@ use Rattle.aom_steps.specs.Ranks.{closing_rank, price, left_in, frame_rank, end_
 use Rattle.aom_steps.proofs.Goings.{cells_stand_or_go}
 use Rattle.aom_steps.proofs.Ranking.{moves_lower_ranks}
 use Rattle.aom_steps.proofs.Rounds.{worth_alike}
-use Rattle.aom_sound.specs.Places.{Elsewhere, Place, Root}
-use Rattle.aom_parts.proofs.Messages.{all_counted}
-use Rattle.aom_parts.specs.Agrees.{SameDispatch, dispatch_of, SameFrame, SameTasks, SameItems, Agrees}
+use Rattle.aom_sound.proofs.Maps.{held_lives}
+use Rattle.aom_sound.specs.Places.{Elsewhere, Going, Object, Place, Root, held, named}
+use Rattle.aom_parts.specs.Agrees.{SameDispatch, Shows, dispatch_of, SameFrame, SameTasks, SameItems, Agrees}
+use Rattle.aom_parts.specs.Places.{going_in, going_of, value}
+use Rattle.aom_acts.proofs.Running.{null_unnamed, object_there}
+use Rattle.aom_steps.specs.RankLaws.{GoesNoMessage}
 use Rattle.aom_parts.specs.declared.parts.Parts.{Parts}
 use Rattle.aom_frames.specs.declared.dispatch.Dispatch.{Dispatch as Held_dispatch}
 use Rattle.aom_frames.specs.declared.dispatch.Dispatch.TheVariants.{Answered as One_answered, Asks as One_asks, Main, MainLeft, Object as Of_one, ObjectLeft as One_left, Root as End_of_run, Server as One_served}
@@ -103,17 +106,43 @@ operations_alike : (is : List Held_item) (js : List Item) → SameItems is js �
 operations_alike = by_items (λ is js. operations_in is ≡ operations js) refl (λ i j is js same _ e.
     by_item (λ i j. operations_in (i ∷ is) ≡ operations (j ∷ js)) (λ n. e) (λ m n k w _ _. ap suc e) e i j same)
 
+-- what goes has a number below those of messages, or none
+abbrev IsSmall : ℕ → Type 0
+IsSmall n = (n ≡ null) ⊎ (n < 4096)
+
+either_small : (b : Bool) (x y : ℕ) → IsSmall x → IsSmall y → IsSmall (cond b x y)
+either_small true x y small other = small
+either_small false x y small other = other
+
+goes_small : (ms : List Held_task) (us : List Task) → SameTasks ms us → (k : ℕ) → IsSmall (going_in ms k)
+goes_small = by_tasks (λ ms us. (k : ℕ) → IsSmall (going_in ms k)) (λ k. inl refl) (λ m u ms us same _ e k.
+    let below : (x : ℕ) → IsSmall x → IsSmall (cond (length ms == k) x (going_in ms k)) = λ x small. either_small (length ms == k) x (going_in ms k) small (e k) in
+    by_task (λ m u. IsSmall (cond (length ms == k) (going_of m) (going_in ms k))) (record {
+      runs = λ f fr same. below null (inl refl);
+      trapped = below null (inl refl);
+      destroys = λ x small. below x (inr small);
+      closes = below null (inl refl);
+      unwinds = λ code c same. below null (inl refl);
+      ends = λ x d same. below null (inl refl);
+    }) m u same)
+
+-- so it is no message
+goes_no_message : (p : Image) (t : Typing) (m : Parts) (s : State) → WellTyped p t s → Agrees p m s → GoesNoMessage s.cells
+goes_no_message p t m s typed agrees k o there =
+    let lives = held_lives s.cells (Going k) o typed.good.tidy there in
+    let shown : value m (Going k) ≡ o.name = subst (λ x. Shows (value m (Going k)) None x) there (agrees.values (Going k)) in
+    ⊎_elim (λ is. absurd (none-some o (sym (null_unnamed p m s agrees) ∙ ap (named s.cells) (sym is ∙ shown) ∙ lives)))
+    (λ small. object_there p m s agrees o lives (subst (λ n. n < 4096) shown small)) (goes_small m.stack.tasks s.tasks agrees.tasks k)
+
 -- the machine's rank is its state's
 pub same_rank : (p : Image) (t : Typing) (m : Parts) (s : State) → WellTyped p t s → Agrees p m s → rank_in p m ≡ rank p s
 same_rank p t m s typed agrees =
     let gone = destructions_alike m.stack.tasks s.tasks agrees.tasks in
     let cells = agrees.cells.count in
-    let messages = agrees.services.messages.count in
-    let live = all_counted s.cells in
-    let all = cells_stand_or_go p t s typed in
-    let stand : (count m.cells + count_messages m.messages) - destructions (map ranked m.stack.tasks) ≡ standing s.cells = omega (arith, gone, cells, messages, live, all) in
+    let all = cells_stand_or_go p t s typed (goes_no_message p t m s typed agrees) in
+    let stand : count m.cells - destructions (map ranked m.stack.tasks) ≡ standing s.cells = omega (arith, gone, cells, all) in
     let run = operations_alike m.entries.items s.items agrees.entries in
-    ap (λ k. k + (((count m.cells + count_messages m.messages) - destructions (map ranked m.stack.tasks)) + operations_in m.entries.items) * cell_rank p) (tasks_alike p m.stack.tasks s.tasks agrees.tasks)
+    ap (λ k. k + ((count m.cells - destructions (map ranked m.stack.tasks)) + operations_in m.entries.items) * cell_rank p) (tasks_alike p m.stack.tasks s.tasks agrees.tasks)
     ∙ ap (λ k. tasks_rank p s.tasks + (k + operations_in m.entries.items) * cell_rank p) stand
     ∙ ap (λ k. tasks_rank p s.tasks + (standing s.cells + k) * cell_rank p) run
 

@@ -2,7 +2,6 @@
 use Rattle.std.specs.Prelude.{ℕ, ◌+◌, ◌-◌, ◌*◌, suc, List, [], ◌∷◌, map}
 use Rattle.aom_cells.specs.Heap.{count}
 use Rattle.aom_image.specs.Image.{Image}
-use Rattle.aom_messages.specs.Store.{count as count_messages}
 use Rattle.aom_parts.specs.declared.parts.Parts.{Parts}
 use Rattle.aom_sound.specs.State.{Static, Task, Run, Trapped, Destroy, Closing, Unwind, Dispatched}
 use Rattle.aom_frames.specs.declared.task.Task.{Task as Held_task}
@@ -30,9 +29,9 @@ operations_in (Holds_object n ∷ is) = operations_in is
 operations_in (Holds_operation m n ∷ is) = suc (operations_in is)
 operations_in (Is_mark ∷ is) = operations_in is
 
--- so many cells and messages live, and those that go have paid; an operation pays for its run
+-- so many cells live, and those that go have paid; an operation pays for its run, and a message for nothing
 abbrev pub rank_of : Image → List Held_task → List Held_item → ℕ → ℕ
 rank_of p tasks items cells = tasks_rank p (map ranked tasks) + ((cells - destructions (map ranked tasks)) + operations_in items) * cell_rank p
 
 abbrev pub rank_in : Image → Parts → ℕ
-rank_in p m = rank_of p m.stack.tasks m.entries.items (count m.cells + count_messages m.messages)
+rank_in p m = rank_of p m.stack.tasks m.entries.items (count m.cells)

@@ -14,7 +14,7 @@ use Rattle.aom_sound.proofs.Services.{named_served}
 use Rattle.aom_sound.proofs.Storing.{named_set_word, rerequested_alike, resessioned_alike}
 use Rattle.aom_sound.proofs.Unslotting.{each_unslotted_alike}
 use Rattle.aom_sound.specs.Clients.{count_messages, each_unslotted}
-use Rattle.aom_sound.specs.Places.{Cell, Object, Place, Request, Service, Tidy, count_cells, held, moved, named, Register, same_place, set_request, set_service, set_session, set_word_field, with_new, without, word_field}
+use Rattle.aom_sound.specs.Places.{Cell, Object, Place, Request, Service, Tidy, held, moved, named, Register, same_place, set_request, set_service, set_session, set_word_field, with_new, without, word_field}
 use Rattle.aom_sound.specs.Servers.{all_unslotted}
 use Rattle.aom_sound.specs.State.{Inside}
 use Rattle.aom_parts.specs.Messages.{SameMessages, is_a_message}
@@ -24,15 +24,6 @@ use Rattle.aom_parts.proofs.Cells.{words_without}
 use Rattle.aom_parts.proofs.CellWords.{words_moved, words_other, words_unnamed}
 use Rattle.aom_parts.proofs.Sessions.{words_opened}
 use Rattle.aom_parts.proofs.Unslotted.{each_words}
-
--- what is no object is a message
-pub all_counted : (cs : List Cell) → count_cells cs + count_messages cs ≡ length cs
-all_counted [] = refl
-all_counted (c ∷ cs) = go (is_object c.object.thing) (all_counted cs)
-  where
-    go : (b : Bool) → count_cells cs + count_messages cs ≡ length cs → cond b (suc (count_cells cs)) (count_cells cs) + cond b (count_messages cs) (suc (count_messages cs)) ≡ suc (length cs)
-    go true e = omega (arith, e)
-    go false e = omega (arith, e)
 
 -- ---- how many there are
 

@@ -1,5 +1,6 @@
 pub mod Altering
 pub mod Maps
+pub mod Owned
 pub mod Counts
 pub mod Services
 pub mod Sifted

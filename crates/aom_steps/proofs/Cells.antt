@@ -6,7 +6,8 @@ use Rattle.aom_sound.specs.Places.{Cell, Elsewhere, Going, Object, Place, Regist
 use Rattle.aom_sound.specs.State.{Accepts, Accept_left, An_object, AtRoot, Dispatch, Home, Inside, Item, Of_server, Static, field_place}
 use Rattle.aom_sound.specs.Calls.{accepted_cells, below_top}
 use Rattle.aom_sound.specs.Clients.{each_unslotted}
-use Rattle.aom_sound.specs.Servers.{all_unslotted, is_queue_of, opened, reserved, without_queue}
+use Rattle.aom_sound.specs.Servers.{all_unslotted, opened, reserved, without_queue}
+use Rattle.aom_shape.specs.Kinds.{is_object}
 use Rattle.aom_sound.specs.Words.{stored}
 use Rattle.aom_sound.proofs.Maps.{same_place-true}
 use Rattle.aom_steps.specs.Ranks.{is_going, standing, operations}
@@ -15,8 +16,12 @@ use Rattle.aom_sound.specs.Natives.{resessioned}
 -- what moves from a place of a cell that stood
 pub standing_moved : (from to : Place) (cs : List Cell) → is_going from ≡ false → standing (moved from to cs) ≤ standing cs
 standing_moved from to [] e = omega arith
-standing_moved from to (c ∷ cs) e = here (same_place c.owner from) refl (standing_moved from to cs e)
+standing_moved from to (c ∷ cs) e = whole (is_object c.object.thing) (here (same_place c.owner from) refl (standing_moved from to cs e)) (standing_moved from to cs e)
   where
+    whole : (b : Bool) {x y k j : ℕ} → x ≤ y → k ≤ j → cond b x k ≤ cond b y j
+    whole true le lt = le
+    whole false le lt = lt
+
     some : (b : Bool) (x y : ℕ) → x ≤ y → cond b x (suc x) ≤ suc y
     some true x y le = omega (arith, le)
     some false x y le = omega (arith, le)
@@ -35,9 +40,9 @@ pub standing_passes : (d i e j : ℕ) (cs : List Cell) → standing (moved (Regi
 standing_passes d i e j cs = standing_moved (Register d i) (Register e j) cs refl
 
 -- what is there begins to go
-pub standing_goes : (from : Place) (k : ℕ) (o : Object) (cs : List Cell) → is_going from ≡ false → held cs from ≡ Some o → suc (standing (moved from (Going k) cs)) ≤ standing cs
-standing_goes from k o [] e there = cc
-standing_goes from k o (c ∷ cs) e there = grind (arith, standing_moved from (Going k) cs e, standing_goes from k o cs e, same_place-true c.owner from)
+pub standing_goes : (from : Place) (k : ℕ) (o : Object) (cs : List Cell) → is_going from ≡ false → is_object o.thing ≡ true → held cs from ≡ Some o → suc (standing (moved from (Going k) cs)) ≤ standing cs
+standing_goes from k o [] e object there = cc
+standing_goes from k o (c ∷ cs) e object there = grind (arith, standing_moved from (Going k) cs e, standing_goes from k o cs e object, same_place-true c.owner from)
 
 pub standing_without : (from : Place) (cs : List Cell) → standing (without from cs) ≤ standing cs
 standing_without from [] = omega arith
@@ -48,28 +53,28 @@ standing_new name t words owner cs = grind arith
 
 written_same : (n w : ℕ) (v : ℤ) (cs : List Cell) → standing (set_word_field n w v cs) ≡ standing cs
 written_same n w v [] = refl
-written_same n w v (c ∷ cs) = ap (λ x. cond (is_going c.owner) x (suc x)) (written_same n w v cs)
+written_same n w v (c ∷ cs) = ap (λ x. cond (is_object c.object.thing) (cond (is_going c.owner) x (suc x)) x) (written_same n w v cs)
 
 pub standing_stored : (cs : List Cell) (h : Home) (w : ℕ) (v : ℤ) → standing (stored cs h w v) ≡ standing cs
 standing_stored cs h w v = grind (arith, written_same)
 
 asked_same : (n : ℕ) (r : Option Request) (cs : List Cell) → standing (set_request n r cs) ≡ standing cs
 asked_same n r [] = refl
-asked_same n r (c ∷ cs) = ap (λ x. cond (is_going c.owner) x (suc x)) (asked_same n r cs)
+asked_same n r (c ∷ cs) = ap (λ x. cond (is_object c.object.thing) (cond (is_going c.owner) x (suc x)) x) (asked_same n r cs)
 
 pub standing_asked : (cs : List Cell) (h : Home) (r : Option Request) → standing (rerequested cs h r) ≡ standing cs
 standing_asked cs h r = grind (arith, asked_same)
 
 opened_same : (n : ℕ) (b : Bool) (cs : List Cell) → standing (set_session n b cs) ≡ standing cs
 opened_same n b [] = refl
-opened_same n b (c ∷ cs) = ap (λ x. cond (is_going c.owner) x (suc x)) (opened_same n b cs)
+opened_same n b (c ∷ cs) = ap (λ x. cond (is_object c.object.thing) (cond (is_going c.owner) x (suc x)) x) (opened_same n b cs)
 
 pub standing_opened : (cs : List Cell) (h : Home) (b : Bool) → standing (resessioned cs h b) ≡ standing cs
 standing_opened cs h b = grind (arith, opened_same)
 
 served_same : (n : ℕ) (v : Service) (cs : List Cell) → standing (set_service n v cs) ≡ standing cs
 served_same n v [] = refl
-served_same n v (c ∷ cs) = ap (λ x. cond (is_going c.owner) x (suc x)) (served_same n v cs)
+served_same n v (c ∷ cs) = ap (λ x. cond (is_object c.object.thing) (cond (is_going c.owner) x (suc x)) x) (served_same n v cs)
 
 pub standing_reserved : (f : Service → Service) (n : ℕ) (cs : List Cell) → standing (reserved f n cs) ≡ standing cs
 standing_reserved f n cs = served_same n (f (service_of cs n)) cs
@@ -86,19 +91,11 @@ standing_accepted _ e i cs = omega arith
 
 standing_unqueued : (n : ℕ) (cs : List Cell) → standing (without_queue n cs) ≤ standing cs
 standing_unqueued n [] = omega arith
-standing_unqueued n (c ∷ cs) = here (is_queue_of n c.owner) (is_going c.owner) refl (standing_unqueued n cs)
-  where
-    here :
-        (b g : Bool) → is_going c.owner ≡ g → standing (without_queue n cs) ≤ standing cs →
-        standing (cond b (without_queue n cs) (c ∷ without_queue n cs)) ≤ cond g (standing cs) (suc (standing cs))
-    here true true e le = le
-    here true false e le = omega (arith, le)
-    here false true e le = rw e le
-    here false false e le = rw e (omega (arith, le))
+standing_unqueued n (c ∷ cs) = grind (arith, standing_unqueued n cs)
 
 unslotted_same : (client : ℕ) (cs : List Cell) → standing (all_unslotted client cs) ≡ standing cs
 unslotted_same client [] = refl
-unslotted_same client (c ∷ cs) = ap (λ x. cond (is_going c.owner) x (suc x)) (unslotted_same client cs)
+unslotted_same client (c ∷ cs) = ap (λ x. cond (is_object c.object.thing) (cond (is_going c.owner) x (suc x)) x) (unslotted_same client cs)
 
 standing_unslotted : (clients : List ℕ) (cs : List Cell) → standing (each_unslotted clients cs) ≡ standing cs
 standing_unslotted [] cs = refl

@@ -4,7 +4,7 @@ use Rattle.std.specs.Prelude.{not}
 use Rattle.aom_image.specs.Image.{Image}
 use Rattle.aom_image.specs.Views.{arguments_of, is_quiet, method_at, method_class, method_role}
 use Rattle.aom_instructions.specs.declared.instr.Instr.{Instr}
-use Rattle.aom_instructions.specs.declared.instr.Instr.TheVariants.{Call, Cancel, NewOrLeave, Next, Return, Trap}
+use Rattle.aom_instructions.specs.declared.instr.Instr.TheVariants.{Call, Cancel, Delete, NewOrLeave, Next, Return, Trap}
 use Rattle.aom_instructions.specs.declared.instr.Target.{Target}
 use Rattle.aom_image.specs.declared.method.Gives.{Gives}
 use Rattle.aom_image.specs.declared.method.Method.{Method as Method_declared}
@@ -41,6 +41,7 @@ use Rattle.aom_steps.proofs.Worths.{passed_less, to_trap_less}
 use Rattle.aom_steps.proofs.Sums.{one_less, one_more, scaled, scaled_le}
 use Rattle.aom_image.proofs.Given.{false_given}
 use Rattle.std.proofs.lemmas.Bool.{true≢false}
+use Rattle.aom_shape.specs.Kinds.{is_object}
 use Rattle.aom_sound.specs.Enlisted.{begun_cells, cancel_method, cancelling, ended_cells, on_request, own_request}
 
 -- ---- an instruction
@@ -207,23 +208,23 @@ module _ (p : Image) (linked : IsLinked p) (c : Choice) (s : State) (fr : Frame)
 
     -- an object goes over the method
     deletes :
-        (i : Instr) → slice_get d.code fr.place ≡ Some i → loop_in (Some i) ≡ None → (o : Object) (a : ℕ) (words : List (Option ℤ)) → held s.cells (here fr ts s a) ≡ Some o →
+        (i : Instr) → slice_get d.code fr.place ≡ Some i → loop_in (Some i) ≡ None → (o : Object) (a : ℕ) (words : List (Option ℤ)) → held s.cells (here fr ts s a) ≡ Some o → is_object o.thing ≡ true →
         rank p (applied p fr ts s (Destroys o a words)) < before
-    deletes i stands plain o a words there =
+    deletes i stands plain o a words there object =
         let less = paid fr.counters (suc fr.place) (straight i stands plain) in
         let destruction = begun_paid p linked o (length s.items) (Run (with_words fr words) ∷ ts) in
-        let goes = standing_goes (here fr ts s a) (length (Run fr ∷ ts)) o s.cells refl there in
+        let goes = standing_goes (here fr ts s a) (length (Run fr ∷ ts)) o s.cells refl object there in
         let cells =
         one_less (standing (moved (here fr ts s a) (Going (length (Run fr ∷ ts))) s.cells) + operations s.items) (standing s.cells + operations s.items) (cell_rank p) (omega (arith, goes)) in
         omega (arith, less, destruction, cells, price_some p fr.method)
 
     deletes_last :
-        (i : Instr) → slice_get d.code fr.place ≡ Some i → loop_in (Some i) ≡ None → (o : Object) → s.items ≡ An_object ∷ below_top s.items → held s.cells (top_place s.items) ≡ Some o →
+        (i : Instr) → slice_get d.code fr.place ≡ Some i → loop_in (Some i) ≡ None → (o : Object) → s.items ≡ An_object ∷ below_top s.items → held s.cells (top_place s.items) ≡ Some o → is_object o.thing ≡ true →
         rank p (applied p fr ts s (Destroys_last o)) < before
-    deletes_last i stands plain o top there =
+    deletes_last i stands plain o top there object =
         let less = paid fr.counters (suc fr.place) (straight i stands plain) in
         let destruction = begun_paid p linked o (length (below_top s.items)) (Run fr ∷ ts) in
-        let goes = standing_goes (top_place s.items) (length (Run fr ∷ ts)) o s.cells refl there in
+        let goes = standing_goes (top_place s.items) (length (Run fr ∷ ts)) o s.cells refl object there in
         let same : operations s.items ≡ operations (below_top s.items) = ap operations top in
         let cells =
         one_less (standing (moved (top_place s.items) (Going (length (Run fr ∷ ts))) s.cells) + operations (below_top s.items)) (standing s.cells + operations s.items) (cell_rank p)
@@ -251,17 +252,18 @@ module _ (p : Image) (linked : IsLinked p) (c : Choice) (s : State) (fr : Frame)
     pub falls :
         AllUndo p s.items → (i : Instr) → slice_get d.code fr.place ≡ Some i → Ruled i → (e : Effect) → Fits p c fr ts s i e →
         ((g : Gives) (a : ℕ) → slice_get d.code fr.place ≡ Some (Return a) → rank p (returned p fr ts (record s { cells = ended_cells p fr s.cells }) g a ts) < before) →
+        ((a : ℕ) (o : Object) → i ≡ Delete a → held s.cells (here fr ts s a) ≡ Some o → is_object o.thing ≡ true) → ((o : Object) → held s.cells (top_place s.items) ≡ Some o → is_object o.thing ≡ true) →
         ((m : ℕ) → slice_get d.code fr.place ≡ Some Cancel → cancel_method p fr.home ≡ Some m → (m < fr.method) × (is_quiet p m ≡ true)) → rank p (applied p fr ts s e) < before
-    falls undos i stands r (Goes_on ch) f returns lower = goes_after i stands f.0 r ch.update f.1
-    falls undos i stands r (Jumps to) f returns lower = to_jump i stands to f
-    falls undos i stands r (Counts depth n) f returns lower = counts i stands depth n f
-    falls undos i stands r (Repeats depth n to) f returns lower =
+    falls undos i stands r (Goes_on ch) f returns plain lasts lower = goes_after i stands f.0 r ch.update f.1
+    falls undos i stands r (Jumps to) f returns plain lasts lower = to_jump i stands to f
+    falls undos i stands r (Counts depth n) f returns plain lasts lower = counts i stands depth n f
+    falls undos i stands r (Repeats depth n to) f returns plain lasts lower =
         subst (λ k. rank p (applied p fr ts s (Repeats depth k to)) < before) (sym f.2) (repeats depth to f.1 (stands ∙ ap (λ x. Some x) f.0) (f.3 ∙ f.2))
-    falls undos i stands r (Calls target m first) f returns lower = calls target m first f.0 (stands ∙ ap (λ x. Some x) f.1) (called_quiet target m first f.0 (subst Ruled f.1 r))
-    falls undos i stands r (Cancels m) f returns lower = let here = stands ∙ ap (λ x. Some x) f.0 in cancels m here (lower m here f.1)
-    falls undos i stands r (Sets_trap target m first) f returns lower = traps target m first f.0 (stands ∙ ap (λ x. Some x) f.1) (loud_by (is_quiet p fr.method) (subst Ruled f.1 r).0)
-    falls undos i stands r (Returns g a) f returns lower = returns g a (stands ∙ ap (λ x. Some x) f.0)
-    falls undos i stands r (Leaves code u) f returns lower = leaves_on i stands (straight_by p c fr ts s i (Leaves code u) f) (loud_leaving i code f.1 r) (count_after u) (more u)
-    falls undos i stands r (Destroys o a words) f returns lower = deletes i stands (straight_by p c fr ts s i (Destroys o a words) f) o a words f.1
-    falls undos i stands r (Destroys_last o) f returns lower = deletes_last i stands (straight_by p c fr ts s i (Destroys_last o) f) o f.1 f.2
-    falls undos i stands r (Operates m w) f returns lower = operates i stands (straight_by p c fr ts s i (Operates m w) f) m w undos f.1
+    falls undos i stands r (Calls target m first) f returns plain lasts lower = calls target m first f.0 (stands ∙ ap (λ x. Some x) f.1) (called_quiet target m first f.0 (subst Ruled f.1 r))
+    falls undos i stands r (Cancels m) f returns plain lasts lower = let here = stands ∙ ap (λ x. Some x) f.0 in cancels m here (lower m here f.1)
+    falls undos i stands r (Sets_trap target m first) f returns plain lasts lower = traps target m first f.0 (stands ∙ ap (λ x. Some x) f.1) (loud_by (is_quiet p fr.method) (subst Ruled f.1 r).0)
+    falls undos i stands r (Returns g a) f returns plain lasts lower = returns g a (stands ∙ ap (λ x. Some x) f.0)
+    falls undos i stands r (Leaves code u) f returns plain lasts lower = leaves_on i stands (straight_by p c fr ts s i (Leaves code u) f) (loud_leaving i code f.1 r) (count_after u) (more u)
+    falls undos i stands r (Destroys o a words) f returns plain lasts lower = deletes i stands (straight_by p c fr ts s i (Destroys o a words) f) o a words f.1 (plain a o f.0 f.1)
+    falls undos i stands r (Destroys_last o) f returns plain lasts lower = deletes_last i stands (straight_by p c fr ts s i (Destroys_last o) f) o f.1 f.2 (lasts o f.2)
+    falls undos i stands r (Operates m w) f returns plain lasts lower = operates i stands (straight_by p c fr ts s i (Operates m w) f) m w undos f.1

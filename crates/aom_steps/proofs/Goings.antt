@@ -2,16 +2,20 @@
 use Rattle.std.proofs.Common.{◌≡◌, ◌≤◌, ◌+◌, ◌∙◌, ℕ, suc, Bool, true, false, cond, List, [], ◌∷◌, length, Option, Some, None, refl, sym, ap, arith, subst}
 use Rattle.aom_image.proofs.Given.{false_given, none_given}
 use Rattle.std.specs.Prelude.{◌==◌, ◌&&◌, ◌||◌}
-use Rattle.std.proofs.lemmas.Bool.{eqb-true, ne_eqb}
+use Rattle.std.proofs.lemmas.Bool.{eqb-true, false≢true, ne_eqb}
+use Rattle.std.proofs.lemmas.Option.{none-some}
+use Rattle.aom_shape.specs.Kinds.{is_object}
 use Rattle.aom_image.specs.Image.{Image}
 use Rattle.aom_rules.specs.Typing.{Typing}
 use Rattle.aom_shape.specs.declared.kind.Age.TheVariants.{Ready}
 use Rattle.aom_shape.specs.declared.kind.Kind.TheVariants.{Null, Own}
 use Rattle.aom_sound.proofs.Maps.{held_without, same_place-true, same_place_refl, tidy_without}
+use Rattle.aom_sound.specs.Clients.{count_messages}
 use Rattle.aom_sound.specs.Claims.{Dispatching, Dying, Ending, Layer, Mark, Unwinding, Method, claim, declared, tasks_of}
-use Rattle.aom_sound.specs.Places.{Cell, Going, Object, Place, Sight, Tidy, held, same_place, seen, without}
+use Rattle.aom_sound.specs.Places.{Cell, Going, Object, Place, Sight, Tidy, count_cells, held, same_place, seen, without}
 use Rattle.aom_sound.specs.State.{State}
 use Rattle.aom_sound.specs.WellTyped.{Back, Caught, Fits, Gone, Now, Returns, Stack, WellTyped, Leaves}
+use Rattle.aom_steps.specs.RankLaws.{GoesNoMessage}
 use Rattle.aom_steps.specs.Ranks.{destructions, is_going, standing}
 
 -- ---- cells
@@ -19,22 +23,27 @@ use Rattle.aom_steps.specs.Ranks.{destructions, is_going, standing}
 pub none_there : (c : Cell) (cs : List Cell) (g : Place) → held (c ∷ cs) g ≡ None → (same_place c.owner g ≡ false) × (held cs g ≡ None)
 none_there c cs g e = false_given (λ b. cond b (Some c.object) (held cs g) ≡ None) (same_place c.owner g) e (λ e. cc) (λ s e. (s, e))
 
-all_stand : (cs : List Cell) → ((k : ℕ) → held cs (Going k) ≡ None) → standing cs ≡ length cs
+-- the cells that do not go, messages too
+abbrev staying : List Cell → ℕ
+staying [] = 0
+staying (c ∷ cs) = cond (is_going c.owner) (staying cs) (suc (staying cs))
+
+all_stand : (cs : List Cell) → ((k : ℕ) → held cs (Going k) ≡ None) → staying cs ≡ length cs
 all_stand [] none = refl
 all_stand (c ∷ cs) none = here c.owner refl (all_stand cs (λ k. (none_there c cs (Going k) (none k)).1))
   where
-    here : (r : Place) → c.owner ≡ r → standing cs ≡ length cs → cond (is_going r) (standing cs) (suc (standing cs)) ≡ suc (length cs)
+    here : (r : Place) → c.owner ≡ r → staying cs ≡ length cs → cond (is_going r) (staying cs) (suc (staying cs)) ≡ suc (length cs)
     here (Going k) e ih = let clash : true ≡ false = sym (ap (λ r. same_place r (Going k)) e ∙ same_place_refl (Going k)) ∙ (none_there c cs (Going k) (none k)).0 in cc
     here _ e ih = ap suc ih
 
-still_stand : (k : ℕ) (cs : List Cell) → standing (without (Going k) cs) ≡ standing cs
+still_stand : (k : ℕ) (cs : List Cell) → staying (without (Going k) cs) ≡ staying cs
 still_stand k [] = refl
 still_stand k (c ∷ cs) = here (same_place c.owner (Going k)) refl (still_stand k cs)
   where
     here :
-        (b : Bool) → same_place c.owner (Going k) ≡ b → standing (without (Going k) cs) ≡ standing cs →
-        standing (cond b (without (Going k) cs) (c ∷ without (Going k) cs)) ≡ cond (is_going c.owner) (standing cs) (suc (standing cs))
-    here true e ih = ih ∙ ap (λ b. cond b (standing cs) (suc (standing cs))) (sym (ap is_going (same_place-true c.owner (Going k) e)))
+        (b : Bool) → same_place c.owner (Going k) ≡ b → staying (without (Going k) cs) ≡ staying cs →
+        staying (cond b (without (Going k) cs) (c ∷ without (Going k) cs)) ≡ cond (is_going c.owner) (staying cs) (suc (staying cs))
+    here true e ih = ih ∙ ap (λ b. cond b (staying cs) (suc (staying cs))) (sym (ap is_going (same_place-true c.owner (Going k) e)))
     here false e ih = ap (λ n. cond (is_going c.owner) n (suc n)) ih
 
 none_without : (g : Place) (cs : List Cell) → held cs g ≡ None → length (without g cs) ≡ length cs
@@ -90,7 +99,7 @@ held_below cs n (Ending o left ∷ ls) le h = held_below cs n ls (omega (arith, 
 held_below cs n (Dying o ∷ ls) le h = (other_depth cs n (length (tasks_of ls)) (ne_eqb n (length (tasks_of ls)) (λ e. absurd (omega (arith, le, e)))) ∙ h.0, held_below cs n ls (omega (arith, le)) h.1)
 held_below cs n (Dispatching d seats ∷ ls) le h = held_below cs n ls (omega (arith, le)) h
 
-counted_cells : (ls : List Layer) (cs : List Cell) → Tidy cs → DyingHeld cs ls → ((k : ℕ) → goes_at ls k ≡ false → held cs (Going k) ≡ None) → standing cs + destructions (tasks_of ls) ≡ length cs
+counted_cells : (ls : List Layer) (cs : List Cell) → Tidy cs → DyingHeld cs ls → ((k : ℕ) → goes_at ls k ≡ false → held cs (Going k) ≡ None) → staying cs + destructions (tasks_of ls) ≡ length cs
 counted_cells [] cs t h none = omega (arith, all_stand cs (λ k. none k refl))
 counted_cells (Method fr sh ∷ ls) cs t h none = counted_cells ls cs t h none
 counted_cells (Mark gv ∷ ls) cs t h none = counted_cells ls cs t h none
@@ -132,8 +141,38 @@ claims_none p cs (Dying o ∷ ls) k e =
 pub nothing_of_null : (p : Image) (h : Sight) (o : Option Object) → Fits p h o Null → o ≡ None
 nothing_of_null p h o f = none_given (λ x. Fits p h x Null) o f (λ x fits. fits) (λ none fits. none)
 
-pub cells_stand_or_go : (p : Image) (t : Typing) (s : State) → WellTyped p t s → standing s.cells + destructions s.tasks ≡ length s.cells
-cells_stand_or_go p t s w =
-    subst (λ ts. standing s.cells + destructions ts ≡ length s.cells) (sym w.tasks)
+all_told : (p : Image) (t : Typing) (s : State) → WellTyped p t s → staying s.cells + destructions s.tasks ≡ length s.cells
+all_told p t s w =
+    subst (λ ts. staying s.cells + destructions ts ≡ length s.cells) (sym w.tasks)
     (counted_cells w.layers s.cells w.good.tidy (stack_held p t s.cells Now w.layers w.good.stack)
     (λ k e. nothing_of_null p (seen s.cells) (held s.cells (Going k)) (subst (λ x. Fits p (seen s.cells) (held s.cells (Going k)) x) (claims_none p s.cells w.layers k e) (w.good.fits (Going k)))))
+
+-- ---- and what of them is an object
+
+objects_and_messages : (cs : List Cell) → count_cells cs + count_messages cs ≡ length cs
+objects_and_messages [] = refl
+objects_and_messages (c ∷ cs) = grind (arith, objects_and_messages cs)
+
+below_first_cell : (c : Cell) (cs : List Cell) → Tidy (c ∷ cs) → GoesNoMessage (c ∷ cs) → GoesNoMessage cs
+below_first_cell c cs t plain k o e = plain k o (go (same_place c.owner (Going k)) refl)
+  where
+    go : (b : Bool) → same_place c.owner (Going k) ≡ b → cond b (Some c.object) (held cs (Going k)) ≡ Some o
+    go true is = absurd (none-some o (sym t.0 ∙ ap (λ q. held cs q) (same_place-true c.owner (Going k) is) ∙ e))
+    go false other = e
+
+-- where no message goes those stay that stand, and all messages
+stays_or_stands : (cs : List Cell) → Tidy cs → GoesNoMessage cs → staying cs ≡ standing cs + count_messages cs
+stays_or_stands [] t plain = refl
+stays_or_stands (c ∷ cs) t plain = go c.owner refl (is_object c.object.thing) refl (stays_or_stands cs t.2 (below_first_cell c cs t plain))
+  where
+    go :
+        (r : Place) → c.owner ≡ r → (b : Bool) → is_object c.object.thing ≡ b → staying cs ≡ standing cs + count_messages cs →
+        cond (is_going r) (staying cs) (suc (staying cs)) ≡ cond b (cond (is_going r) (standing cs) (suc (standing cs))) (standing cs) + cond b (count_messages cs) (suc (count_messages cs))
+    go (Going k) at false e ih =
+        absurd (false≢true (sym e ∙ plain k c.object (ap (λ b. cond b (Some c.object) (held cs (Going k))) (ap (λ q. same_place q (Going k)) at ∙ same_place_refl (Going k)))))
+    go (Going k) at true e ih = ih
+    go _ at true e ih = omega (arith, ih)
+    go _ at false e ih = omega (arith, ih)
+
+pub cells_stand_or_go : (p : Image) (t : Typing) (s : State) → WellTyped p t s → GoesNoMessage s.cells → standing s.cells + destructions s.tasks ≡ count_cells s.cells
+cells_stand_or_go p t s w plain = omega (arith, all_told p t s w, stays_or_stands s.cells w.good.tidy plain, objects_and_messages s.cells)

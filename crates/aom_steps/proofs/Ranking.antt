@@ -19,7 +19,11 @@ use Rattle.aom_rules.specs.Typing.{IsTyped, Typing}
 use Rattle.aom_sound.specs.Calls.{called, result_register, returned}
 use Rattle.aom_sound.specs.Cleanup.{ended_by, operation_frame}
 use Rattle.aom_sound.specs.Calls.{ended_well}
-use Rattle.aom_sound.specs.Effects.{Effect, applied}
+use Rattle.aom_sound.specs.Effects.{Effect, applied, needs}
+use Rattle.aom_sound.proofs.Owned.{entry_object, root_object, session_object}
+use Rattle.aom_shape.specs.Kinds.{is_object}
+use Rattle.aom_sound.specs.Objects.{is_no_message}
+use Rattle.aom_sound.specs.Words.{here}
 use Rattle.aom_sound.specs.Steps.{Acts, Arrives, Clears, Comes_out, Empties, Ends, Fits, IsStill, Move, Rests, Undoes, Vanishes}
 use Rattle.aom_sound.proofs.Moving.{steps_are_moves}
 use Rattle.aom_sound.specs.Claims.{Layer, Mark, Method, tasks_of}
@@ -94,15 +98,21 @@ module _ (p : Image) (t : Typing) (linked : IsLinked p) (typed : IsTyped p t) (c
   total ts = tasks_rank p ts + (standing s.cells + operations s.items) * cell_rank p
 
   abbrev ActsLower : Frame → List Task → Type 0
-  ActsLower fr ts = (i : Instr) (e : Effect) → instr_at p fr.method fr.place ≡ Some i → Fits p c fr ts (counted p s) i e → rank p (applied p fr ts (counted p s) e) < total (Run fr ∷ ts)
+  ActsLower fr ts = (i : Instr) (e : Effect) → instr_at p fr.method fr.place ≡ Some i → AllTrue (needs p c fr ts (counted p s) i) → Fits p c fr ts (counted p s) i e → rank p (applied p fr ts (counted p s) e) < total (Run fr ∷ ts)
+
+  -- what a register owns that is deleted
+  plain : (fr : Frame) (ts : List Task) (a : ℕ) (o : Object) → is_no_message (held s.cells (here fr ts s a)) ≡ true → held s.cells (here fr ts s a) ≡ Some o → is_object o.thing ≡ true
+  plain fr ts a o met owns = sym (ap is_no_message owns) ∙ met
 
   acts_there : (fr : Frame) (sh : Shape) (ls : List Layer) → Good p t s.cells (Method fr sh ∷ ls) → ActsLower fr (tasks_of ls)
-  acts_there fr sh ls good i e there fits =
+  acts_there fr sh ls good i e there met fits =
       let x = typed.each fr.method fr.place sh good.stack.0 in
       let m = of_method p fr.method fr.place i there in
       let is : x.instr ≡ i = same_Some x.instr i (sym x.stands ∙ there) in
       falls p linked c (counted p s) fr (tasks_of ls) m.0 m.1 sh w.undos i m.2 (subst (λ j. AllTrue (rule_needs p fr.method fr.place sh j)) is x.needs) e fits
-      (λ g a stands. returns p t (counted p s) fr sh ls good.stack (ends p linked c (counted p s) fr (tasks_of ls) m.0 m.1 a stands) g a) (λ k stands e. cancels_below p linked fr m.0 m.1 good.stack.1.holder k stands e)
+      (λ g a stands. returns p t (counted p s) fr sh ls good.stack (ends p linked c (counted p s) fr (tasks_of ls) m.0 m.1 a stands) g a)
+      (λ a o delete owns. plain fr (tasks_of ls) a o (subst (λ j. AllTrue (needs p c fr (tasks_of ls) (counted p s) j)) delete met).1.0 owns) (λ o owns. entry_object p t s w o _ owns)
+      (λ k stands e. cancels_below p linked fr m.0 m.1 good.stack.1.holder k stands e)
 
   acts : (ls : List Layer) → Good p t s.cells ls → (fr : Frame) (ts : List Task) → tasks_of ls ≡ Run fr ∷ ts → ActsLower fr ts
   acts ls good fr ts at = method_layer (Good p t s.cells) fr ts ls at good (λ sh below under there. subst (ActsLower fr) under (acts_there fr sh below there))
@@ -126,7 +136,8 @@ module _ (p : Image) (t : Typing) (linked : IsLinked p) (typed : IsTyped p t) (c
       let found = found_first s.cells o.name (service_of s.cells o.name).sessions x e in
       let over = Closing ∷ Destroy ∷ ts in
       let destruction = begun_paid p linked x.object (length s.items) over in
-      let goes = standing_goes x.place (length over) x.object s.cells (ap is_going found.place) found.there in
+      let object = session_object p o.name found.client t s w x.object (ap (λ q. held s.cells q) (sym found.place) ∙ found.there) in
+      let goes = standing_goes x.place (length over) x.object s.cells (ap is_going found.place) object found.there in
       let cells = one_less (standing (moved x.place (Going (length over)) s.cells) + operations s.items) (standing s.cells + operations s.items) (cell_rank p) (omega (arith, goes)) in
       omega (arith, destruction, cells)
 
@@ -139,7 +150,7 @@ module _ (p : Image) (t : Typing) (linked : IsLinked p) (typed : IsTyped p t) (c
       rank p (main_ends p b o v) < 2 + (standing s.cells + operations s.items) * cell_rank p
   ends_main true (Some o) there v same alike =
       let destruction = begun_paid p linked o (length v.items) (Dispatched Of_root ∷ []) in
-      let goes = standing_goes (Elsewhere Root) (length (Dispatched Of_root ∷ [])) o s.cells refl there in
+      let goes = standing_goes (Elsewhere Root) (length (Dispatched Of_root ∷ [])) o s.cells refl (root_object p t s w o there) there in
       let cells =
       one_less (standing (moved (Elsewhere Root) (Going (length (Dispatched Of_root ∷ []))) s.cells) + operations s.items) (standing s.cells + operations s.items) (cell_rank p)
       (omega (arith, goes)) in
@@ -202,7 +213,7 @@ module _ (p : Image) (t : Typing) (linked : IsLinked p) (typed : IsTyped p t) (c
       rank p (record (counted p s) { cells = moved (Entry (length items)) (Going (length (Unwind code ∷ ts))) s.cells; tasks = begun p o (length items) (Unwind code ∷ ts); items = items }) < total (Unwind code ∷ ts)
   clears code ts items o e there =
       let destruction = begun_paid p linked o (length items) (Unwind code ∷ ts) in
-      let goes = standing_goes (Entry (length items)) (length (Unwind code ∷ ts)) o s.cells refl there in
+      let goes = standing_goes (Entry (length items)) (length (Unwind code ∷ ts)) o s.cells refl (entry_object p t s w o (length items) there) there in
       let same : operations s.items ≡ operations items = ap operations e in
       let cells =
       one_less (standing (moved (Entry (length items)) (Going (length (Unwind code ∷ ts))) s.cells) + operations items) (standing s.cells + operations s.items) (cell_rank p)
@@ -227,7 +238,7 @@ module _ (p : Image) (t : Typing) (linked : IsLinked p) (typed : IsTyped p t) (c
 
   lowers : IsBusy s → (u : State) → Move p c s u → rank p u < rank p s
   lowers busy u (Rests still same) = absurd (not_still w.layers w.good busy.0 busy.1 (sym w.tasks ∙ busy.2) (subst IsStill w.tasks still))
-  lowers busy u (Acts fr ts i e at there met fits same) = by (Run fr ∷ ts) u _ at same (acts w.layers w.good fr ts (sym w.tasks ∙ at) i e there fits)
+  lowers busy u (Acts fr ts i e at there met fits same) = by (Run fr ∷ ts) u _ at same (acts w.layers w.good fr ts (sym w.tasks ∙ at) i e there met fits)
   lowers busy u (Vanishes ts o at there owns same) = by (Destroy ∷ ts) u _ at same (vanishes ts o)
   lowers busy u (Empties ts o at there same) = by (Closing ∷ Destroy ∷ ts) u _ at same (empties ts o (first_session s.cells o.name (service_of s.cells o.name).sessions) refl)
   lowers busy u (Clears code ts items o at top there same) = by (Unwind code ∷ ts) u _ at same (clears code ts items o top there)

@@ -1,10 +1,11 @@
 -- The laws of ranks.
-use Rattle.std.specs.Prelude.{ℕ, zero, suc, ◌≡◌, ◌<◌, ◌≤◌, ◌+◌, length, None}
+use Rattle.std.specs.Prelude.{ℕ, zero, suc, ◌≡◌, ◌<◌, ◌≤◌, ◌+◌, true, List, None, Some}
 use Rattle.aom_image.specs.Image.{Image}
 use Rattle.aom_classes.specs.Linked.{IsLinked}
 use Rattle.aom_rules.specs.Typing.{Typing, IsTyped}
 use Rattle.aom_sound.specs.Laws.{IsWired}
-use Rattle.aom_sound.specs.Places.{named}
+use Rattle.aom_shape.specs.Kinds.{is_object}
+use Rattle.aom_sound.specs.Places.{Cell, Going, Object, count_cells, held, named}
 use Rattle.aom_sound.specs.State.{State, Choice, Goes}
 use Rattle.aom_sound.specs.Moves.{step}
 use Rattle.aom_sound.specs.WellTyped.{WellTyped}
@@ -15,6 +16,10 @@ use Rattle.aom_steps.specs.Ranks.{rank, standing, destructions}
 abbrev pub MovesLowerRanks : Type 0
 MovesLowerRanks = (p : Image) (t : Typing) → IsLinked p → IsTyped p t → (c : Choice) (s u : State) → WellTyped p t s → IsBusy s → step p c s ≡ Goes u → rank p u < rank p s
 
+-- what goes is no message
+abbrev pub GoesNoMessage : List Cell → Type 0
+GoesNoMessage cs = (k : ℕ) (o : Object) → held cs (Going k) ≡ Some o → is_object o.thing ≡ true
+
 -- so many moves lead from one state to another, at each of which something is at hand
 pub data Moves (p : Image) : ℕ → State → State → Type 0 where
   no_move : {s : State} → Moves p zero s s
@@ -24,6 +29,6 @@ pub data Moves (p : Image) : ℕ → State → State → Type 0 where
 abbrev pub RanksBoundMoves : Type 0
 RanksBoundMoves = (p : Image) (t : Typing) → IsWired p → IsLinked p → IsTyped p t → (n : ℕ) (s u : State) → WellTyped p t s → Moves p n s u → n + rank p u ≤ rank p s
 
--- in a well-typed state each cell stands, or is the one that a destruction at hand is for
+-- in a well-typed state in which objects alone go each object stands, or is the one that a destruction at hand is for
 abbrev pub CellsStandOrGo : Type 0
-CellsStandOrGo = (p : Image) (t : Typing) (s : State) → WellTyped p t s → standing s.cells + destructions s.tasks ≡ length s.cells
+CellsStandOrGo = (p : Image) (t : Typing) (s : State) → WellTyped p t s → GoesNoMessage s.cells → standing s.cells + destructions s.tasks ≡ count_cells s.cells

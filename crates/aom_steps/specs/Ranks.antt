@@ -4,6 +4,7 @@ use Rattle.aom_image.specs.Image.{Image}
 use Rattle.aom_image.specs.Views.{is_quiet, method_at}
 use Rattle.aom_image.specs.declared.method.Method.{Method}
 use Rattle.aom_image.specs.declared.method.Role.TheVariants.{Error}
+use Rattle.aom_shape.specs.Kinds.{is_object}
 use Rattle.aom_sound.specs.Enlisted.{part_of}
 use Rattle.aom_sound.specs.Places.{Place, Going, Cell}
 use Rattle.aom_sound.specs.State.{Frame, Dispatch, Of_main, Main_left, Of_root, Of_object, Object_left, Asks, Answered, Of_server, Seat, Task, Run, Trapped, Destroy, Closing, Unwind, Dispatched, Item, An_object, An_operation, A_mark, State}
@@ -79,10 +80,10 @@ abbrev pub is_going : Place → Bool
 is_going (Going k) = true
 is_going _ = false
 
--- the cells whose destruction has not begun
+-- the objects whose destruction has not begun; a message pays for nothing, so that one may be handed out at any place
 abbrev pub standing : List Cell → ℕ
 standing [] = 0
-standing (c ∷ cs) = cond (is_going c.owner) (standing cs) (suc (standing cs))
+standing (c ∷ cs) = cond (is_object c.object.thing) (cond (is_going c.owner) (standing cs) (suc (standing cs))) (standing cs)
 
 -- the operations on the cleanup stack; each pays for its run, which is that of a quiet method
 abbrev pub operations : List Item → ℕ

@@ -1,5 +1,5 @@
--- What an entry or the root owns is an object and no message: by the claims of the layers one after another.
-use Rattle.std.proofs.Common.{Bool, List, None, Option, Some, [], cond, refl, subst, true, false, ℕ, ◌==◌, ◌∷◌, ◌≡◌, length}
+-- What an entry, the root or a session owns is an object and no message: by the claims of the layers one after another.
+use Rattle.std.proofs.Common.{ap, sym, Bool, List, None, Option, Some, [], cond, refl, subst, true, false, ℕ, ◌&&◌, ◌==◌, ◌∙◌, ◌∷◌, ◌≡◌, length}
 use Rattle.std.proofs.lemmas.Bool.{false≢true}
 use Rattle.aom_image.specs.Image.{Image}
 use Rattle.aom_image.specs.declared.method.Thing.{Thing}
@@ -13,11 +13,13 @@ use Rattle.aom_shape.specs.declared.kind.Entry.TheVariants.{Object as Pushed_obj
 use Rattle.aom_shape.specs.declared.kind.Filling.{Filling}
 use Rattle.aom_shape.specs.declared.kind.Filling.TheVariants.{Full, Perhaps}
 use Rattle.aom_shape.specs.declared.kind.Kind.{Kind}
-use Rattle.aom_shape.specs.declared.kind.Kind.TheVariants.{Null}
-use Rattle.aom_sound.specs.Claims.{Dispatching, Dying, Ending, Form, Layer, Mark, Method, Unwinding, claim, declared, entry_claim, is_of_root, items_of, objects, root_claim}
+use Rattle.aom_shape.specs.declared.kind.Kind.TheVariants.{Maybe, Null, Own}
+use Rattle.aom_sound.specs.Claims.{Dispatching, Dying, Ending, Form, Layer, Mark, Method, Unwinding, by_close, by_session, claim, declared, entry_claim, is_of_root, items_of, objects, root_claim}
 use Rattle.aom_sound.specs.Objects.{is_no_message}
-use Rattle.aom_sound.specs.Places.{Cell, Elsewhere, Entry, Object, Root, Sight, held, seen}
-use Rattle.aom_sound.specs.State.{AtRoot, Home, Inside, State, Static}
+use Rattle.aom_sound.proofs.Things.{stands_same}
+use Rattle.aom_sound.specs.Places.{Cell, Elsewhere, Entry, Object, Place, Root, Session, Sight, held, named, seen, service_of}
+use Rattle.aom_sound.specs.Servers.{has_session, is_among, of_class, session_class, session_thing}
+use Rattle.aom_sound.specs.State.{AtRoot, Dispatch, Home, Inside, Of_server, Parts as Parts_with, State, Static}
 use Rattle.aom_sound.specs.WellTyped.{Fits, WellTyped}
 
 -- what stands for a thing of a class is an object
@@ -87,3 +89,51 @@ root_cell p t s typed = go (held s.cells (Elsewhere Root)) refl
     go : (x : Option Object) → held s.cells (Elsewhere Root) ≡ x → is_no_message x ≡ true
     go None e = refl
     go (Some o) e = root_object p t s typed o e
+
+-- ---- a session is an object
+
+abbrev NoMessage : Kind → Type 0
+NoMessage (Own t a) = is_object t ≡ true
+NoMessage (Maybe t a) = is_object t ≡ true
+NoMessage _ = Unit {0}
+
+plain_cond : (b : Bool) (j k : Kind) → NoMessage j → NoMessage k → NoMessage (cond b j k)
+plain_cond true j k a b = a
+plain_cond false j k a b = b
+
+plain_class : (class : Option ℕ) → NoMessage (filled (of_class class) Full)
+plain_class None = tt
+plain_class (Some class) = refl
+
+plain_session : (p : Image) (o : Option Object) → NoMessage (filled (session_thing p o) Full)
+plain_session p None = tt
+plain_session p (Some o) = plain_class (session_class p o.thing)
+
+plain_object : (p : Image) (h : Sight) (o : Object) (k : Kind) → NoMessage k → Fits p h (Some o) k → is_object o.thing ≡ true
+plain_object p h o (Own t a) plain f = ap is_object (stands_same p o.thing t f.0) ∙ plain
+plain_object p h o (Maybe t a) plain f = ap is_object (stands_same p o.thing t f.0) ∙ plain
+plain_object p h o _ plain f = absurd (assumption tt)
+
+module _ (p : Image) (n c : ℕ) where
+  plain_close : (d : Dispatch) (k : Kind) → NoMessage k → NoMessage (by_close d n c k)
+  plain_close (Of_server x client Parts_with) k plain = plain_cond ((x.object.name == n) && (client == c)) Null k tt plain
+  plain_close _ k plain = plain
+
+  plain_layer : (l : Layer) (k : Kind) → NoMessage k → NoMessage (by_session p l n c k)
+  plain_layer (Method fr sh) k plain = plain
+  plain_layer (Mark gv) k plain = plain
+  plain_layer (Dying o) k plain = plain_cond (o.name == n) Null k tt plain
+  plain_layer (Ending o left) k plain = plain_cond (o.name == n) (cond (is_among c left) (filled (session_thing p (Some o)) Full) Null) k (plain_cond (is_among c left) (filled (session_thing p (Some o)) Full) Null (plain_session p (Some o)) tt) plain
+  plain_layer (Unwinding code es) k plain = plain
+  plain_layer (Dispatching d seats) k plain = plain_close d k plain
+
+  plain_claim : (d : Place → Kind) (ls : List Layer) → NoMessage (d (Elsewhere (Session n c))) → NoMessage (claim p d ls (Elsewhere (Session n c)))
+  plain_claim d [] plain = plain
+  plain_claim d (l ∷ ls) plain = plain_layer l (claim p d ls (Elsewhere (Session n c))) (plain_claim d ls plain)
+
+  pub session_object : (t : Typing) (s : State) → WellTyped p t s → (o : Object) → held s.cells (Elsewhere (Session n c)) ≡ Some o → is_object o.thing ≡ true
+  session_object t s w o e =
+      let place = Elsewhere (Session n c) in
+      plain_object p (seen s.cells) o (claim p (declared p s.cells) w.layers place)
+      (plain_claim (declared p s.cells) w.layers (plain_cond (has_session (service_of s.cells n) c) (filled (session_thing p (named s.cells n)) Full) Null (plain_session p (named s.cells n)) tt))
+      (subst (λ x. Fits p (seen s.cells) x (claim p (declared p s.cells) w.layers place)) e (w.good.fits place))
