@@ -1,6 +1,6 @@
 -- The first session with a server that is there is that of the client that the machine finds, by the number in the place of each session. What closes its
 -- sessions stands over its own going.
-use Rattle.std.proofs.Common.{Bool, List, None, Option, Some, [], ap, cond, false, length, not, refl, subst, sym, true, ℕ, ◌&&◌, ◌==◌, ◌∙◌, ◌∷◌, ◌≡◌, ◌||◌, arith}
+use Rattle.std.proofs.Common.{Bool, List, None, Option, Some, [], ap, cond, false, length, not, refl, subst, sym, true, ℕ, ◌==◌, ◌∙◌, ◌∷◌, ◌≡◌, ◌||◌, arith}
 use Rattle.std.proofs.lemmas.Bool.{eq-eqb, true≢false}
 use Rattle.std.proofs.lemmas.Option.{none-some, same_Some}
 use Rattle.aom_cells.specs.Heap.{Lives, null}
@@ -10,22 +10,18 @@ use Rattle.aom_clients.specs.declared.client.Client.{Client}
 use Rattle.aom_clients.specs.declared.client.Client.TheVariants.{Closing, Connecting, Dead, Dying, Gone, Open, Unconnected}
 use Rattle.aom_image.specs.Image.{Image}
 use Rattle.aom_rules.specs.Typing.{Typing}
-use Rattle.aom_shape.specs.Kinds.{filled, is_object}
 use Rattle.aom_shape.specs.declared.kind.Age.TheVariants.{Ready}
-use Rattle.aom_shape.specs.declared.kind.Filling.TheVariants.{Full}
-use Rattle.aom_shape.specs.declared.kind.Kind.{Kind}
-use Rattle.aom_shape.specs.declared.kind.Kind.TheVariants.{Maybe, Null, Own}
+use Rattle.aom_shape.specs.declared.kind.Kind.TheVariants.{Own}
 use Rattle.aom_sound.proofs.Layers.{closing_layer}
 use Rattle.aom_sound.proofs.Maps.{held_lives}
 use Rattle.aom_sound.proofs.Owned.{session_object}
 use Rattle.aom_sound.proofs.Picking.{own_held}
-use Rattle.aom_sound.proofs.Things.{stands_same}
-use Rattle.aom_sound.specs.Claims.{Dying as Dying_layer, Ending, Layer, Mark, Method, Unwinding, Dispatching, by_close, by_session, claim, declared, tasks_of}
+use Rattle.aom_sound.specs.Claims.{Dying as Dying_layer, Ending, Layer, claim, declared, tasks_of}
 use Rattle.aom_sound.specs.Destruction.{first_session, seat_or}
 use Rattle.aom_sound.specs.Kept.{ClientsFit}
-use Rattle.aom_sound.specs.Places.{Elsewhere, Going, Object, Place, Session, Sight, held, named, seen, service_of}
-use Rattle.aom_sound.specs.Servers.{has_session, is_among, of_class, session_class, session_thing}
-use Rattle.aom_sound.specs.State.{Closing as Closing_task, Destroy, Dispatch, Of_server, Parts as Parts_with, Seat, State, Task}
+use Rattle.aom_sound.specs.Places.{Elsewhere, Going, Object, Place, Session, held, seen, service_of}
+use Rattle.aom_sound.specs.Servers.{is_among}
+use Rattle.aom_sound.specs.State.{Closing as Closing_task, Destroy, Seat, State, Task}
 use Rattle.aom_sound.specs.WellTyped.{Fits, Good, IsOverDying, WellTyped}
 use Rattle.aom_parts.specs.Agrees.{Agrees, number}
 use Rattle.aom_parts.specs.Places.{session_number, session_with}

@@ -20,7 +20,7 @@ use Rattle.aom_steps.proofs.Goings.{cells_stand_or_go}
 use Rattle.aom_steps.proofs.Ranking.{moves_lower_ranks}
 use Rattle.aom_steps.proofs.Rounds.{worth_alike}
 use Rattle.aom_sound.proofs.Maps.{held_lives}
-use Rattle.aom_sound.specs.Places.{Elsewhere, Going, Object, Place, Root, held, named}
+use Rattle.aom_sound.specs.Places.{Elsewhere, Going, Place, Root, named}
 use Rattle.aom_parts.specs.Agrees.{SameDispatch, Shows, dispatch_of, SameFrame, SameTasks, SameItems, Agrees}
 use Rattle.aom_parts.specs.Places.{going_in, going_of, value}
 use Rattle.aom_acts.proofs.Running.{null_unnamed, object_there}

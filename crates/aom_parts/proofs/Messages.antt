@@ -1,5 +1,5 @@
 -- The messages that are kept, where cells move, change, come and go: by the cells one after another.
-use Rattle.std.proofs.Common.{Bool, List, None, Option, Some, [], ap, arith, cond, false, length, not, refl, suc, sym, true, ℕ, ℤ, pos, ◌+◌, ◌<◌, ◌==◌, ◌∙◌, ◌∷◌, ◌≡◌}
+use Rattle.std.proofs.Common.{Bool, List, None, Option, Some, [], ap, arith, cond, false, not, refl, suc, sym, true, ℕ, ℤ, pos, ◌+◌, ◌<◌, ◌==◌, ◌∙◌, ◌∷◌, ◌≡◌}
 use Rattle.std.specs.Prelude.{is_some}
 use Rattle.std.proofs.lemmas.Bool.{eq-eqb, eqb-true, false≢true, ne_eqb}
 use Rattle.aom_image.specs.Image.{Image}
@@ -9,12 +9,12 @@ use Rattle.aom_messages.specs.Store.{Changes, Store, count, message_at, word_at,
 use Rattle.aom_shape.specs.Kinds.{is_object}
 use Rattle.aom_shape.specs.Tables.{at}
 use Rattle.aom_sound.proofs.Counts.{counted_by, counted_without}
-use Rattle.aom_sound.proofs.Maps.{named_moved, named_without, same_place-true, unnamed, without_none}
+use Rattle.aom_sound.proofs.Maps.{named_moved, named_without, unnamed}
 use Rattle.aom_sound.proofs.Services.{named_served}
 use Rattle.aom_sound.proofs.Storing.{named_set_word, rerequested_alike, resessioned_alike}
 use Rattle.aom_sound.proofs.Unslotting.{each_unslotted_alike}
 use Rattle.aom_sound.specs.Clients.{count_messages, each_unslotted}
-use Rattle.aom_sound.specs.Places.{Cell, Object, Place, Request, Service, Tidy, held, moved, named, Register, same_place, set_request, set_service, set_session, set_word_field, with_new, without, word_field}
+use Rattle.aom_sound.specs.Places.{Cell, Object, Place, Request, Service, Tidy, held, moved, named, Register, set_request, set_service, set_session, set_word_field, with_new, without, word_field}
 use Rattle.aom_sound.specs.Servers.{all_unslotted}
 use Rattle.aom_sound.specs.State.{Inside}
 use Rattle.aom_parts.specs.Messages.{SameMessages, is_a_message}
