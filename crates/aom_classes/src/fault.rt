@@ -8,24 +8,16 @@ use thiserror::Error;
 
 /// The first condition that an image fails, in the order of their numbers.
 #[derive(Clone, Copy, PartialEq, Eq, Debug, Error)]
+#[error("link {number}", number = self.number())]
 pub enum LinkFault {
-    #[error("link 1")]
     ClassOrder = 1,
-    #[error("link 2")]
     CallOrder,
-    #[error("link 3")]
     MissingRole,
-    #[error("link 4")]
     DoubleRole,
-    #[error("link 5")]
     RoleShape,
-    #[error("link 6")]
     BadJump,
-    #[error("link 7")]
     BadLoop,
-    #[error("link 8")]
     NoMain,
-    #[error("link 9")]
     OutOfMemory,
 }
 

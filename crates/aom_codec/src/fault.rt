@@ -1,15 +1,14 @@
 //! Why bytes are refused.
-ghost use Rattle.std.specs.Prelude.{◌≡◌, ◌++◌, codes, Some};
-ghost use Rattle.std.specs.Fmt.{decimal};
+ghost use Rattle.std.specs.Prelude.{◌≡◌};
 ghost use Rattle.aom_codec.specs.Faults.{fault_number};
 ghost use Rattle.aom_codec.specs.declared.fault.LoadFault.TheVariants.{OutOfMemory};
 
 use std::alloc::{AllocError, AllocFailed};
-use std::fmt;
 use thiserror::Error;
 
 /// The first fault of the bytes from left to right, or want of memory.
 #[derive(Clone, Copy, PartialEq, Eq, Debug, Error)]
+#[error("load {number}", number = self.number())]
 pub enum LoadFault {
     BadMagic = 1,
     BadVersion,
@@ -33,15 +32,6 @@ impl LoadFault {
         ensures { result ≡ fault_number self }
     {
         self as u8
-    }
-}
-
-impl fmt::Display for LoadFault {
-    ghost output = { λ f. Some (codes "load " ++ decimal (fault_number f)) };
-
-    fn fmt<W: fmt::Write>(&self, f: &mut fmt::Formatter<W>) -> fmt::Result {
-        let number = self.number();
-        write!(f, "load {number}")
     }
 }
 

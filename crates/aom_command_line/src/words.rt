@@ -9,6 +9,7 @@ use clap::builder::ValueParser;
 use clap::error::ErrorKind;
 use clap::{Arg, ArgAction, ArgMatches, Command, Error, value_parser};
 use std::alloc::{AllocError, AllocFailed, Global};
+use thiserror::Error as FaultText;
 
 /// What is asked, with the names of files.
 #[derive(Drop)]
@@ -55,12 +56,15 @@ pub enum Words {
 }
 
 /// Why a command line is refused.
-#[derive(Drop)]
+#[derive(Debug, Drop, FaultText)]
 pub enum WordsFault {
     /// What `clap` has to say, a fault or the help that was asked for; or that `--text` stands without `--explain`.
+    #[error("{0}")]
     Text(String),
     /// No native of that name, or one too many.
+    #[error("native")]
     Native,
+    #[error("memory")]
     Memory,
 }
 

@@ -1,3 +1,4 @@
+mod faults;
 mod programs;
 mod readers;
 mod sessions;

@@ -2,8 +2,11 @@
 ghost use Rattle.std.specs.Prelude.{◌≡◌};
 ghost use Rattle.aom_debug_words.specs.Faults.{number_of};
 
+use thiserror::Error;
+
 /// What is wrong with a command. Of several the first here is told.
-#[derive(Clone, Copy, PartialEq, Eq)]
+#[derive(Clone, Copy, PartialEq, Eq, Debug, Error)]
+#[error("fault {number}", number = self.number())]
 pub enum DebugFault {
     /// A word that is unknown, too few or too many of them, a number that is none or out of its range, or a line that is too long.
     BadCommand = 1,

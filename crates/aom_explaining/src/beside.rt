@@ -8,14 +8,18 @@ use aom_codec::encode;
 use aom_text::{AsmFault, AsmFaultKind};
 use std::alloc::Global;
 use std::marker::Model;
+use thiserror::Error;
 
 /// Why a text is refused beside an image.
-#[derive(Clone, Copy, PartialEq, Eq)]
+#[derive(Clone, Copy, PartialEq, Eq, Debug, Error)]
 pub enum TextFault {
     /// It denotes no image: its first fault.
+    #[error(transparent)]
     Asm(AsmFault),
     /// It denotes another image.
+    #[error("text")]
     Other,
+    #[error("memory")]
     Memory,
 }
 

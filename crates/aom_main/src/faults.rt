@@ -14,24 +14,36 @@ use aom_script::{ScriptFault, ScriptFaultKind};
 use aom_text::{AsmFault, AsmFaultKind};
 use aom_verify::Refusal;
 use std::alloc::{AllocError, AllocFailed};
+use thiserror::Error;
 
 /// Why a call does not do what is asked. Each is told in one line.
-#[derive(Clone, Copy)]
+#[derive(Clone, Copy, Debug, Error)]
 pub enum Fault {
+    #[error(transparent)]
     Load(LoadFault),
+    #[error(transparent)]
     Asm(AsmFault),
+    #[error(transparent)]
     Link(LinkFault),
+    #[error(transparent)]
     Verify(Refusal),
+    #[error(transparent)]
     Budget(BudgetFault),
+    #[error(transparent)]
     Script(ScriptFault),
     /// The machine does not boot.
+    #[error(transparent)]
     Boot(BootFault),
     /// No native of that name, or one too many.
+    #[error("native")]
     Native,
     /// A file that cannot be read.
+    #[error("file")]
     File,
     /// The output has failed.
+    #[error("write")]
     Write,
+    #[error("memory")]
     Memory,
 }
 

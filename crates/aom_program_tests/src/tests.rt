@@ -2,6 +2,7 @@ mod backlog;
 mod bell;
 mod cut;
 mod explaining;
+mod faults;
 mod input;
 mod memory;
 mod output;

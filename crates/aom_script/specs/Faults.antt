@@ -1,6 +1,5 @@
 -- The faults of a script, as they are told.
-use Rattle.std.specs.Prelude.{ℕ, List, ◌++◌, codes, decimal}
-use Rattle.aom_script.specs.declared.fault.ScriptFault.{ScriptFault}
+use Rattle.std.specs.Prelude.{ℕ}
 use Rattle.aom_script.specs.declared.fault.ScriptFaultKind.{ScriptFaultKind}
 use Rattle.aom_script.specs.declared.fault.ScriptFaultKind.TheVariants.{NotAscii, BadLine, BadNumber, TimeBack, LimitPassed, OutOfMemory}
 
@@ -8,7 +7,3 @@ use Rattle.aom_script.specs.declared.fault.ScriptFaultKind.TheVariants.{NotAscii
 abbrev pub number_of : ScriptFaultKind → ℕ
 number_of = elim
     [ NotAscii ↦ 1 | BadLine ↦ 2 | BadNumber ↦ 3 | TimeBack ↦ 4 | LimitPassed ↦ 5 | OutOfMemory ↦ 6 ]
-
--- a fault's line and number
-abbrev pub fault_text : ScriptFault → List ℕ
-fault_text fault = codes "script " ++ decimal fault.line ++ codes " " ++ decimal (number_of fault.kind)

@@ -1,10 +1,10 @@
 //! Why a script is refused.
-ghost use Rattle.std.specs.Prelude.{◌≡◌, Some};
-ghost use Rattle.aom_script.specs.Faults.{fault_text, number_of};
+ghost use Rattle.std.specs.Prelude.{◌≡◌};
+ghost use Rattle.aom_script.specs.Faults.{number_of};
 ghost use Rattle.aom_script.specs.declared.fault.ScriptFaultKind.TheVariants.{OutOfMemory};
 
 use std::alloc::AllocFailed;
-use std::fmt;
+use thiserror::Error;
 
 /// What is wrong with a line. Of several the first here is told.
 #[derive(Clone, Copy, PartialEq, Eq, Debug)]
@@ -33,21 +33,12 @@ impl ScriptFaultKind {
 }
 
 /// The first faulty line of a script, counted from 1, and its first fault.
-#[derive(Clone, Copy, PartialEq, Eq, Debug)]
+#[derive(Clone, Copy, PartialEq, Eq, Debug, Error)]
+#[error("script {line} {number}", number = .kind.number())]
 pub struct ScriptFault {
     pub line: u32,
     pub kind: ScriptFaultKind,
 }
-
-impl fmt::Display for ScriptFault {
-    ghost output = { λ f. Some (fault_text f) };
-
-    fn fmt<W: fmt::Write>(&self, f: &mut fmt::Formatter<W>) -> fmt::Result {
-        write!(f, "script {} {}", self.line, self.kind.number())
-    }
-}
-
-impl std::error::Error for ScriptFault {}
 
 impl<T: Drop> From<AllocFailed<T>> for ScriptFaultKind {
     ghost from_gives = { λ _ e. e ≡ OutOfMemory };

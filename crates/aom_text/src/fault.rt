@@ -4,7 +4,7 @@ ghost use Rattle.aom_text.specs.Faults.{number_of};
 ghost use Rattle.aom_text.specs.declared.fault.AsmFaultKind.TheVariants.{OutOfMemory};
 
 use std::alloc::{AllocError, AllocFailed};
-use std::fmt;
+use thiserror::Error;
 
 /// What is wrong with a statement.
 #[derive(Clone, Copy, PartialEq, Eq, Debug)]
@@ -36,26 +36,12 @@ impl AsmFaultKind {
 }
 
 /// The line of a fault, counted from 1, and what is wrong there.
-#[derive(Clone, Copy, PartialEq, Eq, Debug)]
+#[derive(Clone, Copy, PartialEq, Eq, Debug, Error)]
+#[error("asm {line} {number}", number = .kind.number())]
 pub struct AsmFault {
     pub line: u32,
     pub kind: AsmFaultKind,
 }
-
-impl fmt::Display for AsmFault {
-    ghost use Rattle.std.specs.Prelude.{Some};
-    ghost use Rattle.aom_text.specs.Faults.{fault_text};
-
-    ghost output = { λ f. Some (fault_text f) };
-
-    fn fmt<W: fmt::Write>(&self, f: &mut fmt::Formatter<W>) -> fmt::Result {
-        let line = self.line;
-        let number = self.kind.number();
-        write!(f, "asm {line} {number}")
-    }
-}
-
-impl std::error::Error for AsmFault {}
 
 impl From<AllocError> for AsmFaultKind {
     ghost from_gives = { λ _ e. e ≡ OutOfMemory };

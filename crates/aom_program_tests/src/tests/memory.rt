@@ -3,7 +3,6 @@
 use super::pages::{Call, FIRST, FULL_HEAP, LISTING, SHORT, answer, sides};
 use aom_main::{ExitStatus, Fault, tell};
 use aom_pages::Slip;
-use aom_run::BootFault;
 use std::alloc::Global;
 use std::process::Abort;
 
@@ -103,7 +102,4 @@ fn want_of_memory_is_told(rt: HostRuntime) {
     let mut errors = Slip::blank();
     let status = tell(&Fault::Memory, &mut errors);
     assert!(rt; status.number() == 5 && errors.has(b"memory\n"));
-    if let Ok(text) = BootFault::OutOfMemory.to_string(rt.alloc()) {
-        assert!(rt; text.as_str() == "boot 2");
-    }
 }
