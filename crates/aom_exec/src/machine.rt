@@ -9,7 +9,7 @@ ghost use Rattle.aom_endings.specs.Owed.{owes};
 ghost use Rattle.aom_exec.specs.Agreement.{AgreesInAll};
 ghost use Rattle.aom_exec.specs.Clients.{IsInRange, Obeyed};
 ghost use Rattle.aom_parts.specs.Stands.{Stands, StandsFor};
-ghost use Rattle.aom_exec.specs.Steps.{Stepped, SteppedOn, Wants, progress, rank, timers};
+ghost use Rattle.aom_exec.specs.Steps.{StaysIdle, Stepped, SteppedOn, Wants, progress, rank, timers};
 ghost use Rattle.aom_exec.specs.Turns.{Answers, Completed, NoneDue, Picked, Takes, TakesAll};
 ghost use Rattle.aom_sessions.specs.Sessions.{is_killed};
 ghost use Rattle.aom_sound.specs.State.{Dispatch, Dispatched, State};
@@ -69,6 +69,7 @@ impl<'a> Machine<'a> {
         requires room { length turn.old.lines + step_lines self.old.image.header.messages < turn.old.room }
         ensures image { self.new.image ≡ self.old.image }
         ensures steps { Stepped self.old result turn.old turn.new self.new }
+        ensures idle { StaysIdle self.old turn.old turn.new self.new }
         ensures agrees { AgreesInAll self.new }
         ensures falls { result ≡ Running → rank self.new < rank self.old }
     {
@@ -80,6 +81,7 @@ impl<'a> Machine<'a> {
         requires room { length turn.old.lines + step_lines self.old.image.header.messages < turn.old.room }
         ensures image { self.new.image ≡ self.old.image }
         ensures steps { SteppedOn self.old result turn.old turn.new self.new }
+        ensures idle { StaysIdle self.old turn.old turn.new self.new }
         ensures agrees { AgreesInAll self.new }
         ensures told { result ≡ Running → (length turn.old.lines < length turn.new.lines) ⊎ Wants self.new }
         ensures falls { result ≡ Running → rank self.new < rank self.old }

@@ -1,6 +1,6 @@
 use Rattle.std.proofs.Common.{refl, ◌<◌}
 use Rattle.aom_parts.specs.Stands.{Machine}
-use Rattle.aom_exec.specs.Steps.{Stepped, rank}
+use Rattle.aom_exec.specs.Steps.{StaysIdle, Stepped, rank}
 use Rattle.aom_exec.proofs.Progressing.{stands_again}
 use Rattle.aom_exec.proofs.Seen.{seen_as}
 use Rattle.aom_image.specs.Image.{Image}
@@ -19,3 +19,6 @@ returns-clause-falls c = λ running.
 
 pub returns-clause-agrees : goal.returns-clause-agrees
 returns-clause-agrees c = agrees_in_all _
+
+pub returns-clause-idle : goal.returns-clause-idle
+returns-clause-idle c = seen_as (λ (old : Machine) (p : Image). StaysIdle old c.args.turn.now c.step.new.turn (record { image = p; parts = c.step.new.parts })) c.linked.ensures c.self.view_is c.step.ensures.idle

@@ -1,6 +1,6 @@
 use Rattle.std.proofs.Common.{refl, length, ◌<◌, ◌⊎◌}
 use Rattle.aom_parts.specs.Stands.{Machine}
-use Rattle.aom_exec.specs.Steps.{SteppedOn, Wants, rank}
+use Rattle.aom_exec.specs.Steps.{StaysIdle, SteppedOn, Wants, rank}
 use Rattle.aom_exec.proofs.Many.{stands_on}
 use Rattle.aom_exec.proofs.Seen.{seen_as}
 use Rattle.aom_image.specs.Image.{Image}
@@ -23,3 +23,6 @@ returns-clause-agrees c = agrees_in_all _
 pub returns-clause-told : goal.returns-clause-told
 returns-clause-told c = λ running.
     seen_as (λ (old : Machine) (p : Image). (length c.args.turn.now.lines < length c.step_on.new.turn.lines) ⊎ Wants (record { image = p; parts = c.step_on.new.parts })) c.linked.ensures c.self.view_is (c.step_on.ensures.told running)
+
+pub returns-clause-idle : goal.returns-clause-idle
+returns-clause-idle c = seen_as (λ (old : Machine) (p : Image). StaysIdle old c.args.turn.now c.step_on.new.turn (record { image = p; parts = c.step_on.new.parts })) c.linked.ensures c.self.view_is c.step_on.ensures.idle
