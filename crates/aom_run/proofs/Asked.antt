@@ -1,22 +1,23 @@
 -- What a step asks fits the natives, and what is kept of them after the call and the step fits the state.
-use Rattle.std.proofs.Common.{◌≡◌, ◌<◌, ◌≤◌, ℤ, ℕ, zero, suc, Bool, true, false, cond, List, [], ◌∷◌, Option, Some, None, refl, sym, ap, subst, ◌∙◌, length, arith, slice_index_or}
+use Rattle.std.proofs.Common.{◌≡◌, ◌≢◌, ◌<◌, ◌≤◌, ℤ, ℕ, zero, suc, Bool, true, false, cond, List, [], ◌∷◌, Option, Some, None, refl, sym, ap, subst, ◌∙◌, length, arith, slice_index_or}
 use Rattle.std.specs.Prelude.{not, IsSome, ◌&&◌, ◌||◌, pred}
 use Rattle.std.proofs.lemmas.Bool.{and_parts, true≢false}
 use Rattle.aom_image.specs.Image.{Image}
 use Rattle.aom_image.specs.WellFormed.{WellFormed}
+use Rattle.aom_image.specs.declared.method.Thing.{Thing}
 use Rattle.aom_rules.specs.Typing.{Typing}
 use Rattle.aom_endings.specs.Endings.{one_where}
 use Rattle.aom_natives.specs.Owed.{IsNew, IsOwed, times}
 use Rattle.aom_natives.specs.Slots.{ids_at, living_at}
-use Rattle.aom_endings.specs.Owed.{Finds, FindsWell, is_for, meets, owes, owes_after, serves, takes_on}
+use Rattle.aom_endings.specs.Owed.{Finds, FindsWell, is_for, meets, owes, owes_after, serves, serves_object, takes_on}
 use Rattle.aom_endings.proofs.Calls.{for_one}
-use Rattle.aom_sound.specs.Natives.{is_dead}
-use Rattle.aom_sound.specs.Places.{in_session}
+use Rattle.aom_sound.specs.Natives.{is_dead, is_served_by}
+use Rattle.aom_sound.specs.Places.{Object, in_session, named}
 use Rattle.aom_sound.specs.State.{State}
 use Rattle.aom_sound.specs.Wanted.{Wanted, Opens, Starts, Asks, Cancels, Closes}
 use Rattle.aom_parts.specs.Stands.{Machine as Core, StandsFor as Core_stands}
-use Rattle.aom_run.specs.Answers.{Asked, MayAsk, times_after}
-use Rattle.aom_run.specs.Beside.{Serves}
+use Rattle.aom_run.specs.Answers.{Asked, KeepsUnasked, MayAsk, times_after}
+use Rattle.aom_run.specs.Beside.{KeepsUnnamed, Serves}
 use Rattle.aom_run.proofs.Moving.{Went}
 use Rattle.aom_run.proofs.Named.{at_most_one, few, serving_named}
 
@@ -111,3 +112,32 @@ module _ {L : Type 0} (kept : L → List ℕ) (p : Image) (s : State) (slots : L
     ids = λ n m. call.times n m ∙ ap (times_after asked answer n m) (keeps.ids n m) ∙ counted_after asked answer finds n m ∙ ap one_where (sym (went.owes n m));
     sessions = went.sessions;
   }
+
+-- ---- natives that serve no class
+
+module _ {L : Type 0} (p : Image) (s : State) (old new : List (Option L)) where
+  -- what serves a cell serves a class
+  is_another : (n x k : ℕ) → serves p s.cells n x ≡ true → ((t : Thing) → is_served_by p k t ≡ false) → k ≢ n
+  is_another n x k e none same = go (named s.cells x) e
+    where
+      go : (o : Option Object) → serves_object p n o ≡ true → ⊥
+      go None e = true≢false (sym e)
+      go (Some o) e = true≢false (sym e ∙ subst (λ j. is_served_by p j o.thing ≡ false) same (none o.thing))
+
+  -- one that serves none is asked nothing
+  pub keeps_unnamed : (asked : Option Wanted) → FindsWell p s asked → KeepsUnasked old asked new → KeepsUnnamed p old new
+  keeps_unnamed asked finds keeps = record { at = by_asked asked finds keeps }
+    where
+      by_asked : (asked : Option Wanted) → FindsWell p s asked → KeepsUnasked old asked new → (k : ℕ) → ((t : Thing) → is_served_by p k t ≡ false) → living_at new k ≡ living_at old k
+      by_asked None finds keeps k none = ap (λ slots. living_at slots k) keeps
+      by_asked (Some (Opens n x)) finds keeps k none = keeps.others k (is_another n x k finds.serves none)
+      by_asked (Some (Starts n x f w)) finds keeps k none = keeps.others k (is_another n x k finds.serves none)
+      by_asked (Some (Asks n x f w)) finds keeps k none = keeps.others k (is_another n x k finds.serves none)
+      by_asked (Some (Cancels n x)) finds keeps k none = keeps.others k (is_another n x k finds.serves none)
+      by_asked (Some (Closes n x)) finds keeps k none = keeps.others k (is_another n x k finds.serves none)
+
+pub unnamed_all : {L : Type 0} (p : Image) (slots : List (Option L)) → KeepsUnnamed p slots slots
+unnamed_all p slots = record { at = λ k none. refl }
+
+pub unnamed_on : {L : Type 0} {p : Image} {old mid new : List (Option L)} → KeepsUnnamed p old mid → KeepsUnnamed p mid new → KeepsUnnamed p old new
+unnamed_on was then = record { at = λ k none. then.at k none ∙ was.at k none }

@@ -1,5 +1,5 @@
 -- What a machine between dispatches keeps while parts of a turn go on, one after another.
-use Rattle.std.proofs.Common.{refl, ◌∙◌, ◌≡◌}
+use Rattle.std.proofs.Common.{ap, length, refl, ◌∙◌, ◌≡◌}
 use Rattle.aom_parts.specs.declared.progress.Progress.TheVariants.{Turned}
 use Rattle.aom_exec.specs.Steps.{progress, timers}
 use Rattle.aom_run.specs.Calls.{NoneIsDue, Stands, natives_of}
@@ -28,6 +28,10 @@ module _ {X : Type 0} {B : X → Type 0} where
 
   pub times_on : {old m new : Machine X B} → KeepsTimers old m → Keeps old new → NoneIsDue new → timers new.core ≡ timers m.core → KeepsTimers old new
   times_on was keeps none same = record { keeps = keeps; none_due = none; timers = same ∙ was.timers }
+
+  -- the same natives are as many
+  pub as_many : (old new : Machine X B) → new.natives ≡ old.natives → natives_of new ≡ natives_of old
+  as_many old new same = ap (λ n. length n.slots.items) same
 
   -- the image stays, and how many natives there are
   pub image_all : (m : Machine X B) → KeepsImage m m

@@ -1,7 +1,7 @@
 -- What is kept of natives fits the state that a part of a turn leads to.
 use Rattle.std.proofs.Common.{◌≡◌, ◌<◌, ◌≤◌, ℕ, cond, suc, Bool, true, false, List, [], ◌∷◌, ◌++◌, Option, Some, None, refl, sym, ap, subst, ◌∙◌, length, inl, inr, arith}
 use Rattle.std.specs.Prelude.{IsSome, is_some, not, ◌&&◌, ◌||◌, ◌==◌}
-use Rattle.std.proofs.lemmas.Bool.{cases_eq, eq-eqb, eqb-true, le-ltb, lt-ltb, ne_eqb}
+use Rattle.std.proofs.lemmas.Bool.{cases_eq, eq-eqb, eqb-true, le-ltb, lt-ltb, ne_eqb, true≢false}
 use Rattle.std.proofs.lemmas.List.Folds.{list_any-append}
 use Rattle.aom_natives.proofs.Ids.{same-out}
 use Rattle.aom_run.proofs.Named.{at_most_one, elsewhere, there, turned_false}
@@ -167,6 +167,10 @@ heard_plain s = record { owes = λ n m b. refl; killed = refl }
 pub with_any_name : (s : State) (P : ℕ → Type 0) → ((name : ℕ) → P name) → (name : ℕ) × (named s.cells name ≡ None) × P name
 with_any_name s P for_all = (top s.cells, above s.cells (top s.cells) (omega arith), for_all (top s.cells))
 
+-- an event for one native leaves the others as they were
+pub untold_but : {L : Type 0} (old new : List (Option L)) (n : ℕ) → KeepsOthers old new n → (k : ℕ) → (n == k) ≡ false → living_at new k ≡ living_at old k
+untold_but old new n others k apart = others.others k (λ same. true≢false (sym (eq-eqb n k (sym same)) ∙ apart))
+
 -- the same natives
 pub untouched : {L : Type 0} (kept : L → List ℕ) (slots : List (Option L)) → KeptSame kept slots slots
 untouched kept slots = record { count = refl; living = λ k. refl; ids = λ k. refl }
@@ -217,7 +221,7 @@ module _ {X : Type 0} {B : X → Type 0} (old : Machine X B) (core : Core) (imag
       ((s : State) → Core_stands core s → Core_stands old.core (record s { rest = old.core.parts.rest })) → timers core ≡ timers old.core → IsDelivered old event false now now (record { core = core; natives = old.natives })
   heard_only event now delivered rest back same = record {
     image = image;
-    natives = refl;
+    natives = record { count = refl; at = λ k apart. refl };
     delivered = delivered;
     rest = rest;
     timers = same;

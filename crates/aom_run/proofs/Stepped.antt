@@ -1,5 +1,5 @@
 -- A step with the call that it makes: what is kept of natives fits the state after it.
-use Rattle.std.proofs.Common.{◌≡◌, ◌⊎◌, ◌<◌, ℤ, pos, negsuc, ℕ, suc, Bool, true, false, cond, List, [], ◌∷◌, ◌++◌, Option, Some, None, refl, sym, ap, subst, ◌∙◌, inl, inr, arith}
+use Rattle.std.proofs.Common.{◌≡◌, ◌≢◌, ◌⊎◌, ◌<◌, ℤ, pos, negsuc, ℕ, suc, Bool, true, false, cond, List, [], ◌∷◌, ◌++◌, Option, Some, None, refl, sym, ap, subst, ◌∙◌, inl, inr, arith}
 use Rattle.std.proofs.lemmas.Int.{ints}
 use Rattle.std.specs.Prelude.{IsSome, is_some, int_lt, not, ◌&&◌, ◌==◌, ◌≤ℤ◌, ◌<ℤ◌}
 use Rattle.std.proofs.lemmas.Bool.{cases_eq, eq-eqb, eqb-true, ne_eqb}
@@ -16,18 +16,18 @@ use Rattle.aom_parts.specs.declared.progress.Progress.{Progress}
 use Rattle.aom_parts.specs.declared.progress.Progress.TheVariants.{Ended, Running, Turned}
 use Rattle.aom_parts.specs.Progress.{progress_of}
 use Rattle.aom_parts.specs.Stands.{Machine as Core, StandsFor as Core_stands}
-use Rattle.aom_exec.specs.Steps.{Quiet, Stepped as Core_stepped, SteppedOn as Core_stepped_on, Steps, begins, progress}
+use Rattle.aom_exec.specs.Steps.{Quiet, StaysIdle as Core_stays_idle, Stepped as Core_stepped, SteppedOn as Core_stepped_on, Steps, begins, progress}
 use Rattle.aom_run.specs.declared.machine.Machine.{Machine}
-use Rattle.aom_run.specs.Answers.{Asked, MayAsk, MayHear, asked_by, asked_of, times_after}
-use Rattle.aom_run.specs.Calls.{StandsFor, SteppedOn, SteppedOnce}
-use Rattle.aom_run.specs.Beside.{Serves}
-use Rattle.aom_run.proofs.Asked.{may_ask, serves_after, session_small}
+use Rattle.aom_run.specs.Answers.{Asked, KeepsUnasked, MayAsk, MayHear, asked_at, asked_by, asked_of, times_after}
+use Rattle.aom_run.specs.Calls.{Stands, StandsFor, StaysIdle, SteppedOn, SteppedOnce}
+use Rattle.aom_run.specs.Beside.{KeepsUnnamed, Serves}
+use Rattle.aom_run.proofs.Asked.{keeps_unnamed, may_ask, serves_after, session_small, unnamed_on}
 use Rattle.aom_run.proofs.Moving.{asks_well, went_on}
 
 -- what is heard where nothing is asked, and where that is
 module _ {L : Type 0} (open_may : L → ℕ → ℤ → Type 0) (start_may call_may : L → ℕ → ℤ → ℤ → ℤ → Type 0) (kept : L → List ℕ) (slots : List (Option L)) where
   pub heard_nothing : (heard : ℤ) (asked : Option Wanted) → asked ≡ None → MayHear open_may start_may call_may slots asked heard × Asked kept slots asked heard slots
-  heard_nothing heard asked none = subst (λ a. MayHear open_may start_may call_may slots a heard × Asked kept slots a heard slots) (sym none) (tt, record { count = refl; living = λ k. refl; times = λ k m. refl })
+  heard_nothing heard asked none = subst (λ a. MayHear open_may start_may call_may slots a heard × Asked kept slots a heard slots) (sym none) (tt, record { count = refl; living = λ k. refl; unasked = refl; times = λ k m. refl })
 
   pub heard_so : (new : List (Option L)) (heard answer : ℤ) (asked : Option Wanted) (w : Wanted) → asked ≡ Some w → heard ≡ answer → MayHear open_may start_may call_may slots (Some w) answer → Asked kept slots (Some w) answer new →
       MayHear open_may start_may call_may slots asked heard × Asked kept slots asked heard new
@@ -50,6 +50,7 @@ module _ {L : Type 0} (kept : L → List ℕ) (old new : List (Option L)) (n x :
       Asked kept old (Some (Starts n x f w)) answer new
   asked_start f w answer taken refused before after others = record {
     count = others.count;
+    unasked = others;
     living = λ k. elim (cases_eq k n) [
       | inl e ↦ subst (λ y. is_some (living_at new y) ≡ is_some (living_at old y)) (sym e) (after ∙ sym before)
       | inr apart ↦ ap is_some (others.others k apart)
@@ -69,10 +70,11 @@ module _ {L : Type 0} (kept : L → List ℕ) (old new : List (Option L)) (n x :
       at_own m (inr more) = ap (times m) (taken more.1) ∙ here m (ids_at kept old n) ∙ sym (ap (λ b. cond (not b && is_for n x n m) (suc (times m (ids_at kept old n))) (times m (ids_at kept old n))) more.0)
 
   -- what is outstanding stays so, where the call neither begins nor cancels
-  pub asked_alone : (asked : Wanted) (answer : ℤ) → ((k m before : ℕ) → times_after (Some asked) answer k m before ≡ before) → ids_at kept new n ≡ ids_at kept old n → IsSome (living_at old n) → IsSome (living_at new n) → KeepsOthers old new n →
+  pub asked_alone : (asked : Wanted) (answer : ℤ) → asked_at asked ≡ n → ((k m before : ℕ) → times_after (Some asked) answer k m before ≡ before) → ids_at kept new n ≡ ids_at kept old n → IsSome (living_at old n) → IsSome (living_at new n) → KeepsOthers old new n →
       Asked kept old (Some asked) answer new
-  asked_alone asked answer stays same before after others = record {
+  asked_alone asked answer at stays same before after others = record {
     count = others.count;
+    unasked = subst (λ k. KeepsOthers old new k) (sym at) others;
     living = λ k. elim (cases_eq k n) [
       | inl e ↦ subst (λ y. is_some (living_at new y) ≡ is_some (living_at old y)) (sym e) (after ∙ sym before)
       | inr apart ↦ ap is_some (others.others k apart)
@@ -113,6 +115,10 @@ module _ {X : Type 0} {B : X → Type 0} (old : Machine X B) (s : State) (st : S
   of_asked Turned = tt
   of_asked (Ended ending) = tt
 
+  -- natives that serve no class are asked nothing
+  pub unnamed_stay : (new : Machine X B) → KeepsUnasked old.natives.slots.items (asked_of old.core.image s) new.natives.slots.items → KeepsUnnamed old.core.image old.natives.slots.items new.natives.slots.items
+  unnamed_stay new unasked = keeps_unnamed old.core.image s old.natives.slots.items new.natives.slots.items (asked_of old.core.image s) (of_asked (progress_of s)) unasked
+
   -- the core has gone on with the answer
   pub stepped_on : (new : Machine X B) (mid : Core) (heard : ℤ) (progress : Progress) (told now : Turn) → mid.image ≡ old.core.image → mid.parts.heard ≡ heard → Core_stands mid s → new.core.image ≡ mid.image →
       Asked (λ l. l.ids) old.natives.slots.items (asked_of old.core.image s) heard new.natives.slots.items → Core_stepped_on mid progress told now new.core → SteppedOn old heard progress told now new s
@@ -143,3 +149,18 @@ module _ {X : Type 0} {B : X → Type 0} (old : Machine X B) (s : State) (st : S
   stepped_once new mid heard progress told now image same_heard stands kept asked steps =
       let d = stepped_on new mid heard progress told now image same_heard stands kept asked (λ v there. let x = steps v there in (x.0, v, x.1, begins, x.2, x.3, x.4, x.5)) in
       (d.0, d.2, d.4, d.5, d.6, d.7)
+
+-- where nothing is at hand nothing is asked, and the core stays as it was
+module _ {X : Type 0} {B : X → Type 0} (old mid : Machine X B) (core : Core) where
+  pub stays_idle : (told now : Turn) → (progress old.core ≢ Running → mid ≡ old) → Core_stays_idle mid.core told now core → StaysIdle old told now (record { core = core; natives = mid.natives })
+  stays_idle told now first then resting =
+      let same = first resting in
+      let still = then (λ running. resting (ap (λ (m : Machine X B). progress m.core) (sym same) ∙ running)) in
+      (ap (λ (c : Core). record { core = c; natives = mid.natives }) still.0 ∙ same, still.1)
+
+module _ {X : Type 0} {B : X → Type 0} (old m new : Machine X B) where
+  -- so over steps one after another
+  pub unnamed_step : m.core.image ≡ old.core.image → KeepsUnnamed old.core.image old.natives.slots.items m.natives.slots.items → Stands m →
+      ((s : State) → StandsFor m s → KeepsUnasked m.natives.slots.items (asked_of m.core.image s) new.natives.slots.items) → KeepsUnnamed old.core.image old.natives.slots.items new.natives.slots.items
+  unnamed_step image was stands unasked =
+      unnamed_on was (subst (λ p. KeepsUnnamed p m.natives.slots.items new.natives.slots.items) image (unnamed_stay m stands.0 stands.1 new (unasked stands.0 stands.1)))

@@ -2,7 +2,7 @@
 use Rattle.std.specs.Prelude.{ℕ, ℤ, suc, pred, ◌≡◌, ◌<◌, ◌&&◌, cond, List, length, Option, None, Some, IfSome, IsSome, is_some}
 use Rattle.aom_natives.specs.Owed.{IsNew, IsOwed, times}
 use Rattle.aom_endings.specs.Owed.{is_for, takes_on}
-use Rattle.aom_natives.specs.Slots.{ids_at, living_at}
+use Rattle.aom_natives.specs.Slots.{KeepsOthers, ids_at, living_at}
 use Rattle.aom_image.specs.Image.{Image}
 use Rattle.aom_sound.specs.State.{State}
 use Rattle.aom_parts.specs.Progress.{progress_of}
@@ -35,14 +35,28 @@ MayAsk kept slots (Asks n x f w) = IsSome (living_at slots n)
 MayAsk kept slots (Cancels n x) = IsSome (living_at slots n) × IsOwed (ids_at kept slots n) x
 MayAsk kept slots (Closes n x) = IsSome (living_at slots n) × IsNew (ids_at kept slots n) x
 
+-- the native at which a call is made
+abbrev pub asked_at : Wanted → ℕ
+asked_at (Opens n x) = n
+asked_at (Starts n x f w) = n
+asked_at (Asks n x f w) = n
+asked_at (Cancels n x) = n
+asked_at (Closes n x) = n
+
+-- each native but the one that is asked is as it was; where nothing is asked, each is
+abbrev pub KeepsUnasked : {L : Type 0} → List (Option L) → Option Wanted → List (Option L) → Type 0
+KeepsUnasked old None new = new ≡ old
+KeepsUnasked old (Some w) new = KeepsOthers old new (asked_at w)
+
 -- whether x is outstanding at native k after a call with that answer, by how often it was before
 abbrev pub times_after : Option Wanted → ℤ → (k m : ℕ) → ℕ → ℕ
 times_after (Some (Starts n x f w)) answer k m before = cond (takes_on answer && is_for n x k m) (suc before) before
 times_after (Some (Cancels n x)) answer k m before = cond (is_for n x k m) (pred before) before
 times_after _ answer k m before = before
 
--- the call is made: the same natives live, and what is kept of each is what it owes by then
+-- the call is made: the same natives live, what is kept of each is what it owes by then, and those that are not asked are as they were
 pub record Asked {L : Type 0} (kept : L → List ℕ) (old : List (Option L)) (asked : Option Wanted) (answer : ℤ) (new : List (Option L)) : Type 0 where
   pub count : length new ≡ length old
   pub living : (k : ℕ) → is_some (living_at new k) ≡ is_some (living_at old k)
+  pub unasked : KeepsUnasked old asked new
   pub times : (k m : ℕ) → times m (ids_at kept new k) ≡ times_after asked answer k m (times m (ids_at kept old k))

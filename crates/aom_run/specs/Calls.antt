@@ -1,5 +1,5 @@
 -- What the calls of a machine with natives do, from each state that it stands for.
-use Rattle.std.specs.Prelude.{ℕ, ℤ, suc, ◌≡◌, ◌≤◌, ◌+◌, ◌-◌, ◌++◌, Bool, true, false, List, length, Option, Some, None}
+use Rattle.std.specs.Prelude.{ℕ, ℤ, suc, ◌≡◌, ◌≢◌, ◌≤◌, ◌+◌, ◌-◌, ◌++◌, Bool, true, false, List, length, Option, Some, None}
 use Rattle.aom_lines.specs.Turn.{Turn}
 use Rattle.aom_transcript.specs.declared.event.Event.{Event}
 use Rattle.aom_transcript.specs.declared.event.Event.TheVariants.{Client}
@@ -8,14 +8,15 @@ use Rattle.aom_sound.specs.Places.{named}
 use Rattle.aom_sound.specs.State.{Goes, State}
 use Rattle.aom_sound.specs.World.{AnswersWell, Candidate, Completes, Completion, IsBetween, Outside, Picks, Polls, Timed, Turning, delivers, first_due, first_living, first_ready, has_signal, turned, written_by}
 use Rattle.aom_parts.specs.declared.progress.Progress.{Progress}
-use Rattle.aom_parts.specs.declared.progress.Progress.TheVariants.{Turned}
+use Rattle.aom_parts.specs.declared.progress.Progress.TheVariants.{Running, Turned}
 use Rattle.aom_parts.specs.Progress.{progress_of}
 use Rattle.aom_exec.specs.Clients.{IsInRange}
 use Rattle.aom_exec.specs.Steps.{Quiet, Steps, progress, timers}
 use Rattle.aom_parts.specs.Stands.{StandsFor as Core_stands}
 use Rattle.aom_exec.specs.Turns.{Answers, NoneDue}
 use Rattle.aom_run.specs.declared.machine.Machine.{Machine}
-use Rattle.aom_run.specs.Beside.{StandsBeside}
+use Rattle.aom_natives.specs.Slots.{KeepsOthers}
+use Rattle.aom_run.specs.Beside.{KeepsUntold, StandsBeside}
 
 -- an event as a script has it
 abbrev pub EventInRange : Event → Type 0
@@ -61,6 +62,10 @@ module _ {X : Type 0} {B : X → Type 0} where
       × (progress ≡ progress_of u)
       × StandsFor new u
 
+  -- where nothing is at hand, nothing changes, at no native either
+  abbrev pub StaysIdle : Machine X B → Turn → Turn → Machine X B → Type 0
+  StaysIdle old told now new = progress old.core ≢ Running → (new ≡ old) × (now ≡ told)
+
   -- a part of a turn, with its lines, to a state that the machine then stands for
   pub record Takes (old : Machine X B) (s : State) (part : Turning) (told now : Turn) (new : Machine X B) : Type 0 where
     pub between : IsBetween s
@@ -84,10 +89,11 @@ module _ {X : Type 0} {B : X → Type 0} where
       (outside : Outside) → outside.natives ≡ natives_of old → (s : State) → StandsFor old s
       → (name : ℕ) × (named s.cells name ≡ None) × Takes old s (delivers outside name s event) told now new
 
-  -- so it does, and answers whether a line was written: none but then, and one at most; the image, the natives and what runs of timers stay
+  -- so it does, and answers whether a line was written: none but then, and one at most; the image, how many natives there are, each that
+  -- the event is not for, and what runs of timers stay
   pub record IsDelivered (old : Machine X B) (event : Event) (answer : Bool) (before now : Turn) (new : Machine X B) : Type 0 where
     pub image : new.core.image ≡ old.core.image
-    pub natives : natives_of new ≡ natives_of old
+    pub natives : KeepsUntold event old.natives.slots.items new.natives.slots.items
     pub delivered : Delivered old event before now new
     pub rest : new.core.parts.rest ≡ record old.core.parts.rest { delivered = suc old.core.parts.rest.delivered }
     pub timers : timers new.core ≡ timers old.core
@@ -95,7 +101,7 @@ module _ {X : Type 0} {B : X → Type 0} where
     pub quiet : answer ≡ false → now ≡ before
     pub none_due : answer ≡ false → NoneIsDue old → NoneIsDue new
 
-  -- the native that comes next in the turn at hand is polled, and answers what it may; there is none where all are
+  -- the native that comes next in the turn at hand is polled, alone, and answers what it may; there is none where all are
   abbrev pub Polled : (may : ℕ → Option (ℕ × ℤ) → Type 0) → Machine X B → Bool → Machine X B → Type 0
   Polled may old true new =
       (s : State) → StandsFor old s
@@ -105,6 +111,7 @@ module _ {X : Type 0} {B : X → Type 0} where
       × Answers s.cells answer completion
       × AnswersWell old.core.image s (Polls n completion)
       × ((told : Turn) → Takes old s (Polls n completion) told told new)
+      × KeepsOthers old.natives.slots.items new.natives.slots.items n
   Polled may old false new = (new ≡ old) × ((s : State) → StandsFor old s → first_living s.killed (natives_of old - s.rest.polled) s.rest.polled ≡ None)
 
   -- the ready object or server that goes before all others is dispatched, with its line; there is none where nothing signals

@@ -1,9 +1,10 @@
 //! What a step asks of a native.
-ghost use Rattle.std.specs.Prelude.{◌≡◌, ◌<◌, Some};
+ghost use Rattle.std.specs.Prelude.{◌≡◌, ◌≢◌, ◌<◌, Some};
 ghost use Rattle.aom_parts.specs.Stands.{StandsFor as CoreStandsFor};
 ghost use Rattle.aom_parts.specs.declared.progress.Progress.TheVariants.{Running};
 ghost use Rattle.aom_run.specs.Answers.{Asked, MayAsk, MayHear, asked_of};
 ghost use Rattle.aom_run.specs.Calls.{Stands, StandsFor};
+ghost use Rattle.aom_exec.specs.Steps.{progress};
 ghost use Rattle.aom_natives.specs.Slots.{AllAgree};
 ghost use Rattle.aom_sound.specs.State.{State};
 ghost use Rattle.aom_sound.specs.Wanted.{wanted};
@@ -52,6 +53,7 @@ impl<'a> Machine<'a> {
         requires agree { AllAgree (λ l. l.ids) (λ l. (⟦<dyn Native as Native>⟧ l.native.vtable).owed l.native.value) self.old.natives.slots.items }
         requires stands { Stands self.old }
         ensures agree { AllAgree (λ l. l.ids) (λ l. (⟦<dyn Native as Native>⟧ l.native.vtable).owed l.native.value) self.new.natives.slots.items }
+        ensures idle { progress self.old.core ≢ Running → self.new ≡ self.old }
         ensures core { self.new.core ≡ record self.old.core { parts = record self.old.core.parts { heard = self.new.core.parts.heard } } }
         ensures stands { (s : State) → CoreStandsFor self.old.core s → CoreStandsFor self.new.core s }
         ensures asked { (s : State) → StandsFor self.old s → MayHear (λ l. (⟦<dyn Native as Native>⟧ l.native.vtable).open_may l.native.value) (λ l. (⟦<dyn Native as Native>⟧ l.native.vtable).start_may l.native.value) (λ l. (⟦<dyn Native as Native>⟧ l.native.vtable).call_may l.native.value) self.old.natives.slots.items (asked_of self.old.core.image s) self.new.core.parts.heard × Asked (λ l. l.ids) self.old.natives.slots.items (asked_of self.old.core.image s) self.new.core.parts.heard self.new.natives.slots.items }

@@ -3,6 +3,7 @@ ghost use Rattle.std.specs.Prelude.{ℕ, true, false, ◌≡◌, ◌<◌, take, 
 ghost use Rattle.aom_transcript.specs.Text.{text_of};
 ghost use Rattle.aom_run.specs.Runs.{CutOff, Filled, HasRoom, KeepsImage, Sent, after};
 ghost use Rattle.aom_exec.specs.Steps.{rank};
+ghost use Rattle.aom_run.specs.Beside.{KeepsUnnamed};
 ghost use Rattle.aom_run.specs.Calls.{Stands};
 ghost use Rattle.aom_natives.specs.Slots.{AllAgree};
 
@@ -27,6 +28,7 @@ pub fn run_dispatch<W: Sink>(
     requires room { HasRoom machine.old turn.old }
     ensures agree { AllAgree (λ l. l.ids) (λ l. (⟦<dyn Native as Native>⟧ l.native.vtable).owed l.native.value) machine.new.natives.slots.items }
     ensures kept { KeepsImage machine.old machine.new }
+    ensures unnamed { KeepsUnnamed machine.old.core.image machine.old.natives.slots.items machine.new.natives.slots.items }
     ensures none { IfNone result ((W.failed out.new ≡ true) × CutOff machine.old turn.old (W.out out.old) (W.out out.new) machine.new) }
     ensures some { IfSome result (λ progress. Sent machine.old progress turn.old turn.new (W.out out.old) (W.out out.new) machine.new) }
 {
@@ -51,6 +53,7 @@ fn fill(machine: &mut Machine, turn: &mut Turn) -> Progress
     requires room { HasRoom machine.old turn.old }
     ensures agree { AllAgree (λ l. l.ids) (λ l. (⟦<dyn Native as Native>⟧ l.native.vtable).owed l.native.value) machine.new.natives.slots.items }
     ensures kept { KeepsImage machine.old machine.new }
+    ensures unnamed { KeepsUnnamed machine.old.core.image machine.old.natives.slots.items machine.new.natives.slots.items }
     ensures steps { Filled machine.old result turn.old turn.new machine.new }
     ensures falls { result ≡ Progress.Running → rank machine.new.core < rank machine.old.core }
 {

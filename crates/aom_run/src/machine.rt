@@ -4,8 +4,8 @@ ghost use Rattle.aom_exec.specs.Steps.{rank};
 ghost use Rattle.aom_lines.specs.Turn.{step_lines};
 ghost use Rattle.aom_parts.specs.Stands.{StandsFor as CoreStands};
 ghost use Rattle.aom_parts.specs.declared.progress.Progress.TheVariants.{Running};
-ghost use Rattle.aom_run.specs.Answers.{MayHear, asked_of};
-ghost use Rattle.aom_run.specs.Calls.{Stands, StandsFor, SteppedOn, SteppedOnce, natives_of};
+ghost use Rattle.aom_run.specs.Answers.{KeepsUnasked, MayHear, asked_of};
+ghost use Rattle.aom_run.specs.Calls.{StaysIdle, Stands, StandsFor, SteppedOn, SteppedOnce, natives_of};
 ghost use Rattle.aom_natives.specs.Owed.{OweNothing};
 ghost use Rattle.aom_natives.specs.Slots.{AllAgree};
 ghost use Rattle.aom_sound.specs.State.{State};
@@ -85,6 +85,8 @@ impl<'a> Machine<'a> {
         ensures agree { AllAgree (λ l. l.ids) (λ l. (⟦<dyn Native as Native>⟧ l.native.vtable).owed l.native.value) self.new.natives.slots.items }
         ensures image { self.new.core.image ≡ self.old.core.image }
         ensures natives { natives_of self.new ≡ natives_of self.old }
+        ensures unasked { (s : State) → StandsFor self.old s → KeepsUnasked self.old.natives.slots.items (asked_of self.old.core.image s) self.new.natives.slots.items }
+        ensures idle { StaysIdle self.old turn.old turn.new self.new }
         ensures steps { (s : State) → StandsFor self.old s → (heard : ℤ) × MayHear (λ l. (⟦<dyn Native as Native>⟧ l.native.vtable).open_may l.native.value) (λ l. (⟦<dyn Native as Native>⟧ l.native.vtable).start_may l.native.value) (λ l. (⟦<dyn Native as Native>⟧ l.native.vtable).call_may l.native.value) self.old.natives.slots.items (asked_of self.old.core.image s) heard × SteppedOn self.old heard result turn.old turn.new self.new s }
         ensures falls { result ≡ Running → rank self.new.core < rank self.old.core }
     {
@@ -100,6 +102,8 @@ impl<'a> Machine<'a> {
         ensures agree { AllAgree (λ l. l.ids) (λ l. (⟦<dyn Native as Native>⟧ l.native.vtable).owed l.native.value) self.new.natives.slots.items }
         ensures image { self.new.core.image ≡ self.old.core.image }
         ensures natives { natives_of self.new ≡ natives_of self.old }
+        ensures unasked { (s : State) → StandsFor self.old s → KeepsUnasked self.old.natives.slots.items (asked_of self.old.core.image s) self.new.natives.slots.items }
+        ensures idle { StaysIdle self.old turn.old turn.new self.new }
         ensures steps { (s : State) → StandsFor self.old s → (heard : ℤ) × MayHear (λ l. (⟦<dyn Native as Native>⟧ l.native.vtable).open_may l.native.value) (λ l. (⟦<dyn Native as Native>⟧ l.native.vtable).start_may l.native.value) (λ l. (⟦<dyn Native as Native>⟧ l.native.vtable).call_may l.native.value) self.old.natives.slots.items (asked_of self.old.core.image s) heard × SteppedOnce self.old heard result turn.old turn.new self.new s }
         ensures falls { result ≡ Running → rank self.new.core < rank self.old.core }
     {

@@ -1,11 +1,12 @@
 //! What comes between dispatches: timers, events, polls, picks and the passing of time.
-ghost use Rattle.std.specs.Prelude.{◌≡◌, ◌<◌, ◌≤◌, true, false, All, List, IfNone, IfSome, length};
+ghost use Rattle.std.specs.Prelude.{ℕ, ◌≡◌, ◌<◌, ◌≤◌, true, false, All, List, IfNone, IfSome, length};
 ghost use Rattle.aom_sound.specs.State.{State};
 ghost use Rattle.aom_sound.specs.World.{due_of, event_at, first_due, nearer, time_of};
 ghost use Rattle.aom_exec.specs.Steps.{progress, timers};
 ghost use Rattle.aom_parts.specs.declared.progress.Progress.TheVariants.{Turned};
 ghost use Rattle.aom_run.specs.Calls.{EventInRange, NoneIsDue, Stands, StandsBetween, StandsFor, natives_of};
-ghost use Rattle.aom_natives.specs.Slots.{AllAgree};
+ghost use Rattle.aom_run.specs.Beside.{is_for_native};
+ghost use Rattle.aom_natives.specs.Slots.{AllAgree, living_at};
 ghost use Rattle.aom_transcript.specs.declared.event.TimedEvent.{TimedEvent};
 ghost use Rattle.aom_run.specs.Turns.{AllPolled, CanHear, CompletesDue, HasCome, HearsAll, IsDue, IsLate, Keeps, NoneHasCome, Settles, TakesTurns, hearing, to_come, waiting};
 
@@ -92,6 +93,7 @@ fn complete_due(machine: &mut Machine)
     requires rests { StandsBetween machine.old }
     ensures agree { AllAgree (λ l. l.ids) (λ l. (⟦<dyn Native as Native>⟧ l.native.vtable).owed l.native.value) machine.new.natives.slots.items }
     ensures kept { Keeps machine.old machine.new }
+    ensures natives { machine.new.natives ≡ machine.old.natives }
     ensures completed { CompletesDue machine.old machine.new }
     ensures none { NoneIsDue machine.new }
     ensures no_more { timers machine.new.core ≤ timers machine.old.core }
@@ -129,6 +131,7 @@ fn hear_due(machine: &mut Machine, events: &[TimedEvent], turn: &mut Turn) -> bo
     requires can { CanHear events.now turn.old }
     ensures agree { AllAgree (λ l. l.ids) (λ l. (⟦<dyn Native as Native>⟧ l.native.vtable).owed l.native.value) machine.new.natives.slots.items }
     ensures kept { Keeps machine.old machine.new }
+    ensures untold { (k : ℕ) → All (λ e. is_for_native e.event k ≡ false) events.now → living_at machine.new.natives.slots.items k ≡ living_at machine.old.natives.slots.items k }
     ensures heard { HearsAll result events.now machine.old turn.old turn.new machine.new }
     ensures timers { timers machine.new.core ≡ timers machine.old.core }
     ensures no_more { to_come events.now machine.new ≤ to_come events.now machine.old }

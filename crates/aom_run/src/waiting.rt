@@ -5,7 +5,7 @@ ghost use Rattle.aom_exec.specs.Steps.{progress, timers};
 ghost use Rattle.aom_parts.specs.declared.progress.Progress.TheVariants.{Turned};
 ghost use Rattle.aom_run.specs.Calls.{Completed, EventInRange, IsDelivered, NoneIsDue, Picked, Polled, Stands, StandsBetween, StandsFor, TakesAll, natives_of, to_poll};
 ghost use Rattle.aom_run.specs.Beside.{KeptSame};
-ghost use Rattle.aom_natives.specs.Slots.{AllAgree, living_at};
+ghost use Rattle.aom_natives.specs.Slots.{AllAgree, KeepsOthers, living_at};
 ghost use Rattle.aom_sound.specs.State.{State};
 ghost use Rattle.aom_transcript.specs.declared.event.Event.TheVariants.{Client, Kill};
 ghost use Rattle.aom_sound.specs.World.{Hears, first_living, Passes};
@@ -23,6 +23,7 @@ fn inform(natives: &mut Natives, native: usize, word: i32)
     requires agree { AllAgree (λ l. l.ids) (λ l. (⟦<dyn Native as Native>⟧ l.native.vtable).owed l.native.value) natives.old.slots.items }
     ensures agree { AllAgree (λ l. l.ids) (λ l. (⟦<dyn Native as Native>⟧ l.native.vtable).owed l.native.value) natives.new.slots.items }
     ensures same { KeptSame (λ l. l.ids) natives.old.slots.items natives.new.slots.items }
+    ensures others { KeepsOthers natives.old.slots.items natives.new.slots.items native }
 {
     if natives.is_alive(native) {
         natives.event(native, word);
@@ -36,7 +37,7 @@ impl<'a> Machine<'a> {
         requires between { progress self.old.core ≡ Turned }
         ensures agree { AllAgree (λ l. l.ids) (λ l. (⟦<dyn Native as Native>⟧ l.native.vtable).owed l.native.value) self.new.natives.slots.items }
         ensures image { self.new.core.image ≡ self.old.core.image }
-        ensures natives { natives_of self.new ≡ natives_of self.old }
+        ensures natives { self.new.natives ≡ self.old.natives }
         ensures completed { Completed self.old result self.new }
         ensures fewer { result ≡ true → timers self.new.core < timers self.old.core }
     {
@@ -97,7 +98,7 @@ impl<'a> Machine<'a> {
         requires room { length turn.old.lines < turn.old.room }
         ensures agree { AllAgree (λ l. l.ids) (λ l. (⟦<dyn Native as Native>⟧ l.native.vtable).owed l.native.value) self.new.natives.slots.items }
         ensures image { self.new.core.image ≡ self.old.core.image }
-        ensures natives { natives_of self.new ≡ natives_of self.old }
+        ensures natives { self.new.natives ≡ self.old.natives }
         ensures picked { Picked self.old result turn.old turn.new self.new }
     {
         self.core.pick(turn)
@@ -110,7 +111,7 @@ impl<'a> Machine<'a> {
         requires later { self.old.core.parts.rest.clock ≤ time }
         ensures agree { AllAgree (λ l. l.ids) (λ l. (⟦<dyn Native as Native>⟧ l.native.vtable).owed l.native.value) self.new.natives.slots.items }
         ensures image { self.new.core.image ≡ self.old.core.image }
-        ensures natives { natives_of self.new ≡ natives_of self.old }
+        ensures natives { self.new.natives ≡ self.old.natives }
         ensures passed { TakesAll self.old (Passes time) self.new }
         ensures timers { timers self.new.core ≡ timers self.old.core }
     {
@@ -124,7 +125,7 @@ impl<'a> Machine<'a> {
         requires few { self.old.core.parts.rest.delivered + 1 < 2 ^ 64 }
         ensures agree { AllAgree (λ l. l.ids) (λ l. (⟦<dyn Native as Native>⟧ l.native.vtable).owed l.native.value) self.new.natives.slots.items }
         ensures image { self.new.core.image ≡ self.old.core.image }
-        ensures natives { natives_of self.new ≡ natives_of self.old }
+        ensures natives { KeepsOthers self.old.natives.slots.items self.new.natives.slots.items native }
         ensures heard { TakesAll self.old Hears self.new }
         ensures rest { self.new.core.parts.rest ≡ record self.old.core.parts.rest { delivered = suc self.old.core.parts.rest.delivered } }
         ensures timers { timers self.new.core ≡ timers self.old.core }

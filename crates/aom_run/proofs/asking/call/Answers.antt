@@ -58,17 +58,17 @@ returns-in-Close-clause-agree g c = c.close.ensures.agree
 pub returns-in-Open-clause-after : goal.returns-in-Open-clause-after
 returns-in-Open-clause-after g c =
     let alive = rw c.in-Open.is at c.requires.fits in
-    rw c.in-Open.is (asked_alone (λ l. l.ids) c.args.natives.now.slots.items c.open.new.self.slots.items c.in-Open.native c.in-Open.id _ _ (λ k m before. refl) c.open.ensures.ids alive c.open.ensures.alive c.open.ensures.others)
+    rw c.in-Open.is (asked_alone (λ l. l.ids) c.args.natives.now.slots.items c.open.new.self.slots.items c.in-Open.native c.in-Open.id _ _ refl (λ k m before. refl) c.open.ensures.ids alive c.open.ensures.alive c.open.ensures.others)
 
 pub returns-in-Ask-clause-after : goal.returns-in-Ask-clause-after
 returns-in-Ask-clause-after g c =
     let alive = rw c.in-Ask.is at c.requires.fits in
-    rw c.in-Ask.is (asked_alone (λ l. l.ids) c.args.natives.now.slots.items c.call.new.self.slots.items c.in-Ask.native c.in-Ask.id _ _ (λ k m before. refl) c.call.ensures.ids alive c.call.ensures.alive c.call.ensures.others)
+    rw c.in-Ask.is (asked_alone (λ l. l.ids) c.args.natives.now.slots.items c.call.new.self.slots.items c.in-Ask.native c.in-Ask.id _ _ refl (λ k m before. refl) c.call.ensures.ids alive c.call.ensures.alive c.call.ensures.others)
 
 pub returns-in-Close-clause-after : goal.returns-in-Close-clause-after
 returns-in-Close-clause-after g c =
     let fits = rw c.in-Close.is at c.requires.fits in
-    rw c.in-Close.is (asked_alone (λ l. l.ids) c.args.natives.now.slots.items c.close.new.self.slots.items c.in-Close.native c.in-Close.id _ _ (λ k m before. refl) c.close.ensures.ids fits.0 c.close.ensures.alive c.close.ensures.others)
+    rw c.in-Close.is (asked_alone (λ l. l.ids) c.args.natives.now.slots.items c.close.new.self.slots.items c.in-Close.native c.in-Close.id _ _ refl (λ k m before. refl) c.close.ensures.ids fits.0 c.close.ensures.alive c.close.ensures.others)
 
 pub start-requires-clause-fresh : goal.start-requires-clause-fresh
 start-requires-clause-fresh g c = let fits = rw c.in-Start.is at c.requires.fits in fits.1

@@ -1,7 +1,9 @@
 use Rattle.std.proofs.Common.{◌∙◌, length, refl, ap, arith}
 use Rattle.aom_image.specs.Image.{Image}
 use Rattle.aom_run.proofs.Reaching.{steps_of, went_nowhere, went, filled, stands_on, room_stays}
+use Rattle.aom_run.proofs.Asked.{unnamed_all}
 use Rattle.aom_run.proofs.Keeping.{image_all, image_on}
+use Rattle.aom_run.proofs.Stepped.{unnamed_step}
 use Rattle.aom_run.proofs.dispatches.fill.Goals as goal
 
 pub loop-progress-init : goal.loop-progress-init
@@ -11,6 +13,7 @@ loop-progress-init g c =
       stands = c.requires.stands;
       agree = c.requires.agree;
       kept = image_all c.args.machine.now;
+      unnamed = unnamed_all _ _;
       room = refl;
       few = c.requires.room.0;
       lower = omega arith;
@@ -28,6 +31,12 @@ step_on-progress-requires g c =
 pub returns-then-lines-ge-MANY_LINES-clause-kept :
     goal.returns-then-lines-ge-MANY_LINES-clause-kept
 returns-then-lines-ge-MANY_LINES-clause-kept g c = image_on c.loop-progress.invariant.kept c.step_on-progress.ensures.image c.step_on-progress.ensures.natives
+
+pub returns-then-lines-ge-MANY_LINES-clause-unnamed :
+    goal.returns-then-lines-ge-MANY_LINES-clause-unnamed
+returns-then-lines-ge-MANY_LINES-clause-unnamed g c =
+    let i = c.loop-progress.invariant in
+    unnamed_step c.args.machine.now c.loop-progress.machine c.step_on-progress.new.self i.kept.image i.unnamed i.stands c.step_on-progress.ensures.unasked
 
 pub returns-then-lines-ge-MANY_LINES-clause-steps :
     goal.returns-then-lines-ge-MANY_LINES-clause-steps
@@ -62,6 +71,7 @@ loop-progress-preserved g c =
       stands = stands_on m new mid now progress i.stands steps;
       agree = c.step_on-progress.ensures.agree;
       kept = image_on i.kept c.step_on-progress.ensures.image c.step_on-progress.ensures.natives;
+      unnamed = unnamed_step c.args.machine.now c.loop-progress.machine c.step_on-progress.new.self i.kept.image i.unnamed i.stands c.step_on-progress.ensures.unasked;
       room = room_stays m new mid now progress i.stands steps ∙ i.room;
       few = omega (arith, count, test);
       lower = omega (arith, falls, lower);
@@ -73,6 +83,7 @@ returns-in_default g c =
     record {
       agree = c.step_on-progress.ensures.agree;
       kept = image_on i.kept c.step_on-progress.ensures.image c.step_on-progress.ensures.natives;
+      unnamed = unnamed_step c.args.machine.now c.loop-progress.machine c.step_on-progress.new.self i.kept.image i.unnamed i.stands c.step_on-progress.ensures.unasked;
       steps = filled c.args.machine.now c.loop-progress.machine c.step_on-progress.new.self c.args.turn.now c.loop-progress.turn c.step_on-progress.new.turn c.step_on-progress.result i.went i.kept.image (steps_of c.loop-progress.machine c.step_on-progress.new.self c.step_on-progress.result c.loop-progress.turn c.step_on-progress.new.turn c.step_on-progress.ensures.steps);
       falls = λ is. absurd (c.in_default.not-Running is);
     }

@@ -1,5 +1,6 @@
 use Rattle.std.proofs.Common.{◌≡◌, ◌<◌, ◌≤◌, length}
 use Rattle.aom_exec.specs.Steps.{rank}
+use Rattle.aom_run.specs.Beside.{KeepsUnnamed}
 use Rattle.aom_run.specs.Calls.{Stands}
 use Rattle.aom_natives.specs.Slots.{AllAgree}
 use Rattle.aom_run.specs.Runs.{KeepsImage}
@@ -12,6 +13,7 @@ invariant-loop-progress g l = record {
   stands : Stands l.machine;
   agree : AllAgree (λ x. x.ids) (λ x. (goal.Native-dyn g (x.native.vtable, x.native.value)).owed x.native.value) l.machine.natives.slots.items;
   kept : KeepsImage l.fn.machine l.machine;
+  unnamed : KeepsUnnamed l.fn.machine.core.image l.fn.machine.natives.slots.items l.machine.natives.slots.items;
   room : l.turn.room ≡ l.fn.turn.room;
   few : length l.turn.lines < 64;
   lower : rank l.machine.core ≤ rank l.fn.machine.core;

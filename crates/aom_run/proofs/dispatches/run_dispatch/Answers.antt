@@ -3,13 +3,15 @@ use Rattle.aom_image.specs.Image.{Image}
 use Rattle.aom_lines.specs.Turn.{Turn, step_lines}
 use Rattle.aom_transcript.specs.Text.{text_of}
 use Rattle.aom_run.specs.Runs.{after}
+use Rattle.aom_run.specs.Beside.{KeepsUnnamed}
+use Rattle.aom_run.proofs.Asked.{unnamed_all, unnamed_on}
 use Rattle.aom_run.proofs.Keeping.{image_all, image_on}
 use Rattle.aom_run.proofs.Underway.{cleared_same, cut_off, is_sent, still_stands, underway, underway_still}
 use Rattle.aom_run.proofs.dispatches.run_dispatch.Goals as goal
 
 pub loop-progress-init : goal.loop-progress-init
 loop-progress-init g c =
-    record { underway = underway c.args.machine.now c.args.turn.now (g.W.Sink.out c.args.out.now); stands = c.requires.stands; agree = c.requires.agree; kept = image_all c.args.machine.now; same = refl; few = c.requires.room.0 }
+    record { underway = underway c.args.machine.now c.args.turn.now (g.W.Sink.out c.args.out.now); stands = c.requires.stands; agree = c.requires.agree; kept = image_all c.args.machine.now; unnamed = unnamed_all _ _; same = refl; few = c.requires.room.0 }
 
 pub fill-progress-requires : goal.fill-progress-requires
 fill-progress-requires g c =
@@ -18,6 +20,9 @@ fill-progress-requires g c =
 
 pub returns-then-has_failed-clause-kept : goal.returns-then-has_failed-clause-kept
 returns-then-has_failed-clause-kept g c = let e = c.fill-progress.ensures.kept in image_on c.loop-progress.invariant.kept e.image e.natives
+
+pub returns-then-has_failed-clause-unnamed : goal.returns-then-has_failed-clause-unnamed
+returns-then-has_failed-clause-unnamed g c = let i = c.loop-progress.invariant in unnamed_on i.unnamed (subst (λ p. KeepsUnnamed p c.loop-progress.machine.natives.slots.items c.fill-progress.new.machine.natives.slots.items) i.kept.image c.fill-progress.ensures.unnamed)
 
 pub returns-then-has_failed-clause-none : goal.returns-then-has_failed-clause-none
 returns-then-has_failed-clause-none g c =
@@ -40,6 +45,7 @@ loop-progress-preserved g c =
       stands = still_stands c.loop-progress.machine c.fill-progress.new.machine c.loop-progress.turn c.fill-progress.new.turn c.fill-progress.result i.stands c.fill-progress.ensures.steps;
       agree = c.fill-progress.ensures.agree;
       kept = image_on i.kept c.fill-progress.ensures.kept.image c.fill-progress.ensures.kept.natives;
+      unnamed = unnamed_on i.unnamed (subst (λ p. KeepsUnnamed p c.loop-progress.machine.natives.slots.items c.fill-progress.new.machine.natives.slots.items) i.kept.image c.fill-progress.ensures.unnamed);
       same = cleared_same c.loop-progress.machine c.fill-progress.new.machine c.args.turn.now c.loop-progress.turn c.fill-progress.new.turn c.clear.new.self c.fill-progress.result i.same i.stands c.fill-progress.ensures.steps c.clear.ensures;
       few = omega (arith, none);
     }
@@ -51,6 +57,7 @@ returns-in_default g c =
     record {
       agree = c.fill-progress.ensures.agree;
       kept = image_on i.kept c.fill-progress.ensures.kept.image c.fill-progress.ensures.kept.natives;
+      unnamed = unnamed_on i.unnamed (subst (λ p. KeepsUnnamed p c.loop-progress.machine.natives.slots.items c.fill-progress.new.machine.natives.slots.items) i.kept.image c.fill-progress.ensures.unnamed);
       none = tt;
       some = is_sent c.args.machine.now c.loop-progress.machine c.fill-progress.new.machine c.args.turn.now c.loop-progress.turn c.fill-progress.new.turn (g.W.Sink.out c.args.out.now) (g.W.Sink.out c.loop-progress.out) c.fill-progress.result i.underway i.kept.image i.same c.fill-progress.ensures.steps _ _ c.clear.ensures out c.in_default.not-Running;
     }

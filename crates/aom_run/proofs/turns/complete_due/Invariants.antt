@@ -9,6 +9,7 @@ invariant-loop g l = record {
   completed : CompletesDue l.fn.machine l.machine;
   keeps : Keeps l.fn.machine l.machine;
   agree : AllAgree (λ x. x.ids) (λ x. (goal.Native-dyn g (x.native.vtable, x.native.value)).owed x.native.value) l.machine.natives.slots.items;
+  natives : l.machine.natives ≡ l.fn.machine.natives;
   fewer : (l.machine ≡ l.fn.machine) ⊎ (timers l.machine.core < timers l.fn.machine.core);
 }
 

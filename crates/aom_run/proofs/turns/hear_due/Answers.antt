@@ -1,6 +1,7 @@
 -- Each event that has come is heard, up to one that is told by a line.
-use Rattle.std.proofs.Common.{arith, inl, inr, length, refl, subst, sym, ◌<◌, ◌∙◌}
+use Rattle.std.proofs.Common.{arith, false, inl, inr, length, refl, subst, sym, ◌<◌, ◌≡◌, ◌∙◌}
 use Rattle.aom_lines.specs.Turn.{Turn}
+use Rattle.aom_run.specs.Beside.{is_for_native}
 use Rattle.aom_run.specs.Calls.{Delivered, EventInRange}
 use Rattle.aom_run.specs.Turns.{TellsEnd}
 use Rattle.aom_run.proofs.Between.{at_most_to_come, come_within, had_come, heard_far, heard_fewer, heard_settles, heard_stands, heard_tells, less_to_come, none_settles, settles_both, tells_after}
@@ -14,6 +15,7 @@ loop-event-init g c =
       settled = none_settles c.args.events.now c.args.machine.now;
       kept = times_all c.args.machine.now c.requires.rests.0 c.requires.rests.1 c.requires.none_due;
       agree = c.requires.agree;
+      untold = λ k none. refl;
       turn = refl;
       fewer = inl refl;
     }
@@ -52,7 +54,7 @@ returns-then-deliver-clause-kept g c =
     let takes = subst (λ event. Delivered m event c.loop-event.turn c.deliver.new.turn c.deliver.new.self) (sym come.1) e.delivered in
     let none = i.kept.none_due in
     let k = i.kept.keeps in
-    keeps_on k (heard_stands c.args.events.now m c.deliver.new.self c.loop-event.turn c.deliver.new.turn none come.0 takes e.rest k.stands) (heard_far c.args.events.now m c.deliver.new.self c.loop-event.turn c.deliver.new.turn none come.0 takes e.rest k.stands) e.image e.natives
+    keeps_on k (heard_stands c.args.events.now m c.deliver.new.self c.loop-event.turn c.deliver.new.turn none come.0 takes e.rest k.stands) (heard_far c.args.events.now m c.deliver.new.self c.loop-event.turn c.deliver.new.turn none come.0 takes e.rest k.stands) e.image e.natives.count
 
 pub loop-event-smaller : goal.loop-event-smaller
 loop-event-smaller g c =
@@ -80,8 +82,9 @@ loop-event-preserved g c =
     let quiet = e.quiet c.if-deliver.false in
     record {
       settled = settles_both events old m k.image k.natives i.settled new (heard_settles events m new told now none come.0 takes e.rest quiet);
-      kept = times_on i.kept (keeps_on k (heard_stands events m new told now none come.0 takes e.rest k.stands) (heard_far events m new told now none come.0 takes e.rest k.stands) e.image e.natives) (e.none_due c.if-deliver.false none) e.timers;
+      kept = times_on i.kept (keeps_on k (heard_stands events m new told now none come.0 takes e.rest k.stands) (heard_far events m new told now none come.0 takes e.rest k.stands) e.image e.natives.count) (e.none_due c.if-deliver.false none) e.timers;
       agree = c.deliver.ensures.agree;
+      untold = λ k none. e.natives.at k (subst (λ event. is_for_native event k ≡ false) come.1 (all_got (λ x. is_for_native x.event k ≡ false) events m.core.parts.rest.delivered come.0.0 none come.0.1)) ∙ i.untold k none;
       turn = quiet ∙ i.turn;
       fewer = inr (less_to_come events old m new i.fewer (heard_fewer events m new told now none come.0 takes e.rest));
     }
@@ -118,3 +121,12 @@ returns-clause-no_more g c = at_most_to_come c.args.events.now c.args.machine.no
 
 pub returns-clause-falls : goal.returns-clause-falls
 returns-clause-falls g c = λ is. had_come c.args.events.now c.args.machine.now c.loop-event.machine c.loop-event.invariant.fewer c.in_default.ensures.none
+
+pub returns-then-deliver-clause-untold : goal.returns-then-deliver-clause-untold
+returns-then-deliver-clause-untold g c = λ k none.
+    let come = c.in-Some.ensures.some in
+    let apart = all_got (λ x. is_for_native x.event k ≡ false) c.args.events.now c.loop-event.machine.core.parts.rest.delivered come.0.0 none come.0.1 in
+    c.deliver.ensures.delivered.natives.at k (subst (λ event. is_for_native event k ≡ false) come.1 apart) ∙ c.loop-event.invariant.untold k none
+
+pub returns-clause-untold : goal.returns-clause-untold
+returns-clause-untold g c = c.loop-event.invariant.untold

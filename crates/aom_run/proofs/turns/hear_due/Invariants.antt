@@ -1,5 +1,7 @@
-use Rattle.std.proofs.Common.{◌≡◌, ◌⊎◌, ◌<◌}
-use Rattle.aom_natives.specs.Slots.{AllAgree}
+use Rattle.std.proofs.Common.{◌≡◌, ◌⊎◌, ◌<◌, false, ℕ}
+use Rattle.std.specs.Prelude.{All}
+use Rattle.aom_natives.specs.Slots.{AllAgree, living_at}
+use Rattle.aom_run.specs.Beside.{is_for_native}
 use Rattle.aom_run.specs.Turns.{Settles, to_come}
 use Rattle.aom_run.proofs.Keeping.{KeepsTimers}
 use Rattle.aom_run.proofs.turns.hear_due.Given as goal
@@ -9,6 +11,7 @@ invariant-loop-event g l = record {
   settled : Settles l.fn.events l.fn.machine l.machine;
   kept : KeepsTimers l.fn.machine l.machine;
   agree : AllAgree (λ x. x.ids) (λ x. (goal.Native-dyn g (x.native.vtable, x.native.value)).owed x.native.value) l.machine.natives.slots.items;
+  untold : (k : ℕ) → All (λ e. is_for_native e.event k ≡ false) l.fn.events → living_at l.machine.natives.slots.items k ≡ living_at l.fn.machine.natives.slots.items k;
   turn : l.turn ≡ l.fn.turn;
   fewer : (l.machine ≡ l.fn.machine) ⊎ (to_come l.fn.events l.machine < to_come l.fn.events l.fn.machine);
 }

@@ -2,6 +2,7 @@ use Rattle.std.proofs.Common.{ap, arith, length, subst, sym, true, Some, ◌∙�
 use Rattle.aom_transcript.specs.declared.line.Ending.TheVariants.{Waiting}
 use Rattle.aom_lines.specs.Turn.{Turn}
 use Rattle.aom_run.specs.Calls.{Picked, natives_of}
+use Rattle.aom_run.proofs.Keeping.{as_many}
 use Rattle.aom_run.proofs.Serving.{cut_so, waited_so}
 use Rattle.aom_run.specs.Turns.{HearsAll, TakesTurns, hearing, waiting}
 use Rattle.aom_run.proofs.Resting.{dispatches_one, ends_told, limit_cuts, no_earlier, none_picked, passed_far, passed_late, passed_stands, passed_to_come, rests_on, tells_on, waits_on}
@@ -59,7 +60,7 @@ returns-then-pick g c =
     record {
       agree = c.pick.ensures.agree;
       image = c.pick.ensures.image ∙ i.rests.image;
-      natives = c.pick.ensures.natives ∙ i.rests.natives;
+      natives = as_many m c.pick.new.self c.pick.ensures.natives ∙ i.rests.natives;
       turns = dispatches_one c.args.machine.now m c.args.events.now c.args.turn.now.refused c.args.limit i.rests c.args.turn.now c.pick.new.turn c.pick.new.self (subst (λ t. Picked m true t c.pick.new.turn c.pick.new.self) i.turn picked);
     }
 
@@ -113,8 +114,8 @@ returns-then-settle-2 g c =
     record {
       agree = done.agree;
       image = done.kept.image ∙ e.image ∙ k.0.image;
-      natives = done.kept.natives ∙ e.natives ∙ k.0.natives;
-      turns = tells_on c.args.machine.now c.pick.new.self c.args.events.now c.args.turn.now.refused c.args.limit k.0 k.2 c.next_time.result c.next_time.ensures c.in-Some.time c.in-Some.is c.set_clock.new.self e.image e.passed e.natives new c.args.turn.now now tells;
+      natives = done.kept.natives ∙ as_many c.pick.new.self c.set_clock.new.self e.natives ∙ k.0.natives;
+      turns = tells_on c.args.machine.now c.pick.new.self c.args.events.now c.args.turn.now.refused c.args.limit k.0 k.2 c.next_time.result c.next_time.ensures c.in-Some.time c.in-Some.is c.set_clock.new.self e.image e.passed (as_many c.pick.new.self c.set_clock.new.self e.natives) new c.args.turn.now now tells;
     }
 
 pub loop-limit-smaller : goal.loop-limit-smaller
@@ -138,7 +139,7 @@ loop-limit-preserved g c =
     let all = subst (λ b. HearsAll b c.args.events.now c.set_clock.new.self c.pick.new.turn c.settle-in-loop-limit.new.turn c.settle-in-loop-limit.new.machine) quiet done.heard in
     record {
       rests = rests_on c.args.machine.now c.pick.new.self c.args.events.now c.args.turn.now.refused c.args.limit k.0 k.2 c.next_time.result c.next_time.ensures c.in-Some.time c.in-Some.is c.set_clock.new.self e.image e.passed
-          e.natives c.settle-in-loop-limit.new.machine all.1 done.kept.between all.2 all.3 (done.polled quiet) done.kept.image done.kept.natives;
+          (as_many c.pick.new.self c.set_clock.new.self e.natives) c.settle-in-loop-limit.new.machine all.1 done.kept.between all.2 all.3 (done.polled quiet) done.kept.image done.kept.natives;
       agree = done.agree;
       turn = all.0 ∙ k.1 ∙ i.turn;
     }

@@ -8,6 +8,7 @@ use Rattle.aom_run.proofs.machine.Machine.ask.Goals as goal
 pub returns-in_default : goal.returns-in_default
 returns-in_default g c = record {
   agree = c.requires.agree;
+  idle = λ resting. refl;
   core = refl;
   stands = λ s st. st;
   asked = λ s st. heard_nothing _ _ _ _ _ _ _ (asks_nothing c.args.self.now s st (λ running. c.in_default.not-Running (c.progress.ensures ∙ running)));
@@ -37,3 +38,10 @@ returns-in_default-wanted-clause-core g c = refl
 
 pub returns-in_default-wanted-clause-stands : goal.returns-in_default-wanted-clause-stands
 returns-in_default-wanted-clause-stands g c = λ s st. st
+
+-- something was at hand
+pub returns-in-Some-clause-idle : goal.returns-in-Some-clause-idle
+returns-in-Some-clause-idle g c = λ resting. absurd (resting (sym c.progress.ensures ∙ c.in-Running.is))
+
+pub returns-in_default-wanted-clause-idle : goal.returns-in_default-wanted-clause-idle
+returns-in_default-wanted-clause-idle g c = λ resting. refl

@@ -1,7 +1,8 @@
 use Rattle.std.proofs.Common.{arith, refl, subst, sym}
 use Rattle.aom_sound.specs.World.{delivers}
+use Rattle.aom_run.specs.Beside.{KeepsUntold}
 use Rattle.aom_run.specs.Calls.{EventInRange, IsDelivered, Takes}
-use Rattle.aom_run.proofs.Serving.{with_any_name}
+use Rattle.aom_run.proofs.Serving.{untold_but, with_any_name}
 use Rattle.aom_run.proofs.machine.Machine.deliver.Goals as goal
 
 -- a word for a native changes nothing here, and its end is told
@@ -10,7 +11,7 @@ returns-in-Tell-clause-delivered g c =
     let e = c.tell.ensures in
     record {
       image = e.image;
-      natives = e.natives;
+      natives = subst (λ x. KeepsUntold x c.args.self.now.natives.slots.items c.tell.new.self.natives.slots.items) (sym c.in-Tell.is) (record { count = e.natives.count; at = untold_but _ _ c.in-Tell.native e.natives });
       delivered = λ outside same s st.
           with_any_name s (λ name. Takes c.args.self.now s (delivers outside name s c.args.event) c.args.turn.now c.args.turn.now c.tell.new.self) (λ name.
           subst (λ x. Takes c.args.self.now s (delivers outside name s x) c.args.turn.now c.args.turn.now c.tell.new.self) (sym c.in-Tell.is) (e.heard c.args.turn.now s st));

@@ -1,7 +1,7 @@
-use Rattle.std.proofs.Common.{◌∙◌, false, sym}
+use Rattle.std.proofs.Common.{◌∙◌, sym}
 use Rattle.std.proofs.lemmas.Bool.{true≢false}
 use Rattle.aom_transcript.specs.declared.event.Event.TheVariants.{Kill}
-use Rattle.aom_run.proofs.Serving.{heard_only}
+use Rattle.aom_run.proofs.Serving.{heard_only, untold_but}
 use Rattle.aom_run.proofs.Ending.{kills_nothing, kills_one, line_more}
 use Rattle.aom_run.proofs.machine.Machine.kill.Goals as goal
 
@@ -18,7 +18,7 @@ returns-clause-delivered g c =
     let e = c.kill-2.ensures in
     record {
       image = e.image;
-      natives = c.kill.ensures.others.count;
+      natives = record { count = c.kill.ensures.others.count; at = untold_but _ _ c.args.native c.kill.ensures.others };
       delivered =
           kills_one c.args.self.now (record { core = c.kill-2.new.self; natives = c.kill.new.self }) e.image c.args.native (sym c.is_alive.ensures ∙ c.if-not-is_alive.false) c.kill.ensures.dead c.kill.ensures.others c.args.turn.now c.kill-2.new.turn (λ s st. e.killed s st.stands);
       rest = e.rest;

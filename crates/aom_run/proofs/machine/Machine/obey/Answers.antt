@@ -17,7 +17,7 @@ returns-clause-delivered g c =
     let few = c.if-client-ge-CLIENTS.false in
     record {
       image = e.image;
-      natives = refl;
+      natives = record { count = refl; at = λ k apart. refl };
       delivered = obeyed_so c.args.self.now c.obey.new.self e.image c.args.client c.args.command c.args.turn.now c.obey.new.turn (omega (arith, few)) e.obeyed;
       rest = e.rest;
       timers = e.timers;

@@ -22,6 +22,7 @@ returns-clause-polled g c = λ s st.
       d.1,
       d.2,
       λ now. polled_so c.args.self.now (record { core = c.polled.new.self; natives = c.poll-completion.new.self }) c.polled.ensures.image c.in-Some.native c.poll-completion.result c.poll-completion.ensures.ids next.2 c.poll-completion.ensures.alive c.poll-completion.ensures.others s st d.0 d.1 d.2 now (d.3 now),
+      c.poll-completion.ensures.others,
     )
 
 pub returns-in_default-clause-agree : goal.returns-in_default-clause-agree

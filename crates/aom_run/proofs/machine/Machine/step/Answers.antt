@@ -1,7 +1,7 @@
 use Rattle.std.proofs.Common.{◌<◌, ap, subst, refl}
 use Rattle.aom_parts.specs.Stands.{Machine as Core}
 use Rattle.aom_exec.specs.Steps.{rank}
-use Rattle.aom_run.proofs.Stepped.{stepped_once}
+use Rattle.aom_run.proofs.Stepped.{stays_idle, stepped_once}
 use Rattle.aom_run.proofs.machine.Machine.step.Goals as goal
 
 pub returns-clause-steps : goal.returns-clause-steps
@@ -10,3 +10,9 @@ returns-clause-steps g c = λ s st.
 
 pub returns-clause-falls : goal.returns-clause-falls
 returns-clause-falls g c = λ running. subst (λ r. rank c.step.new.self < r) (ap rank c.ask.ensures.core) (c.step.ensures.falls running)
+
+pub returns-clause-unasked : goal.returns-clause-unasked
+returns-clause-unasked g c = λ s st. (c.ask.ensures.asked s st).1.unasked
+
+pub returns-clause-idle : goal.returns-clause-idle
+returns-clause-idle g c = stays_idle c.args.self.now c.ask.new.self c.step.new.self c.args.turn.now c.step.new.turn c.ask.ensures.idle c.step.ensures.idle
