@@ -7,5 +7,6 @@ mod input;
 mod memory;
 mod output;
 mod pages;
+mod returned;
 mod served;
 mod tally;

@@ -54,6 +54,26 @@ pub fn serves_beside(
     serves(rt, alloc, boxes, text, script, status, told)
 }
 
+/// The same beside two.
+pub fn serves_beside_both(
+    rt: &impl Abort,
+    alloc: Global,
+    first: Box<dyn Native>,
+    second: Box<dyn Native>,
+    text: &[&str],
+    script: &str,
+    status: ExitStatus,
+    told: &[u8],
+) -> Result<(), Fail>
+    requires first { (⟦<dyn Native as Native>⟧ first.vtable).owed first.value ≡ [] }
+    requires second { (⟦<dyn Native as Native>⟧ second.vtable).owed second.value ≡ [] }
+{
+    let mut boxes = Vec::with_capacity(alloc, 2)?;
+    boxes.push(first)?;
+    boxes.push(second)?;
+    serves(rt, alloc, boxes, text, script, status, told)
+}
+
 /// Two objects, each of which begins a request, prints with what it was completed, and begins another.
 pub const TWO_SENSORS: &str = "image cells 3 natives 1 budget 80 root P
 class N active native 0 words 1 budget 20;class P plain own N,N
@@ -77,3 +97,30 @@ method r run of N;status r0;print r0;ret;end
 method n construct of N;enlist 0;connect r0;const r1 0;const r2 7
 ask r0 r1 r2;print r0;ask r0 r1 r2;print r0;issue r1 r2;setactive;ret;end
 method main main leaves;newl r0 N;push r0;call c0 n;pop r0;put f0 r0;";
+
+/// An object that asks twice, with a main that ends as the text behind it says.
+pub const COUNTS: &str = "image cells 1 natives 1 budget 60 root N;class N active native 0 budget 20
+method k cancel of N;abort;ret;end
+method d destruct of N;cancel;ret;end
+method r run of N;ret;end
+method n construct of N;enlist 0;connect r0;const r1 0;const r2 7
+ask r0 r1 r2;print r0;ask r0 r1 r2;print r0;ret;end
+method main main leaves;newl r0 N;push r0;call c0 n;pop r0;put f0 r0;";
+
+/// Two objects, each with a native of its own: the first asks twice, the other begins a request and prints with what it is completed.
+pub const TWO_NATIVES: &str = "image cells 3 natives 2 budget 90 root P
+class N active native 0 budget 20;class M active native 1 budget 20;class P plain own N,M
+method nk cancel of N;abort;ret;end
+method nd destruct of N;cancel;ret;end
+method nr run of N;ret;end
+method nn construct of N;enlist 0;connect r0;const r1 0;const r2 7
+ask r0 r1 r2;print r0;ask r0 r1 r2;print r0;ret;end
+method mk cancel of M;abort;ret;end
+method md destruct of M;cancel;ret;end
+method mr run of M;status r0;print r0;ret;end
+method mn construct of M;enlist 0;connect r0;issue r0 r0;setactive;ret;end
+method pd destruct of P;take r0 f0;delete r0;take r0 f1;delete r0;ret;end
+method pn construct of P leaves
+newl r0 N;push r0;call c0 nn;pop r0;put f0 r0
+newl r0 M;push r0;call c0 mn;pop r0;put f1 r0;ret;end
+method main main leaves;newl r0 P;push r0;call c0 pn;pop r0;put f0 r0;";

@@ -1,9 +1,9 @@
 //! What a native is asked in a run.
 ghost use Rattle.std.specs.Prelude.{◌≡◌, [], IfOk};
 
-use super::served::{ASKS, serves_beside};
+use super::served::{ASKS, COUNTS, TWO_NATIVES, serves_beside, serves_beside_both};
 use aom_main::ExitStatus;
-use aom_natives::{Line, Native};
+use aom_natives::{Counter, Line, Native};
 use std::alloc::{AllocError, Global};
 use std::cell::Cell;
 use std::process::Abort;
@@ -111,11 +111,16 @@ impl<N: Native> Native for Tally<N> {
     }
 }
 
-/// A line in a box, with what it is asked counted there.
-fn tallied(alloc: Global, asked: &Rc<Cell<Asked>>) -> Result<Box<Tally<Line>>, AllocError>
-    ensures { IfOk result (λ b. ⟦<Tally<Line> as Native>⟧.owed b.value ≡ []) }
+/// A native in a box, with what it is asked counted there.
+fn tallied<N: Native>(
+    alloc: Global,
+    native: N,
+    asked: &Rc<Cell<Asked>>,
+) -> Result<Box<Tally<N>>, AllocError>
+    requires { N.owed native ≡ [] }
+    ensures { IfOk result (λ b. ⟦<Tally<N> as Native>⟧.owed b.value ≡ []) }
 {
-    Ok(Box::new(alloc, Tally::new(Line::new(), asked.clone()?))?)
+    Ok(Box::new(alloc, Tally::new(native, asked.clone()?))?)
 }
 
 /// A run of the image that asks, whose main ends as a text says, under a script: how it ends, what it tells, and how often the
@@ -129,7 +134,7 @@ struct Case<'a> {
     words: i32,
 }
 
-const CASES: [Case<'static>; 3] = [
+const CASES: [Case<'static>; 6] = [
     // The object goes with the run, and what it has begun is cancelled.
     Case {
         end: "stop;ret;end",
@@ -157,6 +162,31 @@ const CASES: [Case<'static>; 3] = [
         times: [1, 1, 2, 0, 3, 2, 0, 1],
         words: 43,
     },
+    // A word is handed on as it is, below 0, at 0 and at its lowest.
+    Case {
+        end: "ret;end",
+        script: "0 event 0 -3",
+        status: ExitStatus::Unfinished,
+        told: b"@0 main\nout -5\nout -5\n@1 run 0 -3\nout -3\nend waiting cells 1\n",
+        times: [1, 1, 2, 0, 2, 1, 0, 1],
+        words: -3,
+    },
+    Case {
+        end: "ret;end",
+        script: "0 event 0 0",
+        status: ExitStatus::Unfinished,
+        told: b"@0 main\nout -5\nout -5\n@1 run 0 0\nout 0\nend waiting cells 1\n",
+        times: [1, 1, 2, 0, 2, 1, 0, 1],
+        words: 0,
+    },
+    Case {
+        end: "ret;end",
+        script: "0 event 0 -2147483648",
+        status: ExitStatus::Unfinished,
+        told: b"@0 main\nout -5\nout -5\n@1 run 0 -2147483648\nout -2147483648\nend waiting cells 1\n",
+        times: [1, 1, 2, 0, 2, 1, 0, 1],
+        words: i32::MIN,
+    },
 ];
 
 /// What a native that nobody has asked yet was asked.
@@ -171,7 +201,7 @@ fn asks(rt: &impl Abort, alloc: Global, case: &Case<'_>) -> Result<(), Fail> {
     serves_beside(
         rt,
         alloc,
-        tallied(alloc, &asked)?,
+        tallied(alloc, Line::new(), &asked)?,
         &[ASKS, case.end],
         case.script,
         case.status,
@@ -188,5 +218,47 @@ fn a_box_is_asked_once_for_each_call(rt: HostRuntime) -> Result<(), Fail> {
     for case in &CASES {
         asks(&rt, rt.alloc(), case)?;
     }
+    Ok(())
+}
+
+/// A counter whose object goes with the run is opened, asked twice, closed and dropped, and no more.
+#[test]
+fn a_counter_is_asked_what_its_object_asks(rt: HostRuntime) -> Result<(), Fail> {
+    let alloc = rt.alloc();
+    let asked = Rc::new(alloc, Cell::new(NEVER))?;
+    serves_beside(
+        &rt,
+        alloc,
+        tallied(alloc, Counter::new(), &asked)?,
+        &[COUNTS, "stop;ret;end"],
+        "",
+        ExitStatus::Done,
+        b"@0 main\nout 7\nout 14\ngone 0\nend stopped cells 0\n",
+    )?;
+    let asked = asked.get();
+    assert!(rt; asked.times == [1, 0, 2, 0, 0, 0, 1, 1] && asked.words == 0);
+    Ok(())
+}
+
+/// Of two natives each is asked by its own object alone, and told its own events; in each turn both are polled.
+#[test]
+fn each_of_two_boxes_is_asked_by_its_own_object(rt: HostRuntime) -> Result<(), Fail> {
+    let alloc = rt.alloc();
+    let first = Rc::new(alloc, Cell::new(NEVER))?;
+    let second = Rc::new(alloc, Cell::new(NEVER))?;
+    serves_beside_both(
+        &rt,
+        alloc,
+        tallied(alloc, Counter::new(), &first)?,
+        tallied(alloc, Line::new(), &second)?,
+        &[TWO_NATIVES, "ret;end"],
+        "0 event 1 3\n0 event 0 50",
+        ExitStatus::Unfinished,
+        b"@0 main\nout 7\nout 14\n@1 run 1 3\nout 3\nend waiting cells 3\n",
+    )?;
+    let first = first.get();
+    let second = second.get();
+    assert!(rt; first.times == [1, 0, 2, 0, 2, 1, 0, 1] && first.words == 50);
+    assert!(rt; second.times == [1, 1, 0, 0, 2, 1, 0, 1] && second.words == 3);
     Ok(())
 }

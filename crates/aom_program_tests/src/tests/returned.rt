@@ -1,0 +1,116 @@
+//! Natives come back from a machine that does not boot, each as it was, in their order. Memory may be refused at any request.
+ghost use Rattle.std.specs.Prelude.{◌≡◌, negsuc, [], None};
+
+use super::pages::FIRST;
+use aom_budget::Accepted;
+use aom_main::accept_bytes;
+use aom_natives::Native;
+use aom_run::{BootFault, Machine};
+use std::alloc::{AllocError, Global};
+use std::process::Abort;
+
+/// Answers to each question with its own number.
+#[derive(Drop)]
+struct Known {
+    number: i32,
+}
+
+impl Known {
+    fn new(number: i32) -> Known
+        ensures { ⟦<Known as Native>⟧.owed result ≡ [] }
+    {
+        Known { number }
+    }
+}
+
+impl Native for Known {
+    ghost owed = { λ _. [] };
+
+    ghost open_may = { λ k _ answer. answer ≡ k.number };
+
+    ghost start_may = { λ _ _ _ _ answer. answer ≡ negsuc 4 };
+
+    ghost call_may = { λ k _ _ _ answer. answer ≡ k.number };
+
+    ghost poll_may = { λ _ _ answer. answer ≡ None };
+
+    fn open(&mut self, _id: u32) -> i32 {
+        self.number
+    }
+
+    fn start(&mut self, _id: u32, _function: i32, _word: i32) -> i32 {
+        -5
+    }
+
+    fn call(&mut self, _id: u32, _function: i32, _word: i32) -> i32 {
+        self.number
+    }
+
+    fn cancel(&mut self, _id: u32) {}
+
+    fn poll(&mut self, _now: u64) -> Option<(u32, i32)> {
+        None
+    }
+
+    fn event(&mut self, _word: i32) {}
+
+    fn close(&mut self, _id: u32) {}
+}
+
+/// Whether a native answers with that number.
+fn answers(native: &mut Box<dyn Native>, number: i32) -> bool {
+    native.call(0, 0, 0) == number
+}
+
+/// These are three natives, numbered in their order.
+fn are_in_order(rt: &impl Abort, boxes: &mut Vec<Box<dyn Native>>) {
+    assert!(rt; boxes.len() == 3);
+    let mut number = 0;
+    for native in boxes.iter_mut() {
+        number += 1;
+        assert!(rt; answers(native, number));
+    }
+}
+
+/// Boots a machine of the image beside three natives. Answers why it does not boot: then they are back, in their order.
+fn why_not(
+    rt: &impl Abort,
+    alloc: Global,
+    accepted: &Accepted,
+) -> Result<Option<BootFault>, AllocError> {
+    let mut boxes: Vec<Box<dyn Native>> = Vec::with_capacity(alloc, 3)?;
+    boxes.push(Box::new(alloc, Known::new(1))?)?;
+    boxes.push(Box::new(alloc, Known::new(2))?)?;
+    boxes.push(Box::new(alloc, Known::new(3))?)?;
+    match Machine::boot(alloc, accepted, boxes) {
+        Ok(_) => Ok(None),
+        Err((fault, mut boxes)) => {
+            are_in_order(rt, &mut boxes);
+            Ok(Some(fault))
+        }
+    }
+}
+
+/// Beside three natives a machine boots, unless memory is wanting.
+#[test]
+fn natives_come_back_where_memory_is_wanting(rt: HostRuntime) {
+    let Ok(accepted) = accept_bytes(rt.alloc(), &FIRST) else {
+        return;
+    };
+    if let Ok(Some(fault)) = why_not(&rt, rt.alloc(), &accepted) {
+        assert!(rt; fault == BootFault::OutOfMemory);
+    }
+}
+
+/// It does not beside three where the image names four.
+#[test]
+fn natives_come_back_where_they_are_too_few(rt: HostRuntime) {
+    let mut image = FIRST;
+    image[14] = 4;
+    let Ok(accepted) = accept_bytes(rt.alloc(), &image) else {
+        return;
+    };
+    if let Ok(why) = why_not(&rt, rt.alloc(), &accepted) {
+        assert!(rt; why == Some(BootFault::TooFewNatives));
+    }
+}
