@@ -28,13 +28,13 @@ use Rattle.aom_acts.specs.Acts.{At_hand, requested, leaving, Does}
 use Rattle.aom_parts.specs.Places.{others, set_register, value_in, with_items}
 use Rattle.aom_parts.specs.Cells.{refuses, refuses_entry, Made}
 use Rattle.aom_parts.specs.Places as places
-use Rattle.aom_parts.specs.Agrees.{Shows, SameItems, word_at, Agrees}
+use Rattle.aom_parts.specs.Agrees.{Shows, SameItems, word_at, Agrees, heard_by}
 use Rattle.aom_parts.proofs.Cells.{cells_moved}
 use Rattle.aom_parts.proofs.Entries.{and_true, entry_past, owns_none, same_items_length, top_value, value_alike, value_popped, value_pushed, below_same}
 use Rattle.aom_acts.proofs.LeavingActs.{leaves, leaves_at}
 use Rattle.aom_parts.proofs.Services.{services_moved}
 use Rattle.aom_acts.proofs.ObjectActs.{asks_one, made_agrees, new_small, same_entry_refusal, same_refusal}
-use Rattle.aom_acts.proofs.Running.{Top, word_here, no_word, free, nothing_held, null_unnamed, unnamed}
+use Rattle.aom_acts.proofs.Running.{Top, word_here, no_word, free, nothing_held, null_unnamed, unnamed, heard_fits}
 use Rattle.aom_acts.proofs.Stepping.{agrees_rest}
 use Rattle.aom_parts.proofs.Values.{kept, moves, value_here, value_written, word_written}
 use Rattle.aom_acts.proofs.WordActs.{plain_does, word_read}
@@ -115,9 +115,9 @@ module _ (m : Parts) (turn : Turn) where
   pub push_does : (a : ℕ) (refused : Bool) → a < 16 → refused ≡ refuses_entry turn m → Does turn.refused (Push a) m (cond refused (leaving (negsuc 3) (held_pushed a m)) (held_pushed a m))
   push_does a refused small same p h here =
       let s = h.state in
-      let c : Choice = record { name = null; refused = refused; answer = m.heard } in (
+      let c : Choice = record { name = null; refused = refused; answer = heard_by m } in (
         c,
-        record { name = null_unnamed p m s h.agrees; refusal = same ∙ same_entry_refusal p turn m h (Push a) here refl },
+        record { name = null_unnamed p m s h.agrees; refusal = same ∙ same_entry_refusal p turn m h (Push a) here refl; answer = heard_fits m },
         refl,
         λ needs typed.
             let was = no_word _ needs.0 in
@@ -128,9 +128,9 @@ module _ (m : Parts) (turn : Turn) where
   pub push_operation_does : (a k : ℕ) (refused : Bool) → refused ≡ refuses_entry turn m → Does turn.refused (PushOperation a k) m (cond refused (leaving (negsuc 3) (held_operation a k m)) (held_operation a k m))
   push_operation_does a k refused same p h here =
       let s = h.state in
-      let c : Choice = record { name = null; refused = refused; answer = m.heard } in (
+      let c : Choice = record { name = null; refused = refused; answer = heard_by m } in (
         c,
-        record { name = null_unnamed p m s h.agrees; refusal = same ∙ same_entry_refusal p turn m h (PushOperation a k) here refl },
+        record { name = null_unnamed p m s h.agrees; refusal = same ∙ same_entry_refusal p turn m h (PushOperation a k) here refl; answer = heard_fits m },
         refl,
         λ needs typed.
             let is = word_read p m h a needs.0 in
@@ -141,8 +141,8 @@ module _ (m : Parts) (turn : Turn) where
   -- `newl` leaves where it is refused
   pub newl_refused : (a class : ℕ) → true ≡ refuses turn m → Does turn.refused (NewOrLeave a class) m (leaving (negsuc 3) (asked m))
   newl_refused a class full p h here = (
-    record { name = null; refused = true; answer = m.heard },
-    record { name = null_unnamed p m h.state h.agrees; refusal = full ∙ same_refusal p turn m h (NewOrLeave a class) here refl },
+    record { name = null; refused = true; answer = heard_by m },
+    record { name = null_unnamed p m h.state h.agrees; refusal = full ∙ same_refusal p turn m h (NewOrLeave a class) here refl; answer = heard_fits m },
     refl,
     λ needs typed. leaves_at p (asked m) (requested (NewOrLeave a class) h.state) h.frame h.below no_memory h.top (agrees_rest p m h.state _ _ (asks_one m turn h.state.rest h.agrees.rest) h.agrees) needs.1.1.0,
   )
@@ -151,8 +151,8 @@ module _ (m : Parts) (turn : Turn) where
   newl_made a class n heap small granted made p h here = elim made [
     | inl none ↦ absurd (true≢false (sym none.0))
     | inr it ↦ (
-      record { name = n; refused = false; answer = m.heard },
-      record { name = unnamed p m h.state n h.agrees (new_small p m h heap n class it.4 it.6) it.2; refusal = granted ∙ same_refusal p turn m h (NewOrLeave a class) here refl },
+      record { name = n; refused = false; answer = heard_by m },
+      record { name = unnamed p m h.state n h.agrees (new_small p m h heap n class it.4 it.6) it.2; refusal = granted ∙ same_refusal p turn m h (NewOrLeave a class) here refl; answer = heard_fits m },
       refl,
       λ needs typed. made_agrees m turn p h a class n heap _ small (asks_one m turn h.state.rest h.agrees.rest) needs.0 it.1 it.2 it.3 it.4 it.5 it.6,
     )

@@ -20,7 +20,7 @@ use Rattle.aom_parts.specs.declared.parts.Parts.{Parts}
 use Rattle.aom_acts.specs.Acts.{At_hand, Does, DoesIn}
 use Rattle.aom_parts.specs.Places.{others, WritesWord, value_in}
 use Rattle.aom_parts.specs.Places as places
-use Rattle.aom_parts.specs.Agrees.{Agrees, SameNatives, Shows, word_at}
+use Rattle.aom_parts.specs.Agrees.{Agrees, SameNatives, Shows, word_at, heard_by}
 use Rattle.aom_parts.specs.Fields.{this}
 use Rattle.aom_acts.specs.Next.{IsNext, counting}
 use Rattle.aom_parts.specs.Stands.{Stands}
@@ -106,8 +106,8 @@ module _ (p : Image) (m : Parts) (h : At_hand p m) (on : OnObject p m h) (w : St
       (λ f ms e top q. subst (λ o. Shows (value_in (Runs_frame f ∷ ms) m.cells m.entries.items (others m) q) (word_at (Run h.frame ∷ h.below) q) o) (sym ((resessioned_alike h.state.cells h.frame.home b).held_so q)) (top.values q))
 
 module _ (p : Image) (m new : Parts) (refused : List ℕ) (n : ℕ) (serves : native_of (kind_here p m) ≡ Some n) where
-  pub connect_does : (a : ℕ) (w : Standing) → Sets m.sessions w (this m) (opens (is_killed m.sessions n) (is_open m.sessions (this m)) m.heard)
-      → WritesWord a (connected (is_killed m.sessions n) (is_open m.sessions (this m)) m.heard) (record m { sessions = w }) new → DoesIn p refused (Connect a) m new
+  pub connect_does : (a : ℕ) (w : Standing) → Sets m.sessions w (this m) (opens (is_killed m.sessions n) (is_open m.sessions (this m)) (heard_by m))
+      → WritesWord a (connected (is_killed m.sessions n) (is_open m.sessions (this m)) (heard_by m)) (record m { sessions = w }) new → DoesIn p refused (Connect a) m new
   connect_does a w set writes h here =
       heard_at p m new refused (Connect a) refl h (λ c hears met typed.
       let on = on_object p m h (native_listed _ met.0) in
@@ -115,7 +115,7 @@ module _ (p : Image) (m new : Parts) (refused : List ℕ) (n : ℕ) (serves : na
       let word = subst (λ v. WritesWord a v (record m { sessions = w }) new) (heard_told p m h on n serves connected c hears) writes in
       session_put p m h on w _ flag new a _ (free _ met.1.0) word)
 
-  pub ask_does : (a b x : ℕ) → WritesWord a (replied (is_killed m.sessions n) (is_open m.sessions (this m)) m.heard) m new → DoesIn p refused (Ask a b x) m new
+  pub ask_does : (a b x : ℕ) → WritesWord a (replied (is_killed m.sessions n) (is_open m.sessions (this m)) (heard_by m)) m new → DoesIn p refused (Ask a b x) m new
   ask_does a b x writes h here =
       heard_at p m new refused (Ask a b x) refl h (λ c hears met typed.
       let on = on_object p m h (native_listed _ met.1.1.0) in

@@ -24,13 +24,13 @@ use Rattle.aom_frames.specs.declared.task.Task.TheVariants.{Run as Runs_frame}
 use Rattle.aom_parts.proofs.Asking.{requests_made}
 use Rattle.aom_parts.specs.declared.parts.Parts.{Parts}
 use Rattle.aom_parts.specs.Places.{Others, others, value_in, set_register}
-use Rattle.aom_parts.specs.Agrees.{Shows, number, SameCells, thing_in, thing_of, Agrees}
+use Rattle.aom_parts.specs.Agrees.{Shows, number, SameCells, thing_in, thing_of, Agrees, heard_by}
 use Rattle.aom_acts.specs.Acts.{At_hand, requested, Does, DoesIn}
 use Rattle.aom_parts.specs.Cells.{refuses, refuses_entry, Made}
 use Rattle.aom_parts.specs.Places as places
 use Rattle.aom_parts.proofs.Values.{cases}
 use Rattle.aom_parts.proofs.Services.{services_made}
-use Rattle.aom_acts.proofs.Running.{Top, by_top, register_shows, free, no_word, null_unnamed, unnamed, nothing_held, some_held}
+use Rattle.aom_acts.proofs.Running.{Top, by_top, register_shows, free, no_word, null_unnamed, unnamed, nothing_held, some_held, heard_fits}
 use Rattle.aom_parts.proofs.CellWords.{all_same, zeros_at}
 use Rattle.aom_acts.proofs.GoingOn.{goes_on_with, still_none, written}
 use Rattle.aom_acts.proofs.WordActs.{jumps, passes, plain_does, plain_at}
@@ -164,8 +164,8 @@ module _ (m : Parts) (turn : Turn) where
 
   refused_does : (a class : ℕ) → a < 16 → true ≡ refuses turn m → Does turn.refused (New a class) m (places.next (set_register a null (asked m.cells)))
   refused_does a class small full p h here = (
-    record { name = null; refused = true; answer = m.heard },
-    record { name = null_unnamed p m h.state h.agrees; refusal = full ∙ same_refusal p turn m h (New a class) here refl },
+    record { name = null; refused = true; answer = heard_by m },
+    record { name = null_unnamed p m h.state h.agrees; refusal = full ∙ same_refusal p turn m h (New a class) here refl; answer = heard_fits m },
     refl,
     λ needs typed. nulled m turn.refused p h a _ _ small (ap (λ (r : Rest). record r { requests = raised r.requests }) h.agrees.rest) (free _ needs.0),
   )
@@ -200,8 +200,8 @@ module _ (m : Parts) (turn : Turn) where
   made_does : (a class n : ℕ) (heap : Heap) → a < 16 → false ≡ refuses turn m → class < 256 → cell_at m.cells n ≡ None → n ≢ null → Changes m.cells heap n (Some (blank class)) → count heap ≡ count m.cells + 1 → n < heap.limit
       → Does turn.refused (New a class) m (places.next (set_register a n (asked heap)))
   made_does a class n heap small granted fits none some ch more within p h here = (
-    record { name = n; refused = false; answer = m.heard },
-    record { name = unnamed p m h.state n h.agrees (new_small p m h heap n class ch within) none; refusal = granted ∙ same_refusal p turn m h (New a class) here refl },
+    record { name = n; refused = false; answer = heard_by m },
+    record { name = unnamed p m h.state n h.agrees (new_small p m h heap n class ch within) none; refusal = granted ∙ same_refusal p turn m h (New a class) here refl; answer = heard_fits m },
     refl,
     λ needs typed. made_agrees p h a class n heap _ small (asks_one h.state.rest h.agrees.rest) needs.0 fits none some ch more within,
   )

@@ -55,7 +55,7 @@ use Rattle.aom_acts.specs.Acts.{At_hand, Does, DoesIn}
 use Rattle.aom_parts.specs.Places.{others, WritesWord, value_in, with_tasks}
 use Rattle.aom_parts.specs.Places as places
 use Rattle.aom_acts.specs.Acts as acts
-use Rattle.aom_parts.specs.Agrees.{Agrees, SameCells, SameRequests, Shows, home_number, thing_in, word_at}
+use Rattle.aom_parts.specs.Agrees.{Agrees, SameCells, SameRequests, Shows, home_number, thing_in, word_at, heard_by}
 use Rattle.aom_parts.specs.Fields.{this}
 use Rattle.aom_acts.specs.Next.{IsNext, counting}
 use Rattle.aom_parts.specs.Stands.{Stands}
@@ -403,22 +403,22 @@ module _ (p : Image) (m : Parts) (h : At_hand p m) (on : OnObject p m h) (n : �
   session_told : is_open m.sessions (this m) ≡ own_session h.state.cells h.frame.home
   session_told = h.agrees.natives.sessions (this m) ∙ ap (in_session h.state.cells) on.number ∙ sym (ap (own_session h.state.cells) on.home)
 
-  pub heard_told : {A : Type 0} (f : Bool → Bool → ℤ → A) (c : Choice) → c.answer ≡ m.heard → f (is_killed m.sessions n) (is_open m.sessions (this m)) m.heard ≡ heard p c h.frame h.below h.state f
+  pub heard_told : {A : Type 0} (f : Bool → Bool → ℤ → A) (c : Choice) → c.answer ≡ heard_by m → f (is_killed m.sessions n) (is_open m.sessions (this m)) (heard_by m) ≡ heard p c h.frame h.below h.state f
   heard_told f c hears =
-      ap (λ d. f d (is_open m.sessions (this m)) m.heard) dead_told
-      ∙ ap (λ b. f (is_served_by_dead p h.frame h.below h.state) b m.heard) session_told
+      ap (λ d. f d (is_open m.sessions (this m)) (heard_by m)) dead_told
+      ∙ ap (λ b. f (is_served_by_dead p h.frame h.below h.state) b (heard_by m)) session_told
       ∙ ap (λ a. f (is_served_by_dead p h.frame h.below h.state) (own_session h.state.cells h.frame.home) a) (sym hears)
 
 -- a request is made of a provider
 requests_made : (p : Image) (m : Parts) (h : At_hand p m) (on : OnObject p m h) (a : Active) (q : Provider) (w status : ℤ) (r : Request) → own_request h.state.cells h.frame.home ≡ Some r
-    → ((n : ℕ) → q ≡ Native n → started (is_killed m.sessions n) (is_open m.sessions (this m)) m.heard ≡ status) → Issues q m.sessions m.heard h.state.rest.clock w m.active a (this m)
+    → ((n : ℕ) → q ≡ Native n → started (is_killed m.sessions n) (is_open m.sessions (this m)) (heard_by m) ≡ status) → Issues q m.sessions (heard_by m) h.state.rest.clock w m.active a (this m)
     → SameRequests p a (rerequested h.state.cells h.frame.home (on_request (issued_by q (made_with p m h on status) w) (own_request h.state.cells h.frame.home)))
 requests_made p m h on a Own w status r is begins issues = requests_become p m h on a (completed_at_once w) r is issues
 requests_made p m h on a A_timer w status r is begins issues = requests_timed p m h on a w status r is issues
 requests_made p m h on a (Native n) w status r is begins issues = requests_become p m h on a (begun_with status) r is (subst (λ v. Makes m.active a (this m) (begun_with v)) (begins n refl) issues)
 
 pub issue_does : (p : Image) (m : Parts) (refused : List ℕ) (a : Active) (q : Provider) (b x : ℕ) → provider_of (kind_here p m) ≡ Some q
-    → Issues q m.sessions m.heard m.rest.clock (cast_signed w32 (register_here m.stack.tasks b)) m.active a (this m) → DoesIn p refused (Issue b x) m (places.next (record m { active = a }))
+    → Issues q m.sessions (heard_by m) m.rest.clock (cast_signed w32 (register_here m.stack.tasks b)) m.active a (this m) → DoesIn p refused (Issue b x) m (places.next (record m { active = a }))
 issue_does p m refused a q b x provider issues h here =
     heard_at p m _ refused (Issue b x) refl h (λ c hears met typed.
     let clock = h.state.rest.clock in
@@ -428,7 +428,7 @@ issue_does p m refused a q b x provider issues h here =
     let r = in_one is_idle _ met.1.1.1.1.0 in
     let made = issued_as (home_kind p h.frame.home) q asking w (ap provider_of (kind_told p m h on) ∙ provider) in
     let same : m.rest.clock ≡ clock = ap (λ r. r.clock) h.agrees.rest in
-    let it = subst (λ n. Issues q m.sessions m.heard n w m.active a (this m)) same (subst (λ v. Issues q m.sessions m.heard m.rest.clock v m.active a (this m)) (word_read p m h b met.0) issues) in
+    let it = subst (λ n. Issues q m.sessions (heard_by m) n w m.active a (this m)) same (subst (λ v. Issues q m.sessions (heard_by m) m.rest.clock v m.active a (this m)) (word_read p m h b met.0) issues) in
     subst (λ f. Agrees p (places.next (record m { active = a })) (applied p h.frame h.below h.state (updates h.frame (Requested (on_request f (own_request h.state.cells h.frame.home)))))) (sym made)
     (asks_on p m h a m.listed _ (requests_made p m h on a q w asking.started r.0 r.1
     (λ n native. heard_told p m h on n (native_provided (kind_here p m) n (provider ∙ ap (λ v. Some v) native)) started c hears) it) (services_become p m h on (issued_by q asking w) (issued_order q asking w))))

@@ -1,5 +1,6 @@
 //! Instructions at the native that serves the object whose method runs. What it answers was told before the step.
 ghost use Rattle.aom_acts.specs.Acts.{Does, DoesIn};
+ghost use Rattle.aom_parts.specs.Agrees.{heard_by};
 ghost use Rattle.aom_parts.specs.Fields.{this};
 ghost use Rattle.aom_acts.specs.Next.{IsNext};
 ghost use Rattle.aom_acts.specs.Natives.{begins_with};
@@ -56,7 +57,7 @@ fn set_session(parts: &mut Parts, id: CellId, is_open: bool)
 
 /// What a method is told that connects. A session that is open is no other.
 fn connected(parts: &Parts, id: CellId, is_dead: bool) -> i32
-    ensures { result ≡ connected is_dead (is_open parts.now.sessions id) parts.now.heard }
+    ensures { result ≡ connected is_dead (is_open parts.now.sessions id) (heard_by parts.now) }
 {
     if is_dead {
         NOT_FOUND
@@ -69,7 +70,7 @@ fn connected(parts: &Parts, id: CellId, is_dead: bool) -> i32
 
 /// Whether the session is open then.
 fn opens(parts: &Parts, id: CellId, is_dead: bool) -> bool
-    ensures { result ≡ opens is_dead (is_open parts.now.sessions id) parts.now.heard }
+    ensures { result ≡ opens is_dead (is_open parts.now.sessions id) (heard_by parts.now) }
 {
     !is_dead && (parts.sessions.is_open(id) || parts.heard >= 0)
 }
@@ -90,7 +91,7 @@ pub fn connect(parts: &mut Parts, to: Register, linked: &Linked)
 
 /// What a method is told that asks.
 fn replied(parts: &Parts, id: CellId, is_dead: bool) -> i32
-    ensures { result ≡ replied is_dead (is_open parts.now.sessions id) parts.now.heard }
+    ensures { result ≡ replied is_dead (is_open parts.now.sessions id) (heard_by parts.now) }
 {
     if is_dead {
         TERMINATED
@@ -123,7 +124,7 @@ pub fn close_session(parts: &mut Parts)
 
 /// The code with which a request at a native is completed as it is made, if it is.
 fn declined(parts: &Parts, id: CellId, native: usize) -> Option<i32>
-    ensures { begins_with result ≡ started (is_killed parts.now.sessions native) (is_open parts.now.sessions id) parts.now.heard }
+    ensures { begins_with result ≡ started (is_killed parts.now.sessions native) (is_open parts.now.sessions id) (heard_by parts.now) }
 {
     if parts.sessions.is_dead(native) {
         Some(TERMINATED)
@@ -139,7 +140,7 @@ fn declined(parts: &Parts, id: CellId, native: usize) -> Option<i32>
 /// A request is made of a native, which may decline it.
 pub fn start(parts: &mut Parts, id: CellId, native: usize)
     requires idle { state_at parts.old.active.table id ≡ Some State.Idle }
-    ensures made { Makes parts.old.active parts.new.active id (begun_with (started (is_killed parts.old.sessions native) (is_open parts.old.sessions id) parts.old.heard)) }
+    ensures made { Makes parts.old.active parts.new.active id (begun_with (started (is_killed parts.old.sessions native) (is_open parts.old.sessions id) (heard_by parts.old))) }
     ensures rest { parts.new ≡ record parts.old { active = parts.new.active } }
 {
     match declined(parts, id, native) {

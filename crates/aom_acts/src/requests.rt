@@ -6,6 +6,7 @@ ghost use Rattle.aom_frames.specs.Tasks.{Runs, place_here};
 ghost use Rattle.aom_image.specs.Image.{Image};
 ghost use Rattle.aom_instructions.specs.declared.instr.Instr.TheVariants.{Abort, Cancel, Enlist, Issue, JumpActive, JumpAdded, SetActive, Status};
 ghost use Rattle.aom_acts.specs.Acts.{Does, DoesIn};
+ghost use Rattle.aom_parts.specs.Agrees.{heard_by};
 ghost use Rattle.aom_parts.specs.Places.{next, to_place};
 ghost use Rattle.aom_parts.specs.Fields.{this};
 ghost use Rattle.aom_acts.specs.Next.{IsNext};
@@ -110,7 +111,7 @@ pub fn provider(parts: &Parts, linked: &Linked) -> Provider
 /// A request is made: one's own is completed at once with that code, a timer's once that interval is over, and a native's as it answers.
 fn make_request(parts: &mut Parts, id: CellId, provider: Provider, word: i32)
     requires idle { state_at parts.old.active.table id ≡ Some State.Idle }
-    ensures made { Issues provider parts.old.sessions parts.old.heard parts.old.rest.clock word parts.old.active parts.new.active id }
+    ensures made { Issues provider parts.old.sessions (heard_by parts.old) parts.old.rest.clock word parts.old.active parts.new.active id }
     ensures rest { parts.new ≡ record parts.old { active = parts.new.active } }
 {
     match provider {

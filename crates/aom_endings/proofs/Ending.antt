@@ -1,6 +1,7 @@
 -- A run can always be brought to an end: each move lowers the rank, turns take of what is left, and there are only so many dispatches of objects.
 use Rattle.std.proofs.Common.{◌≡◌, ℕ, zero, suc, ◌+◌, ◌-◌, ◌^◌, ◌<◌, ◌≤◌, ◌==◌, Bool, true, false, List, [], ◌∷◌, ◌++◌, Option, Some, None, ap, refl, sym, subst, cond, ◌∙◌, arith, append-nil, append_assoc, length, pos}
 use Rattle.std.specs.Prelude.{is_some, nat_le, nat_lt}
+use Rattle.std.proofs.Math.Facts.{sfits_lit}
 use Rattle.std.proofs.lemmas.Bool.{ne_eqb}
 use Rattle.aom_image.specs.Image.{Image}
 use Rattle.aom_classes.specs.Linked.{IsLinked}
@@ -125,7 +126,7 @@ module _ (p : Image) (t : Typing) (outside : Outside) (few : outside.limit ≤ 2
 
   is_open : (s : State) → IsOpen p outside.refused (choice s) s
   unfolding choice
-  is_open s = record { name = above s.cells (top s.cells) (omega arith); refusal = refl }
+  is_open s = record { name = above s.cells (top s.cells) (omega arith); refusal = refl; answer = sfits_lit tt }
 
   abbrev Reached : List Line → State → Type 0
   Reached lines s = Reaches p outside (boot_state p) lines s

@@ -249,7 +249,7 @@ module _ (names : ℕ → ℕ) (one_to_one : IsOneToOne names) where
   free_so s n e = named_renamed names one_to_one s.cells n ∙ none_named (named s.cells n) e
 
   pub opens_so : (p : Image) (refused : List ℕ) (c : Choice) (s : State) → IsOpen p refused c s → IsOpen p refused (renamed_choice names c) (renamed names s)
-  opens_so p refused c s h = record { name = free_so s c.name h.name; refusal = h.refusal ∙ sym (refused_so p refused s) }
+  opens_so p refused c s h = record { name = free_so s c.name h.name; refusal = h.refusal ∙ sym (refused_so p refused s); answer = h.answer }
 
   hears_so : (p : Image) (outside : Outside) (heard : Heard) (s : State) → HearsWell p outside heard s → HearsWell p outside (renamed_heard names heard) (renamed names s)
   hears_so p outside heard s well = record { completion = answers_so names one_to_one p outside heard s well.completion; name = free_so s heard.name well.name }

@@ -261,7 +261,7 @@ module _ (names : ℕ → ℕ) (one_to_one : IsOneToOne names) where
 
   -- what it may hear
   answers_kept : (p : Image) (s : State) (t : Turning) → AnswersWell p s t → AnswersWell p (renamed names s) (renamed_turning names t)
-  answers_kept p s (Polls n (Some a)) well = (renamed_cell names well.0, cell_at_renamed names s.cells a.cell ∙ ap (option_map (renamed_cell names)) well.1, well.2)
+  answers_kept p s (Polls n (Some a)) well = (renamed_cell names well.0, cell_at_renamed names s.cells a.cell ∙ ap (option_map (renamed_cell names)) well.1, well.2, well.3)
   answers_kept p s (Polls n None) well = tt
   answers_kept p s _ well = tt
 

@@ -1,6 +1,6 @@
 -- What the machine's numbers stand for.
 use Rattle.std.specs.Prelude.{◌≡◌, ◌≢◌, ◌<◌, ◌≤◌, ℕ, ℤ, cond, ◌==◌, List, [], ◌∷◌, length, Option, Some, None, slice_index_or}
-use Rattle.std.specs.Int.{w32, cast_signed}
+use Rattle.std.specs.Int.{w32, cast_signed, int_wrap}
 use Rattle.aom_image.specs.Image.{Image}
 use Rattle.aom_image.specs.declared.method.Thing.{Thing}
 use Rattle.aom_image.specs.declared.method.Thing.TheVariants.{Object as An_object_of}
@@ -177,3 +177,7 @@ pub record Agrees (p : Image) (m : Parts) (s : State) : Type 0 where
   pub rest : m.rest ≡ s.rest
   pub room : 2048 ≤ m.stack.depth
   pub entry_room : 1024 ≤ m.entries.depth
+
+-- the word that the machine has heard of a native
+abbrev pub heard_by : Parts → ℤ
+heard_by m = int_wrap w32 m.heard

@@ -1,5 +1,7 @@
 -- Each case comes out as its table says: by computation.
-use Rattle.std.proofs.Common.{refl}
+use Rattle.std.proofs.Common.{refl, ℤ, pos, negsuc, arith}
+use Rattle.std.proofs.lemmas.Int.{ints}
+use Rattle.std.proofs.Math.Facts.{sfits_lit}
 use Rattle.aom_image.specs.Views.{arguments_in, class_at, class_in, fields_in, gives_in, instr_in, method_at, role_in}
 use Rattle.aom_instructions.specs.declared.instr.Instr.TheVariants.{Call, Trap}
 use Rattle.aom_roles.specs.Classes.{sessions_in, sessions_of, kind_in}
@@ -8,7 +10,8 @@ use Rattle.aom_shape.specs.Things.{words_in}
 use Rattle.aom_sound.specs.Cases.Calls.{CallBites, CallsBite}
 use Rattle.aom_sound.specs.Cases.Cleanup.{CleanupBites}
 use Rattle.aom_sound.specs.Cases.Moves.{MovesBite}
-use Rattle.aom_sound.specs.Cases.Natives.{NativesBite}
+use Rattle.aom_sound.specs.Cases.Natives.{IsNoAnswer, NativesBite}
+use Rattle.aom_sound.specs.State.{FitsWord}
 use Rattle.aom_sound.specs.Cases.Objects.{ObjectsBite}
 use Rattle.aom_sound.specs.Cases.Requests.{RequestsBite}
 use Rattle.aom_sound.specs.Cases.Returns.{ReturnsBite}
@@ -50,6 +53,9 @@ pub requests_bite : RequestsBite
 unfolding class_at gives_in instr_in kind_in kind_of method_at
 requests_bite = record { reading = refl; enlisting = refl; issuing = refl; waiting = refl; cancelling = refl; aborting = refl }
 
+no_answer : (w : ℤ) → (FitsWord w → ⊥) → IsNoAnswer w
+no_answer w none = (λ p refused name refuses s opened. none opened.answer, λ p s n cell well. none well.3)
+
 pub natives_bite : NativesBite
 unfolding class_at gives_in instr_in kind_in kind_of method_at
 natives_bite =
@@ -61,6 +67,9 @@ natives_bite =
       asked = (refl, (refl, (refl, (refl, (refl, tt)))));
       issued = (refl, (refl, (refl, (refl, (refl, (refl, tt))))));
       closed = (refl, (refl, (refl, tt)));
+      words = (sfits_lit tt, sfits_lit tt);
+      more = no_answer (pos 2147483648) (λ fits. grind (arith, ints, fits));
+      less = no_answer (negsuc 2147483648) (λ fits. grind (arith, ints, fits));
     }
 
 pub moves_bite : MovesBite

@@ -1,5 +1,6 @@
 -- The state of the checked machine.
-use Rattle.std.specs.Prelude.{ℕ, suc, ℤ, Bool, cond, ◌+◌, ◌-◌, ◌^◌, min, List, [], ◌∷◌, Option, None}
+use Rattle.std.specs.Prelude.{ℕ, suc, ℤ, Bool, cond, ◌+◌, ◌-◌, ◌^◌, min, List, [], ◌∷◌, Option, None, FitsSigned}
+use Rattle.std.specs.Int.{w32}
 use Rattle.aom_image.specs.declared.method.Thing.{Thing}
 use Rattle.aom_image.specs.declared.method.Thing.TheVariants.{Object as An_object_of, Message}
 use Rattle.aom_clients.specs.declared.client.Client.{Client}
@@ -105,6 +106,10 @@ pub record State : Type 0 where
   pub killed : List ℕ
   -- what each client is at; one past the end is unconnected
   pub clients : List Client
+
+-- a word: from -2^31 to 2^31 - 1
+abbrev pub FitsWord : ℤ → Type 0
+FitsWord w = FitsSigned w32 w
 
 -- what is left free, and what is heard at hand: the name of a new cell, whether the allocation request is refused, and what the native answers
 pub record Choice : Type 0 where

@@ -22,7 +22,7 @@ use Rattle.aom_shape.specs.declared.kind.Kind.TheVariants.{Unset, Word, Null, Ow
 use Rattle.aom_image.specs.declared.method.Thing.{Thing}
 use Rattle.aom_shape.specs.declared.kind.Delivery.TheVariants.{Here}
 use Rattle.aom_sound.specs.Servers.{has_session, is_server, session_thing, is_among}
-use Rattle.aom_sound.specs.Places.{Cell, Elsewhere, Entry, Field, Going, In_service, Object, Other, Place, Queued, Register, Root, Session, Sight, Tidy, held, named, other_cell, requested, same_place, seen, service_of}
+use Rattle.aom_sound.specs.Places.{Cell, Elsewhere, Entry, Field, Going, Object, Other, Place, Register, Root, Session, Sight, Tidy, held, named, other_cell, requested, same_place, seen, service_of}
 use Rattle.aom_sound.specs.State.{Home, Static, AtRoot, Inside, Frame, Dispatch, Of_main, Main_left, Of_root, Of_object, Object_left, Asks, Answered, Seat, Item, An_object, An_operation, A_mark, word, State, Outcome, Goes, IsStuck, home_holder, thing_holder, Of_server, Stage, Accepts, Accepted, Accept_left, Serves, Service_left, Parts}
 use Rattle.aom_sound.specs.Calls.{result_register, called}
 use Rattle.aom_sound.specs.Requests.{AllSuit, Joins, states_claim, thing_kind, works_at}

@@ -13,7 +13,7 @@ use Rattle.aom_sound.specs.Destruction.{begun}
 use Rattle.aom_sound.specs.Enlisted.{completed_with, is_active, is_idle, is_unsettled, on_request, part_of, pending, recorded, status_of, taken_up, timed_out}
 use Rattle.aom_sound.specs.Natives.{all_bereaved, is_dead, is_outstanding_at}
 use Rattle.aom_sound.specs.Places.{Cell, Object, Request, Timer, named, requested, set_request, Asked, Connect_of, Message_of, Close_of, Elsewhere, Session, In_service, Queued, Going, held, moved, service_of, word_field}
-use Rattle.aom_sound.specs.State.{AtRoot, Inside, frame_of, Seat, Task, Run, Trapped, Dispatched, Of_main, Of_object, A_mark, State, Choice, Outcome, Goes, IsStuck, CompletedTwice, NullOrDead, Stray, WrongKind, guarded, Frame, Stage, Accepts, Serves, Parts, Of_server}
+use Rattle.aom_sound.specs.State.{AtRoot, Inside, frame_of, Seat, Task, Run, Trapped, Dispatched, Of_main, Of_object, A_mark, State, Choice, Outcome, Goes, IsStuck, CompletedTwice, NullOrDead, Stray, WrongKind, guarded, Frame, Stage, Accepts, Serves, Parts, Of_server, FitsWord}
 use Rattle.aom_sound.specs.Moves.{step, written, IsOpen}
 use Rattle.aom_transcript.specs.declared.event.Event.{Event}
 use Rattle.aom_transcript.specs.declared.event.Command.{Command}
@@ -288,9 +288,9 @@ turning outside heard s =
     (polls (next_native outside s) heard.completion
     (picks (has_signal s.cells) (first_ready s.cells) (next_time outside s)))))
 
--- a native that is polled completes what is outstanding at it
+-- a native that is polled completes what is outstanding at it, with a word
 abbrev pub AnswersWell : Image → State → Turning → Type 0
-AnswersWell p s (Polls n (Some a)) = (c : Cell) × (cell_at s.cells a.cell ≡ Some c) × (is_outstanding_at p n c ≡ true)
+AnswersWell p s (Polls n (Some a)) = (c : Cell) × (cell_at s.cells a.cell ≡ Some c) × (is_outstanding_at p n c ≡ true) × FitsWord a.code
 AnswersWell p s _ = Unit {0}
 
 -- a native that is polled completes what is outstanding at it, and the name is free

@@ -1,12 +1,12 @@
 -- Further runs with servers and clients, line by line.
-use Rattle.std.specs.Prelude.{pos, negsuc, ◌≡◌, List, [], ◌∷◌}
+use Rattle.std.specs.Prelude.{pos, negsuc, List, [], ◌∷◌}
 use Rattle.aom_transcript.specs.declared.line.Ending.TheVariants.{Stopped, Waiting}
 use Rattle.aom_transcript.specs.declared.event.Command.TheVariants.{Connect, Send, Close, Die}
 use Rattle.aom_transcript.specs.declared.line.Asked.TheVariants.{Connect as A_connect, Message as A_message, Close as A_close}
 use Rattle.aom_transcript.specs.declared.event.TimedEvent.{TimedEvent}
-use Rattle.aom_transcript.specs.declared.line.Line.TheVariants.{Main, Out, Leave, Gone, Run as Run_line, Serve, Reply as Reply_line, Refuse}
+use Rattle.aom_transcript.specs.declared.line.Line.TheVariants.{Out, Leave, Gone, Run as Run_line, Serve, Reply as Reply_line, Refuse}
 use Rattle.aom_sound.specs.Cases.Programs.{stopping, declining, stops_accepting, small, narrow, owning, two_servers}
-use Rattle.aom_sound.specs.Cases.Running.{Runs, Ends, at, run_of}
+use Rattle.aom_sound.specs.Cases.Running.{Runs, at}
 use Rattle.aom_sound.specs.Cases.Served.{client_dies, client_lives, clients_refused, leaves_after_taking, returns_untaken, returns_with_message, service_leaves, service_stops, session_closed, slot_refused, words}
 
 -- a server goes: its sessions in order of connection, then what waits in order, a close untold, and then the server

@@ -3,9 +3,11 @@ use Rattle.std.specs.Prelude.{ℕ, ℤ, pos, negsuc, Bool, true, false, ◌≡�
 use Rattle.aom_instructions.specs.declared.instr.Instr.{Instr}
 use Rattle.aom_instructions.specs.declared.instr.Instr.TheVariants.{Ask, Close, Connect, Issue}
 use Rattle.aom_sound.specs.Enlisted.{pending, status_of}
-use Rattle.aom_sound.specs.Moves.{step}
+use Rattle.aom_image.specs.Image.{Image}
+use Rattle.aom_sound.specs.Moves.{IsOpen, step}
 use Rattle.aom_sound.specs.Places.{Cell, Phase, Idle, Issued, Active, Cancelling, Aborted, Elsewhere, Root, in_session, requested}
-use Rattle.aom_sound.specs.State.{Outcome, Goes, IsStuck, Run, State, Stuck, ClosedWhileOutstanding, Orphan, Task, WrongKind, word}
+use Rattle.aom_sound.specs.World.{AnswersWell, Polls}
+use Rattle.aom_sound.specs.State.{FitsWord, Outcome, Goes, IsStuck, Run, State, Stuck, ClosedWhileOutstanding, Orphan, Task, WrongKind, word}
 use Rattle.aom_sound.specs.Cases.Building.{AllBite, Case, a_cell, begins, fails, image_of, inside, leaf, mine, served, seven, waiter}
 use Rattle.aom_sound.specs.Cases.Requests.{elsewhere_cases}
 
@@ -144,6 +146,12 @@ closing =
     ∷ hears Close [] false (pos 5) (finds seven false (pos 0))
     ∷ []
 
+-- 2^31 - 1 and -2^31 are words, 2^31 and -2^31 - 1 are none: no choice with such an answer is open, and no native that is polled completes with such a code
+abbrev pub IsNoAnswer : ℤ → Type 0
+IsNoAnswer w =
+    ((p : Image) (refused : List ℕ) (name : ℕ) (refuses : Bool) (s : State) → IsOpen p refused (record { name = name; refused = refuses; answer = w }) s → ⊥)
+    × ((p : Image) (s : State) (n cell : ℕ) → AnswersWell p s (Polls n (Some (record { cell = cell; code = w }))) → ⊥)
+
 -- each need of an instruction at a native bites, and what it answers is what is found
 pub record NativesBite : Type 0 where
   pub connects : AllBite connect_cases
@@ -153,3 +161,6 @@ pub record NativesBite : Type 0 where
   pub asked : AllFind asking
   pub issued : AllFind issuing
   pub closed : AllFind closing
+  pub words : FitsWord (pos 2147483647) × FitsWord (negsuc 2147483647)
+  pub more : IsNoAnswer (pos 2147483648)
+  pub less : IsNoAnswer (negsuc 2147483648)

@@ -6,7 +6,7 @@ use Rattle.aom_transcript.specs.declared.event.Command.TheVariants.{Connect, Sen
 use Rattle.aom_transcript.specs.declared.line.Asked.TheVariants.{Connect as A_connect, Message as A_message, Close as A_close}
 use Rattle.aom_transcript.specs.declared.line.Line.TheVariants.{Main, Leave, Gone, Run as Run_line, Serve, Reply as Reply_line, Discard, Refuse}
 use Rattle.aom_sound.specs.Cases.Programs.{leaving_echo, stopping_echo, late_echo, idle_echo, losing_echo, holding}
-use Rattle.aom_sound.specs.Cases.Running.{Runs, Ends, Sticks, at, run_of}
+use Rattle.aom_sound.specs.Cases.Running.{Runs, Sticks, at, run_of}
 
 -- ---- a server whose sessions answer at once
 
