@@ -16,7 +16,7 @@ use Rattle.aom_sound.proofs.Turning.{completed}
 use Rattle.aom_sound.specs.Enlisted.{completed_with, on_request, recorded}
 use Rattle.aom_sound.specs.Natives.{is_outstanding_at, is_owed, is_served_by}
 use Rattle.aom_sound.specs.Places.{Object, Request, named, requested}
-use Rattle.aom_sound.specs.State.{CompletedTwice, Goes, IsStuck, Rest, State}
+use Rattle.aom_sound.specs.State.{CompletedTwice, Goes, IsStuck, Rest, State, FitsWord}
 use Rattle.aom_sound.specs.World.{AnswersWell, Completion, Polls, answered_by, past_native, turned, with_request}
 use Rattle.aom_steps.specs.Left.{is_entry}
 use Rattle.aom_steps.proofs.Pushed.{asked_same}
@@ -145,15 +145,15 @@ module _ (p : Image) (m : Parts) (native : ℕ) where
     nothing : PollsAll native None was (now m.active)
     nothing s st = (None, tt, tt, λ told. rest_turns p m turned_now (Polls native None) (λ r. record r { polled = suc native }) (λ s. (refl, refl)) (λ r. refl) told s st)
 
-    pub polls_well : (completion : Option (ℕ × ℤ)) (a : Active) → IsOwed was native completion → Finishes completion m.active a → PollsAll native completion was (now a)
-    polls_well None a owed same s st = subst (λ x. PollsAll native None was (now x)) (sym same) nothing s st
-    polls_well (Some x) a owed makes s st =
+    pub polls_well : (completion : Option (ℕ × ℤ)) (a : Active) → IfSome completion (λ x. FitsWord x.1) → IsOwed was native completion → Finishes completion m.active a → PollsAll native completion was (now a)
+    polls_well None a fits owed same s st = subst (λ x. PollsAll native None was (now x)) (sym same) nothing s st
+    polls_well (Some x) a fits owed makes s st =
         let here = owes_in_all p m native x.0 owed.0 s owed.1 st owed.2 in
         let idle = (machine_between was s st turned_now).idle in
         let c = it s st x.0 here in (
           Some (answer s st x.0 here x.1 a makes idle),
           (c.cell, c.at, c.name, refl),
-          (c.cell, c.at, outstanding s st x.0 here x.1 a makes idle),
+          (c.cell, c.at, outstanding s st x.0 here x.1 a makes idle, fits),
           λ told. record {
             between = machine_between was s st turned_now;
             state = then s st x.0 here x.1 a makes idle;
@@ -164,5 +164,5 @@ module _ (p : Image) (m : Parts) (native : ℕ) where
         )
 
     -- and it stands for one again
-    pub polled_again : (completion : Option (ℕ × ℤ)) (a : Active) → IsOwed was native completion → Finishes completion m.active a → Stands was → Stands (now a)
-    polled_again completion a owed finishes (s, st) = let t = (polls_well completion a owed finishes s st).3 (record { lines = []; refused = []; room = 0 }) in (t.state, t.stands)
+    pub polled_again : (completion : Option (ℕ × ℤ)) (a : Active) → IfSome completion (λ x. FitsWord x.1) → IsOwed was native completion → Finishes completion m.active a → Stands was → Stands (now a)
+    polled_again completion a fits owed finishes (s, st) = let t = (polls_well completion a fits owed finishes s st).3 (record { lines = []; refused = []; room = 0 }) in (t.state, t.stands)

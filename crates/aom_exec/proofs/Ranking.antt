@@ -21,7 +21,7 @@ use Rattle.aom_steps.proofs.Ranking.{moves_lower_ranks}
 use Rattle.aom_steps.proofs.Rounds.{worth_alike}
 use Rattle.aom_sound.proofs.Maps.{held_lives}
 use Rattle.aom_sound.specs.Places.{Elsewhere, Going, Place, Root, named}
-use Rattle.aom_parts.specs.Agrees.{SameDispatch, Shows, dispatch_of, SameFrame, SameTasks, SameItems, Agrees}
+use Rattle.aom_parts.specs.Agrees.{SameDispatch, Shows, dispatch_of, SameFrame, SameTasks, SameItems, Agrees, heard_by}
 use Rattle.aom_parts.specs.Places.{going_in, going_of, value}
 use Rattle.aom_acts.proofs.Running.{null_unnamed, object_there}
 use Rattle.aom_steps.specs.RankLaws.{GoesNoMessage}
@@ -151,7 +151,7 @@ same_rank p t m s typed agrees =
 busy_state : (ms : List Held_task) (us : List Task) → SameTasks ms us → 0 < length ms → (u : Task) × (vs : List Task) × (us ≡ u ∷ vs)
 busy_state ms us same busy = cons_given (λ vs. 0 < length vs) us (let even = same_length ms us same in omega arith) (λ none. omega arith) (λ u vs e _. (u, vs, e))
 
-pub moved_falls : (p : Image) (t : Typing) (refused : List ℕ) (m new : Parts) (s : State) → Sound p t → WellTyped p t s → Agrees p m s → Moved p refused m.heard t s new → 0 < length m.stack.tasks
+pub moved_falls : (p : Image) (t : Typing) (refused : List ℕ) (m new : Parts) (s : State) → Sound p t → WellTyped p t s → Agrees p m s → Moved p refused (heard_by m) t s new → 0 < length m.stack.tasks
     → rank_in p new < rank_in p m
 moved_falls p t refused m new s sound typed agrees moved busy =
     let before = same_rank p t m s typed agrees in

@@ -12,7 +12,7 @@ ghost use Rattle.aom_sessions.specs.Sessions.{Sets, is_killed, is_open};
 ghost use Rattle.aom_sound.specs.Enlisted.{is_unanswered};
 ghost use Rattle.aom_sound.specs.Natives.{is_owed, terminated_request};
 ghost use Rattle.aom_sound.specs.Places.{Request};
-ghost use Rattle.aom_sound.specs.State.{State};
+ghost use Rattle.aom_sound.specs.State.{State, FitsWord};
 ghost use Rattle.aom_sound.specs.World.{Kills};
 ghost use Rattle.std.specs.Prelude.{◌≡◌, ◌<◌, ◌+◌, ◌^◌, ◌&&◌, ◌||◌, ◌++◌, ◌∷◌, [], ℕ, IfSome, IsTrue, Bool, Option, false, length, suc, true};
 
@@ -89,6 +89,7 @@ pub fn polled(parts: &mut Parts, native: usize, completion: Option<(u32, i32)>)
     requires few { native + 1 < 2 ^ 64 }
     requires pending { IfSome completion (λ x. Lives parts.old.cells x.0 × IsTrue (is_pending (request_at parts.old.active.table x.0))) }
     ensures finishes { Finishes completion parts.old.active parts.new.active }
+    ensures word { IfSome completion (λ x. FitsWord x.1) }
     ensures rest { parts.new ≡ record parts.old { active = parts.new.active; rest = record parts.old.rest { polled = suc native } } }
 {
     if let Some((number, code)) = completion {

@@ -15,6 +15,7 @@ use Rattle.aom_lines.specs.Turn.{Turn}
 use Rattle.aom_parts.specs.declared.progress.Progress.{Progress}
 use Rattle.aom_parts.specs.declared.progress.Progress.TheVariants.{Ended, Running, Turned}
 use Rattle.aom_parts.specs.Progress.{progress_of}
+use Rattle.aom_parts.specs.Agrees.{heard_by}
 use Rattle.aom_parts.specs.Stands.{Machine as Core, StandsFor as Core_stands}
 use Rattle.aom_exec.specs.Steps.{Quiet, StaysIdle as Core_stays_idle, Stepped as Core_stepped, SteppedOn as Core_stepped_on, Steps, begins, progress}
 use Rattle.aom_run.specs.declared.machine.Machine.{Machine}
@@ -120,12 +121,12 @@ module _ {X : Type 0} {B : X → Type 0} (old : Machine X B) (s : State) (st : S
   unnamed_stay new unasked = keeps_unnamed old.core.image s old.natives.slots.items new.natives.slots.items (asked_of old.core.image s) (of_asked (progress_of s)) unasked
 
   -- the core has gone on with the answer
-  pub stepped_on : (new : Machine X B) (mid : Core) (heard : ℤ) (progress : Progress) (told now : Turn) → mid.image ≡ old.core.image → mid.parts.heard ≡ heard → Core_stands mid s → new.core.image ≡ mid.image →
+  pub stepped_on : (new : Machine X B) (mid : Core) (heard : ℤ) (progress : Progress) (told now : Turn) → mid.image ≡ old.core.image → heard_by mid.parts ≡ heard → Core_stands mid s → new.core.image ≡ mid.image →
       Asked (λ l. l.ids) old.natives.slots.items (asked_of old.core.image s) heard new.natives.slots.items → Core_stepped_on mid progress told now new.core → SteppedOn old heard progress told now new s
   stepped_on new mid heard progress told now image same_heard stands kept asked steps =
       let d = steps s stands in
-      let quiet = subst (λ h. Quiet old.core.image told.refused h s d.1) same_heard (subst (λ q. Quiet q told.refused mid.parts.heard s d.1) image d.3) in
-      let last = subst (λ h. Steps old.core.image told.refused h d.1 d.0 d.2) same_heard (subst (λ q. Steps q told.refused mid.parts.heard d.1 d.0 d.2) image d.4) in
+      let quiet = subst (λ h. Quiet old.core.image told.refused h s d.1) same_heard (subst (λ q. Quiet q told.refused (heard_by mid.parts) s d.1) image d.3) in
+      let last = subst (λ h. Steps old.core.image told.refused h d.1 d.0 d.2) same_heard (subst (λ q. Steps q told.refused (heard_by mid.parts) d.1 d.0 d.2) image d.4) in
       let went = went_on old.core.image st.stands.typing st.stands.sound told.refused heard s d.1 d.2 d.0 st.stands.typed st.serves.sessions quiet last in
       let serves = serves_after (λ l. l.ids) old.core.image s old.natives.slots.items st.serves st.stands.sound.formed (session_small old.core s st.stands) st.stands.typing (asked_of old.core.image s) heard new.natives.slots.items d.2 (of_asked (progress_of s)) asked went in (
         d.0,
@@ -143,7 +144,7 @@ module _ {X : Type 0} {B : X → Type 0} (old : Machine X B) (s : State) (st : S
       )
 
   -- so it has by one step
-  pub stepped_once : (new : Machine X B) (mid : Core) (heard : ℤ) (progress : Progress) (told now : Turn) → mid.image ≡ old.core.image → mid.parts.heard ≡ heard → Core_stands mid s → new.core.image ≡ mid.image →
+  pub stepped_once : (new : Machine X B) (mid : Core) (heard : ℤ) (progress : Progress) (told now : Turn) → mid.image ≡ old.core.image → heard_by mid.parts ≡ heard → Core_stands mid s → new.core.image ≡ mid.image →
       Asked (λ l. l.ids) old.natives.slots.items (asked_of old.core.image s) heard new.natives.slots.items → Core_stepped mid progress told now new.core → SteppedOnce old heard progress told now new s
   unfolding stepped_on
   stepped_once new mid heard progress told now image same_heard stands kept asked steps =

@@ -1,5 +1,6 @@
 //! What a step asks of a native.
 ghost use Rattle.std.specs.Prelude.{◌≡◌, ◌≢◌, ◌<◌, Some};
+ghost use Rattle.aom_parts.specs.Agrees.{heard_by};
 ghost use Rattle.aom_parts.specs.Stands.{StandsFor as CoreStandsFor};
 ghost use Rattle.aom_parts.specs.declared.progress.Progress.TheVariants.{Running};
 ghost use Rattle.aom_run.specs.Answers.{Asked, MayAsk, MayHear, asked_of};
@@ -56,7 +57,7 @@ impl<'a> Machine<'a> {
         ensures idle { progress self.old.core ≢ Running → self.new ≡ self.old }
         ensures core { self.new.core ≡ record self.old.core { parts = record self.old.core.parts { heard = self.new.core.parts.heard } } }
         ensures stands { (s : State) → CoreStandsFor self.old.core s → CoreStandsFor self.new.core s }
-        ensures asked { (s : State) → StandsFor self.old s → MayHear (λ l. (⟦<dyn Native as Native>⟧ l.native.vtable).open_may l.native.value) (λ l. (⟦<dyn Native as Native>⟧ l.native.vtable).start_may l.native.value) (λ l. (⟦<dyn Native as Native>⟧ l.native.vtable).call_may l.native.value) self.old.natives.slots.items (asked_of self.old.core.image s) self.new.core.parts.heard × Asked (λ l. l.ids) self.old.natives.slots.items (asked_of self.old.core.image s) self.new.core.parts.heard self.new.natives.slots.items }
+        ensures asked { (s : State) → StandsFor self.old s → MayHear (λ l. (⟦<dyn Native as Native>⟧ l.native.vtable).open_may l.native.value) (λ l. (⟦<dyn Native as Native>⟧ l.native.vtable).start_may l.native.value) (λ l. (⟦<dyn Native as Native>⟧ l.native.vtable).call_may l.native.value) self.old.natives.slots.items (asked_of self.old.core.image s) (heard_by self.new.core.parts) × Asked (λ l. l.ids) self.old.natives.slots.items (asked_of self.old.core.image s) (heard_by self.new.core.parts) self.new.natives.slots.items }
     {
         let Progress::Running = self.core.progress() else {
             return;

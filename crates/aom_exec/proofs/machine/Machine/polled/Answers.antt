@@ -22,7 +22,7 @@ invariant_of-self c =
     let turned = subst (λ (m : Machine). progress m ≡ Turned) (sym c.self.view_is) c.requires.between in
     let owed = subst (λ (m : Machine). IsOwed m c.args.native c.args.completion) (sym c.self.view_is) c.requires.owed in
     subst (λ x. Stands (record { image = p; parts = x })) (sym c.polled.ensures.rest)
-    (polled_again p c.self.inside.parts c.args.native turned c.args.completion c.polled.new.parts.active owed c.polled.ensures.finishes c.self.invariant)
+    (polled_again p c.self.inside.parts c.args.native turned c.args.completion c.polled.new.parts.active c.polled.ensures.word owed c.polled.ensures.finishes c.self.invariant)
 
 pub returns-clause-polled : goal.returns-clause-polled
 returns-clause-polled c =
@@ -31,7 +31,7 @@ returns-clause-polled c =
     let owed = subst (λ (m : Machine). IsOwed m c.args.native c.args.completion) (sym c.self.view_is) c.requires.owed in
     subst (λ (old : Machine). PollsAll c.args.native c.args.completion old (record { image = p; parts = c.polled.new.parts })) c.self.view_is
     (subst (λ x. PollsAll c.args.native c.args.completion (record { image = p; parts = c.self.inside.parts }) (record { image = p; parts = x })) (sym c.polled.ensures.rest)
-    (polls_well p c.self.inside.parts c.args.native turned c.args.completion c.polled.new.parts.active owed c.polled.ensures.finishes))
+    (polls_well p c.self.inside.parts c.args.native turned c.args.completion c.polled.new.parts.active c.polled.ensures.word owed c.polled.ensures.finishes))
 
 pub returns-clause-none_due : goal.returns-clause-none_due
 returns-clause-none_due c =

@@ -1,6 +1,8 @@
 use Rattle.std.proofs.Common.{rules, ◌∙◌, sym, ap, refl, w32}
 use Rattle.std.specs.Prelude.{FitsSigned}
-use Rattle.std.proofs.lemmas.Int.{to_z-of_z}
+use Rattle.std.specs.Int.{int_wrap}
+use Rattle.std.proofs.lemmas.Int.{int_wrap_fits, to_z-of_z}
+use Rattle.aom_parts.specs.Agrees.{heard_by}
 use Rattle.aom_run.proofs.Stepped.{asks_nothing, asks_so, fits, heard_nothing, heard_so}
 use Rattle.aom_run.proofs.machine.Machine.ask.Goals as goal
 
@@ -22,7 +24,7 @@ call-answer-requires-clause-fits g c = fits c.args.self.now c.requires.stands.0 
 pub returns-in-Some-clause-asked : goal.returns-in-Some-clause-asked
 returns-in-Some-clause-asked g c = λ s st.
     let fits : FitsSigned w32 c.call-answer.result = search rules in
-    heard_so _ _ _ _ _ _ _ _ _ _ (asks_so c.args.self.now s st _ (sym c.progress.ensures ∙ c.in-Running.is) (c.in-Some.ensures s st.stands)) (ap (λ m. m.parts.heard) c.hear.ensures.heard ∙ to_z-of_z w32 c.call-answer.result fits) c.call-answer.ensures.answer c.call-answer.ensures.after
+    heard_so _ _ _ _ _ _ _ _ _ _ (asks_so c.args.self.now s st _ (sym c.progress.ensures ∙ c.in-Running.is) (c.in-Some.ensures s st.stands)) (ap (λ m. heard_by m.parts) c.hear.ensures.heard ∙ ap (int_wrap w32) (to_z-of_z w32 c.call-answer.result fits) ∙ int_wrap_fits w32 c.call-answer.result fits) c.call-answer.ensures.answer c.call-answer.ensures.after
 
 pub call-answer-requires-clause-agree : goal.call-answer-requires-clause-agree
 call-answer-requires-clause-agree g c = c.requires.agree
