@@ -5,6 +5,7 @@ pub mod Strides
 pub mod Going
 pub mod Turning
 pub mod Passing
+pub mod Limits
 pub mod Leaving
 pub mod Runs
 pub use Rattle.aom_exec.proofs.Progressing

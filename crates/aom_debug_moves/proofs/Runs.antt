@@ -10,12 +10,13 @@ use Rattle.aom_debug_moves.specs.Next.{root_is_due}
 use Rattle.aom_debug_words.specs.declared.spot.Spot.{Spot}
 use Rattle.aom_debug_moves.specs.Sends.{Leads}
 use Rattle.aom_debug_moves.proofs.Sending.{reaches_arrived}
-use Rattle.aom_debug_moves.specs.Courses.{GoesBy, GoesOn, IsOver, Rests, TurnsOver, WalksThere, course_of, stays_at}
+use Rattle.aom_debug_moves.specs.Courses.{GoesBy, GoesOn, IsOver, Rests, TurnsOver, WalksThere, course_of, stays_at, way_of}
 use Rattle.aom_debug_moves.specs.declared.courses.Course.{Course}
 use Rattle.aom_debug_moves.specs.declared.courses.Course.TheVariants as course
 use Rattle.aom_debug_moves.specs.declared.walking.Until.TheVariants.{Breakpoint}
 use Rattle.aom_debug_moves.proofs.Going.{reaches_goes, run_of}
 use Rattle.aom_debug_moves.proofs.Passing.{reaches_passed}
+use Rattle.aom_debug_moves.proofs.Limits.{reaches_to_limit}
 use Rattle.aom_debug_moves.proofs.Strides.{moving_walk}
 
 pub reaches_by : (p : Image) (outside : Outside) (steps : ℕ) (old new : List Spot) (s : State) (lines : List Line) (u : State) → GoesBy p outside steps old new s lines u → Reaches p outside s lines u
@@ -40,7 +41,11 @@ reaches_on p outside stays old new s lines u x =
     let z = x.1 in
     subst (λ ls. Reaches p outside s ls u) (sym z.5) (reaches_both p outside s z.1 z.0 z.2 u (reaches_passed p outside stays old s x.0 new z.1 z.0 z.3) (reaches_arrived p outside z.0 z.2 u z.4))
 
+-- with the run's end by its limit it is a run too
+reaches_way : (p : Image) (outside : Outside) (spots : List Spot) (way : Course) (old new : List Spot) (s : State) (lines : List Line) (u : State) → way_of p outside spots way old new s lines u → Reaches p outside s lines u
+reaches_way p outside spots (course.Steps n) = reaches_by p outside n
+reaches_way p outside spots course.EndOfDispatch = reaches_over p outside
+reaches_way p outside spots course.Breakpoint = reaches_on p outside (λ s. stays_at p Breakpoint spots s)
+
 pub reaches_course : (p : Image) (outside : Outside) (spots : List Spot) (way : Course) (old new : List Spot) (s : State) (lines : List Line) (u : State) → course_of p outside spots way old new s lines u → Reaches p outside s lines u
-reaches_course p outside spots (course.Steps n) = reaches_by p outside n
-reaches_course p outside spots course.EndOfDispatch = reaches_over p outside
-reaches_course p outside spots course.Breakpoint = reaches_on p outside (λ s. stays_at p Breakpoint spots s)
+reaches_course p outside spots way = reaches_to_limit p outside (way_of p outside spots way) (reaches_way p outside spots way)

@@ -5,7 +5,8 @@ use Rattle.aom_sound.specs.State.{State}
 use Rattle.aom_sound.specs.World.{Outside, Reaches}
 use Rattle.aom_transcript.specs.declared.line.Line.{Line}
 use Rattle.aom_debug_words.specs.declared.spot.Spot.{Spot}
-use Rattle.aom_debug_moves.specs.Courses.{Courses, GoesBy, GoesOn, TurnsOver}
+use Rattle.aom_debug_moves.specs.Courses.{Courses, GoesBy, GoesOn, TurnsOver, course_of}
+use Rattle.aom_debug_moves.specs.declared.courses.Course.{Course}
 
 -- what leads so is a run, with the same lines
 abbrev pub AreRuns : Image → Outside → Courses → Type 0
@@ -19,3 +20,7 @@ TurnsRun = (p : Image) (outside : Outside) → AreRuns p outside (TurnsOver p ou
 
 abbrev pub GoingRuns : Type 0
 GoingRuns = (p : Image) (outside : Outside) (stays : State → Bool) → AreRuns p outside (GoesOn p outside stays)
+
+-- and so is each course, with which the run may end by its limit
+abbrev pub CoursesRun : Type 0
+CoursesRun = (p : Image) (outside : Outside) (spots : List Spot) (way : Course) → AreRuns p outside (course_of p outside spots way)

@@ -10,8 +10,8 @@ use Rattle.aom_exec.specs.Steps.{IsAtHand}
 use Rattle.aom_debug_words.specs.Marks.{has_spot}
 use Rattle.aom_debug_words.specs.declared.spot.Spot.{Spot}
 use Rattle.aom_debug_moves.specs.Next.{next_of, root_is_due, spot_of}
-use Rattle.aom_debug_moves.specs.Moves.{Arrives, Strides}
-use Rattle.aom_debug_moves.specs.Sends.{Leads, Then}
+use Rattle.aom_debug_moves.specs.Moves.{Arrives, EndsByLimit, Strides, is_at_limit}
+use Rattle.aom_debug_moves.specs.Sends.{Leads, Then, Where}
 use Rattle.aom_debug_moves.specs.declared.courses.Course.{Course}
 use Rattle.aom_debug_moves.specs.declared.courses.Course.TheVariants as course
 use Rattle.aom_debug_moves.specs.declared.walking.Until.{Until}
@@ -107,8 +107,16 @@ GoesOn p outside stays old new s lines u = (n : ℕ) × Then (λ a ls b. Passes 
 abbrev pub GoesToBreakpoint : Image → Outside → List Spot → Courses
 GoesToBreakpoint p outside spots = GoesOn p outside (λ s. stays_at p Breakpoint spots s)
 
--- each course that a debugger is asked for
+-- ---- each course that a debugger is asked for
+
+abbrev pub way_of : Image → Outside → List Spot → Course → Courses
+way_of p outside spots (course.Steps n) = GoesBy p outside n
+way_of p outside spots course.EndOfDispatch = TurnsOver p outside
+way_of p outside spots course.Breakpoint = GoesToBreakpoint p outside spots
+
+-- where it ends with the dispatch that reaches the limit, the run ends with that too
+abbrev pub ToLimit : Image → Outside → Courses → Courses
+ToLimit p outside leads old new = Then (leads old new) (Where (is_at_limit outside) (EndsByLimit p outside))
+
 abbrev pub course_of : Image → Outside → List Spot → Course → Courses
-course_of p outside spots (course.Steps n) = GoesBy p outside n
-course_of p outside spots course.EndOfDispatch = TurnsOver p outside
-course_of p outside spots course.Breakpoint = GoesToBreakpoint p outside spots
+course_of p outside spots way = ToLimit p outside (way_of p outside spots way)

@@ -1,5 +1,5 @@
 -- The moves of a debugger.
-use Rattle.std.specs.Prelude.{◌≡◌, ℕ, ℤ, List, [], ◌∷◌, ◌++◌, Option, Some, None}
+use Rattle.std.specs.Prelude.{◌≡◌, ℕ, ℤ, Bool, false, nat_le, List, [], ◌∷◌, ◌++◌, Option, Some, None}
 use Rattle.circular_buffer.specs.Buffer.{keep_last}
 use Rattle.aom_debug_words.specs.declared.spot.Spot.{Spot}
 use Rattle.aom_image.specs.Image.{Image}
@@ -7,6 +7,10 @@ use Rattle.aom_sound.specs.State.{State}
 use Rattle.aom_sound.specs.World.{IsBetween, Outside, Reaches}
 use Rattle.aom_transcript.specs.declared.line.Line.{Line}
 use Rattle.aom_transcript.specs.declared.line.Ending.{Ending}
+use Rattle.aom_transcript.specs.declared.line.Ending.TheVariants.{Limit}
+use Rattle.aom_parts.specs.declared.progress.Progress.{Progress}
+use Rattle.aom_parts.specs.declared.progress.Progress.TheVariants.{Turned}
+use Rattle.aom_parts.specs.Progress.{progress_of}
 use Rattle.aom_exec.specs.Steps.{Steps}
 use Rattle.aom_run.specs.Turns.{LeadTo}
 use Rattle.aom_debug_moves.specs.Next.{next_of, pauses, root_is_due, spot_of}
@@ -37,3 +41,15 @@ TurnsOnce p outside s lines u = (ending : Option Ending) × Reaches p outside s 
 pub data Arrives (p : Image) (outside : Outside) (s : State) : List Line → State → Type 0 where
   stays : Arrives p outside s [] s
   turns : {lines more : List Line} {v u : State} → Arrives p outside s lines v → IsBetween v → TurnsOnce p outside v more u → Arrives p outside s (lines ++ more) u
+
+-- nothing is at hand, and as many dispatches are over as there may be
+abbrev pub is_cut : Progress → Bool → Bool
+is_cut Turned reached = reached
+is_cut far reached = false
+
+abbrev pub is_at_limit : Outside → State → Bool
+is_at_limit outside s = is_cut (progress_of s) (nat_le outside.limit s.rest.dispatches)
+
+-- the run ends by its limit, and no line is written
+abbrev pub EndsByLimit : Image → Outside → Leads
+EndsByLimit p outside s lines u = Reaches p outside s lines u × LeadTo outside (Some Limit) s lines u

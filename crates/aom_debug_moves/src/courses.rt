@@ -2,9 +2,10 @@
 ghost use Rattle.aom_natives.specs.Slots.{AllAgree};
 ghost use Rattle.aom_sound.specs.World.{Reaches};
 ghost use Rattle.aom_debug_moves.specs.Movers.{IsReady, Keeps, Went, outside_of};
-ghost use Rattle.aom_debug_moves.specs.Courses.{GoesBy, GoesToBreakpoint, InDispatch, TurnsOver, WalksOn, course_of, stays_at};
+ghost use Rattle.aom_debug_moves.specs.Courses.{GoesBy, GoesToBreakpoint, InDispatch, TurnsOver, WalksOn, course_of, stays_at, way_of};
 ghost use Rattle.aom_debug_moves.specs.declared.walking.Until.TheVariants.{Breakpoint};
 
+use crate::limit::cut_at_limit;
 use crate::walking::{Until, is_idle, is_there, walk, walk_unless};
 use crate::{Mover, arrive, stride};
 use aom_debug_words::Breakpoints;
@@ -93,7 +94,27 @@ fn go_on<W: Sink>(mover: &mut Mover, breakpoints: &Breakpoints, out: &mut W) -> 
     }
 }
 
-/// Goes on so far. `None` where the sink failed.
+/// Goes on so far, whatever the limit.
+fn follow<W: Sink>(
+    mover: &mut Mover,
+    course: Course,
+    breakpoints: &Breakpoints,
+    out: &mut W,
+) -> Option<Progress>
+    requires agree { AllAgree (λ l. l.ids) (λ l. (⟦<dyn Native as Native>⟧ l.native.vtable).owed l.native.value) mover.old.machine.natives.slots.items }
+    requires ready { IsReady mover.old }
+    ensures agree { AllAgree (λ l. l.ids) (λ l. (⟦<dyn Native as Native>⟧ l.native.vtable).owed l.native.value) mover.new.machine.natives.slots.items }
+    ensures keeps { Keeps mover.old mover.new }
+    ensures went { Went (way_of mover.old.machine.core.image (outside_of mover.old) breakpoints.now course mover.old.recent mover.new.recent) (Reaches mover.old.machine.core.image (outside_of mover.old)) mover.old (W.out out.old) (W.out out.new) (W.failed out.new) result mover.new }
+{
+    match course {
+        Course::Steps(steps) => go_steps(mover, steps, out),
+        Course::EndOfDispatch => go_turn(mover, breakpoints, out),
+        Course::Breakpoint => go_on(mover, breakpoints, out),
+    }
+}
+
+/// Goes on so far; with the dispatch that reaches the limit the run ends. `None` where the sink failed.
 pub fn go<W: Sink>(
     mover: &mut Mover,
     course: Course,
@@ -106,9 +127,6 @@ pub fn go<W: Sink>(
     ensures keeps { Keeps mover.old mover.new }
     ensures went { Went (course_of mover.old.machine.core.image (outside_of mover.old) breakpoints.now course mover.old.recent mover.new.recent) (Reaches mover.old.machine.core.image (outside_of mover.old)) mover.old (W.out out.old) (W.out out.new) (W.failed out.new) result mover.new }
 {
-    match course {
-        Course::Steps(steps) => go_steps(mover, steps, out),
-        Course::EndOfDispatch => go_turn(mover, breakpoints, out),
-        Course::Breakpoint => go_on(mover, breakpoints, out),
-    }
+    follow(mover, course, breakpoints, out)?;
+    Some(cut_at_limit(mover))
 }

@@ -8,8 +8,9 @@
 //!
 //! `go` goes by these moves one after another: by so many steps, to the end of a dispatch, or to a breakpoint. It promises of each
 //! course how many steps were made, where they end and that nowhere before was a place to stay (`GoesBy`, `TurnsOver` and
-//! `GoesToBreakpoint` of `specs/Courses.antt`), and that the lines that went out are those of these moves, or a beginning of the lines
-//! of a run where the sink failed; and that just the instructions that were made are noted, after the latest that were there.
+//! `GoesToBreakpoint` of `specs/Courses.antt`); that the run ends with the dispatch that reaches its limit (`ToLimit`); that the lines
+//! that went out are those of these moves, or a beginning of the lines of a run where the sink failed; and that just the instructions
+//! that were made are noted, after the latest that were there.
 //!
 //! What they look at before they move: `next_of` answers the instruction or the going of a cell that is next in each state that the
 //! machine stands for, or the time where nothing is at hand, by `specs/Next.antt`; where `stop` was run and the dispatch is at its end,
@@ -21,6 +22,7 @@ mod arriving;
 mod courses;
 mod ends;
 mod laws;
+mod limit;
 mod mover;
 mod next;
 mod stepping;

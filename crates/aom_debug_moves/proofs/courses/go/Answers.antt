@@ -1,46 +1,27 @@
+-- A course, and then the run's end where it has come to the limit.
+use Rattle.aom_debug_moves.specs.Courses.{way_of}
+use Rattle.aom_debug_moves.specs.Moves.{EndsByLimit, is_at_limit}
+use Rattle.aom_debug_moves.specs.Movers.{outside_of}
+use Rattle.aom_debug_moves.specs.Sends.{Sends, Where}
+use Rattle.aom_debug_moves.proofs.Keeping.{heard_as, keeps_on}
+use Rattle.aom_debug_moves.proofs.Sending.{sends_then}
 use Rattle.aom_debug_moves.proofs.courses.go.Goals as goal
 
-pub returns-in-Steps-clause-went : goal.returns-in-Steps-clause-went
-returns-in-Steps-clause-went g c = rw c.in-Steps.is c.go_steps.ensures.went
+pub returns-clause-went : goal.returns-clause-went
+returns-clause-went g c =
+    let a = c.args.mover.now in
+    let m = c.follow.new.mover in
+    let n = c.cut_at_limit.new.mover in
+    let p = a.machine.core.image in
+    let before = g.W.Sink.out c.args.out.now in
+    let out = g.W.Sink.out c.follow.new.out in
+    let ends = heard_as c.follow.ensures.keeps (λ q o. Sends (Where (is_at_limit o) (EndsByLimit q o)) m.machine out out n.machine) (c.cut_at_limit.ensures.ends out) in
+    let way = way_of p (outside_of a) c.args.breakpoints.now c.args.course a.recent m.recent in
+    let all = sends_then a.machine m.machine n.machine before out out way (Where (is_at_limit (outside_of a)) (EndsByLimit p (outside_of a))) c.in_ok-follow.ensures.went.0 ends in
+    (rw c.cut_at_limit.ensures.recent all, c.cut_at_limit.ensures.far)
 
-pub returns-in-EndOfDispatch-clause-went : goal.returns-in-EndOfDispatch-clause-went
-returns-in-EndOfDispatch-clause-went g c = rw c.in-EndOfDispatch.is c.go_turn.ensures.went
+pub returns-in_err-follow-clause-went : goal.returns-in_err-follow-clause-went
+returns-in_err-follow-clause-went g c = rw c.from_residual.ensures c.in_err-follow.ensures.went
 
-pub returns-in-Breakpoint-clause-went : goal.returns-in-Breakpoint-clause-went
-returns-in-Breakpoint-clause-went g c = rw c.in-Breakpoint.is c.go_on.ensures.went
-
-pub returns-in-Steps-clause-agree : goal.returns-in-Steps-clause-agree
-returns-in-Steps-clause-agree g c = c.go_steps.ensures.agree
-
-pub returns-in-Steps-clause-keeps : goal.returns-in-Steps-clause-keeps
-returns-in-Steps-clause-keeps g c = c.go_steps.ensures.keeps
-
-pub returns-in-EndOfDispatch-clause-agree : goal.returns-in-EndOfDispatch-clause-agree
-returns-in-EndOfDispatch-clause-agree g c = c.go_turn.ensures.agree
-
-pub returns-in-EndOfDispatch-clause-keeps : goal.returns-in-EndOfDispatch-clause-keeps
-returns-in-EndOfDispatch-clause-keeps g c = c.go_turn.ensures.keeps
-
-pub returns-in-Breakpoint-clause-agree : goal.returns-in-Breakpoint-clause-agree
-returns-in-Breakpoint-clause-agree g c = c.go_on.ensures.agree
-
-pub returns-in-Breakpoint-clause-keeps : goal.returns-in-Breakpoint-clause-keeps
-returns-in-Breakpoint-clause-keeps g c = c.go_on.ensures.keeps
-
-pub go_steps-requires-clause-agree : goal.go_steps-requires-clause-agree
-go_steps-requires-clause-agree g c = c.requires.agree
-
-pub go_steps-requires-clause-ready : goal.go_steps-requires-clause-ready
-go_steps-requires-clause-ready g c = c.requires.ready
-
-pub go_turn-requires-clause-agree : goal.go_turn-requires-clause-agree
-go_turn-requires-clause-agree g c = c.requires.agree
-
-pub go_turn-requires-clause-ready : goal.go_turn-requires-clause-ready
-go_turn-requires-clause-ready g c = c.requires.ready
-
-pub go_on-requires-clause-agree : goal.go_on-requires-clause-agree
-go_on-requires-clause-agree g c = c.requires.agree
-
-pub go_on-requires-clause-ready : goal.go_on-requires-clause-ready
-go_on-requires-clause-ready g c = c.requires.ready
+pub returns-clause-keeps : goal.returns-clause-keeps
+returns-clause-keeps g c = keeps_on c.follow.ensures.keeps c.cut_at_limit.ensures.keeps

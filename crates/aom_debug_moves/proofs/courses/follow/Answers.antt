@@ -1,0 +1,46 @@
+use Rattle.aom_debug_moves.proofs.courses.follow.Goals as goal
+
+pub returns-in-Steps-clause-went : goal.returns-in-Steps-clause-went
+returns-in-Steps-clause-went g c = rw c.in-Steps.is c.go_steps.ensures.went
+
+pub returns-in-EndOfDispatch-clause-went : goal.returns-in-EndOfDispatch-clause-went
+returns-in-EndOfDispatch-clause-went g c = rw c.in-EndOfDispatch.is c.go_turn.ensures.went
+
+pub returns-in-Breakpoint-clause-went : goal.returns-in-Breakpoint-clause-went
+returns-in-Breakpoint-clause-went g c = rw c.in-Breakpoint.is c.go_on.ensures.went
+
+pub returns-in-Steps-clause-agree : goal.returns-in-Steps-clause-agree
+returns-in-Steps-clause-agree g c = c.go_steps.ensures.agree
+
+pub returns-in-Steps-clause-keeps : goal.returns-in-Steps-clause-keeps
+returns-in-Steps-clause-keeps g c = c.go_steps.ensures.keeps
+
+pub returns-in-EndOfDispatch-clause-agree : goal.returns-in-EndOfDispatch-clause-agree
+returns-in-EndOfDispatch-clause-agree g c = c.go_turn.ensures.agree
+
+pub returns-in-EndOfDispatch-clause-keeps : goal.returns-in-EndOfDispatch-clause-keeps
+returns-in-EndOfDispatch-clause-keeps g c = c.go_turn.ensures.keeps
+
+pub returns-in-Breakpoint-clause-agree : goal.returns-in-Breakpoint-clause-agree
+returns-in-Breakpoint-clause-agree g c = c.go_on.ensures.agree
+
+pub returns-in-Breakpoint-clause-keeps : goal.returns-in-Breakpoint-clause-keeps
+returns-in-Breakpoint-clause-keeps g c = c.go_on.ensures.keeps
+
+pub go_steps-requires-clause-agree : goal.go_steps-requires-clause-agree
+go_steps-requires-clause-agree g c = c.requires.agree
+
+pub go_steps-requires-clause-ready : goal.go_steps-requires-clause-ready
+go_steps-requires-clause-ready g c = c.requires.ready
+
+pub go_turn-requires-clause-agree : goal.go_turn-requires-clause-agree
+go_turn-requires-clause-agree g c = c.requires.agree
+
+pub go_turn-requires-clause-ready : goal.go_turn-requires-clause-ready
+go_turn-requires-clause-ready g c = c.requires.ready
+
+pub go_on-requires-clause-agree : goal.go_on-requires-clause-agree
+go_on-requires-clause-agree g c = c.requires.agree
+
+pub go_on-requires-clause-ready : goal.go_on-requires-clause-ready
+go_on-requires-clause-ready g c = c.requires.ready
