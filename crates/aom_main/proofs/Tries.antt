@@ -115,6 +115,10 @@ has_enough p m natives image count stands = subst (λ n. HasNatives p n) count (
 pub wants_memory : (p : Image) (natives : ℕ) (fault : Fault) → fault ≡ faults.Memory → HasNatives p natives → RefusesBoot p natives fault
 wants_memory p natives fault is enough = rw is enough
 
+-- why a machine does not boot beside as many
+pub refuses_same : (p : Image) (natives same : ℕ) (fault : Fault) → natives ≡ same → RefusesBoot p natives fault → RefusesBoot p same fault
+refuses_same p natives same fault is refuses = subst (λ n. RefusesBoot p n fault) is refuses
+
 -- a run from one outside is one from the same
 pub heard_same : {X : Type 0} {B : X → Type 0} (m new : Machine X B) (outcome : Outcome) (failed : Bool) (before now : Option (List ℕ)) (refused same : List ℕ) (limit count natives : ℕ) (events : List TimedEvent) → refused ≡ same → count ≡ natives
     → Ran m (hearing refused limit count events) outcome failed before now new → Ran m (hearing same limit natives events) outcome failed before now new

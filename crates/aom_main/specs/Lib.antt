@@ -2,6 +2,7 @@ pub mod Acceptable
 pub mod Assembly
 pub mod Headline
 pub mod Explored
+pub mod Beside
 pub mod Status
 pub mod Prices
 pub mod Drawn

@@ -1,6 +1,5 @@
 //! Runs of an image in which one more allocation request is refused, each by its last line.
 ghost use Rattle.std.specs.Prelude.{ℕ, ◌≡◌, ◌≤◌, ◌<◌, ◌++◌, ◌∷◌, [], List, IfOk, IfErr, Ok, length};
-ghost use Rattle.aom_natives.specs.Owed.{OweNothing};
 ghost use Rattle.aom_natives.specs.Slots.{AllAgree};
 ghost use Rattle.aom_run.specs.Calls.{natives_of};
 ghost use Rattle.aom_run.specs.Turns.{hearing};
@@ -8,6 +7,7 @@ ghost use Rattle.aom_run.specs.Outcomes.{outcome_of};
 ghost use Rattle.aom_script.specs.Script.{IsTimely, denoted};
 ghost use Rattle.aom_run.specs.declared.outcome.Outcome.TheVariants.{WriteFault};
 ghost use Rattle.aom_main.specs.Acceptable.{IsSpelled};
+ghost use Rattle.aom_main.specs.Beside.{AllNew, AreNew};
 ghost use Rattle.aom_main.specs.Explored.{AcceptedExplores, BreaksOff, ExploreAnswers, Explored, IsLast, RefusesTry, Tried};
 ghost use Rattle.aom_main.specs.Headline.{HasNatives, IsFreshOf, RefusesBoot, Says};
 ghost use Rattle.aom_main.specs.Untold.{Untold};
@@ -73,53 +73,6 @@ fn ending_of(outcome: Outcome) -> Ending
     }
 }
 
-/// Runs a machine that has booted to its end where those requests are refused, and writes nothing.
-fn last_booted(
-    alloc: Global,
-    accepted: &Accepted,
-    machine: &mut Machine,
-    script: &Script,
-    refused: Vec<u32>,
-    limit: u32,
-) -> Result<Last, Fault>
-    requires limit { (1 ≤ limit) × (limit ≤ 1000000000) }
-    requires timely { IsTimely script.now.timed }
-    requires agree { AllAgree (λ l. l.ids) (λ l. (⟦<dyn Native as Native>⟧ l.native.vtable).owed l.native.value) machine.old.natives.slots.items }
-    requires fresh { IsFreshOf accepted.now machine.old }
-    ensures ok { IfOk result (λ last. IsLast accepted.now (hearing refused.items limit (natives_of machine.old) script.now.timed) last) }
-    ensures err { IfErr result (λ fault. fault ≡ Fault.Memory) }
-{
-    let mut turn = Turn::new(alloc, accepted.linked(), refused)?;
-    let outcome = run(machine, script, &mut turn, limit, &mut Nowhere);
-    Ok(Last {
-        ending: ending_of(outcome),
-        cells: machine.core.count(),
-        requests: machine.core.requests(),
-    })
-}
-
-/// Runs an accepted image beside those natives to its end where those requests are refused, and writes nothing.
-fn last_beside(
-    alloc: Global,
-    accepted: &Accepted,
-    script: &Script,
-    refused: Vec<u32>,
-    limit: u32,
-    boxes: Vec<Box<dyn Native>>,
-) -> Result<Last, Fault>
-    requires limit { (1 ≤ limit) × (limit ≤ 1000000000) }
-    requires timely { IsTimely script.now.timed }
-    requires owed { OweNothing (λ b. (⟦<dyn Native as Native>⟧ b.vtable).owed b.value) boxes.items }
-    ensures ok { IfOk result (λ last. IsLast accepted.now (hearing refused.items limit (length boxes.items) script.now.timed) last) }
-    ensures enough { IfOk result (λ _. HasNatives accepted.now (length boxes.items)) }
-    ensures err { IfErr result (λ fault. RefusesBoot accepted.now (length boxes.items) fault) }
-{
-    let mut machine = booted(alloc, accepted, boxes)?;
-    let last = last_booted(alloc, accepted, &mut machine, script, refused, limit);
-    drop(machine);
-    last
-}
-
 /// What is run again and again: an accepted image under a script, beside natives of those kinds.
 #[derive(Clone, Copy)]
 struct Trial<'a> {
@@ -127,6 +80,51 @@ struct Trial<'a> {
     script: &'a Script,
     limit: u32,
     kinds: &'a [NativeKind],
+}
+
+/// Runs a machine that has booted, whose natives are new ones of the trial's kinds, to its end where those requests are refused, and
+/// writes nothing.
+fn last_booted(
+    alloc: Global,
+    trial: &Trial<'_>,
+    machine: &mut Machine,
+    refused: Vec<u32>,
+) -> Result<Last, Fault>
+    requires limit { (1 ≤ trial.now.limit) × (trial.now.limit ≤ 1000000000) }
+    requires timely { IsTimely trial.now.script.now.timed }
+    requires agree { AllAgree (λ l. l.ids) (λ l. (⟦<dyn Native as Native>⟧ l.native.vtable).owed l.native.value) machine.old.natives.slots.items }
+    requires new { AllNew (λ l. record { owed = (⟦<dyn Native as Native>⟧ l.native.vtable).owed l.native.value; open_may = (⟦<dyn Native as Native>⟧ l.native.vtable).open_may l.native.value; start_may = (⟦<dyn Native as Native>⟧ l.native.vtable).start_may l.native.value; call_may = (⟦<dyn Native as Native>⟧ l.native.vtable).call_may l.native.value; poll_may = (⟦<dyn Native as Native>⟧ l.native.vtable).poll_may l.native.value }) trial.now.kinds.now machine.old.natives.slots.items }
+    requires fresh { IsFreshOf trial.now.accepted.now machine.old }
+    ensures ok { IfOk result (λ last. IsLast trial.now.accepted.now (hearing refused.items trial.now.limit (natives_of machine.old) trial.now.script.now.timed) last) }
+    ensures err { IfErr result (λ fault. fault ≡ Fault.Memory) }
+{
+    let mut turn = Turn::new(alloc, trial.accepted.linked(), refused)?;
+    let outcome = run(machine, trial.script, &mut turn, trial.limit, &mut Nowhere);
+    Ok(Last {
+        ending: ending_of(outcome),
+        cells: machine.core.count(),
+        requests: machine.core.requests(),
+    })
+}
+
+/// Runs the image beside those natives, which are new ones of its kinds, to its end where those requests are refused, and writes nothing.
+fn last_beside(
+    alloc: Global,
+    trial: &Trial<'_>,
+    refused: Vec<u32>,
+    boxes: Vec<Box<dyn Native>>,
+) -> Result<Last, Fault>
+    requires limit { (1 ≤ trial.now.limit) × (trial.now.limit ≤ 1000000000) }
+    requires timely { IsTimely trial.now.script.now.timed }
+    requires new { AreNew (λ b. record { owed = (⟦<dyn Native as Native>⟧ b.vtable).owed b.value; open_may = (⟦<dyn Native as Native>⟧ b.vtable).open_may b.value; start_may = (⟦<dyn Native as Native>⟧ b.vtable).start_may b.value; call_may = (⟦<dyn Native as Native>⟧ b.vtable).call_may b.value; poll_may = (⟦<dyn Native as Native>⟧ b.vtable).poll_may b.value }) trial.now.kinds.now boxes.items }
+    ensures ok { IfOk result (λ last. IsLast trial.now.accepted.now (hearing refused.items trial.now.limit (length trial.now.kinds.now) trial.now.script.now.timed) last) }
+    ensures enough { IfOk result (λ _. HasNatives trial.now.accepted.now (length trial.now.kinds.now)) }
+    ensures err { IfErr result (λ fault. RefusesBoot trial.now.accepted.now (length trial.now.kinds.now) fault) }
+{
+    let mut machine = booted(alloc, trial.accepted, boxes)?;
+    let last = last_booted(alloc, trial, &mut machine, refused);
+    drop(machine);
+    last
 }
 
 /// Makes the natives of one run, and runs the image beside them to its end.
@@ -145,14 +143,7 @@ fn last_of(alloc: Global, trial: &Trial<'_>, refused: Vec<u32>) -> Result<Last, 
             NativeKind::Delay => boxes.push(Box::new(alloc, Delay::new())?)?,
         }
     }
-    last_beside(
-        alloc,
-        trial.accepted,
-        trial.script,
-        refused,
-        trial.limit,
-        boxes,
-    )
+    last_beside(alloc, trial, refused, boxes)
 }
 
 /// What a run is refused by its script, and the request of that number.

@@ -1,5 +1,5 @@
 //! The run of an accepted image.
-ghost use Rattle.std.specs.Prelude.{◌≡◌, ◌≤◌, ◌+◌, [], IfOk, IfErr, length};
+ghost use Rattle.std.specs.Prelude.{◌≡◌, ◌≤◌, ◌+◌, [], IfOk, IfErr, Some, length, map, option_map};
 ghost use Rattle.aom_natives.specs.Owed.{OweNothing};
 ghost use Rattle.aom_natives.specs.Slots.{AllAgree};
 ghost use Rattle.aom_run.specs.Calls.{natives_of};
@@ -26,6 +26,7 @@ pub fn booted<'a>(
     ensures fresh { IfOk result (λ m. IsFreshOf accepted.now m) }
     ensures agree { IfOk result (λ m. AllAgree (λ l. l.ids) (λ l. (⟦<dyn Native as Native>⟧ l.native.vtable).owed l.native.value) m.natives.slots.items) }
     ensures natives { IfOk result (λ m. natives_of m ≡ length boxes.items) }
+    ensures boxes { IfOk result (λ m. map (option_map (λ l. l.native)) m.natives.slots.items ≡ map (λ b. Some b) boxes.items) }
     ensures enough { IfOk result (λ _. HasNatives accepted.now (length boxes.items)) }
     ensures err { IfErr result (λ fault. RefusesBoot accepted.now (length boxes.items) fault) }
 {
