@@ -10,10 +10,12 @@ use Rattle.aom_debug_words.specs.declared.command.Command.{Command}
 use Rattle.aom_debug_words.specs.declared.command.Command.TheVariants.{Step, Turn, Go, Break, Cells, Owners, Cleanup, Actives, Recent}
 use Rattle.aom_debug_words.specs.declared.fault.DebugFault.{DebugFault}
 use Rattle.aom_debug_words.specs.declared.fault.DebugFault.TheVariants.{Ended, WriteFault}
-use Rattle.aom_debug.specs.Courses.{Courses}
+use Rattle.aom_debug.specs.Courses.{Courses, way_of}
 use Rattle.aom_debug.specs.Commands.{is_count, moved_text}
 use Rattle.aom_debug.specs.Movers.{outside_of}
-use Rattle.aom_debug.specs.Debugging.{Answer, CountsNot, Declined, Goes, Looks, Outgoing, Sees, Sets, Steps, has_ended, runs_of, steps_of, turns_of}
+use Rattle.aom_debug.specs.Debugging.{Answer, CountsNot, Declined, Goes, Looks, Outgoing, Sees, Sets, Steps, goes_of, has_ended, runs_of, steps_of, turns_of}
+use Rattle.aom_debug_moves.specs.declared.courses.Course.{Course}
+use Rattle.aom_debug_moves.specs.declared.courses.Course.TheVariants as ways
 use Rattle.aom_debug.specs.Obeying.{Obeys}
 use Rattle.aom_debug.specs.declared.debugger.Debugger.{Debugger}
 use Rattle.aom_debug.specs.declared.looking.Look.TheVariants as look
@@ -35,8 +37,8 @@ module _ {X : Type 0} {B : X → Type 0} (old new : Debugger X B) (out : Outgoin
   abbrev pub Done : (SessionState → List ℕ → SessionState → Type 0) → Type 0
   Done does = (s : State) → StandsFor old.mover.machine s → (text : List ℕ) × (u : State) × does (standing old s) text (standing new u) × (out.now ≡ after out.before text) × StandsFor new.mover.machine u
 
-  goes_done : (leads : Debugger X B → Courses) → Goes leads old new out (Ok tt) → Done (λ a text b. GoesSo old.mover.machine.core.image (leads old) a text b)
-  goes_done leads x s stands =
+  goes_done : (way : Course) → Goes (goes_of way) old new out (Ok tt) → Done (λ a text b. GoesSo old.mover.machine.core.image (outside_of old.mover) (way_of old.mover.machine.core.image (outside_of old.mover) old.breakpoints way) a text b)
+  goes_done way x s stands =
       let moved = x.1 in
       let f = moved.goes s stands in
       (moved_text old.mover.machine.core.image f.0 f.1, f.1, (ended_at s stands ∙ x.0.1, f.0, f.2, moved.spots, refl), f.3, f.4)
@@ -71,13 +73,13 @@ module _ {X : Type 0} {B : X → Type 0} (old new : Debugger X B) (out : Outgoin
   steps_done : (n : ℕ) → Obeys (Step n) old new out (Ok tt) → Done (λ a text b. Does old.mover.machine.core.image (outside_of old.mover) (Step n) a text b)
   steps_done n x s stands =
       let y = counted n (Ok tt) (λ z. z) x in
-      let f = goes_done (steps_of n) y.1 s stands in
+      let f = goes_done (ways.Steps n) y.1 s stands in
       (f.0, f.1, (y.0, f.2), f.3, f.4)
 
   pub is_done : (command : Command) → Obeys command old new out (Ok tt) → Done (λ a text b. Does old.mover.machine.core.image (outside_of old.mover) command a text b)
   is_done (Step n) x = steps_done n x
-  is_done Turn x = goes_done turns_of x
-  is_done Go x = goes_done runs_of x
+  is_done Turn x = goes_done ways.EndOfDispatch x
+  is_done Go x = goes_done ways.Breakpoint x
   is_done (Break method place) x = sets_done method place x
   is_done Cells x = looks_done (Sees look.Cells) x
   is_done Owners x = looks_done (Sees look.Owners) x

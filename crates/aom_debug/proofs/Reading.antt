@@ -48,26 +48,26 @@ module _ {X : Type 0} {B : X → Type 0} where
         }
 
     -- one in which the output fails
-    pub talked_breaks : (bytes : List ℕ) (gives now : Option (List ℕ)) (ended ill failed : Bool) → gives ≡ after mid bytes → BreaksOff d kept here bytes now failed
-        → BreaksDown a (record { before = given; now = gives; ended = ended; failed = ill }) before now failed
-    talked_breaks bytes gives now ended ill failed is breaks = λ s stands.
+    pub talked_breaks : (bytes : List ℕ) (gives now : Option (List ℕ)) (ended had ill failed : Bool) → gives ≡ after mid bytes → BreaksOff d kept here bytes now failed
+        → BreaksDown a (record { before = given; now = gives; ended = ended; had_failed = had; failed = ill }) before now failed
+    talked_breaks bytes gives now ended had ill failed is breaks = λ s stands.
         let t = talked.goes s stands in
         (t.0 ++ bytes, (more t.0 bytes gives t.1 is, breaks a.mover.machine.core.image (outside_of a.mover) (standing a s) t.0 before t.3))
 
     -- the one that tells the end
-    pub talked_ends : (gives now : Option (List ℕ)) (ended ill : Bool) → gives ≡ after mid [] → ended ≡ true → Ends d kept here now → HoldsAll a (record { before = given; now = gives; ended = ended; failed = ill }) before now
-    talked_ends gives now ended ill is end ends = λ s stands.
+    pub talked_ends : (gives now : Option (List ℕ)) (ended had ill : Bool) → gives ≡ after mid [] → ended ≡ true → ill ≡ had → Ends d kept here now → HoldsAll a (record { before = given; now = gives; ended = ended; had_failed = had; failed = ill }) before now
+    talked_ends gives now ended had ill is end same ends = λ s stands.
         let t = talked.goes s stands in
-        (t.0, ((is ∙ sym (after_none mid) ∙ t.1, end), ends a.mover.machine.core.image (outside_of a.mover) (standing a s) t.0 before t.3))
+        (t.0, ((is ∙ sym (after_none mid) ∙ t.1, end, same), ends a.mover.machine.core.image (outside_of a.mover) (standing a s) t.0 before t.3))
 
     -- one that fails
-    pub talked_fails : (most : ℕ) (gives : Option (List ℕ)) (ended ill : Bool) → gives ≡ mid → ill ≡ true → StopsShort most a (record { before = given; now = gives; ended = ended; failed = ill }) before here
-    talked_fails most gives ended ill is fails = λ s stands.
+    pub talked_fails : (most : ℕ) (gives : Option (List ℕ)) (ended had ill : Bool) → gives ≡ mid → ill ≡ true → StopsShort most a (record { before = given; now = gives; ended = ended; had_failed = had; failed = ill }) before here
+    talked_fails most gives ended had ill is fails = λ s stands.
         let t = talked.goes s stands in
         (t.0, ((is ∙ t.1, inl fails), talks_stop a.mover.machine.core.image (outside_of a.mover) (standing a s) t.0 before d kept here t.3))
 
     -- or there may be no more
-    pub talked_stops : (most : ℕ) (ended ill : Bool) → most ≤ reads → StopsShort most a (record { before = given; now = mid; ended = ended; failed = ill }) before here
-    talked_stops most ended ill all = λ s stands.
+    pub talked_stops : (most : ℕ) (ended had ill : Bool) → most ≤ reads → StopsShort most a (record { before = given; now = mid; ended = ended; had_failed = had; failed = ill }) before here
+    talked_stops most ended had ill all = λ s stands.
         let t = talked.goes s stands in
         (t.0, ((t.1, inr (omega (arith, all, t.2))), talks_stop a.mover.machine.core.image (outside_of a.mover) (standing a s) t.0 before d kept here t.3))

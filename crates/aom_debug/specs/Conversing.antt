@@ -15,11 +15,12 @@ use Rattle.aom_debug.specs.Sessions.{Begins, Comes, Session, SessionState}
 
 -- ---- what was read
 
--- a reader over a call: what it had given before it and what it has given after it, where it tells, and whether it has then told its end, or failed
+-- a reader over a call: what it had given before it and what it has given after it, where it tells, whether it has then told its end, and whether a read had failed before it and has failed after it
 pub record Given : Type 0 where
   pub before : Option (List ℕ)
   pub now : Option (List ℕ)
   pub ended : Bool
+  pub had_failed : Bool
   pub failed : Bool
 
 -- nothing was read
@@ -30,9 +31,9 @@ IsUnread given = given.now ≡ given.before
 abbrev pub Gives : List ℕ → Given → Type 0
 Gives text given = given.now ≡ after given.before text
 
--- to its end
+-- to its end, and no read failed
 abbrev pub GivesAll : List ℕ → Given → Type 0
-GivesAll text given = Gives text given × (given.ended ≡ true)
+GivesAll text given = Gives text given × (given.ended ≡ true) × (given.failed ≡ given.had_failed)
 
 -- and no end came: the reader failed, or each of so many reads gave some of it
 abbrev pub GivesNoEnd : (reads : ℕ) → List ℕ → Given → Type 0

@@ -16,7 +16,7 @@ use Rattle.aom_debug_words.specs.Marks.{is_set, with_spot}
 use Rattle.aom_debug_words.specs.declared.spot.Spot.{Spot}
 use Rattle.aom_debug_words.specs.declared.answer.Answer.TheVariants.{Done, Fault}
 use Rattle.aom_debug_words.specs.Answers.{answer_text}
-use Rattle.aom_debug.specs.Courses.{Courses, GoesBy, GoesToBreakpoint, TurnsOver}
+use Rattle.aom_debug.specs.Courses.{Courses, GoesBy, GoesToBreakpoint, ToLimit, TurnsOver}
 use Rattle.aom_debug.specs.Commands.{NamesNoRoom, ShowsActives, ShowsCells, ShowsCleanup, ShowsOwners, ShowsRecent, is_count, moved_text, spot_named}
 
 -- where a session stands: at a state, with these breakpoints, and these were the latest instructions
@@ -34,9 +34,9 @@ has_ended a = is_some a.state.rest.ended
 abbrev pub Shown : (List ℕ → Type 0) → SessionState → List ℕ → SessionState → Type 0
 Shown shows a text b = (b ≡ a) × shows text
 
--- it goes on by such moves, and tells their lines and where they lead
-abbrev pub Goes : Image → Courses → SessionState → List ℕ → SessionState → Type 0
-Goes p leads a text b = (has_ended a ≡ false) × (lines : List Line) × leads a.recent b.recent a.state lines b.state × (b.spots ≡ a.spots) × (text ≡ moved_text p lines b.state)
+-- it goes on by such moves, with which the run may end by its limit, and tells their lines and where they lead
+abbrev pub Goes : Image → Outside → Courses → SessionState → List ℕ → SessionState → Type 0
+Goes p outside leads a text b = (has_ended a ≡ false) × (lines : List Line) × ToLimit p outside leads a.recent b.recent a.state lines b.state × (b.spots ≡ a.spots) × (text ≡ moved_text p lines b.state)
 
 -- a breakpoint is set
 abbrev pub Sets : Image → Number → Number → SessionState → List ℕ → SessionState → Type 0
@@ -44,9 +44,9 @@ Sets p method place a text b = (spot : Spot) × (spot_named p method place ≡ S
 
 -- a command that is done
 abbrev pub Does : Image → Outside → Command → SessionState → List ℕ → SessionState → Type 0
-Does p outside (Step n) a text b = (is_count n ≡ true) × Goes p (GoesBy p outside n) a text b
-Does p outside Turn a text b = Goes p (TurnsOver p outside) a text b
-Does p outside Go a text b = Goes p (GoesToBreakpoint p outside a.spots) a text b
+Does p outside (Step n) a text b = (is_count n ≡ true) × Goes p outside (GoesBy p outside n) a text b
+Does p outside Turn a text b = Goes p outside (TurnsOver p outside) a text b
+Does p outside Go a text b = Goes p outside (GoesToBreakpoint p outside a.spots) a text b
 Does p outside (Break method place) a text b = Sets p method place a text b
 Does p outside Cells a text b = Shown (λ t. ShowsCells p a.state t) a text b
 Does p outside Owners a text b = Shown (λ t. ShowsOwners a.state t) a text b

@@ -127,8 +127,8 @@ pub fn converse<R: Reader, W: Sink>(
     requires agree { AllAgree (λ l. l.ids) (λ l. (⟦<dyn Native as Native>⟧ l.native.vtable).owed l.native.value) debugger.old.mover.machine.natives.slots.items }
     requires ready { IsReady debugger.old.mover }
     requires well { debugger.old.has_failed ≡ false }
-    ensures ok { IfOk result (λ _. HoldsAll debugger.old (record { before = R.given reader.old; now = R.given reader.new; ended = R.ended reader.new; failed = R.failed reader.new }) (W.out out.old) (W.out out.new)) }
-    ensures err { IfErr result (λ fault. ((fault ≡ File) × StopsShort reads debugger.old (record { before = R.given reader.old; now = R.given reader.new; ended = R.ended reader.new; failed = R.failed reader.new }) (W.out out.old) (W.out out.new)) ⊎ ((fault ≡ Write) × BreaksDown debugger.old (record { before = R.given reader.old; now = R.given reader.new; ended = R.ended reader.new; failed = R.failed reader.new }) (W.out out.old) (W.out out.new) (W.failed out.new))) }
+    ensures ok { IfOk result (λ _. HoldsAll debugger.old (record { before = R.given reader.old; now = R.given reader.new; ended = R.ended reader.new; had_failed = R.failed reader.old; failed = R.failed reader.new }) (W.out out.old) (W.out out.new)) }
+    ensures err { IfErr result (λ fault. ((fault ≡ File) × StopsShort reads debugger.old (record { before = R.given reader.old; now = R.given reader.new; ended = R.ended reader.new; had_failed = R.failed reader.old; failed = R.failed reader.new }) (W.out out.old) (W.out out.new)) ⊎ ((fault ≡ Write) × BreaksDown debugger.old (record { before = R.given reader.old; now = R.given reader.new; ended = R.ended reader.new; had_failed = R.failed reader.old; failed = R.failed reader.new }) (W.out out.old) (W.out out.new) (W.failed out.new))) }
 {
     let mut pending = Pending::new();
     let mut buffer = [0; CHUNK];

@@ -1,5 +1,5 @@
 //! A debugger over the bytes of files, as commands come.
-ghost use Rattle.std.specs.Prelude.{ℕ, ◌≡◌, ◌+◌, [], Err, IfErr, IfOk, List, Ok, length};
+ghost use Rattle.std.specs.Prelude.{ℕ, ◌≡◌, ◌+◌, [], Err, IfErr, IfOk, List, Ok, Some, length, map, option_map};
 ghost use Rattle.aom_natives.specs.Owed.{OweNothing};
 ghost use Rattle.aom_natives.specs.Slots.{AllAgree};
 ghost use Rattle.aom_sound.specs.World.{boot_state};
@@ -41,7 +41,7 @@ pub fn debug_bytes<R: Reader, W: Sink, E: Sink>(
     errors: &mut E,
 ) -> ExitStatus
     requires owed { OweNothing (λ b. (⟦<dyn Native as Native>⟧ b.vtable).owed b.value) boxes.items }
-    ensures { DebugAnswers image.now script.now limit (length boxes.items) reads (record { before = R.given reader.old; now = R.given reader.new; ended = R.ended reader.new; failed = R.failed reader.new }) (record { before = W.out out.old; now = W.out out.new; failed = W.failed out.new }) (record { before = E.out errors.old; now = E.out errors.new; failed = E.failed errors.new }) result }
+    ensures { DebugAnswers image.now script.now limit (length boxes.items) reads (record { before = R.given reader.old; now = R.given reader.new; ended = R.ended reader.new; had_failed = R.failed reader.old; failed = R.failed reader.new }) (record { before = W.out out.old; now = W.out out.new; failed = W.failed out.new }) (record { before = E.out errors.old; now = E.out errors.new; failed = E.failed errors.new }) result }
 {
     match try_debug(alloc, image, script, limit, boxes, reader, reads, out) {
         Ok(status) => status,
@@ -61,7 +61,7 @@ fn try_debug<R: Reader, W: Sink>(
     out: &mut W,
 ) -> Result<ExitStatus, Fault>
     requires owed { OweNothing (λ b. (⟦<dyn Native as Native>⟧ b.vtable).owed b.value) boxes.items }
-    ensures { Untold (DebugAnswers image.now script.now limit (length boxes.items) reads (record { before = R.given reader.old; now = R.given reader.new; ended = R.ended reader.new; failed = R.failed reader.new }) (record { before = W.out out.old; now = W.out out.new; failed = W.failed out.new })) result }
+    ensures { Untold (DebugAnswers image.now script.now limit (length boxes.items) reads (record { before = R.given reader.old; now = R.given reader.new; ended = R.ended reader.new; had_failed = R.failed reader.old; failed = R.failed reader.new }) (record { before = W.out out.old; now = W.out out.new; failed = W.failed out.new })) result }
 {
     match accept_bytes(alloc, image) {
         Ok(accepted) => debug_text(alloc, &accepted, script, limit, boxes, reader, reads, out),
@@ -81,7 +81,7 @@ fn debug_text<R: Reader, W: Sink>(
     out: &mut W,
 ) -> Result<ExitStatus, Fault>
     requires owed { OweNothing (λ b. (⟦<dyn Native as Native>⟧ b.vtable).owed b.value) boxes.items }
-    ensures { (bytes : List ℕ) → IsSpelled bytes accepted.now → Untold (DebugAnswers bytes text.now limit (length boxes.items) reads (record { before = R.given reader.old; now = R.given reader.new; ended = R.ended reader.new; failed = R.failed reader.new }) (record { before = W.out out.old; now = W.out out.new; failed = W.failed out.new })) result }
+    ensures { (bytes : List ℕ) → IsSpelled bytes accepted.now → Untold (DebugAnswers bytes text.now limit (length boxes.items) reads (record { before = R.given reader.old; now = R.given reader.new; ended = R.ended reader.new; had_failed = R.failed reader.old; failed = R.failed reader.new }) (record { before = W.out out.old; now = W.out out.new; failed = W.failed out.new })) result }
 {
     accepted.facts();
     match read_script(alloc, text) {
@@ -103,7 +103,7 @@ fn debug_script<R: Reader, W: Sink>(
 ) -> Result<ExitStatus, Fault>
     requires owed { OweNothing (λ b. (⟦<dyn Native as Native>⟧ b.vtable).owed b.value) boxes.items }
     requires timely { IsTimely script.timed }
-    ensures { (bytes text : List ℕ) → IsSpelled bytes accepted.now → denoted text ≡ Ok script → Untold (DebugAnswers bytes text limit (length boxes.items) reads (record { before = R.given reader.old; now = R.given reader.new; ended = R.ended reader.new; failed = R.failed reader.new }) (record { before = W.out out.old; now = W.out out.new; failed = W.failed out.new })) result }
+    ensures { (bytes text : List ℕ) → IsSpelled bytes accepted.now → denoted text ≡ Ok script → Untold (DebugAnswers bytes text limit (length boxes.items) reads (record { before = R.given reader.old; now = R.given reader.new; ended = R.ended reader.new; had_failed = R.failed reader.old; failed = R.failed reader.new }) (record { before = W.out out.old; now = W.out out.new; failed = W.failed out.new })) result }
 {
     accepted.facts();
     match begin(alloc, accepted, script, limit, boxes) {
@@ -140,6 +140,7 @@ fn begin<'a>(
     ensures agree { IfOk result (λ d. AllAgree (λ l. l.ids) (λ l. (⟦<dyn Native as Native>⟧ l.native.vtable).owed l.native.value) d.mover.machine.natives.slots.items) }
     ensures ready { IfOk result (λ d. IsReady d.mover) }
     ensures begun { IfOk result (λ d. IsBegun accepted.now script limit (length boxes.items) d) }
+    ensures boxes { IfOk result (λ d. map (option_map (λ l. l.native)) d.mover.machine.natives.slots.items ≡ map (λ b. Some b) boxes.items) }
     ensures err { IfErr result (λ fault. RefusesBoot accepted.now (length boxes.items) fault) }
 {
     match Machine::boot(alloc, accepted, boxes) {
@@ -163,6 +164,7 @@ fn begun<'a>(
     ensures agree { IfOk result (λ d. AllAgree (λ l. l.ids) (λ l. (⟦<dyn Native as Native>⟧ l.native.vtable).owed l.native.value) d.mover.machine.natives.slots.items) }
     ensures ready { IfOk result (λ d. IsReady d.mover) }
     ensures begun { IfOk result (λ d. IsBegun accepted.now script limit (natives_of machine.entry) d) }
+    ensures machine { IfOk result (λ d. d.mover.machine ≡ machine.entry) }
     ensures err { IfErr result (λ fault. fault ≡ Memory) }
 {
     match room_of(alloc, accepted, &script) {

@@ -20,5 +20,6 @@ pub trait Reader {
         ensures long { length buffer.new ≡ length buffer.old }
         ensures gives { IfSome result (λ count. given self.new ≡ option_map (λ t. t ++ take count buffer.new) (given self.old)) }
         ensures ends { result ≡ Some 0 → 0 < length buffer.old → ended self.new ≡ true }
+        ensures lives { IfSome result (λ _. failed self.new ≡ failed self.old) }
         ensures fails { IfNone result ((given self.new ≡ given self.old) × (failed self.new ≡ true)) };
 }

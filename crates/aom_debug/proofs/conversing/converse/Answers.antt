@@ -13,6 +13,7 @@ some_taken buffer count long within is some = let l = length-take count buffer i
 pub loop-init : goal.loop-init
 loop-init g c = record {
   talked = talked_first c.args.debugger.now c.new-pending.result (g.R.Reader.given c.args.reader.now) (g.W.Sink.out c.args.out.now) c.requires.well c.new-pending.ensures;
+  lives = refl;
   long = refl;
   well = c.requires.well;
   ready = c.requires.ready;
@@ -27,6 +28,7 @@ loop-preserved g c =
       talked = talked_on c.args.debugger.now c.loop.debugger c.loop.pending c.loop.counter (g.R.Reader.given c.args.reader.now) (g.R.Reader.given c.loop.reader) (g.W.Sink.out c.args.out.now) (g.W.Sink.out c.loop.out) c.loop.invariant.talked
           c.hear.new.debugger c.hear.new.pending (take count buffer) (g.R.Reader.given c.get.new.self) (g.W.Sink.out c.hear.new.out) (some_taken buffer count (length c.loop.buffer) c.in-Some.ensures.within c.in-Some.ensures.long c.in-Some.count-test.1)
           c.in-Some.ensures.gives c.in_ok-hear-in-Some.ensures.ok;
+      lives = c.in-Some.ensures.lives ∙ c.loop.invariant.lives;
       long = c.in-Some.ensures.long ∙ c.loop.invariant.long;
       well = c.in_ok-hear-in-Some.ensures.well;
       ready = c.hear.ensures.ready;
@@ -38,7 +40,7 @@ returns-in-None-clause-err g c =
     inl (
       refl,
       talked_fails c.args.debugger.now c.loop.debugger c.loop.pending c.loop.counter (g.R.Reader.given c.args.reader.now) (g.R.Reader.given c.loop.reader) (g.W.Sink.out c.args.out.now) (g.W.Sink.out c.loop.out) c.loop.invariant.talked c.args.reads
-          (g.R.Reader.given c.get.new.self) (g.R.Reader.ended c.get.new.self) (g.R.Reader.failed c.get.new.self) c.in-None.ensures.fails.0 c.in-None.ensures.fails.1,
+          (g.R.Reader.given c.get.new.self) (g.R.Reader.ended c.get.new.self) (g.R.Reader.failed c.args.reader.now) (g.R.Reader.failed c.get.new.self) c.in-None.ensures.fails.0 c.in-None.ensures.fails.1,
     )
 
 pub returns-in-Some-eq0-clause-ok : goal.returns-in-Some-eq0-clause-ok
@@ -48,7 +50,7 @@ returns-in-Some-eq0-clause-ok g c =
     let ended = c.in-Some-eq0.ensures.ends (ap (λ (n : ℕ). Some n) zero) (omega (arith, c.loop.invariant.long)) in
     IfOk-weaker c.end.result _ _ (λ done ends.
     talked_ends c.args.debugger.now c.loop.debugger c.loop.pending c.loop.counter (g.R.Reader.given c.args.reader.now) (g.R.Reader.given c.loop.reader) (g.W.Sink.out c.args.out.now) (g.W.Sink.out c.loop.out) c.loop.invariant.talked
-    (g.R.Reader.given c.get.new.self) (g.W.Sink.out c.end.new.out) (g.R.Reader.ended c.get.new.self) (g.R.Reader.failed c.get.new.self) gives ended ends) c.end.ensures.ok
+    (g.R.Reader.given c.get.new.self) (g.W.Sink.out c.end.new.out) (g.R.Reader.ended c.get.new.self) (g.R.Reader.failed c.args.reader.now) (g.R.Reader.failed c.get.new.self) gives ended (c.in-Some-eq0.ensures.lives ∙ c.loop.invariant.lives) ends) c.end.ensures.ok
 
 pub returns-in-Some-eq0-clause-err : goal.returns-in-Some-eq0-clause-err
 returns-in-Some-eq0-clause-err g c =
@@ -56,7 +58,7 @@ returns-in-Some-eq0-clause-err g c =
     IfErr-weaker c.end.result _ _ (λ why breaks. inr (
       breaks.0,
       talked_breaks c.args.debugger.now c.loop.debugger c.loop.pending c.loop.counter (g.R.Reader.given c.args.reader.now) (g.R.Reader.given c.loop.reader) (g.W.Sink.out c.args.out.now) (g.W.Sink.out c.loop.out) c.loop.invariant.talked
-          [] (g.R.Reader.given c.get.new.self) (g.W.Sink.out c.end.new.out) (g.R.Reader.ended c.get.new.self) (g.R.Reader.failed c.get.new.self) (g.W.Sink.failed c.end.new.out) gives breaks.1,
+          [] (g.R.Reader.given c.get.new.self) (g.W.Sink.out c.end.new.out) (g.R.Reader.ended c.get.new.self) (g.R.Reader.failed c.args.reader.now) (g.R.Reader.failed c.get.new.self) (g.W.Sink.failed c.end.new.out) gives breaks.1,
     )) c.end.ensures.err
 
 pub returns-in_err-hear-in-Some-clause-err : goal.returns-in_err-hear-in-Some-clause-err
@@ -65,7 +67,7 @@ returns-in_err-hear-in-Some-clause-err g c =
     rw e.1 (inr (
       e.2 ∙ c.in_err-hear-in-Some.ensures.err.0,
       talked_breaks c.args.debugger.now c.loop.debugger c.loop.pending c.loop.counter (g.R.Reader.given c.args.reader.now) (g.R.Reader.given c.loop.reader) (g.W.Sink.out c.args.out.now) (g.W.Sink.out c.loop.out) c.loop.invariant.talked
-          (take c.in-Some.count c.get.new.buffer) (g.R.Reader.given c.get.new.self) (g.W.Sink.out c.hear.new.out) (g.R.Reader.ended c.get.new.self) (g.R.Reader.failed c.get.new.self) (g.W.Sink.failed c.hear.new.out)
+          (take c.in-Some.count c.get.new.buffer) (g.R.Reader.given c.get.new.self) (g.W.Sink.out c.hear.new.out) (g.R.Reader.ended c.get.new.self) (g.R.Reader.failed c.args.reader.now) (g.R.Reader.failed c.get.new.self) (g.W.Sink.failed c.hear.new.out)
           c.in-Some.ensures.gives c.in_err-hear-in-Some.ensures.err.1,
     ))
 
@@ -74,5 +76,5 @@ returns-clause-err g c =
     inl (
       refl,
       talked_stops c.args.debugger.now c.loop.debugger c.loop.pending c.loop.counter (g.R.Reader.given c.args.reader.now) (g.R.Reader.given c.loop.reader) (g.W.Sink.out c.args.out.now) (g.W.Sink.out c.loop.out) c.loop.invariant.talked
-          c.args.reads (g.R.Reader.ended c.loop.reader) (g.R.Reader.failed c.loop.reader) c.loop-test.false,
+          c.args.reads (g.R.Reader.ended c.loop.reader) (g.R.Reader.failed c.args.reader.now) (g.R.Reader.failed c.loop.reader) c.loop-test.false,
     )

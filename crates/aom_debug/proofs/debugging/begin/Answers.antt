@@ -1,6 +1,6 @@
 -- The debugger is of as many natives as there are boxes; memory is wanting where the machine has booted.
-use Rattle.std.proofs.Common.{◌≡◌, length, subst}
-use Rattle.std.proofs.lemmas.Result.{IfErr-weaker}
+use Rattle.std.proofs.Common.{◌≡◌, length, subst, sym}
+use Rattle.std.proofs.lemmas.Result.{IfErr-weaker, IfOk-weaker}
 use Rattle.std.specs.Prelude.{IfOk}
 use Rattle.aom_run.specs.Calls.{natives_of}
 use Rattle.aom_main.proofs.Tries.{given_all, has_enough, wants_memory}
@@ -20,3 +20,6 @@ returns-in-Ok-clause-err g c =
     let count : natives_of machine ≡ natives = given_all (λ l. l.native) machine.natives.slots.items c.args.boxes.items c.in-Ok.ensures.boxes in
     let enough = has_enough c.args.accepted.now machine natives c.in-Ok.ensures.image count c.in-Ok.ensures.stands in
     IfErr-weaker c.begun.result _ _ (λ fault is. wants_memory c.args.accepted.now natives fault is enough) c.begun.ensures.err
+
+pub returns-in-Ok-clause-boxes : goal.returns-in-Ok-clause-boxes
+returns-in-Ok-clause-boxes g c = IfOk-weaker c.begun.result _ _ (λ d same. rw same c.in-Ok.ensures.boxes) c.begun.ensures.machine

@@ -16,7 +16,7 @@ returns-in-Err g c =
 
 pub returns-in-Ok : goal.returns-in-Ok
 returns-in-Ok g c =
-    let given : Given = record { before = g.R.Reader.given c.args.reader.now; now = g.R.Reader.given c.converse-told.new.reader; ended = g.R.Reader.ended c.converse-told.new.reader; failed = g.R.Reader.failed c.converse-told.new.reader } in
+    let given : Given = record { before = g.R.Reader.given c.args.reader.now; now = g.R.Reader.given c.converse-told.new.reader; ended = g.R.Reader.ended c.converse-told.new.reader; had_failed = g.R.Reader.failed c.args.reader.now; failed = g.R.Reader.failed c.converse-told.new.reader } in
     let out : Sent = record { before = g.W.Sink.out c.args.out.now; now = g.W.Sink.out c.converse-told.new.out; failed = g.W.Sink.failed c.converse-told.new.out } in
     let natives = length c.args.boxes.items in
     let acceptable = acceptable_of c.facts.ensures.linked c.facts.ensures.typed c.facts.ensures.budgets c.facts.ensures.within c.facts.ensures.high in
