@@ -13,14 +13,14 @@ use Rattle.aom_verify.specs.declared.refusal.Refusal.TheVariants as refusals
 use Rattle.aom_budget.specs.Faults.{line_of as budget_line}
 use Rattle.aom_budget.specs.declared.fault.BudgetFault.{BudgetFault}
 use Rattle.aom_budget.specs.declared.fault.BudgetFault.TheVariants as budgets
-use Rattle.aom_script.specs.Faults.{fault_text}
+use Rattle.aom_script.specs.Faults.{number_of as script_number}
 use Rattle.aom_script.specs.declared.fault.ScriptFault.{ScriptFault}
 use Rattle.aom_script.specs.declared.fault.ScriptFaultKind.{ScriptFaultKind}
 use Rattle.aom_script.specs.declared.fault.ScriptFaultKind.TheVariants as kinds
 use Rattle.aom_run.specs.Beside.{fault_number as boot_number}
 use Rattle.aom_run.specs.declared.fault.BootFault.{BootFault}
 use Rattle.aom_run.specs.declared.fault.BootFault.TheVariants as boots
-use Rattle.aom_text.specs.Faults.{fault_text as asm_line}
+use Rattle.aom_text.specs.Faults.{number_of as asm_number}
 use Rattle.aom_text.specs.declared.fault.AsmFault.{AsmFault}
 use Rattle.aom_text.specs.declared.fault.AsmFaultKind.{AsmFaultKind}
 use Rattle.aom_text.specs.declared.fault.AsmFaultKind.TheVariants as texts
@@ -33,14 +33,18 @@ use Rattle.aom_main.specs.declared.faults.Fault.TheVariants.{Load, Asm, Link, Ve
 abbrev pub status_number : ExitStatus → ℕ
 status_number status = elim status [ statuses.Done ↦ 0 | statuses.ImageRefused ↦ 1 | statuses.CallRefused ↦ 2 | statuses.Unfinished ↦ 3 | statuses.Broken ↦ 4 | statuses.Fault ↦ 5 ]
 
+-- of a text, the line in which it is and its number
+abbrev pub text_line : (kind : List ℕ) → (line number : ℕ) → List ℕ
+text_line kind line number = kind ++ decimal line ++ codes " " ++ decimal number
+
 -- the line by which a fault is told, without its line feed
 abbrev pub fault_line : Fault → List ℕ
 fault_line (Load fault) = codes "load " ++ decimal (fault_number fault)
-fault_line (Asm fault) = asm_line fault
+fault_line (Asm fault) = text_line (codes "asm ") fault.line (asm_number fault.kind)
 fault_line (Link fault) = codes "link " ++ decimal (number_of fault)
 fault_line (Verify refusal) = line_of refusal
 fault_line (Budget fault) = budget_line fault
-fault_line (Script fault) = fault_text fault
+fault_line (Script fault) = text_line (codes "script ") fault.line (script_number fault.kind)
 fault_line (Boot fault) = codes "boot " ++ decimal (boot_number fault)
 fault_line Native = codes "native"
 fault_line File = codes "file"
