@@ -67,7 +67,7 @@ fn are_in_order(rt: &impl Abort, boxes: &mut Vec<Box<dyn Native>>) {
     assert!(rt; boxes.len() == 3);
     let mut number = 0;
     for native in boxes.iter_mut() {
-        number += 1;
+        number = number.saturating_add(1);
         assert!(rt; answers(native, number));
     }
 }
