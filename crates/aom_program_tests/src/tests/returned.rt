@@ -65,7 +65,7 @@ fn answers(native: &mut Box<dyn Native>, number: i32) -> bool {
 /// These are three natives, numbered in their order.
 fn are_in_order(rt: &impl Abort, boxes: &mut Vec<Box<dyn Native>>) {
     assert!(rt; boxes.len() == 3);
-    let mut number = 0;
+    let mut number = 0i32;
     for native in boxes.iter_mut() {
         number = number.saturating_add(1);
         assert!(rt; answers(native, number));
