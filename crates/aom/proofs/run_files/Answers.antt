@@ -3,7 +3,7 @@ use Rattle.std.proofs.Common.{◌∙◌, List, ℕ, ap, refl}
 use denote.Param.Object.{read_made}
 use Rattle.aom_natives.specs.Lines.{Queues}
 use Rattle.aom_natives.specs.Delays.{ids_in}
-use Rattle.aom_main.proofs.Boxes.{one_more_made}
+use Rattle.aom.proofs.Boxes.{one_more_made}
 use Rattle.aom.proofs.run_files.OwnLists.{own-1, at-1-1, at-1-2, at-1-3}
 use Rattle.aom.proofs.run_files.Goals as goal
 use Rattle.aom.proofs.run_files.Goals.{in-Counter+in_ok-new-in-Counter+in_ok-push-in-Counter, in-Line+in_ok-new-in-Line+in_ok-push-in-Line, in-Delay+in_ok-new-in-Delay+in_ok-push-in-Delay}

@@ -1,5 +1,5 @@
 -- There is a box for each kind so far, and none owes anything.
-use Rattle.aom_main.proofs.Boxes.{Made}
+use Rattle.aom.proofs.Boxes.{Made}
 use Rattle.aom.proofs.run_files.OwnLists.{own-1}
 use Rattle.aom.proofs.run_files.Given as goal
 
