@@ -67,6 +67,7 @@ fn target_of(parts: &Parts, target: Target, class: Option<ClassNumber>) -> u32
 }
 
 /// The frame in which a method that is called begins, and what it takes.
+#[inline(always)]
 fn callee<'a>(
     parts: &Parts,
     target: Target,

@@ -184,6 +184,9 @@ pub fn wanted_next(parts: &Parts, linked: &Linked) -> Option<Wanted>
     requires { Stands (record { image = linked.now; parts = parts.now }) }
     ensures { (s : State) → StandsFor (record { image = linked.now; parts = parts.now }) s → wanted linked.now s ≡ option_map as_wanted result }
 {
+    if linked.image().header().natives == 0 {
+        return None;
+    }
     match parts.stack.top() {
         Some(TaskKind::Run) => wanted_here(parts, linked),
         Some(TaskKind::Destroy(number)) => wanted_going(parts, number, linked),

@@ -58,7 +58,7 @@ impl Turn {
         requires { length self.old.lines < self.old.room }
         ensures { self.new ≡ record self.old { lines = self.old.lines ++ line ∷ [] } }
     {
-        self.lines.push(line).unwrap();
+        self.lines.push_reserved(line);
     }
 
     /// The lines, in the order in which they were written.
