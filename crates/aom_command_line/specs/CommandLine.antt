@@ -116,9 +116,9 @@ explore_form = with_files (with_rule (with_rule (with_rule (new_app (codes "expl
 abbrev pub debug_form : App
 debug_form = with_files (with_rule (new_app (codes "debug")) limit_rule)
 
--- the program's name, and one of these
+-- the program's name, its version, and one of these
 abbrev pub bare_form : App
-bare_form = record { top = record (new_app (codes "aom")).top { subcommand_required = true }; subs = [] }
+bare_form = record { top = record (new_app (codes "aom")).top { has_version = true; subcommand_required = true }; subs = [] }
 
 abbrev pub form : App
 form = with_subcommand (with_subcommand (with_subcommand (with_subcommand (with_subcommand (with_subcommand (with_subcommand bare_form check_form.top) run_form.top) explore_form.top) debug_form.top) asm_form.top) dis_form.top) dot_form.top

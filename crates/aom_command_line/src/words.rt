@@ -58,7 +58,7 @@ pub enum Words {
 /// Why a command line is refused.
 #[derive(Debug, Drop, FaultText)]
 pub enum WordsFault {
-    /// What `clap` has to say, a fault or the help that was asked for; or that `--text` stands without `--explain`.
+    /// What `clap` has to say, a fault, or the help or the version that was asked for; or that `--text` stands without `--explain`.
     #[error("{0}")]
     Text(String),
     /// No native of that name, or one too many.
@@ -102,6 +102,9 @@ pub struct RunWords {
 /// The most natives that a command line may name.
 const MOST_NATIVES: usize = 16;
 
+/// The program's version. Its number stands here alone: the tools take it from this line.
+const VERSION: &str = "0.1.0";
+
 /// Reads a command line, the program's own word first.
 pub fn read_words(alloc: Global, words: Vec<String>) -> Result<Words, WordsFault>
     ensures asks { IfOk result (λ asked. Asks (subcommand_of form (texts_of words.items)) asked) }
@@ -129,6 +132,7 @@ fn aom_command<'a>(alloc: Global) -> Result<Command<'a>, AllocError>
 {
     let command = Command::new(alloc, "aom")
         .about("Assembles, lists, checks and runs images of programs of active objects")
+        .version(VERSION)
         .subcommand_required(true);
     with_translations(alloc, with_uses(alloc, command))
 }
