@@ -1,0 +1,3 @@
+//! The bounded heap.
+
+pub use aom_cells::{CellId, Cells, NULL};

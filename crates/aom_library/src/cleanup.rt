@@ -1,0 +1,3 @@
+//! The cleanup stack.
+
+pub use aom_cleanup::{Cleanup, Item};

@@ -1,0 +1,8 @@
+//! The image: its parts, what it is well formed by, its bytes.
+
+pub use aom_codec::{LoadFault, decode, encode};
+pub use aom_image::{
+    Argument, ClassDecl, ClassKind, ClassNumber, EntryDepth, FieldIndex, Gives, Header, Image,
+    Instr, Items, LoopDepth, Method, MethodFlags, MethodNumber, Mnemonic, NativeNumber, Place,
+    Provider, Register, Role, States, Target, Thing, WordIndex, form_ok, spelled_len,
+};

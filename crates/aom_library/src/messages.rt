@@ -1,0 +1,3 @@
+//! The bounded store of messages.
+
+pub use aom_messages::{MessageId, Messages};

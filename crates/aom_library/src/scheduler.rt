@@ -1,0 +1,3 @@
+//! The order in which objects are picked, and timers.
+
+pub use aom_scheduler::{Entry, Schedule, Timers};

@@ -1,0 +1,7 @@
+//! What is known at a place of a method, and the table of rules.
+
+pub use aom_rules::{Ruling, rule};
+pub use aom_shape::{
+    Age, Change, Delivery, Entry, Filling, Flow, Kept, Kind, Known, Last, Next, Pile, Piles, Shape,
+    Way, Why, meet, weaker,
+};
