@@ -1,63 +1,24 @@
 //! Natives come back from a machine that does not boot, each as it was, in their order. Memory may be refused at any request.
-ghost use Rattle.std.specs.Prelude.{◌≡◌, negsuc, [], None};
+ghost use Rattle.std.specs.Prelude.{◌≡◌, []};
 
 use super::pages::FIRST;
 use aom_budget::Accepted;
 use aom_main::accept_bytes;
-use aom_natives::Native;
+use aom_natives::{Counter, Native};
 use aom_run::{BootFault, Machine};
 use std::alloc::{AllocError, Global};
 use std::process::Abort;
 
-/// Answers to each question with its own number.
-#[derive(Drop)]
-struct Known {
-    number: i32,
+/// A counter that has come to that number.
+fn counted(number: i32) -> Counter
+    ensures { ⟦<Counter as Native>⟧.owed result ≡ [] }
+{
+    let mut counter = Counter::new();
+    let _total = counter.call(0, 0, number);
+    counter
 }
 
-impl Known {
-    fn new(number: i32) -> Known
-        ensures { ⟦<Known as Native>⟧.owed result ≡ [] }
-    {
-        Known { number }
-    }
-}
-
-impl Native for Known {
-    ghost owed = { λ _. [] };
-
-    ghost open_may = { λ k _ answer. answer ≡ k.number };
-
-    ghost start_may = { λ _ _ _ _ answer. answer ≡ negsuc 4 };
-
-    ghost call_may = { λ k _ _ _ answer. answer ≡ k.number };
-
-    ghost poll_may = { λ _ _ answer. answer ≡ None };
-
-    fn open(&mut self, _id: u32) -> i32 {
-        self.number
-    }
-
-    fn start(&mut self, _id: u32, _function: i32, _word: i32) -> i32 {
-        -5
-    }
-
-    fn call(&mut self, _id: u32, _function: i32, _word: i32) -> i32 {
-        self.number
-    }
-
-    fn cancel(&mut self, _id: u32) {}
-
-    fn poll(&mut self, _now: u64) -> Option<(u32, i32)> {
-        None
-    }
-
-    fn event(&mut self, _word: i32) {}
-
-    fn close(&mut self, _id: u32) {}
-}
-
-/// Whether a native answers with that number.
+/// Whether a native is a counter that has come to that number.
 fn answers(native: &mut Box<dyn Native>, number: i32) -> bool {
     native.call(0, 0, 0) == number
 }
@@ -79,9 +40,9 @@ fn why_not(
     accepted: &Accepted,
 ) -> Result<Option<BootFault>, AllocError> {
     let mut boxes: Vec<Box<dyn Native>> = Vec::with_capacity(alloc, 3)?;
-    boxes.push(Box::new(alloc, Known::new(1))?)?;
-    boxes.push(Box::new(alloc, Known::new(2))?)?;
-    boxes.push(Box::new(alloc, Known::new(3))?)?;
+    boxes.push(Box::new(alloc, counted(1))?)?;
+    boxes.push(Box::new(alloc, counted(2))?)?;
+    boxes.push(Box::new(alloc, counted(3))?)?;
     match Machine::boot(alloc, accepted, boxes) {
         Ok(_) => Ok(None),
         Err((fault, mut boxes)) => {
