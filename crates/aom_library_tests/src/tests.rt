@@ -1,0 +1,4 @@
+mod debugging;
+mod listing;
+mod running;
+mod slate;
