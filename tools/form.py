@@ -101,8 +101,8 @@ def command_of(name, functions):
         if kind == "file":
             arguments.append(Argument(*found(rf"{TEXT},\s*{TEXT}", words, f"a file of {name}"), many=False))
         elif kind == "native":
-            own = functions["native_arg"]
-            arguments.append(Argument(found(rf"Arg::new\(alloc, {TEXT}\)", own, "a native's name")[0], found(rf"\.help\({TEXT}\)", own, "a native's help")[0], many=True))
+            named = found(rf"Arg::new\(alloc, {TEXT}\)\s*\.help\({TEXT}\)", functions["native_arg"], "the word of a native")
+            arguments.append(Argument(*named, many=True))
         else:
             options.append(option_of(kind, functions[f"{kind}_arg"]))
     return Command(name, found(rf"\.about\(\s*{TEXT}", body, f"what {name} does")[0], options, arguments)
@@ -126,7 +126,17 @@ def natives():
 # the language of texts
 
 # how an operand is told, by its kind; what has a letter is told apart by it
-OPERANDS = {"Register": "rA", "Field": "fA", "Word": "wA", "TrapResult": "rA", "Depth": "D", "CallTarget": "TARGET", "Number": "N", "Place": "L", "Class": "CLASS", "Method": "METHOD", "Rounds": "N"}
+OPERANDS = {
+    "Register": "rA",
+    "Field": "fA",
+    "Word": "wA",
+    "Depth": "D",
+    "Number": "N",
+    "Place": "L",
+    "Class": "CLASS",
+    "Method": "METHOD",
+    "Rounds": "N",
+}
 
 
 def lettered(kind, letter):
@@ -136,10 +146,9 @@ def lettered(kind, letter):
 
 def instruction_of(text, own, kinds):
     """An instruction by its row. That of a call has its method second."""
-    words = kinds.split()
     if own == "call_kinds":
         return Instruction(text, ["TARGET", "METHOD", "rB", "rC"])
-    told = [lettered(kind, letter) for kind, letter in zip(words, "ABC ") if kind not in ("Unused", "Nothing")]
+    told = [lettered(kind, letter) for kind, letter in zip(kinds.split(), "ABC ") if kind not in ("Unused", "Nothing")]
     return Instruction(text, told)
 
 

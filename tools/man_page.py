@@ -83,7 +83,8 @@ def native_lines():
 
 
 def fault_lines():
-    yield f"One line on standard error says why a call ends with status 1, 2 or 5. What its numbers mean is told too where the words have {bold('--explain')}."
+    yield "One line on standard error says why a call ends with status 1, 2 or 5."
+    yield f"What its numbers mean is told too where the words have {bold('--explain')}."
     yield from items((marked(line), f"{marked(says[:1].upper() + says[1:])}. Status {status}.") for line, status, says in form.table_of(PAGE, "Fault lines"))
 
 
