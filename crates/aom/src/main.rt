@@ -4,9 +4,9 @@
 //! Here they are brought together with the command line as the system gives it, and with the files, the input and the two outputs of `aom_host`, of which a contract can say nothing.
 #![tactic(auto)]
 
-ghost use Rattle.std.specs.Prelude.{◌≤◌};
+ghost use Rattle.std.specs.Prelude.{◌≡◌, ◌≤◌};
 ghost use Rattle.aom_command_line.specs.CommandLine.{KeepsLimit};
-ghost use Rattle.aom_natives.specs.Owed.{OweNothing};
+ghost use Rattle.aom_main.specs.Beside.{AreNew};
 
 use aom_command_line::{RunWords, Words, WordsFault, read_words};
 use aom_debug::debug_bytes;
@@ -231,7 +231,8 @@ impl<'a> Purpose<'a> {
         }
     }
 
-    /// Runs an image beside those natives. The answers of a debugger go out as they come.
+    /// Runs an image beside those natives, which are new ones of the kinds that the words name, in their order. The answers of a debugger go
+    /// out as they come.
     fn run<W: Sink, E: Sink>(
         self,
         rt: &HostRuntime,
@@ -242,7 +243,7 @@ impl<'a> Purpose<'a> {
         errors: &mut E,
     ) -> ExitStatus
         requires limit { (1 ≤ run.now.limit) × (run.now.limit ≤ 1000000000) }
-        requires owed { OweNothing (λ b. (⟦<dyn Native as Native>⟧ b.vtable).owed b.value) boxes.items }
+        requires new { AreNew (λ b. record { owed = (⟦<dyn Native as Native>⟧ b.vtable).owed b.value; open_may = (⟦<dyn Native as Native>⟧ b.vtable).open_may b.value; start_may = (⟦<dyn Native as Native>⟧ b.vtable).start_may b.value; call_may = (⟦<dyn Native as Native>⟧ b.vtable).call_may b.value; poll_may = (⟦<dyn Native as Native>⟧ b.vtable).poll_may b.value }) run.now.natives.items boxes.items }
     {
         let (alloc, limit) = (rt.alloc(), run.limit);
         let (image, script) = (&files.image, &files.script);
@@ -274,25 +275,28 @@ fn run_beside<W: Sink, E: Sink>(
     requires limit { (1 ≤ run.now.limit) × (run.now.limit ≤ 1000000000) }
 {
     let files = RunFiles::read(rt, run)?;
-    let ended = run_files(rt, purpose, run, &files, out, errors);
+    let kinds = run.natives.as_slice();
+    let ended = run_files(rt, purpose, run, kinds, &files, out, errors);
     drop(files);
     ended
 }
 
-/// Makes the natives that the words name, and runs an image beside them.
+/// Makes natives of the kinds that the words name, and runs an image beside them.
 fn run_files<W: Sink, E: Sink>(
     rt: &HostRuntime,
     purpose: Purpose,
     run: &RunWords,
+    kinds: &[NativeKind],
     files: &RunFiles,
     out: &mut W,
     errors: &mut E,
 ) -> Result<ExitStatus, Fault>
     requires limit { (1 ≤ run.now.limit) × (run.now.limit ≤ 1000000000) }
+    requires kinds { kinds.now ≡ run.now.natives.items }
 {
     let alloc = rt.alloc();
     let mut boxes: Vec<Box<dyn Native>> = Vec::new(alloc);
-    for kind in run.natives.as_slice() {
+    for kind in kinds {
         match *kind {
             NativeKind::Counter => boxes.push(Box::new(alloc, Counter::new())?)?,
             NativeKind::Line => boxes.push(Box::new(alloc, Line::new())?)?,

@@ -1,0 +1,15 @@
+-- New natives owe nothing.
+use Rattle.aom_main.proofs.Boxes.{owe_nothing}
+use Rattle.aom.proofs.Purpose.run.Goals as goal
+
+pub run_bytes-requires-clause-owed : goal.run_bytes-requires-clause-owed
+run_bytes-requires-clause-owed g c = owe_nothing _ c.args.run.now.natives.items c.args.boxes.items c.requires.new
+
+pub run_explained-requires-clause-owed : goal.run_explained-requires-clause-owed
+run_explained-requires-clause-owed g c = owe_nothing _ c.args.run.now.natives.items c.args.boxes.items c.requires.new
+
+pub run_by_text-requires-clause-owed : goal.run_by_text-requires-clause-owed
+run_by_text-requires-clause-owed g c = owe_nothing _ c.args.run.now.natives.items c.args.boxes.items c.requires.new
+
+pub debug_bytes-requires : goal.debug_bytes-requires
+debug_bytes-requires g c = record { owed = owe_nothing _ c.args.run.now.natives.items c.args.boxes.items c.requires.new }
