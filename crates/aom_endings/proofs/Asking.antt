@@ -103,7 +103,7 @@ module _ (p : Image) (s u : State) (all : AllWait s.clients s.cells) (x : Seat) 
       cells = reserved taken_first n s.cells
 
       calm : Calm cells (moved (Elsewhere (Queued n m)) (Elsewhere In_service) cells)
-      calm = calm_moved cells (Elsewhere (Queued n m)) (Elsewhere In_service) (λ n c. refl) (λ n c. refl) (λ n m. refl)
+      calm = calm_moved cells (Elsewhere (Queued n m)) (Elsewhere In_service) (λ n c. refl) (λ n c. refl)
 
       waiting : AllWait s.clients (moved (Elsewhere (Queued n m)) (Elsewhere In_service) cells)
       waiting = calm_waits s.clients cells _ calm (others_wait s.cells x.object lives (Message_of c m) es queue s.clients (λ d. refl) all)

@@ -10,10 +10,10 @@ use Rattle.aom_image.specs.declared.method.Gives.{Gives}
 use Rattle.aom_image.specs.declared.method.Gives.TheVariants.{Left, Maybe as A_maybe, Nothing, Own as An_own, Word as A_word}
 use Rattle.aom_clients.specs.declared.client.Client.{Client}
 use Rattle.aom_sound.proofs.ClientsEffects.{IsFine}
-use Rattle.aom_sound.proofs.ClientsMoves.{Steady, held_elsewhere, steady_ended, steady_moved, steady_passed, steady_result, steady_update}
+use Rattle.aom_sound.proofs.ClientsMoves.{Steady, held_elsewhere, steady_ended, steady_passed, steady_result, steady_update}
 use Rattle.aom_sound.proofs.Dropping.{Same, Went, dropped, each_name, held_dropped}
 use Rattle.aom_sound.proofs.Maps.{named_name}
-use Rattle.aom_sound.proofs.Services.{held_served, service_here, service_there, service_unnamed}
+use Rattle.aom_sound.proofs.Services.{held_served, service_here, service_moved, service_there, service_unnamed}
 use Rattle.aom_sound.proofs.Storing.{ended_alike, held_set_word, rerequested_alike, resessioned_alike}
 use Rattle.aom_sound.proofs.Unslotting.{each_unslotted_alike}
 use Rattle.aom_sound.specs.Calls.{passed_cells, result_cells}
@@ -70,8 +70,8 @@ NoSession q = (n c : ℕ) → same_place q (Elsewhere (Session n c)) ≡ false
 place_moved : (cs : List Cell) (a b : Place) → NoSession a → NoSession b → (n c : ℕ) → held (moved a b cs) (Elsewhere (Session n c)) ≡ held cs (Elsewhere (Session n c))
 place_moved cs a b from to n c = held_elsewhere cs a b (Elsewhere (Session n c)) (to n c) ∙ ap (λ x. cond x None (held cs (Elsewhere (Session n c)))) (from n c)
 
-pub calm_moved : (cs : List Cell) (a b : Place) → NoSession a → NoSession b → ((n m : ℕ) → same_place b (Elsewhere (Queued n m)) ≡ false) → Calm cs (moved a b cs)
-calm_moved cs a b from to apart = calm_steady cs (moved a b cs) (steady_moved cs a b apart) (place_moved cs a b from to)
+pub calm_moved : (cs : List Cell) (a b : Place) → NoSession a → NoSession b → Calm cs (moved a b cs)
+calm_moved cs a b from to = record { connects = λ n c h. ap (λ v. list_any (is_connect_of c) v.queue) (service_moved cs a b n) ∙ h; places = place_moved cs a b from to }
 
 module _ (p : Image) (fr : Frame) (ts : List Task) (s : State) where
   field_alone : (home : Home) (f : ℕ) → NoSession (field_place home f)
@@ -86,8 +86,7 @@ module _ (p : Image) (fr : Frame) (ts : List Task) (s : State) where
   place_stored home w v q = grind (arith, held_set_word)
 
   pub calm_update : (u : Update) → IsFine fr s u → Calm s.cells (cells_after p fr ts s u)
-  calm_update (Carried from to) f =
-      calm_steady s.cells _ (steady_update p fr ts s (Carried from to) tt) (place_moved s.cells (spot_place p fr ts s from) (spot_place p fr ts s to) (spot_alone from) (spot_alone to))
+  calm_update (Carried from to) f = calm_moved s.cells (spot_place p fr ts s from) (spot_place p fr ts s to) (spot_alone from) (spot_alone to)
   calm_update (Made name class a) f = calm_steady s.cells _ (steady_update p fr ts s (Made name class a) f) (λ n c. refl)
   calm_update (Written w v) f = calm_steady s.cells _ (steady_update p fr ts s (Written w v) tt) (λ n c. place_stored fr.home w v (Elsewhere (Session n c)))
   calm_update (Requested r) f = calm_steady s.cells _ (steady_update p fr ts s (Requested r) f) (λ n c. (rerequested_alike s.cells fr.home r).held_so (Elsewhere (Session n c)))

@@ -68,9 +68,9 @@ module _ (p : Image) (fr : Frame) (ts : List Task) (s : State) (there : AreThere
   effect_there (Returns g a) f = absurd f
   effect_there (Leaves code u) f = by (applied p fr ts s (Leaves code u)) refl (calm_update p fr ts s u f) (dispatch_to_trap ts)
   effect_there (Destroys x a words) f =
-      by (applied p fr ts s (Destroys x a words)) refl (calm_moved s.cells (here fr ts s a) (Going (suc (length ts))) (λ n c. refl) (λ n c. refl) (λ n m. refl)) (dispatch_begun p x _ (Run _ ∷ ts))
+      by (applied p fr ts s (Destroys x a words)) refl (calm_moved s.cells (here fr ts s a) (Going (suc (length ts))) (λ n c. refl) (λ n c. refl)) (dispatch_begun p x _ (Run _ ∷ ts))
   effect_there (Destroys_last x) f =
-      by (applied p fr ts s (Destroys_last x)) refl (calm_moved s.cells (top_place s.items) (Going (suc (length ts))) (λ n c. refl) (λ n c. refl) (λ n m. refl)) (dispatch_begun p x _ (Run _ ∷ ts))
+      by (applied p fr ts s (Destroys_last x)) refl (calm_moved s.cells (top_place s.items) (Going (suc (length ts))) (λ n c. refl) (λ n c. refl)) (dispatch_begun p x _ (Run _ ∷ ts))
   effect_there r f = by (applied p fr ts s r) refl (calm_itself s.cells) refl
 
 -- ---- a method returns
@@ -154,7 +154,7 @@ module _ (p : Image) (s : State) where
       by_object : (o : Option Object) → AllThere (destroyed p o items (Unwind code ∷ ts) s)
       by_object None = there
       by_object (Some o) =
-          there_by s.clients s.cells (dispatch_of ts) s.clients _ _ refl (calm_moved s.cells (Entry (length items)) (Going _) (λ n c. refl) (λ n c. refl) (λ n m. refl))
+          there_by s.clients s.cells (dispatch_of ts) s.clients _ _ refl (calm_moved s.cells (Entry (length items)) (Going _) (λ n c. refl) (λ n c. refl))
           (dispatch_begun p o (length items) (Unwind code ∷ ts)) there
   unwound_there code ts (An_operation m w ∷ items) u there e = subst AllThere (goes_same _ u e) there
   unwound_there code ts (A_mark ∷ items) u there e = arrived_there code ts items u there e

@@ -151,7 +151,7 @@ module _ (p : Image) (s : State) (all : AllWait s.clients s.cells) where
   main_there : (b : Bool) (root : Option Object) → AllThere (main_ends p b root s)
   main_there true (Some o) =
       subst (λ d. AreThere s.clients (moved (Elsewhere Root) (Going 1) s.cells) d) (sym (dispatch_begun p o (length s.items) (Dispatched Of_root ∷ [])))
-      (plain_there s.clients _ (Some Of_root) tt (calm_waits s.clients s.cells _ (calm_moved s.cells (Elsewhere Root) (Going 1) (λ n c. refl) (λ n c. refl) (λ n m. refl)) all))
+      (plain_there s.clients _ (Some Of_root) tt (calm_waits s.clients s.cells _ (calm_moved s.cells (Elsewhere Root) (Going 1) (λ n c. refl) (λ n c. refl)) all))
   main_there true None = plain_there s.clients s.cells None tt all
   main_there false root = plain_there s.clients s.cells None tt all
 

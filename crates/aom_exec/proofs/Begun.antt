@@ -21,7 +21,7 @@ use Rattle.aom_lines.specs.Turn.{Turn}
 use Rattle.aom_messages.specs.Store.{Store, word_at}
 use Rattle.aom_shape.specs.Tables.{at}
 use Rattle.aom_shape.specs.declared.kind.Kind.TheVariants.{Null}
-use Rattle.aom_sound.proofs.ClientsTurn.{fit_moved, fit_taken, tasks_begun}
+use Rattle.aom_sound.proofs.ClientsTurn.{first_sent, fit_moved, fit_taken, tasks_begun}
 use Rattle.aom_sound.proofs.Destroying.{destroys}
 use Rattle.aom_sound.proofs.Seated.{seats_first}
 use Rattle.aom_sound.proofs.Services.{held_served, service_here, service_moved}
@@ -263,7 +263,7 @@ module _ (p : Image) (m : Machine_parts) (s : State) (st : StandsFor (record { i
         let r = dispatches_with_room p (at 0 st.sound.depths.depths) st.sound.heights attended.cells method (Inside o home) (Of_server x c (Serves o)) s.items (checked_taken n s).rest s.killed s.clients (none_pushed p m s st idle) in
         method_stands c method (Serves o) (Inside o home) (message_words cs (message_name j)) (record (checked_taken n s) { cells = attended.cells }) (attending method (record { number = o.name; class = class' }) subject c j taken) refl attended_goes
         (record { under = r.under; runs = r.runs; fit = r.fit; entries = r.entries })
-        (record { fit = fit_moved p s.clients cs (Elsewhere (Queued n (message_name j))) (Elsewhere In_service) (empty_now (Elsewhere In_service) refl) (λ i k. refl) (fit_now (Message j) es at_first); stage = tt })
+        (record { fit = fit_moved p s.clients cs (Elsewhere (Queued n (message_name j))) (Elsewhere In_service) (empty_now (Elsewhere In_service) refl) (λ i k. refl) (λ b. first_sent p s.clients s.cells x.object lives c (message_name j) (map (asked_by m.clients.places) es) (queue_so (Message j ∷ es) at_first) st.kept.fit) (fit_now (Message j) es at_first); stage = tt })
         (attend_agrees p m s st idle x lives serves class is active noted j es at_first below o class' is' there method attends words)
 
   -- ---- a close
@@ -294,7 +294,7 @@ module _ (p : Image) (m : Machine_parts) (s : State) (st : StandsFor (record { i
       room = begun_room p o (length s.items) d (at 0 st.sound.depths.depths) st.sound.heights parted_cells s.items (checked_taken n s).rest s.killed s.clients (none_pushed p m s st idle);
       waits = begun_waits p o (length s.items) d st.typing parted_cells;
       kept = record {
-        fit = fit_moved p s.clients cs (Elsewhere (Session n c)) (Going 1) (empty_now (Going 1) refl) (λ i k. refl) (fit_now (Close c) es at_first);
+        fit = fit_moved p s.clients cs (Elsewhere (Session n c)) (Going 1) (empty_now (Going 1) refl) (λ i k. refl) (λ b. cc) (fit_now (Close c) es at_first);
         stage = tasks_begun p s.clients parted_cells o (length s.items) (Dispatched d ∷ [])
             (first_fits p m s st idle x lives serves keeps (Close c) es at_first, ap (λ q. list_any (is_close_of c) q) (ap (λ (v : Service). v.queue) (service_moved cs (Elsewhere (Session n c)) (Going 1) n) ∙ queue_now (Close c) es at_first) ∙ not_again);
       };

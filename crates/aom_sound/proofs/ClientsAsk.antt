@@ -4,7 +4,7 @@ use Rattle.std.proofs.Common.{[], Bool, List, None, Option, Some, ap, arith, con
 use Rattle.std.proofs.lemmas.Bool.{eq-eqb, eqb-true, le-ltb, ne_eqb, true≢false, ltb-true, and_parts}
 use Rattle.std.proofs.lemmas.List.Folds.{list_any-append}
 use Rattle.std.specs.List.{list_any}
-use Rattle.std.specs.Prelude.{is_some, nat_lt, ◌||◌}
+use Rattle.std.specs.Prelude.{is_some, nat_lt, not, ◌||◌}
 use Rattle.aom_image.specs.Image.{Image}
 use Rattle.aom_image.specs.declared.class.ClassKind.{ClassKind}
 use Rattle.aom_image.specs.declared.class.ClassKind.TheVariants.{Server as A_server}
@@ -17,7 +17,8 @@ use Rattle.aom_clients.specs.declared.client.Client.TheVariants.{Connecting}
 use Rattle.aom_clients.specs.declared.refusal.Refusal.{Refusal}
 use Rattle.aom_roles.specs.Classes.{sessions_in, sessions_of}
 use Rattle.aom_roles.specs.Shapes.{kind_of}
-use Rattle.aom_sound.proofs.ClientsFit.{senders_then, IsFree, by_server, fit_changed, none_of_free, names_then, servers_then, seats_then, enlisted_then}
+use Rattle.aom_shape.specs.Kinds.{is_object}
+use Rattle.aom_sound.proofs.ClientsFit.{senders_then, IsFree, by_server, fit_changed, none_of_free, names_then, servers_then, seats_then, enlisted_then, served_then, sources_then}
 use Rattle.aom_sound.proofs.Maps.{same_place-true}
 use Rattle.aom_sound.proofs.Queues.{client_here, none_passes, queue_last, queue_other}
 use Rattle.aom_sound.proofs.Seated.{seats_asked, seats_none}
@@ -25,7 +26,7 @@ use Rattle.aom_sound.proofs.Services.{service_unnamed}
 use Rattle.aom_sound.specs.Clients.{Listed, among_listed, asked_of, asked_server, client_at, earlier, first_listed, is_of_class, most_of, with_client}
 use Rattle.aom_sound.specs.Enlisted.{thing_kind}
 use Rattle.aom_sound.specs.Kept.{ClientsFit, EntryFits, QueueFits, is_connect_of, is_message_of, asked_again}
-use Rattle.aom_sound.specs.Places.{Asked, Cell, Connect_of, Elsewhere, Message_of, Object, Queued, Request, Service, Tidy, held, named, same_place, service_of, requested}
+use Rattle.aom_sound.specs.Places.{Asked, Cell, Connect_of, Elsewhere, In_service, Message_of, Object, Queued, Request, Service, Tidy, held, named, same_place, service_of, requested}
 use Rattle.aom_sound.specs.Servers.{asked_last, has_session, is_from, is_message, is_server, reserved, seats_taken}
 
 -- ---- the server that is asked stands, and is one
@@ -136,6 +137,8 @@ module _ (p : Image) (clients : List Client) (cs : List Cell) (fit : ClientsFit 
     servers = servers_then p cs o lives (asked_last e) serves clients fit;
     names = names_then p cs o lives (asked_last e) serves clients fit;
     senders = senders_asked e own;
+    sources = sources_then p cs o lives (asked_last e) refl fit.sources;
+    served = served_then p cs o lives (asked_last e) refl fit.served;
     enlisted = enlisted_then p cs o lives (asked_last e) listed clients fit;
     seats = seats_then p cs o lives (asked_last e) clients fit room;
   }
@@ -157,6 +160,8 @@ module _ (p : Image) (clients : List Client) (cs : List Cell) (fit : ClientsFit 
     servers = servers_then p cs o lives (asked_last (Connect_of c)) serves clients fit;
     names = names_then p cs o lives (asked_last (Connect_of c)) serves clients fit;
     senders = senders_asked p clients cs fit o lives (Connect_of c) (λ d m h. cc);
+    sources = sources_then p cs o lives (asked_last (Connect_of c)) refl fit.sources;
+    served = served_then p cs o lives (asked_last (Connect_of c)) refl fit.served;
     enlisted = enlisted_then p cs o lives (asked_last (Connect_of c)) listed clients fit;
     seats = seats_then p cs o lives (asked_last (Connect_of c)) clients fit (let one = seats_asked (Connect_of c) (service_of cs o.name) in omega (arith, room, one));
   }
@@ -177,14 +182,17 @@ module _ (p : Image) (clients : List Client) (cs : List Cell) (fit : ClientsFit 
 
 pub fit_with :
     (p : Image) (clients : List Client) (cs : List Cell) (x : Cell) → named cs x.object.name ≡ None → x.service.queue ≡ [] → x.service.sessions ≡ [] →
-    ((n m : ℕ) → x.owner ≡ Elsewhere (Queued n m) → x.object.name ≡ m) → ClientsFit p clients cs → ClientsFit p clients (x ∷ cs)
-fit_with p clients cs x free no_queue no_sessions named_so fit = record {
+    ((n m : ℕ) → x.owner ≡ Elsewhere (Queued n m) → x.object.name ≡ m) → is_some x.service.sender ≡ not (is_object x.object.thing) →
+    same_place x.owner (Elsewhere In_service) ≡ false → ClientsFit p clients cs → ClientsFit p clients (x ∷ cs)
+fit_with p clients cs x free no_queue no_sessions named_so sent unserved_yet fit = record {
   queues = λ n. queues n (x.object.name == n);
   sessions = λ n c h. fit.sessions n c (sym (session_so n c (x.object.name == n) refl) ∙ h);
   listed = λ n c h. session_so n c (x.object.name == n) refl ∙ fit.listed n c h;
   servers = λ o h plain. servers o plain (x.object.name == o.name) h;
   names = λ n m o h. names n m o (same_place x.owner (Elsewhere (Queued n m))) refl h;
   senders = λ n c m h. senders n c m (x.object.name == n) (x.object.name == m) refl h;
+  sources = λ o h. sources o (x.object.name == o.name) h;
+  served = λ o h. served o (x.object.name == o.name) refl (sym (ap (λ b. cond b (Some x.object) (held cs (Elsewhere In_service))) unserved_yet) ∙ h);
   enlisted = λ o h e. enlisted o (x.object.name == o.name) h e;
   seats = λ o h. seats o (x.object.name == o.name) h;
 }
@@ -214,6 +222,17 @@ fit_with p clients cs x free no_queue no_sessions named_so fit = record {
     seats : (o : Object) (b : Bool) → cond b (Some x.object) (named cs o.name) ≡ Some o → seats_taken (cond b x.service (service_of cs o.name)) ≤ most_of (thing_kind p o.thing)
     seats o true h = let none = seats_none x.service no_queue no_sessions in omega (arith, none)
     seats o false h = fit.seats o h
+
+    sources : (o : Object) (b : Bool) → cond b (Some x.object) (named cs o.name) ≡ Some o → is_some (cond b x.service (service_of cs o.name)).sender ≡ not (is_object o.thing)
+    sources o true h = let same : x.object ≡ o = cc in sent ∙ ap (λ y. not (is_object y.thing)) same
+    sources o false h = fit.sources o h
+
+    -- the new one's name was free
+    served : (o : Object) (b : Bool) → (x.object.name == o.name) ≡ b → held cs (Elsewhere In_service) ≡ Some o → is_some (cond b x.service (service_of cs o.name)).sender ≡ true
+    served o true e h =
+        let none : is_some (service_of cs o.name).sender ≡ false = ap (λ v. is_some v.sender) (ap (λ k. service_of cs k) (sym (eqb-true x.object.name o.name e)) ∙ service_unnamed cs x.object.name free) in
+        absurd (true≢false (sym (fit.served o h) ∙ none))
+    served o false e h = fit.served o h
 
     names : (n m : ℕ) (o : Object) (b : Bool) → same_place x.owner (Elsewhere (Queued n m)) ≡ b → cond b (Some x.object) (held cs (Elsewhere (Queued n m))) ≡ Some o → o.name ≡ m
     names n m o true e h = let same : x.object ≡ o = cc in ap (λ y. y.name) (sym same) ∙ named_so n m (same_place-true x.owner (Elsewhere (Queued n m)) e)

@@ -121,7 +121,7 @@ module _ (p : Image) (c : ℕ) (s : State) (tidy : Tidy s.cells) (fit : ClientsF
       same = ap (λ b. record message { service = cond b (asked_last (Message_of c name) (cond b message.service (service_of s.cells server))) message.service } ∷ set_service server (asked_last (Message_of c name) (cond b message.service (service_of s.cells server))) s.cells) other_server
 
       with_it : ClientsFit p s.clients (message ∷ s.cells)
-      with_it = fit_with p s.clients s.cells message free refl refl (λ n m e. cc) fit
+      with_it = fit_with p s.clients s.cells message free refl refl (λ n m e. cc) refl refl fit
 
       sent : ClientsFit p s.clients (reserved (asked_last (Message_of c name)) there.0.name (message ∷ s.cells))
       sent = fit_sent p s.clients (message ∷ s.cells) with_it there.0 (ap (λ b. cond b (Some message.object) (named s.cells there.0.name)) other ∙ there.2) there.3 (ap (λ b. is_some (cond b None (requested s.cells there.0.name))) other ∙ listed) c name

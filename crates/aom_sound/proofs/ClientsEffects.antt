@@ -8,7 +8,7 @@ use Rattle.aom_instructions.specs.declared.instr.Instr.TheVariants as instrs
 use Rattle.aom_sound.proofs.ClientsMoves.{Steady, fit_steady, steady_asked, steady_moved, steady_passed, steady_update, tasks_steady}
 use Rattle.aom_sound.proofs.ClientsTurn.{tasks_begun, on_none}
 use Rattle.aom_sound.specs.Cleanup.{to_trap, top_place}
-use Rattle.aom_sound.specs.Effects.{Calls, Cancels, Destroys, Destroys_last, Effect, Goes_on, Leaves, Made, Replied, Requested, Returns, Same as Unchanged, Sets_trap, Update, applied, cancels_if, cells_after, deals, deletes, effect, jumps_unless, makes_unless, round}
+use Rattle.aom_sound.specs.Effects.{Calls, Cancels, Carried, Destroys, Destroys_last, Effect, Goes_on, Leaves, Made, Replied, Requested, Returns, Same as Unchanged, Sets_trap, The_message, Update, applied, cancels_if, cells_after, deals, deletes, effect, jumps_unless, makes_unless, round}
 use Rattle.aom_sound.specs.Enlisted.{cancelling, on_request, own_request}
 use Rattle.aom_sound.specs.Kept.{ClientsFit, IsKept, TasksKept}
 use Rattle.aom_sound.specs.Places.{Cell, Going, Object, Request, named}
@@ -17,9 +17,10 @@ use Rattle.aom_sound.specs.Words.{here}
 
 -- ---- the effects that this is of
 
--- a cell that is made has the name that is free; no request is taken away, no message is completed, and no method returns
+-- a cell that is made has the name that is free; no request is taken away, nothing comes to be served, no message is completed, and no method returns
 module _ (fr : Frame) (s : State) where
   abbrev pub IsFine : Update → Type 0
+  IsFine (Carried from The_message) = ⊥
   IsFine (Made name class a) = named s.cells name ≡ None
   IsFine (Requested r) = r ≡ None → own_request s.cells fr.home ≡ None
   IsFine (Replied a) = ⊥
@@ -102,7 +103,7 @@ module _ (p : Image) (fr : Frame) (ts : List Task) (s : State) (fit : ClientsFit
   effect_kept (Returns g a) f = absurd f
   effect_kept (Leaves code u) f = kept_by (applied p fr ts s (Leaves code u)) refl (steady u f) (λ k. tasks_to_trap p s.clients _ ts k)
   effect_kept (Destroys x a words) f =
-      kept_by (applied p fr ts s (Destroys x a words)) refl (steady_moved s.cells (here fr ts s a) (Going (suc (length ts))) (λ n m. refl)) (λ k. tasks_begun p s.clients _ x _ _ k)
+      kept_by (applied p fr ts s (Destroys x a words)) refl (steady_moved s.cells (here fr ts s a) (Going (suc (length ts))) (λ n m. refl) refl) (λ k. tasks_begun p s.clients _ x _ _ k)
   effect_kept (Destroys_last x) f =
-      kept_by (applied p fr ts s (Destroys_last x)) refl (steady_moved s.cells (top_place s.items) (Going (suc (length ts))) (λ n m. refl)) (λ k. tasks_begun p s.clients _ x _ _ k)
+      kept_by (applied p fr ts s (Destroys_last x)) refl (steady_moved s.cells (top_place s.items) (Going (suc (length ts))) (λ n m. refl) refl) (λ k. tasks_begun p s.clients _ x _ _ k)
   effect_kept r f = kept_by (applied p fr ts s r) refl (steady Unchanged tt) (λ k. k)

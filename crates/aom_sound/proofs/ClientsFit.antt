@@ -13,10 +13,11 @@ use Rattle.aom_clients.specs.declared.client.Client.{Client}
 use Rattle.aom_sound.proofs.Queues.{client_here, client_of, client_there, is_of, none_passes, queue_other}
 use Rattle.aom_sound.proofs.Seated.{seats_opened, seats_parted}
 use Rattle.aom_sound.proofs.Services.{held_served, named_served, service_here, service_there, requested_served}
+use Rattle.aom_sound.proofs.Sources.{has_sender, served_as, sources_as}
 use Rattle.aom_sound.specs.Clients.{at_opening, at_parting, client_at, most_of, with_client}
 use Rattle.aom_sound.specs.Enlisted.{thing_kind}
-use Rattle.aom_sound.specs.Kept.{ClientsFit, EntryFits, QueueFits, is_close_of, is_connect_of, is_message_of}
-use Rattle.aom_sound.specs.Places.{Asked, Cell, Close_of, Connect_of, Elsewhere, Message_of, Object, Queued, Service, held, named, service_of, requested}
+use Rattle.aom_sound.specs.Kept.{ClientsFit, EntryFits, HasSources, QueueFits, ServesSent, is_close_of, is_connect_of, is_message_of}
+use Rattle.aom_sound.specs.Places.{Asked, Cell, Close_of, Connect_of, Elsewhere, In_service, Message_of, Object, Queued, Service, held, named, service_of, requested}
 use Rattle.aom_sound.specs.Servers.{has_session, is_from, is_other, is_server, opened, parted, reserved, seats_taken}
 
 -- ---- what a client that connects, closes or has its session open is not
@@ -96,6 +97,8 @@ pub record Changes (p : Image) (c : ℕ) (to : Client) (clients : List Client) (
   pub servers : (o : Object) → named cs' o.name ≡ Some o → is_server p o.thing ≡ false → ((service_of cs' o.name).queue ≡ []) × ((service_of cs' o.name).sessions ≡ [])
   pub names : (n m : ℕ) (o : Object) → held cs' (Elsewhere (Queued n m)) ≡ Some o → o.name ≡ m
   pub senders : (n d m : ℕ) → list_any (is_message_of d m) (service_of cs' n).queue ≡ true → is_from d (service_of cs' m).sender ≡ true
+  pub sources : HasSources cs'
+  pub served : ServesSent cs'
   pub enlisted : (o : Object) → named cs' o.name ≡ Some o → requested cs' o.name ≡ None → ((service_of cs' o.name).queue ≡ []) × ((service_of cs' o.name).sessions ≡ [])
   pub seats : (o : Object) → named cs' o.name ≡ Some o → seats_taken (service_of cs' o.name) ≤ most_of (thing_kind p o.thing)
 
@@ -107,6 +110,8 @@ fit_changed p c to clients cs cs' fit ch = record {
   servers = ch.servers;
   names = ch.names;
   senders = ch.senders;
+  sources = ch.sources;
+  served = ch.served;
   seats = ch.seats;
   enlisted = ch.enlisted;
 }
@@ -173,6 +178,17 @@ module _ (p : Image) (cs : List Cell) (o : Object) (lives : named cs o.name ≡ 
       still : is_from d (service_of cs m).sender ≡ true → is_from d (service_of then m).sender ≡ true
       still = by_server cs o lives f (λ m v. is_from d (service_of cs m).sender ≡ true → is_from d v.sender ≡ true) (keeps d) (λ n other h. h) m
 
+  -- and what had a sender has it, and nothing else has one
+  module _ (keeps : is_some (f (service_of cs o.name)).sender ≡ is_some (service_of cs o.name).sender) where
+    pub sent_then : (n : ℕ) → has_sender then n ≡ has_sender cs n
+    sent_then = by_server cs o lives f (λ n v. is_some v.sender ≡ has_sender cs n) keeps (λ n other. refl)
+
+    pub sources_then : HasSources cs → HasSources then
+    sources_then = sources_as cs then sent_then (λ x there. sym (named_served cs o.name (f (service_of cs o.name)) x.name) ∙ there)
+
+    pub served_then : ServesSent cs → ServesSent then
+    served_then = served_as cs then sent_then (λ x there. sym (held_served cs o.name (f (service_of cs o.name)) (Elsewhere In_service)) ∙ there)
+
   module _ (serves : is_server p o.thing ≡ true) (clients : List Client) (fit : ClientsFit p clients cs) where
     pub servers_then : (x : Object) → named then x.name ≡ Some x → is_server p x.thing ≡ false → ((service_of then x.name).queue ≡ []) × ((service_of then x.name).sessions ≡ [])
     servers_then x there plain =
@@ -213,6 +229,8 @@ module _ (p : Image) (clients : List Client) (cs : List Cell) (fit : ClientsFit 
       servers = servers_then p cs o lives (opened c) serves clients fit;
       names = names_then p cs o lives (opened c) serves clients fit;
       senders = senders_then p cs o lives (opened c) clients fit (λ d h. h) (λ d m h. fit.senders o.name d m h);
+      sources = sources_then p cs o lives (opened c) refl fit.sources;
+      served = served_then p cs o lives (opened c) refl fit.served;
       enlisted = enlisted_then p cs o lives (opened c) listed clients fit;
       seats = seats_then p cs o lives (opened c) clients fit (let one = seats_opened c (service_of cs o.name) in omega (arith, room, one));
     }
@@ -241,6 +259,8 @@ module _ (p : Image) (clients : List Client) (cs : List Cell) (fit : ClientsFit 
       servers = servers_then p cs o lives (parted c) serves clients fit;
       names = names_then p cs o lives (parted c) serves clients fit;
       senders = senders_then p cs o lives (parted c) clients fit (λ d h. h) (λ d m h. fit.senders o.name d m h);
+      sources = sources_then p cs o lives (parted c) refl fit.sources;
+      served = served_then p cs o lives (parted c) refl fit.served;
       enlisted = enlisted_then p cs o lives (parted c) listed clients fit;
       seats = seats_then p cs o lives (parted c) clients fit (let less = seats_parted c (service_of cs o.name) in let was = fit.seats o lives in omega (arith, less, was));
     }

@@ -2,7 +2,7 @@
 use Rattle.std.proofs.Common.{[], Bool, List, None, Option, Some, ap, cond, false, refl, subst, sym, true, ℕ, ◌==◌, ◌∙◌, ◌∷◌, ◌≡◌, ◌<◌, ◌≤◌, arith}
 use Rattle.std.proofs.lemmas.Bool.{eq-eqb, eqb-true, ne_eqb, true≢false}
 use Rattle.std.specs.List.{list_any}
-use Rattle.std.specs.Prelude.{◌||◌}
+use Rattle.std.specs.Prelude.{is_some, ◌||◌}
 use Rattle.aom_image.specs.Image.{Image}
 use Rattle.aom_clients.specs.Nodes.{is_connecting_at, is_leaving, is_open_at}
 use Rattle.aom_clients.specs.Table.{at_gone, server_of}
@@ -13,10 +13,11 @@ use Rattle.aom_sound.proofs.ClientsFit.{connecting_only, leaving_only}
 use Rattle.aom_sound.proofs.Maps.{cond_same, same_place-true, same_place_comm, same_place_refl}
 use Rattle.aom_sound.proofs.Queues.{client_here, client_there, none_passes}
 use Rattle.aom_sound.proofs.Sifted.{a_cell_of, cell_in, cell_lives, cell_name, cell_of, cell_owner, cell_placed, held_cell, held_sifted, named_before, named_cell, object_in, service_cell, service_gone, service_in, service_sifted, sifted, unheld_sifted, requested_before, clients_sifted}
+use Rattle.aom_sound.proofs.Sources.{has_sender, served_as, served_sifted, sources_as, sources_sifted, unslotted_some}
 use Rattle.aom_sound.proofs.Unslotting.{each_unslotted_alike, service_unslotted}
 use Rattle.aom_sound.specs.Clients.{client_at, each_unslotted, queue_ended, sessions_ended, with_client, most_of}
 use Rattle.aom_sound.specs.Kept.{ClientsFit, EntryFits, QueueFits, ConnectKept, StageKept, is_close_of, is_connect_of, is_message_of}
-use Rattle.aom_sound.specs.Places.{Asked, Cell, Service, Close_of, Connect_of, Elsewhere, Message_of, Object, Place, Queued, Sender, Tidy, held, named, same_place, service_of, unserved, without, requested}
+use Rattle.aom_sound.specs.Places.{Asked, Cell, Service, Close_of, Connect_of, Elsewhere, In_service, Message_of, Object, Place, Queued, Sender, Tidy, held, named, same_place, service_of, unserved, without, requested}
 use Rattle.aom_sound.specs.State.{Accept_left, Accepted, Accepts, Parts, Service_left, Serves, Stage}
 use Rattle.aom_sound.specs.Servers.{all_unslotted, has_session, is_from, is_queue_of, is_server, unslotted, without_queue, seats_taken}
 use Rattle.aom_sound.specs.Enlisted.{thing_kind}
@@ -99,9 +100,14 @@ module _ (p : Image) (clients : List Client) (c : ℕ) where
     servers = λ o h plain. subst (λ v. (v.queue ≡ []) × (v.sessions ≡ [])) (sym (service_unslotted c cs o.name)) (fit.servers o (sym (named_unslotted cs o.name) ∙ h) plain);
     names = λ n m o h. fit.names n m o (sym (held_unslotted cs (Elsewhere (Queued n m))) ∙ h);
     senders = λ n d m h. subst (λ v. is_from d v.sender ≡ true) (sym (service_unslotted c cs m)) (from_unslotted d (service_of cs m).sender (fit.senders n d m (ap (λ v. list_any (is_message_of d m) v.queue) (sym (service_unslotted c cs n)) ∙ h)));
+    sources = sources_as cs (all_unslotted c cs) sent (λ o h. sym (named_unslotted cs o.name) ∙ h) fit.sources;
+    served = served_as cs (all_unslotted c cs) sent (λ o h. sym (held_unslotted cs (Elsewhere In_service)) ∙ h) fit.served;
     seats = λ o h. subst (λ v. seats_taken v ≤ most_of (thing_kind p o.thing)) (sym (service_unslotted c cs o.name)) (fit.seats o (sym (named_unslotted cs o.name) ∙ h));
     enlisted = λ o h e. subst (λ v. (v.queue ≡ []) × (v.sessions ≡ [])) (sym (service_unslotted c cs o.name)) (fit.enlisted o (sym (named_unslotted cs o.name) ∙ h) (sym (requested_unslotted cs o.name) ∙ e));
   }
+    where
+      sent : (n : ℕ) → has_sender (all_unslotted c cs) n ≡ has_sender cs n
+      sent n = ap (λ v. is_some v.sender) (service_unslotted c cs n) ∙ unslotted_some c (service_of cs n).sender
 
 pub fit_each_unslotted : (p : Image) (clients : List Client) (xs : List ℕ) (cs : List Cell) → ClientsFit p clients cs → ClientsFit p clients (each_unslotted xs cs)
 fit_each_unslotted p clients [] cs fit = fit
@@ -291,6 +297,8 @@ module _
     servers = servers_left;
     names = names_left;
     senders = λ n d m h. senders n d m (o.name == n) refl h;
+    sources = sources_sifted drops (λ c. c.service) (λ c. refl) cs tidy fit.sources;
+    served = served_sifted drops (λ c. c.service) (λ c. refl) cs tidy fit.served;
     seats = λ x h. seats x h (o.name == x.name) refl;
     enlisted = λ x h e. enlisted x h e (o.name == x.name) refl;
   }

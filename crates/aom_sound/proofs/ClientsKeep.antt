@@ -48,7 +48,7 @@ use Rattle.std.proofs.lemmas.Bool.{true≢false}
 
 boot_kept : (p : Image) → IsKept p (boot_state p)
 boot_kept p = record {
-  fit = record { queues = λ n. tt; sessions = λ n c h. cc; listed = λ n c h. cc; servers = λ o h plain. cc; names = λ n m o h. cc; senders = λ n c m h. cc; seats = λ o h. cc; enlisted = λ o h e. cc };
+  fit = record { queues = λ n. tt; sessions = λ n c h. cc; listed = λ n c h. cc; servers = λ o h plain. cc; names = λ n m o h. cc; senders = λ n c m h. cc; sources = λ o h. cc; served = λ o h. cc; seats = λ o h. cc; enlisted = λ o h e. cc };
   stage = stage (main_of p);
 }
   where
@@ -76,7 +76,7 @@ module _ (p : Image) (s : State) (fit : ClientsFit p s.clients s.cells) where
       (a : Place) (k : ℕ) (o : Object) (height : ℕ) (ts : List Task) (u : State) → u.cells ≡ moved a (Going k) s.cells → u.clients ≡ s.clients → u.tasks ≡ begun p o height ts →
       TasksKept p s.clients s.cells ts → IsKept p u
   begun_kept a k o height ts u cells clients tasks stage =
-      let still = steady_moved s.cells a (Going k) (λ n m. refl) in
+      let still = steady_moved s.cells a (Going k) (λ n m. refl) refl in
       record {
         fit = subst (λ l. ClientsFit p l u.cells) (sym clients) (subst (λ l. ClientsFit p s.clients l) (sym cells) (fit_steady p s.clients s.cells (moved a (Going k) s.cells) still fit));
         stage = subst (λ l. TasksKept p l u.cells u.tasks) (sym clients) (subst (λ l. TasksKept p s.clients l u.tasks) (sym cells) (subst (λ l. TasksKept p s.clients (moved a (Going k) s.cells) l) (sym tasks)

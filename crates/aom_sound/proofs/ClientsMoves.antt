@@ -2,7 +2,7 @@
 use Rattle.std.proofs.Common.{[], Bool, List, None, Option, Some, ap, cond, false, inl, inr, length, refl, subst, suc, sym, true, ℕ, ℤ, ◌==◌, ◌∙◌, ◌∷◌, ◌≡◌, ◌<◌, ◌≤◌, arith}
 use Rattle.std.proofs.lemmas.Bool.{eqb-true}
 use Rattle.std.specs.List.{list_any}
-use Rattle.std.specs.Prelude.{◌⊎◌}
+use Rattle.std.specs.Prelude.{is_some, not, ◌⊎◌}
 use Rattle.aom_image.specs.Image.{Image}
 use Rattle.aom_image.specs.Views.{method_role}
 use Rattle.aom_image.specs.declared.method.Argument.{Argument}
@@ -14,19 +14,21 @@ use Rattle.aom_clients.specs.Nodes.{is_connecting_at}
 use Rattle.aom_clients.specs.declared.client.Client.{Client}
 use Rattle.aom_clients.specs.declared.client.Client.TheVariants.{Unconnected}
 use Rattle.aom_rules.specs.Requests.{is_cancel}
+use Rattle.aom_shape.specs.Kinds.{is_object}
 use Rattle.aom_sound.proofs.Altering.{Alters, held_kept, named_kept, opening, read_kept, requests, services, storing}
 use Rattle.aom_sound.proofs.ClientsFit.{connecting_only, fit_changed, none_of_connecting}
 use Rattle.aom_sound.proofs.ClientsTurn.{Same, on_none, same_requested}
 use Rattle.aom_sound.proofs.Maps.{named_moved, same_place-true, same_place_along, requested_moved, requested_unnamed}
 use Rattle.aom_sound.proofs.Queues.{queue_other}
 use Rattle.aom_sound.proofs.Services.{service_moved, service_unnamed}
+use Rattle.aom_sound.proofs.Sources.{has_sender, served_as}
 use Rattle.aom_sound.specs.Calls.{passed_cells, result_cells}
 use Rattle.aom_sound.specs.Clients.{client_at, with_client, most_of}
-use Rattle.aom_sound.specs.Effects.{In_field, In_register, Made, Replied, Requested, Spot, The_message, Update, cells_after, spot_place}
+use Rattle.aom_sound.specs.Effects.{Carried, In_field, In_register, Made, Replied, Requested, Spot, The_message, Update, cells_after, spot_place}
 use Rattle.aom_sound.specs.Enlisted.{cancelled, ended_cells, on_request, own_request, rerequested, thing_kind}
 use Rattle.aom_sound.specs.Kept.{ClientsFit, QueueFits, ConnectKept, StageKept, TasksKept, is_close_of, is_connect_of, is_message_of}
 use Rattle.aom_sound.specs.Natives.{resessioned}
-use Rattle.aom_sound.specs.Places.{Cell, Elsewhere, Object, Place, Queued, Register, Request, held, moved, named, same_place, service_of, set_request, unserved, with_new, requested}
+use Rattle.aom_sound.specs.Places.{Cell, Elsewhere, In_service, Object, Place, Queued, Register, Request, held, moved, named, same_place, service_of, set_request, unserved, with_new, requested}
 use Rattle.aom_sound.specs.Servers.{is_from, is_server, seats_taken}
 use Rattle.aom_sound.specs.State.{Accept_left, Accepted, Accepts, AtRoot, Closing, Destroy, Dispatched, Frame, Home, Inside, Of_server, Parts, Run, Service_left, Serves, Stage, State, Static, Task, Trapped, Unwind, field_place}
 use Rattle.aom_sound.specs.Words.{here, stored}
@@ -34,13 +36,19 @@ use Rattle.aom_sound.proofs.Seated.{seats_none, seats_same}
 
 -- ---- cells of which servers have the same
 
+abbrev pub Lived : List Cell → Object → Type 0
+Lived cs o = (named cs o.name ≡ Some o) ⊎ ((named cs o.name ≡ None) × (is_object o.thing ≡ true))
+
 pub record Steady (cs cs' : List Cell) : Type 0 where
   pub queues : (n : ℕ) → (service_of cs' n).queue ≡ (service_of cs n).queue
   pub sessions : (n : ℕ) → (service_of cs' n).sessions ≡ (service_of cs n).sessions
-  -- each cell was there, or no other of its name
-  pub lived : (o : Object) → named cs' o.name ≡ Some o → (named cs o.name ≡ Some o) ⊎ (named cs o.name ≡ None)
+  -- each cell was there, or is a new object and no other had its name
+  pub lived : (o : Object) → named cs' o.name ≡ Some o → Lived cs o
   pub queued : (n m : ℕ) (o : Object) → held cs' (Elsewhere (Queued n m)) ≡ Some o → held cs (Elsewhere (Queued n m)) ≡ Some o
   pub senders : (c m : ℕ) → is_from c (service_of cs m).sender ≡ true → is_from c (service_of cs' m).sender ≡ true
+  -- the same have a sender, and nothing is served that was not
+  pub sent : (n : ℕ) → has_sender cs' n ≡ has_sender cs n
+  pub served : (o : Object) → held cs' (Elsewhere In_service) ≡ Some o → held cs (Elsewhere In_service) ≡ Some o
   -- what is enlisted stays so
   pub listed : (n : ℕ) → requested cs' n ≡ None → requested cs n ≡ None
 
@@ -52,24 +60,30 @@ fit_steady p clients cs cs' still fit = record {
   servers = λ o h plain. servers o plain (still.lived o h);
   names = λ n m o h. fit.names n m o (still.queued n m o h);
   senders = λ n c m h. still.senders c m (fit.senders n c m (ap (λ q. list_any (is_message_of c m) q) (sym (still.queues n)) ∙ h));
+  sources = λ o h. sources o (still.lived o h);
+  served = served_as cs cs' still.sent still.served fit.served;
   seats = λ o h. seats o (still.lived o h);
   enlisted = λ o h e. enlisted o (still.listed o.name e) (still.lived o h);
 }
   where
-    enlisted : (o : Object) → requested cs o.name ≡ None → (named cs o.name ≡ Some o) ⊎ (named cs o.name ≡ None) → ((service_of cs' o.name).queue ≡ []) × ((service_of cs' o.name).sessions ≡ [])
-    enlisted o e (inl h) = let none = fit.enlisted o h e in (still.queues o.name ∙ none.0, still.sessions o.name ∙ none.1)
-    enlisted o e (inr h) = (still.queues o.name ∙ ap (λ v. v.queue) (service_unnamed cs o.name h), still.sessions o.name ∙ ap (λ v. v.sessions) (service_unnamed cs o.name h))
+    sources : (o : Object) → Lived cs o → has_sender cs' o.name ≡ not (is_object o.thing)
+    sources o (inl h) = still.sent o.name ∙ fit.sources o h
+    sources o (inr h) = still.sent o.name ∙ ap (λ v. is_some v.sender) (service_unnamed cs o.name h.0) ∙ sym (ap not h.1)
 
-    seats : (o : Object) → (named cs o.name ≡ Some o) ⊎ (named cs o.name ≡ None) → seats_taken (service_of cs' o.name) ≤ most_of (thing_kind p o.thing)
+    enlisted : (o : Object) → requested cs o.name ≡ None → Lived cs o → ((service_of cs' o.name).queue ≡ []) × ((service_of cs' o.name).sessions ≡ [])
+    enlisted o e (inl h) = let none = fit.enlisted o h e in (still.queues o.name ∙ none.0, still.sessions o.name ∙ none.1)
+    enlisted o e (inr h) = (still.queues o.name ∙ ap (λ v. v.queue) (service_unnamed cs o.name h.0), still.sessions o.name ∙ ap (λ v. v.sessions) (service_unnamed cs o.name h.0))
+
+    seats : (o : Object) → Lived cs o → seats_taken (service_of cs' o.name) ≤ most_of (thing_kind p o.thing)
     seats o (inl e) = let was = fit.seats o e in let same = seats_same (service_of cs' o.name) (service_of cs o.name) (still.queues o.name) (still.sessions o.name) in omega (arith, was, same)
     seats o (inr e) =
         let none =
-        seats_none (service_of cs' o.name) (still.queues o.name ∙ ap (λ v. v.queue) (service_unnamed cs o.name e)) (still.sessions o.name ∙ ap (λ v. v.sessions) (service_unnamed cs o.name e)) in
+        seats_none (service_of cs' o.name) (still.queues o.name ∙ ap (λ v. v.queue) (service_unnamed cs o.name e.0)) (still.sessions o.name ∙ ap (λ v. v.sessions) (service_unnamed cs o.name e.0)) in
         omega (arith, none)
 
-    servers : (o : Object) → is_server p o.thing ≡ false → (named cs o.name ≡ Some o) ⊎ (named cs o.name ≡ None) → ((service_of cs' o.name).queue ≡ []) × ((service_of cs' o.name).sessions ≡ [])
+    servers : (o : Object) → is_server p o.thing ≡ false → Lived cs o → ((service_of cs' o.name).queue ≡ []) × ((service_of cs' o.name).sessions ≡ [])
     servers o plain (inl e) = let none = fit.servers o e plain in (still.queues o.name ∙ none.0, still.sessions o.name ∙ none.1)
-    servers o plain (inr e) = (still.queues o.name ∙ ap (λ v. v.queue) (service_unnamed cs o.name e), still.sessions o.name ∙ ap (λ v. v.sessions) (service_unnamed cs o.name e))
+    servers o plain (inr e) = (still.queues o.name ∙ ap (λ v. v.queue) (service_unnamed cs o.name e.0), still.sessions o.name ∙ ap (λ v. v.sessions) (service_unnamed cs o.name e.0))
 
 module _ (p : Image) (clients : List Client) (cs cs' : List Cell) (queues : (n : ℕ) → (service_of cs' n).queue ≡ (service_of cs n).queue)
     (sessions : (n : ℕ) → (service_of cs' n).sessions ≡ (service_of cs n).sessions) where
@@ -98,7 +112,7 @@ pub tasks_steady : (p : Image) (clients : List Client) (cs cs' : List Cell) → 
 tasks_steady p clients cs cs' still ts k = tasks_queues p clients cs cs' still.queues still.sessions ts k
 
 pub steady_itself : (cs : List Cell) → Steady cs cs
-steady_itself cs = record { queues = λ n. refl; sessions = λ n. refl; lived = λ o h. inl h; queued = λ n m o h. h; senders = λ c m h. h; listed = λ n e. e }
+steady_itself cs = record { queues = λ n. refl; sessions = λ n. refl; lived = λ o h. inl h; queued = λ n m o h. h; senders = λ c m h. h; sent = λ n. refl; served = λ o h. h; listed = λ n e. e }
 
 pub steady_same : (cs cs' : List Cell) → Same cs cs' → Steady cs cs'
 steady_same cs cs' like = record {
@@ -107,6 +121,8 @@ steady_same cs cs' like = record {
   lived = λ o h. inl (sym (like.named_so o.name) ∙ h);
   queued = λ n m o h. sym (like.held_so (Elsewhere (Queued n m))) ∙ h;
   senders = λ c m h. ap (λ v. is_from c v.sender) (like.service_so m) ∙ h;
+  sent = λ n. ap (λ v. is_some v.sender) (like.service_so n);
+  served = λ o h. sym (like.held_so (Elsewhere In_service)) ∙ h;
   listed = like.listed_so;
 }
 
@@ -118,12 +134,14 @@ steady_moved_then cs cs' cs'' a b names = record {
   lived = λ o h. lived o (b.lived o h);
   queued = λ n m o h. a.queued n m o (b.queued n m o h);
   senders = λ c m h. b.senders c m (a.senders c m h);
+  sent = λ n. b.sent n ∙ a.sent n;
+  served = λ o h. a.served o (b.served o h);
   listed = λ n e. a.listed n (b.listed n e);
 }
   where
-    lived : (o : Object) → (named cs' o.name ≡ Some o) ⊎ (named cs' o.name ≡ None) → (named cs o.name ≡ Some o) ⊎ (named cs o.name ≡ None)
+    lived : (o : Object) → Lived cs' o → Lived cs o
     lived o (inl e) = inl (sym (names o.name) ∙ e)
-    lived o (inr e) = inr (sym (names o.name) ∙ e)
+    lived o (inr e) = inr (sym (names o.name) ∙ e.0, e.1)
 
 -- what moves to another place is not in this one, whatever was there
 pub held_elsewhere : (cs : List Cell) (a b r : Place) → same_place b r ≡ false → held (moved a b cs) r ≡ cond (same_place a r) None (held cs r)
@@ -145,26 +163,33 @@ held_elsewhere (c ∷ cs) a b r apart = go (same_place c.owner a) refl (same_pla
 abbrev pub NoQueue : Place → Type 0
 NoQueue b = (n m : ℕ) → same_place b (Elsewhere (Queued n m)) ≡ false
 
-pub steady_moved : (cs : List Cell) (a b : Place) → NoQueue b → Steady cs (moved a b cs)
-steady_moved cs a b apart = record {
+abbrev pub NoService : Place → Type 0
+NoService b = same_place b (Elsewhere In_service) ≡ false
+
+pub steady_moved : (cs : List Cell) (a b : Place) → NoQueue b → NoService b → Steady cs (moved a b cs)
+steady_moved cs a b apart aside = record {
   queues = λ n. ap (λ v. v.queue) (service_moved cs a b n);
   sessions = λ n. ap (λ v. v.sessions) (service_moved cs a b n);
   lived = λ o h. inl (sym (named_moved cs a b o.name) ∙ h);
-  queued = λ n m o h. queued n m o (same_place a (Elsewhere (Queued n m))) (sym (held_elsewhere cs a b (Elsewhere (Queued n m)) (apart n m)) ∙ h);
+  queued = λ n m o h. unless_moved o (same_place a (Elsewhere (Queued n m))) (held cs (Elsewhere (Queued n m))) (sym (held_elsewhere cs a b (Elsewhere (Queued n m)) (apart n m)) ∙ h);
   senders = λ c m h. ap (λ v. is_from c v.sender) (service_moved cs a b m) ∙ h;
+  sent = λ n. ap (λ v. is_some v.sender) (service_moved cs a b n);
+  served = λ o h. unless_moved o (same_place a (Elsewhere In_service)) (held cs (Elsewhere In_service)) (sym (held_elsewhere cs a b (Elsewhere In_service) aside) ∙ h);
   listed = λ n e. sym (requested_moved cs a b n) ∙ e;
 }
   where
-    queued : (n m : ℕ) (o : Object) (x : Bool) → cond x None (held cs (Elsewhere (Queued n m))) ≡ Some o → held cs (Elsewhere (Queued n m)) ≡ Some o
-    queued n m o x h = grind arith
+    unless_moved : (o : Object) (x : Bool) (was : Option Object) → cond x None was ≡ Some o → was ≡ Some o
+    unless_moved o x was h = grind arith
 
-pub steady_new : (cs : List Cell) (name : ℕ) (x : Thing) (ws : List ℤ) (owner : Place) → NoQueue owner → named cs name ≡ None → Steady cs (with_new name x ws owner cs)
-steady_new cs name x ws owner apart free = record {
+pub steady_new : (cs : List Cell) (name : ℕ) (x : Thing) (ws : List ℤ) (owner : Place) → NoQueue owner → NoService owner → is_object x ≡ true → named cs name ≡ None → Steady cs (with_new name x ws owner cs)
+steady_new cs name x ws owner apart aside object free = record {
   queues = λ n. ap (λ v. v.queue) (same n (name == n) refl);
   sessions = λ n. ap (λ v. v.sessions) (same n (name == n) refl);
   lived = λ o h. lived o (name == o.name) refl h;
   queued = λ n m o h. sym (ap (λ b. cond b (Some (record { name = name; thing = x })) (held cs (Elsewhere (Queued n m)))) (apart n m)) ∙ h;
   senders = λ c m h. ap (λ v. is_from c v.sender) (same m (name == m) refl) ∙ h;
+  sent = λ n. ap (λ v. is_some v.sender) (same n (name == n) refl);
+  served = λ o h. sym (ap (λ b. cond b (Some (record { name = name; thing = x })) (held cs (Elsewhere In_service))) aside) ∙ h;
   listed = λ n e. listed n (name == n) refl e;
 }
   where
@@ -176,8 +201,10 @@ steady_new cs name x ws owner apart free = record {
     listed n true same e = requested_unnamed cs n (ap (λ k. named cs k) (sym (eqb-true name n same)) ∙ free)
     listed n false other e = e
 
-    lived : (o : Object) (b : Bool) → (name == o.name) ≡ b → cond b (Some (record { name = name; thing = x })) (named cs o.name) ≡ Some o → (named cs o.name ≡ Some o) ⊎ (named cs o.name ≡ None)
-    lived o true e h = inr (ap (λ k. named cs k) (sym (eqb-true name o.name e)) ∙ free)
+    lived : (o : Object) (b : Bool) → (name == o.name) ≡ b → cond b (Some (record { name = name; thing = x })) (named cs o.name) ≡ Some o → Lived cs o
+    lived o true e h =
+        let it : record { name = name; thing = x } ≡ o = cc in
+        inr (ap (λ k. named cs k) (sym (eqb-true name o.name e)) ∙ free, ap (λ y. is_object y.thing) (sym it) ∙ object)
     lived o false e h = inl h
 
 -- ---- what an update changes
@@ -221,19 +248,23 @@ module _ (p : Image) (fr : Frame) (ts : List Task) (s : State) where
   field_apart AtRoot f n m = refl
   field_apart (Inside o from) f n m = refl
 
-  spot_apart : (spot : Spot) → NoQueue (spot_place p fr ts s spot)
-  spot_apart (In_register a) n m = refl
-  spot_apart (In_field f) n m = field_apart fr.home f n m
-  spot_apart The_message n m = refl
+  field_aside : (home : Home) (f : ℕ) → NoService (field_place home f)
+  field_aside Static f = refl
+  field_aside AtRoot f = refl
+  field_aside (Inside o from) f = refl
 
-  -- where it makes a cell its name is free, a request is not taken away, and a message that it completes is no matter of this lemma
+  -- where it makes a cell its name is free, a request is not taken away, nothing comes to be served, and a message that it completes is no matter of this lemma
   abbrev pub IsSteady : Update → Type 0
+  IsSteady (Carried from The_message) = ⊥
   IsSteady (Made name class a) = named s.cells name ≡ None
   IsSteady (Requested r) = r ≡ None → own_request s.cells fr.home ≡ None
   IsSteady (Replied a) = ⊥
   IsSteady _ = Unit {0}
 
   pub steady_update : (u : Update) → IsSteady u → Steady s.cells (cells_after p fr ts s u)
+  steady_update (Carried from The_message) h = absurd h
+  steady_update (Carried from (In_register a)) h = steady_moved s.cells (spot_place p fr ts s from) (here fr ts s a) (λ n m. refl) refl
+  steady_update (Carried from (In_field f)) h = steady_moved s.cells (spot_place p fr ts s from) (field_place fr.home f) (field_apart fr.home f) (field_aside fr.home f)
   steady_update x h = grind (arith, steady_moved, steady_new, steady_stored, steady_asked, steady_opened, steady_itself)
 
   -- arguments are passed, and a result is brought
@@ -241,13 +272,13 @@ module _ (p : Image) (fr : Frame) (ts : List Task) (s : State) where
   steady_passed depth [] first to cs = steady_itself cs
   steady_passed depth (Takes_word ∷ xs) first to cs = steady_passed depth xs (suc first) (suc to) cs
   steady_passed depth (Takes_own t ∷ xs) first to cs =
-      steady_moved_then cs (moved (here fr ts s first) (Register depth to) cs) _ (steady_moved cs (here fr ts s first) (Register depth to) (λ n m. refl)) (steady_passed depth xs (suc first) (suc to) (moved (here fr ts s first) (Register depth to) cs)) (named_moved cs (here fr ts s first) (Register depth to))
+      steady_moved_then cs (moved (here fr ts s first) (Register depth to) cs) _ (steady_moved cs (here fr ts s first) (Register depth to) (λ n m. refl) refl) (steady_passed depth xs (suc first) (suc to) (moved (here fr ts s first) (Register depth to) cs)) (named_moved cs (here fr ts s first) (Register depth to))
 
   pub steady_result : (g : Gives) (a c : ℕ) (below : List Task) → Steady s.cells (result_cells p fr ts s g a c below)
   steady_result Nothing a c below = steady_itself s.cells
   steady_result A_word a c below = steady_itself s.cells
-  steady_result (An_own t) a c below = steady_moved s.cells (here fr ts s a) (Register (length below) c) (λ n m. refl)
-  steady_result (A_maybe t) a c below = steady_moved s.cells (here fr ts s a) (Register (length below) c) (λ n m. refl)
+  steady_result (An_own t) a c below = steady_moved s.cells (here fr ts s a) (Register (length below) c) (λ n m. refl) refl
+  steady_result (A_maybe t) a c below = steady_moved s.cells (here fr ts s a) (Register (length below) c) (λ n m. refl) refl
   steady_result (Left x) a c below = steady_itself s.cells
 
 -- ---- the end of a connect that was left: its client has no session
@@ -263,6 +294,8 @@ module _ (p : Image) (clients : List Client) (cs : List Cell) (fit : ClientsFit 
     servers = fit.servers;
     names = fit.names;
     senders = fit.senders;
+    sources = fit.sources;
+    served = fit.served;
     seats = fit.seats;
     enlisted = fit.enlisted;
   }

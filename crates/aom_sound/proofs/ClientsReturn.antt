@@ -9,6 +9,7 @@ use Rattle.aom_sound.proofs.ClientsFit.{fit_accepted}
 use Rattle.aom_sound.proofs.ClientsMoves.{NoQueue, fit_steady, steady_moved, steady_result, tasks_queues, tasks_steady}
 use Rattle.aom_sound.proofs.Maps.{held_without, named_moved, same_place-true, same_place_comm, requested_moved}
 use Rattle.aom_sound.proofs.Sifted.{a_cell_of, cell_in, cell_lives, cell_of, cell_owner, cell_placed, held_cell, named_before, named_cell, object_in, service_cell, service_in, service_sifted, sifted, requested_before, clients_sifted}
+use Rattle.aom_sound.proofs.Sources.{served_sifted, sources_sifted}
 use Rattle.aom_sound.specs.Calls.{answered_by, result_cells, returned}
 use Rattle.aom_sound.specs.Clients.{most_of}
 use Rattle.aom_sound.specs.Kept.{ClientsFit, IsKept, QueueFits, TasksKept, is_connect_of, is_message_of}
@@ -45,7 +46,7 @@ module _ (p : Image) (fr : Frame) (ts : List Task) (s : State) (fit : ClientsFit
         (x : Seat) (c : ℕ) → named s.cells x.object.name ≡ Some x.object → is_server p x.object.thing ≡ true → is_some (requested s.cells x.object.name) ≡ true →
         TasksKept p s.clients s.cells (Dispatched (Of_server x c Accepts) ∷ below) → IsKept p (returned p fr ts s g a (Trapped ∷ Dispatched (Of_server x c Accepts) ∷ below))
     accept_kept x c lives serves listed stage =
-        let still = steady_moved s.cells (here fr ts s a) (Elsewhere (Session x.object.name c)) (λ n m. refl) in
+        let still = steady_moved s.cells (here fr ts s a) (Elsewhere (Session x.object.name c)) (λ n m. refl) refl in
         record {
           fit = fit_accepted p s.clients (moved (here fr ts s a) (Elsewhere (Session x.object.name c)) s.cells) (fit_steady p s.clients s.cells (moved (here fr ts s a) (Elsewhere (Session x.object.name c)) s.cells) still fit) x.object
               (named_moved s.cells (here fr ts s a) (Elsewhere (Session x.object.name c)) x.object.name ∙ lives) serves
@@ -124,6 +125,8 @@ module _
     servers = servers;
     names = names;
     senders = λ n d m h. sender_left n d m (ap (λ q. list_any (is_message_of d m) q) (sym (service_left n).0) ∙ h);
+    sources = sources_sifted drops (λ c. c.service) (λ c. refl) cs tidy fit.sources;
+    served = served_sifted drops (λ c. c.service) (λ c. refl) cs tidy fit.served;
     seats = seats;
     enlisted = enlisted;
   }

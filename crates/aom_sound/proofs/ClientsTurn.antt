@@ -1,7 +1,7 @@
 -- What is kept of clients stays so in each turn: as a server is picked, as a client does something, and in all others, where nothing of it changes.
 use Rattle.std.proofs.Common.{[], Bool, List, None, Option, Some, ap, cond, false, refl, subst, sym, true, ℕ, ◌∙◌, ◌∷◌, ◌≡◌, ◌<◌, ◌≤◌, arith, ◌==◌}
 use Rattle.std.specs.List.{list_any}
-use Rattle.std.specs.Prelude.{length, nat_le, ◌||◌, nat_lt, is_some}
+use Rattle.std.specs.Prelude.{length, nat_le, ◌&&◌, ◌||◌, nat_lt, is_some}
 use Rattle.aom_image.specs.Image.{Image}
 use Rattle.aom_image.specs.declared.method.Role.TheVariants.{Accept as Accepts_role, Run as Handles, Service as Attends_role}
 use Rattle.aom_shape.specs.declared.kind.Kind.TheVariants.{Null}
@@ -9,7 +9,7 @@ use Rattle.aom_clients.specs.Table.{server_of}
 use Rattle.aom_clients.specs.declared.client.Client.{Client}
 use Rattle.aom_rules.specs.Typing.{Typing}
 use Rattle.aom_sound.proofs.ClientsCommand.{fit_commanded}
-use Rattle.aom_sound.proofs.ClientsFit.{senders_then, by_server, seats_then, enlisted_then}
+use Rattle.aom_sound.proofs.ClientsFit.{senders_then, by_server, seats_then, enlisted_then, sent_then, served_then, sources_then}
 use Rattle.aom_sound.proofs.Maps.{held_moved, named_moved, requested_moved, requested_unnamed}
 use Rattle.aom_sound.proofs.Owners.{IsQueuedAt, in_queue, queued_lower}
 use Rattle.aom_sound.proofs.Services.{held_served, named_served, service_asked, service_bereaved, service_here, service_moved}
@@ -37,8 +37,9 @@ use Rattle.aom_transcript.specs.declared.event.Event.{Event}
 use Rattle.aom_transcript.specs.declared.event.Event.TheVariants.{Client as From_client, Kill, Tell}
 use Rattle.aom_transcript.specs.declared.event.TimedEvent.{TimedEvent}
 use Rattle.aom_sound.proofs.Seated.{seats_first, seats_rest}
+use Rattle.aom_sound.proofs.Sources.{from_some, has_sender, served_as, sources_as}
 use Rattle.aom_sound.proofs.Things.{message_plain}
-use Rattle.std.proofs.lemmas.Bool.{eqb-true}
+use Rattle.std.proofs.lemmas.Bool.{eq-eqb, eqb-true}
 
 -- ---- cells of which clients have the same
 
@@ -57,6 +58,8 @@ fit_same p clients cs cs' like fit = record {
   servers = λ o h plain. subst (λ v. (v.queue ≡ []) × (v.sessions ≡ [])) (sym (like.service_so o.name)) (fit.servers o (sym (like.named_so o.name) ∙ h) plain);
   names = λ n m o h. fit.names n m o (sym (like.held_so (Elsewhere (Queued n m))) ∙ h);
   senders = λ n c m h. subst (λ v. is_from c v.sender ≡ true) (sym (like.service_so m)) (fit.senders n c m (ap (λ v. list_any (is_message_of c m) v.queue) (sym (like.service_so n)) ∙ h));
+  sources = sources_as cs cs' (λ n. ap (λ v. is_some v.sender) (like.service_so n)) (λ o h. sym (like.named_so o.name) ∙ h) fit.sources;
+  served = served_as cs cs' (λ n. ap (λ v. is_some v.sender) (like.service_so n)) (λ o h. sym (like.held_so (Elsewhere In_service)) ∙ h) fit.served;
   seats = λ o h. subst (λ v. seats_taken v ≤ most_of (thing_kind p o.thing)) (sym (like.service_so o.name)) (fit.seats o (sym (like.named_so o.name) ∙ h));
   enlisted = λ o h e. subst (λ v. (v.queue ≡ []) × (v.sessions ≡ [])) (sym (like.service_so o.name)) (fit.enlisted o (sym (like.named_so o.name) ∙ h) (like.listed_so o.name e));
 }
@@ -104,21 +107,33 @@ same_requested cs o r keeps =
 pub same_bereaved : (p : Image) (n : ℕ) (cs : List Cell) → Same cs (all_bereaved p n cs)
 same_bereaved p n cs = let like = bereaved_alike p n cs in record { service_so = service_bereaved p n cs; named_so = like.named_so; held_so = like.held_so; listed_so = listed_bereaved p n cs }
 
--- what is owned elsewhere, but in no queue
+-- what is owned elsewhere, but in no queue; what comes to be served has a sender
 pub fit_moved :
-    (p : Image) (clients : List Client) (cs : List Cell) (a b : Place) → held cs b ≡ None → ((n m : ℕ) → same_place b (Elsewhere (Queued n m)) ≡ false) → ClientsFit p clients cs →
-    ClientsFit p clients (moved a b cs)
-fit_moved p clients cs a b free apart fit = record {
+    (p : Image) (clients : List Client) (cs : List Cell) (a b : Place) → held cs b ≡ None → ((n m : ℕ) → same_place b (Elsewhere (Queued n m)) ≡ false) →
+    (same_place b (Elsewhere In_service) ≡ true → (o : Object) → held cs a ≡ Some o → has_sender cs o.name ≡ true) → ClientsFit p clients cs → ClientsFit p clients (moved a b cs)
+fit_moved p clients cs a b free apart sent fit = record {
   queues = λ n. subst (λ v. QueueFits clients n v.queue) (sym (service_moved cs a b n)) (fit.queues n);
   sessions = λ n c h. fit.sessions n c (ap (λ v. has_session v c) (sym (service_moved cs a b n)) ∙ h);
   listed = λ n c h. ap (λ v. has_session v c) (service_moved cs a b n) ∙ fit.listed n c h;
   servers = λ o h plain. subst (λ v. (v.queue ≡ []) × (v.sessions ≡ [])) (sym (service_moved cs a b o.name)) (fit.servers o (sym (named_moved cs a b o.name) ∙ h) plain);
   names = λ n m o h. names n m o (same_place a (Elsewhere (Queued n m))) (sym (ap (λ x. cond x (held cs a) (cond (same_place a (Elsewhere (Queued n m))) None (held cs (Elsewhere (Queued n m))))) (apart n m)) ∙ sym (held_moved cs a b (Elsewhere (Queued n m)) free) ∙ h);
   senders = λ n c m h. subst (λ v. is_from c v.sender ≡ true) (sym (service_moved cs a b m)) (fit.senders n c m (ap (λ v. list_any (is_message_of c m) v.queue) (sym (service_moved cs a b n)) ∙ h));
+  sources = sources_as cs (moved a b cs) same (λ o h. sym (named_moved cs a b o.name) ∙ h) fit.sources;
+  served = λ o h. same o.name ∙ served o (same_place b (Elsewhere In_service)) refl (same_place a (Elsewhere In_service)) (sym (held_moved cs a b (Elsewhere In_service) free) ∙ h);
   seats = λ o h. subst (λ v. seats_taken v ≤ most_of (thing_kind p o.thing)) (sym (service_moved cs a b o.name)) (fit.seats o (sym (named_moved cs a b o.name) ∙ h));
   enlisted = λ o h e. subst (λ v. (v.queue ≡ []) × (v.sessions ≡ [])) (sym (service_moved cs a b o.name)) (fit.enlisted o (sym (named_moved cs a b o.name) ∙ h) (sym (requested_moved cs a b o.name) ∙ e));
 }
   where
+    same : (n : ℕ) → has_sender (moved a b cs) n ≡ has_sender cs n
+    same n = ap (λ v. is_some v.sender) (service_moved cs a b n)
+
+    served :
+        (o : Object) (x : Bool) → same_place b (Elsewhere In_service) ≡ x → (y : Bool) → cond x (held cs a) (cond y None (held cs (Elsewhere In_service))) ≡ Some o →
+        has_sender cs o.name ≡ true
+    served o true e y h = sent e o h
+    served o false e true h = cc
+    served o false e false h = fit.served o h
+
     names : (n m : ℕ) (o : Object) (x : Bool) → cond x None (held cs (Elsewhere (Queued n m))) ≡ Some o → o.name ≡ m
     names n m o x h = grind arith
 
@@ -135,12 +150,26 @@ fit_taken p clients cs o lives listed e es queue fit = record {
   senders = senders_then p cs o lives taken_first clients fit (λ d h. h)
       (λ d m h. fit.senders o.name d m (ap (λ q. list_any (is_message_of d m) q) queue ∙ or_right (is_message_of d m e) (list_any (is_message_of d m) es) (ap (λ q. list_any (is_message_of d m) (rest q)) (sym queue) ∙ h)));
   enlisted = enlisted_then p cs o lives taken_first listed clients fit;
+  sources = sources_then p cs o lives taken_first refl fit.sources;
+  served = served_then p cs o lives taken_first refl fit.served;
   seats = seats_then p cs o lives taken_first clients fit (let less = seats_rest (service_of cs o.name) in let was = fit.seats o lives in omega (arith, less, was));
 }
   where
     or_right : (b x : Bool) → x ≡ true → (b || x) ≡ true
     or_right true x h = refl
     or_right false x h = h
+
+-- a message that it is has a sender
+pub first_sent :
+    (p : Image) (clients : List Client) (cs : List Cell) (o : Object) → named cs o.name ≡ Some o → (c m : ℕ) (es : List Asked) → (service_of cs o.name).queue ≡ Message_of c m ∷ es →
+    ClientsFit p clients cs → (x : Object) → held (reserved taken_first o.name cs) (Elsewhere (Queued o.name m)) ≡ Some x → has_sender (reserved taken_first o.name cs) x.name ≡ true
+first_sent p clients cs o lives c m es queue fit x there =
+    let was : held cs (Elsewhere (Queued o.name m)) ≡ Some x = sym (held_served cs o.name (taken_first (service_of cs o.name)) (Elsewhere (Queued o.name m))) ∙ there in
+    let first : list_any (is_message_of c m) (service_of cs o.name).queue ≡ true = ap (λ q. list_any (is_message_of c m) q) queue ∙ ap (λ b. b || list_any (is_message_of c m) es) own in
+    sent_then p cs o lives taken_first refl x.name ∙ ap (has_sender cs) (fit.names o.name m x was) ∙ from_some c (service_of cs m).sender (fit.senders o.name c m first)
+  where
+    own : ((c == c) && (m == m)) ≡ true
+    own = ap (λ b. b && (m == m)) (eq-eqb c c refl) ∙ eq-eqb m m refl
 
 -- ---- tasks
 
@@ -214,7 +243,7 @@ module _ (p : Image) (t : Typing) (wired : IsWired p) (s : State) (w : WellTyped
         let session = goes_some o (λ o. attended p x c o m (taken_from n s)) NullOrDead u refl e in
         let method = goes_some (part_of p Attends_role session.0.thing) (λ k. attending k x c session.0 m (taken_from n s)) WrongKind u refl session.2 in
         subst (λ v. IsKept p v) (goes_same _ u method.2)
-        (record { fit = fit_moved p s.clients cs (Elsewhere (Queued n m)) (Elsewhere In_service) (empty_now (Elsewhere In_service) refl) (λ i j. refl) (taken (Message_of c m) es queue); stage = tt })
+        (record { fit = fit_moved p s.clients cs (Elsewhere (Queued n m)) (Elsewhere In_service) (empty_now (Elsewhere In_service) refl) (λ i j. refl) (λ b. first_sent p s.clients s.cells x.object there c m es queue kept.fit) (taken (Message_of c m) es queue); stage = tt })
 
     close_kept : (c : ℕ) (es : List Asked) → (service_of s.cells n).queue ≡ Close_of c ∷ es → (o : Option Object) → parting_with p x c o (taken_from n s) ≡ Goes u → IsKept p u
     close_kept c es queue o e =
@@ -222,7 +251,7 @@ module _ (p : Image) (t : Typing) (wired : IsWired p) (s : State) (w : WellTyped
         let then = moved (Elsewhere (Session n c)) (Going 1) cs in
         let session = goes_some o (λ o. parting_with p x c o (taken_from n s)) NullOrDead u refl e in
         subst (λ v. IsKept p v) (goes_same _ u session.2) (record {
-          fit = fit_moved p s.clients cs (Elsewhere (Session n c)) (Going 1) (empty_now (Going 1) refl) (λ i j. refl) (taken (Close_of c) es queue);
+          fit = fit_moved p s.clients cs (Elsewhere (Session n c)) (Going 1) (empty_now (Going 1) refl) (λ i j. refl) (λ b. cc) (taken (Close_of c) es queue);
           stage = tasks_begun p s.clients then session.0 (length s.items) (Dispatched (Of_server x c Parts) ∷ [])
               (first.0.0, ap (λ q. list_any (is_close_of c) q) (ap (λ v. v.queue) (service_moved cs (Elsewhere (Session n c)) (Going 1) n) ∙ queue_now (Close_of c) es queue) ∙ first.0.1);
         })

@@ -6,18 +6,20 @@ use Rattle.aom_image.specs.Views.{class_at}
 use Rattle.aom_roles.specs.Classes.{kind_in, sessions_in, sessions_of}
 use Rattle.aom_roles.specs.Shapes.{kind_of}
 use Rattle.aom_image.specs.declared.method.Thing.TheVariants.{Message}
-use Rattle.aom_sound.specs.Cases.Building.{keeper, pair}
-use Rattle.aom_sound.specs.Cases.Kept.{Fit, KeptBites, opened, serves, waits}
+use Rattle.aom_shape.specs.Kinds.{is_object}
+use Rattle.aom_sound.proofs.Sources.{has_sender}
+use Rattle.aom_sound.specs.Cases.Building.{keeper, leaf, pair}
+use Rattle.aom_sound.specs.Cases.Kept.{Fit, KeptBites, by_client, opened, sent, serves, waits}
 use Rattle.aom_sound.specs.Cases.Moves.{an_image}
 use Rattle.aom_sound.specs.Cases.Servers.{a_session}
 use Rattle.aom_sound.specs.Clients.{client_at}
 use Rattle.aom_sound.specs.Enlisted.{thing_kind}
-use Rattle.aom_sound.specs.Kept.{QueueFits, is_message_of}
+use Rattle.aom_sound.specs.Kept.{HasSources, QueueFits, is_message_of}
 use Rattle.aom_sound.specs.Clients.{most_of}
-use Rattle.aom_sound.specs.Places.{Cell, Connect_of, Elsewhere, Message_of, Object, Queued, held, named, requested, service_of, unserved}
+use Rattle.aom_sound.specs.Places.{Cell, Connect_of, Elsewhere, In_service, Message_of, Object, Queued, held, named, requested, service_of, unserved}
 use Rattle.aom_sound.specs.Servers.{has_session, is_from, is_server, seats_taken}
 use Rattle.std.specs.List.{list_any}
-use Rattle.std.specs.Prelude.{is_some, ◌&&◌, ◌||◌}
+use Rattle.std.specs.Prelude.{is_some, not, ◌&&◌, ◌||◌}
 
 -- ---- the state in which they say the same
 
@@ -91,6 +93,19 @@ seats_so o there = by_name (λ n. named cells n ≡ Some o → seats_taken (serv
     (λ h. let same : record { name = 5; thing = keeper } ≡ o = cc in subst (λ (y : Object). 1 ≤ most_of (thing_kind an_image y.thing)) same (omega arith)) (λ h. omega arith) (λ h. omega arith)
     (λ n e f g h. omega (arith, ap seats_taken (unserved_at n e f g))) o.name there
 
+unnamed_at : (n : ℕ) → (5 == n) ≡ false → (7 == n) ≡ false → (2 == n) ≡ false → named cells n ≡ None
+unnamed_at n e f g =
+    ap (λ b. cond b (Some (record { name = 5; thing = keeper })) (named (waits 7 0 7 ∷ a_session ∷ []) n)) e
+    ∙ ap (λ b. cond b (Some (record { name = 7; thing = Message })) (named (a_session ∷ []) n)) f
+    ∙ ap (λ b. cond b (Some (record { name = 2; thing = leaf })) None) g
+
+has_sources : HasSources cells
+has_sources o there = by_name (λ n. named cells n ≡ Some o → has_sender cells n ≡ not (is_object o.thing))
+    (λ h. let same : record { name = 5; thing = keeper } ≡ o = cc in subst (λ (y : Object). false ≡ not (is_object y.thing)) same refl)
+    (λ h. let same : record { name = 7; thing = Message } ≡ o = cc in subst (λ (y : Object). true ≡ not (is_object y.thing)) same refl)
+    (λ h. let same : record { name = 2; thing = leaf } ≡ o = cc in subst (λ (y : Object). false ≡ not (is_object y.thing)) same refl)
+    (λ n e f g h. let clash : None ≡ Some o = sym (unnamed_at n e f g) ∙ h in cc) o.name there
+
 they_fit : Fit opened cells
 they_fit = record {
   queues = by_name (λ n. QueueFits opened n (service_of cells n).queue) ((refl, refl), tt) tt tt (λ n e f g. subst (λ v. QueueFits opened n v.queue) (sym (unserved_at n e f g)) tt);
@@ -100,7 +115,45 @@ they_fit = record {
   enlisted = none_unlisted;
   names = stands_there;
   senders = sent_so;
+  sources = has_sources;
+  served = λ o h. cc;
   seats = seats_so;
+}
+
+-- ---- a message that is served, of a client that is at no server
+
+abbrev in_service : List Cell
+in_service = sent Message (by_client 0) (Elsewhere In_service) ∷ []
+
+-- clients have nothing at it, whatever its name
+at_it : (b : Bool) → (cond b (sent Message (by_client 0) (Elsewhere In_service)).service unserved).queue ≡ []
+at_it true = refl
+at_it false = refl
+
+none_of_it : (b : Bool) → (cond b (sent Message (by_client 0) (Elsewhere In_service)).service unserved).sessions ≡ []
+none_of_it true = refl
+none_of_it false = refl
+
+no_seat : (b : Bool) (n : ℕ) → seats_taken (cond b (sent Message (by_client 0) (Elsewhere In_service)).service unserved) ≤ n
+no_seat true n = omega arith
+no_seat false n = omega arith
+
+it_is_sent : (o : Object) (b : Bool) → cond b (Some (record { name = 7; thing = Message })) None ≡ Some o → is_some (cond b (sent Message (by_client 0) (Elsewhere In_service)).service unserved).sender ≡ not (is_object o.thing)
+it_is_sent o true h = let same : record { name = 7; thing = Message } ≡ o = cc in subst (λ (y : Object). true ≡ not (is_object y.thing)) same refl
+it_is_sent o false h = cc
+
+it_fits : Fit [] in_service
+it_fits = record {
+  queues = λ n. subst (λ q. QueueFits [] n q) (sym (at_it (7 == n))) tt;
+  sessions = λ n c h. let clash : false ≡ true = ap (λ xs. list_any (λ d. d == c) xs) (sym (none_of_it (7 == n))) ∙ h in cc;
+  listed = λ n c h. cc;
+  servers = λ o h plain. (at_it (7 == o.name), none_of_it (7 == o.name));
+  enlisted = λ o h e. (at_it (7 == o.name), none_of_it (7 == o.name));
+  names = λ n m o h. cc;
+  senders = λ n c m h. let clash : false ≡ true = ap (λ q. list_any (is_message_of c m) q) (sym (at_it (7 == n))) ∙ h in cc;
+  sources = λ o h. it_is_sent o (7 == o.name) h;
+  served = λ o h. let same : record { name = 7; thing = Message } ≡ o = cc in subst (λ (y : Object). has_sender in_service y.name ≡ true) same refl;
+  seats = λ o h. no_seat (7 == o.name) (most_of (thing_kind an_image o.thing));
 }
 
 -- ---- and those in which they do not
@@ -124,6 +177,10 @@ kept_bites = record {
   unlisted_sessions = λ fit. let clash : 0 ∷ [] ≡ [] = (fit.enlisted (record { name = 5; thing = keeper }) refl refl).1 in cc;
   misplaced = λ fit. let clash : 7 ≡ 8 = fit.names 5 8 (record { name = 7; thing = Message }) refl in omega arith;
   sent_by_another = λ fit. let clash : false ≡ true = fit.senders 5 0 7 refl in cc;
+  serves_sent = it_fits;
+  unsent = λ fit. let clash : false ≡ true = fit.sources (record { name = 7; thing = Message }) refl in cc;
+  sent_no_message = λ fit. let clash : true ≡ false = fit.sources (record { name = 7; thing = pair }) refl in cc;
+  serves_no_message = λ fit. let clash : false ≡ true = fit.served (record { name = 7; thing = pair }) refl in cc;
   too_many = λ fit. let many : 2 ≤ 1 = fit.seats (record { name = 5; thing = keeper }) refl in omega arith;
   accepts = (refl, refl, omega arith);
   accepts_nobody = λ k. let clash : false ≡ true = k.0 in cc;

@@ -6,6 +6,7 @@ pub mod Services
 pub mod Sifted
 pub mod Queues
 pub mod Seated
+pub mod Sources
 pub mod ClientsFit
 pub mod ClientsAsk
 pub mod ClientsLeave

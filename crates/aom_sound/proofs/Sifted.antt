@@ -166,11 +166,17 @@ module _ (drops : Cell → Bool) (f : Cell → Service) where
     pub service_sifted : service_of (sifted drops f cs) n ≡ f c
     service_sifted = service_cell (sifted drops f cs) n ∙ ap service_in is_there
 
-  -- and what is named then was named, and stays
+  -- and what is named or stands in a place then was there, and stays
   pub named_before : (cs : List Cell) (n : ℕ) (o : Object) → Tidy cs → named (sifted drops f cs) n ≡ Some o → (c : Cell) × (cell_of cs n ≡ Some c) × (c.object ≡ o) × (drops c ≡ false)
   named_before cs n o t e = go (cell_of cs n) refl (sym (ap object_in (cell_of_sifted cs n t)) ∙ sym (named_cell (sifted drops f cs) n) ∙ e)
     where
       go : (x : Option Cell) → cell_of cs n ≡ x → object_in (kept x) ≡ Some o → (c : Cell) × (cell_of cs n ≡ Some c) × (c.object ≡ o) × (drops c ≡ false)
+      go x there e = grind arith
+
+  pub placed_before : (cs : List Cell) (q : Place) (o : Object) → Tidy cs → held (sifted drops f cs) q ≡ Some o → (c : Cell) × (cell_in cs q ≡ Some c) × (c.object ≡ o) × (drops c ≡ false)
+  placed_before cs q o t e = go (cell_in cs q) refl (sym (ap object_in (cell_in_sifted cs q t)) ∙ sym (held_cell (sifted drops f cs) q) ∙ e)
+    where
+      go : (x : Option Cell) → cell_in cs q ≡ x → object_in (kept x) ≡ Some o → (c : Cell) × (cell_in cs q ≡ Some c) × (c.object ≡ o) × (drops c ≡ false)
       go x there e = grind arith
 
   pub requested_before : (cs : List Cell) (n : ℕ) (o : Object) → Tidy cs → named (sifted drops f cs) n ≡ Some o → requested (sifted drops f cs) n ≡ requested cs n

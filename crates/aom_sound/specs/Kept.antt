@@ -1,13 +1,14 @@
 -- What clients are at, and what they have at servers, say the same.
-use Rattle.std.specs.Prelude.{ℕ, Bool, true, false, ◌&&◌, ◌<◌, ◌==◌, ◌≡◌, ◌≤◌, List, [], ◌∷◌, Some, None}
+use Rattle.std.specs.Prelude.{ℕ, Bool, true, false, is_some, not, ◌&&◌, ◌<◌, ◌==◌, ◌≡◌, ◌≤◌, List, [], ◌∷◌, Some, None}
 use Rattle.std.specs.List.{list_any}
 use Rattle.aom_image.specs.Image.{Image}
 use Rattle.aom_clients.specs.declared.client.Client.{Client}
 use Rattle.aom_clients.specs.Nodes.{is_connecting_at, is_leaving, is_open_at}
 use Rattle.aom_clients.specs.Table.{server_of}
+use Rattle.aom_shape.specs.Kinds.{is_object}
 use Rattle.aom_sound.specs.Clients.{client_at, most_of}
 use Rattle.aom_sound.specs.Enlisted.{thing_kind}
-use Rattle.aom_sound.specs.Places.{Asked, Cell, Close_of, Connect_of, Elsewhere, Message_of, Object, Queued, held, named, service_of, requested}
+use Rattle.aom_sound.specs.Places.{Asked, Cell, Close_of, Connect_of, Elsewhere, In_service, Message_of, Object, Queued, held, named, service_of, requested}
 use Rattle.aom_sound.specs.Servers.{has_session, is_from, is_message, is_server, seats_taken}
 use Rattle.aom_sound.specs.State.{Accept_left, Accepted, Accepts, Dispatched, Of_server, Parts, Run, Service_left, Serves, Stage, State, Task, Trapped, Destroy, Closing, Unwind}
 
@@ -44,6 +45,14 @@ abbrev pub QueueFits : List Client → ℕ → List Asked → Type 0
 QueueFits clients n [] = Unit {0}
 QueueFits clients n (e ∷ es) = (EntryFits clients n e × (list_any (asked_again e) es ≡ false)) × QueueFits clients n es
 
+-- a message has a sender, and nothing else has one
+abbrev pub HasSources : List Cell → Type 0
+HasSources cs = (o : Object) → named cs o.name ≡ Some o → is_some (service_of cs o.name).sender ≡ not (is_object o.thing)
+
+-- what is served has one
+abbrev pub ServesSent : List Cell → Type 0
+ServesSent cs = (o : Object) → held cs (Elsewhere In_service) ≡ Some o → is_some (service_of cs o.name).sender ≡ true
+
 pub record ClientsFit (p : Image) (clients : List Client) (cs : List Cell) : Type 0 where
   pub queues : (n : ℕ) → QueueFits clients n (service_of cs n).queue
   pub sessions : (n c : ℕ) → has_session (service_of cs n) c ≡ true → server_of (client_at clients c) ≡ Some n
@@ -55,6 +64,9 @@ pub record ClientsFit (p : Image) (clients : List Client) (cs : List Cell) : Typ
   -- a message in a queue stands at its name, and is of the client that sent it
   pub names : (n m : ℕ) (o : Object) → held cs (Elsewhere (Queued n m)) ≡ Some o → o.name ≡ m
   pub senders : (n c m : ℕ) → list_any (is_message_of c m) (service_of cs n).queue ≡ true → is_from c (service_of cs m).sender ≡ true
+  -- wherever it is, a message has a sender, and what is served is such
+  pub sources : HasSources cs
+  pub served : ServesSent cs
   -- nothing has more sessions, and connects that wait, than its class takes
   pub seats : (o : Object) → named cs o.name ≡ Some o → seats_taken (service_of cs o.name) ≤ most_of (thing_kind p o.thing)
 

@@ -1,10 +1,11 @@
 -- What is kept of clients, by closed states: one where clients and a server say the same, and one for each way in which they do not.
-use Rattle.std.specs.Prelude.{ℕ, pos, true, List, [], ◌∷◌, Some, None}
+use Rattle.std.specs.Prelude.{ℕ, pos, true, List, [], ◌∷◌, Option, Some, None}
 use Rattle.aom_clients.specs.declared.client.Client.{Client}
 use Rattle.aom_clients.specs.declared.client.Client.TheVariants.{Closing, Connecting, Open}
+use Rattle.aom_image.specs.declared.method.Thing.{Thing}
 use Rattle.aom_image.specs.declared.method.Thing.TheVariants.{Message}
 use Rattle.aom_sound.specs.Kept.{ClientsFit, TasksKept}
-use Rattle.aom_sound.specs.Places.{Asked, Cell, Close_of, Connect_of, Elsewhere, Message_of, Queued, Root, unserved}
+use Rattle.aom_sound.specs.Places.{Asked, Cell, Close_of, Connect_of, Elsewhere, In_service, Message_of, Place, Queued, Root, Sender, unserved}
 use Rattle.aom_sound.specs.State.{Accept_left, Accepts, Dispatched, Of_server, Parts, Stage}
 use Rattle.aom_sound.specs.Cases.Building.{a_cell, pair}
 use Rattle.aom_sound.specs.Cases.Moves.{an_image}
@@ -28,10 +29,16 @@ leaving = Closing 5 2 ∷ []
 abbrev pub serves : List Asked → List ℕ → Cell
 serves queue sessions = listed (a_server (record { queue = queue; sessions = sessions; sender = None }))
 
+abbrev pub by_client : ℕ → Option Sender
+by_client client = Some (record { client = client; holds_slot = true; is_told = true })
+
+-- what that client sent: such a thing, in that place
+abbrev pub sent : Thing → Option Sender → Place → Cell
+sent thing sender owner = record (a_cell 7 thing owner) { service = record unserved { sender = sender } }
+
 -- a message of that client, by that name, in the server's queue where the number says
 abbrev pub waits : (name client place : ℕ) → Cell
-waits name client place =
-    record (a_cell name Message (Elsewhere (Queued 5 place))) { service = record unserved { sender = Some (record { client = client; holds_slot = true; is_told = true }) } }
+waits name client place = record (a_cell name Message (Elsewhere (Queued 5 place))) { service = record unserved { sender = by_client client } }
 
 -- that stage of the server's dispatch is at hand for client 0
 abbrev pub Serving : List Client → Cell → Stage → Type 0
@@ -61,6 +68,11 @@ pub record KeptBites : Type 0 where
   -- a message stands at its name, and is of the client that sent it
   pub misplaced : Fit opened (serves (Message_of 0 7 ∷ []) (0 ∷ []) ∷ waits 7 0 8 ∷ []) → ⊥
   pub sent_by_another : Fit opened (serves (Message_of 0 7 ∷ []) (0 ∷ []) ∷ waits 7 1 7 ∷ []) → ⊥
+  -- a message has a sender, be it served or not, and nothing else has one; what is served has one
+  pub serves_sent : Fit [] (sent Message (by_client 0) (Elsewhere In_service) ∷ [])
+  pub unsent : Fit [] (sent Message None (Elsewhere Root) ∷ []) → ⊥
+  pub sent_no_message : Fit [] (sent pair (by_client 0) (Elsewhere Root) ∷ []) → ⊥
+  pub serves_no_message : Fit [] (sent pair None (Elsewhere In_service) ∷ []) → ⊥
   -- sessions and connects that wait are no more than the server takes
   pub too_many : Fit (Open 5 2 4 ∷ Connecting 5 4 ∷ []) (serves (Connect_of 1 ∷ []) (0 ∷ []) ∷ a_session ∷ []) → ⊥
   -- the client whose connect or close is served is at it, and asks for it no more
