@@ -34,7 +34,7 @@ use Rattle.aom_parts.specs.Serving.{message_name}
 use Rattle.aom_parts.proofs.Asking.{requests_moved}
 use Rattle.aom_parts.proofs.CellFields.{served_written}
 use Rattle.aom_parts.proofs.Cells.{cells_moved}
-use Rattle.aom_parts.proofs.Replying.{cells_completed, completion_told, message_kept, natives_completed, place_below, place_of, requests_completed, services_completed, was_taken}
+use Rattle.aom_parts.proofs.Replying.{cells_completed, completion_told, message_kept, message_sent, natives_completed, place_below, place_of, requests_completed, services_completed, was_taken}
 use Rattle.aom_parts.proofs.Services.{services_moved}
 use Rattle.aom_parts.proofs.Sessions.{natives_moved}
 use Rattle.aom_parts.proofs.Telling.{completed_lines, message_told}
@@ -113,7 +113,7 @@ module _ (m : Parts) where
         entries = h.agrees.entries;
         requests = requests_completed p h.typing s h.typed g x.object x.there x.message place name m.active h.agrees.requests;
         natives = natives_completed p h.typing s h.typed g x.object x.there x.message place name m.sessions h.formed.header.cells h.agrees.natives;
-        services = services_completed p h.typing s h.typed g x.object x.there x.message place name h.wired h.kept refl m.clients m.messages m.listed h.agrees.services store gone fewer;
+        services = services_completed p h.typing s h.typed g x.object x.there x.message place name h.wired h.kept refl (message_sent p h.typing s h.typed g x.object x.there x.message h.kept.fit.sources) m.clients m.messages m.listed h.agrees.services store gone fewer;
         rest = h.agrees.rest;
         room = h.agrees.entry_room;
       })
@@ -127,7 +127,7 @@ module _ (m : Parts) where
       let x = in_register p m h a b c met in
       let g = Register (length h.below) a in
       let name : x.object.name ≡ message_name place = x.number ∙ sym named in
-      let taken = was_taken p h.typing s h.typed g x.object x.there x.message place name h.wired h.kept refl m.clients m.messages m.listed h.agrees.services in
+      let taken = was_taken p h.typing s h.typed g x.object x.there x.message place name h.wired h.kept refl (message_sent p h.typing s h.typed g x.object x.there x.message h.kept.fit.sources) m.clients m.messages m.listed h.agrees.services in
       ap (λ l. record told { lines = told.lines ++ l })
       (lines_so (completion (place_at m.clients place)) code ∙ sym (message_told m.clients s.cells s.clients h.agrees.services.clients x.object place code name taken) ∙ ap (λ o. message_line s.cells o code) (sym x.there) ∙ ap (message_line s.cells (held s.cells g)) (read ∙ word_read p m h b met.1.1.1.0))
     where
@@ -162,10 +162,11 @@ module _ (p : Image) (m : Parts) where
       let x = in_register p (counting next.counts m) h a b n.0 n.1 in
       let g = Register (length h.below) a in
       let place = place_of p h.typing h.state h.typed g x.object x.there x.message m.messages h.agrees.services.messages in
+      let sent = message_sent p h.typing h.state h.typed g x.object x.there x.message h.kept.fit.sources in
       record {
         place = place.0;
         number = sym place.1 ∙ x.number;
-        below = place_below p h.typing h.state h.typed g x.object x.there x.message place.0 place.1 h.wired h.kept refl m.clients m.messages m.listed h.agrees.services;
-        kept = message_kept p h.typing h.state h.typed g x.object x.there x.message place.0 place.1 h.wired h.kept refl m.clients m.messages m.listed h.agrees.services;
-        taken = completion_told p h.typing h.state h.typed g x.object x.there x.message place.0 place.1 h.wired h.kept refl m.clients m.messages m.listed h.agrees.services;
+        below = place_below p h.typing h.state h.typed g x.object x.there x.message place.0 place.1 h.wired h.kept refl sent m.clients m.messages m.listed h.agrees.services;
+        kept = message_kept p h.typing h.state h.typed g x.object x.there x.message place.0 place.1 h.wired h.kept refl sent m.clients m.messages m.listed h.agrees.services;
+        taken = completion_told p h.typing h.state h.typed g x.object x.there x.message place.0 place.1 h.wired h.kept refl sent m.clients m.messages m.listed h.agrees.services;
       }

@@ -37,6 +37,7 @@ use Rattle.aom_sound.specs.State.{Accept_left, Accepted, Accepts, Dispatched, Go
 use Rattle.aom_sound.specs.State as checked
 use Rattle.aom_sound.specs.WellTyped.{Fits, Good, WellTyped}
 use Rattle.aom_sound.specs.Claims.{claim, declared}
+use Rattle.aom_sound.proofs.Sources.{has_sender}
 use Rattle.aom_shape.specs.declared.kind.Kind.TheVariants.{Null}
 use Rattle.aom_parts.proofs.Asking.{requests_kept}
 use Rattle.aom_parts.proofs.Beside.{beside_served, cells_beside, listed_beside, natives_beside}
@@ -226,6 +227,10 @@ module _ (p : Image) (formed : WellFormed p) (m : Parts) (announced : m.rest.ann
     number_is : m.served ≡ its.object.name
     number_is = agrees.values q ∙ ap number its.there
 
+    -- what is served has a sender
+    sent : has_sender s.cells its.object.name ≡ true
+    sent = fits.fit.served its.object its.there
+
     module _ (mid : Parts) (now before : Turn) (does : Completes m.served code (record m { served = null }) mid before now) where
       name : its.object.name ≡ message_name does.place
       name = sym number_is ∙ sym does.number
@@ -238,7 +243,7 @@ module _ (p : Image) (formed : WellFormed p) (m : Parts) (announced : m.rest.ann
         cells = cells_completed p t s typed q its.object its.there its.message does.place name m.cells agrees.cells;
         requests = requests_completed p t s typed q its.object its.there its.message does.place name m.active agrees.requests;
         natives = natives_completed p t s typed q its.object its.there its.message does.place name m.sessions formed.header.cells agrees.natives;
-        services = services_completed p t s typed q its.object its.there its.message does.place name wired fits refl m.clients m.messages m.listed agrees.services mid.messages does.released does.count;
+        services = services_completed p t s typed q its.object its.there its.message does.place name wired fits refl sent m.clients m.messages m.listed agrees.services mid.messages does.released does.count;
         values = writes _ _ _ _ (held s.cells) _ q null None None (base stage e) refl
             (λ r. served_written (Ends (Of_one x) ∷ []) m.cells m.entries.items (record (others m) { clients = k }) null r ∙ ap (λ n. changed (λ i. n) q null r) (same_values r))
             (stays (word_at (Dispatched (Of_object (seat_of e.place x)) ∷ [])) q)
@@ -252,7 +257,7 @@ module _ (p : Image) (formed : WellFormed p) (m : Parts) (announced : m.rest.ann
       told =
           same_lines (completion (kept.place_at m.clients does.place))
           ∙ sym (ap (λ o. message_line s.cells o code) its.there ∙ message_told m.clients s.cells s.clients agrees.services.clients its.object does.place code name
-          (was_taken p t s typed q its.object its.there its.message does.place name wired fits refl m.clients m.messages m.listed agrees.services))
+          (was_taken p t s typed q its.object its.there its.message does.place name wired fits refl sent m.clients m.messages m.listed agrees.services))
         where
           same_lines : (o : Option Completion) → completion_lines o code ≡ completed_lines code o
           same_lines None = refl
@@ -264,9 +269,9 @@ module _ (p : Image) (formed : WellFormed p) (m : Parts) (announced : m.rest.ann
         record {
           place = at.0;
           number = sym (number_is ∙ at.1);
-          below = place_below p t s typed q its.object its.there its.message at.0 at.1 wired fits refl m.clients m.messages m.listed agrees.services;
-          kept = message_kept p t s typed q its.object its.there its.message at.0 at.1 wired fits refl m.clients m.messages m.listed agrees.services;
-          taken = completion_told p t s typed q its.object its.there its.message at.0 at.1 wired fits refl m.clients m.messages m.listed agrees.services;
+          below = place_below p t s typed q its.object its.there its.message at.0 at.1 wired fits refl sent m.clients m.messages m.listed agrees.services;
+          kept = message_kept p t s typed q its.object its.there its.message at.0 at.1 wired fits refl sent m.clients m.messages m.listed agrees.services;
+          taken = completion_told p t s typed q its.object its.there its.message at.0 at.1 wired fits refl sent m.clients m.messages m.listed agrees.services;
         }
 
   -- ---- each stage

@@ -18,14 +18,17 @@ use Rattle.aom_clients.specs.declared.place.Place.TheVariants.{Discarded, Free, 
 use Rattle.aom_shape.specs.Kinds.{is_object}
 use Rattle.aom_transcript.specs.Text.{ended}
 use Rattle.aom_sound.proofs.Maps.{held_lives}
-use Rattle.aom_sound.specs.Places.{Cell, Elsewhere, Field, Object, Place, Register, Sender, Session, held, named, service_of}
+use Rattle.aom_sound.specs.Places.{Cell, Elsewhere, Field, Object, Place, Register, Sender, Session, held, named, service_of, Service}
 use Rattle.aom_sound.specs.State.{State}
+use Rattle.aom_sound.proofs.Services.{service_unnamed}
+use Rattle.aom_sound.proofs.Sources.{has_sender}
 use Rattle.aom_parts.specs.declared.parts.Parts.{Parts}
 use Rattle.aom_parts.specs.Agrees.{number}
 use Rattle.aom_parts.specs.Messages.{is_a_message}
 use Rattle.aom_parts.specs.Places.{session_with}
 use Rattle.aom_parts.specs.Serving.{SameClients, holds, is_taken, message_name, sent_by}
 use Rattle.aom_parts.specs.Stands.{Machine, StandsFor}
+use Rattle.aom_parts.proofs.Serving.{taken_sent}
 use Rattle.aom_run.specs.Runs.{after}
 use Rattle.aom_acts.proofs.Finding.{object_lives}
 use Rattle.aom_acts.proofs.Running.{null_unnamed}
@@ -73,7 +76,7 @@ message_sent p m s st o lives message unsent = low (nat_lt o.name 4096) refl uns
     same = st.agrees.services.clients
 
     taken : (j : ℕ) → o.name ≡ message_name j → is_taken (place_at m.clients j) ≡ true
-    taken j name = same.taken j ∙ ap is_some (ap (named s.cells) (sym name) ∙ lives)
+    taken j name = taken_sent m.clients s.cells s.clients same j ∙ ap (has_sender s.cells) (sym name) ∙ st.kept.fit.sources o lives ∙ ap (λ th. not (is_object th)) message
 
     sends : (x : Message_place) → is_taken x ≡ true → sender_of x ≡ None → ⊥
     sends Free some none = false≢true some
@@ -165,12 +168,6 @@ module _ (p : Image) (m : Parts) where
       low true less is = absurd (none-some client is)
       low false past is = high (nat_lt n 5120) past is
 
-  place_taken : (x : Message_place) (client : ℕ) → sender_of x ≡ Some client → is_taken x ≡ true
-  place_taken Free client is = absurd (none-some client is)
-  place_taken (Queued d) client is = refl
-  place_taken (Held d) client is = refl
-  place_taken (Discarded d) client is = refl
-
   sent_client : (slot : Bool) (x : Message_place) (client : ℕ) → sender_of x ≡ Some client → (sd : Sender) × (sent_by slot x ≡ Some sd) × (sd.client ≡ client)
   sent_client slot Free client is = absurd (none-some client is)
   sent_client slot (Queued d) client is = (record { client = d; holds_slot = slot; is_told = true }, refl, same_Some d client is)
@@ -184,18 +181,17 @@ module _ (p : Image) (m : Parts) where
       let at = at_place n client is in
       let same = st.agrees.services.clients in
       let sent = sent_client (holds m.clients at.0) (place_at m.clients at.0) client at.2 in
-      let lives : is_some (named s.cells n) ≡ true = ap (λ k. is_some (named s.cells k)) at.1 ∙ sym (same.taken at.0) ∙ place_taken (place_at m.clients at.0) client at.2 in
       let sender : (service_of s.cells n).sender ≡ Some sent.0 = ap (λ k. (service_of s.cells k).sender) at.1 ∙ sym (same.senders at.0) ∙ sent.1 in
-      go lives sent.0 sender sent.2 (held s.cells r) refl (shows.each s st) (sym (class_held p m s st r n (shows.each s st)) ∙ none)
+      go sent.0 sender sent.2 (held s.cells r) refl (shows.each s st) (sym (class_held p m s st r n (shows.each s st)) ∙ none)
     where
       plain : (th : Thing) → class_in th ≡ None → th ≡ Message
       plain (An_object_of c) told = absurd (none-some c (sym told))
       plain Message told = refl
 
-      go : is_some (named s.cells n) ≡ true → (sd : Sender) → (service_of s.cells n).sender ≡ Some sd → sd.client ≡ client → (o : Option Object) → held s.cells r ≡ o → n ≡ number o → class_of o ≡ None →
+      go : (sd : Sender) → (service_of s.cells n).sender ≡ Some sd → sd.client ≡ client → (o : Option Object) → held s.cells r ≡ o → n ≡ number o → class_of o ≡ None →
           (x : Object) × (held s.cells r ≡ Some x) × (x.thing ≡ Message) × (sd : Sender) × ((service_of s.cells x.name).sender ≡ Some sd) × (sd.client ≡ client)
-      go lives sd sender by None is_held same told = absurd (false≢true (sym (ap is_some (ap (named s.cells) same ∙ null_unnamed p m s st.agrees)) ∙ lives))
-      go lives sd sender by (Some o) is_held same told = (o, is_held, plain o.thing told, sd, ap (λ k. (service_of s.cells k).sender) (sym same) ∙ sender, by)
+      go sd sender by None is_held same told = absurd (none-some sd (sym (ap (λ (v : Service). v.sender) (service_unnamed s.cells n (ap (named s.cells) same ∙ null_unnamed p m s st.agrees))) ∙ sender))
+      go sd sender by (Some o) is_held same told = (o, is_held, plain o.thing told, sd, ap (λ k. (service_of s.cells k).sender) (sym same) ∙ sender, by)
 
   tree_message : (n client depth : ℕ) (w : Way) (r : Place) (t : List ℕ) (s : State) → StandsFor M s → Shows M n r → class_at m.cells n ≡ None → sender_at m.clients n ≡ Some client → t ≡ way_text w →
       owners_text (tree s.cells (suc depth) w (held s.cells r)) ≡ ended (t ++ codes " " ++ (codes "msg " ++ decimal client))

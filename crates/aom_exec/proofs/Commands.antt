@@ -1,11 +1,9 @@
 -- A command as the machine does it: its parts in one, from each state that the machine stands for.
-use Rattle.std.proofs.Common.{ap, arith, Bool, cond, false, length, List, None, Option, refl, Some, subst, suc, sym, true, ℕ, ◌++◌, ◌<◌, ◌≤◌, ◌==◌, ◌∙◌, ◌∷◌, ◌≡◌, []}
+use Rattle.std.proofs.Common.{ap, arith, Bool, false, length, List, None, Option, refl, Some, subst, suc, sym, true, ℕ, ◌++◌, ◌<◌, ◌≤◌, ◌==◌, ◌∙◌, ◌∷◌, ◌≡◌, []}
 use Rattle.std.specs.Prelude.{Err, IfSome, Ok, Result, is_some, nat_lt, not, option_map, ◌||◌}
-use Rattle.std.proofs.lemmas.Bool.{eq-eqb, false≢true}
+use Rattle.std.proofs.lemmas.Bool.{eq-eqb}
 use Rattle.std.proofs.lemmas.Option.{none-some, same_Some}
 use Rattle.aom_active.specs.Agrees.{Active}
-use Rattle.aom_cells.specs.Heap.{cell_at}
-use Rattle.aom_cells.specs.declared.cell.Cell.{Cell as Held_cell}
 use Rattle.aom_clients.specs.Clients as kept
 use Rattle.aom_clients.specs.Nodes.{named_by}
 use Rattle.aom_clients.specs.Table.{code_of, row}
@@ -17,13 +15,13 @@ use Rattle.aom_clients.specs.declared.refusal.Refusal.{Refusal}
 use Rattle.aom_image.specs.Image.{Image}
 use Rattle.aom_messages.specs.Store.{Store, message_at}
 use Rattle.aom_roles.specs.Shapes.{kind_of}
-use Rattle.aom_shape.specs.Kinds.{is_object}
 use Rattle.aom_sound.specs.Clients.{Listed, asked_server, client_at, commanded, count_messages, most_of, refusal}
 use Rattle.aom_sound.specs.Lines.{refusal_line}
-use Rattle.aom_sound.specs.Places.{Object, named}
+use Rattle.aom_sound.specs.Places.{named}
 use Rattle.aom_sound.specs.Servers.{is_among, withdrawn}
 use Rattle.aom_sound.specs.State.{State}
 use Rattle.aom_sound.specs.World.{IsBetween}
+use Rattle.aom_sound.proofs.Services.{service_unnamed}
 use Rattle.aom_transcript.specs.declared.event.Command.{Command}
 use Rattle.aom_transcript.specs.declared.event.Command.TheVariants.{Close, Connect, Die, Send}
 use Rattle.aom_transcript.specs.declared.line.Line.{Line}
@@ -34,14 +32,14 @@ use Rattle.aom_parts.proofs.Leaving.{freed_kept, freed_once, messages_withdrawn}
 use Rattle.aom_parts.proofs.Listing.{first_asked}
 use Rattle.aom_parts.proofs.Sizing.{sized_close, sized_connect, sized_die, sized_send}
 use Rattle.aom_parts.proofs.Elsewhere.{SessionsSame}
-use Rattle.aom_parts.specs.Agrees.{thing_in, thing_of}
-use Rattle.aom_parts.specs.Messages.{SameMessages, is_a_message}
+use Rattle.aom_parts.specs.Messages.{SameMessages}
 use Rattle.aom_parts.specs.Serving.{AreSized, Once, SameClients, is_taken, message_name, sessionless}
 use Rattle.aom_parts.specs.Stands.{Machine, StandsFor}
 use Rattle.aom_parts.specs.declared.parts.Parts.{Parts}
+use Rattle.aom_parts.proofs.Serving.{taken_sent}
 use Rattle.aom_exec.proofs.Commanded.{Untouched, sessions_close, sessions_connect, sessions_die, sessions_send}
 use Rattle.aom_exec.proofs.Obeyed.{obeyed_stands, servers_below, typed_now, v}
-use Rattle.aom_exec.proofs.Obeying.{messages_close, messages_connect, messages_die, messages_send, sent_free, sent_name}
+use Rattle.aom_exec.proofs.Obeying.{messages_close, messages_connect, messages_die, messages_send, sent_free, sent_name, free_name}
 use Rattle.aom_exec.specs.Servers.{NotesIf}
 use Rattle.aom_exec.specs.Clients.{Acts, AreKept, CanAct, Forgets, IsInRange, Obeyed, asked_by, first_server, queue_changed}
 
@@ -88,26 +86,14 @@ module _ (p : Image) (m : Parts) (s : State) (st : StandsFor (record { image = p
 
   -- ---- what an act needs
 
+  nothing_named : (k : ℕ) → message_at m.messages k ≡ None → named s.cells (message_name k) ≡ None
+  nothing_named = free_name p m.cells m.messages s.cells st.agrees.cells st.sound.formed.header.cells st.agrees.services.messages
+
   no_message : (k : ℕ) → message_at m.messages k ≡ None → kept.place_at m.clients k ≡ Free
-  no_message k none = free (kept.place_at m.clients k) (same.taken k ∙ unnamed (named s.cells (message_name k)) refl)
+  no_message k none = free (kept.place_at m.clients k) (taken_sent m.clients s.cells s.clients same k ∙ ap (λ v. is_some v.sender) (service_unnamed s.cells (message_name k) (nothing_named k none)))
     where
       free : (x : Message_place) → is_taken x ≡ false → x ≡ Free
       free x e = grind arith
-
-      -- no cell has such a number
-      no_cell : (o : Object) → thing_in (cell_at m.cells (message_name k)) ≡ thing_of (Some o) → is_object o.thing ≡ true → ⊥
-      no_cell o things object = go (cell_at m.cells (message_name k)) refl (things ∙ ap (λ b. cond b (Some o.thing) None) object)
-        where
-          go : (x : Option Held_cell) → cell_at m.cells (message_name k) ≡ x → thing_in x ≡ Some o.thing → ⊥
-          go x e t = grind arith
-
-      unnamed : (o : Option Object) → named s.cells (message_name k) ≡ o → is_some (named s.cells (message_name k)) ≡ false
-      unnamed None e = ap is_some e
-      unnamed (Some o) e = by (is_object o.thing) refl
-        where
-          by : (b : Bool) → is_object o.thing ≡ b → is_some (named s.cells (message_name k)) ≡ false
-          by true object = absurd (no_cell o (st.agrees.cells.things (message_name k) ∙ ap thing_of e) object)
-          by false message = absurd (false≢true (sym (ap is_some none) ∙ st.agrees.services.messages.there k ∙ ap is_a_message e ∙ ap not message))
 
   -- ---- what an act needs
 
@@ -135,11 +121,11 @@ module _ (p : Image) (m : Parts) (s : State) (st : StandsFor (record { image = p
 
     -- by what is made of clients and messages
     by_parts :
-        (command : Command) (place : Option ℕ) → IfSome place (λ n. kept.place_at m.clients n ≡ Free) → result ≡ kept.answer (refusal p c s command) → (then : kept.State) → k ≡ then →
+        (command : Command) (place : Option ℕ) → IfSome place (λ n. (n < 1024) × (message_at m.messages n ≡ None)) → result ≡ kept.answer (refusal p c s command) → (then : kept.State) → k ≡ then →
         SameClients then (commanded p c w command (sent_name place)).cells (commanded p c w command (sent_name place)).clients → AreSized p.header.cells then → SessionsSame m.clients then →
         SameMessages p store (commanded p c w command (sent_name place)).cells → (server : Option ℕ) → ((n : ℕ) → (server ≡ Some n → ⊥) → Untouched p c w command n) → NotesIf server k m.active a → Obeyed old s c command told now new
     by_parts command place free answer then is clients sized sessions messages server touched hears =
-        let unused = sent_free m.clients s.cells s.clients same st.agrees.services.sized.places place free in
+        let unused = sent_free p m.cells m.messages s.cells st.agrees.cells st.sound.formed.header.cells st.agrees.services.messages place free in
         let clients_now = subst (λ x. SameClients x (commanded p c w command (sent_name place)).cells (commanded p c w command (sent_name place)).clients) (sym is) clients in
         let sized_now = subst (AreSized p.header.cells) (sym is) sized in
         let sessions_now = subst (SessionsSame m.clients) (sym is) sessions in (
@@ -176,10 +162,10 @@ module _ (p : Image) (m : Parts) (s : State) (st : StandsFor (record { image = p
         (messages_connect p c w m.clients same m.messages store st.agrees.services.messages class slots (sent_name None) acts.2) (queue_changed (first_server p m.listed class) (kept.client_at m.clients c))
         (λ n away x asked name. away (ap (λ y. queue_changed y (kept.client_at m.clients c)) (first_found class) ∙ ap (λ y. queue_changed (found_server (most_of (kind_of p (Some class))) y) (kept.client_at m.clients c)) asked ∙ ap Some name)) hears
     obeys (Send words) acts hears =
-        by_parts (Send words) acts.place (there acts.place acts.free) (acts.told ∙ ap kept.answer alike) (kept.after_send c acts.place m.clients) acts.after_it
+        by_parts (Send words) acts.place acts.free (acts.told ∙ ap kept.answer alike) (kept.after_send c acts.place m.clients) acts.after_it
         (same_send p st.typing st.sound.wired w (typed_now p m s st idle c) st.kept.fit m.clients same p.header.cells st.agrees.services.sized (servers_below p m s st idle c) c one words acts.place found (by_place acts.place acts.free) (sent_name acts.place) (called acts.place))
         (sized_send p.header.cells m.clients st.agrees.services.sized c acts.place) (sessions_send m.clients c acts.place)
-        (messages_send p c w m.clients same m.messages store st.agrees.services.messages words acts.place alike acts.kept) (queue_changed None (kept.client_at m.clients c)) away_named hears
+        (messages_send p c w m.clients same m.messages store st.agrees.services.messages words acts.place acts.free alike acts.kept) (queue_changed None (kept.client_at m.clients c)) away_named hears
       where
         found : is_some acts.place ≡ nat_lt (count_messages s.cells) p.header.messages
         found = acts.found ∙ ap (λ n. nat_lt n m.messages.limit) st.agrees.services.messages.count ∙ ap (λ n. nat_lt (count_messages s.cells) n) st.agrees.services.messages.limit
@@ -187,13 +173,9 @@ module _ (p : Image) (m : Parts) (s : State) (st : StandsFor (record { image = p
         alike : kept.send_refusal c acts.place m.clients ≡ refusal p c s (Send words)
         alike = send_refused p c s m.clients same words acts.place found
 
-        there : (place : Option ℕ) → IfSome place (λ n. (n < 1024) × (message_at m.messages n ≡ None)) → IfSome place (λ n. kept.place_at m.clients n ≡ Free)
-        there None free = tt
-        there (Some n) free = no_message n free.1
-
-        by_place : (place : Option ℕ) → IfSome place (λ n. (n < 1024) × (message_at m.messages n ≡ None)) → (n : ℕ) → place ≡ Some n → (n < 1024) × (kept.place_at m.clients n ≡ Free)
+        by_place : (place : Option ℕ) → IfSome place (λ n. (n < 1024) × (message_at m.messages n ≡ None)) → (n : ℕ) → place ≡ Some n → (n < 1024) × (named s.cells (message_name n) ≡ None)
         by_place None free n e = absurd (none-some n e)
-        by_place (Some k) free n e = subst (λ i. (i < 1024) × (kept.place_at m.clients i ≡ Free)) (same_Some k n e) (free.0, no_message k free.1)
+        by_place (Some k) free n e = subst (λ i. (i < 1024) × (named s.cells (message_name i) ≡ None)) (same_Some k n e) (free.0, nothing_named k free.1)
 
         called : (place : Option ℕ) (n : ℕ) → place ≡ Some n → sent_name place ≡ message_name n
         called None n e = absurd (none-some n e)

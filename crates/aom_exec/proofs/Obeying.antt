@@ -1,28 +1,31 @@
 -- A command of a client: what clients are at, the messages that are kept and the schedule stand for what the checked machine comes to.
-use Rattle.std.proofs.Common.{ap, arith, Bool, false, length, List, None, Option, pos, refl, Some, subst, suc, sym, zero, ℕ, ℤ, ◌∙◌, ◌∷◌, ◌≡◌, slice_index_or, []}
+use Rattle.std.proofs.Common.{ap, arith, Bool, false, length, List, None, Option, pos, refl, Some, subst, suc, sym, zero, ℕ, ℤ, ◌∙◌, ◌∷◌, ◌≡◌, slice_index_or, [], ◌<◌, ◌≤◌}
 use Rattle.std.specs.Prelude.{IfSome, is_some, option_map}
-use Rattle.std.proofs.Math.ListN.{get_or-eq_default}
 use Rattle.std.proofs.lemmas.Bool.{false≢true}
 use Rattle.aom_clients.specs.Clients as kept
 use Rattle.aom_clients.specs.Table.{row}
 use Rattle.aom_clients.specs.declared.client.Client.{Client}
 use Rattle.aom_clients.specs.declared.client.Client.TheVariants.{Open, Unconnected}
-use Rattle.aom_clients.specs.declared.place.Place.TheVariants.{Free}
 use Rattle.aom_clients.specs.declared.refusal.Refusal.{Refusal}
 use Rattle.aom_image.specs.Image.{Image}
-use Rattle.aom_messages.specs.Store.{Store, word_of}
+use Rattle.aom_messages.specs.Store.{Store, word_of, message_at}
 use Rattle.aom_shape.specs.Tables.{at}
 use Rattle.aom_sound.specs.Clients.{asked_server, client_at, commanded, leaving, refusal, room, sending}
-use Rattle.aom_sound.specs.Places.{Cell, Message_of, Object, named}
+use Rattle.aom_sound.specs.Places.{Cell, Message_of, named}
 use Rattle.aom_sound.specs.Servers.{asked_last, reserved, withdrawn}
 use Rattle.aom_sound.specs.State.{State}
 use Rattle.aom_transcript.specs.declared.event.Command.TheVariants.{Close, Connect, Die, Send}
 use Rattle.aom_parts.proofs.Commanding.{row_close, row_die}
 use Rattle.aom_parts.proofs.Messages.{message_made, messages_served}
 use Rattle.aom_parts.specs.Messages.{SameMessages}
-use Rattle.aom_parts.specs.Serving.{SameClients, is_taken, message_name, sessionless}
+use Rattle.aom_parts.specs.Serving.{SameClients, message_name, sessionless}
+use Rattle.aom_parts.proofs.Cells.{cell_small}
+use Rattle.aom_parts.specs.Agrees.{SameCells, thing_in}
 use Rattle.aom_exec.proofs.ByCommand.{by_connecting, by_told}
 use Rattle.aom_exec.specs.Clients.{Forgets, Keeps_sent, SameKept}
+use Rattle.aom_cells.specs.Heap.{Heap, cell_at}
+use Rattle.aom_cells.specs.declared.cell.Cell.{Cell as Held_cell}
+use Rattle.aom_acts.proofs.Running.{no_thing}
 
 -- ---- the name of what is sent
 
@@ -31,18 +34,19 @@ abbrev pub sent_name : Option ℕ → ℕ
 sent_name None = message_name 1024
 sent_name (Some m) = message_name m
 
--- which is free where the place is
-module _ (k : kept.State) (cs : List Cell) (clients : List Client) (same : SameClients k cs clients) (places : length k.places ≡ 1024) where
-  free_name : (m : ℕ) → kept.place_at k m ≡ Free → named cs (message_name m) ≡ None
-  free_name m free = go (named cs (message_name m)) (ap is_taken (sym free) ∙ same.taken m)
+-- which is free where nothing is kept
+module _ (p : Image) (h : Heap) (store : Store) (cs : List Cell) (cells : SameCells p h cs) (few : p.header.cells ≤ 4096) (messages : SameMessages p store cs) where
+  pub free_name : (m : ℕ) → message_at store m ≡ None → named cs (message_name m) ≡ None
+  free_name m none = no_thing (named cs (message_name m)) (sym (cells.things (message_name m)) ∙ no_cell (cell_at h (message_name m)) refl) (sym (messages.there m) ∙ ap is_some none)
     where
-      go : (o : Option Object) → false ≡ is_some o → o ≡ None
-      go None e = refl
-      go (Some o) e = absurd (false≢true e)
+      -- no cell has such a number
+      no_cell : (x : Option Held_cell) → cell_at h (message_name m) ≡ x → thing_in x ≡ None
+      no_cell None e = refl
+      no_cell (Some c) e = let small = cell_small p h cs cells few (message_name m) c e in absurd (omega (arith, small))
 
-  pub sent_free : (place : Option ℕ) → IfSome place (λ m. kept.place_at k m ≡ Free) → named cs (sent_name place) ≡ None
-  sent_free None free = free_name 1024 (get_or-eq_default k.places Free (omega (arith, places)))
-  sent_free (Some m) free = free_name m free
+  pub sent_free : (place : Option ℕ) → IfSome place (λ m. (m < 1024) × (message_at store m ≡ None)) → named cs (sent_name place) ≡ None
+  sent_free None free = free_name 1024 (messages.within 1024 (omega arith))
+  sent_free (Some m) free = free_name m free.1
 
 -- ---- the messages
 
@@ -56,6 +60,7 @@ at_read (x ∷ xs) (suc w) = at_read xs w
 still_kept : (p : Image) (before after : Store) (cs : List Cell) → SameKept before after → SameMessages p before cs → SameMessages p after cs
 still_kept p before after cs k same = record {
   there = λ m. ap is_some (k.all m) ∙ same.there m;
+  within = λ m high. k.all m ∙ same.within m high;
   past = same.past;
   words = λ m w. ap (λ ws. word_of ws w) (k.all m) ∙ same.words m w;
   count = k.count ∙ same.count;
@@ -79,24 +84,24 @@ module _ (p : Image) (c : ℕ) (v : State) (k : kept.State) (same : SameClients 
       (by_connecting p c v (λ t. SameMessages p before t.cells) messages (refusal p c v (Connect class slots)) (asked_server p class v.cells) slots (λ x is. messages_served p before v.cells x.name _ messages))
 
   -- what is sent is kept, where it is not refused
-  pub messages_send : (words : List ℤ) (place : Option ℕ) → kept.send_refusal c place k ≡ refusal p c v (Send words) → Keeps_sent (kept.send_refusal c place k) place words before after → SameMessages p after (commanded p c v (Send words) (sent_name place)).cells
-  messages_send words place alike is_kept = go (refusal p c v (Send words)) refl place refl (subst (λ r. Keeps_sent r place words before after) alike is_kept)
+  pub messages_send : (words : List ℤ) (place : Option ℕ) → IfSome place (λ m. (m < 1024) × (message_at before m ≡ None)) → kept.send_refusal c place k ≡ refusal p c v (Send words) → Keeps_sent (kept.send_refusal c place k) place words before after → SameMessages p after (commanded p c v (Send words) (sent_name place)).cells
+  messages_send words place free alike is_kept = go (refusal p c v (Send words)) refl place refl free (subst (λ r. Keeps_sent r place words before after) alike is_kept)
     where
       -- it needs a place
       no_place : (r : Option Refusal) (b : Bool) → kept.sending_to r b None ≡ None → ⊥
       no_place r b e = grind arith
 
-      went_in : (m : ℕ) → Keeps_sent None (Some m) words before after → refusal p c v (Send words) ≡ None → SameMessages p after (sending p c v None (client_at v.clients c) (message_name m) words).cells
-      went_in m is_kept e =
+      went_in : (m : ℕ) → m < 1024 → Keeps_sent None (Some m) words before after → refusal p c v (Send words) ≡ None → SameMessages p after (sending p c v None (client_at v.clients c) (message_name m) words).cells
+      went_in m low is_kept e =
           let o = only_open (client_at v.clients c) (unrefused p c v (row (client_at v.clients c)).send e) in
           let from = messages_served p before v.cells o.0 _ messages in
           subst (λ x. SameMessages p after (sending p c v None x (message_name m) words).cells) (sym o.3)
-          (message_made p before after (reserved (asked_last (Message_of c (message_name m))) o.0 v.cells) _ m from refl (λ w. at_read words w) is_kept.0 is_kept.1)
+          (message_made p before after (reserved (asked_last (Message_of c (message_name m))) o.0 v.cells) _ m from refl (λ w. at_read words w) low is_kept.0 is_kept.1)
 
-      go : (r : Option Refusal) → refusal p c v (Send words) ≡ r → (y : Option ℕ) → place ≡ y → Keeps_sent r y words before after → SameMessages p after (sending p c v r (client_at v.clients c) (sent_name y) words).cells
-      go (Some r) e y f is_kept = still_kept p before after v.cells is_kept messages
-      go None e (Some m) f is_kept = went_in m is_kept e
-      go None e None f is_kept = absurd (no_place (row (kept.client_at k c)).send (kept.has_slot (length (kept.sent_at k c)) (kept.client_at k c)) (sym (ap (λ y. kept.send_refusal c y k) f) ∙ alike ∙ e))
+      go : (r : Option Refusal) → refusal p c v (Send words) ≡ r → (y : Option ℕ) → place ≡ y → IfSome y (λ m. (m < 1024) × (message_at before m ≡ None)) → Keeps_sent r y words before after → SameMessages p after (sending p c v r (client_at v.clients c) (sent_name y) words).cells
+      go (Some r) e y f free is_kept = still_kept p before after v.cells is_kept messages
+      go None e (Some m) f free is_kept = went_in m free.0 is_kept e
+      go None e None f free is_kept = absurd (no_place (row (kept.client_at k c)).send (kept.has_slot (length (kept.sent_at k c)) (kept.client_at k c)) (sym (ap (λ y. kept.send_refusal c y k) f) ∙ alike ∙ e))
 
   -- what a client leaves is kept no more
   module _ (withdraws : Forgets (kept.freed (Some Unconnected) c k) before after → SameMessages p after (withdrawn c v.cells)) where

@@ -16,7 +16,7 @@ use Rattle.aom_sound.specs.Servers.{is_among}
 use Rattle.aom_parts.specs.Listing.{SameListed, order_in}
 use Rattle.aom_parts.specs.Messages.{SameMessages}
 use Rattle.aom_parts.specs.Services.{SameServices}
-use Rattle.aom_parts.specs.Serving.{AreSized, Once, SameClients, asked_by, holds, is_taken, sent_by, sessionless}
+use Rattle.aom_parts.specs.Serving.{AreSized, Once, SameClients, asked_by, holds, sent_by, sessionless}
 use Rattle.aom_parts.proofs.CellWords.{all_same}
 
 -- each client is unconnected, and nothing waits anywhere
@@ -61,7 +61,6 @@ clients_begin cells =
       queues = λ n. ap (map (asked_by s.places)) (first_queue cells n);
       sessions = λ n. first_sessions cells n;
       senders = λ m. ap (sent_by (holds s m)) (first_place cells m);
-      taken = λ m. ap is_taken (first_place cells m);
       waits = λ m. ap is_queued (first_place cells m);
       slots_of = λ c m. ap (is_among m) (first_sent cells c);
       slotted = λ m c e. absurd (let clash = sym (first_place cells m) ∙ e in cc);
@@ -72,7 +71,7 @@ clients_begin cells =
     }
 
 messages_begin : (p : Image) → SameMessages p (record { slots = []; limit = p.header.messages }) []
-messages_begin p = record { there = λ m. refl; past = λ n small. refl; words = λ m w. refl; count = refl; limit = refl }
+messages_begin p = record { there = λ m. refl; within = λ m high. refl; past = λ n small. refl; words = λ m w. refl; count = refl; limit = refl }
 
 listed_begin : (p : Image) → SameListed p (no_list p.header.cells 256) []
 listed_begin p = record {

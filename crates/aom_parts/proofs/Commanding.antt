@@ -10,7 +10,6 @@ use Rattle.aom_clients.specs.declared.client.Client.TheVariants.{Closing, Connec
 use Rattle.aom_clients.specs.declared.entry.Entry.{Entry}
 use Rattle.aom_clients.specs.declared.entry.Entry.TheVariants as entry
 use Rattle.aom_clients.specs.declared.place.Place.{Place}
-use Rattle.aom_clients.specs.declared.place.Place.TheVariants.{Free}
 use Rattle.aom_clients.specs.declared.refusal.Refusal.{Refusal}
 use Rattle.aom_clients.specs.declared.refusal.Refusal.TheVariants.{ServerBusy}
 use Rattle.aom_clients.specs.declared.server.Server.{Server}
@@ -34,7 +33,7 @@ use Rattle.aom_transcript.specs.declared.event.Command.TheVariants.{Close, Conne
 use Rattle.aom_parts.proofs.Premises.{free_nowhere, messages_wait, queue_empty}
 use Rattle.aom_parts.proofs.Serving.{same_connecting, same_sent}
 use Rattle.aom_parts.proofs.Withdrawing.{queue_owner, same_left}
-use Rattle.aom_parts.specs.Serving.{AreSized, SameClients, asked_by, is_taken, message_name, sessionless}
+use Rattle.aom_parts.specs.Serving.{AreSized, SameClients, asked_by, message_name, sessionless}
 
 -- ---- what a client may do does not depend on the cell of its session
 
@@ -138,7 +137,7 @@ module _
   server_open : (n session slots : ℕ) → kept.client_at k c ≡ Open n session slots → (o : Object) × (o.name ≡ n) × (named s.cells o.name ≡ Some o) × (is_server p o.thing ≡ true)
   server_open n session slots at = server_there p c s w.good.tidy fit n (fit.listed n c (ap server_of (sym (same.at c) ∙ ap sessionless at)))
 
-  pub same_send : (words : List ℤ) (place : Option ℕ) → is_some place ≡ nat_lt (count_messages s.cells) p.header.messages → ((m : ℕ) → place ≡ Some m → (m < 1024) × (kept.place_at k m ≡ Free)) →
+  pub same_send : (words : List ℤ) (place : Option ℕ) → is_some place ≡ nat_lt (count_messages s.cells) p.header.messages → ((m : ℕ) → place ≡ Some m → (m < 1024) × (named s.cells (message_name m) ≡ None)) →
       (name : ℕ) → ((m : ℕ) → place ≡ Some m → name ≡ message_name m) → After (kept.after_send c place k) (commanded p c s (Send words) name)
   same_send words place found free name called =
       subst (λ r. After (kept.sending r (kept.client_at k c) c place k) (sending p c s (refusal p c s (Send words)) (client_at s.clients c) name words)) (sym (send_refused p c s k same words place found))
@@ -160,13 +159,9 @@ module _
       go None e (Open n session slots) at (Some m) here =
           let o = server_open n session slots at in
           let f = free m here in
-          let unused : named s.cells (message_name m) ≡ None = nothing (named s.cells (message_name m)) (ap is_taken (sym f.1) ∙ same.taken m) in
           subst (λ i. After (kept.sending None (Open n session slots) c (Some m) k) (sending p c s None (Open n 0 slots) i words)) (sym (called m here))
           (subst (λ i. After (kept.sending None (Open i session slots) c (Some m) k) (sending p c s None (Open i 0 slots) (message_name m) words)) o.1
-          (same_sent k s.cells s.clients same w.good.tidy o.0 o.2 c client m words (subst (λ i. o.0.name < i) (sym sized.queues) (below o.0 o.2 o.3)) (subst (λ i. m < i) (sym sized.places) f.0) unused (free_nowhere p t wired s w s.clients fit (message_name m) unused)))
-        where
-          nothing : (x : Option Object) → false ≡ is_some x → x ≡ None
-          nothing x e = grind arith
+          (same_sent k s.cells s.clients same w.good.tidy o.0 o.2 c client m words (subst (λ i. o.0.name < i) (sym sized.queues) (below o.0 o.2 o.3)) (subst (λ i. m < i) (sym sized.places) f.0) f.1 (free_nowhere p t wired s w s.clients fit (message_name m) f.1)))
       go None e (Open n session slots) at None here = absurd (refused e here)
       go None e Unconnected at y here = same
       go None e (Connecting n slots) at y here = same

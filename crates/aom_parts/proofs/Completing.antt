@@ -1,7 +1,7 @@
 -- A message is completed: its cell goes, its place and its slot are free, and all else goes on standing for what it stood for.
 use Rattle.std.proofs.Common.{Bool, List, None, Option, Some, [], ap, arith, cond, false, length, refl, subst, suc, sym, true, ℕ, ◌+◌, ◌<◌, ◌==◌, ◌∙◌, ◌∷◌, ◌≡◌}
 use Rattle.std.specs.List.{list_any}
-use Rattle.std.specs.Prelude.{filter, is_some, map, not, ◌||◌}
+use Rattle.std.specs.Prelude.{filter, map, not, ◌||◌}
 use Rattle.std.proofs.lemmas.Bool.{eq-eqb, eqb-true, false≢true, ne_eqb}
 use Rattle.std.proofs.lemmas.List.{length-map}
 use Rattle.aom_clients.specs.Clients as kept
@@ -9,14 +9,14 @@ use Rattle.aom_clients.specs.declared.client.Client.{Client}
 use Rattle.aom_clients.specs.declared.place.Place.{Place as Message_place}
 use Rattle.aom_clients.specs.declared.place.Place.TheVariants.{Free, Queued}
 use Rattle.aom_clients.specs.Table.{is_queued, sender}
-use Rattle.aom_sound.proofs.Maps.{front_free, held_lives, named_without, same_place-true, tidy_without, unnamed}
+use Rattle.aom_sound.proofs.Maps.{front_free, held_lives, same_place-true, tidy_without, unnamed}
 use Rattle.aom_sound.proofs.Parting.{among_others, among_parted}
 use Rattle.aom_sound.proofs.Services.{service_unnamed, service_without}
 use Rattle.aom_sound.proofs.Sifted.{cell_name, cell_of, cell_placed, held_cell, object_in, service_cell, service_in}
 use Rattle.aom_sound.specs.Places.{Cell, Object, Place as Owner, Service, Tidy, held, named, same_place, service_of, unserved, without}
 use Rattle.aom_sound.specs.Servers.{holds_slot, is_among, is_message, is_other, slots_taken}
 use Rattle.aom_parts.proofs.Serving.{asked_apart, at_set, map_at, names_apart}
-use Rattle.aom_parts.specs.Serving.{Once, SameClients, asked_by, holds, is_taken, message_name, owner_of, sent_by, waits_in}
+use Rattle.aom_parts.specs.Serving.{Once, SameClients, asked_by, holds, message_name, owner_of, sent_by, waits_in}
 
 -- a message that waits still, where one place was freed
 pub queued_still : (b : Bool) (p : Message_place) (d : ℕ) → cond b Free p ≡ Queued d → (b ≡ false) × (p ≡ Queued d)
@@ -203,13 +203,6 @@ module _ (s : kept.State) (cs : List Cell) (clients : List Client) (same : SameC
       go true e = sym (ap (λ (v : Service). v.sender) (ap (λ k. service_of left (message_name k)) (sym (eqb-true m j e)) ∙ gone))
       go false e = ap (λ b. sent_by b (kept.place_at s j)) (among_then (sender (kept.place_at s j)) j e) ∙ same.senders j ∙ sym (ap (λ (v : Service). v.sender) (apart j e))
 
-  taken_then : (j : ℕ) → is_taken (kept.place_at then j) ≡ is_some (named left (message_name j))
-  taken_then j = ap is_taken (places_at j) ∙ go (m == j) refl
-    where
-      go : (b : Bool) → (m == j) ≡ b → is_taken (cond b Free (kept.place_at s j)) ≡ is_some (named left (message_name j))
-      go true e = sym (ap is_some (ap (λ k. named left k) (ap message_name (sym (eqb-true m j e)) ∙ sym name) ∙ unnamed cs g o tidy there))
-      go false e = same.taken j ∙ ap is_some (sym (named_without cs g o (message_name j) tidy there (ap (λ k. k == message_name j) name ∙ names_apart m j e)))
-
   waits_then : (j : ℕ) → is_queued (kept.place_at then j) ≡ waits_in (owner_of left (message_name j))
   waits_then j = ap is_queued (places_at j) ∙ go (m == j) refl
     where
@@ -249,7 +242,6 @@ module _ (s : kept.State) (cs : List Cell) (clients : List Client) (same : SameC
     queues = queues_then;
     sessions = λ n. same.sessions n ∙ by_gone (λ n v. (service_of cs n).sessions ≡ v.sessions) plain.1 (λ n other. refl) n;
     senders = senders_then;
-    taken = taken_then;
     waits = waits_then;
     slots_of = slots_of_then;
     slotted = slotted_then;

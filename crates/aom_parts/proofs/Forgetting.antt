@@ -1,5 +1,5 @@
 -- Messages that wait are kept no more where their client leaves, or their server goes: by their cells one after another.
-use Rattle.std.proofs.Common.{Bool, List, None, Option, Some, [], ap, arith, cond, false, length, refl, suc, sym, true, ℕ, ℤ, pos, ◌+◌, ◌<◌, ◌==◌, ◌∙◌, ◌∷◌, ◌≡◌}
+use Rattle.std.proofs.Common.{Bool, List, None, Option, Some, [], ap, arith, cond, false, length, refl, suc, sym, true, ℕ, ℤ, pos, ◌+◌, ◌<◌, ◌==◌, ◌≤◌, ◌∙◌, ◌∷◌, ◌≡◌}
 use Rattle.std.specs.Prelude.{is_some, ◌||◌}
 use Rattle.std.proofs.lemmas.Bool.{eq-eqb, eqb-true, false≢true, ne_eqb}
 use Rattle.aom_image.specs.Image.{Image}
@@ -167,12 +167,17 @@ module _ (drops : Cell → Bool) (f : Cell → Service) where
       ((m : ℕ) → is_among m places ≡ false → message_at after m ≡ message_at before m) → after.limit ≡ before.limit → count after + length places ≡ count before → SameMessages p before cs → SameMessages p after (left cs)
   messages_sifted p before after places once cs tidy forgets gone others limit fewer same = record {
     there = λ m. there m (is_among m places) refl;
+    within = λ m high. within m high (is_among m places) refl;
     past = λ n small. ap is_a_message (still n (λ x e. stays_below n small x e)) ∙ same.past n small;
     words = λ m w. words m w (is_among m places) refl;
     count = let cells = count_left places once cs tidy forgets in let was = same.count in omega (arith, cells, was, fewer);
     limit = limit ∙ same.limit;
   }
     where
+      within : (m : ℕ) → 1024 ≤ m → (b : Bool) → is_among m places ≡ b → message_at after m ≡ None
+      within m high true e = gone m e
+      within m high false e = others m e ∙ same.within m high
+
       cell_left : (n : ℕ) → cell_of (left cs) n ≡ left_cell drops f (cell_of cs n)
       cell_left n = cell_of_sifted drops f cs n tidy
 

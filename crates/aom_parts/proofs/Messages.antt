@@ -1,5 +1,5 @@
 -- The messages that are kept, where cells move, change, come and go: by the cells one after another.
-use Rattle.std.proofs.Common.{Bool, List, None, Option, Some, [], ap, arith, cond, false, not, refl, suc, sym, true, ℕ, ℤ, pos, ◌+◌, ◌<◌, ◌==◌, ◌∙◌, ◌∷◌, ◌≡◌}
+use Rattle.std.proofs.Common.{Bool, List, None, Option, Some, [], ap, arith, cond, false, not, refl, suc, sym, true, ℕ, ℤ, pos, ◌+◌, ◌<◌, ◌==◌, ◌≤◌, ◌∙◌, ◌∷◌, ◌≡◌}
 use Rattle.std.specs.Prelude.{is_some}
 use Rattle.std.proofs.lemmas.Bool.{eq-eqb, eqb-true, false≢true, ne_eqb}
 use Rattle.aom_image.specs.Image.{Image}
@@ -104,6 +104,7 @@ module _ (p : Image) (store : Store) where
       → SameMessages p store cs → SameMessages p store ds
   messages_as cs ds names words many h = record {
     there = λ m. h.there m ∙ sym (names (message_name m));
+    within = h.within;
     past = λ n small. names n ∙ h.past n small;
     words = λ m w. h.words m w ∙ sym (words m w);
     count = h.count ∙ sym many;
@@ -161,6 +162,7 @@ pub message_gone : (p : Image) (old new : Store) (cs : List Cell) (g : Place) (o
     → count new + 1 ≡ count old → SameMessages p new (without g cs)
 message_gone p old new cs g o m h tidy holds message name ch less = record {
   there = λ k. by k (m == k) refl;
+  within = λ k high. none_past k high (m == k) refl;
   past = λ n small. ap is_a_message (still n (ap (λ i. i == n) name ∙ ne_eqb (message_name m) n (λ e. absurd (omega (arith, small, e))))) ∙ h.past n small;
   words = λ k w. words k w (m == k) refl;
   count = (let all = many_without cs g tidy ∙ ap (λ x. messages_in x + count_messages (without g cs)) holds in let one = ap {B = ℕ} (λ b. cond b 0 1) message in let c = h.count in omega (arith, all, one, less, c));
@@ -182,6 +184,10 @@ message_gone p old new cs g o m h tidy holds message name ch less = record {
     other : (k : ℕ) → (m == k) ≡ false → message_at new k ≡ message_at old k
     other k e = ch.others k (λ same. false≢true (sym e ∙ eq-eqb m k (sym same)))
 
+    none_past : (k : ℕ) → 1024 ≤ k → (b : Bool) → (m == k) ≡ b → message_at new k ≡ None
+    none_past k high true e = gone k e
+    none_past k high false e = other k e ∙ h.within k high
+
     by : (k : ℕ) (b : Bool) → (m == k) ≡ b → is_some (message_at new k) ≡ is_a_message (named (without g cs) (message_name k))
     by k true e = ap is_some (gone k e) ∙ sym (ap is_a_message (none k e))
     by k false e = ap is_some (other k e) ∙ h.there k ∙ sym (ap is_a_message (still (message_name k) (apart k e)))
@@ -192,9 +198,10 @@ message_gone p old new cs g o m h tidy holds message name ch less = record {
 
 -- a message of these words comes
 pub message_made : (p : Image) (old new : Store) (cs : List Cell) (c : Cell) (m : ℕ) → SameMessages p old cs → c.object ≡ record { name = message_name m; thing = Message } → ((w : ℕ) → word_of (Some c.words) w ≡ at (pos 0) c.words w)
-    → Changes old new m (Some c.words) → count new ≡ count old + 1 → SameMessages p new (c ∷ cs)
-message_made p old new cs c m h is told ch more = record {
+    → m < 1024 → Changes old new m (Some c.words) → count new ≡ count old + 1 → SameMessages p new (c ∷ cs)
+message_made p old new cs c m h is told low ch more = record {
   there = λ k. by k (m == k) refl;
+  within = λ k high. other k (ne_eqb m k (λ same. absurd (omega (arith, same, high, low)))) ∙ h.within k high;
   past = λ n small. ap (λ b. is_a_message (cond b (Some c.object) (named cs n))) (ap (λ i. i == n) its_name ∙ ne_eqb (message_name m) n (λ e. absurd (omega (arith, small, e)))) ∙ h.past n small;
   words = λ k w. words k w (m == k) refl;
   count = more ∙ (let c = h.count in omega (arith, c)) ∙ sym (ap (λ x. cond (is_object x.thing) (count_messages cs) (suc (count_messages cs))) is);

@@ -1,7 +1,7 @@
 -- What a well-typed state whose clients are kept says of queues, of messages and of the clients of stages: by what each place may own, and by what fits.
 use Rattle.std.proofs.Common.{Bool, List, None, Option, Some, [], ap, arith, false, inl, inr, refl, slice_index_or, subst, sym, true, ℕ, ◌&&◌, ◌<◌, ◌==◌, ◌≤◌, ◌∙◌, ◌∷◌, ◌≡◌, ◌⊎◌}
 use Rattle.std.specs.List.{list_any}
-use Rattle.std.specs.Prelude.{IsSome, is_some, ◌||◌}
+use Rattle.std.specs.Prelude.{IsSome, ◌||◌}
 use Rattle.std.proofs.lemmas.Bool.{cases_lt, eq-eqb, eqb-true, false≢true}
 use Rattle.std.proofs.lemmas.List.{get_or_past}
 use Rattle.aom_clients.specs.Clients as kept
@@ -19,10 +19,11 @@ use Rattle.aom_sound.proofs.ClientsCommand.{nobody, none_named}
 use Rattle.aom_sound.proofs.ClientsFacts.{queued_well, waiting_well}
 use Rattle.aom_sound.proofs.ClientsFit.{leaving_only}
 use Rattle.aom_sound.proofs.ClientsGone.{open_server}
-use Rattle.aom_sound.proofs.Maps.{held_lives, one_place, same_place-true}
+use Rattle.aom_sound.proofs.Maps.{one_place, same_place-true}
 use Rattle.aom_sound.proofs.Owners.{IsQueuedAt, fits_thing, queued_thing_of}
 use Rattle.aom_sound.proofs.Queues.{none_passes}
 use Rattle.aom_sound.proofs.Sifted.{a_cell_of, cell_in, cell_lives, cell_name, cell_of, cell_owner, cell_placed, held_cell, named_cell, object_in, service_cell, service_in}
+use Rattle.aom_sound.proofs.Sources.{has_sender}
 use Rattle.aom_sound.specs.Claims.{claim, declared}
 use Rattle.aom_sound.specs.Clients.{client_at}
 use Rattle.aom_sound.specs.Kept.{ClientsFit, EntryFits, QueueFits, is_close_of, is_connect_of, is_message_of}
@@ -32,6 +33,7 @@ use Rattle.aom_sound.specs.Servers.{has_message, holds_slot, is_among, is_from, 
 use Rattle.aom_sound.specs.State.{State}
 use Rattle.aom_sound.specs.WellTyped.{Fits, WellTyped}
 use Rattle.aom_parts.proofs.Departing.{is_at}
+use Rattle.aom_parts.proofs.Serving.{taken_sent}
 use Rattle.aom_parts.proofs.Vanishing.{asks_message}
 use Rattle.aom_parts.proofs.Withdrawing.{AllWait, owner_cell, owner_in, queue_owner}
 use Rattle.aom_parts.specs.Serving.{SameClients, holds, is_taken, message_name, owner_of, sent_by, sessionless, waits_in}
@@ -230,9 +232,9 @@ module _ (p : Image) (t : Typing) (wired : IsWired p) (s : State) (w : WellTyped
         go None e h = absurd (false≢true (ap waits_in (sym e) ∙ h))
         go (Some q) e h = queue q e (ap waits_in (sym e) ∙ h)
 
-    -- a message that is owned elsewhere was taken, and is completed once
-    pub completes_at : (g : Owner) (o : Object) (m : ℕ) → held s.cells g ≡ Some o → is_queue g ≡ false → o.name ≡ message_name m → IsSome (completion (kept.place_at k m))
-    completes_at g o m there apart name = go (kept.place_at k m) refl (same.taken m ∙ ap is_some (ap (named s.cells) (sym name) ∙ held_lives s.cells g o w.good.tidy there)) (same.waits m ∙ ap waits_in (ap (owner_of s.cells) (sym name) ∙ owner_held s.cells w.good.tidy g o there) ∙ apart)
+    -- a message that has a sender and is owned elsewhere was taken, and is completed once
+    pub completes_at : (g : Owner) (o : Object) (m : ℕ) → held s.cells g ≡ Some o → is_queue g ≡ false → has_sender s.cells o.name ≡ true → o.name ≡ message_name m → IsSome (completion (kept.place_at k m))
+    completes_at g o m there apart sent name = go (kept.place_at k m) refl (taken_sent k s.cells clients same m ∙ ap (has_sender s.cells) (sym name) ∙ sent) (same.waits m ∙ ap waits_in (ap (owner_of s.cells) (sym name) ∙ owner_held s.cells w.good.tidy g o there) ∙ apart)
       where
         go : (x : Place) → kept.place_at k m ≡ x → is_taken x ≡ true → is_queued x ≡ false → IsSome (completion x)
         go x at taken waits = grind arith

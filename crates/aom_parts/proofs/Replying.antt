@@ -19,9 +19,10 @@ use Rattle.aom_shape.specs.Kinds.{is_object}
 use Rattle.aom_sound.proofs.Maps.{held_lives, same_place-true}
 use Rattle.aom_sound.proofs.Services.{service_without}
 use Rattle.aom_sound.proofs.Sifted.{cell_name, cell_of, cell_placed, held_cell, object_in, request_in, requested_cell}
+use Rattle.aom_sound.proofs.Sources.{has_sender}
 use Rattle.aom_sound.proofs.Things.{message_plain}
 use Rattle.aom_sound.specs.Enlisted.{thing_kind}
-use Rattle.aom_sound.specs.Kept.{IsKept}
+use Rattle.aom_sound.specs.Kept.{HasSources, IsKept}
 use Rattle.aom_sound.specs.Laws.{IsWired}
 use Rattle.aom_sound.specs.Places.{Cell, Object, Place, Service, held, named, requested, same_place, service_of, without}
 use Rattle.aom_sound.specs.Requests.{Suits, states_claim}
@@ -32,6 +33,7 @@ use Rattle.aom_parts.proofs.Beside.{Beside, beside_sifted, cells_beside, listed_
 use Rattle.aom_parts.proofs.Forgetting.{without_sifted}
 use Rattle.aom_parts.proofs.Messages.{message_gone}
 use Rattle.aom_parts.proofs.Premises.{completes_at, owner_held}
+use Rattle.aom_parts.proofs.Serving.{taken_sent}
 use Rattle.aom_parts.proofs.Servicing.{same_replied}
 use Rattle.aom_parts.proofs.Sizing.{sized_completed}
 use Rattle.aom_parts.specs.Agrees.{SameCells, SameNatives, SameRequests}
@@ -48,6 +50,10 @@ module _ (p : Image) (t : Typing) (s : State) (w : WellTyped p t s) (g : Place) 
 
   no_object : is_object o.thing ≡ false
   no_object = ap is_object message
+
+  -- it has a sender
+  pub message_sent : HasSources s.cells → has_sender s.cells o.name ≡ true
+  message_sent sources = sources o lives ∙ ap not no_object
 
   -- it is not enlisted
   pub message_unasked : requested s.cells o.name ≡ None
@@ -86,8 +92,8 @@ module _ (p : Image) (t : Typing) (s : State) (w : WellTyped p t s) (g : Place) 
         queues n asked true e = absurd (false≢true (ap is_some (sym message_unasked ∙ ap (requested s.cells) (eqb-true o.name n e)) ∙ asked))
         queues n asked false e = ap (λ (v : Service). v.queue) (service_without s.cells g o n w.good.tidy there e)
 
-    -- it is kept, and where it waits in no queue its completion is told
-    module _ (wired : IsWired p) (kept_so : IsKept p s) (apart : is_queue g ≡ false) (k : kept.State) (store : Store) (table : Table) (same : SameServices p k store table s.cells s.clients) where
+    -- it is kept, and where it waits in no queue and has a sender its completion is told
+    module _ (wired : IsWired p) (kept_so : IsKept p s) (apart : is_queue g ≡ false) (sent : has_sender s.cells o.name ≡ true) (k : kept.State) (store : Store) (table : Table) (same : SameServices p k store table s.cells s.clients) where
       pub message_kept : is_some (message_at store place) ≡ true
       message_kept = same.messages.there place ∙ ap is_a_message (ap (named s.cells) (sym name) ∙ lives) ∙ ap not no_object
 
@@ -98,10 +104,10 @@ module _ (p : Image) (t : Typing) (s : State) (w : WellTyped p t s) (g : Place) 
           go (inl small) = small
           go (inr large) =
               let past = get_or_past k.places place Free (subst (λ n. n ≤ place) (sym same.sized.places) large) in
-              absurd (false≢true (sym (ap is_taken past) ∙ same.clients.taken place ∙ ap is_some (ap (named s.cells) (sym name) ∙ lives)))
+              absurd (false≢true (sym (ap is_taken past) ∙ taken_sent k s.cells s.clients same.clients place ∙ ap (has_sender s.cells) (sym name) ∙ sent))
 
       pub completion_told : IsSome (completion (kept.place_at k place))
-      completion_told = completes_at p t wired s w s.clients kept_so.fit k same.clients g o place there apart name
+      completion_told = completes_at p t wired s w s.clients kept_so.fit k same.clients g o place there apart sent name
 
       pub was_taken : is_queued (kept.place_at k place) ≡ false
       was_taken = same.clients.waits place ∙ ap waits_in (ap (owner_of s.cells) (sym name) ∙ owner_held s.cells w.good.tidy g o there) ∙ apart

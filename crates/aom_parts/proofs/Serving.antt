@@ -12,10 +12,10 @@ use Rattle.aom_clients.specs.declared.client.Client.TheVariants.{Connecting, Ope
 use Rattle.aom_clients.specs.declared.entry.Entry.{Entry}
 use Rattle.aom_clients.specs.declared.entry.Entry.TheVariants.{Connect, Message, Close}
 use Rattle.aom_clients.specs.declared.place.Place.{Place}
-use Rattle.aom_clients.specs.declared.place.Place.TheVariants.{Free, Held, Queued}
+use Rattle.aom_clients.specs.declared.place.Place.TheVariants.{Discarded, Free, Held, Queued}
 use Rattle.aom_clients.specs.Table.{held_place, is_queued, sender}
 use Rattle.aom_sound.proofs.ClientsFit.{by_server}
-use Rattle.aom_sound.proofs.Maps.{at-put_at, front_free, named_moved, same_place_refl}
+use Rattle.aom_sound.proofs.Maps.{at-put_at, front_free, same_place_refl}
 use Rattle.aom_sound.proofs.Services.{named_served, service_here, service_moved, service_there, service_unnamed}
 use Rattle.aom_sound.specs.Clients.{at_opening, client_at, with_client}
 use Rattle.aom_sound.specs.Kept.{is_close_of, is_connect_of}
@@ -183,11 +183,17 @@ pub slots_moved : (cs : List Cell) (a b : Owner) (c : ℕ) → slots_taken c (mo
 slots_moved [] a b c = refl
 slots_moved (x ∷ xs) a b c = ap (λ k. cond (holds_slot c x.service.sender) (suc k) k) (slots_moved xs a b c)
 
--- ---- what is told of a service alone
+-- ---- the places that are taken
 
--- a place has a message where a cell has its name
-still_taken : (s : kept.State) (cs : List Cell) → ((m : ℕ) → is_taken (kept.place_at s m) ≡ is_some (named cs (message_name m))) → (n : ℕ) (v : Service) (m : ℕ) → is_taken (kept.place_at s m) ≡ is_some (named (set_service n v cs) (message_name m))
-still_taken s cs taken n v m = taken m ∙ ap is_some (sym (named_served cs n v (message_name m)))
+taken_by : (slot : Bool) (x : Place) → is_some (sent_by slot x) ≡ is_taken x
+taken_by slot Free = refl
+taken_by slot (Queued d) = refl
+taken_by slot (Held d) = refl
+taken_by slot (Discarded d) = refl
+
+-- are those whose message has a sender
+pub taken_sent : (s : kept.State) (cs : List Cell) (clients : List Client) → SameClients s cs clients → (m : ℕ) → is_taken (kept.place_at s m) ≡ is_some (service_of cs (message_name m)).sender
+taken_sent s cs clients same m = sym (taken_by (holds s m) (kept.place_at s m)) ∙ ap is_some (same.senders m)
 
 -- ---- a client is at something else, and nothing is asked
 
@@ -216,7 +222,6 @@ module _ (s : kept.State) (cs : List Cell) (clients : List Client) (same : SameC
     queues = waits;
     sessions = listed;
     senders = λ m. same.senders m ∙ sym (sender_then cs o lives tidy f sender (message_name m));
-    taken = still_taken s cs same.taken o.name _;
     waits = λ m. same.waits m ∙ ap waits_in (sym (owner_served cs o.name _ (message_name m)));
     slots_of = λ d m. same.slots_of d m ∙ ap (holds_slot d) (sym (sender_then cs o lives tidy f sender (message_name m)));
     slotted = same.slotted;
@@ -341,13 +346,6 @@ module _ (s : kept.State) (cs : List Cell) (clients : List Client) (same : SameC
               ap (λ x. sent_by (is_among j (kept.sent_at s (sender x))) x) held_now
               ∙ sym (ap (λ x. sent_by (is_among j (kept.sent_at s (sender x))) x) (ap (λ i. kept.place_at s i) (sym (eqb-true m j e)) ∙ waiting))
 
-      taken_now : (j : ℕ) → is_taken (kept.place_at taken j) ≡ is_taken (kept.place_at s j)
-      taken_now j = ap is_taken (at_set Free s.places m j (held_place (kept.place_at s m)) place) ∙ go (m == j) refl
-        where
-          go : (b : Bool) → (m == j) ≡ b → is_taken (cond b (held_place (kept.place_at s m)) (kept.place_at s j)) ≡ is_taken (kept.place_at s j)
-          go false e = refl
-          go true e = ap is_taken held_now ∙ sym (ap is_taken (ap (λ i. kept.place_at s i) (sym (eqb-true m j e)) ∙ waiting))
-
       slotted_now : (j d : ℕ) → kept.place_at taken j ≡ Queued d → is_among j (kept.sent_at taken d) ≡ true
       slotted_now j d e = go (m == j) (sym (at_set Free s.places m j (held_place (kept.place_at s m)) place) ∙ e)
         where
@@ -362,7 +360,6 @@ module _ (s : kept.State) (cs : List Cell) (clients : List Client) (same : SameC
             ∙ sym (ap (λ (v : Service). v.queue) (service_moved cs' from (Elsewhere In_service) n));
         sessions = λ n. (same_taken (Message m) es at queue).sessions n ∙ sym (ap (λ (v : Service). v.sessions) (service_moved cs' from (Elsewhere In_service) n));
         senders = λ j. senders_now j ∙ (same_taken (Message m) es at queue).senders j ∙ sym (ap (λ (v : Service). v.sender) (service_moved cs' from (Elsewhere In_service) (message_name j)));
-        taken = λ j. taken_now j ∙ (same_taken (Message m) es at queue).taken j ∙ ap is_some (sym (named_moved cs' from (Elsewhere In_service) (message_name j)));
         waits = waits_now;
         slots_of = λ d j. (same_taken (Message m) es at queue).slots_of d j ∙ ap (holds_slot d) (sym (ap (λ (v : Service). v.sender) (service_moved cs' from (Elsewhere In_service) (message_name j))));
         slotted = slotted_now;
@@ -453,9 +450,6 @@ module _ (s : kept.State) (cs : List Cell) (clients : List Client) (same : SameC
             ∙ sym (ap (λ b. (cond b message.service (service_of behind (message_name j))).sender) (names_apart m j e)
             ∙ sender_then cs o lives tidy (asked_last (Message_of c (message_name m))) (λ v. refl) (message_name j))
 
-    taken_after : (j : ℕ) → is_taken (kept.place_at sent j) ≡ is_some (named (message ∷ behind) (message_name j))
-    taken_after j = told_new is_taken is_some j (Some message.object) (named behind (message_name j)) refl (λ e. still_taken s cs same.taken o.name _ j)
-
     -- what the new cell has is nothing, of those that have a queue
     other_service : (n : ℕ) → ((service_of (message ∷ behind) n).queue ≡ (service_of behind n).queue) × ((service_of (message ∷ behind) n).sessions ≡ (service_of behind n).sessions)
     other_service n = go (message_name m == n) refl
@@ -522,7 +516,7 @@ module _ (s : kept.State) (cs : List Cell) (clients : List Client) (same : SameC
         let sessions_after : (n : ℕ) → kept.sessions_at s n ≡ (service_of (message ∷ behind) n).sessions =
         λ n. by_server cs o lives (asked_last (Message_of c (message_name m))) (λ n v. kept.sessions_at s n ≡ v.sessions) (same.sessions o.name) (λ n other. same.sessions n) n ∙ sym (other_service n).1 in
         let lists = length-set s.sent c (kept.sent_at s c ++ m ∷ []) ∙ same.lists in
-        assumption (same.at, queues_after, sessions_after, senders_after, taken_after, waits_then, slots_of_after, slotted_after, once_after, slots_after, same.many, lists)
+        assumption (same.at, queues_after, sessions_after, senders_after, waits_then, slots_of_after, slotted_after, once_after, slots_after, same.many, lists)
       where
         old : (n : ℕ) → map (asked_by sent.places) (kept.queue_at s n) ≡ (service_of cs n).queue
         old n = asked_apart s.places m (Queued c) place (kept.queue_at s n) (ap (λ l. list_any (is_message (message_name m)) l) (same.queues n) ∙ nowhere n) ∙ same.queues n

@@ -1,13 +1,13 @@
 -- Where cells change of which clients have nothing, what stands for clients goes on: by the cells one after another.
 use Rattle.std.proofs.Common.{Bool, List, None, Option, Some, [], ap, arith, cond, false, refl, suc, sym, true, ℕ, ℤ, ◌<◌, ◌==◌, ◌∙◌, ◌∷◌, ◌≡◌}
-use Rattle.std.specs.Prelude.{is_some, pos}
+use Rattle.std.specs.Prelude.{pos}
 use Rattle.std.proofs.lemmas.Bool.{eqb-true, ne_eqb}
 use Rattle.aom_clients.specs.Clients as kept
 use Rattle.aom_clients.specs.declared.client.Client.{Client}
 use Rattle.aom_image.specs.Image.{Image}
 use Rattle.aom_image.specs.declared.method.Thing.{Thing}
 use Rattle.aom_shape.specs.Tables.{put_at}
-use Rattle.aom_sound.proofs.Maps.{named_moved, same_place-true}
+use Rattle.aom_sound.proofs.Maps.{same_place-true}
 use Rattle.aom_sound.proofs.Services.{service_moved, service_unnamed}
 use Rattle.aom_sound.specs.Natives.{all_bereaved, bereaved, resessioned}
 use Rattle.aom_sound.specs.Places.{Cell, Object, Place as Owner, Request, Service, moved, named, same_place, service_of, set_request, set_session, set_word_field, unserved, with_new}
@@ -19,12 +19,11 @@ use Rattle.aom_parts.specs.Serving.{SameClients, message_name, owner_of, waits_i
 -- clients have the same at all cells, and messages stay where they are
 pub record Still (cs cs' : List Cell) : Type 0 where
   pub services : (n : ℕ) → service_of cs' n ≡ service_of cs n
-  pub names : (m : ℕ) → is_some (named cs' (message_name m)) ≡ is_some (named cs (message_name m))
   pub owners : (m : ℕ) → waits_in (owner_of cs' (message_name m)) ≡ waits_in (owner_of cs (message_name m))
   pub slots : (c : ℕ) → slots_taken c cs' ≡ slots_taken c cs
 
 pub still_itself : (cs : List Cell) → Still cs cs
-still_itself cs = record { services = λ n. refl; names = λ m. refl; owners = λ m. refl; slots = λ c. refl }
+still_itself cs = record { services = λ n. refl; owners = λ m. refl; slots = λ c. refl }
 
 pub same_still : (s : kept.State) (cs cs' : List Cell) (clients : List Client) → Still cs cs' → SameClients s cs clients → SameClients s cs' clients
 same_still s cs cs' clients still same = record {
@@ -32,7 +31,6 @@ same_still s cs cs' clients still same = record {
   queues = λ n. same.queues n ∙ ap (λ (v : Service). v.queue) (sym (still.services n));
   sessions = λ n. same.sessions n ∙ ap (λ (v : Service). v.sessions) (sym (still.services n));
   senders = λ m. same.senders m ∙ ap (λ (v : Service). v.sender) (sym (still.services (message_name m)));
-  taken = λ m. same.taken m ∙ sym (still.names m);
   waits = λ m. same.waits m ∙ sym (still.owners m);
   slots_of = λ c m. same.slots_of c m ∙ ap (λ (v : Service). holds_slot c v.sender) (sym (still.services (message_name m)));
   slotted = same.slotted;
@@ -56,7 +54,6 @@ waits_moved a b alike (Some q) = go (same_place q a) refl
 pub still_moved : (cs : List Cell) (a b : Owner) → is_queue a ≡ is_queue b → Still cs (moved a b cs)
 still_moved cs a b alike = record {
   services = service_moved cs a b;
-  names = λ m. ap is_some (named_moved cs a b (message_name m));
   owners = λ m. ap waits_in (owner_moved cs a b (message_name m)) ∙ waits_moved a b alike (owner_of cs (message_name m));
   slots = slots_moved cs a b;
 }
@@ -66,7 +63,6 @@ still_moved cs a b alike = record {
 pub still_new : (cs : List Cell) (name : ℕ) (x : Thing) (ws : List ℤ) (owner : Owner) → name < 4096 → named cs name ≡ None → Still cs (with_new name x ws owner cs)
 still_new cs name x ws owner small free = record {
   services = λ n. service n (name == n) refl;
-  names = λ m. ap (λ b. is_some (cond b (Some (record { name = name; thing = x })) (named cs (message_name m)))) (apart m);
   owners = λ m. ap (λ b. waits_in (cond b (Some owner) (owner_of cs (message_name m)))) (apart m);
   slots = λ c. refl;
 }
@@ -84,10 +80,6 @@ still_new cs name x ws owner small free = record {
 module _
     (then : List Cell → List Cell) (f : Cell → Cell) (none : then [] ≡ []) (each : (c : Cell) (cs : List Cell) → then (c ∷ cs) ≡ f c ∷ then cs) (object : (c : Cell) → (f c).object ≡ c.object) (owner : (c : Cell) → (f c).owner ≡ c.owner)
     (service : (c : Cell) → (f c).service ≡ c.service) where
-  names_each : (cs : List Cell) (n : ℕ) → named (then cs) n ≡ named cs n
-  names_each [] n = ap (λ l. named l n) none
-  names_each (c ∷ cs) n = ap (λ l. named l n) (each c cs) ∙ ap (λ (o : Object). cond (o.name == n) (Some o) (named (then cs) n)) (object c) ∙ ap (λ x. cond (c.object.name == n) (Some c.object) x) (names_each cs n)
-
   services_each : (cs : List Cell) (n : ℕ) → service_of (then cs) n ≡ service_of cs n
   services_each [] n = ap (λ l. service_of l n) none
   services_each (c ∷ cs) n =
@@ -106,7 +98,7 @@ module _
       ap (slots_taken d) (each c cs) ∙ ap (λ (v : Service). cond (holds_slot d v.sender) (suc (slots_taken d (then cs))) (slots_taken d (then cs))) (service c) ∙ ap (λ k. cond (holds_slot d c.service.sender) (suc k) k) (slots_each cs d)
 
   still_each : (cs : List Cell) → Still cs (then cs)
-  still_each cs = record { services = services_each cs; names = λ m. ap is_some (names_each cs (message_name m)); owners = λ m. ap waits_in (owners_each cs (message_name m)); slots = slots_each cs }
+  still_each cs = record { services = services_each cs; owners = λ m. ap waits_in (owners_each cs (message_name m)); slots = slots_each cs }
 
 pub still_requested : (cs : List Cell) (n : ℕ) (r : Option Request) → Still cs (set_request n r cs)
 still_requested cs n r = still_each (set_request n r) (λ c. record c { request = cond (c.object.name == n) r c.request }) refl (λ c cs. refl) (λ c. refl) (λ c. refl) (λ c. refl) cs

@@ -1,7 +1,7 @@
 -- A cell goes, a server with its queue and its sessions, and what stands for clients goes on standing for them.
 use Rattle.std.proofs.Common.{Bool, List, None, Option, Some, [], ap, arith, cond, false, length, refl, slice_index_or, subst, suc, sym, true, ℕ, ◌&&◌, ◌<◌, ◌==◌, ◌∙◌, ◌∷◌, ◌≡◌, inl, inr, ◌⊎◌}
 use Rattle.std.specs.List.{list_any}
-use Rattle.std.specs.Prelude.{filter, is_some, map, not, ◌||◌}
+use Rattle.std.specs.Prelude.{filter, map, not, ◌||◌}
 use Rattle.std.proofs.lemmas.Bool.{eq-eqb, eqb-true, false≢true}
 use Rattle.aom_clients.specs.Clients as kept
 use Rattle.aom_clients.specs.Table.{at_gone, is_queued, sender}
@@ -15,7 +15,6 @@ use Rattle.aom_sound.proofs.ClientsGone.{gone_so, goes_with, queue_ended_at, ses
 use Rattle.aom_sound.proofs.Maps.{one_place, same_place-true, same_place_refl}
 use Rattle.aom_sound.proofs.Parting.{among_others, among_parted}
 use Rattle.aom_sound.proofs.Sifted.{a_cell_of, cell_in, cell_lives, cell_name, cell_of, cell_of_sifted, cell_owner, cell_placed, held_cell, kept as left_cell, named_cell, object_in, service_cell, service_in, sifted}
-use Rattle.aom_sound.proofs.Unslotting.{each_unslotted_alike}
 use Rattle.aom_sound.specs.Clients.{client_at, each_unslotted, queue_ended, sessions_ended}
 use Rattle.aom_sound.specs.Kept.{is_connect_of}
 use Rattle.aom_sound.specs.Places.{Cell, Close_of, Connect_of, Elsewhere, Message_of, Object, Place as Owner, Queued as Waits_at, Sender, Service, Tidy, held, named, place_outer, same_place, service_of, without}
@@ -24,7 +23,7 @@ use Rattle.aom_parts.proofs.Completing.{once_without, queued_still}
 use Rattle.aom_parts.proofs.Departing.{all_without, client_after_queue, client_after_sessions, connects, is_at, lengths_after_queue, lengths_after_sessions, place_after_queue, places_after_sessions, queue_after_queue, queues_after_sessions, sent_after_queue, sent_after_sessions, sessions_after_queue, sessions_after_sessions}
 use Rattle.aom_parts.proofs.Serving.{names_apart}
 use Rattle.aom_parts.proofs.Withdrawing.{owner_cell, owner_in, queue_of_owner, queue_of_queue}
-use Rattle.aom_parts.specs.Serving.{Once, SameClients, asked_by, holds, is_taken, message_name, owner_of, sent_by, sessionless, waits_in}
+use Rattle.aom_parts.specs.Serving.{Once, SameClients, asked_by, holds, message_name, owner_of, sent_by, sessionless, waits_in}
 use Rattle.aom_sound.proofs.Destroying.{eqb_comm}
 
 either_true : (a b : Bool) → (a || b) ≡ true → (a ≡ true) ⊎ (b ≡ true)
@@ -384,13 +383,6 @@ module _
       go true = refl
       go false = ap (λ (v : Service). v.sender) (sym (service_cell cs (message_name j)))
 
-  named_left : (j : ℕ) → is_some (named left (message_name j)) ≡ cond (goes j) false (is_some (named cs (message_name j)))
-  named_left j = ap is_some ((each_unslotted_alike xs stay).named_so (message_name j) ∙ named_cell stay (message_name j) ∙ ap object_in (cell_stays j)) ∙ go (goes j)
-    where
-      go : (b : Bool) → is_some (object_in (cond b None (cell_of cs (message_name j)))) ≡ cond b false (is_some (named cs (message_name j)))
-      go true = refl
-      go false = ap is_some (sym (named_cell cs (message_name j)))
-
   owner_left : (j : ℕ) → waits_in (owner_of left (message_name j)) ≡ cond (goes j) false (waits_in (owner_of cs (message_name j)))
   owner_left j = ap waits_in (owner_lost xs stay (message_name j) ∙ owner_cell stay (message_name j) ∙ ap owner_in (cell_stays j)) ∙ go (goes j)
     where
@@ -428,9 +420,6 @@ module _
       go : (b : Bool) → f (cond b Free (kept.place_at s j)) ≡ cond b false (f (kept.place_at s j))
       go true = free
       go false = refl
-
-  taken_then : (j : ℕ) → is_taken (kept.place_at then j) ≡ is_some (named left (message_name j))
-  taken_then j = place_told is_taken refl j ∙ ap (λ b. cond (goes j) false b) (same.taken j) ∙ sym (named_left j)
 
   waits_then : (j : ℕ) → is_queued (kept.place_at then j) ≡ waits_in (owner_of left (message_name j))
   waits_then j = place_told is_queued refl j ∙ ap (λ b. cond (goes j) false b) (same.waits j) ∙ sym (owner_left j)
@@ -528,7 +517,7 @@ module _
   same_left =
       let many = (lengths_after_sessions k (kept.sessions_at s k) between).0 ∙ (lengths_after_queue k es s).0 ∙ same.many in
       let lists = (lengths_after_sessions k (kept.sessions_at s k) between).2 ∙ (lengths_after_queue k es s).3 ∙ same.lists in
-      assumption (at_then, queues_then, sessions_then, senders_then, taken_then, waits_then, slots_of_then, slotted_then, once_then, slots_then, many, lists)
+      assumption (at_then, queues_then, sessions_then, senders_then, waits_then, slots_of_then, slotted_then, once_then, slots_then, many, lists)
 
   pub same_vanished : SameClients then (each_unslotted xs (without g (without_queue k cs))) (sessions_ended xs (queue_ended (service_of cs k).queue clients))
   same_vanished = subst (λ l. SameClients then (each_unslotted xs l) (sessions_ended xs (queue_ended (service_of cs k).queue clients))) (sym (gone_so k g cs)) same_left

@@ -1,6 +1,6 @@
 -- A client closes or dies: its messages that wait go, its others hold no slot and are told to nobody, and all else goes on standing for what it stood for.
 use Rattle.std.proofs.Common.{Bool, List, None, Option, Some, [], ap, cond, false, length, refl, slice_index_or, subst, suc, sym, true, zero, ℕ, ◌&&◌, ◌<◌, ◌==◌, ◌∙◌, ◌∷◌, ◌≡◌, arith}
-use Rattle.std.specs.Prelude.{filter, is_some, map, not}
+use Rattle.std.specs.Prelude.{filter, map, not}
 use Rattle.std.proofs.lemmas.Bool.{eq-eqb, eqb-true, false≢true, ne_eqb}
 use Rattle.std.proofs.lemmas.Bool.Decides.{nat_tests}
 use Rattle.std.proofs.lemmas.List.{length-set}
@@ -13,13 +13,13 @@ use Rattle.aom_clients.specs.declared.entry.Entry.TheVariants.{Connect, Message,
 use Rattle.aom_clients.specs.declared.place.Place.{Place}
 use Rattle.aom_clients.specs.declared.place.Place.TheVariants.{Discarded, Free, Held, Queued}
 use Rattle.aom_clients.specs.Table.{closed_place, is_queued, is_waiting_of, sender}
-use Rattle.aom_sound.proofs.Sifted.{cell_of, cell_of_sifted, named_cell, object_in, kept as left_cell, service_cell, service_in, withdrawn_so}
+use Rattle.aom_sound.proofs.Sifted.{cell_of, cell_of_sifted, kept as left_cell, service_cell, service_in, withdrawn_so}
 use Rattle.aom_sound.specs.Places.{Asked, Cell, Close_of, Connect_of, Elsewhere, Message_of, Object, Place as Owner, Queued as Waits_at, named, Sender, Service, Tidy, service_of}
 use Rattle.aom_sound.specs.Servers.{asked_last, discarded, holds_slot, is_among, is_from, is_queue, is_queue_of, left_by, reserved, slots_taken, stays, withdrawn}
 use Rattle.aom_sound.specs.Clients.{client_at, told, with_client}
 use Rattle.aom_sound.specs.State.{State}
 use Rattle.aom_parts.proofs.Serving.{at_set, same_client, same_closing}
-use Rattle.aom_parts.specs.Serving.{Once, SameClients, asked_by, holds, is_taken, message_name, owner_of, sent_by, sessionless, waits_in}
+use Rattle.aom_parts.specs.Serving.{Once, SameClients, asked_by, holds, message_name, owner_of, sent_by, sessionless, waits_in}
 
 at_map : {A : Type 0} (f : A → A) (none : A) (xs : List A) (n : ℕ) → f none ≡ none → slice_index_or (map f xs) n none ≡ f (slice_index_or xs n none)
 at_map f none [] n e = sym e
@@ -95,9 +95,6 @@ module _ (c : ℕ) where
 
   queued_left : (slot : Bool) (p : Place) → is_queued (kept.left_place c p) ≡ cond (is_queued p && is_from c (sent_by slot p)) false (is_queued p)
   queued_left slot p = grind (arith, nat_tests)
-
-  taken_left : (slot : Bool) (p : Place) → is_taken (kept.left_place c p) ≡ cond (is_queued p && is_from c (sent_by slot p)) false (is_taken p)
-  taken_left slot p = grind (arith, nat_tests)
 
   -- what slots it held of a client: none of this one's any more
   slot_left : (goes : Bool) (x : Option Sender) (d : ℕ) → (goes ≡ true → is_from c x ≡ true) → holds_slot d (remains goes x) ≡ cond (c == d) false (holds_slot d x)
@@ -297,9 +294,6 @@ module _ (s : kept.State) (cs : List Cell) (clients : List Client) (same : SameC
       own unqueued d is e =
           ap (λ k. is_among j (kept.sent_at then k)) (left_own c p unqueued) ∙ among_then (sender p) j ∙ ap (λ b. cond b false (is_among j (kept.sent_at s (sender p)))) (swapped (sender p) c true (ap (λ k. k == c) is ∙ e))
 
-  taken_told : (j : ℕ) (x : Option Cell) → cell_of cs (message_name j) ≡ x → is_taken (kept.place_at s j) ≡ is_some (object_in x)
-  taken_told j x at = same.taken j ∙ ap is_some (named_cell cs (message_name j) ∙ ap object_in at)
-
   -- what is told of places alone, and of cells but for what clients have there
   told_then : (f : Place → Bool) (g : Option Cell → Bool) → ((j : ℕ) → f (kept.left_place c (kept.place_at s j)) ≡ cond (is_queued (kept.place_at s j) && is_from c (sent_by (holds s j) (kept.place_at s j))) false (f (kept.place_at s j))) →
       ((x : Cell) (v : Service) → g (Some (record x { service = v })) ≡ g (Some x)) → g None ≡ false → ((j : ℕ) (x : Option Cell) → cell_of cs (message_name j) ≡ x → f (kept.place_at s j) ≡ g x) → (j : ℕ) →
@@ -313,9 +307,6 @@ module _ (s : kept.State) (cs : List Cell) (clients : List Client) (same : SameC
           by : (b : Bool) → cond b false (f (kept.place_at s j)) ≡ g (cond b None (Some (record x { service = left_by c x.service })))
           by true = sym none
           by false = told j (Some x) at ∙ sym (plain x (left_by c x.service))
-
-  taken_then : (j : ℕ) → is_taken (kept.place_at then j) ≡ is_some (named left (message_name j))
-  taken_then j = told_then is_taken (λ x. is_some (object_in x)) (λ j. taken_left c (holds s j) (kept.place_at s j)) (λ x v. refl) refl taken_told j ∙ sym (ap is_some (named_cell left (message_name j)))
 
   waits_then : (j : ℕ) → is_queued (kept.place_at then j) ≡ waits_in (owner_of left (message_name j))
   waits_then j = told_then is_queued (λ x. waits_in (owner_in x)) (λ j. queued_left c (holds s j) (kept.place_at s j)) (λ x v. refl) refl waits_told j ∙ sym (ap waits_in (owner_cell left (message_name j)))
@@ -352,7 +343,6 @@ module _ (s : kept.State) (cs : List Cell) (clients : List Client) (same : SameC
         ∙ ap (λ q. filter (stays c) q) (same.queues n ∙ ap (λ (v : Service). v.queue) (service_cell cs n)) ∙ queue_left n (cell_of cs n) refl ∙ sym (ap (λ (v : Service). v.queue) (service_then n));
     sessions = λ n. same.sessions n ∙ ap (λ (v : Service). v.sessions) (service_cell cs n) ∙ sessions_left n (cell_of cs n) refl ∙ sym (ap (λ (v : Service). v.sessions) (service_then n));
     senders = senders_then;
-    taken = taken_then;
     waits = waits_then;
     slots_of = slots_of_then;
     slotted = slotted_then;

@@ -1,5 +1,5 @@
 -- What the machine's clients, queues and message places stand for.
-use Rattle.std.specs.Prelude.{◌≡◌, ◌+◌, ◌==◌, ℕ, Bool, true, false, cond, List, [], ◌∷◌, Option, Some, None, is_some, length, map, slice_index_or}
+use Rattle.std.specs.Prelude.{◌≡◌, ◌+◌, ◌==◌, ℕ, Bool, true, false, cond, List, [], ◌∷◌, Option, Some, None, length, map, slice_index_or}
 use Rattle.aom_clients.specs.declared.client.Client.{Client}
 use Rattle.aom_clients.specs.declared.client.Client.TheVariants.{Open, Closing, Dying}
 use Rattle.aom_clients.specs.declared.entry.Entry.{Entry}
@@ -9,7 +9,7 @@ use Rattle.aom_clients.specs.declared.place.Place.TheVariants.{Free, Queued, Hel
 use Rattle.aom_clients.specs.Clients as kept
 use Rattle.aom_clients.specs.Table.{is_queued, sender}
 use Rattle.aom_sound.specs.Clients.{client_at}
-use Rattle.aom_sound.specs.Places.{Asked, Cell, Close_of, Connect_of, Message_of, Place as Owner, Sender, named, service_of}
+use Rattle.aom_sound.specs.Places.{Asked, Cell, Close_of, Connect_of, Message_of, Place as Owner, Sender, service_of}
 use Rattle.aom_sound.specs.Servers.{holds_slot, is_among, is_queue, slots_taken}
 
 -- the number of the message at a place, past those of cells
@@ -60,13 +60,12 @@ abbrev pub Once : List ℕ → Type 0
 Once [] = Unit {0}
 Once (m ∷ ms) = (is_among m ms ≡ false) × Once ms
 
--- each client is at the same, each server has the same queue and the same sessions, and each message place the message of that number
+-- each client is at the same, each server has the same queue and the same sessions, and each message place the sender of the message of that number
 pub record SameClients (s : kept.State) (cs : List Cell) (clients : List Client) : Type 0 where
   pub at : (c : ℕ) → sessionless (kept.client_at s c) ≡ client_at clients c
   pub queues : (n : ℕ) → map (asked_by s.places) (kept.queue_at s n) ≡ (service_of cs n).queue
   pub sessions : (n : ℕ) → kept.sessions_at s n ≡ (service_of cs n).sessions
   pub senders : (m : ℕ) → sent_by (holds s m) (kept.place_at s m) ≡ (service_of cs (message_name m)).sender
-  pub taken : (m : ℕ) → is_taken (kept.place_at s m) ≡ is_some (named cs (message_name m))
   pub waits : (m : ℕ) → is_queued (kept.place_at s m) ≡ waits_in (owner_of cs (message_name m))
   -- of each client the messages that hold a slot of it, each once
   pub slots_of : (c m : ℕ) → is_among m (kept.sent_at s c) ≡ holds_slot c (service_of cs (message_name m)).sender
