@@ -44,7 +44,10 @@ fn why_not(
     boxes.push(Box::new(alloc, counted(2))?)?;
     boxes.push(Box::new(alloc, counted(3))?)?;
     match Machine::boot(alloc, accepted, boxes) {
-        Ok(_) => Ok(None),
+        Ok(machine) => {
+            drop(machine);
+            Ok(None)
+        }
         Err((fault, mut boxes)) => {
             are_in_order(rt, &mut boxes);
             Ok(Some(fault))
