@@ -5,6 +5,8 @@ import re
 from dataclasses import dataclass, field
 
 GOOD_NAME = re.compile(r"[A-Za-z0-9_-][A-Za-z0-9_.-]*\.edit")
+# what can show an edit: a page of tests/ or a file of tests in Rattle
+SHOWING = re.compile(r"tests/[\w-]+\.md|crates/\w+/src/(?:\w+/)*tests(?:/\w+)*\.rt")
 
 
 @dataclass(frozen=True)
@@ -24,6 +26,8 @@ class Edit:
     texts: dict = field(default_factory=dict)
     # the changes by their places in the text as it stands; None where a later pair changes what an earlier one made
     changes: list = None
+    # the page or the file of tests that shows what it turns, where it names one
+    page: str = ""
     # why it cannot be applied
     fault: str = ""
 
@@ -55,6 +59,13 @@ def pairs_of(lines):
             old = None
 
 
+def page_of(crate, lines):
+    """The page that an edit's lines name, and what is wrong with it."""
+    page = next((it[len("shown: ") :].strip() for it in lines if it.startswith("shown: ")), "")
+    is_there = not page or SHOWING.fullmatch(page) and os.path.isfile(f"{crate}/../../{page}")
+    return page, "" if is_there else "its 'shown:' line names no page of tests/ and no file of tests"
+
+
 def read_text(file):
     with open(file, encoding="utf-8") as it:
         return it.read()
@@ -73,6 +84,9 @@ def read_edit(crate, name):
         lines = read_text(f"{crate}/must-fail/{name}").split("\n")
     except (OSError, UnicodeDecodeError):
         edit.fault = "it cannot be read"
+        return edit
+    edit.page, edit.fault = page_of(crate, lines)
+    if edit.fault:
         return edit
     firsts, changes = {}, []
     for path, old, new in pairs_of(lines):

@@ -3,14 +3,18 @@ What is tried has to end with status 0: a page tells another one of a call by 'e
 
 import itertools
 import os
+import re
 import shutil
 import signal
 import subprocess
+import tempfile
 from typing import NamedTuple
 
 TOP = os.path.dirname(os.path.dirname(os.path.realpath(__file__)))
 FENCE, PROMPT = "```", "$ "
 SECONDS = 60
+# a plain name with an ending, and so no path and no word for a language
+FILE_NAME = re.compile(r"[\w-]+(\.[\w-]+)+")
 
 
 class Block(NamedTuple):
@@ -95,6 +99,61 @@ def fault_of(command, place):
 
 def tell(line):
     return "nothing" if line is None else repr(line)
+
+
+def names(call, file):
+    return re.search(rf"(?<![\w.-]){re.escape(file)}(?![\w.-])", call) is not None
+
+
+class Place:
+    """A folder in which the blocks of a page are tried one by one."""
+
+    def __init__(self, page, program, folder):
+        self.page, self.folder = page, folder
+        self.has_tried = False
+        # the files that no command has named yet, each with the number of its line
+        self.unnamed = {}
+        make_place(program, folder)
+
+    def at(self, number, name):
+        return f"{self.page}:{number}: {name}"
+
+    def try_block(self, block):
+        """What of a block is tried, each with what is wrong with it, or None."""
+        if FILE_NAME.fullmatch(block.word):
+            yield from self.write_file(block)
+        elif has_commands(block):
+            yield from map(self.try_command, commands_of(block))
+        else:
+            yield self.at(block.number, block.word), "it is no file and has no commands"
+
+    def write_file(self, block):
+        yield from self.never_named(block.word)
+        self.unnamed[block.word] = block.number
+        with open(f"{self.folder}/{block.word}", "w", encoding="utf-8") as it:
+            it.writelines(f"{line}\n" for line in block.lines)
+
+    def try_command(self, command):
+        self.has_tried = True
+        self.unnamed = {file: number for file, number in self.unnamed.items() if not names(command.call, file)}
+        return self.at(command.number, command.call), fault_of(command, self.folder)
+
+    def never_named(self, *files):
+        """The files of these that no command has named."""
+        for file in files:
+            if file in self.unnamed:
+                yield self.at(self.unnamed[file], file), "no command behind it names it"
+
+
+def page_trials(program, page):
+    """Everything of a page that is tried, each with what is wrong with it, or None."""
+    with tempfile.TemporaryDirectory(prefix="aom-pages-") as folder:
+        place = Place(page, program, folder)
+        for block in blocks_of(read_page(page)):
+            yield from place.try_block(block)
+        yield from place.never_named(*place.unnamed)
+        if not place.has_tried:
+            yield page, "it has no commands"
 
 
 def try_all(tool, program, trials):

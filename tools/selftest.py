@@ -114,6 +114,7 @@ WHERE = """- no-text-of-the-logic.edit: laws::sixfold_is_so
 FILES = {
     "crates.txt": "sample:\nstated: sample\nfalse_one: sample\n",
     "HANDLES": "Handles allowed: none.\n",
+    "tests/numbers.md": "# Numbers\n",
     "crates/sample/src/lib.rt": SAMPLE,
     "crates/sample/proofs/fivefold/Answers.antt": FIVEFOLD,
     "crates/sample/proofs/again/Answers.antt": AGAIN,
@@ -137,11 +138,21 @@ EDITS = [
     ("sample", "fivefold-is-sixfold", CODE, "fourfold(number) + number as u16", "fourfold(number) + double(number)", GOAL),
     ("sample", "fivefold-in-other-words", CODE, "fourfold(number) + number as u16", "threefold(number) + double(number)", NAME),
     ("sample", "again-in-other-words", CODE, "let once = number as u16;", "let once = number as u16 * 1;", ANSWER),
+    # the same way, and no page shows it
+    ("sample", "again-without-a-page", CODE, "let once = number as u16;", "let once = number as u16 + 0;", ""),
     ("stated", "sixfold-is-sevenfold", DEFINITIONS, "sixfold n = n * 6", "sixfold n = n * 7", GOAL),
     ("stated", "sixfold-in-other-words", DEFINITIONS, "sixfold n = n * 6", "sixfold n = 6 * n", ""),
     ("stated", "no-text-of-the-logic", DEFINITIONS, "sixfold n = n * 6", "sixfold n =", ""),
     ("false_one", "two-is-three", CODE, "    1", "    3", ""),
 ]
+# the pages that show edits
+PAGES = {"fivefold-in-other-words": "tests/numbers.md", "again-in-other-words": "tests/numbers.md"}
+
+
+def text_of(name, file, old, new):
+    """An edit as a file says it."""
+    page = f"shown: {PAGES[name]}\n" if name in PAGES else ""
+    return f"{page}file: {file}\nold: {old}\nnew: {new}\n"
 
 
 def tools_are_well(place, jobs, say):
@@ -150,7 +161,7 @@ def tools_are_well(place, jobs, say):
     for file, text in FILES.items():
         write_text(f"{top}/edits/{file}", text)
     for crate, name, file, old, new, _ in EDITS:
-        write_text(f"{top}/edits/crates/{crate}/must-fail/{name}.edit", f"file: {file}\nold: {old}\nnew: {new}\n")
+        write_text(f"{top}/edits/crates/{crate}/must-fail/{name}.edit", text_of(name, file, old, new))
     shutil.copytree(f"{top}/edits", f"{top}/proofs")
 
     def tell(text):

@@ -1,5 +1,6 @@
 """By what a check refuses an edit: by a goal of its own, which is open or false by a case, by an answer that no longer fits, or by a name
-that is missing. The last two say that a proof written by hand is of another body, and not that the contract refuses this one."""
+that is missing. The last two say that a proof written by hand is of another body, and not that the contract refuses this one: there a page or
+a test has to show what the edit turns."""
 
 import re
 

@@ -12,7 +12,7 @@ from edit_files import edit_faults, edit_files, places_of, read_edit, write_text
 from goals import goals_of, left_open, offered, without_tries, write_answers
 from holes import make_holes, with_facts
 from house import PARTS, copy_parts, tells_errors
-from showing import KINDS as SHOWN, kind_alone, kind_in_batch
+from showing import GOAL, KINDS as SHOWN, kind_alone, kind_in_batch
 from verdicts import Verdicts
 
 # the memory that a check takes for each line of a crate, in bytes
@@ -53,7 +53,7 @@ class Trial:
             for it in self.known[name]:
                 kind = self.verdicts.kind_of(name, it)
                 self.kinds[f"{name}/{it}"] = kind
-                self.tell(name, it, True, f"refused, as it must be, by {kind} (by an earlier run here, of the same texts)")
+                self.tell_kind(name, it, kind, " (by an earlier run here, of the same texts)")
         self.source.start([it for it in self.names if self.left_of(it)], self.add_edits, self.count, self.give_up)
 
     def run(self):
@@ -81,7 +81,17 @@ class Trial:
             self.kinds[f"{name}/{edit}"] = kind
         if name in self.proved:
             self.keep_refused(name, edit)
-        self.tell(name, edit, True, f"refused, as it must be, by {kind}{text}")
+        self.tell_kind(name, edit, kind, text)
+
+    def tell_kind(self, name, edit, kind, text):
+        """Tells by what an edit is refused. Where its contract does not show what it turns a page or a test has to."""
+        page = read_edit(self.house.folder(name), edit).page
+        if kind == GOAL:
+            self.tell(name, edit, True, f"refused, as it must be, by {kind}{text}")
+        elif page:
+            self.tell(name, edit, True, f"refused, as it must be, by {kind}, and {page} shows it{text}")
+        else:
+            self.tell(name, edit, False, f"NOT SHOWN: refused by {kind} alone, and no 'shown:' line names a page or a test{text}")
 
     def keep_refused(self, name, edit):
         self.verdicts.keep_refused(name, edit, self.kinds[f"{name}/{edit}"], self.goals[name].get(edit, []))

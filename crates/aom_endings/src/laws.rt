@@ -59,6 +59,7 @@ pub fn runs_keep_sessions()
 {}
 
 /// A cell is served by one native, and owes there.
+#[tactic(auto, using(crate::proofs::Cells::owes_at_one))]
 pub fn owes_at_one()
     ensures { OwesAtOne }
 {}

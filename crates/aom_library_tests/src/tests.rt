@@ -1,4 +1,5 @@
 mod debugging;
+mod faults;
 mod listing;
 mod running;
 mod slate;

@@ -6,6 +6,7 @@ use Rattle.std.proofs.lemmas.Bool.{agree_below_at, eqb-true}
 use Rattle.aom_text.specs.Words.{is_plain, others_of}
 use Rattle.aom_text.specs.declared.fault.AsmFaultKind.{AsmFaultKind}
 use Rattle.aom_image.specs.Views.{has}
+use Rattle.aom_meaning.specs.ReadbackLaws.{HeadingsReadBack}
 use Rattle.aom_image.specs.WellFormed.{ArgumentFits, GivesFits, MethodFits}
 use Rattle.aom_image.specs.declared.method.Argument.{Argument}
 use Rattle.aom_image.specs.declared.method.Argument.TheVariants as arg
@@ -159,3 +160,7 @@ module _ {classes methods : ℕ} {scope : Scope} (names : HasNames classes metho
 
   pub heading_reads : (place : ℕ) (m : Method) → place < methods → MethodFits classes methods m → (is_quiet_role m.role ≡ true → has m.flags.0 2 ≡ true) → heading scope place (others_of (heading_words place m)) ≡ Ok (heading_of m, [])
   heading_reads place m there fits quiet = (whole_heading place m there fits quiet).reads
+
+-- whatever names there are
+pub heading_reads_back : HeadingsReadBack
+heading_reads_back classes methods scope names = heading_reads names

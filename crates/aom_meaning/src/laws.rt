@@ -8,6 +8,7 @@ pub fn numbers_read_back()
 {}
 
 /// Each word of the language, and each mnemonic.
+#[tactic(auto, using(crate::proofs::Tables::keyword_reads, crate::proofs::Tables::mnemonic_reads))]
 pub fn tables_read_back()
     ensures { TablesReadBack }
 {}
@@ -33,6 +34,7 @@ pub fn headings_read_back()
 {}
 
 /// So an image whose methods have the shapes that a link asks is one of the round trip.
+#[tactic(auto, using(crate::proofs::Quiet::shaped_say_quiet))]
 pub fn shaped_say_quiet()
     ensures { ShapedSayQuiet }
 {}

@@ -1,7 +1,6 @@
 //! What each fault writes of itself. The text is derived, and stands in no clause.
 use super::pages::FIRST;
 use aom_budget::BudgetFault;
-use aom_command_line::WordsFault;
 use aom_main::{ExitStatus, Fault, Translation, try_run, try_translate};
 use aom_pages::Slip;
 use aom_run::BootFault;
@@ -94,12 +93,4 @@ fn each_other_fault_writes_its_word(rt: HostRuntime) -> Result<(), Fail> {
         writes(&rt, rt.alloc(), fault, text)?;
     }
     Ok(())
-}
-
-#[test]
-fn a_fault_of_the_words_writes_its_text(rt: HostRuntime) -> Result<(), Fail> {
-    let told = WordsFault::Text(String::from_str(rt.alloc(), "no such command")?);
-    writes(&rt, rt.alloc(), &told, "no such command")?;
-    writes(&rt, rt.alloc(), &WordsFault::Native, "native")?;
-    writes(&rt, rt.alloc(), &WordsFault::Memory, "memory")
 }
