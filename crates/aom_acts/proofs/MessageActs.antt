@@ -20,7 +20,7 @@ use Rattle.aom_messages.specs.Store.{Changes, Store, count, first_number}
 use Rattle.aom_shape.specs.Tables.{put_at}
 use Rattle.aom_shape.specs.Needs.{AllTrue}
 use Rattle.aom_sound.proofs.Maps.{held_moved, held_without}
-use Rattle.aom_sound.proofs.Things.{stands_same}
+use Rattle.aom_sound.proofs.Things.{stands_message}
 use Rattle.aom_sound.specs.Lines.{message_line}
 use Rattle.aom_sound.specs.Moves.{needs}
 use Rattle.aom_sound.specs.Objects.{is_thing}
@@ -92,7 +92,7 @@ in_register p m h a b c met = go (held h.state.cells (Register (length h.below) 
     go (Some o) e some thing = record {
       object = o;
       there = e;
-      message = stands_same p o.thing Message (ap (is_thing p Message) (sym e) ∙ thing);
+      message = stands_message p o.thing (ap (is_thing p Message) (sym e) ∙ thing);
       number = sym (shown_here p m h a (no_word _ met.0) ∙ ap number e);
     }
 

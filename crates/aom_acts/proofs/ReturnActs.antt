@@ -60,7 +60,7 @@ use Rattle.aom_shape.specs.Kinds.{is_object}
 use Rattle.aom_sound.proofs.ClientsMoves.{fit_steady, steady_ended, tasks_steady}
 use Rattle.aom_sound.proofs.Layers.{dispatch_layer}
 use Rattle.aom_sound.proofs.Services.{sits_lives}
-use Rattle.aom_sound.proofs.Things.{stands_same}
+use Rattle.aom_sound.proofs.Things.{stands_object}
 use Rattle.aom_sound.specs.Kept.{StageKept, TasksKept}
 use Rattle.aom_sound.specs.Objects.{is_thing}
 use Rattle.aom_sound.specs.Servers.{of_class, session_class}
@@ -468,7 +468,7 @@ owned_number p m s few agrees r n y object tidy some thing shows = go (held s.ce
     go None e some thing shows = absurd (false≢true some)
     go (Some o) e some thing shows =
         let lives = held_lives s.cells r o tidy e in
-        let is : is_object o.thing ≡ true = ap is_object (stands_same p o.thing y thing) ∙ object in
+        let is : is_object o.thing ≡ true = stands_object p o.thing y thing ∙ object in
         subst (λ k. k < 4096) (sym shows) (some_given (λ c. IsSome c) (cell_at m.cells o.name) (object_lives_at p m s agrees o lives is) (λ none. cc) (λ c there some. cell_small p m.cells s.cells agrees.cells few o.name c there))
 
 -- and below that of cells

@@ -30,8 +30,8 @@ use Rattle.aom_shape.specs.Kinds.{filled}
 use Rattle.aom_shape.specs.declared.kind.Filling.TheVariants.{Full}
 use Rattle.aom_shape.specs.declared.kind.Kind.TheVariants.{Null}
 use Rattle.aom_sound.proofs.Claimed.{claim_going_above}
+use Rattle.aom_sound.proofs.Housing.{stands_session_of}
 use Rattle.aom_sound.proofs.Straight.{fits_unowning}
-use Rattle.aom_sound.proofs.Things.{stands_same}
 use Rattle.aom_sound.specs.Destruction.{first_session, parting, seat_or}
 use Rattle.aom_sound.specs.Steps.{Empties, Acts, Arrives, Clears, Comes_out, Ends, Fits, Move, Rests, Undoes, Vanishes}
 use Rattle.aom_sound.proofs.Maps.{held_without}
@@ -72,7 +72,7 @@ unfolding kind_of sessions_in
 session_so p wired o so class has is = go o.thing has
   where
     none : (k : ℕ) → sessions_at p k ≡ Some class → sessions_at p class ≡ None
-    none k e = (wired.sessions k class e).1
+    none k e = wired.sessions k class e
 
     go : (x : Thing) → session_class p x ≡ Some class → SessionOf p (record { name = o.name; thing = x }) so
     go (An_object_of k) has = record {
@@ -104,7 +104,7 @@ pub session_told : (p : Image) (t : Typing) → IsWired p → (s : State) → We
 session_told p t wired s w ts o at there c so holds = closing_layer (λ ls. Good p t s.cells ls) (Destroy ∷ ts) w.layers (sym w.tasks ∙ at) w.good over
   where
     its_thing : (x : Option ℕ) → session_class p o.thing ≡ x → (b : Bool) → Fits_kind p (seen s.cells) (Some so) (cond b (filled (of_class x) Full) Null) → SessionOf p o so
-    its_thing (Some class) e true f = session_so p wired o so class e (stands_same p so.thing (An_object_of class) f.0)
+    its_thing (Some class) e true f = session_so p wired o so class e (stands_session_of p wired.family o.thing class e so.thing f.0)
     its_thing None e true f = absurd f
     its_thing x e false f = absurd f
 

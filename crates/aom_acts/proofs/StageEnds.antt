@@ -22,7 +22,7 @@ use Rattle.aom_sound.proofs.Layers.{dispatch_layer}
 use Rattle.aom_sound.proofs.Maps.{held_without}
 use Rattle.aom_sound.proofs.Picking.{own_held}
 use Rattle.aom_sound.proofs.Services.{held_served}
-use Rattle.aom_sound.proofs.Things.{stands_same}
+use Rattle.aom_sound.proofs.Things.{stands_message}
 use Rattle.aom_sound.specs.Clients.{at_parting, client_at, with_client}
 use Rattle.aom_clients.specs.declared.client.Client.{Client}
 use Rattle.aom_clients.specs.declared.client.Client.TheVariants.{Closing as Closes, Connecting, Dead, Dying, Gone, Open, Unconnected}
@@ -91,7 +91,7 @@ pub in_service : (p : Image) (t : Typing) (s : State) (x : Seat) (c : ℕ) (code
 in_service p t s x c code typed top =
     dispatch_layer (Good p t s.cells) (Of_server x c (Service_left code)) [] typed.layers (sym typed.tasks ∙ top) typed.good (λ seats ls _ good.
     let own = own_held p (seen s.cells) (held s.cells (Elsewhere In_service)) Message (good.fits (Elsewhere In_service)) in
-    record { object = own.0; there = own.1; message = stands_same p own.0.thing Message own.2 })
+    record { object = own.0; there = own.1; message = stands_message p own.0.thing own.2 })
 
 -- the session of a client whose close was served is gone
 session_gone : (p : Image) (t : Typing) (s : State) (x : Seat) (c : ℕ) → WellTyped p t s → s.tasks ≡ Dispatched (Of_server x c checked.Parts) ∷ [] → held s.cells (Elsewhere (Session x.object.name c)) ≡ None

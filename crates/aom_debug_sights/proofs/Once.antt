@@ -1,7 +1,7 @@
 -- Each object and message has one line of the map of owners, but for those in a queue: the way from its owner up to an outer place goes through
--- just the places from which it hangs, it ends since classes rise on it, and its end is one of those that the map begins at.
+-- just the places from which it hangs, it ends since what stands on it is heavier and heavier, and its end is one of those that the map begins at.
 use Rattle.std.proofs.Common.{◌≡◌, ◌∙◌, ◌<◌, ◌≤◌, ℕ, ℤ, zero, suc, ◌+◌, Bool, true, false, cond, ◌==◌, ◌&&◌, List, [], ◌∷◌, ◌++◌, length, Option, Some, None, inl, inr, refl, sym, ap, subst, arith}
-use Rattle.std.specs.Prelude.{◌||◌, not}
+use Rattle.std.specs.Prelude.{◌||◌, min, not}
 use Rattle.std.proofs.lemmas.Bool.{eq-eqb, eqb-true, false≢true, ne_eqb}
 use Rattle.std.proofs.lemmas.Option.{none-some, same_Some}
 use Rattle.aom_image.specs.Image.{Image}
@@ -10,15 +10,14 @@ use Rattle.aom_image.specs.declared.method.Thing.TheVariants.{Object as An_objec
 use Rattle.aom_cells.specs.Heap.{cell_at}
 use Rattle.aom_cells.specs.declared.cell.Cell.{Cell as Held_cell}
 use Rattle.aom_sound.specs.Owned.{over}
-use Rattle.aom_sound.specs.Places.{Cell, Elsewhere, Entry, Field, Going, In_service, Object, Place, Queued, Register, Root, Session, Tidy, held, named, same_place, seen, service_of}
+use Rattle.aom_sound.specs.Places.{Cell, Elsewhere, Entry, Field, Going, In_service, Object, Place, Queued, Register, Root, Session, Tidy, held, named, same_place, service_of}
 use Rattle.aom_sound.specs.State.{State}
-use Rattle.aom_sound.specs.Claims.{claim, declared}
 use Rattle.aom_sound.specs.Servers.{is_among, is_queue}
-use Rattle.aom_sound.specs.WellTyped.{Fits, Now}
-use Rattle.aom_sound.proofs.Owners.{HasThing, field_thing_of, fits_thing, lower_rank, queued_lower, queued_thing_of, rank, session_lower, session_thing_of}
+use Rattle.aom_sound.specs.WellTyped.{Now}
+use Rattle.aom_sound.proofs.ClientsFacts.{waiting_message}
+use Rattle.aom_sound.proofs.Owners.{declaring, field_thing_of, kind_at, lower_rank, rank, at_session, session_lower}
 use Rattle.aom_sound.proofs.Maps.{held_lives, named_name, one_place, same_place-true, same_place_refl}
 use Rattle.aom_parts.specs.declared.parts.Parts.{Parts}
-use Rattle.aom_parts.specs.Agrees.{thing_in, thing_of}
 use Rattle.aom_parts.specs.Places.{value}
 use Rattle.aom_parts.specs.Serving.{owner_of as owner_by, waits_in}
 use Rattle.aom_parts.specs.Stands.{Machine, StandsFor}
@@ -142,8 +141,8 @@ data Up (s : State) : Place → Type 0 where
   up_root : Up s (Elsewhere Root)
   up_service : Up s (Elsewhere In_service)
   up_queue : {n k : ℕ} → Up s (Elsewhere (Queued n k))
-  up_field : {n f : ℕ} (o : Object) (q : Place) → named s.cells n ≡ Some o → held s.cells q ≡ Some o → 0 < rank o.thing → f < 8 → Up s q → Up s (Field n f)
-  up_session : {n c : ℕ} (o : Object) (q : Place) → named s.cells n ≡ Some o → held s.cells q ≡ Some o → 0 < rank o.thing → IsIn c (service_of s.cells n).sessions → Up s q → Up s (Elsewhere (Session n c))
+  up_field : {n f : ℕ} (o : Object) (q : Place) → named s.cells n ≡ Some o → held s.cells q ≡ Some o → is_object o.thing ≡ true → f < 8 → Up s q → Up s (Field n f)
+  up_session : {n c : ℕ} (o : Object) (q : Place) → named s.cells n ≡ Some o → held s.cells q ≡ Some o → is_object o.thing ≡ true → IsIn c (service_of s.cells n).sessions → Up s q → Up s (Elsewhere (Session n c))
 
 -- it ends at one that the map begins at
 abbrev ends_told : {s : State} {q : Place} → Up s q → Bool
@@ -153,10 +152,6 @@ ends_told up_queue = false
 ends_told _ = true
 
 -- ---- how high
-
-abbrev held_height : Option Object → ℕ
-held_height None = 0
-held_height (Some o) = suc (rank o.thing)
 
 module _ (m : Machine) (s : State) (st : StandsFor m s) (sessions_once : SessionsApart m.parts) where
   abbrev p : Image
@@ -172,51 +167,56 @@ module _ (m : Machine) (s : State) (st : StandsFor m s) (sessions_once : Session
   seats_once : (n : ℕ) → IsOnce (service_of cs n).sessions
   seats_once n = subst IsOnce (st.agrees.services.clients.sessions n) (sessions_once n)
 
-  -- what a place holds is a message, or an object of one of the first 256 classes
-  rank_low : (r : Place) (o : Object) → held cs r ≡ Some o → rank o.thing ≤ 256
-  rank_low r o holds = go o.thing (cell_at m.parts.cells o.name) refl (st.agrees.cells.things o.name ∙ ap thing_of (held_lives cs r o tidy holds))
-    where
-      go : (t : Thing) (c : Option Held_cell) → cell_at m.parts.cells o.name ≡ c → thing_in (cell_at m.parts.cells o.name) ≡ cond (is_object t) (Some t) None → rank t ≤ 256
-      go Message c is told = omega arith
-      go (An_object_of k) None is told = absurd (none-some (An_object_of k) (sym (ap thing_in is) ∙ told))
-      go (An_object_of k) (Some c) is told =
-          let same = ap rank (same_Some (An_object_of c.class) (An_object_of k) (sym (ap thing_in is) ∙ told)) in
-          let small = st.agrees.cells.classes o.name c is in
-          omega (arith, same, small)
+  -- no thing stands higher than as many generations as there may be classes
+  abbrev height : Thing → ℕ
+  height x = min 256 (rank p st.sound.wired x)
+
+  abbrev held_height : Option Object → ℕ
+  held_height None = 0
+  held_height (Some o) = suc (height o.thing)
 
   low_enough : (r : Place) → held_height (held cs r) ≤ 257
-  low_enough r = go (held cs r) refl
+  low_enough r = go (held cs r)
     where
-      go : (o : Option Object) → held cs r ≡ o → held_height o ≤ 257
-      go None is = omega arith
-      go (Some o) is = let low = rank_low r o is in omega (arith, low)
+      go : (o : Option Object) → held_height o ≤ 257
+      go None = omega arith
+      go (Some o) = omega arith
 
-  thing_at : (r : Place) (o : Object) → held cs r ≡ Some o → HasThing (claim p (declared p cs) st.typed.layers r) o.thing
-  thing_at r o holds = fits_thing p (seen cs) o _ (subst (λ x. Fits p (seen cs) x (claim p (declared p cs) st.typed.layers r)) holds (st.typed.good.fits r))
+  -- and what stands over something is an object
+  is_high : (x y : Thing) → height x < height y → is_object y ≡ true
+  is_high x (An_object_of c) less = refl
+  is_high x Message less = absurd (omega (arith, less))
+
+  few_classes : length p.classes ≤ 256
+  few_classes = st.sound.formed.classes.count
 
   -- an object owns what stands lower
-  field_owner : (n f : ℕ) (x : Object) → held cs (Field n f) ≡ Some x → (o : Object) × (named cs n ≡ Some o) × (rank x.thing < rank o.thing)
+  field_owner : (n f : ℕ) (x : Object) → held cs (Field n f) ≡ Some x → (o : Object) × (named cs n ≡ Some o) × (height x.thing < height o.thing)
   field_owner n f x holds =
-      let owner = field_thing_of p st.typing cs st.typed.layers Now n f x.thing st.typed.good.stack (thing_at (Field n f) x holds) in
-      (owner.0, owner.1, lower_rank p st.sound.wired owner.0.thing x.thing f owner.2)
+      let y = kind_at p st.typing st.sound.wired s st.typed (Field n f) x holds in
+      let owner = field_thing_of p st.typing cs st.typed.layers Now n f y.0 st.typed.good.stack y.1 in
+      let less = lower_rank p st.sound.wired owner.0.thing y.0 x.thing f owner.2 y.2 in
+      let within = declaring p st.sound.wired owner.0.thing y.0 f owner.2 in
+      (owner.0, owner.1, omega (arith, less, within, few_classes))
 
-  session_owner : (n c : ℕ) (x : Object) → held cs (Elsewhere (Session n c)) ≡ Some x → (o : Object) × (named cs n ≡ Some o) × (rank x.thing < rank o.thing) × IsIn c (service_of cs n).sessions
+  session_owner : (n c : ℕ) (x : Object) → held cs (Elsewhere (Session n c)) ≡ Some x → (o : Object) × (named cs n ≡ Some o) × (height x.thing < height o.thing) × IsIn c (service_of cs n).sessions
   session_owner n c x holds =
-      let owner = session_thing_of p st.typing cs st.typed.layers Now n c x.thing st.typed.good.stack (thing_at (Elsewhere (Session n c)) x holds) in
-      (owner.0, owner.1, (session_lower p st.sound.wired owner.0 x.thing owner.3).0, among_is c (service_of cs n).sessions owner.2)
+      let owner = at_session p st.typing st.sound.wired s st.typed n c x holds in
+      let lower = session_lower p st.sound.wired owner.0 x.thing owner.3 in
+      (owner.0, owner.1, omega (arith, lower.0, lower.1, few_classes), among_is c (service_of cs n).sessions owner.2)
 
   -- of what a place holds
-  lower : (r : Place) (o x : Object) (f : ℕ) → held cs r ≡ Some o → held cs (Field o.name f) ≡ Some x → rank x.thing < rank o.thing
+  lower : (r : Place) (o x : Object) (f : ℕ) → held cs r ≡ Some o → held cs (Field o.name f) ≡ Some x → height x.thing < height o.thing
   lower r o x f holds below =
       let owner = field_owner o.name f x below in
-      let same = ap (λ (y : Object). rank y.thing) (same_Some owner.0 o (sym owner.1 ∙ held_lives cs r o tidy holds)) in
+      let same = ap (λ (y : Object). height y.thing) (same_Some owner.0 o (sym owner.1 ∙ held_lives cs r o tidy holds)) in
       let less = owner.2 in
       omega (arith, less, same)
 
-  lower_seat : (r : Place) (o x : Object) (c : ℕ) → held cs r ≡ Some o → held cs (Elsewhere (Session o.name c)) ≡ Some x → rank x.thing < rank o.thing
+  lower_seat : (r : Place) (o x : Object) (c : ℕ) → held cs r ≡ Some o → held cs (Elsewhere (Session o.name c)) ≡ Some x → height x.thing < height o.thing
   lower_seat r o x c holds below =
       let owner = session_owner o.name c x below in
-      let same = ap (λ (y : Object). rank y.thing) (same_Some owner.0 o (sym owner.1 ∙ held_lives cs r o tidy holds)) in
+      let same = ap (λ (y : Object). height y.thing) (same_Some owner.0 o (sym owner.1 ∙ held_lives cs r o tidy holds)) in
       let less = owner.2 in
       omega (arith, less, same)
 
@@ -243,17 +243,15 @@ module _ (m : Machine) (s : State) (st : StandsFor m s) (sessions_once : Session
   abbrev under_it : Object → (q : Place) → Up s q → ℕ
   under_it o q e = sum_to (λ f. occurs (Field o.name f) q e) 8 + sum_of (λ c. occurs (Elsewhere (Session o.name c)) q e) (service_of cs o.name).sessions
 
-  -- a message is not what something higher than messages is
-  no_owner : (r : Place) (o y : Object) (n : ℕ) → held cs r ≡ Some o → named cs n ≡ Some y → 0 < rank y.thing → o.thing ≡ Message → bit (o.name == n) ≡ 0
+  -- a message is no object
+  no_owner : (r : Place) (o y : Object) (n : ℕ) → held cs r ≡ Some o → named cs n ≡ Some y → is_object y.thing ≡ true → o.thing ≡ Message → bit (o.name == n) ≡ 0
   no_owner r o y n here there high message = go (o.name == n) refl
     where
       go : (b : Bool) → (o.name == n) ≡ b → bit b ≡ 0
       go false is = refl
       go true is =
           let same = same_Some o y (sym (held_lives cs r o tidy here) ∙ ap (named cs) (eqb-true o.name n is) ∙ there) in
-          let none = ap rank message in
-          let one = ap (λ (z : Object). rank z.thing) same in
-          absurd (omega (arith, none, one, high))
+          absurd (false≢true (sym (ap is_object message) ∙ ap (λ (z : Object). is_object z.thing) same ∙ high))
 
   -- what owns it on the way
   by_name : (r : Place) (o y : Object) (n : ℕ) → named cs n ≡ Some y → bit (o.name == y.name) ≡ bit (o.name == n)
@@ -325,11 +323,11 @@ module _ (m : Machine) (s : State) (st : StandsFor m s) (sessions_once : Session
       go (Some o) is low = absurd (omega (arith, low))
   hangs_on (suc fuel) w r q e x on low = go (λ w r low. hangs_on fuel w r q e x on low) (held cs r) refl low
     where
-      lower_still : (o : Object) → held cs r ≡ Some o → suc (rank o.thing) ≤ suc fuel → (f : ℕ) (y : Option Object) → held cs (Field o.name f) ≡ y → held_height y ≤ fuel
+      lower_still : (o : Object) → held cs r ≡ Some o → suc (height o.thing) ≤ suc fuel → (f : ℕ) (y : Option Object) → held cs (Field o.name f) ≡ y → held_height y ≤ fuel
       lower_still o is low f None there = omega arith
       lower_still o is low f (Some y) there = let less = lower r o y f is there in omega (arith, less, low)
 
-      lower_there : (o : Object) → held cs r ≡ Some o → suc (rank o.thing) ≤ suc fuel → (c : ℕ) (y : Option Object) → held cs (Elsewhere (Session o.name c)) ≡ y → held_height y ≤ fuel
+      lower_there : (o : Object) → held cs r ≡ Some o → suc (height o.thing) ≤ suc fuel → (c : ℕ) (y : Option Object) → held cs (Elsewhere (Session o.name c)) ≡ y → held_height y ≤ fuel
       lower_there o is low c None there = omega arith
       lower_there o is low c (Some y) there = let less = lower_seat r o y c is there in omega (arith, less, low)
 
@@ -511,13 +509,10 @@ module _ (m : Machine) (s : State) (st : StandsFor m s) (sessions_once : Session
   Leads r = (e : Up s r) × (ends_told e ≡ not (is_queue r))
 
   -- what waits in a queue is a message, which owns nothing
-  message_there : (n k : ℕ) (o : Object) → held cs (Elsewhere (Queued n k)) ≡ Some o → 0 < rank o.thing → ⊥
-  message_there n k o holds high =
-      let owner = queued_thing_of p cs st.typed.layers n k o.thing (thing_at (Elsewhere (Queued n k)) o holds) in
-      let none = ap rank (queued_lower p st.sound.wired owner.0 o.thing owner.3).0 in
-      omega (arith, none, high)
+  message_there : (n k : ℕ) (o : Object) → held cs (Elsewhere (Queued n k)) ≡ Some o → is_object o.thing ≡ true → ⊥
+  message_there n k o holds object = false≢true (sym (ap is_object (waiting_message p st.typing st.sound.wired s st.typed n k o holds)) ∙ object)
 
-  no_queue : (q : Place) (o : Object) → held cs q ≡ Some o → 0 < rank o.thing → is_queue q ≡ false
+  no_queue : (q : Place) (o : Object) → held cs q ≡ Some o → is_object o.thing ≡ true → is_queue q ≡ false
   no_queue (Elsewhere (Queued n k)) o holds high = absurd (message_there n k o holds high)
   no_queue (Elsewhere (Session n c)) o holds high = refl
   no_queue (Elsewhere Root) o holds high = refl
@@ -527,8 +522,8 @@ module _ (m : Machine) (s : State) (st : StandsFor m s) (sessions_once : Session
   no_queue (Going d) o holds high = refl
   no_queue (Field n f) o holds high = refl
 
-  up : (fuel : ℕ) (r : Place) (x : Object) → held cs r ≡ Some x → 256 < rank x.thing + fuel → Leads r
-  up zero r x holds high = let low = rank_low r x holds in absurd (omega (arith, low, high))
+  up : (fuel : ℕ) (r : Place) (x : Object) → held cs r ≡ Some x → 256 < height x.thing + fuel → Leads r
+  up zero r x holds high = absurd (omega (arith, high))
   up (suc fuel) (Register d i) x holds high =
       let there = sym (register_there parts.stack.tasks d i) ∙ number_there (Register d i) x holds in (
         up_register (task_there (Register d i) x holds d (over parts.stack.tasks d) (register_over (over parts.stack.tasks d) i) refl there (λ none. ap (λ o. register_over o i) none))
@@ -544,14 +539,14 @@ module _ (m : Machine) (s : State) (st : StandsFor m s) (sessions_once : Session
       let owner = field_owner n f x holds in
       let at = owner_there cs tidy n owner.0 owner.1 in
       let less = owner.2 in
-      let above : 0 < rank owner.0.thing = omega (arith, less) in
+      let above = is_high x.thing owner.0.thing less in
       let rest = up fuel at.0 owner.0 at.2 (omega (arith, less, high)) in
       (up_field owner.0 at.0 owner.1 at.2 above few rest.0, rest.1 ∙ ap not (no_queue at.0 owner.0 at.2 above))
   up (suc fuel) (Elsewhere (Session n c)) x holds high =
       let owner = session_owner n c x holds in
       let at = owner_there cs tidy n owner.0 owner.1 in
       let less = owner.2 in
-      let above : 0 < rank owner.0.thing = omega (arith, less) in
+      let above = is_high x.thing owner.0.thing less in
       let rest = up fuel at.0 owner.0 at.2 (omega (arith, less, high)) in
       (up_session owner.0 at.0 owner.1 at.2 above owner.3 rest.0, rest.1 ∙ ap not (no_queue at.0 owner.0 at.2 above))
   up (suc fuel) (Elsewhere Root) x holds high = (up_root, refl)

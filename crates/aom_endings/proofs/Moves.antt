@@ -39,7 +39,7 @@ use Rattle.aom_sound.specs.Words.{here}
 use Rattle.aom_sound.specs.Objects.{is_thing}
 use Rattle.aom_image.specs.declared.method.Thing.TheVariants.{Message}
 use Rattle.aom_endings.proofs.Services.{serves_unqueued, unchanged_unslotted, unchanged_served, session_unqueued, unchanged_completed, going_unqueued, tidy_unqueued, unchanged_unqueued}
-use Rattle.aom_sound.proofs.Things.{stands_same}
+use Rattle.aom_sound.proofs.Things.{stands_message}
 use Rattle.aom_shape.specs.declared.kind.Kind.TheVariants.{Own}
 use Rattle.aom_shape.specs.declared.kind.Age.TheVariants.{Ready}
 
@@ -111,7 +111,7 @@ module _ (p : Image) (t : Typing) (c : Choice) (fr : Frame) (ts : List Task) (s 
       (returned_unchanged p fr ts (record (counted p s) { cells = ended_cells p fr s.cells }) (gives_of p fr.method) a ts)
 
   is_message : (a : ℕ) (x : Object) → held s.cells (here fr ts (counted p s) a) ≡ Some x → is_thing p Message (held s.cells (here fr ts (counted p s) a)) ≡ true → x.thing ≡ Message
-  is_message a x there thing = stands_same p x.thing Message (sym (ap (is_thing p Message) there) ∙ thing)
+  is_message a x there thing = stands_message p x.thing (sym (ap (is_thing p Message) there) ∙ thing)
 
   silently : (i : Instr) → exchange i ≡ Nothing → AllTrue (needs p c fr ts (counted p s) i) → Tells Nothing i
   silently (Enlist priority) none met = silent (Enlist priority) (asked_same p c.answer s fr.home (Some (first_request s.cells priority)) (sym (none_owed (own_request s.cells fr.home) met.1.0)))
@@ -208,7 +208,7 @@ module _ (p : Image) (t : Typing) (s : State) where
       held s.cells (Elsewhere In_service) ≡ Some y → y.thing ≡ Message
   left_message x client code seats below good y there =
       let f = subst (λ o. FitsKind p (seen s.cells) o (Own Message Ready)) there (good.fits (Elsewhere In_service)) in
-      stands_same p y.thing Message f.0
+      stands_message p y.thing f.0
 
   stage_calm :
       (x : Seat) (client : ℕ) (stage : Stage) (seats : List Seat) (below : List Layer) → Good p t s.cells (Dispatching (Of_server x client stage) seats ∷ below) →

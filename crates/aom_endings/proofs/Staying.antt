@@ -14,7 +14,7 @@ use Rattle.aom_sound.proofs.ClientsEffects.{IsUsual, fine_effect}
 use Rattle.aom_sound.proofs.ClientsFacts.{serving_plain, waiting_well}
 use Rattle.aom_sound.proofs.ClientsTurn.{IsFound, on_none, same_bereaved, same_requested, turning_found}
 use Rattle.aom_sound.proofs.Guarded.{goes_same, guarded_goes, guarded_met}
-use Rattle.aom_sound.proofs.Things.{message_plain, stands_same}
+use Rattle.aom_sound.proofs.Things.{message_plain, stands_message}
 use Rattle.aom_sound.proofs.Turned.{Polled, answers, commanded_kept, nothing, polled_so}
 use Rattle.aom_sound.specs.Destruction.{gone, needs_gone, vanished}
 use Rattle.aom_sound.specs.Effects.{Returns, applied, effect, needs}
@@ -59,7 +59,7 @@ module _ (p : Image) (t : Typing) (wired : IsWired p) (c : Choice) (s : State) (
     reply_there a b met = there_by s.clients s.cells (dispatch_of ts) s.clients _ _ refl (calm_without p s.clients s.cells w.good.tidy kept.fit (here fr ts s a) (λ n c. refl) plain) refl below
       where
         plain : (o : Object) → held s.cells (here fr ts s a) ≡ Some o → is_server p o.thing ≡ false
-        plain o e = message_plain p o.thing (stands_same p o.thing Message (sym (ap (is_thing p Message) e) ∙ met.1.1.0))
+        plain o e = message_plain p o.thing (stands_message p o.thing (sym (ap (is_thing p Message) e) ∙ met.1.1.0))
 
     -- a method returns
     returns_there : (g : Gives) (a : ℕ) → AllThere (applied p fr ts (counted p s) (Returns g a))

@@ -30,17 +30,15 @@ use Rattle.aom_roles.specs.Classes.{kind_in}
 use Rattle.aom_roles.specs.Shapes.{kind_of}
 use Rattle.aom_shape.specs.Kinds.{is_object}
 use Rattle.aom_sound.proofs.Maps.{held_without, named_name, tidy_without}
-use Rattle.aom_sound.proofs.Owners.{IsQueuedAt, fits_thing, queued_lower, queued_thing_of}
+use Rattle.aom_sound.proofs.ClientsFacts.{waiting_message}
 use Rattle.aom_sound.proofs.Services.{service_unnamed}
-use Rattle.aom_sound.specs.Claims.{claim, declared}
 use Rattle.aom_sound.specs.Clients.{count_messages, most_of}
 use Rattle.aom_sound.specs.Enlisted.{thing_kind}
 use Rattle.aom_sound.specs.Kept.{ClientsFit, QueueFits}
 use Rattle.aom_sound.specs.Lines.{ended_line, queue_lines}
-use Rattle.aom_sound.specs.Places.{Asked, Cell, Close_of, Connect_of, Elsewhere, Going, Message_of, Object, Queued as Waits_at, Tidy, held, named, same_place, seen, service_of, without}
+use Rattle.aom_sound.specs.Places.{Asked, Cell, Close_of, Connect_of, Elsewhere, Going, Message_of, Object, Queued as Waits_at, Tidy, held, named, same_place, service_of, without}
 use Rattle.aom_sound.specs.Servers.{is_connect, is_message, seats_taken}
 use Rattle.aom_sound.specs.State.{Destroy, State, Task}
-use Rattle.aom_sound.specs.WellTyped.{Fits}
 use Rattle.aom_exec.proofs.StepLines.{going_lines, told_one}
 
 -- ---- messages that wait
@@ -133,10 +131,7 @@ module _ (p : Image) (m : Parts) (s : State) (st : StandsFor (record { image = p
   fit = st.kept.fit
 
   waits_message : (n k : ℕ) (x : Object) → held s.cells (Elsewhere (Waits_at n k)) ≡ Some x → is_object x.thing ≡ false
-  waits_message n k x there =
-      let y : IsQueuedAt p s.cells n k x.thing = queued_thing_of p s.cells st.typed.layers n k x.thing
-      (fits_thing p (seen s.cells) x _ (subst (λ y. Fits p (seen s.cells) y (claim p (declared p s.cells) st.typed.layers (Elsewhere (Waits_at n k)))) there (st.typed.good.fits (Elsewhere (Waits_at n k))))) in
-      ap is_object (queued_lower p st.sound.wired y.0 x.thing y.3).0
+  waits_message n k x there = ap is_object (waiting_message p st.typing st.sound.wired s st.typed n k x there)
 
   are_there : (n : ℕ) (es : List Asked) → QueueFits s.clients n es → ((k : ℕ) → list_any (is_message k) es ≡ true → list_any (is_message k) (service_of s.cells n).queue ≡ true) → AreThere s.cells n es
   are_there n [] fits each = tt

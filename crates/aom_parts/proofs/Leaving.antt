@@ -18,17 +18,16 @@ use Rattle.aom_messages.specs.Store.{Store, count, message_at}
 use Rattle.aom_roles.specs.Shapes.{kind_of}
 use Rattle.aom_rules.specs.Typing.{Typing}
 use Rattle.aom_shape.specs.Kinds.{is_object}
-use Rattle.aom_sound.proofs.Owners.{IsQueuedAt, fits_thing, queued_lower, queued_thing_of}
+use Rattle.aom_sound.proofs.ClientsFacts.{waiting_message as queued_message}
 use Rattle.aom_sound.proofs.Sifted.{a_cell_of, cell_in, cell_lives, cell_name, cell_of, cell_owner, cell_placed, held_cell, named_cell, object_in, request_in, requested_cell, service_cell, service_in, unqueued_so, withdrawn_so}
-use Rattle.aom_sound.specs.Claims.{claim, declared}
 use Rattle.aom_sound.specs.Enlisted.{thing_kind}
 use Rattle.aom_sound.specs.Requests.{Suits, states_claim}
 use Rattle.aom_sound.specs.Kept.{ClientsFit, QueueFits}
 use Rattle.aom_sound.specs.Laws.{IsWired}
-use Rattle.aom_sound.specs.Places.{Cell, Elsewhere, Object, Place as Owner, Queued as Waits_at, Sender, Service, held, requested, seen, service_of}
+use Rattle.aom_sound.specs.Places.{Cell, Elsewhere, Object, Place as Owner, Queued as Waits_at, Sender, Service, held, requested, service_of}
 use Rattle.aom_sound.specs.Servers.{has_message, holds_slot, is_among, is_from, is_message, is_queue, is_queue_of, left_by, withdrawn, without_queue}
 use Rattle.aom_sound.specs.State.{State}
-use Rattle.aom_sound.specs.WellTyped.{Fits, WellTyped}
+use Rattle.aom_sound.specs.WellTyped.{WellTyped}
 use Rattle.aom_parts.proofs.Beside.{Beside, beside_sifted, holds_sifted}
 use Rattle.aom_parts.proofs.Departing.{is_at}
 use Rattle.aom_parts.proofs.Forgetting.{Forgets, messages_sifted}
@@ -103,9 +102,7 @@ module _ (p : Image) (t : Typing) (wired : IsWired p) (s : State) (w : WellTyped
   waiting_message n x e h =
       let q = queue_owner x.owner h in
       let there : held s.cells (Elsewhere (Waits_at q.0 q.1)) ≡ Some x.object = ap (held s.cells) (sym q.2) ∙ held_cell s.cells x.owner ∙ ap object_in (cell_placed s.cells n x w.good.tidy e) in
-      let y : IsQueuedAt p s.cells q.0 q.1 x.object.thing = queued_thing_of p s.cells w.layers q.0 q.1 x.object.thing
-      (fits_thing p (seen s.cells) x.object _ (subst (λ y. Fits p (seen s.cells) y (claim p (declared p s.cells) w.layers (Elsewhere (Waits_at q.0 q.1)))) there (w.good.fits (Elsewhere (Waits_at q.0 q.1))))) in
-      ap is_object (queued_lower p wired y.0 x.object.thing y.3).0
+      ap is_object (queued_message p t wired s w q.0 q.1 x.object there)
 
   -- and its number is past those of cells
   message_place : (before : Store) → SameMessages p before s.cells → (n : ℕ) (x : Cell) → cell_of s.cells n ≡ Some x → is_queue x.owner ≡ true → (m : ℕ) × (n ≡ message_name m)

@@ -20,18 +20,17 @@ use Rattle.aom_sound.proofs.ClientsFacts.{queued_well, waiting_well}
 use Rattle.aom_sound.proofs.ClientsFit.{leaving_only}
 use Rattle.aom_sound.proofs.ClientsGone.{open_server}
 use Rattle.aom_sound.proofs.Maps.{one_place, same_place-true}
-use Rattle.aom_sound.proofs.Owners.{IsQueuedAt, fits_thing, queued_thing_of}
+use Rattle.aom_sound.proofs.Owners.{in_queue}
 use Rattle.aom_sound.proofs.Queues.{none_passes}
 use Rattle.aom_sound.proofs.Sifted.{a_cell_of, cell_in, cell_lives, cell_name, cell_of, cell_owner, cell_placed, held_cell, named_cell, object_in, service_cell, service_in}
 use Rattle.aom_sound.proofs.Sources.{has_sender}
-use Rattle.aom_sound.specs.Claims.{claim, declared}
 use Rattle.aom_sound.specs.Clients.{client_at}
 use Rattle.aom_sound.specs.Kept.{ClientsFit, EntryFits, QueueFits, is_close_of, is_connect_of, is_message_of}
 use Rattle.aom_sound.specs.Laws.{IsWired}
-use Rattle.aom_sound.specs.Places.{Asked, Cell, Close_of, Connect_of, Elsewhere, Message_of, Object, Place as Owner, Queued as Waits_at, Sender, Service, Tidy, held, named, same_place, seen, service_of}
+use Rattle.aom_sound.specs.Places.{Asked, Cell, Close_of, Connect_of, Elsewhere, Message_of, Object, Place as Owner, Queued as Waits_at, Sender, Service, Tidy, held, named, same_place, service_of}
 use Rattle.aom_sound.specs.Servers.{has_message, holds_slot, is_among, is_from, is_message, is_queue}
 use Rattle.aom_sound.specs.State.{State}
-use Rattle.aom_sound.specs.WellTyped.{Fits, WellTyped}
+use Rattle.aom_sound.specs.WellTyped.{WellTyped}
 use Rattle.aom_parts.proofs.Departing.{is_at}
 use Rattle.aom_parts.proofs.Serving.{taken_sent}
 use Rattle.aom_parts.proofs.Vanishing.{asks_message}
@@ -129,10 +128,7 @@ module _ (p : Image) (clients : List Client) (cs : List Cell) (fit : ClientsFit 
 module _ (p : Image) (t : Typing) (wired : IsWired p) (s : State) (w : WellTyped p t s) (clients : List Client) (fit : ClientsFit p clients s.cells) where
   -- what waits in a queue is asked for there, by its name
   pub asked_there : (n m : ℕ) (x : Object) → held s.cells (Elsewhere (Waits_at n m)) ≡ Some x → (x.name ≡ m) × (has_message (service_of s.cells n) m ≡ true)
-  asked_there n m x e =
-      let y : IsQueuedAt p s.cells n m x.thing = queued_thing_of p s.cells w.layers n m x.thing
-      (fits_thing p (seen s.cells) x _ (subst (λ y. Fits p (seen s.cells) y (claim p (declared p s.cells) w.layers (Elsewhere (Waits_at n m)))) e (w.good.fits (Elsewhere (Waits_at n m))))) in
-      (fit.names n m x e, y.2)
+  asked_there n m x e = (fit.names n m x e, (in_queue p t wired s w n m x e).2)
 
   -- and what is asked for waits there
   pub waiting_there : (n m : ℕ) → has_message (service_of s.cells n) m ≡ true → (x : Object) × (held s.cells (Elsewhere (Waits_at n m)) ≡ Some x) × (x.name ≡ m)

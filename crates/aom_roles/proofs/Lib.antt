@@ -1,2 +1,3 @@
+pub mod Descending
 pub mod Each
 pub mod Views

@@ -1,3 +1,4 @@
+pub mod Families
 pub mod Classes
 pub mod Roles
 pub mod Shapes

@@ -11,7 +11,7 @@ use Rattle.aom_image.specs.declared.method.Thing.{Thing}
 use Rattle.aom_instructions.specs.declared.instr.Instr.TheVariants.{Return}
 use Rattle.aom_rules.specs.Calls.{entries_done, result_moved, rule_result}
 use Rattle.aom_rules.specs.Typing.{Typing}
-use Rattle.aom_shape.specs.Kinds.{filled, is_object_or_null, no_entry, none_owns, register, set_register}
+use Rattle.aom_shape.specs.Kinds.{filled, no_entry, none_owns, register, set_register}
 use Rattle.aom_shape.specs.Needs.{AllTrue}
 use Rattle.aom_shape.specs.Shape.{Shape}
 use Rattle.aom_shape.specs.declared.kind.Age.TheVariants.{Ready}
@@ -22,7 +22,8 @@ use Rattle.aom_sound.proofs.Claimed.{claim-set_register, claim_rel, fits_age, ke
 use Rattle.aom_sound.proofs.Finishing.{Returnable, ended, ended_plainly, return_needs, returnable, same_items}
 use Rattle.aom_sound.proofs.Items.{forms_below, mark_on_top, undos_below}
 use Rattle.aom_sound.proofs.Maps.{held_moved, named_moved, requested_moved, same_place-true, tidy_moved}
-use Rattle.aom_sound.proofs.Returning.{held_thing, may_own}
+use Rattle.aom_sound.proofs.Returning.{held_thing}
+use Rattle.aom_sound.proofs.Widening.{Widens, own_widens}
 use Rattle.aom_sound.proofs.Seats.{first_kept, sits_kept}
 use Rattle.aom_sound.proofs.Services.{held_served, named_served, requested_served, service_here, service_moved, service_there, sits_lives, tidy_served}
 use Rattle.aom_sound.proofs.Straight.{At, Law, claim_register, fits_unowning, register_fits, word_of_object}
@@ -139,8 +140,8 @@ module _ (p : Image) (t : Typing) (c : Choice) (s : State) (fr : Frame) (sh : Sh
     rule : AllTrue (rule_result p fr.method fr.place sh (An_own thing) a)
     rule = subst (λ g. AllTrue (rule_result p fr.method fr.place sh g a)) gives r.result
 
-    given : register sh a ≡ Own thing Ready
-    given = may_own p s thing (register sh a) rule.0 rule.1.0
+    given : Widens p (register sh a) (Own thing Ready)
+    given = own_widens p thing (register sh a) rule.0 rule.1.0
 
     entries : no_entry sh.entries ≡ true
     entries = ap (λ g. entries_done p g sh.entries) (sym gives) ∙ r.entries
@@ -166,7 +167,7 @@ module _ (p : Image) (t : Typing) (c : Choice) (s : State) (fr : Frame) (sh : Sh
             let its_claim : claim p (declared p cs2) (Dispatching (Of_server x client Accepted) seats ∷ ls) to ≡ Own thing Ready =
             ap (λ l. claim p (declared p cs2) l to) at_hand.good.stack.4.1.1 ∙ declared_now in
             subst (λ y. Fits p (seen cs1) (held cs1 r) (claim p (declared p cs2) (Dispatching (Of_server x client Accepted) seats ∷ ls) y)) (same_place-true to r e)
-            (subst (λ y. Fits p (seen cs1) (held cs1 r) y) (claim_register p (declared p cs) fr sh below a ∙ given ∙ sym its_claim) f)
+            (subst (λ y. Fits p (seen cs1) (held cs1 r) y) (sym its_claim) (given.fits (seen cs1) (held cs1 r) (subst (λ y. Fits p (seen cs1) (held cs1 r) y) (claim_register p (declared p cs) fr sh below a) f)))
         go false e f =
             let bare = subst (λ y. Fits p (seen cs1) (held cs1 r) y) (sym (claim-set_register p (declared p cs) fr sh below a Null r)) f in
             let over =
@@ -214,8 +215,8 @@ module _ (p : Image) (t : Typing) (c : Choice) (s : State) (fr : Frame) (sh : Sh
 
     needs_met : AllTrue (result_needs p fr (tasks_of below) s (An_own thing) a)
     needs_met =
-        let h = held_thing p s thing (held cs q) (subst (λ k. Fits p (seen cs) (held cs q) k) given (register_fits p cs fr sh below at_hand.good.fits a)) in
-        (ap is_none (word_of_object (word fr a) (register sh a) (ap is_object_or_null given) (at_hand.good.stack.1.words a)), (h.0, (h.1, tt)))
+        let h = held_thing p s thing (held cs q) (given.fits (seen cs) (held cs q) (register_fits p cs fr sh below at_hand.good.fits a)) in
+        (ap is_none (word_of_object (word fr a) (register sh a) given.object (at_hand.good.stack.1.words a)), (h.0, (h.1, tt)))
 
   pub law_return_accepted : Law p t c s fr sh below at_hand (Return a)
   law_return_accepted needed leads =

@@ -1,5 +1,5 @@
 -- What a call says of its arguments, its target and the class of the method called.
-use Rattle.std.proofs.Common.{[], Bool, List, None, Option, Some, ap, arith, cond, false, inl, inr, length, refl, suc, sym, true, ℕ, ◌&&◌, ◌+◌, ◌<◌, ◌==◌, ◌∙◌, ◌∷◌, ◌≡◌, ◌≤◌}
+use Rattle.std.proofs.Common.{[], Bool, List, None, Option, Some, ap, arith, cond, false, inl, inr, length, refl, subst, suc, sym, true, ℕ, ◌&&◌, ◌+◌, ◌<◌, ◌==◌, ◌∙◌, ◌∷◌, ◌≡◌, ◌≤◌}
 use Rattle.std.proofs.lemmas.Bool.{and_from, ne_eqb, true≢false}
 use Rattle.std.proofs.lemmas.Bool.Decides.{leb_tells}
 use Rattle.std.specs.Prelude.{not, replicate, ◌⊎◌}
@@ -29,12 +29,14 @@ use Rattle.aom_sound.specs.Calls.{passed_cells}
 use Rattle.aom_sound.specs.Claims.{Layer, Method, tasks_of}
 use Rattle.aom_sound.specs.Places.{Cell, Object, Place, Sight, held, moved, same_place}
 use Rattle.aom_sound.specs.State.{Frame, Home, Inside, State, home_holder, thing_holder}
-use Rattle.aom_sound.specs.WellTyped.{Fits, IsBelow}
+use Rattle.aom_sound.specs.WellTyped.{Fits, Houses, IsBelow}
 use Rattle.aom_sound.specs.Requests.{thing_kind}
+use Rattle.aom_roles.proofs.Descending.{one_class}
+use Rattle.aom_roles.specs.Families.{descends}
 use Rattle.aom_roles.specs.Shapes.{kind_of}
 use Rattle.aom_sound.specs.Enlisted.{cancel_method}
 use Rattle.aom_sound.specs.Laws.{IsWired}
-use Rattle.aom_image.specs.Views.{is_quiet, method_class}
+use Rattle.aom_image.specs.Views.{is_quiet, method_class, method_role}
 use Rattle.aom_classes.specs.Roles.{role_of}
 
 -- the kind of class of what a member is
@@ -153,5 +155,21 @@ cancel_quiet p wired x m e = grind arith
 class_of_member : (r : Option Role) (class : Option ℕ) (c : ℕ) → Member c ≡ holder_by r class → class ≡ Some c
 class_of_member x class c e = grind arith
 
-pub cancel_class : (p : Image) (h : Home) (m k : ℕ) → home_holder h ≡ holder_of p m → cancel_method p h ≡ Some k → (c : ℕ) × (method_class p m ≡ Some c) × (role_of p c Cancel ≡ Some k)
-cancel_class p x m k h e = grind arith
+cancelled_home : (p : Image) (h : Home) (k : ℕ) → cancel_method p h ≡ Some k → (b : ℕ) × (home_holder h ≡ Member b) × (role_of p b Cancel ≡ Some k)
+cancelled_home p x k e = grind arith
+
+pub cancel_family :
+    (p : Image) (h : Home) (m k : ℕ) → Houses p (home_holder h) (holder_of p m) → cancel_method p h ≡ Some k →
+    (b c : ℕ) × (method_class p m ≡ Some c) × (descends p b c ≡ true) × (role_of p b Cancel ≡ Some k)
+cancel_family p h m k houses e =
+    let home = cancelled_home p h k e in
+    let works = houses.works home.0 home.1 in
+    let above = houses.member works.0 works.1 in
+    let same : above.0 ≡ home.0 = let both = sym above.1 ∙ home.1 in cc in
+    (home.0, works.0, class_of_member (method_role p m) (method_class p m) works.0 (sym works.1), subst (λ b. descends p b works.0 ≡ true) same above.2, home.2)
+
+-- it is of the method's own class, while no class has a parent
+pub cancel_class : (p : Image) (h : Home) (m k : ℕ) → Houses p (home_holder h) (holder_of p m) → cancel_method p h ≡ Some k → (c : ℕ) × (method_class p m ≡ Some c) × (role_of p c Cancel ≡ Some k)
+cancel_class p h m k houses e =
+    let its = cancel_family p h m k houses e in
+    (its.1, its.2, subst (λ c. role_of p c Cancel ≡ Some k) (one_class p its.0 its.1 its.3) its.4)

@@ -11,7 +11,7 @@ use Rattle.aom_image.specs.declared.method.Gives.{Gives}
 use Rattle.aom_image.specs.declared.method.Gives.TheVariants.{Left, Nothing}
 use Rattle.aom_image.specs.declared.method.Role.TheVariants.{Construct, Do}
 use Rattle.aom_image.specs.declared.method.Thing.{Thing}
-use Rattle.aom_image.specs.declared.method.Thing.TheVariants.{Object as An_object_of}
+use Rattle.aom_image.specs.declared.method.Thing.TheVariants.{Message as A_message, Object as An_object_of}
 use Rattle.aom_rules.specs.Calls.{age_need, awaits, is_among, is_target, rule_target, stands_here, while_called}
 use Rattle.aom_rules.specs.Requests.{begins_here, begins_there, is_cancel, is_construct, may_begin, resting}
 use Rattle.aom_shape.specs.Arguments.{argument_kind, arguments_moved, before_of, entry_fields, entry_shape}
@@ -38,13 +38,15 @@ use Rattle.aom_sound.proofs.Jumps.{words_kept}
 use Rattle.aom_sound.proofs.Maps.{at-put_at, held_lives, same_place-true}
 use Rattle.aom_sound.proofs.Passing.{Passed, filled_weaker_below, filling, lower, under, upper}
 use Rattle.aom_sound.proofs.Straight.{At, claim_field, claim_register, field_fits, field_not_from, field_outside, fits_unowning, kind_fits, top, word_of_object}
-use Rattle.aom_sound.proofs.Things.{stands_along, stands_same}
+use Rattle.aom_sound.proofs.Things.{stands_along}
+use Rattle.aom_sound.proofs.Housing.{houses_family, houses_field, houses_same}
+use Rattle.aom_roles.specs.Families.{descends}
 use Rattle.aom_sound.specs.Calls.{entry_place, home_at, needs_result, needs_target, needs_target_object, own_home, passed_cells, passed_words, target_home, works_on}
 use Rattle.aom_sound.specs.Claims.{serves, delivered, Layer, Method, claim, declared, declared_field, entry_claim, forms, home_claim, items_of, layer_claim, objects, root_claim, tasks_of}
 use Rattle.aom_sound.specs.Laws.{IsCalled, IsWired}
 use Rattle.aom_sound.specs.Places.{In_service, Cell, Elsewhere, Entry, Field, Going, Object, Place, Register, Root, held, named, requested, same_place, seen}
 use Rattle.aom_sound.specs.State.{AtRoot, Choice, Frame, Home, Inside, Run, State, Static, WrongKind, field_place, frame_of, home_holder, thing_holder, word}
-use Rattle.aom_sound.specs.WellTyped.{IsServed, AllUndo, Awaits, Back, Fits, Good, Holds, IsApart, IsBelow, IsHoused, IsNoFieldOf, NotIn, Returns, Stack, Stands, Unclaimed, WellTyped, WordFits, WorksOn, by_field}
+use Rattle.aom_sound.specs.WellTyped.{Houses, IsServed, AllUndo, Awaits, Back, Fits, Good, Holds, IsApart, IsBelow, IsHoused, IsNoFieldOf, NotIn, Returns, Stack, Stands, Unclaimed, WellTyped, WordFits, WorksOn, by_field}
 use Rattle.aom_sound.proofs.Callees.{apart_from, below_more, filled_ready, fits_fresh, held_own, holder_called, holder_member, holder_static, home_member, member_kind, moved_entries, moved_register, own_for, passed_elsewhere}
 use Rattle.aom_sound.specs.Requests.{AllSuit, Known, Suits, Unworked, known_at, resting_in, rests_in, states_claim, thing_kind, works_at}
 use Rattle.aom_roles.specs.Shapes.{kind_of}
@@ -109,7 +111,7 @@ module _ (p : Image) (t : Typing) (wired : IsWired p) (typed : IsTyped p t) (c :
     pub words : (i : ℕ) → WordFits (word fr i) (register sh' i)
     pub housed : IsHoused p cs (Method fr sh' ∷ ls) home
     pub apart : IsApart p home (Method fr sh' ∷ ls)
-    pub holder : home_holder home ≡ holder_of p m
+    pub holder : Houses p (home_holder home) (holder_of p m)
     pub owning : (i : ℕ) → is_unowning (register sh' i) ≡ is_unowning (register after_arguments i)
     pub items : objects sh'.entries (items_of ls) ≡ objects sh.entries (items_of ls)
     pub fields : FieldsBegin home
@@ -138,7 +140,15 @@ module _ (p : Image) (t : Typing) (wired : IsWired p) (typed : IsTyped p t) (c :
     begins home sh' e after w (Field n f) = go home e.fields
       where
         go : (home : Home) → FieldsBegin home → Fits p (seen cs) (held cs (Field n f)) (home_claim p home after n f (claim p (declared p cs) (Method fr sh' ∷ ls) (Field n f)))
-        go x b = grind (arith, eqb-true, fits_weaker, filled_weaker)
+        go Static b = e.fits (Field n f)
+        go AtRoot b = e.fits (Field n f)
+        go (Inside o from) b = inside (o.name == n) refl
+          where
+            inside : (at : Bool) → (o.name == n) ≡ at → Fits p (seen cs) (held cs (Field n f)) (cond at (filled (field_thing p (thing_holder o.thing) f) (field after f)) (claim p (declared p cs) (Method fr sh' ∷ ls) (Field n f)))
+            inside true same =
+                subst (λ k. Fits p (seen cs) (held cs (Field k f)) (filled (field_thing p (thing_holder o.thing) f) (field after f))) (eqb-true o.name n same)
+                (fits_weaker p (seen cs) (held cs (Field o.name f)) (filled_weaker (field_thing p (thing_holder o.thing) f) (w.fields f)) (b f))
+            inside false other = e.fits (Field n f)
     begins home sh' e after w (Elsewhere Root) = go home e.fields
       where
         go : (home : Home) → FieldsBegin home → Fits p (seen cs) (held cs (Elsewhere Root)) (claims_over home after sh' (Elsewhere Root))
@@ -258,7 +268,7 @@ module _ (p : Image) (t : Typing) (wired : IsWired p) (typed : IsTyped p t) (c :
       words = passed.words;
       housed = tt;
       apart = tt;
-      holder = sym (ap (λ k. holder_by (method_role p m) k) e ∙ holder_static (method_role p m) is_called.role);
+      holder = houses_same p _ _ (sym (ap (λ k. holder_by (method_role p m) k) e ∙ holder_static (method_role p m) is_called.role));
       owning = λ i. refl;
       items = ap (λ es. objects es (items_of ls)) (moved_entries xs first sh);
       fields = tt;
@@ -283,7 +293,11 @@ module _ (p : Image) (t : Typing) (wired : IsWired p) (typed : IsTyped p t) (c :
     target_kind :
         (y : ℕ) (x : Object) (z : Thing) → method_class p m ≡ Some y → stands_for p x.thing z ≡ true → stands_for p z (An_object_of y) ≡ true →
         thing_kind p x.thing ≡ kind_of p (method_class p m)
-    target_kind y x z class a b = ap (thing_kind p) (stands_same p x.thing (An_object_of y) (stands_along p x.thing z (An_object_of y) a b)) ∙ ap (kind_of p) (sym class)
+    target_kind y x z class a b = of_family x.thing (stands_along p x.thing z (An_object_of y) a b) ∙ ap (kind_of p) (sym class)
+      where
+        of_family : (v : Thing) → stands_for p v (An_object_of y) ≡ true → thing_kind p v ≡ kind_of p (Some y)
+        of_family (An_object_of b) stands = wired.family.kinds b y stands
+        of_family A_message stands = cc
 
     -- it is not the caller's own
     settles_not :
@@ -309,9 +323,9 @@ module _ (p : Image) (t : Typing) (wired : IsWired p) (typed : IsTyped p t) (c :
 
     -- a method of the caller's own object
     on_own :
-        (ended : ℕ) (k : ℕ) (o : Object) (from : Place) → fr.home ≡ Inside o from → thing_holder o.thing ≡ Member k → method_class p m ≡ Some k → method_role p m ≡ Some Do →
+        (ended : ℕ) (k b : ℕ) (o : Object) (from : Place) → fr.home ≡ Inside o from → thing_holder o.thing ≡ Member b → descends p b k ≡ true → method_class p m ≡ Some k → method_role p m ≡ Some Do →
         IsTrue (has (before_of p m) after_arguments.states) → Entering ended (Inside o from) (worked ended)
-    on_own ended k o from eh member class role before =
+    on_own ended k b o from eh member stands class role before =
         let holds : Holds p cs ls o from = subst (λ h. IsHoused p cs ls h) eh passed.housed in
         let apart : IsApart p (Inside o from) ls = subst (λ h. IsApart p h ls) eh at_hand.good.stack.3 in
         let apart' : IsApart p (Inside o from) (Method fr (worked ended) ∷ ls) = (apart.0, (subst (λ h. NotIn o.name h) (sym eh) apart.0, apart.1), own_fields, inl own_home_works) in
@@ -322,12 +336,12 @@ module _ (p : Image) (t : Typing) (wired : IsWired p) (typed : IsTyped p t) (c :
           words = passed.words;
           housed = record { there = holds.there; lives = holds.lives; below = below_more from fr (worked ended) ls holds.below; ready = ap is_ready_kind (claim_from p (λ r. Null) fr o from (worked ended) ls eh apart.0 holds.below) ∙ holds.ready };
           apart = apart';
-          holder = member ∙ sym (ap (λ c. holder_by (method_role p m) c) class ∙ holder_called (method_role p m) k is_called.role);
+          holder = subst (λ h. Houses p h (holder_of p m)) (sym member) (subst (λ h. Houses p (Member b) h) (sym (ap (λ c. holder_by (method_role p m) c) class ∙ holder_called (method_role p m) k is_called.role)) (houses_family p wired.family b k stands));
           owning = λ i. refl;
           items = ap (λ es. objects es (items_of ls)) (moved_entries xs first sh);
           fields = do_fields o from (worked ended) fits holds.lives apart' role;
           suits = other_suits;
-          begun = (own_begun holds.lives, member_kind p o.thing k member ∙ ap (kind_of p) (sym class));
+          begun = (own_begun holds.lives, member_kind p o.thing b member ∙ wired.family.kinds b k stands ∙ ap (kind_of p) (sym class));
           settles = λ x q e w. refl;
         }
       where
@@ -370,10 +384,14 @@ module _ (p : Image) (t : Typing) (wired : IsWired p) (typed : IsTyped p t) (c :
     target_met : (y : ℕ) (o : Option Object) (x : Object) (z : Thing) → o ≡ Some x → stands_for p x.thing z ≡ true → stands_for p z (An_object_of y) ≡ true → AllTrue (needs_target_object p (Some y) o)
     target_met y o x z e a b = subst (λ o. AllTrue (needs_target_object p (Some y) o)) (sym e) (refl, (stands_along p x.thing z (An_object_of y) a b, tt))
 
-    target_holder : (y : ℕ) (x : Object) (z : Thing) → method_class p m ≡ Some y → stands_for p x.thing z ≡ true → stands_for p z (An_object_of y) ≡ true → thing_holder x.thing ≡ holder_of p m
+    target_holder : (y : ℕ) (x : Object) (z : Thing) → method_class p m ≡ Some y → stands_for p x.thing z ≡ true → stands_for p z (An_object_of y) ≡ true → Houses p (thing_holder x.thing) (holder_of p m)
     target_holder y x z class a b =
-        ap thing_holder (stands_same p x.thing (An_object_of y) (stands_along p x.thing z (An_object_of y) a b))
-        ∙ sym (ap (λ c. holder_by (method_role p m) c) class ∙ holder_called (method_role p m) y is_called.role)
+        subst (λ h. Houses p (thing_holder x.thing) h) (sym (ap (λ c. holder_by (method_role p m) c) class ∙ holder_called (method_role p m) y is_called.role))
+        (of_family x.thing (stands_along p x.thing z (An_object_of y) a b))
+      where
+        of_family : (v : Thing) → stands_for p v (An_object_of y) ≡ true → Houses p (thing_holder v) (Member y)
+        of_family (An_object_of b) stands = houses_family p wired.family b y stands
+        of_family A_message stands = cc
 
     -- a construct method works on a fresh object, another on a ready one
     age_of : (k : Kind) → AllTrue (age_need (is_construct (method_role p m)) k ∷ []) → (method_role p m ≡ Some Do) ⊎ ((method_role p m ≡ Some Construct) × (is_fresh_kind k ≡ true))
@@ -655,14 +673,13 @@ module _ (p : Image) (t : Typing) (wired : IsWired p) (typed : IsTyped p t) (c :
         go None f = let clash : false ≡ true = sym (ap (λ x. stands_here p x (method_class p m)) f ∙ ap (λ x. stands_here p None x) e) ∙ n.0 in cc
         go (Some y) f =
             let stands : stands_for p (An_object_of y) (An_object_of k) ≡ true = sym (ap (λ x. stands_here p x (method_class p m)) f ∙ ap (λ x. stands_here p (Some y) x) e) ∙ n.0 in
-            let same : An_object_of y ≡ An_object_of k = stands_same p (An_object_of y) (An_object_of k) stands in
-            let holder : home_holder fr.home ≡ Member y =
-            at_hand.good.stack.1.holder ∙ ap (λ x. holder_by (method_role p fr.method) x) f
-            ∙ holder_member (method_role p fr.method) y (λ r. let clash : Some y ≡ None = sym f ∙ wired.static_main fr.method r in cc) in
-            let w = home_member fr.home y holder in (
-              (ap (λ k. works_on p k (home_holder fr.home)) e ∙ ap (λ h. works_on p (Some k) h) holder ∙ stands, tt),
+            let houses = at_hand.good.stack.1.holder.member y (ap (λ x. holder_by (method_role p fr.method) x) f
+            ∙ holder_member (method_role p fr.method) y (λ r. let clash : Some y ≡ None = sym f ∙ wired.static_main fr.method r in cc)) in
+            let above : descends p houses.0 k ≡ true = stands_along p (An_object_of houses.0) (An_object_of y) (An_object_of k) houses.2 stands in
+            let w = home_member fr.home houses.0 houses.1 in (
+              (ap (λ k. works_on p k (home_holder fr.home)) e ∙ ap (λ h. works_on p (Some k) h) houses.1 ∙ above, tt),
               subst (λ x. Entering ended (own_home x fr.home) (while_called This x ended after_arguments)) (sym e)
-                  (subst (λ h. Entering ended h (worked ended)) (sym w.2) (on_own ended k w.0 w.1 w.2 (w.3 ∙ ap thing_holder same) e does_not_construct (ap (λ c. begins_here p m c after_arguments.states) (sym e) ∙ may))),
+                  (subst (λ h. Entering ended h (worked ended)) (sym w.2) (on_own ended k houses.0 w.0 w.1 w.2 w.3 above e does_not_construct (ap (λ c. begins_here p m c after_arguments.states) (sym e) ∙ may))),
             )
 
     on_owned :
@@ -687,7 +704,9 @@ module _ (p : Image) (t : Typing) (wired : IsWired p) (typed : IsTyped p t) (c :
     on_kept ended f None e n may = let clash : false ≡ true = sym (ap (λ x. is_target p x (filled (field_thing p (holder_of p fr.method) f) (field sh f))) e) ∙ n.0 in cc
     on_kept ended f (Some y) e n may =
         let kind : Kind = filled (field_thing p (home_holder fr.home) f) (field sh f) in
-        let same : kind ≡ filled (field_thing p (holder_of p fr.method) f) (field sh f) = ap (λ h. filled (field_thing p h f) (field sh f)) at_hand.good.stack.1.holder in
+        let declared_there = something (field_thing p (holder_of p fr.method) f) (field sh f) in
+        let v = own_for p (An_object_of y) (filled (field_thing p (holder_of p fr.method) f) (field sh f)) (sym (ap (λ x. is_target p x (filled (field_thing p (holder_of p fr.method) f) (field sh f))) e) ∙ n.0) in
+        let same : kind ≡ filled (field_thing p (holder_of p fr.method) f) (field sh f) = ap (λ x. filled x (field sh f)) (houses_field p _ _ f at_hand.good.stack.1.holder (declared_there v.0 v.1 v.2)) in
         let w =
         own_for p (An_object_of y) kind (ap (λ k. is_own_for p (An_object_of y) k) same ∙ sym (ap (λ x. is_target p x (filled (field_thing p (holder_of p fr.method) f) (field sh f))) e) ∙ n.0) in
         let there = something (field_thing p (home_holder fr.home) f) (field sh f) w.0 w.1 w.2 in

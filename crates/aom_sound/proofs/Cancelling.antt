@@ -35,6 +35,7 @@ use Rattle.aom_sound.proofs.Requesting.{OfObject, active_home, active_listed, ha
 use Rattle.aom_sound.proofs.Storing.{Alike, fits_alike, housed_alike, listed_still, on_some, requested_here, requested_there, rerequested_alike, stack_alike}
 use Rattle.aom_sound.proofs.Straight.{At, Law, fits_unowning, settle, stepped, well}
 use Rattle.aom_sound.proofs.Suiting.{same_object}
+use Rattle.aom_sound.proofs.Housing.{houses_same}
 use Rattle.aom_sound.specs.Claims.{serves, Layer, Method, claim, declared, entry_claim, home_claim, items_of, objects, root_claim, tasks_of}
 use Rattle.aom_sound.specs.Calls.{result_register}
 use Rattle.aom_sound.specs.Effects.{applied, cancels_if}
@@ -336,7 +337,7 @@ module _ (p : Image) (t : Typing) (wired : IsWired p) (typed : IsTyped p t) (c :
         begins.1,
         record {
           words = λ i. subst (λ k. WordFits None k) (sym (unset i)) tt;
-          holder = holder;
+          holder = houses_same p _ _ holder;
           height = sym (length_forms s.items) ∙ ap length at_hand.items;
           alone = λ cancels. subst (λ h. IsAlone p h over) (sym it.home) alone;
           message = (λ serving. absurd (true≢false (sym serving ∙ ap is_service role)), λ served. absurd served);

@@ -16,7 +16,7 @@ use Rattle.aom_shape.specs.declared.kind.Kind.TheVariants.{Null, Own}
 use Rattle.aom_shape.specs.declared.kind.Delivery.{Delivery}
 use Rattle.aom_sound.proofs.Destroying.{Untouched, untouched}
 use Rattle.aom_sound.proofs.Maps.{named_name}
-use Rattle.aom_sound.proofs.Owners.{HasThing, IsQueuedAt, fits_thing, queued_lower, queued_thing_of}
+use Rattle.aom_sound.proofs.Owners.{HasThing, StandsIn, fits_thing, in_queue, queued_lower}
 use Rattle.aom_sound.proofs.Picking.{own_held}
 use Rattle.aom_sound.proofs.Services.{service_unnamed}
 use Rattle.aom_sound.specs.Claims.{Dispatching, Dying, Ending, Layer, Mark, Method, Unwinding, by_stage, claim, declared, delivered, serves, tasks_of}
@@ -26,7 +26,8 @@ use Rattle.aom_sound.specs.Places.{Asked, Cell, Close_of, Connect_of, Elsewhere,
 use Rattle.aom_sound.specs.Servers.{has_message, is_message, is_server, message_thing}
 use Rattle.aom_sound.specs.State.{Closing, Destroy, Dispatch, Dispatched, Of_server, Run, Seat, Service_left, Serves, Stage, State, Task, Trapped, Unwind}
 use Rattle.aom_sound.specs.WellTyped.{AllSit, Back, Caught, Fits, Gone, IsAttended, Leaves, Now, Returns, SitsFirst, SomeIn, SomeSits, Stack, WellTyped, seat_of}
-use Rattle.aom_sound.proofs.Things.{message_plain}
+use Rattle.aom_shape.specs.Things.{stands_for}
+use Rattle.aom_sound.proofs.Things.{stands_message, message_plain}
 
 -- no layer claims a message that waits
 claim_queued : (p : Image) (d : Place → Kind) (ls : List Layer) (n m : ℕ) → claim p d ls (Elsewhere (Queued n m)) ≡ d (Elsewhere (Queued n m))
@@ -75,12 +76,12 @@ module _ (p : Image) (t : Typing) (s : State) (w : WellTyped p t s) where
       go (Some o) e = at o e (is_server p o.thing) refl
 
 module _ (p : Image) (t : Typing) (wired : IsWired p) (s : State) (w : WellTyped p t s) where
-  -- what waits in a queue is no server
+  -- what waits in a queue is a message, and so no server
+  pub waiting_message : (n m : ℕ) (o : Object) → held s.cells (Elsewhere (Queued n m)) ≡ Some o → o.thing ≡ Message
+  waiting_message n m o e = let x = in_queue p t wired s w n m o e in (queued_lower p wired x.0 o.thing x.3).0
+
   pub waiting_well : (n m : ℕ) (o : Object) → held s.cells (Elsewhere (Queued n m)) ≡ Some o → is_server p o.thing ≡ false
-  waiting_well n m o e = message_plain p o.thing (queued_lower p wired x.0 o.thing x.3).0
-    where
-      x : IsQueuedAt p s.cells n m o.thing
-      x = queued_thing_of p s.cells w.layers n m o.thing (fits_thing p (seen s.cells) o _ (subst (λ y. Fits p (seen s.cells) y (claim p (declared p s.cells) w.layers (Elsewhere (Queued n m)))) e (w.good.fits (Elsewhere (Queued n m)))))
+  waiting_well n m o e = message_plain p o.thing (waiting_message n m o e)
 
 -- ---- the dispatch of a server
 
@@ -142,9 +143,10 @@ service_message p cs (Dispatching d seats ∷ ls) t back x s h =
     message_by_stage d (claim p (declared p cs) ls (Elsewhere In_service)) x (λ h. subst (λ l. HasThing (claim p (declared p cs) l (Elsewhere In_service)) x) s.1 h) h
 
 pub serving_plain : (p : Image) (t : Typing) (s : State) (w : WellTyped p t s) (o : Object) → held s.cells (Elsewhere In_service) ≡ Some o → is_server p o.thing ≡ false
-serving_plain p t s w o e =
-    message_plain p o.thing (service_message p s.cells w.layers t Now o.thing w.good.stack
-    (fits_thing p (seen s.cells) o _ (subst (λ y. Fits p (seen s.cells) y (claim p (declared p s.cells) w.layers (Elsewhere In_service))) e (w.good.fits (Elsewhere In_service)))))
+serving_plain p t s w o e = message_plain p o.thing (stands_message p o.thing (subst (λ z. stands_for p o.thing z ≡ true) (service_message p s.cells w.layers t Now y.0 w.good.stack y.1) y.2))
+  where
+    y : StandsIn p (claim p (declared p s.cells) w.layers (Elsewhere In_service)) o.thing
+    y = fits_thing p (seen s.cells) o _ (subst (λ y. Fits p (seen s.cells) y (claim p (declared p s.cells) w.layers (Elsewhere In_service))) e (w.good.fits (Elsewhere In_service)))
 
 -- ---- a cell that goes
 

@@ -20,7 +20,7 @@ use Rattle.aom_sound.proofs.ClientsReturn.{fit_without, return_kept, tasks_witho
 use Rattle.aom_sound.proofs.ClientsTurn.{tasks_begun, turn_kept}
 use Rattle.aom_sound.proofs.Maps.{without_none}
 use Rattle.aom_sound.proofs.Storing.{ended_alike}
-use Rattle.aom_sound.proofs.Things.{stands_same, message_plain}
+use Rattle.aom_sound.proofs.Things.{stands_message, message_plain}
 use Rattle.aom_shape.specs.Needs.{AllTrue}
 use Rattle.aom_image.specs.declared.method.Gives.{Gives}
 use Rattle.aom_sound.specs.Calls.{returned}
@@ -203,8 +203,8 @@ module _ (p : Image) (t : Typing) (wired : IsWired p) (c : Choice) (s : State) (
             IsKept p (applied p fr ts (counted p s) (effect p c fr ts (counted p s) (instrs.Reply a b)))
         go None e thing = same_cells p s kept.fit _ (without_none s.cells (here fr ts (counted p s) a) e) refl stage_below
         go (Some o) e thing = record {
-          fit = fit_without p s.clients s.cells tidy kept.fit o (here fr ts (counted p s) a) e (λ n m. refl) (message_plain p o.thing (stands_same p o.thing Message (sym (ap (is_thing p Message) e) ∙ thing))) queued;
-          stage = tasks_without p s.clients s.cells tidy kept.fit o (here fr ts (counted p s) a) e (λ n m. refl) (message_plain p o.thing (stands_same p o.thing Message (sym (ap (is_thing p Message) e) ∙ thing))) queued ts stage_below;
+          fit = fit_without p s.clients s.cells tidy kept.fit o (here fr ts (counted p s) a) e (λ n m. refl) (message_plain p o.thing (stands_message p o.thing (sym (ap (is_thing p Message) e) ∙ thing))) queued;
+          stage = tasks_without p s.clients s.cells tidy kept.fit o (here fr ts (counted p s) a) e (λ n m. refl) (message_plain p o.thing (stands_message p o.thing (sym (ap (is_thing p Message) e) ∙ thing))) queued ts stage_below;
         }
 
     -- a method returns

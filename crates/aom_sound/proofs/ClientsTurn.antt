@@ -25,7 +25,6 @@ use Rattle.aom_sound.specs.Destruction.{begun, begun_by}
 use Rattle.aom_classes.specs.Roles.{destructor_of}
 use Rattle.aom_sound.specs.Enlisted.{completed_with, on_request, part_of, recorded, timed_out, thing_kind, taken_up}
 use Rattle.aom_sound.specs.Natives.{all_bereaved, is_served_by, terminated_request, is_owed, terminated}
-use Rattle.aom_sound.specs.Owned.{NoneGoes}
 use Rattle.aom_sound.specs.Kept.{ClientsFit, IsKept, QueueFits, TasksKept, is_close_of, is_connect_of, is_message_of}
 use Rattle.aom_sound.specs.Laws.{IsWired}
 use Rattle.aom_sound.specs.Places.{Asked, Cell, Close_of, Connect_of, Elsewhere, Going, In_service, Message_of, Object, Place, Queued, Request, Root, Session, held, moved, named, requested, same_place, seen, service_of, set_request}
@@ -198,7 +197,7 @@ module _ (p : Image) (t : Typing) (wired : IsWired p) (s : State) (w : WellTyped
   waiting n m o e = message_plain p o.thing (queued_lower p wired x.0 o.thing x.3).0
     where
       x : IsQueuedAt p s.cells n m o.thing
-      x = in_queue p t wired s w (subst (λ ts. NoneGoes ts) (sym idle_now) tt) n m o e
+      x = in_queue p t wired s w n m o e
 
   empty_place : (q : Place) → declared p s.cells q ≡ Null → held s.cells q ≡ None
   empty_place q e = fits_unowning p (seen s.cells) _ Null refl (subst (λ k. Fits p (seen s.cells) (held s.cells q) k) e (good.fits q))

@@ -10,7 +10,7 @@ use Rattle.aom_image.specs.declared.method.Role.TheVariants.{Destruct}
 use Rattle.aom_image.specs.declared.method.Thing.{Thing}
 use Rattle.aom_image.specs.declared.method.Thing.TheVariants.{Message, Object as An_object_of}
 use Rattle.aom_rules.specs.Calls.{is_destruct}
-use Rattle.aom_shape.specs.Kinds.{field, filled, is_object, is_object_or_null, is_ready_kind, may_be_destroyed, register, set_register}
+use Rattle.aom_shape.specs.Kinds.{field, filled, is_object_or_null, is_ready_kind, may_be_destroyed, register, set_register}
 use Rattle.aom_shape.specs.Order.{SaysNoMore, Weaker, WeakerFilling, alike, alike_filling}
 use Rattle.aom_shape.specs.Shape.{Shape}
 use Rattle.aom_shape.specs.Tables.{at}
@@ -27,7 +27,8 @@ use Rattle.aom_sound.proofs.Items.{begins_well, length_forms}
 use Rattle.aom_sound.proofs.Seats.{NoFieldHere, NoSeatHere, no_seat}
 use Rattle.aom_sound.proofs.Maps.{held_lives, held_moved, named_moved, one_place, requested_moved, same_place-true, same_place_refl, tidy_moved}
 use Rattle.aom_sound.proofs.Straight.{At, Law, fits_unowning, fitted, housed_relocated, kind_fits, no_word, relabel, settle, top, well, words_set}
-use Rattle.aom_sound.proofs.Things.{stands_itself, stands_same}
+use Rattle.aom_sound.proofs.Things.{stands_itself, stands_object}
+use Rattle.aom_sound.proofs.Housing.{houses_same}
 use Rattle.aom_sound.specs.Claims.{Ending, by_close, serves, Dispatching, Dying, Layer, Mark, Method, Unwinding, claim, declared, declared_field, entry_claim, forms, home_claim, items_of, tasks_of}
 use Rattle.aom_classes.specs.Roles.{destructor_of}
 use Rattle.aom_sound.specs.Destruction.{destructed, begun, begun_by}
@@ -340,10 +341,10 @@ module _ (p : Image) (t : Typing) (linked : IsWired p) (typed : IsTyped p t) (cs
             let good : Good p t cs (Method fr leads.0 ∷ Dying o ∷ ls) = record {
               stack = (
                 leads.1,
-                record { words = λ i. subst (λ k. WordFits None k) (sym (unset_only (subst (λ k. Weaker (register leads.0 i) k) (entry_registers p m d.arguments i) (w.registers i)))) tt; holder = sym d.holder; height = high; alone = λ e. absurd (true≢false (sym e ∙ ap is_cancel d.role)); message = (λ e. absurd (true≢false (sym e ∙ ap is_service d.role)), λ served. absurd served) },
+                record { words = λ i. subst (λ k. WordFits None k) (sym (unset_only (subst (λ k. Weaker (register leads.0 i) k) (entry_registers p m d.arguments i) (w.registers i)))) tt; holder = houses_same p _ _ (sym d.holder); height = high; alone = λ e. absurd (true≢false (sym e ∙ ap is_cancel d.role)); message = (λ e. absurd (true≢false (sym e ∙ ap is_service d.role)), λ served. absurd served) },
                 record { there = there; lives = lives; below = omega arith; ready = ap (λ b. is_ready_kind (cond b (Own o.thing Ready) (claim p (λ x. Null) ls (Going (length (tasks_of ls)))))) (eq-eqb (length (tasks_of ls)) _ refl) },
                 (tt, apart.none_in, apart.unclaimed, apart.unworked),
-                ((lives, there), (d.stays, refl, ap is_destruct d.role, d.gives, d.ends, d.quiet), stack),
+                ((lives, there), (d.stays, refl, ap is_destruct d.role, d.gives, d.ends, d.quiet, d.holder), stack),
               );
               fits = clothed m height leads.0 d w;
               suits = clothed_suits m height leads.0 d w;
@@ -481,8 +482,8 @@ module _ (p : Image) (t : Typing) (c : Choice) (s : State) (fr : Frame) (sh : Sh
 
       no_message : (o : Option Object) (k : Kind) → may_be_destroyed k ≡ true → Fits p (seen s.cells) o k → is_no_message o ≡ true
       no_message None k e f = refl
-      no_message (Some o) (Own x a) e f = ap is_object (stands_same p o.thing x f.0) ∙ e
-      no_message (Some o) (Maybe x a) e f = ap is_object (stands_same p o.thing x f.0) ∙ e
+      no_message (Some o) (Own x a) e f = stands_object p o.thing x f.0 ∙ e
+      no_message (Some o) (Maybe x a) e f = stands_object p o.thing x f.0 ∙ e
       no_message _ _ e f = absurd (assumption tt)
 
       cs : List Cell

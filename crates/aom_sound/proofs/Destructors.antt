@@ -28,7 +28,7 @@ use Rattle.aom_sound.specs.Calls.{needs_destroyed, result_needs}
 use Rattle.aom_sound.specs.Claims.{serves, Dying, Layer, claim, declared, entry_claim, home_claim, items_of, root_claim, tasks_of}
 use Rattle.aom_sound.specs.Places.{In_service, Elsewhere, Entry, Field, Going, Object, Place, Register, Root, held, requested, seen}
 use Rattle.aom_sound.specs.Servers.{without_queue}
-use Rattle.aom_sound.specs.State.{Choice, Frame, Inside, State, home_holder, thing_holder}
+use Rattle.aom_sound.specs.State.{Choice, Frame, Inside, State, thing_holder}
 use Rattle.aom_sound.specs.WellTyped.{Fits, Good}
 use Rattle.aom_shape.specs.Arguments.{after_of}
 use Rattle.aom_roles.specs.States.{last_of}
@@ -125,7 +125,7 @@ module _ (p : Image) (t : Typing) (c : Choice) (s : State) (fr : Frame) (sh : Sh
   law_destructor a n leads =
       let r = returnable p fr sh a n in
       let above = at_hand.good.stack.4.1 in
-      let holder : holder_of p fr.method ≡ thing_holder o.thing = sym at_hand.good.stack.1.holder ∙ ap home_holder above.1 in
+      let holder : holder_of p fr.method ≡ thing_holder o.thing = above.6 in
       let done : fields_done p true (thing_holder o.thing) sh.fields ≡ true =
       ap (λ k. fields_done p true k sh.fields) (sym holder) ∙ ap (λ b. fields_done p b (holder_of p fr.method) sh.fields) (sym above.2) ∙ r.fields in
       let free : none_owns sh.registers ≡ true = ap (λ g. none_owns (result_moved p fr.method fr.place sh g a).registers) (sym above.3) ∙ r.free in

@@ -9,7 +9,7 @@ use Rattle.aom_image.specs.declared.method.Thing.TheVariants.{Object as An_objec
 use Rattle.aom_rules.specs.Calls.{brought}
 use Rattle.aom_rules.specs.Cleanup.{entry_of, owns_object, top_kind, tops_object as tops_object_entry, tops_operation as tops_operation_entry}
 use Rattle.aom_shape.specs.Entries.{with_entry, without_top}
-use Rattle.aom_shape.specs.Kinds.{entry_kind, is_object, is_object_or_null, no_entry, register, set_register}
+use Rattle.aom_shape.specs.Kinds.{entry_kind, is_object_or_null, no_entry, register, set_register}
 use Rattle.aom_shape.specs.Needs.{AllTrue}
 use Rattle.aom_rules.specs.Objects.{new_age}
 use Rattle.aom_shape.specs.Shape.{Shape}
@@ -25,7 +25,7 @@ use Rattle.aom_sound.proofs.Items.{length_forms}
 use Rattle.aom_sound.proofs.Leaving.{leave_is_met, leave_keeps, trap_is_there}
 use Rattle.aom_sound.proofs.Maps.{same_place_refl}
 use Rattle.aom_sound.proofs.Straight.{At, Fitted, Law, claim_register, fits_unowning, fitted, free_register, kind_fits, no_word, no_word_fits, relabel, relocate, settle, top, well, words_set}
-use Rattle.aom_sound.proofs.Things.{stands_itself, stands_same}
+use Rattle.aom_sound.proofs.Things.{stands_itself, stands_object}
 use Rattle.aom_sound.proofs.Words.{has_word}
 use Rattle.aom_sound.specs.Calls.{below_top, result_register}
 use Rattle.aom_sound.specs.Claims.{Form, Layer, Method, Object_form, Operation_form, claim, declared, entry_form, forms, items_of, objects, tasks_of}
@@ -53,7 +53,7 @@ owned_or_null x e = grind arith
 
 -- such a place holds an object, and no message
 owned_met : (p : Image) (h : Sight) (o : Option Object) (k : Kind) → owns_object k ≡ true → Fits p h o k → (is_some o ≡ true) × (is_no_message o ≡ true)
-owned_met p h (Some o) (Own t a) e f = (refl, ap is_object (stands_same p o.thing t f.0) ∙ e)
+owned_met p h (Some o) (Own t a) e f = (refl, stands_object p o.thing t f.0 ∙ e)
 owned_met p h _ _ e f = absurd (grind arith)
 
 -- an entry's register holds no word

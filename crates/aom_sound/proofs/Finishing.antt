@@ -15,11 +15,12 @@ use Rattle.aom_shape.specs.Needs.{AllTrue, only_if}
 use Rattle.aom_rules.specs.Rules.{rule_needs}
 use Rattle.aom_shape.specs.Shape.{Shape}
 use Rattle.aom_shape.specs.Tables.{at}
-use Rattle.aom_shape.specs.Things.{Program, field_thing, holder_of}
+use Rattle.aom_shape.specs.Things.{Program, field_thing, holder_of, stands_for}
+use Rattle.aom_sound.proofs.Things.{stands_along}
 use Rattle.aom_rules.specs.Typing.{Typing}
-use Rattle.aom_shape.specs.declared.kind.Age.TheVariants.{Ready}
+use Rattle.aom_shape.specs.declared.kind.Age.TheVariants.{Fresh, Ready}
 use Rattle.aom_shape.specs.declared.kind.Entry.{Entry as Pushed}
-use Rattle.aom_shape.specs.declared.kind.Entry.TheVariants.{Object as Pushed_object}
+use Rattle.aom_shape.specs.declared.kind.Entry.TheVariants.{Object as Pushed_object, Operation as Pushed_operation}
 use Rattle.aom_shape.specs.declared.kind.Filling.{Filling}
 use Rattle.aom_shape.specs.declared.kind.Filling.TheVariants.{Empty, Full, Perhaps}
 use Rattle.aom_shape.specs.declared.kind.Kind.{Kind}
@@ -189,9 +190,30 @@ message_gone p fr sh a r serving = go sh.delivery (ap (λ b. only_if b (not (is_
 pub none_left : (p : Image) (fr : Frame) (sh : Shape) (a : ℕ) → gives_of p fr.method ≡ Nothing → Returnable p fr sh a → no_entry sh.entries ≡ true
 none_left p fr sh a nothing r = ap (λ g. entries_done p g sh.entries) (sym nothing) ∙ r.entries
 
--- one that leaves an object leaves it alone
-pub left_alone : (p : Image) (x : ℕ) (es : List Pushed) → leaves_one p x es ≡ true → es ≡ Pushed_object x Ready ∷ []
-left_alone p x y e = grind arith
+-- one that leaves an object leaves it alone, or one that stands for it
+pub record LeftAlone (p : Image) (x : ℕ) (es : List Pushed) : Type 0 where
+  pub class : ℕ
+  pub alone : es ≡ Pushed_object class Ready ∷ []
+  pub stands : stands_for p (An_object_of class) (An_object_of x) ≡ true
+
+pub left_alone : (p : Image) (x : ℕ) (es : List Pushed) → leaves_one p x es ≡ true → LeftAlone p x es
+left_alone p x [] e = cc
+left_alone p x (Pushed_operation ∷ es) e = cc
+left_alone p x (Pushed_object c Fresh ∷ es) e = absurd (refused (stands_for p (An_object_of c) (An_object_of x)) e)
+  where
+    refused : (b : Bool) → (b && false) ≡ true → ⊥
+    refused true e = cc
+    refused false e = cc
+left_alone p x (Pushed_object c Ready ∷ []) e = record { class = c; alone = refl; stands = first (stands_for p (An_object_of c) (An_object_of x)) true e }
+  where
+    first : (a b : Bool) → (a && b) ≡ true → a ≡ true
+    first true b e = refl
+    first false b e = cc
+left_alone p x (Pushed_object c Ready ∷ f ∷ es) e = absurd (refused (stands_for p (An_object_of c) (An_object_of x)) e)
+  where
+    refused : (b : Bool) → (b && false) ≡ true → ⊥
+    refused true e = cc
+    refused false e = cc
 
 module _ (p : Image) (t : Typing) (c : Choice) (s : State) (fr : Frame) (sh : Shape) (ls : List Layer) (at_hand : At p t s fr sh ls) where
   -- the cleanup stack is as it was
@@ -203,17 +225,24 @@ module _ (p : Image) (t : Typing) (c : Choice) (s : State) (fr : Frame) (sh : Sh
 
   -- the object that is left is owned by the last entry
   pub left_held : (x : ℕ) → leaves_one p x sh.entries ≡ true → Fits p (seen s.cells) (held s.cells (Entry (length (items_of ls)))) (Own (An_object_of x) Ready)
-  left_held x e = subst (λ k. Fits p (seen s.cells) (held s.cells (Entry (length (items_of ls)))) k) claims (at_hand.good.fits (Entry (length (items_of ls))))
+  left_held x e = taken (held s.cells (Entry (length (items_of ls)))) (subst (λ k. Fits p (seen s.cells) (held s.cells (Entry (length (items_of ls)))) k) claims (at_hand.good.fits (Entry (length (items_of ls)))))
     where
+      w : LeftAlone p x sh.entries
+      w = left_alone p x sh.entries e
+
       below : Kind
       below = claim p (declared p s.cells) ls (Entry (length (items_of ls)))
 
-      claims : claim p (declared p s.cells) (Method fr sh ∷ ls) (Entry (length (items_of ls))) ≡ Own (An_object_of x) Ready
-      claims = ap (λ es. entry_claim es (items_of ls) (length (items_of ls)) below) (left_alone p x sh.entries e) ∙ ap (λ b. cond b (Own (An_object_of x) Ready) below) (eq-eqb (length (items_of ls)) _ refl)
+      claims : claim p (declared p s.cells) (Method fr sh ∷ ls) (Entry (length (items_of ls))) ≡ Own (An_object_of w.class) Ready
+      claims = ap (λ es. entry_claim es (items_of ls) (length (items_of ls)) below) w.alone ∙ ap (λ b. cond b (Own (An_object_of w.class) Ready) below) (eq-eqb (length (items_of ls)) _ refl)
+
+      taken : (o : Option Object) → Fits p (seen s.cells) o (Own (An_object_of w.class) Ready) → Fits p (seen s.cells) o (Own (An_object_of x) Ready)
+      taken None f = f
+      taken (Some o) f = (stands_along p o.thing (An_object_of w.class) (An_object_of x) f.0 w.stands, tt)
 
   -- or one object lies there too
   one_left : (x : ℕ) → leaves_one p x sh.entries ≡ true → leaves_object p fr (tasks_of ls) s x s.items ≡ true
-  one_left x e = go s.items (at_hand.items ∙ ap (λ es. objects es (items_of ls)) (left_alone p x sh.entries e))
+  one_left x e = go s.items (at_hand.items ∙ ap (λ es. objects es (items_of ls)) (left_alone p x sh.entries e).alone)
     where
       there : (o : Option Object) → Fits p (seen s.cells) o (Own (An_object_of x) Ready) → (is_some o && is_thing p (An_object_of x) o) ≡ true
       there x f = grind arith

@@ -19,6 +19,7 @@ use Rattle.aom_shape.specs.declared.kind.Kind.TheVariants.{Maybe, Null, Own, Uns
 use Rattle.aom_sound.proofs.Claimed.{claim-set_field, claim-set_register}
 use Rattle.aom_sound.proofs.Maps.{at-put_at}
 use Rattle.aom_sound.proofs.Straight.{At, Fitted, Law, field_fits, fitted, kind_fits, no_word, reframed, relabel, settle, stepped, top, well}
+use Rattle.aom_sound.proofs.Housing.{houses_field}
 use Rattle.aom_sound.specs.Claims.{Layer, declared, forms, items_of, objects, tasks_of}
 use Rattle.aom_sound.specs.Effects.{applied, jumps_if, jumps_unless, round}
 use Rattle.aom_sound.specs.Moves.{does}
@@ -108,7 +109,7 @@ module _ (p : Image) (t : Typing) (c : Choice) (s : State) (fr : Frame) (sh : Sh
       x = field_thing p (home_holder fr.home) f
 
       some : is_some x ≡ true
-      some = ap (λ h. is_some (field_thing p h f)) at_hand.good.stack.1.holder ∙ n.0
+      some = ap is_some (houses_field p _ _ f at_hand.good.stack.1.holder n.0) ∙ n.0
 
       stays : (fr' : Frame) → fr'.home ≡ fr.home → fr'.method ≡ fr.method → fr'.height ≡ fr.height → fr'.words ≡ fr.words → forms s.items ≡ objects sh.entries (items_of ls) → Leads t fr'.method fr'.place sh → WellTyped p t (record s { tasks = Run fr' ∷ tasks_of ls })
       stays fr' eh em eg ew items leads = well p t c s fr sh ls at_hand _ fr' sh refl items at_hand.undos (settle p t s.cells fr' sh ls (placed fr' eh em eg ew) leads)

@@ -31,7 +31,10 @@ pub mod Turned
 pub mod Preserving
 pub mod Resting
 pub mod Counting
+pub mod Housing
+pub mod Families
 pub mod Straight
+pub mod Widening
 pub mod Jumps
 pub mod Storing
 pub mod Sessions

@@ -1,23 +1,27 @@
 -- The laws of the instructions that move a cell within their method.
-use Rattle.std.proofs.Common.{List, None, Option, Some, ap, arith, cond, refl, sym, true, ℕ, ◌∙◌, ◌∷◌, ◌≡◌}
+use Rattle.std.proofs.Common.{Bool, List, None, Option, Some, ap, arith, cond, false, refl, subst, sym, true, ℕ, ◌∙◌, ◌∷◌, ◌≡◌}
+use Rattle.std.proofs.lemmas.Bool.{eq-eqb}
+use Rattle.aom_sound.proofs.Maps.{at-put_at}
+use Rattle.aom_sound.proofs.Widening.{put_twice}
 use Rattle.std.specs.Prelude.{is_none, is_some}
 use Rattle.aom_image.specs.Image.{Image}
 use Rattle.aom_instructions.specs.declared.instr.Instr.TheVariants.{Move, Put, Take}
 use Rattle.aom_image.specs.declared.method.Thing.{Thing}
-use Rattle.aom_shape.specs.Kinds.{field, filled, filling_of, may_be_declared, register, set_field, set_register}
+use Rattle.aom_shape.specs.Kinds.{field, filled, filling_of, is_ready_kind, may_be_declared, register, set_field, set_register}
 use Rattle.aom_shape.specs.Shape.{Shape}
 use Rattle.aom_shape.specs.Things.{field_thing, holder_of}
 use Rattle.aom_rules.specs.Typing.{Typing}
 use Rattle.aom_shape.specs.declared.kind.Filling.{Filling}
 use Rattle.aom_shape.specs.declared.kind.Filling.TheVariants.{Empty}
 use Rattle.aom_shape.specs.declared.kind.Kind.{Kind}
-use Rattle.aom_shape.specs.declared.kind.Kind.TheVariants.{Null}
+use Rattle.aom_shape.specs.declared.kind.Kind.TheVariants.{Null, Unset}
 use Rattle.aom_sound.proofs.Claimed.{claim-set_field, claim-set_register}
-use Rattle.aom_sound.proofs.Straight.{At, Fitted, Law, claim_field, claim_register, declared_object, declared_ok, empties, field_fits, field_not_from, field_outside, fits_unowning, fitted, free_register, kind_fits, may_be_some, no_word, no_word_fits, refills, relocate, settle, this_is_ready, top, well, words_null, words_set}
+use Rattle.aom_sound.proofs.Straight.{At, Fitted, Law, claim_field, claim_register, declared_object, declared_ok, empties, field_fits, field_not_from, field_outside, filled_ready, filled_word, fits_unowning, fitted, free_register, kind_fits, may_be_some, no_word, no_word_fits, refills, relocate, settle, this_is_ready, top, well, widened, words_null, words_set}
+use Rattle.aom_sound.proofs.Housing.{houses_field}
 use Rattle.aom_sound.specs.Claims.{Layer, Method, claim, declared, tasks_of}
 use Rattle.aom_sound.specs.Moves.{does}
 use Rattle.aom_sound.specs.Objects.{is_declared_thing}
-use Rattle.aom_sound.specs.Places.{Place, changed, held, moved, same_place, seen}
+use Rattle.aom_sound.specs.Places.{Field, Object, Place, changed, held, moved, same_place, seen}
 use Rattle.aom_sound.specs.State.{Choice, Frame, State, field_place, home_holder, next, set_word, word}
 use Rattle.aom_sound.specs.WellTyped.{WordFits}
 use Rattle.aom_instructions.specs.declared.instr.Instr.{Instr}
@@ -50,7 +54,7 @@ module _ (p : Image) (t : Typing) (c : Choice) (s : State) (fr : Frame) (sh : Sh
     (
       ap is_none no,
       (
-        ap (λ h. is_declared_thing p (field_thing p h f) (held s.cells (top ls b))) same ∙ declared_ok p t c s fr sh ls at_hand _ _ k n.0 (kind_fits p t c s fr sh ls at_hand b),
+        ap (λ x. is_declared_thing p x (held s.cells (top ls b))) same ∙ declared_ok p t c s fr sh ls at_hand _ _ k n.0 (kind_fits p t c s fr sh ls at_hand b),
         (ap is_none free, tt),
       ),
     ),
@@ -66,11 +70,11 @@ module _ (p : Image) (t : Typing) (c : Choice) (s : State) (fr : Frame) (sh : Sh
       q : Place
       q = field_place fr.home f
 
-      same : home_holder fr.home ≡ holder_of p fr.method
-      same = at_hand.good.stack.1.holder
+      same : field_thing p (home_holder fr.home) f ≡ field_thing p (holder_of p fr.method) f
+      same = houses_field p _ _ f at_hand.good.stack.1.holder (may_be_some p t c s fr sh ls at_hand _ k n.0)
 
       may : may_be_declared p (field_thing p (home_holder fr.home) f) k ≡ true
-      may = ap (λ h. may_be_declared p (field_thing p h f) k) same ∙ n.0
+      may = ap (λ x. may_be_declared p x k) same ∙ n.0
 
       some : is_some (field_thing p (home_holder fr.home) f) ≡ true
       some = may_be_some p t c s fr sh ls at_hand _ k may
@@ -81,21 +85,54 @@ module _ (p : Image) (t : Typing) (c : Choice) (s : State) (fr : Frame) (sh : Sh
       no : word fr b ≡ None
       no = no_word p t c s fr sh ls at_hand b (declared_object p t c s fr sh ls at_hand _ k n.0)
 
+      x : Option Thing
+      x = field_thing p (home_holder fr.home) f
+
+      -- the register is first taken for what the field is declared to own
+      l : Kind
+      l = filled x (filling_of k)
+
+      wide : Shape
+      wide = set_register sh b l
+
+      wider : Fitted p t s.cells fr wide ls
+      wider = widened p t c s fr sh ls at_hand b l
+          (refills p t c s fr sh ls at_hand (seen s.cells) x (held s.cells (top ls b)) k may n.1.0 (kind_fits p t c s fr sh ls at_hand b))
+          (subst (λ w. WordFits w l) (sym no) (filled_word p t c s fr sh ls at_hand x k may))
+
+      register_wide : register wide b ≡ l
+      register_wide = at-put_at Unset sh.registers b b l ∙ ap (λ same. cond same l (register sh b)) (eq-eqb b b refl)
+
       claims :
           (r : Place) →
-          claim p d (Method fr (set_field (set_register sh b Null) f (filling_of k)) ∷ ls) r
-          ≡ changed (changed (claim p d (Method fr sh ∷ ls)) (top ls b) Null) q (claim p d (Method fr sh ∷ ls) (top ls b)) r
+          claim p d (Method fr (set_field (set_register wide b Null) f (filling_of k)) ∷ ls) r
+          ≡ changed (changed (claim p d (Method fr wide ∷ ls)) (top ls b) Null) q (claim p d (Method fr wide ∷ ls) (top ls b)) r
       claims r =
-          claim-set_field p d fr fr.home (set_register sh b Null) ls f (filling_of k) k r refl some (refills p t c s fr sh ls at_hand _ k may n.1.0)
-          ∙ ap (λ x. cond (same_place q r) k x) (claim-set_register p d fr sh ls b Null r)
-          ∙ ap (λ x. changed (changed (claim p d (Method fr sh ∷ ls)) (top ls b) Null) q x r) (sym (claim_register p d fr sh ls b))
+          claim-set_field p d fr fr.home (set_register wide b Null) ls f (filling_of k) l r refl some refl
+          ∙ ap (λ y. cond (same_place q r) l y) (claim-set_register p d fr wide ls b Null r)
+          ∙ ap (λ y. changed (changed (claim p d (Method fr wide ∷ ls)) (top ls b) Null) q y r) (sym (claim_register p d fr wide ls b ∙ register_wide))
+
+      fresh_aside :
+          (r : Place) (y : Object) → held s.cells r ≡ Some y → is_ready_kind (claim p d (Method fr wide ∷ ls) r) ≡ false → (g : ℕ) → same_place q (Field y.name g) ≡ false
+      fresh_aside r y h is_fresh = go (same_place (top ls b) r) refl
+        where
+          here : (same : Bool) → same_place (top ls b) r ≡ same → is_ready_kind (cond same l (claim p d (Method fr sh ∷ ls) r)) ≡ false
+          here same e = ap (λ z. is_ready_kind (cond z l (claim p d (Method fr sh ∷ ls) r))) (sym e) ∙ ap is_ready_kind (sym (claim-set_register p d fr sh ls b l r)) ∙ is_fresh
+
+          go : (same : Bool) → same_place (top ls b) r ≡ same → (g : ℕ) → same_place q (Field y.name g) ≡ false
+          go true e = let ready = filled_ready p t c s fr sh ls at_hand x k may in let not = here true e in cc
+          go false e = this_is_ready p t c s fr sh ls at_hand fr.home f refl r y h (here false e)
+
+      twice : set_register wide b Null ≡ set_register sh b Null
+      twice = ap (λ ks. record sh { registers = ks }) (put_twice Unset sh.registers b l Null)
 
       goes : Fitted p t (moved (top ls b) (field_place fr.home f) s.cells) (next fr) (set_field (set_register sh b Null) f (filling_of k)) ls
-      goes = relocate p t s.cells fr (next fr) sh (set_field (set_register sh b Null) f (filling_of k)) ls (top ls b) q
-          (fitted p t s.cells fr sh ls at_hand.good) refl refl refl refl free (omega arith) (field_outside p t c s fr sh ls at_hand fr.home f refl some)
+      goes = subst (λ z. Fitted p t (moved (top ls b) (field_place fr.home f) s.cells) (next fr) (set_field z f (filling_of k)) ls) twice
+          (relocate p t s.cells fr (next fr) wide (set_field (set_register wide b Null) f (filling_of k)) ls (top ls b) q
+          wider refl refl refl refl free (omega arith) (field_outside p t c s fr sh ls at_hand fr.home f refl some)
           (λ o from e. (tt, field_not_from p t c s fr sh ls at_hand fr.home f refl o from e))
-          (this_is_ready p t c s fr sh ls at_hand fr.home f refl) claims
-          (words_null fr.words sh b at_hand.good.stack.1.words no)
+          fresh_aside claims
+          (words_null fr.words wide b wider.frames.words no))
 
   pub law_take : (a f : ℕ) → Law p t c s fr sh ls at_hand (Take a f)
   law_take a f n leads = (
@@ -112,11 +149,11 @@ module _ (p : Image) (t : Typing) (c : Choice) (s : State) (fr : Frame) (sh : Sh
       k : Kind
       k = filled (field_thing p (holder_of p fr.method) f) (field sh f)
 
-      same : home_holder fr.home ≡ holder_of p fr.method
-      same = at_hand.good.stack.1.holder
+      same : field_thing p (home_holder fr.home) f ≡ field_thing p (holder_of p fr.method) f
+      same = houses_field p _ _ f at_hand.good.stack.1.holder n.0
 
       some : is_some (field_thing p (home_holder fr.home) f) ≡ true
-      some = ap (λ h. is_some (field_thing p h f)) same ∙ n.0
+      some = ap is_some same ∙ n.0
 
       free : held s.cells (top ls a) ≡ None
       free = free_register p t c s fr sh ls at_hand a n.1.0
@@ -131,7 +168,7 @@ module _ (p : Image) (t : Typing) (c : Choice) (s : State) (fr : Frame) (sh : Sh
       claims r =
           claim-set_register p d fr (set_field sh f Empty) ls a k r
           ∙ ap (λ x. cond (same_place (top ls a) r) k x) (claim-set_field p d fr fr.home sh ls f Empty Null r refl some (null_filled (field_thing p (home_holder fr.home) f)))
-          ∙ ap (λ x. changed (changed (claim p d (Method fr sh ∷ ls)) q Null) (top ls a) x r) (ap (λ h. filled (field_thing p h f) (field sh f)) (sym same) ∙ sym (claim_field p d fr sh ls fr.home f refl some))
+          ∙ ap (λ x. changed (changed (claim p d (Method fr sh ∷ ls)) q Null) (top ls a) x r) (ap (λ x. filled x (field sh f)) (sym same) ∙ sym (claim_field p d fr sh ls fr.home f refl some))
 
       goes : Fitted p t (moved (field_place fr.home f) (top ls a) s.cells) (next (set_word fr a None)) (set_register (set_field sh f Empty) a k) ls
       goes = relocate p t s.cells fr (next (set_word fr a None)) sh (set_register (set_field sh f Empty) a k) ls q (top ls a)

@@ -18,7 +18,6 @@ use Rattle.aom_sound.specs.Claims.{forms, items_of}
 use Rattle.aom_sound.specs.Clients.{sent_message, asked_server, Listed, client_at, commanded, connecting, leaving, refusal, sending, told}
 use Rattle.aom_sound.specs.Kept.{ClientsFit}
 use Rattle.aom_sound.specs.Laws.{IsWired}
-use Rattle.aom_sound.specs.Owned.{NoneGoes}
 use Rattle.aom_sound.specs.Places.{Cell, Close_of, Connect_of, Elsewhere, Message_of, Object, Queued, held, named, service_of}
 use Rattle.aom_sound.specs.Servers.{asked_last, is_server, reserved, withdrawn}
 use Rattle.aom_sound.specs.State.{State}
@@ -45,7 +44,7 @@ module _ (p : Image) (t : Typing) (wired : IsWired p) (s : State) (w : WellTyped
   message n m o e = (queued_lower p wired x.0 o.thing x.3).0
     where
       x : IsQueuedAt p s.cells n m o.thing
-      x = in_queue p t wired s w (subst (λ ts. NoneGoes ts) (sym idle) tt) n m o e
+      x = in_queue p t wired s w n m o e
 
   waiting : (n m : ℕ) (o : Object) → held s.cells (Elsewhere (Queued n m)) ≡ Some o → is_server p o.thing ≡ false
   waiting n m o e = message_plain p o.thing (message n m o e)

@@ -1,5 +1,5 @@
 -- What an entry, the root or a session owns is an object and no message: by the claims of the layers one after another.
-use Rattle.std.proofs.Common.{ap, sym, Bool, List, None, Option, Some, [], cond, refl, subst, true, false, ℕ, ◌&&◌, ◌==◌, ◌∙◌, ◌∷◌, ◌≡◌, length}
+use Rattle.std.proofs.Common.{Bool, List, None, Option, Some, [], cond, refl, subst, true, false, ℕ, ◌&&◌, ◌==◌, ◌∙◌, ◌∷◌, ◌≡◌, length}
 use Rattle.std.proofs.lemmas.Bool.{false≢true}
 use Rattle.aom_image.specs.Image.{Image}
 use Rattle.aom_image.specs.declared.method.Thing.{Thing}
@@ -16,7 +16,7 @@ use Rattle.aom_shape.specs.declared.kind.Kind.{Kind}
 use Rattle.aom_shape.specs.declared.kind.Kind.TheVariants.{Maybe, Null, Own}
 use Rattle.aom_sound.specs.Claims.{Dispatching, Dying, Ending, Form, Layer, Mark, Method, Unwinding, by_close, by_session, claim, declared, entry_claim, is_of_root, items_of, objects, root_claim}
 use Rattle.aom_sound.specs.Objects.{is_no_message}
-use Rattle.aom_sound.proofs.Things.{stands_same}
+use Rattle.aom_sound.proofs.Things.{stands_object}
 use Rattle.aom_sound.specs.Places.{Cell, Elsewhere, Entry, Object, Place, Root, Session, Sight, held, named, seen, service_of}
 use Rattle.aom_sound.specs.Servers.{has_session, is_among, of_class, session_class, session_thing}
 use Rattle.aom_sound.specs.State.{AtRoot, Dispatch, Home, Inside, Of_server, Parts as Parts_with, State, Static}
@@ -110,8 +110,8 @@ plain_session p None = tt
 plain_session p (Some o) = plain_class (session_class p o.thing)
 
 plain_object : (p : Image) (h : Sight) (o : Object) (k : Kind) → NoMessage k → Fits p h (Some o) k → is_object o.thing ≡ true
-plain_object p h o (Own t a) plain f = ap is_object (stands_same p o.thing t f.0) ∙ plain
-plain_object p h o (Maybe t a) plain f = ap is_object (stands_same p o.thing t f.0) ∙ plain
+plain_object p h o (Own t a) plain f = stands_object p o.thing t f.0 ∙ plain
+plain_object p h o (Maybe t a) plain f = stands_object p o.thing t f.0 ∙ plain
 plain_object p h o _ plain f = absurd (assumption tt)
 
 module _ (p : Image) (n c : ℕ) where

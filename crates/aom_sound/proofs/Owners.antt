@@ -11,7 +11,7 @@ use Rattle.aom_image.specs.declared.method.Thing.TheVariants.{Message, Object as
 use Rattle.aom_roles.specs.Classes.{kind_in, sessions_at, sessions_in}
 use Rattle.aom_roles.specs.Shapes.{kind_of}
 use Rattle.aom_shape.specs.Kinds.{entry_kind, field, filled, register}
-use Rattle.aom_shape.specs.Things.{Program, field_thing}
+use Rattle.aom_shape.specs.Things.{Program, field_thing, stands_for}
 use Rattle.aom_rules.specs.Typing.{Typing}
 use Rattle.aom_shape.specs.declared.kind.Entry.{Entry as Pushed}
 use Rattle.aom_shape.specs.declared.kind.Filling.{Filling}
@@ -21,7 +21,8 @@ use Rattle.aom_shape.specs.declared.kind.Kind.TheVariants.{Maybe, Null, Own, Uns
 use Rattle.aom_sound.proofs.Claimed.{claim_entry_above, claim_register_above}
 use Rattle.aom_sound.proofs.Items.{length_forms}
 use Rattle.aom_sound.proofs.Maps.{found, of_name, same_place-true, same_place_refl}
-use Rattle.aom_sound.proofs.Things.{serving_class, stands_same}
+use Rattle.aom_sound.proofs.Housing.{stands_session}
+use Rattle.aom_sound.proofs.Things.{serving_class, stands_message}
 use Rattle.aom_sound.specs.Claims.{Dispatching, Dying, Ending, Layer, Mark, Mark_form, Method, Object_form, Unwinding, by_close, by_stage, claim, delivered, serves, declared, declared_field, entry_claim, entry_form, form, forms, home_claim, is_of_root, items_of, objects, root_claim, task_of, tasks_of}
 use Rattle.aom_sound.specs.Laws.{EndsEmpty, EndsOwned, IsWired}
 use Rattle.aom_sound.specs.Owned.{AllOwned, Ends, HasRegisters, HasService, IsObjects, Lives, NoneGoes, Owned, at_entry, at_register, at_root, at_service, by_cell, by_server, over}
@@ -39,10 +40,16 @@ HasThing Null x = ⊥
 HasThing (Own c a) x = x ≡ c
 HasThing (Maybe c a) x = x ≡ c
 
-pub fits_thing : (p : Image) (h : Sight) (o : Object) (k : Kind) → Fits p h (Some o) k → HasThing k o.thing
-fits_thing p h o (Own c a) f = stands_same p o.thing c f.0
-fits_thing p h o (Maybe c a) f = stands_same p o.thing c f.0
-fits_thing p h o _ f = f
+-- what an owning place is claimed to own, and the thing that is there in its place
+abbrev pub StandsIn : Image → Kind → Thing → Type 0
+StandsIn p k x = (y : Thing) × HasThing k y × (stands_for p x y ≡ true)
+
+pub fits_thing : (p : Image) (h : Sight) (o : Object) (k : Kind) → Fits p h (Some o) k → StandsIn p k o.thing
+fits_thing p h o (Own c a) f = (c, refl, f.0)
+fits_thing p h o (Maybe c a) f = (c, refl, f.0)
+fits_thing p h o Unset f = absurd f
+fits_thing p h o Word f = absurd f
+fits_thing p h o Null f = absurd f
 
 -- the first cell is held by its owner
 held_first : (c : Cell) (cs : List Cell) → held (c ∷ cs) c.owner ≡ Some c.object
@@ -301,105 +308,131 @@ none_going p d _ k clear = absurd clear
 
 -- ---- following owners ends
 
--- how far down a thing stands: messages own nothing, and what a class's fields may own has a lower class
-abbrev pub rank : Thing → ℕ
-rank (An_object_of c) = suc c
-rank Message = 0
+-- how far down a thing stands: messages own nothing, and what a class's fields may own is lighter
+abbrev pub rank : (p : Image) → IsWired p → Thing → ℕ
+rank p wired (An_object_of c) = suc (wired.family.weight c)
+rank p wired Message = 0
 
-pub lower_rank : (p : Image) → IsWired p → (x y : Thing) (f : ℕ) → field_thing p (thing_holder x) f ≡ Some y → rank y < rank x
-lower_rank p wired x y f e = grind arith
+pub lower_rank : (p : Image) (wired : IsWired p) (x y z : Thing) (f : ℕ) → field_thing p (thing_holder x) f ≡ Some y → stands_for p z y ≡ true → rank p wired z < rank p wired x
+lower_rank p wired (An_object_of c) (An_object_of d) (An_object_of b) f e stands = let lt = wired.family.lighter c d f b e stands in omega (arith, lt)
+lower_rank p wired (An_object_of c) (An_object_of d) Message f e stands = cc
+lower_rank p wired (An_object_of c) Message (An_object_of b) f e stands = cc
+lower_rank p wired (An_object_of c) Message Message f e stands = omega arith
+lower_rank p wired Message y z f e stands = cc
 
 -- only classes that are there declare fields
 declaring_class : (p : Image) (x y : Thing) (f : ℕ) → field_thing p (thing_holder x) f ≡ Some y → (c : ℕ) × (x ≡ An_object_of c)
 declaring_class p x y f e = grind arith
 
-declaring : (p : Image) (x y : Thing) (f : ℕ) → field_thing p (thing_holder x) f ≡ Some y → rank x ≤ length p.classes
+pub declaring : (p : Image) (wired : IsWired p) (x y : Thing) (f : ℕ) → field_thing p (thing_holder x) f ≡ Some y → rank p wired x ≤ length p.classes
 unfolding class_at fields_in
-declaring p x y f e =
+declaring p wired x y f e =
     let class = declaring_class p x y f e in
     let its = ap (λ z. field_thing p (thing_holder z) f) (sym class.1) ∙ e in
-    subst (λ z. rank z ≤ length p.classes) (sym class.1)
-    (some_given (λ k. slice_get (fields_in k) f ≡ Some y) (slice_get p.classes class.0) its (λ none. (let clash : slice_get {X = Thing} [] f ≡ Some y = none in cc)) (λ k at _. (let lt = slice_get_within p.classes class.0 k at in omega arith)))
+    subst (λ z. rank p wired z ≤ length p.classes) (sym class.1)
+    (some_given (λ k. slice_get (fields_in k) f ≡ Some y) (slice_get p.classes class.0) its (λ none. (let clash : slice_get {X = Thing} [] f ≡ Some y = none in cc)) (λ k at _. (let lt = wired.family.few class.0 (slice_get_within p.classes class.0 k at) in omega (arith, lt))))
 
 -- what is at a server stands lower than it, and its class is there
 module _ (p : Image) (wired : IsWired p) where
-  serving_within : (c k : ℕ) → sessions_at p c ≡ Some k → suc c ≤ length p.classes
+  serving_within : (c k : ℕ) → sessions_at p c ≡ Some k → suc (wired.family.weight c) ≤ length p.classes
   unfolding class_at kind_in sessions_in
-  serving_within c k e = some_given (λ d. sessions_in (kind_in d) ≡ Some k) (slice_get p.classes c) e (λ none. cc) (λ d at _. (let lt = slice_get_within p.classes c d at in omega arith))
+  serving_within c k e = some_given (λ d. sessions_in (kind_in d) ≡ Some k) (slice_get p.classes c) e (λ none. cc) (λ d at _. (let lt = wired.family.few c (slice_get_within p.classes c d at) in omega (arith, lt)))
 
   abbrev IsLower : Thing → Thing → Type 0
-  IsLower x y = (rank x < rank y) × (rank y ≤ length p.classes)
+  IsLower x y = (rank p wired x < rank p wired y) × (rank p wired y ≤ length p.classes)
 
   pub session_lower : (o : Object) (x : Thing) → session_thing p (Some o) ≡ Some x → IsLower x o.thing
   unfolding kind_of sessions_in
   session_lower o x e =
       let is = serving_class p o.thing (is_so (session_class p o.thing) e) in
       let same : An_object_of is.1 ≡ x = let session = ap of_class (sym is.3) ∙ ap (λ y. of_class (session_class p y)) (sym is.2) ∙ e in cc in
-      let lt = (wired.sessions is.0 is.1 is.3).0 in
-      subst (λ y. IsLower x y) (sym is.2) (subst (λ y. rank y < suc is.0) same (omega (arith, lt)), serving_within is.0 is.1 is.3)
+      let lt = wired.family.served is.0 is.1 is.3 in
+      subst (λ y. IsLower x y) (sym is.2) (subst (λ y. rank p wired y < suc (wired.family.weight is.0)) same (omega (arith, lt)), serving_within is.0 is.1 is.3)
     where
       is_so : (k : Option ℕ) → of_class k ≡ Some x → is_some k ≡ true
+      is_so k e = grind arith
+
+  -- nothing else stands for the session of a server
+  session_only : (o : Object) (y x : Thing) → session_thing p (Some o) ≡ Some y → stands_for p x y ≡ true → x ≡ y
+  unfolding kind_of sessions_in
+  session_only o y x e stands =
+      let is = serving_class p o.thing (is_so (session_class p o.thing) e) in
+      let same : An_object_of is.1 ≡ y = let session = ap of_class (sym is.3) ∙ ap (λ y. of_class (session_class p y)) (sym is.2) ∙ e in cc in
+      subst (λ v. stands_for p x v ≡ true → x ≡ v) same (stands_session p wired.family is.0 is.1 is.3 x) stands
+    where
+      is_so : (k : Option ℕ) → of_class k ≡ Some y → is_some k ≡ true
       is_so k e = grind arith
 
   pub queued_lower : (o : Object) (x : Thing) → message_thing p (Some o) ≡ Some x → (x ≡ Message) × (IsLower x o.thing)
   queued_lower o x e =
       let waits = where_true (is_server p o.thing) e in
       let is = serving_class p o.thing waits.0 in
-      (waits.1, subst (λ y. IsLower x y) (sym is.2) (subst (λ y. rank y < suc is.0) (sym waits.1) (omega arith), serving_within is.0 is.1 is.3))
+      (waits.1, subst (λ y. IsLower x y) (sym is.2) (subst (λ y. rank p wired y < suc (wired.family.weight is.0)) (sym waits.1) (omega arith), serving_within is.0 is.1 is.3))
     where
       where_true : (b : Bool) → cond b (Some Message) None ≡ Some x → (b ≡ true) × (x ≡ Message)
       where_true b e = grind arith
 
-module _ (p : Image) (t : Typing) (wired : IsWired p) (s : State) (w : WellTyped p t s) (clear : NoneGoes s.tasks) where
-  pub kind_at : (q : Place) (o : Object) → held s.cells q ≡ Some o → HasThing (claim p (declared p s.cells) w.layers q) o.thing
+module _ (p : Image) (t : Typing) (wired : IsWired p) (s : State) (w : WellTyped p t s) where
+  -- what is claimed to be at a place, for which stands what is there
+  pub kind_at : (q : Place) (o : Object) → held s.cells q ≡ Some o → StandsIn p (claim p (declared p s.cells) w.layers q) o.thing
   kind_at q o e = fits_thing p (seen s.cells) o _ (subst (λ x. Fits p (seen s.cells) x (claim p (declared p s.cells) w.layers q)) e (w.good.fits q))
 
-  -- nothing is owned by a destruction
-  unowned_going : (k : ℕ) (o : Object) → held s.cells (Going k) ≡ Some o → ⊥
-  unowned_going k o e = unclaimed p s.cells o.thing w.layers (Going k) (none_going p (declared p s.cells) w.layers k (subst (λ ts. NoneGoes ts) w.tasks clear)) (kind_at (Going k) o e)
-
   pub at_session : (n c : ℕ) (o : Object) → held s.cells (Elsewhere (Session n c)) ≡ Some o → IsSessionAt p s.cells n c o.thing
-  at_session n c o e = session_thing_of p t s.cells w.layers Now n c o.thing w.good.stack (kind_at (Elsewhere (Session n c)) o e)
+  at_session n c o e =
+      let y = kind_at (Elsewhere (Session n c)) o e in
+      let its = session_thing_of p t s.cells w.layers Now n c y.0 w.good.stack y.1 in
+      subst (λ z. IsSessionAt p s.cells n c z) (sym (session_only p wired its.0 y.0 o.thing its.3 y.2)) its
 
   pub in_queue : (n m : ℕ) (o : Object) → held s.cells (Elsewhere (Queued n m)) ≡ Some o → IsQueuedAt p s.cells n m o.thing
-  in_queue n m o e = queued_thing_of p s.cells w.layers n m o.thing (kind_at (Elsewhere (Queued n m)) o e)
+  in_queue n m o e =
+      let y = kind_at (Elsewhere (Queued n m)) o e in
+      let its = queued_thing_of p s.cells w.layers n m y.0 y.1 in
+      let message = (queued_lower p wired its.0 y.0 its.3).0 in
+      subst (λ z. IsQueuedAt p s.cells n m z) (message ∙ sym (stands_message p o.thing (subst (λ z. stands_for p o.thing z ≡ true) message y.2))) its
+
+module _ (p : Image) (t : Typing) (wired : IsWired p) (s : State) (w : WellTyped p t s) (clear : NoneGoes s.tasks) where
+  -- nothing is owned by a destruction
+  unowned_going : (k : ℕ) (o : Object) → held s.cells (Going k) ≡ Some o → ⊥
+  unowned_going k o e = let y = kind_at p t wired s w (Going k) o e in unclaimed p s.cells y.0 w.layers (Going k) (none_going p (declared p s.cells) w.layers k (subst (λ ts. NoneGoes ts) w.tasks clear)) y.1
 
   lives : (q : Place) (o : Object) → IsInRange q → held s.cells q ≡ Some o → Lives p s q
-  lives (Register f i) o fits e = (subst (λ ts. HasRegisters (over ts f)) (sym w.tasks) (registers_live p s.cells o.thing w.layers f i (kind_at (Register f i) o e)), fits)
-  lives (Entry k) o fits e = objects_item s.items k (ap (λ is. over is k) w.items ∙ items_live p s.cells o.thing w.layers k (kind_at (Entry k) o e))
-  lives (Field n f) o fits e = let x = field_thing_of p t s.cells w.layers Now n f o.thing w.good.stack (kind_at (Field n f) o e) in (x.0, x.1, ap is_some x.2)
-  lives (Elsewhere Root) o fits e = root_lives p s.cells o.thing w.layers (kind_at (Elsewhere Root) o e)
-  lives (Elsewhere (Session n c)) o fits e = let x = at_session n c o e in (x.0, x.1, x.2)
-  lives (Elsewhere In_service) o fits e = subst (λ ts. HasService ts) (sym w.tasks) (service_lives p t s.cells w.layers Now o.thing w.good.stack (kind_at (Elsewhere In_service) o e))
-  lives (Elsewhere (Queued n m)) o fits e = let x = in_queue n m o e in (x.0, x.1, x.2)
+  lives (Register f i) o fits e = (let y = kind_at p t wired s w (Register f i) o e in subst (λ ts. HasRegisters (over ts f)) (sym w.tasks) (registers_live p s.cells y.0 w.layers f i y.1), fits)
+  lives (Entry k) o fits e = objects_item s.items k (ap (λ is. over is k) w.items ∙ (let y = kind_at p t wired s w (Entry k) o e in items_live p s.cells y.0 w.layers k y.1))
+  lives (Field n f) o fits e = let y = kind_at p t wired s w (Field n f) o e in let x = field_thing_of p t s.cells w.layers Now n f y.0 w.good.stack y.1 in (x.0, x.1, ap is_some x.2)
+  lives (Elsewhere Root) o fits e = let y = kind_at p t wired s w (Elsewhere Root) o e in root_lives p s.cells y.0 w.layers y.1
+  lives (Elsewhere (Session n c)) o fits e = let x = at_session p t wired s w n c o e in (x.0, x.1, x.2)
+  lives (Elsewhere In_service) o fits e = subst (λ ts. HasService ts) (sym w.tasks) (let y = kind_at p t wired s w (Elsewhere In_service) o e in service_lives p t s.cells w.layers Now y.0 w.good.stack y.1)
+  lives (Elsewhere (Queued n m)) o fits e = let x = in_queue p t wired s w n m o e in (x.0, x.1, x.2)
   lives (Going k) o fits e = absurd (unowned_going k o e)
 
   -- the owner stands higher, so that following owners ends
-  ends_by : (fuel : ℕ) (q : Place) (o : Object) → held s.cells q ≡ Some o → length p.classes ≤ rank o.thing + fuel → Ends s q
+  ends_by : (fuel : ℕ) (q : Place) (o : Object) → held s.cells q ≡ Some o → length p.classes ≤ rank p wired o.thing + fuel → Ends s q
   ends_by fuel (Register f i) o e le = at_register
   ends_by fuel (Entry k) o e le = at_entry
   ends_by fuel (Elsewhere Root) o e le = at_root
   ends_by fuel (Elsewhere In_service) o e le = at_service
   ends_by fuel (Going k) o e le = absurd (unowned_going k o e)
   ends_by zero (Field n f) o e le =
-      let x = field_thing_of p t s.cells w.layers Now n f o.thing w.good.stack (kind_at (Field n f) o e) in
-      let lower = lower_rank p wired x.0.thing o.thing f x.2 in
-      let there = declaring p x.0.thing o.thing f x.2 in
+      let k = kind_at p t wired s w (Field n f) o e in
+      let x = field_thing_of p t s.cells w.layers Now n f k.0 w.good.stack k.1 in
+      let lower = lower_rank p wired x.0.thing k.0 o.thing f x.2 k.2 in
+      let there = declaring p wired x.0.thing k.0 f x.2 in
       absurd (omega arith)
   ends_by (suc fuel) (Field n f) o e le =
-      let x = field_thing_of p t s.cells w.layers Now n f o.thing w.good.stack (kind_at (Field n f) o e) in
-      let lower = lower_rank p wired x.0.thing o.thing f x.2 in
+      let k = kind_at p t wired s w (Field n f) o e in
+      let x = field_thing_of p t s.cells w.layers Now n f k.0 w.good.stack k.1 in
+      let lower = lower_rank p wired x.0.thing k.0 o.thing f x.2 k.2 in
       let y = named_held s.cells n x.0 w.good.tidy x.1 in
       by_cell x.0 y.0 x.1 y.1 (ends_by fuel y.0 x.0 y.1 (omega arith))
-  ends_by zero (Elsewhere (Session n c)) o e le = let x = at_session n c o e in let lower = session_lower p wired x.0 o.thing x.3 in absurd (omega (arith, le, lower.0, lower.1))
+  ends_by zero (Elsewhere (Session n c)) o e le = let x = at_session p t wired s w n c o e in let lower = session_lower p wired x.0 o.thing x.3 in absurd (omega (arith, le, lower.0, lower.1))
   ends_by (suc fuel) (Elsewhere (Session n c)) o e le =
-      let x = at_session n c o e in
+      let x = at_session p t wired s w n c o e in
       let lower = session_lower p wired x.0 o.thing x.3 in
       let y = named_held s.cells n x.0 w.good.tidy x.1 in
       by_server x.0 y.0 refl x.1 y.1 (ends_by fuel y.0 x.0 y.1 (omega (arith, le, lower.0)))
-  ends_by zero (Elsewhere (Queued n m)) o e le = let x = in_queue n m o e in let lower = (queued_lower p wired x.0 o.thing x.3).1 in absurd (omega (arith, le, lower.0, lower.1))
+  ends_by zero (Elsewhere (Queued n m)) o e le = let x = in_queue p t wired s w n m o e in let lower = (queued_lower p wired x.0 o.thing x.3).1 in absurd (omega (arith, le, lower.0, lower.1))
   ends_by (suc fuel) (Elsewhere (Queued n m)) o e le =
-      let x = in_queue n m o e in
+      let x = in_queue p t wired s w n m o e in
       let lower = (queued_lower p wired x.0 o.thing x.3).1 in
       let y = named_held s.cells n x.0 w.good.tidy x.1 in
       by_server x.0 y.0 refl x.1 y.1 (ends_by fuel y.0 x.0 y.1 (omega (arith, le, lower.0)))

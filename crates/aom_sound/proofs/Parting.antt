@@ -14,7 +14,7 @@ use Rattle.aom_sound.proofs.Claimed.{fits_age}
 use Rattle.aom_sound.proofs.Dropping.{declared_dropped, dropped, fits_dropped, held_dropped, is_sent, place_dropped, stack_dropped, suits_dropped, tidy_dropped}
 use Rattle.aom_sound.proofs.Maps.{same_place-true}
 use Rattle.aom_sound.proofs.Services.{held_served, named_served, requested_served, service_here, service_there, sits_lives, tidy_served}
-use Rattle.aom_sound.proofs.Things.{stands_same}
+use Rattle.aom_sound.proofs.Things.{stands_message}
 use Rattle.aom_sound.specs.Claims.{Dispatching, by_close, by_stage, claim, declared, declared_field, forms}
 use Rattle.aom_sound.specs.Moves.{dispatch_ends, needs_end, stage_ends}
 use Rattle.aom_sound.specs.Places.{Cell, Elsewhere, Field, In_service, Object, Place, Queued, Service, Session, held, named, same_place, seen, service_of, set_service, without}
@@ -80,7 +80,7 @@ module _ (p : Image) (t : Typing) (s : State) (x : Seat) (client : ℕ) (seats :
     goes_message r y e there =
         let here = sym (ap (λ q. held s.cells q) (same_place-true r (Elsewhere In_service) e)) ∙ there in
         let f = subst (λ o. Fits p (seen s.cells) o (Own Message Ready)) here (good.fits (Elsewhere In_service)) in
-        stands_same p y.thing Message f.0
+        stands_message p y.thing f.0
 
     abbrev left : List Cell
     left = dropped goes s.cells

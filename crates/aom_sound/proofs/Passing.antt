@@ -20,7 +20,8 @@ use Rattle.aom_shape.specs.declared.kind.Kind.TheVariants.{Null, Own, Unset, Wor
 use Rattle.aom_sound.proofs.Claimed.{claim-set_register, claim_register_above, declared_moved, keep_fits, stack_moved}
 use Rattle.aom_sound.proofs.Finishing.{all_join, all_parts}
 use Rattle.aom_sound.proofs.Maps.{at-put_at, held_moved, requested_moved, same_place-true, tidy_moved}
-use Rattle.aom_sound.proofs.Returning.{held_thing, may_own, word_is}
+use Rattle.aom_sound.proofs.Returning.{held_thing, word_is}
+use Rattle.aom_sound.proofs.Widening.{Widens, own_widens}
 use Rattle.aom_sound.proofs.Straight.{At, claim_register, fits_unowning, housed_relocated, kind_fits, no_word_fits, word_of_object, words_null, words_set}
 use Rattle.aom_sound.specs.Calls.{needs_each, passed_cells, passed_words}
 use Rattle.aom_sound.specs.Claims.{Layer, Method, claim, declared, tasks_of}
@@ -195,6 +196,28 @@ module _ (p : Image) (t : Typing) (fr : Frame) (ls : List Layer) (depth : ℕ) (
           ∙ ap (λ x. cond (same_place to r) k x) (under (declared p cs) sh regs a Null r)
           ∙ ap (λ x. changed (changed before q Null) to x r) (sym at_source)
 
+  -- the last register is taken for another kind
+  wider_passed :
+      (cs : List Cell) (sh : Shape) (regs : List Kind) (ws : List (Option ℤ)) (k v : Kind) → Widens p k v → length ws ≡ length regs → ((i : ℕ) → WordFits (at None ws i) (at Unset regs i)) →
+      Passed cs sh (regs ++ k ∷ []) (ws ++ None ∷ []) → Passed cs sh (regs ++ v ∷ []) (ws ++ None ∷ [])
+  wider_passed cs sh regs ws k v wide even given g = record {
+    fits = λ r. subst (λ x. Fits p (seen cs) (held cs r) x) (sym (over (declared p cs) sh regs v r))
+        (go r (same_place (upper (length regs)) r) refl (subst (λ x. Fits p (seen cs) (held cs r) x) (over (declared p cs) sh regs k r) (g.fits r)));
+    suits = g.suits;
+    tidy = g.tidy;
+    words = g.words;
+    given = given_more regs ws v None even given wide.word;
+    housed = g.housed;
+    stack = g.stack;
+    even = even_more regs ws v None even;
+  }
+    where
+      go :
+          (r : Place) (b : Bool) → same_place (upper (length regs)) r ≡ b → Fits p (seen cs) (held cs r) (cond b k (filling (declared p cs) regs sh r)) →
+          Fits p (seen cs) (held cs r) (cond b v (filling (declared p cs) regs sh r))
+      go r true e f = wide.fits (seen cs) (held cs r) f
+      go r false e f = f
+
   -- what the rule says of the later arguments, once one has moved
   each_kept : (xs : List Argument) (sh : Shape) (a j : ℕ) → a < j → AllTrue (each_argument p sh xs j) → AllTrue (each_argument p (set_register sh a Null) xs j)
   each_kept [] sh a j lt h = tt
@@ -216,11 +239,12 @@ module _ (p : Image) (t : Typing) (fr : Frame) (ls : List Layer) (depth : ℕ) (
       subst (λ vs. Passed (passed_cells p fr (tasks_of ls) s depth xs (suc first) (suc to) cs) (arguments_moved xs (suc first) sh) (regs ++ Word ∷ map argument_kind xs) vs) (append_assoc ws (word fr first ∷ []) (passed_words p fr (tasks_of ls) s xs (suc first)))
       (subst (λ ks. Passed (passed_cells p fr (tasks_of ls) s depth xs (suc first) (suc to) cs) (arguments_moved xs (suc first) sh) ks ((ws ++ word fr first ∷ []) ++ passed_words p fr (tasks_of ls) s xs (suc first))) (append_assoc regs (Word ∷ []) (map argument_kind xs)) rest)
   all_passed s (Takes_own x ∷ xs) first to cs sh regs ws e n g =
-      let k = may_own p s x (register sh first) n.0 n.1.0 in
+      let k = own_widens p x (register sh first) n.0 n.1.0 in
       let cs' = moved (lower first) (upper to) cs in
       let sh' = set_register sh first Null in
       let one : Passed cs' sh' (regs ++ Own x Ready ∷ []) (ws ++ None ∷ []) =
-      subst (λ i. Passed (moved (lower first) (upper i) cs) sh' (regs ++ Own x Ready ∷ []) (ws ++ None ∷ [])) (sym e) (object_passed cs sh regs ws first (Own x Ready) k refl g) in
+      subst (λ i. Passed (moved (lower first) (upper i) cs) sh' (regs ++ Own x Ready ∷ []) (ws ++ None ∷ [])) (sym e)
+      (wider_passed (moved (lower first) (upper (length regs)) cs) sh' regs ws (register sh first) (Own x Ready) k g.even g.given (object_passed cs sh regs ws first (register sh first) refl k.object g)) in
       let rest =
       all_passed s xs (suc first) (suc to) cs' sh' (regs ++ Own x Ready ∷ []) (ws ++ None ∷ []) (ap suc e ∙ sym (length_more regs (Own x Ready)))
       (each_kept xs sh first (suc first) (omega arith) n.1.1) one in
@@ -233,8 +257,8 @@ module _ (p : Image) (t : Typing) (c : Choice) (s : State) (fr : Frame) (sh : Sh
   each_met [] first n = tt
   each_met (Takes_word ∷ xs) first n = ((word_is p s (word fr first) (register sh first) n.0 (at_hand.good.stack.1.words first)).0, each_met xs (suc first) n.1)
   each_met (Takes_own x ∷ xs) first n =
-      let k = may_own p s x (register sh first) n.0 n.1.0 in
+      let k = own_widens p x (register sh first) n.0 n.1.0 in
       let h =
       held_thing p s x (held s.cells (Register (length (tasks_of ls)) first))
-      (subst (λ k. Fits p (seen s.cells) (held s.cells (Register (length (tasks_of ls)) first)) k) k (kind_fits p t c s fr sh ls at_hand first)) in
-      (ap is_none (word_of_object (word fr first) (register sh first) (ap is_object_or_null k) (at_hand.good.stack.1.words first)), (h.0, (h.1, each_met xs (suc first) n.1.1)))
+      (k.fits (seen s.cells) (held s.cells (Register (length (tasks_of ls)) first)) (kind_fits p t c s fr sh ls at_hand first)) in
+      (ap is_none (word_of_object (word fr first) (register sh first) k.object (at_hand.good.stack.1.words first)), (h.0, (h.1, each_met xs (suc first) n.1.1)))

@@ -38,7 +38,7 @@ module _ (p : Image) (t : Typing) (wired : IsWired p) (typed : IsTyped p t) (s :
   has_now : has_session (service_of s.cells n) client ≡ true
   has_now = fit.listed n client (leaving_only n n (client_at s.clients client) (subst (λ q. QueueFits s.clients n q) queue (fit.queues n)).0.0).2
 
-  session_there : (z : Object) × (held s.cells q ≡ Some z) × (named s.cells z.name ≡ Some z) × (rank z.thing < rank x.object.thing)
+  session_there : (z : Object) × (held s.cells q ≡ Some z) × (named s.cells z.name ≡ Some z) × (rank p wired z.thing < rank p wired x.object.thing)
   session_there = session_held p t wired typed s w idle_now fit x r there lives asked server client has_now
 
   abbrev z : Object

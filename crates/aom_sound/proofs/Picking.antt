@@ -33,11 +33,12 @@ use Rattle.aom_sound.proofs.ClientsGone.{open_server}
 use Rattle.aom_sound.proofs.Destroying.{at_alike}
 use Rattle.aom_sound.proofs.Entering.{Entering, enters}
 use Rattle.aom_sound.proofs.Maps.{held_lives, held_moved, named_moved, requested_moved, tidy_moved, transfer}
+use Rattle.aom_sound.proofs.Housing.{stands_session}
 use Rattle.aom_sound.proofs.Owners.{rank}
 use Rattle.aom_sound.proofs.Services.{held_served, named_served, requested_served, service_here, service_moved, tidy_served}
 use Rattle.aom_sound.proofs.Signals.{at_rest, items_at_rest}
 use Rattle.aom_sound.proofs.Straight.{fits_unowning}
-use Rattle.aom_sound.proofs.Things.{serving_class, stands_same}
+use Rattle.aom_sound.proofs.Things.{serving_class}
 use Rattle.aom_sound.specs.Claims.{Dispatching, Layer, Mark, claim, declared, declared_field, forms, serves}
 use Rattle.aom_sound.specs.Clients.{client_at}
 use Rattle.aom_sound.specs.Enlisted.{part_of}
@@ -116,8 +117,8 @@ module _ (p : Image) (t : Typing) (wired : IsWired p) (typed : IsTyped p t) (s :
   pub sessions_now : (m c : ℕ) → has_session (service_of cs m) c ≡ has_session (service_of s.cells m) c
   sessions_now m c = by_server s.cells x.object lives taken_first (λ m v. has_session v c ≡ has_session (service_of s.cells m) c) refl (λ m other. refl) m
 
-  pub sits : (above : List Seat) × AllSit s.cells (x ∷ above) × ((y : Object) → named s.cells y.name ≡ Some y → rank y.thing < rank x.object.thing → SomeSits y.name (x ∷ above) → ⊥)
-  sits = chain p t wired s w idle_now x.place x.object there (subst (λ y. 0 < rank y) (sym its_class.2) (omega arith))
+  pub sits : (above : List Seat) × AllSit s.cells (x ∷ above) × ((y : Object) → named s.cells y.name ≡ Some y → rank p wired y.thing < rank p wired x.object.thing → SomeSits y.name (x ∷ above) → ⊥)
+  sits = chain p t wired s w idle_now x.place x.object there (subst (λ y. 0 < rank p wired y) (sym its_class.2) (omega arith))
 
   abbrev pub above : List Seat
   above = sits.0
@@ -233,16 +234,16 @@ module _ (p : Image) (t : Typing) (wired : IsWired p) (typed : IsTyped p t) (s :
         (subst (λ k. Fits p (seen s.cells) (held s.cells (Elsewhere (Session n client))) k) (ap (λ b. cond b (filled (session_thing p (named s.cells n)) Full) Null) has_now ∙ ap (λ y. filled (session_thing p y) Full) lives ∙ ap (λ y. filled y Full) session_now) (good.fits (Elsewhere (Session n client))))
 
     pub session_is : its_session.0.thing ≡ An_object_of its_class.1
-    session_is = stands_same p its_session.0.thing (An_object_of its_class.1) its_session.2
+    session_is = stands_session p wired.family its_class.0 its_class.1 its_class.3 its_session.0.thing its_session.2
 
     pub session_lives : named s.cells its_session.0.name ≡ Some its_session.0
     session_lives = held_lives s.cells (Elsewhere (Session n client)) its_session.0 good.tidy its_session.1
 
-    pub session_lower : rank its_session.0.thing < rank x.object.thing
-    session_lower = subst (λ y. rank y < rank x.object.thing) (sym session_is) (subst (λ y. suc its_class.1 < rank y) (sym its_class.2) (let lt = (wired.sessions its_class.0 its_class.1 its_class.3).0 in omega (arith, lt)))
+    pub session_lower : rank p wired its_session.0.thing < rank p wired x.object.thing
+    session_lower = subst (λ y. rank p wired y < rank p wired x.object.thing) (sym session_is) (subst (λ y. suc (wired.family.weight its_class.1) < rank p wired y) (sym its_class.2) (let lt = wired.family.served its_class.0 its_class.1 its_class.3 in omega (arith, lt)))
 
     -- it is there, and stands lower than its server
-    pub session_held : (z : Object) × (held s.cells (Elsewhere (Session n client)) ≡ Some z) × (named s.cells z.name ≡ Some z) × (rank z.thing < rank x.object.thing)
+    pub session_held : (z : Object) × (held s.cells (Elsewhere (Session n client)) ≡ Some z) × (named s.cells z.name ≡ Some z) × (rank p wired z.thing < rank p wired x.object.thing)
     session_held = (its_session.0, its_session.1, session_lives, session_lower)
 
   -- ---- a message

@@ -31,7 +31,7 @@ use Rattle.aom_sound.specs.Laws.{IsWired}
 use Rattle.aom_sound.specs.Places.{Cell, Elsewhere, Entry, Field, Object, Place, Register, Request, Root, held, named, requested, same_place, seen}
 use Rattle.aom_sound.specs.Requests.{Known, Suits, known_at, state_of, states_claim, thing_kind, works_at}
 use Rattle.aom_sound.specs.State.{AtRoot, Choice, Frame, Home, Inside, Run, State, Static, field_place, home_holder, next, to_place}
-use Rattle.aom_sound.specs.WellTyped.{Fits, IsHoused, WellTyped}
+use Rattle.aom_sound.specs.WellTyped.{Houses, Fits, IsHoused, WellTyped}
 use Rattle.aom_sound.specs.Words.{read}
 use Rattle.aom_instructions.specs.declared.instr.Instr.{Instr}
 
@@ -171,14 +171,14 @@ main_of_none p wired m e = ap (λ c. kind_of p c) (wired.static_main m e)
 
 -- what a method works on, by the class that it is of
 of_class :
-    (p : Image) → ((m : ℕ) → method_role p m ≡ Some Main → own_kind p m ≡ None) → (fr : Frame) → home_holder fr.home ≡ holder_of p fr.method → is_listed_kind (own_kind p fr.method) ≡ true →
+    (p : Image) → ((m : ℕ) → method_role p m ≡ Some Main → own_kind p m ≡ None) → (fr : Frame) → Houses p (home_holder fr.home) (holder_of p fr.method) → is_listed_kind (own_kind p fr.method) ≡ true →
     (o : Object) × (from : Place) × (fr.home ≡ Inside o from) × (thing_kind p o.thing ≡ own_kind p fr.method)
 unfolding kind_of
 of_class p main_none fr holder listed = some_given (λ class. is_listed_kind (kind_of p class) ≡ true) (method_class p fr.method) listed (λ none. cc) (λ c e l.
     let no_main : method_role p fr.method ≡ Some Main → ⊥ = λ main. (let none = main_none fr.method main in grind arith) in
-    let member = holder ∙ ap (λ x. holder_by (method_role p fr.method) x) e ∙ holder_member (method_role p fr.method) c no_main in
-    let found = home_member fr.home c member in
-    (found.0, found.1, found.2, member_kind p found.0.thing c found.3 ∙ ap (λ x. kind_of p x) (sym e)))
+    let w = holder.member c (ap (λ x. holder_by (method_role p fr.method) x) e ∙ holder_member (method_role p fr.method) c no_main) in
+    let found = home_member fr.home w.0 w.1 in
+    (found.0, found.1, found.2, member_kind p found.0.thing w.0 found.3 ∙ w.3 ∙ ap (λ x. kind_of p x) (sym e)))
 
 module _ (p : Image) (t : Typing) (main_none : (m : ℕ) → method_role p m ≡ Some Main → own_kind p m ≡ None) (c : Choice) (s : State) (fr : Frame) (sh : Shape) (ls : List Layer)
     (at_hand : At p t s fr sh ls) where

@@ -1,5 +1,5 @@
 -- A method returns to the one that called it.
-use Rattle.std.proofs.Common.{Bool, IsTrue, List, None, Option, Some, [], ap, arith, cond, false, length, pos, refl, subst, suc, sym, true, ℕ, ℤ, ◌<◌, ◌==◌, ◌∙◌, ◌∷◌, ◌≡◌}
+use Rattle.std.proofs.Common.{Bool, IsTrue, List, None, Option, Some, [], ap, arith, cond, false, length, pos, refl, subst, suc, sym, true, ℕ, ℤ, ◌<◌, ◌∙◌, ◌∷◌, ◌≡◌}
 use Rattle.std.proofs.lemmas.Bool.{ne_eqb}
 use Rattle.std.specs.Prelude.{is_none, is_some}
 use Rattle.aom_image.specs.Image.{Image}
@@ -9,23 +9,22 @@ use Rattle.aom_image.specs.declared.method.Gives.{Gives}
 use Rattle.aom_image.specs.declared.method.Gives.TheVariants.{Left, Maybe as A_maybe, Nothing, Own as An_own, Word as A_word}
 use Rattle.aom_image.specs.declared.method.Thing.{Thing}
 use Rattle.aom_rules.specs.Calls.{brought, caught, entries_done, leaves_one, result_moved, rule_result}
-use Rattle.aom_shape.specs.Kinds.{is_own_for, entry_kind, is_object_or_null, is_ready_kind, is_unowning, is_word, may_be, no_entry, none_owns, register, set_register}
+use Rattle.aom_shape.specs.Kinds.{entry_kind, is_object_or_null, is_unowning, is_word, may_be, no_entry, none_owns, register, set_register}
 use Rattle.aom_shape.specs.Entries.{with_entry}
 use Rattle.aom_shape.specs.Needs.{AllTrue}
-use Rattle.aom_shape.specs.Order.{Weaker, alike, alike_filling, maybe_null, maybe_own}
 use Rattle.aom_shape.specs.Shape.{Shape}
 use Rattle.aom_rules.specs.Typing.{Leads, Typing}
 use Rattle.aom_shape.specs.declared.kind.Age.TheVariants.{Ready}
 use Rattle.aom_shape.specs.declared.kind.Entry.{Entry as Pushed}
 use Rattle.aom_shape.specs.declared.kind.Entry.TheVariants.{Object as Pushed_object}
 use Rattle.aom_shape.specs.declared.kind.Kind.{Kind}
-use Rattle.aom_shape.specs.declared.kind.Kind.TheVariants.{Maybe, Null, Own, Unset, Word}
-use Rattle.aom_sound.proofs.Claimed.{OwnsNoMore, claim-set_register, claim_frame, claim_push, claim_register_above, claim_weaker, declared_moved, fits_weaker, keep_fits, mark_claims, stack_moved, word_fits_weaker}
+use Rattle.aom_shape.specs.declared.kind.Kind.TheVariants.{Maybe, Null, Own, Word}
+use Rattle.aom_sound.proofs.Claimed.{claim-set_register, claim_frame, claim_push, claim_register_above, declared_moved, keep_fits, mark_claims, stack_moved}
 use Rattle.aom_sound.proofs.Finishing.{message_gone, after_return, Returnable, ended, ended_plainly, left_alone, left_held, none_left, return_needs, returnable, same_items}
 use Rattle.aom_sound.proofs.Items.{forms_below, mark_on_top, undos_below}
-use Rattle.aom_sound.proofs.Maps.{at-put_at, held_moved, requested_moved, same_place-true, same_place_refl, tidy_moved}
+use Rattle.aom_sound.proofs.Maps.{held_moved, requested_moved, same_place-true, same_place_refl, tidy_moved}
 use Rattle.aom_sound.proofs.Straight.{At, Fitted, Law, claim_register, fits_unowning, housed_relocated, next_unowning, no_word_fits, register_fits, settle, stepped, top, word_of_object, words_set, write, may_be_object}
-use Rattle.aom_sound.proofs.Things.{stands_same}
+use Rattle.aom_sound.proofs.Widening.{hold_widens, own_widens, own_widens_more, retaken}
 use Rattle.aom_sound.specs.Calls.{needs_ended, below_top, received, result_cells, result_needs, result_register, returned, told_answer}
 use Rattle.aom_sound.specs.Claims.{delivered, home_claim, root_claim, serves, Dispatching, Layer, Mark, Mark_form, Method, Unwinding, claim, declared, forms, items_of, objects, tasks_of}
 use Rattle.aom_sound.specs.Objects.{is_thing}
@@ -45,31 +44,6 @@ use Rattle.aom_sound.specs.Enlisted.{ended_cells}
 use Rattle.aom_shape.specs.declared.kind.Delivery.TheVariants.{Here}
 use Rattle.aom_image.specs.declared.method.Thing.TheVariants.{Message}
 use Rattle.aom_rules.specs.Rules.{rule_needs}
-
-loosen :
-    (p : Image) (t : Typing) (cs : List Cell) (fr : Frame) (sh : Shape) (ls : List Layer) (c : ℕ) (k v : Kind) → Weaker v k → Fitted p t cs fr (set_register sh c k) ls →
-    Fitted p t cs fr (set_register sh c v) ls
-loosen p t cs fr sh ls c k v w g = record {
-  fits = λ r. fits_weaker p (seen cs) (held cs r) (claim_weaker p (declared p cs) fr (set_register sh c v) (set_register sh c k) ls r says) (g.fits r);
-  suits = g.suits;
-  tidy = g.tidy;
-  frames = record { words = λ i. word_fits_weaker (word fr i) (says.registers i) (g.frames.words i); holder = g.frames.holder; height = g.frames.height; alone = g.frames.alone; message = g.frames.message };
-  housed = g.housed;
-  apart = g.apart;
-  stack = g.stack;
-}
-  where
-    says : OwnsNoMore (set_register sh c v) (set_register sh c k)
-    says = record {
-      registers = λ i. subst (λ x. Weaker x (register (set_register sh c k) i)) (sym (at-put_at Unset sh.registers c i v)) (subst (λ x. Weaker (cond (c == i) v (register sh i)) x) (sym (at-put_at Unset sh.registers c i k)) (go (c == i) (register sh i)));
-      fields = λ i. alike_filling;
-      entries = refl;
-      delivery = refl;
-    }
-      where
-        go : (b : Bool) (x : Kind) → Weaker (cond b v x) (cond b k x)
-        go true x = w
-        go false x = alike
 
 module _ (p : Image) (t : Typing) (c : Choice) (s : State) (fr fr2 : Frame) (sh sh2 : Shape) (ls below : List Layer) (at_hand : At p t s fr sh below) (back : Back)
     (caller : Stack p t s.cells back (Method fr2 sh2 ∷ ls))
@@ -106,6 +80,10 @@ module _ (p : Image) (t : Typing) (c : Choice) (s : State) (fr fr2 : Frame) (sh 
       entry : Pushed
       entry = Pushed_object x Ready
 
+      -- what is left there
+      itself : Pushed
+      itself = Pushed_object (left_alone p x sh.entries e).class Ready
+
       spot : Place
       spot = Entry (length (items_of (Method fr2 sh2 ∷ ls)))
 
@@ -114,9 +92,9 @@ module _ (p : Image) (t : Typing) (c : Choice) (s : State) (fr fr2 : Frame) (sh 
 
       without : (r : Place) → same_place spot r ≡ false → claim p (declared p s.cells) (Method fr sh ∷ below) r ≡ claim p (declared p s.cells) (Method fr bare ∷ below) r
       without r f =
-          ap (λ es. claim p (declared p s.cells) (Method fr (record sh { entries = es }) ∷ below) r) (left_alone p x sh.entries e)
-          ∙ claim_push p (declared p s.cells) fr bare below entry r
-          ∙ ap (λ b. cond b (entry_kind entry) (claim p (declared p s.cells) (Method fr bare ∷ below) r)) (ap (λ l. same_place (Entry (length (items_of l))) r) over ∙ f)
+          ap (λ es. claim p (declared p s.cells) (Method fr (record sh { entries = es }) ∷ below) r) (left_alone p x sh.entries e).alone
+          ∙ claim_push p (declared p s.cells) fr bare below itself r
+          ∙ ap (λ b. cond b (entry_kind itself) (claim p (declared p s.cells) (Method fr bare ∷ below) r)) (ap (λ l. same_place (Entry (length (items_of l))) r) over ∙ f)
 
       go : (r : Place) (b : Bool) → same_place spot r ≡ b → Fits p (seen s.cells) (held s.cells r) (cond b (entry_kind entry) (claim p (declared p s.cells) (Method fr2 sh2 ∷ ls) r))
       go r true f =
@@ -194,15 +172,6 @@ module _ (p : Image) (t : Typing) (c : Choice) (s : State) (fr fr2 : Frame) (sh 
 
 -- what the rule says of the result, by its kind
 module _ (p : Image) (s : State) where
-  pub may_own : (x : Thing) (k : Kind) → is_own_for p x k ≡ true → is_ready_kind k ≡ true → k ≡ Own x Ready
-  may_own x k e r = grind arith
-
-  pub may_hold : (x : Thing) (k : Kind) → may_be p x k ≡ true → is_ready_kind k ≡ true → Weaker (Maybe x Ready) k
-  may_hold x Null e r = maybe_null
-  may_hold x (Own y Ready) e r = subst (λ z. Weaker (Maybe x Ready) (Own z Ready)) (sym (stands_same p y x e)) maybe_own
-  may_hold x (Maybe y Ready) e r = subst (λ z. Weaker (Maybe x Ready) (Maybe z Ready)) (sym (stands_same p y x e)) alike
-  may_hold x _ e r = cc
-
   pub word_is : (w : Option ℤ) (k : Kind) → is_word k ≡ true → WordFits w k → (is_some w ≡ true) × WordFits w Word
   word_is (Some w) Word e f = (refl, tt)
   word_is _ _ e f = absurd (grind arith)
@@ -256,17 +225,17 @@ module _ (p : Image) (t : Typing) (wired : IsWired p) (c : Choice) (s : State) (
           let i = word_is p s (word fr a) (register sh a) r.0 (at_hand.good.stack.1.words a) in
           ((i.0, tt), finish s.cells (set_word fr2 x (word fr a)) (set_register sh2 x Word) refl refl (items e) (write p t s.cells fr2 sh2 ls x (word fr a) Word (plain p t c s fr fr2 sh sh2 ls below at_hand (Returns fr.method fr.home) at_hand.good.stack.4 (λ d r. refl) (omega arith) refl (suits still) at_hand.good.stack.1.message.0 e n) w (λ h. tt) i.1) leads)
       go still (An_own y) r e n w leads =
-          let k = may_own p s y (register sh a) r.0 r.1.0 in
-          let f = carried p t c s fr fr2 sh sh2 ls below at_hand (Returns fr.method fr.home) at_hand.good.stack.4 (λ d r. refl) (omega arith) refl (suits still) at_hand.good.stack.1.message.0 a x e n w (ap is_object_or_null k) in
-          let h = held_thing p s y (held s.cells (top below a)) (subst (λ k. Fits p (seen s.cells) (held s.cells (top below a)) k) k (register_fits p s.cells fr sh below at_hand.good.fits a)) in
-          ((ap is_none (word_of_object (word fr a) (register sh a) (ap is_object_or_null k) (at_hand.good.stack.1.words a)), (h.0, (h.1, tt))), finish (moved (top below a) (top ls x) s.cells) (set_word fr2 x None) (set_register sh2 x (Own y Ready)) refl refl (items e) (subst (λ k. Fitted p t (moved (top below a) (top ls x) s.cells) (set_word fr2 x None) (set_register sh2 x k) ls) k f) leads)
+          let k = own_widens p y (register sh a) r.0 r.1.0 in
+          let f = carried p t c s fr fr2 sh sh2 ls below at_hand (Returns fr.method fr.home) at_hand.good.stack.4 (λ d r. refl) (omega arith) refl (suits still) at_hand.good.stack.1.message.0 a x e n w k.object in
+          let h = held_thing p s y (held s.cells (top below a)) (k.fits (seen s.cells) (held s.cells (top below a)) (register_fits p s.cells fr sh below at_hand.good.fits a)) in
+          ((ap is_none (word_of_object (word fr a) (register sh a) k.object (at_hand.good.stack.1.words a)), (h.0, (h.1, tt))), finish (moved (top below a) (top ls x) s.cells) (set_word fr2 x None) (set_register sh2 x (Own y Ready)) refl refl (items e) (retaken p t (moved (top below a) (top ls x) s.cells) (set_word fr2 x None) sh2 ls x (register sh a) (Own y Ready) k f) leads)
       go still (A_maybe y) r e n w leads =
           let obj : is_object_or_null (register sh a) ≡ true = object_of p s y (register sh a) r.0 in
           let f = carried p t c s fr fr2 sh sh2 ls below at_hand (Returns fr.method fr.home) at_hand.good.stack.4 (λ d r. refl) (omega arith) refl (suits still) at_hand.good.stack.1.message.0 a x e n w obj in
-          let weak = may_hold p s y (register sh a) r.0 r.1.0 in
-          let h = held_maybe p s y (held s.cells (top below a)) (fits_weaker p (seen s.cells) (held s.cells (top below a)) weak (register_fits p s.cells fr sh below at_hand.good.fits a)) in
-          ((ap is_none (word_of_object (word fr a) (register sh a) obj (at_hand.good.stack.1.words a)), (h, tt)), finish (moved (top below a) (top ls x) s.cells) (set_word fr2 x None) (set_register sh2 x (Maybe y Ready)) refl refl (items e) (loosen p t (moved (top below a) (top ls x) s.cells) (set_word fr2 x None) sh2 ls x (register sh a) (Maybe y Ready) weak f) leads)
-      go still (Left y) r e n w leads = (tt, finish s.cells fr2 (with_entry (Pushed_object y Ready) sh2) refl refl (at_hand.items ∙ ap (λ es. objects es (items_of below)) (left_alone p y sh.entries e)) (pushed p t c s fr fr2 sh sh2 ls below at_hand (Returns fr.method fr.home) at_hand.good.stack.4 (λ d r. refl) (omega arith) refl (suits still) at_hand.good.stack.1.message.0 y refl e n) leads)
+          let weak = hold_widens p y (register sh a) r.0 r.1.0 in
+          let h = held_maybe p s y (held s.cells (top below a)) (weak.fits (seen s.cells) (held s.cells (top below a)) (register_fits p s.cells fr sh below at_hand.good.fits a)) in
+          ((ap is_none (word_of_object (word fr a) (register sh a) obj (at_hand.good.stack.1.words a)), (h, tt)), finish (moved (top below a) (top ls x) s.cells) (set_word fr2 x None) (set_register sh2 x (Maybe y Ready)) refl refl (items e) (retaken p t (moved (top below a) (top ls x) s.cells) (set_word fr2 x None) sh2 ls x (register sh a) (Maybe y Ready) weak f) leads)
+      go still (Left y) r e n w leads = (tt, finish s.cells fr2 (with_entry (Pushed_object y Ready) sh2) refl refl (at_hand.items ∙ ap (λ es. objects es (items_of below)) (left_alone p y sh.entries e).alone) (pushed p t c s fr fr2 sh sh2 ls below at_hand (Returns fr.method fr.home) at_hand.good.stack.4 (λ d r. refl) (omega arith) refl (suits still) at_hand.good.stack.1.message.0 y refl e n) leads)
 
       -- one that cancels gives nothing
       cancel_keeps : is_cancel (method_role p fr.method) ≡ true → AllTrue (needs p c fr (tasks_of below) s (Return a)) × WellTyped p t (does p c fr (tasks_of below) s (Return a))
@@ -353,17 +322,17 @@ module _ (p : Image) (t : Typing) (wired : IsWired p) (c : Choice) (s : State) (
           let i = word_is p s (word fr a) (register sh a) r.0 (at_hand.good.stack.1.words a) in
           ((i.0, tt), finish s.cells (set_word fr2 x (word fr a)) (set_register sh2 x Word) refl refl (items e) (next_unowning sh2.registers x Word u) (write p t s.cells fr2 sh2 ls x (word fr a) Word (plain p t c s fr fr2 sh sh2 ls marked at_hand (Caught gv) caller (λ d r. mark_claims p d gv (Method fr2 sh2 ∷ ls) r) (omega arith) refl suits at_hand.good.stack.1.message.0 e n) w (λ h. tt) i.1) leads)
       go (An_own y) none r e n u w leads =
-          let k = may_own p s y (register sh a) r.0 r.1.0 in
-          let f = carried p t c s fr fr2 sh sh2 ls marked at_hand (Caught gv) caller (λ d r. mark_claims p d gv (Method fr2 sh2 ∷ ls) r) (omega arith) refl suits at_hand.good.stack.1.message.0 a x e n w (ap is_object_or_null k) in
-          let h = held_thing p s y (held s.cells (top marked a)) (subst (λ k. Fits p (seen s.cells) (held s.cells (top marked a)) k) k (register_fits p s.cells fr sh marked at_hand.good.fits a)) in
-          let weak : Weaker (Maybe y Ready) (register sh a) = subst (λ k. Weaker (Maybe y Ready) k) (sym k) maybe_own in
-          ((ap is_none (word_of_object (word fr a) (register sh a) (ap is_object_or_null k) (at_hand.good.stack.1.words a)), (h.0, (h.1, tt))), finish (moved (top marked a) (top ls x) s.cells) (set_word fr2 x None) (set_register sh2 x (Maybe y Ready)) refl refl (items e) (next_unowning sh2.registers x (Maybe y Ready) u) (loosen p t (moved (top marked a) (top ls x) s.cells) (set_word fr2 x None) sh2 ls x (register sh a) (Maybe y Ready) weak f) leads)
+          let k = own_widens p y (register sh a) r.0 r.1.0 in
+          let f = carried p t c s fr fr2 sh sh2 ls marked at_hand (Caught gv) caller (λ d r. mark_claims p d gv (Method fr2 sh2 ∷ ls) r) (omega arith) refl suits at_hand.good.stack.1.message.0 a x e n w k.object in
+          let h = held_thing p s y (held s.cells (top marked a)) (k.fits (seen s.cells) (held s.cells (top marked a)) (register_fits p s.cells fr sh marked at_hand.good.fits a)) in
+          let weak = own_widens_more p y (register sh a) r.0 r.1.0 in
+          ((ap is_none (word_of_object (word fr a) (register sh a) k.object (at_hand.good.stack.1.words a)), (h.0, (h.1, tt))), finish (moved (top marked a) (top ls x) s.cells) (set_word fr2 x None) (set_register sh2 x (Maybe y Ready)) refl refl (items e) (next_unowning sh2.registers x (Maybe y Ready) u) (retaken p t (moved (top marked a) (top ls x) s.cells) (set_word fr2 x None) sh2 ls x (register sh a) (Maybe y Ready) weak f) leads)
       go (A_maybe y) none r e n u w leads =
           let obj : is_object_or_null (register sh a) ≡ true = object_of p s y (register sh a) r.0 in
           let f = carried p t c s fr fr2 sh sh2 ls marked at_hand (Caught gv) caller (λ d r. mark_claims p d gv (Method fr2 sh2 ∷ ls) r) (omega arith) refl suits at_hand.good.stack.1.message.0 a x e n w obj in
-          let weak = may_hold p s y (register sh a) r.0 r.1.0 in
-          let h = held_maybe p s y (held s.cells (top marked a)) (fits_weaker p (seen s.cells) (held s.cells (top marked a)) weak (register_fits p s.cells fr sh marked at_hand.good.fits a)) in
-          ((ap is_none (word_of_object (word fr a) (register sh a) obj (at_hand.good.stack.1.words a)), (h, tt)), finish (moved (top marked a) (top ls x) s.cells) (set_word fr2 x None) (set_register sh2 x (Maybe y Ready)) refl refl (items e) (next_unowning sh2.registers x (Maybe y Ready) u) (loosen p t (moved (top marked a) (top ls x) s.cells) (set_word fr2 x None) sh2 ls x (register sh a) (Maybe y Ready) weak f) leads)
+          let weak = hold_widens p y (register sh a) r.0 r.1.0 in
+          let h = held_maybe p s y (held s.cells (top marked a)) (weak.fits (seen s.cells) (held s.cells (top marked a)) (register_fits p s.cells fr sh marked at_hand.good.fits a)) in
+          ((ap is_none (word_of_object (word fr a) (register sh a) obj (at_hand.good.stack.1.words a)), (h, tt)), finish (moved (top marked a) (top ls x) s.cells) (set_word fr2 x None) (set_register sh2 x (Maybe y Ready)) refl refl (items e) (next_unowning sh2.registers x (Maybe y Ready) u) (retaken p t (moved (top marked a) (top ls x) s.cells) (set_word fr2 x None) sh2 ls x (register sh a) (Maybe y Ready) weak f) leads)
       go (Left y) none r e n u w leads = absurd none
 
 -- a method returns to its dispatch

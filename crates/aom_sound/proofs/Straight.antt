@@ -15,17 +15,18 @@ use Rattle.aom_shape.specs.Things.{field_thing, holder_of}
 use Rattle.aom_rules.specs.Typing.{AllLead, Leads, Typing}
 use Rattle.aom_shape.specs.declared.kind.Filling.{Filling}
 use Rattle.aom_shape.specs.declared.kind.Kind.{Kind}
-use Rattle.aom_shape.specs.declared.kind.Kind.TheVariants.{Maybe, Null, Own, Unset}
+use Rattle.aom_shape.specs.declared.kind.Age.TheVariants.{Fresh, Ready}
+use Rattle.aom_shape.specs.declared.kind.Kind.TheVariants.{Maybe, Null, Own, Unset, Word}
 use Rattle.aom_sound.proofs.Seats.{NoFieldHere}
 use Rattle.aom_sound.proofs.Claimed.{Outside, claim-set_register, claim_frame, claim_from, claim_ready, claim_weaker, declared_moved, fits_weaker, holds_moved, keep_fits, outside_differs, owns_no_more, stack_moved, word_fits_weaker}
 use Rattle.aom_sound.proofs.Maps.{at-put_at, held_moved, one_place, requested_moved, same_place-true, tidy_moved}
-use Rattle.aom_sound.proofs.Things.{stands_along, stands_same}
+use Rattle.aom_sound.proofs.Things.{stands_along}
 use Rattle.aom_sound.specs.Claims.{Layer, Method, claim, declared, forms, home_claim, items_of, objects, root_claim, tasks_of, serves}
 use Rattle.aom_sound.specs.Moves.{does, needs}
 use Rattle.aom_sound.specs.Objects.{is_declared_thing, is_thing}
 use Rattle.aom_sound.specs.Places.{Cell, Elsewhere, Field, Object, Place, Register, Root, Sight, Tidy, changed, held, moved, requested, same_place, seen}
 use Rattle.aom_sound.specs.State.{AtRoot, Choice, Frame, Home, Inside, Run, State, Static, field_place, home_holder, next, set_word, thing_holder, word}
-use Rattle.aom_sound.specs.WellTyped.{AllUndo, Fits, Frames, Good, Holds, IsAlone, IsApart, IsHoused, Returns, Stack, WellTyped, WordFits, HasMessage}
+use Rattle.aom_sound.specs.WellTyped.{AllUndo, Fits, Frames, Good, Holds, Houses, IsAlone, IsApart, IsHoused, Returns, Stack, WellTyped, WordFits, HasMessage}
 use Rattle.aom_sound.proofs.Suiting.{all_moved, claims_less}
 use Rattle.aom_sound.specs.Requests.{AllSuit, Known, Suits, known_at, states_claim, thing_kind, works_at}
 use Rattle.aom_image.specs.Views.{method_role}
@@ -139,7 +140,7 @@ relocate p t cs fr fr' sh sh' ls a b g eh em eg es free oa ob nf fresh claims wo
       fits = λ r. subst (λ k. Fits p (seen cs') (held cs' r) k) (ap (λ e. claim p e (Method fr sh' ∷ ls) r) (sym (declared_moved p cs a b)) ∙ sym (claim_frame p (declared p cs') fr fr' sh' ls r eh em)) (fits r);
       suits = same_suits p (moved a b cs) fr fr' sh sh' ls eh em es (all_moved p cs a b (Method fr sh ∷ ls) g.suits);
       tidy = tidy_moved cs a b free g.tidy;
-      frames = record { words = words; holder = ap home_holder eh ∙ g.frames.holder ∙ ap (λ m. holder_of p m) (sym em); height = eg ∙ g.frames.height; alone = alone_too p fr fr' ls eh em g.frames.alone; message = message_too p fr fr' ls em g.frames.message };
+      frames = record { words = words; holder = subst (λ h. Houses p (home_holder h) (holder_of p fr'.method)) (sym eh) (subst (λ m. Houses p (home_holder fr.home) (holder_of p m)) (sym em) g.frames.holder); height = eg ∙ g.frames.height; alone = alone_too p fr fr' ls eh em g.frames.alone; message = message_too p fr fr' ls em g.frames.message };
       housed = housed_relocated p cs a b ls fr'.home free oa ob nf (subst (λ h. IsHoused p cs ls h) (sym eh) g.housed);
       apart = subst (λ h. IsApart p h ls) (sym eh) g.apart;
       stack = subst (λ m. Stack p t cs' (Returns m fr'.home) ls) (sym em) (subst (λ h. Stack p t cs' (Returns fr.method h) ls) (sym eh) (stack_moved p t cs a b ls _ free oa ob g.stack));
@@ -158,7 +159,7 @@ relabel p t cs fr fr' sh sh' ls a v g eh em eg es new claims words = record {
   fits = λ r. subst (λ k. Fits p (seen cs) (held cs r) k) (sym (claim_frame p (declared p cs) fr fr' sh' ls r eh em ∙ claims r)) (go r (same_place a r) refl);
   suits = same_suits p cs fr fr' sh sh' ls eh em es g.suits;
   tidy = g.tidy;
-  frames = record { words = words; holder = ap home_holder eh ∙ g.frames.holder ∙ ap (λ m. holder_of p m) (sym em); height = eg ∙ g.frames.height; alone = alone_too p fr fr' ls eh em g.frames.alone; message = message_too p fr fr' ls em g.frames.message };
+  frames = record { words = words; holder = subst (λ h. Houses p (home_holder h) (holder_of p fr'.method)) (sym eh) (subst (λ m. Houses p (home_holder fr.home) (holder_of p m)) (sym em) g.frames.holder); height = eg ∙ g.frames.height; alone = alone_too p fr fr' ls eh em g.frames.alone; message = message_too p fr fr' ls em g.frames.message };
   housed = subst (λ h. IsHoused p cs ls h) (sym eh) g.housed;
   apart = subst (λ h. IsApart p h ls) (sym eh) g.apart;
   stack = subst (λ m. Stack p t cs (Returns m fr'.home) ls) (sym em) (subst (λ h. Stack p t cs (Returns fr.method h) ls) (sym eh) g.stack);
@@ -212,7 +213,7 @@ reframed p t cs fr fr' sh ls eh em eg ew g = record {
   fits = λ r. subst (λ k. Fits p (seen cs) (held cs r) k) (sym (claim_frame p (declared p cs) fr fr' sh ls r eh em)) (g.fits r);
   suits = same_suits p cs fr fr' sh sh ls eh em refl g.suits;
   tidy = g.tidy;
-  frames = record { words = λ i. subst (λ ws. WordFits (at None ws i) (register sh i)) (sym ew) (g.frames.words i); holder = ap home_holder eh ∙ g.frames.holder ∙ ap (λ m. holder_of p m) (sym em); height = eg ∙ g.frames.height; alone = alone_too p fr fr' ls eh em g.frames.alone; message = message_too p fr fr' ls em g.frames.message };
+  frames = record { words = λ i. subst (λ ws. WordFits (at None ws i) (register sh i)) (sym ew) (g.frames.words i); holder = subst (λ h. Houses p (home_holder h) (holder_of p fr'.method)) (sym eh) (subst (λ m. Houses p (home_holder fr.home) (holder_of p m)) (sym em) g.frames.holder); height = eg ∙ g.frames.height; alone = alone_too p fr fr' ls eh em g.frames.alone; message = message_too p fr fr' ls em g.frames.message };
   housed = subst (λ h. IsHoused p cs ls h) (sym eh) g.housed;
   apart = subst (λ h. IsApart p h ls) (sym eh) g.apart;
   stack = subst (λ m. Stack p t cs (Returns m fr'.home) ls) (sym em) (subst (λ h. Stack p t cs (Returns fr.method h) ls) (sym eh) g.stack);
@@ -300,8 +301,52 @@ module _ (p : Image) (t : Typing) (c : Choice) (s : State) (fr : Frame) (sh : Sh
   pub declared_object : (x : Option Thing) (k : Kind) → may_be_declared p x k ≡ true → is_object_or_null k ≡ true
   declared_object x k e = grind arith
 
-  pub refills : (x : Option Thing) (k : Kind) → may_be_declared p x k ≡ true → is_ready_kind k ≡ true → filled x (filling_of k) ≡ k
-  refills x k e r = grind (arith, stands_same p)
+  -- a thing may be taken for one of what is declared
+  pub refills : (h : Sight) (x : Option Thing) (o : Option Object) (k : Kind) → may_be_declared p x k ≡ true → is_ready_kind k ≡ true → Fits p h o k → Fits p h o (filled x (filling_of k))
+  refills h None o k e r f = cc
+  refills h (Some x) None Null e r f = tt
+  refills h (Some x) None (Own y Ready) e r f = absurd f
+  refills h (Some x) None (Own y Fresh) e r f = absurd f
+  refills h (Some x) None (Maybe y Ready) e r f = tt
+  refills h (Some x) None (Maybe y Fresh) e r f = cc
+  refills h (Some x) None Unset e r f = cc
+  refills h (Some x) None Word e r f = cc
+  refills h (Some x) (Some o) Null e r f = absurd f
+  refills h (Some x) (Some o) (Own y Ready) e r f = (stands_along p o.thing y x f.0 e, tt)
+  refills h (Some x) (Some o) (Own y Fresh) e r f = cc
+  refills h (Some x) (Some o) (Maybe y Ready) e r f = (stands_along p o.thing y x f.0 e, tt)
+  refills h (Some x) (Some o) (Maybe y Fresh) e r f = cc
+  refills h (Some x) (Some o) Unset e r f = cc
+  refills h (Some x) (Some o) Word e r f = cc
+
+  pub filled_word : (x : Option Thing) (k : Kind) → may_be_declared p x k ≡ true → WordFits None (filled x (filling_of k))
+  filled_word None k e = cc
+  filled_word (Some x) Null e = refl
+  filled_word (Some x) (Own y a) e = refl
+  filled_word (Some x) (Maybe y a) e = refl
+  filled_word (Some x) Unset e = cc
+  filled_word (Some x) Word e = cc
+
+  pub filled_ready : (x : Option Thing) (k : Kind) → may_be_declared p x k ≡ true → is_ready_kind (filled x (filling_of k)) ≡ true
+  filled_ready None k e = cc
+  filled_ready (Some x) Null e = refl
+  filled_ready (Some x) (Own y a) e = refl
+  filled_ready (Some x) (Maybe y a) e = refl
+  filled_ready (Some x) Unset e = cc
+  filled_ready (Some x) Word e = cc
+
+  -- what is in a register may be claimed to be of another kind that holds of it
+  pub widened : (b : ℕ) (l : Kind) → Fits p (seen s.cells) (held s.cells (top ls b)) l → WordFits (word fr b) l → Fitted p t s.cells fr (set_register sh b l) ls
+  widened b l new word_fits =
+      relabel p t s.cells fr fr sh (set_register sh b l) ls (top ls b) l (fitted p t s.cells fr sh ls at_hand.good) refl refl refl refl new
+      (λ r. claim-set_register p (declared p s.cells) fr sh ls b l r) words
+    where
+      words : (i : ℕ) → WordFits (word fr i) (register (set_register sh b l) i)
+      words i = subst (λ x. WordFits (word fr i) x) (sym (at-put_at Unset sh.registers b i l)) (go (b == i) refl)
+        where
+          go : (same : Bool) → (b == i) ≡ same → WordFits (word fr i) (cond same l (register sh i))
+          go true e = subst (λ j. WordFits (word fr j) l) (eqb-true b i e) word_fits
+          go false e = at_hand.good.stack.1.words i
 
   pub empties : (x : Option Thing) (y : Filling) → is_empty y ≡ true → is_unowning (filled x y) ≡ true
   empties x y e = grind arith

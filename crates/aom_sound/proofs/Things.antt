@@ -1,29 +1,46 @@
 -- What stands for what: each thing for itself, and what stands for it.
-use Rattle.std.proofs.Common.{Some, ap, arith, false, refl, subst, sym, true, ℕ, ◌∙◌, ◌≡◌}
+use Rattle.std.proofs.Common.{Some, ap, arith, false, refl, sym, true, ℕ, ◌∙◌, ◌≡◌}
 use Rattle.std.specs.Prelude.{is_some}
 use Rattle.aom_image.proofs.Given.{some_given}
-use Rattle.std.proofs.lemmas.Bool.{eq-eqb}
 use Rattle.aom_image.specs.Image.{Image}
 use Rattle.aom_image.specs.declared.method.Thing.{Thing}
 use Rattle.aom_image.specs.declared.method.Thing.TheVariants.{Message, Object as An_object_of}
-use Rattle.aom_shape.specs.Things.{same_thing, stands_for}
-use Rattle.aom_shape.proofs.Deciding.{thing_is}
+use Rattle.aom_shape.specs.Things.{stands_for}
+use Rattle.aom_shape.specs.Kinds.{is_object}
+use Rattle.aom_roles.proofs.Descending.{itself, one_class, through}
 use Rattle.aom_sound.specs.Servers.{is_server, session_class}
 use Rattle.aom_roles.specs.Shapes.{kind_of}
 use Rattle.aom_roles.specs.Classes.{sessions_at, sessions_in}
 
-pub same_thing-true : (x y : Thing) → same_thing x y ≡ true → x ≡ y
-same_thing-true x y e = thing_is x y e
-
-pub stands_same : (p : Image) (x y : Thing) → stands_for p x y ≡ true → x ≡ y
-stands_same p x y e = same_thing-true x y e
-
 pub stands_itself : (p : Image) (x : Thing) → stands_for p x x ≡ true
-stands_itself p (An_object_of c) = eq-eqb c c refl
+stands_itself p (An_object_of c) = itself p c
 stands_itself p Message = refl
 
 pub stands_along : (p : Image) (x y z : Thing) → stands_for p x y ≡ true → stands_for p y z ≡ true → stands_for p x z ≡ true
-stands_along p x y z a b = subst (λ w. stands_for p w z ≡ true) (sym (stands_same p x y a)) b
+stands_along p (An_object_of c) (An_object_of d) (An_object_of e) a b = through p c d e a b
+stands_along p (An_object_of c) (An_object_of d) Message a b = cc
+stands_along p (An_object_of c) Message z a b = cc
+stands_along p Message (An_object_of d) z a b = cc
+stands_along p Message Message (An_object_of e) a b = cc
+stands_along p Message Message Message a b = refl
+
+-- what stands for an object is one, and what stands for a message is a message
+pub stands_object : (p : Image) (x y : Thing) → stands_for p x y ≡ true → is_object x ≡ is_object y
+stands_object p (An_object_of c) (An_object_of d) a = refl
+stands_object p (An_object_of c) Message a = cc
+stands_object p Message (An_object_of d) a = cc
+stands_object p Message Message a = refl
+
+pub stands_message : (p : Image) (x : Thing) → stands_for p x Message ≡ true → x ≡ Message
+stands_message p (An_object_of c) a = cc
+stands_message p Message a = refl
+
+-- while no class has a parent only a thing itself stands for it
+pub stands_same : (p : Image) (x y : Thing) → stands_for p x y ≡ true → x ≡ y
+stands_same p (An_object_of c) (An_object_of d) a = ap An_object_of (one_class p c d a)
+stands_same p (An_object_of c) Message a = cc
+stands_same p Message (An_object_of d) a = cc
+stands_same p Message Message a = refl
 
 -- a message is no server
 pub message_plain : (p : Image) (x : Thing) → x ≡ Message → is_server p x ≡ false

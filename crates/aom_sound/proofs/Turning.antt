@@ -241,7 +241,7 @@ module _ (p : Image) (t : Typing) (s : State) (w : WellTyped p t s) (idle_now : 
         it = handler_of y.seat.object.thing (ready_active (thing_kind p y.seat.object.thing) y.request ready rests)
 
         sits : (above : List Seat) × AllSit s.cells (y.seat ∷ above)
-        sits = let c = chain p t wired s w idle_now y.seat.place y.seat.object it_is.there (subst (λ z. 0 < rank z) (sym it.3) (omega arith)) in (c.0, c.1)
+        sits = let c = chain p t wired s w idle_now y.seat.place y.seat.object it_is.there (subst (λ z. 0 < rank p wired z) (sym it.3) (omega arith)) in (c.0, c.1)
 
         now : requested cs y.seat.object.name ≡ Some (taken_up y.request)
         now = requested_here s.cells y.seat.object.name (on_request taken_up (requested s.cells y.seat.object.name)) y.seat.object it_is.lives ∙ ap (on_request taken_up) it_is.asked

@@ -1,4 +1,4 @@
--- What a linked image gives the laws: main and the destructors are as they must be, what is called does or constructs, and what is owned is of a class before its owner's.
+-- What a linked image gives the laws: main and the destructors are as they must be, what is called does or constructs, and its families are as the laws want them.
 use Rattle.std.proofs.lemmas.List.{nil_from_length}
 use Rattle.std.proofs.lemmas.Bool.{and_parts, cases_Bool, true≢false}
 use Rattle.std.proofs.Common.{Bool, IfSome, IsSome, IsTrue, List, None, Option, Some, [], ap, arith, false, inl, inr, length, refl, slice_get, subst, sym, true, ℕ, ⊎_elim, ◌<◌, ◌∙◌, ◌∷◌, ◌≡◌}
@@ -20,7 +20,7 @@ use Rattle.aom_image.specs.declared.method.Method.{Method as Method_declared}
 use Rattle.aom_image.specs.declared.method.Role.{Role}
 use Rattle.aom_image.specs.declared.method.Role.TheVariants.{Accept, Cancel, Construct, Destruct, Do, Error, Main, Run, Service, Undo}
 use Rattle.aom_image.specs.declared.method.Thing.TheVariants.{Object as An_object_of}
-use Rattle.aom_roles.specs.Classes.{ClassOrdered, OwnsBefore, is_session, is_session_in, is_session_kind, kind_in, sessions_at, sessions_in, sessions_of}
+use Rattle.aom_roles.specs.Classes.{is_session, is_session_in, is_session_kind, kind_in, sessions_at, sessions_in, sessions_of}
 use Rattle.aom_roles.specs.Shapes.{HasShape, IsCancel, IsConstruct, IsDo, IsMain, IsShaped, IsTrapped as ShapedTrapped, IsUndo as ShapedUndo, NamesRoles, gives_left, gives_nothing, is_role, is_word, kind_of, gives_word, gives_object, is_object}
 use Rattle.aom_classes.specs.Linked.{IsLinked}
 use Rattle.aom_classes.specs.Needs.{HasActive, KindNeeds, NeedsMet}
@@ -28,6 +28,7 @@ use Rattle.aom_classes.specs.Roles.{main_of, role_of, same_role}
 use Rattle.aom_classes.proofs.Facts.{all_there, at_place, of_method}
 use Rattle.aom_classes.proofs.Playing.{main_found, role_found, same_roles}
 use Rattle.aom_shape.specs.Things.{Member, field_thing}
+use Rattle.aom_sound.proofs.Families.{linked_is_family, session_before}
 use Rattle.aom_sound.specs.Laws.{IsAcceptor, IsAnswerer, IsAttendant, IsCalled, IsHandler, IsTrapped, IsWired}
 use Rattle.aom_sound.specs.WellTyped.{IsUndo, LeavesNone}
 use Rattle.aom_image.specs.declared.method.Argument.{Argument}
@@ -244,15 +245,7 @@ module _ (p : Image) (formed : WellFormed p) (linked : IsLinked p) where
         gives = ap gives_in d.1 ∙ nothing_given d.0.gives d.4.gives;
       }
 
-  -- its sessions are of a class of sessions before it
-  session_before : (c session : ℕ) → sessions_at p c ≡ Some session → (session < c) × (is_session p session ≡ true)
-  unfolding kind_in class_at sessions_in
-  session_before c session serves = go (class_at p c) refl serves
-    where
-      go : (o : Option ClassDecl) → class_at p c ≡ o → sessions_in (kind_in o) ≡ Some session → (session < c) × (is_session p session ≡ true)
-      go o e h = grind arith
-
-  -- which have a method that serves, and no sessions
+  -- what is of a class of sessions has a method that serves, and no sessions
   of_session : (c : ℕ) → is_session p c ≡ true → ((m : ℕ) × (role_of p c Service ≡ Some m)) × (sessions_at p c ≡ None)
   unfolding kind_of is_session_in is_session_kind sessions_in sessions_of
   of_session c is = let served = serves (kind_of p (Some c)) (needs c) is in (some_there (role_of p c Service) served.0, served.1)
@@ -261,10 +254,10 @@ module _ (p : Image) (formed : WellFormed p) (linked : IsLinked p) where
       serves o n e = grind arith
 
   has_attendant : (c session : ℕ) → sessions_at p c ≡ Some session → (m : ℕ) × (role_of p session Service ≡ Some m)
-  has_attendant c session serves = (of_session session (session_before c session serves).1).0
+  has_attendant c session serves = (of_session session (session_before p linked c session serves).1).0
 
-  session_lower : (c session : ℕ) → sessions_at p c ≡ Some session → (session < c) × (sessions_at p session ≡ None)
-  session_lower c session serves = let before = session_before c session serves in (before.0, (of_session session before.1).1)
+  session_serves_none : (c session : ℕ) → sessions_at p c ≡ Some session → sessions_at p session ≡ None
+  session_serves_none c session serves = (of_session session (session_before p linked c session serves).1).1
 
   -- what may leave is not quiet
   loud : (m : ℕ) → leaves p m ≡ true → is_quiet p m ≡ false
@@ -390,12 +383,6 @@ module _ (p : Image) (formed : WellFormed p) (linked : IsLinked p) where
             absurd (cc)
       ] refl
 
-  owned_before : (c d f : ℕ) → field_thing p (Member c) f ≡ Some (An_object_of d) → d < c
-  unfolding fields_in class_at
-  owned_before c d f e =
-      some_given (λ o. slice_get (fields_in o) f ≡ Some (An_object_of d)) (class_at p c) e (λ e. cc)
-      (λ k g e. (all_there (OwnsBefore p c) k.fields f (An_object_of d) (at_place (ClassOrdered p) p.classes c k linked.classes.classes g).fields e).0)
-
 pub linked_is_wired : (p : Image) → WellFormed p → IsLinked p → IsWired p
 linked_is_wired p formed linked = record {
   has_main = linked.main;
@@ -416,10 +403,10 @@ linked_is_wired p formed linked = record {
   destructs = destruct_states p formed linked;
   undestructed = none_destructs p formed linked;
   no_destructor = owns_none p formed linked;
-  ordered = owned_before p formed linked;
+  family = linked_is_family p linked;
   acceptor = has_acceptor p formed linked;
   accepts = acceptor_is p formed linked;
   attendant = has_attendant p formed linked;
   attends = attendant_is p formed linked;
-  sessions = session_lower p formed linked;
+  sessions = session_serves_none p formed linked;
 }

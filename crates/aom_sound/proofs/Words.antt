@@ -1,6 +1,7 @@
 -- The laws of the instructions on words.
-use Rattle.std.proofs.Common.{Bool, List, Option, Some, ap, refl, true, ℕ, ℤ, ◌∙◌, ◌≡◌, arith, None}
+use Rattle.std.proofs.Common.{Bool, List, Option, Some, ap, refl, true, ℕ, ℤ, ◌≡◌, arith, None}
 use Rattle.std.specs.Prelude.{is_none, is_some, length, nat_lt, int_lt}
+use Rattle.std.proofs.lemmas.Bool.{lt-ltb, ltb-true}
 use Rattle.aom_image.specs.Image.{Image}
 use Rattle.aom_instructions.specs.declared.instr.Instr.TheVariants.{Const, Copy, Load, Print, Store, Add, And, JumpEqual, JumpLess, Mul, Or, Sub, Xor}
 use Rattle.aom_shape.specs.Kinds.{is_unowning, is_word, register, set_register}
@@ -66,7 +67,7 @@ module _ (p : Image) (t : Typing) (c : Choice) (s : State) (fr : Frame) (sh : Sh
 
   -- what the frame works on has the word that the rule speaks of
   has_word_field : (w : ℕ) → nat_lt w (word_count p (holder_of p fr.method)) ≡ true → nat_lt w (word_count p (home_holder fr.home)) ≡ true
-  has_word_field w e = ap (λ h. nat_lt w (word_count p h)) at_hand.good.stack.1.holder ∙ e
+  has_word_field w e = let lt = ltb-true w (word_count p (holder_of p fr.method)) e in lt-ltb w (word_count p (home_holder fr.home)) (let le = at_hand.good.stack.1.holder.words in omega (arith, lt, le))
 
   pub law_load : (a w : ℕ) → Law p t c s fr sh ls at_hand (Load a w)
   law_load a w n leads = ((has_word_field w n.0, (unowned a n.1.0, tt)), writes_word a (loaded s.cells fr.home w) n.1.0 leads)

@@ -1,5 +1,5 @@
 -- The laws of the checked machine.
-use Rattle.std.specs.Prelude.{IsSome, List, None, Some, [], bit_or, false, is_some, true, ℕ, ℤ, ◌<◌, ◌∷◌, ◌≡◌, ◌⊎◌, replicate}
+use Rattle.std.specs.Prelude.{IsSome, List, length, None, Some, [], bit_or, false, is_some, true, ℕ, ℤ, ◌<◌, ◌≤◌, ◌∷◌, ◌≡◌, ◌⊎◌, replicate}
 use Rattle.aom_image.specs.Image.{Image}
 use Rattle.aom_image.specs.Views.{instr_at, method_at, method_class, method_role, is_quiet, leaves, gives_of, arguments_of}
 use Rattle.aom_instructions.specs.Fits.{InstrFits}
@@ -11,10 +11,12 @@ use Rattle.aom_instructions.specs.declared.limits.Limits.{Limits}
 use Rattle.aom_image.specs.declared.method.Gives.TheVariants.{Nothing, Word as A_word, Own as An_own}
 use Rattle.aom_image.specs.declared.method.Argument.TheVariants.{Word as Takes_word}
 use Rattle.aom_image.specs.declared.method.Role.TheVariants.{Cancel, Do, Main, Construct, Destruct, Error, Run as Run_role, Accept, Service}
+use Rattle.aom_image.specs.declared.method.Thing.{Thing}
 use Rattle.aom_image.specs.declared.method.Thing.TheVariants.{Object as An_object_of}
+use Rattle.aom_roles.specs.Families.{descends}
 use Rattle.aom_classes.specs.Linked.{IsLinked}
 use Rattle.aom_classes.specs.Roles.{role_of, main_of}
-use Rattle.aom_shape.specs.Things.{Member, field_thing}
+use Rattle.aom_shape.specs.Things.{Member, field_thing, word_count}
 use Rattle.aom_shape.specs.Arguments.{after_of, before_of}
 use Rattle.aom_rules.specs.Requests.{is_active_kind, unissued}
 use Rattle.aom_roles.specs.Shapes.{kind_of}
@@ -84,6 +86,17 @@ pub record IsAttendant (p : Image) (c m : ℕ) : Type 0 where
   pub arguments : arguments_of p m ≡ replicate 5 Takes_word
   pub gives : gives_of p m ≡ Nothing
 
+-- what descends from a class is of its kind, and has its fields and its words; no session has descendants; and what a field may own, and a session of its server, is lighter
+pub record IsFamily (p : Image) : Type 0 where
+  pub kinds : (c d : ℕ) → descends p c d ≡ true → kind_of p (Some c) ≡ kind_of p (Some d)
+  pub inherits : (c d f : ℕ) (t : Thing) → descends p c d ≡ true → field_thing p (Member d) f ≡ Some t → field_thing p (Member c) f ≡ Some t
+  pub words : (c d : ℕ) → descends p c d ≡ true → word_count p (Member d) ≤ word_count p (Member c)
+  pub alone : (c s x : ℕ) → sessions_at p c ≡ Some s → descends p x s ≡ true → x ≡ s
+  pub weight : ℕ → ℕ
+  pub lighter : (c d f x : ℕ) → field_thing p (Member c) f ≡ Some (An_object_of d) → descends p x d ≡ true → weight x < weight c
+  pub served : (c s : ℕ) → sessions_at p c ≡ Some s → weight s < weight c
+  pub few : (c : ℕ) → c < length p.classes → weight c < length p.classes
+
 -- what linking has found, as far as the laws use it
 pub record IsWired (p : Image) : Type 0 where
   pub has_main : IsSome (main_of p)
@@ -109,14 +122,14 @@ pub record IsWired (p : Image) : Type 0 where
   pub trapped : (m place : ℕ) (target : Target) (m' first c : ℕ) → instr_at p m place ≡ Some (Trap target m' first c) → IsTrapped p m'
   pub pushed : (m place a m' : ℕ) → instr_at p m place ≡ Some (PushOperation a m') → IsUndo p m'
   pub no_destructor : (c : ℕ) → role_of p c Destruct ≡ None → (f : ℕ) → field_thing p (Member c) f ≡ None
-  -- a server has a method that accepts, and its sessions one that serves; what is a session, and so no server, has a lower class than its server
+  -- a server has a method that accepts, and its sessions one that serves; what is a session is no server
   pub acceptor : (c session : ℕ) → sessions_at p c ≡ Some session → (m : ℕ) × (role_of p c Accept ≡ Some m)
   pub accepts : (c session m : ℕ) → sessions_at p c ≡ Some session → role_of p c Accept ≡ Some m → IsAcceptor p c m session
   pub attendant : (c session : ℕ) → sessions_at p c ≡ Some session → (m : ℕ) × (role_of p session Service ≡ Some m)
   pub attends : (c m : ℕ) → role_of p c Service ≡ Some m → IsAttendant p c m
-  pub sessions : (c session : ℕ) → sessions_at p c ≡ Some session → (session < c) × (sessions_at p session ≡ None)
-  -- what a field may own has a lower class
-  pub ordered : (c d f : ℕ) → field_thing p (Member c) f ≡ Some (An_object_of d) → d < c
+  pub sessions : (c session : ℕ) → sessions_at p c ≡ Some session → sessions_at p session ≡ None
+  -- classes and what descends from them
+  pub family : IsFamily p
 
 -- the boot state is well typed
 abbrev pub BootKeeps : Type 0

@@ -1,12 +1,14 @@
 -- The well-typed states: what the typing says of the methods at hand holds of the cells and their owners.
-use Rattle.std.specs.Prelude.{IsSome, is_some, cond, IsTrue, List, None, Option, Some, [], false, length, suc, true, ℕ, ℤ, ◌<◌, ◌==◌, ◌∷◌, ◌≡◌, ◌⊎◌}
+use Rattle.std.specs.Prelude.{IsSome, is_some, cond, IsTrue, List, None, Option, Some, [], false, length, suc, true, ℕ, ℤ, ◌<◌, ◌≤◌, ◌==◌, ◌∷◌, ◌≡◌, ◌⊎◌}
 use Rattle.aom_image.specs.Image.{Image}
 use Rattle.aom_image.specs.Views.{has, instr_at, method_at, method_role, method_class, arguments_of, is_quiet, leaves, gives_of}
 use Rattle.aom_image.specs.declared.method.Argument.TheVariants.{Word as Takes_word}
 use Rattle.aom_image.specs.declared.method.Role.TheVariants.{Undo}
 use Rattle.aom_image.specs.declared.method.Gives.{Gives}
 use Rattle.aom_image.specs.declared.method.Gives.TheVariants.{Nothing, Word as A_word, Own as An_own, Maybe as A_maybe, Left}
-use Rattle.aom_shape.specs.Things.{stands_for, field_thing, holder_of}
+use Rattle.aom_shape.specs.Things.{Holder, Member, stands_for, field_thing, holder_of, word_count}
+use Rattle.aom_roles.specs.Families.{descends}
+use Rattle.aom_roles.specs.Shapes.{kind_of}
 use Rattle.aom_shape.specs.Shape.{Shape}
 use Rattle.aom_shape.specs.Kinds.{register, filled, is_unowning, is_ready_kind, none_owns}
 use Rattle.aom_rules.specs.Typing.{Typing, shape_at, Leads}
@@ -78,10 +80,17 @@ IsServed ls = ⊥
 abbrev pub HasMessage : Image → Frame → List Layer → Type 0
 HasMessage p fr ls = (serves p fr.method ≡ true → IsServed ls) × (IsServed ls → serves p fr.method ≡ true)
 
+-- what is worked on has all that the method's class declares: it is of that class, or descends from it; and what works on an object is of a class
+pub record Houses (p : Image) (h k : Holder) : Type 0 where
+  pub fields : (f : ℕ) (t : Thing) → field_thing p k f ≡ Some t → field_thing p h f ≡ Some t
+  pub words : word_count p k ≤ word_count p h
+  pub member : (d : ℕ) → k ≡ Member d → (c : ℕ) × (h ≡ Member c) × (descends p c d ≡ true) × (kind_of p (Some c) ≡ kind_of p (Some d))
+  pub works : (c : ℕ) → h ≡ Member c → (d : ℕ) × (k ≡ Member d)
+
 -- the frame's registers are as the state says, and its home and its height are its own
 pub record Frames (p : Image) (ls : List Layer) (fr : Frame) (sh : Shape) : Type 0 where
   pub words : (i : ℕ) → WordFits (word fr i) (register sh i)
-  pub holder : home_holder fr.home ≡ holder_of p fr.method
+  pub holder : Houses p (home_holder fr.home) (holder_of p fr.method)
   pub height : fr.height ≡ length (items_of ls)
   pub alone : is_cancel (method_role p fr.method) ≡ true → IsAlone p fr.home ls
   pub message : HasMessage p fr ls
@@ -307,7 +316,7 @@ Catches p Leaves g = Unit {0}
 abbrev pub IsDestructorOf : Image → ℕ → Object → Back → Type 0
 IsDestructorOf p depth o Now = Unit {0}
 IsDestructorOf p depth o (Returns m home) =
-    (leaves p m ≡ false) × (home ≡ Inside o (Going depth)) × (is_destructor p m ≡ true) × (gives_of p m ≡ Nothing) × (after_of p m ≡ last_of (thing_kind p o.thing)) × (is_quiet p m ≡ true)
+    (leaves p m ≡ false) × (home ≡ Inside o (Going depth)) × (is_destructor p m ≡ true) × (gives_of p m ≡ Nothing) × (after_of p m ≡ last_of (thing_kind p o.thing)) × (is_quiet p m ≡ true) × (holder_of p m ≡ thing_holder o.thing)
 IsDestructorOf p depth o (Caught g) = ⊥
 IsDestructorOf p depth o Gone = ⊥
 IsDestructorOf p depth o Leaves = ⊥

@@ -34,6 +34,7 @@ use Rattle.aom_sound.specs.WellTyped.{Fits}
 use Rattle.aom_sound.specs.Words.{here, read}
 use Rattle.aom_bounds.specs.Prices.{AllPaid, IsPriced, Prices, Stands, cancel_of, kind_price, own, perhaps_price, price}
 use Rattle.aom_sound.proofs.Callees.{cancel_class}
+use Rattle.aom_sound.proofs.Housing.{houses_field}
 
 module _ (c : Prices) (fr : Frame) (sh : Shape) where
   -- at its place the method has so much for what comes at once, and the price of the place at which it goes on
@@ -159,7 +160,7 @@ module _ (p : Image) (t : Typing) (c : Prices) (main_none : (m : ℕ) → method
   covers (JumpLess a b to) it rule = let f = paid (JumpLess a b to) it refl refl in branches c fr sh (int_lt (read fr ts s a) (read fr ts s b)) to f.0 f.1.0
   covers (JumpNull a to) it rule = on_null a to (register sh a) (held s.cells (here fr ts s a)) rule.0 (paid (JumpNull a to) it refl refl) (kind_fits p t ch s fr sh ls at_hand a)
   covers (JumpEmpty f to) it rule =
-      let some : is_some (field_thing p (home_holder fr.home) f) ≡ true = ap (λ h. is_some (field_thing p h f)) at_hand.good.stack.1.holder ∙ rule.0 in
+      let some : is_some (field_thing p (home_holder fr.home) f) ≡ true = ap is_some (houses_field p _ _ f at_hand.good.stack.1.holder rule.0) ∙ rule.0 in
       on_empty f to (field_thing p (home_holder fr.home) f) some (field sh f) (held s.cells (field_place fr.home f)) (paid (JumpEmpty f to) it refl refl) (field_fits p t ch s fr sh ls at_hand f some)
   covers (JumpActive to) it rule =
       let listed = active_listed (own_kind p fr.method) rule.0 in

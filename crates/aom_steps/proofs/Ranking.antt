@@ -37,7 +37,7 @@ use Rattle.aom_sound.specs.Moves.{answered, asking, counted, dispatch_ends, fail
 use Rattle.aom_sound.specs.Places.{Cell, Elsewhere, Entry, Going, In_service, Object, Root, held, moved, service_of, without}
 use Rattle.aom_sound.specs.Servers.{parted, reserved}
 use Rattle.aom_sound.specs.State.{A_mark, Accept_left, An_object, An_operation, Answered, Asks, Choice, Closing, Destroy, Dispatch, Dispatched, Frame, Goes, Item, Main_left, Object_left, Of_main, Of_object, Of_root, Of_server, Outcome, Parts, Seat, Serves, Service_left, Stage, Run, State, Task, Trapped, Unwind, home_holder}
-use Rattle.aom_sound.specs.WellTyped.{AllUndo, Good, Now, Stack, WellTyped}
+use Rattle.aom_sound.specs.WellTyped.{AllUndo, Good, Houses, Now, Stack, WellTyped}
 use Rattle.aom_sound.specs.World.{IsBusy}
 use Rattle.aom_steps.specs.Ranks.{cell_rank, end_rank, frame_rank, is_going, operations, rank, rank_worths, run_rank, standing, tasks_rank, waiting_rank}
 use Rattle.aom_steps.proofs.Falling.{falls, paid, straight}
@@ -83,7 +83,7 @@ returns p t s fr sh ls h some g a =
 
 -- the method that cancels is quiet, and comes before
 cancels_below :
-    (p : Image) → IsLinked p → (fr : Frame) (d : Method_declared) → method_at p fr.method ≡ Some d → home_holder fr.home ≡ holder_of p fr.method → (m : ℕ) → slice_get d.code fr.place ≡ Some Cancel → cancel_method p fr.home ≡ Some m →
+    (p : Image) → IsLinked p → (fr : Frame) (d : Method_declared) → method_at p fr.method ≡ Some d → Houses p (home_holder fr.home) (holder_of p fr.method) → (m : ℕ) → slice_get d.code fr.place ≡ Some Cancel → cancel_method p fr.home ≡ Some m →
     (m < fr.method) × (is_quiet p m ≡ true)
 unfolding class_in
 cancels_below p linked fr d there holder m stands e =

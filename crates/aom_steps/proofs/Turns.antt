@@ -7,7 +7,9 @@ use Rattle.aom_image.specs.declared.method.Role.TheVariants.{Accept as Accepts_r
 use Rattle.aom_image.specs.declared.method.Thing.{Thing}
 use Rattle.aom_image.specs.declared.method.Thing.TheVariants.{Message, Object as An_object_of}
 use Rattle.aom_rules.specs.Typing.{Typing}
+use Rattle.aom_sound.proofs.Families.{linked_is_family}
 use Rattle.aom_sound.proofs.Guarded.{goes_same}
+use Rattle.aom_sound.proofs.Housing.{stands_session_of}
 use Rattle.aom_sound.proofs.Turned.{accepts, attends, handles, parts, Polled, answers, nothing, polled_so, Picked, picked_so}
 use Rattle.aom_sound.specs.Claims.{forms, items_of, declared}
 use Rattle.aom_sound.specs.Counting.{starts}
@@ -219,7 +221,8 @@ module _ (p : Image) (t : Typing) (c : Prices) (linked : IsLinked p) (priced : I
       go (session_class p x.object.thing) refl has.1
     where
       go : (k : Option ℕ) → session_class p x.object.thing ≡ k → Fits p (seen s.cells) (Some o) (filled (of_class k) Full) → IsSessionOf x.object.thing o
-      go k at f = grind arith
+      go (Some session) at f = (session, at, stands_session_of p (linked_is_family p linked) x.object.thing session at o.thing f.0)
+      go None at f = absurd f
 
   attends_within : (y : Thing) (o : Object) (m : ℕ) → IsSessionOf y o → part_of p Attends o.thing ≡ Some m → Affords y (price c m)
   attends_within (An_object_of k) o m is e =

@@ -1,0 +1,46 @@
+-- What a method works on has all that the method's class declares: by what is said of the family of its class.
+use Rattle.std.proofs.Common.{None, Option, Some, ap, arith, refl, subst, true, ℕ, ◌≡◌}
+use Rattle.std.specs.Prelude.{is_some}
+use Rattle.aom_image.specs.Image.{Image}
+use Rattle.aom_image.specs.declared.method.Thing.{Thing}
+use Rattle.aom_image.specs.declared.method.Thing.TheVariants.{Message, Object as An_object_of}
+use Rattle.aom_roles.specs.Classes.{sessions_at, sessions_in}
+use Rattle.aom_roles.specs.Families.{descends}
+use Rattle.aom_roles.proofs.Descending.{itself}
+use Rattle.aom_shape.specs.Things.{Holder, Member, field_thing, stands_for}
+use Rattle.aom_roles.specs.Shapes.{kind_of}
+use Rattle.aom_sound.specs.Laws.{IsFamily}
+use Rattle.aom_sound.specs.Servers.{session_class}
+use Rattle.aom_sound.specs.WellTyped.{Houses}
+
+pub houses_itself : (p : Image) (h : Holder) → Houses p h h
+houses_itself p h = record { fields = λ f t e. e; words = omega arith; member = λ d e. (d, e, itself p d, refl); works = λ c e. (c, e) }
+
+pub houses_same : (p : Image) (h k : Holder) → h ≡ k → Houses p h k
+houses_same p h k e = subst (λ x. Houses p h x) e (houses_itself p h)
+
+pub houses_family : (p : Image) → IsFamily p → (c d : ℕ) → descends p c d ≡ true → Houses p (Member c) (Member d)
+houses_family p family c d h = record {
+  fields = λ f t e. family.inherits c d f t h e;
+  words = family.words c d h;
+  member = λ x e. let same : d ≡ x = cc in (c, refl, subst (λ y. descends p c y ≡ true) same h, family.kinds c x (subst (λ y. descends p c y ≡ true) same h));
+  works = λ x e. (d, refl);
+}
+
+-- a field that the method's class declares is the same field
+pub houses_field : (p : Image) (h k : Holder) (f : ℕ) → Houses p h k → is_some (field_thing p k f) ≡ true → field_thing p h f ≡ field_thing p k f
+houses_field p h k f houses some = go (field_thing p k f) refl some
+  where
+    go : (o : Option Thing) → field_thing p k f ≡ o → is_some o ≡ true → field_thing p h f ≡ o
+    go None e some = cc
+    go (Some t) e some = houses.fields f t e
+
+-- nothing else stands for a session
+pub stands_session : (p : Image) → IsFamily p → (c session : ℕ) → sessions_at p c ≡ Some session → (x : Thing) → stands_for p x (An_object_of session) ≡ true → x ≡ An_object_of session
+stands_session p family c session at (An_object_of d) stands = ap An_object_of (family.alone c session d at stands)
+stands_session p family c session at Message stands = cc
+
+pub stands_session_of : (p : Image) → IsFamily p → (t : Thing) (session : ℕ) → session_class p t ≡ Some session → (x : Thing) → stands_for p x (An_object_of session) ≡ true → x ≡ An_object_of session
+unfolding kind_of sessions_in
+stands_session_of p family (An_object_of c) session e x stands = stands_session p family c session e x stands
+stands_session_of p family Message session e x stands = cc
