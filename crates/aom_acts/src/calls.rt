@@ -86,6 +86,7 @@ fn callee<'a>(
 }
 
 /// Calls a method, with its arguments from a register on.
+#[inline(always)]
 pub fn call(parts: &mut Parts, on: Target, method: MethodNumber, first: Register, linked: &Linked)
     requires { (to : ℕ) × IsNext linked.now (Call on method first to) parts.old }
     ensures { (refused : List ℕ) (to : ℕ) → DoesIn linked.now refused (Call on method first to) parts.old parts.new }
@@ -95,6 +96,7 @@ pub fn call(parts: &mut Parts, on: Target, method: MethodNumber, first: Register
 }
 
 /// The same under a trap, whose mark lies on the cleanup stack.
+#[inline(always)]
 pub fn trap(parts: &mut Parts, on: Target, method: MethodNumber, first: Register, linked: &Linked)
     requires { (to : ℕ) × IsNext linked.now (Trap on method first to) parts.old }
     ensures { (refused : List ℕ) (to : ℕ) → DoesIn linked.now refused (Trap on method first to) parts.old parts.new }
@@ -191,6 +193,7 @@ fn end_method(parts: &mut Parts, linked: &Linked) -> Gives
 
 /// A method returns: to the one that called it, through a trap to it or to the dispatch, to the going of its cell, to an unwinding, or to
 /// the dispatch that has asked it.
+#[inline(always)]
 pub fn give_back(parts: &mut Parts, from: Register, linked: &Linked)
     requires { IsNext linked.now (Return from) parts.old }
     ensures { (refused : List ℕ) → DoesIn linked.now refused (Return from) parts.old parts.new }

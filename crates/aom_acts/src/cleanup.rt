@@ -18,6 +18,7 @@ use aom_lines::Turn;
 use aom_parts::Parts;
 
 /// An object goes from a register to the cleanup stack. Where the request is refused, the method leaves then.
+#[inline(always)]
 pub fn push(parts: &mut Parts, from: Register, turn: &Turn)
     requires { (p : Image) × IsNext p (Push from) parts.old }
     ensures { Does turn.now.refused (Push from) parts.old parts.new }
@@ -46,6 +47,7 @@ pub fn push_operation(parts: &mut Parts, from: Register, method: MethodNumber, t
 }
 
 /// The last entry's object goes to a register.
+#[inline(always)]
 pub fn pop(parts: &mut Parts, to: Register)
     requires { (p : Image) × IsNext p (Pop to) parts.old }
     ensures { (refused : List ℕ) → Does refused (Pop to) parts.old parts.new }
@@ -67,6 +69,7 @@ pub fn pop_operation(parts: &mut Parts)
 }
 
 /// The last entry goes: an object is destroyed, and an operation is run. The method goes on after that.
+#[inline(always)]
 pub fn pop_delete(parts: &mut Parts, linked: &Linked)
     requires { IsNext linked.now PopDelete parts.old }
     ensures { (refused : List ℕ) → DoesIn linked.now refused PopDelete parts.old parts.new }
@@ -75,6 +78,7 @@ pub fn pop_delete(parts: &mut Parts, linked: &Linked)
 }
 
 /// What is on top of the cleanup stack goes over the tasks at hand: the destruction of an object, or an operation.
+#[inline(always)]
 pub fn deal_with_entry(parts: &mut Parts, linked: &Linked)
     requires entry { IsAboveMark parts.old.entries.items }
     requires lives { TopLives parts.old }
@@ -102,6 +106,7 @@ fn operate(parts: &mut Parts, method: MethodNumber, word: u32)
 }
 
 /// A new object comes to a register. Where the request is refused, the method leaves.
+#[inline(always)]
 pub fn create_or_leave(parts: &mut Parts, to: Register, class: ClassNumber, turn: &Turn)
     requires { (p : Image) × IsNext p (NewOrLeave to class) parts.old }
     ensures { Does turn.now.refused (NewOrLeave to class) parts.old parts.new }

@@ -43,6 +43,7 @@ pub fn is_server(class: ClassNumber, linked: &Linked) -> bool
 }
 
 /// The destruction of that cell is at hand. Over it its destructor runs, if it has one; of a server the sessions with it are at hand to go.
+#[inline(always)]
 pub fn begin(parts: &mut Parts, number: u32, linked: &Linked)
     requires lives { Lives parts.old.cells number }
     requires small { IfSome (class_at parts.old.cells number) (λ class. class < 256) }
@@ -58,6 +59,7 @@ pub fn begin(parts: &mut Parts, number: u32, linked: &Linked)
     }
 }
 
+#[inline(always)]
 pub fn delete(parts: &mut Parts, from: Register, linked: &Linked)
     requires { IsNext linked.now (Delete from) parts.old }
     ensures { (refused : List ℕ) → DoesIn linked.now refused (Delete from) parts.old parts.new }
@@ -132,6 +134,7 @@ pub fn let_go(parts: &mut Parts, linked: &Linked)
 
 /// The cell of that number goes, whose destruction is at hand, and with a server all that waits in its queue. The method below goes on, if
 /// there is one.
+#[inline(always)]
 pub fn go(parts: &mut Parts, number: u32, turn: &mut Turn)
     requires destroying { IsDestroying parts.old.stack.tasks }
     requires going { number ≡ going_here parts.old.stack.tasks }

@@ -29,6 +29,7 @@ use aom_transcript::Line;
 pub const NO_MEMORY: i32 = -4;
 
 /// The methods over the innermost trap end, and a leave is at hand in their place.
+#[inline(always)]
 pub fn leave(parts: &mut Parts, code: i32)
     requires runs { Runs parts.old.stack.tasks }
     requires room { length parts.old.stack.tasks ≤ parts.old.stack.depth }
@@ -61,6 +62,7 @@ pub fn leave_if(parts: &mut Parts, from: Register)
 }
 
 /// One move of the leave that is at hand with that code: the last entry is dealt with, or the code arrives.
+#[inline(always)]
 pub fn unwind(parts: &mut Parts, code: i32, linked: &Linked, turn: &mut Turn)
     requires unwinding { IsUnwinding parts.old.stack.tasks }
     requires coded { code ≡ code_here parts.old.stack.tasks }

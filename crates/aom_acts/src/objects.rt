@@ -43,6 +43,7 @@ pub fn move_to(parts: &mut Parts, to: Register, from: Register)
     bring(parts, to, object);
 }
 
+#[inline(always)]
 pub fn create(parts: &mut Parts, to: Register, class: ClassNumber, turn: &Turn)
     requires { (p : Image) × IsNext p (New to class) parts.old }
     ensures { Does turn.now.refused (New to class) parts.old parts.new }

@@ -1,6 +1,7 @@
 pub mod Waiting
 pub mod Nexts
 pub mod Announcing
+pub mod Lasting
 pub mod Ranking
 pub mod Progressing
 pub mod Turning
@@ -17,6 +18,7 @@ pub mod Working
 pub mod Unwanted
 pub mod Wanting
 pub mod Many
+pub mod Onward
 pub mod Agreeing
 pub mod Seen
 pub mod FirstServer
