@@ -82,6 +82,7 @@ impl ActiveObjects {
     }
 
     /// The object is enlisted no more, and its timer ends: CActive::Deque. A signal that it holds goes with it.
+    #[inline(never)]
     pub fn remove(&mut self, id: CellId)
         requires { IsEnlisted self.old.table id }
         ensures { Removes self.old self.new id }

@@ -78,7 +78,8 @@ pub fn take_session(parts: &mut Parts, server: u16) -> Option<u32>
     Some(u32::from(session))
 }
 
-/// All that waits in the queue of a server goes with it, and the sessions with it end.
+/// All that waits in the queue of a server goes with it, and the sessions with it end. Of most cells there is none, which is seen at once.
+#[inline(always)]
 pub fn end_server(parts: &mut Parts, server: u16, turn: &mut Turn)
     requires can { CanVanish server parts.old }
     requires room { length turn.old.lines + answers (queue_at parts.old.clients server) ≤ turn.old.room }
@@ -91,8 +92,26 @@ pub fn end_server(parts: &mut Parts, server: u16, turn: &mut Turn)
     end_sessions(&mut parts.clients, server);
 }
 
-/// What waits in the queue of a server goes with it, the first first.
+/// What waits in the queue of a server goes with it, if anything does.
+#[inline(always)]
 fn end_queue(parts: &mut Parts, server: u16, turn: &mut Turn)
+    requires can { CanVanish server parts.old }
+    requires room { length turn.old.lines + answers (queue_at parts.old.clients server) ≤ turn.old.room }
+    ensures clients { parts.new.clients ≡ queue_gone server (queue_at parts.old.clients server) parts.old.clients }
+    ensures empty { queue_at parts.new.clients server ≡ [] }
+    ensures within { server < length parts.new.clients.queues }
+    ensures messages { Drops (queue_at parts.old.clients server) parts.old.messages parts.new.messages }
+    ensures rest { parts.new ≡ record parts.old { clients = parts.new.clients; messages = parts.new.messages } }
+    ensures told { turn.new ≡ record turn.old { lines = turn.old.lines ++ gone_lines parts.old.clients (queue_at parts.old.clients server) } }
+{
+    if parts.clients.is_queued(server) {
+        end_entries(parts, server, turn);
+    }
+}
+
+/// What waits in the queue of a server goes with it, the first first.
+#[inline(never)]
+fn end_entries(parts: &mut Parts, server: u16, turn: &mut Turn)
     requires can { CanVanish server parts.old }
     requires room { length turn.old.lines + answers (queue_at parts.old.clients server) ≤ turn.old.room }
     ensures clients { parts.new.clients ≡ queue_gone server (queue_at parts.old.clients server) parts.old.clients }
@@ -126,8 +145,21 @@ fn end_entry(parts: &mut Parts, taken: Taken, turn: &mut Turn)
     }
 }
 
-/// The sessions with a server end, the first first.
+/// The sessions with a server end, if there are any.
+#[inline(always)]
 fn end_sessions(clients: &mut Clients, server: u16)
+    requires within { server < length clients.old.queues }
+    requires empty { queue_at clients.old server ≡ [] }
+    ensures { clients.new ≡ sessions_gone server (sessions_at clients.old server) clients.old }
+{
+    if clients.first_session(server).is_some() {
+        end_all(clients, server);
+    }
+}
+
+/// The sessions with a server end, the first first.
+#[inline(never)]
+fn end_all(clients: &mut Clients, server: u16)
     requires within { server < length clients.old.queues }
     requires empty { queue_at clients.old server ≡ [] }
     ensures { clients.new ≡ sessions_gone server (sessions_at clients.old server) clients.old }

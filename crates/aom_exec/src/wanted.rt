@@ -179,7 +179,21 @@ pub fn asks(parts: &Parts, linked: &Linked, has_natives: bool) -> bool
     }
 }
 
+/// What that asks of a native that is at hand.
+#[inline(never)]
+fn wanted_at_hand(parts: &Parts, linked: &Linked) -> Option<Wanted>
+    requires { Stands (record { image = linked.now; parts = parts.now }) }
+    ensures { (s : State) → StandsFor (record { image = linked.now; parts = parts.now }) s → wanted linked.now s ≡ option_map as_wanted result }
+{
+    match parts.stack.top() {
+        Some(TaskKind::Run) => wanted_here(parts, linked),
+        Some(TaskKind::Destroy(number)) => wanted_going(parts, number, linked),
+        _ => None,
+    }
+}
+
 /// What the next step asks of a native, if it asks anything.
+#[inline(always)]
 pub fn wanted_next(parts: &Parts, linked: &Linked) -> Option<Wanted>
     requires { Stands (record { image = linked.now; parts = parts.now }) }
     ensures { (s : State) → StandsFor (record { image = linked.now; parts = parts.now }) s → wanted linked.now s ≡ option_map as_wanted result }
@@ -187,9 +201,5 @@ pub fn wanted_next(parts: &Parts, linked: &Linked) -> Option<Wanted>
     if linked.image().header().natives == 0 {
         return None;
     }
-    match parts.stack.top() {
-        Some(TaskKind::Run) => wanted_here(parts, linked),
-        Some(TaskKind::Destroy(number)) => wanted_going(parts, number, linked),
-        _ => None,
-    }
+    wanted_at_hand(parts, linked)
 }

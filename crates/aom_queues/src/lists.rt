@@ -140,6 +140,7 @@ impl Lists {
     }
 
     /// Takes a node out of its list.
+    #[inline(never)]
     fn unlink(&mut self, list: u16, node: u16)
         requires { IsIn node (list_at self.old list) }
         ensures { self.new ≡ with_list list (without node (list_at self.old list)) self.old }

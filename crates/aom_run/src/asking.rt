@@ -16,6 +16,7 @@ use aom_exec::{Progress, Wanted};
 use aom_natives::{Native, Natives};
 
 /// Makes the call that a step asks for at a living native, and answers what that does; 0 where there is no answer.
+#[inline(never)]
 fn call(natives: &mut Natives, wanted: Wanted) -> i32
     requires agree { AllAgree (λ l. l.ids) (λ l. (⟦<dyn Native as Native>⟧ l.native.vtable).owed l.native.value) natives.old.slots.items }
     requires fits { MayAsk (λ l. l.ids) natives.old.slots.items (as_wanted wanted) }
@@ -50,6 +51,7 @@ fn call(natives: &mut Natives, wanted: Wanted) -> i32
 
 impl<'a> Machine<'a> {
     /// Asks of a native what the next step asks, which then hears the answer.
+    #[inline(always)]
     pub(crate) fn ask(&mut self)
         requires agree { AllAgree (λ l. l.ids) (λ l. (⟦<dyn Native as Native>⟧ l.native.vtable).owed l.native.value) self.old.natives.slots.items }
         requires stands { Stands self.old }

@@ -5,6 +5,3 @@ use Rattle.aom_exec.proofs.wanted.wanted_next.Goals as goal
 -- an image without natives asks nothing
 pub returns-then-header-eq0 : goal.returns-then-header-eq0
 returns-then-header-eq0 c = λ s st. unwanted c.args.linked.now (search rules) st.sound.formed s
-
-pub returns-in-Some-Destroy : goal.returns-in-Some-Destroy
-returns-in-Some-Destroy c = search rules

@@ -1,6 +1,6 @@
 use Rattle.std.proofs.Common.{◌≡◌, ◌<◌, [], length}
 use Rattle.aom_clients.specs.Clients.{queue_at, sessions_at, sessions_gone}
-use Rattle.aom_acts.proofs.serving.end_sessions.Given as goal
+use Rattle.aom_acts.proofs.serving.end_all.Given as goal
 
 abbrev pub invariant-loop : goal.invariant-loop
 invariant-loop l =

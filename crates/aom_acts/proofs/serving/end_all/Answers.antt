@@ -1,5 +1,5 @@
 use Rattle.std.proofs.Common.{refl}
-use Rattle.aom_acts.proofs.serving.end_sessions.Goals as goal
+use Rattle.aom_acts.proofs.serving.end_all.Goals as goal
 
 pub loop-init : goal.loop-init
 loop-init c = (c.requires.within, c.requires.empty, refl)

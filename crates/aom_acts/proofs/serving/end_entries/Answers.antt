@@ -1,6 +1,6 @@
 use Rattle.std.proofs.Common.{sym, ◌∙◌}
 use Rattle.aom_acts.proofs.Vanishing.{goes_on}
-use Rattle.aom_acts.proofs.serving.end_queue.Goals as goal
+use Rattle.aom_acts.proofs.serving.end_entries.Goals as goal
 
 pub loop-taken-preserved : goal.loop-taken-preserved
 loop-taken-preserved c =

@@ -1,7 +1,7 @@
 use Rattle.std.proofs.Common.{length}
 use Rattle.aom_clients.specs.Clients.{queue_at}
 use Rattle.aom_acts.proofs.Vanishing.{Going}
-use Rattle.aom_acts.proofs.serving.end_queue.Given as goal
+use Rattle.aom_acts.proofs.serving.end_entries.Given as goal
 
 abbrev pub invariant-loop-taken : goal.invariant-loop-taken
 invariant-loop-taken l = Going l.server l.fn.parts l.parts l.fn.turn l.turn
