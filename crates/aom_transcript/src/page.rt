@@ -52,7 +52,7 @@ impl Page {
             }
             Line::Out(word) => self.add_one(b"out ", *word),
             Line::Leave(code) => self.add_one(b"leave ", *code),
-            Line::Gone(class) => self.add_one(b"gone ", class.number()),
+            Line::Gone(class) => self.add_gone(class.number()),
             Line::Run(time, class, status) => {
                 self.0.add_count(b"@", *time);
                 self.0.add_count(b" run ", class.number());
@@ -102,6 +102,20 @@ impl Page {
         ensures { self.new ≡ [] }
     {
         self.0.cut(0);
+    }
+
+    /// Adds that a cell of a class went, the most frequent of lines: a number of one digit is its own text.
+    #[inline(always)]
+    fn add_gone(&mut self, class: u16)
+        requires { length self.old + 11 ≤ 4096 }
+        ensures { self.new ≡ self.old ++ ended (codes "gone " ++ decimal class) }
+    {
+        if class < 10 {
+            self.0.add(b"gone ");
+            self.0.add(&[b'0' + class as u8, b'\n']);
+        } else {
+            self.add_one(b"gone ", class);
+        }
     }
 
     /// Adds words and a number, and ends the line.
